@@ -1,0 +1,46 @@
+-- What passes on a link, and what one read or one write adds to it.
+use Rattle.std.specs.Prelude.{◌≡◌, ℕ, ◌≤◌, Bool, true, false, List, [], ◌++◌, take, Option, None, Some}
+use Rattle.pm_outside.specs.declared.link.Got.{Got}
+use Rattle.pm_outside.specs.declared.link.Got.TheVariants.{Bytes, NotYet, End, Failed}
+use Rattle.pm_outside.specs.declared.link.Put.{Put}
+use Rattle.pm_outside.specs.declared.link.Put.TheVariants.{Count, Failed as PutFailed}
+
+-- all bytes that came in and went out, whether the end was given, and whether the last read found nothing yet
+pub record Traffic : Type 0 where
+  pub came_in : List ℕ
+  pub went_out : List ℕ
+  pub ended : Bool
+  pub waits : Bool
+
+-- nothing has passed, or the link doesn't tell
+abbrev pub IsFresh : Option Traffic → Type 0
+IsFresh None = Unit {0}
+IsFresh (Some t) = t ≡ record { came_in = []; went_out = []; ended = false; waits = false }
+
+-- a read that answered so, with these bytes in its slice
+abbrev pub after_read : Traffic → Got → List ℕ → Traffic
+after_read t (Bytes count) into = record t { came_in = t.came_in ++ take count into; waits = false }
+after_read t NotYet into = record t { waits = true }
+after_read t End into = record t { ended = true; waits = false }
+after_read t Failed into = record t { waits = false }
+
+-- bytes behind those that stand, as many as a write took
+abbrev pub put_behind : List ℕ → Put → List ℕ → List ℕ
+put_behind stands (Count count) from = stands ++ take count from
+put_behind stands PutFailed from = stands
+
+-- a write that answered so
+abbrev pub after_write : Traffic → Put → List ℕ → Traffic
+after_write t put from = record t { went_out = put_behind t.went_out put from }
+
+-- a read gives at least one byte, and no more than its slice holds
+abbrev pub GotWithin : Got → ℕ → Type 0
+GotWithin (Bytes count) room = (1 ≤ count) × (count ≤ room)
+GotWithin NotYet room = Unit {0}
+GotWithin End room = Unit {0}
+GotWithin Failed room = Unit {0}
+
+-- a write takes at least one byte, and no more than it was given
+abbrev pub PutWithin : Put → ℕ → Type 0
+PutWithin (Count count) given = (1 ≤ count) × (count ≤ given)
+PutWithin PutFailed given = Unit {0}
