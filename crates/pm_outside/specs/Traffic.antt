@@ -12,10 +12,14 @@ pub record Traffic : Type 0 where
   pub ended : Bool
   pub waits : Bool
 
+-- nothing has passed
+abbrev pub no_traffic : Traffic
+no_traffic = record { came_in = []; went_out = []; ended = false; waits = false }
+
 -- nothing has passed, or the link doesn't tell
 abbrev pub IsFresh : Option Traffic → Type 0
 IsFresh None = Unit {0}
-IsFresh (Some t) = t ≡ record { came_in = []; went_out = []; ended = false; waits = false }
+IsFresh (Some t) = t ≡ no_traffic
 
 -- a read that answered so, with these bytes in its slice
 abbrev pub after_read : Traffic → Got → List ℕ → Traffic

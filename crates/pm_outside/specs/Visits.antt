@@ -1,5 +1,5 @@
 -- The links that a port gave and took back.
-use Rattle.std.specs.Prelude.{ℕ, Bool, true, List, [], ◌∷◌, ◌++◌, Option}
+use Rattle.std.specs.Prelude.{ℕ, Bool, true, false, List, [], ◌∷◌, ◌++◌, Option}
 use Rattle.pm_outside.specs.declared.port.Accepted.{Accepted}
 use Rattle.pm_outside.specs.declared.port.Accepted.TheVariants.{Link, NotYet, End, Failed}
 use Rattle.pm_outside.specs.Traffic.{Traffic}
@@ -14,6 +14,10 @@ pub record Visits : Type 0 where
   pub given : List ℕ
   pub back : List Visit
   pub ended : Bool
+
+-- no link was given
+abbrev pub no_visits : Visits
+no_visits = record { given = []; back = []; ended = false }
 
 -- the port was asked and answered so
 abbrev pub after_accept : {L : Type 0} → (L → ℕ) → Visits → Accepted L → Visits

@@ -1,5 +1,5 @@
 // Where links come from, and where they go back to.
-ghost use Rattle.std.specs.Prelude.{◌≡◌, ℕ, Option, option_map};
+ghost use Rattle.std.specs.Prelude.{◌≡◌, ◌<◌, ℕ, length, IfSome, Option, option_map};
 ghost use Rattle.pm_disk.specs.Cause.{IsCounted};
 ghost use Rattle.pm_outside.specs.Traffic.{IsFresh};
 ghost use Rattle.pm_outside.specs.Visits.{Visits, after_accept, after_done, IfLink};
@@ -32,8 +32,9 @@ pub trait Port {
         ensures fresh { IfLink result (λ link. IsFresh (Self.Link.traffic link)) }
         ensures cause { IsCounted (faults self.old) (faults self.new) (result ≡ Accepted.Failed) };
 
-    /// Takes a served link back. It takes no memory: the call that gave the link made the room.
+    /// Takes a served link back, where one is out. It takes no memory: the call that gave the link made the room.
     fn done(&mut self, link: Self::Link)
+        requires { IfSome (visits self.old) (λ v. length v.back < length v.given) }
         ensures visits { visits self.new
             ≡ option_map (λ v. after_done v (Self.Link.number link) (Self.Link.traffic link)) (visits self.old) }
         ensures cause { faults self.new ≡ faults self.old };

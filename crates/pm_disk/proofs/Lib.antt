@@ -1,0 +1,5 @@
+pub mod Again
+pub mod Moments
+pub mod Replay
+pub mod Stopped
+pub mod Tear

@@ -1,0 +1,120 @@
+// A link whose incoming bytes are given beforehand, and which keeps what is sent.
+ghost use Rattle.std.specs.Prelude.{◌≤◌, ◌<◌, length};
+
+use crate::failing_calls::FailingCalls;
+use crate::link::{Got, Link, Put};
+use crate::link_script::LinkScript;
+use crate::mem_sink::MemSink;
+use crate::sink::Sink;
+use std::alloc::Global;
+
+/// Goes by a script: gives its bytes in order and then the end, and keeps what is sent. It never answers that nothing
+/// stands there yet.
+#[derive(Drop)]
+pub struct MemLink {
+    number: u64,
+    incoming: Vec<u8>,
+    taken: usize,
+    per_call: usize,
+    ended: bool,
+    reads: FailingCalls,
+    outgoing: MemSink,
+    ghost in_range: { taken ≤ length incoming.items },
+    ghost gives_some: { 0 < per_call },
+}
+
+impl MemLink {
+    ghost use Rattle.std.specs.Prelude.{◌≡◌};
+    ghost use Rattle.pm_outside.specs.MemLink.{Begins, link_number, link_sink};
+    ghost use Rattle.pm_outside.specs.MemSink.{sink_bytes};
+
+    /// The link of this script, on which nothing has passed yet.
+    pub fn new(alloc: Global, script: LinkScript) -> Self
+        ensures { Begins script result }
+    {
+        MemLink {
+            number: script.number,
+            incoming: script.incoming,
+            taken: 0,
+            per_call: script.per_call,
+            ended: false,
+            reads: FailingCalls::new(script.failing_reads),
+            outgoing: MemSink::new(alloc, script.per_call, script.failing_writes),
+        }
+    }
+
+    /// Which of its port's links it is.
+    pub fn number(&self) -> u64
+        ensures { result ≡ link_number self.now }
+    {
+        self.number
+    }
+
+    /// All bytes that went out, in order.
+    pub fn sent(&self) -> &[u8]
+        ensures { result.now ≡ sink_bytes (link_sink self.now) }
+    {
+        self.outgoing.bytes()
+    }
+}
+
+impl Link for MemLink {
+    ghost use Rattle.std.specs.Prelude.{◌≡◌, ◌+◌, ◌-◌, ◌^◌, ◌++◌, length, take, drop, min, IsTrue, Some};
+    ghost use Rattle.pm_disk.specs.Cause.{IsCounted};
+    ghost use Rattle.pm_outside.specs.Calls.{is_next_listed};
+    ghost use Rattle.pm_outside.specs.MemLink.{bytes_left, link_traffic, link_sink, link_number, link_faults, next_got, got_count, CountsRead, ChangesSinkOnly};
+    ghost use Rattle.pm_outside.specs.MemSink.{sink_bytes, sink_limit, sink_calls, TakesOrFails, CountsWrite};
+    ghost use Rattle.pm_outside.specs.Traffic.{PutWithin, GotWithin, after_read, after_write};
+
+    ghost traffic = { λ l. Some (link_traffic l) };
+
+    ghost number = { link_number };
+
+    ghost faults = { link_faults };
+
+    fn read(&mut self, into: &mut [u8]) -> Got
+        requires { 0 < length into.old }
+        ensures within { GotWithin result (length into.old) }
+        ensures traffic { link_traffic self.new ≡ after_read (link_traffic self.old) result into.new }
+        ensures number { link_number self.new ≡ link_number self.old }
+        ensures cause { IsCounted (link_faults self.old) (link_faults self.new) (result ≡ Got.Failed) }
+
+        ensures answer { result ≡ next_got self.old (length into.old) }
+        ensures next_bytes { bytes_left self.old ≡ take (got_count result) into.new ++ bytes_left self.new }
+        ensures rest_of_slice { drop (got_count result) into.new ≡ drop (got_count result) into.old }
+        ensures counts { CountsRead self.old self.new result }
+    {
+        if self.reads.begin() {
+            self.reads.fail();
+            return Got::Failed;
+        }
+        let left = &self.incoming[self.taken..];
+        let count = left.len().min(into.len()).min(self.per_call);
+        if count == 0 {
+            self.ended = true;
+            return Got::End;
+        }
+        into[..count].copy_from_slice(&left[..count]);
+        self.taken += count;
+        Got::Bytes(count)
+    }
+
+    fn write(&mut self, from: &[u8]) -> Put
+        requires { 0 < length from.now }
+        ensures within { PutWithin result (length from.now) }
+        ensures traffic { link_traffic self.new ≡ after_write (link_traffic self.old) result from.now }
+        ensures number { link_number self.new ≡ link_number self.old }
+        ensures cause { IsCounted (link_faults self.old) (link_faults self.new) (result ≡ Put.Failed) }
+
+        ensures takes { TakesOrFails result (min (sink_limit (link_sink self.old)) (length from.now)) }
+        ensures listed { IsTrue (is_next_listed (sink_calls (link_sink self.old))) → result ≡ Put.Failed }
+        ensures counts { CountsWrite (link_sink self.old) (link_sink self.new) result }
+        ensures reads_stay { ChangesSinkOnly self.old self.new }
+    {
+        self.outgoing.write(from)
+    }
+
+    fn faults(&self) -> u64 {
+        self.reads.failed().saturating_add(self.outgoing.faults())
+    }
+}

@@ -1,0 +1,63 @@
+-- What the entries of an ordered table are as a finite map.
+use Rattle.std.proofs.Common.{◌≡◌, ℤ, Bool, true, false, cond, T, List, [], ◌∷◌, Option, Some, None, refl, sym, ap, subst, ◌∙◌, Less}
+use Rattle.std.specs.Ordering.{int_cmp, eq_by_cmp, is_lt}
+use Rattle.std.specs.Cmp.{int_cmp_total}
+use Rattle.std.specs.FinMap as map
+use Rattle.std.specs.FinMap.{FinMap, from_sorted, find, is_sorted, same_map, int_cmp-IsAntisymmetric, get-from_sorted, get-insert, get-remove, get-empty}
+use Rattle.std.specs.FinMap.Entries.{below_all}
+use Rattle.std.specs.Map.{keys_of, lookup}
+use Rattle.std.specs.List.{AllByRecursion}
+use Rattle.std.specs.List.Sorted.{IsStrictlySortedBy}
+use Rattle.std.specs.BTreeMap as tree
+use Rattle.std.specs.BTreeMap.{BTreeMap, is_at, IsOrdered, Updates}
+use Rattle.std.proofs.lemmas.Bool.{and_from}
+use Rattle.std.proofs.lemmas.Cmp.{eq_by_cmp_equiv}
+use Rattle.std.proofs.lemmas.Map.Keys.{sorted_head, sorted_tail}
+
+holds : (b : Bool) → b ≡ true → T b
+holds b e = subst T (sym e) tt
+
+is_true : (b : Bool) → T b → b ≡ true
+is_true true h = refl
+is_true false h = absurd h
+
+module _ {X : Type 0} where
+  -- a look-up in the entries is the map's
+  pub find-lookup : (q : ℤ) (es : List (ℤ × X)) → find int_cmp q es ≡ lookup (is_at (int_cmp q)) es
+  find-lookup q [] = refl
+  find-lookup q (e ∷ es) = ap (cond (eq_by_cmp int_cmp q e.0) (Some e.1)) (find-lookup q es)
+
+  below_rest : (k : ℤ) (es : List (ℤ × X)) → AllByRecursion (λ y. int_cmp k y ≡ Less) (keys_of es) → below_all int_cmp k es ≡ true
+  below_rest k [] h = refl
+  below_rest k (e ∷ es) h = and_from _ _ (ap is_lt h.0) (below_rest k es h.1)
+
+  rises : (es : List (ℤ × X)) → IsStrictlySortedBy int_cmp (keys_of es) → is_sorted int_cmp es ≡ true
+  rises [] h = refl
+  rises (e ∷ es) h = and_from _ _ (below_rest e.0 es (sorted_head int_cmp e.0 (keys_of es) h)) (rises es (sorted_tail int_cmp e.0 (keys_of es) h))
+
+  -- entries whose keys rise make a map
+  pub sorted_from_ordered : (es : List (ℤ × X)) → IsStrictlySortedBy int_cmp (keys_of es) → T (is_sorted int_cmp es)
+  sorted_from_ordered es h = holds _ (rises es h)
+
+  -- the map of the entries answers as the table does
+  pub get-of_table : (m : BTreeMap ℤ X) (q : ℤ) → IsOrdered int_cmp m → map.get (from_sorted {R = int_cmp} m.entries) q ≡ tree.get int_cmp m q
+  get-of_table m q h = get-from_sorted int_cmp m.entries q (sorted_from_ordered m.entries h) ∙ find-lookup q m.entries
+
+  -- and is the one map that does
+  pub same_as_table : (m : BTreeMap ℤ X) (f : FinMap int_cmp X) → IsOrdered int_cmp m → ((q : ℤ) → tree.get int_cmp m q ≡ map.get f q) → from_sorted {R = int_cmp} m.entries ≡ f
+  same_as_table m f h is = same_map int_cmp_total int_cmp-IsAntisymmetric _ f (λ q. get-of_table m q h ∙ is q)
+
+  -- an empty table is the empty map
+  pub table_empty : (m : BTreeMap ℤ X) → IsOrdered int_cmp m → m.entries ≡ [] → from_sorted {R = int_cmp} m.entries ≡ map.empty
+  table_empty m h e = same_as_table m map.empty h (λ q. ap (lookup (is_at (int_cmp q))) e ∙ sym (get-empty int_cmp q))
+
+  turned : (k q : ℤ) (a b : Option X) → cond (is_at (int_cmp k) q) a b ≡ cond (eq_by_cmp int_cmp q k) a b
+  turned k q a b = ap (λ t. cond t a b) ((eq_by_cmp_equiv int_cmp_total).symm k q)
+
+  -- a table with a value put at a key
+  pub table_put : (m n : BTreeMap ℤ X) (k : ℤ) (v : X) → IsOrdered int_cmp m → IsOrdered int_cmp n → Updates int_cmp m n k (Some v) → from_sorted {R = int_cmp} n.entries ≡ map.insert (from_sorted m.entries) k v
+  table_put m n k v hm hn u = same_as_table n _ hn (λ q. u.0 q ∙ turned k q _ _ ∙ ap (cond (eq_by_cmp int_cmp q k) (Some v)) (sym (get-of_table m q hm)) ∙ sym (get-insert int_cmp_total _ k v q))
+
+  -- a table with a key taken out
+  pub table_remove : (m n : BTreeMap ℤ X) (k : ℤ) → IsOrdered int_cmp m → IsOrdered int_cmp n → Updates int_cmp m n k None → from_sorted {R = int_cmp} n.entries ≡ map.remove (from_sorted m.entries) k
+  table_remove m n k hm hn u = same_as_table n _ hn (λ q. u.0 q ∙ turned k q _ _ ∙ ap (cond (eq_by_cmp int_cmp q k) None) (sym (get-of_table m q hm)) ∙ sym (get-remove int_cmp_total _ k q))

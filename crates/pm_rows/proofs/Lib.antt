@@ -1,0 +1,8 @@
+pub mod Entries
+pub mod FoldLaws
+pub mod Outcomes
+pub mod Room
+pub mod RowLaws
+pub mod Settle
+pub mod Sizes
+pub mod Tables

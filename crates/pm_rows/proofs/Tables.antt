@@ -1,0 +1,57 @@
+-- What an insertion and a removal in an ordered table are on the map that it stands for.
+use Rattle.std.proofs.Common.{◌≡◌, ℕ, ℤ, ◌+◌, ◌^◌, ◌<◌, List, length, All, Some, None, sym, ap, subst, ◌∙◌, arith}
+use Rattle.std.specs.Ordering.{int_cmp}
+use Rattle.std.specs.FinMap as finite
+use Rattle.std.specs.FinMap.{entries-from_sorted, len-entries, entries}
+use Rattle.std.specs.Map.{remove_entry, values_of}
+use Rattle.std.specs.BTreeMap as tree
+use Rattle.std.specs.BTreeMap.{BTreeMap, is_at, insert_entry, IsOrdered, Updates, btree_map_len}
+use Rattle.std.proofs.lemmas.Map.Views.{All-values-insert_entry, All-map-remove_entry}
+use Rattle.pm_rows.specs.Size.{row_size, size_at, size_of}
+use Rattle.pm_rows.specs.Table.{rows_in, IsTable}
+use Rattle.pm_rows.proofs.Entries.{sorted_from_ordered, table_put, table_remove}
+use Rattle.pm_rows.proofs.Sizes.{entries_size, size-insert_entry, size-remove_entry, size_small}
+
+-- what `len` and `size` say of the map
+pub len-rows_in : (m : BTreeMap ℤ (List ℕ)) → IsOrdered int_cmp m → finite.len (rows_in m) ≡ btree_map_len m
+len-rows_in m h = len-entries (rows_in m) ∙ ap length (entries-from_sorted int_cmp m.entries (sorted_from_ordered m.entries h))
+
+pub entries-rows_in : (m : BTreeMap ℤ (List ℕ)) → IsOrdered int_cmp m → entries (rows_in m) ≡ m.entries
+entries-rows_in m h = entries-from_sorted int_cmp m.entries (sorted_from_ordered m.entries h)
+
+pub size-rows_in : (m : BTreeMap ℤ (List ℕ)) (size : ℕ) → IsTable m size → size_of (rows_in m) ≡ size
+size-rows_in m size h = ap entries_size (entries-rows_in m h.ordered) ∙ sym h.sum
+
+module _ (m n : BTreeMap ℤ (List ℕ)) (size : ℕ) (is : IsTable m size) (stored key : ℤ) (same : stored ≡ key) where
+  -- a value at a key
+  pub put_rows : (v : List ℕ) → IsOrdered int_cmp n → Updates int_cmp m n stored (Some v) → rows_in n ≡ finite.insert (rows_in m) key v
+  put_rows v h u = table_put m n stored v is.ordered h u ∙ ap (λ k. finite.insert (rows_in m) k v) same
+
+  pub put_size : (v : List ℕ) → n.entries ≡ insert_entry int_cmp m.entries stored v → entries_size n.entries + size_at (tree.get int_cmp m stored) ≡ size + row_size v
+  put_size v e = ap (λ es. entries_size es + size_at (tree.get int_cmp m stored)) e ∙ size-insert_entry m.entries stored v is.ordered ∙ ap (λ s. s + row_size v) (sym is.sum)
+
+  pub put_table : (v : List ℕ) (total : ℕ) → IsOrdered int_cmp n → n.entries ≡ insert_entry int_cmp m.entries stored v → length v < 2 ^ 64
+      → total + size_at (tree.get int_cmp m stored) ≡ size + row_size v → IsTable n total
+  put_table v total h e short t = record {
+    ordered = h;
+    lengths = subst (λ es. All (λ value. length value < 2 ^ 64) (values_of es)) (sym e) (All-values-insert_entry int_cmp stored v (λ value. length value < 2 ^ 64) m.entries is.lengths short);
+    sum = omega (arith, t, put_size v e);
+  }
+
+  pub put_fits : (v : List ℕ) → length m.entries < 2 ^ 63 → row_size v < 2 ^ 64 + 12 → size + row_size v < 2 ^ 128
+  put_fits v few short = omega (arith, is.sum, size_small m.entries is.lengths few)
+
+  -- a key taken out
+  pub remove_rows : IsOrdered int_cmp n → Updates int_cmp m n stored None → rows_in n ≡ finite.remove (rows_in m) key
+  remove_rows h u = table_remove m n stored is.ordered h u ∙ ap (λ k. finite.remove (rows_in m) k) same
+
+  pub remove_size : n.entries ≡ remove_entry (is_at (int_cmp stored)) m.entries → entries_size n.entries + size_at (tree.get int_cmp m stored) ≡ size
+  remove_size e = ap (λ es. entries_size es + size_at (tree.get int_cmp m stored)) e ∙ size-remove_entry m.entries stored ∙ sym is.sum
+
+  pub remove_table : (total : ℕ) → IsOrdered int_cmp n → n.entries ≡ remove_entry (is_at (int_cmp stored)) m.entries
+      → total + size_at (tree.get int_cmp m stored) ≡ size → IsTable n total
+  remove_table total h e t = record {
+    ordered = h;
+    lengths = subst (λ es. All (λ value. length value < 2 ^ 64) (values_of es)) (sym e) (All-map-remove_entry (is_at (int_cmp stored)) (λ (row : ℤ × List ℕ). row.1) (λ value. length value < 2 ^ 64) m.entries is.lengths);
+    sum = omega (arith, t, remove_size e);
+  }

@@ -1,0 +1,33 @@
+-- The rows as a finite map, and what commits make of them.
+use Rattle.std.specs.Prelude.{ℕ, ℤ, List, Option, Some, None, fold}
+use Rattle.std.specs.Ordering.{int_cmp}
+use Rattle.std.specs.FinMap.{FinMap, insert, remove}
+use Rattle.pm_rows.specs.declared.commit.Change.{Change}
+use Rattle.pm_rows.specs.declared.commit.Change.TheVariants.{Put, Del}
+
+-- rows: each key has at most one value, a list of bytes
+abbrev pub RowMap : Type 0
+RowMap = FinMap int_cmp (List ℕ)
+
+-- the key that a change is about
+abbrev pub key_of : Change → ℤ
+key_of (Put key value) = key
+key_of (Del key) = key
+
+-- what a change leaves at its key: a value, or no row
+abbrev pub value_left : Change → Option (List ℕ)
+value_left (Put key value) = Some value
+value_left (Del key) = None
+
+-- a put sets its key to its value, and a deletion takes its key out
+abbrev pub changed : RowMap → Change → RowMap
+changed rows (Put key value) = insert rows key value
+changed rows (Del key) = remove rows key
+
+-- the rows after the changes of one commit, in order
+abbrev pub committed : RowMap → List Change → RowMap
+committed rows changes = fold changed rows changes
+
+-- the fold of commits: the rows after all of them, in order
+abbrev pub folded : RowMap → List (List Change) → RowMap
+folded rows commits = fold committed rows commits

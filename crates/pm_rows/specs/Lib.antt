@@ -1,0 +1,5 @@
+pub mod Fold
+pub mod Outcome
+pub mod RowsIter
+pub mod Size
+pub mod Table

@@ -1,0 +1,17 @@
+-- How the fields of `Rows` stand for a finite map.
+use Rattle.std.specs.Prelude.{◌≡◌, ℕ, ℤ, ◌<◌, ◌^◌, List, length, All, sum_by}
+use Rattle.std.specs.Ordering.{int_cmp}
+use Rattle.std.specs.BTreeMap.{BTreeMap, IsOrdered, values}
+use Rattle.std.specs.FinMap.{from_sorted}
+use Rattle.pm_rows.specs.Fold.{RowMap}
+use Rattle.pm_rows.specs.Size.{row_size}
+
+-- the map of the table's entries
+abbrev pub rows_in : BTreeMap ℤ (List ℕ) → RowMap
+rows_in table = from_sorted table.entries
+
+-- the keys rise, each value has a length that fits its type, and the size is the sum over the rows
+pub record IsTable (table : BTreeMap ℤ (List ℕ)) (size : ℕ) : Type 0 where
+  pub ordered : IsOrdered int_cmp table
+  pub lengths : All (λ value. length value < 2 ^ 64) (values table)
+  pub sum : size ≡ sum_by row_size (values table)

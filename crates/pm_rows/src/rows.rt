@@ -1,0 +1,130 @@
+//! The rows of the table.
+ghost use Rattle.std.specs.Prelude.{◌≡◌, ◌+◌, ◌-◌, ◌^◌, ◌<◌, min, IfOk, OnOk, OnErr};
+ghost use Rattle.std.specs.FinMap as map;
+ghost use Rattle.std.specs.Map.Iter.{ShowsInOrder};
+ghost use Rattle.std.specs.Option.{option_copied};
+ghost use Rattle.pm_rows.specs.RowsIter.{shown_row};
+ghost use Rattle.pm_rows.specs.Size.{row_size, size_of};
+
+use crate::rows_iter::RowsIter;
+use crate::text::Text;
+use std::alloc::{AllocError, Global};
+use std::collections::BTreeMap;
+use std::marker::Model;
+
+/// The rows, by rising key. Contracts see them as a finite map from keys to the bytes of the values.
+#[derive(Debug, Drop)]
+pub struct Rows {
+    table: BTreeMap<i64, Text>,
+    // The exact sum. It fits, since there are fewer than 2^63 rows, each of less than 2^64 + 12 bytes.
+    size: u128,
+    alloc: Global,
+}
+
+impl Model for Rows {
+    ghost use Rattle.std.specs.Coded.{coded_ℤ, coded_ℕ, coded_list};
+    ghost use Rattle.std.specs.FinMap as map;
+    ghost use Rattle.pm_rows.specs.Fold.{RowMap};
+
+    ghost Value = { RowMap };
+
+    ghost coded = { map.code coded_ℤ (coded_list coded_ℕ) };
+
+    ghost use Rattle.pm_rows.specs.Table.{rows_in, IsTable};
+
+    ghost view = { λ rows. rows_in rows.table };
+
+    ghost invariant = { λ rows. IsTable rows.table rows.size };
+}
+
+impl Rows {
+    /// A table without rows. It takes no memory.
+    pub fn new(alloc: Global) -> Rows
+        ensures { result ≡ map.empty }
+    {
+        Rows {
+            table: BTreeMap::new(alloc),
+            size: 0,
+            alloc,
+        }
+    }
+
+    /// The value of the row of a key, where there is one. It takes time of the order of the logarithm of the rows.
+    pub fn get(&self, key: i64) -> Option<&Text>
+        ensures { option_copied result ≡ map.get self.now key }
+    {
+        self.table.get(&key)
+    }
+
+    /// The number of rows.
+    pub fn len(&self) -> usize
+        ensures { result ≡ map.len self.now }
+    {
+        self.table.len()
+    }
+
+    /// The size of the rows in bytes: 12 for each row and the length of its value, or the largest `u64` where that is
+    /// more. It is kept, and not counted.
+    pub fn size(&self) -> u64
+        ensures { result ≡ min (size_of self.now) (2 ^ 64 - 1) }
+    {
+        u64::try_from(self.size).unwrap_or(u64::MAX)
+    }
+
+    /// The rows by rising key.
+    pub fn iter(&self) -> RowsIter<'_>
+        ensures rest { result ≡ map.entries self.now }
+        ensures runs { ShowsInOrder shown_row }
+    {
+        RowsIter::of(self.table.iter())
+    }
+
+    /// Equal rows of their own. It fails only where memory is short.
+    pub fn copy(&self) -> Result<Rows, AllocError>
+        ensures { IfOk result (λ rows. rows ≡ self.now) }
+    {
+        Ok(Rows {
+            table: self.table.clone()?,
+            size: self.size,
+            alloc: self.alloc,
+        })
+    }
+
+    pub(crate) fn allocator(&self) -> Global {
+        self.alloc
+    }
+
+    // Sets the value at a key. Only a key without a row takes memory.
+    pub(crate) fn put(&mut self, key: i64, value: Text) -> Result<(), AllocError>
+        ensures ok { OnOk result (self.new ≡ map.insert self.old key value) }
+        ensures err { OnErr result (self.new ≡ self.old) }
+        ensures absent { OnErr result (map.get self.old key ≡ None) }
+    {
+        let added = row_size(&value);
+        // `len` tells that there are fewer than 2^63 rows.
+        let _rows = self.table.len();
+        let old = self.table.insert(key, value)?;
+        self.size += added;
+        if let Some(replaced) = old {
+            self.size -= row_size(&replaced);
+        }
+        Ok(())
+    }
+
+    // Takes a key out, where it has a row.
+    pub(crate) fn take_out(&mut self, key: i64)
+        ensures { self.new ≡ map.remove self.old key }
+    {
+        if let Some(removed) = self.table.remove(&key) {
+            self.size -= row_size(&removed);
+        }
+    }
+}
+
+// The bytes that a row of this value takes.
+fn row_size(value: &Text) -> u128
+    ensures size { result ≡ row_size value.now }
+    ensures small { result < 2 ^ 64 + 12 }
+{
+    12 + value.as_str().len() as u128
+}

@@ -1,0 +1,121 @@
+use crate::{Change, Commit, Rows, Text};
+use std::alloc::Global;
+use std::test::Fail;
+
+fn put(alloc: Global, commit: &mut Commit, key: i64, value: &str) -> Result<(), Fail> {
+    commit.push(Change::Put {
+        key,
+        value: Text::of(alloc, value)?,
+    })?;
+    Ok(())
+}
+
+fn del(commit: &mut Commit, key: i64) -> Result<(), Fail> {
+    commit.push(Change::Del { key })?;
+    Ok(())
+}
+
+// The rows as `key=value` by rising key, a blank behind each.
+fn listed(alloc: Global, rows: &Rows) -> Result<String, Fail> {
+    let mut text = String::new(alloc);
+    for (key, value) in rows.iter() {
+        let row = format!(in alloc; "{}={} ", key, value.as_str())?;
+        text.push_str(row.as_str())?;
+    }
+    Ok(text)
+}
+
+#[test]
+fn commits_insert_overwrite_and_delete(rt: HostRuntime) -> Result<(), Fail> {
+    let alloc = rt.alloc();
+    let mut rows = Rows::new(alloc);
+    assert_eq!(rt; rows.len(), 0);
+    assert_eq!(rt; rows.size(), 0);
+
+    // Two rows of 12 + 5 and 12 + 0 bytes.
+    let mut inserts = Commit::new(alloc);
+    put(alloc, &mut inserts, 7, "seven")?;
+    put(alloc, &mut inserts, i64::MIN, "")?;
+    rows.apply(&inserts)?;
+    assert_eq!(rt;
+        listed(alloc, &rows)?.as_str(),
+        "-9223372036854775808= 7=seven "
+    );
+    assert_eq!(rt; rows.len(), 2);
+    assert_eq!(rt; rows.size(), 29);
+
+    // One is overwritten by a longer value, one is added in front of it, and one is deleted.
+    let mut mixed = Commit::new(alloc);
+    put(alloc, &mut mixed, 7, "siebzehn")?;
+    put(alloc, &mut mixed, -3, "it's")?;
+    del(&mut mixed, i64::MIN)?;
+    rows.apply(&mixed)?;
+    assert_eq!(rt; listed(alloc, &rows)?.as_str(), "-3=it's 7=siebzehn ");
+    assert_eq!(rt; rows.len(), 2);
+    assert_eq!(rt; rows.size(), 36);
+
+    // The last change of a key counts: put and deleted, deleted and put, and a deletion of an absent key.
+    let mut last_counts = Commit::new(alloc);
+    put(alloc, &mut last_counts, 1, "gone")?;
+    del(&mut last_counts, 1)?;
+    del(&mut last_counts, 7)?;
+    put(alloc, &mut last_counts, 7, "x")?;
+    del(&mut last_counts, 2)?;
+    rows.apply(&last_counts)?;
+    assert_eq!(rt; listed(alloc, &rows)?.as_str(), "-3=it's 7=x ");
+    assert_eq!(rt; rows.len(), 2);
+    assert_eq!(rt; rows.size(), 29);
+
+    let mut deletes = Commit::new(alloc);
+    del(&mut deletes, 7)?;
+    del(&mut deletes, -3)?;
+    rows.apply(&deletes)?;
+    assert_eq!(rt; listed(alloc, &rows)?.as_str(), "");
+    assert_eq!(rt; rows.len(), 0);
+    assert_eq!(rt; rows.size(), 0);
+    Ok(())
+}
+
+#[test]
+fn get_finds_the_value_of_its_key_alone(rt: HostRuntime) -> Result<(), Fail> {
+    let alloc = rt.alloc();
+    let mut commit = Commit::new(alloc);
+    put(alloc, &mut commit, 1, "one")?;
+    put(alloc, &mut commit, i64::MAX, "most")?;
+    let mut rows = Rows::new(alloc);
+    rows.apply(&commit)?;
+    for (key, value) in [(1, "one"), (i64::MAX, "most"), (0, ""), (2, ""), (-1, "")] {
+        let found = match rows.get(key) {
+            Some(text) => text.as_str(),
+            None => "",
+        };
+        assert_eq!(rt; found, value, "at {key}");
+    }
+    Ok(())
+}
+
+#[test]
+fn copies_are_equal(rt: HostRuntime) -> Result<(), Fail> {
+    let alloc = rt.alloc();
+    let mut commit = Commit::new(alloc);
+    put(alloc, &mut commit, 4, "vier")?;
+    del(&mut commit, 5)?;
+    let copied = commit.copy()?;
+    assert_eq!(rt; copied.changes().len(), 2);
+    for change in copied.changes() {
+        match change.copy()? {
+            Change::Put { key, value } => {
+                assert_eq!(rt; key, 4);
+                assert_eq!(rt; value.copy()?.as_str(), "vier");
+            }
+            Change::Del { key } => assert_eq!(rt; key, 5),
+        }
+    }
+    let mut rows = Rows::new(alloc);
+    rows.apply(&copied)?;
+    let kept = rows.copy()?;
+    rows.apply(&commit)?;
+    assert_eq!(rt; listed(alloc, &kept)?.as_str(), "4=vier ");
+    assert_eq!(rt; kept.size(), 16);
+    Ok(())
+}

@@ -1,0 +1,4 @@
+pub mod Parameters
+pub mod Reading
+pub mod Grammar
+pub mod Phases

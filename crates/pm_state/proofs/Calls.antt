@@ -1,0 +1,344 @@
+-- Each call is a run of the supervisor, and so is each list of them.
+use Rattle.std.proofs.Common.{◌≡◌, ℕ, Bool, true, false, not, List, [], ◌∷◌, ◌++◌, Option, Some, None, refl, arith, cond, ◌∙◌}
+use Rattle.std.specs.Prelude.{IsSomeAnd}
+use Rattle.pm_exit.specs.declared.child.Status.{Status}
+use Rattle.pm_exit.specs.declared.child.Kind.{Kind}
+use Rattle.pm_exit.specs.declared.child.Kind.TheVariants as kind
+use Rattle.pm_exit.specs.declared.child.Class.{Class}
+use Rattle.pm_exit.specs.declared.child.Class.TheVariants as class
+use Rattle.pm_exit.specs.Ends.{class_of, is_exit_0}
+use Rattle.pm_modes.specs.declared.Mode.{Mode}
+use Rattle.pm_modes.specs.declared.Mode.TheVariants as mode
+use Rattle.pm_modes.specs.Strength.{strengthen_of}
+use Rattle.pm_admit.specs.declared.Cac.{Cac}
+use Rattle.pm_admit.specs.declared.Cac.TheVariants as cac
+use Rattle.pm_admit.specs.Admission.{decide_of}
+use Rattle.pm_supervisor.specs.declared.Limits.{Limits}
+use Rattle.pm_supervisor.specs.Children.{Child, is_session, is_startup_child, is_checkpointer, is_writer, is_dead_end, child_of, without, marked}
+use Rattle.pm_supervisor.specs.Supervisor.{Supervisor}
+use Rattle.pm_supervisor.specs.Steps as supervisor
+use Rattle.pm_supervisor.specs.Steps.{Event, History, IsRun, MayHappen, SharedAllows, all_happened, happened, after, is_normal, beginning, admission, kind_for}
+use Rattle.pm_state.specs.declared.machine.Machine.{Machine}
+use Rattle.pm_state.specs.declared.machine.Exit.{Exit}
+use Rattle.pm_state.specs.Exits.{unless_normal, less_one, checkpointer_exited, startup_exited, is_shutdown}
+use Rattle.pm_state.specs.Machine.{view_of, accepted_as, started_as, begun, IsReady, IsCounted, IsDue, MayAccept}
+use Rattle.pm_state.specs.Outcome.{Outcome}
+use Rattle.pm_state.specs.Requests.{asked_with, ticked_at}
+use Rattle.pm_state.specs.Shows.{Call, Accepts, Starts, Exits, Asks, Ticks, Turns, Attaches, Touches, Detaches, events_of, events_of_exit, events_of_request, events_of_call, machine_after, machine_at_end, events_in, IsFit, AreFit}
+use Rattle.pm_state.proofs.Facts.{Facts}
+use Rattle.pm_state.proofs.Turns.{Leads, IsRun-append, all_happened-append, turned}
+use Rattle.pm_state.proofs.Counts.{count-marked}
+use Rattle.pm_state.proofs.Exits.{Leaves, calm, crash-run, crash-facts, less_one-leaves, Less, less}
+use Rattle.pm_state.proofs.Startups.{has_left, redo-run, redo-facts, failed-run, failed-facts}
+
+-- an event, and then a run
+pub Leads-first : (limits : Limits) (h : History) (e : Event) (events : List Event) (m : Machine) → MayHappen limits h e
+    → Leads limits (happened h e) events m → Leads limits h (e ∷ events) m
+Leads-first limits h e events m may rest = record { run = (may, rest.run); facts = rest.facts }
+
+unless_normal-leads : (cls : Class) (limits : Limits) (m : Machine) (h : History) (exit : Exit) → Leaves limits m h.now (not (is_normal cls))
+    → Leads limits h (events_of (unless_normal cls m exit).acts) (unless_normal cls m exit).after
+unless_normal-leads class.Normal limits m h exit leaves = record { run = tt; facts = calm limits m h.now leaves }
+unless_normal-leads class.Crash limits m h exit leaves =
+    record { run = crash-run limits m h exit leaves; facts = crash-facts limits m h exit leaves }
+unless_normal-leads class.StartupFailed limits m h exit leaves =
+    record { run = crash-run limits m h exit leaves; facts = crash-facts limits m h exit leaves }
+
+startup-leads : (limits : Limits) (m : Machine) (h : History) (pid : ℕ) (status : Status) (was_active : Bool) (exit : Exit) → IsReady m → Facts limits m h.now
+    → IsSomeAnd (child_of pid h.now.shared.children) (λ c. c.kind ≡ kind.Startup) → exit.status ≡ status
+    → Leads limits (happened h (supervisor.Exit pid kind.Startup status was_active))
+    (events_of_exit m kind.Startup status was_active ++ events_of (startup_exited m exit).acts) (startup_exited m exit).after
+startup-leads limits m h pid status was_active exit ready facts there same =
+    let left = has_left limits m h pid status was_active facts there in
+    elim (is_exit_0 status) as
+    (λ v. is_exit_0 status ≡ v → Leads limits (happened h (supervisor.Exit pid kind.Startup status was_active))
+    (events_of_exit m kind.Startup status was_active ++ events_of (startup_exited m exit).acts) (startup_exited m exit).after) [
+      | true ↦ λ e. record {
+        run = redo-run limits m h pid status was_active exit ready facts left same e;
+        facts = redo-facts limits m h pid status was_active exit ready facts left same e;
+      }
+      | false ↦ λ e. record {
+        run = failed-run limits m h pid status was_active exit ready facts left same e;
+        facts = failed-facts limits m h pid status was_active exit ready facts left same e;
+      }
+    ]
+    refl
+
+-- the end of the checkpointer after the last checkpoint
+checkpointed-run : (limits : Limits) (m : Machine) (h : History) (pid : ℕ) (status : Status) (was_active : Bool)
+    → Leaves limits m (after h.now (supervisor.Exit pid kind.Checkpointer status was_active)) false
+    → class_of kind.Checkpointer (is_shutdown m.state) was_active status ≡ class.Normal
+    → IsRun limits (happened h (supervisor.Exit pid kind.Checkpointer status was_active)) (supervisor.Checkpointed ∷ [])
+checkpointed-run limits m h pid status was_active leaves normal = grind arith
+
+checkpointed-facts : (limits : Limits) (m : Machine) (h : History) → Leaves limits m h.now false
+    → is_shutdown m.state ≡ true
+    → Facts limits (record m { state = Rattle.pm_admit.specs.declared.PmState.TheVariants.WaitDeadEnd })
+    (all_happened h (supervisor.Checkpointed ∷ [])).now
+checkpointed-facts limits m h leaves in_shutdown = grind arith
+
+normal-checkpointer : (b a : Bool) (status : Status) → class_of kind.Checkpointer b a status ≡ class.Normal → b ≡ true
+normal-checkpointer b a status normal = grind arith
+
+checkpointer-leads : (cls : Class) (limits : Limits) (m : Machine) (h : History) (pid : ℕ) (status : Status) (was_active : Bool) (exit : Exit)
+    → class_of kind.Checkpointer (is_shutdown m.state) was_active status ≡ cls
+    → Leaves limits m (after h.now (supervisor.Exit pid kind.Checkpointer status was_active)) (not (is_normal cls))
+    → Leads limits (happened h (supervisor.Exit pid kind.Checkpointer status was_active))
+    ((cond (is_normal cls) (supervisor.Checkpointed ∷ []) []) ++ events_of (checkpointer_exited cls m exit).acts) (checkpointer_exited cls m exit).after
+checkpointer-leads class.Normal limits m h pid status was_active exit is leaves =
+    record {
+      run = checkpointed-run limits m h pid status was_active leaves is;
+      facts =
+          checkpointed-facts limits m (happened h (supervisor.Exit pid kind.Checkpointer status was_active)) leaves
+          (normal-checkpointer (is_shutdown m.state) was_active status is);
+    }
+checkpointer-leads class.Crash limits m h pid status was_active exit is leaves =
+    let g : History = happened h (supervisor.Exit pid kind.Checkpointer status was_active) in
+    record { run = crash-run limits m g exit leaves; facts = crash-facts limits m g exit leaves }
+checkpointer-leads class.StartupFailed limits m h pid status was_active exit is leaves =
+    let g : History = happened h (supervisor.Exit pid kind.Checkpointer status was_active) in
+    record { run = crash-run limits m g exit leaves; facts = crash-facts limits m g exit leaves }
+
+other-leads : (limits : Limits) (m : Machine) (h : History) (pid : ℕ) (k : Kind) (status : Status) (was_active : Bool) (now : ℕ) → is_startup_child k ≡ false
+    → Facts limits m h.now → IsFit limits m h (Exits pid k status was_active now)
+    → let exit : Exit = record { pid = pid; kind = k; status = status; now = now } in
+    let outcome : Outcome = unless_normal (class_of k (is_shutdown m.state) was_active status) (less_one k m) exit in
+    Leads limits h (supervisor.Exit pid k status was_active ∷ events_of outcome.acts) outcome.after
+other-leads limits m h pid k status was_active now other facts fit =
+    Leads-first limits h (supervisor.Exit pid k status was_active) _ _ (tt, fit.1)
+    (unless_normal-leads (class_of k (is_shutdown m.state) was_active status) limits (less_one k m)
+    (happened h (supervisor.Exit pid k status was_active)) (record { pid = pid; kind = k; status = status; now = now })
+    (less_one-leaves limits m h pid k status was_active other fit.0 facts fit.1))
+
+exit-leads : (limits : Limits) (m : Machine) (h : History) (pid : ℕ) (k : Kind) (status : Status) (was_active : Bool) (now : ℕ)
+    → Facts limits m h.now → IsFit limits m h (Exits pid k status was_active now)
+    → Leads limits h (events_of_call m (Exits pid k status was_active now)) (machine_after m (Exits pid k status was_active now))
+exit-leads limits m h pid kind.Startup status was_active now facts fit =
+    Leads-first limits h (supervisor.Exit pid kind.Startup status was_active) _ _ (tt, fit.1)
+    (startup-leads limits m h pid status was_active (record { pid = pid; kind = kind.Startup; status = status; now = now }) fit.0 facts fit.1 refl)
+exit-leads limits m h pid kind.Checkpointer status was_active now facts fit =
+    Leads-first limits h (supervisor.Exit pid kind.Checkpointer status was_active) _ _ (tt, fit.1)
+    (checkpointer-leads (class_of kind.Checkpointer (is_shutdown m.state) was_active status) limits (less_one kind.Checkpointer m) h pid status was_active
+    (record { pid = pid; kind = kind.Checkpointer; status = status; now = now }) refl
+    (less_one-leaves limits m h pid kind.Checkpointer status was_active refl fit.0 facts fit.1))
+exit-leads limits m h pid kind.Writer status was_active now facts fit =
+    other-leads limits m h pid kind.Writer status was_active now refl facts fit
+exit-leads limits m h pid kind.Worker status was_active now facts fit =
+    other-leads limits m h pid kind.Worker status was_active now refl facts fit
+exit-leads limits m h pid kind.Backend status was_active now facts fit =
+    other-leads limits m h pid kind.Backend status was_active now refl facts fit
+exit-leads limits m h pid kind.DeadEnd status was_active now facts fit =
+    other-leads limits m h pid kind.DeadEnd status was_active now refl facts fit
+
+-- accepting
+
+accept-may : (limits : Limits) (m : Machine) (s : Supervisor) → MayAccept m → Facts limits m s
+    → supervisor.accepts s.phase ≡ true
+accept-may limits m s may facts = grind arith
+
+pub accept-decision : (limits : Limits) (m : Machine) (s : Supervisor) → MayAccept m → Facts limits m s
+    → decide_of (view_of m) ≡ admission limits s
+accept-decision limits m s may facts = grind arith
+
+accept-facts : (limits : Limits) (m : Machine) (h : History) (pid : ℕ) (decision : Cac) → decide_of (view_of m) ≡ decision → MayAccept m → IsReady m → Facts limits m h.now
+    → Facts limits (accepted_as decision m) (after h.now (supervisor.Accept pid decision))
+accept-facts limits m h pid cac.Ok is may ready facts = grind arith
+accept-facts limits m h pid cac.Startup is may ready facts = grind arith
+accept-facts limits m h pid cac.Recovery is may ready facts = grind arith
+accept-facts limits m h pid cac.Shutdown is may ready facts = grind arith
+accept-facts limits m h pid cac.TooMany is may ready facts = grind arith
+
+-- starting
+
+start-may : (limits : Limits) (m : Machine) (s : Supervisor) (k : Kind) → m.ended ≡ false → IsDue m k → Facts limits m s → supervisor.MayStart k s
+start-may limits m s kind.Startup goes_on due facts = grind arith
+start-may limits m s kind.Checkpointer goes_on due facts = grind arith
+start-may limits m s kind.Writer goes_on due facts = grind arith
+start-may limits m s kind.Worker goes_on due facts = absurd due
+start-may limits m s kind.Backend goes_on due facts = absurd due
+start-may limits m s kind.DeadEnd goes_on due facts = absurd due
+
+start-facts : (limits : Limits) (m : Machine) (h : History) (pid : ℕ) (k : Kind) → m.ended ≡ false → IsDue m k → Facts limits m h.now
+    → Facts limits (started_as k m) (after h.now (supervisor.Start pid k))
+start-facts limits m h pid kind.Startup goes_on due facts = grind arith
+start-facts limits m h pid kind.Checkpointer goes_on due facts = grind arith
+start-facts limits m h pid kind.Writer goes_on due facts = grind arith
+start-facts limits m h pid kind.Worker goes_on due facts = absurd due
+start-facts limits m h pid kind.Backend goes_on due facts = absurd due
+start-facts limits m h pid kind.DeadEnd goes_on due facts = absurd due
+
+-- asking
+
+ask-run : (limits : Limits) (m : Machine) (h : History) (answer : Option Mode) (asked : Mode) (now : ℕ) → strengthen_of m.shutdown asked ≡ answer → IsReady m
+    → Facts limits m h.now → IsRun limits h (events_of_request answer ++ events_of (asked_with answer m now).acts)
+ask-run limits m h answer asked now is ready facts = grind arith
+
+ask-facts : (limits : Limits) (m : Machine) (h : History) (answer : Option Mode) (asked : Mode) (now : ℕ) → strengthen_of m.shutdown asked ≡ answer → IsReady m
+    → Facts limits m h.now → Facts limits (asked_with answer m now).after (all_happened h (events_of_request answer ++ events_of (asked_with answer m now).acts)).now
+ask-facts limits m h None asked now is ready facts = facts
+ask-facts limits m h (Some mode.Smart) asked now is ready facts =
+    record {
+      same_limits = grind arith;
+      shows = record {
+        phase = grind arith;
+        crash = grind arith;
+        request = grind arith;
+        sessions = grind arith;
+        dead_ends = grind arith;
+        startup = grind arith;
+        checkpointer = grind arith;
+        writer = grind arith;
+      };
+      in_state = grind arith;
+      alone = grind arith;
+      told = grind arith;
+      stop = grind arith;
+      crash = grind arith;
+    }
+ask-facts limits m h (Some mode.Fast) asked now is ready facts =
+    record {
+      same_limits = grind arith;
+      shows = record {
+        phase = grind arith;
+        crash = grind arith;
+        request = grind arith;
+        sessions = grind arith;
+        dead_ends = grind arith;
+        startup = grind arith;
+        checkpointer = grind arith;
+        writer = grind arith;
+      };
+      in_state = grind arith;
+      alone = grind arith;
+      told = grind arith;
+      stop = grind arith;
+      crash = grind arith;
+    }
+ask-facts limits m h (Some mode.Immediate) asked now is ready facts =
+    record {
+      same_limits = grind arith;
+      shows = record {
+        phase = grind arith;
+        crash = grind arith;
+        request = grind arith;
+        sessions = grind arith;
+        dead_ends = grind arith;
+        startup = grind arith;
+        checkpointer = grind arith;
+        writer = grind arith;
+      };
+      in_state = grind arith;
+      alone = grind arith;
+      told = grind arith;
+      stop = grind arith;
+      crash = grind arith;
+    }
+
+-- time
+
+tick-run : (limits : Limits) (m : Machine) (h : History) (now : ℕ) → Facts limits m h.now → IsRun limits h (events_of (ticked_at m.abort_at m now).acts)
+tick-run limits m h now facts = grind arith
+
+tick-facts : (limits : Limits) (m : Machine) (h : History) (now : ℕ) → Facts limits m h.now
+    → Facts limits (ticked_at m.abort_at m now).after (all_happened h (events_of (ticked_at m.abort_at m now).acts)).now
+tick-facts limits m h now facts =
+    record {
+      same_limits = grind arith;
+      shows = record {
+        phase = grind arith;
+        crash = grind arith;
+        request = grind arith;
+        sessions = grind arith;
+        dead_ends = grind arith;
+        startup = grind arith;
+        checkpointer = grind arith;
+        writer = grind arith;
+      };
+      in_state = grind arith;
+      alone = grind arith;
+      told = grind arith;
+      stop = grind arith;
+      crash = grind arith;
+    }
+
+-- a child is marked as attached or not
+mark-facts : (limits : Limits) (m : Machine) (s : Supervisor) (pid : ℕ) (b : Bool) → Facts limits m s
+    → Facts limits m (record s { shared = record s.shared { children = marked pid b s.shared.children } })
+mark-facts limits m s pid b facts =
+    let cs : List Child = s.shared.children in
+    record {
+      same_limits = facts.same_limits;
+      shows = record {
+        phase = facts.shows.phase;
+        crash = facts.shows.crash;
+        request = facts.shows.request;
+        sessions = count-marked is_session pid b cs ∙ facts.shows.sessions;
+        dead_ends = count-marked is_dead_end pid b cs ∙ facts.shows.dead_ends;
+        startup = count-marked is_startup_child pid b cs ∙ facts.shows.startup;
+        checkpointer = count-marked is_checkpointer pid b cs ∙ facts.shows.checkpointer;
+        writer = count-marked is_writer pid b cs ∙ facts.shows.writer;
+      };
+      in_state = facts.in_state;
+      alone = facts.alone;
+      told = facts.told;
+      stop = facts.stop;
+      crash = facts.crash;
+    }
+
+pub call-leads : (limits : Limits) (m : Machine) (h : History) (call : Call) → Facts limits m h.now → IsFit limits m h call
+    → Leads limits h (events_of_call m call) (machine_after m call)
+call-leads limits m h (Accepts pid) facts fit =
+    record {
+      run = (((accept-may limits m h.now fit.0 facts, accept-decision limits m h.now fit.0 facts), fit.2), tt);
+      facts = accept-facts limits m h pid (decide_of (view_of m)) refl fit.0 fit.1 facts;
+    }
+call-leads limits m h (Starts pid k) facts fit =
+    record {
+      run = ((start-may limits m h.now k fit.0 fit.1 facts, fit.2), tt);
+      facts = start-facts limits m h pid k fit.0 fit.1 facts;
+    }
+call-leads limits m h (Exits pid k status was_active now) facts fit = exit-leads limits m h pid k status was_active now facts fit
+call-leads limits m h (Asks mode now) facts fit =
+    record {
+      run = ask-run limits m h (strengthen_of m.shutdown mode) mode now refl fit facts;
+      facts = ask-facts limits m h (strengthen_of m.shutdown mode) mode now refl fit facts;
+    }
+call-leads limits m h (Ticks now) facts fit =
+    record { run = tick-run limits m h now facts; facts = tick-facts limits m h now facts }
+call-leads limits m h Turns facts fit = turned limits h m fit.goes_on facts
+call-leads limits m h (Attaches pid) facts fit = record { run = ((tt, fit), tt); facts = mark-facts limits m h.now pid true facts }
+call-leads limits m h (Touches pid) facts fit = record { run = ((tt, fit), tt); facts = facts }
+call-leads limits m h (Detaches pid) facts fit = record { run = ((tt, fit), tt); facts = mark-facts limits m h.now pid false facts }
+
+pub calls-lead : (limits : Limits) (m : Machine) (h : History) (calls : List Call) → Facts limits m h.now → AreFit limits m h calls
+    → Leads limits h (events_in m calls) (machine_at_end m calls)
+calls-lead limits m h [] facts fit = record { run = tt; facts = facts }
+calls-lead limits m h (call ∷ calls) facts fit =
+    let first : Leads limits h (events_of_call m call) (machine_after m call) = call-leads limits m h call facts fit.0 in
+    let g : History = all_happened h (events_of_call m call) in
+    let rest : Leads limits g (events_in (machine_after m call) calls) (machine_at_end (machine_after m call) calls) =
+    calls-lead limits (machine_after m call) g calls first.facts fit.1 in
+    record {
+      run = IsRun-append limits h (events_of_call m call) (events_in (machine_after m call) calls) first.run rest.run;
+      facts = rw (all_happened-append h (events_of_call m call) (events_in (machine_after m call) calls)) rest.facts;
+    }
+
+pub begun-facts : (limits : Limits) → Facts limits (begun limits) beginning.now
+begun-facts limits = grind arith
+
+-- a child that is there is counted
+
+pub counted : (limits : Limits) (m : Machine) (s : Supervisor) (pid : ℕ) (k : Kind) → Facts limits m s
+    → IsSomeAnd (child_of pid s.shared.children) (λ c. c.kind ≡ k) → IsCounted m k
+counted limits m s pid kind.Startup facts there =
+    let fewer : Less kind.Startup s.shared.children (without pid s.shared.children) = less kind.Startup pid s.shared.children there in grind arith
+counted limits m s pid kind.Checkpointer facts there =
+    let fewer : Less kind.Checkpointer s.shared.children (without pid s.shared.children) = less kind.Checkpointer pid s.shared.children there in grind arith
+counted limits m s pid kind.Writer facts there =
+    let fewer : Less kind.Writer s.shared.children (without pid s.shared.children) = less kind.Writer pid s.shared.children there in grind arith
+counted limits m s pid kind.Worker facts there =
+    let fewer : Less kind.Worker s.shared.children (without pid s.shared.children) = less kind.Worker pid s.shared.children there in grind arith
+counted limits m s pid kind.Backend facts there =
+    let fewer : Less kind.Backend s.shared.children (without pid s.shared.children) = less kind.Backend pid s.shared.children there in grind arith
+counted limits m s pid kind.DeadEnd facts there =
+    let fewer : Less kind.DeadEnd s.shared.children (without pid s.shared.children) = less kind.DeadEnd pid s.shared.children there in grind arith

@@ -1,0 +1,98 @@
+//! The texts of the log's lines.
+
+ghost use Rattle.std.specs.Prelude.{◌≡◌};
+ghost use Rattle.pm_state.specs.Text.{kind_text};
+
+use crate::action::Line;
+use pm_exit::{Kind, Status};
+use std::fmt;
+
+/// The word for a kind of child.
+fn kind_word(kind: Kind) -> &'static str
+    ensures { result.now ≡ kind_text kind }
+{
+    match kind {
+        Kind::Startup => "startup",
+        Kind::Checkpointer => "checkpointer",
+        Kind::Writer => "writer",
+        Kind::Worker => "worker",
+        Kind::Backend => "backend",
+        Kind::DeadEnd => "dead-end",
+    }
+}
+
+impl fmt::Display for Line {
+    ghost use Rattle.std.specs.Prelude.{Some};
+    ghost use Rattle.pm_state.specs.Text.{text_of};
+
+    ghost output = { λ line. Some (text_of line) };
+
+    fn fmt<W: fmt::Write>(&self, f: &mut fmt::Formatter<W>) -> fmt::Result {
+        match *self {
+            Line::Ready => f.write_str("database system is ready to accept connections"),
+            Line::ChildExit { pid, kind, status } => {
+                let kind = kind_word(kind);
+                match status {
+                    Status::Code(code) => {
+                        write!(f, "child {pid} ({kind}) exited with exit code {code}")
+                    }
+                    Status::Signal(number) => {
+                        write!(f, "child {pid} ({kind}) was terminated by signal {number}")
+                    }
+                }
+            }
+            Line::TerminatingOthers => f.write_str("terminating any other active server processes"),
+            Line::AbortingStartup => {
+                f.write_str("aborting startup due to startup process failure")
+            }
+            Line::Smart => f.write_str("received smart shutdown request"),
+            Line::Fast => f.write_str("received fast shutdown request"),
+            Line::Immediate => f.write_str("received immediate shutdown request"),
+            Line::AbortingTransactions => f.write_str("aborting any active transactions"),
+            Line::Abnormal => f.write_str("abnormal database system shutdown"),
+            Line::Down => f.write_str("database system is shut down"),
+            Line::RestartOff => f.write_str("shutting down because restart_after_crash is off"),
+            Line::Reinitializing => {
+                f.write_str("all server processes terminated; reinitializing")
+            }
+        }
+    }
+}
+
+#[cfg(test)]
+mod tests {
+    use super::*;
+    use std::alloc::AllocError;
+
+    #[test]
+    fn the_end_of_a_child_is_told_by_code_or_signal(rt: HostRuntime) -> Result<(), AllocError> {
+        let table = [
+            (
+                Kind::Backend,
+                Status::Code(2),
+                "child 4 (backend) exited with exit code 2",
+            ),
+            (
+                Kind::DeadEnd,
+                Status::Signal(9),
+                "child 4 (dead-end) was terminated by signal 9",
+            ),
+        ];
+        for (kind, status, text) in table {
+            let line = Line::ChildExit {
+                pid: 4,
+                kind,
+                status,
+            };
+            let written = format!(in rt.alloc(); "{line}")?;
+            assert_eq!(rt; written.as_str(), text);
+        }
+        let line = Line::RestartOff;
+        let written = format!(in rt.alloc(); "{line}")?;
+        assert_eq!(rt;
+            written.as_str(),
+            "shutting down because restart_after_crash is off"
+        );
+        Ok(())
+    }
+}

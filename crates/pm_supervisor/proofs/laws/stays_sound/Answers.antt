@@ -1,0 +1,10 @@
+use Rattle.pm_supervisor.specs.Steps.{beginning}
+use Rattle.pm_supervisor.proofs.Soundness.{sound-step, sound-all_happened, sound-beginning}
+use Rattle.pm_supervisor.proofs.laws.stays_sound.Goals as goal
+
+pub returns : goal.returns
+returns c =
+    record {
+      step = sound-step;
+      runs = λ limits events run. sound-all_happened limits beginning events run sound-beginning;
+    }
