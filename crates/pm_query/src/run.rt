@@ -1,0 +1,105 @@
+//! The answer of a script.
+ghost use Rattle.std.specs.Prelude.{◌≡◌, [], cond, IfOk, OnOk};
+ghost use Rattle.pm_query.specs.Answer.{after_statement, start_on, items_of, commit_of};
+
+use crate::draft::Draft;
+use crate::effect::{Effect, effect_of};
+use crate::item::Item;
+use crate::reply::Reply;
+use pm_rows::{Commit, Rows};
+use pm_sql::{Script, Stmt};
+use std::alloc::{AllocError, Global};
+
+/// What a script answers and what it leaves to commit.
+#[derive(Debug, Drop)]
+pub struct Outcome {
+    /// An item for each statement up to the first error.
+    pub reply: Reply,
+    /// The changes of the statements, in order, and none after an error.
+    pub commit: Commit,
+}
+
+/// Runs a script over the rows of the table, which stay as they are. It fails only where memory is short.
+///
+/// A statement takes time of the order of the logarithm of the rows, and more only for the rows that it shows.
+pub fn answer(alloc: Global, rows: &Rows, script: &Script) -> Result<Outcome, AllocError>
+    ensures reply { IfOk result (λ outcome. outcome.reply ≡ items_of rows.now script.now) }
+    ensures commit { IfOk result (λ outcome. outcome.commit ≡ commit_of rows.now script.now) }
+{
+    let mut run = Run::on(alloc, rows)?;
+    for stmt in script.stmts() {
+        run.step(stmt)?;
+    }
+    if script.stmts().is_empty() {
+        run.reply.push(Item::Empty)?;
+    }
+    Ok(run.outcome())
+}
+
+// How far a script has come.
+#[derive(Drop)]
+struct Run<'a> {
+    alloc: Global,
+    draft: Draft<'a>,
+    reply: Reply,
+    commit: Commit,
+    failed: bool,
+}
+
+impl<'a> Run<'a> {
+    ghost use Rattle.pm_query.specs.Run.{progress_of, KnowsFailure};
+
+    fn on(alloc: Global, rows: &'a Rows) -> Result<Run<'a>, AllocError>
+        ensures start { IfOk result (λ run. progress_of run ≡ start_on rows.now) }
+        ensures failure { IfOk result KnowsFailure }
+    {
+        Ok(Run {
+            alloc,
+            draft: Draft::of(alloc, rows)?,
+            reply: Reply::new(alloc),
+            commit: Commit::new(alloc),
+            failed: false,
+        })
+    }
+
+    // Runs a statement, unless an error was answered.
+    fn step(&mut self, stmt: &Stmt) -> Result<(), AllocError>
+        requires { KnowsFailure self.old }
+        ensures progress { OnOk result (progress_of self.new ≡ after_statement (progress_of self.old) stmt.now) }
+        ensures failure { OnOk result (KnowsFailure self.new) }
+    {
+        if self.failed {
+            return Ok(());
+        }
+        let Effect { item, change } = effect_of(self.alloc, &self.draft, stmt)?;
+        if let Some(change) = change {
+            self.draft.make(&change)?;
+            self.commit.push(change)?;
+        }
+        self.failed = item.is_error();
+        self.reply.push(item)?;
+        Ok(())
+    }
+
+    // Nothing is committed after an error.
+    fn outcome(self) -> Outcome
+        ensures reply { result.reply ≡ self.entry.reply }
+        ensures commit { result.commit ≡ cond self.entry.failed [] self.entry.commit }
+    {
+        let Run {
+            alloc,
+            draft: _,
+            reply,
+            commit,
+            failed,
+        } = self;
+        if failed {
+            Outcome {
+                reply,
+                commit: Commit::new(alloc),
+            }
+        } else {
+            Outcome { reply, commit }
+        }
+    }
+}

@@ -1,0 +1,5 @@
+pub mod Texts
+pub mod Strings
+pub mod Numbers
+pub mod Steps
+pub mod Shrinks

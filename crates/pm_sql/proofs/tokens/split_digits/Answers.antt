@@ -1,0 +1,8 @@
+use Rattle.std.proofs.Common.{sym, subst}
+use Rattle.std.specs.Char.{is_ascii_digit}
+use Rattle.std.specs.Str.{IsCharBoundary}
+use Rattle.pm_sql.proofs.Texts.{prefix-boundary, digits-IsOfAscii}
+use Rattle.pm_sql.proofs.tokens.split_digits.Goals as goal
+
+pub split_at-requires : goal.split_at-requires
+split_at-requires c = subst (IsCharBoundary c.args.here.now) (sym c.digits_len.ensures) (prefix-boundary is_ascii_digit c.args.here.now digits-IsOfAscii c.utf8.here)

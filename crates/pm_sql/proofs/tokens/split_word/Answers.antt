@@ -1,0 +1,7 @@
+use Rattle.std.proofs.Common.{sym, subst}
+use Rattle.std.specs.Str.{IsCharBoundary}
+use Rattle.pm_sql.proofs.Texts.{word-boundary}
+use Rattle.pm_sql.proofs.tokens.split_word.Goals as goal
+
+pub split_at-requires : goal.split_at-requires
+split_at-requires c = subst (IsCharBoundary c.args.here.now) (sym c.word_len.ensures) (word-boundary c.args.here.now c.utf8.here)

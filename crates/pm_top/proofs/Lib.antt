@@ -1,0 +1,17 @@
+pub mod Batches
+pub mod Books
+pub mod Conversations
+pub mod Exchanges
+pub mod Files
+pub mod Headers
+pub mod Messages
+pub mod Packets
+pub mod Plain
+pub mod Ports
+pub mod Sending
+pub mod Served
+pub mod Short
+pub mod Spelling
+pub mod Statements
+pub mod Stops
+pub mod Turns

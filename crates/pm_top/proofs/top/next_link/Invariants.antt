@@ -1,0 +1,5 @@
+use Rattle.pm_top.proofs.Ports.{Balanced}
+use Rattle.pm_top.proofs.top.next_link.Given as goal
+
+abbrev pub invariant-loop : goal.invariant-loop
+invariant-loop g l = record { balanced : Balanced (g.P.Port.visits l.port) }

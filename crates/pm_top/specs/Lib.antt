@@ -1,0 +1,13 @@
+pub mod StandsFor
+pub mod Unread
+pub mod Contents
+pub mod History
+pub mod Book
+pub mod Exchange
+pub mod Session
+pub mod Store
+pub mod Conversation
+pub mod Log
+pub mod Short
+pub mod Words
+pub mod Ends

@@ -1,0 +1,58 @@
+-- How long a message is.
+use Rattle.std.proofs.Common.{◌≡◌, ℕ, ◌+◌, ◌^◌, ◌<◌, ◌++◌, ◌∷◌, [], List, length, ◌↔◌, codes, decimal, arith}
+use Rattle.std.specs.Fmt.{signed_decimal}
+use Rattle.std.proofs.lemmas.List.{length-append}
+use Rattle.std.proofs.lemmas.Fmt.{length-decimal-le}
+use Rattle.pm_wire.specs.declared.back.Shape.{Shape}
+use Rattle.pm_wire.specs.declared.back.Shape.TheVariants as shapes
+use Rattle.pm_wire.specs.declared.back.Tag.TheVariants.{Insert, Update, Delete, Select}
+use Rattle.pm_wire.specs.Pieces.{int16, int32, counted, string}
+use Rattle.pm_wire.specs.Backend.{BackMessage, Auth, Param, Key, Ready, Fields, Pair, One, Complete, Empty, Fault, Notice, body, fields_of, severity_word, report_length, Saying, IsShort, HasCount}
+use Rattle.pm_wire.proofs.Numbers.{length_int16, length_int32}
+use Rattle.pm_wire.proofs.Joined.{length_fields}
+
+length_fields_of : (s : Saying) → 4 + length (fields_of s) ≡ report_length s
+length_fields_of s = omega (arith, length_fields (severity_word s.severity) s.code s.text s.detail)
+
+pub columns_short : (shape : Shape) → 4 + length (body (Fields shape)) < 2 ^ 31
+unfolding int16 int32
+columns_short shapes.Pair = omega arith
+columns_short shapes.Count = omega arith
+columns_short shapes.Sleep = omega arith
+
+tag_short : (verb : List ℕ) (n : ℕ) → length verb < 64 → n < 2 ^ 64 → 4 + length (string (verb ++ decimal n)) < 2 ^ 31
+tag_short verb n short fits = omega (arith, length-append (verb ++ decimal n) (0 ∷ []), length-append verb (decimal n), length-decimal-le 20 n (omega arith) (omega arith) fits)
+
+-- what a message's condition says of its length field
+pub short_iff : (m : BackMessage) → HasCount m → (IsShort m ↔ (4 + length (body m) < 2 ^ 31))
+short_iff Auth h = (λ _. omega (arith, length_int32 0), λ _. tt)
+short_iff (Param name value) h =
+    let size : 4 + length (body (Param name value)) ≡ 6 + length name + length value = simp length-append (omega arith) in
+    (λ a. omega (arith, size), λ a. omega (arith, size))
+short_iff (Key pid key) h = (λ _. omega (arith, length-append (int32 pid) (int32 key), length_int32 pid, length_int32 key), λ _. tt)
+short_iff Ready h = (λ _. omega arith, λ _. tt)
+short_iff (Fields shape) h = (λ _. columns_short shape, λ _. tt)
+short_iff (Pair key value) h =
+    let size : 4 + length (body (Pair key value)) ≡ 14 + length (signed_decimal key) + length value =
+    omega (
+      arith,
+      length-append (int16 2 ++ counted (signed_decimal key)) (counted value),
+      length-append (int16 2) (counted (signed_decimal key)),
+      length-append (int32 (length (signed_decimal key))) (signed_decimal key),
+      length-append (int32 (length value)) value,
+      length_int16 2,
+      length_int32 (length (signed_decimal key)),
+      length_int32 (length value),
+    ) in
+    (λ a. omega (arith, size), λ a. omega (arith, size))
+short_iff (One text) h =
+    let size : 4 + length (body (One text)) ≡ 10 + length text =
+    omega (arith, length-append (int16 1) (counted text), length-append (int32 (length text)) text, length_int16 1, length_int32 (length text)) in
+    (λ a. omega (arith, size), λ a. omega (arith, size))
+short_iff (Complete (Insert n)) h = (λ _. tag_short (codes "INSERT 0 ") n (omega arith) h, λ _. tt)
+short_iff (Complete (Update n)) h = (λ _. tag_short (codes "UPDATE ") n (omega arith) h, λ _. tt)
+short_iff (Complete (Delete n)) h = (λ _. tag_short (codes "DELETE ") n (omega arith) h, λ _. tt)
+short_iff (Complete (Select n)) h = (λ _. tag_short (codes "SELECT ") n (omega arith) h, λ _. tt)
+short_iff Empty h = (λ _. omega arith, λ _. tt)
+short_iff (Fault s) h = (λ a. omega (arith, length_fields_of s), λ a. omega (arith, length_fields_of s))
+short_iff (Notice s) h = (λ a. omega (arith, length_fields_of s), λ a. omega (arith, length_fields_of s))

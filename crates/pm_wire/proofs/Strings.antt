@@ -1,0 +1,73 @@
+-- A string ends at its first zero.
+use Rattle.std.proofs.Common.{◌≡◌, ℕ, zero, suc, ◌+◌, ◌<◌, ◌≤◌, ◌++◌, ◌∷◌, [], List, length, get_or, take, drop, true, false, not, eqb, ltb, Some, None, refl, sym, ap, subst, ◌∙◌, arith}
+use Rattle.std.specs.List.{AllByRecursion, prefix_len, position}
+use Rattle.std.proofs.lemmas.Bool.{eqb-true, eqb-false, lt-ltb}
+use Rattle.std.proofs.lemmas.Option.{cond_some}
+use Rattle.std.proofs.lemmas.List.{length-append, take_at, take-append-drop, drop_more, drop_all}
+use Rattle.std.proofs.lemmas.List.Quantifiers.{position-Some}
+use Rattle.pm_wire.specs.Pieces.{HasNoZero, string}
+use Rattle.pm_wire.specs.Frontend.{IsString}
+use Rattle.pm_wire.specs.Reading.{text_of, text_before}
+
+abbrev pub AllNonzero : List ℕ → Type 0
+AllNonzero bytes = AllByRecursion (λ b. 0 < b) bytes
+
+suc_nonzero : (b : ℕ) → eqb (suc b) 0 ≡ false
+suc_nonzero b = elim (eqb (suc b) 0) as (λ t. eqb (suc b) 0 ≡ t → t ≡ false) [ true ↦ λ e. absurd (omega (arith, eqb-true _ _ e)) | false ↦ λ _. refl ] refl
+
+pub all_nonzero : (bytes : List ℕ) → HasNoZero bytes → AllNonzero bytes
+all_nonzero [] h = tt
+all_nonzero (zero ∷ bs) h = absurd cc
+all_nonzero (suc b ∷ bs) h = (omega arith, all_nonzero bs (rw (suc_nonzero b) at h))
+
+pub has_no_zero : (bytes : List ℕ) → AllNonzero bytes → HasNoZero bytes
+has_no_zero [] h = refl
+has_no_zero (zero ∷ bs) h = absurd (omega (arith, h.0))
+has_no_zero (suc b ∷ bs) h = rw (suc_nonzero b) (has_no_zero bs h.1)
+
+zero_place : (text : List ℕ) → AllNonzero text → prefix_len (λ x. not (eqb x 0)) (text ++ 0 ∷ []) ≡ length text
+zero_place [] h = refl
+zero_place (zero ∷ bs) h = absurd (omega (arith, h.0))
+zero_place (suc b ∷ bs) h =
+    rw (suc_nonzero b) (omega (arith, zero_place bs h.1))
+
+pub zero_at_end : (text : List ℕ) → HasNoZero text → position (λ b. eqb b 0) (string text) ≡ Some (length text)
+zero_at_end text h =
+    let place = zero_place text (all_nonzero text h) in
+    let within : ltb (length text) (length (text ++ 0 ∷ [])) ≡ true = lt-ltb _ _ (omega (arith, length-append text (0 ∷ []))) in
+    rw (place, within) refl
+
+eqb_same : (n m : ℕ) → n ≡ m → eqb n m ≡ true
+eqb_same n m h =
+    elim (eqb n m) as (λ t. eqb n m ≡ t → t ≡ true) [ true ↦ λ _. refl | false ↦ λ e. absurd (eqb-false n m e h) ] refl
+
+pub text_again : (text : List ℕ) → HasNoZero text → text_of (string text) ≡ Some text
+unfolding text_of
+text_again text h =
+    let place = zero_at_end text h in
+    let last : eqb (length text + 1) (length (text ++ 0 ∷ [])) ≡ true = eqb_same _ _ (omega (arith, length-append text (0 ∷ []))) in
+    let front : take (length text) (text ++ 0 ∷ []) ≡ text = take_at text (0 ∷ []) (length text) refl in
+    rw place (rw (last, front) refl)
+
+pub no_zero_below : (n : ℕ) (bytes : List ℕ) → n ≤ length bytes → ((k : ℕ) → k < n → eqb (get_or bytes k 0) 0 ≡ false) → AllNonzero (take n bytes)
+no_zero_below zero bytes le h = tt
+no_zero_below (suc n) [] le h = tt
+no_zero_below (suc n) (zero ∷ bs) le h = absurd (eqb-false 0 0 (h 0 (omega arith)) refl)
+no_zero_below (suc n) (suc b ∷ bs) le h = (omega arith, no_zero_below n bs (omega (arith, le)) (λ k lt. h (suc k) (omega arith)))
+
+pub text_takes : (body text : List ℕ) → text_of body ≡ Some text → HasNoZero text × (body ≡ string text)
+unfolding text_of
+text_takes body text e =
+    elim (position (λ b. eqb b 0) body) as (λ p. position (λ b. eqb b 0) body ≡ p → text_before p body ≡ Some text → HasNoZero text × (body ≡ string text)) [
+      | None ↦ λ found ends. absurd cc
+      | Some end ↦ λ found ends.
+          let place = position-Some (λ b. eqb b 0) body end 0 found in
+          let last = cond_some (eqb (end + 1) (length body)) (take end body) text ends in
+          let rest : drop end body ≡ 0 ∷ [] =
+          drop_more body end 0 place.0 ∙ (rw (eqb-true _ _ place.1, drop_all (end + 1) body (omega (arith, eqb-true _ _ last.0))) refl) in
+          let parts : body ≡ take end body ++ 0 ∷ [] = sym (take-append-drop end body) ∙ ap (λ (r : List ℕ). take end body ++ r) rest in
+          subst (λ (t : List ℕ). HasNoZero t × (body ≡ string t)) last.1 (has_no_zero (take end body) (no_zero_below end body (omega arith) place.2), parts)
+    ] refl e
+
+pub text_none : (body : List ℕ) → text_of body ≡ None → ¬ (IsString body)
+text_none body e h = let again = ap text_of h.2 ∙ text_again h.0 h.1 in cc

@@ -1,0 +1,5 @@
+use Rattle.pm_wire.proofs.Sizes.{short_iff}
+use Rattle.pm_wire.proofs.laws.back_lengths_are_short.Goals as goal
+
+pub returns : goal.returns
+returns c = short_iff

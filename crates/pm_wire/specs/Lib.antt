@@ -1,0 +1,12 @@
+pub mod Pieces
+pub mod Backend
+pub mod Ready
+pub mod Frontend
+pub mod Reading
+pub mod Taking
+pub mod Stream
+pub mod Utf8
+pub mod Parts
+pub mod BackReading
+pub mod Received
+pub mod Short

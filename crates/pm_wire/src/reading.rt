@@ -1,0 +1,30 @@
+//! Messages of the server, read again.
+
+ghost use Rattle.std.specs.Prelude.{◌≡◌, ℕ, ◌≤◌, ◌++◌, ◌↔◌, List, length, take};
+ghost use Rattle.pm_wire.specs.Backend.{BackMessage, IsBack, back_message};
+ghost use Rattle.pm_wire.specs.Received.{IsPartial, HasNoSuchLength, DepartsHere};
+ghost use Rattle.pm_wire.specs.Reading.{seen_by};
+ghost use Rattle.pm_wire.specs.Taking.{IfWhole};
+
+use crate::back::Back;
+use crate::back_read::back_of;
+use crate::take::{Take, WireFault};
+
+impl<'a> Back<'a> {
+    /// Reads the message that the bytes begin with. Nothing is copied: its texts lie in the bytes.
+    ///
+    /// A length is told when it is whole, and any other byte as soon as it stands where no message has it.
+    pub fn read(bytes: &'a [u8]) -> Take<Back<'a>>
+        // What is read stands there, and every message that stands there is read.
+        ensures whole { IfWhole result (λ value used. (used ≤ length bytes.now) × IsBack (take used bytes.now) (back_message value)) }
+        ensures every { (spelled rest : List ℕ) (m : BackMessage) → IsBack spelled m → bytes.now ≡ spelled ++ rest
+            → seen_by back_message result ≡ Take.Whole m (length spelled) }
+
+        // Why nothing is read.
+        ensures short { (result ≡ Take.Short) ↔ IsPartial bytes.now }
+        ensures bad_length { (seen : ℕ) → (result ≡ Take.Bad (WireFault.BadLength seen)) ↔ HasNoSuchLength bytes.now seen }
+        ensures bad_form { (at : ℕ) → (result ≡ Take.Bad (WireFault.BadForm at)) ↔ DepartsHere bytes.now at }
+    {
+        back_of(bytes)
+    }
+}
