@@ -1,29 +1,21 @@
 -- How a command ends, and what it leaves.
-use Rattle.std.specs.Prelude.{◌≡◌, ℕ, ◌+◌, List, length, Option, None, Some}
-use Rattle.std.specs.FinMap as map
+use Rattle.std.specs.Prelude.{ℕ, List, Option, None, Some}
 use Rattle.pm_disk.specs.Files.{Files}
 use Rattle.pm_rows.specs.declared.commit.Change.{Change}
-use Rattle.pm_rows.specs.Fold.{folded}
-use Rattle.pm_top.specs.declared.book.BookEntry.{BookEntry}
-use Rattle.pm_top.specs.History.{count_of, rows_of}
-use Rattle.pm_top.specs.Book.{Base, history_of}
 use Rattle.pm_top.specs.StandsFor.{StandsFor}
 use Rattle.pm_top.specs.declared.top.Top.{Top}
-use Rattle.pm_top.specs.declared.top.Top.TheVariants.{Done, Abnormal, OutFault, DiskFault, Exists, NoMemory}
+use Rattle.pm_top.specs.declared.top.Top.TheVariants.{Done, Abnormal, OutFault, DiskFault, Exists, Usage, NoMemory}
 use Rattle.pm_top.specs.declared.top.Why.TheVariants.{AfterCrash, StartupFailed}
 
--- the base is what file A stands for
-abbrev pub IsBaseOf : Base → Option Files → Type 0
-IsBaseOf base None = Unit {0}
-IsBaseOf base (Some files) =
-    (commits : List (List Change)) × (end : ℕ) × StandsFor files.a commits end × (base.rows ≡ folded map.empty commits) × (base.count ≡ length commits) × (base.bytes ≡ end + 1)
-
--- file A stands for all commits of the book
-abbrev pub HoldsAllCommits : Base → Option (List BookEntry) → Option Files → Type 0
-HoldsAllCommits base None files = Unit {0}
-HoldsAllCommits base (Some book) None = Unit {0}
-HoldsAllCommits base (Some book) (Some files) =
-    (commits : List (List Change)) × (end : ℕ) × StandsFor files.a commits end × (rows_of (history_of base book) ≡ folded map.empty commits) × (count_of (history_of base book) ≡ length commits)
+-- the exit code of the program: served, refused or failed, no command line, out of memory
+abbrev pub exit_code : Top → ℕ
+exit_code Done = 0
+exit_code (Abnormal why) = 1
+exit_code OutFault = 1
+exit_code DiskFault = 1
+exit_code Exists = 1
+exit_code Usage = 2
+exit_code NoMemory = 3
 
 -- ---- which ends a command may have
 

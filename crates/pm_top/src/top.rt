@@ -9,7 +9,7 @@ ghost use Rattle.pm_top.specs.Log.{IsOpen};
 ghost use Rattle.pm_top.specs.StandsFor.{StandsFor};
 ghost use Rattle.pm_top.specs.Store.{FileHolds};
 ghost use Rattle.pm_top.specs.Words.{IsLine};
-ghost use Rattle.pm_top.specs.Ends.{IsInitdbEnd, IsOnceEnd, IsServedEnd, IsStartEnd, StandsWhole};
+ghost use Rattle.pm_top.specs.Ends.{IsInitdbEnd, IsOnceEnd, IsServedEnd, IsStartEnd, StandsWhole, exit_code};
 
 use crate::book::BookEntry;
 use crate::log::{self, InitNo};
@@ -75,7 +75,9 @@ pub enum StartWhy {
 
 impl Top {
     /// The exit code of the program.
-    pub fn code(self) -> u8 {
+    pub fn code(self) -> u8
+        ensures { result ≡ exit_code self }
+    {
         match self {
             Top::Done => 0,
             Top::Abnormal(_) | Top::OutFault | Top::DiskFault | Top::Exists => 1,
