@@ -3,3 +3,10 @@ pub mod Strings
 pub mod Numbers
 pub mod Steps
 pub mod Shrinks
+pub mod Fronts
+pub mod Found
+pub mod Complete
+pub mod Sound
+pub mod Scripts
+pub mod Twins
+pub mod Refused

@@ -89,7 +89,7 @@ behind_digits_le false n here h = tt
 abbrev pub rest_of : {A : Type 0} → A × List ℕ → List ℕ
 rest_of found = found.1
 
-sign_le : (n : ℕ) (here : List ℕ) → length here ≤ n → length (sign_of here).1 ≤ n
+pub sign_le : (n : ℕ) (here : List ℕ) → length here ≤ n → length (sign_of here).1 ≤ n
 sign_le n [] h = h
 sign_le n (b ∷ bs) h =
     elim (b == 45) as (λ t. length (rest_of {A = Bool} (cond t (true, bs) (cond (b == 43) (false, bs) (false, b ∷ bs)))) ≤ n) [
@@ -113,7 +113,7 @@ with_byte_le : (n b : ℕ) (found : Option (List ℕ × List ℕ)) → IfSome fo
 with_byte_le n b None h = tt
 with_byte_le n b (Some x) h = h
 
-string_in_le : (n : ℕ) (bs : List ℕ) → length bs ≤ n → IfSome (string_in bs) (λ (x : List ℕ × List ℕ). length x.1 ≤ n)
+pub string_in_le : (n : ℕ) (bs : List ℕ) → length bs ≤ n → IfSome (string_in bs) (λ (x : List ℕ × List ℕ). length x.1 ≤ n)
 unfolding string_in
 string_in_le n [] h = tt
 string_in_le n (b ∷ []) h = elim (b == 39) as (λ t. IfSome (cond t (Some ([], [])) None) (λ (x : List ℕ × List ℕ). length x.1 ≤ n)) [ true ↦ omega arith | false ↦ tt ]

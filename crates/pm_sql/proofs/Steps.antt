@@ -20,7 +20,7 @@ pub record IsReading (steps : ℕ) (script : List Stmt) (rest : List ℕ) (writi
   pub counted : writing ≡ count_by is_writing script
   pub limits : IsWithinLimits script
 
-not_zero : (n : ℕ) → suc n == 0 ≡ false
+pub not_zero : (n : ℕ) → suc n == 0 ≡ false
 not_zero n = grind (arith, nat_tests)
 
 pub at_end : (here : List ℕ) (b : Bool) → length here == 0 ≡ b → is_at_end here ≡ b

@@ -24,7 +24,7 @@ IsOfAscii p = (b : ℕ) → p b ≡ true → b < 128
 behind_ascii : (b : ℕ) (bs : List ℕ) → IsUtf8 (b ∷ bs) → b < 128 → IsUtf8 bs
 behind_ascii b bs u h = IsUtf8-drop (b ∷ bs) 1 u (IsCharBoundary-after_ascii (b ∷ bs) 0 u (omega arith) h)
 
-one-more : (n : ℕ) → 1 + n ≡ suc n
+pub one-more : (n : ℕ) → 1 + n ≡ suc n
 one-more n = omega arith
 
 behind_prefix : (p : ℕ → Bool) (bs : List ℕ) → IsOfAscii p → IsUtf8 bs → IsUtf8 (drop (prefix_len p bs) bs)
@@ -45,7 +45,7 @@ digits-IsOfAscii b e = grind (arith, nat_tests, e)
 pub words-IsOfAscii : IsOfAscii is_word_byte
 words-IsOfAscii b e = grind (arith, nat_tests, e)
 
-eqb_refl : (n : ℕ) → n == n ≡ true
+pub eqb_refl : (n : ℕ) → n == n ≡ true
 eqb_refl n = grind (arith, nat_tests)
 
 pub mark_found : (c : ℕ) (bs : List ℕ) (r : Option (Bor (List ℕ))) → MatchOption r ((rest : List ℕ) → bs ≢ c ∷ rest) (λ x. bs ≡ c ∷ x.now) → option_copied r ≡ behind_mark c bs

@@ -4,4 +4,7 @@ pub mod Limits
 pub mod Message
 pub mod Query
 pub mod Reading
+pub mod Refused
+pub mod Statements
+pub mod Token
 pub mod Tokens

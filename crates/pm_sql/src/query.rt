@@ -1,7 +1,10 @@
 //! Texts as scripts.
-ghost use Rattle.std.specs.Prelude.{◌≡◌, ◌+◌, ◌<◌, cond, IsTrue, IfOk, Ok};
+ghost use Rattle.std.specs.Prelude.{◌≡◌, ◌+◌, ◌<◌, cond, List, IsTrue, IfOk, IfErr, Ok};
+ghost use Rattle.pm_sql.specs.declared.stmt.Stmt.{Stmt};
 ghost use Rattle.pm_sql.specs.Limits.{is_writing, HasShortValue};
 ghost use Rattle.pm_sql.specs.Reading.{Gives};
+ghost use Rattle.pm_sql.specs.Statements.{IsQueryText};
+ghost use Rattle.pm_sql.specs.Refused.{IsRefused};
 ghost use Rattle.pm_sql.specs.Query.{IsParsed, parsed, fault_in, script_of, stmt_at, if_room, end_at};
 
 use crate::fault::{Fault, Kind, Stop};
@@ -37,7 +40,10 @@ pub enum SqlFault {
 
 /// The script that a text spells.
 pub fn parse(alloc: Global, text: &str) -> Result<Script, SqlFault>
-    ensures { IsParsed result (parsed text.now) }
+    ensures parsed { IsParsed result (parsed text.now) }
+    ensures script { IfOk result (λ script. IsQueryText text.now script) }
+    ensures query { (stmts : List Stmt) → IsQueryText text.now stmts → IsParsed result (Ok stmts) }
+    ensures refused { IfErr result (IsRefused text.now) }
 {
     match script_of(alloc, text) {
         Ok(script) => Ok(script),

@@ -1,10 +1,10 @@
 -- Books that go on by an entry.
-use Rattle.std.proofs.Common.{◌≡◌, ◌≢◌, Bool, false, cond, eqb, ◌⊎◌, inl, inr, ℕ, ◌+◌, ◌-◌, ◌^◌, ◌<◌, ◌≤◌, max, List, [], ◌∷◌, ◌++◌, length, All, Any, Option, None, Some, refl, sym, ◌∙◌, ap, subst, arith, append_assoc, length-append}
+use Rattle.std.proofs.Common.{◌≡◌, ◌≢◌, Bool, false, cond, eqb, ◌⊎◌, inl, inr, ℕ, ◌+◌, ◌-◌, ◌^◌, ◌<◌, ◌≤◌, max, List, [], ◌∷◌, ◌++◌, length, All, Any, IfSome, Option, None, Some, refl, sym, ◌∙◌, ap, subst, arith, append_assoc, length-append}
 use Rattle.std.specs.Option.{option_map}
 use Rattle.std.proofs.lemmas.Bool.{cases_lt, cases_eq, eqb-false, eq-eqb, ne_eqb}
 use Rattle.std.proofs.lemmas.List.{append-nil}
 use Rattle.std.proofs.lemmas.List.Sums.{fold-append}
-use Rattle.std.proofs.lemmas.List.Elements.{All-nil}
+use Rattle.std.proofs.lemmas.List.Elements.{All-nil, All-push, All-weaker}
 use Rattle.std.proofs.lemmas.List.Quantifiers.{Any-push}
 use Rattle.pm_rows.specs.declared.commit.Change.{Change}
 use Rattle.pm_rows.specs.Fold.{RowMap, committed}
@@ -15,13 +15,14 @@ use Rattle.pm_query.specs.Answer.{items_of, commit_of}
 use Rattle.pm_top.specs.declared.log.Log.{Log}
 use Rattle.pm_top.specs.declared.log.TheConstants.{MAX_LOG}
 use Rattle.pm_top.specs.declared.book.BookEntry.{BookEntry}
-use Rattle.pm_top.specs.declared.book.BookEntry.TheVariants.{Attached, Answered, Released, Detached, Broke, LogFull}
+use Rattle.pm_top.specs.declared.book.BookEntry.TheVariants.{Opened, Attached, Redone, Answered, Released, Detached, Broke, LogFull}
 use Rattle.pm_disk.specs.Cause.{Rose}
+use Rattle.pm_disk.specs.Files.{Files}
 use Rattle.std.specs.Int.{w32, to_be_bytes}
 use Rattle.pm_top.specs.StandsFor.{batch_bytes, body_bytes}
 use Rattle.pm_top.specs.History.{History, beginning, count_of, rows_of, with_commit}
 use Rattle.pm_top.specs.Book.{Base, IsLegal, MayGoOn, MayFollow, MayAnswer, MayBeFull, MayBreak, MayRelease, AnswersUpTo, after_entry, generation_after, generation_of, history_of, first_kept, times_after, times_attached, tick_after, last_tick, fault_after, faults_of, fault_here, faults_here, TellsFault, need_after, need_of, needs_of}
-use Rattle.pm_top.specs.Store.{IsTrueTo, BookHolds, BookRests, HasAnswer, IsLegalWhereTold}
+use Rattle.pm_top.specs.Store.{AnswersWithin, IsTrueTo, BookHolds, BookRests, HasAnswer, HasFailed, HoldsAcknowledged, IsBroken}
 
 goes_on : (base : Base) (before book : List BookEntry) (entry : BookEntry) → MayGoOn base before book → MayFollow base (before ++ book) entry → MayGoOn base before (book ++ entry ∷ [])
 goes_on base before [] entry all next = (subst (λ (l : List BookEntry). MayFollow base l entry) (append-nil before) next, tt)
@@ -40,12 +41,46 @@ rows-with_commit history (change ∷ changes) = folded-push history.base_rows hi
 pub count-with_commit : (history : History) (change : Change) (changes : List Change) → count_of (with_commit history (change ∷ changes)) ≡ count_of history + 1
 count-with_commit history change changes = omega (arith, length-append history.commits ((change ∷ changes) ∷ []))
 
+-- a commit leaves what is acknowledged, and the number doesn't fall
+acked-with_commit : (history : History) (commit : List Change) → (with_commit history commit).acked ≡ history.acked
+acked-with_commit history [] = refl
+acked-with_commit history (change ∷ changes) = refl
+
+count_grows : (history : History) (commit : List Change) → count_of history ≤ count_of (with_commit history commit)
+count_grows history [] = omega arith
+count_grows history (change ∷ changes) = omega (arith, count-with_commit history change changes)
+
+within_more : (count more : ℕ) → count ≤ more → (entry : BookEntry) → AnswersWithin count entry → AnswersWithin more entry
+within_more count more le (Answered pid script reply commit front tick) within = omega (arith, le, within)
+within_more count more le (Opened generation) within = tt
+within_more count more le (Attached pid generation) within = tt
+within_more count more le (Redone pid generation kept) within = tt
+within_more count more le (Released pid front tick) within = tt
+within_more count more le (Detached pid) within = tt
+within_more count more le (Broke pid since faults) within = tt
+within_more count more le (LogFull pid script need room) within = tt
+
+within_front : (pid front count : ℕ) (entry : BookEntry) → AnswersUpTo pid front entry → AnswersWithin count entry → front ≤ count
+within_front pid front count (Answered who script reply commit upto tick) answers within = omega (arith, answers.1, within)
+within_front pid front count (Opened generation) answers within = absurd answers
+within_front pid front count (Attached who generation) answers within = absurd answers
+within_front pid front count (Redone who generation kept) answers within = absurd answers
+within_front pid front count (Released who upto tick) answers within = absurd answers
+within_front pid front count (Detached who) answers within = absurd answers
+within_front pid front count (Broke who since faults) answers within = absurd answers
+within_front pid front count (LogFull who script need room) answers within = absurd answers
+
+-- an answer up to this front is within the number of commits
+front_within : (pid front count : ℕ) (book : List BookEntry) → Any (AnswersUpTo pid front) book → All (AnswersWithin count) book → front ≤ count
+front_within pid front count book any all = within_front pid front count any.1 any.4 (subst (AnswersWithin count) any.3 (all any.0 any.1 any.2))
+
 -- an entry that leaves rows, numbers and faults alone
 quiet : (base : Base) (book : List BookEntry) (entry : BookEntry) (tick faults : ℕ) (rows : RowMap) (log : Log) → IsTrueTo base book tick faults rows log → MayFollow base book entry
     → rows_of (after_entry (history_of base book) entry) ≡ rows_of (history_of base book) → count_of (after_entry (history_of base book) entry) ≡ count_of (history_of base book)
     → generation_after (generation_of book) entry ≡ generation_of book → ((count : ℕ) → first_kept (Some count) entry ≡ Some count) → fault_after [] entry ≡ [] → fault_here (Some []) entry ≡ Some []
-    → need_after (needs_of book) entry ≡ needs_of book → tick_after (last_tick book) entry ≤ tick → IsTrueTo base (book ++ entry ∷ []) tick faults rows log
-quiet base book entry tick faults rows log true_to may same_rows same_count same_generation same_kept same_faults same_here same_needs in_time =
+    → need_after (needs_of book) entry ≡ needs_of book → tick_after (last_tick book) entry ≤ tick
+    → (after_entry (history_of base book) entry).acked ≤ count_of (history_of base book) → AnswersWithin (count_of (history_of base book)) entry → IsTrueTo base (book ++ entry ∷ []) tick faults rows log
+quiet base book entry tick faults rows log true_to may same_rows same_count same_generation same_kept same_faults same_here same_needs in_time acked front =
     let history : history_of base (book ++ entry ∷ []) ≡ after_entry (history_of base book) entry = fold-append after_entry (beginning base.rows base.count) book (entry ∷ []) in
     let needs : needs_of (book ++ entry ∷ []) ≡ need_after (needs_of book) entry = fold-append need_after 0 book (entry ∷ []) in
     let ticks : last_tick (book ++ entry ∷ []) ≡ tick_after (last_tick book) entry = fold-append tick_after 0 book (entry ∷ []) in
@@ -58,6 +93,8 @@ quiet base book entry tick faults rows log true_to may same_rows same_count same
       rows_are = true_to.rows_are ∙ sym (ap rows_of history ∙ same_rows);
       count_is = true_to.count_is ∙ sym (ap count_of history ∙ same_count);
       end_is = omega (arith, needs, same_needs, true_to.end_is);
+      acked_in = omega (arith, ap (λ (h : History). h.acked) history, ap count_of history, same_count, acked);
+      fronts_in = subst (λ (n : ℕ). All (AnswersWithin n) (book ++ entry ∷ [])) (sym (ap count_of history ∙ same_count)) (All-push (AnswersWithin (count_of (history_of base book))) book entry true_to.fronts_in front);
       in_time = omega (arith, ticks, in_time);
       counted = true_to.counted;
     }
@@ -66,18 +103,18 @@ module _ (base : Base) (pid : ℕ) (book : List BookEntry) (tick faults : ℕ) (
   -- a child comes in
   pub true_entered : IsTrueTo base (book ++ Attached pid 1 ∷ []) tick faults rows log
   true_entered =
-      quiet base book (Attached pid 1) tick faults rows log true_to (omega arith, sym true_to.generation) refl refl refl (λ count. refl) refl refl refl true_to.in_time
+      quiet base book (Attached pid 1) tick faults rows log true_to (omega arith, sym true_to.generation) refl refl refl (λ count. refl) refl refl refl true_to.in_time true_to.acked_in tt
 
 module _ (base : Base) (pid : ℕ) (book : List BookEntry) (tick faults : ℕ) (rows : RowMap) (log : Log) (true_to : IsTrueTo base book tick faults rows log) (here : 1 ≤ times_attached book pid) where
   -- a child goes
   pub true_left : IsTrueTo base (book ++ Detached pid ∷ []) tick faults rows log
-  true_left = quiet base book (Detached pid) tick faults rows log true_to here refl refl refl (λ count. refl) refl refl refl true_to.in_time
+  true_left = quiet base book (Detached pid) tick faults rows log true_to here refl refl refl (λ count. refl) refl refl refl true_to.in_time true_to.acked_in tt
 
   -- an answer is released
   pub true_released : (front : ℕ) → Any (AnswersUpTo pid front) book → IsTrueTo base (book ++ Released pid front tick ∷ []) tick faults rows log
   true_released front answered =
       let may : MayRelease book pid front tick = record { attached = here; answered = answered; in_time = true_to.in_time } in
-      quiet base book (Released pid front tick) tick faults rows log true_to may refl refl refl (λ count. refl) refl refl refl (omega (arith, true_to.in_time))
+      quiet base book (Released pid front tick) tick faults rows log true_to may refl refl refl (λ count. refl) refl refl refl (omega (arith, true_to.in_time)) (omega (arith, true_to.acked_in, front_within pid front (count_of (history_of base book)) book answered true_to.fronts_in)) tt
 
   -- an answer that may follow
   pub may_answer : (script : List Stmt) (reply : List Item) (commit : List Change) (front now : ℕ) → reply ≡ items_of rows script → commit ≡ commit_of rows script
@@ -109,6 +146,11 @@ module _ (base : Base) (pid : ℕ) (book : List BookEntry) (tick faults : ℕ) (
         rows_are = ap (λ (r : RowMap). committed r commit) true_to.rows_are ∙ sym (ap rows_of history ∙ rows-with_commit (history_of base book) commit);
         count_is = front_is ∙ sym (ap count_of history);
         end_is = omega (arith, end_is, needs, true_to.end_is);
+        acked_in = omega (arith, ap (λ (h : History). h.acked) history, acked-with_commit (history_of base book) commit, ap count_of history, count_grows (history_of base book) commit, true_to.acked_in);
+        fronts_in = subst (λ (n : ℕ). All (AnswersWithin n) (book ++ entry ∷ [])) (sym (ap count_of history))
+            (All-push (AnswersWithin (count_of (with_commit (history_of base book) commit))) book entry
+            (All-weaker (AnswersWithin (count_of (history_of base book))) (AnswersWithin (count_of (with_commit (history_of base book) commit))) (within_more (count_of (history_of base book)) (count_of (with_commit (history_of base book) commit)) (count_grows (history_of base book) commit)) book true_to.fronts_in)
+            (omega (arith, front_is)));
         in_time = omega (arith, ticks, true_to.in_time, later);
         counted = omega (arith, true_to.counted, more);
       }
@@ -131,13 +173,14 @@ module _ (base : Base) (pid : ℕ) (book : List BookEntry) (tick faults : ℕ) (
           | inr long ↦ inr (omega (arith, long, true_to.end_is))
         ];
       } in
-      quiet base book (LogFull pid script need room) tick faults rows log true_to may refl refl refl (λ count. refl) refl refl refl true_to.in_time
+      quiet base book (LogFull pid script need room) tick faults rows log true_to may refl refl refl (λ count. refl) refl refl refl true_to.in_time true_to.acked_in tt
 
   -- a fault of the disk behind an answer
-  pub legal_broke : (script : List Stmt) (reply : List Item) (commit : List Change) (front since count : ℕ) → reply ≡ items_of rows script → commit ≡ commit_of rows script
+  pub has_failed : (seen : Option Files) (script : List Stmt) (reply : List Item) (commit : List Change) (front since count : ℕ) → reply ≡ items_of rows script → commit ≡ commit_of rows script
       → front ≡ count_of (with_commit (history_of base book) commit) → Rose faults count → faults ≤ count → count < 2 ^ 64
-      → IsLegal base ((book ++ Answered pid script reply commit front tick ∷ []) ++ Broke pid since count ∷ [])
-  legal_broke script reply commit front since count reply_is commit_is front_is rose more fits =
+      → IfSome seen (λ files. HoldsAcknowledged (with_commit (history_of base book) commit) files.a)
+      → HasFailed base ((book ++ Answered pid script reply commit front tick ∷ []) ++ Broke pid since count ∷ []) seen
+  has_failed seen script reply commit front since count reply_is commit_is front_is rose more fits file =
       let entry = Answered pid script reply commit front tick in
       let attached : times_attached (book ++ entry ∷ []) pid ≡ times_attached book pid = fold-append (times_after pid) 0 book (entry ∷ []) in
       let none : faults_of (book ++ entry ∷ []) ≡ [] = fold-append fault_after [] book (entry ∷ []) ∙ true_to.no_fault in
@@ -150,7 +193,15 @@ module _ (base : Base) (pid : ℕ) (book : List BookEntry) (tick faults : ℕ) (
         attached = omega (arith, attached, here);
         fault = subst (λ (fs : Option (List (ℕ × ℕ))). TellsFault base (book ++ entry ∷ []) fs since count) (sym fresh) told;
       } in
-      legal_push base (book ++ entry ∷ []) (Broke pid since count) (legal_push base book entry true_to.legal (may_answer script reply commit front tick reply_is commit_is front_is (omega arith))) may
+      let behind : faults_here ((book ++ entry ∷ []) ++ Broke pid since count ∷ []) ≡ Some ((since, count) ∷ []) =
+      fold-append fault_here None (book ++ entry ∷ []) (Broke pid since count ∷ []) ∙ ap (λ (k : Option (List (ℕ × ℕ))). fault_here k (Broke pid since count)) fresh in
+      let history : history_of base ((book ++ entry ∷ []) ++ Broke pid since count ∷ []) ≡ with_commit (history_of base book) commit =
+      fold-append after_entry (beginning base.rows base.count) (book ++ entry ∷ []) (Broke pid since count ∷ []) ∙ fold-append after_entry (beginning base.rows base.count) book (entry ∷ []) in
+      record {
+        legal = legal_push base (book ++ entry ∷ []) (Broke pid since count) (legal_push base book entry true_to.legal (may_answer script reply commit front tick reply_is commit_is front_is (omega arith))) may;
+        broken = ((since, count), [], behind);
+        file = subst (λ (h : History). IfSome seen (λ files. HoldsAcknowledged h files.a)) (sym history) file;
+      }
 
 -- how often a child is attached behind one entry more
 pub attached_more : (book : List BookEntry) (entry : BookEntry) (pid : ℕ) → times_attached (book ++ entry ∷ []) pid ≡ times_after pid (times_attached book pid) entry
@@ -170,12 +221,12 @@ book_goes base pid (Some book) now entry tick faults tick' faults' rows rows' lo
     })
 
 -- it goes on by two, and stays legal
-pub book_ends : (base : Base) (pid : ℕ) (told mid now : Option (List BookEntry)) (first second : BookEntry) (tick faults : ℕ) (rows : RowMap) (log : Log)
-    → ((book : List BookEntry) → IsTrueTo base book tick faults rows log → 1 ≤ times_attached book pid → IsLegal base ((book ++ first ∷ []) ++ second ∷ []))
-    → BookHolds base pid told tick faults rows (Some log) → mid ≡ option_map (λ b. b ++ first ∷ []) told → now ≡ option_map (λ b. b ++ second ∷ []) mid → IsLegalWhereTold base now
-book_ends base pid None mid now first second tick faults rows log step holds is then = subst (IsLegalWhereTold base) (sym (then ∙ ap (option_map (λ b. b ++ second ∷ [])) is)) tt
-book_ends base pid (Some book) mid now first second tick faults rows log step holds is then =
-    subst (IsLegalWhereTold base) (sym (then ∙ ap (option_map (λ b. b ++ second ∷ [])) is)) (step book holds.rests holds.attached)
+pub book_ends : (base : Base) (pid : ℕ) (seen : Option Files) (told mid now : Option (List BookEntry)) (first second : BookEntry) (tick faults : ℕ) (rows : RowMap) (log : Log)
+    → ((book : List BookEntry) → IsTrueTo base book tick faults rows log → 1 ≤ times_attached book pid → HasFailed base ((book ++ first ∷ []) ++ second ∷ []) seen)
+    → BookHolds base pid told tick faults rows (Some log) → mid ≡ option_map (λ b. b ++ first ∷ []) told → now ≡ option_map (λ b. b ++ second ∷ []) mid → IsBroken base now seen
+book_ends base pid seen None mid now first second tick faults rows log step holds is then = subst (λ (b : Option (List BookEntry)). IsBroken base b seen) (sym (then ∙ ap (option_map (λ b. b ++ second ∷ [])) is)) tt
+book_ends base pid seen (Some book) mid now first second tick faults rows log step holds is then =
+    subst (λ (b : Option (List BookEntry)). IsBroken base b seen) (sym (then ∙ ap (option_map (λ b. b ++ second ∷ [])) is)) (step book holds.rests holds.attached)
 
 -- two entries are noted one by one
 pub notes_both : (told mid now : Option (List BookEntry)) (first second : BookEntry) → mid ≡ option_map (λ b. b ++ first ∷ []) told → now ≡ option_map (λ b. b ++ second ∷ []) mid

@@ -1,11 +1,15 @@
 pub mod Batches
 pub mod Books
 pub mod Conversations
+pub mod Digits
 pub mod Exchanges
+pub mod Fronts
 pub mod Files
 pub mod Headers
 pub mod Messages
 pub mod Packets
+pub mod Places
+pub mod Parts
 pub mod Plain
 pub mod Ports
 pub mod Sending
@@ -14,4 +18,6 @@ pub mod Short
 pub mod Spelling
 pub mod Statements
 pub mod Stops
+pub mod Texts
 pub mod Turns
+pub mod Starts

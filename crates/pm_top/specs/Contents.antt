@@ -7,6 +7,7 @@ use Rattle.pm_top.specs.declared.record.Contents.{Contents}
 use Rattle.pm_top.specs.declared.record.Contents.TheVariants.{Closed, Standing}
 use Rattle.pm_top.specs.declared.record.FileFault.{FileFault}
 use Rattle.pm_top.specs.declared.record.FileFault.TheVariants.{Bad, NoMemory}
+use Rattle.pm_top.specs.Damage.{IsFirstWrong}
 use Rattle.pm_top.specs.StandsFor.{StandsFor}
 
 -- the file holds nothing: it is empty, or its gate is closed
@@ -25,9 +26,9 @@ pub record MeansNothing (bytes : List ℕ) : Type 0 where
   pub not_closed : IsClosed bytes → ⊥
   pub no_log : (commits : List (List Change)) (end : ℕ) → StandsFor bytes commits end → ⊥
 
--- a wrong byte is told only of a file that means nothing, and it is one of its bytes or its end
+-- a wrong byte is told only of a file that means nothing, and it is the first one, or the end of a file that ends too early
 abbrev pub Damages : List ℕ → FileFault → Type 0
-Damages bytes (Bad at) = (at ≤ length bytes) × MeansNothing bytes
+Damages bytes (Bad at) = (at ≤ length bytes) × MeansNothing bytes × IsFirstWrong bytes at
 Damages bytes NoMemory = Unit {0}
 
 -- what reading found is the log of these commits, up to its closed gate

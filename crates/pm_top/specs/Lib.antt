@@ -1,5 +1,6 @@
 pub mod StandsFor
 pub mod Unread
+pub mod Damage
 pub mod Contents
 pub mod History
 pub mod Book
@@ -11,3 +12,4 @@ pub mod Log
 pub mod Short
 pub mod Words
 pub mod Ends
+pub mod Once

@@ -55,3 +55,9 @@ abbrev pub GrowsBy : List ℕ → List ℕ → ℕ → List ℕ → ℕ → Type
 GrowsBy batch before end now next =
     (commits : List (List Change)) → (commit : List Change) → StandsFor before commits end → IsNext commits commit batch
     → StandsFor now (commits ++ commit ∷ []) next
+
+-- a file that was durably a log up to its closed gate is that log, or the log of one commit more
+abbrev pub MayGrow : List ℕ → List ℕ → ℕ → List ℕ → ℕ → (Files → Type 0) → Type 0
+MayGrow batch before end now next images =
+    (commits : List (List Change)) → (commit : List Change) → StandsFor before commits end → IsNext commits commit batch → Only A before images
+    → StandsFor now commits end ⊎ StandsFor now (commits ++ commit ∷ []) next

@@ -2,6 +2,7 @@
 
 ghost use Rattle.std.specs.Prelude.{◌≡◌, ◌++◌, IsErr, OnOk, option_map};
 ghost use Rattle.pm_disk.specs.Cause.{IsCounted};
+ghost use Rattle.pm_top.specs.Ends.{redo_line};
 
 use crate::record::RedoFault;
 use itoa::Buffer;
@@ -29,7 +30,8 @@ pub fn print<O: Sink>(sink: &mut O, text: &[u8]) -> Result<(), SinkFailed>
 
 /// Writes why the log can't be read.
 pub fn print_redo<O: Sink>(sink: &mut O, fault: RedoFault) -> Result<(), SinkFailed>
-    ensures { IsCounted (O.faults sink.old) (O.faults sink.new) (IsErr result) }
+    ensures said { OnOk result (O.written sink.new ≡ option_map (λ w. w ++ redo_line fault) (O.written sink.old)) }
+    ensures cause { IsCounted (O.faults sink.old) (O.faults sink.new) (IsErr result) }
 {
     match fault {
         RedoFault::Disk => print(sink, b"disk fault\n"),

@@ -1,15 +1,18 @@
 //! A log file as bytes: what `initdb` writes, a commit as the batch that is appended, and reading a file again.
 
-ghost use Rattle.std.specs.Prelude.{◌≡◌, ◌++◌, ◌∷◌, [], ◌+◌, ◌<◌, ◌≤◌, ◌^◌, ℕ, ℤ, List, All, length, drop, take, IfOk, IfErr, IfSome, OnOk};
+ghost use Rattle.std.specs.Prelude.{◌≡◌, ◌++◌, ◌∷◌, [], ◌+◌, ◌-◌, ◌<◌, ◌≤◌, ◌^◌, ℕ, ℤ, List, All, length, drop, take, IfOk, IfErr, IfNone, IfSome, OnOk, ◌⊎◌, nat_eq, slice_index};
 ghost use Rattle.pm_rows.specs.Fold.{folded};
 ghost use Rattle.std.specs.FinMap as map;
 ghost use Rattle.pm_top.specs.StandsFor.{HasShortValue, IsRow, IsSpelled, IsTyped, Stands, StandsFor, batch_bytes, body_bytes, change_bytes};
 ghost use Rattle.pm_rows.specs.declared.commit.Change.{Change};
 ghost use Rattle.std.specs.Int.{w32, w64, to_be_bytes, cast_unsigned};
 ghost use Rattle.std.specs.Int.RustNames.{FitsSigned};
-ghost use Rattle.std.specs.Str.{IsUtf8};
+ghost use Rattle.std.specs.Str.{IsUtf8, IsValidUpTo};
+ghost use Rattle.std.specs.Str.Lossy.{utf8_error_len};
 ghost use Rattle.pm_top.specs.Contents.{Damages, Holds, IsClosed, IsOf};
-ghost use Rattle.pm_top.specs.Unread.{IsLeft, OnlyWithout};
+ghost use Rattle.std.specs.List.{common_prefix_len};
+ghost use Rattle.pm_top.specs.Unread.{Begins, IsBatch, IsBodyLength, IsKey, IsLead, IsLeft, IsText, OnlyWithout, Stops, StopsAt};
+ghost use Rattle.pm_top.specs.Damage.{IsLogFront};
 ghost use Rattle.pm_top.specs.declared.record.Unread.TheVariants.{NoMemory};
 ghost use Rattle.pm_top.specs.declared.record.RedoFault.TheVariants as redo;
 
@@ -90,7 +93,7 @@ pub enum Contents {
 
 #[derive(Clone, Copy, Debug, PartialEq, Eq)]
 pub enum FileFault {
-    /// The first byte that no log of this program has there, or the file's length where it ends too early.
+    /// The first byte that no bytes behind it mend, or the file's length where it ends too early.
     Bad { at: usize },
     NoMemory,
 }
@@ -227,6 +230,7 @@ fn standing(alloc: Global, bytes: &[u8]) -> Result<(Rows, u64, usize), Unread>
     ensures wrong { IfErr result (OnlyWithout
         ((gate : ℕ) × (commits : List (List Change)) × (end : ℕ) × StandsFor (gate ∷ bytes.now) commits end)) }
     ensures place { IfErr result (λ e. IsLeft e (length bytes.now)) }
+    ensures stops { IfErr result (Stops IsLogFront bytes.now) }
 {
     let mut rest = fixed(bytes, &HEADER)?;
     let mut rows = Rows::new(alloc);
@@ -254,6 +258,7 @@ fn commit_of(alloc: Global, bytes: &[u8]) -> Result<(Commit, &[u8]), Unread>
     ensures wrong { IfErr result (OnlyWithout
         ((commit : List Change) × (next : List ℕ) × IsRow commit × (bytes.now ≡ batch_bytes commit ++ next))) }
     ensures place { IfErr result (λ e. IsLeft e (length bytes.now)) }
+    ensures stops { IfErr result (Stops (Begins IsBatch) bytes.now) }
 {
     let (length, rest) = body_length(bytes)?;
     let rest = fixed(rest, &[0, 0, 0, 1, 0, 1, 1])?;
@@ -270,6 +275,7 @@ fn fixed<'a>(bytes: &'a [u8], wanted: &[u8]) -> Result<&'a [u8], Unread>
     ensures found { IfOk result (λ rest. bytes.now ≡ wanted.now ++ rest.now) }
     ensures wrong { IfErr result (OnlyWithout ((rest : List ℕ) × (bytes.now ≡ wanted.now ++ rest))) }
     ensures place { IfErr result (λ e. IsLeft e (length bytes.now)) }
+    ensures stops { IfErr result (Stops (Begins (λ word. word ≡ wanted.now)) bytes.now) }
 {
     match bytes.strip_prefix(wanted) {
         Some(rest) => Ok(rest),
@@ -281,7 +287,7 @@ fn fixed<'a>(bytes: &'a [u8], wanted: &[u8]) -> Result<&'a [u8], Unread>
 
 // How many bytes at the front are the same.
 fn alike(bytes: &[u8], wanted: &[u8]) -> usize
-    ensures { result ≤ length bytes.now }
+    ensures { result ≡ common_prefix_len nat_eq bytes.now wanted.now }
 {
     bytes
         .iter()
@@ -297,6 +303,7 @@ fn body_length(bytes: &[u8]) -> Result<(u32, &[u8]), Unread>
     ensures wrong { IfErr result (OnlyWithout ((length : ℕ) × (rest : List ℕ)
         × (19 ≤ length) × (length ≤ 19 + MAX_VALUE_BYTES) × (bytes.now ≡ to_be_bytes w32 length ++ rest))) }
     ensures place { IfErr result (λ e. IsLeft e (length bytes.now)) }
+    ensures stops { IfErr result (Stops (Begins IsBodyLength) bytes.now) }
 {
     let (front, rest) = bytes.split_at(bytes.len().min(4));
     let wrong = Unread::Bad {
@@ -314,7 +321,8 @@ fn body_length(bytes: &[u8]) -> Result<(u32, &[u8]), Unread>
 
 // How many of these bytes, four at most, can begin such a length.
 fn length_begun(front: &[u8]) -> usize
-    ensures { result ≤ length front.now }
+    ensures within { result ≤ length front.now }
+    ensures stops { length front.now ≤ 4 → ((i : ℕ) → slice_index front.now i < 256) → StopsAt (Begins IsBodyLength) front.now (length front.now - result) }
 {
     let lowest = ROW_BYTES.to_be_bytes();
     let highest = (ROW_BYTES + MAX_VALUE_BYTES as u32).to_be_bytes();
@@ -333,6 +341,7 @@ fn key_of(bytes: &[u8]) -> Result<(i64, &[u8]), Unread>
     ensures wrong { IfErr result (OnlyWithout ((key : ℤ) × (rest : List ℕ)
         × (bytes.now ≡ to_be_bytes w64 (cast_unsigned w64 key) ++ rest))) }
     ensures place { IfErr result (λ e. IsLeft e (length bytes.now)) }
+    ensures stops { IfErr result (Stops (Begins IsKey) bytes.now) }
 {
     if bytes.len() < 8 {
         return Err(Unread::Bad { left: 0 });
@@ -350,6 +359,7 @@ fn text_of(alloc: Global, count: usize, bytes: &[u8]) -> Result<(Text, &[u8]), U
     ensures wrong { IfErr result (OnlyWithout ((text : List ℕ) × (rest : List ℕ)
         × (bytes.now ≡ text ++ rest) × (length text ≡ count) × IsUtf8 text)) }
     ensures place { IfErr result (λ e. IsLeft e (length bytes.now)) }
+    ensures stops { IfErr result (Stops (Begins (IsText count)) bytes.now) }
 {
     let (front, rest) = bytes.split_at(bytes.len().min(count));
     match str::from_utf8(front) {
@@ -364,16 +374,15 @@ fn text_of(alloc: Global, count: usize, bytes: &[u8]) -> Result<(Text, &[u8]), U
 // How many of these bytes can begin a text of so many bytes: `whole` of them are whole characters, and `begun` behind
 // them begin one, if a byte behind those can't stand there.
 fn text_begun(front: &[u8], whole: usize, begun: Option<usize>, count: usize) -> usize
-    requires short { whole < length front.now }
+    requires valid { IsValidUpTo front.now whole }
+    requires fault { begun ≡ utf8_error_len (drop whole front.now) }
     requires within { length front.now ≤ count }
     requires inside { IfSome begun (λ n. whole + n ≤ length front.now) }
-    ensures { result ≤ length front.now }
+    ensures within { result ≤ length front.now }
+    ensures stops { StopsAt (Begins (IsText count)) front.now (length front.now - result) }
 {
-    let long = match front[whole] {
-        0xc2..=0xdf => 2,
-        0xe0..=0xef => 3,
-        0xf0..=0xf4 => 4,
-        _ => return whole,
+    let Some(long) = wide_count(front[whole]) else {
+        return whole;
     };
     if count - whole < long {
         return whole;
@@ -381,6 +390,19 @@ fn text_begun(front: &[u8], whole: usize, begun: Option<usize>, count: usize) ->
     match begun {
         Some(begun) => whole + begun,
         None => front.len(),
+    }
+}
+
+// How many bytes a character has that begins with this byte and goes on.
+fn wide_count(first: u8) -> Option<usize>
+    ensures some { IfSome result (IsLead first) }
+    ensures none { IfNone result ((first < 0xC2) ⊎ (0xF4 < first)) }
+{
+    match first {
+        0xc2..=0xdf => Some(2),
+        0xe0..=0xef => Some(3),
+        0xf0..=0xf4 => Some(4),
+        _ => None,
     }
 }
 

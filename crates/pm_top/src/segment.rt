@@ -5,14 +5,15 @@ ghost use Rattle.pm_disk.specs.Cause.{IsCounted};
 ghost use Rattle.pm_top.specs.declared.segment.StoreNo.TheVariants.{Disk, NoMemory};
 ghost use Rattle.pm_rows.specs.Fold.{committed};
 ghost use Rattle.pm_top.specs.declared.record.RedoFault.{RedoFault};
-ghost use Rattle.pm_disk.specs.declared.disk.Which.{Which};
 ghost use Rattle.pm_top.specs.Book.{Base};
-ghost use Rattle.pm_top.specs.Contents.{IsClosed, MeansNothing};
-ghost use Rattle.pm_top.specs.Log.{GrowsBy, with_batch};
+ghost use Rattle.pm_top.specs.Ends.{IsReason};
+ghost use Rattle.pm_disk.specs.Disk.{Only};
+ghost use Rattle.pm_disk.specs.declared.disk.Which.TheVariants as Which;
+ghost use Rattle.pm_top.specs.Log.{GrowsBy, MayGrow, with_batch};
 ghost use Rattle.pm_top.specs.declared.log.TheConstants.{MAX_LOG};
 ghost use Rattle.pm_top.specs.Session.{HasShortValues};
 ghost use Rattle.pm_top.specs.Short.{HasShortRows, IsRowOrNone};
-ghost use Rattle.pm_top.specs.Store.{BookHolds, BookRests, FileHolds, HasAnswer, IsLegalWhereTold, IsPlain, Notes, NotesAnswer, NotesBreak};
+ghost use Rattle.pm_top.specs.Store.{BookHolds, BookRests, LogHolds, HasAnswer, IsBroken, IsPlain, Notes, NotesAnswer, NotesBreak};
 
 use crate::book::BookEntry;
 use crate::log::Log;
@@ -156,13 +157,12 @@ impl<D: Disk, B: Chronicle<BookEntry>> Sole<D, B> {
         requires { 1 ≤ B.spare self.old.book }
         ensures ok { IfOk result (λ kept. Notes (BookEntry.Redone pass.pid pass.generation kept ∷ []) (B.entries self.old.book) (B.entries self.new.book)) }
         ensures log { IfOk result (λ kept. (end : ℕ) × (self.new.log ≡ Some (record { end = end; count = kept }))) }
-        ensures file { OnOk result (FileHolds (D.seen self.new.disk) self.new.rows self.new.log) }
+        ensures file { OnOk result (LogHolds (D.seen self.new.disk) (D.images self.new.disk (D.ticks self.new.disk)) self.new.rows self.new.log) }
         ensures disk { result ≡ Err RedoFault.Disk
             → (since : ℕ) × Notes (BookEntry.Broke pass.pid since (D.faults self.new.disk) ∷ []) (B.entries self.old.book) (B.entries self.new.book) }
         ensures fits { result ≡ Err RedoFault.Disk → D.faults self.new.disk < 2 ^ 64 }
         ensures other { (fault : RedoFault) → result ≡ Err fault → fault ≢ RedoFault.Disk → B.entries self.new.book ≡ B.entries self.old.book }
-        ensures no_cluster { result ≡ Err RedoFault.NoCluster → IfSome (D.seen self.old.disk) (λ files. IsClosed files.a) }
-        ensures damaged { (file : Which) (at : ℕ) → result ≡ Err (RedoFault.BadFile file at) → IfSome (D.seen self.old.disk) (λ files. (at ≤ length files.a) × MeansNothing files.a) }
+        ensures reason { (fault : RedoFault) → result ≡ Err fault → IfSome (D.seen self.old.disk) (λ files. IsReason fault files.a) }
         ensures seen { D.seen self.new.disk ≡ D.seen self.old.disk }
         ensures room { 1 ≤ B.spare self.new.book }
         ensures cause { IsCounted (D.faults self.old.disk) (D.faults self.new.disk) (result ≡ Err RedoFault.Disk) }
@@ -224,7 +224,7 @@ impl<D: Disk, B: Chronicle<BookEntry>> Sole<D, B> {
     pub fn run(&mut self, pass: Pass, script: &Script) -> Result<Staged, StoreNo>
         requires room { 1 ≤ B.spare self.old.book }
         requires plain { IsPlain script.now }
-        requires file { FileHolds (D.seen self.old.disk) self.old.rows self.old.log }
+        requires file { LogHolds (D.seen self.old.disk) (D.images self.old.disk (D.ticks self.old.disk)) self.old.rows self.old.log }
         ensures ran { IfOk result (λ staged.
             NotesAnswer pass.pid script.now staged.reply staged.front (B.entries self.old.book) (B.entries self.new.book)) }
         ensures short { IfOk result (λ staged. All HasShortValues staged.reply) }
@@ -236,12 +236,12 @@ impl<D: Disk, B: Chronicle<BookEntry>> Sole<D, B> {
         ensures answer { IfOk result (λ staged. HasAnswer pass.pid staged.front (B.entries self.new.book)) }
         ensures room { 1 ≤ B.spare self.new.book }
         ensures cause { IsCounted (D.faults self.old.disk) (D.faults self.new.disk) (result ≡ Err StoreNo.Disk) }
-        ensures file { result ≢ Err StoreNo.Disk → FileHolds (D.seen self.new.disk) self.new.rows self.new.log }
+        ensures file { result ≢ Err StoreNo.Disk → LogHolds (D.seen self.new.disk) (D.images self.new.disk (D.ticks self.new.disk)) self.new.rows self.new.log }
         ensures legal { (base : Base) → BookHolds base pass.pid (B.entries self.old.book) (D.ticks self.old.disk) (D.faults self.old.disk) self.old.rows self.old.log
             → result ≢ Err StoreNo.Disk
             → BookHolds base pass.pid (B.entries self.new.book) (D.ticks self.new.disk) (D.faults self.new.disk) self.new.rows self.new.log }
         ensures broken { (base : Base) → BookHolds base pass.pid (B.entries self.old.book) (D.ticks self.old.disk) (D.faults self.old.disk) self.old.rows self.old.log
-            → result ≡ Err StoreNo.Disk → IsLegalWhereTold base (B.entries self.new.book) }
+            → result ≡ Err StoreNo.Disk → IsBroken base (B.entries self.new.book) (D.seen self.new.disk) }
     {
         let Some(log) = self.log else {
             return Err(StoreNo::NoMemory);
@@ -334,6 +334,10 @@ impl<D: Disk, B: Chronicle<BookEntry>> Sole<D, B> {
         ensures log { OnOk result (self.new.log ≡ Some (record { end = log.end + (length batch.now - 1); count = log.count + 1 })) }
         ensures grown { OnOk result (IfSome (D.seen self.old.disk) (λ before. IfSome (D.seen self.new.disk) (λ now.
             GrowsBy batch.now before.a log.end now.a (log.end + (length batch.now - 1))))) }
+        ensures durable { OnOk result (IfSome (D.seen self.new.disk) (λ files. Only Which.A files.a (D.images self.new.disk (D.ticks self.new.disk)))) }
+        ensures torn { D.ticks self.old.disk < 2 ^ 64 → IfSome (D.seen self.old.disk) (λ before. IfSome (D.seen self.new.disk) (λ now.
+            MayGrow batch.now before.a log.end now.a (log.end + (length batch.now - 1)) (D.images self.old.disk (D.ticks self.old.disk)))) }
+        ensures beside { option_map (λ files. files.b) (D.seen self.new.disk) ≡ option_map (λ files. files.b) (D.seen self.old.disk) }
         ensures tells { OnOk result (D.seen self.new.disk ≡ option_map (with_batch log.end batch.now) (D.seen self.old.disk)) }
         ensures book { OnOk result (self.new.book ≡ self.old.book) }
         ensures broke { OnErr result (Notes (BookEntry.Broke pid (D.ticks self.new.disk) (D.faults self.new.disk) ∷ [])
@@ -384,10 +388,9 @@ impl<D: Disk, B: Chronicle<BookEntry>> Sole<D, B> {
 
 // What file A holds. It is made durable first, so that what is read stays.
 fn found_in<D: Disk>(alloc: Global, disk: &mut D) -> Result<Found, RedoFault>
-    ensures found { IfOk result (λ found. FileHolds (D.seen disk.old) found.rows (Some (record { end = found.end; count = found.count }))) }
+    ensures found { IfOk result (λ found. LogHolds (D.seen disk.new) (D.images disk.new (D.ticks disk.new)) found.rows (Some (record { end = found.end; count = found.count }))) }
     ensures short { IfOk result (λ found. HasShortRows found.rows) }
-    ensures no_cluster { result ≡ Err RedoFault.NoCluster → IfSome (D.seen disk.old) (λ files. IsClosed files.a) }
-    ensures damaged { (file : Which) (at : ℕ) → result ≡ Err (RedoFault.BadFile file at) → IfSome (D.seen disk.old) (λ files. (at ≤ length files.a) × MeansNothing files.a) }
+    ensures reason { (fault : RedoFault) → result ≡ Err fault → IfSome (D.seen disk.old) (λ files. IsReason fault files.a) }
     ensures seen { D.seen disk.new ≡ D.seen disk.old }
     ensures cause { IsCounted (D.faults disk.old) (D.faults disk.new) (result ≡ Err RedoFault.Disk) }
 {

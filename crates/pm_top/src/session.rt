@@ -7,7 +7,7 @@ ghost use Rattle.pm_wire.specs.Pieces.{int32};
 ghost use Rattle.pm_top.specs.declared.session.Ending.{Ending};
 ghost use Rattle.pm_top.specs.declared.session.Ending.TheVariants as endings;
 ghost use Rattle.pm_top.specs.Book.{Base};
-ghost use Rattle.pm_top.specs.Store.{BookHolds, BookRests, FileHolds, IsLegalWhereTold};
+ghost use Rattle.pm_top.specs.Store.{BookHolds, BookRests, LogHolds, IsBroken};
 ghost use Rattle.pm_top.specs.Exchange.{Exchanged, SentAllBut, CameShort, HasEnded};
 ghost use Rattle.pm_top.specs.Session.{IsServedPacket, IsNoEntry, HoldsNoRequest, ShortOfMemory, turn_messages, bytes_of, greeting, last_messages, status_of};
 ghost use Rattle.pm_top.specs.Conversation.{between, QueryGoes, ReplyGoes, TurnGoes, IsReadEnding, HasItsLength, Conversed, Talks, SaysLast, IsSession, IsCaused};
@@ -113,7 +113,7 @@ pub fn serve<R: Wait, L: Link, D: Disk, B: Chronicle<BookEntry>>(
     key: u32,
     store: &mut Sole<D, B>,
 ) -> Done<L>
-    requires { FileHolds (D.seen store.old.disk) store.old.rows store.old.log }
+    requires { LogHolds (D.seen store.old.disk) (D.images store.old.disk (D.ticks store.old.disk)) store.old.rows store.old.log }
     // What came in, what went out and what was noted are those of a session, whose ending has its cause and its status.
     ensures session { (ending : Ending) × (result.status ≡ status_of ending)
         × IsSession pid key (Rose (L.faults link) (L.faults result.link)) ending (between (L.traffic link) (L.traffic result.link) (B.entries store.old.book) (B.entries store.new.book))
@@ -121,11 +121,11 @@ pub fn serve<R: Wait, L: Link, D: Disk, B: Chronicle<BookEntry>>(
     ensures number { L.number result.link ≡ L.number link }
     ensures link_faults { L.faults link ≤ L.faults result.link }
     ensures disk_faults { D.faults store.old.disk ≤ D.faults store.new.disk }
-    ensures file { result.status ≢ Status.Signal 6 → FileHolds (D.seen store.new.disk) store.new.rows store.new.log }
+    ensures file { result.status ≢ Status.Signal 6 → LogHolds (D.seen store.new.disk) (D.images store.new.disk (D.ticks store.new.disk)) store.new.rows store.new.log }
     ensures legal { (base : Base) → BookRests base (B.entries store.old.book) (D.ticks store.old.disk) (D.faults store.old.disk) store.old.rows store.old.log
         → result.status ≢ Status.Signal 6 → BookRests base (B.entries store.new.book) (D.ticks store.new.disk) (D.faults store.new.disk) store.new.rows store.new.log }
     ensures broken { (base : Base) → BookRests base (B.entries store.old.book) (D.ticks store.old.disk) (D.faults store.old.disk) store.old.rows store.old.log
-        → result.status ≡ Status.Signal 6 → IsLegalWhereTold base (B.entries store.new.book) }
+        → result.status ≡ Status.Signal 6 → IsBroken base (B.entries store.new.book) (D.seen store.new.disk) }
 {
     let mut link = link;
     let ending = converse(rt, alloc, &mut link, pid, key, store);
@@ -145,17 +145,17 @@ fn converse<R: Wait, L: Link, D: Disk, B: Chronicle<BookEntry>>(
     key: u32,
     store: &mut Sole<D, B>,
 ) -> Ending
-    requires { FileHolds (D.seen store.old.disk) store.old.rows store.old.log }
+    requires { LogHolds (D.seen store.old.disk) (D.images store.old.disk (D.ticks store.old.disk)) store.old.rows store.old.log }
     ensures talks { Talks pid key result (between (L.traffic link.old) (L.traffic link.new) (B.entries store.old.book) (B.entries store.new.book)) }
     ensures cut { result ≡ Ending.LinkEnded → HasEnded (L.traffic link.new) }
     ensures number { L.number link.new ≡ L.number link.old }
     ensures link_cause { IsCounted (L.faults link.old) (L.faults link.new) (result ≡ Ending.LinkFailed) }
     ensures disk_cause { IsCounted (D.faults store.old.disk) (D.faults store.new.disk) (result ≡ Ending.Panic) }
-    ensures file { result ≢ Ending.Panic → FileHolds (D.seen store.new.disk) store.new.rows store.new.log }
+    ensures file { result ≢ Ending.Panic → LogHolds (D.seen store.new.disk) (D.images store.new.disk (D.ticks store.new.disk)) store.new.rows store.new.log }
     ensures legal { (base : Base) → BookRests base (B.entries store.old.book) (D.ticks store.old.disk) (D.faults store.old.disk) store.old.rows store.old.log
         → result ≢ Ending.Panic → BookRests base (B.entries store.new.book) (D.ticks store.new.disk) (D.faults store.new.disk) store.new.rows store.new.log }
     ensures broken { (base : Base) → BookRests base (B.entries store.old.book) (D.ticks store.old.disk) (D.faults store.old.disk) store.old.rows store.old.log
-        → result ≡ Ending.Panic → IsLegalWhereTold base (B.entries store.new.book) }
+        → result ≡ Ending.Panic → IsBroken base (B.entries store.new.book) (D.seen store.new.disk) }
 {
     if let Err(ending) = startup(rt, alloc, link) {
         return ending;
@@ -209,18 +209,18 @@ fn attached<R: Wait, L: Link, D: Disk, B: Chronicle<BookEntry>>(
     store: &mut Sole<D, B>,
 ) -> Ending
     requires room { 1 ≤ B.spare store.old.book }
-    requires file { FileHolds (D.seen store.old.disk) store.old.rows store.old.log }
+    requires file { LogHolds (D.seen store.old.disk) (D.images store.old.disk (D.ticks store.old.disk)) store.old.rows store.old.log }
     ensures talks { Conversed pass.pid outbox.old result (between (L.traffic link.old) (L.traffic link.new) (B.entries store.old.book) (B.entries store.new.book)) }
     ensures room { 1 ≤ B.spare store.new.book }
     ensures cut { result ≡ Ending.LinkEnded → HasEnded (L.traffic link.new) }
     ensures number { L.number link.new ≡ L.number link.old }
     ensures link_cause { IsCounted (L.faults link.old) (L.faults link.new) (result ≡ Ending.LinkFailed) }
     ensures disk_cause { IsCounted (D.faults store.old.disk) (D.faults store.new.disk) (result ≡ Ending.Panic) }
-    ensures file { result ≢ Ending.Panic → FileHolds (D.seen store.new.disk) store.new.rows store.new.log }
+    ensures file { result ≢ Ending.Panic → LogHolds (D.seen store.new.disk) (D.images store.new.disk (D.ticks store.new.disk)) store.new.rows store.new.log }
     ensures legal { (base : Base) → BookHolds base pass.pid (B.entries store.old.book) (D.ticks store.old.disk) (D.faults store.old.disk) store.old.rows store.old.log
         → result ≢ Ending.Panic → BookHolds base pass.pid (B.entries store.new.book) (D.ticks store.new.disk) (D.faults store.new.disk) store.new.rows store.new.log }
     ensures broken { (base : Base) → BookHolds base pass.pid (B.entries store.old.book) (D.ticks store.old.disk) (D.faults store.old.disk) store.old.rows store.old.log
-        → result ≡ Ending.Panic → IsLegalWhereTold base (B.entries store.new.book) }
+        → result ≡ Ending.Panic → IsBroken base (B.entries store.new.book) (D.seen store.new.disk) }
 {
     if send(link, outbox.as_slice()).is_err() {
         return Ending::LinkFailed;
@@ -245,18 +245,18 @@ fn turn<R: Wait, L: Link, D: Disk, B: Chronicle<BookEntry>>(
     store: &mut Sole<D, B>,
 ) -> Result<(), Ending>
     requires room { 1 ≤ B.spare store.old.book }
-    requires file { FileHolds (D.seen store.old.disk) store.old.rows store.old.log }
+    requires file { LogHolds (D.seen store.old.disk) (D.images store.old.disk (D.ticks store.old.disk)) store.old.rows store.old.log }
     ensures step { TurnGoes pass.pid result (between (L.traffic link.old) (L.traffic link.new) (B.entries store.old.book) (B.entries store.new.book)) }
     ensures room { 1 ≤ B.spare store.new.book }
     ensures cut { result ≡ Err Ending.LinkEnded → HasEnded (L.traffic link.new) }
     ensures number { L.number link.new ≡ L.number link.old }
     ensures link_cause { IsCounted (L.faults link.old) (L.faults link.new) (result ≡ Err Ending.LinkFailed) }
     ensures disk_cause { IsCounted (D.faults store.old.disk) (D.faults store.new.disk) (result ≡ Err Ending.Panic) }
-    ensures file { result ≢ Err Ending.Panic → FileHolds (D.seen store.new.disk) store.new.rows store.new.log }
+    ensures file { result ≢ Err Ending.Panic → LogHolds (D.seen store.new.disk) (D.images store.new.disk (D.ticks store.new.disk)) store.new.rows store.new.log }
     ensures legal { (base : Base) → BookHolds base pass.pid (B.entries store.old.book) (D.ticks store.old.disk) (D.faults store.old.disk) store.old.rows store.old.log
         → result ≢ Err Ending.Panic → BookHolds base pass.pid (B.entries store.new.book) (D.ticks store.new.disk) (D.faults store.new.disk) store.new.rows store.new.log }
     ensures broken { (base : Base) → BookHolds base pass.pid (B.entries store.old.book) (D.ticks store.old.disk) (D.faults store.old.disk) store.old.rows store.old.log
-        → result ≡ Err Ending.Panic → IsLegalWhereTold base (B.entries store.new.book) }
+        → result ≡ Err Ending.Panic → IsBroken base (B.entries store.new.book) (D.seen store.new.disk) }
 {
     next_message(rt, link, inbox)?;
     let Take::Whole { value, .. } = Front::read(inbox) else {
@@ -281,17 +281,17 @@ fn reply_to<L: Link, D: Disk, B: Chronicle<BookEntry>>(
     text: &[u8],
 ) -> Result<(), Ending>
     requires room { 1 ≤ B.spare store.old.book }
-    requires file { FileHolds (D.seen store.old.disk) store.old.rows store.old.log }
+    requires file { LogHolds (D.seen store.old.disk) (D.images store.old.disk (D.ticks store.old.disk)) store.old.rows store.old.log }
     ensures step { ReplyGoes pass.pid text.now result (between (L.traffic link.old) (L.traffic link.new) (B.entries store.old.book) (B.entries store.new.book)) }
     ensures room { 1 ≤ B.spare store.new.book }
     ensures number { L.number link.new ≡ L.number link.old }
     ensures link_cause { IsCounted (L.faults link.old) (L.faults link.new) (result ≡ Err Ending.LinkFailed) }
     ensures disk_cause { IsCounted (D.faults store.old.disk) (D.faults store.new.disk) (result ≡ Err Ending.Panic) }
-    ensures file { result ≢ Err Ending.Panic → FileHolds (D.seen store.new.disk) store.new.rows store.new.log }
+    ensures file { result ≢ Err Ending.Panic → LogHolds (D.seen store.new.disk) (D.images store.new.disk (D.ticks store.new.disk)) store.new.rows store.new.log }
     ensures legal { (base : Base) → BookHolds base pass.pid (B.entries store.old.book) (D.ticks store.old.disk) (D.faults store.old.disk) store.old.rows store.old.log
         → result ≢ Err Ending.Panic → BookHolds base pass.pid (B.entries store.new.book) (D.ticks store.new.disk) (D.faults store.new.disk) store.new.rows store.new.log }
     ensures broken { (base : Base) → BookHolds base pass.pid (B.entries store.old.book) (D.ticks store.old.disk) (D.faults store.old.disk) store.old.rows store.old.log
-        → result ≡ Err Ending.Panic → IsLegalWhereTold base (B.entries store.new.book) }
+        → result ≡ Err Ending.Panic → IsBroken base (B.entries store.new.book) (D.seen store.new.disk) }
 {
     match answer_query(alloc, outbox, pass, store, text) {
         Ok(()) => Ok(send(link, outbox.as_slice())?),
@@ -335,15 +335,15 @@ fn answer_query<D: Disk, B: Chronicle<BookEntry>>(
     text: &[u8],
 ) -> Result<(), Unanswered>
     requires room { 1 ≤ B.spare store.old.book }
-    requires file { FileHolds (D.seen store.old.disk) store.old.rows store.old.log }
+    requires file { LogHolds (D.seen store.old.disk) (D.images store.old.disk (D.ticks store.old.disk)) store.old.rows store.old.log }
     ensures answer { QueryGoes pass.pid text.now outbox.new result (B.entries store.old.book) (B.entries store.new.book) }
     ensures room { 1 ≤ B.spare store.new.book }
     ensures cause { IsCounted (D.faults store.old.disk) (D.faults store.new.disk) (result ≡ Err Unanswered.Disk) }
-    ensures file { result ≢ Err Unanswered.Disk → FileHolds (D.seen store.new.disk) store.new.rows store.new.log }
+    ensures file { result ≢ Err Unanswered.Disk → LogHolds (D.seen store.new.disk) (D.images store.new.disk (D.ticks store.new.disk)) store.new.rows store.new.log }
     ensures legal { (base : Base) → BookHolds base pass.pid (B.entries store.old.book) (D.ticks store.old.disk) (D.faults store.old.disk) store.old.rows store.old.log
         → result ≢ Err Unanswered.Disk → BookHolds base pass.pid (B.entries store.new.book) (D.ticks store.new.disk) (D.faults store.new.disk) store.new.rows store.new.log }
     ensures broken { (base : Base) → BookHolds base pass.pid (B.entries store.old.book) (D.ticks store.old.disk) (D.faults store.old.disk) store.old.rows store.old.log
-        → result ≡ Err Unanswered.Disk → IsLegalWhereTold base (B.entries store.new.book) }
+        → result ≡ Err Unanswered.Disk → IsBroken base (B.entries store.new.book) (D.seen store.new.disk) }
 {
     outbox.clear();
     let Some(script) = script_in(alloc, text)? else {

@@ -1,15 +1,20 @@
 //! The top call: all that the program does, over the outside that it is handed.
 
-ghost use Rattle.std.specs.Prelude.{◌≡◌, ◌≢◌, ◌≤◌, ◌<◌, ◌⊎◌, ℕ, [], List, length, IfSome, OnOk, Err, MatchResult};
+ghost use Rattle.std.specs.Prelude.{◌≡◌, ◌≢◌, ◌≤◌, ◌<◌, ◌++◌, ◌⊎◌, ℕ, [], List, codes, length, Option, option_map, IfNone, IfSome, OnOk, Err, MatchResult};
 ghost use Rattle.pm_disk.specs.Cause.{IsCounted, Rose};
+ghost use Rattle.pm_keys.specs.CancelKey.{cancel_key};
+ghost use Rattle.pm_outside.specs.Traffic.{IsFresh};
 ghost use Rattle.pm_top.specs.declared.words.Command.{Command};
+ghost use Rattle.pm_top.specs.declared.record.RedoFault.{RedoFault};
 ghost use Rattle.pm_top.specs.declared.record.TheConstants.{BASE_END};
 ghost use Rattle.pm_top.specs.Contents.{IsClosed};
 ghost use Rattle.pm_top.specs.Log.{IsOpen};
 ghost use Rattle.pm_top.specs.StandsFor.{StandsFor};
-ghost use Rattle.pm_top.specs.Store.{FileHolds};
+ghost use Rattle.pm_top.specs.Book.{Base};
+ghost use Rattle.pm_top.specs.Store.{BookRests, LogHolds, IsBroken, Notes};
 ghost use Rattle.pm_top.specs.Words.{IsLine};
-ghost use Rattle.pm_top.specs.Ends.{IsInitdbEnd, IsOnceEnd, IsServedEnd, IsStartEnd, StandsWhole, exit_code};
+ghost use Rattle.pm_top.specs.Ends.{HasMade, IsInitdbEnd, IsOnceEnd, IsPrinted, IsReason, IsServedEnd, IsStartEnd, StandsWhole, exit_code, line_of};
+ghost use Rattle.pm_top.specs.Once.{HadNoVisit, HadOneVisit, HasStarted, IsBaseOf, IsEmptyBook, IsOnceStory, LeavesBook, startup_entries, with_end, with_link};
 
 use crate::book::BookEntry;
 use crate::log::{self, InitNo};
@@ -101,22 +106,40 @@ where
     D: Disk,
     B: Chronicle<BookEntry>,
     requires port { IfSome (P.visits outside.port) (λ visits. length visits.back ≤ length visits.given) }
-    // Words that are no line get the usage, and words that are one get another status.
+    // The usage is told exactly where the words are no command line; each command has ends of its own.
     ensures usage { result.status ≡ Top.Usage → (command : Command) (dir : List ℕ) → ¬ (IsLine words.now command dir) }
-    // A made cluster: file A stands for no commits, and file B is closed.
-    ensures made { result.status ≡ Top.Done → (dir : List ℕ) → IsLine words.now Command.Initdb dir
+    ensures initdb_ends { (dir : List ℕ) → IsLine words.now Command.Initdb dir → IsInitdbEnd result.status }
+    ensures once_ends { (dir : List ℕ) → IsLine words.now Command.Once dir → IsOnceEnd result.status }
+    ensures words { result.status ≢ Top.Usage → (command : Command) × (dir : List ℕ) × IsLine words.now command dir }
+    // `initdb`: a cluster is made where both files hold none. File A stands for no commits, and file B is closed.
+    ensures made { (dir : List ℕ) → IsLine words.now Command.Initdb dir → HasMade result.status
         → IfSome (D.seen result.outside.disk) (λ files. StandsFor files.a [] BASE_END × IsClosed files.b) }
-    // After a session that didn't meet a fault of the disk, file A stands for some commits.
-    ensures stands { result.status ≡ Top.Done → StandsWhole (D.seen result.outside.disk) }
+    ensures fresh { (dir : List ℕ) → IsLine words.now Command.Initdb dir → HasMade result.status
+        → IfSome (D.seen outside.disk) (λ files. IsClosed files.a × IsClosed files.b) }
+    ensures initialized { (dir : List ℕ) → IsLine words.now Command.Initdb dir → result.status ≡ Top.Done
+        → O.written result.outside.sink ≡ option_map (λ written. written ++ codes "initialized\n") (O.written outside.sink) }
     ensures exists { result.status ≡ Top.Exists → IfSome (D.seen outside.disk) (λ files. IsOpen files.a ⊎ IsOpen files.b) }
     ensures kept { result.status ≡ Top.Exists → D.seen result.outside.disk ≡ D.seen outside.disk }
-    ensures no_cluster { result.status ≡ Top.Abnormal (Why.StartupFailed (StartWhy.Redo RedoFault.NoCluster))
-        → IfSome (D.seen outside.disk) (λ files. IsClosed files.a) }
     ensures disk_fault { result.status ≡ Top.DiskFault → Rose (D.faults outside.disk) (D.faults result.outside.disk) }
+    ensures out_fault { result.status ≡ Top.OutFault → Rose (O.faults outside.sink) (O.faults result.outside.sink) }
+    // `once`: the book is legal from what file A stood for, tells the status, and file A stands for all its commits.
+    ensures story { (dir : List ℕ) → IsLine words.now Command.Once dir → IsEmptyBook (B.entries outside.book)
+        → IsOnceStory result.status (D.seen outside.disk) (D.seen result.outside.disk) (D.faults outside.disk) (B.entries result.outside.book) }
+    // The link that was given came back behind a session, which is told by its bytes and the book; or nobody came.
+    ensures visit { (dir : List ℕ) → IsLine words.now Command.Once dir → HasStarted result.status
+        → (kept : ℕ) × (begun : Option (List BookEntry)) × Notes (startup_entries kept) (B.entries outside.book) begun
+        × (HadNoVisit result.status (P.visits outside.port) (P.visits result.outside.port) begun (B.entries result.outside.book)
+        ⊎ HadOneVisit P.Link.number P.Link.traffic P.Link.faults (cancel_key outside.seed FIRST_PID) (Rose (D.faults outside.disk) (D.faults result.outside.disk))
+        result.status (P.visits outside.port) (P.visits result.outside.port) begun (B.entries result.outside.book)) }
+    ensures stands { result.status ≡ Top.Done → StandsWhole (D.seen result.outside.disk) }
+    ensures reason { (fault : RedoFault) → result.status ≡ Top.Abnormal (Why.StartupFailed (StartWhy.Redo fault))
+        → IfSome (D.seen outside.disk) (λ files. IsReason fault files.a) }
     ensures redo_fault { result.status ≡ Top.Abnormal (Why.StartupFailed (StartWhy.Redo RedoFault.Disk))
         → Rose (D.faults outside.disk) (D.faults result.outside.disk) }
     ensures crash { result.status ≡ Top.Abnormal Why.AfterCrash → Rose (D.faults outside.disk) (D.faults result.outside.disk) }
-    ensures out_fault { result.status ≡ Top.OutFault → Rose (O.faults outside.sink) (O.faults result.outside.sink) }
+    // Any other status than `Done` has its line, while the sink works.
+    ensures line { result.status ≢ Top.Done
+        → IsPrinted (line_of result.status) (O.written outside.sink) (O.written result.outside.sink) (O.faults outside.sink) (O.faults result.outside.sink) }
 {
     let Ended {
         status,
@@ -137,7 +160,11 @@ where
 
 fn initdb<P, O: Sink, D: Disk, B>(outside: Outside<P, O, D, B>) -> Ended<P, O, D, B>
     ensures kind { IsInitdbEnd result.status }
-    ensures made { result.status ≡ Top.Done → IfSome (D.seen result.outside.disk) (λ files. StandsFor files.a [] BASE_END × IsClosed files.b) }
+    ensures made { HasMade result.status → IfSome (D.seen result.outside.disk) (λ files. StandsFor files.a [] BASE_END × IsClosed files.b) }
+    ensures fresh { HasMade result.status → IfSome (D.seen outside.disk) (λ files. IsClosed files.a × IsClosed files.b) }
+    ensures initialized { result.status ≡ Top.Done
+        → O.written result.outside.sink ≡ option_map (λ written. written ++ codes "initialized\n") (O.written outside.sink) }
+    ensures silent { result.status ≢ Top.Done → result.status ≢ Top.OutFault → result.outside.sink ≡ outside.sink }
     ensures exists { result.status ≡ Top.Exists → IfSome (D.seen outside.disk) (λ files. IsOpen files.a ⊎ IsOpen files.b) }
     ensures kept { result.status ≡ Top.Exists → D.seen result.outside.disk ≡ D.seen outside.disk }
     ensures disk_cause { IsCounted (D.faults outside.disk) (D.faults result.outside.disk) (result.status ≡ Top.DiskFault) }
@@ -164,9 +191,16 @@ where
     B: Chronicle<BookEntry>,
     requires { IfSome (P.visits outside.port) (λ visits. length visits.back ≤ length visits.given) }
     ensures kind { IsOnceEnd result.status }
+    ensures story { IsEmptyBook (B.entries outside.book)
+        → IsOnceStory result.status (D.seen outside.disk) (D.seen result.outside.disk) (D.faults outside.disk) (B.entries result.outside.book) }
+    ensures visit { HasStarted result.status
+        → (kept : ℕ) × (begun : Option (List BookEntry)) × Notes (startup_entries kept) (B.entries outside.book) begun
+        × (HadNoVisit result.status (P.visits outside.port) (P.visits result.outside.port) begun (B.entries result.outside.book)
+        ⊎ HadOneVisit P.Link.number P.Link.traffic P.Link.faults (cancel_key outside.seed FIRST_PID) (Rose (D.faults outside.disk) (D.faults result.outside.disk))
+        result.status (P.visits outside.port) (P.visits result.outside.port) begun (B.entries result.outside.book)) }
     ensures stands { result.status ≡ Top.Done → StandsWhole (D.seen result.outside.disk) }
-    ensures no_cluster { result.status ≡ Top.Abnormal (Why.StartupFailed (StartWhy.Redo RedoFault.NoCluster))
-        → IfSome (D.seen outside.disk) (λ files. IsClosed files.a) }
+    ensures reason { (fault : RedoFault) → result.status ≡ Top.Abnormal (Why.StartupFailed (StartWhy.Redo fault))
+        → IfSome (D.seen outside.disk) (λ files. IsReason fault files.a) }
     ensures redo_fault { result.status ≡ Top.Abnormal (Why.StartupFailed (StartWhy.Redo RedoFault.Disk))
         → Rose (D.faults outside.disk) (D.faults result.outside.disk) }
     ensures crash { result.status ≡ Top.Abnormal Why.AfterCrash → Rose (D.faults outside.disk) (D.faults result.outside.disk) }
@@ -197,15 +231,21 @@ where
 
 // Opens the store and reads the log again.
 fn started<D: Disk, B: Chronicle<BookEntry>>(store: &mut Sole<D, B>) -> Result<(), Top>
-    ensures file { OnOk result (FileHolds (D.seen store.new.disk) store.new.rows store.new.log) }
     ensures kind { MatchResult result (λ _. Unit {0}) IsStartEnd }
-    ensures no_cluster { result ≡ Err (Top.Abnormal (Why.StartupFailed (StartWhy.Redo RedoFault.NoCluster)))
-        → IfSome (D.seen store.old.disk) (λ files. IsClosed files.a) }
+    ensures file { OnOk result (LogHolds (D.seen store.new.disk) (D.images store.new.disk (D.ticks store.new.disk)) store.new.rows store.new.log) }
+    ensures notes { OnOk result ((kept : ℕ) × Notes (startup_entries kept) (B.entries store.old.book) (B.entries store.new.book)) }
+    ensures rests { OnOk result (IsEmptyBook (B.entries store.old.book)
+        → (base : Base) × (base.faults ≡ D.faults store.old.disk) × IfSome (D.seen store.old.disk) (λ files. IsBaseOf files.a base)
+        × BookRests base (B.entries store.new.book) (D.ticks store.new.disk) (D.faults store.new.disk) store.new.rows store.new.log) }
+    ensures failed { (status : Top) → result ≡ Err status → IsEmptyBook (B.entries store.old.book)
+        → (base : Base) → base.faults ≡ D.faults store.old.disk → LeavesBook status base (B.entries store.new.book) }
+    ensures reason { (fault : RedoFault) → result ≡ Err (Top.Abnormal (Why.StartupFailed (StartWhy.Redo fault)))
+        → IfSome (D.seen store.old.disk) (λ files. IsReason fault files.a) }
     ensures cause { IsCounted (D.faults store.old.disk) (D.faults store.new.disk) (result ≡ Err (Top.Abnormal (Why.StartupFailed (StartWhy.Redo RedoFault.Disk)))) }
 {
-    if store.open().is_err() {
+    let Ok(()) = store.open() else {
         return Err(Top::NoMemory);
-    }
+    };
     let Ok(pass) = store.enter(STARTUP_PID, 1) else {
         return Err(Top::NoMemory);
     };
@@ -232,9 +272,16 @@ where
     D: Disk,
     B: Chronicle<BookEntry>,
     requires port { IfSome (P.visits port.old) (λ visits. length visits.back ≤ length visits.given) }
-    requires file { FileHolds (D.seen store.old.disk) store.old.rows store.old.log }
+    requires file { LogHolds (D.seen store.old.disk) (D.images store.old.disk (D.ticks store.old.disk)) store.old.rows store.old.log }
     ensures kind { IsServedEnd result }
-    ensures file { result ≡ Top.Done → FileHolds (D.seen store.new.disk) store.new.rows store.new.log }
+    ensures file { result ≡ Top.Done → LogHolds (D.seen store.new.disk) (D.images store.new.disk (D.ticks store.new.disk)) store.new.rows store.new.log }
+    ensures legal { (base : Base) → BookRests base (B.entries store.old.book) (D.ticks store.old.disk) (D.faults store.old.disk) store.old.rows store.old.log
+        → result ≡ Top.Done → BookRests base (B.entries store.new.book) (D.ticks store.new.disk) (D.faults store.new.disk) store.new.rows store.new.log }
+    ensures broken { (base : Base) → BookRests base (B.entries store.old.book) (D.ticks store.old.disk) (D.faults store.old.disk) store.old.rows store.old.log
+        → result ≡ Top.Abnormal Why.AfterCrash → IsBroken base (B.entries store.new.book) (D.seen store.new.disk) }
+    ensures visit { HadNoVisit result (P.visits port.old) (P.visits port.new) (B.entries store.old.book) (B.entries store.new.book)
+        ⊎ HadOneVisit P.Link.number P.Link.traffic P.Link.faults (cancel_key seed.now FIRST_PID) (Rose (D.faults store.old.disk) (D.faults store.new.disk))
+        result (P.visits port.old) (P.visits port.new) (B.entries store.old.book) (B.entries store.new.book) }
     ensures cause { IsCounted (D.faults store.old.disk) (D.faults store.new.disk) (result ≡ Top.Abnormal Why.AfterCrash) }
 {
     let Some(link) = next_link(rt, port) else {
@@ -253,6 +300,9 @@ where
 fn next_link<R: Wait, P: Port>(rt: &R, port: &mut P) -> Option<P::Link>
     requires { IfSome (P.visits port.old) (λ visits. length visits.back ≤ length visits.given) }
     ensures out { IfSome result (λ link. IfSome (P.visits port.new) (λ visits. length visits.back < length visits.given)) }
+    ensures given { IfSome result (λ link. P.visits port.new ≡ option_map (with_link (P.Link.number link)) (P.visits port.old)) }
+    ensures fresh { IfSome result (λ link. IsFresh (P.Link.traffic link)) }
+    ensures ended { IfNone result (P.visits port.new ≡ option_map with_end (P.visits port.old)) }
 {
     for _ in rt.forever() {
         match port.accept() {
@@ -266,7 +316,9 @@ fn next_link<R: Wait, P: Port>(rt: &R, port: &mut P) -> Option<P::Link>
 
 // Prints the line of a status, while the sink works.
 fn tell<O: Sink>(sink: &mut O, status: Top)
-    ensures { O.faults sink.old ≤ O.faults sink.new }
+    ensures line { IsPrinted (line_of status) (O.written sink.old) (O.written sink.new) (O.faults sink.old) (O.faults sink.new) }
+    ensures silent { status ≡ Top.Done → sink.new ≡ sink.old }
+    ensures later { O.faults sink.old ≤ O.faults sink.new }
 {
     let told = match status {
         Top::Done | Top::Abnormal(Why::AfterCrash) | Top::OutFault => return,

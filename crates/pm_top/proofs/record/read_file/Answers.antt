@@ -1,4 +1,5 @@
 use Rattle.pm_top.proofs.Batches.{first_and_rest, read_all, not_closed, found_is}
+use Rattle.pm_top.proofs.Fronts.{damages}
 use Rattle.pm_top.proofs.record.read_file.Goals as goal
 
 pub overflow_sub-result : goal.overflow_sub-result
@@ -16,3 +17,8 @@ returns-in-Ok c =
       meaning = λ commits end log. found_is bytes _ commits _ end c.in-Ok.rows c.in-Ok.count all.1 all.2 all.3 log;
       damaged = tt;
     }
+
+pub returns-in-Err-Bad-clause-damaged : goal.returns-in-Err-Bad-clause-damaged
+returns-in-Err-Bad-clause-damaged c =
+    let bytes = c.args.bytes.now in
+    damages bytes _ _ _ _ c.in-Err-Bad.field-0-is (first_and_rest bytes c.in-len1-up.len_at_least) c.if-gate-eq-CLOSED.false c.in-Err-Bad.ensures.wrong c.in-Err-Bad.ensures.stops

@@ -2,6 +2,7 @@ use Rattle.std.proofs.Common.{◌≡◌, ◌∷◌, ◌+◌, ◌-◌, ◌≤◌,
 use Rattle.std.proofs.lemmas.Result.{err_from_is_err_and}
 use Rattle.pm_top.specs.StandsFor.{IsReadTo}
 use Rattle.pm_top.proofs.Batches.{first_and_rest, read_header, read_batch, IsLeft-more, OnlyWithout-weaker, no_header, no_end, batch_follows, no_more, next_is_shorter}
+use Rattle.pm_top.proofs.Fronts.{stops_before_batches, stops_behind_gate, stops_at_last, stops_at_end}
 use Rattle.pm_top.proofs.record.standing.Goals as goal
 use Rattle.pm_top.proofs.record.standing.Goals.{then-len-gt-MAX_ROWS-via-then-len-gt-MAX_ROWS, then-len-gt-MAX_ROWS-via-else-len-gt-MAX_ROWS+then-size-gt-MAX_ROWS_BYTES}
 
@@ -73,3 +74,28 @@ loop-rest-preserved c =
 
 pub returns-clause-wrong : goal.returns-clause-wrong
 returns-clause-wrong c = λ log. no_end c.args.bytes.now c.loop-rest.rest.now c.loop-rest.rows c.loop-rest.count c.loop-rest.invariant (omega arith) log
+
+pub returns-in_err-rest-clause-stops : goal.returns-in_err-rest-clause-stops
+returns-in_err-rest-clause-stops c =
+    let p = err_from_is_err_and c.from_residual.result c.from_residual.ensures.1 in
+    rw (p.1, p.2) (stops_before_batches _ _ c.in_err-rest.ensures.wrong c.in_err-rest.ensures.stops)
+
+pub returns-in_err-commit-clause-stops : goal.returns-in_err-commit-clause-stops
+returns-in_err-commit-clause-stops c =
+    let rest = c.loop-rest.rest.now in
+    let p = err_from_is_err_and c.from_residual-in_err-commit.result c.from_residual-in_err-commit.ensures.1 in
+    rw (p.1, p.2) (stops_behind_gate c.args.bytes.now rest c.loop-rest.rows c.loop-rest.count c.loop-rest.invariant _ _ (first_and_rest rest c.in-len1-up.len_at_least) c.if-gate-eq-CLOSED.false _ _
+    (λ commit next row is. (commit, next, row, is)) c.in_err-commit.ensures.wrong c.in_err-commit.ensures.stops)
+
+pub returns-then-len-gt-MAX_ROWS-clause-stops : goal.returns-then-len-gt-MAX_ROWS-clause-stops
+returns-then-len-gt-MAX_ROWS-clause-stops c =
+    let rest = c.loop-rest.rest.now in
+    stops_at_last c.args.bytes.now rest c.loop-rest.rows c.loop-rest.count c.loop-rest.invariant _ _ (first_and_rest rest c.in-len1-up.len_at_least) c.if-gate-eq-CLOSED.false
+    c.in_ok-commit.commit c.in_ok-commit.next.now c.apply.new.self c.in_ok-commit.ensures.found.0 c.in_ok-commit.ensures.found.1 c.in_ok-apply.ensures.ok
+    (λ within. elim c.then-len-gt-MAX_ROWS.branch [
+      | then-len-gt-MAX_ROWS-via-then-len-gt-MAX_ROWS w ↦ omega (arith, c.len.ensures, within.few)
+      | then-len-gt-MAX_ROWS-via-else-len-gt-MAX_ROWS+then-size-gt-MAX_ROWS_BYTES w ↦ omega (arith, w.size.ensures, within.small)
+    ])
+
+pub returns-clause-stops : goal.returns-clause-stops
+returns-clause-stops c = stops_at_end c.args.bytes.now c.loop-rest.rest.now c.loop-rest.rows c.loop-rest.count c.loop-rest.invariant (omega arith)

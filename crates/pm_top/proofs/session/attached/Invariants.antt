@@ -1,7 +1,7 @@
 use Rattle.std.proofs.Common.{◌≡◌, ◌≤◌}
 use Rattle.pm_top.specs.Conversation.{Conversing, between}
 use Rattle.pm_top.specs.Book.{Base}
-use Rattle.pm_top.specs.Store.{BookHolds, FileHolds}
+use Rattle.pm_top.specs.Store.{BookHolds, LogHolds}
 use Rattle.pm_top.proofs.session.attached.Given as goal
 
 abbrev pub invariant-loop : goal.invariant-loop
@@ -11,6 +11,6 @@ invariant-loop g l = record {
   same_link : g.L.Link.number l.link ≡ g.L.Link.number l.fn.link;
   link_counted : g.L.Link.faults l.fn.link ≤ g.L.Link.faults l.link;
   disk_counted : g.D.Disk.faults l.fn.store.disk ≤ g.D.Disk.faults l.store.disk;
-  file : FileHolds (g.D.Disk.seen l.store.disk) l.store.rows l.store.log;
+  file : LogHolds (g.D.Disk.seen l.store.disk) (g.D.Disk.images l.store.disk (g.D.Disk.ticks l.store.disk)) l.store.rows l.store.log;
   legal : (base : Base) → BookHolds base l.pass.pid (g.B.Chronicle.entries l.fn.store.book) (g.D.Disk.ticks l.fn.store.disk) (g.D.Disk.faults l.fn.store.disk) l.fn.store.rows l.fn.store.log → BookHolds base l.pass.pid (g.B.Chronicle.entries l.store.book) (g.D.Disk.ticks l.store.disk) (g.D.Disk.faults l.store.disk) l.store.rows l.store.log;
 }

@@ -10,13 +10,13 @@ use Rattle.pm_top.specs.declared.book.BookEntry.TheVariants.{Answered, Broke, Lo
 use Rattle.pm_disk.specs.Cause.{Rose}
 use Rattle.std.specs.Prelude.{IfSome}
 use Rattle.pm_top.specs.Log.{GrowsBy, with_batch}
-use Rattle.pm_top.specs.Store.{BookHolds, FileHolds}
-use Rattle.pm_top.proofs.Files.{gate_where_told, file_goes}
+use Rattle.pm_top.specs.Store.{BookHolds, FileHolds, LogHolds}
+use Rattle.pm_top.proofs.Files.{file_failed, file_goes, gate_where_told}
 use Rattle.pm_top.specs.declared.log.TheConstants.{MAX_LOG}
 use Rattle.pm_query.specs.Answer.{commit_of}
 use Rattle.pm_top.specs.Book.{need_of, history_of}
 use Rattle.pm_top.specs.StandsFor.{IsRow, IsWithinLimits, batch_bytes}
-use Rattle.pm_top.proofs.Books.{book_goes, true_read, true_full, true_answered, legal_broke, book_ends, book_answers, notes_both, need_of_batch, front_more, nonempty, no_room, left_room, not_spent}
+use Rattle.pm_top.proofs.Books.{book_goes, true_read, true_full, true_answered, has_failed, book_ends, book_answers, notes_both, need_of_batch, front_more, nonempty, no_room, left_room, not_spent}
 use Rattle.std.specs.Prelude.{All}
 use Rattle.pm_top.specs.Session.{HasShortValues}
 use Rattle.pm_top.proofs.Plain.{plain_commit, plain_short}
@@ -79,7 +79,7 @@ overflow_add-log g c =
 pub append-requires-clause-gate : goal.append-requires-clause-gate
 append-requires-clause-gate g c =
     let holds : FileHolds (g.D.Disk.seen c.args.self.now.disk) c.args.self.now.rows (Some c.in-Some.log) =
-    subst (λ (l : Option Log). FileHolds (g.D.Disk.seen c.args.self.now.disk) c.args.self.now.rows l) c.in-Some.is c.requires.file in
+    subst (λ (l : Option Log). FileHolds (g.D.Disk.seen c.args.self.now.disk) c.args.self.now.rows l) c.in-Some.is c.requires.file.file in
     rw c.in_ok-staged.ensures.disk (gate_where_told (g.D.Disk.seen c.args.self.now.disk) c.args.self.now.rows c.in-Some.log holds)
 
 pub returns-in_err-append-clause-disk : goal.returns-in_err-append-clause-disk
@@ -106,16 +106,29 @@ returns-in_err-append-clause-broken g c = λ base holds is.
     let tick = g.D.Disk.ticks c.args.self.now.disk in
     let faults = g.D.Disk.faults c.args.self.now.disk in
     let rows = c.args.self.now.rows in
+    let seen = g.D.Disk.seen c.args.self.now.disk in
+    let now = g.D.Disk.seen c.append.new.self.disk in
+    let images = g.D.Disk.images c.args.self.now.disk tick in
+    let batch = c.in_ok-batch.batch in
     let some : 0 < length commit = nonempty commit c.changes.result.now c.is_empty.result c.changes.ensures c.is_empty.ensures c.if-is_empty.false in
     let first : BookEntry = Answered c.args.pass.pid c.args.script.now reply commit (log.count + 1) tick in
     let second : BookEntry = Broke c.args.pass.pid (g.D.Disk.ticks c.append.new.self.disk) (g.D.Disk.faults c.append.new.self.disk) in
     let held : BookHolds base c.args.pass.pid told tick faults rows (Some log) = subst (λ (l : Option Log). BookHolds base c.args.pass.pid told tick faults rows l) c.in-Some.is holds in
+    let file : LogHolds seen images rows (Some log) = subst (λ (l : Option Log). LogHolds seen images rows l) c.in-Some.is c.requires.file in
     let cause = c.in_err-append.ensures.cause in
-    let same : g.D.Disk.faults c.note_answer-2.new.self.disk ≡ faults = ap g.D.Disk.faults c.in_ok-staged.ensures.disk in
+    let same_disk = c.in_ok-staged.ensures.disk in
+    let same : g.D.Disk.faults c.note_answer-2.new.self.disk ≡ faults = ap g.D.Disk.faults same_disk in
     let rose : Rose faults (g.D.Disk.faults c.append.new.self.disk) = subst (λ (n : ℕ). Rose n (g.D.Disk.faults c.append.new.self.disk)) same (cause.rose refl) in
-    book_ends base c.args.pass.pid told (g.B.Chronicle.entries c.note_answer-2.new.self.book) (g.B.Chronicle.entries c.append.new.self.book) first second tick faults rows log
-    (λ book t here. legal_broke base c.args.pass.pid book tick faults rows log t here c.args.script.now reply commit (log.count + 1) (g.D.Disk.ticks c.append.new.self.disk) (g.D.Disk.faults c.append.new.self.disk)
-    c.in_ok-outcome.ensures.reply c.in_ok-outcome.ensures.commit (front_more (history_of base book) commit log.count some t.count_is) rose (omega (arith, cause.later, same)) c.in_err-append.ensures.fits)
+    let is_commit = c.in_ok-outcome.ensures.commit in
+    let plain = plain_commit rows c.args.script.now c.requires.plain (omega (arith, some, ap length is_commit)) in
+    let row : IsRow commit = subst IsRow (sym is_commit) plain.row in
+    let limits : IsWithinLimits (committed rows commit) = subst (λ (k : List Change). IsWithinLimits (committed rows k)) (sym is_commit) plain.limits in
+    let torn = (rw same_disk at c.append.ensures.torn) c.in_ok-staged.ensures.time in
+    let beside = rw same_disk at c.append.ensures.beside in
+    book_ends base c.args.pass.pid now told (g.B.Chronicle.entries c.note_answer-2.new.self.book) (g.B.Chronicle.entries c.append.new.self.book) first second tick faults rows log
+    (λ book t here. has_failed base c.args.pass.pid book tick faults rows log t here now c.args.script.now reply commit (log.count + 1) (g.D.Disk.ticks c.append.new.self.disk) (g.D.Disk.faults c.append.new.self.disk)
+    c.in_ok-outcome.ensures.reply c.in_ok-outcome.ensures.commit (front_more (history_of base book) commit log.count some t.count_is) rose (omega (arith, cause.later, same)) c.in_err-append.ensures.fits
+    (file_failed (history_of base book) commit seen now images rows log batch (log.end + (length batch - 1)) file torn beside c.in_ok-batch.ensures.bytes row limits t.rows_are t.count_is t.acked_in))
     held (c.in_ok-staged.ensures.notes ∙ ap (option_map (λ (b : List BookEntry). b ++ first ∷ [])) c.in_ok-reserve.ensures.entries) c.in_err-append.ensures.broke
 
 pub returns-clause-file : goal.returns-clause-file
@@ -125,7 +138,7 @@ returns-clause-file g c = λ other.
     let rows = c.args.self.now.rows in
     let seen = g.D.Disk.seen c.args.self.now.disk in
     let some : 0 < length commit = nonempty commit c.changes.result.now c.is_empty.result c.changes.ensures c.is_empty.ensures c.if-is_empty.false in
-    let holds : FileHolds seen rows (Some log) = subst (λ (l : Option Log). FileHolds seen rows l) c.in-Some.is c.requires.file in
+    let holds : FileHolds seen rows (Some log) = subst (λ (l : Option Log). FileHolds seen rows l) c.in-Some.is c.requires.file.file in
     let is = c.in_ok-outcome.ensures.commit in
     let commits = plain_commit rows c.args.script.now c.requires.plain (omega (arith, some, ap length is)) in
     let tells : g.D.Disk.seen c.append.new.self.disk ≡ option_map (with_batch log.end c.in_ok-batch.batch) seen =
@@ -133,7 +146,7 @@ returns-clause-file g c = λ other.
     let grown = subst (λ d. IfSome (g.D.Disk.seen d) (λ old. IfSome (g.D.Disk.seen c.append.new.self.disk) (λ new. GrowsBy c.in_ok-batch.batch old.a log.end new.a (log.end + (length c.in_ok-batch.batch - 1))))) c.in_ok-staged.ensures.disk c.in_ok-append.ensures.grown in
     let goes = file_goes seen (g.D.Disk.seen c.append.new.self.disk) rows log c.in_ok-batch.batch commit (log.end + (length c.in_ok-batch.batch - 1)) holds tells grown c.in_ok-batch.ensures.bytes
     (subst IsRow (sym is) commits.row) (subst (λ (k : List Change). IsWithinLimits (committed rows k)) (sym is) commits.limits) in
-    rw (c.append.ensures.rows, c.in_ok-staged.ensures.rows, c.in_ok-append.ensures.log) goes
+    record { file = rw (c.append.ensures.rows, c.in_ok-staged.ensures.rows, c.in_ok-append.ensures.log) goes; durable = c.in_ok-append.ensures.durable }
 
 pub returns-clause-legal : goal.returns-clause-legal
 returns-clause-legal g c = λ base holds other.
