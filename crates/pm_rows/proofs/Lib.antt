@@ -1,6 +1,6 @@
 pub mod Entries
 pub mod FoldLaws
-pub mod Outcomes
+pub mod NetChangesLaws
 pub mod Room
 pub mod RowLaws
 pub mod Settle

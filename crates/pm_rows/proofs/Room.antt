@@ -12,7 +12,7 @@ use Rattle.std.proofs.lemmas.Bool.{false≢true, and_parts, and_from, or_cases, 
 use Rattle.std.proofs.lemmas.Map.Lookups.{exact_signed}
 use Rattle.std.proofs.lemmas.Map.Views.{tells_apart}
 use Rattle.pm_rows.specs.Fold.{RowMap}
-use Rattle.pm_rows.specs.Outcome.{Outcome, lacks_row, missing_keys, HasRoom}
+use Rattle.pm_rows.specs.NetChanges.{NetChanges, lacks_row, missing_keys, HasRoom}
 use Rattle.pm_rows.proofs.FoldLaws.{same_key}
 
 -- the rows with an empty text at a key
@@ -107,21 +107,24 @@ some_or_none : (o : Option (List ℕ)) (P : Type 0) → (is_some o ≡ true → 
 some_or_none None P some none = none refl
 some_or_none (Some v) P some none = some refl
 
--- undoing the room for the missing keys, after some of them
-pub room_undone : (rows : RowMap) (outcome : Outcome) (i : ℕ) → fold finite.remove (fold with_empty rows (take i (missing_keys rows outcome))) (missing_keys rows outcome) ≡ rows
-room_undone rows outcome i = undone rows (missing_keys rows outcome) i (λ q. missing_absent rows q outcome.entries)
+-- taking the missing keys out undoes the room for some of them
+pub room_undone : (rows : RowMap) (net : NetChanges) (keys some : List ℤ) (i : ℕ) (now : RowMap) → keys ≡ missing_keys rows net → some ≡ keys → now ≡ fold with_empty rows (take i some) → fold finite.remove now keys ≡ rows
+room_undone rows net keys some i now all part is =
+    ap (λ m. fold finite.remove m keys) (is ∙ ap (λ ks. fold with_empty rows (take i ks)) part)
+    ∙ ap (λ ks. fold finite.remove (fold with_empty rows (take i ks)) ks) all
+    ∙ undone rows (missing_keys rows net) i (λ q. missing_absent rows q net.entries)
 
 -- with an empty text at each missing key there is room
-pub room_made : (rows : RowMap) (outcome : Outcome) → HasRoom outcome rows (fold with_empty rows (missing_keys rows outcome))
-room_made rows outcome = record {
+pub room_made : (rows : RowMap) (net : NetChanges) → HasRoom net rows (fold with_empty rows (missing_keys rows net))
+room_made rows net = record {
   room = λ q value named.
-      let now = get-with_empty rows (missing_keys rows outcome) q in
-      some_or_none (finite.get rows q) (IsSome (finite.get (fold with_empty rows (missing_keys rows outcome)) q))
-      (λ some. elim (is_missing rows q outcome.entries) as (λ b. is_missing rows q outcome.entries ≡ b → IsSome (finite.get (fold with_empty rows (missing_keys rows outcome)) q)) [
+      let now = get-with_empty rows (missing_keys rows net) q in
+      some_or_none (finite.get rows q) (IsSome (finite.get (fold with_empty rows (missing_keys rows net)) q))
+      (λ some. elim (is_missing rows q net.entries) as (λ b. is_missing rows q net.entries ≡ b → IsSome (finite.get (fold with_empty rows (missing_keys rows net)) q)) [
         | true ↦ λ is. ap is_some (now ∙ ap (λ b. cond b (Some []) (finite.get rows q)) is)
         | false ↦ λ is. ap is_some (now ∙ ap (λ b. cond b (Some []) (finite.get rows q)) is) ∙ some
       ] refl)
-      (λ none. ap is_some (now ∙ ap (λ b. cond b (Some []) (finite.get rows q)) (named_missing rows q outcome.entries value named none)));
+      (λ none. ap is_some (now ∙ ap (λ b. cond b (Some []) (finite.get rows q)) (named_missing rows q net.entries value named none)));
   others = λ q unnamed.
-      get-with_empty rows (missing_keys rows outcome) q ∙ ap (λ b. cond b (Some []) (finite.get rows q)) (unnamed_present rows q outcome.entries unnamed);
+      get-with_empty rows (missing_keys rows net) q ∙ ap (λ b. cond b (Some []) (finite.get rows q)) (unnamed_present rows q net.entries unnamed);
 }

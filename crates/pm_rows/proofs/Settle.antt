@@ -1,4 +1,4 @@
--- What settling an outcome makes of rows that have room for it.
+-- What settling an net makes of rows that have room for it.
 use Rattle.std.proofs.Common.{◌≡◌, ℕ, ℤ, true, false, cond, List, [], ◌∷◌, Option, Some, None, IsSome, is_some, fold, unwrap_or, refl, sym, ap, ◌∙◌}
 use Rattle.std.specs.Ordering.{int_cmp, eq_by_cmp}
 use Rattle.std.specs.Cmp.{int_cmp_total}
@@ -15,7 +15,8 @@ use Rattle.std.proofs.lemmas.Map.Entries.{none_past_head}
 use Rattle.std.proofs.lemmas.Map.Keys.{IsDistinct-from_sorted, sorted_tail}
 use Rattle.pm_rows.specs.declared.commit.Change.{Change}
 use Rattle.pm_rows.specs.Fold.{RowMap, committed}
-use Rattle.pm_rows.specs.Outcome.{Outcome, IsOutcome, HasRoom, settled, IsReady}
+use Rattle.pm_rows.specs.Pending.{Pending}
+use Rattle.pm_rows.specs.NetChanges.{NetChanges, IsNet, HasRoom, settled, IsReady}
 use Rattle.pm_rows.proofs.FoldLaws.{same_key, same_key-refl}
 
 -- one entry decides what its key has, and no other key
@@ -56,9 +57,16 @@ agree : (left : Option (Option (List ℕ))) (now before : Option (List ℕ)) →
 agree None now before same = same refl
 agree (Some w) now before same = refl
 
--- settling the outcome of changes where there is room makes the changes
-pub settled_changes : (changes : List Change) (outcome : Outcome) (before now : RowMap) → IsOutcome changes outcome → HasRoom outcome before now → fold settled now outcome.entries ≡ committed before changes
-settled_changes changes outcome before now is has = same_map int_cmp_total int_cmp-IsAntisymmetric _ _ (λ q.
-    get-settled now outcome.entries q is.ordered
-    ∙ agree (tree.get int_cmp outcome q) (finite.get now q) (finite.get before q) (has.others q)
+-- settling the net of changes where there is room makes the changes
+pub settled_changes : (changes : List Change) (net : NetChanges) (before now : RowMap) → IsNet changes net → HasRoom net before now → fold settled now net.entries ≡ committed before changes
+settled_changes changes net before now is has = same_map int_cmp_total int_cmp-IsAntisymmetric _ _ (λ q.
+    get-settled now net.entries q is.ordered
+    ∙ agree (tree.get int_cmp net q) (finite.get now q) (finite.get before q) (has.others q)
     ∙ sym (is.left before q))
+
+-- a pending commit is told by the rows without it and with it
+abbrev pub parted : RowMap → RowMap → Pending
+parted before after = record { before = before; after = after }
+
+pub same_pending : {before other after next : RowMap} → before ≡ other → after ≡ next → parted before after ≡ parted other next
+same_pending {before} {other} {after} same then = ap (λ b. parted b after) same ∙ ap (parted other) then

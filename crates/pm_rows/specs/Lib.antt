@@ -1,5 +1,10 @@
 pub mod Fold
-pub mod Outcome
+pub mod Limits
+pub mod LogSize
+pub mod NetChanges
+pub mod Pending
 pub mod RowsIter
 pub mod Size
+pub mod Standing
 pub mod Table
+pub mod Typed

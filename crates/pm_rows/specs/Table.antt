@@ -1,7 +1,9 @@
 -- How the fields of `Rows` stand for a finite map.
-use Rattle.std.specs.Prelude.{◌≡◌, ℕ, ℤ, ◌<◌, ◌^◌, List, length, All, sum_by}
+use Rattle.std.specs.Prelude.{◌≡◌, ℕ, ℤ, ◌<◌, ◌^◌, List, length, All, FitsSigned, sum_by}
 use Rattle.std.specs.Ordering.{int_cmp}
-use Rattle.std.specs.BTreeMap.{BTreeMap, IsOrdered, values}
+use Rattle.std.specs.Int.{w64}
+use Rattle.std.specs.Str.{IsUtf8}
+use Rattle.std.specs.BTreeMap.{BTreeMap, IsOrdered, keys, values}
 use Rattle.std.specs.FinMap.{from_sorted}
 use Rattle.pm_rows.specs.Fold.{RowMap}
 use Rattle.pm_rows.specs.Size.{row_size}
@@ -10,8 +12,10 @@ use Rattle.pm_rows.specs.Size.{row_size}
 abbrev pub rows_in : BTreeMap ℤ (List ℕ) → RowMap
 rows_in table = from_sorted table.entries
 
--- the keys rise, each value has a length that fits its type, and the size is the sum over the rows
+-- the keys rise, each key and each value is of its type, and the size is the sum over the rows
 pub record IsTable (table : BTreeMap ℤ (List ℕ)) (size : ℕ) : Type 0 where
   pub ordered : IsOrdered int_cmp table
+  pub in_range : All (FitsSigned w64) (keys table)
+  pub texts : All IsUtf8 (values table)
   pub lengths : All (λ value. length value < 2 ^ 64) (values table)
   pub sum : size ≡ sum_by row_size (values table)

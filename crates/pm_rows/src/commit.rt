@@ -1,5 +1,6 @@
 //! The changes that a transaction makes, as it commits them.
-ghost use Rattle.std.specs.Prelude.{◌≡◌, [], ◌∷◌, ◌++◌, IfOk, OnOk, OnErr};
+ghost use Rattle.std.specs.Prelude.{◌≡◌, [], ◌∷◌, ◌++◌, All, IfOk, OnOk, OnErr};
+ghost use Rattle.pm_rows.specs.Typed.{IsTypedChange};
 
 use crate::text::Text;
 use std::alloc::{AllocError, Global};
@@ -27,6 +28,21 @@ impl Change {
             Change::Del { key } => Ok(Change::Del { key: *key }),
         }
     }
+
+    /// The law that the key of a change fits 64 bits and that its value is UTF-8.
+    pub fn is_typed(&self)
+        ensures { IsTypedChange self.now }
+    {
+        match self {
+            Change::Put { key, value } => {
+                let _key = *key;
+                let _text = value.as_str();
+            }
+            Change::Del { key } => {
+                let _key = *key;
+            }
+        }
+    }
 }
 
 /// A list of changes, in the order in which they are made. Contracts see it as that list.
@@ -42,6 +58,11 @@ impl Model for Commit {
     ghost Value = { List Change };
 
     ghost view = { λ commit. commit.changes.items };
+
+    ghost use Rattle.std.specs.Prelude.{All};
+    ghost use Rattle.pm_rows.specs.Typed.{IsTypedChange};
+
+    ghost invariant = { λ commit. All IsTypedChange commit.changes.items };
 }
 
 impl Commit {
@@ -59,13 +80,15 @@ impl Commit {
         ensures ok { OnOk result (self.new ≡ self.old ++ change ∷ []) }
         ensures err { OnErr result (self.new ≡ self.old) }
     {
+        change.is_typed();
         self.changes.push(change)?;
         Ok(())
     }
 
-    /// The changes, in order.
+    /// The changes, in order. Each has a key that fits 64 bits, and a value that is UTF-8.
     pub fn changes(&self) -> &[Change]
-        ensures { result.now ≡ self.now }
+        ensures list { result.now ≡ self.now }
+        ensures typed { All IsTypedChange self.now }
     {
         &self.changes
     }

@@ -6,13 +6,17 @@
 
 mod apply;
 mod commit;
+mod limits;
 mod rows;
 mod rows_iter;
-#[cfg(test)]
-mod tests;
 mod text;
 
+pub use apply::Prepared;
 pub use commit::{Change, Commit};
+pub use limits::{
+    MAX_CHANGES, MAX_COMMITS, MAX_FILE_BYTES, MAX_ROWS, MAX_ROWS_BYTES, MAX_VALUE_BYTES,
+    limits_are_the_numbers,
+};
 pub use rows::Rows;
 pub use rows_iter::RowsIter;
 pub use text::Text;

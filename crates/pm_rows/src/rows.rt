@@ -1,10 +1,12 @@
 //! The rows of the table.
-ghost use Rattle.std.specs.Prelude.{◌≡◌, ◌+◌, ◌-◌, ◌^◌, ◌<◌, min, IfOk, OnOk, OnErr};
+ghost use Rattle.std.specs.Prelude.{◌≡◌, ◌+◌, ◌-◌, ◌^◌, ◌<◌, min, All, IfOk, IfSome, OnOk, OnErr};
 ghost use Rattle.std.specs.FinMap as map;
 ghost use Rattle.std.specs.Map.Iter.{ShowsInOrder};
 ghost use Rattle.std.specs.Option.{option_copied};
 ghost use Rattle.pm_rows.specs.RowsIter.{shown_row};
 ghost use Rattle.pm_rows.specs.Size.{row_size, size_of};
+ghost use Rattle.pm_rows.specs.Typed.{IsTypedRow};
+ghost use Rattle.std.specs.Str.{IsUtf8};
 
 use crate::rows_iter::RowsIter;
 use crate::text::Text;
@@ -71,10 +73,11 @@ impl Rows {
         u64::try_from(self.size).unwrap_or(u64::MAX)
     }
 
-    /// The rows by rising key.
+    /// The rows by rising key. Each has a key that fits 64 bits, and a value that is UTF-8.
     pub fn iter(&self) -> RowsIter<'_>
         ensures rest { result ≡ map.entries self.now }
         ensures runs { ShowsInOrder shown_row }
+        ensures typed { All IsTypedRow (map.entries self.now) }
     {
         RowsIter::of(self.table.iter())
     }
@@ -90,12 +93,19 @@ impl Rows {
         })
     }
 
+    /// The law that each key fits 64 bits and that each value is UTF-8.
+    pub fn are_typed(&self)
+        ensures { All IsTypedRow (map.entries self.now) }
+    {
+        let _rows = &self.table;
+    }
+
     pub(crate) fn allocator(&self) -> Global {
         self.alloc
     }
 
-    // Sets the value at a key. Only a key without a row takes memory.
-    pub(crate) fn put(&mut self, key: i64, value: Text) -> Result<(), AllocError>
+    /// Sets the value at a key. Only a key without a row takes memory.
+    pub fn put(&mut self, key: i64, value: Text) -> Result<(), AllocError>
         ensures ok { OnOk result (self.new ≡ map.insert self.old key value) }
         ensures err { OnErr result (self.new ≡ self.old) }
         ensures absent { OnErr result (map.get self.old key ≡ None) }
@@ -125,6 +135,7 @@ impl Rows {
 fn row_size(value: &Text) -> u128
     ensures size { result ≡ row_size value.now }
     ensures small { result < 2 ^ 64 + 12 }
+    ensures utf8 { IsUtf8 value.now }
 {
     12 + value.as_str().len() as u128
 }

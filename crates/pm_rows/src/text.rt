@@ -1,50 +1,50 @@
 //! Text that a row keeps.
-ghost use Rattle.std.specs.Prelude.{◌≡◌, [], IfOk};
+ghost use Rattle.std.specs.Prelude.{◌≡◌, IfOk};
+ghost use Rattle.std.specs.Str.{IsUtf8};
 
 use std::alloc::{AllocError, Global};
 use std::marker::Model;
+use std::sync::ArcStr;
 
-/// UTF-8 text. Contracts see it as the list of its bytes.
+/// UTF-8 text that isn't changed. Contracts see it as the list of its bytes.
+///
+/// Its copies share the bytes, so a text that goes from a statement into a commit, the table and the book is kept once.
 #[derive(Debug, Drop)]
 pub struct Text {
-    content: String,
+    content: ArcStr,
 }
 
 impl Model for Text {
-    ghost use Rattle.std.specs.Prelude.{ℕ, List, string_bytes};
+    ghost use Rattle.std.specs.Prelude.{ℕ, List};
+    ghost use Rattle.std.specs.Arc.{arc_str_bytes};
+    ghost use Rattle.std.specs.Str.{IsUtf8};
 
     ghost Value = { List ℕ };
 
-    ghost view = { λ text. string_bytes text.content };
+    ghost view = { λ text. arc_str_bytes text.content };
+
+    ghost invariant = { λ text. IsUtf8 (arc_str_bytes text.content) };
 }
 
 impl Text {
-    /// A text of its own with the bytes of `content`. It fails only where memory is short.
+    /// A text with the bytes of `content`, which are copied. It fails only where memory is short.
     pub fn of(alloc: Global, content: &str) -> Result<Text, AllocError>
         ensures { IfOk result (λ text. text ≡ content.now) }
     {
         Ok(Text {
-            content: String::from_str(alloc, content)?,
+            content: ArcStr::from_str(alloc, content)?,
         })
-    }
-
-    // The text without bytes. It takes no memory.
-    pub(crate) fn empty(alloc: Global) -> Text
-        ensures { result ≡ [] }
-    {
-        Text {
-            content: String::new(alloc),
-        }
     }
 
     /// The text as a string slice, which has the same bytes.
     pub fn as_str(&self) -> &str
-        ensures { result.now ≡ self.now }
+        ensures bytes { result.now ≡ self.now }
+        ensures utf8 { IsUtf8 self.now }
     {
         self.content.as_str()
     }
 
-    /// An equal text of its own. It fails only where memory is short.
+    /// An equal text, which shares the bytes. It fails only where there are as many copies as can be counted.
     pub fn copy(&self) -> Result<Text, AllocError>
         ensures { IfOk result (λ text. text ≡ self.now) }
     {

@@ -6,7 +6,7 @@ use Rattle.std.proofs.lemmas.Int.{to_z-of_z}
 use Rattle.std.proofs.lemmas.Result.{err_from_is_err_and}
 use Rattle.pm_rows.specs.Size.{size_at}
 use Rattle.pm_rows.proofs.Entries.{get-of_table}
-use Rattle.pm_rows.proofs.Tables.{put_rows, put_size, put_table, put_fits}
+use Rattle.pm_rows.proofs.Tables.{put_rows, put_size, put_table, put_fits, same_table}
 use Rattle.pm_rows.proofs.rows.Rows.put.Goals as goal
 
 pub returns-in_err-old-clause-absent : goal.returns-in_err-old-clause-absent
@@ -31,12 +31,15 @@ overflow_sub-self c =
     let sum = put_size c.self.inside.table c.insert.new.self c.self.inside.size c.self.invariant _ c.args.key (to_z-of_z w64 c.args.key c.ranges.key) c.args.value c.in_ok-old.ensures.entries in
     omega (arith, old, sum, c.row_size.ensures.size, c.row_size-added.ensures.size)
 
+pub invariant_of-self : goal.invariant_of-self
+invariant_of-self c = same_table c.self.inside.table c.insert.new.self c.self.inside.size c.in_err-old.ensures.err c.self.invariant
+
 pub invariant_of-self-in-Some : goal.invariant_of-self-in-Some
 invariant_of-self-in-Some c =
     let old = ap size_at (sym c.in_ok-old.ensures.old ∙ c.in-Some.is) in
     let sum = put_size c.self.inside.table c.insert.new.self c.self.inside.size c.self.invariant _ c.args.key (to_z-of_z w64 c.args.key c.ranges.key) c.args.value c.in_ok-old.ensures.entries in
     put_table c.self.inside.table c.insert.new.self c.self.inside.size c.self.invariant _ c.args.key (to_z-of_z w64 c.args.key c.ranges.key) c.args.value _
-    c.insert.ensures.ordered c.in_ok-old.ensures.entries
+    c.ranges.key c.row_size-added.ensures.utf8 c.insert.ensures.ordered c.in_ok-old.ensures.entries
     (omega (arith, c.row_size-added.ensures.size, c.row_size-added.ensures.small))
     (omega (arith, old, sum, c.row_size.ensures.size, c.row_size-added.ensures.size))
 
@@ -44,7 +47,7 @@ pub invariant_of-self-in_default : goal.invariant_of-self-in_default
 invariant_of-self-in_default c =
     let old = ap size_at (sym c.in_ok-old.ensures.old ∙ c.in_default.is) in
     put_table c.self.inside.table c.insert.new.self c.self.inside.size c.self.invariant _ c.args.key (to_z-of_z w64 c.args.key c.ranges.key) c.args.value _
-    c.insert.ensures.ordered c.in_ok-old.ensures.entries
+    c.ranges.key c.row_size-added.ensures.utf8 c.insert.ensures.ordered c.in_ok-old.ensures.entries
     (omega (arith, c.row_size-added.ensures.size, c.row_size-added.ensures.small))
     (omega (arith, old, c.row_size-added.ensures.size))
 

@@ -2,7 +2,7 @@ use Rattle.std.proofs.Common.{w64, sym, ap, ◌∙◌, arith}
 use Rattle.std.specs.FinMap as map
 use Rattle.std.proofs.lemmas.Int.{to_z-of_z}
 use Rattle.pm_rows.specs.Size.{size_at}
-use Rattle.pm_rows.proofs.Tables.{remove_rows, remove_size, remove_table}
+use Rattle.pm_rows.proofs.Tables.{remove_rows, remove_size, remove_table, same_table}
 use Rattle.pm_rows.proofs.rows.Rows.take_out.Goals as goal
 
 pub overflow_sub-self : goal.overflow_sub-self
@@ -17,6 +17,9 @@ invariant_of-self c =
     let sum = remove_size c.self.inside.table c.remove.new.self c.self.inside.size c.self.invariant _ c.args.key (to_z-of_z w64 c.args.key c.ranges.key) c.remove.ensures.entries in
     remove_table c.self.inside.table c.remove.new.self c.self.inside.size c.self.invariant _ c.args.key (to_z-of_z w64 c.args.key c.ranges.key) _ c.remove.ensures.ordered c.remove.ensures.entries
     (omega (arith, old, sum, c.row_size.ensures.size))
+
+pub invariant_of-self-in_default : goal.invariant_of-self-in_default
+invariant_of-self-in_default c = same_table c.self.inside.table c.remove.new.self c.self.inside.size c.in_default.ensures.unchanged c.self.invariant
 
 pub returns-in-Some : goal.returns-in-Some
 returns-in-Some c =

@@ -1,4 +1,5 @@
-use crate::{Change, Commit, Rows, Text};
+//! Rows, and the commits that change them.
+use pm_rows::{Change, Commit, MAX_CHANGES, Rows, Text};
 use std::alloc::Global;
 use std::test::Fail;
 
@@ -117,5 +118,102 @@ fn copies_are_equal(rt: HostRuntime) -> Result<(), Fail> {
     rows.apply(&commit)?;
     assert_eq!(rt; listed(alloc, &kept)?.as_str(), "4=vier ");
     assert_eq!(rt; kept.size(), 16);
+    Ok(())
+}
+
+#[test]
+fn a_text_has_the_bytes_of_its_content(rt: HostRuntime) -> Result<(), Fail> {
+    let alloc = rt.alloc();
+    for content in ["", "one", "drei \u{20ac}"] {
+        let text = Text::of(alloc, content)?;
+        let copied = text.copy()?;
+        drop(text);
+        assert_eq!(rt; copied.as_str(), content);
+    }
+    Ok(())
+}
+
+// The same value. It takes only what may go from one thread to another.
+fn moved<T: Send>(value: T) -> T {
+    value
+}
+
+#[test]
+fn texts_commits_and_rows_may_go_to_other_threads(rt: HostRuntime) -> Result<(), Fail> {
+    let alloc = rt.alloc();
+    let mut commit = Commit::new(alloc);
+    put(alloc, &mut commit, 1, "one")?;
+    let mut rows = Rows::new(alloc);
+    rows.apply(&moved(commit))?;
+    assert_eq!(rt; moved(Text::of(alloc, "two")?).as_str(), "two");
+    assert_eq!(rt; listed(alloc, &moved(rows))?.as_str(), "1=one ");
+    Ok(())
+}
+
+#[test]
+fn a_prepared_commit_is_made_or_given_up(rt: HostRuntime) -> Result<(), Fail> {
+    let alloc = rt.alloc();
+    let mut rows = Rows::new(alloc);
+    let mut first = Commit::new(alloc);
+    put(alloc, &mut first, 1, "one")?;
+    put(alloc, &mut first, 3, "three")?;
+    rows.apply(&first)?;
+
+    // A row is overwritten, one is added in front of a deleted one, and one behind it.
+    let mut second = Commit::new(alloc);
+    put(alloc, &mut second, 1, "eins")?;
+    put(alloc, &mut second, 2, "zwei")?;
+    del(&mut second, 3)?;
+    put(alloc, &mut second, 4, "vier")?;
+
+    let given_up = rows.prepare(&second)?;
+    assert_eq!(rt; rows.len(), 0);
+    rows = given_up.cancel();
+    assert_eq!(rt; listed(alloc, &rows)?.as_str(), "1=one 3=three ");
+    assert_eq!(rt; rows.len(), 2);
+    assert_eq!(rt; rows.size(), 32);
+
+    let made = rows.prepare(&second)?;
+    rows = made.apply();
+    assert_eq!(rt; listed(alloc, &rows)?.as_str(), "1=eins 2=zwei 4=vier ");
+    assert_eq!(rt; rows.len(), 3);
+    assert_eq!(rt; rows.size(), 48);
+    Ok(())
+}
+
+// Rows with the value `x` at each key from 0 on, so many, made by commits of as many changes as one may have.
+fn filled(alloc: Global, count: i64) -> Result<Rows, Fail> {
+    let mut rows = Rows::new(alloc);
+    let mut commit = Commit::new(alloc);
+    for key in 0..count {
+        put(alloc, &mut commit, key, "x")?;
+        if commit.changes().len() == MAX_CHANGES {
+            rows.apply(&commit)?;
+            commit = Commit::new(alloc);
+        }
+    }
+    rows.apply(&commit)?;
+    Ok(rows)
+}
+
+#[test]
+fn the_last_row_fills_the_table(rt: HostRuntime) -> Result<(), Fail> {
+    let alloc = rt.alloc();
+    let mut rows = filled(alloc, 99_999)?;
+    assert_eq!(rt; rows.len(), 99_999);
+    assert_eq!(rt; rows.size(), 1_299_987);
+
+    let mut last = Commit::new(alloc);
+    put(alloc, &mut last, -1, "last")?;
+    rows.apply(&last)?;
+    assert_eq!(rt; rows.len(), 100_000);
+    assert_eq!(rt; rows.size(), 1_300_003);
+    for (key, value) in [(-1, "last"), (0, "x"), (99_998, "x"), (99_999, "")] {
+        let found = match rows.get(key) {
+            Some(text) => text.as_str(),
+            None => "",
+        };
+        assert_eq!(rt; found, value, "at {key}");
+    }
     Ok(())
 }
