@@ -8,22 +8,23 @@ use Rattle.pm_disk.specs.Files.{overwritten}
 use Rattle.pm_disk.specs.Past.{IsKept, MayLeave, State, after_sync, changed, empty, state_at}
 use Rattle.pm_disk.specs.declared.mem_file.Change.TheVariants.{Written, Synced}
 use Rattle.pm_disk.specs.declared.mem_file.Entry.{Entry}
-use Rattle.pm_disk.specs.declared.mem_file.Span.{Span}
+use Rattle.pm_disk.specs.declared.mem_file.Replayed.{Replayed}
+use Rattle.pm_disk.specs.Stop.{Tells}
+use Rattle.pm_disk.proofs.AsRead.{kept}
 use Rattle.pm_disk.proofs.Replay.{state_at-push_now}
 
 abbrev through : ℕ → State → List Entry → State
 through tick state entries = fold (λ s e. changed s e.change) state (filter (λ e. nat_le e.tick tick) entries)
 
 -- so many entries have been looked at
-pub record Replaying (past : List Entry) (tick index : ℕ) (bytes : List ℕ) (written : List Span) : Type 0 where
+pub record Replaying (past : List Entry) (tick index : ℕ) (replayed : Replayed) : Type 0 where
   pub state : State
-  pub read : state.read ≡ bytes
-  pub spans : state.written ≡ written
+  pub tells : Tells replayed state
   pub rest : through tick state (drop index past) ≡ state_at past tick
 
-pub replaying_none : (past : List Entry) (tick : ℕ) (bytes : List ℕ) (written : List Span) → bytes ≡ [] → written ≡ [] → Replaying past tick 0 bytes written
+pub replaying_none : (past : List Entry) (tick : ℕ) (replayed : Replayed) → replayed.bytes.items ≡ [] → replayed.synced ≡ 0 → replayed.written.items ≡ [] → Replaying past tick 0 replayed
 unfolding state_at
-replaying_none past tick bytes written none no_spans = record { state = empty; read = sym none; spans = sym no_spans; rest = refl }
+replaying_none past tick replayed none no_length no_spans = record { state = empty; tells = record { read = sym none; synced = sym no_length; written = sym no_spans }; rest = refl }
 
 overwritten_none : (bytes : List ℕ) → overwritten [] 0 bytes ≡ bytes
 overwritten_none bytes = ap (λ (l : List ℕ). bytes ++ l) (drop_all (0 + length bytes) [] (omega arith)) ∙ append-nil bytes
@@ -42,10 +43,9 @@ settled_state copy t =
     ∙ ap (λ (l : List ℕ). after_sync (record { read = l; synced = []; written = record { at = 0; count = length copy.items } ∷ [] })) (overwritten_none copy.items)
 
 pub settled_kept : (past : List Entry) (copy : Vec ℕ Global) (bytes : List ℕ) → copy.items ≡ bytes → past ≡ settled_past copy → IsKept past bytes 0
-settled_kept past copy bytes same is = record {
-  earlier = rw is (All-push (λ (e : Entry). e.tick ≤ 0) ([] ++ record { tick = 0; change = Written 0 copy } ∷ []) (record { tick = 0; change = Synced }) (All-push (λ (e : Entry). e.tick ≤ 0) [] (record { tick = 0; change = Written 0 copy }) (λ k d lt. absurd (omega arith)) (omega arith)) (omega arith));
-  reads = ap (λ (l : List Entry). (state_at l 0).read) is ∙ ap (λ (s : State). s.read) (settled_state copy 0) ∙ same;
-}
+settled_kept past copy bytes same is = kept past bytes 0
+    (rw is (All-push (λ (e : Entry). e.tick ≤ 0) ([] ++ record { tick = 0; change = Written 0 copy } ∷ []) (record { tick = 0; change = Synced }) (All-push (λ (e : Entry). e.tick ≤ 0) [] (record { tick = 0; change = Written 0 copy }) (λ k d lt. absurd (omega arith)) (omega arith)) (omega arith)))
+    (ap (λ (l : List Entry). (state_at l 0).read) is ∙ ap (λ (s : State). s.read) (settled_state copy 0) ∙ same)
 
 pub settled_only : (past : List Entry) (copy : Vec ℕ Global) (bytes : List ℕ) → copy.items ≡ bytes → past ≡ settled_past copy
     → (t : ℕ) (image : List ℕ) → MayLeave (state_at past t) image → image ≡ bytes

@@ -1,4 +1,5 @@
 pub mod Again
+pub mod AsRead
 pub mod Moments
 pub mod Replay
 pub mod Stopped

@@ -5,7 +5,7 @@ use Rattle.std.proofs.lemmas.List.Elements.{All-push, filter-append}
 use Rattle.std.proofs.lemmas.List.Sums.{fold-append}
 use Rattle.std.proofs.lemmas.Bool.Decides.{nat_tests}
 use Rattle.std.specs.declared.alloc.Global.{Global}
-use Rattle.pm_disk.specs.Past.{State, Notes, changed, after_write, after_sync, empty, state_at}
+use Rattle.pm_disk.specs.Past.{State, AddsChange, changed, after_write, after_sync, empty, state_at}
 use Rattle.pm_disk.specs.declared.mem_file.Change.{Change}
 use Rattle.pm_disk.specs.declared.mem_file.Change.TheVariants.{Written, Synced}
 use Rattle.pm_disk.specs.declared.mem_file.Entry.{Entry}
@@ -46,8 +46,8 @@ state_at-push_then past entry tick lt =
     let none : up_to tick (entry ∷ []) ≡ [] = rw skipped refl in
     ap (λ (l : List Entry). fold (λ s e. changed s e.change) empty l) (filter-append (λ e. nat_le e.tick tick) past (entry ∷ []) ∙ ap (λ (l : List Entry). up_to tick past ++ l) none ∙ append-nil (up_to tick past))
 
-pub notes : (ticks : ℕ) (past : List Entry) (change : Change) → All (λ entry. entry.tick ≤ ticks) past → Notes ticks past (past ++ record { tick = ticks + 1; change = change } ∷ []) (λ state. changed state change)
-notes ticks past change all =
+pub adds_change : (ticks : ℕ) (past : List Entry) (change : Change) → All (λ entry. entry.tick ≤ ticks) past → AddsChange ticks past (past ++ record { tick = ticks + 1; change = change } ∷ []) (λ state. changed state change)
+adds_change ticks past change all =
     let entry : Entry = record { tick = ticks + 1; change = change } in
     let older : All (λ e. e.tick ≤ ticks + 1) past = λ k d lt. (let was = all k d lt in omega arith) in
     record {
@@ -56,11 +56,11 @@ notes ticks past change all =
       now = state_at-push_now past entry (ticks + 1) (omega arith) ∙ ap (λ (s : State). changed s change) (state_at_later past ticks (ticks + 1) all (omega arith));
     }
 
-pub notes_write : (ticks at : ℕ) (past new : List Entry) (copy : Vec ℕ Global) (bytes : List ℕ) → All (λ entry. entry.tick ≤ ticks) past
+pub adds_write : (ticks at : ℕ) (past new : List Entry) (copy : Vec ℕ Global) (bytes : List ℕ) → All (λ entry. entry.tick ≤ ticks) past
     → copy.items ≡ bytes → new ≡ past ++ record { tick = ticks + 1; change = Written at copy } ∷ []
-    → Notes ticks past new (λ state. after_write state at bytes)
-notes_write ticks at past new copy bytes all same is = rw (is, ← same) (notes ticks past (Written at copy) all)
+    → AddsChange ticks past new (λ state. after_write state at bytes)
+adds_write ticks at past new copy bytes all same is = rw (is, ← same) (adds_change ticks past (Written at copy) all)
 
-pub notes_sync : (ticks : ℕ) (past new : List Entry) → All (λ entry. entry.tick ≤ ticks) past
-    → new ≡ past ++ record { tick = ticks + 1; change = Synced } ∷ [] → Notes ticks past new after_sync
-notes_sync ticks past new all is = rw is (notes ticks past Synced all)
+pub adds_sync : (ticks : ℕ) (past new : List Entry) → All (λ entry. entry.tick ≤ ticks) past
+    → new ≡ past ++ record { tick = ticks + 1; change = Synced } ∷ [] → AddsChange ticks past new after_sync
+adds_sync ticks past new all is = rw is (adds_change ticks past Synced all)

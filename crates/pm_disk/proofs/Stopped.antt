@@ -1,11 +1,13 @@
 -- A file with other bytes in what was written since the last sync is one that a stop may leave.
-use Rattle.std.proofs.Common.{◌≡◌, ◌⊎◌, ℕ, ◌+◌, ◌<◌, ◌≤◌, List, [], ◌∷◌, length, ◌∙◌, arith}
-use Rattle.std.specs.Prelude.{◌==◌, ◌%◌, if◌then◌else◌, slice_index}
+use Rattle.std.proofs.Common.{◌≡◌, ◌⊎◌, ℕ, ◌+◌, ◌<◌, ◌≤◌, Some, List, [], ◌∷◌, length, take, sym, ◌∙◌, ap, arith}
+use Rattle.std.specs.Prelude.{◌==◌, ◌%◌, if◌then◌else◌, slice_get, slice_index}
+use Rattle.std.proofs.lemmas.List.{get_or-take, length-take, take_all}
 use Rattle.std.proofs.lemmas.List.FromFn.{length-map-range_with_len}
 use Rattle.std.proofs.lemmas.List.Elements.{All-head, All-tail}
+use Rattle.std.proofs.lemmas.Option.{slice_get-get_or}
 use Rattle.pm_disk.specs.Files.{overwritten}
 use Rattle.pm_disk.specs.Past.{IsOutside, MayLeave, State, state_at}
-use Rattle.pm_disk.specs.Reads.{length-overwritten, slice_get-overwritten_outside, reads_as_left}
+use Rattle.pm_disk.proofs.AsRead.{length-overwritten, slice_get-overwritten_outside, reads_as_left}
 use Rattle.pm_disk.specs.Stop.{filled, spoiled, stopped}
 use Rattle.pm_disk.specs.declared.mem_file.Entry.{Entry}
 use Rattle.pm_disk.specs.declared.mem_file.Span.{Span}
@@ -35,7 +37,23 @@ spoiled_left state fill image (span ∷ spans) outside unwritten leaves =
       unwritten = λ none. cc (unwritten none);
     })
 
-pub stopped_left : (past : List Entry) (tick : ℕ) (fill : List ℕ) → MayLeave (state_at past tick) (stopped fill (state_at past tick))
-stopped_left past tick fill =
+slice_get-take : (image : List ℕ) (most i : ℕ) → i < most → i < length image → slice_get (take most image) i ≡ slice_get image i
+slice_get-take image most i lt within =
+    let is = length-take most image in
+    slice_get-get_or (take most image) i 0 (omega arith)
+    ∙ ap (λ (n : ℕ). Some n) (get_or-take most image i 0 lt)
+    ∙ sym (slice_get-get_or image i 0 within)
+
+-- cut anywhere past what was synced
+cut_left : (state : State) (image : List ℕ) (most : ℕ) → length state.synced ≤ most → MayLeave state image → MayLeave state (take most image)
+cut_left state image most enough leaves = record {
+  no_shorter = let was = leaves.no_shorter in let is = length-take most image in omega arith;
+  outside = λ i within free. let was = leaves.no_shorter in slice_get-take image most i (omega arith) (omega arith) ∙ leaves.outside i within free;
+  unwritten = λ none. let same = leaves.unwritten none in let longest : length image ≤ most = rw same enough in take_all most image longest ∙ same;
+}
+
+pub stopped_left : (past : List Entry) (tick : ℕ) (fill : List ℕ) (beyond : ℕ) → MayLeave (state_at past tick) (stopped fill beyond (state_at past tick))
+stopped_left past tick fill beyond =
     let state = state_at past tick in
-    spoiled_left state fill state.read state.written (λ i free. free) (λ none. none) (reads_as_left past tick)
+    cut_left state (spoiled fill state.read state.written) (length state.synced + beyond) (omega arith)
+    (spoiled_left state fill state.read state.written (λ i free. free) (λ none. none) (reads_as_left past tick))

@@ -7,7 +7,7 @@ use Rattle.std.proofs.lemmas.List.Elements.{All-push}
 use Rattle.std.proofs.lemmas.Option.{slice_get-get_or}
 use Rattle.pm_disk.specs.Files.{overwritten}
 use Rattle.pm_disk.specs.Past.{State, MayLeave, after_write}
-use Rattle.pm_disk.specs.Reads.{slice_get-overwritten_outside}
+use Rattle.pm_disk.proofs.AsRead.{slice_get-overwritten_outside}
 use Rattle.pm_disk.specs.declared.mem_file.Span.{Span}
 
 -- as `Torn`, of one file

@@ -9,6 +9,7 @@ next_tick t = min (t + 1) (2 ^ 64 - 1)
 
 -- One call goes by. What a stop may have left after an earlier one never changes.
 pub record Elapses (before now : ℕ) (images_before images_now : ℕ → Files → Type 0) : Type 0 where
+  pub later : before ≤ now
   pub tick : now ≡ next_tick before
   pub past : (t : ℕ) → t ≤ before → (image : Files) → images_now t image ↔ images_before t image
 

@@ -1,12 +1,8 @@
-pub mod Blip
-pub mod BlipReads
 pub mod Cause
-pub mod Counts
 pub mod Disk
+pub mod FailingDisk
 pub mod Files
-pub mod Fuse
-pub mod FuseReads
 pub mod MemDisk
 pub mod Past
-pub mod Reads
+pub mod Skipped
 pub mod Stop

@@ -3,7 +3,6 @@ use Rattle.std.specs.Prelude.{◌≡◌, ℕ, List, length}
 use Rattle.pm_disk.specs.Files.{Files, file_of, with_file, overwritten}
 use Rattle.pm_disk.specs.Disk.{Elapses, Follows, Only, StopsNoWider, Torn}
 use Rattle.pm_disk.specs.Past.{MayLeave, state_at}
-use Rattle.pm_disk.specs.Reads.{reads_as_left}
 use Rattle.pm_disk.specs.Stop.{stopped}
 use Rattle.pm_disk.specs.declared.disk.Which.{Which}
 use Rattle.pm_disk.specs.declared.mem_disk.MemDisk.{MemDisk}
@@ -23,15 +22,16 @@ pub record MayLeaveAt (disk : MemDisk) (tick : ℕ) (image : Files) : Type 0 whe
   pub a : MayLeave (state_at disk.a.past.items tick) image.a
   pub b : MayLeave (state_at disk.b.past.items tick) image.b
 
--- as a stop after so many ticks leaves them, with the fill in each place written since the last sync
-abbrev pub stopped_files : MemDisk → ℕ → List ℕ → Files
-stopped_files disk tick fill = record {
-  a = stopped fill (state_at disk.a.past.items tick);
-  b = stopped fill (state_at disk.b.past.items tick);
+-- as a stop after so many ticks leaves them: the fill stands in each place written since a file's last sync, and past
+-- its length at that sync are at most so many bytes
+abbrev pub stopped_files : MemDisk → ℕ → List ℕ → ℕ → Files
+stopped_files disk tick fill beyond = record {
+  a = stopped fill beyond (state_at disk.a.past.items tick);
+  b = stopped fill beyond (state_at disk.b.past.items tick);
 }
 
 -- a call goes by that changes neither the files nor what a stop may leave of them
-pub record Passes (old new : MemDisk) : Type 0 where
+pub record ChangesNoFile (old new : MemDisk) : Type 0 where
   pub seen : files_of new ≡ files_of old
   pub images : StopsNoWider (MayLeaveAt old old.ticks) (MayLeaveAt new new.ticks)
   pub time : Elapses old.ticks new.ticks (MayLeaveAt old) (MayLeaveAt new)
@@ -45,7 +45,7 @@ pub record Writes (old new : MemDisk) (file : Which) (at : ℕ) (bytes : List �
 -- a call makes a file durable
 pub record Syncs (old new : MemDisk) (file : Which) : Type 0 where
   pub durable : Only file (file_of (files_of old) file) (MayLeaveAt new new.ticks)
-  pub passes : Passes old new
+  pub keeps : ChangesNoFile old new
 
 -- no call was counted, and nothing has changed
 pub record Stays (old new : MemDisk) : Type 0 where
@@ -54,9 +54,3 @@ pub record Stays (old new : MemDisk) : Type 0 where
   pub a_past : new.a.past.items ≡ old.a.past.items
   pub b_bytes : new.b.bytes.items ≡ old.b.bytes.items
   pub b_past : new.b.past.items ≡ old.b.past.items
-
-pub mem_reads_as_left : (disk : MemDisk) → MayLeaveAt disk disk.ticks (files_of disk)
-mem_reads_as_left disk = record {
-  a = rw (← disk.a_kept.reads) (reads_as_left disk.a.past.items disk.ticks);
-  b = rw (← disk.b_kept.reads) (reads_as_left disk.b.past.items disk.ticks);
-}

@@ -44,13 +44,14 @@ pub record MayLeave (state : State) (image : List ℕ) : Type 0 where
   pub outside : (i : ℕ) → i < length state.synced → IsOutside state.written i → slice_get image i ≡ slice_get state.synced i
   pub unwritten : state.written ≡ [] → image ≡ state.synced
 
--- the entries are of no later call, and lead to these bytes
+-- the entries are of no later call, and lead to these bytes, which a stop may leave
 pub record IsKept (past : List Entry) (bytes : List ℕ) (ticks : ℕ) : Type 0 where
   pub earlier : All (λ entry. entry.tick ≤ ticks) past
   pub reads : (state_at past ticks).read ≡ bytes
+  pub left : MayLeave (state_at past ticks) bytes
 
 -- One call more has changed the file so. What it was after an earlier one stays.
-pub record Notes (ticks : ℕ) (old new : List Entry) (after : State → State) : Type 0 where
+pub record AddsChange (ticks : ℕ) (old new : List Entry) (after : State → State) : Type 0 where
   pub earlier : All (λ entry. entry.tick ≤ ticks + 1) new
   pub past : (t : ℕ) → t ≤ ticks → state_at new t ≡ state_at old t
   pub now : state_at new (ticks + 1) ≡ after (state_at old ticks)

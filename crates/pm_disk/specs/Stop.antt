@@ -1,9 +1,11 @@
--- One of the files that a stop may leave: the fill stands in each place written since the last sync.
-use Rattle.std.specs.Prelude.{◌≡◌, ℕ, ◌==◌, ◌%◌, if◌then◌else◌, List, map, fold, length, slice_index}
+-- One of the files that a stop may leave: the fill stands in each place written since the last sync, and the file may
+-- end before that.
+use Rattle.std.specs.Prelude.{◌≡◌, ℕ, ◌+◌, ◌==◌, ◌%◌, if◌then◌else◌, List, map, fold, length, take, slice_index}
 use Rattle.std.specs.List.{range_with_len}
 use Rattle.pm_disk.specs.Files.{overwritten}
 use Rattle.pm_disk.specs.Past.{State, changed}
 use Rattle.pm_disk.specs.declared.mem_file.Change.{Change}
+use Rattle.pm_disk.specs.declared.mem_file.Replayed.{Replayed}
 use Rattle.pm_disk.specs.declared.mem_file.Span.{Span}
 
 -- so many bytes of the fill, over and over from its first on, or of 0 where it has none
@@ -14,10 +16,16 @@ filled fill count = map (λ k. if length fill == 0 then 0 else slice_index fill 
 abbrev pub spoiled : List ℕ → List ℕ → List Span → List ℕ
 spoiled fill bytes spans = fold (λ image span. overwritten image span.at (filled fill span.count)) bytes spans
 
-abbrev pub stopped : List ℕ → State → List ℕ
-stopped fill state = spoiled fill state.read state.written
+-- and past the length at the last sync are at most so many bytes
+abbrev pub stopped : List ℕ → ℕ → State → List ℕ
+stopped fill beyond state = take (length state.synced + beyond) (spoiled fill state.read state.written)
 
--- a change made again, whatever was synced
-abbrev pub Redone : Change → List ℕ → List Span → List ℕ → List Span → Type 0
-Redone change bytes written bytes' written' = (state : State) → state.read ≡ bytes → state.written ≡ written
-    → ((changed state change).read ≡ bytes') × ((changed state change).written ≡ written')
+-- the parts of the state of which that is made
+pub record Tells (replayed : Replayed) (state : State) : Type 0 where
+  pub read : state.read ≡ replayed.bytes.items
+  pub synced : length state.synced ≡ replayed.synced
+  pub written : state.written ≡ replayed.written.items
+
+-- a change made again
+abbrev pub Redone : Change → Replayed → Replayed → Type 0
+Redone change old new = (state : State) → Tells old state → Tells new (changed state change)

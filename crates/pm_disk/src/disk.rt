@@ -13,6 +13,20 @@ pub enum Which {
     B,
 }
 
+impl Which {
+    ghost use Rattle.pm_disk.specs.Files.{other};
+
+    /// The file beside this one.
+    pub fn other(self) -> Which
+        ensures { result ≡ other self }
+    {
+        match self {
+            Which::A => Which::B,
+            Which::B => Which::A,
+        }
+    }
+}
+
 /// The disk has failed, as its count of faults shows.
 #[derive(Clone, Copy, Debug, PartialEq, Eq, Error)]
 #[error("disk fault")]
@@ -28,7 +42,7 @@ pub trait Disk {
     /// The files as they read. A disk that doesn't tell them has none, and then no clause speaks of content.
     ghost seen: { Self → Option Files };
 
-    /// How many calls it has had.
+    /// How many calls it has had, up to 2^64 - 1. It never falls.
     ghost ticks: { Self → ℕ };
 
     /// What a stop after that many calls may leave.
@@ -91,4 +105,7 @@ pub trait Disk {
 
     /// The files as they read are one of the outcomes of a stop at this moment.
     ghost reads_as_left: { (disk : Self) → IfSome (seen disk) (images disk (ticks disk)) };
+
+    /// Both counts are numbers of 64 bits.
+    ghost counted: { (disk : Self) → (ticks disk < 2 ^ 64) × (faults disk < 2 ^ 64) };
 }

@@ -16,12 +16,13 @@ pub struct MemDisk {
     faults: u64,
     ghost a_kept: { IsKept a.past.items a.bytes.items ticks },
     ghost b_kept: { IsKept b.past.items b.bytes.items ticks },
+    ghost counted: { (ticks < 2 ^ 64) × (faults < 2 ^ 64) },
 }
 
 impl MemDisk {
     ghost use Rattle.pm_disk.specs.Files.{Files, file_of};
     ghost use Rattle.pm_disk.specs.Cause.{IsCounted, Rose};
-    ghost use Rattle.pm_disk.specs.MemDisk.{Passes, Stays, Syncs, Writes, files_of, stopped_files};
+    ghost use Rattle.pm_disk.specs.MemDisk.{ChangesNoFile, Stays, Syncs, Writes, files_of, stopped_files};
 
     /// A disk with two files of length 0.
     pub fn new(alloc: Global) -> MemDisk
@@ -51,16 +52,16 @@ impl MemDisk {
 
     /// A disk with the files that a stop after so many ticks may leave: each reads as it did there, but for the places
     /// written since its last sync. In place of each such write stand the bytes of the fill, over and over from its
-    /// first on, or zeros where it is empty.
-    pub fn after_stop(&self, tick: u64, fill: &[u8]) -> Result<MemDisk, AllocError>
+    /// first on, or zeros where it is empty. Past its length at that sync a file has at most `beyond` bytes.
+    pub fn after_stop(&self, tick: u64, fill: &[u8], beyond: u64) -> Result<MemDisk, AllocError>
         ensures left { IfOk result (λ disk. ⟦<MemDisk as Disk>⟧.images self.now tick (files_of disk)) }
-        ensures filled { IfOk result (λ disk. files_of disk ≡ stopped_files self.now tick fill.now) }
+        ensures filled { IfOk result (λ disk. files_of disk ≡ stopped_files self.now tick fill.now beyond) }
         ensures only { IfOk result (λ disk. (t : ℕ) (image : Files) → ⟦<MemDisk as Disk>⟧.images disk t image → image ≡ files_of disk) }
         ensures ticks { IfOk result (λ disk. ⟦<MemDisk as Disk>⟧.ticks disk ≡ 0) }
         ensures faults { IfOk result (λ disk. ⟦<MemDisk as Disk>⟧.faults disk ≡ 0) }
     {
-        let a = self.a.after_stop(tick, fill)?;
-        let b = self.b.after_stop(tick, fill)?;
+        let a = self.a.after_stop(tick, fill, beyond)?;
+        let b = self.b.after_stop(tick, fill, beyond)?;
         Ok(MemDisk {
             a,
             b,
@@ -71,7 +72,7 @@ impl MemDisk {
 
     // Counts a call that fails and changes nothing.
     fn fail(&mut self) -> DiskFault
-        ensures passes { Passes self.old self.new }
+        ensures keeps { ChangesNoFile self.old self.new }
         ensures later { self.old.faults ≤ self.new.faults }
         ensures rose { Rose self.old.faults self.new.faults }
     {
@@ -82,7 +83,7 @@ impl MemDisk {
 
     // Counts a call that changes nothing. It fails at the last tick alone.
     fn pass(&mut self) -> Result<(), DiskFault>
-        ensures passes { Passes self.old self.new }
+        ensures keeps { ChangesNoFile self.old self.new }
         ensures last { IsErr result ↔ (self.old.ticks ≡ 2 ^ 64 - 1) }
         ensures cause { IsCounted self.old.faults self.new.faults (IsErr result) }
     {
@@ -108,7 +109,7 @@ impl MemDisk {
         Ok(())
     }
 
-    // Notes a sync and counts the call. An `Err` counts nothing.
+    // AddsChange a sync and counts the call. An `Err` counts nothing.
     fn sync_to(&mut self, file: Which) -> Result<(), AllocError>
         requires { self.old.ticks < 2 ^ 64 - 1 }
         ensures ok { OnOk result (Syncs self.old self.new file) }
@@ -127,7 +128,7 @@ impl MemDisk {
 impl Disk for MemDisk {
     ghost use Rattle.pm_disk.specs.Cause.{IsCounted};
     ghost use Rattle.pm_disk.specs.Files.{file_of};
-    ghost use Rattle.pm_disk.specs.MemDisk.{MayLeaveAt, Passes, Syncs, Writes, files_of, mem_faults, mem_reads_as_left, mem_ticks};
+    ghost use Rattle.pm_disk.specs.MemDisk.{MayLeaveAt, ChangesNoFile, Syncs, Writes, files_of, mem_faults, mem_ticks};
 
     ghost seen = { λ disk. Some (files_of disk) };
 
@@ -137,12 +138,14 @@ impl Disk for MemDisk {
 
     ghost faults = { mem_faults };
 
-    ghost reads_as_left = { mem_reads_as_left };
+    ghost reads_as_left = { λ disk. record { a = disk.a_kept.left; b = disk.b_kept.left } };
+
+    ghost counted = { λ disk. disk.counted };
 
     // It takes no memory, so it fails at the last tick alone.
     fn len(&mut self, file: Which) -> Result<u64, DiskFault>
         ensures length { IfOk result (λ n. n ≡ length (file_of (files_of self.old) file)) }
-        ensures passes { Passes self.old self.new }
+        ensures keeps { ChangesNoFile self.old self.new }
         ensures last { IsErr result ↔ (mem_ticks self.old ≡ 2 ^ 64 - 1) }
         ensures cause { IsCounted (mem_faults self.old) (mem_faults self.new) (IsErr result) }
     {
@@ -154,7 +157,7 @@ impl Disk for MemDisk {
     fn read(&mut self, file: Which, at: u64, into: &mut [u8]) -> Result<(), DiskFault>
         requires { at + length into.old ≤ length (file_of (files_of self.old) file) }
         ensures bytes { OnOk result (into.new ≡ take (length into.old) (drop at (file_of (files_of self.old) file))) }
-        ensures passes { Passes self.old self.new }
+        ensures keeps { ChangesNoFile self.old self.new }
         ensures last { IsErr result ↔ (mem_ticks self.old ≡ 2 ^ 64 - 1) }
         ensures cause { IsCounted (mem_faults self.old) (mem_faults self.new) (IsErr result) }
     {
@@ -168,7 +171,7 @@ impl Disk for MemDisk {
     fn write(&mut self, file: Which, at: u64, bytes: &[u8]) -> Result<(), DiskFault>
         requires { at ≤ length (file_of (files_of self.old) file) }
         ensures ok { OnOk result (Writes self.old self.new file at bytes.now) }
-        ensures err { OnErr result (Passes self.old self.new) }
+        ensures err { OnErr result (ChangesNoFile self.old self.new) }
         ensures last { mem_ticks self.old ≡ 2 ^ 64 - 1 → IsErr result }
         ensures cause { IsCounted (mem_faults self.old) (mem_faults self.new) (IsErr result) }
     {
@@ -184,7 +187,7 @@ impl Disk for MemDisk {
     // The same holds here.
     fn sync(&mut self, file: Which) -> Result<(), DiskFault>
         ensures ok { OnOk result (Syncs self.old self.new file) }
-        ensures err { OnErr result (Passes self.old self.new) }
+        ensures err { OnErr result (ChangesNoFile self.old self.new) }
         ensures last { mem_ticks self.old ≡ 2 ^ 64 - 1 → IsErr result }
         ensures cause { IsCounted (mem_faults self.old) (mem_faults self.new) (IsErr result) }
     {

@@ -1,8 +1,8 @@
 // A file in memory, with the calls that a stop after an earlier tick asks for.
 ghost use Rattle.std.specs.Prelude.{◌≡◌, ℕ, ◌+◌, ◌-◌, ◌^◌, ◌<◌, ◌≤◌, List, [], length, IfOk, OnOk, OnErr, All};
 ghost use Rattle.pm_disk.specs.Files.{overwritten};
-ghost use Rattle.pm_disk.specs.Past.{IsKept, MayLeave, Notes, after_write, after_sync, state_at};
-ghost use Rattle.pm_disk.specs.Stop.{Redone, filled, spoiled, stopped};
+ghost use Rattle.pm_disk.specs.Past.{IsKept, MayLeave, AddsChange, after_write, after_sync, state_at};
+ghost use Rattle.pm_disk.specs.Stop.{Redone, Tells, filled, spoiled, stopped};
 
 use std::alloc::{AllocError, Global};
 
@@ -25,6 +25,15 @@ pub(crate) struct Entry {
 pub(crate) struct Span {
     pub(crate) at: u64,
     pub(crate) count: u64,
+}
+
+/// What a stop's image is made of: the bytes as they read, how many there were at the last sync, and what was written
+/// since.
+#[derive(Drop)]
+pub(crate) struct Replayed {
+    pub(crate) bytes: Vec<u8>,
+    pub(crate) synced: usize,
+    pub(crate) written: Vec<Span>,
 }
 
 /// One file: its bytes, and each change of them or of what a stop may leave.
@@ -54,7 +63,7 @@ impl MemFile {
         requires earlier { All (λ entry. entry.tick ≤ ticks) self.old.past.items }
 
         ensures reads { OnOk result (self.new.bytes.items ≡ overwritten self.old.bytes.items at bytes.now) }
-        ensures noted { OnOk result (Notes ticks self.old.past.items self.new.past.items
+        ensures noted { OnOk result (AddsChange ticks self.old.past.items self.new.past.items
             (λ state. after_write state at bytes.now)) }
         ensures err { OnErr result (self.new.bytes.items ≡ self.old.bytes.items) }
         ensures err_past { OnErr result (self.new.past.items ≡ self.old.past.items) }
@@ -70,13 +79,13 @@ impl MemFile {
         Ok(())
     }
 
-    /// Notes a sync, in the call behind so many ticks. An `Err` changes nothing.
+    /// AddsChange a sync, in the call behind so many ticks. An `Err` changes nothing.
     pub(crate) fn sync(&mut self, ticks: u64) -> Result<(), AllocError>
         requires ticks { ticks < 2 ^ 64 - 1 }
         requires earlier { All (λ entry. entry.tick ≤ ticks) self.old.past.items }
 
         ensures reads { self.new.bytes.items ≡ self.old.bytes.items }
-        ensures noted { OnOk result (Notes ticks self.old.past.items self.new.past.items after_sync) }
+        ensures noted { OnOk result (AddsChange ticks self.old.past.items self.new.past.items after_sync) }
         ensures err_past { OnErr result (self.new.past.items ≡ self.old.past.items) }
     {
         let change = Change::Synced;
@@ -87,30 +96,44 @@ impl MemFile {
         Ok(())
     }
 
-    /// A file as a stop leaves it after so many ticks, with the fill in each place written since the last sync.
-    pub(crate) fn after_stop(&self, tick: u64, fill: &[u8]) -> Result<MemFile, AllocError>
-        ensures bytes { IfOk result (λ file. file.bytes.items ≡ stopped fill.now (state_at self.now.past.items tick)) }
+    /// A file as a stop leaves it after so many ticks, with the fill in each place written since the last sync, and at
+    /// most `beyond` bytes past its length there.
+    pub(crate) fn after_stop(
+        &self,
+        tick: u64,
+        fill: &[u8],
+        beyond: u64,
+    ) -> Result<MemFile, AllocError>
+        ensures bytes { IfOk result (λ file. file.bytes.items ≡ stopped fill.now beyond (state_at self.now.past.items tick)) }
         ensures kept { IfOk result (λ file. IsKept file.past.items file.bytes.items 0) }
         ensures only { IfOk result (λ file. (t : ℕ) (image : List ℕ) → MayLeave (state_at file.past.items t) image → image ≡ file.bytes.items) }
     {
-        let (mut bytes, written) = self.replay(tick)?;
+        let Replayed {
+            mut bytes,
+            synced,
+            written,
+        } = self.replay(tick)?;
         spoil(self.alloc, &mut bytes, &written, fill)?;
+        let most = synced.saturating_add(beyond as usize);
+        bytes.truncate(most.min(bytes.len()));
         MemFile::settled(self.alloc, bytes)
     }
 
-    // The bytes after so many ticks, and what was written since the last sync.
-    fn replay(&self, tick: u64) -> Result<(Vec<u8>, Vec<Span>), AllocError>
-        ensures bytes { IfOk result (λ r. r.0.items ≡ (state_at self.now.past.items tick).read) }
-        ensures written { IfOk result (λ r. r.1.items ≡ (state_at self.now.past.items tick).written) }
+    // The changes up to so many ticks, made again.
+    fn replay(&self, tick: u64) -> Result<Replayed, AllocError>
+        ensures { IfOk result (λ replayed. Tells replayed (state_at self.now.past.items tick)) }
     {
-        let mut bytes = Vec::new(self.alloc);
-        let mut written = Vec::new(self.alloc);
+        let mut replayed = Replayed {
+            bytes: Vec::new(self.alloc),
+            synced: 0,
+            written: Vec::new(self.alloc),
+        };
         for entry in &self.past {
             if entry.tick <= tick {
-                redo(&entry.change, &mut bytes, &mut written)?;
+                redo(&entry.change, &mut replayed)?;
             }
         }
-        Ok((bytes, written))
+        Ok(replayed)
     }
 
     // A file of these bytes, all of them synced before the first call.
@@ -146,16 +169,19 @@ fn put(bytes: &mut Vec<u8>, at: u64, from: &[u8]) -> Result<(), AllocError>
 }
 
 // Makes a change again.
-fn redo(change: &Change, bytes: &mut Vec<u8>, written: &mut Vec<Span>) -> Result<(), AllocError>
-    ensures { OnOk result (Redone change.now bytes.old.items written.old.items bytes.new.items written.new.items) }
+fn redo(change: &Change, replayed: &mut Replayed) -> Result<(), AllocError>
+    ensures { OnOk result (Redone change.now replayed.old replayed.new) }
 {
     match change {
-        Change::Written { at, bytes: new } => {
-            put(bytes, *at, new)?;
-            let count = new.len() as u64;
-            written.push(Span { at: *at, count })?;
+        Change::Written { at, bytes } => {
+            put(&mut replayed.bytes, *at, bytes)?;
+            let count = bytes.len() as u64;
+            replayed.written.push(Span { at: *at, count })?;
         }
-        Change::Synced => written.clear(),
+        Change::Synced => {
+            replayed.written.clear();
+            replayed.synced = replayed.bytes.len();
+        }
     }
     Ok(())
 }

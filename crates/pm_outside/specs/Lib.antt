@@ -1,5 +1,7 @@
 pub mod Calls
+pub mod Holds
 pub mod Kept
+pub mod MemClock
 pub mod MemLink
 pub mod MemPort
 pub mod MemSink

@@ -1,10 +1,13 @@
 -- What a link in memory stands for, and what its calls do to it.
-use Rattle.std.specs.Prelude.{◌≡◌, ℕ, ◌+◌, ◌-◌, ◌^◌, ◌==◌, min, Bool, true, false, List, take, drop, length, if◌then◌else◌}
-use Rattle.pm_outside.specs.Calls.{Calls, no_calls, after_call, is_next_listed}
+use Rattle.std.specs.Prelude.{◌≡◌, ◌≢◌, ◌⊎◌, ℕ, ◌+◌, ◌-◌, ◌^◌, ◌<◌, ◌≤◌, min, Bool, true, false, List, [], take, drop, length}
+use Rattle.pm_outside.specs.Calls.{Calls, no_calls, after_call}
+use Rattle.pm_outside.specs.Holds.{LetsGo, first_place, holds_left}
 use Rattle.pm_outside.specs.MemSink.{sink_bytes, sink_limit, sink_calls}
 use Rattle.pm_outside.specs.Traffic.{Traffic, no_traffic}
 use Rattle.pm_outside.specs.declared.link.Got.{Got}
 use Rattle.pm_outside.specs.declared.link.Got.TheVariants.{Bytes, NotYet, End, Failed}
+use Rattle.pm_outside.specs.declared.holds.Hold.{Hold}
+use Rattle.pm_outside.specs.declared.holds.Holds.{Holds}
 use Rattle.pm_outside.specs.declared.mem_link.MemLink.{MemLink}
 use Rattle.pm_outside.specs.declared.mem_sink.MemSink.{MemSink}
 use Rattle.pm_outside.specs.declared.link_script.LinkScript.{LinkScript}
@@ -19,7 +22,7 @@ link_traffic link = record {
   came_in = take link.taken link.incoming.items;
   went_out = sink_bytes link.outgoing;
   ended = link.ended;
-  waits = false;
+  waits = link.waits;
 }
 
 -- where its writes go
@@ -56,15 +59,24 @@ is_got_failed NotYet = false
 is_got_failed End = false
 is_got_failed Failed = true
 
--- some bytes, or the end where there are none
-abbrev pub bytes_or_end : ℕ → Got
-bytes_or_end count = if count == 0 then End else Bytes count
+-- its holds that are left, and how often it was asked at one
+abbrev pub link_holds : MemLink → Holds
+link_holds link = link.holds
 
--- what the next read answers, into so much room
-abbrev pub next_got : MemLink → ℕ → Got
-next_got link room = if is_next_listed (read_calls link)
-    then Failed
-    else bytes_or_end (min (min (length (bytes_left link)) room) (read_limit link))
+-- how many bytes stand in front of the first of these holds
+abbrev pub bytes_free : MemLink → List Hold → ℕ
+bytes_free link holds = min (first_place holds (length link.incoming.items)) (length link.incoming.items) - link.taken
+
+-- What a read may answer, into so much room, once the first hold has gone or stayed: as many bytes as stand in front of
+-- the next one; nothing yet where there are none; and the end behind the last byte, or where 10,000 asks were in vain.
+abbrev pub AnswersBy : MemLink → MemLink → ℕ → Got → Type 0
+AnswersBy old new room (Bytes count) = LetsGo (holds_left (link_holds old)) (holds_left (link_holds new))
+    × (count ≡ min (min (bytes_free old (holds_left (link_holds new))) room) (read_limit old))
+AnswersBy old new room NotYet = LetsGo (holds_left (link_holds old)) (holds_left (link_holds new))
+    × (bytes_free old (holds_left (link_holds new)) ≡ 0) × (holds_left (link_holds new) ≢ []) × ((link_holds old).asks < 10000)
+AnswersBy old new room End = (bytes_left new ≡ []) × (holds_left (link_holds new) ≡ [])
+    × ((bytes_left old ≡ []) ⊎ (10000 ≤ (link_holds old).asks))
+AnswersBy old new room Failed = link_holds new ≡ link_holds old
 
 -- a read counts as a call, and all that it doesn't speak of stays
 pub record CountsRead (old new : MemLink) (got : Got) : Type 0 where
@@ -74,16 +86,17 @@ pub record CountsRead (old new : MemLink) (got : Got) : Type 0 where
 
 -- a write changes the sink alone
 pub record ChangesSinkOnly (old new : MemLink) : Type 0 where
+  pub holds : link_holds new ≡ link_holds old
   pub left : bytes_left new ≡ bytes_left old
   pub limit : read_limit new ≡ read_limit old
   pub calls : read_calls new ≡ read_calls old
 
 -- a link on which nothing has passed yet, and which goes by this script
 pub record Begins (script : LinkScript) (link : MemLink) : Type 0 where
-  pub number : link_number link ≡ script.number
   pub traffic : link_traffic link ≡ no_traffic
   pub left : bytes_left link ≡ script.incoming.items
   pub read_most : read_limit link ≡ script.per_call
   pub write_most : sink_limit (link_sink link) ≡ script.per_call
+  pub holds : holds_left (link_holds link) ≡ script.holds.items
   pub reads : read_calls link ≡ no_calls script.failing_reads.items
   pub writes : sink_calls (link_sink link) ≡ no_calls script.failing_writes.items

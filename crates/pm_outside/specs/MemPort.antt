@@ -1,7 +1,7 @@
 -- What a port in memory stands for, and what its calls do to it.
-use Rattle.std.specs.Prelude.{◌≡◌, ℕ, Bool, true, false, List, [], ◌∷◌, Some, map}
+use Rattle.std.specs.Prelude.{◌≡◌, ℕ, Bool, true, false, List, [], ◌∷◌, Some, map, replicate}
 use Rattle.pm_outside.specs.Calls.{Calls}
-use Rattle.pm_outside.specs.MemLink.{Begins, link_number, link_traffic}
+use Rattle.pm_outside.specs.MemLink.{Begins, link_faults, link_number, link_traffic}
 use Rattle.pm_outside.specs.Visits.{Visit, Visits}
 use Rattle.pm_outside.specs.declared.link_script.LinkScript.{LinkScript}
 use Rattle.pm_outside.specs.declared.mem_link.MemLink.{MemLink}
@@ -13,9 +13,9 @@ use Rattle.pm_outside.specs.declared.port.Accepted.TheVariants.{Link, NotYet, En
 abbrev pub scripts_left : MemPort → List LinkScript
 scripts_left port = port.waiting.items
 
--- the numbers of the links given
-abbrev pub numbers_given : MemPort → List ℕ
-numbers_given port = port.given.items
+-- how many links it has given
+abbrev pub links_given : MemPort → ℕ
+links_given port = port.given
 
 -- the links that came back
 abbrev pub links_back : MemPort → List MemLink
@@ -25,13 +25,17 @@ links_back port = port.back.items
 abbrev pub accept_calls : MemPort → Calls
 accept_calls port = port.accepts
 
--- what a port tells of a link that came back
+-- what a port tells of a link that came back: it hadn't failed when it was given
 abbrev pub visit_of : MemLink → Visit
-visit_of link = record { number = link_number link; traffic = Some (link_traffic link) }
+visit_of link = record { number = link_number link; traffic = Some (link_traffic link); faults_given = 0; faults_back = link_faults link }
 
--- what a port tells
+-- what a port tells: no link had failed when it was given
 abbrev pub port_visits : MemPort → Visits
-port_visits port = record { given = numbers_given port; back = map visit_of (links_back port); ended = port.ended }
+port_visits port = record {
+  given = replicate (links_given port) 0;
+  back = map visit_of (links_back port);
+  ended_behind = port.ended_behind;
+}
 
 -- whether an accept failed
 abbrev pub is_accept_failed : Accepted MemLink → Bool
@@ -39,6 +43,13 @@ is_accept_failed (Link link) = false
 is_accept_failed NotYet = false
 is_accept_failed End = false
 is_accept_failed Failed = true
+
+-- how many links an answer gives
+abbrev pub links_in : Accepted MemLink → ℕ
+links_in (Link link) = 1
+links_in NotYet = 0
+links_in End = 0
+links_in Failed = 0
 
 -- the link of the first script that was left, or the end where none was; these are left now
 abbrev pub GivesNext : List LinkScript → Accepted MemLink → List LinkScript → Type 0
@@ -51,3 +62,4 @@ GivesNext scripts Failed rest = rest ≡ scripts
 pub record ChangesBackOnly (old new : MemPort) : Type 0 where
   pub scripts : scripts_left new ≡ scripts_left old
   pub calls : accept_calls new ≡ accept_calls old
+  pub given : links_given new ≡ links_given old

@@ -3,26 +3,32 @@
 #![tactic(auto)]
 
 mod chronicle;
+mod clock;
 mod failing_calls;
 mod forgotten;
+mod holds;
 mod kept;
 mod link;
 mod link_script;
+mod mem_clock;
 mod mem_link;
 mod mem_port;
 mod mem_sink;
 mod port;
+mod scene;
 mod sink;
-#[cfg(test)]
-mod tests;
 
 pub use chronicle::Chronicle;
+pub use clock::Clock;
 pub use forgotten::Forgotten;
+pub use holds::Hold;
 pub use kept::Kept;
 pub use link::{Got, Link, Put};
 pub use link_script::LinkScript;
+pub use mem_clock::MemClock;
 pub use mem_link::MemLink;
 pub use mem_port::MemPort;
 pub use mem_sink::MemSink;
 pub use port::{Accepted, Port};
+pub use scene::{Cue, Scene};
 pub use sink::Sink;

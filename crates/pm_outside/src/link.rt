@@ -27,7 +27,7 @@ pub trait Link {
     /// What has passed on the link so far. A link that doesn't tell it has none, and then no clause speaks of bytes.
     ghost traffic: { Self → Option Traffic };
 
-    /// Which of its port's links this is. No call changes it.
+    /// Which of its port's links this is: the first is number 1. No call changes it.
     ghost number: { Self → ℕ };
 
     /// How often it has failed, up to 2^64 - 1. It never falls.

@@ -1,11 +1,11 @@
 // How a link in memory behaves.
 ghost use Rattle.std.specs.Prelude.{◌<◌};
 
+use crate::holds::Hold;
+
 /// The bytes that come in on a link, how they are cut, and which calls fail.
 #[derive(Drop)]
 pub struct LinkScript {
-    /// Which of its port's links it is.
-    pub number: u64,
     /// All bytes that come in.
     pub incoming: Vec<u8>,
     /// The most bytes that one read gives, and one write takes.
@@ -14,5 +14,7 @@ pub struct LinkScript {
     pub failing_reads: Vec<u64>,
     /// The numbers of the writes that fail, counted from 1.
     pub failing_writes: Vec<u64>,
+    /// Where its bytes wait for what others see, in the order of their places.
+    pub holds: Vec<Hold>,
     ghost gives_some: { 0 < per_call },
 }

@@ -2,14 +2,17 @@
 ghost use Rattle.std.specs.Prelude.{◌≤◌, ◌<◌, length};
 
 use crate::failing_calls::FailingCalls;
+use crate::holds::Holds;
 use crate::link::{Got, Link, Put};
 use crate::link_script::LinkScript;
 use crate::mem_sink::MemSink;
+use crate::scene::Scene;
 use crate::sink::Sink;
 use std::alloc::Global;
 
-/// Goes by a script: gives its bytes in order and then the end, and keeps what is sent. It never answers that nothing
-/// stands there yet.
+/// Goes by a script: gives its bytes in order and then the end, and keeps what is sent, which it notes on its scene. At
+/// a hold whose cue hasn't come it answers that nothing stands there yet, 10,000 times at most in all, and then gives
+/// the end in place of the bytes that are left.
 #[derive(Drop)]
 pub struct MemLink {
     number: u64,
@@ -17,6 +20,8 @@ pub struct MemLink {
     taken: usize,
     per_call: usize,
     ended: bool,
+    waits: bool,
+    holds: Holds,
     reads: FailingCalls,
     outgoing: MemSink,
     ghost in_range: { taken ≤ length incoming.items },
@@ -28,16 +33,19 @@ impl MemLink {
     ghost use Rattle.pm_outside.specs.MemLink.{Begins, link_number, link_sink};
     ghost use Rattle.pm_outside.specs.MemSink.{sink_bytes};
 
-    /// The link of this script, on which nothing has passed yet.
-    pub fn new(alloc: Global, script: LinkScript) -> Self
-        ensures { Begins script result }
+    /// The link of this number and this script, on which nothing has passed yet. Without a scene no cue comes.
+    pub fn new(alloc: Global, number: u64, script: LinkScript, scene: Option<Scene>) -> Self
+        ensures number { link_number result ≡ number }
+        ensures begins { Begins script result }
     {
         MemLink {
-            number: script.number,
+            number,
             incoming: script.incoming,
             taken: 0,
             per_call: script.per_call,
             ended: false,
+            waits: false,
+            holds: Holds::new(script.holds, scene),
             reads: FailingCalls::new(script.failing_reads),
             outgoing: MemSink::new(alloc, script.per_call, script.failing_writes),
         }
@@ -59,10 +67,10 @@ impl MemLink {
 }
 
 impl Link for MemLink {
-    ghost use Rattle.std.specs.Prelude.{◌≡◌, ◌+◌, ◌-◌, ◌^◌, ◌++◌, length, take, drop, min, IsTrue, Some};
+    ghost use Rattle.std.specs.Prelude.{◌≡◌, ◌≢◌, ◌↔◌, ◌+◌, ◌-◌, ◌^◌, ◌++◌, length, take, drop, min, IsTrue, Some};
     ghost use Rattle.pm_disk.specs.Cause.{IsCounted};
     ghost use Rattle.pm_outside.specs.Calls.{is_next_listed};
-    ghost use Rattle.pm_outside.specs.MemLink.{bytes_left, link_traffic, link_sink, link_number, link_faults, next_got, got_count, CountsRead, ChangesSinkOnly};
+    ghost use Rattle.pm_outside.specs.MemLink.{bytes_left, link_traffic, link_sink, link_number, link_faults, got_count, read_calls, AnswersBy, CountsRead, ChangesSinkOnly};
     ghost use Rattle.pm_outside.specs.MemSink.{sink_bytes, sink_limit, sink_calls, TakesOrFails, CountsWrite};
     ghost use Rattle.pm_outside.specs.Traffic.{PutWithin, GotWithin, after_read, after_write};
 
@@ -79,18 +87,29 @@ impl Link for MemLink {
         ensures number { link_number self.new ≡ link_number self.old }
         ensures cause { IsCounted (link_faults self.old) (link_faults self.new) (result ≡ Got.Failed) }
 
-        ensures answer { result ≡ next_got self.old (length into.old) }
-        ensures next_bytes { bytes_left self.old ≡ take (got_count result) into.new ++ bytes_left self.new }
+        ensures listed { (result ≡ Got.Failed) ↔ IsTrue (is_next_listed (read_calls self.old)) }
+        ensures answer { AnswersBy self.old self.new (length into.old) result }
+        ensures next_bytes { result ≢ Got.End → bytes_left self.old ≡ take (got_count result) into.new ++ bytes_left self.new }
         ensures rest_of_slice { drop (got_count result) into.new ≡ drop (got_count result) into.old }
         ensures counts { CountsRead self.old self.new result }
     {
+        self.waits = false;
         if self.reads.begin() {
             self.reads.fail();
             return Got::Failed;
         }
+        let place = self.holds.next(self.incoming.len());
         let left = &self.incoming[self.taken..];
-        let count = left.len().min(into.len()).min(self.per_call);
+        let count = place
+            .saturating_sub(self.taken)
+            .min(into.len())
+            .min(self.per_call);
         if count == 0 {
+            if self.holds.waits() {
+                self.waits = true;
+                return Got::NotYet;
+            }
+            self.incoming.truncate(self.taken); // a hold that was asked too often lets nothing pass any more
             self.ended = true;
             return Got::End;
         }
@@ -111,7 +130,11 @@ impl Link for MemLink {
         ensures counts { CountsWrite (link_sink self.old) (link_sink self.new) result }
         ensures reads_stay { ChangesSinkOnly self.old self.new }
     {
-        self.outgoing.write(from)
+        let put = self.outgoing.write(from);
+        if let (Put::Count(count), Some(scene)) = (put, self.holds.scene()) {
+            scene.note_sent(self.number, count);
+        }
+        put
     }
 
     fn faults(&self) -> u64 {

@@ -1,36 +1,53 @@
 // A port whose links are given beforehand, and which keeps those that come back.
-ghost use Rattle.std.specs.Prelude.{◌≡◌, ◌+◌, ◌≤◌, length, OnOk};
-ghost use Rattle.std.specs.Vec.{vec_len, vec_capacity};
+ghost use Rattle.std.specs.Prelude.{◌≤◌, length};
+ghost use Rattle.std.specs.Vec.{vec_capacity};
 
 use crate::failing_calls::FailingCalls;
 use crate::link_script::LinkScript;
 use crate::mem_link::MemLink;
 use crate::port::{Accepted, Port};
+use crate::scene::Scene;
 use std::alloc::{AllocError, Global};
 use std::collections::VecDeque;
 
-/// Gives a link for each script, in their order, and then the end. It never answers that nobody waits. An accept fails
+/// Gives a link for each script, in their order, and then the end. The first link is number 1. It never answers that nobody waits. An accept fails
 /// where its number is listed, or where there is no memory to take the link back later.
 #[derive(Drop)]
 pub struct MemPort {
     alloc: Global,
     waiting: VecDeque<LinkScript>,
-    given: Vec<u64>,
+    given: usize,
     back: Vec<MemLink>,
-    ended: bool,
+    ended_behind: Option<usize>,
     accepts: FailingCalls,
-    ghost came_from_here: { length back.items ≤ length given.items },
-    ghost room_for_all: { length given.items ≤ vec_capacity back },
+    scene: Option<Scene>,
+    ghost came_from_here: { length back.items ≤ given },
+    ghost room_for_all: { given ≤ vec_capacity back },
 }
 
 impl MemPort {
     ghost use Rattle.std.specs.Prelude.{◌≡◌, []};
     ghost use Rattle.pm_outside.specs.Calls.{no_calls};
-    ghost use Rattle.pm_outside.specs.MemPort.{scripts_left, numbers_given, links_back, accept_calls, port_visits};
+    ghost use Rattle.pm_outside.specs.MemPort.{scripts_left, links_given, links_back, accept_calls, port_visits};
     ghost use Rattle.pm_outside.specs.Visits.{no_visits};
 
-    /// A port for these links. The accepts with these numbers, counted from 1, fail.
+    /// A port for these links, on no scene. The accepts with these numbers, counted from 1, fail.
     pub fn new(alloc: Global, scripts: Vec<LinkScript>, failing: Vec<u64>) -> Self
+        ensures scripts { scripts_left result ≡ scripts.items }
+        ensures visits { port_visits result ≡ no_visits }
+        ensures links { links_back result ≡ [] }
+        ensures calls { accept_calls result ≡ no_calls failing.items }
+    {
+        MemPort::on(alloc, None, scripts, failing)
+    }
+
+    /// The same on a scene, which its links share.
+    pub fn on(
+        alloc: Global,
+        scene: Option<Scene>,
+        scripts: Vec<LinkScript>,
+        failing: Vec<u64>,
+    ) -> Self
         ensures scripts { scripts_left result ≡ scripts.items }
         ensures visits { port_visits result ≡ no_visits }
         ensures links { links_back result ≡ [] }
@@ -39,10 +56,19 @@ impl MemPort {
         MemPort {
             alloc,
             waiting: VecDeque::from(scripts),
-            given: Vec::new(alloc),
+            given: 0,
             back: Vec::new(alloc),
-            ended: false,
+            ended_behind: None,
             accepts: FailingCalls::new(failing),
+            scene,
+        }
+    }
+
+    // The scene for one link more.
+    fn scene_for_link(&self) -> Result<Option<Scene>, AllocError> {
+        match &self.scene {
+            Some(scene) => Ok(Some(scene.another()?)),
+            None => Ok(None),
         }
     }
 
@@ -54,27 +80,16 @@ impl MemPort {
     }
 }
 
-// Makes room for one number more, and for each link given to come back.
-fn make_room(given: &mut Vec<u64>, back: &mut Vec<MemLink>) -> Result<(), AllocError>
-    requires { length back.old.items ≤ length given.old.items }
-    ensures given { given.new.items ≡ given.old.items }
-    ensures back { back.new.items ≡ back.old.items }
-    ensures number_fits { OnOk result (length given.new.items + 1 ≤ vec_capacity given.new) }
-    ensures links_fit { OnOk result (length given.new.items + 1 ≤ vec_capacity back.new) }
-    ensures no_smaller { vec_capacity back.old ≤ vec_capacity back.new }
-{
-    given.reserve(1)?;
-    back.reserve(given.capacity() - back.len())
-}
-
 impl Port for MemPort {
     type Link = MemLink;
 
-    ghost use Rattle.std.specs.Prelude.{◌≡◌, ◌<◌, [], ◌∷◌, ◌++◌, length, IsTrue, Some};
+    ghost use Rattle.std.proofs.Common.{sym, subst};
+    ghost use Rattle.std.proofs.lemmas.List.{length-map, length-replicate};
+    ghost use Rattle.std.specs.Prelude.{◌≡◌, ◌+◌, ◌<◌, ◌≤◌, ℕ, [], ◌∷◌, ◌++◌, length, IsTrue, Some};
     ghost use Rattle.pm_disk.specs.Cause.{IsCounted};
     ghost use Rattle.pm_outside.specs.Calls.{is_next_listed, after_call};
-    ghost use Rattle.pm_outside.specs.MemLink.{link_number, link_traffic};
-    ghost use Rattle.pm_outside.specs.MemPort.{scripts_left, numbers_given, links_back, accept_calls, port_visits, is_accept_failed, GivesNext, ChangesBackOnly};
+    ghost use Rattle.pm_outside.specs.MemLink.{link_faults, link_number, link_traffic};
+    ghost use Rattle.pm_outside.specs.MemPort.{scripts_left, links_given, links_back, accept_calls, port_visits, visit_of, links_in, is_accept_failed, GivesNext, ChangesBackOnly};
     ghost use Rattle.pm_outside.specs.Traffic.{IsFresh};
     ghost use Rattle.pm_outside.specs.Visits.{after_accept, after_done, IfLink};
 
@@ -82,8 +97,12 @@ impl Port for MemPort {
 
     ghost faults = { λ p. (accept_calls p).failed };
 
+    ghost balanced = { λ p. subst (λ (n : ℕ). n ≤ length (port_visits p).given) (sym (length-map (links_back p) visit_of))
+        (subst (λ (n : ℕ). length (links_back p) ≤ n) (sym (length-replicate (links_given p) 0)) p.came_from_here) };
+
     fn accept(&mut self) -> Accepted<MemLink>
-        ensures visits { port_visits self.new ≡ after_accept link_number (port_visits self.old) result }
+        ensures visits { port_visits self.new ≡ after_accept link_faults (port_visits self.old) result }
+        ensures number { IfLink result (λ link. link_number link ≡ links_given self.old + 1) }
         ensures fresh { IfLink result (λ link. IsFresh (Some (link_traffic link))) }
         ensures cause { IsCounted (accept_calls self.old).failed (accept_calls self.new).failed (result ≡ Accepted.Failed) }
 
@@ -91,27 +110,33 @@ impl Port for MemPort {
         ensures listed { IsTrue (is_next_listed (accept_calls self.old)) → result ≡ Accepted.Failed }
         ensures counts { accept_calls self.new ≡ after_call (accept_calls self.old) (is_accept_failed result) }
         ensures links { links_back self.new ≡ links_back self.old }
+        ensures given { links_given self.new ≡ links_given self.old + links_in result }
     {
         if self.accepts.begin() {
             self.accepts.fail();
             return Accepted::Failed;
         }
         if self.waiting.is_empty() {
-            self.ended = true;
+            self.ended_behind = Some(self.ended_behind.unwrap_or(self.given));
             return Accepted::End;
         }
-        if make_room(&mut self.given, &mut self.back).is_err() {
+        if self.back.reserve(self.given + 1 - self.back.len()).is_err() {
             self.accepts.fail();
             return Accepted::Failed;
         }
+        let Ok(scene) = self.scene_for_link() else {
+            self.accepts.fail();
+            return Accepted::Failed;
+        };
         let script = self.waiting.pop_front().unwrap();
-        self.given.push(script.number).unwrap();
-        Accepted::Link(MemLink::new(self.alloc, script))
+        self.given += 1;
+        Accepted::Link(MemLink::new(self.alloc, self.given as u64, script, scene))
     }
 
     fn done(&mut self, link: MemLink)
-        requires { length (links_back self.old) < length (numbers_given self.old) }
-        ensures visits { port_visits self.new ≡ after_done (port_visits self.old) (link_number link) (Some (link_traffic link)) }
+        requires { length (links_back self.old) < links_given self.old }
+        ensures visits { port_visits self.new
+            ≡ after_done (port_visits self.old) (link_number link) (Some (link_traffic link)) (link_faults link) }
         ensures cause { (accept_calls self.new).failed ≡ (accept_calls self.old).failed }
 
         ensures links { links_back self.new ≡ links_back self.old ++ link ∷ [] }

@@ -1,5 +1,5 @@
 // Where links come from, and where they go back to.
-ghost use Rattle.std.specs.Prelude.{◌≡◌, ◌<◌, ℕ, length, IfSome, Option, option_map};
+ghost use Rattle.std.specs.Prelude.{◌≡◌, ◌+◌, ◌<◌, ◌≤◌, ℕ, length, IfSome, Option, option_map};
 ghost use Rattle.pm_disk.specs.Cause.{IsCounted};
 ghost use Rattle.pm_outside.specs.Traffic.{IsFresh};
 ghost use Rattle.pm_outside.specs.Visits.{Visits, after_accept, after_done, IfLink};
@@ -26,9 +26,10 @@ pub trait Port {
     /// How often it has failed, up to 2^64 - 1. It never falls.
     ghost faults: { Self → ℕ };
 
-    /// The next link, on which nothing has passed yet.
+    /// The next link, on which nothing has passed yet. The first is number 1, and each has the number behind.
     fn accept(&mut self) -> Accepted<Self::Link>
-        ensures visits { visits self.new ≡ option_map (λ v. after_accept Self.Link.number v result) (visits self.old) }
+        ensures visits { visits self.new ≡ option_map (λ v. after_accept Self.Link.faults v result) (visits self.old) }
+        ensures number { IfSome (visits self.old) (λ v. IfLink result (λ link. Self.Link.number link ≡ length v.given + 1)) }
         ensures fresh { IfLink result (λ link. IsFresh (Self.Link.traffic link)) }
         ensures cause { IsCounted (faults self.old) (faults self.new) (result ≡ Accepted.Failed) };
 
@@ -36,10 +37,13 @@ pub trait Port {
     fn done(&mut self, link: Self::Link)
         requires { IfSome (visits self.old) (λ v. length v.back < length v.given) }
         ensures visits { visits self.new
-            ≡ option_map (λ v. after_done v (Self.Link.number link) (Self.Link.traffic link)) (visits self.old) }
+            ≡ option_map (λ v. after_done v (Self.Link.number link) (Self.Link.traffic link) (Self.Link.faults link)) (visits self.old) }
         ensures cause { faults self.new ≡ faults self.old };
 
     /// How often it has failed, up to 2^64 - 1.
     fn faults(&self) -> u64
         ensures { result ≡ faults self.now };
+
+    /// No more links came back than were given.
+    ghost balanced: { (port : Self) → IfSome (visits port) (λ v. length v.back ≤ length v.given) };
 }

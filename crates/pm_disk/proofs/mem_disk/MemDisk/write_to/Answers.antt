@@ -1,4 +1,4 @@
-use Rattle.std.proofs.Common.{◌≡◌, refl, arith}
+use Rattle.std.proofs.Common.{◌≡◌, ◌+◌, ◌^◌, ◌<◌, refl, arith}
 use Rattle.pm_disk.proofs.Moments.{kept_beside, kept_written, writes_a, writes_b}
 use Rattle.pm_disk.proofs.mem_disk.MemDisk.write_to.Goals as goal
 use Rattle.pm_disk.proofs.mem_disk.MemDisk.write_to.Goals.{in-A+in_ok-write-in-A, in-B+in_ok-write-in-B}
@@ -6,6 +6,7 @@ use Rattle.pm_disk.proofs.mem_disk.MemDisk.write_to.Goals.{in-A+in_ok-write-in-A
 pub invariant_of-self-2 : goal.invariant_of-self-2
 invariant_of-self-2 c =
     let disk = c.args.self.now in
+    let counted : (disk.ticks + 1 < 2 ^ 64) × (disk.faults < 2 ^ 64) = (omega arith, disk.counted.1) in
     elim c.match-file.branch [
       | in-A+in_ok-write-in-A w ↦
           let wrote : c.match-file.self.1.0 ≡ w.write.new.self = rw w.self-is refl in
@@ -13,6 +14,7 @@ invariant_of-self-2 c =
           let write = w.in_ok-write-in-A.ensures in record {
             a_kept = kept_written c.match-file.self.1.0 disk.a w.write.new.self disk.ticks c.args.at c.args.bytes.now wrote disk.a_kept write.reads write.noted;
             b_kept = kept_beside c.match-file.self.1.1.0 disk.b disk.ticks stays disk.b_kept;
+            counted = counted;
           }
       | in-B+in_ok-write-in-B w ↦
           let stays : c.match-file.self.1.0 ≡ disk.a = rw w.self-is refl in
@@ -20,6 +22,7 @@ invariant_of-self-2 c =
           let write = w.in_ok-write-in-B.ensures in record {
             a_kept = kept_beside c.match-file.self.1.0 disk.a disk.ticks stays disk.a_kept;
             b_kept = kept_written c.match-file.self.1.1.0 disk.b w.write-in-B.new.self disk.ticks c.args.at c.args.bytes.now wrote disk.b_kept write.reads write.noted;
+            counted = counted;
           }
     ]
 

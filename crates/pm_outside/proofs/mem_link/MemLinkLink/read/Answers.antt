@@ -16,4 +16,4 @@ returns-clause-next_bytes c =
     let link = c.args.self.now in
     let fits : c.min-count.result ≤ length (drop link.taken link.incoming.items) = grind (arith, common_steps) in
     let same : c.copy_from_slice.new.self ≡ take c.min-count.result (drop link.taken link.incoming.items) = grind (arith, common_steps) in
-    left_less link.taken c.min-count.result link.incoming.items c.copy_from_slice.new.self (drop c.min-count.result c.args.into.now) fits same
+    λ more. left_less link.taken c.min-count.result link.incoming.items c.copy_from_slice.new.self (drop c.min-count.result c.args.into.now) fits same

@@ -1,4 +1,5 @@
-use crate::{Blip, Disk, DiskFault, Fuse, MemDisk, Which};
+// What the disks in memory answer, and what a stop leaves of them.
+use pm_disk::{Disk, DiskFault, FailingDisk, MemDisk, Which};
 use std::process::Abort;
 use std::test::Fail;
 
@@ -44,6 +45,11 @@ fn a_write_overlaps_and_grows_the_file(rt: HostRuntime) -> Result<(), Fail> {
 }
 
 #[test]
+fn each_file_is_beside_the_other(rt: HostRuntime) {
+    assert_eq!(rt; (Which::A.other(), Which::B.other()), (Which::B, Which::A));
+}
+
+#[test]
 fn a_read_begins_at_its_place(rt: HostRuntime) -> Result<(), Fail> {
     let mut disk = MemDisk::new(rt.alloc());
     disk.write(Which::B, 0, b"abcde")?;
@@ -66,7 +72,7 @@ fn one_call_fails_and_only_that(rt: HostRuntime) -> Result<(), Fail> {
         (4, [false, false, false], &[7]),
     ];
     for (at, failed, file) in calls {
-        let mut disk = Blip::new(MemDisk::new(alloc), at);
+        let mut disk = FailingDisk::blip(MemDisk::new(alloc), at);
         assert_eq!(rt; failed_calls(&mut disk), failed, "call {at}");
         let faults = failed.iter().filter(|is| **is).count() as u64;
         assert_eq!(rt; disk.ticks(), 3, "call {at}");
@@ -88,23 +94,28 @@ fn a_stop_leaves_what_was_synced(rt: HostRuntime) -> Result<(), Fail> {
     write_within(&rt, &mut disk, 3, b"Z!?")?;
     disk.sync(Which::B)?;
     disk.sync(Which::A)?;
-    let stops: [(u64, &[u8], &[u8]); 9] = [
-        (0, b"-", b""),
-        (1, b"-+", b"-+-+"),
-        (1, b"", b"\0\0\0\0"),
-        (2, b"-", b"abcd"),
-        (3, b"-", b"abcd"),
-        (4, b"-+", b"a-+d"),
-        (6, b"-+", b"a-+-+-"),
-        (7, b"", b"a\0\0\0\0\0"),
-        (8, b"-", b"aXYZ!?"),
+    let stops: [(u64, &[u8], u64, &[u8]); 14] = [
+        (0, b"-", u64::MAX, b""),
+        (1, b"-+", u64::MAX, b"-+-+"),
+        (1, b"", u64::MAX, b"\0\0\0\0"),
+        (1, b"", 0, b""),
+        (1, b"-+", 3, b"-+-"),
+        (2, b"-", u64::MAX, b"abcd"),
+        (2, b"-", 0, b"abcd"),
+        (3, b"-", u64::MAX, b"abcd"),
+        (4, b"-+", u64::MAX, b"a-+d"),
+        (6, b"-+", u64::MAX, b"a-+-+-"),
+        (6, b"-+", 1, b"a-+-+"),
+        (6, b"-+", 0, b"a-+-"),
+        (7, b"", u64::MAX, b"a\0\0\0\0\0"),
+        (8, b"-", 0, b"aXYZ!?"),
     ];
-    for (tick, fill, file) in stops {
-        let left = disk.after_stop(tick, fill)?;
+    for (tick, fill, beyond, file) in stops {
+        let left = disk.after_stop(tick, fill, beyond)?;
         assert_eq!(rt; left.file(Which::A), file, "after tick {tick}");
         assert_eq!(rt; left.file(Which::B).len(), 0);
         assert_eq!(rt; left.ticks(), 0);
-        let again = left.after_stop(0, b"#")?;
+        let again = left.after_stop(0, b"#", 0)?;
         assert_eq!(rt; again.file(Which::A), file, "again after tick {tick}");
     }
     assert_eq!(rt; disk.file(Which::A), b"aXYZ!?".as_slice());
@@ -121,7 +132,7 @@ fn all_calls_fail_behind_the_last(rt: HostRuntime) -> Result<(), Fail> {
         (3, [false, false, false], 0),
     ];
     for (passes, failed, faults) in calls {
-        let mut disk = Fuse::new(MemDisk::new(alloc), passes);
+        let mut disk = FailingDisk::fuse(MemDisk::new(alloc), passes);
         assert_eq!(rt; failed_calls(&mut disk), failed, "after {passes}");
         assert_eq!(rt; disk.ticks(), 3, "after {passes}");
         assert_eq!(rt; disk.faults(), faults, "after {passes}");

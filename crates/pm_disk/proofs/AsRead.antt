@@ -1,11 +1,11 @@
 -- A file as it reads is one of those that a stop may leave.
-use Rattle.std.proofs.Common.{◌≡◌, ◌⊎◌, ℕ, ◌+◌, ◌<◌, ◌≤◌, Some, List, [], ◌∷◌, ◌++◌, length, get_or, refl, sym, ◌∙◌, ap, arith, rules}
-use Rattle.std.specs.Prelude.{filter, fold, slice_get, nat_le}
+use Rattle.std.proofs.Common.{◌≡◌, ◌⊎◌, ℕ, ◌+◌, ◌<◌, ◌≤◌, Some, List, [], ◌∷◌, ◌++◌, length, get_or, refl, sym, subst, ◌∙◌, ap, arith, rules}
+use Rattle.std.specs.Prelude.{All, filter, fold, slice_get, nat_le}
 use Rattle.std.proofs.lemmas.List.{places, length-append, length-take, length-drop}
 use Rattle.std.proofs.lemmas.List.Elements.{All-pop}
 use Rattle.std.proofs.lemmas.Option.{slice_get-get_or}
 use Rattle.pm_disk.specs.Files.{overwritten}
-use Rattle.pm_disk.specs.Past.{State, IsOutside, MayLeave, changed, empty, state_at}
+use Rattle.pm_disk.specs.Past.{State, IsKept, IsOutside, MayLeave, changed, empty, state_at}
 use Rattle.pm_disk.specs.declared.mem_file.Change.{Change}
 use Rattle.pm_disk.specs.declared.mem_file.Change.TheVariants.{Written, Synced}
 use Rattle.pm_disk.specs.declared.mem_file.Entry.{Entry}
@@ -58,3 +58,11 @@ unfolding state_at
 reads_as_left past ticks =
     reads_through (filter (λ entry. nat_le entry.tick ticks) past) empty
     (record { no_shorter = omega arith; outside = λ i within outside. refl; unwritten = λ none. refl })
+
+-- what the entries lead to, a stop may leave
+pub kept : (past : List Entry) (bytes : List ℕ) (ticks : ℕ) → All (λ entry. entry.tick ≤ ticks) past → (state_at past ticks).read ≡ bytes → IsKept past bytes ticks
+kept past bytes ticks earlier reads = record {
+  earlier = earlier;
+  reads = reads;
+  left = subst (λ (l : List ℕ). MayLeave (state_at past ticks) l) reads (reads_as_left past ticks);
+}

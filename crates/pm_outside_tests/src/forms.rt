@@ -1,7 +1,10 @@
 // What the forms in memory answer, called through the traits.
 ghost use Rattle.std.specs.Prelude.{◌<◌};
 
-use super::*;
+use pm_outside::{
+    Accepted, Chronicle, Clock, Cue, Forgotten, Got, Hold, Kept, Link, LinkScript, MemClock,
+    MemLink, MemPort, MemSink, Port, Put, Scene, Sink,
+};
 use std::alloc::{AllocError, Global};
 use std::test::Fail;
 
@@ -12,7 +15,6 @@ const PACKET: [u8; 18] = [
 
 fn script(
     alloc: Global,
-    number: u64,
     per_call: usize,
     failing_reads: &[u64],
     failing_writes: &[u64],
@@ -20,11 +22,11 @@ fn script(
     requires { 0 < per_call }
 {
     Ok(LinkScript {
-        number,
         incoming: PACKET.to_vec(alloc)?,
         per_call,
         failing_reads: failing_reads.to_vec(alloc)?,
         failing_writes: failing_writes.to_vec(alloc)?,
+        holds: Vec::new(alloc),
     })
 }
 
@@ -56,7 +58,7 @@ fn a_cut_link_gives_the_same_bytes(rt: HostRuntime) -> Result<(), Fail> {
     let alloc = rt.alloc();
     for cut in [1, 2, 7] {
         assert!(rt; 0 < cut);
-        let mut link = MemLink::new(alloc, script(alloc, 4, cut, &[], &[])?);
+        let mut link = MemLink::new(alloc, 4, script(alloc, cut, &[], &[])?, None);
         let all = read_to_end(alloc, &mut link)?;
         assert_eq!(rt; all.as_slice(), PACKET.as_slice(), "cut at {cut}");
         assert_eq!(rt; link.faults(), 0);
@@ -67,7 +69,7 @@ fn a_cut_link_gives_the_same_bytes(rt: HostRuntime) -> Result<(), Fail> {
 #[test]
 fn a_read_gives_what_fits(rt: HostRuntime) -> Result<(), Fail> {
     let alloc = rt.alloc();
-    let mut link = MemLink::new(alloc, script(alloc, 4, 7, &[], &[])?);
+    let mut link = MemLink::new(alloc, 4, script(alloc, 7, &[], &[])?, None);
     let mut into = [255; 10];
     assert_eq!(rt; link.read(&mut into), Got::Bytes(7));
     assert_eq!(rt; into, [0, 0, 0, 18, 0, 3, 0, 255, 255, 255]);
@@ -82,7 +84,7 @@ fn a_read_gives_what_fits(rt: HostRuntime) -> Result<(), Fail> {
 #[test]
 fn listed_calls_fail(rt: HostRuntime) -> Result<(), Fail> {
     let alloc = rt.alloc();
-    let mut link = MemLink::new(alloc, script(alloc, 4, 16, &[3, 1], &[2])?);
+    let mut link = MemLink::new(alloc, 4, script(alloc, 16, &[3, 1], &[2])?, None);
     let mut into = [0; 16];
     for want in [
         Got::Failed,
@@ -118,8 +120,8 @@ fn a_sink_keeps_what_it_takes(rt: HostRuntime) -> Result<(), Fail> {
 fn a_port_gives_its_links_in_order(rt: HostRuntime) -> Result<(), Fail> {
     let alloc = rt.alloc();
     let mut scripts = Vec::new(alloc);
-    for number in [4, 9] {
-        scripts.push(script(alloc, number, 7, &[], &[])?)?;
+    for _ in 0..2 {
+        scripts.push(script(alloc, 7, &[], &[])?)?;
     }
     let mut port = MemPort::new(alloc, scripts, vec![in alloc; 2]?);
     let Accepted::Link(first) = port.accept() else {
@@ -137,7 +139,7 @@ fn a_port_gives_its_links_in_order(rt: HostRuntime) -> Result<(), Fail> {
     assert_eq!(rt; port.links().len(), 2);
     assert_eq!(rt;
         (port.links()[0].number(), port.links()[1].number()),
-        (9, 4)
+        (2, 1)
     );
     assert_eq!(rt; port.links()[0].sent(), [5].as_slice());
     Ok(())
@@ -157,5 +159,82 @@ fn chronicles_take_what_is_noted(rt: HostRuntime) -> Result<(), Fail> {
     note_both(&mut kept)?;
     assert_eq!(rt; kept.entries(), [30, 20, 30, 20].as_slice());
     note_both(&mut Forgotten::new())?;
+    Ok(())
+}
+
+#[test]
+fn a_clock_goes_on_with_each_pause(rt: HostRuntime) -> Result<(), Fail> {
+    let clock = MemClock::new(rt.alloc(), 5, rt)?;
+    let other = clock.another()?;
+    assert_eq!(rt; clock.now(), 5);
+    clock.pause();
+    other.pause();
+    assert_eq!(rt; (clock.now(), other.now()), (7, 7));
+    let late = MemClock::new(rt.alloc(), u64::MAX, rt)?;
+    late.pause();
+    assert_eq!(rt; late.now(), u64::MAX);
+    Ok(())
+}
+
+#[test]
+fn a_still_clock_stands(rt: HostRuntime) -> Result<(), Fail> {
+    let clock = MemClock::still(5, rt);
+    let other = clock.another()?;
+    other.pause();
+    clock.pause();
+    assert_eq!(rt; (clock.now(), other.now()), (5, 5));
+    Ok(())
+}
+
+// The second link's bytes from place 4 on wait until three bytes were sent on the first link.
+fn waiting_port(alloc: Global) -> Result<MemPort, AllocError> {
+    let mut second = script(alloc, 7, &[], &[])?;
+    let cue = Cue { link: 1, sent: 3 };
+    second.holds.push(Hold { at: 4, cue })?;
+    let mut scripts = Vec::new(alloc);
+    scripts.push(script(alloc, 7, &[], &[])?)?;
+    scripts.push(second)?;
+    let scene = Scene::new(alloc, 2)?;
+    Ok(MemPort::on(alloc, Some(scene), scripts, Vec::new(alloc)))
+}
+
+#[test]
+fn a_link_waits_for_what_another_was_sent(rt: HostRuntime) -> Result<(), Fail> {
+    let mut port = waiting_port(rt.alloc())?;
+    let Accepted::Link(mut first) = port.accept() else {
+        panic!(rt; "no first link");
+    };
+    let Accepted::Link(mut second) = port.accept() else {
+        panic!(rt; "no second link");
+    };
+    let mut into = [0; 10];
+    assert_eq!(rt; second.read(&mut into), Got::Bytes(4));
+    assert_eq!(rt; second.read(&mut into), Got::NotYet);
+    assert_eq!(rt; first.write(&[7, 8]), Put::Count(2));
+    assert_eq!(rt; second.read(&mut into), Got::NotYet);
+    assert_eq!(rt; first.write(&[9]), Put::Count(1));
+    assert_eq!(rt; second.read(&mut into), Got::Bytes(7));
+    assert_eq!(rt; second.read(&mut into), Got::Bytes(7));
+    assert_eq!(rt; second.read(&mut into), Got::End);
+    Ok(())
+}
+
+#[test]
+fn a_link_ends_that_waits_in_vain(rt: HostRuntime) -> Result<(), Fail> {
+    let mut port = waiting_port(rt.alloc())?;
+    let Accepted::Link(mut first) = port.accept() else {
+        panic!(rt; "no first link");
+    };
+    let Accepted::Link(mut second) = port.accept() else {
+        panic!(rt; "no second link");
+    };
+    let mut into = [0; 10];
+    assert_eq!(rt; second.read(&mut into), Got::Bytes(4));
+    for _ in 0..10_000 {
+        assert_eq!(rt; second.read(&mut into), Got::NotYet);
+    }
+    assert_eq!(rt; second.read(&mut into), Got::End);
+    assert_eq!(rt; first.write(&[7, 8, 9]), Put::Count(3));
+    assert_eq!(rt; second.read(&mut into), Got::End);
     Ok(())
 }

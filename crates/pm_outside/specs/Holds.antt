@@ -1,0 +1,17 @@
+-- Where a script waits for what others see.
+use Rattle.std.specs.Prelude.{◌≡◌, ◌⊎◌, ℕ, List, [], ◌∷◌}
+use Rattle.pm_outside.specs.declared.holds.Hold.{Hold}
+use Rattle.pm_outside.specs.declared.holds.Holds.{Holds}
+
+-- the holds whose cue hasn't come, by their places
+abbrev pub holds_left : Holds → List Hold
+holds_left holds = holds.left.items
+
+-- the place of the first, or that one where there is none
+abbrev pub first_place : List Hold → ℕ → ℕ
+first_place [] end = end
+first_place (hold ∷ holds) end = hold.at
+
+-- all stand, or the first has gone
+abbrev pub LetsGo : List Hold → List Hold → Type 0
+LetsGo before now = (now ≡ before) ⊎ ((hold : Hold) × (before ≡ hold ∷ now))

@@ -1,0 +1,25 @@
+// The time.
+ghost use Rattle.std.specs.Prelude.{◌↔◌, ℕ, IfOk};
+
+use std::alloc::AllocError;
+use std::sync::Wait;
+
+/// Tells the time in milliseconds, which never falls.
+pub trait Clock {
+    /// What lets `pause` wait.
+    type Runtime: Wait;
+
+    /// Which moments this clock, and those made from it, can give. One that stands still gives one alone.
+    ghost gives: { Self → ℕ → Type 0 };
+
+    /// The present moment.
+    fn now(&self) -> u64
+        ensures { gives self.now result };
+
+    /// Lets some time pass.
+    fn pause(&self);
+
+    /// A clock for another thread, which gives the same moments.
+    fn another(&self) -> Result<Self, AllocError>
+        ensures { IfOk result (λ clock. (moment : ℕ) → gives clock moment ↔ gives self.now moment) };
+}
