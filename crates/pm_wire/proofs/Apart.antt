@@ -20,7 +20,7 @@ front_apart a b x y m n is_m is_n e =
     let value : m ≡ n = cc in
     (sym (take_at a x (length a) refl) ∙ ap (take (length a)) e ∙ take_at b y (length a) (sym used), value)
 
-length_kind : (m : BackMessage) → length (kind_of m) ≡ 1
+pub length_kind : (m : BackMessage) → length (kind_of m) ≡ 1
 length_kind Auth = refl
 length_kind (Param name value) = refl
 length_kind (Key pid key) = refl

@@ -12,7 +12,7 @@ use Rattle.pm_wire.specs.declared.parts.Stop.TheVariants.{Partial, Departs}
 use Rattle.pm_wire.specs.Pieces.{int32}
 use Rattle.pm_wire.specs.Backend.{BackMessage, body, spelling, back_message, IsBack}
 use Rattle.pm_wire.specs.Stream.{StandApart}
-use Rattle.pm_wire.specs.Received.{IsPartial, HasNoSuchLength, DepartsHere}
+use Rattle.pm_wire.specs.Received.{IsPartial, IsWholeAt, behind_header, behind_body, HasNoSuchLength, DepartsHere}
 use Rattle.pm_wire.specs.Reading.{seen_by}
 use Rattle.pm_wire.specs.Taking.{IfWhole}
 use Rattle.pm_wire.specs.BackReading.{Read, is_back_type, has_length, body_at, taken, back_of_length, back_of}
@@ -32,7 +32,7 @@ header_read kind n after known fits =
     let rest : drop 4 (int32 n ++ after) ≡ after = drop_at (int32 n) after 4 (length_int32 n) in
     rw (known, long, number, rest) refl
 
-short_header : (kind : ℕ) (rest : List ℕ) → is_back_type kind ≡ true → length rest < 4 → back_of (kind ∷ rest) ≡ Short
+short_header : (kind : ℕ) (rest : List ℕ) → is_back_type kind ≡ true → length rest < 4 → back_of (kind ∷ rest) ≡ Short 5
 unfolding back_of
 short_header kind rest known short = rw (known, lt-ltb (length rest) 4 short) refl
 
@@ -40,7 +40,7 @@ unknown_type : (kind : ℕ) (rest : List ℕ) → is_back_type kind ≡ false �
 unfolding back_of
 unknown_type kind rest unknown = rw unknown refl
 
-nothing_read : back_of [] ≡ Short
+nothing_read : back_of [] ≡ Short 5
 unfolding back_of
 nothing_read = refl
 
@@ -75,12 +75,12 @@ back_again m spelled rest is fits =
 
 -- ---- a message that isn't whole
 
-goes_short : (bytes more : List ℕ) (m : BackMessage) → 0 < length more → IsBack (bytes ++ more) m → IsBytes bytes → back_of bytes ≡ Short
-goes_short [] more m some is fits = nothing_read
+goes_short : (bytes more : List ℕ) (m : BackMessage) → 0 < length more → IsBack (bytes ++ more) m → IsBytes bytes → (wanted : ℕ) × (back_of bytes ≡ Short wanted)
+goes_short [] more m some is fits = (5, nothing_read)
 goes_short (kind ∷ rest) more m some is fits =
     let known = goes_known kind (rest ++ more) m is in
     elim (cases_lt (length rest) 4) [
-      | inl short ↦ short_header kind rest known short
+      | inl short ↦ (5, short_header kind rest known short)
       | inr long ↦
           let n = big_number 4 rest in
           let after = drop 4 rest in
@@ -92,12 +92,22 @@ goes_short (kind ∷ rest) more m some is fits =
           let g = body_good kind n known u.length_is in
           let out : body_at kind (n - 4) after ≡ Err Partial =
           unique_partial (BodyIs kind (n - 4)) g.apart after (more, m, some, u.body_is) (body_at kind (n - 4) after) (g.exact after (IsBytes-behind rest (int32 n) after tail_fits split)) in
-          ap (λ (w : List ℕ). back_of (kind ∷ w)) split ∙ header_read kind n after known below ∙ length_read kind n after u.length_is (Err Partial) out
+          (n + 1, ap (λ (w : List ℕ). back_of (kind ∷ w)) split ∙ header_read kind n after known below ∙ length_read kind n after u.length_is (Err Partial) out)
     ]
 
-pub short_again : (bytes : List ℕ) → IsPartial bytes → IsBytes bytes → back_of bytes ≡ Short
+pub short_again : (bytes : List ℕ) → IsPartial bytes → IsBytes bytes → (wanted : ℕ) × (back_of bytes ≡ Short wanted)
 short_again bytes (inl g) fits = goes_short bytes g.0 g.1 g.2 g.3 fits
-short_again bytes (inr h) fits = ap back_of h.parts ∙ short_header h.kind h.rest (goes_known h.kind h.known.0 h.known.1 h.known.3) h.short
+short_again bytes (inr h) fits = (5, ap back_of h.parts ∙ short_header h.kind h.rest (goes_known h.kind h.known.0 h.known.1 h.known.3) h.short)
+
+-- a message has one end
+whole_at_one : (bytes : List ℕ) (a b : ℕ) → IsWholeAt bytes a → IsWholeAt bytes b → a ≡ b
+whole_at_one bytes a b (behind_header few five) (behind_header also too) = five ∙ sym too
+whole_at_one bytes a b (behind_header few five) (behind_body kind seen part parts fits le is) = absurd (omega (arith, few, ap length parts, length-append (int32 seen) part, length_int32 seen))
+whole_at_one bytes a b (behind_body kind seen part parts fits le is) (behind_header few five) = absurd (omega (arith, few, ap length parts, length-append (int32 seen) part, length_int32 seen))
+whole_at_one bytes a b (behind_body kind seen part parts fits le is) (behind_body kind' seen' part' parts' fits' le' is') =
+    let tail : int32 seen ++ part ≡ int32 seen' ++ part' = (let e = sym parts ∙ parts' in cc) in
+    let same : seen ≡ seen' = sym (number_again seen part fits) ∙ ap (big_number 4) tail ∙ number_again seen' part' fits' in
+    is ∙ ap (λ (n : ℕ). n + 1) same ∙ sym is'
 
 -- ---- faults
 
@@ -184,7 +194,7 @@ whole_is (Whole value used) bytes h =
     let begins : BeginsBack bytes (back_message value) used = sound (Whole value used) bytes h in
     let front : take used bytes ≡ begins.spelled = ap (take used) begins.parts ∙ take_at begins.spelled begins.rest used (sym begins.size) in
     (omega (arith, ap length begins.parts, length-append begins.spelled begins.rest, begins.size), subst (λ (s : List ℕ). IsBack s (back_message value)) (sym front) begins.is)
-whole_is Short bytes h = tt
+whole_is (Short wanted) bytes h = tt
 whole_is (Bad fault) bytes h = tt
 
 pub every_is : (r : Take Back) (bytes : List ℕ) → Reads r bytes → (spelled rest : List ℕ) (m : BackMessage) → IsBack spelled m → bytes ≡ spelled ++ rest → seen_by back_message r ≡ Whole m (length spelled)
@@ -192,16 +202,31 @@ every_is r bytes h spelled rest m is parts = h.is ∙ ap back_of parts ∙ back_
 
 bad_seen : (r : Take Back) (fault : WireFault) → seen_by back_message r ≡ Bad fault → r ≡ Bad fault
 bad_seen (Whole value used) fault e = absurd cc
-bad_seen Short fault e = absurd cc
+bad_seen (Short wanted) fault e = absurd cc
 bad_seen (Bad other) fault e = cc
 
-short_seen : (r : Take Back) → seen_by back_message r ≡ Short → r ≡ Short
-short_seen (Whole value used) e = absurd cc
-short_seen Short e = refl
-short_seen (Bad other) e = absurd cc
+short_seen : (r : Take Back) (wanted : ℕ) → seen_by back_message r ≡ Short wanted → r ≡ Short wanted
+short_seen (Whole value used) wanted e = absurd cc
+short_seen (Short other) wanted e = cc
+short_seen (Bad other) wanted e = absurd cc
 
-pub short_is : (r : Take Back) (bytes : List ℕ) → Reads r bytes → (r ≡ Short) ↔ IsPartial bytes
-short_is r bytes h = (λ e. subst (λ (x : Take Back). IsSoundBack bytes (seen_by back_message x)) e (sound r bytes h), λ p. short_seen r (h.is ∙ short_again bytes p h.fits))
+short_sound : (r : Take Back) (bytes : List ℕ) → Reads r bytes → (wanted : ℕ) → r ≡ Short wanted → IsPartial bytes × IsWholeAt bytes wanted
+short_sound r bytes h wanted e = subst (λ (x : Take Back). IsSoundBack bytes (seen_by back_message x)) e (sound r bytes h)
+
+partial_short : (r : Take Back) (bytes : List ℕ) → Reads r bytes → IsPartial bytes → (wanted : ℕ) × (r ≡ Short wanted)
+partial_short r bytes h p = let again = short_again bytes p h.fits in (again.0, short_seen r again.0 (h.is ∙ again.1))
+
+pub partial_is : (r : Take Back) (bytes : List ℕ) → Reads r bytes → IsPartial bytes ↔ ((wanted : ℕ) × (r ≡ Short wanted))
+partial_is r bytes h = (partial_short r bytes h, λ short. (short_sound r bytes h short.0 short.1).0)
+
+pub short_is : (r : Take Back) (bytes : List ℕ) → Reads r bytes → (wanted : ℕ) → (r ≡ Short wanted) ↔ (IsPartial bytes × IsWholeAt bytes wanted)
+short_is r bytes h wanted = (
+  short_sound r bytes h wanted,
+  λ p.
+      let short = partial_short r bytes h p.0 in
+      let same : short.0 ≡ wanted = whole_at_one bytes short.0 wanted (short_sound r bytes h short.0 short.1).1 p.1 in
+      short.1 ∙ ap Short same,
+)
 
 pub length_is : (r : Take Back) (bytes : List ℕ) → Reads r bytes → (seen : ℕ) → (r ≡ Bad (BadLength seen)) ↔ HasNoSuchLength bytes seen
 length_is r bytes h seen = (λ e. subst (λ (x : Take Back). IsSoundBack bytes (seen_by back_message x)) e (sound r bytes h), λ p. bad_seen r (BadLength seen) (h.is ∙ length_again bytes seen p))

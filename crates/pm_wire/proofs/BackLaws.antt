@@ -1,8 +1,8 @@
 -- Reading a message of the server: what is read is spelled so, what is spelled so is read, and each fault is where it is said to be.
-use Rattle.std.proofs.Common.{◌≡◌, ℕ, ℤ, suc, ◌+◌, ◌-◌, ◌^◌, ◌<◌, ◌≤◌, ◌⊎◌, Bool, true, false, not, ◌==◌, ◌&&◌, ◌||◌, ltb, List, [], ◌∷◌, ◌++◌, length, drop, codes, decimal, Ok, Err, refl, sym, ap, subst, ◌∙◌, inl, inr, arith, append_assoc}
-use Rattle.std.proofs.lemmas.Bool.{cond_both, cases_eq, eqb-true, ltb-true, ltb-false, lt-ltb, and_parts}
+use Rattle.std.proofs.Common.{◌≡◌, ℕ, suc, ◌+◌, ◌-◌, ◌^◌, ◌<◌, ◌≤◌, ◌⊎◌, Bool, true, false, not, ◌==◌, ◌&&◌, ◌||◌, eqb, ltb, List, [], ◌∷◌, ◌++◌, length, drop, codes, decimal, Ok, Err, refl, sym, ap, subst, ◌∙◌, inl, inr, arith, append_assoc}
+use Rattle.std.proofs.lemmas.Bool.{cond_both, eqb-true, ltb-true, ltb-false, lt-ltb, and_parts}
 use Rattle.std.proofs.lemmas.List.{length-append, append_cancel_left}
-use Rattle.std.specs.Fmt.{signed_decimal}
+use Rattle.std.specs.List.{AllByRecursion, list_any}
 use Rattle.byteorder.specs.Endian.{big_number}
 use Rattle.pm_wire.specs.declared.back.Severity.{Severity}
 use Rattle.pm_wire.specs.declared.back.Severity.TheVariants.{Error, Fatal, Panic, Warning}
@@ -12,17 +12,16 @@ use Rattle.pm_wire.specs.declared.back.Tag.{Tag}
 use Rattle.pm_wire.specs.declared.back.Tag.TheVariants.{Insert, Update, Delete, Select}
 use Rattle.pm_wire.specs.declared.take.Take.{Take}
 use Rattle.pm_wire.specs.declared.take.Take.TheVariants.{Whole, Short, Bad}
-use Rattle.pm_wire.specs.declared.take.WireFault.{WireFault}
-use Rattle.pm_wire.specs.declared.take.WireFault.TheVariants.{BadLength, BadForm}
 use Rattle.pm_wire.specs.declared.parts.Stop.TheVariants.{Partial, Departs}
-use Rattle.pm_wire.specs.Pieces.{int16, int32, counted, message, string}
+use Rattle.pm_wire.specs.Pieces.{int32, message, string}
 use Rattle.pm_wire.specs.Backend.{BackMessage, Auth, Param, Key, Ready, Fields, Pair, One, Complete, Empty, Fault, Notice, Saying, body, kind_of, fields_of, severity_word, HasValues, HasCount, IsBack}
-use Rattle.pm_wire.specs.Received.{GoesOnAsBack, IsPartial, HasNoSuchLength, DepartsHere}
+use Rattle.pm_wire.specs.Received.{GoesOnAsBack, IsPartial, IsWholeAt, behind_header, behind_body}
+use Rattle.pm_wire.specs.Failing.{BackFails}
 use Rattle.pm_wire.specs.BackReading.{Read, is_back_type, leaves_number, fits_type, has_length, body_at, taken, back_of_length, back_of}
-use Rattle.pm_wire.proofs.Numbers.{IsBytes, IsBytes-drop, length_int16, length_int32, number_again, number_below, number_split}
-use Rattle.pm_wire.proofs.Characters.{eqb_true, eqb_false}
+use Rattle.pm_wire.proofs.Numbers.{IsBytes, IsBytes-drop, length_int32, number_again, number_below, number_split}
+use Rattle.std.proofs.lemmas.Bool.{eq-eqb}
 use Rattle.pm_wire.proofs.Joined.{length_fields}
-use Rattle.pm_wire.proofs.Sizes.{short_iff}
+use Rattle.pm_wire.proofs.Sizes.{short_iff, pair_size, one_size}
 use Rattle.pm_wire.proofs.Exact.{HasWord, Exact}
 use Rattle.pm_wire.proofs.Bodies.{same_first}
 use Rattle.pm_wire.proofs.TypeBytes.{BodyIs, Good, good_auth, good_ready, good_empty, good_fields, good_param, good_key, good_row, columns_length}
@@ -30,62 +29,17 @@ use Rattle.pm_wire.proofs.TagBytes.{good_tag, good_fault, good_notice, leaves_it
 
 -- ---- the ten types
 
+one_of : (P : ℕ → Type 0) (letters : List ℕ) → AllByRecursion P letters → (kind : ℕ) → list_any (λ letter. letter == kind) letters ≡ true → P kind
+one_of P [] all kind known = absurd cc
+one_of P (letter ∷ letters) all kind known =
+    elim (eqb letter kind) as (λ t. eqb letter kind ≡ t → (t || list_any (λ l. l == kind) letters) ≡ true → P kind) [
+      | true ↦ λ same _. subst P (eqb-true letter kind same) all.0
+      | false ↦ λ other rest. one_of P letters all.1 kind rest
+    ] refl known
+
 by_type : (P : ℕ → Type 0) → P 82 → P 83 → P 75 → P 90 → P 84 → P 68 → P 67 → P 73 → P 69 → P 78 → (kind : ℕ) → is_back_type kind ≡ true → P kind
-by_type P a b c d e f g h i j kind known =
-    elim (cases_eq kind 82) [
-      | inl x ↦ subst P (sym x) a
-      | inr n1 ↦
-          elim (cases_eq kind 83) [
-            | inl x ↦ subst P (sym x) b
-            | inr n2 ↦
-                elim (cases_eq kind 75) [
-                  | inl x ↦ subst P (sym x) c
-                  | inr n3 ↦
-                      elim (cases_eq kind 90) [
-                        | inl x ↦ subst P (sym x) d
-                        | inr n4 ↦
-                            elim (cases_eq kind 84) [
-                              | inl x ↦ subst P (sym x) e
-                              | inr n5 ↦
-                                  elim (cases_eq kind 68) [
-                                    | inl x ↦ subst P (sym x) f
-                                    | inr n6 ↦
-                                        elim (cases_eq kind 67) [
-                                          | inl x ↦ subst P (sym x) g
-                                          | inr n7 ↦
-                                              elim (cases_eq kind 73) [
-                                                | inl x ↦ subst P (sym x) h
-                                                | inr n8 ↦
-                                                    elim (cases_eq kind 69) [
-                                                      | inl x ↦ subst P (sym x) i
-                                                      | inr n9 ↦
-                                                          elim (cases_eq kind 78) [
-                                                            | inl x ↦ subst P (sym x) j
-                                                            | inr n10 ↦
-                                                                let none : is_back_type kind ≡ false =
-                                                                rw (
-                                                                  eqb_false 82 kind (λ y. n1 (sym y)),
-                                                                  eqb_false 83 kind (λ y. n2 (sym y)),
-                                                                  eqb_false 75 kind (λ y. n3 (sym y)),
-                                                                  eqb_false 90 kind (λ y. n4 (sym y)),
-                                                                  eqb_false 84 kind (λ y. n5 (sym y)),
-                                                                  eqb_false 68 kind (λ y. n6 (sym y)),
-                                                                  eqb_false 67 kind (λ y. n7 (sym y)),
-                                                                  eqb_false 73 kind (λ y. n8 (sym y)),
-                                                                  eqb_false 69 kind (λ y. n9 (sym y)),
-                                                                  eqb_false 78 kind (λ y. n10 (sym y)),
-                                                                ) refl in
-                                                                absurd cc
-                                                          ]
-                                                    ]
-                                              ]
-                                        ]
-                                  ]
-                            ]
-                      ]
-                ]
-          ]
-    ]
+by_type P auth param key ready fields row complete empty fault notice kind known =
+    one_of P (codes "RSKZTDCIEN") (auth, (param, (key, (ready, (fields, (row, (complete, (empty, (fault, (notice, tt)))))))))) kind known
 
 same_reader : (kind size : ℕ) (f g : List ℕ → Read) → ((bytes : List ℕ) → f bytes ≡ g bytes) → Good kind size f → Good kind size g
 same_reader kind size f g same good = record { exact = λ bytes fits. subst (Exact (BodyIs kind size) bytes) (same bytes) (good.exact bytes fits); apart = good.apart; word = good.word }
@@ -172,22 +126,6 @@ counts Empty h = tt
 counts (Fault s) h = tt
 counts (Notice s) h = tt
 
-pair_long : (key : ℤ) (value : List ℕ) → 5 < length (body (Pair key value))
-pair_long key value =
-    omega (
-      arith,
-      length-append (int16 2 ++ counted (signed_decimal key)) (counted value),
-      length-append (int16 2) (counted (signed_decimal key)),
-      length-append (int32 (length (signed_decimal key))) (signed_decimal key),
-      length-append (int32 (length value)) value,
-      length_int16 2,
-      length_int32 (length (signed_decimal key)),
-      length_int32 (length value),
-    )
-
-one_long : (text : List ℕ) → 5 < length (body (One text))
-one_long text = omega (arith, length-append (int16 1) (counted text), length-append (int32 (length text)) text, length_int16 1, length_int32 (length text))
-
 -- a message by its type and its body
 pub record View (bytes : List ℕ) (m : BackMessage) : Type 0 where
   pub kind : ℕ
@@ -211,11 +149,11 @@ pub view : (bytes : List ℕ) (m : BackMessage) → IsBack bytes m → View byte
 view bytes Auth is = made 82 bytes Auth is refl refl (rw (length_int32 0) refl)
 view bytes (Param name value) is =
     made 83 bytes (Param name value) is refl refl (lt-ltb 1 _ (omega (arith, length-append (string name) (string value), length-append name (0 ∷ []), length-append value (0 ∷ []))))
-view bytes (Key pid key) is = made 75 bytes (Key pid key) is refl refl (eqb_true _ _ (omega (arith, length-append (int32 pid) (int32 key), length_int32 pid, length_int32 key)))
+view bytes (Key pid key) is = made 75 bytes (Key pid key) is refl refl (eq-eqb _ _ (omega (arith, length-append (int32 pid) (int32 key), length_int32 pid, length_int32 key)))
 view bytes Ready is = made 90 bytes Ready is refl refl refl
 view bytes (Fields shape) is = made 84 bytes (Fields shape) is refl refl (fields_fit shape)
-view bytes (Pair key value) is = made 68 bytes (Pair key value) is refl refl (lt-ltb 5 _ (pair_long key value))
-view bytes (One text) is = made 68 bytes (One text) is refl refl (lt-ltb 5 _ (one_long text))
+view bytes (Pair key value) is = made 68 bytes (Pair key value) is refl refl (lt-ltb 5 _ (omega (arith, pair_size key value)))
+view bytes (One text) is = made 68 bytes (One text) is refl refl (lt-ltb 5 _ (omega (arith, one_size text)))
 view bytes (Complete tag) is = made 67 bytes (Complete tag) is refl refl (tag_fits tag is.values)
 view bytes Empty is = made 73 bytes Empty is refl refl refl
 view bytes (Fault s) is = made 69 bytes (Fault s) is refl refl (lt-ltb 23 _ (report_fits s is.values.0))
@@ -289,14 +227,10 @@ pub record BeginsBack (bytes : List ℕ) (m : BackMessage) (used : ℕ) : Type 0
   pub size : used ≡ length spelled
   pub is : IsBack spelled m
 
-abbrev pub IsSoundFault : List ℕ → WireFault → Type 0
-IsSoundFault bytes (BadLength seen) = HasNoSuchLength bytes seen
-IsSoundFault bytes (BadForm at) = DepartsHere bytes at
-
 abbrev pub IsSoundBack : List ℕ → Take BackMessage → Type 0
 IsSoundBack bytes (Whole m used) = BeginsBack bytes m used
-IsSoundBack bytes Short = IsPartial bytes
-IsSoundBack bytes (Bad fault) = IsSoundFault bytes fault
+IsSoundBack bytes (Short wanted) = IsPartial bytes × IsWholeAt bytes wanted
+IsSoundBack bytes (Bad fault) = BackFails bytes fault
 
 -- what has_length says
 pub record Fitting (kind n : ℕ) : Type 0 where
@@ -323,7 +257,8 @@ taken_sound kind n after fits (Ok p) h =
 taken_sound kind n after fits (Err Partial) h =
     let f = fitting_is kind n fits in
     let parts : kind ∷ (int32 n ++ (after ++ h.0)) ≡ (kind ∷ (int32 n ++ after)) ++ h.0 = ap (λ (w : List ℕ). kind ∷ w) (sym (append_assoc (int32 n) after h.0)) in
-    inl (h.0, h.1, h.2, subst (λ (w : List ℕ). IsBack w h.1) parts (header_whole kind n (after ++ h.0) h.1 f.low h.3))
+    let some : length (kind ∷ (int32 n ++ after)) ≤ n = omega (arith, h.2, h.3.size_is, length-append after h.0, length-append (int32 n) after, length_int32 n) in
+    (inl (h.0, h.1, h.2, subst (λ (w : List ℕ). IsBack w h.1) parts (header_whole kind n (after ++ h.0) h.1 f.low h.3)), behind_body kind n after refl (omega (arith, f.high)) some refl)
 taken_sound kind n after fits (Err (Departs left)) h =
     let f = fitting_is kind n fits in
     let front = kind ∷ (int32 n ++ h.front) in
@@ -358,7 +293,7 @@ length_sound kind n after known fits bytes =
 
 pub back_sound : (bytes : List ℕ) → IsBytes bytes → IsSoundBack bytes (back_of bytes)
 unfolding back_of
-back_sound [] fits = inl empty_goes
+back_sound [] fits = (inl empty_goes, behind_header (omega arith) refl)
 back_sound (kind ∷ rest) fits =
     cond_both (not (is_back_type kind)) _ _ (IsSoundBack (kind ∷ rest))
     (λ unknown. record {
@@ -372,7 +307,9 @@ back_sound (kind ∷ rest) fits =
       stuck = λ more m is. let known = goes_known kind more m is in let e : not (is_back_type kind) ≡ false = rw known refl in cc;
     })
     (λ known_not. cond_both (ltb (length rest) 4) _ _ (IsSoundBack (kind ∷ rest))
-    (λ short. inr (record { kind = kind; rest = rest; parts = refl; short = ltb-true _ _ short; known = known_goes kind (known_type kind known_not) }))
+    (λ short.
+    let few = ltb-true _ _ short in
+    (inr (record { kind = kind; rest = rest; parts = refl; short = few; known = known_goes kind (known_type kind known_not) }), behind_header (omega (arith, few)) refl))
     (λ long.
     let split = number_split rest (ltb-false _ _ long) (λ i. fits (suc i)) in
     let P : List ℕ → Type 0 = λ bytes. IsSoundBack (kind ∷ bytes) (back_of_length kind (big_number 4 rest) (drop 4 rest)) in

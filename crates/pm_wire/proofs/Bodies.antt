@@ -6,11 +6,12 @@ use Rattle.pm_wire.specs.declared.parts.Stop.{Stop}
 use Rattle.pm_wire.specs.declared.parts.Ending.TheVariants.{Anywhere, Exactly}
 use Rattle.pm_wire.specs.Pieces.{int32}
 use Rattle.pm_wire.specs.Backend.{BackMessage, Param, Key, Pair, One}
-use Rattle.pm_wire.specs.Utf8.{closed}
+use Rattle.pm_utf8.specs.Utf8.{boundary}
 use Rattle.pm_wire.specs.Parts.{◌>>=◌, literal_at, int32_at, text_at, string_at, key_at}
 use Rattle.pm_wire.specs.BackReading.{word_at, param_at, key_data_at, one_at, count_at, key_room, pair_at, columns_at, row_at}
 use Rattle.pm_wire.proofs.Numbers.{IsBytes}
-use Rattle.pm_wire.proofs.Characters.{closed_sane, eqb_true}
+use Rattle.pm_utf8.specs.States.{boundary_sound}
+use Rattle.std.proofs.lemmas.Bool.{eq-eqb}
 use Rattle.pm_wire.proofs.Exact.{Apart, GoesOn, HasWord, Exact, Then, Done, done_exact, done_apart, done_word, then_apart, then_word, then_exact}
 use Rattle.pm_wire.proofs.Fields.{exact_first, departs_now, Word, word_apart, word_word, literal_exact, Number, number_apart, number_word, int32_exact, Text, text_apart, text_word, text_exact, String, string_apart, string_word, string_exact, bind_same}
 use Rattle.pm_wire.proofs.Digits.{KeyWord, key_word, key_exact, key_apart}
@@ -60,31 +61,31 @@ one_word_apart w m = behind_apart w (Done m) (done_apart m)
 -- ---- a parameter
 
 abbrev pub Value : ℕ → List ℕ → List ℕ → BackMessage → Type 0
-Value size name = Then (String Exactly closed (size - 2 - length name)) (λ value. Done (Param name value))
+Value size name = Then (String Exactly boundary (size - 2 - length name)) (λ value. Done (Param name value))
 
 abbrev pub ParamBody : ℕ → List ℕ → BackMessage → Type 0
-ParamBody size = Then (String Anywhere closed (size - 2)) (λ name. Value size name)
+ParamBody size = Then (String Anywhere boundary (size - 2)) (λ name. Value size name)
 
 pub param_exact : (size : ℕ) (bytes : List ℕ) → Exact (ParamBody size) bytes (param_at size bytes)
 unfolding param_at
 param_exact size bytes =
-    then_exact (String Anywhere closed (size - 2)) (λ name. Value size name) (string_apart Anywhere closed (size - 2))
-    (λ u name _. last_word (String Exactly closed (size - 2 - length name)) (λ value. Param name value) (string_word Exactly (size - 2 - length name)))
-    bytes (string_at Anywhere closed (size - 2) bytes) _ (string_exact bytes Anywhere closed (size - 2) closed_sane (omega arith))
+    then_exact (String Anywhere boundary (size - 2)) (λ name. Value size name) (string_apart Anywhere boundary (size - 2))
+    (λ u name _. last_word (String Exactly boundary (size - 2 - length name)) (λ value. Param name value) (string_word Exactly (size - 2 - length name)))
+    bytes (string_at Anywhere boundary (size - 2) bytes) _ (string_exact bytes Anywhere boundary (size - 2) boundary_sound (omega arith))
     (λ u rest name _ _.
-    last_exact (String Exactly closed (size - 2 - length name)) (λ value. Param name value) (string_apart Exactly closed (size - 2 - length name)) rest
-    (string_at Exactly closed (size - 2 - length name) rest) (string_exact rest Exactly closed (size - 2 - length name) closed_sane (omega arith)))
+    last_exact (String Exactly boundary (size - 2 - length name)) (λ value. Param name value) (string_apart Exactly boundary (size - 2 - length name)) rest
+    (string_at Exactly boundary (size - 2 - length name) rest) (string_exact rest Exactly boundary (size - 2 - length name) boundary_sound (omega arith)))
 
 pub param_apart : (size : ℕ) → Apart (ParamBody size)
 param_apart size =
-    then_apart (String Anywhere closed (size - 2)) (λ name. Value size name) (string_apart Anywhere closed (size - 2))
-    (λ name. last_apart (String Exactly closed (size - 2 - length name)) (λ value. Param name value) (string_apart Exactly closed (size - 2 - length name)))
+    then_apart (String Anywhere boundary (size - 2)) (λ name. Value size name) (string_apart Anywhere boundary (size - 2))
+    (λ name. last_apart (String Exactly boundary (size - 2 - length name)) (λ value. Param name value) (string_apart Exactly boundary (size - 2 - length name)))
 
 pub param_word : (size : ℕ) → HasWord (ParamBody size)
 param_word size =
     let name = string_word Anywhere (size - 2) in
-    then_word (String Anywhere closed (size - 2)) (λ n. Value size n) name
-    (last_word (String Exactly closed (size - 2 - length name.1)) (λ value. Param name.1 value) (string_word Exactly (size - 2 - length name.1)))
+    then_word (String Anywhere boundary (size - 2)) (λ n. Value size n) name
+    (last_word (String Exactly boundary (size - 2 - length name.1)) (λ value. Param name.1 value) (string_word Exactly (size - 2 - length name.1)))
 
 -- ---- a key
 
@@ -106,19 +107,19 @@ key_data_word = then_word Number (λ pid. Then Number (λ key. Done (Key pid key
 -- ---- rows
 
 abbrev pub OneBody : ℕ → List ℕ → BackMessage → Type 0
-OneBody size = Behind (int32 (size - 6)) (Then (Text closed (size - 6)) (λ t. Done (One t)))
+OneBody size = Behind (int32 (size - 6)) (Then (Text boundary (size - 6)) (λ t. Done (One t)))
 
 pub one_word : (size : ℕ) → HasWord (OneBody size)
-one_word size = behind_word (int32 (size - 6)) (Then (Text closed (size - 6)) (λ t. Done (One t))) (last_word (Text closed (size - 6)) (λ t. One t) (text_word (size - 6)))
+one_word size = behind_word (int32 (size - 6)) (Then (Text boundary (size - 6)) (λ t. Done (One t))) (last_word (Text boundary (size - 6)) (λ t. One t) (text_word (size - 6)))
 
 one_exact : (size : ℕ) (bytes : List ℕ) → Exact (OneBody size) bytes (one_at size bytes)
 unfolding one_at
 one_exact size bytes =
-    behind_exact (int32 (size - 6)) (Then (Text closed (size - 6)) (λ t. Done (One t))) (last_word (Text closed (size - 6)) (λ t. One t) (text_word (size - 6))) bytes _
-    (λ u rest _. last_exact (Text closed (size - 6)) (λ t. One t) (text_apart closed (size - 6)) rest (text_at closed (size - 6) rest) (text_exact (size - 6) rest closed closed_sane (omega arith)))
+    behind_exact (int32 (size - 6)) (Then (Text boundary (size - 6)) (λ t. Done (One t))) (last_word (Text boundary (size - 6)) (λ t. One t) (text_word (size - 6))) bytes _
+    (λ u rest _. last_exact (Text boundary (size - 6)) (λ t. One t) (text_apart boundary (size - 6)) rest (text_at boundary (size - 6) rest) (text_exact (size - 6) rest boundary boundary_sound (omega arith)))
 
 one_apart : (size : ℕ) → Apart (OneBody size)
-one_apart size = behind_apart (int32 (size - 6)) (Then (Text closed (size - 6)) (λ t. Done (One t))) (last_apart (Text closed (size - 6)) (λ t. One t) (text_apart closed (size - 6)))
+one_apart size = behind_apart (int32 (size - 6)) (Then (Text boundary (size - 6)) (λ t. Done (One t))) (last_apart (Text boundary (size - 6)) (λ t. One t) (text_apart boundary (size - 6)))
 
 abbrev pub CountWord : ℕ → List ℕ → ℕ → Type 0
 CountWord most word c = (word ≡ c ∷ []) × (1 ≤ c) × (c ≤ most)
@@ -145,7 +146,7 @@ count_apart most a b x y m n at_m at_n e =
     (at_m.0 ∙ ap (λ (k : ℕ). k ∷ []) same ∙ sym at_n.0, same)
 
 abbrev pub PairValue : ℕ → ℕ → ℤ → List ℕ → BackMessage → Type 0
-PairValue size count key = Behind (int32 (size - 10 - count)) (Then (Text closed (size - 10 - count)) (λ t. Done (Pair key t)))
+PairValue size count key = Behind (int32 (size - 10 - count)) (Then (Text boundary (size - 10 - count)) (λ t. Done (Pair key t)))
 
 abbrev pub PairKey : ℕ → ℕ → List ℕ → BackMessage → Type 0
 PairKey size count = Then (KeyWord count) (λ key. PairValue size count key)
@@ -161,7 +162,7 @@ room_is size lt =
 
 pair_value_word : (size count : ℕ) (key : ℤ) → HasWord (PairValue size count key)
 pair_value_word size count key =
-    behind_word (int32 (size - 10 - count)) (Then (Text closed (size - 10 - count)) (λ t. Done (Pair key t))) (last_word (Text closed (size - 10 - count)) (λ t. Pair key t) (text_word (size - 10 - count)))
+    behind_word (int32 (size - 10 - count)) (Then (Text boundary (size - 10 - count)) (λ t. Done (Pair key t))) (last_word (Text boundary (size - 10 - count)) (λ t. Pair key t) (text_word (size - 10 - count)))
 
 pair_key_word : (size count : ℕ) → 1 ≤ count → count ≤ 20 → HasWord (PairKey size count)
 pair_key_word size count low high = let k = key_word count low high in then_word (KeyWord count) (λ key. PairValue size count key) k (pair_value_word size count k.1)
@@ -174,11 +175,11 @@ pub pair_word : (size : ℕ) → 10 < size → HasWord (PairBody size)
 pair_word size lt = behind_word (0 ∷ 0 ∷ 0 ∷ []) (Then (CountWord (key_room size)) (λ count. PairKey size count)) (counted_word size lt)
 
 pair_value_exact : (size count : ℕ) (key : ℤ) (bytes : List ℕ)
-    → Exact (PairValue size count key) bytes (literal_at (int32 (size - 10 - count)) bytes >>= λ l. text_at closed (size - 10 - count) l.1 >>= λ value. Ok (Pair key value.0, value.1))
+    → Exact (PairValue size count key) bytes (literal_at (int32 (size - 10 - count)) bytes >>= λ l. text_at boundary (size - 10 - count) l.1 >>= λ value. Ok (Pair key value.0, value.1))
 pair_value_exact size count key bytes =
-    behind_exact (int32 (size - 10 - count)) (Then (Text closed (size - 10 - count)) (λ t. Done (Pair key t)))
-    (last_word (Text closed (size - 10 - count)) (λ t. Pair key t) (text_word (size - 10 - count))) bytes _
-    (λ u rest _. last_exact (Text closed (size - 10 - count)) (λ t. Pair key t) (text_apart closed (size - 10 - count)) rest (text_at closed (size - 10 - count) rest) (text_exact (size - 10 - count) rest closed closed_sane (omega arith)))
+    behind_exact (int32 (size - 10 - count)) (Then (Text boundary (size - 10 - count)) (λ t. Done (Pair key t)))
+    (last_word (Text boundary (size - 10 - count)) (λ t. Pair key t) (text_word (size - 10 - count))) bytes _
+    (λ u rest _. last_exact (Text boundary (size - 10 - count)) (λ t. Pair key t) (text_apart boundary (size - 10 - count)) rest (text_at boundary (size - 10 - count) rest) (text_exact (size - 10 - count) rest boundary boundary_sound (omega arith)))
 
 pair_exact : (size : ℕ) (bytes : List ℕ) → 10 < size → Exact (PairBody size) bytes (pair_at size bytes)
 unfolding pair_at
@@ -196,7 +197,7 @@ pair_apart size =
     behind_apart (0 ∷ 0 ∷ 0 ∷ []) (Then (CountWord (key_room size)) (λ count. PairKey size count))
     (then_apart (CountWord (key_room size)) (λ count. PairKey size count) (count_apart (key_room size))
     (λ count. then_apart (KeyWord count) (λ key. PairValue size count key) (key_apart count)
-    (λ key. behind_apart (int32 (size - 10 - count)) (Then (Text closed (size - 10 - count)) (λ t. Done (Pair key t))) (last_apart (Text closed (size - 10 - count)) (λ t. Pair key t) (text_apart closed (size - 10 - count))))))
+    (λ key. behind_apart (int32 (size - 10 - count)) (Then (Text boundary (size - 10 - count)) (λ t. Done (Pair key t))) (last_apart (Text boundary (size - 10 - count)) (λ t. Pair key t) (text_apart boundary (size - 10 - count))))))
 
 pub same_first : (a b : ℕ) (x y : List ℕ) → a ∷ x ≡ b ∷ y → a ≡ b
 same_first a b x y e = cc
@@ -221,7 +222,7 @@ no_columns : (size b : ℕ) (w : List ℕ) (m : BackMessage) → (b ≡ 1 → �
 no_columns size b w m no_one no_two (one_column rest e h) = no_one (cc)
 no_columns size b w m no_one no_two (two_columns rest e lt h) =
     let two : b ≡ 2 = cc in
-    let both : (b == 2 && ltb 10 size) ≡ true = rw (eqb_true b 2 two, lt-ltb 10 size lt) refl in
+    let both : (b == 2 && ltb 10 size) ≡ true = rw (eq-eqb b 2 two, lt-ltb 10 size lt) refl in
     absurd cc
 
 columns_exact : (size : ℕ) (bytes : List ℕ) → Exact (Columns size) bytes (columns_at size bytes)

@@ -14,7 +14,7 @@ use Rattle.pm_wire.specs.declared.parts.Stop.{Stop}
 use Rattle.pm_wire.specs.declared.parts.Stop.TheVariants.{Partial, Departs}
 use Rattle.pm_wire.specs.Parts.{◌>>=◌, departs, behind_digit, number_at, negative, key_at}
 use Rattle.pm_wire.specs.Backend.{IsInt64}
-use Rattle.pm_wire.proofs.Characters.{eqb_false}
+use Rattle.std.proofs.lemmas.Bool.{ne_eqb}
 use Rattle.pm_wire.proofs.Decimals.{ten_pos, under_div, not_zero}
 use Rattle.pm_wire.proofs.Exact.{Apart, GoesOn, HasWord, Exact}
 use Rattle.pm_wire.proofs.Fields.{exact_first, departs_now, same_length, bind_same}
@@ -67,10 +67,10 @@ zeros_are_digits (suc k) = zeros_are_digits k
 -- behind a number that isn't 0 no zero leads
 leads_behind : (zeros : Bool) (value : ℕ) (word : List ℕ) → 0 < value → Leads zeros value word
 leads_behind zeros value [] h = tt
-leads_behind zeros value (b ∷ bs) h = rw (eqb_false (behind_digit value b) 0 (λ e. omega (arith, h, e))) refl
+leads_behind zeros value (b ∷ bs) h = rw (ne_eqb (behind_digit value b) 0 (λ e. omega (arith, h, e))) refl
 
 never : (zeros : Bool) (k : ℕ) → (zeros && suc k == 0) ≡ false
-never true k = eqb_false (suc k) 0 (λ e. omega (arith, e))
+never true k = ne_eqb (suc k) 0 (λ e. omega (arith, e))
 never false k = refl
 
 filled : (zeros : Bool) (limit next k : ℕ) → next * 10 ^ k ≤ limit → (next == 0 && not (zeros && k == 0)) ≡ false → HasWord (Num zeros limit next k)
@@ -198,7 +198,7 @@ decimal_leads zeros zero (b ∷ bs) fits e (inl allowed) =
 decimal_leads zeros zero (b ∷ bs) fits e (inr h) = absurd (omega (arith, h))
 decimal_leads zeros (suc n) (b ∷ bs) fits e h =
     let first : 48 < b = omega (arith, first_decimal (suc n) (omega arith) fits, ap (λ (w : List ℕ). get_or w 0 0) e) in
-    rw (eqb_false (behind_digit 0 b) 0 (λ z. omega (arith, first, z))) refl
+    rw (ne_eqb (behind_digit 0 b) 0 (λ z. omega (arith, first, z))) refl
 
 pub decimal_num : (zeros : Bool) (limit n : ℕ) → n < 2 ^ 64 → n ≤ limit → (zeros ≡ true) ⊎ (0 < n) → Num zeros limit 0 (length (decimal n)) (decimal n) n
 decimal_num zeros limit n fits le h = record {
@@ -315,7 +315,7 @@ key_negative_exact bs (suc zero) low high =
     let is : more ≡ decimal (suc n.0) = (let e = w.0 in cc) in
     omega (arith, w.1, ap length is, decimal_nonempty (suc n.0) (omega (arith, w.2))))
 key_negative_exact bs (suc (suc k)) low high =
-    let other : eqb (suc (suc k)) 1 ≡ false = eqb_false (suc (suc k)) 1 (λ e. omega (arith, e)) in
+    let other : eqb (suc (suc k)) 1 ≡ false = ne_eqb (suc (suc k)) 1 (λ e. omega (arith, e)) in
     let less : suc (suc k) - 1 ≡ suc k = omega arith in
     let small : 10 ^ k ≤ 2 ^ 63 = omega (arith, powers k (omega (arith, high))) in
     rw (other, less)

@@ -64,7 +64,7 @@ pub then_word : {X Y : Type 0} (A : List ℕ → X → Type 0) (B : X → List �
 then_word A B a b = (a.0 ++ b.0, b.1, (a.0, b.0, a.1, refl, a.2, b.2))
 
 -- a front of one list against a front of another
-front_cases : (front u more v : List ℕ) (b : ℕ) → front ++ b ∷ more ≡ u ++ v → ((t : List ℕ) × (u ≡ front ++ b ∷ t)) ⊎ ((t : List ℕ) × (front ≡ u ++ t))
+pub front_cases : (front u more v : List ℕ) (b : ℕ) → front ++ b ∷ more ≡ u ++ v → ((t : List ℕ) × (u ≡ front ++ b ∷ t)) ⊎ ((t : List ℕ) × (front ≡ u ++ t))
 front_cases [] [] more v b e = inr ([], refl)
 front_cases [] (x ∷ u) more v b e = let same : b ≡ x = cc in inl (u, ap (λ (n : ℕ). n ∷ u) (sym same))
 front_cases (y ∷ front) [] more v b e = inr (y ∷ front, refl)
@@ -139,7 +139,7 @@ module _ {X : Type 0} (L : List ℕ → X → Type 0) (apart : Apart L) where
       omega (arith, ap length same.0, length-append (word ++ rest) more, length-append word rest, some)
 
   -- a word doesn't stand where one departs
-  departed : (bytes word rest : List ℕ) (m : X) (left : ℕ) → L word m → bytes ≡ word ++ rest → DepartsAt L bytes left → ⊥
+  pub departed : (bytes word rest : List ℕ) (m : X) (left : ℕ) → L word m → bytes ≡ word ++ rest → DepartsAt L bytes left → ⊥
   departed bytes word rest m left at_m parts d =
       elim (front_cases d.front word d.behind rest d.byte (sym d.parts ∙ parts)) [
         | inl h ↦ d.stuck h.0 m (subst (λ w. L w m) h.1 at_m)
@@ -165,7 +165,7 @@ module _ {X : Type 0} (L : List ℕ → X → Type 0) (apart : Apart L) where
   unique_partial bytes g (Err Partial) h = refl
   unique_partial bytes g (Err (Departs left)) h = absurd (departed_before bytes g.0 g.1 left g.3 h)
 
-  same_place : (bytes : List ℕ) (left other : ℕ) → DepartsAt L bytes left → DepartsAt L bytes other → left ≡ other
+  pub same_place : (bytes : List ℕ) (left other : ℕ) → DepartsAt L bytes left → DepartsAt L bytes other → left ≡ other
   same_place bytes left other d e =
       elim (front_cases d.front e.front d.behind (e.byte ∷ e.behind) d.byte (sym d.parts ∙ e.parts)) [
         | inl h ↦ absurd (d.stuck (h.0 ++ e.goes_on.0) e.goes_on.1 (subst (λ w. L w e.goes_on.1) (ap (λ (w : List ℕ). w ++ e.goes_on.0) h.1 ∙ append_assoc d.front (d.byte ∷ h.0) e.goes_on.0) e.goes_on.3))

@@ -7,13 +7,16 @@ use Rattle.pm_wire.specs.declared.parts.Stop.{Stop}
 use Rattle.pm_wire.specs.declared.parts.Stop.TheVariants.{Partial, Departs}
 use Rattle.pm_wire.specs.declared.parts.Ending.{Ending}
 use Rattle.pm_wire.specs.declared.parts.Ending.TheVariants.{Anywhere, NotOneShort, Exactly}
-use Rattle.pm_wire.specs.declared.utf8.Open.{Open}
+use Rattle.pm_utf8.specs.declared.Awaited.{Awaited}
 use Rattle.pm_wire.specs.Pieces.{int32}
-use Rattle.pm_wire.specs.Utf8.{closed, after, run}
+use Rattle.pm_utf8.specs.Utf8.{boundary, after, run}
 use Rattle.pm_wire.specs.Parts.{◌>>=◌, departs, fitting, may_end, literal_at, int32_at, code_at, text_at, string_at}
 use Rattle.pm_wire.proofs.Numbers.{IsBytes, number_again, number_below, number_split, int32_number}
 use Rattle.pm_wire.proofs.Strings.{AllNonzero}
-use Rattle.pm_wire.proofs.Characters.{later, eqb_true, IsSane, closed_sane, after_sane, after_in, after_is, lead_one, run_step, run_first}
+use Rattle.pm_utf8.specs.Steps.{after_is, run_step, run_first}
+use Rattle.pm_utf8.specs.States.{boundary_sound, after_sound, fill, needs}
+use Rattle.pm_utf8.specs.Utf8.{IsSound}
+use Rattle.std.proofs.lemmas.Bool.{eq-eqb}
 use Rattle.pm_wire.proofs.Walks.{fitting_is}
 use Rattle.pm_wire.proofs.Exact.{Apart, GoesOn, HasWord, Exact}
 
@@ -150,46 +153,18 @@ code_exact (suc n) (b ∷ bs) =
 
 -- ---- text
 
--- bytes that complete what has begun, so many of them
-pub fill : (n : ℕ) (state : Open) → IsSane state → state.more ≤ n → (t : List ℕ) × (length t ≡ n) × (run state t ≡ Some closed) × AllNonzero t
-fill zero state sane le = ([], refl, ap Some (sane.closes (omega (arith, le))), tt)
-fill (suc n) state sane le =
-    elim (eqb state.more 0) as (λ t. eqb state.more 0 ≡ t → (t : List ℕ) × (length t ≡ suc n) × (run state t ≡ Some closed) × AllNonzero t) [
-      | true ↦ λ e.
-          let rest = fill n closed closed_sane (omega arith) in
-          let is : state ≡ closed = sane.closes (eqb-true _ _ e) in
-          let step : after state 97 ≡ Some closed = ap (λ (s : Open). after s 97) is ∙ lead_one 97 (omega arith) in
-          (97 ∷ rest.0, ap suc rest.1, run_step state 97 rest.0 closed step ∙ rest.2, (omega arith, rest.3))
-      | false ↦ λ e.
-          let step = after_in state state.low e (omega arith) sane.order in
-          let next = later (state.more - 1) in
-          let rest = fill n next (after_sane state state.low next step) (omega (arith, le)) in
-          (state.low ∷ rest.0, ap suc rest.1, run_step state state.low rest.0 next step ∙ rest.2, (omega (arith, sane.low), rest.3))
-    ] refl
-
--- a character takes the bytes that it says
-pub needs : (t : List ℕ) (state : Open) → run state t ≡ Some closed → state.more ≤ length t
-needs [] state e = let is : state ≡ closed = cc in omega (arith, ap (λ (s : Open). s.more) is)
-needs (b ∷ bs) state e =
-    let f = run_first state b bs closed e in
-    let rest = needs bs f.0 f.2 in
-    elim (eqb state.more 0) as (λ t. eqb state.more 0 ≡ t → state.more ≤ suc (length bs)) [
-      | true ↦ λ none. omega (arith, eqb-true _ _ none)
-      | false ↦ λ more. let is = after_is state b f.0 more f.1 in omega (arith, rest, ap (λ (s : Open). s.more) is.2)
-    ] refl
-
 -- which way the state goes on
-next_cases : (left : ℕ) (state : Open) (b : ℕ)
-    → ((fitting left (after state b) ≡ None) × ((bs : List ℕ) → length bs < left → run state (b ∷ bs) ≡ Some closed → ⊥))
-    ⊎ ((next : Open) × (fitting left (after state b) ≡ Some next) × (after state b ≡ Some next) × (next.more < left))
+next_cases : (left : ℕ) (state : Awaited) (b : ℕ)
+    → ((fitting left (after state b) ≡ None) × ((bs : List ℕ) → length bs < left → run state (b ∷ bs) ≡ Some boundary → ⊥))
+    ⊎ ((next : Awaited) × (fitting left (after state b) ≡ Some next) × (after state b ≡ Some next) × (next.more < left))
 next_cases left state b =
     elim (fitting left (after state b)) as (λ o. fitting left (after state b) ≡ o
-    → ((fitting left (after state b) ≡ None) × ((bs : List ℕ) → length bs < left → run state (b ∷ bs) ≡ Some closed → ⊥))
-    ⊎ ((next : Open) × (fitting left (after state b) ≡ Some next) × (after state b ≡ Some next) × (next.more < left))) [
+    → ((fitting left (after state b) ≡ None) × ((bs : List ℕ) → length bs < left → run state (b ∷ bs) ≡ Some boundary → ⊥))
+    ⊎ ((next : Awaited) × (fitting left (after state b) ≡ Some next) × (after state b ≡ Some next) × (next.more < left))) [
       | None ↦ λ e. inl (
         e,
         λ bs short h.
-            let f = run_first state b bs closed h in
+            let f = run_first state b bs boundary h in
             let fits : f.0.more < left = omega (arith, needs bs f.0 f.2, short) in
             let some : fitting left (after state b) ≡ Some f.0 = ap (fitting left) f.1 ∙ rw (lt-ltb f.0.more left fits) refl in
             cc,
@@ -197,71 +172,71 @@ next_cases left state b =
       | Some next ↦ λ e. let is = fitting_is left (after state b) next e in inr (next, e, is.0, is.1)
     ] refl
 
-same_next : (state next : Open) (b : ℕ) (bs : List ℕ) → after state b ≡ Some next → run state (b ∷ bs) ≡ Some closed → run next bs ≡ Some closed
+same_next : (state next : Awaited) (b : ℕ) (bs : List ℕ) → after state b ≡ Some next → run state (b ∷ bs) ≡ Some boundary → run next bs ≡ Some boundary
 same_next state next b bs e h = sym (run_step state b bs next e) ∙ h
 
-abbrev pub Text : Open → ℕ → List ℕ → List ℕ → Type 0
-Text state n word t = (word ≡ t) × (length t ≡ n) × (run state t ≡ Some closed)
+abbrev pub Text : Awaited → ℕ → List ℕ → List ℕ → Type 0
+Text state n word t = (word ≡ t) × (length t ≡ n) × (run state t ≡ Some boundary)
 
-pub text_apart : (state : Open) (n : ℕ) → Apart (Text state n)
+pub text_apart : (state : Awaited) (n : ℕ) → Apart (Text state n)
 text_apart state n a b x y m o at_m at_o e =
     let same : a ≡ b = same_length a b x y e (ap length at_m.0 ∙ at_m.1 ∙ sym at_o.1 ∙ sym (ap length at_o.0)) in
     (same, sym at_m.0 ∙ same ∙ at_o.0)
 
-pub text_word : (n : ℕ) → HasWord (Text closed n)
-text_word n = let t = fill n closed closed_sane (omega arith) in (t.0, t.0, (refl, t.1, t.2))
+pub text_word : (n : ℕ) → HasWord (Text boundary n)
+text_word n = let t = fill n boundary boundary_sound (omega arith) in (t.0, t.0, (refl, t.1, t.2))
 
-text_goes : (state : Open) (n : ℕ) → IsSane state → state.more ≤ suc n → GoesOn (Text state (suc n)) []
-text_goes state n sane le = let t = fill (suc n) state sane le in (t.0, t.0, omega (arith, t.1), (refl, t.1, t.2))
+text_goes : (state : Awaited) (n : ℕ) → IsSound state → state.more ≤ suc n → GoesOn (Text state (suc n)) []
+text_goes state n sound le = let t = fill (suc n) state sound le in (t.0, t.0, omega (arith, t.1), (refl, t.1, t.2))
 
-pub text_exact : (n : ℕ) (bytes : List ℕ) (state : Open) → IsSane state → state.more ≤ n → Exact (Text state n) bytes (text_at state n bytes)
+pub text_exact : (n : ℕ) (bytes : List ℕ) (state : Awaited) → IsSound state → state.more ≤ n → Exact (Text state n) bytes (text_at state n bytes)
 unfolding text_at
-text_exact zero bytes state sane le = ([], refl, (refl, refl, ap Some (sane.closes (omega (arith, le)))))
-text_exact (suc n) [] state sane le = text_goes state n sane le
-text_exact (suc n) (b ∷ bs) state sane le =
+text_exact zero bytes state sound le = ([], refl, (refl, refl, ap Some (sound.closes (omega (arith, le)))))
+text_exact (suc n) [] state sound le = text_goes state n sound le
+text_exact (suc n) (b ∷ bs) state sound le =
     elim (next_cases (suc n) state b) [
       | inl h ↦
-          let now = departs_now (Text state (suc n)) b bs (text_goes state n sane le)
+          let now = departs_now (Text state (suc n)) b bs (text_goes state n sound le)
           (λ more t is.
           let size : length (b ∷ more) ≡ suc n = ap length is.0 ∙ is.1 in
-          h.1 more (omega (arith, size)) (subst (λ (w : List ℕ). run state w ≡ Some closed) (sym is.0) is.2)) in
+          h.1 more (omega (arith, size)) (subst (λ (w : List ℕ). run state w ≡ Some boundary) (sym is.0) is.2)) in
           rw h.0 now
       | inr h ↦
           let rest = exact_first (Text state (suc n)) (Text h.0 n) (λ t. b ∷ t) b
           (λ w t is. (ap (λ (v : List ℕ). b ∷ v) is.0, ap suc is.1, run_step state b t h.0 h.2 ∙ is.2))
           (λ w t is.
           let size : length (b ∷ w) ≡ suc n = ap length is.0 ∙ is.1 in
-          (w, (refl, omega (arith, size), same_next state h.0 b w h.2 (subst (λ (v : List ℕ). run state v ≡ Some closed) (sym is.0) is.2))))
-          bs (text_at h.0 n bs) (text_exact n bs h.0 (after_sane state b h.0 h.2) (omega (arith, h.3))) in
+          (w, (refl, omega (arith, size), same_next state h.0 b w h.2 (subst (λ (v : List ℕ). run state v ≡ Some boundary) (sym is.0) is.2))))
+          bs (text_at h.0 n bs) (text_exact n bs h.0 (after_sound state b h.0 h.2) (omega (arith, h.3))) in
           rw h.1 rest
     ]
 
 -- ---- strings
 
-pub record String (ending : Ending) (state : Open) (left : ℕ) (word t : List ℕ) : Type 0 where
+pub record String (ending : Ending) (state : Awaited) (left : ℕ) (word t : List ℕ) : Type 0 where
   pub spelled : word ≡ t ++ 0 ∷ []
   pub nonzero : AllNonzero t
   pub short : length t ≤ left
   pub may : may_end ending (left - length t) ≡ true
-  pub text : run state t ≡ Some closed
+  pub text : run state t ≡ Some boundary
 
 may_at_last : (ending : Ending) → may_end ending 0 ≡ true
 may_at_last Anywhere = refl
 may_at_last NotOneShort = refl
 may_at_last Exactly = refl
 
-filled_string : (ending : Ending) (state : Open) (left : ℕ) → IsSane state → state.more ≤ left → (t : List ℕ) × String ending state left (t ++ 0 ∷ []) t
-filled_string ending state left sane le =
-    let t = fill left state sane le in
+filled_string : (ending : Ending) (state : Awaited) (left : ℕ) → IsSound state → state.more ≤ left → (t : List ℕ) × String ending state left (t ++ 0 ∷ []) t
+filled_string ending state left sound le =
+    let t = fill left state sound le in
     let none : left - length t.0 ≡ 0 = omega (arith, t.1) in
     (t.0, record { spelled = refl; nonzero = t.3; short = omega (arith, t.1); may = ap (may_end ending) none ∙ may_at_last ending; text = t.2 })
 
-pub string_word : (ending : Ending) (left : ℕ) → HasWord (String ending closed left)
-string_word ending left = let t = filled_string ending closed left closed_sane (omega arith) in (t.0 ++ 0 ∷ [], t.0, t.1)
+pub string_word : (ending : Ending) (left : ℕ) → HasWord (String ending boundary left)
+string_word ending left = let t = filled_string ending boundary left boundary_sound (omega arith) in (t.0 ++ 0 ∷ [], t.0, t.1)
 
-string_goes : (ending : Ending) (state : Open) (left : ℕ) → IsSane state → state.more ≤ left → GoesOn (String ending state left) []
-string_goes ending state left sane le =
-    let t = filled_string ending state left sane le in (t.0 ++ 0 ∷ [], t.0, omega (arith, length-append t.0 (0 ∷ [])), t.1)
+string_goes : (ending : Ending) (state : Awaited) (left : ℕ) → IsSound state → state.more ≤ left → GoesOn (String ending state left) []
+string_goes ending state left sound le =
+    let t = filled_string ending state left sound le in (t.0 ++ 0 ∷ [], t.0, omega (arith, length-append t.0 (0 ∷ [])), t.1)
 
 -- a zero ends the first of two strings where it ends the second
 zero_apart : (s t x y : List ℕ) → AllNonzero s → AllNonzero t → (s ++ 0 ∷ []) ++ x ≡ (t ++ 0 ∷ []) ++ y → s ≡ t
@@ -273,7 +248,7 @@ zero_apart (a ∷ s) (b ∷ t) x y at_s at_t e =
     let same : a ≡ b = cc in
     (λ k. same k ∷ rest k)
 
-pub string_apart : (ending : Ending) (state : Open) (left : ℕ) → Apart (String ending state left)
+pub string_apart : (ending : Ending) (state : Awaited) (left : ℕ) → Apart (String ending state left)
 string_apart ending state left a b x y m n at_m at_n e =
     let same : m ≡ n = zero_apart m n x y at_m.nonzero at_n.nonzero (ap (λ (w : List ℕ). w ++ x) (sym at_m.spelled) ∙ e ∙ ap (λ (w : List ℕ). w ++ y) at_n.spelled) in
     (at_m.spelled ∙ ap (λ (w : List ℕ). w ++ 0 ∷ []) same ∙ sym at_n.spelled, same)
@@ -281,26 +256,26 @@ string_apart ending state left a b x y m n at_m at_n e =
 sub-zero : (n : ℕ) → n - 0 ≡ n
 sub-zero n = omega arith
 
-positive_byte : (state next : Open) (b : ℕ) → IsSane state → (state.more == 0 && b == 0) ≡ false → after state b ≡ Some next → 0 < b
-positive_byte state next (suc b) sane other step = omega arith
-positive_byte state next zero sane other step =
+positive_byte : (state next : Awaited) (b : ℕ) → IsSound state → (state.more == 0 && b == 0) ≡ false → after state b ≡ Some next → 0 < b
+positive_byte state next (suc b) sound other step = omega arith
+positive_byte state next zero sound other step =
     elim (eqb state.more 0) as (λ t. eqb state.more 0 ≡ t → 0 < 0) [
       | true ↦ λ e. let yes : (state.more == 0 && 0 == 0) ≡ true = rw e refl in absurd cc
-      | false ↦ λ e. let is = after_is state 0 next e step in absurd (omega (arith, is.0, sane.low))
+      | false ↦ λ e. let is = after_is state 0 next e step in absurd (omega (arith, is.0, sound.low))
     ] refl
 
 -- a string goes on behind the byte
-module _ (ending : Ending) (state : Open) (left b : ℕ) (sane : IsSane state) (le : state.more ≤ left) where
+module _ (ending : Ending) (state : Awaited) (left b : ℕ) (sound : IsSound state) (le : state.more ≤ left) where
   -- a zero where no character is open is the end
   ends : (bs : List ℕ) → (state.more == 0 && b == 0) ≡ true
       → Exact (String ending state left) (b ∷ bs) (cond (may_end ending left) (Ok ([], bs)) (departs (b ∷ bs)))
   ends bs e =
       let both = and_parts (eqb state.more 0) (eqb b 0) e in
-      let is_closed : state ≡ closed = sane.closes (eqb-true _ _ both.0) in
+      let is_closed : state ≡ boundary = sound.closes (eqb-true _ _ both.0) in
       let is_zero : b ≡ 0 = eqb-true _ _ both.1 in
       cond_both (may_end ending left) _ _ (Exact (String ending state left) (b ∷ bs))
       (λ may. (b ∷ [], refl, record { spelled = (λ k. is_zero k ∷ []); nonzero = tt; short = omega arith; may = ap (may_end ending) (sub-zero left) ∙ may; text = ap Some is_closed }))
-      (λ not_yet. departs_now (String ending state left) b bs (string_goes ending state left sane le) (λ more t word. no_word t more word not_yet is_zero))
+      (λ not_yet. departs_now (String ending state left) b bs (string_goes ending state left sound le) (λ more t word. no_word t more word not_yet is_zero))
     where
       no_word : (t more : List ℕ) → String ending state left (b ∷ more) t → may_end ending left ≡ false → b ≡ 0 → ⊥
       no_word [] more word not_yet is_zero = let may : may_end ending left ≡ true = ap (may_end ending) (sym (sub-zero left)) ∙ word.may in cc
@@ -310,41 +285,41 @@ module _ (ending : Ending) (state : Open) (left b : ℕ) (sane : IsSane state) (
   inside : (more t : List ℕ) → (state.more == 0 && b == 0) ≡ false → String ending state left (b ∷ more) t → (rest : List ℕ) × (t ≡ b ∷ rest) × (more ≡ rest ++ 0 ∷ [])
   inside more [] other word =
       let first : b ≡ 0 = (let e = word.spelled in cc) in
-      let is_closed : state ≡ closed = (let e = word.text in cc) in
-      let none : state.more ≡ 0 = ap (λ (s : Open). s.more) is_closed in
-      let yes : (state.more == 0 && b == 0) ≡ true = rw (eqb_true state.more 0 none, eqb_true b 0 first) refl in
+      let is_closed : state ≡ boundary = (let e = word.text in cc) in
+      let none : state.more ≡ 0 = ap (λ (s : Awaited). s.more) is_closed in
+      let yes : (state.more == 0 && b == 0) ≡ true = rw (eq-eqb state.more 0 none, eq-eqb b 0 first) refl in
       absurd cc
   inside more (x ∷ t) other word =
       let first : b ≡ x = (let e = word.spelled in cc) in
       let rest : more ≡ t ++ 0 ∷ [] = (let e = word.spelled in cc) in
       (t, (λ k. sym first k ∷ t), rest)
 
-pub string_exact : (bytes : List ℕ) (ending : Ending) (state : Open) (left : ℕ) → IsSane state → state.more ≤ left → Exact (String ending state left) bytes (string_at ending state left bytes)
+pub string_exact : (bytes : List ℕ) (ending : Ending) (state : Awaited) (left : ℕ) → IsSound state → state.more ≤ left → Exact (String ending state left) bytes (string_at ending state left bytes)
 unfolding string_at
-string_exact [] ending state left sane le = string_goes ending state left sane le
-string_exact (b ∷ bs) ending state left sane le =
+string_exact [] ending state left sound le = string_goes ending state left sound le
+string_exact (b ∷ bs) ending state left sound le =
     cond_both (state.more == 0 && b == 0) _ _ (Exact (String ending state left) (b ∷ bs))
-    (λ e. ends ending state left b sane le bs e)
+    (λ e. ends ending state left b sound le bs e)
     (λ other.
     elim (next_cases left state b) [
       | inl h ↦
-          let now = departs_now (String ending state left) b bs (string_goes ending state left sane le)
+          let now = departs_now (String ending state left) b bs (string_goes ending state left sound le)
           (λ more t word.
-          let in_text = inside ending state left b sane le more t other word in
+          let in_text = inside ending state left b sound le more t other word in
           let size : suc (length in_text.0) ≤ left = omega (arith, word.short, ap length in_text.1) in
-          h.1 in_text.0 (omega (arith, size)) (subst (λ (w : List ℕ). run state w ≡ Some closed) in_text.1 word.text)) in
+          h.1 in_text.0 (omega (arith, size)) (subst (λ (w : List ℕ). run state w ≡ Some boundary) in_text.1 word.text)) in
           rw h.0 now
       | inr h ↦
           let rest = exact_first (String ending state left) (String ending h.0 (left - 1)) (λ t. b ∷ t) b
           (λ w t word. record {
             spelled = ap (λ (v : List ℕ). b ∷ v) word.spelled;
-            nonzero = (positive_byte state h.0 b sane other h.2, word.nonzero);
+            nonzero = (positive_byte state h.0 b sound other h.2, word.nonzero);
             short = omega (arith, word.short, h.3);
             may = ap (may_end ending) (omega arith) ∙ word.may;
             text = run_step state b t h.0 h.2 ∙ word.text;
           })
           (λ w t word.
-          let in_text = inside ending state left b sane le w t other word in
+          let in_text = inside ending state left b sound le w t other word in
           let size : length t ≡ suc (length in_text.0) = ap length in_text.1 in
           let nonzero : AllNonzero (b ∷ in_text.0) = subst AllNonzero in_text.1 word.nonzero in (
             in_text.0,
@@ -353,9 +328,9 @@ string_exact (b ∷ bs) ending state left sane le =
               nonzero = nonzero.1;
               short = omega (arith, word.short, size);
               may = ap (may_end ending) (omega (arith, size)) ∙ word.may;
-              text = same_next state h.0 b in_text.0 h.2 (subst (λ (v : List ℕ). run state v ≡ Some closed) in_text.1 word.text);
+              text = same_next state h.0 b in_text.0 h.2 (subst (λ (v : List ℕ). run state v ≡ Some boundary) in_text.1 word.text);
             },
           ))
-          bs (string_at ending h.0 (left - 1) bs) (string_exact bs ending h.0 (left - 1) (after_sane state b h.0 h.2) (omega (arith, h.3))) in
+          bs (string_at ending h.0 (left - 1) bs) (string_exact bs ending h.0 (left - 1) (after_sound state b h.0 h.2) (omega (arith, h.3))) in
           rw h.1 rest
     ])

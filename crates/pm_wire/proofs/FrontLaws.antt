@@ -1,14 +1,14 @@
 -- The two laws of reading: what is read is spelled so, and what is spelled so is read.
 use Rattle.std.proofs.Common.{◌≡◌, ◌≢◌, ℕ, suc, ◌+◌, ◌-◌, ◌^◌, ◌<◌, ◌≤◌, ◌++◌, ◌∷◌, [], List, length, take, drop, Bool, true, false, eqb, ltb, Option, Some, None, inl, inr, IsTrue, refl, sym, ap, subst, ◌∙◌, arith, append_assoc}
 use Rattle.std.proofs.lemmas.Bool.{cond_both, eqb-true, eqb-false, lt-ltb, le-ltb, ltb-true, ltb-false}
-use Rattle.std.proofs.lemmas.List.{append-nil, length-append, length-take, take_at, drop_at, take-append-drop}
+use Rattle.std.proofs.lemmas.List.{append-nil, length-append, length-take, take_at, drop_at, take-append-drop, nil_from_length}
 use Rattle.std.proofs.lemmas.Bool.Decides.{nat_tests}
 use Rattle.byteorder.specs.Endian.{big_number}
 use Rattle.pm_wire.specs.declared.take.Take.{Take}
 use Rattle.pm_wire.specs.declared.take.Take.TheVariants.{Whole, Short, Bad}
 use Rattle.pm_wire.specs.declared.take.WireFault.TheVariants.{BadLength}
 use Rattle.pm_wire.specs.Pieces.{int32, string, message}
-use Rattle.pm_wire.specs.Frontend.{FrontMessage, Query, BadQuery, LongQuery, Terminate, Extended, Other, IsFront, IsString, IsBadHeader, BeginsBadly, is_extended, is_simple}
+use Rattle.pm_wire.specs.Frontend.{FrontMessage, Query, BadQuery, LongQuery, Terminate, Extended, Other, IsFront, IsString, IsBadHeader, BeginsBadly, Wants, its_type, its_length, its_body, is_extended, is_simple}
 use Rattle.pm_wire.specs.Reading.{text_of, query_or_bad, query_of_length, terminate_of_length, query_of, terminate_of, front_of}
 use Rattle.pm_wire.proofs.Numbers.{IsBytes, length_int32, number_again, number_below, number_split}
 use Rattle.pm_wire.proofs.Strings.{text_again, text_takes, text_none}
@@ -128,6 +128,52 @@ bad_again header rest seen (inr h) =
     let other : eqb seen 4 ≡ false = elim (eqb seen 4) as (λ t. eqb seen 4 ≡ t → t ≡ false) [ true ↦ λ e. absurd (h.1 (eqb-true seen 4 e)) | false ↦ λ _. refl ] refl in
     subst (λ (s : List ℕ). front_of (s ++ rest) ≡ Bad (BadLength seen)) (sym h.0) (terminate_header seen rest h.2 ∙ rw other refl)
 
+-- ---- too little to tell
+
+simple_is_no_other : (kind : ℕ) → eqb kind 81 ≡ false → eqb kind 88 ≡ false → is_simple kind ≡ false
+simple_is_no_other kind no_query no_end = grind (arith, nat_tests)
+
+header_wants : (kind : ℕ) (part : List ℕ) → IsTrue (is_simple kind) → length part < 4 → front_of (kind ∷ part) ≡ Short 5
+unfolding front_of query_of terminate_of
+header_wants kind part simple few =
+    let short : ltb (length part) 4 ≡ true = lt-ltb _ _ few in
+    elim (eqb kind 81) as (λ q. eqb kind 81 ≡ q → front_of (kind ∷ part) ≡ Short 5) [
+      | true ↦ λ query. rw (query, short) refl
+      | false ↦ λ no_query.
+          elim (eqb kind 88) as (λ x. eqb kind 88 ≡ x → front_of (kind ∷ part) ≡ Short 5) [
+            | true ↦ λ end. rw (no_query, end, short) refl
+            | false ↦ λ no_end. let never = sym (simple_is_no_other kind no_query no_end) ∙ simple in absurd cc
+          ] refl
+    ] refl
+
+body_wants : (seen : ℕ) (part : List ℕ) → seen ≤ 65541 → 4 + length part < seen → front_of (81 ∷ (int32 seen ++ part)) ≡ Short (seen + 1)
+unfolding front_of
+body_wants seen part le more =
+    let small : ltb seen 4 ≡ false = le-ltb _ _ (omega (arith, more)) in
+    let long : ltb 65541 seen ≡ false = le-ltb _ _ le in
+    let short : ltb (length part) (seen - 4) ≡ true = lt-ltb _ _ (omega (arith, more)) in
+    query_header seen part (omega (arith, le)) ∙ rw (small, long, short) refl
+
+nothing_wants : front_of [] ≡ Short 1
+unfolding front_of
+nothing_wants = refl
+
+pub wants_short : (bytes : List ℕ) (wanted : ℕ) → Wants bytes wanted → front_of bytes ≡ Short wanted
+wants_short bytes wanted (its_type none one) = ap front_of none ∙ nothing_wants ∙ ap Short (sym one)
+wants_short bytes wanted (its_length kind part parts simple few five) = ap front_of parts ∙ header_wants kind part simple few ∙ ap Short (sym five)
+wants_short bytes wanted (its_body seen part parts le more is) = ap front_of parts ∙ body_wants seen part le more ∙ ap Short (sym is)
+
+-- with a part of what is wanted, the same is wanted
+pub wants_more : (bytes more : List ℕ) (wanted : ℕ) → Wants bytes wanted → length (bytes ++ more) < wanted → Wants (bytes ++ more) wanted
+wants_more bytes more wanted (its_type none one) few =
+    its_type (nil_from_length (bytes ++ more) (omega (arith, few, one))) one
+wants_more bytes more wanted (its_length kind part parts simple short five) few =
+    let behind : bytes ++ more ≡ kind ∷ (part ++ more) = ap (λ (w : List ℕ). w ++ more) parts in
+    its_length kind (part ++ more) behind simple (omega (arith, few, five, ap length behind)) five
+wants_more bytes more wanted (its_body seen part parts le some is) few =
+    let behind : bytes ++ more ≡ 81 ∷ (int32 seen ++ (part ++ more)) = ap (λ (w : List ℕ). w ++ more) parts ∙ ap (λ (w : List ℕ). 81 ∷ w) (append_assoc (int32 seen) part more) in
+    its_body seen (part ++ more) behind le (omega (arith, few, is, ap length behind, length-append (int32 seen) (part ++ more), length_int32 seen)) is
+
 -- ---- what is read is spelled so
 
 -- the bytes begin with the spelling of the message
@@ -149,7 +195,7 @@ query_is body le =
 
 abbrev pub IsSound : List ℕ → Answer → Type 0
 IsSound bytes (Whole m used) = Begins bytes m used
-IsSound bytes Short = Unit {0}
+IsSound bytes (Short wanted) = Wants bytes wanted
 IsSound bytes (Bad fault) = (seen : ℕ) × (fault ≡ BadLength seen) × BeginsBadly bytes seen
 
 -- a query with its body, of the length n
@@ -177,13 +223,13 @@ length_sound n after fits =
     (λ low. cond_both (ltb 65541 n) _ _ (IsSound (81 ∷ (int32 n ++ after)))
     (λ long. record { spelled = 81 ∷ int32 n; rest = after; parts = refl; size = sym (length_header 81 n); is = (refl, ltb-true _ _ long, fits) })
     (λ high. cond_both (ltb (length after) (n - 4)) _ _ (IsSound (81 ∷ (int32 n ++ after)))
-    (λ _. tt)
+    (λ short. its_body n after refl (ltb-false _ _ high) (omega (arith, ltb-true _ _ short)) refl)
     (λ here. whole_sound n after (ltb-false _ _ low) (ltb-false _ _ high) (ltb-false _ _ here))))
 
 query_sound : (rest : List ℕ) → IsBytes rest → IsSound (81 ∷ rest) (query_of rest)
 unfolding query_of
 query_sound rest fits =
-    cond_both (ltb (length rest) 4) _ _ (IsSound (81 ∷ rest)) (λ _. tt)
+    cond_both (ltb (length rest) 4) _ _ (IsSound (81 ∷ rest)) (λ short. its_length 81 rest refl refl (ltb-true _ _ short) refl)
     (λ long.
     let split = number_split rest (ltb-false _ _ long) fits in
     let P : List ℕ → Type 0 = λ bytes. IsSound (81 ∷ bytes) (query_of_length (big_number 4 rest) (drop 4 rest)) in
@@ -206,18 +252,15 @@ end_sound n after fits =
 terminate_sound : (rest : List ℕ) → IsBytes rest → IsSound (88 ∷ rest) (terminate_of rest)
 unfolding terminate_of
 terminate_sound rest fits =
-    cond_both (ltb (length rest) 4) _ _ (IsSound (88 ∷ rest)) (λ _. tt)
+    cond_both (ltb (length rest) 4) _ _ (IsSound (88 ∷ rest)) (λ short. its_length 88 rest refl refl (ltb-true _ _ short) refl)
     (λ long.
     let split = number_split rest (ltb-false _ _ long) fits in
     let P : List ℕ → Type 0 = λ bytes. IsSound (88 ∷ bytes) (terminate_of_length (big_number 4 rest)) in
     subst P (sym split) (end_sound (big_number 4 rest) (drop 4 rest) (number_below rest fits)))
 
-simple_is_no_other : (kind : ℕ) → eqb kind 81 ≡ false → eqb kind 88 ≡ false → is_simple kind ≡ false
-simple_is_no_other kind no_query no_end = grind (arith, nat_tests)
-
 pub front_sound : (bytes : List ℕ) → IsBytes bytes → IsSound bytes (front_of bytes)
 unfolding front_of
-front_sound [] fits = tt
+front_sound [] fits = its_type refl refl
 front_sound (kind ∷ rest) fits =
     let P : Answer → Type 0 = IsSound (kind ∷ rest) in
     cond_both (eqb kind 81) _ _ P

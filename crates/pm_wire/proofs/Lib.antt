@@ -6,7 +6,6 @@ pub mod FrontRead
 pub mod Streams
 pub mod Sizes
 pub mod Apart
-pub mod Characters
 pub mod Exact
 pub mod Walks
 pub mod Fields
@@ -18,3 +17,7 @@ pub mod TypeBytes
 pub mod TagBytes
 pub mod BackLaws
 pub mod BackAgain
+pub mod Longests
+pub mod Tellable
+pub mod Faults
+pub mod BackFaults

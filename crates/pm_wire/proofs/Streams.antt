@@ -3,7 +3,7 @@ use Rattle.std.proofs.Common.{◌≡◌, ℕ, List, [], ◌∷◌, ◌++◌, ref
 use Rattle.std.proofs.lemmas.List.{append_cancel_left}
 use Rattle.pm_wire.specs.Stream.{IsStream, HasNoMessage, StandApart, SplitOneWay, SplitInPieces}
 
-one_way : {M : Type 0} (Is : List ℕ → M → Type 0) → StandApart Is → (stream : List ℕ) (ms ns : List M) (r s : List ℕ)
+pub one_way : {M : Type 0} (Is : List ℕ → M → Type 0) → StandApart Is → (stream : List ℕ) (ms ns : List M) (r s : List ℕ)
     → IsStream Is stream ms r → HasNoMessage Is r → IsStream Is stream ns s → HasNoMessage Is s → (ms ≡ ns) × (r ≡ s)
 one_way Is apart stream [] [] r s a none_a b none_b = (refl, sym a ∙ b)
 one_way Is apart stream [] (n ∷ ns) r s a none_a b none_b = absurd (none_a b.0 b.1 n b.3 (sym a ∙ b.2))
@@ -18,7 +18,7 @@ one_way Is apart stream (m ∷ ms) (n ∷ ns) r s a none_a b none_b =
 pub split_one_way : {M : Type 0} (Is : List ℕ → M → Type 0) → StandApart Is → SplitOneWay Is
 split_one_way Is apart stream ms ns r s a b = one_way Is apart stream ms ns r s a.whole a.partial b.whole b.partial
 
-pieces : {M : Type 0} (Is : List ℕ → M → Type 0) → (first second : List ℕ) (ms ns : List M) (r s : List ℕ)
+pub pieces : {M : Type 0} (Is : List ℕ → M → Type 0) → (first second : List ℕ) (ms ns : List M) (r s : List ℕ)
     → IsStream Is first ms r → IsStream Is (r ++ second) ns s → IsStream Is (first ++ second) (ms ++ ns) s
 pieces Is first second [] ns r s a b = subst (λ (x : List ℕ). IsStream Is (x ++ second) ns s) (sym a) b
 pieces Is first second (m ∷ ms) ns r s a b =

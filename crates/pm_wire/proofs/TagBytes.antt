@@ -11,19 +11,20 @@ use Rattle.pm_wire.specs.declared.back.Tag.{Tag}
 use Rattle.pm_wire.specs.declared.back.Tag.TheVariants.{Insert, Update, Delete, Select}
 use Rattle.pm_wire.specs.declared.parts.Ending.TheVariants.{NotOneShort, Exactly}
 use Rattle.pm_wire.specs.Pieces.{string, HasNoZero}
-use Rattle.pm_wire.specs.Backend.{BackMessage, Complete, Fault, Notice, Saying, fields, fields_of, detail_field, severity_word, tag_text, HasCount, HoldsReport, SaysNoZero, report_length, detail_length}
-use Rattle.pm_wire.specs.Utf8.{closed}
+use Rattle.pm_wire.specs.Backend.{kind_of, BackMessage, Complete, Fault, Notice, Saying, fields, fields_of, detail_field, severity_word, tag_text, HasCount, HoldsReport, SaysNoZero, report_length, detail_length}
+use Rattle.pm_utf8.specs.Utf8.{boundary}
 use Rattle.pm_wire.specs.BackReading.{Read, complete_at, report_at, leaves_number, text_room, severity_fields}
 use Rattle.pm_wire.specs.Parts.{may_end, ◌>>=◌}
 use Rattle.pm_wire.proofs.Strings.{all_nonzero, has_no_zero}
-use Rattle.pm_wire.proofs.Characters.{accepts, is_utf8, eqb_true, eqb_false}
+use Rattle.pm_utf8.specs.Characters.{accepts, is_utf8}
+use Rattle.std.proofs.lemmas.Bool.{eq-eqb, ne_eqb}
 use Rattle.pm_wire.proofs.Joined.{length_fields}
 use Rattle.pm_wire.proofs.Exact.{Then, Done}
 use Rattle.pm_wire.proofs.Fields.{Code, String}
 use Rattle.pm_wire.proofs.Digits.{Num, num_decimal, decimal_num}
 use Rattle.pm_wire.proofs.Bodies.{last_exact, last_apart, last_word}
 use Rattle.pm_wire.proofs.Tags.{TagBody, TagWord, inserted, updated, deleted, selected, tag_body_exact, tag_body_apart, tag_body_word, Verb, leaves, ReportBody, report_exact, report_apart, report_word, SeverityWord, as_error, as_fatal, as_panic, as_warning, Said, Detail, saying_of}
-use Rattle.pm_wire.proofs.TypeBytes.{BodyIs, Good, good_from, tag_in, fault_of, notice_of}
+use Rattle.pm_wire.proofs.TypeBytes.{BodyIs, Good, good_from, of_kind}
 
 -- ---- tags
 
@@ -116,7 +117,7 @@ tag_word_out size w (Select n) fits e size_is =
 
 tag_out : (size : ℕ) (w : List ℕ) (m : BackMessage) → BodyIs 67 size w m → TagBody size w m
 tag_out size w m h =
-    let t = tag_in m h.kind_is in
+    let t = of_kind 67 m h.kind_is in
     let b : BodyIs 67 size w (Complete t.0) = subst (λ (x : BackMessage). BodyIs 67 size w x) t.1 h in
     (w, [], t.0, sym (append-nil w), tag_word_out size w t.0 b.values b.is b.size_is, (refl, sym t.1))
 
@@ -139,7 +140,7 @@ detail_is zero word d many h =
 detail_is (suc k) word d many h =
     let text_part = h.5 in
     let detail = text_part.2 in
-    let at_detail : String Exactly closed (suc k - 2) text_part.0 detail = text_part.4 in
+    let at_detail : String Exactly boundary (suc k - 2) text_part.0 detail = text_part.4 in
     let end = text_part.5 in
     let end_is : text_part.1 ≡ 0 ∷ [] = end.3 ∙ ap (λ (x : List ℕ). x ++ end.1) end.4 ∙ ap (λ (x : List ℕ). 0 ∷ x) end.5.0 in
     let whole : word ≡ (68 ∷ (detail ++ 0 ∷ [])) ++ 0 ∷ [] =
@@ -171,7 +172,7 @@ detail_out (Some detail) word e text nonzero =
         0 ∷ [],
         detail,
         refl,
-        record { spelled = refl; nonzero = all_nonzero detail nonzero; short = omega arith; may = eqb_true _ _ (omega arith); text = accepts detail text },
+        record { spelled = refl; nonzero = all_nonzero detail nonzero; short = omega arith; may = eq-eqb _ _ (omega arith); text = accepts detail text },
         (0 ∷ [], [], tt, refl, refl, (refl, refl)),
       ),
     ) in
@@ -203,10 +204,10 @@ said_is severity size low word s h =
     let letter_part = code_part.5 in
     let text_part = letter_part.5 in
     let text = text_part.2 in
-    let at_text : String NotOneShort closed room text_part.0 text = text_part.4 in
+    let at_text : String NotOneShort boundary room text_part.0 text = text_part.4 in
     let detail_part = text_part.5 in
     let detail = detail_part.2 in
-    let many : room - length text ≡ 1 → ⊥ = λ e. (let one : eqb (room - length text) 1 ≡ true = eqb_true _ _ e in let may = at_text.may in not_one (room - length text) one may) in
+    let many : room - length text ≡ 1 → ⊥ = λ e. (let one : eqb (room - length text) 1 ≡ true = eq-eqb _ _ e in let may = at_text.may in not_one (room - length text) one may) in
     let d = detail_is (room - length text) detail_part.0 detail many detail_part.4 in
     let detail_word : text_part.1 ≡ detail_field detail ++ 0 ∷ [] = detail_part.3 ∙ ap (λ (x : List ℕ). detail_part.0 ++ x) detail_part.5.0 ∙ append-nil detail_part.0 ∙ d.is in
     let text_word : letter_part.1 ≡ (text ++ 0 ∷ []) ++ (detail_field detail ++ 0 ∷ []) =
@@ -266,7 +267,7 @@ said_out severity size word code text detail e size_is holds nonzero =
   where
     detail_may : (detail : Option (List ℕ)) → may_end NotOneShort (detail_length detail) ≡ true
     detail_may None = refl
-    detail_may (Some d) = rw (eqb_false (2 + length d) 1 (λ z. omega (arith, z))) refl
+    detail_may (Some d) = rw (ne_eqb (2 + length d) 1 (λ z. omega (arith, z))) refl
 
 severity_is : (size : ℕ) → 24 ≤ size → (word : List ℕ) (s : Saying) → SeverityWord size word s → SaidIs size word s
 severity_is size low word s (as_error h) = said_is Error size low word s h
@@ -307,38 +308,46 @@ SayingBody make size = Then (ReportBody size) (λ s. Done (make s))
 abbrev pub saying_at : (Saying → BackMessage) → ℕ → List ℕ → Read
 saying_at make size bytes = report_at size bytes >>= λ s. Ok (make s.0, s.1)
 
-fault_into : (size : ℕ) → 24 ≤ size → size + 4 < 2 ^ 31 → (w : List ℕ) (m : BackMessage) → SayingBody Fault size w m → BodyIs 69 size w m
-fault_into size low high w m h =
+-- the type of messages that hold a report and nothing else
+record ReportType (kind size : ℕ) (make : Saying → BackMessage) : Type 0 where
+  of : (m : BackMessage) → kind_of m ≡ kind ∷ [] → (s : Saying) × (m ≡ make s)
+  made : (w : List ℕ) (s : Saying) → w ≡ fields_of s → length w ≡ size → HoldsReport s → SaysNoZero s → report_length s < 2 ^ 31 → BodyIs kind size w (make s)
+  unmade : (w : List ℕ) (s : Saying) → BodyIs kind size w (make s) → (w ≡ fields_of s) × (length w ≡ size) × HoldsReport s × SaysNoZero s
+
+fault_type : (size : ℕ) → ReportType 69 size Fault
+fault_type size = record {
+  of = of_kind 69;
+  made = λ w s is size_is holds nonzero short. record { is = is; kind_is = refl; size_is = size_is; values = holds; writable = (nonzero, short) };
+  unmade = λ w s b. (b.is, b.size_is, b.values, b.writable.0);
+}
+
+notice_type : (size : ℕ) → ReportType 78 size Notice
+notice_type size = record {
+  of = of_kind 78;
+  made = λ w s is size_is holds nonzero short. record { is = is; kind_is = refl; size_is = size_is; values = holds; writable = (nonzero, short) };
+  unmade = λ w s b. (b.is, b.size_is, b.values, b.writable.0);
+}
+
+saying_into : (kind size : ℕ) (make : Saying → BackMessage) → ReportType kind size make → 24 ≤ size → size + 4 < 2 ^ 31 → (w : List ℕ) (m : BackMessage) → SayingBody make size w m → BodyIs kind size w m
+saying_into kind size make type low high w m h =
     let r = report_is size low h.0 h.2 h.4 in
     let whole : w ≡ h.0 = h.3 ∙ ap (λ (x : List ℕ). h.0 ++ x) h.5.0 ∙ append-nil h.0 in
-    subst (λ (x : BackMessage). BodyIs 69 size w x) h.5.1
-    (record { is = whole ∙ r.0; kind_is = refl; size_is = ap length whole ∙ r.1; values = r.2; writable = (r.3, report_short h.2 size h.0 r.0 r.1 high) })
+    subst (λ (x : BackMessage). BodyIs kind size w x) h.5.1 (type.made w h.2 (whole ∙ r.0) (ap length whole ∙ r.1) r.2 r.3 (report_short h.2 size h.0 r.0 r.1 high))
 
-fault_out : (size : ℕ) (w : List ℕ) (m : BackMessage) → BodyIs 69 size w m → SayingBody Fault size w m
-fault_out size w m h =
-    let f = fault_of m h.kind_is in
-    let b : BodyIs 69 size w (Fault f.0) = subst (λ (x : BackMessage). BodyIs 69 size w x) f.1 h in
-    (w, [], f.0, sym (append-nil w), report_out size w f.0 b.is b.size_is b.values b.writable.0, (refl, sym f.1))
+saying_out : (kind size : ℕ) (make : Saying → BackMessage) → ReportType kind size make → (w : List ℕ) (m : BackMessage) → BodyIs kind size w m → SayingBody make size w m
+saying_out kind size make type w m h =
+    let f = type.of m h.kind_is in
+    let u = type.unmade w f.0 (subst (λ (x : BackMessage). BodyIs kind size w x) f.1 h) in
+    (w, [], f.0, sym (append-nil w), report_out size w f.0 u.0 u.1 u.2 u.3, (refl, sym f.1))
 
-notice_into : (size : ℕ) → 24 ≤ size → size + 4 < 2 ^ 31 → (w : List ℕ) (m : BackMessage) → SayingBody Notice size w m → BodyIs 78 size w m
-notice_into size low high w m h =
-    let r = report_is size low h.0 h.2 h.4 in
-    let whole : w ≡ h.0 = h.3 ∙ ap (λ (x : List ℕ). h.0 ++ x) h.5.0 ∙ append-nil h.0 in
-    subst (λ (x : BackMessage). BodyIs 78 size w x) h.5.1
-    (record { is = whole ∙ r.0; kind_is = refl; size_is = ap length whole ∙ r.1; values = r.2; writable = (r.3, report_short h.2 size h.0 r.0 r.1 high) })
-
-notice_out : (size : ℕ) (w : List ℕ) (m : BackMessage) → BodyIs 78 size w m → SayingBody Notice size w m
-notice_out size w m h =
-    let f = notice_of m h.kind_is in
-    let b : BodyIs 78 size w (Notice f.0) = subst (λ (x : BackMessage). BodyIs 78 size w x) f.1 h in
-    (w, [], f.0, sym (append-nil w), report_out size w f.0 b.is b.size_is b.values b.writable.0, (refl, sym f.1))
+good_report : (kind size : ℕ) (make : Saying → BackMessage) → ReportType kind size make → 24 ≤ size → size + 4 < 2 ^ 31 → Good kind size (saying_at make size)
+good_report kind size make type low high =
+    good_from kind size (saying_at make size) (SayingBody make size) (saying_into kind size make type low high) (saying_out kind size make type)
+    (λ bytes _. last_exact (ReportBody size) make (report_apart size) bytes (report_at size bytes) (report_exact size bytes))
+    (last_apart (ReportBody size) make (report_apart size)) (last_word (ReportBody size) make (report_word size))
 
 pub good_fault : (size : ℕ) → 24 ≤ size → size + 4 < 2 ^ 31 → Good 69 size (saying_at Fault size)
-good_fault size low high =
-    good_from 69 size (saying_at Fault size) (SayingBody Fault size) (fault_into size low high) (fault_out size) (λ bytes _. last_exact (ReportBody size) Fault (report_apart size) bytes (report_at size bytes) (report_exact size bytes))
-    (last_apart (ReportBody size) Fault (report_apart size)) (last_word (ReportBody size) Fault (report_word size))
+good_fault size = good_report 69 size Fault (fault_type size)
 
 pub good_notice : (size : ℕ) → 24 ≤ size → size + 4 < 2 ^ 31 → Good 78 size (saying_at Notice size)
-good_notice size low high =
-    good_from 78 size (saying_at Notice size) (SayingBody Notice size) (notice_into size low high) (notice_out size) (λ bytes _. last_exact (ReportBody size) Notice (report_apart size) bytes (report_at size bytes) (report_exact size bytes))
-    (last_apart (ReportBody size) Notice (report_apart size)) (last_word (ReportBody size) Notice (report_word size))
+good_notice size = good_report 78 size Notice (notice_type size)

@@ -9,10 +9,11 @@ use Rattle.pm_wire.specs.declared.back.Tag.TheVariants.{Insert, Update, Delete, 
 use Rattle.pm_wire.specs.declared.parts.Stop.{Stop}
 use Rattle.pm_wire.specs.declared.parts.Ending.TheVariants.{NotOneShort, Exactly}
 use Rattle.pm_wire.specs.Backend.{BackMessage, Complete, Saying}
-use Rattle.pm_wire.specs.Utf8.{closed}
+use Rattle.pm_utf8.specs.Utf8.{boundary}
 use Rattle.pm_wire.specs.Parts.{◌>>=◌, code_at, string_at, number_at}
 use Rattle.pm_wire.specs.BackReading.{counted_verb_at, verb_at, leaves_number, tag_at, complete_at, detail_at, severity_fields, text_room, said_at, severity_at, report_at}
-use Rattle.pm_wire.proofs.Characters.{closed_sane, eqb_false, eqb_true}
+use Rattle.pm_utf8.specs.States.{boundary_sound}
+use Rattle.std.proofs.lemmas.Bool.{ne_eqb, eq-eqb}
 use Rattle.pm_wire.proofs.Exact.{Apart, GoesOn, HasWord, Exact, Then, Done, done_exact, done_apart, done_word, then_apart, then_word, then_exact}
 use Rattle.pm_wire.proofs.Fields.{departs_now, Code, code_apart, code_word, code_exact, String, string_apart, string_word, string_exact, bind_same}
 use Rattle.pm_wire.proofs.Digits.{Num, num_apart, num_word, number_exact, exact_starting, powers_of_64}
@@ -124,7 +125,7 @@ branch L M g b v ok bs read test into out exact =
     subst P (sym (eqb-true _ _ both.0)) (exact_starting L M g v (into both.1) out bs (read (v ∷ bs)) (exact both.1 (v ∷ bs)))
 
 no_branch : (b v : ℕ) (ok : Bool) → (b == v && ok) ≡ false → b ≡ v → ok ≡ true → ⊥
-no_branch b v ok h same yes_ok = let yes_both : (b == v && ok) ≡ true = rw (eqb_true b v same, yes_ok) refl in absurd cc
+no_branch b v ok h same yes_ok = let yes_both : (b == v && ok) ≡ true = rw (eq-eqb b v same, yes_ok) refl in absurd cc
 
 verb_long : (verb : List ℕ) (make : ℕ → Tag) (count : ℕ) (word : List ℕ) (t : Tag) → Verb verb make count word t → length verb ≤ length word
 verb_long verb make count word t h =
@@ -181,34 +182,34 @@ TagBody size = Then (TagWord size) (λ t. Done (Complete t))
 
 abbrev pub Detail : ℕ → List ℕ → Option (List ℕ) → Type 0
 Detail zero = Behind (0 ∷ []) (Done None)
-Detail (suc k) = Behind (68 ∷ []) (Then (String Exactly closed (suc k - 2)) (λ d. Behind (0 ∷ []) (Done (Some d))))
+Detail (suc k) = Behind (68 ∷ []) (Then (String Exactly boundary (suc k - 2)) (λ d. Behind (0 ∷ []) (Done (Some d))))
 
 detail_end : (d : List ℕ) → HasWord (Behind (0 ∷ []) (Done (Some d)))
 detail_end d = behind_word (0 ∷ []) (Done (Some d)) (done_word (Some d))
 
-detail_string : (k : ℕ) → HasWord (Then (String Exactly closed (suc k - 2)) (λ d. Behind (0 ∷ []) (Done (Some d))))
-detail_string k = let d = string_word Exactly (suc k - 2) in then_word (String Exactly closed (suc k - 2)) (λ d. Behind (0 ∷ []) (Done (Some d))) d (detail_end d.1)
+detail_string : (k : ℕ) → HasWord (Then (String Exactly boundary (suc k - 2)) (λ d. Behind (0 ∷ []) (Done (Some d))))
+detail_string k = let d = string_word Exactly (suc k - 2) in then_word (String Exactly boundary (suc k - 2)) (λ d. Behind (0 ∷ []) (Done (Some d))) d (detail_end d.1)
 
 pub detail_word : (left : ℕ) → HasWord (Detail left)
 detail_word zero = behind_word (0 ∷ []) (Done None) (done_word None)
-detail_word (suc k) = behind_word (68 ∷ []) (Then (String Exactly closed (suc k - 2)) (λ d. Behind (0 ∷ []) (Done (Some d)))) (detail_string k)
+detail_word (suc k) = behind_word (68 ∷ []) (Then (String Exactly boundary (suc k - 2)) (λ d. Behind (0 ∷ []) (Done (Some d)))) (detail_string k)
 
 pub detail_exact : (left : ℕ) (bytes : List ℕ) → Exact (Detail left) bytes (detail_at left bytes)
 unfolding detail_at
 detail_exact zero bytes = behind_exact (0 ∷ []) (Done None) (done_word None) bytes (λ p. Ok (None, p.1)) (λ u rest _. done_exact None rest)
 detail_exact (suc k) bytes =
-    let other : eqb (suc k) 0 ≡ false = eqb_false (suc k) 0 (λ e. omega (arith, e)) in
+    let other : eqb (suc k) 0 ≡ false = ne_eqb (suc k) 0 (λ e. omega (arith, e)) in
     rw other
-    (behind_exact (68 ∷ []) (Then (String Exactly closed (suc k - 2)) (λ d. Behind (0 ∷ []) (Done (Some d)))) (detail_string k) bytes _
-    (λ u rest _. then_exact (String Exactly closed (suc k - 2)) (λ d. Behind (0 ∷ []) (Done (Some d))) (string_apart Exactly closed (suc k - 2)) (λ v d _. detail_end d)
-    rest (string_at Exactly closed (suc k - 2) rest) _ (string_exact rest Exactly closed (suc k - 2) closed_sane (omega arith))
+    (behind_exact (68 ∷ []) (Then (String Exactly boundary (suc k - 2)) (λ d. Behind (0 ∷ []) (Done (Some d)))) (detail_string k) bytes _
+    (λ u rest _. then_exact (String Exactly boundary (suc k - 2)) (λ d. Behind (0 ∷ []) (Done (Some d))) (string_apart Exactly boundary (suc k - 2)) (λ v d _. detail_end d)
+    rest (string_at Exactly boundary (suc k - 2) rest) _ (string_exact rest Exactly boundary (suc k - 2) boundary_sound (omega arith))
     (λ v after d _ _. behind_exact (0 ∷ []) (Done (Some d)) (done_word (Some d)) after (λ p. Ok (Some d, p.1)) (λ w behind _. done_exact (Some d) behind))))
 
 pub detail_apart : (left : ℕ) → Apart (Detail left)
 detail_apart zero = behind_apart (0 ∷ []) (Done None) (done_apart None)
 detail_apart (suc k) =
-    behind_apart (68 ∷ []) (Then (String Exactly closed (suc k - 2)) (λ d. Behind (0 ∷ []) (Done (Some d))))
-    (then_apart (String Exactly closed (suc k - 2)) (λ d. Behind (0 ∷ []) (Done (Some d))) (string_apart Exactly closed (suc k - 2)) (λ d. behind_apart (0 ∷ []) (Done (Some d)) (done_apart (Some d))))
+    behind_apart (68 ∷ []) (Then (String Exactly boundary (suc k - 2)) (λ d. Behind (0 ∷ []) (Done (Some d))))
+    (then_apart (String Exactly boundary (suc k - 2)) (λ d. Behind (0 ∷ []) (Done (Some d))) (string_apart Exactly boundary (suc k - 2)) (λ d. behind_apart (0 ∷ []) (Done (Some d)) (done_apart (Some d))))
 
 abbrev pub saying_of : Severity → (code text : List ℕ) → Option (List ℕ) → Saying
 saying_of severity code text detail = record { severity = severity; code = code; text = text; detail = detail }
@@ -217,7 +218,7 @@ abbrev pub Ending : Severity → ℕ → (code text : List ℕ) → List ℕ →
 Ending severity size code text = Then (Detail (text_room severity size - length text)) (λ d. Done (saying_of severity code text d))
 
 abbrev pub SaidText : Severity → ℕ → List ℕ → List ℕ → Saying → Type 0
-SaidText severity size code = Behind (0 ∷ 77 ∷ []) (Then (String NotOneShort closed (text_room severity size)) (λ text. Ending severity size code text))
+SaidText severity size code = Behind (0 ∷ 77 ∷ []) (Then (String NotOneShort boundary (text_room severity size)) (λ text. Ending severity size code text))
 
 abbrev pub Said : Severity → ℕ → List ℕ → Saying → Type 0
 Said severity size = Behind (severity_fields severity) (Then (Code 5) (λ code. SaidText severity size code))
@@ -225,13 +226,13 @@ Said severity size = Behind (severity_fields severity) (Then (Code 5) (λ code. 
 ending_word : (severity : Severity) (size : ℕ) (code text : List ℕ) → HasWord (Ending severity size code text)
 ending_word severity size code text = last_word (Detail (text_room severity size - length text)) (λ d. saying_of severity code text d) (detail_word (text_room severity size - length text))
 
-said_string : (severity : Severity) (size : ℕ) (code : List ℕ) → HasWord (Then (String NotOneShort closed (text_room severity size)) (λ text. Ending severity size code text))
+said_string : (severity : Severity) (size : ℕ) (code : List ℕ) → HasWord (Then (String NotOneShort boundary (text_room severity size)) (λ text. Ending severity size code text))
 said_string severity size code =
     let t = string_word NotOneShort (text_room severity size) in
-    then_word (String NotOneShort closed (text_room severity size)) (λ text. Ending severity size code text) t (ending_word severity size code t.1)
+    then_word (String NotOneShort boundary (text_room severity size)) (λ text. Ending severity size code text) t (ending_word severity size code t.1)
 
 said_text : (severity : Severity) (size : ℕ) (code : List ℕ) → HasWord (SaidText severity size code)
-said_text severity size code = behind_word (0 ∷ 77 ∷ []) (Then (String NotOneShort closed (text_room severity size)) (λ text. Ending severity size code text)) (said_string severity size code)
+said_text severity size code = behind_word (0 ∷ 77 ∷ []) (Then (String NotOneShort boundary (text_room severity size)) (λ text. Ending severity size code text)) (said_string severity size code)
 
 said_code : (severity : Severity) (size : ℕ) → HasWord (Then (Code 5) (λ code. SaidText severity size code))
 said_code severity size = let c = code_word 5 in then_word (Code 5) (λ code. SaidText severity size code) c (said_text severity size c.1)
@@ -244,9 +245,9 @@ unfolding said_at
 said_exact severity size bytes =
     behind_exact (severity_fields severity) (Then (Code 5) (λ code. SaidText severity size code)) (said_code severity size) bytes _
     (λ u rest _. then_exact (Code 5) (λ code. SaidText severity size code) (code_apart 5) (λ v code _. said_text severity size code) rest (code_at 5 rest) _ (code_exact 5 rest)
-    (λ v after code _ _. behind_exact (0 ∷ 77 ∷ []) (Then (String NotOneShort closed (text_room severity size)) (λ text. Ending severity size code text)) (said_string severity size code) after _
-    (λ w behind _. then_exact (String NotOneShort closed (text_room severity size)) (λ text. Ending severity size code text) (string_apart NotOneShort closed (text_room severity size))
-    (λ x text _. ending_word severity size code text) behind (string_at NotOneShort closed (text_room severity size) behind) _ (string_exact behind NotOneShort closed (text_room severity size) closed_sane (omega arith))
+    (λ v after code _ _. behind_exact (0 ∷ 77 ∷ []) (Then (String NotOneShort boundary (text_room severity size)) (λ text. Ending severity size code text)) (said_string severity size code) after _
+    (λ w behind _. then_exact (String NotOneShort boundary (text_room severity size)) (λ text. Ending severity size code text) (string_apart NotOneShort boundary (text_room severity size))
+    (λ x text _. ending_word severity size code text) behind (string_at NotOneShort boundary (text_room severity size) behind) _ (string_exact behind NotOneShort boundary (text_room severity size) boundary_sound (omega arith))
     (λ x ends text _ _. last_exact (Detail (text_room severity size - length text)) (λ d. saying_of severity code text d) (detail_apart (text_room severity size - length text)) ends
     (detail_at (text_room severity size - length text) ends) (detail_exact (text_room severity size - length text) ends)))))
 
@@ -254,8 +255,8 @@ said_apart : (severity : Severity) (size : ℕ) → Apart (Said severity size)
 said_apart severity size =
     behind_apart (severity_fields severity) (Then (Code 5) (λ code. SaidText severity size code))
     (then_apart (Code 5) (λ code. SaidText severity size code) (code_apart 5)
-    (λ code. behind_apart (0 ∷ 77 ∷ []) (Then (String NotOneShort closed (text_room severity size)) (λ text. Ending severity size code text))
-    (then_apart (String NotOneShort closed (text_room severity size)) (λ text. Ending severity size code text) (string_apart NotOneShort closed (text_room severity size))
+    (λ code. behind_apart (0 ∷ 77 ∷ []) (Then (String NotOneShort boundary (text_room severity size)) (λ text. Ending severity size code text))
+    (then_apart (String NotOneShort boundary (text_room severity size)) (λ text. Ending severity size code text) (string_apart NotOneShort boundary (text_room severity size))
     (λ text. last_apart (Detail (text_room severity size - length text)) (λ d. saying_of severity code text d) (detail_apart (text_room severity size - length text))))))
 
 -- words whose first bytes differ

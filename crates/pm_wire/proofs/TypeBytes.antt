@@ -1,5 +1,5 @@
 -- The messages of each type, and that reading their bodies is exact.
-use Rattle.std.proofs.Common.{◌≡◌, ℕ, ℤ, pos, negsuc, suc, ◌+◌, ◌-◌, ◌/◌, ◌%◌, ◌^◌, ◌<◌, ◌≤◌, ◌⊎◌, ltb, List, [], ◌∷◌, ◌++◌, length, codes, Ok, Err, refl, sym, ap, subst, ◌∙◌, inl, inr, arith}
+use Rattle.std.proofs.Common.{◌≡◌, ◌==◌, Bool, true, false, get_or, ℕ, ℤ, pos, negsuc, suc, ◌+◌, ◌-◌, ◌/◌, ◌%◌, ◌^◌, ◌<◌, ◌≤◌, ◌⊎◌, ltb, List, [], ◌∷◌, ◌++◌, length, codes, Ok, Err, refl, sym, ap, subst, ◌∙◌, inl, inr, arith}
 use Rattle.std.specs.Fmt.{signed_decimal}
 use Rattle.std.proofs.lemmas.Bool.{cond_both, eqb-true, ltb-true, ltb-false}
 use Rattle.std.proofs.lemmas.List.{append-nil, length-append}
@@ -11,15 +11,16 @@ use Rattle.pm_wire.specs.declared.parts.Stop.TheVariants.{Partial, Departs}
 use Rattle.pm_wire.specs.declared.parts.Ending.TheVariants.{Anywhere, Exactly}
 use Rattle.pm_wire.specs.Pieces.{int16, int32, string, counted}
 use Rattle.pm_wire.specs.Backend.{BackMessage, Auth, Param, Key, Ready, Fields, Pair, One, Complete, Empty, Fault, Notice, Saying, body, kind_of, HasValues, IsWritable, IsInt64}
-use Rattle.pm_wire.specs.Utf8.{closed}
+use Rattle.pm_utf8.specs.Utf8.{boundary}
 use Rattle.pm_wire.specs.BackReading.{Read, word_at, param_at, key_data_at, row_at, key_room}
 use Rattle.pm_wire.proofs.Numbers.{IsBytes, length_int32}
 use Rattle.pm_wire.proofs.Strings.{all_nonzero, has_no_zero}
-use Rattle.pm_wire.proofs.Characters.{accepts, is_utf8, eqb_true}
+use Rattle.pm_utf8.specs.Characters.{accepts, is_utf8}
+use Rattle.std.proofs.lemmas.Bool.{eq-eqb}
 use Rattle.pm_wire.proofs.Exact.{Apart, HasWord, Exact}
 use Rattle.pm_wire.proofs.Fields.{Text, String}
 use Rattle.pm_wire.proofs.Digits.{KeyWord}
-use Rattle.pm_wire.proofs.Bodies.{OneWord, word_exact, one_word_apart, ParamBody, param_exact, param_apart, param_word, KeyBody, key_data_exact, key_data_apart, key_data_word, RowBody, row_exact, row_apart, row_word, Columns, one_column, two_columns, OneBody, PairBody, CountWord, same_first}
+use Rattle.pm_wire.proofs.Bodies.{OneWord, word_exact, one_word_apart, ParamBody, param_exact, param_apart, param_word, KeyBody, key_data_exact, key_data_apart, key_data_word, RowBody, row_exact, row_apart, row_word, Columns, one_column, two_columns, OneBody, PairBody, CountWord}
 
 -- the word is the body of a message of this type and size
 pub record BodyIs (kind size : ℕ) (word : List ℕ) (m : BackMessage) : Type 0 where
@@ -59,135 +60,38 @@ good_from kind size read L into out exact apart word = record {
 
 -- ---- the message of a type
 
-auth_of : (m : BackMessage) → kind_of m ≡ 82 ∷ [] → m ≡ Auth
-auth_of Auth h = refl
-auth_of (Param name value) h = absurd (omega (arith, same_first 83 82 [] [] h))
-auth_of (Key pid key) h = absurd (omega (arith, same_first 75 82 [] [] h))
-auth_of Ready h = absurd (omega (arith, same_first 90 82 [] [] h))
-auth_of (Fields shape) h = absurd (omega (arith, same_first 84 82 [] [] h))
-auth_of (Pair key value) h = absurd (omega (arith, same_first 68 82 [] [] h))
-auth_of (One text) h = absurd (omega (arith, same_first 68 82 [] [] h))
-auth_of (Complete tag) h = absurd (omega (arith, same_first 67 82 [] [] h))
-auth_of Empty h = absurd (omega (arith, same_first 73 82 [] [] h))
-auth_of (Fault s) h = absurd (omega (arith, same_first 69 82 [] [] h))
-auth_of (Notice s) h = absurd (omega (arith, same_first 78 82 [] [] h))
+abbrev pub Choose : Bool → Type 0 → Type 0 → Type 0
+Choose true then_it otherwise = then_it
+Choose false then_it otherwise = otherwise
 
-ready_of : (m : BackMessage) → kind_of m ≡ 90 ∷ [] → m ≡ Ready
-ready_of Auth h = absurd (omega (arith, same_first 82 90 [] [] h))
-ready_of (Param name value) h = absurd (omega (arith, same_first 83 90 [] [] h))
-ready_of (Key pid key) h = absurd (omega (arith, same_first 75 90 [] [] h))
-ready_of Ready h = refl
-ready_of (Fields shape) h = absurd (omega (arith, same_first 84 90 [] [] h))
-ready_of (Pair key value) h = absurd (omega (arith, same_first 68 90 [] [] h))
-ready_of (One text) h = absurd (omega (arith, same_first 68 90 [] [] h))
-ready_of (Complete tag) h = absurd (omega (arith, same_first 67 90 [] [] h))
-ready_of Empty h = absurd (omega (arith, same_first 73 90 [] [] h))
-ready_of (Fault s) h = absurd (omega (arith, same_first 69 90 [] [] h))
-ready_of (Notice s) h = absurd (omega (arith, same_first 78 90 [] [] h))
+-- what a message of the type is
+abbrev pub MessageOf : ℕ → BackMessage → Type 0
+MessageOf kind m =
+    Choose (kind == 82) (m ≡ Auth)
+    (Choose (kind == 83) ((name value : List ℕ) × (m ≡ Param name value))
+    (Choose (kind == 75) ((pid key : ℕ) × (m ≡ Key pid key))
+    (Choose (kind == 90) (m ≡ Ready)
+    (Choose (kind == 84) ((shape : Shape) × (m ≡ Fields shape))
+    (Choose (kind == 68) (((key : ℤ) × (value : List ℕ) × (m ≡ Pair key value)) ⊎ ((text : List ℕ) × (m ≡ One text)))
+    (Choose (kind == 67) ((tag : Tag) × (m ≡ Complete tag))
+    (Choose (kind == 73) (m ≡ Empty)
+    (Choose (kind == 69) ((s : Saying) × (m ≡ Fault s)) ((s : Saying) × (m ≡ Notice s))))))))))
 
-empty_of : (m : BackMessage) → kind_of m ≡ 73 ∷ [] → m ≡ Empty
-empty_of Auth h = absurd (omega (arith, same_first 82 73 [] [] h))
-empty_of (Param name value) h = absurd (omega (arith, same_first 83 73 [] [] h))
-empty_of (Key pid key) h = absurd (omega (arith, same_first 75 73 [] [] h))
-empty_of Ready h = absurd (omega (arith, same_first 90 73 [] [] h))
-empty_of (Fields shape) h = absurd (omega (arith, same_first 84 73 [] [] h))
-empty_of (Pair key value) h = absurd (omega (arith, same_first 68 73 [] [] h))
-empty_of (One text) h = absurd (omega (arith, same_first 68 73 [] [] h))
-empty_of (Complete tag) h = absurd (omega (arith, same_first 67 73 [] [] h))
-empty_of Empty h = refl
-empty_of (Fault s) h = absurd (omega (arith, same_first 69 73 [] [] h))
-empty_of (Notice s) h = absurd (omega (arith, same_first 78 73 [] [] h))
+message_of : (m : BackMessage) → MessageOf (get_or (kind_of m) 0 0) m
+message_of Auth = refl
+message_of (Param name value) = (name, value, refl)
+message_of (Key pid key) = (pid, key, refl)
+message_of Ready = refl
+message_of (Fields shape) = (shape, refl)
+message_of (Pair key value) = inl (key, value, refl)
+message_of (One text) = inr (text, refl)
+message_of (Complete tag) = (tag, refl)
+message_of Empty = refl
+message_of (Fault s) = (s, refl)
+message_of (Notice s) = (s, refl)
 
-param_of : (m : BackMessage) → kind_of m ≡ 83 ∷ [] → (name value : List ℕ) × (m ≡ Param name value)
-param_of Auth h = absurd (omega (arith, same_first 82 83 [] [] h))
-param_of (Param name value) h = (name, value, refl)
-param_of (Key pid key) h = absurd (omega (arith, same_first 75 83 [] [] h))
-param_of Ready h = absurd (omega (arith, same_first 90 83 [] [] h))
-param_of (Fields shape) h = absurd (omega (arith, same_first 84 83 [] [] h))
-param_of (Pair key value) h = absurd (omega (arith, same_first 68 83 [] [] h))
-param_of (One text) h = absurd (omega (arith, same_first 68 83 [] [] h))
-param_of (Complete tag) h = absurd (omega (arith, same_first 67 83 [] [] h))
-param_of Empty h = absurd (omega (arith, same_first 73 83 [] [] h))
-param_of (Fault s) h = absurd (omega (arith, same_first 69 83 [] [] h))
-param_of (Notice s) h = absurd (omega (arith, same_first 78 83 [] [] h))
-
-key_of : (m : BackMessage) → kind_of m ≡ 75 ∷ [] → (pid key : ℕ) × (m ≡ Key pid key)
-key_of Auth h = absurd (omega (arith, same_first 82 75 [] [] h))
-key_of (Param name value) h = absurd (omega (arith, same_first 83 75 [] [] h))
-key_of (Key pid key) h = (pid, key, refl)
-key_of Ready h = absurd (omega (arith, same_first 90 75 [] [] h))
-key_of (Fields shape) h = absurd (omega (arith, same_first 84 75 [] [] h))
-key_of (Pair key value) h = absurd (omega (arith, same_first 68 75 [] [] h))
-key_of (One text) h = absurd (omega (arith, same_first 68 75 [] [] h))
-key_of (Complete tag) h = absurd (omega (arith, same_first 67 75 [] [] h))
-key_of Empty h = absurd (omega (arith, same_first 73 75 [] [] h))
-key_of (Fault s) h = absurd (omega (arith, same_first 69 75 [] [] h))
-key_of (Notice s) h = absurd (omega (arith, same_first 78 75 [] [] h))
-
-fields_in : (m : BackMessage) → kind_of m ≡ 84 ∷ [] → (shape : Shape) × (m ≡ Fields shape)
-fields_in Auth h = absurd (omega (arith, same_first 82 84 [] [] h))
-fields_in (Param name value) h = absurd (omega (arith, same_first 83 84 [] [] h))
-fields_in (Key pid key) h = absurd (omega (arith, same_first 75 84 [] [] h))
-fields_in Ready h = absurd (omega (arith, same_first 90 84 [] [] h))
-fields_in (Fields shape) h = (shape, refl)
-fields_in (Pair key value) h = absurd (omega (arith, same_first 68 84 [] [] h))
-fields_in (One text) h = absurd (omega (arith, same_first 68 84 [] [] h))
-fields_in (Complete tag) h = absurd (omega (arith, same_first 67 84 [] [] h))
-fields_in Empty h = absurd (omega (arith, same_first 73 84 [] [] h))
-fields_in (Fault s) h = absurd (omega (arith, same_first 69 84 [] [] h))
-fields_in (Notice s) h = absurd (omega (arith, same_first 78 84 [] [] h))
-
-pub tag_in : (m : BackMessage) → kind_of m ≡ 67 ∷ [] → (tag : Tag) × (m ≡ Complete tag)
-tag_in Auth h = absurd (omega (arith, same_first 82 67 [] [] h))
-tag_in (Param name value) h = absurd (omega (arith, same_first 83 67 [] [] h))
-tag_in (Key pid key) h = absurd (omega (arith, same_first 75 67 [] [] h))
-tag_in Ready h = absurd (omega (arith, same_first 90 67 [] [] h))
-tag_in (Fields shape) h = absurd (omega (arith, same_first 84 67 [] [] h))
-tag_in (Pair key value) h = absurd (omega (arith, same_first 68 67 [] [] h))
-tag_in (One text) h = absurd (omega (arith, same_first 68 67 [] [] h))
-tag_in (Complete tag) h = (tag, refl)
-tag_in Empty h = absurd (omega (arith, same_first 73 67 [] [] h))
-tag_in (Fault s) h = absurd (omega (arith, same_first 69 67 [] [] h))
-tag_in (Notice s) h = absurd (omega (arith, same_first 78 67 [] [] h))
-
-pub fault_of : (m : BackMessage) → kind_of m ≡ 69 ∷ [] → (s : Saying) × (m ≡ Fault s)
-fault_of Auth h = absurd (omega (arith, same_first 82 69 [] [] h))
-fault_of (Param name value) h = absurd (omega (arith, same_first 83 69 [] [] h))
-fault_of (Key pid key) h = absurd (omega (arith, same_first 75 69 [] [] h))
-fault_of Ready h = absurd (omega (arith, same_first 90 69 [] [] h))
-fault_of (Fields shape) h = absurd (omega (arith, same_first 84 69 [] [] h))
-fault_of (Pair key value) h = absurd (omega (arith, same_first 68 69 [] [] h))
-fault_of (One text) h = absurd (omega (arith, same_first 68 69 [] [] h))
-fault_of (Complete tag) h = absurd (omega (arith, same_first 67 69 [] [] h))
-fault_of Empty h = absurd (omega (arith, same_first 73 69 [] [] h))
-fault_of (Fault s) h = (s, refl)
-fault_of (Notice s) h = absurd (omega (arith, same_first 78 69 [] [] h))
-
-pub notice_of : (m : BackMessage) → kind_of m ≡ 78 ∷ [] → (s : Saying) × (m ≡ Notice s)
-notice_of Auth h = absurd (omega (arith, same_first 82 78 [] [] h))
-notice_of (Param name value) h = absurd (omega (arith, same_first 83 78 [] [] h))
-notice_of (Key pid key) h = absurd (omega (arith, same_first 75 78 [] [] h))
-notice_of Ready h = absurd (omega (arith, same_first 90 78 [] [] h))
-notice_of (Fields shape) h = absurd (omega (arith, same_first 84 78 [] [] h))
-notice_of (Pair key value) h = absurd (omega (arith, same_first 68 78 [] [] h))
-notice_of (One text) h = absurd (omega (arith, same_first 68 78 [] [] h))
-notice_of (Complete tag) h = absurd (omega (arith, same_first 67 78 [] [] h))
-notice_of Empty h = absurd (omega (arith, same_first 73 78 [] [] h))
-notice_of (Fault s) h = absurd (omega (arith, same_first 69 78 [] [] h))
-notice_of (Notice s) h = (s, refl)
-
-row_of : (m : BackMessage) → kind_of m ≡ 68 ∷ [] → ((key : ℤ) × (value : List ℕ) × (m ≡ Pair key value)) ⊎ ((text : List ℕ) × (m ≡ One text))
-row_of Auth h = absurd (omega (arith, same_first 82 68 [] [] h))
-row_of (Param name value) h = absurd (omega (arith, same_first 83 68 [] [] h))
-row_of (Key pid key) h = absurd (omega (arith, same_first 75 68 [] [] h))
-row_of Ready h = absurd (omega (arith, same_first 90 68 [] [] h))
-row_of (Fields shape) h = absurd (omega (arith, same_first 84 68 [] [] h))
-row_of (Pair key value) h = inl (key, value, refl)
-row_of (One text) h = inr (text, refl)
-row_of (Complete tag) h = absurd (omega (arith, same_first 67 68 [] [] h))
-row_of Empty h = absurd (omega (arith, same_first 73 68 [] [] h))
-row_of (Fault s) h = absurd (omega (arith, same_first 69 68 [] [] h))
-row_of (Notice s) h = absurd (omega (arith, same_first 78 68 [] [] h))
+pub of_kind : (kind : ℕ) (m : BackMessage) → kind_of m ≡ kind ∷ [] → MessageOf kind m
+of_kind kind m is = subst (λ (k : ℕ). MessageOf k m) (ap (λ (w : List ℕ). get_or w 0 0) is) (message_of m)
 
 -- ---- messages of one word
 
@@ -204,17 +108,17 @@ word_out kind size w m is v n same h =
 pub good_auth : Good 82 4 (word_at (int32 0) Auth)
 good_auth =
     good_from 82 4 (word_at (int32 0) Auth) (OneWord (int32 0) Auth) (word_into 82 4 (int32 0) Auth refl refl (length_int32 0) tt (tt, tt))
-    (λ w m h. word_out 82 4 (int32 0) Auth refl w m (auth_of m h.kind_is) h) (λ bytes _. word_exact (int32 0) Auth bytes) (one_word_apart (int32 0) Auth) (int32 0 ++ [], Auth, (int32 0, [], tt, refl, refl, (refl, refl)))
+    (λ w m h. word_out 82 4 (int32 0) Auth refl w m (of_kind 82 m h.kind_is) h) (λ bytes _. word_exact (int32 0) Auth bytes) (one_word_apart (int32 0) Auth) (int32 0 ++ [], Auth, (int32 0, [], tt, refl, refl, (refl, refl)))
 
 pub good_ready : Good 90 1 (word_at (codes "I") Ready)
 good_ready =
     good_from 90 1 (word_at (codes "I") Ready) (OneWord (codes "I") Ready) (word_into 90 1 (codes "I") Ready refl refl refl tt (tt, tt))
-    (λ w m h. word_out 90 1 (codes "I") Ready refl w m (ready_of m h.kind_is) h) (λ bytes _. word_exact (codes "I") Ready bytes) (one_word_apart (codes "I") Ready) (codes "I", Ready, (codes "I", [], tt, refl, refl, (refl, refl)))
+    (λ w m h. word_out 90 1 (codes "I") Ready refl w m (of_kind 90 m h.kind_is) h) (λ bytes _. word_exact (codes "I") Ready bytes) (one_word_apart (codes "I") Ready) (codes "I", Ready, (codes "I", [], tt, refl, refl, (refl, refl)))
 
 pub good_empty : Good 73 0 (word_at [] Empty)
 good_empty =
     good_from 73 0 (word_at [] Empty) (OneWord [] Empty) (word_into 73 0 [] Empty refl refl refl tt (tt, tt))
-    (λ w m h. word_out 73 0 [] Empty refl w m (empty_of m h.kind_is) h) (λ bytes _. word_exact [] Empty bytes) (one_word_apart [] Empty) ([], Empty, ([], [], tt, refl, refl, (refl, refl)))
+    (λ w m h. word_out 73 0 [] Empty refl w m (of_kind 73 m h.kind_is) h) (λ bytes _. word_exact [] Empty bytes) (one_word_apart [] Empty) ([], Empty, ([], [], tt, refl, refl, (refl, refl)))
 
 abbrev pub columns_size : Shape → ℕ
 columns_size shapes.Pair = 42
@@ -243,7 +147,7 @@ good_fields shape =
     good_from 84 (columns_size shape) (word_at (body (Fields shape)) (Fields shape)) (OneWord (body (Fields shape)) (Fields shape))
     (word_into 84 (columns_size shape) (body (Fields shape)) (Fields shape) refl refl (columns_length shape) tt (tt, tt))
     (λ w m h.
-    let f = fields_in m h.kind_is in
+    let f = of_kind 84 m h.kind_is in
     let size : columns_size f.0 ≡ columns_size shape = sym (columns_length f.0) ∙ ap (λ (x : BackMessage). length (body x)) (sym f.1) ∙ ap length (sym h.is) ∙ h.size_is in
     word_out 84 (columns_size shape) (body (Fields shape)) (Fields shape) refl w m (f.1 ∙ ap (λ (s : Shape). Fields s) (columns_same f.0 shape size)) h)
     (λ bytes _. word_exact (body (Fields shape)) (Fields shape) bytes) (one_word_apart (body (Fields shape)) (Fields shape))
@@ -254,9 +158,9 @@ good_fields shape =
 param_into : (size : ℕ) → 2 ≤ size → size + 4 < 2 ^ 31 → (w : List ℕ) (m : BackMessage) → ParamBody size w m → BodyIs 83 size w m
 param_into size low high w m h =
     let name = h.2 in
-    let at_name : String Anywhere closed (size - 2) h.0 name = h.4 in
+    let at_name : String Anywhere boundary (size - 2) h.0 name = h.4 in
     let value = h.5.2 in
-    let at_value : String Exactly closed (size - 2 - length name) h.5.0 value = h.5.4 in
+    let at_value : String Exactly boundary (size - 2 - length name) h.5.0 value = h.5.4 in
     let value_word : h.1 ≡ value ++ 0 ∷ [] = h.5.3 ∙ ap (λ (x : List ℕ). h.5.0 ++ x) h.5.5.0 ∙ append-nil h.5.0 ∙ at_value.spelled in
     let whole : w ≡ string name ++ string value = h.3 ∙ ap (λ (x : List ℕ). x ++ h.1) at_name.spelled ∙ ap (λ (x : List ℕ). string name ++ x) value_word in
     let used : size - 2 - length name - length value ≡ 0 = eqb-true _ _ at_value.may in
@@ -275,7 +179,7 @@ param_into size low high w m h =
 
 param_out : (size : ℕ) (w : List ℕ) (m : BackMessage) → BodyIs 83 size w m → ParamBody size w m
 param_out size w m h =
-    let p = param_of m h.kind_is in
+    let p = of_kind 83 m h.kind_is in
     let name = p.0 in
     let value = p.1 in
     let b : BodyIs 83 size w (Param name value) = subst (λ (x : BackMessage). BodyIs 83 size w x) p.2 h in
@@ -290,7 +194,7 @@ param_out size w m h =
         [],
         value,
         sym (append-nil (string value)),
-        record { spelled = refl; nonzero = all_nonzero value b.writable.0.1; short = omega (arith, lengths); may = eqb_true _ _ (omega (arith, lengths)); text = accepts value b.values.1 },
+        record { spelled = refl; nonzero = all_nonzero value b.writable.0.1; short = omega (arith, lengths); may = eq-eqb _ _ (omega (arith, lengths)); text = accepts value b.values.1 },
         (refl, sym p.2),
       ),
     )
@@ -310,7 +214,7 @@ key_into w m h =
 
 key_out : (w : List ℕ) (m : BackMessage) → BodyIs 75 8 w m → KeyBody w m
 key_out w m h =
-    let k = key_of m h.kind_is in
+    let k = of_kind 75 m h.kind_is in
     let b : BodyIs 75 8 w (Key k.0 k.1) = subst (λ (x : BackMessage). BodyIs 75 8 w x) k.2 h in
     (int32 k.0, int32 k.1, k.0, b.is, (refl, b.values.0), (int32 k.1, [], k.1, sym (append-nil (int32 k.1)), (refl, b.values.1), (refl, sym k.2)))
 
@@ -355,7 +259,7 @@ row_word_is size w m h = h.3 ∙ ap (λ (x : List ℕ). x ++ h.1) h.4
 one_into : (size : ℕ) → 6 ≤ size → size + 4 < 2 ^ 31 → (w rest : List ℕ) (m : BackMessage) → w ≡ 0 ∷ 1 ∷ rest → OneBody size rest m → BodyIs 68 size w m
 one_into size low high w rest m e h =
     let text = h.5.2 in
-    let at_text : Text closed (size - 6) h.5.0 text = h.5.4 in
+    let at_text : Text boundary (size - 6) h.5.0 text = h.5.4 in
     let is_rest : rest ≡ int32 (length text) ++ text =
     h.3 ∙ ap (λ (x : List ℕ). x ++ h.1) h.4 ∙ ap (λ (x : List ℕ). int32 (size - 6) ++ x) (h.5.3 ∙ ap (λ (x : List ℕ). h.5.0 ++ x) h.5.5.0 ∙ append-nil h.5.0 ∙ at_text.0)
     ∙ ap (λ (n : ℕ). int32 n ++ text) (sym at_text.1) in
@@ -375,7 +279,7 @@ pair_into size low high w rest m e h =
     let length_part = key_part.5 in
     let value_part = length_part.5 in
     let value = value_part.2 in
-    let at_value : Text closed (size - 10 - count) value_part.0 value = value_part.4 in
+    let at_value : Text boundary (size - 10 - count) value_part.0 value = value_part.4 in
     let k = signed_decimal key in
     let key_size : length k ≡ count = ap length (sym at_key.0) ∙ at_key.1 in
     let room = key_room_is size low in
@@ -467,7 +371,7 @@ pair_out size w key value b =
 
 row_out : (size : ℕ) (w : List ℕ) (m : BackMessage) → BodyIs 68 size w m → RowBody size w m
 row_out size w m h =
-    elim (row_of m h.kind_is) [
+    elim (of_kind 68 m h.kind_is) [
       | inl p ↦ subst (λ (x : BackMessage). RowBody size w x) (sym p.2) (pair_out size w p.0 p.1 (subst (λ (x : BackMessage). BodyIs 68 size w x) p.2 h))
       | inr o ↦ subst (λ (x : BackMessage). RowBody size w x) (sym o.1) (one_out size w o.0 (subst (λ (x : BackMessage). BodyIs 68 size w x) o.1 h))
     ]

@@ -4,11 +4,13 @@ use Rattle.std.proofs.lemmas.List.{length-drop, drop_more, drop_all, take_more, 
 use Rattle.pm_wire.specs.declared.parts.Stop.{Stop}
 use Rattle.pm_wire.specs.declared.parts.Stop.TheVariants.{Partial, Departs}
 use Rattle.pm_wire.specs.declared.parts.Ending.{Ending}
-use Rattle.pm_wire.specs.declared.utf8.Open.{Open}
+use Rattle.pm_utf8.specs.declared.Awaited.{Awaited}
 use Rattle.std.specs.Str.{IsUtf8}
 use Rattle.std.proofs.lemmas.Bool.{ltb-true}
-use Rattle.pm_wire.specs.Utf8.{closed, after, run}
-use Rattle.pm_wire.proofs.Characters.{run_append, run_step, run_sane, closed_sane, is_utf8}
+use Rattle.pm_utf8.specs.Utf8.{boundary, after, run}
+use Rattle.pm_utf8.specs.Steps.{run_append, run_step}
+use Rattle.pm_utf8.specs.States.{run_sound, boundary_sound}
+use Rattle.pm_utf8.specs.Characters.{is_utf8}
 use Rattle.pm_wire.specs.Parts.{◌>>=◌, with_first, fitting, may_end, literal_at, code_at, text_at, string_at}
 
 -- what was read before, and what is still read
@@ -85,7 +87,7 @@ module _ (count : ℕ) (bytes : List ℕ) (i : ℕ) (total : Result (List ℕ ×
       rw k (ap (λ (x : List ℕ). Ok (x, drop i bytes)) (append-nil (take i bytes))) in
       sym so_far ∙ here
 
-module _ (state : Open) (count : ℕ) (bytes : List ℕ) (i : ℕ) (total : Result (List ℕ × List ℕ) Stop) (so_far : with_front (take i bytes) (text_at state (count - i) (drop i bytes)) ≡ total) where
+module _ (state : Awaited) (count : ℕ) (bytes : List ℕ) (i : ℕ) (total : Result (List ℕ × List ℕ) Stop) (so_far : with_front (take i bytes) (text_at state (count - i) (drop i bytes)) ≡ total) where
   pub text_partial : i < count → length bytes ≤ i → total ≡ Err Partial
   unfolding text_at
   text_partial lt le =
@@ -102,7 +104,7 @@ module _ (state : Open) (count : ℕ) (bytes : List ℕ) (i : ℕ) (total : Resu
       let size : suc (length (drop (i + 1) bytes)) ≡ length bytes - i = omega (arith, drop_length bytes (i + 1)) in
       sym so_far ∙ here ∙ ap (λ (n : ℕ). Err (Departs n)) size
 
-  pub text_more : (next : Open) → i < count → i < length bytes → fitting (count - i) (after state (get_or bytes i 0)) ≡ Some next → with_front (take (i + 1) bytes) (text_at next (count - (i + 1)) (drop (i + 1) bytes)) ≡ total
+  pub text_more : (next : Awaited) → i < count → i < length bytes → fitting (count - i) (after state (get_or bytes i 0)) ≡ Some next → with_front (take (i + 1) bytes) (text_at next (count - (i + 1)) (drop (i + 1) bytes)) ≡ total
   unfolding text_at
   text_more next lt here_is some =
       let k : count - i ≡ suc (count - (i + 1)) = omega arith in
@@ -120,7 +122,7 @@ module _ (state : Open) (count : ℕ) (bytes : List ℕ) (i : ℕ) (total : Resu
       rw k (ap (λ (x : List ℕ). Ok (x, drop i bytes)) (append-nil (take i bytes))) in
       sym so_far ∙ here
 
-module _ (ending : Ending) (state : Open) (room : ℕ) (bytes : List ℕ) (i : ℕ) (total : Result (List ℕ × List ℕ) Stop) (so_far : with_front (take i bytes) (string_at ending state (room - i) (drop i bytes)) ≡ total) where
+module _ (ending : Ending) (state : Awaited) (room : ℕ) (bytes : List ℕ) (i : ℕ) (total : Result (List ℕ × List ℕ) Stop) (so_far : with_front (take i bytes) (string_at ending state (room - i) (drop i bytes)) ≡ total) where
   pub string_partial : length bytes ≤ i → total ≡ Err Partial
   unfolding string_at
   string_partial le =
@@ -147,7 +149,7 @@ module _ (ending : Ending) (state : Open) (room : ℕ) (bytes : List ℕ) (i : �
       let size : suc (length (drop (i + 1) bytes)) ≡ length bytes - i = omega (arith, drop_length bytes (i + 1)) in
       sym so_far ∙ here ∙ ap (λ (n : ℕ). Err (Departs n)) size
 
-  pub string_more : (next : Open) → i < length bytes → (state.more == 0 && get_or bytes i 0 == 0) ≡ false → fitting (room - i) (after state (get_or bytes i 0)) ≡ Some next
+  pub string_more : (next : Awaited) → i < length bytes → (state.more == 0 && get_or bytes i 0 == 0) ≡ false → fitting (room - i) (after state (get_or bytes i 0)) ≡ Some next
       → with_front (take (i + 1) bytes) (string_at ending next (room - (i + 1)) (drop (i + 1) bytes)) ≡ total
   unfolding string_at
   string_more next here_is other some =
@@ -157,20 +159,20 @@ module _ (ending : Ending) (state : Open) (room : ℕ) (bytes : List ℕ) (i : �
       rw (drop_more bytes i 0 here_is, other, some) refl in
       rw (take_more bytes i 0 here_is, ← k) (sym (with_front_first (take i bytes) b (string_at ending next (room - i - 1) (drop (i + 1) bytes))) ∙ sym here ∙ so_far)
 
-pub fitting_is : (left : ℕ) (o : Option Open) (next : Open) → fitting left o ≡ Some next → (o ≡ Some next) × (next.more < left)
+pub fitting_is : (left : ℕ) (o : Option Awaited) (next : Awaited) → fitting left o ≡ Some next → (o ≡ Some next) × (next.more < left)
 fitting_is left None next e = absurd cc
 fitting_is left (Some s) next e =
     elim (ltb s.more left) as (λ t. ltb s.more left ≡ t → cond t (Some s) None ≡ Some next → (Some s ≡ Some next) × (next.more < left)) [
-      | true ↦ λ t f. let same : s ≡ next = cc in (f, subst (λ (x : Open). x.more < left) same (ltb-true _ _ t))
+      | true ↦ λ t f. let same : s ≡ next = cc in (f, subst (λ (x : Awaited). x.more < left) same (ltb-true _ _ t))
       | false ↦ λ t f. absurd cc
     ] refl e
 
-pub run_more : (state next : Open) (bytes : List ℕ) (i left : ℕ) → i < length bytes → run closed (take i bytes) ≡ Some state → fitting left (after state (get_or bytes i 0)) ≡ Some next
-    → (run closed (take (i + 1) bytes) ≡ Some next) × (next.more < left)
+pub run_more : (state next : Awaited) (bytes : List ℕ) (i left : ℕ) → i < length bytes → run boundary (take i bytes) ≡ Some state → fitting left (after state (get_or bytes i 0)) ≡ Some next
+    → (run boundary (take (i + 1) bytes) ≡ Some next) × (next.more < left)
 run_more state next bytes i left lt so_far fits =
     let is = fitting_is left (after state (get_or bytes i 0)) next fits in
-    (rw (take_more bytes i 0 lt) (run_append (take i bytes) (get_or bytes i 0 ∷ []) closed state so_far ∙ run_step state (get_or bytes i 0) [] next is.0), is.1)
+    (rw (take_more bytes i 0 lt) (run_append (take i bytes) (get_or bytes i 0 ∷ []) boundary state so_far ∙ run_step state (get_or bytes i 0) [] next is.0), is.1)
 
-pub text_is : (bytes : List ℕ) (state : Open) → run closed bytes ≡ Some state → state.more ≡ 0 → IsUtf8 bytes
+pub text_is : (bytes : List ℕ) (state : Awaited) → run boundary bytes ≡ Some state → state.more ≡ 0 → IsUtf8 bytes
 text_is bytes state e none =
-    is_utf8 bytes (e ∙ ap Some ((run_sane bytes closed state closed_sane e).closes none))
+    is_utf8 bytes (e ∙ ap Some ((run_sound bytes boundary state boundary_sound e).closes none))

@@ -2,6 +2,7 @@
 use Rattle.std.specs.Prelude.{ℕ, ◌+◌, ◌-◌, ◌*◌, ◌^◌, Bool, true, not, ◌&&◌, ◌||◌, ◌==◌, nat_lt, if◌then◌else◌, List, [], ◌∷◌, ◌++◌, length, drop, Option, Some, None, Result, Ok, Err, codes}
 use Rattle.std.specs.List.{list_any}
 use Rattle.byteorder.specs.Endian.{big_number}
+use Rattle.pm_wire.specs.Letters.{letter_C, letter_D, letter_E, letter_F, letter_I, letter_K, letter_P, letter_R, letter_S, letter_T, letter_U, letter_W, letter_Z}
 use Rattle.pm_wire.specs.declared.back.Severity.{Severity}
 use Rattle.pm_wire.specs.declared.back.Severity.TheVariants.{Error, Fatal, Panic, Warning}
 use Rattle.pm_wire.specs.declared.back.Shape.TheVariants as shapes
@@ -15,7 +16,7 @@ use Rattle.pm_wire.specs.declared.parts.Stop.TheVariants.{Partial, Departs}
 use Rattle.pm_wire.specs.declared.parts.Ending.TheVariants.{Anywhere, NotOneShort, Exactly}
 use Rattle.pm_wire.specs.Pieces.{int32}
 use Rattle.pm_wire.specs.Backend.{BackMessage, Auth, Param, Key, Ready, Fields, Pair, One, Complete, Empty, Fault, Notice, Saying, severity_word, body}
-use Rattle.pm_wire.specs.Utf8.{closed}
+use Rattle.pm_utf8.specs.Utf8.{boundary}
 use Rattle.pm_wire.specs.Parts.{◌>>=◌, departs, literal_at, int32_at, code_at, text_at, string_at, number_at, key_at}
 
 abbrev pub Read : Type 0
@@ -29,8 +30,8 @@ word_at word m bytes = do
 
 unfoldable pub param_at : ℕ → List ℕ → Read
 param_at size bytes = do
-  name ← string_at Anywhere closed (size - 2) bytes
-  value ← string_at Exactly closed (size - 2 - length name.0) name.1
+  name ← string_at Anywhere boundary (size - 2) bytes
+  value ← string_at Exactly boundary (size - 2 - length name.0) name.1
   Ok (Param name.0 value.0, value.1)
 
 unfoldable pub key_data_at : List ℕ → Read
@@ -43,7 +44,7 @@ key_data_at bytes = do
 unfoldable pub one_at : ℕ → List ℕ → Read
 one_at size bytes = do
   count ← literal_at (int32 (size - 6)) bytes
-  text ← text_at closed (size - 6) count.1
+  text ← text_at boundary (size - 6) count.1
   Ok (One text.0, text.1)
 
 -- one byte, from 1 to most
@@ -60,7 +61,7 @@ pair_at size bytes = do
   count ← count_at (key_room size) high.1
   key ← key_at count.0 count.1
   length_is ← literal_at (int32 (size - 10 - count.0)) key.1
-  value ← text_at closed (size - 10 - count.0) length_is.1
+  value ← text_at boundary (size - 10 - count.0) length_is.1
   Ok (Pair key.0 value.0, value.1)
 
 unfoldable pub columns_at : ℕ → List ℕ → Read
@@ -90,10 +91,10 @@ leaves_number len size = nat_lt (len + 1) size && nat_lt size (len + 22)
 unfoldable pub tag_at : ℕ → List ℕ → Result (Tag × List ℕ) Stop
 tag_at size [] = Err Partial
 tag_at size (b ∷ bs) =
-    if b == 73 && leaves_number 9 size then verb_at (codes "INSERT 0 ") Insert (size - 10) (b ∷ bs)
-    else if b == 85 && leaves_number 7 size then verb_at (codes "UPDATE ") Update (size - 8) (b ∷ bs)
-    else if b == 68 && leaves_number 7 size then verb_at (codes "DELETE ") Delete (size - 8) (b ∷ bs)
-    else if b == 83 && leaves_number 7 size then verb_at (codes "SELECT ") Select (size - 8) (b ∷ bs)
+    if b == letter_I && leaves_number 9 size then verb_at (codes "INSERT 0 ") Insert (size - 10) (b ∷ bs)
+    else if b == letter_U && leaves_number 7 size then verb_at (codes "UPDATE ") Update (size - 8) (b ∷ bs)
+    else if b == letter_D && leaves_number 7 size then verb_at (codes "DELETE ") Delete (size - 8) (b ∷ bs)
+    else if b == letter_S && leaves_number 7 size then verb_at (codes "SELECT ") Select (size - 8) (b ∷ bs)
     else departs (b ∷ bs)
 
 unfoldable pub complete_at : ℕ → List ℕ → Read
@@ -105,7 +106,7 @@ complete_at size bytes = do
 unfoldable pub detail_at : ℕ → List ℕ → Result (Option (List ℕ) × List ℕ) Stop
 detail_at left bytes =
     if left == 0 then (literal_at (0 ∷ []) bytes >>= λ end. Ok (None, end.1))
-    else (literal_at (codes "D") bytes >>= λ letter. string_at Exactly closed (left - 2) letter.1 >>= λ detail. literal_at (0 ∷ []) detail.1 >>= λ end. Ok (Some detail.0, end.1))
+    else (literal_at (codes "D") bytes >>= λ letter. string_at Exactly boundary (left - 2) letter.1 >>= λ detail. literal_at (0 ∷ []) detail.1 >>= λ end. Ok (Some detail.0, end.1))
 
 -- what stands before the code of a report of this severity, behind its first letter
 abbrev pub severity_fields : Severity → List ℕ
@@ -120,17 +121,17 @@ said_at severity size bytes = do
   word ← literal_at (severity_fields severity) bytes
   code ← code_at 5 word.1
   letter ← literal_at (0 ∷ codes "M") code.1
-  text ← string_at NotOneShort closed (text_room severity size) letter.1
+  text ← string_at NotOneShort boundary (text_room severity size) letter.1
   detail ← detail_at (text_room severity size - length text.0) text.1
   Ok (record { severity = severity; code = code.0; text = text.0; detail = detail.0 }, detail.1)
 
 unfoldable pub severity_at : ℕ → List ℕ → Result (Saying × List ℕ) Stop
 severity_at size [] = Err Partial
 severity_at size (b ∷ bs) =
-    if b == 69 then said_at Error size (b ∷ bs)
-    else if b == 70 then said_at Fatal size (b ∷ bs)
-    else if b == 80 then said_at Panic size (b ∷ bs)
-    else if b == 87 && nat_lt 27 size then said_at Warning size (b ∷ bs)
+    if b == letter_E then said_at Error size (b ∷ bs)
+    else if b == letter_F then said_at Fatal size (b ∷ bs)
+    else if b == letter_P then said_at Panic size (b ∷ bs)
+    else if b == letter_W && nat_lt 27 size then said_at Warning size (b ∷ bs)
     else departs (b ∷ bs)
 
 unfoldable pub report_at : ℕ → List ℕ → Result (Saying × List ℕ) Stop
@@ -145,14 +146,14 @@ is_back_type kind = list_any (λ letter. letter == kind) (codes "RSKZTDCIEN")
 -- whether a message of the type has a body of so many bytes
 abbrev pub fits_type : ℕ → ℕ → Bool
 fits_type kind size =
-    if kind == 82 then size == 4
-    else if kind == 83 then nat_lt 1 size
-    else if kind == 75 then size == 8
-    else if kind == 90 then size == 1
-    else if kind == 84 then size == 42 || (size == 26 || size == 29)
-    else if kind == 68 then nat_lt 5 size
-    else if kind == 67 then leaves_number 9 size || leaves_number 7 size
-    else if kind == 73 then size == 0
+    if kind == letter_R then size == 4
+    else if kind == letter_S then nat_lt 1 size
+    else if kind == letter_K then size == 8
+    else if kind == letter_Z then size == 1
+    else if kind == letter_T then size == 42 || (size == 26 || size == 29)
+    else if kind == letter_D then nat_lt 5 size
+    else if kind == letter_C then leaves_number 9 size || leaves_number 7 size
+    else if kind == letter_I then size == 0
     else nat_lt 23 size
 
 abbrev pub has_length : ℕ → ℕ → Bool
@@ -166,32 +167,32 @@ fields_at size bytes =
 
 unfoldable pub body_at : ℕ → ℕ → List ℕ → Read
 body_at kind size bytes =
-    if kind == 82 then word_at (int32 0) Auth bytes
-    else if kind == 83 then param_at size bytes
-    else if kind == 75 then key_data_at bytes
-    else if kind == 90 then word_at (codes "I") Ready bytes
-    else if kind == 84 then fields_at size bytes
-    else if kind == 68 then row_at size bytes
-    else if kind == 67 then complete_at size bytes
-    else if kind == 73 then word_at [] Empty bytes
-    else if kind == 69 then (report_at size bytes >>= λ s. Ok (Fault s.0, s.1))
+    if kind == letter_R then word_at (int32 0) Auth bytes
+    else if kind == letter_S then param_at size bytes
+    else if kind == letter_K then key_data_at bytes
+    else if kind == letter_Z then word_at (codes "I") Ready bytes
+    else if kind == letter_T then fields_at size bytes
+    else if kind == letter_D then row_at size bytes
+    else if kind == letter_C then complete_at size bytes
+    else if kind == letter_I then word_at [] Empty bytes
+    else if kind == letter_E then (report_at size bytes >>= λ s. Ok (Fault s.0, s.1))
     else (report_at size bytes >>= λ s. Ok (Notice s.0, s.1))
 
 -- what reading the body says of the whole, of total bytes
-abbrev pub stopped : ℕ → Stop → Take BackMessage
-stopped total Partial = Short
-stopped total (Departs left) = Bad (BadForm (total - left))
+abbrev pub stopped : (total seen : ℕ) → Stop → Take BackMessage
+stopped total seen Partial = Short (seen + 1)
+stopped total seen (Departs left) = Bad (BadForm (total - left))
 
 abbrev pub taken : ℕ → ℕ → Read → Take BackMessage
 taken total seen (Ok p) = Whole p.0 (seen + 1)
-taken total seen (Err stop) = stopped total stop
+taken total seen (Err stop) = stopped total seen stop
 
 abbrev pub back_of_length : ℕ → ℕ → List ℕ → Take BackMessage
 back_of_length kind seen after = if has_length kind seen then taken (5 + length after) seen (body_at kind (seen - 4) after) else Bad (BadLength seen)
 
 unfoldable pub back_of : List ℕ → Take BackMessage
-back_of [] = Short
+back_of [] = Short 5
 back_of (kind ∷ rest) =
     if not (is_back_type kind) then Bad (BadForm 0)
-    else if nat_lt (length rest) 4 then Short
+    else if nat_lt (length rest) 4 then Short 5
     else back_of_length kind (big_number 4 rest) (drop 4 rest)

@@ -13,28 +13,9 @@ use Rattle.pm_wire.specs.declared.back.Tag.{Tag}
 use Rattle.pm_wire.specs.declared.back.Tag.TheVariants.{Insert, Update, Delete, Select}
 use Rattle.pm_wire.specs.declared.back.Severity.{Severity}
 use Rattle.pm_wire.specs.declared.back.Severity.TheVariants.{Error, Fatal, Panic, Warning}
+pub use Rattle.pm_wire.specs.Messages.{Saying, BackMessage, Auth, Param, Key, Ready, Fields, Pair, One, Complete, Empty, Fault, Notice}
+use Rattle.pm_wire.specs.Conditions.{told}
 use Rattle.pm_wire.specs.Pieces.{int16, int32, HasNoZero, string, counted, message}
-
--- what an error or a notice says
-pub record Saying : Type 0 where
-  pub severity : Severity
-  pub code : List ℕ
-  pub text : List ℕ
-  pub detail : Option (List ℕ)
-
--- what a message says, without where its texts lie in memory
-pub data BackMessage : Type 0 where
-  Auth : BackMessage
-  Param : (name value : List ℕ) → BackMessage
-  Key : (pid key : ℕ) → BackMessage
-  Ready : BackMessage
-  Fields : Shape → BackMessage
-  Pair : (key : ℤ) (value : List ℕ) → BackMessage
-  One : (text : List ℕ) → BackMessage
-  Complete : Tag → BackMessage
-  Empty : BackMessage
-  Fault : Saying → BackMessage
-  Notice : Saying → BackMessage
 
 abbrev pub saying : Report → Saying
 saying r = record { severity = r.severity; code = r.code; text = r.text.now; detail = option_map (λ text. text.now) r.detail }
@@ -51,6 +32,7 @@ back_message (sent.Complete tag) = Complete tag
 back_message sent.Empty = Empty
 back_message (sent.Fault report) = Fault (saying report)
 back_message (sent.Notice report) = Notice (saying report)
+back_message (sent.Told condition) = told condition
 
 -- a column of a result: its name, its type by OID, and that type's size in 16 bits
 pub record Column : Type 0 where

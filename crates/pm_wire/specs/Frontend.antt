@@ -1,5 +1,5 @@
 -- The messages that a client sends behind its startup packet (Message Formats), as this server tells them apart.
-use Rattle.std.specs.Prelude.{◌≡◌, ◌≢◌, ℕ, ◌<◌, ◌≤◌, ◌^◌, ◌⊎◌, Bool, false, IsTrue, ◌==◌, List, [], ◌∷◌, ◌++◌, length, codes}
+use Rattle.std.specs.Prelude.{◌≡◌, ◌≢◌, ℕ, ◌+◌, ◌<◌, ◌≤◌, ◌^◌, ◌⊎◌, Bool, false, IsTrue, ◌==◌, List, [], ◌∷◌, ◌++◌, length, codes}
 use Rattle.std.specs.List.{list_any}
 use Rattle.pm_wire.specs.declared.front.Front.{Front}
 use Rattle.pm_wire.specs.declared.front.Front.TheVariants as sent
@@ -54,3 +54,10 @@ BeginsBadly bytes seen = (header rest : List ℕ) × (bytes ≡ header ++ rest) 
 pub record IsUndecided (bytes : List ℕ) : Type 0 where
   pub no_message : (spelled rest : List ℕ) (m : FrontMessage) → bytes ≡ spelled ++ rest → ¬ (IsFront spelled m)
   pub no_fault : (seen : ℕ) → ¬ (BeginsBadly bytes seen)
+
+-- How many bytes are wanted, counted from the message's first: its type; its type and length, where the length is looked
+-- at; all of a query, by its length.
+pub data Wants (bytes : List ℕ) (wanted : ℕ) : Type 0 where
+  its_type : bytes ≡ [] → wanted ≡ 1 → Wants bytes wanted
+  its_length : (kind : ℕ) (part : List ℕ) → bytes ≡ kind ∷ part → IsTrue (is_simple kind) → length part < 4 → wanted ≡ 5 → Wants bytes wanted
+  its_body : (seen : ℕ) (part : List ℕ) → bytes ≡ 81 ∷ (int32 seen ++ part) → seen ≤ 65541 → 4 + length part < seen → wanted ≡ seen + 1 → Wants bytes wanted

@@ -1,11 +1,15 @@
+pub mod Letters
 pub mod Pieces
+pub mod Messages
+pub mod Conditions
 pub mod Backend
-pub mod Ready
+pub mod Outgoing
+pub mod Longest
 pub mod Frontend
 pub mod Reading
 pub mod Taking
 pub mod Stream
-pub mod Utf8
+pub mod Failing
 pub mod Parts
 pub mod BackReading
 pub mod Received

@@ -7,9 +7,9 @@ use Rattle.pm_wire.specs.declared.parts.Stop.{Stop}
 use Rattle.pm_wire.specs.declared.parts.Stop.TheVariants.{Partial, Departs}
 use Rattle.pm_wire.specs.declared.parts.Ending.{Ending}
 use Rattle.pm_wire.specs.declared.parts.Ending.TheVariants.{Anywhere, NotOneShort, Exactly}
-use Rattle.pm_wire.specs.declared.utf8.Open.{Open}
-use Rattle.pm_wire.specs.Utf8.{after}
-pub use Rattle.pm_wire.specs.Utf8.{closed}
+use Rattle.pm_utf8.specs.declared.Awaited.{Awaited}
+use Rattle.pm_utf8.specs.Utf8.{after}
+pub use Rattle.pm_utf8.specs.Utf8.{boundary}
 
 infixl 10 ◌>>=◌
 abbrev pub ◌>>=◌ : {A B : Type 0} → Result A Stop → (A → Result B Stop) → Result B Stop
@@ -44,12 +44,12 @@ code_at (suc n) [] = Err Partial
 code_at (suc n) (b ∷ bs) = if b == 0 then departs (b ∷ bs) else with_first b (code_at n bs)
 
 -- a state in which the bytes that are left hold the character that has begun
-abbrev pub fitting : ℕ → Option Open → Option Open
+abbrev pub fitting : ℕ → Option Awaited → Option Awaited
 fitting left None = None
 fitting left (Some next) = if nat_lt next.more left then Some next else None
 
 -- a text of n bytes
-unfoldable pub text_at : Open → ℕ → List ℕ → Result (List ℕ × List ℕ) Stop
+unfoldable pub text_at : Awaited → ℕ → List ℕ → Result (List ℕ × List ℕ) Stop
 text_at state zero bytes = Ok ([], bytes)
 text_at state (suc left) [] = Err Partial
 text_at state (suc left) (b ∷ bs) =
@@ -62,7 +62,7 @@ may_end NotOneShort left = not (left == 1)
 may_end Exactly left = left == 0
 
 -- a string with room for so many bytes of text
-unfoldable pub string_at : Ending → Open → ℕ → List ℕ → Result (List ℕ × List ℕ) Stop
+unfoldable pub string_at : Ending → Awaited → ℕ → List ℕ → Result (List ℕ × List ℕ) Stop
 string_at ending state left [] = Err Partial
 string_at ending state left (b ∷ bs) =
     if state.more == 0 && b == 0 then (if may_end ending left then Ok ([], bs) else departs (b ∷ bs))

@@ -1,6 +1,7 @@
 -- Reading from left to right, as it is done: what the bytes at hand begin with.
 use Rattle.std.specs.Prelude.{ℕ, ◌+◌, ◌-◌, List, [], ◌∷◌, length, take, drop, position, Option, Some, None, nat_lt, ◌==◌, if◌then◌else◌}
 use Rattle.byteorder.specs.Endian.{big_number}
+use Rattle.pm_wire.specs.Letters.{letter_Q, letter_X}
 use Rattle.pm_wire.specs.declared.take.Take.{Take}
 use Rattle.pm_wire.specs.declared.take.Take.TheVariants.{Whole, Short, Bad}
 use Rattle.pm_wire.specs.declared.take.WireFault.TheVariants.{BadLength}
@@ -9,7 +10,7 @@ use Rattle.pm_wire.specs.Frontend.{FrontMessage, Query, BadQuery, LongQuery, Ter
 -- what was read, with its value seen by view
 abbrev pub seen_by : {X Y : Type 0} → (X → Y) → Take X → Take Y
 seen_by view (Whole value used) = Whole (view value) used
-seen_by view Short = Short
+seen_by view (Short wanted) = Short wanted
 seen_by view (Bad fault) = Bad fault
 
 -- the bytes before the first zero, where that is the last byte
@@ -29,7 +30,7 @@ abbrev pub query_of_length : ℕ → List ℕ → Take FrontMessage
 query_of_length seen rest =
     if nat_lt seen 4 then Bad (BadLength seen)
     else if nat_lt 65541 seen then Whole (LongQuery seen) 5
-    else if nat_lt (length rest) (seen - 4) then Short
+    else if nat_lt (length rest) (seen - 4) then Short (seen + 1)
     else Whole (query_or_bad (text_of (take (seen - 4) rest))) (seen + 1)
 
 abbrev pub terminate_of_length : ℕ → Take FrontMessage
@@ -37,15 +38,15 @@ terminate_of_length seen = if seen == 4 then Whole Terminate 5 else Bad (BadLeng
 
 -- behind the type
 unfoldable pub query_of : List ℕ → Take FrontMessage
-query_of rest = if nat_lt (length rest) 4 then Short else query_of_length (big_number 4 rest) (drop 4 rest)
+query_of rest = if nat_lt (length rest) 4 then Short 5 else query_of_length (big_number 4 rest) (drop 4 rest)
 
 unfoldable pub terminate_of : List ℕ → Take FrontMessage
-terminate_of rest = if nat_lt (length rest) 4 then Short else terminate_of_length (big_number 4 rest)
+terminate_of rest = if nat_lt (length rest) 4 then Short 5 else terminate_of_length (big_number 4 rest)
 
 unfoldable pub front_of : List ℕ → Take FrontMessage
-front_of [] = Short
+front_of [] = Short 1
 front_of (kind ∷ rest) =
-    if kind == 81 then query_of rest
-    else if kind == 88 then terminate_of rest
+    if kind == letter_Q then query_of rest
+    else if kind == letter_X then terminate_of rest
     else if is_extended kind then Whole (Extended kind) 1
     else Whole (Other kind) 1

@@ -1,5 +1,5 @@
 -- What the front of a stream of the server's messages can be, besides a whole message.
-use Rattle.std.specs.Prelude.{◌≡◌, ℕ, ◌<◌, ◌≤◌, ◌^◌, ◌⊎◌, List, [], ◌∷◌, ◌++◌, length}
+use Rattle.std.specs.Prelude.{◌≡◌, ℕ, ◌+◌, ◌<◌, ◌≤◌, ◌^◌, ◌⊎◌, List, [], ◌∷◌, ◌++◌, length}
 use Rattle.pm_wire.specs.Pieces.{int32}
 use Rattle.pm_wire.specs.Backend.{BackMessage, IsBack}
 
@@ -17,6 +17,11 @@ pub record IsHeaderPart (bytes : List ℕ) : Type 0 where
 
 abbrev pub IsPartial : List ℕ → Type 0
 IsPartial bytes = GoesOnAsBack bytes ⊎ IsHeaderPart bytes
+
+-- How many bytes a message that begins so takes: what its length says, or, before that stands, at least its header.
+pub data IsWholeAt (bytes : List ℕ) (wanted : ℕ) : Type 0 where
+  behind_header : length bytes < 5 → wanted ≡ 5 → IsWholeAt bytes wanted
+  behind_body : (kind seen : ℕ) (part : List ℕ) → bytes ≡ kind ∷ (int32 seen ++ part) → seen < 2 ^ 32 → length bytes ≤ seen → wanted ≡ seen + 1 → IsWholeAt bytes wanted
 
 -- a message's type, and a length that no message of this type has
 pub record HasNoSuchLength (bytes : List ℕ) (seen : ℕ) : Type 0 where

@@ -1,5 +1,7 @@
 //! What the server sends.
 
+use crate::condition::Condition;
+
 /// A message of the server (Frontend/Backend Protocol, Message Formats).
 #[derive(Clone, Copy, Debug, PartialEq, Eq)]
 pub enum Back<'a> {
@@ -25,6 +27,8 @@ pub enum Back<'a> {
     Fault(Report<'a>),
     /// NoticeResponse.
     Notice(Report<'a>),
+    /// An error or a notice of the table. Read again, it is a `Fault` or a `Notice`.
+    Told(Condition<'a>),
 }
 
 /// The columns of a result.
@@ -63,21 +67,4 @@ pub enum Severity {
     Fatal,
     Panic,
     Warning,
-}
-
-/// A message that stands ready.
-#[derive(Clone, Copy, Debug, PartialEq, Eq)]
-pub enum Fixed {
-    /// The session was told to end.
-    Terminated,
-    /// Another process crashed.
-    CrashQuit,
-    /// The server shuts down at once.
-    StopQuit,
-    /// A query found no memory.
-    ErrorMemory,
-    /// The session found no memory.
-    FatalMemory,
-    /// The commit log can't be written.
-    CouldNotWrite,
 }

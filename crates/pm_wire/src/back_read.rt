@@ -324,12 +324,10 @@ fn behind_length(kind: u8, seen: u32, after: &[u8]) -> Take<Back<'_>>
     if !has_length(kind, seen) {
         return Take::Bad(WireFault::BadLength { seen });
     }
+    let whole = seen as usize + 1;
     match body(kind, seen as usize - 4, after) {
-        Ok((value, _)) => Take::Whole {
-            value,
-            used: seen as usize + 1,
-        },
-        Err(Stop::Partial) => Take::Short,
+        Ok((value, _)) => Take::Whole { value, used: whole },
+        Err(Stop::Partial) => Take::Short { wanted: whole },
         Err(Stop::Departs { left }) => Take::Bad(WireFault::BadForm {
             at: (5 + after.len()).saturating_sub(left),
         }),
@@ -341,11 +339,11 @@ pub(crate) fn back_of(bytes: &[u8]) -> Take<Back<'_>>
     ensures { seen_by back_message result ≡ back_of bytes.now }
 {
     match bytes {
-        [] => Take::Short,
+        [] => Take::Short { wanted: 5 },
         [kind, ..] if !TYPES.contains(kind) => Take::Bad(WireFault::BadForm { at: 0 }),
         [kind, rest @ ..] => {
             if rest.len() < 4 {
-                return Take::Short;
+                return Take::Short { wanted: 5 };
             }
             behind_length(*kind, BigEndian::read_u32(rest), &rest[4..])
         }

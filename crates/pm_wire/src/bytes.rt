@@ -1,20 +1,21 @@
 //! A buffer of bytes to send.
 
-ghost use Rattle.std.specs.Prelude.{◌≡◌, ℕ, ◌++◌, List, [], OnOk, OnErr, IsTrue, ◌↔◌, length, take, flat_map};
+ghost use Rattle.std.specs.Prelude.{◌≡◌, ℕ, List, [], IsTrue, ◌↔◌, length};
 
-use std::alloc::{AllocError, Global};
+use crate::outbox::Outbox;
+use std::alloc::Global;
 use std::marker::Model;
 
 /// A growing list of bytes.
 #[derive(Debug, Drop)]
 pub struct Bytes {
-    held: Vec<u8>,
+    pub(crate) held: Outbox,
 }
 
 impl Model for Bytes {
     ghost Value = { List ℕ };
 
-    ghost view = { λ b. b.held.items };
+    ghost view = { λ b. b.held.bytes };
 }
 
 impl Bytes {
@@ -23,7 +24,7 @@ impl Bytes {
         ensures { result ≡ [] }
     {
         Bytes {
-            held: Vec::new(alloc),
+            held: Outbox::new(alloc),
         }
     }
 
@@ -45,32 +46,10 @@ impl Bytes {
         self.held.is_empty()
     }
 
-    /// Forgets all but the first `len` bytes, and keeps the memory.
-    pub fn truncate(&mut self, len: usize)
-        ensures { self.new ≡ take len self.old }
-    {
-        self.held.truncate(len);
-    }
-
     /// Forgets the bytes and keeps the memory for the next ones.
     pub fn clear(&mut self)
         ensures { self.new ≡ [] }
     {
         self.held.clear();
-    }
-
-    /// Appends the pieces, one behind the other.
-    pub fn push_all(&mut self, pieces: &[&[u8]]) -> Result<(), AllocError>
-        ensures ok { OnOk result (self.new ≡ self.old ++ flat_map (λ piece. piece.now) pieces.now) }
-        ensures err { OnErr result (self.new ≡ self.old) }
-    {
-        let before = self.held.len();
-        for piece in pieces {
-            if self.held.extend_from_slice(piece).is_err() {
-                self.held.truncate(before);
-                return Err(AllocError);
-            }
-        }
-        Ok(())
     }
 }

@@ -1,8 +1,8 @@
 //! What a client sends behind its startup packet.
 
-ghost use Rattle.std.specs.Prelude.{◌≡◌, ◌≢◌, ℕ, ◌≤◌, ◌++◌, ◌==◌, ◌↔◌, List, length, take, position};
+ghost use Rattle.std.specs.Prelude.{◌≡◌, ◌≢◌, ℕ, ◌≤◌, ◌<◌, ◌++◌, ◌==◌, ◌↔◌, List, length, take, position};
 ghost use Rattle.std.specs.Option.{option_map};
-ghost use Rattle.pm_wire.specs.Frontend.{FrontMessage, IsFront, BeginsBadly, IsUndecided, front_message};
+ghost use Rattle.pm_wire.specs.Frontend.{FrontMessage, IsFront, BeginsBadly, IsUndecided, Wants, front_message};
 ghost use Rattle.pm_wire.specs.Reading.{seen_by, text_of, query_of, terminate_of, front_of};
 ghost use Rattle.pm_wire.specs.Taking.{IfWhole};
 
@@ -27,6 +27,9 @@ pub enum Front<'a> {
 
 /// The length of the longest query that is read, with the field itself.
 const LONGEST_QUERY: u32 = 65541;
+
+/// The bytes of a message's type and length.
+const HEADER: usize = 5;
 
 /// Types of messages of the extended query protocol: Parse, Bind, Describe, Execute, Close, Sync and
 /// Flush.
@@ -56,7 +59,7 @@ fn query_of(rest: &[u8]) -> Take<Front<'_>>
     ensures { seen_by front_message result ≡ query_of rest.now }
 {
     if rest.len() < 4 {
-        return Take::Short;
+        return Take::Short { wanted: HEADER };
     }
     let seen = BigEndian::read_u32(rest);
     if seen < 4 {
@@ -68,19 +71,17 @@ fn query_of(rest: &[u8]) -> Take<Front<'_>>
             used: 5,
         };
     }
+    let whole = seen as usize + 1;
     let size = seen as usize - 4;
     let rest = &rest[4..];
     if rest.len() < size {
-        return Take::Short;
+        return Take::Short { wanted: whole };
     }
     let value = match text_of(&rest[..size]) {
         Some(text) => Front::Query(text),
         None => Front::BadQuery,
     };
-    Take::Whole {
-        value,
-        used: seen as usize + 1,
-    }
+    Take::Whole { value, used: whole }
 }
 
 /// Reads the end of a session behind its type.
@@ -89,7 +90,7 @@ fn terminate_of(rest: &[u8]) -> Take<Front<'_>>
     ensures { seen_by front_message result ≡ terminate_of rest.now }
 {
     if rest.len() < 4 {
-        return Take::Short;
+        return Take::Short { wanted: HEADER };
     }
     match BigEndian::read_u32(rest) {
         4 => Take::Whole {
@@ -105,7 +106,7 @@ fn front_of(bytes: &[u8]) -> Take<Front<'_>>
     ensures { seen_by front_message result ≡ front_of bytes.now }
 {
     match bytes {
-        [] => Take::Short,
+        [] => Take::Short { wanted: 1 },
         [b'Q', rest @ ..] => query_of(rest),
         [b'X', rest @ ..] => terminate_of(rest),
         [kind, ..] if EXTENDED.contains(kind) => Take::Whole {
@@ -123,7 +124,8 @@ impl<'a> Front<'a> {
     /// Reads the message that the bytes begin with. Nothing is copied: a query lies in the bytes.
     ///
     /// A query is read up to a length of 65,541; a longer one is told by its first five bytes, and one
-    /// of any other type but Terminate by its first.
+    /// of any other type but Terminate by its first. So a caller that reads again only when the wanted bytes
+    /// are there reads each message at most three times.
     pub fn read(bytes: &'a [u8]) -> Take<Front<'a>>
         // What is read stands there, and every message that stands there is read.
         ensures whole { IfWhole result (λ value used. (used ≤ length bytes.now) × IsFront (take used bytes.now) (front_message value)) }
@@ -133,7 +135,12 @@ impl<'a> Front<'a> {
         // Why nothing is read.
         ensures bad_length { (seen : ℕ) → (result ≡ Take.Bad (WireFault.BadLength seen)) ↔ BeginsBadly bytes.now seen }
         ensures no_bad_form { (at : ℕ) → result ≢ Take.Bad (WireFault.BadForm at) }
-        ensures short { (result ≡ Take.Short) ↔ IsUndecided bytes.now }
+        ensures undecided { IsUndecided bytes.now ↔ ((wanted : ℕ) × (result ≡ Take.Short wanted)) }
+
+        // What more is wanted, and that nothing less decides.
+        ensures short { (wanted : ℕ) → (result ≡ Take.Short wanted) ↔ Wants bytes.now wanted }
+        ensures least { (wanted : ℕ) (more : List ℕ) → result ≡ Take.Short wanted → length (bytes.now ++ more) < wanted
+            → IsUndecided (bytes.now ++ more) }
     {
         front_of(bytes)
     }

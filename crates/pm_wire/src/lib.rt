@@ -6,24 +6,28 @@ mod back;
 mod back_read;
 mod bytes;
 mod columns;
+mod condition;
 mod front;
 mod laws;
+mod outbox;
 mod parts;
 mod reading;
 mod ready;
+mod state;
 mod take;
-mod utf8;
 mod writing;
 
-pub use back::{Back, Fixed, Report, Severity, Shape, Tag};
+pub use back::{Back, Report, Severity, Shape, Tag};
 pub use bytes::Bytes;
+pub use condition::{Condition, Fixed, StatementFault};
 pub use front::Front;
 pub use laws::{
-    back_lengths_are_short, back_messages_stand_apart, back_spellings_stand_apart,
-    back_stream_has_one_reading, front_messages_stand_apart, front_stream_has_one_reading,
+    back_lengths_are_short, back_messages_have_a_longest, back_messages_stand_apart,
+    back_spellings_stand_apart, back_stream_fails_at_one_byte, back_stream_has_one_reading,
+    conditions_can_be_told, front_messages_stand_apart, front_stream_fails_at_one_byte,
+    front_stream_has_one_reading,
 };
+pub use outbox::Outbox;
 pub use ready::fixed;
+pub use state::SqlState;
 pub use take::{Take, WireFault};
-
-#[cfg(test)]
-mod tests;

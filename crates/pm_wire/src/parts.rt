@@ -4,11 +4,11 @@
 ghost use Rattle.std.specs.Prelude.{◌≡◌, ◌≤◌, ◌<◌, ◌+◌, ◌==◌, ◌&&◌, length, take, drop, OnOk, IfOk, IfSome, IfNone, true, false, not, ◌*◌, ◌^◌, ◌/◌, ◌⊎◌};
 ghost use Rattle.std.specs.Str.{IsUtf8};
 ghost use Rattle.std.specs.Char.{is_ascii_digit};
-ghost use Rattle.pm_wire.specs.Utf8.{closed, after};
+ghost use Rattle.pm_utf8.specs.Utf8.{boundary, after};
 ghost use Rattle.pm_wire.specs.Parts.{Gives, literal_at, int32_at, code_at, fitting, string_at, text_at, may_end, behind_digit, number_at, negative, key_at};
 
-use crate::utf8::{CLOSED, Open, after};
 use byteorder::{BigEndian, ByteOrder};
+use pm_utf8::{Awaited, BOUNDARY, after};
 
 /// Why a part isn't read.
 #[derive(Clone, Copy, PartialEq, Eq)]
@@ -87,7 +87,7 @@ pub(crate) fn nonzero(bytes: &[u8], count: usize) -> Result<(), Stop>
 }
 
 /// The state behind one more byte, of which there is room for `left`, or none where no text has the byte there.
-fn fitting(state: Open, byte: u8, left: usize) -> Option<Open>
+fn fitting(state: Awaited, byte: u8, left: usize) -> Option<Awaited>
     ensures { result ≡ fitting left (after state byte) }
 {
     after(state, byte).filter(|next| next.more < left)
@@ -95,11 +95,11 @@ fn fitting(state: Open, byte: u8, left: usize) -> Option<Open>
 
 /// Reads a text of `count` bytes: whether it is one.
 fn text_end(bytes: &[u8], count: usize) -> Result<(), Stop>
-    ensures gives { Gives (λ _. (take count bytes.now, drop count bytes.now)) result (text_at closed count bytes.now) }
+    ensures gives { Gives (λ _. (take count bytes.now, drop count bytes.now)) result (text_at boundary count bytes.now) }
     ensures text { OnOk result (IsUtf8 (take count bytes.now)) }
     ensures long { OnOk result (count ≤ length bytes.now) }
 {
-    let mut state = CLOSED;
+    let mut state = BOUNDARY;
     for i in 0..count {
         if i >= bytes.len() {
             return Err(Stop::Partial);
@@ -118,7 +118,7 @@ fn text_end(bytes: &[u8], count: usize) -> Result<(), Stop>
 
 /// Reads a text of `count` bytes.
 pub(crate) fn text(bytes: &[u8], count: usize) -> Result<(&str, &[u8]), Stop>
-    ensures { Gives (λ x. (x.0.now, x.1.now)) result (text_at closed count bytes.now) }
+    ensures { Gives (λ x. (x.0.now, x.1.now)) result (text_at boundary count bytes.now) }
 {
     text_end(bytes, count)?;
     let text = unsafe { str::from_utf8_unchecked(&bytes[..count]) };
@@ -126,7 +126,7 @@ pub(crate) fn text(bytes: &[u8], count: usize) -> Result<(&str, &[u8]), Stop>
 }
 
 /// A zero that isn't inside a character.
-fn ends_string(state: Open, byte: u8) -> bool
+fn ends_string(state: Awaited, byte: u8) -> bool
     ensures { result ≡ (state.more == 0 && byte == 0) }
 {
     state.more == 0 && byte == 0
@@ -134,11 +134,11 @@ fn ends_string(state: Open, byte: u8) -> bool
 
 /// Reads a string with room for `room` bytes of text: where its zero stands.
 fn string_end(bytes: &[u8], ending: Ending, room: usize) -> Result<usize, Stop>
-    ensures gives { Gives (λ end. (take end bytes.now, drop (end + 1) bytes.now)) result (string_at ending closed room bytes.now) }
+    ensures gives { Gives (λ end. (take end bytes.now, drop (end + 1) bytes.now)) result (string_at ending boundary room bytes.now) }
     ensures text { IfOk result (λ end. IsUtf8 (take end bytes.now)) }
     ensures place { IfOk result (λ end. end < length bytes.now) }
 {
-    let mut state = CLOSED;
+    let mut state = BOUNDARY;
     for (i, byte) in bytes.iter().enumerate() {
         if ends_string(state, *byte) {
             if may_end(ending, room - i) {
@@ -162,7 +162,7 @@ fn string_end(bytes: &[u8], ending: Ending, room: usize) -> Result<usize, Stop>
 
 /// Reads a string with room for `room` bytes of text.
 pub(crate) fn string(bytes: &[u8], ending: Ending, room: usize) -> Result<(&str, &[u8]), Stop>
-    ensures { Gives (λ x. (x.0.now, x.1.now)) result (string_at ending closed room bytes.now) }
+    ensures { Gives (λ x. (x.0.now, x.1.now)) result (string_at ending boundary room bytes.now) }
 {
     let end = string_end(bytes, ending, room)?;
     let text = unsafe { str::from_utf8_unchecked(&bytes[..end]) };

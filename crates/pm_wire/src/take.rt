@@ -5,8 +5,8 @@
 pub enum Take<T> {
     /// A message, and how many bytes it takes.
     Whole { value: T, used: usize },
-    /// Too little to tell: more bytes decide.
-    Short,
+    /// Too little to tell: it takes `wanted` bytes, counted from the message's first.
+    Short { wanted: usize },
     /// No message, however the bytes go on.
     Bad(WireFault),
 }

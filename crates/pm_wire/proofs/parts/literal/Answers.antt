@@ -1,6 +1,6 @@
 use Rattle.std.proofs.Common.{◌≡◌, length, drop, arith, ap, ◌∙◌, sym, Ok, List, ℕ}
 use Rattle.pm_wire.specs.Parts.{literal_at}
-use Rattle.pm_wire.proofs.Characters.{eqb_true, eqb_false}
+use Rattle.std.proofs.lemmas.Bool.{eq-eqb, ne_eqb}
 use Rattle.pm_wire.proofs.Walks.{literal_partial, literal_departs, literal_more, literal_done}
 use Rattle.pm_wire.proofs.parts.literal.Goals as goal
 
@@ -9,11 +9,11 @@ returns-then-i-bytes c = literal_partial c.args.word.now c.args.bytes.now c.loop
 
 pub returns-then-bytes-i : goal.returns-then-bytes-i
 returns-then-bytes-i c =
-    literal_departs c.args.word.now c.args.bytes.now c.loop-i.i (literal_at c.args.word.now c.args.bytes.now) c.loop-i.invariant.0 c.loop-i-test.true (omega arith) (eqb_false _ _ c.if-bytes-i.true)
+    literal_departs c.args.word.now c.args.bytes.now c.loop-i.i (literal_at c.args.word.now c.args.bytes.now) c.loop-i.invariant.0 c.loop-i-test.true (omega arith) (ne_eqb _ _ c.if-bytes-i.true)
 
 pub loop-i-preserved : goal.loop-i-preserved
 loop-i-preserved c =
-    (literal_more c.args.word.now c.args.bytes.now c.loop-i.i (literal_at c.args.word.now c.args.bytes.now) c.loop-i.invariant.0 c.loop-i-test.true (omega arith) (eqb_true _ _ c.if-bytes-i.false), omega arith)
+    (literal_more c.args.word.now c.args.bytes.now c.loop-i.i (literal_at c.args.word.now c.args.bytes.now) c.loop-i.invariant.0 c.loop-i-test.true (omega arith) (eq-eqb _ _ c.if-bytes-i.false), omega arith)
 
 pub returns : goal.returns
 returns c =

@@ -1,6 +1,6 @@
 use Rattle.std.proofs.Common.{arith, ap, ◌∙◌, ◌≡◌, sym, Ok, ℕ, take, drop}
 use Rattle.pm_wire.specs.Parts.{code_at}
-use Rattle.pm_wire.proofs.Characters.{eqb_true, eqb_false}
+use Rattle.std.proofs.lemmas.Bool.{eq-eqb, ne_eqb}
 use Rattle.pm_wire.proofs.Walks.{code_partial, code_departs, code_more, code_done}
 use Rattle.pm_wire.proofs.parts.nonzero.Goals as goal
 
@@ -9,11 +9,11 @@ returns-then-i-bytes-clause-gives c = code_partial c.args.count c.args.bytes.now
 
 pub returns-then-bytes-i-eq0-clause-gives : goal.returns-then-bytes-i-eq0-clause-gives
 returns-then-bytes-i-eq0-clause-gives c =
-    code_departs c.args.count c.args.bytes.now c.loop-i.i (code_at c.args.count c.args.bytes.now) c.loop-i.invariant.0 c.loop-i-test.true (omega arith) (eqb_true _ _ c.if-bytes-i-eq0.true)
+    code_departs c.args.count c.args.bytes.now c.loop-i.i (code_at c.args.count c.args.bytes.now) c.loop-i.invariant.0 c.loop-i-test.true (omega arith) (eq-eqb _ _ c.if-bytes-i-eq0.true)
 
 pub loop-i-preserved : goal.loop-i-preserved
 loop-i-preserved c =
-    (code_more c.args.count c.args.bytes.now c.loop-i.i (code_at c.args.count c.args.bytes.now) c.loop-i.invariant.0 c.loop-i-test.true (omega arith) (eqb_false _ _ c.if-bytes-i-eq0.false), omega arith)
+    (code_more c.args.count c.args.bytes.now c.loop-i.i (code_at c.args.count c.args.bytes.now) c.loop-i.invariant.0 c.loop-i-test.true (omega arith) (ne_eqb _ _ c.if-bytes-i-eq0.false), omega arith)
 
 pub returns-clause-gives : goal.returns-clause-gives
 returns-clause-gives c =

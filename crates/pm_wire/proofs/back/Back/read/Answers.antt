@@ -1,5 +1,5 @@
 use Rattle.std.proofs.Common.{arith}
-use Rattle.pm_wire.proofs.BackAgain.{Reads, whole_is, every_is, short_is, length_is, form_is}
+use Rattle.pm_wire.proofs.BackAgain.{Reads, whole_is, every_is, partial_is, short_is, length_is, form_is}
 use Rattle.pm_wire.proofs.back.Back.read.Goals as goal
 
 reads : (c : goal.After-back_of) → Reads c.back_of.result c.args.bytes.now
@@ -13,6 +13,9 @@ returns-clause-every c = every_is c.back_of.result c.args.bytes.now (reads c)
 
 pub returns-clause-short : goal.returns-clause-short
 returns-clause-short c = short_is c.back_of.result c.args.bytes.now (reads c)
+
+pub returns-clause-partial : goal.returns-clause-partial
+returns-clause-partial c = partial_is c.back_of.result c.args.bytes.now (reads c)
 
 pub returns-clause-bad_length : goal.returns-clause-bad_length
 returns-clause-bad_length c = length_is c.back_of.result c.args.bytes.now (reads c)

@@ -1,5 +1,5 @@
 use Rattle.std.proofs.Common.{arith}
-use Rattle.pm_wire.proofs.FrontRead.{Reads, whole_is, every_is, bad_is, never_bad_form, short_is}
+use Rattle.pm_wire.proofs.FrontRead.{Reads, whole_is, every_is, bad_is, never_bad_form, undecided_is, short_is, least_is}
 use Rattle.pm_wire.proofs.front.Front.read.Goals as goal
 
 reads : (c : goal.After-front_of) → Reads c.front_of.result c.args.bytes.now
@@ -17,5 +17,11 @@ returns-clause-bad_length c = bad_is c.front_of.result c.args.bytes.now (reads c
 pub returns-clause-no_bad_form : goal.returns-clause-no_bad_form
 returns-clause-no_bad_form c = never_bad_form c.front_of.result c.args.bytes.now (reads c)
 
+pub returns-clause-undecided : goal.returns-clause-undecided
+returns-clause-undecided c = undecided_is c.front_of.result c.args.bytes.now (reads c)
+
 pub returns-clause-short : goal.returns-clause-short
 returns-clause-short c = short_is c.front_of.result c.args.bytes.now (reads c)
+
+pub returns-clause-least : goal.returns-clause-least
+returns-clause-least c = least_is c.front_of.result c.args.bytes.now (reads c)

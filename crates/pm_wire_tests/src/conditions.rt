@@ -1,0 +1,164 @@
+//! The table of texts and codes.
+
+ghost use Rattle.pm_wire.specs.Longest.{IsGiven};
+
+use pm_wire::{Back, Bytes, Condition, Fixed, StatementFault, conditions_can_be_told, fixed};
+use std::alloc::AllocError;
+use std::test::*;
+
+/// Appends a condition.
+fn tell(out: &mut Bytes, condition: &Condition) -> Result<(), AllocError>
+    requires { IsGiven condition.now }
+{
+    conditions_can_be_told();
+    Back::Told(*condition).write(out)
+}
+
+/// Conditions whose text is always the same, with the bytes that tell them.
+const FIXED: [(Fixed, &[u8]); 23] = [
+    (
+        Fixed::StartingUp,
+        b"E\0\0\0\x3eSFATAL\0VFATAL\0C57P03\0Mthe database system is starting up\0\0",
+    ),
+    (
+        Fixed::ShuttingDown,
+        b"E\0\0\0\x40SFATAL\0VFATAL\0C57P03\0Mthe database system is shutting down\0\0",
+    ),
+    (
+        Fixed::InRecovery,
+        b"E\0\0\0\x43SFATAL\0VFATAL\0C57P03\0Mthe database system is in recovery mode\0\0",
+    ),
+    (
+        Fixed::TooManyClients,
+        b"E\0\0\0\x3bSFATAL\0VFATAL\0C53300\0Msorry, too many clients already\0\0",
+    ),
+    (
+        Fixed::ProtocolOption,
+        b"E\0\0\0\x3eSFATAL\0VFATAL\0C0A000\0Mprotocol options are not supported\0\0",
+    ),
+    (
+        Fixed::Replication,
+        b"E\0\0\0\x45SFATAL\0VFATAL\0C0A000\0Mreplication connections are not supported\0\0",
+    ),
+    (
+        Fixed::PacketLayout,
+        b"E\0\0\0\x5bSFATAL\0VFATAL\0C08P01\0Minvalid startup packet layout: expected terminator as last byte\0\0",
+    ),
+    (
+        Fixed::NoUser,
+        b"E\0\0\0\x4fSFATAL\0VFATAL\0C28000\0Mno PostgreSQL user name specified in startup packet\0\0",
+    ),
+    (
+        Fixed::MessageLength,
+        b"E\0\0\0\x32SFATAL\0VFATAL\0C08P01\0Minvalid message length\0\0",
+    ),
+    (
+        Fixed::MessageFormat,
+        b"E\0\0\0\x32SFATAL\0VFATAL\0C08P01\0Minvalid message format\0\0",
+    ),
+    (
+        Fixed::ExtendedQuery,
+        b"E\0\0\0\x44SFATAL\0VFATAL\0C0A000\0Mextended query protocol is not supported\0\0",
+    ),
+    (
+        Fixed::LongQuery,
+        b"E\0\0\0\x35SFATAL\0VFATAL\0C54000\0Mquery exceeds 65536 bytes\0\0",
+    ),
+    (
+        Fixed::NotUtf8,
+        b"E\0\0\0\x45SERROR\0VERROR\0C22021\0Minvalid byte sequence for encoding \"UTF8\"\0\0",
+    ),
+    (
+        Fixed::TableFull,
+        b"E\0\0\0\x35SERROR\0VERROR\0C54000\0Mtable exceeds 100000 rows\0\0",
+    ),
+    (
+        Fixed::RowsTooLarge,
+        b"E\0\0\0\x36SERROR\0VERROR\0C54000\0Mrows exceed 67108864 bytes\0\0",
+    ),
+    (
+        Fixed::LogFull,
+        b"E\0\0\0\x32SERROR\0VERROR\0C54000\0Mthe commit log is full\0\0",
+    ),
+    (
+        Fixed::Canceled,
+        b"E\0\0\0\x43SERROR\0VERROR\0C57014\0Mcanceling statement due to user request\0\0",
+    ),
+    (
+        Fixed::Terminated,
+        b"E\0\0\0\x4fSFATAL\0VFATAL\0C57P01\0Mterminating connection due to administrator command\0\0",
+    ),
+    (
+        Fixed::CrashQuit,
+        b"N\0\0\0\x61SWARNING\0VWARNING\0C57P02\0Mterminating connection because of crash of another server process\0\0",
+    ),
+    (
+        Fixed::StopQuit,
+        b"N\0\0\0\x58SWARNING\0VWARNING\0C57P01\0Mterminating connection due to immediate shutdown command\0\0",
+    ),
+    (
+        Fixed::ErrorMemory,
+        b"E\0\0\0\x29SERROR\0VERROR\0C53200\0Mout of memory\0\0",
+    ),
+    (
+        Fixed::FatalMemory,
+        b"E\0\0\0\x29SFATAL\0VFATAL\0C53200\0Mout of memory\0\0",
+    ),
+    (
+        Fixed::CouldNotWrite,
+        b"E\0\0\0\x3dSPANIC\0VPANIC\0C58030\0Mcould not write to the commit log\0\0",
+    ),
+];
+
+#[test]
+fn fixed_conditions_have_these_bytes(rt: HostRuntime) {
+    for (condition, expected) in FIXED {
+        assert_eq!(rt; fixed(condition), expected);
+    }
+}
+
+#[test]
+fn conditions_with_numbers_have_these_bytes(rt: HostRuntime) -> Result<(), Fail> {
+    let mut out = Bytes::new(rt.alloc());
+    let version = Condition::Version {
+        major: 1234,
+        minor: 5679,
+    };
+    tell(&mut out, &version)?;
+    let unknown = Condition::UnknownType { kind: 122 };
+    tell(&mut out, &unknown)?;
+    tell(&mut out, &Condition::Duplicate { key: -1 })?;
+    let expected: &[u8] =
+        b"E\0\0\0\x5fSFATAL\0VFATAL\0C0A000\0Munsupported frontend protocol 1234.5679: server supports 3.0 to 3.0\0\0\
+        E\0\0\0\x3dSFATAL\0VFATAL\0C08P01\0Minvalid frontend message type 122\0\0\
+        E\0\0\0\x72SERROR\0VERROR\0C23505\0\
+        Mduplicate key value violates unique constraint \"kv_pkey\"\0\
+        DKey (k)=(-1) already exists.\0\0";
+    assert_eq!(rt; out.as_slice(), expected);
+    Ok(())
+}
+
+#[test]
+fn faults_of_statements_have_these_codes(rt: HostRuntime) {
+    for (fault, expected) in [
+        (StatementFault::Syntax, *b"42601"),
+        (StatementFault::NoTable, *b"42P01"),
+        (StatementFault::NumberRange, *b"22003"),
+        (StatementFault::LongValue, *b"22001"),
+        (StatementFault::ManyStatements, *b"54000"),
+    ] {
+        assert_eq!(rt; fault.state().code(), expected);
+    }
+}
+
+#[test]
+fn a_syntax_error_has_these_bytes(rt: HostRuntime) -> Result<(), Fail> {
+    let mut out = Bytes::new(rt.alloc());
+    let text = "syntax error at end of input";
+    let fault = StatementFault::Syntax;
+    assert!(rt; !text.as_bytes().contains(&0) && text.len() < 64);
+    tell(&mut out, &Condition::Statement { fault, text })?;
+    let expected: &[u8] = b"E\0\0\0\x38SERROR\0VERROR\0C42601\0Msyntax error at end of input\0\0";
+    assert_eq!(rt; out.as_slice(), expected);
+    Ok(())
+}
