@@ -5,11 +5,11 @@ use Rattle.std.proofs.lemmas.List.Sums.{sum_by_push}
 use Rattle.std.proofs.lemmas.List.Elements.{All-push}
 use Rattle.std.proofs.lemmas.Bool.Decides.{nat_tests}
 use Rattle.pm_sql.specs.declared.stmt.Stmt.{Stmt}
-use Rattle.pm_sql.specs.declared.script.TheConstants.{MAX_WRITING}
+use Rattle.pm_rows.specs.Limits.{max_changes}
 use Rattle.pm_sql.specs.declared.fault.Fault.{Fault}
 use Rattle.pm_sql.specs.declared.fault.Stop.{Stop}
 use Rattle.pm_sql.specs.declared.fault.Stop.TheVariants as stops
-use Rattle.pm_sql.specs.Limits.{is_writing, HasShortValue, IsWithinLimits}
+use Rattle.pm_sql.specs.Limits.{is_writing, HasShortValue, IsWithinScriptLimits}
 use Rattle.pm_sql.specs.Tokens.{skipped, behind_mark}
 use Rattle.pm_sql.specs.Reading.{Fails}
 use Rattle.pm_sql.specs.Query.{stmt_at, end_at, is_at_end, script_within}
@@ -18,7 +18,7 @@ use Rattle.pm_sql.specs.Query.{stmt_at, end_at, is_at_end, script_within}
 pub record IsReading (steps : ℕ) (script : List Stmt) (rest : List ℕ) (writing : ℕ) (whole : Result (List Stmt) Fault) : Type 0 where
   pub read : script_within steps script rest ≡ whole
   pub counted : writing ≡ count_by is_writing script
-  pub limits : IsWithinLimits script
+  pub limits : IsWithinScriptLimits script
 
 pub not_zero : (n : ℕ) → suc n == 0 ≡ false
 not_zero n = grind (arith, nat_tests)
@@ -38,11 +38,11 @@ behind_semicolon n i done input behind writing whole h more mark is =
     let one : script_within (n - i) done input ≡ script_within (n - (i + 1)) done behind = rw (one_step n i h, more, mark) refl in
     record { read = sym one ∙ is.read; counted = is.counted; limits = is.limits }
 
-one_more : (b : Bool) (n : ℕ) → (IsTrue b → n < MAX_WRITING) → n ≤ MAX_WRITING → n + cond b 1 0 ≤ MAX_WRITING
-one_more true n room small = let more : n < MAX_WRITING = room refl in omega arith
+one_more : (b : Bool) (n : ℕ) → (IsTrue b → n < max_changes) → n ≤ max_changes → n + cond b 1 0 ≤ max_changes
+one_more true n room small = let more : n < max_changes = room refl in omega arith
 one_more false n room small = omega arith
 
-pub with_stmt_limits : (script : List Stmt) (stmt : Stmt) → IsWithinLimits script → HasShortValue stmt → (IsTrue (is_writing stmt) → count_by is_writing script < MAX_WRITING) → IsWithinLimits (script ++ stmt ∷ [])
+pub with_stmt_limits : (script : List Stmt) (stmt : Stmt) → IsWithinScriptLimits script → HasShortValue stmt → (IsTrue (is_writing stmt) → count_by is_writing script < max_changes) → IsWithinScriptLimits (script ++ stmt ∷ [])
 with_stmt_limits script stmt is short room = record {
   writing = rw (sum_by_push (λ s. cond (is_writing s) 1 0) script stmt) (one_more (is_writing stmt) (count_by is_writing script) room is.writing);
   values = All-push HasShortValue script stmt is.values short;
@@ -50,7 +50,7 @@ with_stmt_limits script stmt is short room = record {
 
 -- a statement was taken
 pub behind_stmt : (n i : ℕ) (done : List Stmt) (input behind rest : List ℕ) (stmt : Stmt) (writing next : ℕ) (whole : Result (List Stmt) Fault) → i < n → is_at_end (skipped input) ≡ false → behind_mark 59 (skipped input) ≡ None
-    → stmt_at writing (skipped input) ≡ Ok (stmt, behind) → end_at behind ≡ Ok rest → IsWithinLimits (done ++ stmt ∷ []) → next ≡ writing + cond (is_writing stmt) 1 0
+    → stmt_at writing (skipped input) ≡ Ok (stmt, behind) → end_at behind ≡ Ok rest → IsWithinScriptLimits (done ++ stmt ∷ []) → next ≡ writing + cond (is_writing stmt) 1 0
     → IsReading (n - i) done input writing whole → IsReading (n - (i + 1)) (done ++ stmt ∷ []) rest next whole
 unfolding script_within
 behind_stmt n i done input behind rest stmt writing next whole h more mark e f limits count is =

@@ -2,7 +2,7 @@
 use Rattle.std.proofs.Common.{◌≡◌, ◌≢◌, ℕ, suc, ◌<◌, false, cond, ◌==◌, List, [], ◌∷◌, ◌++◌, length, get_or, Option, Some, None, refl, sym, ap, ◌∙◌, append_assoc, arith}
 use Rattle.std.proofs.lemmas.List.{append-nil}
 use Rattle.std.proofs.lemmas.Bool.Decides.{nat_tests}
-use Rattle.pm_sql.specs.Tokens.{string_in, with_byte}
+use Rattle.pm_sql.specs.Tokens.{string_in, string_end, with_byte}
 
 -- with this content in front
 abbrev pub with_content : List ℕ → Option (List ℕ × List ℕ) → Option (List ℕ × List ℕ)
@@ -81,3 +81,19 @@ is_closed content front after rest whole e cut none last =
 -- no closing quote
 pub is_open : (content rest : List ℕ) (whole : Option (List ℕ × List ℕ)) → with_content content (string_in rest) ≡ whole → ((i : ℕ) → i < length rest → get_or rest i 0 ≢ 39) → None ≡ whole
 is_open content rest whole e none = ap (with_content content) (sym (endless rest none)) ∙ e
+
+-- ---- where a string ends
+
+end_with : (front : List ℕ) (o : Option (List ℕ × List ℕ)) → string_end (with_content front o) ≡ string_end o
+end_with front None = refl
+end_with front (Some found) = refl
+
+pub end_goes_on : (front after more rest : List ℕ) → rest ≡ front ++ 39 ∷ after → ((i : ℕ) → i < length front → get_or front i 0 ≢ 39) → after ≡ 39 ∷ more → string_end (string_in more) ≡ string_end (string_in rest)
+end_goes_on front after more rest cut none again =
+    sym (end_with (([] ++ front) ++ 39 ∷ []) (string_in more)) ∙ ap string_end (goes_on [] front after more rest (string_in rest) (sym (with_nothing (string_in rest))) cut none again)
+
+pub end_closed : (front after rest : List ℕ) → rest ≡ front ++ 39 ∷ after → ((i : ℕ) → i < length front → get_or front i 0 ≢ 39) → ((more : List ℕ) → after ≢ 39 ∷ more) → Some after ≡ string_end (string_in rest)
+end_closed front after rest cut none last = ap string_end (is_closed [] front after rest (string_in rest) (sym (with_nothing (string_in rest))) cut none last)
+
+pub end_open : (rest : List ℕ) → ((i : ℕ) → i < length rest → get_or rest i 0 ≢ 39) → None ≡ string_end (string_in rest)
+end_open rest none = ap string_end (sym (endless rest none))

@@ -1,13 +1,13 @@
--- The grammar of statements, production by production, each read from left to right: what it stands for and what stands
--- behind it, or the first fault.
+-- How the productions are read from left to right: what each stands for and what stands behind it, or the first fault. No
+-- public contract cites this; what a text stands for and which fault it has is told by `Statements` and `Faults`.
 use Rattle.std.specs.Prelude.{ℕ, ℤ, pos, neg_ℤ, ◌^◌, Bool, true, false, if◌then◌else◌, ◌==◌, List, [], ◌∷◌, length, drop, take, Option, Some, None, Result, Ok, Err, nat_le, nat_lt, codes}
 use Rattle.pm_sql.specs.declared.stmt.Stmt.{Stmt}
 use Rattle.pm_sql.specs.declared.stmt.Stmt.TheVariants.{Insert, Update, Delete, Select, Count, Sleep}
-use Rattle.pm_sql.specs.declared.script.TheConstants.{MAX_VALUE_BYTES}
-use Rattle.pm_sql.specs.declared.grammar.TheConstants.{MAX_SLEEP_SECONDS}
+use Rattle.pm_rows.specs.Limits.{max_value_bytes}
+use Rattle.pm_sql.specs.Limits.{max_sleep_seconds}
 use Rattle.pm_sql.specs.declared.fault.Kind.TheVariants.{Syntax, Table, Range, TooLong}
 use Rattle.pm_sql.specs.declared.fault.Fault.{Fault}
-use Rattle.pm_sql.specs.Tokens.{skipped, starts_with_letter, word_len, digits_len, decimal, is_same_word, behind_word, behind_mark, string_in}
+use Rattle.pm_sql.specs.Tokens.{skipped, starts_with_letter, word_len, digits_len, digits_value, is_same_word, behind_word, behind_mark, string_in}
 use Rattle.pm_sql.specs.Reading.{◌>>=◌, fault_at, found_or_fault, word_at, mark_at}
 
 -- name := word; the one table is kv
@@ -44,15 +44,15 @@ unfoldable pub int_at : List ℕ → Result (ℤ × List ℕ) Fault
 int_at input =
     let sign = sign_of (skipped input) in do
       here ← digits_at sign.1
-      rest ← behind_digits (fits_bigint sign.0 (decimal (take (digits_len here) here))) here
-      Ok (signed sign.0 (decimal (take (digits_len here) here)), rest)
+      rest ← behind_digits (fits_bigint sign.0 (digits_value (take (digits_len here) here))) here
+      Ok (signed sign.0 (digits_value (take (digits_len here) here)), rest)
 
 -- digits that are seconds of a pause
 unfoldable pub seconds_at : List ℕ → Result (ℕ × List ℕ) Fault
 seconds_at input = do
   here ← digits_at input
-  rest ← behind_digits (nat_le (decimal (take (digits_len here) here)) MAX_SLEEP_SECONDS) here
-  Ok (decimal (take (digits_len here) here), rest)
+  rest ← behind_digits (nat_le (digits_value (take (digits_len here) here)) max_sleep_seconds) here
+  Ok (digits_value (take (digits_len here) here), rest)
 
 -- a string that is short enough for a value
 unfoldable pub string_at : List ℕ → Result (List ℕ × List ℕ) Fault
@@ -60,11 +60,11 @@ string_at input =
     let here = skipped input in do
       begin ← mark_at 39 input
       found ← found_or_fault (string_in begin) here
-      if nat_lt MAX_VALUE_BYTES (length found.0) then Err (fault_at TooLong here) else Ok found
+      if nat_lt max_value_bytes (length found.0) then Err (fault_at TooLong here) else Ok found
 
 -- `k =` and an int
-unfoldable pub key_at : List ℕ → Result (ℤ × List ℕ) Fault
-key_at input = do
+unfoldable pub key_condition_at : List ℕ → Result (ℤ × List ℕ) Fault
+key_condition_at input = do
   a ← word_at (codes "k") input
   b ← mark_at 61 a
   int_at b
@@ -101,7 +101,7 @@ update_at input = do
   d ← mark_at 61 c
   value ← string_at d
   e ← word_at (codes "where") value.1
-  key ← key_at e
+  key ← key_condition_at e
   Ok (Update key.0 value.0, key.1)
 
 -- DELETE, behind this word: FROM name WHERE k "=" int
@@ -110,7 +110,7 @@ delete_at input = do
   a ← word_at (codes "from") input
   b ← name_at a
   c ← word_at (codes "where") b
-  key ← key_at c
+  key ← key_condition_at c
   Ok (Delete key.0, key.1)
 
 -- FROM name
@@ -123,7 +123,7 @@ from_at input = do
 abbrev pub condition_in : List ℕ → Option (List ℕ) → Result (Option ℤ × List ℕ) Fault
 condition_in input None = Ok (None, input)
 condition_in input (Some begin) = do
-  key ← key_at begin
+  key ← key_condition_at begin
   Ok (Some key.0, key.1)
 
 -- [ ORDER BY k ], what of it was opened

@@ -1,13 +1,18 @@
--- Laws of reading.
-use Rattle.std.specs.Prelude.{◌≡◌, ℕ, ◌≤◌, List, [], length}
+-- Laws of query texts.
+use Rattle.std.specs.Prelude.{◌≡◌, ℕ, List}
 use Rattle.pm_sql.specs.declared.stmt.Stmt.{Stmt}
-use Rattle.pm_sql.specs.Query.{script_within, script_of}
+use Rattle.pm_sql.specs.declared.fault.Kind.{Kind}
 use Rattle.pm_sql.specs.Statements.{IsQueryText}
-
--- each step of reading a script takes a byte at least, so more steps than the text has bytes change nothing
-abbrev pub StepsSuffice : Type 0
-StepsSuffice = (text : List ℕ) (steps : ℕ) → length text ≤ steps → script_within steps [] text ≡ script_of text
+use Rattle.pm_sql.specs.Faults.{IsFaultAt}
 
 -- a text stands for one script at most
 abbrev pub OneScript : Type 0
 OneScript = (text : List ℕ) (stmts others : List Stmt) → IsQueryText text stmts → IsQueryText text others → stmts ≡ others
+
+-- a text has one fault at most
+abbrev pub OneFault : Type 0
+OneFault = (text : List ℕ) (kind another : Kind) (place other : ℕ) → IsFaultAt text kind place → IsFaultAt text another other → (kind ≡ another) × (place ≡ other)
+
+-- a query text has none
+abbrev pub NoFault : Type 0
+NoFault = (text : List ℕ) (stmts : List Stmt) (kind : Kind) (place : ℕ) → IsQueryText text stmts → IsFaultAt text kind place → ⊥

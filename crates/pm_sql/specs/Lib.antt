@@ -4,7 +4,7 @@ pub mod Limits
 pub mod Message
 pub mod Query
 pub mod Reading
-pub mod Refused
+pub mod Faults
 pub mod Statements
 pub mod Token
 pub mod Tokens

@@ -1,9 +1,10 @@
 -- The text of a fault for the client.
-use Rattle.std.specs.Prelude.{ℕ, ◌-◌, Bool, if◌then◌else◌, ◌==◌, ◌&&◌, not, List, [], ◌∷◌, ◌++◌, length, take, drop, slice_index, Option, Some, None, nat_le, nat_lt, codes}
+use Rattle.std.specs.Prelude.{◌≡◌, ℕ, ◌-◌, Bool, if◌then◌else◌, ◌==◌, ◌&&◌, false, not, List, [], ◌∷◌, ◌++◌, length, take, drop, slice_index, Option, Some, None, nat_le, nat_lt, codes}
+use Rattle.std.specs.List.{list_any}
 use Rattle.std.specs.Str.{str_to_ascii_lowercase}
 use Rattle.pm_sql.specs.declared.query.SqlFault.{SqlFault}
 use Rattle.pm_sql.specs.declared.query.SqlFault.TheVariants.{Syntax, Table, Range, TooLong, TooMany, NoMemory}
-use Rattle.pm_sql.specs.Tokens.{starts_with_letter, word_len, digits_len, behind_mark, string_in, quote}
+use Rattle.pm_sql.specs.Tokens.{starts_with_letter, word_len, digits_len, behind_mark, string_in, string_end, quote}
 use Rattle.pm_sql.specs.Query.{is_at_end}
 
 -- whether a text may be cut at this place: not inside a character
@@ -23,14 +24,14 @@ abbrev pub char_len : ℕ → ℕ
 char_len byte = if nat_lt byte 128 then 1 else (if nat_lt byte 224 then 2 else (if nat_lt byte 240 then 3 else 4))
 
 -- a string as it is spelled, from its quote on; of one that doesn't end, the quote
-abbrev pub string_token : List ℕ → Option (List ℕ × List ℕ) → List ℕ
+abbrev pub string_token : List ℕ → Option (List ℕ) → List ℕ
 string_token here None = quote ∷ []
-string_token here (Some found) = up_to_place here (length here - length found.1)
+string_token here (Some behind) = up_to_place here (length here - length behind)
 
 -- a token that is neither word nor digits: a string, where a quote was found, or else a character
 abbrev pub other_token : List ℕ → Option (List ℕ) → List ℕ
 other_token here None = up_to_place here (char_len (slice_index here 0))
-other_token here (Some rest) = string_token here (string_in rest)
+other_token here (Some rest) = string_token here (string_end (string_in rest))
 
 -- the token at the front, as it is spelled
 abbrev pub token_of : List ℕ → List ℕ
@@ -49,3 +50,7 @@ message_of text (Range place) = codes "bigint out of range"
 message_of text (TooLong place) = codes "value exceeds 8192 bytes"
 message_of text (TooMany place) = codes "query exceeds 1000 writing statements"
 message_of text NoMemory = codes "out of memory"
+
+-- no byte is zero
+abbrev pub HasNoZero : List ℕ → Type 0
+HasNoZero text = list_any (λ byte. byte == 0) text ≡ false

@@ -1,14 +1,13 @@
--- A query text as a script: its statements in order, or the first fault.
-use Rattle.std.specs.Prelude.{◌≡◌, ℕ, zero, suc, ◌-◌, Bool, true, false, if◌then◌else◌, ◌==◌, List, [], ◌∷◌, ◌++◌, length, count_by, Result, Ok, Err, nat_lt, codes}
+-- How a query text is read from left to right: its statements in order, or the first fault. No public contract cites this.
+use Rattle.std.specs.Prelude.{ℕ, zero, suc, ◌-◌, Bool, true, false, if◌then◌else◌, ◌==◌, List, [], ◌∷◌, ◌++◌, length, count_by, Result, Ok, Err, nat_lt, codes}
 use Rattle.pm_sql.specs.declared.stmt.Stmt.{Stmt}
-use Rattle.pm_sql.specs.declared.script.TheConstants.{MAX_WRITING}
+use Rattle.pm_rows.specs.Limits.{max_changes}
 use Rattle.pm_sql.specs.declared.fault.Kind.{Kind}
 use Rattle.pm_sql.specs.declared.fault.Kind.TheVariants.{Syntax, TooMany}
 use Rattle.pm_sql.specs.declared.fault.Kind.TheVariants as kinds
 use Rattle.pm_sql.specs.declared.fault.Fault.{Fault}
 use Rattle.pm_sql.specs.declared.query.SqlFault.{SqlFault}
 use Rattle.pm_sql.specs.declared.query.SqlFault.TheVariants as faults
-use Rattle.pm_sql.specs.declared.script.Script.{Script}
 use Rattle.pm_sql.specs.Limits.{is_writing}
 use Rattle.pm_sql.specs.Tokens.{skipped, behind_word, behind_mark}
 use Rattle.pm_sql.specs.Reading.{◌>>=◌, fault_at}
@@ -16,7 +15,7 @@ use Rattle.pm_sql.specs.Grammar.{or_else, insert_at, update_at, delete_at, selec
 
 -- a statement that writes, where there is room for one more behind so many
 abbrev pub if_room : {A : Type 0} → ℕ → List ℕ → Result A Fault → Result A Fault
-if_room writing here read = if nat_lt writing MAX_WRITING then read else Err (fault_at TooMany here)
+if_room writing here read = if nat_lt writing max_changes then read else Err (fault_at TooMany here)
 
 -- the statement that begins here, behind so many that write
 unfoldable pub stmt_at : ℕ → List ℕ → Result (Stmt × List ℕ) Fault
@@ -64,21 +63,3 @@ told kinds.TooMany place = faults.TooMany place
 -- what a fault is in the whole text
 abbrev pub fault_in : List ℕ → Fault → SqlFault
 fault_in text fault = told fault.kind (length text - fault.left)
-
-abbrev pub with_places : List ℕ → Result (List Stmt) Fault → Result (List Stmt) SqlFault
-with_places text (Ok script) = Ok script
-with_places text (Err fault) = Err (fault_in text fault)
-
--- what parsing a text gives
-abbrev pub parsed : List ℕ → Result (List Stmt) SqlFault
-parsed text = with_places text (script_of text)
-
--- a result is this one, unless memory was short
-abbrev pub IsParsed : Result Script SqlFault → Result (List Stmt) SqlFault → Type 0
-IsParsed (Ok script) read = read ≡ Ok script
-IsParsed (Err faults.NoMemory) read = Unit {0}
-IsParsed (Err (faults.Syntax place)) read = read ≡ Err (faults.Syntax place)
-IsParsed (Err (faults.Table place)) read = read ≡ Err (faults.Table place)
-IsParsed (Err (faults.Range place)) read = read ≡ Err (faults.Range place)
-IsParsed (Err (faults.TooLong place)) read = read ≡ Err (faults.TooLong place)
-IsParsed (Err (faults.TooMany place)) read = read ≡ Err (faults.TooMany place)

@@ -1,8 +1,8 @@
--- Tokens, and which texts spell which lists of tokens.
+-- Tokens, and up to where which tokens stand in a text.
 use Rattle.std.specs.Prelude.{◌≡◌, ℕ, ◌<◌, Bool, false, if◌then◌else◌, ◌==◌, List, [], ◌∷◌, ◌++◌, map, IsTrue, IsFalse}
 use Rattle.std.specs.Char.{is_ascii_whitespace, is_ascii_digit, to_ascii_lowercase}
 use Rattle.std.specs.List.{list_all}
-use Rattle.pm_sql.specs.Tokens.{is_word_byte, starts_with_letter, quote}
+use Rattle.pm_sql.specs.Tokens.{skipped, is_word_byte, starts_with_letter, quote}
 
 -- A word has its letters as they are spelled, and a string its content. A mark is any other character but white space. It is one
 -- byte below 128: a character that isn't ASCII stands in no query outside a string
@@ -42,10 +42,10 @@ abbrev pub begins_with : (ℕ → Bool) → List ℕ → Bool
 begins_with test [] = false
 begins_with test (byte ∷ rest) = test byte
 
--- whether the text right behind a token would continue it. Neither a letter nor `_` may stand right behind digits
+-- whether the text right behind a token would continue it
 abbrev pub is_continued : Token → List ℕ → Bool
 is_continued (Word letters) rest = begins_with is_word_byte rest
-is_continued (Digits digits) rest = begins_with is_word_byte rest
+is_continued (Digits digits) rest = begins_with is_ascii_digit rest
 is_continued (Quoted content) rest = begins_with (λ byte. byte == quote) rest
 is_continued (Mark byte) rest = false
 
@@ -60,7 +60,23 @@ pub record IsFront (text : List ℕ) (token : Token) (rest : List ℕ) : Type 0 
   pub made : IsToken token
   pub ends : IsFalse (is_continued token rest)
 
--- a text is these tokens, with white space before any of them and at its end
+-- whether a letter or `_` stands right behind digits: no token may stand there
+abbrev pub is_joined : Token → List ℕ → Bool
+is_joined (Word letters) rest = false
+is_joined (Digits digits) rest = starts_with_letter rest
+is_joined (Quoted content) rest = false
+is_joined (Mark byte) rest = false
+
+-- behind a token stands this rest, and then come these tokens, if any
+abbrev pub IsApart : Token → List ℕ → List Token → Type 0
+IsApart token rest [] = Unit {0}
+IsApart token rest (next ∷ tokens) = IsFalse (is_joined token rest)
+
+-- up to here a text is these tokens, with white space before any of them and before what stands here
+abbrev pub IsUpTo : List ℕ → List Token → List ℕ → Type 0
+IsUpTo text [] here = here ≡ skipped text
+IsUpTo text (token ∷ tokens) here = (rest : List ℕ) × IsFront text token rest × IsApart token rest tokens × IsUpTo rest tokens here
+
+-- a text is these tokens, up to its end
 abbrev pub Spells : List ℕ → List Token → Type 0
-Spells text [] = IsWhite text
-Spells text (token ∷ tokens) = (rest : List ℕ) × IsFront text token rest × Spells rest tokens
+Spells text tokens = IsUpTo text tokens []

@@ -28,8 +28,8 @@ abbrev pub digits_len : List ℕ → ℕ
 digits_len here = prefix_len is_ascii_digit here
 
 -- the number that digits spell
-abbrev pub decimal : List ℕ → ℕ
-decimal digits = fold (λ number digit. number * 10 + (digit - 48)) 0 digits
+abbrev pub digits_value : List ℕ → ℕ
+digits_value digits = fold (λ number digit. number * 10 + (digit - 48)) 0 digits
 
 -- words are the same where they differ in ASCII case alone
 abbrev pub is_same_word : List ℕ → List ℕ → Bool
@@ -61,3 +61,8 @@ string_in (byte ∷ next ∷ rest) =
     if byte == quote
     then (if next == quote then with_byte quote (string_in rest) else Some ([], next ∷ rest))
     else with_byte byte (string_in (next ∷ rest))
+
+-- what stands behind a string that was found
+abbrev pub string_end : Option (List ℕ × List ℕ) → Option (List ℕ)
+string_end None = None
+string_end (Some found) = Some found.1

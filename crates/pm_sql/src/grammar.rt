@@ -1,19 +1,19 @@
 //! The productions of the grammar, each read from the front of a text.
 ghost use Rattle.std.specs.Prelude.{◌≡◌, ◌≤◌, IsTrue, IfOk, false, length, codes};
 ghost use Rattle.std.specs.Option.{option_copied, SomeIff};
-ghost use Rattle.pm_sql.specs.Tokens.{digits_len, decimal, behind_mark, behind_word, skipped, string_in};
+ghost use Rattle.pm_rows.specs.Limits.{max_value_bytes};
+ghost use Rattle.pm_sql.specs.Tokens.{digits_len, digits_value, behind_mark, behind_word, skipped, string_in};
 ghost use Rattle.pm_sql.specs.Limits.{is_writing, HasShortValue};
 ghost use Rattle.pm_sql.specs.Reading.{Gives};
-ghost use Rattle.pm_sql.specs.Grammar.{name_at, digits_at, behind_digits, sign_of, fits_bigint, signed, int_at, seconds_at, string_at, key_at, columns_in, insert_at, update_at, delete_at, from_at, condition_in, order_in, rows_at, pairs_at, count_at, sleep_at, select_at};
+ghost use Rattle.pm_sql.specs.Grammar.{name_at, digits_at, behind_digits, sign_of, fits_bigint, signed, int_at, seconds_at, string_at, key_condition_at, columns_in, insert_at, update_at, delete_at, from_at, condition_in, order_in, rows_at, pairs_at, count_at, sleep_at, select_at};
 
 use crate::fault::{Kind, Stop};
-use crate::script::MAX_VALUE_BYTES;
 use crate::stmt::Stmt;
 use crate::tokens::{
     behind_mark, behind_word, magnitude, mark_at, skipped, split_digits, split_word,
     starts_with_letter, string_in, word_at,
 };
-use pm_rows::Text;
+use pm_rows::{MAX_VALUE_BYTES, Text};
 use std::alloc::Global;
 
 /// The longest pause, in seconds: a day.
@@ -121,7 +121,7 @@ fn seconds_at(input: &str) -> Result<(u32, &str), Stop>
 #[tactic(auto, unfolding(crate::specs::Grammar::string_at))]
 fn string_at(alloc: Global, input: &str) -> Result<(Text, &str), Stop>
     ensures read { Gives (λ found. (found.0, found.1.now)) result (string_at input.now) }
-    ensures short { IfOk result (λ found. length found.0 ≤ MAX_VALUE_BYTES) }
+    ensures short { IfOk result (λ found. length found.0 ≤ max_value_bytes) }
 {
     let here = skipped(input);
     let begin = mark_at(input, '\'')?;
@@ -135,9 +135,9 @@ fn string_at(alloc: Global, input: &str) -> Result<(Text, &str), Stop>
 }
 
 // `k =` and an int.
-#[tactic(auto, unfolding(crate::specs::Grammar::key_at))]
-fn key_at(input: &str) -> Result<(i64, &str), Stop>
-    ensures { Gives (λ found. (found.0, found.1.now)) result (key_at input.now) }
+#[tactic(auto, unfolding(crate::specs::Grammar::key_condition_at))]
+fn key_condition_at(input: &str) -> Result<(i64, &str), Stop>
+    ensures { Gives (λ found. (found.0, found.1.now)) result (key_condition_at input.now) }
 {
     let rest = word_at(input, "k")?;
     let rest = mark_at(rest, '=')?;
@@ -187,7 +187,7 @@ pub(crate) fn update_at(alloc: Global, input: &str) -> Result<(Stmt, &str), Stop
     let rest = mark_at(rest, '=')?;
     let (value, rest) = string_at(alloc, rest)?;
     let rest = word_at(rest, "where")?;
-    let (key, rest) = key_at(rest)?;
+    let (key, rest) = key_condition_at(rest)?;
     Ok((Stmt::Update { key, value }, rest))
 }
 
@@ -200,7 +200,7 @@ pub(crate) fn delete_at(input: &str) -> Result<(Stmt, &str), Stop>
     let rest = word_at(input, "from")?;
     let rest = name_at(rest)?;
     let rest = word_at(rest, "where")?;
-    let (key, rest) = key_at(rest)?;
+    let (key, rest) = key_condition_at(rest)?;
     Ok((Stmt::Delete { key }, rest))
 }
 
@@ -220,7 +220,7 @@ fn condition_at(input: &str) -> Result<(Option<i64>, &str), Stop>
     let Some(rest) = behind_word(skipped(input), "where") else {
         return Ok((None, input));
     };
-    let (key, rest) = key_at(rest)?;
+    let (key, rest) = key_condition_at(rest)?;
     Ok((Some(key), rest))
 }
 

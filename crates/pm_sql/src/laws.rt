@@ -1,12 +1,17 @@
-//! Laws of reading, for the layers above.
-ghost use Rattle.pm_sql.specs.Laws.{StepsSuffice, OneScript};
-
-/// Each step of reading a script takes a byte at least, so as many steps as a text has bytes suffice.
-pub fn steps_suffice()
-    ensures { StepsSuffice }
-{}
+//! Laws of query texts, for the layers above.
+ghost use Rattle.pm_sql.specs.Laws.{OneScript, OneFault, NoFault};
 
 /// A text stands for one script at most.
 pub fn one_script()
     ensures { OneScript }
+{}
+
+/// A text has one fault at most: its kind and its place are determined.
+pub fn one_fault()
+    ensures { OneFault }
+{}
+
+/// A text that stands for a script has no fault.
+pub fn no_fault()
+    ensures { NoFault }
 {}

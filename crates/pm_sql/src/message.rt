@@ -1,22 +1,30 @@
 //! The text of a fault for the client.
-ghost use Rattle.std.specs.Prelude.{◌≡◌, ◌++◌, IfOk, slice_index};
+ghost use Rattle.std.specs.Prelude.{◌≡◌, ◌≤◌, ◌+◌, ◌++◌, length, IfOk, slice_index};
 ghost use Rattle.pm_sql.specs.Tokens.{behind_mark, quote};
-ghost use Rattle.pm_sql.specs.Message.{is_boundary, from_place, up_to_place, char_len, other_token, token_of, syntax_message, message_of};
+ghost use Rattle.pm_sql.specs.Message.{is_boundary, from_place, up_to_place, char_len, other_token, token_of, syntax_message, message_of, HasNoZero};
 
 use crate::query::SqlFault;
-use crate::tokens::{behind_mark, split_digits, split_word, string_in};
+use crate::tokens::{behind_mark, split_digits, split_word, string_end};
 use pm_rows::Text;
 use std::alloc::{AllocError, Global};
 
 /// What a client is told of a fault in a text: the token where it stands, as it is spelled, or the end of input; a name of
-/// a table in lower case.
+/// a table in lower case. It holds a zero byte only where the text does, and is at most 37 bytes longer than the text.
 pub fn fault_text(alloc: Global, text: &str, fault: &SqlFault) -> Result<Text, AllocError>
+    ensures message { IfOk result (λ message. message ≡ message_of text.now fault.now) }
+    ensures length { IfOk result (λ message. length message ≤ length text.now + 37) }
+    ensures zero { HasNoZero text.now → IfOk result (λ message. HasNoZero message) }
+{
+    message_of(alloc, text, fault)
+}
+
+fn message_of(alloc: Global, text: &str, fault: &SqlFault) -> Result<Text, AllocError>
     ensures { IfOk result (λ message. message ≡ message_of text.now fault.now) }
 {
     match fault {
         SqlFault::Syntax { at } => syntax_text(alloc, from_place(text, *at)),
         SqlFault::Table { at } => {
-            let token = token_of(alloc, from_place(text, *at))?;
+            let token = token_of(from_place(text, *at));
             let name = token.to_ascii_lowercase(alloc)?;
             joined(alloc, "relation \"", name.as_str(), "\" does not exist")
         }
@@ -33,7 +41,7 @@ fn syntax_text(alloc: Global, here: &str) -> Result<Text, AllocError>
     if here.is_empty() {
         return Text::of(alloc, "syntax error at end of input");
     }
-    let token = token_of(alloc, here)?;
+    let token = token_of(here);
     joined(alloc, "syntax error at or near \"", token, "\"")
 }
 
@@ -68,30 +76,30 @@ fn up_to_place(text: &str, place: usize) -> &str
 }
 
 // The token at the front.
-fn token_of(alloc: Global, here: &str) -> Result<&str, AllocError>
-    ensures { IfOk result (λ token. token.now ≡ token_of here.now) }
+fn token_of(here: &str) -> &str
+    ensures { result.now ≡ token_of here.now }
 {
     let (word, _) = split_word(here);
     if !word.is_empty() {
-        return Ok(word);
+        return word;
     }
     let (digits, _) = split_digits(here);
     if !digits.is_empty() {
-        return Ok(digits);
+        return digits;
     }
-    other_token(alloc, here)
+    other_token(here)
 }
 
 // A token that is neither word nor digits.
-fn other_token(alloc: Global, here: &str) -> Result<&str, AllocError>
-    ensures { IfOk result (λ token. token.now ≡ other_token here.now (behind_mark quote here.now)) }
+fn other_token(here: &str) -> &str
+    ensures { result.now ≡ other_token here.now (behind_mark quote here.now) }
 {
     let Some(rest) = behind_mark(here, '\'') else {
-        return Ok(up_to_place(here, char_len(here)));
+        return up_to_place(here, char_len(here));
     };
-    match string_in(alloc, rest)? {
-        Some((_, behind)) => Ok(up_to_place(here, here.len().saturating_sub(behind.len()))),
-        None => Ok("'"),
+    match string_end(rest) {
+        Some(behind) => up_to_place(here, here.len().saturating_sub(behind.len())),
+        None => "'",
     }
 }
 

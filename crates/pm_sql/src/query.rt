@@ -1,17 +1,19 @@
 //! Texts as scripts.
 ghost use Rattle.std.specs.Prelude.{◌≡◌, ◌+◌, ◌<◌, cond, List, IsTrue, IfOk, IfErr, Ok};
+ghost use Rattle.pm_rows.specs.Limits.{max_changes};
 ghost use Rattle.pm_sql.specs.declared.stmt.Stmt.{Stmt};
 ghost use Rattle.pm_sql.specs.Limits.{is_writing, HasShortValue};
 ghost use Rattle.pm_sql.specs.Reading.{Gives};
 ghost use Rattle.pm_sql.specs.Statements.{IsQueryText};
-ghost use Rattle.pm_sql.specs.Refused.{IsRefused};
-ghost use Rattle.pm_sql.specs.Query.{IsParsed, parsed, fault_in, script_of, stmt_at, if_room, end_at};
+ghost use Rattle.pm_sql.specs.Faults.{IsFaultOf, IsScriptUnlessShort};
+ghost use Rattle.pm_sql.specs.Query.{fault_in, script_of, stmt_at, if_room, end_at};
 
 use crate::fault::{Fault, Kind, Stop};
 use crate::grammar::{delete_at, insert_at, select_at, update_at};
-use crate::script::{MAX_WRITING, Script};
+use crate::script::Script;
 use crate::stmt::Stmt;
 use crate::tokens::{behind_mark, behind_word, skipped};
+use pm_rows::MAX_CHANGES;
 use std::alloc::Global;
 use thiserror::Error;
 
@@ -38,12 +40,11 @@ pub enum SqlFault {
     NoMemory,
 }
 
-/// The script that a text spells.
+/// The script that a text spells, or its fault. A text that spells a script is refused only where memory is short.
 pub fn parse(alloc: Global, text: &str) -> Result<Script, SqlFault>
-    ensures parsed { IsParsed result (parsed text.now) }
     ensures script { IfOk result (λ script. IsQueryText text.now script) }
-    ensures query { (stmts : List Stmt) → IsQueryText text.now stmts → IsParsed result (Ok stmts) }
-    ensures refused { IfErr result (IsRefused text.now) }
+    ensures query { (stmts : List Stmt) → IsQueryText text.now stmts → IsScriptUnlessShort result stmts }
+    ensures fault { IfErr result (IsFaultOf text.now) }
 {
     match script_of(alloc, text) {
         Ok(script) => Ok(script),
@@ -93,7 +94,7 @@ fn script_of(alloc: Global, text: &str) -> Result<Script, Stop>
 
 // How many statements write, with one more statement.
 fn with_stmt(writing: usize, stmt: &Stmt) -> usize
-    requires { IsTrue (is_writing stmt.now) → writing < MAX_WRITING }
+    requires { IsTrue (is_writing stmt.now) → writing < max_changes }
     ensures { result ≡ writing + cond (is_writing stmt.now) 1 0 }
 {
     if stmt.is_writing() {
@@ -107,7 +108,7 @@ fn with_stmt(writing: usize, stmt: &Stmt) -> usize
 #[tactic(auto, unfolding(crate::specs::Query::stmt_at))]
 fn stmt_at(alloc: Global, writing: usize, here: &str) -> Result<(Stmt, &str), Stop>
     ensures read { Gives (λ found. (found.0, found.1.now)) result (stmt_at writing here.now) }
-    ensures room { IfOk result (λ found. IsTrue (is_writing found.0) → writing < MAX_WRITING) }
+    ensures room { IfOk result (λ found. IsTrue (is_writing found.0) → writing < max_changes) }
     ensures short { IfOk result (λ found. HasShortValue found.0) }
 {
     if let Some(rest) = behind_word(here, "insert") {
@@ -130,7 +131,7 @@ fn stmt_at(alloc: Global, writing: usize, here: &str) -> Result<(Stmt, &str), St
 fn room_for_one(writing: usize, here: &str) -> Result<(), Stop>
     ensures { Gives (λ _. tt {0}) result (if_room writing here.now (Ok (tt {0}))) }
 {
-    if writing < MAX_WRITING {
+    if writing < MAX_CHANGES {
         Ok(())
     } else {
         Err(Stop::at(Kind::TooMany, here))

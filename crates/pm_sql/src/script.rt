@@ -1,18 +1,13 @@
 //! Statements that are run together.
-ghost use Rattle.std.specs.Prelude.{◌≡◌, [], ◌∷◌, ◌++◌, IfOk, OnOk, OnErr};
-ghost use Rattle.pm_sql.specs.Limits.{IsWithinLimits};
+ghost use Rattle.std.specs.Prelude.{◌≡◌, ◌^◌, ◌-◌, [], ◌∷◌, ◌++◌, min, IfOk, OnOk, OnErr};
+ghost use Rattle.pm_sql.specs.Limits.{IsWithinScriptLimits, sleep_seconds};
 
 use crate::stmt::Stmt;
 use std::alloc::{AllocError, Global};
 use std::marker::Model;
 
-/// The most statements of a script that write: `INSERT`, `UPDATE` and `DELETE`.
-pub const MAX_WRITING: usize = 1000;
-
-/// The most bytes of a value that a statement writes.
-pub const MAX_VALUE_BYTES: usize = 8192;
-
-/// Statements, in order, within the limits above. Contracts see a script as that list.
+/// Statements, in order: at most [`MAX_CHANGES`](pm_rows::MAX_CHANGES) of them write, and no value that they write is longer than
+/// [`MAX_VALUE_BYTES`](pm_rows::MAX_VALUE_BYTES). Contracts see a script as that list.
 #[derive(Debug, Drop)]
 pub struct Script {
     stmts: Vec<Stmt>,
@@ -24,11 +19,11 @@ impl Model for Script {
 
     ghost Value = { List Stmt };
 
-    ghost use Rattle.pm_sql.specs.Limits.{IsWithinLimits};
+    ghost use Rattle.pm_sql.specs.Limits.{IsWithinScriptLimits};
 
     ghost view = { λ script. script.stmts.items };
 
-    ghost invariant = { λ script. IsWithinLimits script.stmts.items };
+    ghost invariant = { λ script. IsWithinScriptLimits script.stmts.items };
 }
 
 impl Script {
@@ -43,7 +38,7 @@ impl Script {
 
     /// Adds a statement behind the others. Where memory is short the script stays as it was.
     pub fn push(&mut self, stmt: Stmt) -> Result<(), AllocError>
-        requires { IsWithinLimits (self.old ++ stmt ∷ []) }
+        requires { IsWithinScriptLimits (self.old ++ stmt ∷ []) }
         ensures ok { OnOk result (self.new ≡ self.old ++ stmt ∷ []) }
         ensures err { OnErr result (self.new ≡ self.old) }
     {
@@ -54,9 +49,21 @@ impl Script {
     /// The statements, in order.
     pub fn stmts(&self) -> &[Stmt]
         ensures list { result.now ≡ self.now }
-        ensures limits { IsWithinLimits self.now }
+        ensures limits { IsWithinScriptLimits self.now }
     {
         &self.stmts
+    }
+
+    /// How many seconds the statements sleep, all together, or the largest `u64` where it is more. A script of a query text has
+    /// at most 86,400 seconds for each of its statements, so that it would need 2^47 of them to reach that.
+    pub fn sleep_seconds(&self) -> u64
+        ensures { result ≡ min (sleep_seconds self.now) (2 ^ 64 - 1) }
+    {
+        let mut seconds: u64 = 0;
+        for stmt in &self.stmts {
+            seconds = seconds.saturating_add(stmt.sleep_seconds());
+        }
+        seconds
     }
 
     /// An equal script. It fails only where memory is short.

@@ -22,7 +22,7 @@ pub enum Stmt {
 }
 
 impl Stmt {
-    ghost use Rattle.pm_sql.specs.Limits.{is_writing};
+    ghost use Rattle.pm_sql.specs.Limits.{is_writing, seconds_of};
 
     /// Whether the statement writes: an `INSERT`, an `UPDATE` or a `DELETE`.
     pub fn is_writing(&self) -> bool
@@ -31,6 +31,16 @@ impl Stmt {
         match self {
             Stmt::Insert { .. } | Stmt::Update { .. } | Stmt::Delete { .. } => true,
             Stmt::Select { .. } | Stmt::Count | Stmt::Sleep { .. } => false,
+        }
+    }
+
+    // The seconds that the statement sleeps.
+    pub(crate) fn sleep_seconds(&self) -> u64
+        ensures { result ≡ seconds_of self.now }
+    {
+        match self {
+            Stmt::Sleep { seconds } => u64::from(*seconds),
+            _ => 0,
         }
     }
 

@@ -2,7 +2,7 @@
 ghost use Rattle.std.specs.Prelude.{◌≡◌, ◌<◌, ◌≤◌, length, take, drop, min, ◌^◌, ◌-◌, IfOk, IfSome};
 ghost use Rattle.std.specs.List.{prefix_len};
 ghost use Rattle.std.specs.Option.{option_copied};
-ghost use Rattle.pm_sql.specs.Tokens.{skipped, is_letter, is_word_byte, starts_with_letter, word_len, digits_len, decimal, behind_word, behind_mark, string_in};
+ghost use Rattle.pm_sql.specs.Tokens.{skipped, is_letter, is_word_byte, starts_with_letter, word_len, digits_len, digits_value, behind_word, behind_mark, string_in, string_end};
 ghost use Rattle.pm_sql.specs.Reading.{Gives, word_at, mark_at, contents_of};
 
 use crate::fault::{Kind, Stop};
@@ -86,7 +86,7 @@ pub(crate) fn split_digits(here: &str) -> (&str, &str)
 
 /// The number that digits spell, or the largest `u64` where it is more.
 pub(crate) fn magnitude(digits: &str) -> u64
-    ensures { result ≡ min (decimal digits.now) (2 ^ 64 - 1) }
+    ensures { result ≡ min (digits_value digits.now) (2 ^ 64 - 1) }
 {
     let mut number: u64 = 0;
     for digit in digits.as_bytes() {
@@ -160,4 +160,18 @@ pub(crate) fn string_in(alloc: Global, input: &str) -> Result<Option<(String, &s
         }
     }
     Ok(None)
+}
+
+/// What stands behind a string, from behind its opening quote on. `None` where it doesn't end. It copies nothing.
+pub(crate) fn string_end(input: &str) -> Option<&str>
+    ensures { option_copied result ≡ string_end (string_in input.now) }
+{
+    let mut rest = input;
+    while let Some((_, after)) = rest.split_once('\'') {
+        match after.strip_prefix('\'') {
+            Some(more) => rest = more,
+            None => return Some(after),
+        }
+    }
+    None
 }

@@ -1,4 +1,5 @@
-use crate::{SqlFault, Stmt, fault_text, parse};
+//! Texts, and what parsing them gives.
+use pm_sql::{SqlFault, Stmt, fault_text, parse};
 use std::alloc::Global;
 use std::test::Fail;
 
@@ -191,61 +192,19 @@ fn faults_with_their_places(rt: HostRuntime) -> Result<(), Fail> {
         ),
         ("DELETE FROM kv", "!syntax 14: syntax error at end of input"),
         (
+            "DELETE FROM kv ;",
+            "!syntax 15: syntax error at or near \";\"",
+        ),
+        (
+            "SELECT * FROM kv WHERE k = 1ORDER BY k",
+            "!syntax 28: syntax error at or near \"ORDER\"",
+        ),
+        (
             "SELECT *, FROM kv",
             "!syntax 8: syntax error at or near \",\"",
         ),
     ] {
         assert_eq!(rt; parsed(alloc, text)?.as_str(), want, "of {text}");
     }
-    Ok(())
-}
-
-// A statement whose value is this many times two quotes.
-fn insert_of_quotes(alloc: Global, count: usize) -> Result<String, Fail> {
-    let mut text = String::from_str(alloc, "INSERT INTO kv VALUES (1, '")?;
-    for _ in 0..count {
-        text.push_str("''")?;
-    }
-    text.push_str("')")?;
-    Ok(text)
-}
-
-#[test]
-fn a_value_has_at_most_8192_bytes(rt: HostRuntime) -> Result<(), Fail> {
-    let alloc = rt.alloc();
-    let longest = parse(alloc, insert_of_quotes(alloc, 8192)?.as_str());
-    let kept = match longest {
-        Ok(script) => match script.stmts() {
-            [Stmt::Insert { value, .. }] => value.as_str().len(),
-            _ => 0,
-        },
-        Err(_) => 0,
-    };
-    assert_eq!(rt; kept, 8192);
-    assert_eq!(rt;
-        parsed(alloc, insert_of_quotes(alloc, 8193)?.as_str())?.as_str(),
-        "!too long 26: value exceeds 8192 bytes"
-    );
-    Ok(())
-}
-
-#[test]
-fn a_script_writes_at_most_a_thousand_times(rt: HostRuntime) -> Result<(), Fail> {
-    let alloc = rt.alloc();
-    // 17 bytes, and 25 for each that writes; the one that reads doesn't count.
-    let mut text = String::from_str(alloc, "SELECT * FROM kv;")?;
-    for _ in 0..1000 {
-        text.push_str("DELETE FROM kv WHERE k=1;")?;
-    }
-    let most = match parse(alloc, text.as_str()) {
-        Ok(script) => script.stmts().len(),
-        Err(_) => 0,
-    };
-    assert_eq!(rt; most, 1001);
-    text.push_str("SELECT * FROM kv; UPDATE nowhere")?;
-    assert_eq!(rt;
-        parsed(alloc, text.as_str())?.as_str(),
-        "!too many 25035: query exceeds 1000 writing statements"
-    );
     Ok(())
 }
