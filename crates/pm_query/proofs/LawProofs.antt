@@ -1,15 +1,21 @@
 -- Proofs of the laws of the answer, along the statements.
-use Rattle.std.proofs.Common.{◌≡◌, Bool, true, false, cond, ◌||◌, List, [], ◌∷◌, ◌++◌, Option, Some, None, fold, refl, sym, ap, subst, ◌∙◌}
+use Rattle.std.proofs.Common.{◌≡◌, Bool, true, false, cond, ◌||◌, List, [], ◌∷◌, ◌++◌, Option, Some, None, fold, refl, sym, ap, subst, ◌∙◌, arith}
 use Rattle.std.specs.Bool.{IsTrue}
 use Rattle.std.specs.List.{list_any}
 use Rattle.std.specs.Option.{option_to_list}
+use Rattle.std.specs.Prelude.{All}
+use Rattle.std.proofs.lemmas.List.Elements.{All-nil, All-cons}
 use Rattle.pm_rows.specs.Fold.{RowMap, changed, committed}
+use Rattle.pm_rows.specs.Limits.{max_changes, IsWithinRowLimits}
 use Rattle.pm_rows.specs.declared.commit.Change.{Change}
 use Rattle.pm_sql.specs.declared.stmt.Stmt.{Stmt}
+use Rattle.pm_sql.specs.Limits.{IsWithinScriptLimits}
 use Rattle.pm_query.specs.declared.item.Item.{Item}
-use Rattle.pm_query.specs.declared.effect.Effect.{Effect}
-use Rattle.pm_query.specs.Answer.{Progress, is_error, has_failed, with_change, effect_of, advanced, after_statement, start_on, after_script, items_of, commit_of}
-use Rattle.pm_query.specs.Laws.{CommitLeavesRows, ErrorsComeLast, FailureCommitsNothing}
+use Rattle.pm_query.specs.declared.item.Item.TheVariants.{Empty}
+use Rattle.pm_query.specs.Answer.{Progress, is_error, has_error, has_failed, with_change, effect_of, advanced, after_statement, start_on, after_script, items_of, commit_of}
+use Rattle.pm_query.specs.Laws.{CommitLeavesRows, ErrorsComeLast}
+use Rattle.pm_query.specs.Limits.{HasShortRows, HasShortValues, IsShortChange, IsWithinCommitLimits}
+use Rattle.pm_query.proofs.Keeping.{IsKept, kept_script}
 
 made_last : (rows : RowMap) (changes : List Change) (change : Change) → committed rows (changes ++ change ∷ []) ≡ changed (committed rows changes) change
 made_last rows [] change = refl
@@ -44,12 +50,9 @@ commit_leaves_rows_law rows (stmt ∷ script) h =
     let end = after_script rows (stmt ∷ script) in
     follows_script rows (start_on rows) (stmt ∷ script) refl ∙ sym (ap (λ b. committed rows (cond b [] end.changes)) h)
 
-pub failure_commits_nothing_law : FailureCommitsNothing
-failure_commits_nothing_law rows [] h = refl
-failure_commits_nothing_law rows (stmt ∷ script) h = ap (λ b. cond b [] (after_script rows (stmt ∷ script)).changes) h
-
-abbrev pub EndsAtError : List Item → Type 0
-EndsAtError items = (before after : List Item) (item : Item) → items ≡ before ++ item ∷ after → IsTrue (is_error item) → after ≡ []
+pub failure_commits_nothing : (rows : RowMap) (script : List Stmt) → IsTrue (has_error (items_of rows script)) → commit_of rows script ≡ []
+failure_commits_nothing rows [] h = refl
+failure_commits_nothing rows (stmt ∷ script) h = ap (λ b. cond b [] (after_script rows (stmt ∷ script)).changes) h
 
 no_item : (before after : List Item) (item : Item) → [] ≡ before ++ item ∷ after → after ≡ []
 no_item [] after item e = cc
@@ -60,7 +63,7 @@ either true b e = cc
 either false b e = (refl, e)
 
 -- one item more behind items without an error
-one_more : (items : List Item) (last : Item) → list_any is_error items ≡ false → EndsAtError (items ++ last ∷ [])
+one_more : (items : List Item) (last : Item) → list_any is_error items ≡ false → ErrorsComeLast (items ++ last ∷ [])
 one_more [] last none [] after item e h = cc
 one_more [] last none (b ∷ before) after item e h = no_item before after item cc
 one_more (first ∷ items) last none [] after item e h =
@@ -70,19 +73,53 @@ one_more (first ∷ items) last none [] after item e h =
     cc
 one_more (first ∷ items) last none (b ∷ before) after item e h = one_more items last (either (is_error first) (list_any is_error items) none).1 before after item (cc) h
 
-ends_statement : (progress : Progress) (stmt : Stmt) → EndsAtError progress.items → EndsAtError (after_statement progress stmt).items
+ends_statement : (progress : Progress) (stmt : Stmt) → ErrorsComeLast progress.items → ErrorsComeLast (after_statement progress stmt).items
 ends_statement progress stmt e =
-    elim (has_failed progress) as (λ b. has_failed progress ≡ b → EndsAtError (cond b progress (advanced progress (effect_of progress.rows stmt))).items) [
+    elim (has_failed progress) as (λ b. has_failed progress ≡ b → ErrorsComeLast (cond b progress (advanced progress (effect_of progress.rows stmt))).items) [
       | true ↦ λ _. e
       | false ↦ λ none. one_more progress.items (effect_of progress.rows stmt).item none
     ] refl
 
-ends_script : (progress : Progress) (script : List Stmt) → EndsAtError progress.items → EndsAtError (fold after_statement progress script).items
+ends_script : (progress : Progress) (script : List Stmt) → ErrorsComeLast progress.items → ErrorsComeLast (fold after_statement progress script).items
 ends_script progress [] e = e
 ends_script progress (stmt ∷ script) e = ends_script (after_statement progress stmt) script (ends_statement progress stmt e)
 
-pub errors_come_last_law : ErrorsComeLast
-errors_come_last_law rows [] before after item e h = one_more [] _ refl before after item e h
-errors_come_last_law rows (stmt ∷ script) before after item e h = ends_script (start_on rows) (stmt ∷ script) no_item_yet before after item e h where
-  no_item_yet : EndsAtError []
+pub errors_come_last : (rows : RowMap) (script : List Stmt) → ErrorsComeLast (items_of rows script)
+errors_come_last rows [] before after item e h = one_more [] _ refl before after item e h
+errors_come_last rows (stmt ∷ script) before after item e h = ends_script (start_on rows) (stmt ∷ script) no_item_yet before after item e h where
+  no_item_yet : ErrorsComeLast []
   no_item_yet before after item e h = no_item before after item e
+
+-- ---- limits
+
+kept_from_start : (rows : RowMap) (script : List Stmt) → IsWithinScriptLimits script → IsKept rows max_changes (after_script rows script)
+kept_from_start rows script limits =
+    let start : IsKept rows 0 (start_on rows) = record { within = λ h. h; rows_short = λ h. h; items_short = λ _. All-nil HasShortValues; changes_short = All-nil IsShortChange; few = omega arith } in
+    let is = kept_script rows 0 (start_on rows) script limits.values start in
+    record { within = is.within; rows_short = is.rows_short; items_short = is.items_short; changes_short = is.changes_short; few = omega (arith, is.few, limits.writing) }
+
+pub commit_limits : (rows : RowMap) (script : List Stmt) → IsWithinScriptLimits script → IsWithinCommitLimits (commit_of rows script)
+commit_limits rows script limits =
+    let is = kept_from_start rows script limits in
+    elim (has_failed (after_script rows script)) as (λ b. IsWithinCommitLimits (cond b [] (after_script rows script).changes)) [
+      | true ↦ record { few = omega arith; short = All-nil IsShortChange }
+      | false ↦ record { few = is.few; short = is.changes_short }
+    ]
+
+-- the rows that are committed are the table, or those behind the script
+either_rows : (P : RowMap → Type 0) (rows : RowMap) (script : List Stmt) → P rows → P (after_script rows script).rows → P (committed rows (commit_of rows script))
+either_rows P rows script before behind =
+    elim (has_failed (after_script rows script)) as (λ b. P (committed rows (cond b [] (after_script rows script).changes))) [
+      | true ↦ before
+      | false ↦ subst P (follows_script rows (start_on rows) script refl) behind
+    ]
+
+pub row_limits : (rows : RowMap) (script : List Stmt) → IsWithinScriptLimits script → IsWithinRowLimits rows → IsWithinRowLimits (committed rows (commit_of rows script))
+row_limits rows script limits h = either_rows IsWithinRowLimits rows script h ((kept_from_start rows script limits).within h)
+
+pub short_rows : (rows : RowMap) (script : List Stmt) → IsWithinScriptLimits script → HasShortRows rows → HasShortRows (committed rows (commit_of rows script))
+short_rows rows script limits h = either_rows HasShortRows rows script h ((kept_from_start rows script limits).rows_short h)
+
+pub short_items : (rows : RowMap) (script : List Stmt) → IsWithinScriptLimits script → HasShortRows rows → All HasShortValues (items_of rows script)
+short_items rows [] limits h = All-cons HasShortValues Empty [] tt (All-nil HasShortValues)
+short_items rows (stmt ∷ script) limits h = (kept_from_start rows (stmt ∷ script) limits).items_short h

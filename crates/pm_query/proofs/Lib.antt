@@ -4,3 +4,7 @@ pub mod Sizes
 pub mod Shown
 pub mod Scripts
 pub mod LawProofs
+pub mod Keeping
+pub mod Books
+pub mod WorkedBookProofs
+pub mod Ticks

@@ -1,5 +1,5 @@
 -- What changes over rows make of them.
-use Rattle.std.proofs.Common.{◌≡◌, ℕ, ℤ, Bool, true, false, cond, List, [], ◌∷◌, Option, Some, None, unwrap_or, refl, sym, ap, ◌∙◌}
+use Rattle.std.proofs.Common.{◌≡◌, ℕ, ℤ, Bool, true, false, cond, List, [], ◌∷◌, Option, Some, None, unwrap_or, refl, sym, ap, subst, ◌∙◌}
 use Rattle.std.specs.Ordering.{int_cmp, eq_by_cmp}
 use Rattle.std.specs.Cmp.{int_cmp_total, eq_by_cmp_equiv}
 use Rattle.std.specs.FinMap.{get, same_map, int_cmp-IsAntisymmetric, get-insert, get-remove}
@@ -37,6 +37,12 @@ laid_over-update rows m n key value u = same_rows _ _ (λ q.
     ∙ ap (λ o. unwrap_or o (get rows q)) (u.0 q ∙ ap (λ b. cond b (Some value) (tree.get int_cmp m q)) ((eq_by_cmp_equiv int_cmp_total).symm key q))
     ∙ unwrap_cond (eq_by_cmp int_cmp q key) value (tree.get int_cmp m q) (get rows q)
     ∙ sym (get-left_at (laid_over rows m.entries) key value q ∙ ap (cond (eq_by_cmp int_cmp q key) value) (get-laid_over rows m.entries q)))
+
+-- the same of rows that are known, where the key is stored in another form
+pub laid_over-updated : (rows now : RowMap) (m n : BTreeMap ℤ (Option (List ℕ))) (key stored : ℤ) (value : Option (List ℕ)) → laid_over rows m.entries ≡ now → stored ≡ key
+    → Updates int_cmp m n stored (Some value) → laid_over rows n.entries ≡ left_at now key value
+laid_over-updated rows now m n key stored value is same updates =
+    laid_over-update rows m n key value (subst (λ k. Updates int_cmp m n k (Some value)) same updates) ∙ ap (λ r. left_at r key value) is
 
 -- a look-up in the changes decides, and where it finds nothing the rows do
 pub get-changed : (rows : RowMap) (changes : BTreeMap ℤ (Option (List ℕ))) (q : ℤ) (value : Option (List ℕ)) → tree.get int_cmp changes q ≡ Some value → get (laid_over rows changes.entries) q ≡ value

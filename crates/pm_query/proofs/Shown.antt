@@ -34,7 +34,7 @@ turned true x y = refl
 turned false x y = refl
 
 -- to take a key out is to drop its entry
-entries-remove : (rows : RowMap) (key : ℤ) → entries (remove rows key) ≡ where_key int_cmp (λ other. not (eq_by_cmp int_cmp key other)) (entries rows)
+pub entries-remove : (rows : RowMap) (key : ℤ) → entries (remove rows key) ≡ where_key int_cmp (λ other. not (eq_by_cmp int_cmp key other)) (entries rows)
 entries-remove rows key =
     let others : ℤ → Bool = λ other. not (eq_by_cmp int_cmp key other) in
     let rest = where_key int_cmp others (entries rows) in

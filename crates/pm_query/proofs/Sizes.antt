@@ -4,7 +4,7 @@ use Rattle.std.specs.declared.cmp.Ordering.{Ordering}
 use Rattle.std.specs.declared.cmp.Ordering.TheVariants.{Less, Equal, Greater}
 use Rattle.std.specs.Ordering.{int_cmp, eq_by_cmp, is_lt, is_eq}
 use Rattle.std.specs.Cmp.{int_cmp_total, tied_itself, eq_by_cmp_equiv}
-use Rattle.std.specs.FinMap.{get, insert, remove, len, entries, find, put, is_sorted, entries_sorted, entries-insert, get-entries, len-entries, get_tied, get-insert, get-remove, len-insert, len-remove}
+use Rattle.std.specs.FinMap.{empty, len-empty, get, insert, remove, len, entries, find, put, is_sorted, entries_sorted, entries-insert, get-entries, len-entries, get_tied, get-insert, get-remove, len-insert, len-remove}
 use Rattle.std.specs.FinMap.Entries.{below_all, by_order}
 use Rattle.std.proofs.lemmas.List.Sums.{sum_by-cons}
 use Rattle.pm_rows.specs.Fold.{RowMap}
@@ -24,6 +24,14 @@ sum_by-values (e ∷ es) = sum_by-cons row_size e.1 (map (λ e. e.1) es) ∙ ap 
 
 size_of-entries : (rows : RowMap) → size_of rows ≡ entries_size (entries rows)
 size_of-entries rows = sum_by-values (entries rows)
+
+no_size : (es : List (ℤ × List ℕ)) → length es ≡ 0 → entries_size es ≡ 0
+unfolding entries_size
+no_size [] e = refl
+no_size (first ∷ es) e = absurd (omega arith)
+
+pub size_of-empty : size_of empty ≡ 0
+size_of-empty = size_of-entries empty ∙ no_size (entries empty) (sym (len-entries empty) ∙ len-empty int_cmp (List ℕ))
 
 pub first_part : (a b : Bool) → T (a && b) → T a
 first_part true b p = tt
@@ -102,7 +110,7 @@ insert-remove rows key value some = same_rows _ _ (λ q.
 get-removed : (rows : RowMap) (key : ℤ) → get (remove rows key) key ≡ None
 get-removed rows key = get-remove int_cmp_total rows key key ∙ ap (λ r. cond (is_eq r) None (get rows key)) (tied_itself int_cmp_total key)
 
-size-remove : (rows : RowMap) (key : ℤ) → size_of (remove rows key) + size_at (get rows key) ≡ size_of rows
+pub size-remove : (rows : RowMap) (key : ℤ) → size_of (remove rows key) + size_at (get rows key) ≡ size_of rows
 size-remove rows key =
     elim (get rows key) as (λ o. get rows key ≡ o → size_of (remove rows key) + size_at o ≡ size_of rows) [
       | None ↦ λ none. omega (arith, ap size_of (remove-missing rows key none))

@@ -3,6 +3,7 @@ use Rattle.std.specs.Prelude.{ℕ, ℤ, Bool, true, false, cond, if◌then◌els
 use Rattle.std.specs.List.{list_any}
 use Rattle.std.specs.FinMap.{get, contains_key, insert, entries, len}
 use Rattle.pm_rows.specs.Fold.{RowMap, changed}
+use Rattle.pm_rows.specs.Limits.{max_rows, max_rows_bytes}
 use Rattle.pm_rows.specs.Size.{size_of}
 use Rattle.pm_rows.specs.declared.commit.Change.{Change}
 use Rattle.pm_rows.specs.declared.commit.Change.TheVariants.{Put, Del}
@@ -11,7 +12,6 @@ use Rattle.pm_sql.specs.declared.stmt.Stmt.TheVariants as stmts
 use Rattle.pm_query.specs.declared.item.Item.{Item}
 use Rattle.pm_query.specs.declared.item.Item.TheVariants as items
 use Rattle.pm_query.specs.declared.effect.Effect.{Effect}
-use Rattle.pm_query.specs.declared.effect.TheConstants.{MAX_ROWS, MAX_ROWS_BYTES}
 
 -- how far a script has come: the rows as its statements so far leave them, their items, and the changes that they made
 pub record Progress : Type 0 where
@@ -28,11 +28,11 @@ makes item change = record { item = item; change = Some change }
 
 -- whether the rows are as many as they may be
 abbrev pub is_full : RowMap → Bool
-is_full rows = nat_le MAX_ROWS (len rows)
+is_full rows = nat_le max_rows (len rows)
 
 -- whether the rows take more bytes than they may
 abbrev pub is_too_large : RowMap → Bool
-is_too_large rows = nat_lt MAX_ROWS_BYTES (size_of rows)
+is_too_large rows = nat_lt max_rows_bytes (size_of rows)
 
 -- the rows of one key: its row, if it has one
 abbrev pub row_at : ℤ → Option (List ℕ) → List (ℤ × List ℕ)
@@ -85,9 +85,12 @@ is_error (items.Rows pairs) = false
 is_error (items.Count count) = false
 is_error items.Slept = false
 
--- whether an error was answered
+-- whether an error is among the items
+abbrev pub has_error : List Item → Bool
+has_error items = list_any is_error items
+
 abbrev pub has_failed : Progress → Bool
-has_failed progress = list_any is_error progress.items
+has_failed progress = has_error progress.items
 
 -- one statement further
 abbrev pub advanced : Progress → Effect → Progress

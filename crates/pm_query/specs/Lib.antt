@@ -1,6 +1,15 @@
 pub mod Answer
+pub mod AtTick
+pub mod Book
+pub mod BookLaws
+pub mod Calls
 pub mod Changes
 pub mod Draft
+pub mod Durable
+pub mod History
+pub mod Laws
+pub mod Limits
 pub mod Merge
 pub mod Run
-pub mod Laws
+pub mod TickLaws
+pub mod WorkedBooks

@@ -1,8 +1,9 @@
 //! The rows as a script's statements so far leave them.
-ghost use Rattle.std.specs.Prelude.{◌≡◌, ◌≤◌, ◌++◌, ◌↔◌, IsTrue, IfOk, OnOk};
+ghost use Rattle.std.specs.Prelude.{◌≡◌, ◌+◌, ◌≤◌, ◌++◌, ◌↔◌, IsTrue, IfOk, OnOk};
 ghost use Rattle.std.specs.FinMap as map;
 ghost use Rattle.std.specs.Option.{option_copied};
 ghost use Rattle.pm_rows.specs.Fold.{changed};
+ghost use Rattle.pm_rows.specs.Limits.{max_rows_bytes};
 ghost use Rattle.pm_rows.specs.Size.{size_of};
 ghost use Rattle.pm_query.specs.Changes.{left_at, rows_at, size_at};
 ghost use Rattle.std.specs.Ordering.{int_cmp};
@@ -10,9 +11,8 @@ ghost use Rattle.std.specs.FinMap.Entries.{is_sorted};
 ghost use Rattle.pm_query.specs.Merge.{laid};
 ghost use Rattle.pm_query.specs.Answer.{row_at};
 
-use crate::effect::MAX_ROWS_BYTES;
 use crate::pairs::Pairs;
-use pm_rows::{Change, Rows, RowsIter, Text};
+use pm_rows::{Change, MAX_ROWS_BYTES, Rows, RowsIter, Text};
 use std::alloc::{AllocError, Global};
 use std::cmp::Ordering;
 use std::collections::{BTreeMap, btree_map};
@@ -81,11 +81,11 @@ impl<'a> Draft<'a> {
 
     /// Whether the rows with this value at this key keep the limit on their size.
     pub(crate) fn fits(&self, key: i64, value: &Text) -> bool
-        ensures { IsTrue result ↔ (size_of (map.insert self.now key value.now) ≤ MAX_ROWS_BYTES) }
+        ensures { IsTrue result ↔ (size_of (map.insert self.now key value.now) ≤ max_rows_bytes) }
     {
-        let (_, replaced) = row_of(self.get(key));
+        let (_, bytes) = self.others(key);
         let (_, added) = row_of(Some(value));
-        (self.size - replaced).saturating_add(added) <= u128::from(MAX_ROWS_BYTES)
+        bytes.saturating_add(added) <= u128::from(MAX_ROWS_BYTES)
     }
 
     /// Makes a change.
@@ -103,18 +103,23 @@ impl<'a> Draft<'a> {
     fn set(&mut self, key: i64, value: Option<Text>) -> Result<(), AllocError>
         ensures { OnOk result (self.new ≡ left_at self.old key value) }
     {
-        let (rows_before, bytes_before) = row_of(self.get(key));
-        let (rows_after, bytes_after) = row_of(value.as_ref());
-        let count = (self.count - rows_before)
-            .checked_add(rows_after)
-            .ok_or(AllocError)?;
-        let size = (self.size - bytes_before)
-            .checked_add(bytes_after)
-            .ok_or(AllocError)?;
+        let (rows, bytes) = self.others(key);
+        let (rows_added, bytes_added) = row_of(value.as_ref());
+        let count = rows.checked_add(rows_added).ok_or(AllocError)?;
+        let size = bytes.checked_add(bytes_added).ok_or(AllocError)?;
         self.changes.insert(key, value)?;
         self.count = count;
         self.size = size;
         Ok(())
+    }
+
+    // How many rows there are but for that of a key, and how many bytes they take.
+    fn others(&self, key: i64) -> (usize, u128)
+        ensures rows { result.0 + rows_at (map.get self.now key) ≡ map.len self.now }
+        ensures bytes { result.1 + size_at (map.get self.now key) ≡ size_of self.now }
+    {
+        let (rows, bytes) = row_of(self.get(key));
+        (self.count - rows, self.size - bytes)
     }
 
     /// All rows, by rising key.

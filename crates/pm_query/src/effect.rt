@@ -6,15 +6,9 @@ ghost use Rattle.pm_query.specs.Answer.{answers, makes, insertion, replacement, 
 use crate::draft::Draft;
 use crate::item::Item;
 use crate::pairs::Pairs;
-use pm_rows::{Change, Text};
+use pm_rows::{Change, MAX_ROWS, Text};
 use pm_sql::Stmt;
 use std::alloc::{AllocError, Global};
-
-/// The most rows that the table may have.
-pub const MAX_ROWS: usize = 100_000;
-
-/// The most bytes that the rows may take: 12 for each and those of its value.
-pub const MAX_ROWS_BYTES: u64 = 67_108_864;
 
 /// What one statement answers, and the change that it makes, if any.
 #[derive(Drop)]

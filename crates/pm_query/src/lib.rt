@@ -1,26 +1,32 @@
-//! What a script answers, and what it leaves to commit.
+//! What a script answers, what it leaves to commit, and what a session asks of the store that keeps the commits.
 //!
 //! [`answer`] runs the statements of a script in order over the rows of the table. Each gives one [`Item`]; the first
 //! error item is the last, and then nothing is committed. The table itself isn't changed: what the script has changed so
 //! far lies over it.
+//!
+//! A [`Store`] is the rows as its children use them together. It notes each event as a [`BookEntry`]; which books are legal,
+//! and which history of commits a book tells, are definitions of this crate.
 #![tactic(auto)]
 
+mod book;
 mod draft;
 mod effect;
+mod fault;
 mod item;
 mod laws;
 mod pairs;
-mod plain;
 mod reply;
 mod run;
+mod store;
 
-pub use effect::{MAX_ROWS, MAX_ROWS_BYTES};
+pub use book::BookEntry;
+pub use fault::RedoFault;
 pub use item::Item;
-pub use laws::{commit_leaves_rows, errors_come_last, failure_commits_nothing};
+pub use laws::{
+    acked_is_within, acked_never_falls, acknowledged_stays, commit_leaves_rows, past_stays,
+    present_is_whole, repeat_changes_nothing, worked_books,
+};
 pub use pairs::Pairs;
-pub use plain::plain_answer;
 pub use reply::Reply;
 pub use run::{Outcome, answer};
-
-#[cfg(test)]
-mod tests;
+pub use store::{Seen, Staged, Store, StoreNo};

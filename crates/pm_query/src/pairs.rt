@@ -1,6 +1,7 @@
 //! The rows that a statement shows.
-ghost use Rattle.std.specs.Prelude.{◌≡◌, [], ◌∷◌, ◌++◌, IfOk, OnOk};
+ghost use Rattle.std.specs.Prelude.{◌≡◌, [], ◌∷◌, ◌++◌, All, IfOk, OnOk};
 ghost use Rattle.pm_rows.specs.RowsIter.{shown_row};
+ghost use Rattle.pm_rows.specs.Typed.{IsTypedRow};
 
 use pm_rows::Text;
 use std::alloc::{AllocError, Global};
@@ -18,6 +19,11 @@ impl Model for Pairs {
     ghost Value = { List (ℤ × List ℕ) };
 
     ghost view = { λ shown. shown.pairs.items };
+
+    ghost use Rattle.std.specs.Prelude.{All};
+    ghost use Rattle.pm_rows.specs.Typed.{IsTypedRow};
+
+    ghost invariant = { λ shown. All IsTypedRow shown.pairs.items };
 }
 
 impl Pairs {
@@ -34,14 +40,17 @@ impl Pairs {
         ensures { OnOk result (self.new ≡ self.old ++ shown_row row.entry ∷ []) }
     {
         let (key, value) = row;
-        let value = value.copy()?;
-        self.pairs.push((key, value))?;
+        // A text is UTF-8, as its slice tells.
+        let _utf8 = value.as_str();
+        let text = value.copy()?;
+        self.pairs.push((key, text))?;
         Ok(())
     }
 
-    /// The rows, in order.
+    /// The rows, in order. Each has a key that fits 64 bits, and a value that is UTF-8.
     pub fn pairs(&self) -> &[(i64, Text)]
-        ensures { result.now ≡ self.now }
+        ensures list { result.now ≡ self.now }
+        ensures typed { All IsTypedRow self.now }
     {
         &self.pairs
     }

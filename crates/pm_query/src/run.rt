@@ -1,6 +1,8 @@
 //! The answer of a script.
-ghost use Rattle.std.specs.Prelude.{◌≡◌, [], cond, IfOk, OnOk};
-ghost use Rattle.pm_query.specs.Answer.{after_statement, start_on, items_of, commit_of};
+ghost use Rattle.std.specs.Prelude.{◌≡◌, [], cond, IfOk, IsTrue, OnOk};
+ghost use Rattle.pm_query.specs.Answer.{after_statement, start_on, has_error, items_of, commit_of};
+ghost use Rattle.pm_query.specs.Laws.{ErrorsComeLast};
+ghost use Rattle.pm_query.specs.Limits.{IsWithinCommitLimits, KeepsRowLimits, KeepsShortRows, ShowsShortValues};
 
 use crate::draft::Draft;
 use crate::effect::{Effect, effect_of};
@@ -25,14 +27,18 @@ pub struct Outcome {
 pub fn answer(alloc: Global, rows: &Rows, script: &Script) -> Result<Outcome, AllocError>
     ensures reply { IfOk result (λ outcome. outcome.reply ≡ items_of rows.now script.now) }
     ensures commit { IfOk result (λ outcome. outcome.commit ≡ commit_of rows.now script.now) }
+
+    // An error ends the reply, and nothing is committed.
+    ensures last { IfOk result (λ outcome. ErrorsComeLast outcome.reply) }
+    ensures failed { IfOk result (λ outcome. IsTrue (has_error outcome.reply) → outcome.commit ≡ []) }
+
+    // The limits are kept.
+    ensures commit_limits { IfOk result (λ outcome. IsWithinCommitLimits outcome.commit) }
+    ensures row_limits { IfOk result (λ outcome. KeepsRowLimits rows.now outcome.commit) }
+    ensures short_rows { IfOk result (λ outcome. KeepsShortRows rows.now outcome.commit) }
+    ensures short { IfOk result (λ outcome. ShowsShortValues rows.now outcome.reply) }
 {
-    let mut run = Run::on(alloc, rows)?;
-    for stmt in script.stmts() {
-        run.step(stmt)?;
-    }
-    if script.stmts().is_empty() {
-        run.reply.push(Item::Empty)?;
-    }
+    let run = Run::of(alloc, rows, script.stmts())?;
     Ok(run.outcome())
 }
 
@@ -60,6 +66,21 @@ impl<'a> Run<'a> {
             commit: Commit::new(alloc),
             failed: false,
         })
+    }
+
+    // Runs the statements of a script.
+    fn of(alloc: Global, rows: &'a Rows, stmts: &[Stmt]) -> Result<Run<'a>, AllocError>
+        ensures items { IfOk result (λ run. run.reply ≡ items_of rows.now stmts.now) }
+        ensures changes { IfOk result (λ run. cond run.failed [] run.commit ≡ commit_of rows.now stmts.now) }
+    {
+        let mut run = Run::on(alloc, rows)?;
+        for stmt in stmts {
+            run.step(stmt)?;
+        }
+        if stmts.is_empty() {
+            run.reply.push(Item::Empty)?;
+        }
+        Ok(run)
     }
 
     // Runs a statement, unless an error was answered.

@@ -1,6 +1,0 @@
-use Rattle.std.proofs.Common.{take}
-use Rattle.pm_query.proofs.Scripts.{IsOnTheWay}
-use Rattle.pm_query.proofs.run.answer.Given as goal
-
-abbrev pub invariant-loop-stmt : goal.invariant-loop-stmt
-invariant-loop-stmt l = IsOnTheWay l.run l.rows (take l.stmt-index l.stmt-items)

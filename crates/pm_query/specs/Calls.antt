@@ -1,0 +1,122 @@
+-- What a store's calls note, by what they answer.
+use Rattle.std.specs.Prelude.{◌≡◌, ◌≢◌, ◌⊎◌, ◌≤◌, ◌<◌, ◌↔◌, ◌++◌, ℕ, List, [], ◌∷◌, Option, None, Some, Result, Ok, Err, IsTrue}
+use Rattle.pm_rows.specs.declared.commit.Change.{Change}
+use Rattle.pm_sql.specs.declared.stmt.Stmt.{Stmt}
+use Rattle.pm_query.specs.declared.item.Item.{Item}
+use Rattle.pm_query.specs.declared.book.BookEntry.{BookEntry}
+use Rattle.pm_query.specs.declared.book.BookEntry.TheVariants.{Attached, Answered, Released, Detached, Broke, LogFull}
+use Rattle.pm_query.specs.declared.store.Staged.{Staged}
+use Rattle.pm_query.specs.declared.store.Seen.{Seen}
+use Rattle.pm_query.specs.declared.store.Seen.TheVariants.{Released as CanBeSent, NotFlushed}
+use Rattle.pm_query.specs.declared.store.StoreNo.{StoreNo}
+use Rattle.pm_query.specs.declared.store.StoreNo.TheVariants.{Stale, Disk, Broken, Full, Redo, NoMemory}
+
+-- ---- a pass
+
+-- whose it is, and the last number of commits that an answer to it was read from, if there was one
+pub record PassView : Type 0 where
+  pub pid : ℕ
+  pub generation : ℕ
+  pub front : Option ℕ
+
+abbrev pub new_pass : ℕ → ℕ → PassView
+new_pass pid generation = record { pid = pid; generation = generation; front = None }
+
+abbrev pub with_front : ℕ → PassView → PassView
+with_front front pass = record pass { front = Some front }
+
+-- an answer at this front isn't older than what the pass has seen
+abbrev pub IsNoLess : Option ℕ → ℕ → Type 0
+IsNoLess None front = Unit {0}
+IsNoLess (Some seen) front = seen ≤ front
+
+abbrev pub ReachesNoLess : PassView → ℕ → Type 0
+ReachesNoLess pass front = IsNoLess pass.front front
+
+-- an answer up to this front was given to the pass
+abbrev pub IsWithin : Option ℕ → ℕ → Type 0
+IsWithin None front = ⊥
+IsWithin (Some seen) front = front ≤ seen
+
+abbrev pub HasReached : PassView → ℕ → Type 0
+HasReached pass front = IsWithin pass.front front
+
+-- ---- who uses the store
+
+-- A child's pid and generation, and the generation that the store is in, where no other hand can bring it into the next.
+pub record User : Type 0 where
+  pub pid : ℕ
+  pub generation : ℕ
+  pub stamp : Option ℕ
+
+abbrev pub user_of : Option ℕ → PassView → User
+user_of stamp pass = record { pid = pass.pid; generation = pass.generation; stamp = stamp }
+
+abbrev pub newcomer : Option ℕ → (pid generation : ℕ) → User
+newcomer stamp pid generation = record { pid = pid; generation = generation; stamp = stamp }
+
+-- the store can be in another generation
+abbrev pub IsOther : Option ℕ → ℕ → Type 0
+IsOther None generation = Unit {0}
+IsOther (Some stamp) generation = generation ≢ stamp
+
+abbrev pub MayBeOver : User → Type 0
+MayBeOver user = IsOther user.stamp user.generation
+
+-- ---- what the calls note
+
+-- a fault of the disk under this child
+abbrev pub NotesFault : ℕ → List BookEntry → Type 0
+NotesFault pid entries = (since : ℕ) × (faults : ℕ) × (entries ≡ Broke pid since faults ∷ [])
+
+-- one that was told before, at this tick
+abbrev pub RepeatsFault : ℕ → ℕ → List BookEntry → Type 0
+RepeatsFault pid since entries = (faults : ℕ) × (entries ≡ Broke pid since faults ∷ [])
+
+abbrev pub EnterNotes : {P : Type 0} → User → Result P StoreNo → List BookEntry → Type 0
+EnterNotes user (Ok pass) entries = entries ≡ Attached user.pid user.generation ∷ []
+EnterNotes user (Err (Stale mine found)) entries = MayBeOver user × (entries ≡ [])
+EnterNotes user (Err NoMemory) entries = entries ≡ []
+EnterNotes user (Err _) entries = ⊥
+
+-- an answer to this script
+pub record NotesAnswer (pid : ℕ) (script : List Stmt) (reply : List Item) (front : ℕ) (commit : List Change) (entries : List BookEntry) : Type 0 where
+  pub tick : ℕ
+  pub entries_are : entries ≡ Answered pid script reply commit front tick ∷ []
+
+-- the answer that was given, whose commit has changes where it says so
+pub record NotesStaged (pid : ℕ) (script : List Stmt) (staged : Staged) (entries : List BookEntry) : Type 0 where
+  pub commit : List Change
+  pub answer : NotesAnswer pid script staged.reply staged.front commit entries
+  pub wrote : IsTrue staged.wrote ↔ (commit ≢ [])
+
+-- an answer that wasn't given, since the disk failed behind it
+pub record NotesLostAnswer (pid : ℕ) (script : List Stmt) (entries : List BookEntry) : Type 0 where
+  pub reply : List Item
+  pub front : ℕ
+  pub commit : List Change
+  pub answered : List BookEntry
+  pub broke : List BookEntry
+  pub answer : NotesAnswer pid script reply front commit answered
+  pub fault : NotesFault pid broke
+  pub entries_are : entries ≡ answered ++ broke
+
+abbrev pub RunNotes : User → (script : List Stmt) → Result Staged StoreNo → List BookEntry → Type 0
+RunNotes user script (Ok staged) entries = NotesStaged user.pid script staged entries
+RunNotes user script (Err (Stale mine found)) entries = MayBeOver user × (entries ≡ [])
+RunNotes user script (Err Disk) entries = NotesFault user.pid entries ⊎ NotesLostAnswer user.pid script entries
+RunNotes user script (Err (Broken since)) entries = RepeatsFault user.pid since entries
+RunNotes user script (Err (Full need room)) entries = entries ≡ LogFull user.pid script need room ∷ []
+RunNotes user script (Err (Redo fault)) entries = ⊥
+RunNotes user script (Err NoMemory) entries = entries ≡ []
+
+abbrev pub SeenNotes : User → (front : ℕ) → Result Seen StoreNo → List BookEntry → Type 0
+SeenNotes user front (Ok CanBeSent) entries = (tick : ℕ) × (entries ≡ Released user.pid front tick ∷ [])
+SeenNotes user front (Ok (NotFlushed flushed)) entries = (flushed < front) × (entries ≡ [])
+SeenNotes user front (Err (Stale mine found)) entries = MayBeOver user × (entries ≡ [])
+SeenNotes user front (Err (Broken since)) entries = RepeatsFault user.pid since entries
+SeenNotes user front (Err NoMemory) entries = entries ≡ []
+SeenNotes user front (Err _) entries = ⊥
+
+abbrev pub LeaveNotes : User → List BookEntry → Type 0
+LeaveNotes user entries = (entries ≡ Detached user.pid ∷ []) ⊎ (MayBeOver user × (entries ≡ []))

@@ -1,0 +1,134 @@
+//! What a child asks of the store.
+ghost use Rattle.std.specs.Prelude.{◌≡◌, ◌++◌, [], ℕ, List, Option, All, IfOk, OnErr};
+ghost use Rattle.pm_query.specs.declared.book.BookEntry.{BookEntry};
+ghost use Rattle.pm_query.specs.declared.store.StoreNo.TheVariants.{Disk, NoMemory};
+ghost use Rattle.pm_query.specs.Calls.{PassView, user_of, newcomer, new_pass, with_front, ReachesNoLess, HasReached, EnterNotes, RunNotes, SeenNotes, LeaveNotes};
+ghost use Rattle.pm_query.specs.Limits.{HasShortValues};
+
+use crate::book::BookEntry;
+use crate::fault::RedoFault;
+use crate::reply::Reply;
+use pm_disk::DiskFault;
+use pm_sql::Script;
+use std::alloc::AllocError;
+use thiserror::Error;
+
+/// Why the store refused a call.
+#[derive(Clone, Copy, Debug, PartialEq, Eq, Error)]
+pub enum StoreNo {
+    /// The store has gone on to another generation than the caller's.
+    #[error("generation {mine} is over: the store is in generation {found}")]
+    Stale { mine: u32, found: u32 },
+    /// The disk failed in this call.
+    #[error("disk fault")]
+    Disk,
+    /// The disk failed before, at this tick, and the log wasn't read again since.
+    #[error("the commit log broke at tick {since}")]
+    Broken { since: u64 },
+    #[error("the commit log is full: {need} bytes are needed, and there is room for {room}")]
+    Full { need: u64, room: u64 },
+    #[error("{0}")]
+    Redo(RedoFault),
+    #[error("out of memory")]
+    NoMemory,
+}
+
+impl From<DiskFault> for StoreNo {
+    ghost from_gives = { λ _ e. e ≡ Disk };
+
+    fn from(_: DiskFault) -> StoreNo {
+        StoreNo::Disk
+    }
+}
+
+impl From<AllocError> for StoreNo {
+    ghost from_gives = { λ _ e. e ≡ NoMemory };
+
+    fn from(_: AllocError) -> StoreNo {
+        StoreNo::NoMemory
+    }
+}
+
+/// What a script that was run gets for a reply, once the log is flushed up to `front`.
+#[derive(Debug, Drop)]
+pub struct Staged {
+    pub reply: Reply,
+    pub front: u64,
+    /// Whether the script's commit has changes.
+    pub wrote: bool,
+}
+
+/// Whether a reply may be sent.
+#[derive(Clone, Copy, Debug, PartialEq, Eq)]
+pub enum Seen {
+    Released,
+    /// The log is flushed only up to here.
+    NotFlushed { flushed: u64 },
+}
+
+/// The store, as one child uses it: it enters, runs scripts, waits until what it saw is flushed, and leaves.
+///
+/// Each call notes entries in the book. A caller sees those that this store's own calls have noted, in order; what else
+/// stands between them, and what the book as a whole keeps, is each store's own.
+///
+/// Behind a fault of the disk a store stands broken, and its calls still may be made: `run`, and `seen` above what is
+/// flushed, answer `Broken` and note the same fault again, until the log is read again.
+///
+/// Flushing, redo and checkpoints are calls of this trait too, once there is a child that makes them.
+pub trait Store {
+    /// The leave of one child to use the store, from `enter` to `leave`.
+    type Pass: Drop;
+
+    /// Between two moments this store's own calls have noted these entries, and no others. A store says here too what its
+    /// calls keep, so that who knows the store finds it again behind any code that is generic over stores.
+    ghost notes: { List BookEntry → Self → Self → Type 0 };
+
+    /// An `enter` of this store answered the pass, which has not left.
+    ghost admits: { Self → Self.Pass → Type 0 };
+
+    /// Whose pass it is, and how far it has seen.
+    ghost view: { Self.Pass → PassView };
+
+    /// The generation that the store is in. A store that others can bring into the next one between two calls has none.
+    ghost stamp: { Self → Option ℕ };
+
+    /// Lets a child in, and keeps room for the entry of its leave.
+    fn enter(&mut self, pid: u32, generation: u32) -> Result<Self::Pass, StoreNo>
+        ensures notes { (entries : List BookEntry) × notes entries self.old self.new × EnterNotes (newcomer (stamp self.old) pid generation) result entries }
+        ensures admits { IfOk result (λ pass. admits self.new pass) }
+        ensures view { IfOk result (λ pass. view pass ≡ new_pass pid generation) };
+
+    /// Runs a script, and stages its commit where it has changes. All memory is taken before that.
+    fn run(&mut self, pass: &mut Self::Pass, script: &Script) -> Result<Staged, StoreNo>
+        requires { admits self.old pass.old }
+        ensures notes { (entries : List BookEntry) × notes entries self.old self.new × RunNotes (user_of (stamp self.old) (view pass.old)) script.now result entries }
+        ensures admits { admits self.new pass.new }
+        ensures fresh { IfOk result (λ staged. ReachesNoLess (view pass.old) staged.front) }
+        ensures view { IfOk result (λ staged. view pass.new ≡ with_front staged.front (view pass.old)) }
+        ensures refused { OnErr result (view pass.new ≡ view pass.old) }
+        ensures short { IfOk result (λ staged. All HasShortValues staged.reply) };
+
+    /// Whether the log is flushed up to a front that the pass has reached. Then the answers up to it may be sent, also
+    /// where the log is broken.
+    fn seen(&mut self, pass: &mut Self::Pass, front: u64) -> Result<Seen, StoreNo>
+        requires admits { admits self.old pass.old }
+        requires reached { HasReached (view pass.old) front }
+        ensures notes { (entries : List BookEntry) × notes entries self.old self.new × SeenNotes (user_of (stamp self.old) (view pass.old)) front result entries }
+        ensures admits { admits self.new pass.new }
+        ensures view { view pass.new ≡ view pass.old };
+
+    /// Lets a child go. It takes no memory.
+    fn leave(&mut self, pass: Self::Pass)
+        requires { admits self.old pass }
+        ensures { (entries : List BookEntry) × notes entries self.old self.new × LeaveNotes (user_of (stamp self.old) (view pass)) entries };
+
+    /// Where no call is made, nothing is noted.
+    ghost at_rest: { (store : Self) → notes [] store store };
+
+    /// What is noted later stands behind what was noted before.
+    ghost in_turn: { (before between now : Self) (first second : List BookEntry)
+        → notes first before between → notes second between now → notes (first ++ second) before now };
+
+    /// No call brings the store into another generation.
+    ghost stays: { (before now : Self) (entries : List BookEntry) → notes entries before now → stamp now ≡ stamp before };
+}

@@ -1,0 +1,57 @@
+-- One question of a child, put together from what the calls of any store note.
+use Rattle.std.proofs.Common.{◌≡◌, ℕ, List, [], ◌∷◌, ◌++◌, Option, None, Some, Result, Ok, Err, inl, inr, refl, ap, subst}
+use Rattle.pm_sql.specs.declared.stmt.Stmt.{Stmt}
+use Rattle.pm_query.specs.declared.item.Item.{Item}
+use Rattle.pm_query.specs.declared.book.BookEntry.{BookEntry}
+use Rattle.pm_query.specs.declared.store.Staged.{Staged}
+use Rattle.pm_query.specs.declared.store.Seen.{Seen}
+use Rattle.pm_query.specs.declared.store.StoreNo.{StoreNo}
+use Rattle.pm_query.specs.Calls.{EnterNotes, LeaveNotes, NotesStaged, PassView, SeenNotes, User, new_pass, newcomer, user_of, with_front}
+use Rattle.pm_query_tests.specs.Asking.{AnsweredThen, ReplyNotes, VisitNotes, Visits}
+
+abbrev pub GoesInTurn : {S : Type 0} → (List BookEntry → S → S → Type 0) → Type 0
+GoesInTurn {S} notes = (before between now : S) (first second : List BookEntry) → notes first before between → notes second between now → notes (first ++ second) before now
+
+pub same_user : (stamp_before stamp_now : Option ℕ) (before now : PassView) → stamp_now ≡ stamp_before → now ≡ before → user_of stamp_now now ≡ user_of stamp_before before
+same_user stamp_before stamp_now before now e f = rw (e, f) refl
+
+pub same_user_at : (front : ℕ) (stamp_before stamp_now : Option ℕ) (before now : PassView) → stamp_now ≡ stamp_before → now ≡ with_front front before → user_of stamp_now now ≡ user_of stamp_before before
+same_user_at front stamp_before stamp_now before now e f = rw (e, f) refl
+
+pub newcomer_is : (pid generation : ℕ) (stamp_before stamp_now : Option ℕ) (now : PassView) → stamp_now ≡ stamp_before → now ≡ new_pass pid generation → user_of stamp_now now ≡ newcomer stamp_before pid generation
+newcomer_is pid generation stamp_before stamp_now now e f = rw (e, f) refl
+
+-- an answer, and a look behind it
+pub answered_then : {S : Type 0} (notes : List BookEntry → S → S → Type 0) (user who : User) (script : List Stmt) (staged : Staged) (result looked : Result Seen StoreNo) (before between now : S) → GoesInTurn notes → who ≡ user → result ≡ looked
+    → (entries : List BookEntry) × notes entries before between × NotesStaged user.pid script staged entries
+    → (entries : List BookEntry) × notes entries between now × SeenNotes who staged.front result entries
+    → (entries : List BookEntry) × notes entries before now × AnsweredThen user script staged looked entries
+answered_then notes user who script staged result looked before between now in_turn e is (first, one, answer) (second, two, look) = (
+  first ++ second,
+  in_turn before between now first second one two,
+  record { first = first; second = second; answer = answer; look = subst (λ (r : Result Seen StoreNo). SeenNotes user staged.front r second) is (subst (λ (p : User). SeenNotes p staged.front result second) e look); entries_are = refl },
+)
+
+-- a whole visit
+pub visits : {S : Type 0} (notes : List BookEntry → S → S → Type 0) (user asker leaver : User) (script : List Stmt) (result : Result (Option (List Item)) StoreNo) (start entered asked left : S) → GoesInTurn notes → asker ≡ user → leaver ≡ user
+    → (entries : List BookEntry) × notes entries start entered × EnterNotes {P = ℕ} user (Ok 0) entries
+    → (entries : List BookEntry) × notes entries entered asked × ReplyNotes asker script result entries
+    → (entries : List BookEntry) × notes entries asked left × LeaveNotes leaver entries
+    → (entries : List BookEntry) × notes entries start left × Visits user script result entries
+visits notes user asker leaver script result start entered asked left in_turn e f (first, one, enter) (second, two, ask) (third, three, leave) = (
+  (first ++ second) ++ third,
+  in_turn start asked left (first ++ second) third (in_turn start entered asked first second one two) three,
+  record {
+    entered = first;
+    asked = second;
+    left = third;
+    enter = enter;
+    ask = subst (λ (p : User). ReplyNotes p script result second) e ask;
+    leave = subst (λ (p : User). LeaveNotes p third) f leave;
+    entries_are = refl;
+  },
+)
+
+pub visit_notes : (user : User) (script : List Stmt) (result : Result (Option (List Item)) StoreNo) (entries : List BookEntry) → Visits user script result entries → VisitNotes user script result entries
+visit_notes user script (Ok answer) entries visit = visit
+visit_notes user script (Err refusal) entries visit = inl visit

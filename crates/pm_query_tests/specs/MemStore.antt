@@ -1,0 +1,42 @@
+-- What the store in memory keeps.
+use Rattle.std.specs.Prelude.{◌≡◌, ℕ, ◌+◌, ◌≤◌, ◌++◌, List, [], ◌∷◌, Option, None, Some, option_map}
+use Rattle.pm_rows.specs.Fold.{RowMap}
+use Rattle.pm_rows.specs.declared.commit.Change.{Change}
+use Rattle.pm_query.specs.declared.book.BookEntry.{BookEntry}
+use Rattle.pm_query.specs.History.{count_of, rows_of}
+use Rattle.pm_query.specs.Book.{Base, history_of}
+
+-- what is seen of it
+pub record Moment : Type 0 where
+  pub book : Option (List BookEntry)
+  pub rows : RowMap
+  pub count : ℕ
+
+-- its rows are those of the book's history, and so is their number of commits
+pub record IsOf (base : Base) (book : List BookEntry) (rows : RowMap) (count : ℕ) : Type 0 where
+  pub rows_are : rows ≡ rows_of (history_of base book)
+  pub count_is : count ≡ count_of (history_of base book)
+
+-- where the book tells
+abbrev pub Holds : Base → Option (List BookEntry) → RowMap → ℕ → Type 0
+Holds base None rows count = Unit {0}
+Holds base (Some book) rows count = IsOf base book rows count
+
+-- These entries were noted, and rows that were those of the book's history still are.
+pub record Goes (entries : List BookEntry) (before now : Moment) : Type 0 where
+  pub notes : now.book ≡ option_map (λ book. book ++ entries) before.book
+  pub keeps : (base : Base) → Holds base before.book before.rows before.count → Holds base now.book now.rows now.count
+
+-- one commit more where it has changes
+abbrev pub count_behind : ℕ → List Change → ℕ
+count_behind count [] = count
+count_behind count (change ∷ changes) = count + 1
+
+-- there is room for the entry of a leave, and the child has seen nothing that isn't there
+abbrev pub HasSeen : Option ℕ → ℕ → Type 0
+HasSeen None count = Unit {0}
+HasSeen (Some front) count = front ≤ count
+
+pub record Admits (front : Option ℕ) (count spare : ℕ) : Type 0 where
+  pub room : 1 ≤ spare
+  pub seen : HasSeen front count
