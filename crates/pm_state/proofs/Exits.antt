@@ -9,16 +9,16 @@ use Rattle.pm_modes.specs.Strength.{is_immediate}
 use Rattle.pm_supervisor.specs.declared.Limits.{Limits}
 use Rattle.pm_supervisor.specs.declared.Reason.{Reason}
 use Rattle.pm_supervisor.specs.Children.{Child, is_session, is_startup_child, is_checkpointer, is_writer, is_dead_end, child_of, without, one_if, count_of}
-use Rattle.pm_supervisor.specs.Supervisor.{Supervisor}
+use Rattle.pm_supervisor.specs.Supervisor.{Shared, Supervisor}
 use Rattle.pm_supervisor.specs.Steps as supervisor
-use Rattle.pm_supervisor.specs.Steps.{History, IsRun, all_happened, happened, after, crashed_phase, exited_phase, is_crash, is_normal, is_checkpointing}
+use Rattle.pm_supervisor.specs.Steps.{Trace, IsRun, all_happened, happened, after, crashed_phase, exited_phase, is_crash, is_normal, is_checkpointing}
 use Rattle.pm_state.specs.declared.machine.Machine.{Machine}
 use Rattle.pm_state.specs.declared.machine.Exit.{Exit}
 use Rattle.pm_state.specs.Exits.{is_shutdown, crash_rule, less_one}
 use Rattle.pm_state.specs.Machine.{IsReady}
-use Rattle.pm_state.specs.Turn.{is_not_running}
+use Rattle.pm_state.specs.TurnRules.{is_not_running}
 use Rattle.pm_state.specs.Shows.{phase_of, events_of}
-use Rattle.pm_state.proofs.Facts.{Facts, HoldsIn, IsAlone, IsTold, is_init, is_stop_reason, is_crash_reason}
+use Rattle.pm_state.specs.Facts.{Facts, HoldsIn, IsAlone, IsTold, is_init, is_stop_reason, is_crash_reason, starts_in_startup, startup_is_there, aborts_with_cause, open_without_startup, closed_without_sessions, noticed_while_open, recovers_from_crash, has_checkpointer}
 use Rattle.pm_state.proofs.Counts.{count-without}
 
 -- the machine after a child was taken away and before it looks for a crash, and the supervisor after the child's end
@@ -35,14 +35,21 @@ pub record Leaves (limits : Limits) (m : Machine) (s : Supervisor) (is_crash : B
   pub startup : count_of is_startup_child s.shared.children ≡ one_if (not (is_not_running m.startup))
   pub checkpointer : count_of is_checkpointer s.shared.children ≡ one_if m.checkpointer
   pub writer : count_of is_writer s.shared.children ≡ one_if m.writer
-  pub in_state : HoldsIn m.state m s.shared.noticed
+  pub in_state : HoldsIn m.state m s.shared.noticed s.shared.is_open
   pub alone : IsAlone m.startup m
   pub told : IsTold m.startup s.shared.noticed
   pub stop : is_stop_reason s.shared.noticed ≡ is_immediate m.shutdown
   pub known : not (is_crash_reason s.shared.noticed) || m.fatal ≡ true
+  pub starts : starts_in_startup m ≡ true
+  pub there : startup_is_there m ≡ true
+  pub aborts : aborts_with_cause m ≡ true
+  pub opened : open_without_startup m s.shared ≡ true
+  pub closed : closed_without_sessions m s.shared ≡ true
+  pub noticed : noticed_while_open m s.shared ≡ true
+  pub recovers : recovers_from_crash m s.shared ≡ true
 
-pub calm : (limits : Limits) (m : Machine) (s : Supervisor) → Leaves limits m s false → Facts limits m s
-calm limits m s leaves =
+pub calm : (limits : Limits) (m : Machine) (s : Supervisor) → Leaves limits m s false → has_checkpointer m ≡ true → Facts limits m s
+calm limits m s leaves checkpoints =
     record {
       same_limits = leaves.same_limits;
       shows = record {
@@ -60,17 +67,51 @@ calm limits m s leaves =
       told = leaves.told;
       stop = leaves.stop;
       crash = leaves.known;
+      starts = leaves.starts;
+      there = leaves.there;
+      aborts = leaves.aborts;
+      opened = leaves.opened;
+      closed = leaves.closed;
+      noticed = leaves.noticed;
+      recovers = leaves.recovers;
+      checkpoints = checkpoints;
     }
 
-pub crash-run : (limits : Limits) (m : Machine) (h : History) (exit : Exit) → Leaves limits m h.now true
+pub crash-run : (limits : Limits) (m : Machine) (h : Trace) (exit : Exit) → Leaves limits m h.now true
     → IsRun limits h (events_of (crash_rule m exit).acts)
 unfolding crash_rule
 crash-run limits m h exit leaves = grind arith
 
-pub crash-facts : (limits : Limits) (m : Machine) (h : History) (exit : Exit) → Leaves limits m h.now true
+pub crash-facts : (limits : Limits) (m : Machine) (h : Trace) (exit : Exit) → Leaves limits m h.now true
     → Facts limits (crash_rule m exit).after (all_happened h (events_of (crash_rule m exit).acts)).now
 unfolding crash_rule
-crash-facts limits m h exit leaves = grind arith
+crash-facts limits m h exit leaves =
+    record {
+      same_limits = grind arith;
+      shows = record {
+        phase = grind arith;
+        crash = grind arith;
+        request = grind arith;
+        sessions = grind arith;
+        dead_ends = grind arith;
+        startup = grind arith;
+        checkpointer = grind arith;
+        writer = grind arith;
+      };
+      in_state = grind arith;
+      alone = grind arith;
+      told = grind arith;
+      stop = grind arith;
+      crash = grind arith;
+      starts = grind arith;
+      there = grind arith;
+      aborts = grind arith;
+      opened = grind arith;
+      closed = grind arith;
+      noticed = grind arith;
+      recovers = grind arith;
+      checkpoints = grind arith;
+    }
 
 -- the last checkpoint is written in the machine exactly where it is in what it shows
 same_checkpointing : (m : Machine) → m.ended ≡ false → is_checkpointing (phase_of m) ≡ is_shutdown m.state
@@ -121,6 +162,7 @@ record Keeps (m n : Machine) : Type 0 where
   fatal : n.fatal ≡ m.fatal
   conns : n.conns ≡ m.conns
   startup : n.startup ≡ m.startup
+  abort_at : n.abort_at ≡ m.abort_at
   ended : n.ended ≡ m.ended
   startup_due : n.startup_due ≡ m.startup_due
   checkpointer_due : n.checkpointer_due ≡ m.checkpointer_due
@@ -130,7 +172,7 @@ less_one-keeps : (k : Kind) (m : Machine) → is_startup_child k ≡ false → K
 less_one-keeps k m other = grind arith
 
 less_one-in_state : (limits : Limits) (m : Machine) (s : Supervisor) (k : Kind) → is_startup_child k ≡ false → Facts limits m s
-    → HoldsIn (less_one k m).state (less_one k m) s.shared.noticed
+    → HoldsIn (less_one k m).state (less_one k m) s.shared.noticed s.shared.is_open
 less_one-in_state limits m s k other facts = grind arith
 
 less_one-alone : (limits : Limits) (m : Machine) (s : Supervisor) (k : Kind) → is_startup_child k ≡ false → Facts limits m s
@@ -160,6 +202,13 @@ less_one-writer k m a b p q = grind arith
 less_one-phase : (k : Kind) (m : Machine) → is_startup_child k ≡ false → phase_of (less_one k m) ≡ phase_of m
 less_one-phase k m other = grind arith
 
+less_one-closed : (k : Kind) (m : Machine) (s : Shared) → closed_without_sessions m s ≡ true → closed_without_sessions (less_one k m) s ≡ true
+less_one-closed k m s closed = grind arith
+
+pub less_one-checkpoints : (k : Kind) (m : Machine) → is_startup_child k ≡ false → is_checkpointer k ≡ false → has_checkpointer m ≡ true
+    → has_checkpointer (less_one k m) ≡ true
+less_one-checkpoints k m other no_checkpointer checkpoints = grind arith
+
 -- the phase after the end of a child that isn't the startup child
 exited_phase-other : (s : Supervisor) (k : Kind) (status : Status) (was_active : Bool) → is_startup_child k ≡ false
     → exited_phase s k status was_active ≡ (if is_crash s k status was_active then crashed_phase false s.phase else s.phase)
@@ -171,7 +220,7 @@ exited_phase-other s kind.Backend status was_active other = refl
 exited_phase-other s kind.DeadEnd status was_active other = refl
 
 -- the end of a child that isn't the startup child
-pub less_one-leaves : (limits : Limits) (m : Machine) (h : History) (pid : ℕ) (k : Kind) (status : Status) (was_active : Bool) → is_startup_child k ≡ false
+pub less_one-leaves : (limits : Limits) (m : Machine) (h : Trace) (pid : ℕ) (k : Kind) (status : Status) (was_active : Bool) → is_startup_child k ≡ false
     → IsReady m → Facts limits m h.now → IsSomeAnd (child_of pid h.now.shared.children) (λ c. c.kind ≡ k)
     → Leaves limits (less_one k m) (after h.now (supervisor.Exit pid k status was_active))
     (not (is_normal (class_of k (is_shutdown m.state) was_active status)))
@@ -206,4 +255,11 @@ less_one-leaves limits m h pid k status was_active other ready facts there =
       told = less_one-told k m h.now.shared.noticed other facts.told;
       stop = facts.stop ∙ ap is_immediate (sym keeps.shutdown);
       known = rw keeps.fatal facts.crash;
+      starts = rw (keeps.startup, keeps.shutdown, keeps.state) facts.starts;
+      there = rw (keeps.state, keeps.ended, keeps.startup) facts.there;
+      aborts = rw (keeps.abort_at, keeps.fatal, keeps.shutdown) facts.aborts;
+      opened = rw keeps.startup facts.opened;
+      closed = less_one-closed k m h.now.shared facts.closed;
+      noticed = rw keeps.fatal facts.noticed;
+      recovers = rw keeps.fatal facts.recovers;
     }

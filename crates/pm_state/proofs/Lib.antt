@@ -6,3 +6,13 @@ pub mod Exits
 pub mod Startups
 pub mod Calls
 pub mod Telling
+pub mod Known
+pub mod Settling
+pub mod Journal
+pub mod TurnJournal
+pub mod TurnCases
+pub mod TurnPromises
+pub mod Promises
+pub mod Acts
+pub mod Reports
+pub mod InStep

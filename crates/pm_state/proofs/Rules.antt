@@ -1,253 +1,283 @@
--- Each rule of a turn keeps the facts, and moves the phase where it may.
-use Rattle.std.proofs.Common.{◌≡◌, false, refl, arith}
+-- Each rule of a turn keeps the facts, and moves the phase where it may: it does something in one state alone, and there it
+-- changes the state and what is due.
+use Rattle.std.proofs.Common.{◌≡◌, Bool, true, false, not, ◌||◌, refl, arith, subst, inl, inr}
+use Rattle.std.specs.Prelude.{◌⊎◌}
+use Rattle.pm_modes.specs.Strength.{is_immediate}
+use Rattle.pm_admit.specs.declared.PmState.{PmState}
+use Rattle.pm_admit.specs.declared.PmState.TheVariants as state
 use Rattle.pm_supervisor.specs.declared.Limits.{Limits}
 use Rattle.pm_supervisor.specs.Supervisor.{Supervisor}
-use Rattle.pm_supervisor.specs.Steps.{History, IsRun}
+use Rattle.pm_supervisor.specs.Steps.{Trace, IsRun}
+use Rattle.pm_state.specs.declared.machine.StartupStatus.{StartupStatus}
+use Rattle.pm_state.specs.declared.machine.StartupStatus.TheVariants as startup
 use Rattle.pm_state.specs.declared.machine.Machine.{Machine}
-use Rattle.pm_state.specs.Turn.{start_recovery, restart_writer, end_smart, stop_backends, backends_gone, dead_ends_gone}
-use Rattle.pm_state.specs.Shows.{Shows, phase_of, move_of}
-use Rattle.pm_state.proofs.Facts.{Facts, HoldsIn, IsAlone, IsTold, nobody}
+use Rattle.pm_state.specs.TurnRules.{start_recovery, restart_writer, end_smart, stop_backends, backends_gone, dead_ends_gone, startup_starts, are_backends_gone}
+use Rattle.pm_state.specs.Shows.{phase_of, move_of}
+use Rattle.pm_state.specs.Facts.{Facts, HoldsIn, IsAlone, starts_in_startup, startup_is_there, has_checkpointer}
+use Rattle.pm_state.proofs.Facts.{nobody}
+
+-- nothing is done
+stayed : (limits : Limits) (m n : Machine) (s : Supervisor) → n ≡ m → Facts limits m s → Facts limits n (record s { phase = phase_of n })
+stayed limits m n s same facts =
+    rw same (subst (λ p. Facts limits m (record s { phase = p })) facts.shows.phase facts)
+
+-- the machine in this state, with these starts due
+abbrev moved_to : PmState → Bool → Bool → Machine → Machine
+moved_to p checkpointer writer m = record m { state = p; checkpointer_due = checkpointer; writer_due = writer }
+
+-- what has to hold there
+record FitsIn (n : Machine) (s : Supervisor) : Type 0 where
+  in_state : HoldsIn n.state n s.shared.noticed s.shared.is_open
+  starts : starts_in_startup n ≡ true
+  there : startup_is_there n ≡ true
+  checkpoints : has_checkpointer n ≡ true
+
+alone-moved : (status : StartupStatus) (p : PmState) (checkpointer writer : Bool) (m : Machine) → IsAlone status m
+    → IsAlone status (moved_to p checkpointer writer m)
+alone-moved startup.NotRunning p checkpointer writer m alone = tt
+alone-moved startup.Running p checkpointer writer m alone = alone
+alone-moved startup.Signalled p checkpointer writer m alone = alone
+
+moved : (limits : Limits) (m : Machine) (s : Supervisor) (p : PmState) (checkpointer writer : Bool) → Facts limits m s
+    → FitsIn (moved_to p checkpointer writer m) s
+    → Facts limits (moved_to p checkpointer writer m) (record s { phase = phase_of (moved_to p checkpointer writer m) })
+moved limits m s p checkpointer writer facts fits =
+    record {
+      same_limits = facts.same_limits;
+      shows = record {
+        phase = refl;
+        crash = facts.shows.crash;
+        request = facts.shows.request;
+        sessions = facts.shows.sessions;
+        dead_ends = facts.shows.dead_ends;
+        startup = facts.shows.startup;
+        checkpointer = facts.shows.checkpointer;
+        writer = facts.shows.writer;
+      };
+      in_state = fits.in_state;
+      alone = alone-moved m.startup p checkpointer writer m facts.alone;
+      told = facts.told;
+      stop = facts.stop;
+      crash = facts.crash;
+      starts = fits.starts;
+      there = fits.there;
+      aborts = facts.aborts;
+      opened = facts.opened;
+      closed = facts.closed;
+      noticed = facts.noticed;
+      recovers = facts.recovers;
+      checkpoints = fits.checkpoints;
+    }
+
+-- a rule that moves, if it does anything
+abbrev Moves : (Machine → Type 0) → PmState → Machine → Machine → Type 0
+Moves when p m n = (n ≡ m) ⊎ (when m × (n ≡ moved_to p m.checkpointer_due m.writer_due m))
+
+by-moves : (limits : Limits) (m n : Machine) (s : Supervisor) (when : Machine → Type 0) (p : PmState) → Moves when p m n → Facts limits m s
+    → (when m → FitsIn (moved_to p m.checkpointer_due m.writer_due m) s) → Facts limits n (record s { phase = phase_of n })
+by-moves limits m n s when p moves facts fits =
+    elim moves as (λ _. Facts limits n (record s { phase = phase_of n })) [
+      | inl same ↦ stayed limits m n s same facts
+      | inr does ↦ rw does.1 (moved limits m s p m.checkpointer_due m.writer_due facts (fits does.0))
+    ]
+
+-- recovery starts
+
+abbrev IsInit : Machine → Type 0
+IsInit m = m.state ≡ state.Init
+
+start_recovery-does : (m : Machine) → ((start_recovery m).after ≡ m) ⊎ (IsInit m × ((start_recovery m).after ≡ startup_starts m))
+unfolding start_recovery
+start_recovery-does m = grind arith
 
 pub start_recovery-ended : (m : Machine) → (start_recovery m).after.ended ≡ m.ended
 unfolding start_recovery
 start_recovery-ended m = grind arith
 
-pub start_recovery-run : (limits : Limits) (m : Machine) (h : History) → m.ended ≡ false → Facts limits m h.now
+pub start_recovery-run : (limits : Limits) (m : Machine) (h : Trace) → m.ended ≡ false → Facts limits m h.now
     → IsRun limits h (move_of (phase_of m) (phase_of (start_recovery m).after))
 unfolding start_recovery
 start_recovery-run limits m h goes_on facts = grind arith
 
-start_recovery-in_state : (limits : Limits) (m : Machine) (s : Supervisor) → Facts limits m s → HoldsIn (start_recovery m).after.state (start_recovery m).after s.shared.noticed
-unfolding start_recovery
-start_recovery-in_state limits m s facts = grind arith
-
-start_recovery-alone : (limits : Limits) (m : Machine) (s : Supervisor) → Facts limits m s → IsAlone (start_recovery m).after.startup (start_recovery m).after
-unfolding start_recovery
-start_recovery-alone limits m s facts = grind arith
-
-start_recovery-told : (limits : Limits) (m : Machine) (s : Supervisor) → Facts limits m s → IsTold (start_recovery m).after.startup s.shared.noticed
-unfolding start_recovery
-start_recovery-told limits m s facts = grind arith
-
-start_recovery-shows : (limits : Limits) (m : Machine) (s : Supervisor) → Facts limits m s → Shows (start_recovery m).after (record s { phase = phase_of (start_recovery m).after })
-unfolding start_recovery
-start_recovery-shows limits m s facts = grind arith
+started-facts : (limits : Limits) (m : Machine) (s : Supervisor) → IsInit m → Facts limits m s
+    → Facts limits (startup_starts m) (record s { phase = phase_of (startup_starts m) })
+started-facts limits m s is facts =
+    record {
+      same_limits = facts.same_limits;
+      shows = record {
+        phase = refl;
+        crash = facts.shows.crash;
+        request = facts.shows.request;
+        sessions = facts.shows.sessions;
+        dead_ends = facts.shows.dead_ends;
+        startup = grind arith;
+        checkpointer = facts.shows.checkpointer;
+        writer = facts.shows.writer;
+      };
+      in_state = grind arith;
+      alone = grind arith;
+      told = grind arith;
+      stop = facts.stop;
+      crash = facts.crash;
+      starts = grind arith;
+      there = grind arith;
+      aborts = facts.aborts;
+      opened = grind arith;
+      closed = facts.closed;
+      noticed = facts.noticed;
+      recovers = facts.recovers;
+      checkpoints = refl;
+    }
 
 pub start_recovery-facts : (limits : Limits) (m : Machine) (s : Supervisor) → Facts limits m s
     → Facts limits (start_recovery m).after (record s { phase = phase_of (start_recovery m).after })
-unfolding start_recovery
 start_recovery-facts limits m s facts =
-    record {
-      same_limits = grind arith;
-      shows = start_recovery-shows limits m s facts;
-      in_state = start_recovery-in_state limits m s facts;
-      alone = start_recovery-alone limits m s facts;
-      told = start_recovery-told limits m s facts;
-      stop = grind arith;
-      crash = grind arith;
-    }
+    let n : Machine = (start_recovery m).after in
+    elim (start_recovery-does m) as (λ _. Facts limits n (record s { phase = phase_of n })) [
+      | inl same ↦ stayed limits m n s same facts
+      | inr does ↦ rw does.1 (started-facts limits m s does.0 facts)
+    ]
+
+-- a writer is started again
+
+abbrev LacksWriter : Machine → Type 0
+LacksWriter m = (m.state ≡ state.Run) × (m.conns ≡ true) × (m.writer ≡ false)
+
+restart_writer-does : (m : Machine) → ((restart_writer m).after ≡ m) ⊎ (LacksWriter m × ((restart_writer m).after ≡ moved_to m.state m.checkpointer_due true m))
+unfolding restart_writer
+restart_writer-does m = grind arith
 
 pub restart_writer-ended : (m : Machine) → (restart_writer m).after.ended ≡ m.ended
 unfolding restart_writer
 restart_writer-ended m = grind arith
 
-pub restart_writer-run : (limits : Limits) (m : Machine) (h : History) → m.ended ≡ false → Facts limits m h.now
-    → IsRun limits h (move_of (phase_of m) (phase_of (restart_writer m).after))
-unfolding restart_writer
-restart_writer-run limits m h goes_on facts = grind arith
-
-restart_writer-in_state : (limits : Limits) (m : Machine) (s : Supervisor) → Facts limits m s → HoldsIn (restart_writer m).after.state (restart_writer m).after s.shared.noticed
-unfolding restart_writer
-restart_writer-in_state limits m s facts = grind arith
-
-restart_writer-alone : (limits : Limits) (m : Machine) (s : Supervisor) → Facts limits m s → IsAlone (restart_writer m).after.startup (restart_writer m).after
-unfolding restart_writer
-restart_writer-alone limits m s facts = grind arith
-
-restart_writer-told : (limits : Limits) (m : Machine) (s : Supervisor) → Facts limits m s → IsTold (restart_writer m).after.startup s.shared.noticed
-unfolding restart_writer
-restart_writer-told limits m s facts = grind arith
-
-restart_writer-shows : (limits : Limits) (m : Machine) (s : Supervisor) → Facts limits m s → Shows (restart_writer m).after (record s { phase = phase_of (restart_writer m).after })
-unfolding restart_writer
-restart_writer-shows limits m s facts = grind arith
+writer-fits : (limits : Limits) (m : Machine) (s : Supervisor) → LacksWriter m → Facts limits m s
+    → FitsIn (moved_to m.state m.checkpointer_due true m) s
+writer-fits limits m s lacks facts =
+    record { in_state = grind arith; starts = facts.starts; there = facts.there; checkpoints = facts.checkpoints }
 
 pub restart_writer-facts : (limits : Limits) (m : Machine) (s : Supervisor) → Facts limits m s
     → Facts limits (restart_writer m).after (record s { phase = phase_of (restart_writer m).after })
-unfolding restart_writer
 restart_writer-facts limits m s facts =
-    record {
-      same_limits = grind arith;
-      shows = restart_writer-shows limits m s facts;
-      in_state = restart_writer-in_state limits m s facts;
-      alone = restart_writer-alone limits m s facts;
-      told = restart_writer-told limits m s facts;
-      stop = grind arith;
-      crash = grind arith;
-    }
+    let n : Machine = (restart_writer m).after in
+    elim (restart_writer-does m) as (λ _. Facts limits n (record s { phase = phase_of n })) [
+      | inl same ↦ stayed limits m n s same facts
+      | inr does ↦ rw does.1 (moved limits m s m.state m.checkpointer_due true facts (writer-fits limits m s does.0 facts))
+    ]
+
+-- a smart shutdown goes on
+
+abbrev IsDrained : Machine → Type 0
+IsDrained m = (m.state ≡ state.Run) × (m.conns ≡ false) × (m.children ≡ 0)
+
+end_smart-does : (m : Machine) → Moves IsDrained state.StopBackends m (end_smart m).after
+unfolding end_smart
+end_smart-does m = grind arith
 
 pub end_smart-ended : (m : Machine) → (end_smart m).after.ended ≡ m.ended
 unfolding end_smart
 end_smart-ended m = grind arith
 
-pub end_smart-run : (limits : Limits) (m : Machine) (h : History) → m.ended ≡ false → Facts limits m h.now
+pub end_smart-run : (limits : Limits) (m : Machine) (h : Trace) → m.ended ≡ false → Facts limits m h.now
     → IsRun limits h (move_of (phase_of m) (phase_of (end_smart m).after))
 unfolding end_smart
 end_smart-run limits m h goes_on facts = grind arith
 
-end_smart-in_state : (limits : Limits) (m : Machine) (s : Supervisor) → Facts limits m s → HoldsIn (end_smart m).after.state (end_smart m).after s.shared.noticed
-unfolding end_smart
-end_smart-in_state limits m s facts = grind arith
-
-end_smart-alone : (limits : Limits) (m : Machine) (s : Supervisor) → Facts limits m s → IsAlone (end_smart m).after.startup (end_smart m).after
-unfolding end_smart
-end_smart-alone limits m s facts = grind arith
-
-end_smart-told : (limits : Limits) (m : Machine) (s : Supervisor) → Facts limits m s → IsTold (end_smart m).after.startup s.shared.noticed
-unfolding end_smart
-end_smart-told limits m s facts = grind arith
-
-end_smart-shows : (limits : Limits) (m : Machine) (s : Supervisor) → Facts limits m s → Shows (end_smart m).after (record s { phase = phase_of (end_smart m).after })
-unfolding end_smart
-end_smart-shows limits m s facts = grind arith
+drained-fits : (limits : Limits) (m : Machine) (s : Supervisor) → Facts limits m s → IsDrained m
+    → FitsIn (moved_to state.StopBackends m.checkpointer_due m.writer_due m) s
+drained-fits limits m s facts drained = record { in_state = grind arith; starts = grind arith; there = refl; checkpoints = refl }
 
 pub end_smart-facts : (limits : Limits) (m : Machine) (s : Supervisor) → Facts limits m s
     → Facts limits (end_smart m).after (record s { phase = phase_of (end_smart m).after })
-unfolding end_smart
 end_smart-facts limits m s facts =
-    record {
-      same_limits = grind arith;
-      shows = end_smart-shows limits m s facts;
-      in_state = end_smart-in_state limits m s facts;
-      alone = end_smart-alone limits m s facts;
-      told = end_smart-told limits m s facts;
-      stop = grind arith;
-      crash = grind arith;
-    }
+    by-moves limits m (end_smart m).after s IsDrained state.StopBackends (end_smart-does m) facts (drained-fits limits m s facts)
+
+-- sessions and background children are told to end
+
+abbrev IsStopping : Machine → Type 0
+IsStopping m = m.state ≡ state.StopBackends
+
+stop_backends-does : (m : Machine) → Moves IsStopping state.WaitBackends m (stop_backends m).after
+unfolding stop_backends
+stop_backends-does m = grind arith
 
 pub stop_backends-ended : (m : Machine) → (stop_backends m).after.ended ≡ m.ended
 unfolding stop_backends
 stop_backends-ended m = grind arith
 
-pub stop_backends-run : (limits : Limits) (m : Machine) (h : History) → m.ended ≡ false → Facts limits m h.now
-    → IsRun limits h (move_of (phase_of m) (phase_of (stop_backends m).after))
-unfolding stop_backends
-stop_backends-run limits m h goes_on facts = grind arith
-
-stop_backends-in_state : (limits : Limits) (m : Machine) (s : Supervisor) → Facts limits m s → HoldsIn (stop_backends m).after.state (stop_backends m).after s.shared.noticed
-unfolding stop_backends
-stop_backends-in_state limits m s facts = grind arith
-
-stop_backends-alone : (limits : Limits) (m : Machine) (s : Supervisor) → Facts limits m s → IsAlone (stop_backends m).after.startup (stop_backends m).after
-unfolding stop_backends
-stop_backends-alone limits m s facts = grind arith
-
-stop_backends-told : (limits : Limits) (m : Machine) (s : Supervisor) → Facts limits m s → IsTold (stop_backends m).after.startup s.shared.noticed
-unfolding stop_backends
-stop_backends-told limits m s facts = grind arith
-
-stop_backends-shows : (limits : Limits) (m : Machine) (s : Supervisor) → Facts limits m s → Shows (stop_backends m).after (record s { phase = phase_of (stop_backends m).after })
-unfolding stop_backends
-stop_backends-shows limits m s facts = grind arith
+stopping-fits : (limits : Limits) (m : Machine) (s : Supervisor) → Facts limits m s → IsStopping m
+    → FitsIn (moved_to state.WaitBackends m.checkpointer_due m.writer_due m) s
+stopping-fits limits m s facts stopping = record { in_state = grind arith; starts = grind arith; there = refl; checkpoints = refl }
 
 pub stop_backends-facts : (limits : Limits) (m : Machine) (s : Supervisor) → Facts limits m s
     → Facts limits (stop_backends m).after (record s { phase = phase_of (stop_backends m).after })
-unfolding stop_backends
 stop_backends-facts limits m s facts =
-    record {
-      same_limits = grind arith;
-      shows = stop_backends-shows limits m s facts;
-      in_state = stop_backends-in_state limits m s facts;
-      alone = stop_backends-alone limits m s facts;
-      told = stop_backends-told limits m s facts;
-      stop = grind arith;
-      crash = grind arith;
-    }
+    by-moves limits m (stop_backends m).after s IsStopping state.WaitBackends (stop_backends-does m) facts (stopping-fits limits m s facts)
+
+-- they have ended
+
+abbrev IsClean : Machine → Type 0
+IsClean m = (m.state ≡ state.WaitBackends) × (are_backends_gone m ≡ true) × (m.fatal || is_immediate m.shutdown ≡ false)
+
+abbrev IsUnclean : Machine → Type 0
+IsUnclean m = (m.state ≡ state.WaitBackends) × (are_backends_gone m ≡ true) × (m.fatal || is_immediate m.shutdown ≡ true) × (m.checkpointer ≡ false)
+
+abbrev asks_checkpoint : Machine → Machine
+asks_checkpoint m = moved_to state.Shutdown (m.checkpointer_due || not m.checkpointer) m.writer_due m
+
+backends_gone-does : (m : Machine) → Moves IsUnclean state.WaitDeadEnd m (backends_gone m).after ⊎ (IsClean m × ((backends_gone m).after ≡ asks_checkpoint m))
+unfolding backends_gone
+backends_gone-does m = grind arith
 
 pub backends_gone-ended : (m : Machine) → (backends_gone m).after.ended ≡ m.ended
 unfolding backends_gone
 backends_gone-ended m = grind arith
 
-pub backends_gone-run : (limits : Limits) (m : Machine) (h : History) → m.ended ≡ false → Facts limits m h.now
+pub backends_gone-run : (limits : Limits) (m : Machine) (h : Trace) → m.ended ≡ false → Facts limits m h.now
     → IsRun limits h (move_of (phase_of m) (phase_of (backends_gone m).after))
 unfolding backends_gone
 backends_gone-run limits m h goes_on facts = grind arith
 
-backends_gone-in_state : (limits : Limits) (m : Machine) (s : Supervisor) → Facts limits m s → HoldsIn (backends_gone m).after.state (backends_gone m).after s.shared.noticed
-unfolding backends_gone
-backends_gone-in_state limits m s facts = grind arith
+unclean-fits : (limits : Limits) (m : Machine) (s : Supervisor) → Facts limits m s → IsUnclean m
+    → FitsIn (moved_to state.WaitDeadEnd m.checkpointer_due m.writer_due m) s
+unclean-fits limits m s facts unclean = record { in_state = grind arith; starts = grind arith; there = refl; checkpoints = refl }
 
-backends_gone-alone : (limits : Limits) (m : Machine) (s : Supervisor) → Facts limits m s → IsAlone (backends_gone m).after.startup (backends_gone m).after
-unfolding backends_gone
-backends_gone-alone limits m s facts = grind arith
-
-backends_gone-told : (limits : Limits) (m : Machine) (s : Supervisor) → Facts limits m s → IsTold (backends_gone m).after.startup s.shared.noticed
-unfolding backends_gone
-backends_gone-told limits m s facts = grind arith
-
-backends_gone-shows : (limits : Limits) (m : Machine) (s : Supervisor) → Facts limits m s → Shows (backends_gone m).after (record s { phase = phase_of (backends_gone m).after })
-unfolding backends_gone
-backends_gone-shows limits m s facts =
-    record {
-      phase = refl;
-      crash = grind arith;
-      request = grind arith;
-      sessions = grind arith;
-      dead_ends = grind arith;
-      startup = grind arith;
-      checkpointer = grind arith;
-      writer = grind arith;
-    }
+clean-fits : (limits : Limits) (m : Machine) (s : Supervisor) → Facts limits m s → IsClean m → FitsIn (asks_checkpoint m) s
+clean-fits limits m s facts clean = record { in_state = grind arith; starts = grind arith; there = refl; checkpoints = grind arith }
 
 pub backends_gone-facts : (limits : Limits) (m : Machine) (s : Supervisor) → Facts limits m s
     → Facts limits (backends_gone m).after (record s { phase = phase_of (backends_gone m).after })
-unfolding backends_gone
 backends_gone-facts limits m s facts =
-    record {
-      same_limits = grind arith;
-      shows = backends_gone-shows limits m s facts;
-      in_state = backends_gone-in_state limits m s facts;
-      alone = backends_gone-alone limits m s facts;
-      told = backends_gone-told limits m s facts;
-      stop = grind arith;
-      crash = grind arith;
-    }
+    let n : Machine = (backends_gone m).after in
+    elim (backends_gone-does m) as (λ _. Facts limits n (record s { phase = phase_of n })) [
+      | inl moves ↦ by-moves limits m n s IsUnclean state.WaitDeadEnd moves facts (unclean-fits limits m s facts)
+      | inr does ↦ rw does.1
+          (moved limits m s state.Shutdown (m.checkpointer_due || not m.checkpointer) m.writer_due facts (clean-fits limits m s facts does.0))
+    ]
+
+-- no child is left
+
+abbrev IsEmpty : Machine → Type 0
+IsEmpty m = (m.state ≡ state.WaitDeadEnd) × (m.dead_ends ≡ 0)
+
+dead_ends_gone-does : (m : Machine) → Moves IsEmpty state.NoChildren m (dead_ends_gone m).after
+unfolding dead_ends_gone
+dead_ends_gone-does m = grind arith
 
 pub dead_ends_gone-ended : (m : Machine) → (dead_ends_gone m).after.ended ≡ m.ended
 unfolding dead_ends_gone
 dead_ends_gone-ended m = grind arith
 
-pub dead_ends_gone-run : (limits : Limits) (m : Machine) (h : History) → m.ended ≡ false → Facts limits m h.now
+pub dead_ends_gone-run : (limits : Limits) (m : Machine) (h : Trace) → m.ended ≡ false → Facts limits m h.now
     → IsRun limits h (move_of (phase_of m) (phase_of (dead_ends_gone m).after))
 unfolding dead_ends_gone
 dead_ends_gone-run limits m h goes_on facts = grind (arith, nobody h.now.shared.children)
 
-dead_ends_gone-in_state : (limits : Limits) (m : Machine) (s : Supervisor) → Facts limits m s → HoldsIn (dead_ends_gone m).after.state (dead_ends_gone m).after s.shared.noticed
-unfolding dead_ends_gone
-dead_ends_gone-in_state limits m s facts = grind arith
-
-dead_ends_gone-alone : (limits : Limits) (m : Machine) (s : Supervisor) → Facts limits m s → IsAlone (dead_ends_gone m).after.startup (dead_ends_gone m).after
-unfolding dead_ends_gone
-dead_ends_gone-alone limits m s facts = grind arith
-
-dead_ends_gone-told : (limits : Limits) (m : Machine) (s : Supervisor) → Facts limits m s → IsTold (dead_ends_gone m).after.startup s.shared.noticed
-unfolding dead_ends_gone
-dead_ends_gone-told limits m s facts = grind arith
-
-dead_ends_gone-shows : (limits : Limits) (m : Machine) (s : Supervisor) → Facts limits m s → Shows (dead_ends_gone m).after (record s { phase = phase_of (dead_ends_gone m).after })
-unfolding dead_ends_gone
-dead_ends_gone-shows limits m s facts = grind arith
+empty-fits : (limits : Limits) (m : Machine) (s : Supervisor) → Facts limits m s → IsEmpty m
+    → FitsIn (moved_to state.NoChildren m.checkpointer_due m.writer_due m) s
+empty-fits limits m s facts empty = record { in_state = grind arith; starts = grind arith; there = refl; checkpoints = refl }
 
 pub dead_ends_gone-facts : (limits : Limits) (m : Machine) (s : Supervisor) → Facts limits m s
     → Facts limits (dead_ends_gone m).after (record s { phase = phase_of (dead_ends_gone m).after })
-unfolding dead_ends_gone
 dead_ends_gone-facts limits m s facts =
-    record {
-      same_limits = grind arith;
-      shows = dead_ends_gone-shows limits m s facts;
-      in_state = dead_ends_gone-in_state limits m s facts;
-      alone = dead_ends_gone-alone limits m s facts;
-      told = dead_ends_gone-told limits m s facts;
-      stop = grind arith;
-      crash = grind arith;
-    }
+    by-moves limits m (dead_ends_gone m).after s IsEmpty state.NoChildren (dead_ends_gone-does m) facts (empty-fits limits m s facts)

@@ -8,14 +8,14 @@ use Rattle.pm_supervisor.specs.declared.Limits.{Limits}
 use Rattle.pm_supervisor.specs.Children.{Child, is_session, is_startup_child, is_checkpointer, is_writer, is_dead_end, child_of, without, count_of, attached_sessions, one_if}
 use Rattle.pm_supervisor.specs.Supervisor.{Supervisor}
 use Rattle.pm_supervisor.specs.Steps as supervisor
-use Rattle.pm_supervisor.specs.Steps.{History, IsRun, all_happened, happened, after, is_startup_crash}
+use Rattle.pm_supervisor.specs.Steps.{Trace, IsRun, all_happened, happened, after, is_startup_crash, redo_has_ended}
 use Rattle.pm_state.specs.declared.machine.Machine.{Machine}
 use Rattle.pm_state.specs.declared.machine.Exit.{Exit}
 use Rattle.pm_state.specs.Exits.{crash_rule, startup_exited}
 use Rattle.pm_state.specs.Machine.{IsReady}
-use Rattle.pm_state.specs.Turn.{is_not_running}
+use Rattle.pm_state.specs.TurnRules.{is_not_running}
 use Rattle.pm_state.specs.Shows.{events_of, events_of_exit}
-use Rattle.pm_state.proofs.Facts.{Facts}
+use Rattle.pm_state.specs.Facts.{Facts}
 use Rattle.pm_state.proofs.Counts.{count-without, none_attached}
 
 -- the supervisor just after the end of its startup child
@@ -24,6 +24,8 @@ pub record HasLeft (m : Machine) (before s : Supervisor) (status : Status) : Typ
   pub crash : s.crash ≡ (after before (supervisor.Exit 0 kind.Startup status false)).crash
   pub request : s.request ≡ m.shutdown
   pub noticed : s.shared.noticed ≡ before.shared.noticed
+  pub is_open : s.shared.is_open ≡ before.shared.is_open
+  pub generation : s.shared.generation ≡ before.shared.generation
   pub sessions : count_of is_session s.shared.children ≡ 0
   pub attached : attached_sessions s.shared.children ≡ 0
   pub dead_ends : count_of is_dead_end s.shared.children ≡ m.dead_ends
@@ -48,7 +50,7 @@ alone-there limits m s there facts = grind arith
 no_one : (a : ℕ) (b : Bool) → a ≡ one_if b → b ≡ false → a ≡ 0
 no_one a b p q = grind arith
 
-pub has_left : (limits : Limits) (m : Machine) (h : History) (pid : ℕ) (status : Status) (was_active : Bool) → Facts limits m h.now
+pub has_left : (limits : Limits) (m : Machine) (h : Trace) (pid : ℕ) (status : Status) (was_active : Bool) → Facts limits m h.now
     → IsSomeAnd (child_of pid h.now.shared.children) (λ c. c.kind ≡ kind.Startup)
     → HasLeft m h.now (after h.now (supervisor.Exit pid kind.Startup status was_active)) status
 has_left limits m h pid status was_active facts there =
@@ -62,6 +64,8 @@ has_left limits m h pid status was_active facts there =
       crash = refl;
       request = facts.shows.request;
       noticed = refl;
+      is_open = refl;
+      generation = refl;
       sessions = sessions;
       attached = none_attached (without pid cs) sessions;
       dead_ends = omega (arith, count-without is_dead_end pid kind.Startup cs there, facts.shows.dead_ends);
@@ -73,24 +77,51 @@ has_left limits m h pid status was_active facts there =
 
 -- the lines of the table, one by one
 
-pub redo-run : (limits : Limits) (m : Machine) (h : History) (pid : ℕ) (status : Status) (was_active : Bool) (exit : Exit) → IsReady m → Facts limits m h.now
+pub redo-run : (limits : Limits) (m : Machine) (h : Trace) (pid : ℕ) (status : Status) (was_active : Bool) (exit : Exit) → IsReady m → Facts limits m h.now
+    → redo_has_ended h.past ≡ false
     → HasLeft m h.now (after h.now (supervisor.Exit pid kind.Startup status was_active)) status
     → exit.status ≡ status → is_exit_0 status ≡ true
     → IsRun limits (happened h (supervisor.Exit pid kind.Startup status was_active))
     (events_of_exit m kind.Startup status was_active ++ events_of (startup_exited m exit).acts)
 unfolding startup_exited
-redo-run limits m h pid status was_active exit ready facts left same good = grind arith
+redo-run limits m h pid status was_active exit ready facts not_yet left same good = grind arith
 
-pub redo-facts : (limits : Limits) (m : Machine) (h : History) (pid : ℕ) (status : Status) (was_active : Bool) (exit : Exit) → IsReady m → Facts limits m h.now
+pub redo-facts : (limits : Limits) (m : Machine) (h : Trace) (pid : ℕ) (status : Status) (was_active : Bool) (exit : Exit) → IsReady m → Facts limits m h.now
     → HasLeft m h.now (after h.now (supervisor.Exit pid kind.Startup status was_active)) status
     → exit.status ≡ status → is_exit_0 status ≡ true
     → Facts limits (startup_exited m exit).after
     (all_happened (happened h (supervisor.Exit pid kind.Startup status was_active))
     (events_of_exit m kind.Startup status was_active ++ events_of (startup_exited m exit).acts)).now
 unfolding startup_exited
-redo-facts limits m h pid status was_active exit ready facts left same good = grind arith
+redo-facts limits m h pid status was_active exit ready facts left same good =
+    record {
+      same_limits = grind arith;
+      shows = record {
+        phase = grind arith;
+        crash = grind arith;
+        request = grind arith;
+        sessions = grind arith;
+        dead_ends = grind arith;
+        startup = grind arith;
+        checkpointer = grind arith;
+        writer = grind arith;
+      };
+      in_state = grind arith;
+      alone = grind arith;
+      told = grind arith;
+      stop = grind arith;
+      crash = grind arith;
+      starts = grind arith;
+      there = grind arith;
+      aborts = grind arith;
+      opened = grind arith;
+      closed = grind arith;
+      noticed = grind arith;
+      recovers = grind arith;
+      checkpoints = grind arith;
+    }
 
-pub failed-run : (limits : Limits) (m : Machine) (h : History) (pid : ℕ) (status : Status) (was_active : Bool) (exit : Exit) → IsReady m → Facts limits m h.now
+pub failed-run : (limits : Limits) (m : Machine) (h : Trace) (pid : ℕ) (status : Status) (was_active : Bool) (exit : Exit) → IsReady m → Facts limits m h.now
     → HasLeft m h.now (after h.now (supervisor.Exit pid kind.Startup status was_active)) status
     → exit.status ≡ status → is_exit_0 status ≡ false
     → IsRun limits (happened h (supervisor.Exit pid kind.Startup status was_active))
@@ -98,7 +129,7 @@ pub failed-run : (limits : Limits) (m : Machine) (h : History) (pid : ℕ) (stat
 unfolding startup_exited crash_rule
 failed-run limits m h pid status was_active exit ready facts left same bad = grind arith
 
-pub failed-facts : (limits : Limits) (m : Machine) (h : History) (pid : ℕ) (status : Status) (was_active : Bool) (exit : Exit) → IsReady m → Facts limits m h.now
+pub failed-facts : (limits : Limits) (m : Machine) (h : Trace) (pid : ℕ) (status : Status) (was_active : Bool) (exit : Exit) → IsReady m → Facts limits m h.now
     → HasLeft m h.now (after h.now (supervisor.Exit pid kind.Startup status was_active)) status
     → exit.status ≡ status → is_exit_0 status ≡ false
     → Facts limits (startup_exited m exit).after
@@ -123,4 +154,12 @@ failed-facts limits m h pid status was_active exit ready facts left same bad =
       told = grind arith;
       stop = grind arith;
       crash = grind arith;
+      starts = grind arith;
+      there = grind arith;
+      aborts = grind arith;
+      opened = grind arith;
+      closed = grind arith;
+      noticed = grind arith;
+      recovers = grind arith;
+      checkpoints = grind arith;
     }

@@ -12,13 +12,22 @@ use Rattle.pm_supervisor.specs.Children.{is_session, is_startup_child, is_checkp
 use Rattle.pm_state.specs.declared.action.Action.{Action}
 use Rattle.pm_state.specs.declared.action.Action.TheVariants as act
 use Rattle.pm_state.specs.declared.machine.Machine.{Machine}
-use Rattle.pm_state.specs.Outcome.{Outcome, outcome}
+use Rattle.pm_state.specs.Transition.{Transition, transition}
 use Rattle.pm_state.specs.declared.machine.Exit.{Exit}
 use Rattle.pm_state.specs.Exits.{crash_rule, without_startup, signalled_state, startup_exited, checkpointer_exited, unless_normal, exited_by, less_one, is_shutdown}
 use Rattle.pm_state.specs.Requests.{asked_with, ticked_at}
-use Rattle.pm_state.specs.Turn.{start_recovery, restart_writer, end_smart, stop_backends, backends_gone, dead_ends_gone, children_gone, and_then, turned_of}
-use Rattle.pm_state.specs.Machine.{Event, Accepted, Started, Exited, Asked, Ticked, Turned, step, IsReady}
-use Rattle.pm_state.specs.Starts.{starts_in, has_end, TellsAll, is_report}
+use Rattle.pm_state.specs.TurnRules.{start_recovery, restart_writer, end_smart, stop_backends, backends_gone, dead_ends_gone, children_gone, and_then, turned_of}
+use Rattle.pm_state.specs.Machine.{MachineEvent, Accepted, Started, Exited, Asked, Ticked, Turned, step, IsReady}
+use Rattle.pm_state.specs.Starts.{starts_in, has_end, is_report}
+
+-- what is due after the actions is what they start, each once, and the machine has ended where they end the server
+pub record TellsAll (o : Transition) : Type 0 where
+  pub startup : starts_in is_startup_child o.acts ≡ one_if o.after.startup_due
+  pub checkpointer : starts_in is_checkpointer o.acts ≡ one_if o.after.checkpointer_due
+  pub writer : starts_in is_writer o.acts ≡ one_if o.after.writer_due
+  pub sessions : starts_in is_session o.acts ≡ 0
+  pub dead_ends : starts_in is_dead_end o.acts ≡ 0
+  pub ended : has_end o.acts ≡ o.after.ended
 
 asked-tells : (m : Machine) (answer : Option Mode) (now : ℕ) → IsReady m → TellsAll (asked_with answer m now)
 asked-tells m answer now ready = grind arith
@@ -52,7 +61,7 @@ startup-tells m exit ready =
     }
 
 -- in a turn: what a rule adds to the actions is what becomes due by it
-record Adds (m : Machine) (o : Outcome) : Type 0 where
+record Adds (m : Machine) (o : Transition) : Type 0 where
   startup : starts_in is_startup_child o.acts + one_if m.startup_due ≡ one_if o.after.startup_due
   checkpointer : starts_in is_checkpointer o.acts + one_if m.checkpointer_due ≡ one_if o.after.checkpointer_due
   writer : starts_in is_writer o.acts + one_if m.writer_due ≡ one_if o.after.writer_due
@@ -94,7 +103,7 @@ has_end-append (act.End how ∷ xs) ys = refl
 or-chain : (a b c d e : Bool) → a || c ≡ d → b || d ≡ e → (a || b) || c ≡ e
 or-chain a b c d e p q = grind arith
 
-adds-then : (m : Machine) (o : Outcome) (rule : Machine → Outcome) → Adds m o → Adds o.after (rule o.after) → Adds m (and_then o rule)
+adds-then : (m : Machine) (o : Transition) (rule : Machine → Transition) → Adds m o → Adds o.after (rule o.after) → Adds m (and_then o rule)
 adds-then m o rule first second =
     let more : List Action = (rule o.after).acts in
     record {
@@ -168,18 +177,18 @@ start_recovery-quiet : (m : Machine) → IsReady m → IsQuiet (start_recovery m
 unfolding start_recovery
 start_recovery-quiet m ready = grind arith
 
-adds-tells : (m : Machine) (o : Outcome) → IsReady m → Adds m o → TellsAll o
+adds-tells : (m : Machine) (o : Transition) → IsReady m → Adds m o → TellsAll o
 adds-tells m o ready adds = grind arith
 
 turned-tells : (m : Machine) → IsReady m → TellsAll (turned_of m)
 unfolding turned_of
 turned-tells m ready =
-    let o1 : Outcome = start_recovery m in
-    let o2 : Outcome = and_then o1 restart_writer in
-    let o3 : Outcome = and_then o2 end_smart in
-    let o4 : Outcome = and_then o3 stop_backends in
-    let o5 : Outcome = and_then o4 backends_gone in
-    let o6 : Outcome = and_then o5 dead_ends_gone in
+    let o1 : Transition = start_recovery m in
+    let o2 : Transition = and_then o1 restart_writer in
+    let o3 : Transition = and_then o2 end_smart in
+    let o4 : Transition = and_then o3 stop_backends in
+    let o5 : Transition = and_then o4 backends_gone in
+    let o6 : Transition = and_then o5 dead_ends_gone in
     let begun = start_recovery-quiet m ready in
     let q2 : IsQuiet o2.after = restart_writer-quiet o1.after begun.0 in
     let q3 : IsQuiet o3.after = end_smart-quiet o2.after q2 in
@@ -202,7 +211,7 @@ turned-tells m ready =
 less_one-ready : (k : Kind) (m : Machine) → IsReady m → IsReady (less_one k m)
 less_one-ready k m ready = grind arith
 
-calm-tells : (m : Machine) → IsReady m → TellsAll (outcome [] m)
+calm-tells : (m : Machine) → IsReady m → TellsAll (transition [] m)
 calm-tells m ready = grind arith
 
 checkpointer-tells : (cls : Class) (m : Machine) (exit : Exit) → IsReady m → TellsAll (checkpointer_exited cls m exit)
@@ -230,7 +239,7 @@ exited-tells m kind.Worker exit was_active ready = other-tells kind.Worker m exi
 exited-tells m kind.Backend exit was_active ready = other-tells kind.Backend m exit was_active ready
 exited-tells m kind.DeadEnd exit was_active ready = other-tells kind.DeadEnd m exit was_active ready
 
-pub step-tells : (m : Machine) (event : Event) → is_report event ≡ false → IsReady m → TellsAll (step m event)
+pub step-tells : (m : Machine) (event : MachineEvent) → is_report event ≡ false → IsReady m → TellsAll (step m event)
 step-tells m Accepted other ready = grind arith
 step-tells m (Started k) other ready = absurd cc
 step-tells m (Exited pid k status was_active now) other ready =

@@ -4,29 +4,30 @@ use Rattle.pm_supervisor.specs.declared.Limits.{Limits}
 use Rattle.pm_supervisor.specs.Phase.{Phase}
 use Rattle.pm_supervisor.specs.Phase as phase
 use Rattle.pm_supervisor.specs.Supervisor.{Supervisor}
-use Rattle.pm_supervisor.specs.Steps.{Event, History, IsRun, all_happened, happened}
+use Rattle.pm_supervisor.specs.Steps.{SupervisorEvent, Trace, IsRun, all_happened, happened}
 use Rattle.pm_state.specs.declared.machine.Machine.{Machine}
-use Rattle.pm_state.specs.Turn.{start_recovery, restart_writer, end_smart, stop_backends, backends_gone, dead_ends_gone, children_gone, turned_of}
+use Rattle.pm_state.specs.TurnRules.{start_recovery, restart_writer, end_smart, stop_backends, backends_gone, dead_ends_gone, children_gone, turned_of}
 use Rattle.pm_state.specs.Shows.{phase_of, move_of, order_of, events_of, events_of_turn}
-use Rattle.pm_state.proofs.Facts.{Facts, nobody}
+use Rattle.pm_state.specs.Facts.{Facts}
+use Rattle.pm_state.proofs.Facts.{nobody}
 use Rattle.pm_state.proofs.Rules.{start_recovery-ended, start_recovery-run, start_recovery-facts, restart_writer-ended, restart_writer-facts, end_smart-ended, end_smart-run, end_smart-facts, stop_backends-ended, stop_backends-facts, backends_gone-ended, backends_gone-run, backends_gone-facts, dead_ends_gone-ended, dead_ends_gone-run, dead_ends_gone-facts}
 
-pub IsRun-append : (limits : Limits) (h : History) (xs ys : List Event) → IsRun limits h xs → IsRun limits (all_happened h xs) ys
+pub IsRun-append : (limits : Limits) (h : Trace) (xs ys : List SupervisorEvent) → IsRun limits h xs → IsRun limits (all_happened h xs) ys
     → IsRun limits h (xs ++ ys)
 IsRun-append limits h [] ys r s = s
 IsRun-append limits h (x ∷ xs) ys r s = (r.0, IsRun-append limits (happened h x) xs ys r.1 s)
 
-pub all_happened-append : (h : History) (xs ys : List Event) → all_happened h (xs ++ ys) ≡ all_happened (all_happened h xs) ys
+pub all_happened-append : (h : Trace) (xs ys : List SupervisorEvent) → all_happened h (xs ++ ys) ≡ all_happened (all_happened h xs) ys
 all_happened-append h [] ys = refl
 all_happened-append h (x ∷ xs) ys = all_happened-append (happened h x) xs ys
 
 -- these events are a run, after which the machine is this one
-pub record Leads (limits : Limits) (h : History) (events : List Event) (m : Machine) : Type 0 where
+pub record Leads (limits : Limits) (h : Trace) (events : List SupervisorEvent) (m : Machine) : Type 0 where
   pub run : IsRun limits h events
   pub facts : Facts limits m (all_happened h events).now
 
-pub Leads-append : (limits : Limits) (h : History) (xs ys : List Event) (m n : Machine) → Leads limits h xs m
-    → ((g : History) → Facts limits m g.now → Leads limits g ys n) → Leads limits h (xs ++ ys) n
+pub Leads-append : (limits : Limits) (h : Trace) (xs ys : List SupervisorEvent) (m n : Machine) → Leads limits h xs m
+    → ((g : Trace) → Facts limits m g.now → Leads limits g ys n) → Leads limits h (xs ++ ys) n
 Leads-append limits h xs ys m n first then_ =
     let second : Leads limits (all_happened h xs) ys n = then_ (all_happened h xs) first.facts in
     record {
@@ -45,7 +46,7 @@ same_phase phase.Clearing q e = grind arith
 same_phase phase.Clear q e = grind arith
 same_phase phase.Ended q e = grind arith
 
-moved : (h : History) (p q : Phase) → h.now.phase ≡ p → (all_happened h (move_of p q)).now ≡ record h.now { phase = q }
+moved : (h : Trace) (p q : Phase) → h.now.phase ≡ p → (all_happened h (move_of p q)).now ≡ record h.now { phase = q }
 moved h p q is =
     elim (nat_eq (order_of p) (order_of q)) as
     (λ v. (nat_eq (order_of p) (order_of q) ≡ v) → (all_happened h (cond v [] (Rattle.pm_supervisor.specs.Steps.Move q ∷ []))).now ≡ record h.now { phase = q }) [
@@ -55,21 +56,47 @@ moved h p q is =
     refl
 
 -- a rule that moves the phase alone
-ruled : (limits : Limits) (h : History) (m n : Machine) → Facts limits m h.now
+ruled : (limits : Limits) (h : Trace) (m n : Machine) → Facts limits m h.now
     → IsRun limits h (move_of (phase_of m) (phase_of n)) → Facts limits n (record h.now { phase = phase_of n })
     → Leads limits h (move_of (phase_of m) (phase_of n)) n
 ruled limits h m n before run facts =
     record { run = run; facts = rw (moved h (phase_of m) (phase_of n) before.shows.phase) facts }
 
-children_gone-run : (limits : Limits) (m : Machine) (h : History) → m.ended ≡ false → Facts limits m h.now
+children_gone-run : (limits : Limits) (m : Machine) (h : Trace) → m.ended ≡ false → Facts limits m h.now
     → IsRun limits h (events_of (children_gone m).acts)
 unfolding children_gone
 children_gone-run limits m h goes_on facts = grind (arith, nobody h.now.shared.children)
 
-children_gone-facts : (limits : Limits) (m : Machine) (h : History) → m.ended ≡ false → Facts limits m h.now
+children_gone-facts : (limits : Limits) (m : Machine) (h : Trace) → m.ended ≡ false → Facts limits m h.now
     → Facts limits (children_gone m).after (all_happened h (events_of (children_gone m).acts)).now
 unfolding children_gone
-children_gone-facts limits m h goes_on facts = grind arith
+children_gone-facts limits m h goes_on facts =
+    record {
+      same_limits = grind arith;
+      shows = record {
+        phase = grind arith;
+        crash = grind arith;
+        request = grind arith;
+        sessions = grind arith;
+        dead_ends = grind arith;
+        startup = grind arith;
+        checkpointer = grind arith;
+        writer = grind arith;
+      };
+      in_state = grind arith;
+      alone = grind arith;
+      told = grind arith;
+      stop = grind arith;
+      crash = grind arith;
+      starts = grind arith;
+      there = grind arith;
+      aborts = grind arith;
+      opened = grind arith;
+      closed = grind arith;
+      noticed = grind arith;
+      recovers = grind arith;
+      checkpoints = grind arith;
+    }
 
 restart_writer-phase : (m : Machine) → phase_of (restart_writer m).after ≡ phase_of m
 unfolding restart_writer
@@ -87,12 +114,12 @@ unmoved limits s m n is same facts =
     let P : Phase → Type 0 = λ p. Facts limits n (record s { phase = p }) in
     subst P e facts
 
-first_rule : (limits : Limits) (h : History) (m : Machine) → m.ended ≡ false → Facts limits m h.now
+first_rule : (limits : Limits) (h : Trace) (m : Machine) → m.ended ≡ false → Facts limits m h.now
     → Leads limits h (move_of (phase_of m) (phase_of (start_recovery m).after)) (start_recovery m).after
 first_rule limits h m goes_on facts =
     ruled limits h m (start_recovery m).after facts (start_recovery-run limits m h goes_on facts) (start_recovery-facts limits m h.now facts)
 
-running_rules : (limits : Limits) (h : History) (m : Machine) → m.ended ≡ false → Facts limits m h.now
+running_rules : (limits : Limits) (h : Trace) (m : Machine) → m.ended ≡ false → Facts limits m h.now
     → Leads limits h (move_of (phase_of m) (phase_of (end_smart (restart_writer m).after).after)) (end_smart (restart_writer m).after).after
 running_rules limits h m goes_on facts =
     let n : Machine = (restart_writer m).after in
@@ -102,7 +129,7 @@ running_rules limits h m goes_on facts =
     subst (λ p. Leads limits h (move_of p (phase_of (end_smart n).after)) (end_smart n).after) same
     (ruled limits h n (end_smart n).after known (end_smart-run limits n h still known) (end_smart-facts limits n h.now known))
 
-stopping_rules : (limits : Limits) (h : History) (m : Machine) → m.ended ≡ false → Facts limits m h.now
+stopping_rules : (limits : Limits) (h : Trace) (m : Machine) → m.ended ≡ false → Facts limits m h.now
     → Leads limits h (move_of (phase_of m) (phase_of (backends_gone (stop_backends m).after).after)) (backends_gone (stop_backends m).after).after
 stopping_rules limits h m goes_on facts =
     let n : Machine = (stop_backends m).after in
@@ -112,17 +139,17 @@ stopping_rules limits h m goes_on facts =
     subst (λ p. Leads limits h (move_of p (phase_of (backends_gone n).after)) (backends_gone n).after) same
     (ruled limits h n (backends_gone n).after known (backends_gone-run limits n h still known) (backends_gone-facts limits n h.now known))
 
-clearing_rule : (limits : Limits) (h : History) (m : Machine) → m.ended ≡ false → Facts limits m h.now
+clearing_rule : (limits : Limits) (h : Trace) (m : Machine) → m.ended ≡ false → Facts limits m h.now
     → Leads limits h (move_of (phase_of m) (phase_of (dead_ends_gone m).after)) (dead_ends_gone m).after
 clearing_rule limits h m goes_on facts =
     ruled limits h m (dead_ends_gone m).after facts (dead_ends_gone-run limits m h goes_on facts) (dead_ends_gone-facts limits m h.now facts)
 
-last_rule : (limits : Limits) (h : History) (m : Machine) → m.ended ≡ false → Facts limits m h.now
+last_rule : (limits : Limits) (h : Trace) (m : Machine) → m.ended ≡ false → Facts limits m h.now
     → Leads limits h (events_of (children_gone m).acts) (children_gone m).after
 last_rule limits h m goes_on facts =
     record { run = children_gone-run limits m h goes_on facts; facts = children_gone-facts limits m h goes_on facts }
 
-pub turned : (limits : Limits) (h : History) (m : Machine) → m.ended ≡ false → Facts limits m h.now
+pub turned : (limits : Limits) (h : Trace) (m : Machine) → m.ended ≡ false → Facts limits m h.now
     → Leads limits h (events_of_turn m) (turned_of m).after
 unfolding turned_of
 turned limits h m goes_on facts =

@@ -19,7 +19,7 @@ use Rattle.pm_state.specs.declared.machine.StartupStatus.{StartupStatus}
 use Rattle.pm_state.specs.declared.machine.StartupStatus.TheVariants as startup
 use Rattle.pm_state.specs.declared.machine.Machine.{Machine}
 use Rattle.pm_state.specs.declared.machine.Exit.{Exit}
-use Rattle.pm_state.specs.Outcome.{Outcome, outcome}
+use Rattle.pm_state.specs.Transition.{Transition, transition}
 
 -- the startup child, once it was told to end at once
 abbrev pub signalled_of : StartupStatus → StartupStatus
@@ -43,7 +43,7 @@ abbrev pub exit_line : Exit → Line
 exit_line exit = line.ChildExit exit.pid exit.kind exit.status
 
 -- what a crash does. Only the first one is told of, and none in an immediate shutdown
-unfoldable pub crash_rule : Machine → Exit → Outcome
+unfoldable pub crash_rule : Machine → Exit → Transition
 crash_rule m exit =
     let immediate = is_immediate m.shutdown in
     let takes = not m.fatal && not immediate in
@@ -61,8 +61,8 @@ crash_rule m exit =
     }
 
 -- crash_rule, unless the end of the child was a normal one
-abbrev pub unless_normal : Class → Machine → Exit → Outcome
-unless_normal class.Normal m exit = outcome [] m
+abbrev pub unless_normal : Class → Machine → Exit → Transition
+unless_normal class.Normal m exit = transition [] m
 unless_normal class.Crash m exit = crash_rule m exit
 unless_normal class.StartupFailed m exit = crash_rule m exit
 
@@ -85,9 +85,9 @@ is_running startup.Running = true
 is_running _ = false
 
 -- the data are up to date: connections are served
-abbrev pub redo_ended : Machine → Outcome
+abbrev pub redo_ended : Machine → Transition
 redo_ended m =
-    outcome
+    transition
     (act.Ready ∷ act.Start kind.Checkpointer ∷ act.Start kind.Writer ∷ act.Say line.Ready ∷ [])
     (record (without_startup m state.Run) {
       fatal = false;
@@ -98,13 +98,13 @@ redo_ended m =
     })
 
 -- the end of the startup child: the first line that fits
-unfoldable pub startup_exited : Machine → Exit → Outcome
+unfoldable pub startup_exited : Machine → Exit → Transition
 startup_exited m exit =
     if is_some m.shutdown && (is_exit_0 exit.status || is_exit_1 exit.status)
-    then outcome [] (without_startup m (waiting_state m.state))
+    then transition [] (without_startup m (waiting_state m.state))
     else if is_exit_0 exit.status then redo_ended m
     else if is_startup m.state && is_running m.startup
-    then outcome
+    then transition
     (act.Say (exit_line exit) ∷ act.Say line.AbortingStartup ∷ act.End ending.StartupFailed ∷ [])
     (record (without_startup m m.state) { ended = true })
     else crash_rule (without_startup m (signalled_state m.state)) exit
@@ -114,8 +114,8 @@ is_shutdown state.Shutdown = true
 is_shutdown _ = false
 
 -- the end of the checkpointer, by its class
-abbrev pub checkpointer_exited : Class → Machine → Exit → Outcome
-checkpointer_exited class.Normal m exit = outcome [] (record m { state = state.WaitDeadEnd })
+abbrev pub checkpointer_exited : Class → Machine → Exit → Transition
+checkpointer_exited class.Normal m exit = transition [] (record m { state = state.WaitDeadEnd })
 checkpointer_exited class.Crash m exit = crash_rule m exit
 checkpointer_exited class.StartupFailed m exit = crash_rule m exit
 
@@ -129,7 +129,7 @@ less_one kind.Backend m = record m { children = m.children - 1 }
 less_one kind.DeadEnd m = record m { dead_ends = m.dead_ends - 1 }
 
 -- the end of a child, by its kind
-abbrev pub exited_by : Kind → Machine → Exit → Bool → Outcome
+abbrev pub exited_by : Kind → Machine → Exit → Bool → Transition
 exited_by kind.Startup m exit was_active = startup_exited m exit
 exited_by kind.Checkpointer m exit was_active =
     checkpointer_exited (class_of kind.Checkpointer (is_shutdown m.state) was_active exit.status) (less_one kind.Checkpointer m) exit

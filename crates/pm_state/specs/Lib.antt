@@ -1,8 +1,14 @@
-pub mod Outcome
+pub mod Transition
 pub mod Exits
 pub mod Requests
-pub mod Turn
+pub mod TurnRules
 pub mod Machine
 pub mod Shows
+pub mod Facts
+pub mod Known
+pub mod Promises
+pub mod Journal
 pub mod Text
 pub mod Starts
+pub mod InStep
+pub mod Laws

@@ -15,10 +15,10 @@ use Rattle.pm_admit.specs.Admission.{decide_of}
 use Rattle.pm_supervisor.specs.declared.Limits.{Limits}
 use Rattle.pm_state.specs.declared.machine.StartupStatus.TheVariants as startup
 use Rattle.pm_state.specs.declared.machine.Machine.{Machine}
-use Rattle.pm_state.specs.Outcome.{Outcome, outcome}
+use Rattle.pm_state.specs.Transition.{Transition, transition}
 use Rattle.pm_state.specs.Exits.{exited_by}
 use Rattle.pm_state.specs.Requests.{asked_with, ticked_at}
-use Rattle.pm_state.specs.Turn.{turned_of}
+use Rattle.pm_state.specs.TurnRules.{turned_of}
 
 -- what the decision on a connection looks at
 abbrev pub view_of : Machine → View
@@ -45,18 +45,18 @@ started_as kind.Writer m = record m { writer_due = false; writer = true }
 started_as _ m = m
 
 -- what can happen
-pub data Event : Type 0 where
-  Accepted : Event
-  Started : (kind : Kind) → Event
-  Exited : (pid : ℕ) → (kind : Kind) → (status : Status) → (was_active : Bool) → (now : ℕ) → Event
-  Asked : (mode : Mode) → (now : ℕ) → Event
-  Ticked : (now : ℕ) → Event
-  Turned : Event
+pub data MachineEvent : Type 0 where
+  Accepted : MachineEvent
+  Started : (kind : Kind) → MachineEvent
+  Exited : (pid : ℕ) → (kind : Kind) → (status : Status) → (was_active : Bool) → (now : ℕ) → MachineEvent
+  Asked : (mode : Mode) → (now : ℕ) → MachineEvent
+  Ticked : (now : ℕ) → MachineEvent
+  Turned : MachineEvent
 
 -- the machine: what an event leaves, and what is to be done, in order
-abbrev pub step : Machine → Event → Outcome
-step m Accepted = outcome [] (accepted_as (decide_of (view_of m)) m)
-step m (Started kind) = outcome [] (started_as kind m)
+abbrev pub step : Machine → MachineEvent → Transition
+step m Accepted = transition [] (accepted_as (decide_of (view_of m)) m)
+step m (Started kind) = transition [] (started_as kind m)
 step m (Exited pid kind status was_active now) =
     exited_by kind m (record { pid = pid; kind = kind; status = status; now = now }) was_active
 step m (Asked mode now) = asked_with (strengthen_of m.shutdown mode) m now

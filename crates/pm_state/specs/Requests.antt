@@ -9,32 +9,32 @@ use Rattle.pm_supervisor.specs.declared.Reason.TheVariants as reason
 use Rattle.pm_state.specs.declared.action.Action.TheVariants as act
 use Rattle.pm_state.specs.declared.action.Line.TheVariants as line
 use Rattle.pm_state.specs.declared.machine.Machine.{Machine}
-use Rattle.pm_state.specs.Outcome.{Outcome, outcome}
+use Rattle.pm_state.specs.Transition.{Transition, transition}
 use Rattle.pm_state.specs.Exits.{signalled_of}
 
 -- a shutdown request that is stronger than what stood, by its mode and the state that it meets
-abbrev pub asked_in : Mode → PmState → Machine → ℕ → Outcome
-asked_in mode.Smart state.Run m now = outcome (act.Say line.Smart ∷ []) (record m { conns = false })
-asked_in mode.Smart state.Startup m now = outcome (act.Say line.Smart ∷ []) (record m { state = state.StopBackends })
-asked_in mode.Smart _ m now = outcome (act.Say line.Smart ∷ []) m
-asked_in mode.Fast state.Startup m now = outcome (act.Say line.Fast ∷ []) (record m { state = state.StopBackends })
+abbrev pub asked_in : Mode → PmState → Machine → ℕ → Transition
+asked_in mode.Smart state.Run m now = transition (act.Say line.Smart ∷ []) (record m { conns = false })
+asked_in mode.Smart state.Startup m now = transition (act.Say line.Smart ∷ []) (record m { state = state.StopBackends })
+asked_in mode.Smart _ m now = transition (act.Say line.Smart ∷ []) m
+asked_in mode.Fast state.Startup m now = transition (act.Say line.Fast ∷ []) (record m { state = state.StopBackends })
 asked_in mode.Fast state.Run m now =
-    outcome (act.Say line.Fast ∷ act.Say line.AbortingTransactions ∷ []) (record m { state = state.StopBackends })
-asked_in mode.Fast _ m now = outcome (act.Say line.Fast ∷ []) m
+    transition (act.Say line.Fast ∷ act.Say line.AbortingTransactions ∷ []) (record m { state = state.StopBackends })
+asked_in mode.Fast _ m now = transition (act.Say line.Fast ∷ []) m
 asked_in mode.Immediate _ m now =
-    outcome
+    transition
     (act.Say line.Immediate ∷ act.Quit reason.Stop ∷ [])
     (record m { state = state.WaitBackends; abort_at = Some now; startup = signalled_of m.startup })
 
 -- the request takes the place of the one that stood
-abbrev pub asked_with : Option Mode → Machine → ℕ → Outcome
-asked_with None m now = outcome [] m
+abbrev pub asked_with : Option Mode → Machine → ℕ → Transition
+asked_with None m now = transition [] m
 asked_with (Some mode) m now = asked_in mode m.state (record m { shutdown = Some mode }) now
 
 -- five seconds after every child was told to end at once, what is left is killed
-abbrev pub ticked_at : Option ℕ → Machine → ℕ → Outcome
-ticked_at None m now = outcome [] m
+abbrev pub ticked_at : Option ℕ → Machine → ℕ → Transition
+ticked_at None m now = transition [] m
 ticked_at (Some since) m now =
     if nat_le (since + 5000) now && (m.fatal || is_immediate m.shutdown)
-    then outcome (act.KillAll ∷ []) (record m { abort_at = None })
-    else outcome [] m
+    then transition (act.KillAll ∷ []) (record m { abort_at = None })
+    else transition [] m

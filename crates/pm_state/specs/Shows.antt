@@ -14,14 +14,14 @@ use Rattle.pm_supervisor.specs.Children.{is_session, is_startup_child, is_checkp
 use Rattle.pm_supervisor.specs.Phase.{Phase}
 use Rattle.pm_supervisor.specs.Phase as phase
 use Rattle.pm_supervisor.specs.Supervisor.{Supervisor}
-use Rattle.pm_supervisor.specs.Steps.{History, SharedAllows, is_normal, beginning, all_happened, IsRun}
+use Rattle.pm_supervisor.specs.Steps.{Trace, SharedAllows, is_normal, empty_trace, all_happened, IsRun}
 use Rattle.pm_supervisor.specs.Steps as supervisor
 use Rattle.pm_state.specs.declared.action.Action.{Action}
 use Rattle.pm_state.specs.declared.action.Action.TheVariants as act
 use Rattle.pm_state.specs.declared.machine.Machine.{Machine}
 use Rattle.pm_state.specs.Exits.{is_shutdown}
 use Rattle.pm_state.specs.Machine.{Accepted, Started, Exited, Asked, Ticked, Turned, step, view_of, IsReady, IsDue, MayAccept}
-use Rattle.pm_state.specs.Turn.{is_not_running, start_recovery, restart_writer, end_smart, stop_backends, backends_gone, dead_ends_gone, children_gone}
+use Rattle.pm_state.specs.TurnRules.{is_not_running, start_recovery, restart_writer, end_smart, stop_backends, backends_gone, dead_ends_gone, children_gone}
 
 -- the phase that a state shows
 abbrev pub phase_in : PmState → Bool → Phase
@@ -57,7 +57,7 @@ pub data Call : Type 0 where
   Exits : (pid : ℕ) → (kind : Kind) → (status : Status) → (was_active : Bool) → (now : ℕ) → Call
   Asks : (mode : Mode) → (now : ℕ) → Call
   Ticks : (now : ℕ) → Call
-  Turns : Call
+  TakesTurn : Call
   Attaches : (pid : ℕ) → Call
   Touches : (pid : ℕ) → Call
   Detaches : (pid : ℕ) → Call
@@ -69,11 +69,11 @@ machine_after m (Starts pid kind) = (step m (Started kind)).after
 machine_after m (Exits pid kind status was_active now) = (step m (Exited pid kind status was_active now)).after
 machine_after m (Asks mode now) = (step m (Asked mode now)).after
 machine_after m (Ticks now) = (step m (Ticked now)).after
-machine_after m Turns = (step m Turned).after
+machine_after m TakesTurn = (step m Turned).after
 machine_after m _ = m
 
 -- the supervisor's events that the machine's actions stand for. The others change nothing that is seen from outside
-abbrev pub events_of : List Action → List supervisor.Event
+abbrev pub events_of : List Action → List supervisor.SupervisorEvent
 events_of [] = []
 events_of (act.Quit why ∷ acts) = supervisor.Notice why ∷ events_of acts
 events_of (act.Reset ∷ acts) = supervisor.Reset ∷ events_of acts
@@ -81,14 +81,14 @@ events_of (act.End how ∷ acts) = supervisor.End how ∷ events_of acts
 events_of (_ ∷ acts) = events_of acts
 
 -- what the end of a child means at once: the end of redo, or of the last checkpoint
-abbrev pub events_of_exit : Machine → Kind → Status → Bool → List supervisor.Event
+abbrev pub events_of_exit : Machine → Kind → Status → Bool → List supervisor.SupervisorEvent
 events_of_exit m kind.Startup status was_active =
     if is_exit_0 status then supervisor.RedoEnded (is_none m.shutdown) ∷ [] else []
 events_of_exit m kind.Checkpointer status was_active =
     if is_normal (class_of kind.Checkpointer (is_shutdown m.state) was_active status) then supervisor.Checkpointed ∷ [] else []
 events_of_exit m _ status was_active = []
 
-abbrev pub events_of_request : Option Mode → List supervisor.Event
+abbrev pub events_of_request : Option Mode → List supervisor.SupervisorEvent
 events_of_request None = []
 events_of_request (Some mode) = supervisor.Ask mode ∷ []
 
@@ -105,10 +105,10 @@ order_of phase.Clear = 7
 order_of phase.Ended = 8
 
 -- a rule of a turn moves the phase alone, if it does
-abbrev pub move_of : Phase → Phase → List supervisor.Event
+abbrev pub move_of : Phase → Phase → List supervisor.SupervisorEvent
 move_of before after = if order_of before == order_of after then [] else supervisor.Move after ∷ []
 
-abbrev pub events_of_turn : Machine → List supervisor.Event
+abbrev pub events_of_turn : Machine → List supervisor.SupervisorEvent
 events_of_turn m =
     let starting = (start_recovery m).after in
     let serving = (end_smart (restart_writer starting).after).after in
@@ -121,7 +121,7 @@ events_of_turn m =
     ++ events_of (children_gone clearing).acts)))
 
 -- the supervisor's events in a call, in their order
-abbrev pub events_of_call : Machine → Call → List supervisor.Event
+abbrev pub events_of_call : Machine → Call → List supervisor.SupervisorEvent
 events_of_call m (Accepts pid) = supervisor.Accept pid (decide_of (view_of m)) ∷ []
 events_of_call m (Starts pid kind) = supervisor.Start pid kind ∷ []
 events_of_call m (Exits pid kind status was_active now) =
@@ -130,27 +130,27 @@ events_of_call m (Exits pid kind status was_active now) =
 events_of_call m (Asks mode now) =
     events_of_request (strengthen_of m.shutdown mode) ++ events_of (step m (Asked mode now)).acts
 events_of_call m (Ticks now) = events_of (step m (Ticked now)).acts
-events_of_call m Turns = events_of_turn m
+events_of_call m TakesTurn = events_of_turn m
 events_of_call m (Attaches pid) = supervisor.Attach pid ∷ []
 events_of_call m (Touches pid) = supervisor.Touch pid ∷ []
 events_of_call m (Detaches pid) = supervisor.Detach pid ∷ []
 
 -- where a call may be made: its own conditions, with pids that rise and an end of a child that is there; and where a child
 -- may take a step
-abbrev pub IsFit : Limits → Machine → History → Call → Type 0
+abbrev pub IsFit : Limits → Machine → Trace → Call → Type 0
 IsFit limits m h (Accepts pid) = MayAccept m × IsReady m × (h.now.shared.last_pid < pid)
 IsFit limits m h (Starts pid kind) = (m.ended ≡ false) × IsDue m kind × (h.now.shared.last_pid < pid)
 IsFit limits m h (Exits pid kind status was_active now) =
     IsReady m × IsSomeAnd (child_of pid h.now.shared.children) (λ c. c.kind ≡ kind)
 IsFit limits m h (Asks mode now) = IsReady m
 IsFit limits m h (Ticks now) = IsReady m
-IsFit limits m h Turns = IsReady m
-IsFit limits m h (Attaches pid) = SharedAllows limits h.past h.now.shared (supervisor.Attach pid)
-IsFit limits m h (Touches pid) = SharedAllows limits h.past h.now.shared (supervisor.Touch pid)
-IsFit limits m h (Detaches pid) = SharedAllows limits h.past h.now.shared (supervisor.Detach pid)
+IsFit limits m h TakesTurn = IsReady m
+IsFit limits m h (Attaches pid) = (m.ended ≡ false) × SharedAllows limits h.past h.now.shared (supervisor.Attach pid)
+IsFit limits m h (Touches pid) = (m.ended ≡ false) × SharedAllows limits h.past h.now.shared (supervisor.Touch pid)
+IsFit limits m h (Detaches pid) = (m.ended ≡ false) × SharedAllows limits h.past h.now.shared (supervisor.Detach pid)
 
 -- each call of the list is made where it may be
-abbrev pub AreFit : Limits → Machine → History → List Call → Type 0
+abbrev pub AreFit : Limits → Machine → Trace → List Call → Type 0
 AreFit limits m h [] = Unit {0}
 AreFit limits m h (call ∷ calls) =
     IsFit limits m h call × AreFit limits (machine_after m call) (all_happened h (events_of_call m call)) calls
@@ -161,6 +161,6 @@ machine_at_end m [] = m
 machine_at_end m (call ∷ calls) = machine_at_end (machine_after m call) calls
 
 -- the supervisor's events in all of them
-abbrev pub events_in : Machine → List Call → List supervisor.Event
+abbrev pub events_in : Machine → List Call → List supervisor.SupervisorEvent
 events_in m [] = []
 events_in m (call ∷ calls) = events_of_call m call ++ events_in (machine_after m call) calls

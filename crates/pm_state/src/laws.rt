@@ -1,32 +1,56 @@
-//! What holds of every list of events.
+//! What holds of every list of calls. Each law is stated in `specs/Laws`, and carried by the function of its name.
 
-ghost use Rattle.std.specs.Prelude.{◌≡◌, ℕ, false, List, IsSomeAnd};
-ghost use Rattle.pm_exit.specs.declared.child.Kind.{Kind};
-ghost use Rattle.pm_admit.specs.Admission.{decide_of};
-ghost use Rattle.pm_supervisor.specs.declared.Limits.{Limits};
-ghost use Rattle.pm_supervisor.specs.Children.{child_of};
-ghost use Rattle.pm_supervisor.specs.Invariant.{IsSound};
-ghost use Rattle.pm_supervisor.specs.Steps.{IsRun, all_happened, beginning, admission};
-ghost use Rattle.pm_state.specs.Machine.{Event, begun, step, view_of, IsReady, IsCounted, MayAccept};
-ghost use Rattle.pm_state.specs.declared.machine.Machine.{Machine};
-ghost use Rattle.pm_state.specs.Starts.{TellsAll, is_report};
-ghost use Rattle.pm_state.specs.Shows.{Call, Shows, AreFit, events_in, machine_at_end};
+ghost use Rattle.pm_state.specs.Laws.{ShowsASupervisor, KeepsItsFacts, TellsOfEachStart, WritesALegalJournal, StaysInStep, KeepsItsPromises};
+
+use pm_supervisor::{keeps_what_is_shared, stays_sound, stays_well, takes_child_steps_between};
 
 /// Whatever happens, in whatever order, as long as each call is made where it may be: what the machine does is a run of
 /// the supervisor, and after it the machine shows the supervisor that this run leaves, whose children and generation are
 /// sound. As this holds of every list, it holds at every moment of each.
 pub fn shows_a_supervisor()
-    ensures run { (limits : Limits) (calls : List Call) → AreFit limits (begun limits) beginning calls → IsRun limits beginning (events_in (begun limits) calls) }
-    ensures shown { (limits : Limits) (calls : List Call) → AreFit limits (begun limits) beginning calls → Shows (machine_at_end (begun limits) calls) (all_happened beginning (events_in (begun limits) calls)).now }
-    ensures sound { (limits : Limits) (calls : List Call) → AreFit limits (begun limits) beginning calls → IsSound (all_happened beginning (events_in (begun limits) calls)).past (all_happened beginning (events_in (begun limits) calls)).now.shared }
-    // The decision on a connection is the one that the supervisor's state asks for.
-    ensures decision { (limits : Limits) (calls : List Call) → AreFit limits (begun limits) beginning calls → MayAccept (machine_at_end (begun limits) calls) → decide_of (view_of (machine_at_end (begun limits) calls)) ≡ admission limits (all_happened beginning (events_in (begun limits) calls)).now }
-    // A child that is there is counted, so that its end may be told.
-    ensures counted { (limits : Limits) (calls : List Call) → AreFit limits (begun limits) beginning calls → (pid : ℕ) (kind : Kind) → IsSomeAnd (child_of pid (all_happened beginning (events_in (begun limits) calls)).now.shared.children) (λ c. c.kind ≡ kind) → IsCounted (machine_at_end (begun limits) calls) kind }
+    ensures { ShowsASupervisor }
+{
+    stays_sound();
+    stays_well();
+}
+
+/// One call at a time: what holds at the beginning, and what each call keeps. A call that may be made is a run of the
+/// supervisor, from any moment at which these facts hold, also with steps of children between its events.
+pub fn keeps_its_facts()
+    ensures { KeepsItsFacts }
+{
+    stays_well();
+    takes_child_steps_between();
+}
+
+/// The actions of a call are at most four. They tell of each start that is due after it, each once, and of the end of the
+/// server: so a caller that reports each start it does, as it does it, may make its next call, unless it was told that the
+/// server ends.
+pub fn tells_of_each_start()
+    ensures { TellsOfEachStart }
 {}
 
-/// The actions of a call tell of each start that is due after it, each once, and of the end of the server: so a caller that
-/// reports each start it does, as it does it, may make its next call, unless it was told that the server ends.
-pub fn tells_of_each_start()
-    ensures { (m : Machine) (event : Event) → is_report event ≡ false → IsReady m → TellsAll (step m event) }
+/// What the calls write, done and reported in their order, is a legal journal, from any place at which journal and machine
+/// agree: and behind it they agree again.
+pub fn writes_a_legal_journal()
+    ensures { WritesALegalJournal }
+{}
+
+/// Journal, machine and supervisor stay in step, one call of a server at a time: what the call writes is legal, its events
+/// and the starts that it asks for are a run of the supervisor, and behind them the journal leaves the machine and, but for
+/// who is attached, what the supervisor shares.
+pub fn stays_in_step()
+    ensures { StaysInStep }
+{
+    stays_well();
+    keeps_what_is_shared();
+    takes_child_steps_between();
+}
+
+/// What is told to end at once has five seconds: the moment is set by an abnormal exit and by an immediate request, stays
+/// until children are killed or none is left, and whoever is left five seconds after it is killed. Sessions that are to end
+/// are told to, and the last checkpoint is asked for where it is waited for. Connections are served behind a redo only
+/// after Ready.
+pub fn keeps_its_promises()
+    ensures { KeepsItsPromises }
 {}

@@ -36,7 +36,7 @@ impl Model for PmCore {
 
 impl PmCore {
     ghost use Rattle.pm_state.specs.Machine.{step, begun, view_of, IsReady, IsCounted, IsDue, MayAccept};
-    ghost use Rattle.pm_state.specs.Machine.Event.{Accepted, Started, Exited, Asked, Ticked, Turned};
+    ghost use Rattle.pm_state.specs.Machine.MachineEvent.{Accepted, Started, Exited, Asked, Ticked, Turned};
 
     /// The machine before anything happened.
     pub fn new(limits: Limits) -> Self
@@ -179,6 +179,3 @@ impl PmCore {
         }
     }
 }
-
-#[cfg(test)]
-mod tests;

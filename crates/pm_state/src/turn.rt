@@ -2,7 +2,7 @@
 
 ghost use Rattle.std.specs.Prelude.{◌≡◌, ◌+◌, ◌≤◌, ◌++◌, [], length};
 ghost use Rattle.pm_state.specs.Machine.{IsNotGrown};
-ghost use Rattle.pm_state.specs.Turn.{start_recovery, restart_writer, end_smart, stop_backends, backends_gone, dead_ends_gone, children_gone, are_backends_gone, startup_starts, turned_of};
+ghost use Rattle.pm_state.specs.TurnRules.{start_recovery, restart_writer, end_smart, stop_backends, backends_gone, dead_ends_gone, children_gone, are_backends_gone, startup_starts, turned_of};
 
 use crate::action::{Action, Actions, Line};
 use crate::machine::{Machine, StartupStatus};
@@ -12,7 +12,7 @@ use pm_supervisor::Ending;
 
 impl Machine {
     /// The rules of a turn.
-    #[tactic(auto, unfolding(crate::specs::Turn::turned_of))]
+    #[tactic(auto, unfolding(crate::specs::TurnRules::turned_of))]
     pub(crate) fn turn(&mut self) -> Actions
         ensures machine { self.new ≡ (turned_of self.old).after }
         ensures counts { IsNotGrown self.old self.new }
@@ -30,7 +30,7 @@ impl Machine {
     }
 
     /// The first turn starts the startup child.
-    #[tactic(auto, unfolding(crate::specs::Turn::start_recovery))]
+    #[tactic(auto, unfolding(crate::specs::TurnRules::start_recovery))]
     fn start_recovery(&mut self, acts: &mut Actions)
         requires { length acts.old ≤ 7 }
         ensures machine { self.new ≡ (start_recovery self.old).after }
@@ -54,7 +54,7 @@ impl Machine {
     }
 
     /// A writer that has ended is started again while connections are allowed.
-    #[tactic(auto, unfolding(crate::specs::Turn::restart_writer))]
+    #[tactic(auto, unfolding(crate::specs::TurnRules::restart_writer))]
     fn restart_writer(&mut self, acts: &mut Actions)
         requires { length acts.old ≤ 7 }
         ensures machine { self.new ≡ (restart_writer self.old).after }
@@ -69,7 +69,7 @@ impl Machine {
     }
 
     /// A smart shutdown goes on once the last session has ended.
-    #[tactic(auto, unfolding(crate::specs::Turn::end_smart))]
+    #[tactic(auto, unfolding(crate::specs::TurnRules::end_smart))]
     fn end_smart(&mut self)
         ensures machine { self.new ≡ (end_smart self.old).after }
         ensures counts { IsNotGrown self.old self.new }
@@ -81,7 +81,7 @@ impl Machine {
     }
 
     /// Sessions and background children are told to end.
-    #[tactic(auto, unfolding(crate::specs::Turn::stop_backends))]
+    #[tactic(auto, unfolding(crate::specs::TurnRules::stop_backends))]
     fn stop_backends(&mut self, acts: &mut Actions)
         requires { length acts.old ≤ 7 }
         ensures machine { self.new ≡ (stop_backends self.old).after }
@@ -103,7 +103,7 @@ impl Machine {
     }
 
     /// Once they have ended, the last checkpoint is written, unless shared state may be half changed.
-    #[tactic(auto, unfolding(crate::specs::Turn::backends_gone))]
+    #[tactic(auto, unfolding(crate::specs::TurnRules::backends_gone))]
     fn backends_gone(&mut self, acts: &mut Actions)
         requires { length acts.old ≤ 6 }
         ensures machine { self.new ≡ (backends_gone self.old).after }
@@ -129,7 +129,7 @@ impl Machine {
     }
 
     /// Once the last child has ended, none is left.
-    #[tactic(auto, unfolding(crate::specs::Turn::dead_ends_gone))]
+    #[tactic(auto, unfolding(crate::specs::TurnRules::dead_ends_gone))]
     fn dead_ends_gone(&mut self)
         ensures machine { self.new ≡ (dead_ends_gone self.old).after }
         ensures counts { IsNotGrown self.old self.new }
@@ -142,7 +142,7 @@ impl Machine {
     }
 
     /// With no child left the server ends, or begins its next generation.
-    #[tactic(auto, unfolding(crate::specs::Turn::children_gone))]
+    #[tactic(auto, unfolding(crate::specs::TurnRules::children_gone))]
     fn children_gone(&mut self, acts: &mut Actions)
         requires { length acts.old ≤ 5 }
         ensures machine { self.new ≡ (children_gone self.old).after }

@@ -1,8 +1,9 @@
 -- Facts about every child, as children are marked and taken away.
-use Rattle.std.proofs.Common.{ℕ, nat_eq, cond, Bool, true, false, List, [], ◌∷◌, Option, Some, None}
+use Rattle.std.proofs.Common.{◌≢◌, ℕ, nat_eq, cond, Bool, true, false, List, [], ◌∷◌, Option, Some, None}
 use Rattle.std.specs.Prelude.{IsSomeAnd}
 use Rattle.std.specs.List.{AllByRecursion}
 use Rattle.pm_supervisor.specs.Children.{Child, child_of, without, marked}
+use Rattle.pm_supervisor.specs.Shared.{PidsDiffer}
 
 -- from a fact about each to one that follows from it
 pub each_map : (P Q : Child → Type 0) → ((c : Child) → P c → Q c) → (cs : List Child) → AllByRecursion P cs → AllByRecursion Q cs
@@ -47,3 +48,19 @@ each-marked_any P pid b f (c ∷ cs) h =
 pub some_map : (P Q : Child → Type 0) → ((c : Child) → P c → Q c) → (o : Option Child) → IsSomeAnd o P → IsSomeAnd o Q
 some_map P Q f None h = h
 some_map P Q f (Some c) h = f c h
+
+pub differ-without : (pid : ℕ) (cs : List Child) → PidsDiffer cs → PidsDiffer (without pid cs)
+differ-without pid [] h = tt
+differ-without pid (c ∷ cs) h =
+    elim (nat_eq c.pid pid) as (λ v. PidsDiffer (cond v cs (c ∷ without pid cs))) [
+      | true ↦ h.1
+      | false ↦ (each-without _ pid cs h.0, differ-without pid cs h.1)
+    ]
+
+pub differ-marked : (pid : ℕ) (b : Bool) (cs : List Child) → PidsDiffer cs → PidsDiffer (marked pid b cs)
+differ-marked pid b [] h = tt
+differ-marked pid b (c ∷ cs) h =
+    elim (nat_eq c.pid pid) as (λ v. PidsDiffer (cond v (record c { attached = b } ∷ cs) (c ∷ marked pid b cs))) [
+      | true ↦ h
+      | false ↦ (each-marked_any (λ d. d.pid ≢ c.pid) pid b (λ d far. far) cs h.0, differ-marked pid b cs h.1)
+    ]

@@ -6,7 +6,7 @@ use Rattle.pm_supervisor.specs.Children.{is_startup_child}
 use Rattle.pm_supervisor.specs.Phase.{Phase}
 use Rattle.pm_supervisor.specs.Phase as phase
 use Rattle.pm_supervisor.specs.Supervisor.{Supervisor}
-use Rattle.pm_supervisor.specs.Steps.{Event, Accept, Start, Attach, Touch, Detach, Exit, Notice, Ask, Checkpointed, RedoEnded, Reset, End, Move, History, RestAllows, IsRun, happened, all_happened, after, admission, crashed_phase, is_crash, is_given_up}
+use Rattle.pm_supervisor.specs.Steps.{SupervisorEvent, Accept, Start, Attach, Touch, Detach, Exit, Notice, Ask, Checkpointed, RedoEnded, Reset, End, Move, Trace, RestAllows, IsRun, happened, all_happened, after, admission, crashed_phase, is_crash, is_given_up}
 use Rattle.pm_supervisor.specs.Invariant.{ServesWell}
 
 -- it still serves after the end of a child only where that was no crash
@@ -15,7 +15,7 @@ exit-running : (before : Phase) (crashed given_up startup : Bool)
     → (before ≡ phase.Running) × (crashed ≡ false)
 exit-running before crashed given_up startup running = grind arith
 
-step-serves : (limits : Limits) (s : Supervisor) (e : Event) → RestAllows limits s e → (s.phase ≡ phase.Running → ServesWell s)
+pub step-serves : (limits : Limits) (s : Supervisor) (e : SupervisorEvent) → RestAllows limits s e → (s.phase ≡ phase.Running → ServesWell s)
     → (after s e).phase ≡ phase.Running → ServesWell (after s e)
 step-serves limits s (Accept pid decision) may well running = grind (arith, well)
 step-serves limits s (Start pid k) may well running = grind (arith, well)
@@ -40,11 +40,11 @@ step-serves limits s Reset may well running = grind (arith, well)
 step-serves limits s (End how) may well running = grind (arith, well)
 step-serves limits s (Move to) may well running = grind (arith, well)
 
-pub run-serves : (limits : Limits) (h : History) (events : List Event) → IsRun limits h events → (h.now.phase ≡ phase.Running → ServesWell h.now)
+pub run-serves : (limits : Limits) (h : Trace) (events : List SupervisorEvent) → IsRun limits h events → (h.now.phase ≡ phase.Running → ServesWell h.now)
     → (all_happened h events).now.phase ≡ phase.Running → ServesWell (all_happened h events).now
 run-serves limits h [] run well = well
 run-serves limits h (e ∷ events) run well =
-    run-serves limits (happened h e) events run.1 (step-serves limits h.now e run.0.0 well)
+    run-serves limits (happened h e) events run.1 (step-serves limits h.now e run.0.rest well)
 
 pub admission-running : (limits : Limits) (s : Supervisor) → admission limits s ≡ cac.Ok → s.phase ≡ phase.Running
 admission-running limits s ok = grind arith

@@ -1,43 +1,30 @@
 -- What holds of the supervisor at every moment of a run.
-use Rattle.std.specs.Prelude.{◌≡◌, ◌≢◌, ℕ, ◌≤◌, Bool, true, false, List, [], ◌∷◌, None}
-use Rattle.std.specs.List.{AllByRecursion}
-use Rattle.pm_supervisor.specs.Children.{Child, is_session, is_dead_end}
+use Rattle.std.specs.Prelude.{◌≡◌, ◌≢◌, ℕ, Bool, true, false, not, ◌==◌, ◌||◌, List, [], ◌∷◌, None, is_some, IsSomeAnd}
+use Rattle.pm_modes.specs.Strength.{is_immediate}
+use Rattle.pm_admit.specs.declared.Cac.TheVariants.{Ok as Admitted}
+use Rattle.pm_supervisor.specs.declared.Reason.TheVariants as reason
+use Rattle.pm_supervisor.specs.Children.{is_session, is_startup_child, child_of, count_of}
+use Rattle.pm_supervisor.specs.Phase.{Phase}
+use Rattle.pm_supervisor.specs.Phase as phase
 use Rattle.pm_supervisor.specs.Supervisor.{Shared, Supervisor}
-use Rattle.pm_supervisor.specs.Steps.{Event, Moment, Once, RedoEnded}
+use Rattle.pm_supervisor.specs.Shared.{IsKept}
+use Rattle.pm_supervisor.specs.declared.Limits.{Limits}
+use Rattle.pm_supervisor.specs.Steps.{SupervisorEvent, Accept, Attach, Notice, PastEvent, Trace, Once, RedoEnded, Reset, Checkpointed, is_running, redo_has_ended}
 
--- no two children have one pid
-abbrev pub PidsDiffer : List Child → Type 0
-PidsDiffer [] = Unit {0}
-PidsDiffer (c ∷ cs) = AllByRecursion (λ d. d.pid ≢ c.pid) cs × PidsDiffer cs
-
-abbrev pub is_redo_ended : Event → Bool
+abbrev pub is_redo_ended : SupervisorEvent → Bool
 is_redo_ended (RedoEnded opens) = true
 is_redo_ended _ = false
 
 -- in this generation the data were brought up to date
-abbrev pub HasRecovered : ℕ → List Moment → Type 0
+abbrev pub HasRecovered : ℕ → List PastEvent → Type 0
 HasRecovered generation past =
     Once (λ m. (is_redo_ended m.event ≡ true) × (m.left.generation ≡ generation)) past
 
--- this generation was open at some moment
-abbrev pub HasOpened : ℕ → List Moment → Type 0
-HasOpened generation past =
-    Once (λ m. (m.left.is_open ≡ true) × (m.left.generation ≡ generation)) past
-
--- what is shared with the children is sound, after these moments
-pub record IsSound (past : List Moment) (s : Shared) : Type 0 where
-  pub pids_differ : PidsDiffer s.children
-  -- no pid is given twice
-  pub pids_rise : AllByRecursion (λ c. c.pid ≤ s.last_pid) s.children
-  -- no child of an earlier generation is left
-  pub generations : AllByRecursion (λ c. c.generation ≡ s.generation) s.children
+-- what is shared with the children is sound, after these events, where so many sessions may be attached
+pub record IsSound (limit : ℕ) (past : List PastEvent) (s : Shared) : Type 0 where
+  pub kept : IsKept limit s
   -- a generation is open only once its data are up to date
   pub open_after_redo : s.is_open ≡ true → HasRecovered s.generation past
-  -- a session is attached only in a generation that has been open
-  pub attached_after_open :
-      AllByRecursion (λ c. is_session c.kind ≡ true → c.attached ≡ true → HasOpened s.generation past) s.children
-  -- a child that refuses a connection is never attached
-  pub dead_ends_apart : AllByRecursion (λ c. is_dead_end c.kind ≡ true → c.attached ≡ false) s.children
 
 -- while connections are served, nothing stands against a session
 pub record ServesWell (s : Supervisor) : Type 0 where
@@ -45,3 +32,64 @@ pub record ServesWell (s : Supervisor) : Type 0 where
   pub no_request : s.request ≡ None
   pub none_told : s.shared.noticed ≡ None
   pub is_open : s.shared.is_open ≡ true
+
+-- a crash was noticed, and the data weren't up to date again since
+abbrev pub awaits_after : SupervisorEvent → Bool → Bool
+awaits_after (Notice reason.Crash) before = true
+awaits_after (RedoEnded true) before = false
+awaits_after _ before = before
+
+abbrev pub awaits_redo : List PastEvent → Bool
+awaits_redo [] = false
+awaits_redo (m ∷ ms) = awaits_after m.event (awaits_redo ms)
+
+-- redo has ended, and the generation is open
+abbrev pub is_opening : SupervisorEvent → Bool
+is_opening (RedoEnded true) = true
+is_opening _ = false
+
+abbrev pub is_reset : SupervisorEvent → Bool
+is_reset Reset = true
+is_reset _ = false
+
+-- an event that makes no session: no connection is decided to become one, and no session attaches
+abbrev pub AdmitsNone : Shared → SupervisorEvent → Type 0
+AdmitsNone s (Accept pid decision) = decision ≢ Admitted
+AdmitsNone s (Attach pid) = IsSomeAnd (child_of pid s.children) (λ c. is_session c.kind ≡ false)
+AdmitsNone s _ = Unit {0}
+
+-- the data of this generation aren't up to date yet
+abbrev pub is_before_redo : Phase → Bool
+is_before_redo phase.Init = true
+is_before_redo phase.Starting = true
+is_before_redo _ = false
+
+-- the last checkpoint was written in this generation
+abbrev pub checkpointed_after : SupervisorEvent → Bool → Bool
+checkpointed_after Checkpointed before = true
+checkpointed_after Reset before = false
+checkpointed_after _ before = before
+
+abbrev pub is_checkpointed : List PastEvent → Bool
+is_checkpointed [] = false
+is_checkpointed (m ∷ ms) = checkpointed_after m.event (is_checkpointed ms)
+
+-- only children that refuse a connection may be left, or none
+abbrev pub is_clearing : Phase → Bool
+is_clearing phase.Clearing = true
+is_clearing phase.Clear = true
+is_clearing _ = false
+
+-- what holds at every moment of a run
+pub record IsWell (limits : Limits) (h : Trace) : Type 0 where
+  pub sound : IsSound limits.max_connections h.past h.now.shared
+  pub serves : h.now.phase ≡ phase.Running → ServesWell h.now
+  -- redo ends once in a generation, and not while a startup child is there
+  pub before_redo : not (is_before_redo h.now.phase) || not (redo_has_ended h.past) ≡ true
+  pub startup_child : (count_of is_startup_child h.now.shared.children == 0) || not (redo_has_ended h.past) ≡ true
+  -- from the noticing of a crash until redo has ended nothing serves
+  pub not_running : not (awaits_redo h.past) || not (is_running h.now.phase) ≡ true
+  pub closed : not (awaits_redo h.past) || (is_some h.now.shared.noticed || not h.now.shared.is_open) ≡ true
+  -- with no crash and no immediate request the children are cleared only behind the last checkpoint
+  pub checkpointed :
+      not (is_clearing h.now.phase) || (h.now.crash || (is_immediate h.now.request || is_checkpointed h.past)) ≡ true

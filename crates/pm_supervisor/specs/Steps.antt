@@ -1,7 +1,7 @@
 -- What may happen to the supervisor, and what it leaves. A step has a condition and an effect on what is shared with the
 -- children, which the board of child slots meets too, and a condition and an effect on the rest.
 -- The manual: 19.5 "Shutting Down the Server", and 20.14 "Error Handling" for the restart after a crash.
-use Rattle.std.specs.Prelude.{◌≡◌, ◌≢◌, ℕ, ◌+◌, ◌*◌, ◌<◌, Bool, true, false, not, ◌&&◌, ◌||◌, if◌then◌else◌, nat_le, List, [], ◌∷◌, Some, None, is_some, is_none, IsSomeAnd, ◌⊎◌}
+use Rattle.std.specs.Prelude.{◌≡◌, ◌≢◌, ℕ, ◌+◌, ◌*◌, Bool, true, false, not, ◌==◌, ◌&&◌, ◌||◌, if◌then◌else◌, nat_le, List, [], ◌∷◌, Option, Some, None, is_some, is_none, ◌⊎◌}
 use Rattle.pm_exit.specs.declared.child.Status.{Status}
 use Rattle.pm_exit.specs.declared.child.Kind.{Kind}
 use Rattle.pm_exit.specs.declared.child.Kind.TheVariants as kind
@@ -18,60 +18,81 @@ use Rattle.pm_supervisor.specs.declared.Reason.{Reason}
 use Rattle.pm_supervisor.specs.declared.Reason.TheVariants as reason
 use Rattle.pm_supervisor.specs.declared.Ending.{Ending}
 use Rattle.pm_supervisor.specs.declared.Ending.TheVariants as ending
-use Rattle.pm_supervisor.specs.Children.{Child, is_session, is_startup_child, is_checkpointer, is_writer, is_dead_end, child_of, without, marked, count_of, attached_sessions}
+use Rattle.pm_supervisor.specs.Children.{Child, is_session, is_startup_child, is_checkpointer, is_writer, count_of, attached_sessions}
 use Rattle.pm_supervisor.specs.Phase.{Phase}
 use Rattle.pm_supervisor.specs.Phase as phase
 use Rattle.pm_supervisor.specs.Supervisor.{Shared, Supervisor, first}
+use Rattle.pm_supervisor.specs.Shared.{SharedEvent, AllowsAny, after_any}
+use Rattle.pm_supervisor.specs.Shared as shared
 
 -- what may happen
-pub data Event : Type 0 where
+pub data SupervisorEvent : Type 0 where
   -- a connection is accepted, with this decision, and a child is started for it
-  Accept : (pid : ℕ) → (decision : Cac) → Event
+  Accept : (pid : ℕ) → (decision : Cac) → SupervisorEvent
   -- another child is started
-  Start : (pid : ℕ) → (kind : Kind) → Event
-  Attach : (pid : ℕ) → Event
+  Start : (pid : ℕ) → (kind : Kind) → SupervisorEvent
+  Attach : (pid : ℕ) → SupervisorEvent
   -- a child uses what its generation shares
-  Touch : (pid : ℕ) → Event
-  Detach : (pid : ℕ) → Event
+  Touch : (pid : ℕ) → SupervisorEvent
+  Detach : (pid : ℕ) → SupervisorEvent
   -- a child ends
-  Exit : (pid : ℕ) → (kind : Kind) → (status : Status) → (was_active : Bool) → Event
+  Exit : (pid : ℕ) → (kind : Kind) → (status : Status) → (was_active : Bool) → SupervisorEvent
   -- no child may attach any more, and all are told to end at once
-  Notice : (why : Reason) → Event
+  Notice : (why : Reason) → SupervisorEvent
   -- a shutdown is asked for
-  Ask : (mode : Mode) → Event
+  Ask : (mode : Mode) → SupervisorEvent
   -- the last checkpoint is written
-  Checkpointed : Event
+  Checkpointed : SupervisorEvent
   -- the data are up to date. It opens the generation where no shutdown was asked for
-  RedoEnded : (opens : Bool) → Event
+  RedoEnded : (opens : Bool) → SupervisorEvent
   -- the next generation begins
-  Reset : Event
-  End : (how : Ending) → Event
+  Reset : SupervisorEvent
+  End : (how : Ending) → SupervisorEvent
   -- the phase alone moves on
-  Move : (to : Phase) → Event
+  Move : (to : Phase) → SupervisorEvent
 
 -- an event, and what it left of what is shared
-pub record Moment : Type 0 where
-  pub event : Event
+pub record PastEvent : Type 0 where
+  pub event : SupervisorEvent
   pub left : Shared
 
 -- the state now, and every moment before it, the latest first
-pub record History : Type 0 where
+pub record Trace : Type 0 where
   pub now : Supervisor
-  pub past : List Moment
+  pub past : List PastEvent
 
 -- it was so at one of these moments
-abbrev pub Once : (Moment → Type 0) → List Moment → Type 0
+abbrev pub Once : (PastEvent → Type 0) → List PastEvent → Type 0
 Once P [] = ⊥
 Once P (m ∷ ms) = P m ⊎ Once P ms
 
 -- the end of a child of this kind with exit code 0
-abbrev pub is_good_exit : (Kind → Bool) → Event → Bool
+abbrev pub is_good_exit : (Kind → Bool) → SupervisorEvent → Bool
 is_good_exit test (Exit pid kind status was_active) = test kind && is_exit_0 status
 is_good_exit _ _ = false
 
 -- in this generation such a child has ended with exit code 0
-abbrev pub HasEnded : (Kind → Bool) → ℕ → List Moment → Type 0
+abbrev pub HasEnded : (Kind → Bool) → ℕ → List PastEvent → Type 0
 HasEnded test generation past = Once (λ m. (is_good_exit test m.event ≡ true) × (m.left.generation ≡ generation)) past
+
+-- the end of the startup child with anything but exit code 0
+abbrev pub is_failed_startup : SupervisorEvent → Bool
+is_failed_startup (Exit pid kind status was_active) = is_startup_child kind && not (is_exit_0 status)
+is_failed_startup _ = false
+
+-- in this generation the startup child has failed
+abbrev pub HasFailed : ℕ → List PastEvent → Type 0
+HasFailed generation past = Once (λ m. (is_failed_startup m.event ≡ true) × (m.left.generation ≡ generation)) past
+
+abbrev pub redo_ended_after : SupervisorEvent → Bool → Bool
+redo_ended_after (RedoEnded opens) before = true
+redo_ended_after Reset before = false
+redo_ended_after _ before = before
+
+-- redo has ended in the present generation: since the last reset
+abbrev pub redo_has_ended : List PastEvent → Bool
+redo_has_ended [] = false
+redo_has_ended (m ∷ ms) = redo_ended_after m.event (redo_has_ended ms)
 
 -- admission
 
@@ -98,55 +119,38 @@ abbrev pub kind_for : Cac → Kind
 kind_for cac.Ok = kind.Backend
 kind_for _ = kind.DeadEnd
 
--- effects on what is shared
+-- what is shared
 
-abbrev pub with_child : ℕ → Kind → Shared → Shared
-with_child pid kind s =
-    record s {
-      children = record { pid = pid; kind = kind; generation = s.generation; attached = false } ∷ s.children;
-      last_pid = pid;
-    }
+-- what an event is for what is shared, if anything
+abbrev pub shared_of : SupervisorEvent → Option SharedEvent
+shared_of (Accept pid decision) = Some (shared.Join pid (kind_for decision))
+shared_of (Start pid kind) = Some (shared.Join pid kind)
+shared_of (Attach pid) = Some (shared.Attach pid)
+shared_of (Touch pid) = Some (shared.Touch pid)
+shared_of (Detach pid) = Some (shared.Detach pid)
+shared_of (Exit pid kind status was_active) = Some (shared.Leave pid kind)
+shared_of (Notice why) = Some (shared.Notice why)
+shared_of (RedoEnded true) = Some shared.Open
+shared_of Reset = Some shared.Reset
+shared_of _ = None
 
-abbrev pub shared_after : Shared → Event → Shared
-shared_after s (Accept pid decision) = with_child pid (kind_for decision) s
-shared_after s (Start pid kind) = with_child pid kind s
-shared_after s (Attach pid) = record s { children = marked pid true s.children }
-shared_after s (Touch pid) = s
-shared_after s (Detach pid) = record s { children = marked pid false s.children }
-shared_after s (Exit pid kind status was_active) = record s { children = without pid s.children }
-shared_after s (Notice why) = record s { noticed = Some why }
-shared_after s (Ask mode) = s
-shared_after s Checkpointed = s
-shared_after s (RedoEnded true) = record s { is_open = true; noticed = None }
-shared_after s (RedoEnded false) = s
-shared_after s Reset = record s { generation = s.generation + 1; is_open = false; noticed = None }
-shared_after s (End how) = s
-shared_after s (Move to) = s
+abbrev pub shared_after : Shared → SupervisorEvent → Shared
+shared_after s event = after_any s (shared_of event)
 
--- conditions on what is shared
+-- conditions on what has happened
 
--- where a child may attach: a session needs an open generation and room within the limit
-abbrev pub MayAttach : Limits → Shared → Child → Type 0
-MayAttach limits s c =
-    (c.attached ≡ false) × (is_dead_end c.kind ≡ false) × (s.noticed ≡ None)
-    × (is_session c.kind ≡ true → (s.is_open ≡ true) × (attached_sessions s.children < limits.max_connections))
+abbrev pub PastAllows : List PastEvent → Shared → SupervisorEvent → Type 0
+PastAllows past s Checkpointed = HasEnded is_checkpointer s.generation past
+PastAllows past s (RedoEnded opens) =
+    HasEnded is_startup_child s.generation past × (redo_has_ended past ≡ false) × (s.is_open ≡ false)
+    × (count_of is_startup_child s.children ≡ 0) × (attached_sessions s.children ≡ 0)
+PastAllows past s (End ending.StartupFailed) = HasFailed s.generation past
+PastAllows past s _ = Unit {0}
 
-abbrev pub SharedAllows : Limits → List Moment → Shared → Event → Type 0
-SharedAllows limits past s (Accept pid decision) = s.last_pid < pid
-SharedAllows limits past s (Start pid kind) = s.last_pid < pid
-SharedAllows limits past s (Attach pid) = IsSomeAnd (child_of pid s.children) (MayAttach limits s)
-SharedAllows limits past s (Touch pid) =
-    IsSomeAnd (child_of pid s.children) (λ c. (c.attached ≡ true) × (c.generation ≡ s.generation))
-SharedAllows limits past s (Detach pid) = IsSomeAnd (child_of pid s.children) (λ c. c.attached ≡ true)
-SharedAllows limits past s (Exit pid kind status was_active) = IsSomeAnd (child_of pid s.children) (λ c. c.kind ≡ kind)
-SharedAllows limits past s (Notice why) = Unit {0}
-SharedAllows limits past s (Ask mode) = Unit {0}
-SharedAllows limits past s Checkpointed = HasEnded is_checkpointer s.generation past
-SharedAllows limits past s (RedoEnded opens) =
-    HasEnded is_startup_child s.generation past × (attached_sessions s.children ≡ 0)
-SharedAllows limits past s Reset = s.children ≡ []
-SharedAllows limits past s (End how) = Unit {0}
-SharedAllows limits past s (Move to) = Unit {0}
+-- the conditions on what is shared, and on what has happened
+pub record SharedAllows (limits : Limits) (past : List PastEvent) (s : Shared) (event : SupervisorEvent) : Type 0 where
+  pub of_shared : AllowsAny limits.max_connections s (shared_of event)
+  pub of_past : PastAllows past s event
 
 -- effects on the rest
 
@@ -200,7 +204,7 @@ asked_phase mode.Immediate other = phase.Stopping
 asked_phase _ other = other
 
 -- what an event leaves of the rest, where what is shared becomes this
-abbrev pub after_with : Supervisor → Event → Shared → Supervisor
+abbrev pub after_with : Supervisor → SupervisorEvent → Shared → Supervisor
 after_with s (Exit pid kind status was_active) shared =
     record {
       phase = exited_phase s kind status was_active;
@@ -218,7 +222,7 @@ after_with s (Move to) shared = record s { phase = to; shared = shared }
 after_with s _ shared = record s { shared = shared }
 
 -- the state that an event leaves
-abbrev pub after : Supervisor → Event → Supervisor
+abbrev pub after : Supervisor → SupervisorEvent → Supervisor
 after s event = after_with s event (shared_after s.shared event)
 
 -- conditions on the rest
@@ -238,9 +242,14 @@ MayStart kind.Checkpointer s =
 MayStart kind.Writer s = (s.phase ≡ phase.Running) × (count_of is_writer s.shared.children ≡ 0)
 MayStart _ s = ⊥
 
+-- between a reset and the end of redo, where every child is of a generation that began after the crash
+abbrev pub is_recovering : Shared → Bool
+is_recovering s = not (s.is_open || (s.generation == 1))
+
 -- where all children are told to end at once
 abbrev pub MayNotice : Reason → Supervisor → Type 0
-MayNotice reason.Crash s = (s.crash ≡ true) × (is_immediate s.request ≡ false) × (s.shared.noticed ≡ None)
+MayNotice reason.Crash s =
+    (s.crash ≡ true) × (is_immediate s.request ≡ false) × (s.shared.noticed ≡ None) × (is_recovering s.shared ≡ false)
 MayNotice reason.Stop s = (is_immediate s.request ≡ true) × (s.shared.noticed ≢ Some reason.Stop)
 
 -- where the supervisor ends
@@ -272,41 +281,53 @@ MayMove phase.Clearing s =
 MayMove phase.Clear s = (s.phase ≡ phase.Clearing) × (s.shared.children ≡ [])
 MayMove _ s = ⊥
 
-abbrev pub RestAllows : Limits → Supervisor → Event → Type 0
+-- where redo may end: the startup child's work is under way, and a shutdown that was asked for may wait for it
+abbrev pub is_redoing : Bool → Phase → Bool
+is_redoing opens phase.Starting = true
+is_redoing false phase.Stopping = true
+is_redoing _ _ = false
+
+abbrev pub is_ended : Phase → Bool
+is_ended phase.Ended = true
+is_ended _ = false
+
+abbrev pub RestAllows : Limits → Supervisor → SupervisorEvent → Type 0
 RestAllows limits s (Accept pid decision) = (accepts s.phase ≡ true) × (decision ≡ admission limits s)
 RestAllows limits s (Start pid kind) = MayStart kind s
 RestAllows limits s (Notice why) = MayNotice why s
 RestAllows limits s (Ask mode) = strengthen_of s.request mode ≡ Some mode
 RestAllows limits s Checkpointed = s.phase ≡ phase.Checkpointing
-RestAllows limits s (RedoEnded opens) = opens ≡ is_none s.request
+RestAllows limits s (RedoEnded opens) = (opens ≡ is_none s.request) × (is_redoing opens s.phase ≡ true)
 RestAllows limits s Reset =
     (s.phase ≡ phase.Clear) × (s.crash ≡ true) × (s.request ≡ None) × (limits.restart_after_crash ≡ true)
 RestAllows limits s (End how) = MayEnd limits how s
 RestAllows limits s (Move to) = MayMove to s
 RestAllows limits s _ = Unit {0}
 
--- an event may happen
-abbrev pub MayHappen : Limits → History → Event → Type 0
-MayHappen limits h event = RestAllows limits h.now event × SharedAllows limits h.past h.now.shared event
+-- an event may happen: none once the supervisor has ended
+pub record MayHappen (limits : Limits) (h : Trace) (event : SupervisorEvent) : Type 0 where
+  pub goes_on : is_ended h.now.phase ≡ false
+  pub rest : RestAllows limits h.now event
+  pub shared : SharedAllows limits h.past h.now.shared event
 
 -- whole runs
 
-abbrev pub beginning : History
-beginning = record { now = first; past = [] }
+abbrev pub empty_trace : Trace
+empty_trace = record { now = first; past = [] }
 
 -- the moments, with one more
-abbrev pub with_moment : List Moment → Shared → Event → List Moment
-with_moment past s event = record { event = event; left = shared_after s event } ∷ past
+abbrev pub with_event : List PastEvent → Shared → SupervisorEvent → List PastEvent
+with_event past s event = record { event = event; left = shared_after s event } ∷ past
 
-abbrev pub happened : History → Event → History
-happened h event = record { now = after h.now event; past = with_moment h.past h.now.shared event }
+abbrev pub happened : Trace → SupervisorEvent → Trace
+happened h event = record { now = after h.now event; past = with_event h.past h.now.shared event }
 
 -- all of them, one after the other
-abbrev pub all_happened : History → List Event → History
+abbrev pub all_happened : Trace → List SupervisorEvent → Trace
 all_happened h [] = h
 all_happened h (event ∷ events) = all_happened (happened h event) events
 
 -- each of them may happen when it does
-abbrev pub IsRun : Limits → History → List Event → Type 0
+abbrev pub IsRun : Limits → Trace → List SupervisorEvent → Type 0
 IsRun limits h [] = Unit {0}
 IsRun limits h (event ∷ events) = MayHappen limits h event × IsRun limits (happened h event) events

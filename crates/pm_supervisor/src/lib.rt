@@ -6,7 +6,10 @@
 
 mod laws;
 
-pub use laws::{admits_while_well, stays_sound};
+pub use laws::{
+    admits_none_until_redo, admits_while_well, ends_clean_behind_a_checkpoint, ends_for_good,
+    keeps_what_is_shared, redo_ends_once, stays_sound, stays_well, takes_child_steps_between,
+};
 
 /// Why every child is told to end at once.
 #[derive(Clone, Copy, Debug, PartialEq, Eq)]

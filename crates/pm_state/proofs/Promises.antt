@@ -1,0 +1,125 @@
+-- What a reader of the manual counts on.
+use Rattle.std.proofs.Common.{◌≡◌, ℕ, ◌+◌, ◌≤◌, Bool, true, false, ◌||◌, [], ◌∷◌, Some, arith}
+use Rattle.std.specs.Prelude.{is_some}
+use Rattle.pm_exit.specs.declared.child.Status.{Status}
+use Rattle.pm_exit.specs.declared.child.Kind.{Kind}
+use Rattle.pm_exit.specs.declared.child.Kind.TheVariants as kind
+use Rattle.pm_exit.specs.declared.child.Class.{Class}
+use Rattle.pm_exit.specs.declared.child.Class.TheVariants as class
+use Rattle.pm_exit.specs.Ends.{class_of}
+use Rattle.pm_modes.specs.declared.Mode.{Mode}
+use Rattle.pm_modes.specs.declared.Mode.TheVariants as mode
+use Rattle.pm_modes.specs.Strength.{is_immediate}
+use Rattle.pm_admit.specs.Admission.{is_run}
+use Rattle.pm_supervisor.specs.declared.Limits.{Limits}
+use Rattle.pm_supervisor.specs.Children.{is_startup_child}
+use Rattle.pm_supervisor.specs.Supervisor.{Supervisor}
+use Rattle.pm_supervisor.specs.Steps.{is_normal}
+use Rattle.pm_state.specs.declared.action.Action.TheVariants as act
+use Rattle.pm_state.specs.declared.machine.Machine.{Machine}
+use Rattle.pm_state.specs.declared.machine.Exit.{Exit}
+use Rattle.pm_state.specs.Exits.{is_shutdown, unless_normal, checkpointer_exited, less_one, crash_rule, startup_exited}
+use Rattle.pm_state.specs.Machine.{Exited, Asked, Ticked, step}
+use Rattle.pm_state.specs.Requests.{ticked_at}
+use Rattle.pm_state.specs.Facts.{Facts, aborts_with_cause}
+use Rattle.pm_state.specs.Promises.{is_ready_act, is_release, has_act}
+
+-- whoever is left is killed after five seconds
+
+kills-after : (m : Machine) (since now : ℕ) → aborts_with_cause m ≡ true → m.abort_at ≡ Some since → since + 5000 ≤ now
+    → (ticked_at m.abort_at m now).acts ≡ act.KillAll ∷ []
+kills-after m since now cause is late = grind arith
+
+pub kills : (limits : Limits) (m : Machine) (s : Supervisor) (since now : ℕ) → Facts limits m s → m.abort_at ≡ Some since → since + 5000 ≤ now
+    → (step m (Ticked now)).acts ≡ act.KillAll ∷ []
+kills limits m s since now facts is late = kills-after m since now facts.aborts is late
+
+crash-arms : (m : Machine) (exit : Exit) → is_some (crash_rule m exit).after.abort_at ≡ true
+unfolding crash_rule
+crash-arms m exit = grind arith
+
+unless-arms : (cls : Class) (m : Machine) (exit : Exit) → is_normal cls ≡ false → is_some (unless_normal cls m exit).after.abort_at ≡ true
+unless-arms class.Normal m exit bad = absurd cc
+unless-arms class.Crash m exit bad = crash-arms m exit
+unless-arms class.StartupFailed m exit bad = crash-arms m exit
+
+checkpointer-arms : (cls : Class) (m : Machine) (exit : Exit) → is_normal cls ≡ false → is_some (checkpointer_exited cls m exit).after.abort_at ≡ true
+checkpointer-arms class.Normal m exit bad = absurd cc
+checkpointer-arms class.Crash m exit bad = crash-arms m exit
+checkpointer-arms class.StartupFailed m exit bad = crash-arms m exit
+
+-- an abnormal exit sets the moment
+pub arms : (m : Machine) (pid : ℕ) (k : Kind) (status : Status) (a : Bool) (now : ℕ) → is_startup_child k ≡ false
+    → is_normal (class_of k (is_shutdown m.state) a status) ≡ false
+    → is_some (step m (Exited pid k status a now)).after.abort_at ≡ true
+arms m pid kind.Startup status a now other bad = absurd cc
+arms m pid kind.Checkpointer status a now other bad = checkpointer-arms (class_of kind.Checkpointer (is_shutdown m.state) a status) (less_one kind.Checkpointer m) _ bad
+arms m pid kind.Writer status a now other bad = unless-arms (class_of kind.Writer (is_shutdown m.state) a status) (less_one kind.Writer m) _ bad
+arms m pid kind.Worker status a now other bad = unless-arms (class_of kind.Worker (is_shutdown m.state) a status) (less_one kind.Worker m) _ bad
+arms m pid kind.Backend status a now other bad = unless-arms (class_of kind.Backend (is_shutdown m.state) a status) (less_one kind.Backend m) _ bad
+arms m pid kind.DeadEnd status a now other bad = unless-arms (class_of kind.DeadEnd (is_shutdown m.state) a status) (less_one kind.DeadEnd m) _ bad
+
+-- and so does an immediate request
+pub request-arms : (m : Machine) (now : ℕ) → is_immediate m.shutdown ≡ false → (step m (Asked mode.Immediate now)).after.abort_at ≡ Some now
+request-arms m now other = grind arith
+
+-- sessions are admitted behind a redo only after Ready
+
+startup-ready : (m : Machine) (exit : Exit) → is_run m.state ≡ false → is_run (startup_exited m exit).after.state ≡ true
+    → has_act is_ready_act (startup_exited m exit).acts ≡ true
+unfolding startup_exited crash_rule
+startup-ready m exit before behind = grind arith
+
+-- the end of a child that clears the moment opens the generation
+startup-keeps : (m : Machine) (exit : Exit) → is_some m.abort_at ≡ true
+    → is_some (startup_exited m exit).after.abort_at || has_act is_release (startup_exited m exit).acts ≡ true
+unfolding startup_exited crash_rule
+startup-keeps m exit some = grind arith
+
+pub readies : (m : Machine) (pid : ℕ) (status : Status) (a : Bool) (now : ℕ) → is_run m.state ≡ false
+    → is_run (step m (Exited pid kind.Startup status a now)).after.state ≡ true
+    → has_act is_ready_act (step m (Exited pid kind.Startup status a now)).acts ≡ true
+readies m pid status a now before behind = startup-ready m (record { pid = pid; kind = kind.Startup; status = status; now = now }) before behind
+
+pub keeps-moment : (m : Machine) (pid : ℕ) (status : Status) (a : Bool) (now : ℕ) → is_some m.abort_at ≡ true
+    → is_some (step m (Exited pid kind.Startup status a now)).after.abort_at
+    || has_act is_release (step m (Exited pid kind.Startup status a now)).acts ≡ true
+keeps-moment m pid status a now some = startup-keeps m (record { pid = pid; kind = kind.Startup; status = status; now = now }) some
+
+-- no other call clears it
+
+crash-keeps : (m : Machine) (exit : Exit) (since : ℕ) → m.abort_at ≡ Some since → (crash_rule m exit).after.abort_at ≡ Some since
+unfolding crash_rule
+crash-keeps m exit since is = grind arith
+
+unless-keeps : (cls : Class) (m : Machine) (exit : Exit) (since : ℕ) → m.abort_at ≡ Some since
+    → (unless_normal cls m exit).after.abort_at ≡ Some since
+unless-keeps class.Normal m exit since is = is
+unless-keeps class.Crash m exit since is = crash-keeps m exit since is
+unless-keeps class.StartupFailed m exit since is = crash-keeps m exit since is
+
+checkpointer-keeps : (cls : Class) (m : Machine) (exit : Exit) (since : ℕ) → m.abort_at ≡ Some since
+    → (checkpointer_exited cls m exit).after.abort_at ≡ Some since
+checkpointer-keeps class.Normal m exit since is = is
+checkpointer-keeps class.Crash m exit since is = crash-keeps m exit since is
+checkpointer-keeps class.StartupFailed m exit since is = crash-keeps m exit since is
+
+pub exit-keeps : (m : Machine) (pid : ℕ) (k : Kind) (status : Status) (a : Bool) (since now : ℕ) → is_startup_child k ≡ false → m.abort_at ≡ Some since
+    → (step m (Exited pid k status a now)).after.abort_at ≡ Some since
+exit-keeps m pid kind.Startup status a since now other is = absurd cc
+exit-keeps m pid kind.Checkpointer status a since now other is =
+    checkpointer-keeps (class_of kind.Checkpointer (is_shutdown m.state) a status) (less_one kind.Checkpointer m) _ since is
+exit-keeps m pid kind.Writer status a since now other is =
+    unless-keeps (class_of kind.Writer (is_shutdown m.state) a status) (less_one kind.Writer m) _ since is
+exit-keeps m pid kind.Worker status a since now other is =
+    unless-keeps (class_of kind.Worker (is_shutdown m.state) a status) (less_one kind.Worker m) _ since is
+exit-keeps m pid kind.Backend status a since now other is =
+    unless-keeps (class_of kind.Backend (is_shutdown m.state) a status) (less_one kind.Backend m) _ since is
+exit-keeps m pid kind.DeadEnd status a since now other is =
+    unless-keeps (class_of kind.DeadEnd (is_shutdown m.state) a status) (less_one kind.DeadEnd m) _ since is
+
+pub request-keeps : (m : Machine) (asked : Mode) (now : ℕ) → is_some m.abort_at ≡ true → is_some (step m (Asked asked now)).after.abort_at ≡ true
+request-keeps m asked now some = grind arith
+
+pub waits : (m : Machine) (since now : ℕ) → m.abort_at ≡ Some since → now + 1 ≤ since + 5000 → (step m (Ticked now)).acts ≡ []
+waits m since now is early = grind arith

@@ -1,0 +1,51 @@
+-- What a reader of the manual counts on, beside the table. The manual: 19.5 "Shutting Down the Server", and 20.14 "Error
+-- Handling" for the restart after a crash.
+use Rattle.std.specs.Prelude.{◌≡◌, Bool, true, false, not, ◌||◌, List, [], ◌∷◌, is_some}
+use Rattle.pm_admit.specs.declared.PmState.{PmState}
+use Rattle.pm_admit.specs.declared.PmState.TheVariants as state
+use Rattle.pm_admit.specs.Admission.{is_run}
+use Rattle.pm_state.specs.declared.action.Action.{Action}
+use Rattle.pm_state.specs.declared.action.Action.TheVariants as act
+use Rattle.pm_state.specs.declared.machine.Machine.{Machine}
+use Rattle.pm_state.specs.Exits.{is_shutdown}
+use Rattle.pm_state.specs.Transition.{Transition}
+
+abbrev pub is_ready_act : Action → Bool
+is_ready_act act.Ready = true
+is_ready_act _ = false
+
+-- what ends the wait for children that were told to end at once: they are killed, or none is left
+abbrev pub is_release : Action → Bool
+is_release act.KillAll = true
+is_release act.Ready = true
+is_release act.Reset = true
+is_release _ = false
+
+abbrev pub has_act : (Action → Bool) → List Action → Bool
+has_act test [] = false
+has_act test (a ∷ acts) = test a || has_act test acts
+
+abbrev pub is_ask_checkpoint : Action → Bool
+is_ask_checkpoint act.AskCheckpoint = true
+is_ask_checkpoint _ = false
+
+abbrev pub is_terminate : Action → Bool
+is_terminate act.Terminate = true
+is_terminate _ = false
+
+abbrev pub is_stop_backends : PmState → Bool
+is_stop_backends state.StopBackends = true
+is_stop_backends _ = false
+
+-- what a turn promises
+pub record Promises (m : Machine) (o : Transition) : Type 0 where
+  -- the last checkpoint is asked for, where it is waited for
+  pub checkpoint : is_shutdown m.state || (not (is_shutdown o.after.state) || has_act is_ask_checkpoint o.acts) ≡ true
+  -- sessions that are to end are told to
+  pub told : not (is_stop_backends m.state) || has_act is_terminate o.acts ≡ true
+  -- when connections are no more allowed, the wait for the last session ends by telling the rest to end
+  pub drained : not (is_run m.state) || (is_run o.after.state || has_act is_terminate o.acts) ≡ true
+  -- a turn never begins to serve connections
+  pub serves : is_run m.state || not (is_run o.after.state) ≡ true
+  -- the moment stays until children are killed, or none is left
+  pub moment : not (is_some m.abort_at) || (is_some o.after.abort_at || has_act is_release o.acts) ≡ true

@@ -1,0 +1,50 @@
+//! Which connection becomes a session, and how many are refused at one time.
+
+use crate::scene::*;
+use pm_admit::{Cac, PmState, View};
+use pm_scenario::Cause;
+use pm_state::{PmCore, PmEvent};
+use std::test::Fail;
+
+#[test]
+fn twice_the_connections_are_taken_and_four_refused(rt: HostRuntime) -> Result<(), Fail> {
+    let crowd = Scene {
+        happenings: &[
+            at!(3, Cause::Connection),
+            at!(4, Cause::Connection),
+            at!(5, Cause::Connection),
+            at!(6, Cause::Connection),
+            at!(7, Cause::Connection),
+            at!(8, Cause::Connection),
+        ],
+        entries: &[
+            accepted!(5, Cac::Ok),
+            accepted!(6, Cac::TooMany),
+            accepted!(7, Cac::TooMany),
+            accepted!(8, Cac::TooMany),
+            accepted!(9, Cac::TooMany),
+        ],
+    };
+    play(
+        &rt,
+        rt.alloc(),
+        limits(1, true),
+        "crowd",
+        &[START, REDO_ENDS, ONE_SESSION, crowd],
+    )
+}
+
+#[test]
+fn a_new_machine_takes_no_connection(rt: HostRuntime) {
+    let core = PmCore::new(limits(3, true));
+    assert!(rt; !core.may_accept());
+    let wanted = View {
+        state: PmState::Init,
+        shutdown: false,
+        fatal: false,
+        conns: false,
+        children: 0,
+        limit: 6,
+    };
+    assert_eq!(rt; core.view(), wanted);
+}

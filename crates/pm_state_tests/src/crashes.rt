@@ -1,0 +1,158 @@
+//! Crashes of one child, and the restart after them.
+
+use crate::scene::*;
+use pm_admit::Cac;
+use pm_exit::Kind;
+use pm_scenario::Cause;
+use pm_state::{Line, PmEvent, Reason};
+use std::test::Fail;
+
+const KILL_AFTER_CRASH: Scene = Scene {
+    happenings: &[
+        at!(1_001, Cause::Connection),
+        exit!(1_002, 5, OK),
+        at!(5_999, Cause::Time),
+        at!(6_000, Cause::Time),
+        at!(11_000, Cause::Time),
+    ],
+    entries: &[
+        PmEvent::Accepted {
+            pid: 5,
+            decision: Cac::Recovery,
+        },
+        exited!(1_002, 5, Kind::DeadEnd, OK),
+        PmEvent::KillSent { at: 6_000 },
+    ],
+};
+
+const ARMED_AGAIN: Scene = Scene {
+    happenings: &[
+        crash!(12_000, 3, KILLED),
+        at!(16_999, Cause::Time),
+        at!(17_000, Cause::Time),
+        crash!(17_100, 2, KILLED),
+    ],
+    entries: &[
+        crashed!(12_000, 3, Kind::Writer, KILLED),
+        PmEvent::KillSent { at: 17_000 },
+        crashed!(17_100, 2, Kind::Checkpointer, KILLED),
+        PmEvent::Said(Line::Reinitializing),
+        PmEvent::Reset { generation: 2 },
+        PmEvent::Started {
+            pid: 6,
+            kind: Kind::Startup,
+        },
+    ],
+};
+
+const NEXT_GENERATION: Scene = Scene {
+    happenings: &[exit!(17_200, 6, OK), at!(17_300, Cause::Connection)],
+    entries: &[
+        exited!(17_200, 6, Kind::Startup, OK),
+        PmEvent::RedoEnded {
+            generation: 2,
+            kept: 0,
+        },
+        PmEvent::Ready { generation: 2 },
+        PmEvent::Started {
+            pid: 7,
+            kind: Kind::Checkpointer,
+        },
+        PmEvent::Started {
+            pid: 8,
+            kind: Kind::Writer,
+        },
+        PmEvent::Said(Line::Ready),
+        PmEvent::Accepted {
+            pid: 9,
+            decision: Cac::Ok,
+        },
+    ],
+};
+
+#[test]
+fn what_is_left_is_killed_and_a_later_crash_arms_it_again(rt: HostRuntime) -> Result<(), Fail> {
+    let scenes = [
+        START,
+        REDO_ENDS,
+        ONE_SESSION,
+        SESSION_CRASHES,
+        KILL_AFTER_CRASH,
+        ARMED_AGAIN,
+        NEXT_GENERATION,
+    ];
+    play(&rt, rt.alloc(), limits(1, true), "killed", &scenes)
+}
+
+#[test]
+fn a_server_that_is_not_to_restart_ends(rt: HostRuntime) -> Result<(), Fail> {
+    let scenes = [
+        START,
+        REDO_ENDS,
+        ONE_SESSION,
+        SESSION_CRASHES,
+        OTHERS_QUIT,
+        RESTART_OFF,
+    ];
+    play(&rt, rt.alloc(), limits(1, false), "restart off", &scenes)
+}
+
+#[test]
+fn a_writer_that_ends_is_started_again(rt: HostRuntime) -> Result<(), Fail> {
+    let again = Scene {
+        happenings: &[exit!(3, 3, OK)],
+        entries: &[
+            exited!(3, 3, Kind::Writer, OK),
+            PmEvent::Started {
+                pid: 5,
+                kind: Kind::Writer,
+            },
+        ],
+    };
+    play(
+        &rt,
+        rt.alloc(),
+        limits(1, true),
+        "writer",
+        &[START, REDO_ENDS, ONE_SESSION, again],
+    )
+}
+
+#[test]
+fn a_checkpointer_that_ends_early_has_crashed(rt: HostRuntime) -> Result<(), Fail> {
+    let crashes = Scene {
+        happenings: &[exit!(3, 2, OK)],
+        entries: &[
+            exited!(3, 2, Kind::Checkpointer, OK),
+            tells_of!(2, Kind::Checkpointer, OK),
+            PmEvent::Said(Line::TerminatingOthers),
+            PmEvent::QuitSent(Reason::Crash),
+        ],
+    };
+    play(
+        &rt,
+        rt.alloc(),
+        limits(1, true),
+        "checkpointer",
+        &[START, REDO_ENDS, crashes],
+    )
+}
+
+#[test]
+fn only_a_child_that_is_there_is_killed_or_has_ended(rt: HostRuntime) -> Result<(), Fail> {
+    let killed = Scene {
+        happenings: &[
+            at!(3, Cause::Kill { pid: 4 }),
+            at!(4, Cause::Kill { pid: 99 }),
+            exit!(5, 99, OK),
+        ],
+        entries: &[PmEvent::KillAsked { pid: 4 }],
+    };
+    play(
+        &rt,
+        rt.alloc(),
+        limits(1, true),
+        "kill",
+        &[START, REDO_ENDS, ONE_SESSION, killed],
+    )
+}
