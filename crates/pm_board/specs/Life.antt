@@ -1,0 +1,59 @@
+-- What a child's life tells.
+use Rattle.std.specs.Prelude.{ℕ, ◌+◌, ◌-◌, ◌^◌, ◌++◌, min, cond, Bool, List, [], ◌∷◌, Option, None, Some, Result}
+use Rattle.std.specs.List.{Contains}
+use Rattle.pm_supervisor.specs.declared.Reason.{Reason}
+use Rattle.pm_board.specs.declared.life.GateNo.{GateNo}
+use Rattle.pm_board.specs.declared.life.Signals.{Signals}
+
+-- whose life it is, whether it is a dead-end child's, and in which generation that child is attached, if it is
+pub record Child : Type 0 where
+  pub pid : ℕ
+  pub is_dead_end : Bool
+  pub attached : Option ℕ
+
+abbrev pub attached_in : ℕ → Child → Child
+attached_in generation child = record child { attached = Some generation }
+
+abbrev pub let_go : Child → Child
+let_go child = record child { attached = None }
+
+-- one signal that a child took
+pub data Signal : Type 0 where
+  Kill : Signal
+  Quit : (reason : Reason) → Signal
+  Terminate : Signal
+  Cancel : Signal
+  Checkpoint : Signal
+
+abbrev pub one_if : Bool → Signal → List Signal
+one_if stands signal = cond stands (signal ∷ []) []
+
+abbrev pub quit_in : Option Reason → List Signal
+quit_in None = []
+quit_in (Some reason) = Quit reason ∷ []
+
+-- those of one answer
+abbrev pub signals_in : Signals → List Signal
+signals_in signals =
+    one_if signals.kill Kill ++ quit_in signals.quit ++ one_if signals.terminate Terminate ++ one_if signals.cancel Cancel
+    ++ one_if signals.checkpoint Checkpoint
+
+-- How often a child has asked for its signals, up to 2^64 - 1, all that it was given, and what it last met at the gate.
+pub record Told : Type 0 where
+  pub asked : ℕ
+  pub given : List Signal
+  pub met : Option (Result ℕ GateNo)
+
+-- of a child that has just started
+abbrev pub nothing_told : Told
+nothing_told = record { asked = 0; given = []; met = None }
+
+-- it has asked once more, and was given these
+abbrev pub asked_again : Signals → Told → Told
+asked_again signals told = record told { asked = min (told.asked + 1) (2 ^ 64 - 1); given = told.given ++ signals_in signals }
+
+abbrev pub met_at_gate : Result ℕ GateNo → Told → Told
+met_at_gate answer told = record told { met = Some answer }
+
+abbrev pub was_told : Signal → Told → Type 0
+was_told signal told = Contains told.given signal
