@@ -1,0 +1,98 @@
+-- Fronts of log files: how they grow, and what stands behind a gate that is open or closed.
+use Rattle.std.proofs.Common.{◌≡◌, ◌≢◌, ◌⊎◌, inl, inr, ℕ, zero, suc, ◌+◌, ◌-◌, ◌≤◌, ◌<◌, List, [], ◌∷◌, ◌++◌, length, take, drop, refl, sym, ◌∙◌, ap, subst, arith, length-append, append_assoc, append-nil}
+use Rattle.std.specs.Prelude.{All, fold}
+use Rattle.std.specs.List.{flat_map}
+use Rattle.std.proofs.lemmas.Bool.{cases_lt}
+use Rattle.std.proofs.lemmas.Grind.{flat_map-append}
+use Rattle.std.proofs.lemmas.List.{take-append-le, take_all}
+use Rattle.std.proofs.lemmas.List.Elements.{All-push}
+use Rattle.std.proofs.lemmas.List.Sums.{fold-append}
+use Rattle.std.proofs.Math.Seq.{take-append-add}
+use Rattle.pm_rows.specs.declared.commit.Change.{Change}
+use Rattle.pm_rows.specs.Fold.{RowMap, committed, folded}
+use Rattle.pm_record.specs.Spelling.{base_bytes, batch_bytes}
+use Rattle.pm_rows.specs.Standing.{Standing, after}
+use Rattle.pm_rows.specs.Limits.{IsWithinRowLimits}
+use Rattle.pm_record.specs.StandsFor.{AreBatches, Content, IsBatch, IsContent, MayAppend, MayFollow, Spells, StandsFor, base_of, commits_of, standing_of, with_batch}
+
+-- one batch more
+AreBatches-push : (bytes : List ℕ) (batches : List (List (List Change))) (batch : List (List Change)) (gate : ℕ) → gate ≢ 0 → AreBatches bytes batches
+    → AreBatches (bytes ++ (gate ∷ batch_bytes batch)) (batches ++ batch ∷ [])
+AreBatches-push bytes [] batch gate is_open none =
+    (gate, [], is_open, ap (λ (l : List ℕ). l ++ (gate ∷ batch_bytes batch)) none ∙ ap (λ (l : List ℕ). gate ∷ l) (sym (append-nil (batch_bytes batch))), refl)
+AreBatches-push bytes (b ∷ batches) batch gate is_open h =
+    let more = gate ∷ batch_bytes batch in
+    (h.0, h.1 ++ more, h.2, ap (λ (l : List ℕ). l ++ more) h.3 ∙ ap (λ (l : List ℕ). h.0 ∷ l) (append_assoc (batch_bytes b) h.1 more), AreBatches-push h.1 batches batch gate is_open h.4)
+
+pub Spells-push : (front : List ℕ) (content : Content) (batch : List (List Change)) (gate : ℕ) → gate ≢ 0 → Spells front content
+    → Spells (front ++ (gate ∷ batch_bytes batch)) (with_batch content batch)
+Spells-push front content batch gate is_open spelled =
+    let more = gate ∷ batch_bytes batch in record {
+      gate = spelled.gate;
+      behind = spelled.behind ++ more;
+      is_open = spelled.is_open;
+      parts = ap (λ (l : List ℕ). l ++ more) spelled.parts ∙ ap (λ (l : List ℕ). spelled.gate ∷ l) (append_assoc (base_bytes content.epoch content.clean content.base_count content.base_rows) spelled.behind more);
+      batches = AreBatches-push spelled.behind content.batches batch gate is_open spelled.batches;
+    }
+
+-- ---- limits and standings
+commits_push : (content : Content) (batch : List (List Change)) → commits_of (with_batch content batch) ≡ commits_of content ++ batch
+commits_push content batch =
+    flat_map-append (λ (b : List (List Change)). b) content.batches (batch ∷ []) ∙ ap (λ (l : List (List Change)). commits_of content ++ l) (append-nil batch)
+
+pub folded-append : (rows : RowMap) (xs ys : List (List Change)) → folded rows (xs ++ ys) ≡ folded (folded rows xs) ys
+folded-append rows xs ys = fold-append committed rows xs ys
+
+abbrev pub standing : RowMap → ℕ → Standing
+standing rows count = record { rows = rows; count = count }
+
+pub same_standing : (one other : RowMap) (n m : ℕ) → one ≡ other → n ≡ m → standing one n ≡ standing other m
+same_standing one other n m rows count = ap (λ (r : RowMap). standing r n) rows ∙ ap (λ (k : ℕ). standing other k) count
+
+-- what stands behind one batch more
+pub standing-push : (content : Content) (batch : List (List Change)) → standing_of (with_batch content batch) ≡ after (standing_of content) batch
+standing-push content batch =
+    let all = commits_push content batch in
+    ap (λ (l : List (List Change)). after (base_of content) l) all
+    ∙ same_standing _ _ _ _ (folded-append content.base_rows (commits_of content) batch) (omega (arith, length-append (commits_of content) batch))
+
+MayFollow-append : (standing : Standing) (xs ys : List (List Change)) → MayFollow standing xs → MayFollow (after standing xs) ys → MayFollow standing (xs ++ ys)
+MayFollow-append standing xs ys first second = record {
+  limits = λ n le. elim (cases_lt (length xs) n) [
+    | inl past ↦
+        let there : take n (xs ++ ys) ≡ xs ++ take (n - length xs) ys =
+        ap (λ (k : ℕ). take k (xs ++ ys)) (omega arith) ∙ take-append-add xs ys (n - length xs) in
+        subst IsWithinRowLimits (sym (ap (λ (l : List (List Change)). folded standing.rows l) there ∙ folded-append standing.rows xs (take (n - length xs) ys)))
+        (second.limits (n - length xs) (omega (arith, length-append xs ys)))
+    | inr within ↦
+        subst (λ (l : List (List Change)). IsWithinRowLimits (folded standing.rows l)) (sym (take-append-le n xs ys within)) (first.limits n within)
+  ];
+  number = omega (arith, second.number, length-append xs ys);
+}
+
+pub content-push : (content : Content) (batch : List (List Change)) → IsContent content → MayAppend (standing_of content) batch → IsContent (with_batch content batch)
+content-push content batch limits may = record {
+  epoch = limits.epoch;
+  rows = limits.rows;
+  batches = All-push IsBatch content.batches batch limits.batches may.batch_is;
+  follows = subst (MayFollow (base_of content)) (sym (commits_push content batch)) (MayFollow-append (base_of content) (commits_of content) batch limits.follows may.follows);
+}
+
+-- ---- behind a gate
+-- in front of a closed gate stands the content
+pub stands_closed : (bytes front free : List ℕ) (content : Content) (end : ℕ) → bytes ≡ front ++ (0 ∷ free) → end ≡ length front → Spells front content → IsContent content
+    → StandsFor bytes content end
+stands_closed bytes front free content end parts place spelled limits = record { front = front; free = free; parts = parts; place = place; spelled = spelled; limits = limits }
+
+-- behind an open one stands one batch more
+pub stands_open : (bytes front free : List ℕ) (content : Content) (batch : List (List Change)) (gate end : ℕ) → gate ≢ 0
+    → bytes ≡ front ++ (gate ∷ (batch_bytes batch ++ (0 ∷ free))) → end ≡ length front + (1 + length (batch_bytes batch)) → Spells front content → IsContent content
+    → MayAppend (standing_of content) batch → StandsFor bytes (with_batch content batch) end
+stands_open bytes front free content batch gate end is_open parts place spelled limits may = record {
+  front = front ++ (gate ∷ batch_bytes batch);
+  free = free;
+  parts = parts ∙ sym (append_assoc front (gate ∷ batch_bytes batch) (0 ∷ free));
+  place = omega (arith, place, length-append front (gate ∷ batch_bytes batch));
+  spelled = Spells-push front content batch gate is_open spelled;
+  limits = content-push content batch limits may;
+}

@@ -1,0 +1,12 @@
+use Rattle.std.proofs.Common.{◌≡◌, ◌++◌}
+use Rattle.std.specs.Prelude.{All}
+use Rattle.std.specs.List.{flat_map}
+use Rattle.pm_record.specs.Spelling.{row_bytes, rows_bytes}
+use Rattle.pm_record.specs.StandsFor.{IsRow}
+use Rattle.pm_record.proofs.put.put_rows.Given as goal
+
+abbrev pub invariant-loop-key : goal.invariant-loop-key
+invariant-loop-key l = record {
+  bytes : l.out ++ flat_map row_bytes l.key-iterator ≡ l.fn.out ++ rows_bytes l.rows;
+  rows : All IsRow l.key-iterator;
+}

@@ -1,0 +1,14 @@
+pub mod Base
+pub mod Bodies
+pub mod Calls
+pub mod Changes
+pub mod Damage
+pub mod File
+pub mod Found
+pub mod Gated
+pub mod OnDisk
+pub mod Pair
+pub mod Reading
+pub mod Repeated
+pub mod Spelling
+pub mod StandsFor

@@ -1,0 +1,135 @@
+//! The base of a log file: its header, and its rows by rising key.
+
+ghost use Rattle.std.specs.Prelude.{◌≡◌, ◌≤◌, ◌<◌, ◌^◌};
+ghost use Rattle.pm_record.specs.Reading.{Gives};
+ghost use Rattle.pm_record.specs.Base.{base_at, key_ranges, place, row_at, row_step, rows_at};
+
+use crate::fault::Unread;
+use crate::number::{Ranges, read_number};
+use crate::text::{ANY, read_string};
+use pm_rows::{Rows, Text};
+use std::alloc::Global;
+
+/// The base of a file.
+#[derive(Drop)]
+pub struct Base {
+    pub epoch: u64,
+    pub clean: bool,
+    pub count: u64,
+    pub rows: Rows,
+}
+
+// The magic `PGPMLOG` and the version 1, as one number.
+const MAGIC: Ranges = Ranges {
+    low: 0x5047_504D_4C4F_4701,
+    high: 0x5047_504D_4C4F_4701,
+    low2: 1,
+    high2: 0,
+};
+
+// 0 or 1.
+const BIT: Ranges = Ranges {
+    low: 0,
+    high: 1,
+    low2: 1,
+    high2: 0,
+};
+
+// How many rows a base may have.
+const COUNTS: Ranges = Ranges {
+    low: 0,
+    high: 100_000,
+    low2: 1,
+    high2: 0,
+};
+
+// How many bytes a value may have.
+const LENGTHS: Ranges = Ranges {
+    low: 0,
+    high: 8192,
+    low2: 1,
+    high2: 0,
+};
+
+// The place of a key among all keys, from the lowest on.
+fn place(key: i64) -> u64
+    ensures { result ≡ place key }
+{
+    key.cast_unsigned().wrapping_add(1 << 63)
+}
+
+// Words of keys from this place on, with room for so many behind.
+fn key_ranges(n: u64, from: u64) -> Ranges
+    requires { n ≤ 100000 }
+    ensures { result ≡ key_ranges n from }
+{
+    Ranges {
+        low: from.saturating_sub(1 << 63),
+        high: i64::MAX.cast_unsigned() - n,
+        low2: from.saturating_add(1 << 63),
+        high2: if from < 1 << 63 { u64::MAX } else { 0 },
+    }
+}
+
+// A row whose key stands at this place or behind it, with room for so many keys.
+fn read_row(alloc: Global, n: u64, from: u64, bytes: &[u8]) -> Result<(i64, Text, &[u8]), Unread>
+    requires { n ≤ 100000 }
+    ensures { Gives (λ x. ((x.0, x.1), x.2.now)) result (row_at n from bytes.now) }
+{
+    let (word, rest) = read_number(bytes, 8, &key_ranges(n, from))?;
+    let (value, rest) = read_string(alloc, &LENGTHS, rest)?;
+    Ok((word.cast_signed(), value, rest))
+}
+
+// A row, added to the rows: from which place on the next may stand, the rows, and the bytes behind it.
+fn row_into(
+    alloc: Global,
+    n: u64,
+    from: u64,
+    mut rows: Rows,
+    bytes: &[u8],
+) -> Result<(u64, Rows, &[u8]), Unread>
+    requires { n ≤ 100000 }
+    ensures { Gives (λ x. ((x.0, x.1), x.2.now)) result (row_step n (from, rows) bytes.now) }
+{
+    let (key, value, rest) = read_row(alloc, n, from, bytes)?;
+    let next = place(key).saturating_add(1);
+    rows.put(key, value)?;
+    Ok((next, rows, rest))
+}
+
+// The rows of a base.
+fn read_rows(alloc: Global, bytes: &[u8]) -> Result<(Rows, &[u8]), Unread>
+    ensures { Gives (λ x. (x.0, x.1.now)) result (rows_at bytes.now) }
+{
+    let (count, behind) = read_number(bytes, 4, &COUNTS)?;
+    let mut rows = Rows::new(alloc);
+    let mut from = 0;
+    let mut rest = behind;
+    for i in 0..count {
+        let (next, more, after) = row_into(alloc, count - 1 - i, from, rows, rest)?;
+        from = next;
+        rows = more;
+        rest = after;
+    }
+    Ok((rows, rest))
+}
+
+/// The base of a file behind its gate.
+#[tactic(auto, unfolding(crate::specs::Base::base_at))]
+pub fn read_base(alloc: Global, bytes: &[u8]) -> Result<(Base, &[u8]), Unread>
+    ensures { Gives (λ x. (x.0, x.1.now)) result (base_at bytes.now) }
+{
+    let (_magic, rest) = read_number(bytes, 8, &MAGIC)?;
+    let (epoch, rest) = read_number(rest, 8, &ANY)?;
+    let (clean, rest) = read_number(rest, 1, &BIT)?;
+    let (count, rest) = read_number(rest, 8, &ANY)?;
+    let (rows, rest) = read_rows(alloc, rest)?;
+    let base = Base {
+        epoch,
+        clean: clean == 1,
+        count,
+        rows,
+    };
+    Ok((base, rest))
+}

@@ -1,0 +1,7 @@
+//! Recovery: what the two files of the log stand for, read behind a barrier.
+#![tactic(auto)]
+
+mod pair;
+mod redo;
+
+pub use redo::recover;

@@ -1,0 +1,67 @@
+//! Recovery over a disk.
+
+ghost use Rattle.std.specs.Prelude.{◌≡◌, ◌⊎◌, ◌+◌, ℕ, IfOk, IfSome, IsErr, OnOk};
+ghost use Rattle.pm_disk.specs.Cause.{IsCounted};
+ghost use Rattle.pm_disk.specs.Disk.{TellsStill};
+ghost use Rattle.pm_disk.specs.Files.{file_of};
+ghost use Rattle.pm_record.specs.OnDisk.{FollowsWithin, GoesOn, Rests, Throughout};
+ghost use Rattle.pm_record.specs.Pair.{MeansWhat};
+ghost use Rattle.pm_redo.specs.Found.{FindsPair, IsReason, MeansOnly};
+ghost use Rattle.pm_redo.specs.Redo.{IsQuiet, IsOnly};
+
+use crate::pair::pair_in;
+use pm_disk::{Disk, DiskFault, Which};
+use pm_record::{CLOSED, Found, RedoFault, write_durably};
+use std::alloc::Global;
+
+/// What the two files stand for. It makes both durable first, so that what is read stays, and shuts the file that
+/// doesn't count where both are open. It takes memory and time of the order of the files' lengths, and frees the files
+/// before it answers.
+///
+/// At every tick of the call whatever a stop leaves means what it could mean at the start, and from the end of the two
+/// syncs on it means what is answered. `Disk` comes only where the disk's count of faults rose.
+pub fn recover<D: Disk>(alloc: Global, disk: &mut D) -> Result<Found, RedoFault>
+    ensures found { IfOk result (λ found. TellsStill (λ files now. FindsPair found files
+        (λ content. Rests found.file content found.end now (D.images disk.new (D.ticks disk.new)))) (D.seen disk.old) (D.seen disk.new)) }
+    ensures exact { IfOk result (λ found. IfSome (D.seen disk.old) (MeansOnly found)) }
+    ensures reason { (fault : RedoFault) → result ≡ Err fault → IfSome (D.seen disk.old) (λ files. IsReason fault files) }
+    ensures stops { IfSome (D.seen disk.old) (λ files. FollowsWithin MeansWhat (D.ticks disk.old) (D.ticks disk.new) (D.images disk.old) (D.images disk.new)) }
+    ensures barrier { OnOk result (IfSome (D.seen disk.old) (λ files. Throughout (D.ticks disk.old + 2) (D.ticks disk.new) (D.images disk.new) (MeansWhat files))) }
+    ensures time { GoesOn (D.ticks disk.old) (D.ticks disk.new) (D.images disk.old) (D.images disk.new) }
+    ensures cause { IsCounted (D.faults disk.old) (D.faults disk.new) (result ≡ Err RedoFault.Disk) }
+{
+    settle(disk)?;
+    let a = read_whole(alloc, disk, Which::A)?;
+    let b = read_whole(alloc, disk, Which::B)?;
+    let (found, both) = pair_in(alloc, &a, &b)?;
+    if !both {
+        return Ok(found);
+    }
+    write_durably(disk, found.file.other(), 0, &[CLOSED])?;
+    Ok(found)
+}
+
+// Makes both files durable.
+fn settle<D: Disk>(disk: &mut D) -> Result<(), DiskFault>
+    ensures quiet { IsQuiet (D.seen disk.old) (D.seen disk.new) (D.ticks disk.old) (D.ticks disk.new) (D.images disk.old) (D.images disk.new) }
+    ensures only { OnOk result (IfSome (D.seen disk.old) (λ files. IsOnly files (D.images disk.new (D.ticks disk.new)))) }
+    ensures ticks { OnOk result (D.ticks disk.new ≡ D.ticks disk.old + 2) }
+    ensures cause { IsCounted (D.faults disk.old) (D.faults disk.new) (IsErr result) }
+{
+    disk.sync(Which::A)?;
+    disk.sync(Which::B)?;
+    Ok(())
+}
+
+// A file from its beginning to its end.
+fn read_whole<D: Disk>(alloc: Global, disk: &mut D, file: Which) -> Result<Vec<u8>, RedoFault>
+    ensures bytes { IfOk result (λ bytes. IfSome (D.seen disk.old) (λ files. bytes.items ≡ file_of files file)) }
+    ensures quiet { IsQuiet (D.seen disk.old) (D.seen disk.new) (D.ticks disk.old) (D.ticks disk.new) (D.images disk.old) (D.images disk.new) }
+    ensures faults { (fault : RedoFault) → result ≡ Err fault → (fault ≡ RedoFault.Disk) ⊎ (fault ≡ RedoFault.NoMemory) }
+    ensures cause { IsCounted (D.faults disk.old) (D.faults disk.new) (result ≡ Err RedoFault.Disk) }
+{
+    let length = disk.len(file)?;
+    let mut bytes = vec![in alloc; 0; length as usize]?;
+    disk.read(file, 0, &mut bytes)?;
+    Ok(bytes)
+}
