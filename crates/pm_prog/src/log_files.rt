@@ -1,5 +1,5 @@
 //! The disk over the files `a.log` and `b.log` of a folder.
-ghost use Rattle.std.specs.Prelude.{◌≡◌, ◌-◌, ◌^◌, IsErr, None, ⊤};
+ghost use Rattle.std.specs.Prelude.{◌≡◌, ◌-◌, ◌^◌, ◌<◌, IsErr, None, ⊤};
 ghost use Rattle.pm_disk.specs.Cause.{IsCounted};
 ghost use Rattle.pm_disk.specs.Disk.{next_tick};
 
@@ -16,6 +16,7 @@ pub struct LogFiles {
     files: Pair,
     ticks: u64,
     faults: u64,
+    ghost counted: { (ticks < 2 ^ 64) × (faults < 2 ^ 64) },
 }
 
 #[derive(Drop)]
@@ -86,6 +87,8 @@ impl Disk for LogFiles {
     ghost faults = { λ disk. disk.faults };
 
     ghost reads_as_left = { λ _. tt };
+
+    ghost counted = { λ disk. disk.counted };
 
     fn len(&mut self, file: Which) -> Result<u64, DiskFault> {
         self.enter()?;

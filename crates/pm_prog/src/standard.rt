@@ -18,7 +18,7 @@ impl<R: Read, W: Write> Link for StandardLink<R, W> {
     // It doesn't tell what passes.
     ghost traffic = { λ _. None };
 
-    ghost number = { λ _. 0 };
+    ghost number = { λ _. 1 };
 
     ghost faults = { λ link. link.faults };
 
@@ -68,6 +68,8 @@ impl<R: Read + Drop, W: Write + Drop> Port for StandardPort<R, W> {
     ghost visits = { λ _. None };
 
     ghost faults = { λ _. 0 };
+
+    ghost balanced = { λ _. tt };
 
     fn accept(&mut self) -> Accepted<StandardLink<R, W>> {
         match self.waiting.take() {

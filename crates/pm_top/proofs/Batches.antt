@@ -12,13 +12,13 @@ use Rattle.pm_rows.specs.Fold.{RowMap, committed, folded}
 use Rattle.std.specs.Ordering.{int_cmp}
 use Rattle.pm_rows.proofs.FoldLaws.{folded-push}
 use Rattle.pm_rows.proofs.RowLaws.{size-empty}
-use Rattle.pm_top.specs.declared.record.TheConstants.{HEADER}
 use Rattle.pm_top.specs.declared.record.Unread.{Unread}
 use Rattle.pm_top.specs.declared.record.Unread.TheVariants.{Bad, NoMemory}
 use Rattle.pm_top.specs.Unread.{IsLeft, OnlyWithout}
 use Rattle.pm_top.specs.Contents.{IsClosed}
 use Rattle.pm_top.proofs.Spelling.{same_row}
-use Rattle.pm_top.specs.StandsFor.{IsRow, Batches, IsWithinLimits, IsReadTo, StandsFor, Stands, batch_bytes}
+use Rattle.pm_top.specs.StandsFor.{IsRow, Batches, IsReadTo, StandsFor, Stands, batch_bytes, log_header}
+use Rattle.pm_rows.specs.Limits.{IsWithinRowLimits}
 
 -- one more at the end
 pub Batches-push : (bytes : List ℕ) (commits : List (List Change)) (commit : List Change) (gate : ℕ) (next : List ℕ) → gate ≢ 0 → IsRow commit → Batches bytes commits (gate ∷ batch_bytes commit ++ next) → Batches bytes (commits ++ commit ∷ []) next
@@ -33,11 +33,11 @@ first_and_rest (x ∷ xs) le = ap (λ (l : List ℕ). x ∷ l) (sym (take_all _ 
 length-batch : (commit : List Change) (next : List ℕ) → length next ≤ length (batch_bytes commit ++ next)
 length-batch commit next = omega (arith, length-append (batch_bytes commit) next)
 
-empty_within : IsWithinLimits map.empty
+empty_within : IsWithinRowLimits map.empty
 empty_within = record { few = omega (arith, map.len-empty int_cmp (List ℕ)); small = omega (arith, size-empty) }
 
 -- the header was read
-pub read_header : (bytes behind : List ℕ) → bytes ≡ HEADER ++ behind → IsReadTo bytes map.empty 0 behind
+pub read_header : (bytes behind : List ℕ) → bytes ≡ log_header ++ behind → IsReadTo bytes map.empty 0 behind
 read_header bytes behind is = record {
   behind = behind;
   commits = [];
@@ -46,15 +46,15 @@ read_header bytes behind is = record {
   all_rows = refl;
   all_commits = refl;
   limits = λ n le. none n;
-  shorter = omega (arith, ap length is, length-append HEADER behind);
+  shorter = omega (arith, ap length is, length-append log_header behind);
 }
   where
-    none : (n : ℕ) → IsWithinLimits (folded map.empty (take n []))
+    none : (n : ℕ) → IsWithinRowLimits (folded map.empty (take n []))
     none zero = empty_within
     none (suc n) = empty_within
 
-limits-push : (commits : List (List Change)) (commit : List Change) → ((n : ℕ) → n ≤ length commits → IsWithinLimits (folded map.empty (take n commits))) → IsWithinLimits (committed (folded map.empty commits) commit)
-    → (n : ℕ) → n ≤ length (commits ++ commit ∷ []) → IsWithinLimits (folded map.empty (take n (commits ++ commit ∷ [])))
+limits-push : (commits : List (List Change)) (commit : List Change) → ((n : ℕ) → n ≤ length commits → IsWithinRowLimits (folded map.empty (take n commits))) → IsWithinRowLimits (committed (folded map.empty commits) commit)
+    → (n : ℕ) → n ≤ length (commits ++ commit ∷ []) → IsWithinRowLimits (folded map.empty (take n (commits ++ commit ∷ [])))
 limits-push commits commit before last n le = elim (cases_lt (length commits) n) [
   | inl past ↦ rw (take_all n (commits ++ commit ∷ []) (omega (arith, length-append commits (commit ∷ []))), folded-push map.empty commits commit) last
   | inr within ↦ rw (take-append-le n commits (commit ∷ []) within) (before n within)
@@ -62,7 +62,7 @@ limits-push commits commit before last n le = elim (cases_lt (length commits) n)
 
 -- one more batch was read
 pub read_batch : (bytes rest after next : List ℕ) (rows now : RowMap) (count gate : ℕ) (commit : List Change) → rest ≡ gate ∷ after → gate ≢ 0 → IsRow commit → after ≡ batch_bytes commit ++ next
-    → now ≡ committed rows commit → IsWithinLimits now → IsReadTo bytes rows count rest → IsReadTo bytes now (count + 1) next
+    → now ≡ committed rows commit → IsWithinRowLimits now → IsReadTo bytes rows count rest → IsReadTo bytes now (count + 1) next
 read_batch bytes rest after next rows now count gate commit split is_open row is_batch applied within so_far =
     let there : rest ≡ gate ∷ batch_bytes commit ++ next = split ∙ ap (λ (l : List ℕ). gate ∷ l) is_batch in
     let rows_are : now ≡ committed (folded map.empty so_far.commits) commit = applied ∙ ap (λ (r : RowMap). committed r commit) so_far.all_rows in
@@ -73,7 +73,7 @@ read_batch bytes rest after next rows now count gate commit split is_open row is
       batches = Batches-push so_far.behind so_far.commits commit gate next is_open row (subst (Batches so_far.behind so_far.commits) there so_far.batches);
       all_rows = rows_are ∙ sym (folded-push map.empty so_far.commits commit);
       all_commits = omega (arith, so_far.all_commits, length-append so_far.commits (commit ∷ []));
-      limits = limits-push so_far.commits commit so_far.limits (subst IsWithinLimits rows_are within);
+      limits = limits-push so_far.commits commit so_far.limits (subst IsWithinRowLimits rows_are within);
       shorter = omega (arith, so_far.shorter, ap length there, length-batch commit next);
     }
 
@@ -144,7 +144,7 @@ goes_on bytes rest rows count read log =
     Batches-split read.behind rest log.3.free read.commits log.1 read.batches (subst (λ (l : List ℕ). Batches l log.1 (0 ∷ log.3.free)) same log.3.batches)
 
 -- no log has another header
-pub no_header : (bytes : List ℕ) → IsLogBehind bytes → (rest : List ℕ) × (bytes ≡ HEADER ++ rest)
+pub no_header : (bytes : List ℕ) → IsLogBehind bytes → (rest : List ℕ) × (bytes ≡ log_header ++ rest)
 no_header bytes log = (log.3.behind, ap (λ (l : List ℕ). drop 1 l) log.3.header)
 
 -- no log ends without a closed gate
@@ -170,7 +170,7 @@ batch_follows bytes rest after rows count gate read split is_open log =
 
 -- no log passes the limits
 pub no_more : (bytes rest after next : List ℕ) (rows now : RowMap) (count gate : ℕ) (commit : List Change) → IsReadTo bytes rows count rest → rest ≡ gate ∷ after → gate ≢ 0
-    → IsRow commit → after ≡ batch_bytes commit ++ next → now ≡ committed rows commit → IsLogBehind bytes → IsWithinLimits now
+    → IsRow commit → after ≡ batch_bytes commit ++ next → now ≡ committed rows commit → IsLogBehind bytes → IsWithinRowLimits now
 no_more bytes rest after next rows now count gate commit read split is_open row is applied log =
     let on = goes_on bytes rest rows count read log in
     let b = batch_behind rest after log.3.free gate on.more split is_open on.batches in
@@ -180,7 +180,7 @@ no_more bytes rest after next rows now count gate commit read split is_open row 
     ap (λ (l : List (List Change)). take (length read.commits + 1) l) all ∙ take-append-add read.commits (b.0 ∷ b.1) 1 ∙ ap (λ (c : List Change). read.commits ++ (c ∷ [])) same.0 in
     let left : folded map.empty (take (length read.commits + 1) log.1) ≡ now =
     ap (λ (l : List (List Change)). folded map.empty l) front ∙ folded-push map.empty read.commits commit ∙ ap (λ (r : RowMap). committed r commit) (sym read.all_rows) ∙ sym applied in
-    subst IsWithinLimits left (log.3.limits (length read.commits + 1) (omega (arith, ap length all, length-append read.commits (b.0 ∷ b.1))))
+    subst IsWithinRowLimits left (log.3.limits (length read.commits + 1) (omega (arith, ap length all, length-append read.commits (b.0 ∷ b.1))))
 
 -- each batch takes a byte
 pub next_is_shorter : (rest after next : List ℕ) (gate : ℕ) (commit : List Change) → rest ≡ gate ∷ after → after ≡ batch_bytes commit ++ next → length next + 1 ≤ length rest
@@ -216,13 +216,13 @@ pub record Shape (file : List ℕ) (commits : List (List Change)) (end : ℕ) : 
   -- with the gate closed the log ends there, whatever follows
   pub closed : (rest : List ℕ) → StandsFor (front ++ (0 ∷ rest)) commits end
   -- with it open a batch counts, if the next gate is closed
-  pub grown : (gate : ℕ) (commit : List Change) (rest : List ℕ) → gate ≢ 0 → IsRow commit → IsWithinLimits (committed (folded map.empty commits) commit)
+  pub grown : (gate : ℕ) (commit : List Change) (rest : List ℕ) → gate ≢ 0 → IsRow commit → IsWithinRowLimits (committed (folded map.empty commits) commit)
       → StandsFor (front ++ ((gate ∷ batch_bytes commit) ++ (0 ∷ rest))) (commits ++ commit ∷ []) (end + (1 + length (batch_bytes commit)))
 
 pub shape_of : (file : List ℕ) (commits : List (List Change)) (end : ℕ) → StandsFor file commits end → Shape file commits end
 shape_of file commits end log =
     let front = Batches-front log.behind (0 ∷ log.free) commits log.batches in
-    let head = log.gate ∷ HEADER in
+    let head = log.gate ∷ log_header in
     let whole = head ++ front.front in
     let split : file ≡ whole ++ (0 ∷ log.free) = log.header ∙ ap (λ (l : List ℕ). head ++ l) front.is ∙ sym (append_assoc head front.front (0 ∷ log.free)) in
     let long : length whole ≡ end = omega (arith, log.place, ap length split, length-append whole (0 ∷ log.free)) in record {
@@ -265,7 +265,7 @@ empty_stands old = record {
   limits = λ n le. none n;
 }
   where
-    none : (n : ℕ) → IsWithinLimits (folded map.empty (take n []))
+    none : (n : ℕ) → IsWithinRowLimits (folded map.empty (take n []))
     none zero = empty_within
     none (suc n) = empty_within
 
@@ -304,7 +304,3 @@ pub found_is : (file : List ℕ) (commits others : List (List Change)) (end last
 found_is file commits others end last rows count log rows_are count_is its =
     let same = one_meaning file commits others end last log its in
     (same.1, rows_are ∙ ap (λ (c : List (List Change)). folded map.empty c) same.0, count_is ∙ ap (λ (c : List (List Change)). length c) same.0)
-
--- a closed file is no log
-pub closed_is_no_log : (file : List ℕ) (commits : List (List Change)) (end : ℕ) → IsClosed file → StandsFor file commits end → ⊥
-closed_is_no_log file commits end closed log = not_closed file (HEADER ++ log.behind) log.gate log.header log.is_open closed

@@ -13,7 +13,6 @@ use Rattle.pm_sql.specs.declared.stmt.Stmt.{Stmt}
 use Rattle.pm_query.specs.declared.item.Item.{Item}
 use Rattle.pm_query.specs.Answer.{items_of, commit_of}
 use Rattle.pm_top.specs.declared.log.Log.{Log}
-use Rattle.pm_top.specs.declared.log.TheConstants.{MAX_LOG}
 use Rattle.pm_top.specs.declared.book.BookEntry.{BookEntry}
 use Rattle.pm_top.specs.declared.book.BookEntry.TheVariants.{Opened, Attached, Redone, Answered, Released, Detached, Broke, LogFull}
 use Rattle.pm_disk.specs.Cause.{Rose}
@@ -23,6 +22,7 @@ use Rattle.pm_top.specs.StandsFor.{batch_bytes, body_bytes}
 use Rattle.pm_top.specs.History.{History, beginning, count_of, rows_of, with_commit}
 use Rattle.pm_top.specs.Book.{Base, IsLegal, MayGoOn, MayFollow, MayAnswer, MayBeFull, MayBreak, MayRelease, AnswersUpTo, after_entry, generation_after, generation_of, history_of, first_kept, times_after, times_attached, tick_after, last_tick, fault_after, faults_of, fault_here, faults_here, TellsFault, need_after, need_of, needs_of}
 use Rattle.pm_top.specs.Store.{AnswersWithin, IsTrueTo, BookHolds, BookRests, HasAnswer, HasFailed, HoldsAcknowledged, IsBroken}
+use Rattle.pm_rows.specs.Limits.{max_file_bytes}
 
 goes_on : (base : Base) (before book : List BookEntry) (entry : BookEntry) → MayGoOn base before book → MayFollow base (before ++ book) entry → MayGoOn base before (book ++ entry ∷ [])
 goes_on base before [] entry all next = (subst (λ (l : List BookEntry). MayFollow base l entry) (append-nil before) next, tt)
@@ -160,7 +160,7 @@ module _ (base : Base) (pid : ℕ) (book : List BookEntry) (tick faults : ℕ) (
   true_read script reply reply_is commit_is = true_answered script reply [] log.count log.end tick faults reply_is commit_is true_to.count_is (omega arith) (omega arith) (omega arith)
 
   -- behind a log without room nothing has changed
-  pub true_full : (script : List Stmt) (need room : ℕ) → need ≡ need_of (commit_of rows script) → room < need → ((log.count ≡ 2 ^ 64 - 1) × (room ≡ 0)) ⊎ (MAX_LOG ≤ room + log.end + 1)
+  pub true_full : (script : List Stmt) (need room : ℕ) → need ≡ need_of (commit_of rows script) → room < need → ((log.count ≡ 2 ^ 64 - 1) × (room ≡ 0)) ⊎ (max_file_bytes ≤ room + log.end + 1)
       → IsTrueTo base (book ++ LogFull pid script need room ∷ []) tick faults rows log
   true_full script need room need_is above cause =
       let may : MayBeFull base book pid script need room = record {
@@ -252,13 +252,13 @@ nonempty [] changes r same is empty = absurd (eqb-false (length changes) 0 (sym 
 nonempty (change ∷ commit) changes r same is empty = omega arith
 
 -- the room of a log, by its number of commits
-pub no_room : (count end room : ℕ) → count ≡ 2 ^ 64 - 1 → room ≡ cond (eqb count (2 ^ 64 - 1)) 0 (MAX_LOG - 1 - end) → room ≡ 0
-no_room count end room spent is = is ∙ ap (λ (b : Bool). cond b 0 (MAX_LOG - 1 - end)) (eq-eqb count (2 ^ 64 - 1) spent)
+pub no_room : (count end room : ℕ) → count ≡ 2 ^ 64 - 1 → room ≡ cond (eqb count (2 ^ 64 - 1)) 0 (max_file_bytes - 1 - end) → room ≡ 0
+no_room count end room spent is = is ∙ ap (λ (b : Bool). cond b 0 (max_file_bytes - 1 - end)) (eq-eqb count (2 ^ 64 - 1) spent)
 
-pub left_room : (count end room : ℕ) → count ≢ 2 ^ 64 - 1 → room ≡ cond (eqb count (2 ^ 64 - 1)) 0 (MAX_LOG - 1 - end) → MAX_LOG ≤ room + end + 1
-left_room count end room more is = omega (arith, is ∙ ap (λ (b : Bool). cond b 0 (MAX_LOG - 1 - end)) (ne_eqb count (2 ^ 64 - 1) more))
+pub left_room : (count end room : ℕ) → count ≢ 2 ^ 64 - 1 → room ≡ cond (eqb count (2 ^ 64 - 1)) 0 (max_file_bytes - 1 - end) → max_file_bytes ≤ room + end + 1
+left_room count end room more is = omega (arith, is ∙ ap (λ (b : Bool). cond b 0 (max_file_bytes - 1 - end)) (ne_eqb count (2 ^ 64 - 1) more))
 
-pub not_spent : (count end room need : ℕ) → room ≡ cond (eqb count (2 ^ 64 - 1)) 0 (MAX_LOG - 1 - end) → need ≤ room → 0 < need → count < 2 ^ 64 → count + 1 < 2 ^ 64
+pub not_spent : (count end room need : ℕ) → room ≡ cond (eqb count (2 ^ 64 - 1)) 0 (max_file_bytes - 1 - end) → need ≤ room → 0 < need → count < 2 ^ 64 → count + 1 < 2 ^ 64
 not_spent count end room need is fits some bound = elim (cases_eq count (2 ^ 64 - 1)) [
   | inl spent ↦ absurd (omega (arith, no_room count end room spent is, fits, some))
   | inr more ↦ omega (arith, more, bound)

@@ -13,9 +13,9 @@ use Rattle.pm_disk.specs.Cause.{Rose}
 use Rattle.pm_top.specs.declared.session.Ending.{Ending}
 use Rattle.pm_top.specs.declared.session.Ending.TheVariants.{Terminated, LinkEnded, LinkFailed, Refused, NoMemory, Panic}
 use Rattle.pm_top.specs.Exchange.{Exchanged, SentAllBut}
-use Rattle.pm_top.specs.Store.{Notes}
+use Rattle.pm_top.specs.Store.{NotesEntries}
 use Rattle.pm_top.specs.Session.{Turn, TakesTurn, AllNotes, HoldsNoRequest, IsNoEntry, IsSent, IsServedPacket, leaving, greeting, bytes_of, query_bytes, turn_messages, last_messages}
-use Rattle.pm_top.specs.Conversation.{between, Passes, CutTurn, Stopped, TurnGoes, Conversing, Conversed, Talks, SaysLast, IsSession}
+use Rattle.pm_top.specs.Conversation.{between, IsSpanOf, CutTurn, Stopped, TurnGoes, Conversing, Conversed, Talks, SaysLast, IsSession}
 use Rattle.pm_top.proofs.Exchanges.{Appended-none, Appended-then, passed_then}
 use Rattle.pm_top.proofs.Messages.{bytes_of-append, bytes_of-none}
 use Rattle.pm_top.proofs.Headers.{no_request_yet}
@@ -42,15 +42,15 @@ answers-push greet turns turn =
     ∙ ap (λ (l : List ℕ). greet ++ l) (sym (bytes_of-append (flat_map turn_messages turns) (turn_messages turn)) ∙ ap (λ (ms : List BackMessage). bytes_of ms) (sym (flat_map-push turn_messages turns turn)))
 
 passes_then : (came went : List ℕ) (noted : List BookEntry) (more_came more_went : List ℕ) (more_noted : List BookEntry) (l0 l1 l2 : Option Traffic) (b0 b1 b2 : Option (List BookEntry))
-    → Passes came went noted (between l0 l1 b0 b1) → Passes more_came more_went more_noted (between l1 l2 b1 b2) → Passes (came ++ more_came) (went ++ more_went) (noted ++ more_noted) (between l0 l2 b0 b2)
+    → IsSpanOf came went noted (between l0 l1 b0 b1) → IsSpanOf more_came more_went more_noted (between l1 l2 b1 b2) → IsSpanOf (came ++ more_came) (went ++ more_went) (noted ++ more_noted) (between l0 l2 b0 b2)
 passes_then came went noted more_came more_went more_noted l0 l1 l2 b0 b1 b2 one two = record {
   bytes = passed_then came went more_came more_went l0 l1 l2 one.bytes two.bytes;
   entries = Appended-then noted more_noted b0 b1 b2 one.entries two.entries;
 }
 
-same_bytes : (came went now_came now_went : List ℕ) (noted : List BookEntry) (l0 l1 : Option Traffic) (b0 b1 : Option (List BookEntry)) → came ≡ now_came → went ≡ now_went → Passes came went noted (between l0 l1 b0 b1) → Passes now_came now_went noted (between l0 l1 b0 b1)
+same_bytes : (came went now_came now_went : List ℕ) (noted : List BookEntry) (l0 l1 : Option Traffic) (b0 b1 : Option (List BookEntry)) → came ≡ now_came → went ≡ now_went → IsSpanOf came went noted (between l0 l1 b0 b1) → IsSpanOf now_came now_went noted (between l0 l1 b0 b1)
 same_bytes came went now_came now_went noted l0 l1 b0 b1 in_is out_is passes =
-    subst (λ (w : List ℕ). Passes now_came w noted (between l0 l1 b0 b1)) out_is (subst (λ (i : List ℕ). Passes i went noted (between l0 l1 b0 b1)) in_is passes)
+    subst (λ (w : List ℕ). IsSpanOf now_came w noted (between l0 l1 b0 b1)) out_is (subst (λ (i : List ℕ). IsSpanOf i went noted (between l0 l1 b0 b1)) in_is passes)
 
 -- the greeting alone
 pub greeted : (pid : ℕ) (greet : List ℕ) (l0 l1 : Option Traffic) (book : Option (List BookEntry)) → Exchanged [] greet l0 l1 → Conversing pid greet (between l0 l1 book book)
@@ -110,7 +110,7 @@ cut_here pid greet text l0 l1 l2 b0 b1 b2 so_far query cut = record {
     whole_is = sym (answers-push greet so_far.turns cut.turn) ∙ ap (λ (l : List ℕ). (greet ++ bytes_of (flat_map turn_messages so_far.turns)) ++ l) cut.whole ∙ sym (append_assoc _ cut.went cut.missing);
     cause = inr refl;
   };
-  passes = subst (λ (n : List BookEntry). Passes (flat_map query_bytes (so_far.texts ++ text ∷ []) ++ []) ((greet ++ bytes_of (flat_map turn_messages so_far.turns)) ++ cut.went) n (between l0 l2 b0 b2)) (sym (append-nil _))
+  passes = subst (λ (n : List BookEntry). IsSpanOf (flat_map query_bytes (so_far.texts ++ text ∷ []) ++ []) ((greet ++ bytes_of (flat_map turn_messages so_far.turns)) ++ cut.went) n (between l0 l2 b0 b2)) (sym (append-nil _))
       (same_bytes _ _ (flat_map query_bytes (so_far.texts ++ text ∷ []) ++ []) _ _ l0 l2 b0 b2 (sym (append-nil _ ∙ flat_map-push query_bytes so_far.texts text)) refl (passes_then _ _ _ _ _ _ l0 l1 l2 b0 b1 b2 so_far.passes cut.passes));
 }
 
@@ -136,8 +136,8 @@ greeting_cut pid greet l0 l1 book cut = record {
 -- ---- the whole session
 
 -- a client that was let in
-pub talked : (pid key : ℕ) (packet : List ℕ) (ending : Ending) (l0 l1 l2 : Option Traffic) (b0 b1 b2 b3 : Option (List BookEntry)) → IsServedPacket packet → Exchanged packet [] l0 l1 → Notes (Attached pid 1 ∷ []) b0 b1
-    → Conversed pid (bytes_of (greeting pid key)) ending (between l1 l2 b1 b2) → Notes (leaving pid ending) b2 b3 → Talks pid key ending (between l0 l2 b0 b3)
+pub talked : (pid key : ℕ) (packet : List ℕ) (ending : Ending) (l0 l1 l2 : Option Traffic) (b0 b1 b2 b3 : Option (List BookEntry)) → IsServedPacket packet → Exchanged packet [] l0 l1 → NotesEntries (Attached pid 1 ∷ []) b0 b1
+    → Conversed pid (bytes_of (greeting pid key)) ending (between l1 l2 b1 b2) → NotesEntries (leaving pid ending) b2 b3 → Talks pid key ending (between l0 l2 b0 b3)
 talked pid key packet ending l0 l1 l2 b0 b1 b2 b3 served came attached conversed left =
     let asked = conversed.asked in
     let ended = conversed.ended in

@@ -4,7 +4,7 @@ use Rattle.std.specs.Ordering.{is_lt, is_gt, nat_cmp, is_some_and}
 use Rattle.std.specs.Cmp.Lexicographic.{slice_partial_cmp}
 use Rattle.std.specs.List.{common_prefix_len}
 use Rattle.std.specs.Int.{w32, w64, to_be_bytes, from_be_bytes, cast_signed}
-use Rattle.std.proofs.lemmas.Bool.{cases_lt, cases_eq, lt-ltb, le-ltb}
+use Rattle.std.proofs.lemmas.Bool.{cases_lt, cases_eq, lt-ltb, le-ltb, eq-eqb, ne_eqb}
 use Rattle.std.proofs.lemmas.Bool.Decides.{nat_tests}
 use Rattle.std.proofs.lemmas.Cmp.{same_from_slice_cmp_tested}
 use Rattle.std.proofs.lemmas.List.Sums.{common_prefix_len-le}
@@ -13,10 +13,9 @@ use Rattle.std.proofs.lemmas.List.{length-replicate, get_or_append_left, get_or-
 use Rattle.std.proofs.lemmas.Nat.{be_bytes_4, be_bytes_8}
 use Rattle.std.proofs.Math.Facts.{sfits_to_z}
 use Rattle.pm_wire.proofs.Numbers.{IsBytes}
-use Rattle.pm_wire.proofs.Characters.{eqb_false, eqb_true}
 use Rattle.pm_top.proofs.Packets.{IsBytes-take}
 use Rattle.pm_top.proofs.Places.{stops_in_cut}
-use Rattle.pm_top.specs.Unread.{Begins, IsBodyLength, IsKey, StopsAt}
+use Rattle.pm_top.specs.Unread.{BeginsWord, IsBodyLength, IsKey, StopsAt}
 
 -- bytes and zeros behind them
 padded : (bytes : List ℕ) (k : ℕ) → IsBytes bytes → IsBytes (bytes ++ replicate k 0)
@@ -41,7 +40,7 @@ is_key bytes eight fits =
     )
 
 -- fewer end within one
-pub stops_in_key : (bytes : List ℕ) → length bytes < 8 → IsBytes bytes → StopsAt (Begins IsKey) bytes 0
+pub stops_in_key : (bytes : List ℕ) → length bytes < 8 → IsBytes bytes → StopsAt (BeginsWord IsKey) bytes 0
 stops_in_key bytes short fits =
     let k = 8 - length bytes in record {
       front = bytes;
@@ -91,7 +90,7 @@ not_before (x ∷ xs) (y ∷ ys) e =
     elim (cases_lt x y) [
       | inl lt ↦ let t : true ≡ false = rw (lt-ltb x y lt) at e in absurd cc
       | inr ge ↦ elim (cases_eq x y) [
-        | inl same ↦ inr (same, not_before xs ys (rw (le-ltb x y ge, eqb_true x y same) at e))
+        | inl same ↦ inr (same, not_before xs ys (rw (le-ltb x y ge, eq-eqb x y same) at e))
         | inr other ↦ inl (omega (arith, ge, other))
       ]
     ]
@@ -103,7 +102,7 @@ not_behind (x ∷ xs) (y ∷ ys) e =
     elim (cases_lt y x) [
       | inl lt ↦ let t : true ≡ false = rw (lt-ltb y x lt) at e in absurd cc
       | inr ge ↦ elim (cases_eq x y) [
-        | inl same ↦ inr (same, not_behind xs ys (rw (le-ltb y x ge, eqb_true x y same) at e))
+        | inl same ↦ inr (same, not_behind xs ys (rw (le-ltb y x ge, eq-eqb x y same) at e))
         | inr other ↦ inl (omega (arith, ge, other))
       ]
     ]
@@ -125,7 +124,7 @@ differ_first R x y xs ys other r = record {
   tail = y ∷ ys;
   parts = refl;
   wanted = refl;
-  size = rw (eqb_false x y other) (omega arith);
+  size = rw (ne_eqb x y other) (omega arith);
   apart = λ b others is. inr (y, ys, refl, (let same : x ≡ b = cc in subst (λ (n : ℕ). R n y) same r));
 }
 
@@ -137,7 +136,7 @@ differ_later R x y xs ys same d =
       tail = d.tail;
       parts = ap (λ (l : List ℕ). x ∷ l) d.parts;
       wanted = ap (λ (l : List ℕ). y ∷ l) d.wanted ∙ ap (λ (m : ℕ). m ∷ (d.front ++ d.tail)) (sym same);
-      size = rw (eqb_true x y same) (omega (arith, d.size, n.0));
+      size = rw (eq-eqb x y same) (omega (arith, d.size, n.0));
       apart = d.apart;
     }
 
@@ -148,8 +147,8 @@ less_at (x ∷ xs) (y ∷ ys) e =
     elim (cases_lt x y) [
       | inl lt ↦ differ_first (λ b y. b < y) x y xs ys (λ same. omega (arith, lt, same)) lt
       | inr ge ↦ elim (cases_eq x y) [
-        | inl same ↦ differ_later (λ b y. b < y) x y xs ys same (less_at xs ys (rw (le-ltb x y ge, eqb_true x y same) at e))
-        | inr other ↦ let f : false ≡ true = rw (le-ltb x y ge, eqb_false x y other) at e in absurd cc
+        | inl same ↦ differ_later (λ b y. b < y) x y xs ys same (less_at xs ys (rw (le-ltb x y ge, eq-eqb x y same) at e))
+        | inr other ↦ let f : false ≡ true = rw (le-ltb x y ge, ne_eqb x y other) at e in absurd cc
       ]
     ]
 
@@ -161,8 +160,8 @@ more_at (x ∷ xs) (y ∷ ys) e =
     elim (cases_lt y x) [
       | inl lt ↦ differ_first (λ b y. y < b) x y xs ys (λ same. omega (arith, lt, same)) lt
       | inr ge ↦ elim (cases_eq x y) [
-        | inl same ↦ differ_later (λ b y. y < b) x y xs ys same (more_at xs ys (rw (le-ltb y x ge, eqb_true x y same) at e))
-        | inr other ↦ let f : false ≡ true = rw (le-ltb y x ge, eqb_false x y other) at e in absurd cc
+        | inl same ↦ differ_later (λ b y. y < b) x y xs ys same (more_at xs ys (rw (le-ltb y x ge, eq-eqb x y same) at e))
+        | inr other ↦ let f : false ≡ true = rw (le-ltb y x ge, ne_eqb x y other) at e in absurd cc
       ]
     ]
 
@@ -220,7 +219,7 @@ above_highest (f ∷ g ∷ h ∷ i ∷ front) ts more b y is lt word = omega (ar
 
 -- bytes stop being the front of such a length where they differ from one that no byte there may pass
 stops_where : (R : ℕ → ℕ → Type 0) (xs ys : List ℕ) → IsBodyLength ys → ((front ts more : List ℕ) (b y : ℕ) → ys ≡ front ++ y ∷ ts → R b y → OfLength (front ++ b ∷ more) → ⊥) → Differ R xs ys
-    → StopsAt (Begins IsBodyLength) xs (length xs - common_prefix_len eqb xs ys)
+    → StopsAt (BeginsWord IsBodyLength) xs (length xs - common_prefix_len eqb xs ys)
 stops_where R xs ys word passed d = record {
   front = d.front;
   rest = d.rest;
@@ -235,13 +234,13 @@ stops_where R xs ys word passed d = record {
       ];
 }
 
-pub stops_below : (front : List ℕ) → before front lowest ≡ true → StopsAt (Begins IsBodyLength) front (length front - common_prefix_len eqb front lowest)
+pub stops_below : (front : List ℕ) → before front lowest ≡ true → StopsAt (BeginsWord IsBodyLength) front (length front - common_prefix_len eqb front lowest)
 stops_below front e = stops_where (λ b y. b < y) front lowest (19, omega arith, omega arith, refl) below_lowest (less_at front lowest e)
 
-pub stops_above : (front : List ℕ) → behind front highest ≡ true → StopsAt (Begins IsBodyLength) front (length front - common_prefix_len eqb front highest)
+pub stops_above : (front : List ℕ) → behind front highest ≡ true → StopsAt (BeginsWord IsBodyLength) front (length front - common_prefix_len eqb front highest)
 stops_above front e = stops_where (λ b y. y < b) front highest (8211, omega arith, omega arith, refl) above_highest (more_at front highest e)
 
-between : (front : List ℕ) → IsBytes front → NotBefore front lowest → NotBehind front highest → length front ≤ 4 → Begins IsBodyLength front
+between : (front : List ℕ) → IsBytes front → NotBefore front lowest → NotBehind front highest → length front ≤ 4 → BeginsWord IsBodyLength front
 between [] bytes low high short = absurd low
 between (a ∷ []) bytes low high short = elim low [ inl p ↦ elim high [ inl q ↦ absurd (omega (arith, p, q)) | inr q ↦ absurd (omega (arith, p, q.0)) ] | inr p ↦ absurd p.1 ]
 between (a ∷ b ∷ []) bytes low high short = absurd (omega (arith, low, high))
@@ -253,7 +252,7 @@ between (a ∷ b ∷ c ∷ d ∷ []) bytes low high short =
     ([], subst IsBodyLength (λ k. sym at.0 k ∷ sym at.1 k ∷ c ∷ d ∷ []) (is_length c d at.2 at.3 (bytes 3)))
 between (a ∷ b ∷ c ∷ d ∷ e ∷ front) bytes low high short = absurd (omega (arith, short))
 
-pub stops_behind_all : (front : List ℕ) → IsBytes front → before front lowest ≡ false → behind front highest ≡ false → length front ≤ 4 → StopsAt (Begins IsBodyLength) front 0
+pub stops_behind_all : (front : List ℕ) → IsBytes front → before front lowest ≡ false → behind front highest ≡ false → length front ≤ 4 → StopsAt (BeginsWord IsBodyLength) front 0
 stops_behind_all front bytes low high short = record {
   front = front;
   rest = [];
@@ -264,6 +263,6 @@ stops_behind_all front bytes low high short = record {
 }
 
 pub stops_in_length : (bytes front rest : List ℕ) (m n : ℕ) → front ≡ take m bytes → rest ≡ drop m bytes → IsBytes bytes → length front ≤ 4 → (length front ≡ 4) ⊎ (length rest ≡ 0) → n ≤ length front
-    → (length front ≤ 4 → IsBytes front → StopsAt (Begins IsBodyLength) front (length front - n)) → StopsAt (Begins IsBodyLength) bytes (length bytes - n)
+    → (length front ≤ 4 → IsBytes front → StopsAt (BeginsWord IsBodyLength) front (length front - n)) → StopsAt (BeginsWord IsBodyLength) bytes (length bytes - n)
 stops_in_length bytes front rest m n first last fits short whole le stops =
     stops_in_cut IsBodyLength 4 (λ word is. (of_length word is).four) bytes front rest m n first last whole le (stops short (subst IsBytes (sym first) (IsBytes-take m bytes fits)))

@@ -1,11 +1,11 @@
 -- Exchanges one behind the other.
-use Rattle.std.proofs.Common.{◌≡◌, ℕ, ◌+◌, ◌≤◌, List, [], ◌∷◌, ◌++◌, length, take, drop, Option, None, Some, option_map, Result, Ok, Err, OnOk, OnErr, IsErr, inl, inr, refl, sym, ◌∙◌, ap, subst, arith, append_assoc, take-append-drop, length-take, length-append}
+use Rattle.std.proofs.Common.{◌≡◌, ℕ, ◌+◌, ◌≤◌, List, [], ◌++◌, length, take, drop, Option, None, Some, option_map, Result, Ok, Err, OnOk, OnErr, IsErr, inl, inr, refl, sym, ◌∙◌, ap, subst, arith, append_assoc, take-append-drop, length-take, length-append}
 use Rattle.std.proofs.lemmas.List.{append-nil, take_all, length-take-le, take-append-le}
 use Rattle.std.proofs.Math.Seq.{take-append-add, take-append_seam}
 use Rattle.pm_outside.specs.Traffic.{Traffic, after_read, after_write}
 use Rattle.pm_outside.specs.declared.link.Put.{Put}
 use Rattle.pm_outside.specs.declared.link.Got.TheVariants.{Bytes, NotYet, End, Failed}
-use Rattle.pm_outside.specs.declared.link.Put.TheVariants.{Count, Failed as PutFailed}
+use Rattle.pm_outside.specs.declared.link.Put.TheVariants.{Count}
 use Rattle.pm_top.specs.declared.session.Ending.{Ending}
 use Rattle.pm_top.specs.declared.session.LinkFailed.{LinkFailed}
 use Rattle.pm_top.specs.Session.{bytes_of, last_messages}
@@ -35,14 +35,6 @@ pub wrote : (before now : Option Traffic) (count : ℕ) (from : List ℕ) → no
 wrote None now count from is = record { came_in = ap came_in_of is; went_out = ap went_out_of is }
 wrote (Some t) now count from is = record { came_in = ap came_in_of is ∙ Appended-none (Some t.came_in); went_out = ap went_out_of is }
 
-pub wrote_none : (before now : Option Traffic) (from : List ℕ) → now ≡ option_map (λ t. after_write t PutFailed from) before → Exchanged [] [] before now
-wrote_none None now from is = record { came_in = ap came_in_of is; went_out = ap went_out_of is }
-wrote_none (Some t) now from is = record { came_in = ap came_in_of is ∙ Appended-none (Some t.came_in); went_out = ap went_out_of is ∙ Appended-none (Some t.went_out) }
-
--- nothing is sent yet
-pub sends_none : (bytes : List ℕ) (before : Option Traffic) → SentAllBut bytes bytes before before
-sends_none bytes before = record { went = []; whole = refl; passed = nothing_passed before }
-
 -- so many more are sent
 pub sends_more : (bytes rest left : List ℕ) (count : ℕ) (before now later : Option Traffic) → left ≡ drop count rest → SentAllBut rest bytes before now → Exchanged [] (take count rest) now later → SentAllBut left bytes before later
 sends_more bytes rest left count before now later is so_far more = record {
@@ -50,19 +42,6 @@ sends_more bytes rest left count before now later is so_far more = record {
   whole = so_far.whole ∙ ap (λ (l : List ℕ). so_far.went ++ l) (sym (take-append-drop count rest) ∙ ap (λ (l : List ℕ). take count rest ++ l) (sym is)) ∙ sym (append_assoc so_far.went (take count rest) left);
   passed = passed_then [] so_far.went [] (take count rest) before now later so_far.passed more;
 }
-
--- a write that failed sent none
-pub sends_no_more : (bytes rest : List ℕ) (before now later : Option Traffic) → SentAllBut rest bytes before now → Exchanged [] [] now later → SentAllBut rest bytes before later
-sends_no_more bytes rest before now later so_far more = record {
-  went = so_far.went;
-  whole = so_far.whole;
-  passed = subst (λ (w : List ℕ). Exchanged [] w before later) (append-nil so_far.went) (passed_then [] so_far.went [] [] before now later so_far.passed more);
-}
-
--- all were sent
-pub sends_all : (bytes rest : List ℕ) (before now : Option Traffic) → length rest ≡ 0 → SentAllBut rest bytes before now → Exchanged [] bytes before now
-sends_all bytes [] before now none so_far = subst (λ (w : List ℕ). Exchanged [] w before now) (sym (so_far.whole ∙ append-nil so_far.went)) so_far.passed
-sends_all bytes (b ∷ rest) before now none so_far = absurd (omega arith)
 
 -- ---- one read
 
@@ -91,10 +70,6 @@ got_failed before now into is = got_none before now (λ t. after_read t Failed i
 
 pub got_end : (before now : Option Traffic) (into : List ℕ) → now ≡ option_map (λ t. after_read t End into) before → Exchanged [] [] before now
 got_end before now into is = got_none before now (λ t. after_read t End into) (λ t. (refl, refl)) is
-
-pub end_given : (before now : Option Traffic) (into : List ℕ) → now ≡ option_map (λ t. after_read t End into) before → HasEnded now
-end_given None now into is = subst HasEnded (sym is) tt
-end_given (Some t) now into is = subst HasEnded (sym is) refl
 
 -- fewer came than were waited for
 pub came_short : (wanted have : ℕ) (into : List ℕ) (before now later : Option Traffic) → have ≤ length into → wanted ≡ length into → (have ≡ length into → ⊥) → Exchanged (take have into) [] before now → Exchanged [] [] now later → CameShort wanted before later
@@ -127,10 +102,6 @@ front_of_grown old grown zeros have more is_have is =
 pub on_ok_from : {T E : Type 0} (result : Result T E) (P Q : Type 0) → (P → Q) → OnOk result P → OnOk result Q
 on_ok_from (Ok x) P Q more holds = more holds
 on_ok_from (Err e) P Q more holds = tt
-
--- so many bytes came into the buffer
-abbrev pub CameInto : (old new : List ℕ) (more : ℕ) (before now : Option Traffic) → Type 0
-CameInto old new more before now = (came : List ℕ) × (new ≡ old ++ came) × (length came ≡ more) × Exchanged came [] before now
 
 -- a link that gave its end has given it after a write too
 pub end_stays : (before now : Option Traffic) (put : Put) (from : List ℕ) → now ≡ option_map (λ t. after_write t put from) before → HasEnded before → HasEnded now

@@ -1,53 +1,43 @@
 -- What the store keeps of its file.
-use Rattle.std.proofs.Common.{◌≡◌, inl, inr, ℕ, ◌+◌, ◌-◌, ◌<◌, ◌≤◌, List, [], ◌∷◌, ◌++◌, length, take, Option, None, Some, refl, sym, ◌∙◌, ap, subst, arith, append_assoc, length-append}
+use Rattle.std.proofs.Common.{◌≡◌, inl, inr, ℕ, ◌+◌, ◌-◌, ◌<◌, ◌≤◌, List, [], ◌∷◌, ◌++◌, length, take, Option, None, Some, refl, sym, ◌∙◌, ap, subst, arith, length-append}
 use Rattle.std.specs.FinMap as map
 use Rattle.std.specs.Prelude.{IfSome, slice_index}
 use Rattle.std.specs.Option.{option_map}
 use Rattle.std.proofs.lemmas.List.{take_all}
-use Rattle.std.proofs.Math.Seq.{get_or-append_seam, take-append_seam}
+use Rattle.std.proofs.Math.Seq.{take-append_seam}
 use Rattle.pm_disk.specs.Files.{Files}
 use Rattle.pm_rows.specs.declared.commit.Change.{Change}
 use Rattle.pm_rows.specs.Fold.{RowMap, committed, folded}
 use Rattle.pm_rows.proofs.FoldLaws.{folded-push}
 use Rattle.pm_top.specs.declared.log.Log.{Log}
-use Rattle.pm_top.specs.declared.record.TheConstants.{HEADER}
 use Rattle.pm_top.specs.Log.{GrowsBy, KeepsAtStops, MayGrow, with_batch}
 use Rattle.pm_top.specs.History.{History, count_of, kept, rows_of, with_commit}
-use Rattle.pm_top.specs.StandsFor.{IsRow, IsWithinLimits, StandsFor, batch_bytes}
+use Rattle.pm_top.specs.StandsFor.{IsRow, StandsFor, batch_bytes}
 use Rattle.pm_top.specs.Store.{FileHolds, HoldsAcknowledged, HoldsNumber, LogHolds}
 use Rattle.pm_top.proofs.Books.{count-with_commit, rows-with_commit}
-use Rattle.pm_top.proofs.Batches.{Batches-front}
+use Rattle.pm_top.proofs.Stops.{gate_of}
+use Rattle.pm_rows.specs.Limits.{IsWithinRowLimits}
 
 abbrev IsSomething : Option (List ℕ) → Type 0
 IsSomething None = ⊥
 IsSomething (Some bytes) = Unit {0}
 
--- a log's closed gate stands where it ends
-pub gate_there : (bytes : List ℕ) (commits : List (List Change)) (end : ℕ) → StandsFor bytes commits end → (end < length bytes) × (slice_index bytes end ≡ 0)
-gate_there bytes commits end log =
-    let front = Batches-front log.behind (0 ∷ log.free) commits log.batches in
-    let head = log.gate ∷ HEADER in
-    let before = head ++ front.front in
-    let split : bytes ≡ before ++ (0 ∷ log.free) = log.header ∙ ap (λ (l : List ℕ). head ++ l) front.is ∙ sym (append_assoc head front.front (0 ∷ log.free)) in
-    let long : length before ≡ end = omega (arith, log.place, ap length split, length-append before (0 ∷ log.free)) in
-    (omega (arith, log.place), ap (λ (l : List ℕ). slice_index l end) split ∙ ap (λ (n : ℕ). slice_index (before ++ (0 ∷ log.free)) n) (sym long) ∙ get_or-append_seam before 0 log.free 0)
-
 pub gate_where_told : (told : Option Files) (rows : RowMap) (log : Log) → FileHolds told rows (Some log) → IfSome told (λ files. (log.end < length files.a) × (slice_index files.a log.end ≡ 0))
 gate_where_told None rows log holds = tt
-gate_where_told (Some files) rows log holds = gate_there files.a holds.0 log.end holds.1
+gate_where_told (Some files) rows log holds = gate_of files.a holds.0 log.end holds.1
 
 some_is_none : (bytes : List ℕ) → Some bytes ≡ None → ⊥
 some_is_none bytes is = subst IsSomething is tt
 
 -- a commit was appended
 pub file_goes : (before now : Option Files) (rows : RowMap) (log : Log) (batch : List ℕ) (commit : List Change) (next : ℕ) → FileHolds before rows (Some log) → now ≡ option_map (with_batch log.end batch) before
-    → IfSome before (λ old. IfSome now (λ new. GrowsBy batch old.a log.end new.a next)) → batch ≡ 1 ∷ batch_bytes commit ++ 0 ∷ [] → IsRow commit → IsWithinLimits (committed rows commit)
+    → IfSome before (λ old. IfSome now (λ new. GrowsBy batch old.a log.end new.a next)) → batch ≡ 1 ∷ batch_bytes commit ++ 0 ∷ [] → IsRow commit → IsWithinRowLimits (committed rows commit)
     → FileHolds now (committed rows commit) (Some (record { end = next; count = log.count + 1 }))
 file_goes None now rows log batch commit next holds tells grown is row within = subst (λ (n : Option Files). FileHolds n (committed rows commit) (Some (record { end = next; count = log.count + 1 }))) (sym tells) tt
 file_goes (Some files) now rows log batch commit next holds tells grown is row within =
     let grows = subst (λ (n : Option Files). IfSome n (λ new. GrowsBy batch files.a log.end new.a next)) tells grown in
     let commits = holds.0 in
-    let limits = subst (λ (r : RowMap). IsWithinLimits (committed r commit)) holds.2 within in
+    let limits = subst (λ (r : RowMap). IsWithinRowLimits (committed r commit)) holds.2 within in
     subst (λ (n : Option Files). FileHolds n (committed rows commit) (Some (record { end = next; count = log.count + 1 }))) (sym tells) (
       commits ++ commit ∷ [],
       grows commits commit holds.1 (record { bytes = is; row = row; within = limits }),
@@ -103,7 +93,7 @@ held_with history change changes file commits end stands rows_are count_is acked
 -- what an append that failed may have left
 pub file_failed : (history : History) (commit : List Change) (seen now : Option Files) (images : Files → Type 0) (rows : RowMap) (log : Log) (batch : List ℕ) (next : ℕ) → LogHolds seen images rows (Some log)
     → IfSome seen (λ before. IfSome now (λ after. MayGrow batch before.a log.end after.a next images)) → option_map (λ files. files.b) now ≡ option_map (λ files. files.b) seen
-    → batch ≡ 1 ∷ batch_bytes commit ++ 0 ∷ [] → IsRow commit → IsWithinLimits (committed rows commit) → rows ≡ rows_of history → log.count ≡ count_of history → history.acked ≤ count_of history
+    → batch ≡ 1 ∷ batch_bytes commit ++ 0 ∷ [] → IsRow commit → IsWithinRowLimits (committed rows commit) → rows ≡ rows_of history → log.count ≡ count_of history → history.acked ≤ count_of history
     → IfSome now (λ files. HoldsAcknowledged (with_commit history commit) files.a)
 file_failed history commit seen None images rows log batch next holds torn beside is row within rows_are count_is acked = tt
 file_failed history commit None (Some after) images rows log batch next holds torn beside is row within rows_are count_is acked = absurd (some_is_none after.b beside)
@@ -111,7 +101,7 @@ file_failed history [] (Some before) (Some after) images rows log batch next hol
 file_failed history (change ∷ changes) (Some before) (Some after) images rows log batch next holds torn beside is row within rows_are count_is acked =
     let commits = holds.file.0 in
     let commit = change ∷ changes in
-    let limits = subst (λ (r : RowMap). IsWithinLimits (committed r commit)) holds.file.2 within in
+    let limits = subst (λ (r : RowMap). IsWithinRowLimits (committed r commit)) holds.file.2 within in
     let same_rows : folded map.empty commits ≡ rows_of history = sym holds.file.2 ∙ rows_are in
     let same_count : length commits ≡ count_of history = sym holds.file.3 ∙ count_is in
     elim (torn commits commit holds.file.1 (record { bytes = is; row = row; within = limits }) holds.durable) [

@@ -5,16 +5,16 @@ use Rattle.std.proofs.Math.Seq.{take-append_seam, take-append-add}
 use Rattle.pm_rows.specs.declared.commit.Change.{Change}
 use Rattle.pm_rows.specs.Fold.{RowMap, committed, folded}
 use Rattle.pm_rows.proofs.FoldLaws.{folded-push}
-use Rattle.pm_top.specs.declared.record.TheConstants.{HEADER}
 use Rattle.pm_top.specs.declared.record.Unread.{Unread}
 use Rattle.pm_top.specs.declared.record.Unread.TheVariants.{Bad, NoMemory}
 use Rattle.pm_top.specs.declared.record.FileFault.TheVariants as faults
 use Rattle.pm_top.specs.Contents.{Damages}
 use Rattle.pm_top.specs.Damage.{Holding, IsLogFront, IsFileFront, IsFirstWrong}
-use Rattle.pm_top.specs.Unread.{Begins, IsBatch, OnlyWithout, StopsAt, Stops}
-use Rattle.pm_top.specs.StandsFor.{IsRow, Batches, IsWithinLimits, IsReadTo, StandsFor, batch_bytes}
+use Rattle.pm_top.specs.Unread.{BeginsWord, IsBatch, OnlyWithout, StopsAt, Stops}
+use Rattle.pm_top.specs.StandsFor.{IsRow, Batches, IsReadTo, StandsFor, batch_bytes, log_header}
 use Rattle.pm_top.proofs.Batches.{Batches-push, Batches-front, IsLogBehind, not_closed, same_batch}
 use Rattle.pm_top.proofs.Places.{front_cases}
+use Rattle.pm_rows.specs.Limits.{IsWithinRowLimits}
 
 -- ---- two readings of bytes that begin alike
 
@@ -48,9 +48,9 @@ pub record Front (bytes rest : List ℕ) (commits : List (List Change)) : Type 0
 pub front_of : (bytes rest : List ℕ) (rows : RowMap) (count : ℕ) → (read : IsReadTo bytes rows count rest) → Front bytes rest read.commits
 front_of bytes rest rows count read =
     let inner = Batches-front read.behind rest read.commits read.batches in record {
-      front = HEADER ++ inner.front;
-      is = read.header ∙ ap (λ (l : List ℕ). HEADER ++ l) inner.is ∙ sym (append_assoc HEADER inner.front rest);
-      holds = λ other. (inner.front ++ other, append_assoc HEADER inner.front other, inner.any_rest other);
+      front = log_header ++ inner.front;
+      is = read.header ∙ ap (λ (l : List ℕ). log_header ++ l) inner.is ∙ sym (append_assoc log_header inner.front rest);
+      holds = λ other. (inner.front ++ other, append_assoc log_header inner.front other, inner.any_rest other);
     }
 
 -- two ways of holding commits
@@ -82,12 +82,12 @@ module _ (bytes rest : List ℕ) (rows : RowMap) (count : ℕ) (read : IsReadTo 
   so_far = front_of bytes rest rows count read
 
   -- the commits of what was read and a part of a batch are among those that were read, and keep the limits
-  limits_kept : (tail : List ℕ) → NoBatch tail → (commits : List (List Change)) (other : List ℕ) → Holding commits other (so_far.front ++ tail) → IsWithinLimits (folded map.empty commits)
+  limits_kept : (tail : List ℕ) → NoBatch tail → (commits : List (List Change)) (other : List ℕ) → Holding commits other (so_far.front ++ tail) → IsWithinRowLimits (folded map.empty commits)
   limits_kept tail none commits other h =
       elim (both (so_far.front ++ tail) tail other read.commits commits (so_far.holds tail) h) [
         | shorter left is b ↦
             let first : take (length commits) read.commits ≡ commits = ap (λ (l : List (List Change)). take (length commits) l) is ∙ take-append_seam commits left in
-            subst (λ (l : List (List Change)). IsWithinLimits (folded map.empty l)) first (read.limits (length commits) (omega (arith, ap length is, length-append commits left)))
+            subst (λ (l : List (List Change)). IsWithinRowLimits (folded map.empty l)) first (read.limits (length commits) (omega (arith, ap length is, length-append commits left)))
         | longer commit others is b ↦ absurd (none b.0 commit b.1 b.3 b.4)
       ]
 
@@ -136,7 +136,7 @@ module _ (bytes rest : List ℕ) (rows : RowMap) (count : ℕ) (read : IsReadTo 
           | longer commit others is b ↦ (commit, b.1, b.3, ap (λ (l : List ℕ). drop 1 l) b.4)
         ]
 
-    stops_in_batch : (left : ℕ) → ((commit : List Change) (next : List ℕ) → IsRow commit → after ≡ batch_bytes commit ++ next → ⊥) → StopsAt (Begins IsBatch) after left → StopsAt IsLogFront bytes left
+    stops_in_batch : (left : ℕ) → ((commit : List Change) (next : List ℕ) → IsRow commit → after ≡ batch_bytes commit ++ next → ⊥) → StopsAt (BeginsWord IsBatch) after left → StopsAt IsLogFront bytes left
     stops_in_batch left wrong s = record {
       front = so_far.front ++ gate ∷ s.front;
       rest = s.rest;
@@ -159,12 +159,12 @@ module _ (bytes rest : List ℕ) (rows : RowMap) (count : ℕ) (read : IsReadTo 
         none commit next row at = wrong commit (next ++ s.rest) row (s.parts ∙ ap (λ (l : List ℕ). l ++ s.rest) at ∙ append_assoc (batch_bytes commit) next s.rest)
 
     -- a batch stops being one
-    pub stops_behind_gate : (P : Type 0) (e : Unread) → ((commit : List Change) (next : List ℕ) → IsRow commit → after ≡ batch_bytes commit ++ next → P) → OnlyWithout P e → Stops (Begins IsBatch) after e → Stops IsLogFront bytes e
+    pub stops_behind_gate : (P : Type 0) (e : Unread) → ((commit : List Change) (next : List ℕ) → IsRow commit → after ≡ batch_bytes commit ++ next → P) → OnlyWithout P e → Stops (BeginsWord IsBatch) after e → Stops IsLogFront bytes e
     stops_behind_gate P (Bad left) claim wrong s = stops_in_batch left (λ commit next row is. wrong (claim commit next row is)) s
     stops_behind_gate P NoMemory claim wrong s = tt
 
     -- a commit passes the limits
-    pub stops_at_last : (commit : List Change) (next : List ℕ) (now : RowMap) → IsRow commit → after ≡ batch_bytes commit ++ next → now ≡ committed rows commit → (IsWithinLimits now → ⊥)
+    pub stops_at_last : (commit : List Change) (next : List ℕ) (now : RowMap) → IsRow commit → after ≡ batch_bytes commit ++ next → now ≡ committed rows commit → (IsWithinRowLimits now → ⊥)
         → StopsAt IsLogFront bytes (length next + 1)
     stops_at_last commit next now row is applied over =
         let last = init_last (batch_bytes commit) (omega arith) in record {
@@ -187,11 +187,11 @@ module _ (bytes rest : List ℕ) (rows : RowMap) (count : ℕ) (read : IsReadTo 
               let holds = Holding-push (so_far.front ++ (gate ∷ batch_bytes commit ++ more)) read.commits gate commit more is_open row (so_far.holds (gate ∷ batch_bytes commit ++ more)) in
               let kept = f.limits (read.commits ++ commit ∷ []) more (subst (Holding (read.commits ++ commit ∷ []) more) whole holds) in
               let left : folded map.empty (read.commits ++ commit ∷ []) ≡ now = folded-push map.empty read.commits commit ∙ ap (λ (r : RowMap). committed r commit) (sym read.all_rows) ∙ sym applied in
-              over (subst IsWithinLimits left kept);
+              over (subst IsWithinRowLimits left kept);
         }
 
 -- the header stops being one
-stops_in_header : (bytes : List ℕ) (left : ℕ) → ((rest : List ℕ) → bytes ≡ HEADER ++ rest → ⊥) → StopsAt (Begins (λ word. word ≡ HEADER)) bytes left → StopsAt IsLogFront bytes left
+stops_in_header : (bytes : List ℕ) (left : ℕ) → ((rest : List ℕ) → bytes ≡ log_header ++ rest → ⊥) → StopsAt (BeginsWord (λ word. word ≡ log_header)) bytes left → StopsAt IsLogFront bytes left
 stops_in_header bytes left wrong s = record {
   front = s.front;
   rest = s.rest;
@@ -204,16 +204,16 @@ stops_in_header bytes left wrong s = record {
     spelled = (0 ∷ [], sym (append_assoc s.front s.begun.0 (0 ∷ [])) ∙ ap (λ (l : List ℕ). l ++ 0 ∷ []) s.begun.1, refl);
     limits = λ commits rest h. absurd (whole h.0 h.1);
   };
-  stuck = λ byte others more at f. elim (front_cases s.front HEADER (more ++ f.more) f.spelled.0 byte (sym (append_assoc s.front (byte ∷ more) f.more) ∙ f.spelled.1)) [
+  stuck = λ byte others more at f. elim (front_cases s.front log_header (more ++ f.more) f.spelled.0 byte (sym (append_assoc s.front (byte ∷ more) f.more) ∙ f.spelled.1)) [
     | inl h ↦ s.stuck byte others h.0 at ([], append-nil (s.front ++ byte ∷ h.0) ∙ sym h.1)
     | inr h ↦ whole h.0 h.1
   ];
 }
   where
-    whole : (behind : List ℕ) → s.front ≡ HEADER ++ behind → ⊥
-    whole behind is = wrong (behind ++ s.rest) (s.parts ∙ ap (λ (l : List ℕ). l ++ s.rest) is ∙ append_assoc HEADER behind s.rest)
+    whole : (behind : List ℕ) → s.front ≡ log_header ++ behind → ⊥
+    whole behind is = wrong (behind ++ s.rest) (s.parts ∙ ap (λ (l : List ℕ). l ++ s.rest) is ∙ append_assoc log_header behind s.rest)
 
-pub stops_before_batches : (bytes : List ℕ) (e : Unread) → OnlyWithout ((rest : List ℕ) × (bytes ≡ HEADER ++ rest)) e → Stops (Begins (λ word. word ≡ HEADER)) bytes e → Stops IsLogFront bytes e
+pub stops_before_batches : (bytes : List ℕ) (e : Unread) → OnlyWithout ((rest : List ℕ) × (bytes ≡ log_header ++ rest)) e → Stops (BeginsWord (λ word. word ≡ log_header)) bytes e → Stops IsLogFront bytes e
 stops_before_batches bytes (Bad left) wrong s = stops_in_header bytes left (λ rest is. wrong (rest, is)) s
 stops_before_batches bytes NoMemory wrong s = tt
 

@@ -1,11 +1,11 @@
 -- How long a message is, as its first five bytes tell it.
-use Rattle.std.proofs.Common.{◌≡◌, ℕ, ◌+◌, ◌-◌, ◌<◌, ◌^◌, List, [], ◌∷◌, ◌++◌, length, take, drop, inl, inr, ◌⊎◌, refl, sym, ◌∙◌, ap, arith, append_assoc, length-append, length-drop, Option}
+use Rattle.std.proofs.Common.{◌≡◌, ℕ, ◌+◌, ◌-◌, ◌<◌, ◌≤◌, ◌^◌, List, [], ◌∷◌, ◌++◌, length, take, drop, inl, inr, ◌⊎◌, refl, sym, ◌∙◌, ap, arith, append_assoc, length-append, length-drop, Option}
 use Rattle.std.specs.Int.{w32, from_be_bytes}
 use Rattle.std.proofs.lemmas.List.{take-append-le, drop-append-le}
 use Rattle.std.proofs.lemmas.Nat.{be_bytes_4, from_be_bytes-to_be_bytes_4}
 use Rattle.std.proofs.Math.Seq.{take-append_seam}
 use Rattle.pm_wire.specs.Pieces.{int32, string}
-use Rattle.pm_wire.specs.Frontend.{FrontMessage, Query, BadQuery, LongQuery, Terminate, Extended, Other, IsFront}
+use Rattle.pm_wire.specs.Frontend.{FrontMessage, Query, BadQuery, LongQuery, Terminate, Extended, Other, IsFront, Wants, its_type, its_length, its_body}
 use Rattle.pm_wire.proofs.Numbers.{length_int32, IsBytes}
 use Rattle.pm_outside.specs.Traffic.{Traffic}
 use Rattle.pm_top.specs.Exchange.{Exchanged, CameShort}
@@ -99,6 +99,16 @@ told_more : (header more : List ℕ) → length header ≡ 5 → told_length (he
 told_more header more five =
     let behind : drop 1 (header ++ more) ≡ drop 1 header ++ more = drop-append-le 1 header more (omega (arith, five)) in
     ap (λ (l : List ℕ). from_be_bytes w32 (take 4 l)) behind ∙ ap (from_be_bytes w32) (take-append-le 4 (drop 1 header) more (omega (arith, five, length-drop 1 header)))
+
+-- how many more are wanted behind a header is what it tells
+pub told_more_wanted : (header : List ℕ) (wanted : ℕ) → length header ≡ 5 → Wants header wanted → (5 ≤ wanted) × (wanted - 5 ≡ told_length header - 4)
+told_more_wanted header wanted five (its_type is one) = absurd (omega (arith, five, ap length is))
+told_more_wanted header wanted five (its_length kind part is simple short all) = absurd (omega (arith, five, ap length is, short))
+told_more_wanted header wanted five (its_body seen part is small short all) =
+    let number : List ℕ = int32 seen in
+    let told : told_length header ≡ seen =
+    ap told_length is ∙ ap (λ (n : ℕ). from_be_bytes w32 (take n (number ++ part))) (sym (length_int32 seen)) ∙ ap (from_be_bytes w32) (take-append_seam number part) ∙ from_int32 seen (omega (arith, small)) in
+    (omega (arith, short, all), omega (arith, told, all))
 
 -- a header, and fewer bytes than it tells
 pub cut_body : (header : List ℕ) (wanted : ℕ) (before now later : Option Traffic) → length header ≡ 5 → wanted ≡ told_length header - 4 → Exchanged header [] before now → CameShort wanted now later

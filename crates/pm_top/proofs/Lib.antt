@@ -12,6 +12,7 @@ pub mod Places
 pub mod Parts
 pub mod Plain
 pub mod Ports
+pub mod Redos
 pub mod Sending
 pub mod Served
 pub mod Short

@@ -1,26 +1,23 @@
 -- Messages that are sent one behind the other.
-use Rattle.std.proofs.Common.{◌≡◌, ℕ, ℤ, ◌+◌, ◌<◌, ◌≤◌, ◌^◌, ◌==◌, ◌%◌, ◌||◌, suc, pos, negsuc, FitsSigned, Fits, List, [], ◌∷◌, ◌++◌, length, map, take, get_or, codes, decimal, Some, Result, Ok, Err, OnOk, OnErr, refl, sym, ◌∙◌, ap, subst, arith, append_assoc, length-append}
+use Rattle.std.proofs.Common.{◌≡◌, ℕ, ℤ, ◌+◌, ◌<◌, ◌≤◌, ◌^◌, ◌==◌, ◌%◌, ◌||◌, suc, pos, negsuc, FitsSigned, Fits, List, [], ◌∷◌, ◌++◌, length, map, take, get_or, codes, decimal, Result, Ok, Err, OnOk, OnErr, refl, sym, ◌∙◌, ap, subst, arith, append_assoc, length-append}
 use Rattle.std.specs.Fmt.{signed_decimal}
 use Rattle.std.specs.Int.{w64}
 use Rattle.std.proofs.lemmas.Bool.{ne_eqb}
 use Rattle.std.proofs.lemmas.Fmt.{decimal_by_steps, length_signed_le, length-decimal-le}
 use lib.Signed.{mag}
-use Rattle.std.proofs.lemmas.Int.{ints, to_z-of_z}
-use mir.Val.{to_z, of_z}
+use Rattle.std.proofs.lemmas.Int.{ints}
 use Rattle.std.proofs.lemmas.List.Folds.{list_any-append}
 use Rattle.std.specs.List.{flat_map, list_any}
 use Rattle.std.proofs.lemmas.Grind.{flat_map-append}
 use Rattle.std.proofs.lemmas.List.{append-nil, map-append, take_more}
 use Rattle.std.proofs.lemmas.List.Concat.{flat_map-cons}
-use Rattle.pm_sql.specs.declared.script.TheConstants.{MAX_VALUE_BYTES}
 use Rattle.pm_query.specs.declared.item.Item.{Item}
 use Rattle.pm_wire.specs.Pieces.{HasNoZero}
 use Rattle.pm_wire.specs.Backend.{BackMessage, Pair, One, IsWritable, spelling}
-use Rattle.pm_top.specs.Session.{bytes_of, error, item_messages, BeginsWith}
-
-pub bytes_of-cons : (m : BackMessage) (ms : List BackMessage) → bytes_of (m ∷ ms) ≡ spelling m ++ bytes_of ms
-unfolding bytes_of
-bytes_of-cons m ms = flat_map-cons spelling m ms
+use Rattle.pm_wire.specs.declared.condition.Condition.TheVariants as conditions
+use Rattle.pm_wire.specs.Conditions.{told}
+use Rattle.pm_top.specs.Session.{bytes_of, item_messages, BeginsWith}
+use Rattle.pm_rows.specs.Limits.{max_value_bytes}
 
 pub bytes_of-one : (m : BackMessage) → bytes_of (m ∷ []) ≡ spelling m
 unfolding bytes_of
@@ -64,12 +61,6 @@ pub only_message : {T E : Type 0} (result : Result T E) (start now : List ℕ) (
 only_message (Ok x) start now m after = first_message start now m after
 only_message (Err e) start now m after = tt
 
-pub BeginsWith-more : (start was now : List ℕ) → BeginsWith start was → BeginsWith was now → BeginsWith start now
-BeginsWith-more start was now first second = record {
-  more = first.more ++ second.more;
-  is = second.is ∙ ap (λ (w : List ℕ). w ++ second.more) first.is ∙ append_assoc start first.more second.more;
-}
-
 pub key_magnitude : (key : ℤ) → FitsSigned w64 key → mag key < 2 ^ 63
 key_magnitude key fits = omega (arith, ints, fits)
 
@@ -77,10 +68,10 @@ pub key_short : (key : ℤ) → FitsSigned w64 key → length (signed_decimal ke
 key_short key fits = length_signed_le 19 key (omega (arith, key_magnitude key fits)) (key_magnitude key fits)
 
 -- the length of a row with a stored value
-pub row_fits : (key : ℤ) (value : List ℕ) → FitsSigned w64 key → length value ≤ MAX_VALUE_BYTES → 14 + length (signed_decimal key) + length value < 2 ^ 31
+pub row_fits : (key : ℤ) (value : List ℕ) → FitsSigned w64 key → length value ≤ max_value_bytes → 14 + length (signed_decimal key) + length value < 2 ^ 31
 row_fits key value fits short = omega (arith, short, key_short key fits)
 
-pub pair_writable : (key sent : ℤ) (value : List ℕ) → FitsSigned w64 key → sent ≡ key → length value ≤ MAX_VALUE_BYTES → IsWritable (Pair sent value)
+pub pair_writable : (key sent : ℤ) (value : List ℕ) → FitsSigned w64 key → sent ≡ key → length value ≤ max_value_bytes → IsWritable (Pair sent value)
 pair_writable key sent value fits is short = (tt, subst (λ (k : ℤ). 14 + length (signed_decimal k) + length value < 2 ^ 31) (sym is) (row_fits key value fits short))
 
 -- ---- texts without a zero byte
@@ -98,16 +89,9 @@ HasNoZero-signed : (key : ℤ) → FitsSigned w64 key → HasNoZero (signed_deci
 HasNoZero-signed (pos n) fits = HasNoZero-decimal n (omega (arith, ints, fits))
 HasNoZero-signed (negsuc n) fits = HasNoZero-decimal (suc n) (omega (arith, ints, fits))
 
-abbrev pub duplicate_detail : ℤ → List ℕ
-duplicate_detail key = codes "Key (k)=(" ++ signed_decimal key ++ codes ") already exists."
-
-pub detail_is : (key : ℤ) (detail : List ℕ) → FitsSigned w64 key → detail ≡ duplicate_detail (to_z w64 (of_z w64 key)) → detail ≡ duplicate_detail key
-detail_is key detail fits is = is ∙ ap duplicate_detail (to_z-of_z w64 key fits)
-
 -- the error of a key that is there can be written
-pub duplicate_writable : (key : ℤ) (detail : List ℕ) → FitsSigned w64 key → detail ≡ duplicate_detail (to_z w64 (of_z w64 key))
-    → IsWritable (error (codes "23505") (codes "duplicate key value violates unique constraint \"kv_pkey\"") (Some detail))
-duplicate_writable key detail fits is = subst (λ (d : List ℕ). IsWritable (error (codes "23505") (codes "duplicate key value violates unique constraint \"kv_pkey\"") (Some d))) (sym (detail_is key detail fits is)) (
+pub duplicate_writable : (key : ℤ) → FitsSigned w64 key → IsWritable (told (conditions.Duplicate key))
+duplicate_writable key fits = (
   (refl, refl, HasNoZero-append (codes "Key (k)=(") (signed_decimal key ++ codes ") already exists.") refl (HasNoZero-append (signed_decimal key) (codes ") already exists.") (HasNoZero-signed key fits) refl)),
   (omega (arith, key_short key fits, length-append (signed_decimal key) (codes ") already exists."))),
 )

@@ -8,7 +8,6 @@ use Rattle.std.proofs.Math.Seq.{take-append_seam}
 use Rattle.pm_outside.specs.Traffic.{Traffic}
 use Rattle.pm_wire.specs.Pieces.{int32, string, HasNoZero}
 use Rattle.pm_wire.proofs.Numbers.{length_int32, IsBytes}
-use Rattle.pm_top.specs.declared.session.TheConstants.{MAX_PACKET}
 use Rattle.pm_top.specs.declared.session.Ending.{Ending}
 use Rattle.pm_top.specs.declared.session.Ending.TheVariants.{Terminated, LinkEnded, LinkFailed, Refused, NoMemory, Panic}
 use Rattle.pm_top.specs.Exchange.{Exchanged, CameShort}
@@ -66,7 +65,7 @@ behind_header header body whole four is =
     ap (λ (l : List ℕ). take (length whole - 4) l) behind ∙ take_all (length whole - 4) body (omega (arith, ap length is, length-append header body, four))
 
 -- no packet has this length
-pub bad_length : (header rest : List ℕ) → length header ≡ 4 → (told header < 8) ⊎ (MAX_PACKET < told header) → IsServedPacket (header ++ rest) → ⊥
+pub bad_length : (header rest : List ℕ) → length header ≡ 4 → (told header < 8) ⊎ (10004 < told header) → IsServedPacket (header ++ rest) → ⊥
 bad_length header rest four bad served =
     let p = parts header rest four served in
     let is = told_served header rest four served in
@@ -97,7 +96,7 @@ cut_packet ending header wanted before now later four is kind passed short = (
 )
 
 -- a packet that is served
-pub whole_packet : (header body : List ℕ) (length_told : ℕ) (before now later : Option Traffic) → length header ≡ 4 → take 4 (drop 0 header) ≡ int32 length_told → length body ≡ length_told - 4 → 8 ≤ length_told → length_told ≤ MAX_PACKET → IsServedBody body
+pub whole_packet : (header body : List ℕ) (length_told : ℕ) (before now later : Option Traffic) → length header ≡ 4 → take 4 (drop 0 header) ≡ int32 length_told → length body ≡ length_told - 4 → 8 ≤ length_told → length_told ≤ 10004 → IsServedBody body
     → Exchanged header [] before now → Exchanged body [] now later → (packet : List ℕ) × IsServedPacket packet × Exchanged packet [] before later
 whole_packet header body length_told before now later four spelled size low high served passed rest =
     let number : length_told ≡ 4 + length body = omega (arith, size, low) in

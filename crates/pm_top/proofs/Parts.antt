@@ -9,7 +9,7 @@ use Rattle.pm_rows.specs.declared.commit.Change.{Change}
 use Rattle.pm_rows.specs.declared.commit.Change.TheVariants.{Put}
 use Rattle.pm_top.specs.StandsFor.{batch_bytes}
 use Rattle.pm_top.specs.declared.record.Unread.{Unread}
-use Rattle.pm_top.specs.Unread.{Begins, IsBatch, IsBodyLength, IsKey, IsText, OnlyWithout, Stops}
+use Rattle.pm_top.specs.Unread.{BeginsWord, IsBatch, IsBodyLength, IsKey, IsText, OnlyWithout, Stops}
 use Rattle.pm_top.proofs.Places.{stops_part}
 use Rattle.pm_top.proofs.Spelling.{spelled_row, length_first, fixed_behind, reads_on}
 
@@ -48,34 +48,34 @@ zero_fits = record { sfits = omega arith }
 -- ---- what completes each part
 
 module _ (long : ℕ) (low : 19 ≤ long) (high : long ≤ 8211) where
-  with_key : (key : ℤ) → FitsSigned w64 key → Begins IsBatch (to_be_bytes w32 long ++ (one_put ++ spelled_key key))
+  with_key : (key : ℤ) → FitsSigned w64 key → BeginsWord IsBatch (to_be_bytes w32 long ++ (one_put ++ spelled_key key))
   with_key key fits =
       let blank = spaces (long - 19) in
       (to_be_bytes w32 (long - 19) ++ blank.0, batch_is long key blank.0 low high fits blank.1 blank.2)
 
-  with_length : Begins IsBatch (to_be_bytes w32 long)
+  with_length : BeginsWord IsBatch (to_be_bytes w32 long)
   with_length = let k = with_key (pos 0) zero_fits in (one_put ++ (spelled_key (pos 0) ++ k.0), k.1)
 
-  with_one_put : Begins IsBatch (to_be_bytes w32 long ++ one_put)
+  with_one_put : BeginsWord IsBatch (to_be_bytes w32 long ++ one_put)
   with_one_put = let k = with_key (pos 0) zero_fits in (spelled_key (pos 0) ++ k.0, k.1)
 
-  with_value_length : (key : ℤ) → FitsSigned w64 key → Begins IsBatch (to_be_bytes w32 long ++ (one_put ++ (spelled_key key ++ to_be_bytes w32 (long - 19))))
+  with_value_length : (key : ℤ) → FitsSigned w64 key → BeginsWord IsBatch (to_be_bytes w32 long ++ (one_put ++ (spelled_key key ++ to_be_bytes w32 (long - 19))))
   with_value_length key fits = let blank = spaces (long - 19) in (blank.0, batch_is long key blank.0 low high fits blank.1 blank.2)
 
 -- ---- where each part stops
 
-pub stops_at_length : (bytes : List ℕ) (P : Type 0) (e : Unread) → ((v r : List ℕ) → bytes ≡ v ++ r → IsBodyLength v → P) → OnlyWithout P e → Stops (Begins IsBodyLength) bytes e → Stops (Begins IsBatch) bytes e
+pub stops_at_length : (bytes : List ℕ) (P : Type 0) (e : Unread) → ((v r : List ℕ) → bytes ≡ v ++ r → IsBodyLength v → P) → OnlyWithout P e → Stops (BeginsWord IsBodyLength) bytes e → Stops (BeginsWord IsBatch) bytes e
 stops_at_length bytes P e claim = stops_part IsBatch IsBodyLength []
-    (λ w is. subst (Begins IsBatch) (sym is.3) (with_length is.0 is.1 is.2))
+    (λ w is. subst (BeginsWord IsBatch) (sym is.3) (with_length is.0 is.1 is.2))
     (λ w is.
     let l = length_first w is.0 [] is.1 (is.2 ∙ sym (append-nil (batch_bytes is.0))) in
     (to_be_bytes w32 l.0, l.1, l.4, (l.0, l.2, l.3, refl)))
     bytes bytes P e refl claim
 
 module _ (bytes first : List ℕ) (long : ℕ) (low : 19 ≤ long) (high : long ≤ 8211) (parts : bytes ≡ to_be_bytes w32 long ++ first) where
-  pub stops_at_one_put : (P : Type 0) (e : Unread) → ((v r : List ℕ) → first ≡ v ++ r → v ≡ one_put → P) → OnlyWithout P e → Stops (Begins (λ word. word ≡ one_put)) first e → Stops (Begins IsBatch) bytes e
+  pub stops_at_one_put : (P : Type 0) (e : Unread) → ((v r : List ℕ) → first ≡ v ++ r → v ≡ one_put → P) → OnlyWithout P e → Stops (BeginsWord (λ word. word ≡ one_put)) first e → Stops (BeginsWord IsBatch) bytes e
   stops_at_one_put P e claim = stops_part IsBatch (λ word. word ≡ one_put) (to_be_bytes w32 long)
-      (λ w is. subst (λ (l : List ℕ). Begins IsBatch (to_be_bytes w32 long ++ l)) (sym is) (with_one_put long low high))
+      (λ w is. subst (λ (l : List ℕ). BeginsWord IsBatch (to_be_bytes w32 long ++ l)) (sym is) (with_one_put long low high))
       (λ w is.
       let f = fixed_behind (to_be_bytes w32 long ++ w) w long is.0 [] refl is.1 (is.2 ∙ sym (append-nil (batch_bytes is.0))) in
       (one_put, f.0, f.1, refl))
@@ -85,9 +85,9 @@ module _ (bytes first : List ℕ) (long : ℕ) (low : 19 ≤ long) (high : long 
     second_parts : bytes ≡ (to_be_bytes w32 long ++ one_put) ++ second
     second_parts = parts ∙ ap (λ (l : List ℕ). to_be_bytes w32 long ++ l) fixed
 
-    pub stops_at_key : (P : Type 0) (e : Unread) → ((v r : List ℕ) → second ≡ v ++ r → IsKey v → P) → OnlyWithout P e → Stops (Begins IsKey) second e → Stops (Begins IsBatch) bytes e
+    pub stops_at_key : (P : Type 0) (e : Unread) → ((v r : List ℕ) → second ≡ v ++ r → IsKey v → P) → OnlyWithout P e → Stops (BeginsWord IsKey) second e → Stops (BeginsWord IsBatch) bytes e
     stops_at_key P e claim = stops_part IsBatch IsKey (to_be_bytes w32 long ++ one_put)
-        (λ w is. subst (λ (l : List ℕ). Begins IsBatch ((to_be_bytes w32 long ++ one_put) ++ l)) (sym is.2) (with_key long low high is.0 is.1))
+        (λ w is. subst (λ (l : List ℕ). BeginsWord IsBatch ((to_be_bytes w32 long ++ one_put) ++ l)) (sym is.2) (with_key long low high is.0 is.1))
         (λ w is.
         let row = is.1 in
         let spelled = is.2 ∙ sym (append-nil (batch_bytes is.0)) ∙ ap (λ (c : List Change). batch_bytes c ++ []) row.puts ∙ spelled_row row.key row.value [] in
@@ -103,14 +103,14 @@ module _ (bytes first : List ℕ) (long : ℕ) (low : 19 ≤ long) (high : long 
           (on.value, on.there, (on.count, on.text))
 
       pub stops_at_value_length : (P : Type 0) (e : Unread) → ((v r : List ℕ) → third ≡ v ++ r → v ≡ to_be_bytes w32 (long - 19) → P) → OnlyWithout P e
-          → Stops (Begins (λ word. word ≡ to_be_bytes w32 (long - 19))) third e → Stops (Begins IsBatch) bytes e
+          → Stops (BeginsWord (λ word. word ≡ to_be_bytes w32 (long - 19))) third e → Stops (BeginsWord IsBatch) bytes e
       stops_at_value_length P e claim = stops_part IsBatch (λ word. word ≡ to_be_bytes w32 (long - 19)) (to_be_bytes w32 long ++ (one_put ++ spelled_key key))
-          (λ w is. subst (λ (l : List ℕ). Begins IsBatch ((to_be_bytes w32 long ++ (one_put ++ spelled_key key)) ++ l)) (sym is) (with_value_length long low high key fits))
+          (λ w is. subst (λ (l : List ℕ). BeginsWord IsBatch ((to_be_bytes w32 long ++ (one_put ++ spelled_key key)) ++ l)) (sym is) (with_value_length long low high key fits))
           (λ w is. let b = behind_key w is in (to_be_bytes w32 (long - 19), b.0 ++ [], b.1, refl))
           bytes third P e (second_parts ∙ ap (λ (l : List ℕ). to_be_bytes w32 long ++ (one_put ++ l)) keyed) claim
 
       pub stops_at_value : (fourth : List ℕ) → third ≡ to_be_bytes w32 (long - 19) ++ fourth → (P : Type 0) (e : Unread) → ((v r : List ℕ) → fourth ≡ v ++ r → IsText (long - 19) v → P) → OnlyWithout P e
-          → Stops (Begins (IsText (long - 19))) fourth e → Stops (Begins IsBatch) bytes e
+          → Stops (BeginsWord (IsText (long - 19))) fourth e → Stops (BeginsWord IsBatch) bytes e
       stops_at_value fourth counted P e claim =
           let u = to_be_bytes w32 long ++ (one_put ++ (spelled_key key ++ to_be_bytes w32 (long - 19))) in
           stops_part IsBatch (IsText (long - 19)) u

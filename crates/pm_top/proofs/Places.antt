@@ -6,7 +6,7 @@ use Rattle.std.proofs.lemmas.List.Folds.{length-prefix_len}
 use Rattle.std.proofs.lemmas.List.Sums.{common_prefix_len-le}
 use Rattle.pm_top.specs.declared.record.Unread.{Unread}
 use Rattle.pm_top.specs.declared.record.Unread.TheVariants.{Bad, NoMemory}
-use Rattle.pm_top.specs.Unread.{Begins, StopsAt, Stops, OnlyWithout}
+use Rattle.pm_top.specs.Unread.{BeginsWord, StopsAt, Stops, OnlyWithout}
 
 -- two ways to split a list: one front goes on past the other's
 pub front_cases : (front u more v : List ℕ) (b : ℕ) → front ++ b ∷ more ≡ u ++ v → ((t : List ℕ) × (u ≡ front ++ b ∷ t)) ⊎ ((t : List ℕ) × (front ≡ u ++ t))
@@ -23,14 +23,14 @@ front_cases (y ∷ front) (x ∷ u) more v b e =
 
 -- ---- one part behind others
 
-module _ (A B : List ℕ → Type 0) (u : List ℕ) (into : (w : List ℕ) → B w → Begins A (u ++ w)) (out : (w : List ℕ) → A (u ++ w) → (v : List ℕ) × (t : List ℕ) × (w ≡ v ++ t) × B v) where
-  part_begun : (front : List ℕ) → Begins B front → Begins A (u ++ front)
+module _ (A B : List ℕ → Type 0) (u : List ℕ) (into : (w : List ℕ) → B w → BeginsWord A (u ++ w)) (out : (w : List ℕ) → A (u ++ w) → (v : List ℕ) × (t : List ℕ) × (w ≡ v ++ t) × B v) where
+  part_begun : (front : List ℕ) → BeginsWord B front → BeginsWord A (u ++ front)
   part_begun front g =
       let w = into (front ++ g.0) g.1 in
       (g.0 ++ w.0, subst A (ap (λ (l : List ℕ). l ++ w.0) (sym (append_assoc u front g.0)) ∙ append_assoc (u ++ front) g.0 w.0) w.1)
 
-  part_stuck : (rest : List ℕ) (left : ℕ) → ((v r : List ℕ) → rest ≡ v ++ r → B v → ⊥) → (s : StopsAt (Begins B) rest left)
-      → (byte : ℕ) (others more : List ℕ) → s.rest ≡ byte ∷ others → Begins A ((u ++ s.front) ++ byte ∷ more) → ⊥
+  part_stuck : (rest : List ℕ) (left : ℕ) → ((v r : List ℕ) → rest ≡ v ++ r → B v → ⊥) → (s : StopsAt (BeginsWord B) rest left)
+      → (byte : ℕ) (others more : List ℕ) → s.rest ≡ byte ∷ others → BeginsWord A ((u ++ s.front) ++ byte ∷ more) → ⊥
   part_stuck rest left wrong s byte others more is g =
       let whole : ((u ++ s.front) ++ byte ∷ more) ++ g.0 ≡ u ++ (s.front ++ byte ∷ (more ++ g.0)) =
       append_assoc (u ++ s.front) (byte ∷ more) g.0 ∙ append_assoc u s.front (byte ∷ (more ++ g.0)) in
@@ -40,7 +40,7 @@ module _ (A B : List ℕ → Type 0) (u : List ℕ) (into : (w : List ℕ) → B
         | inr h ↦ wrong o.0 (h.0 ++ s.rest) (s.parts ∙ ap (λ (l : List ℕ). l ++ s.rest) h.1 ∙ append_assoc o.0 h.0 s.rest) o.3
       ]
 
-  stops_at_part : (bytes rest : List ℕ) (left : ℕ) → bytes ≡ u ++ rest → ((v r : List ℕ) → rest ≡ v ++ r → B v → ⊥) → StopsAt (Begins B) rest left → StopsAt (Begins A) bytes left
+  stops_at_part : (bytes rest : List ℕ) (left : ℕ) → bytes ≡ u ++ rest → ((v r : List ℕ) → rest ≡ v ++ r → B v → ⊥) → StopsAt (BeginsWord B) rest left → StopsAt (BeginsWord A) bytes left
   stops_at_part bytes rest left parts wrong s = record {
     front = u ++ s.front;
     rest = s.rest;
@@ -51,7 +51,7 @@ module _ (A B : List ℕ → Type 0) (u : List ℕ) (into : (w : List ℕ) → B
   }
 
   -- where a part stops, the whole does
-  pub stops_part : (bytes rest : List ℕ) (P : Type 0) (e : Unread) → bytes ≡ u ++ rest → ((v r : List ℕ) → rest ≡ v ++ r → B v → P) → OnlyWithout P e → Stops (Begins B) rest e → Stops (Begins A) bytes e
+  pub stops_part : (bytes rest : List ℕ) (P : Type 0) (e : Unread) → bytes ≡ u ++ rest → ((v r : List ℕ) → rest ≡ v ++ r → B v → P) → OnlyWithout P e → Stops (BeginsWord B) rest e → Stops (BeginsWord A) bytes e
   stops_part bytes rest P (Bad left) parts claim wrong s = stops_at_part bytes rest left parts (λ v r is b. wrong (claim v r is b)) s
   stops_part bytes rest P NoMemory parts claim wrong s = tt
 
@@ -65,7 +65,7 @@ same_in_front (x ∷ xs) (y ∷ ys) =
     ∙ ap (λ (n : ℕ). cond (eqb x y) (1 + n) 0) (sym (length-prefix_len (λ (p : ℕ × ℕ). eqb p.0 p.1) (zip xs ys)) ∙ same_in_front xs ys)
 
 -- bytes stop being the wanted ones where they and these differ
-pub differ_at : (xs ys : List ℕ) → StopsAt (Begins (λ word. word ≡ ys)) xs (length xs - common_prefix_len eqb xs ys)
+pub differ_at : (xs ys : List ℕ) → StopsAt (BeginsWord (λ word. word ≡ ys)) xs (length xs - common_prefix_len eqb xs ys)
 differ_at [] ys = record {
   front = [];
   rest = [];
@@ -83,7 +83,7 @@ differ_at (x ∷ xs) [] = record {
   stuck = λ b others more is g. omega (arith, ap length g.1);
 }
 differ_at (x ∷ xs) (y ∷ ys) =
-    cond_both (eqb x y) _ _ (λ (n : ℕ). StopsAt (Begins (λ word. word ≡ y ∷ ys)) (x ∷ xs) (length (x ∷ xs) - n))
+    cond_both (eqb x y) _ _ (λ (n : ℕ). StopsAt (BeginsWord (λ word. word ≡ y ∷ ys)) (x ∷ xs) (length (x ∷ xs) - n))
     (λ same.
     let s = differ_at xs ys in
     let is : x ≡ y = eqb-true _ _ same in
@@ -108,8 +108,8 @@ differ_at (x ∷ xs) (y ∷ ys) =
 -- ---- words of one length
 
 module _ (IsWord : List ℕ → Type 0) (k : ℕ) (long : (word : List ℕ) → IsWord word → length word ≡ k) where
-  stuck_further : (front rest begun r : List ℕ) → (length front ≡ k) ⊎ (length rest ≡ 0) → front ≡ begun ++ r → ((b : ℕ) (others more : List ℕ) → r ≡ b ∷ others → Begins IsWord (begun ++ b ∷ more) → ⊥)
-      → (b : ℕ) (others more : List ℕ) → r ++ rest ≡ b ∷ others → Begins IsWord (begun ++ b ∷ more) → ⊥
+  stuck_further : (front rest begun r : List ℕ) → (length front ≡ k) ⊎ (length rest ≡ 0) → front ≡ begun ++ r → ((b : ℕ) (others more : List ℕ) → r ≡ b ∷ others → BeginsWord IsWord (begun ++ b ∷ more) → ⊥)
+      → (b : ℕ) (others more : List ℕ) → r ++ rest ≡ b ∷ others → BeginsWord IsWord (begun ++ b ∷ more) → ⊥
   stuck_further front rest begun [] whole is stuck b others more at g =
       let all = long ((begun ++ b ∷ more) ++ g.0) g.1 in
       omega (arith, all, length-append (begun ++ b ∷ more) g.0, length-append begun (b ∷ more), ap length is, length-append begun [], whole, ap length at)
@@ -117,7 +117,7 @@ module _ (IsWord : List ℕ → Type 0) (k : ℕ) (long : (word : List ℕ) → 
 
   -- bytes behind so many aren't looked at
   pub stops_in_cut : (bytes front rest : List ℕ) (m n : ℕ) → front ≡ take m bytes → rest ≡ drop m bytes → (length front ≡ k) ⊎ (length rest ≡ 0) → n ≤ length front
-      → StopsAt (Begins IsWord) front (length front - n) → StopsAt (Begins IsWord) bytes (length bytes - n)
+      → StopsAt (BeginsWord IsWord) front (length front - n) → StopsAt (BeginsWord IsWord) bytes (length bytes - n)
   stops_in_cut bytes front rest m n first last whole le s =
       let parts : bytes ≡ front ++ rest = sym (take-append-drop m bytes) ∙ (λ i. sym first i ++ sym last i) in record {
         front = s.front;

@@ -10,9 +10,8 @@ use Rattle.pm_rows.specs.declared.commit.Change.TheVariants.{Put}
 use Rattle.pm_rows.specs.Fold.{RowMap, committed}
 use Rattle.pm_sql.specs.declared.stmt.Stmt.{Stmt}
 use Rattle.pm_sql.specs.declared.stmt.Stmt.TheVariants.{Insert, Select}
-use Rattle.pm_sql.specs.declared.script.TheConstants.{MAX_VALUE_BYTES}
 use Rattle.pm_query.specs.Answer.{is_full, is_too_large, commit_of}
-use Rattle.pm_top.specs.StandsFor.{HasShortValue, IsRow, IsSpelled, IsWithinLimits}
+use Rattle.pm_top.specs.StandsFor.{IsRow}
 use Rattle.pm_query.specs.Answer.{items_of, row_at}
 use Rattle.std.specs.Prelude.{Option, Some, None}
 use Rattle.pm_query.specs.declared.item.Item.{Item}
@@ -20,13 +19,14 @@ use Rattle.pm_query.specs.declared.item.Item.TheVariants as items
 use Rattle.pm_top.specs.Session.{HasShortValues, IsShortRow}
 use Rattle.pm_top.specs.Short.{HasShortRows}
 use Rattle.pm_top.specs.Store.{IsPlain}
+use Rattle.pm_rows.specs.Limits.{max_value_bytes, IsWithinRowLimits}
 
 -- what a script commits that isn't empty: one row, and the limits hold with it
 pub record CommitsRow (rows : RowMap) (commit : List Change) : Type 0 where
   pub row : IsRow commit
-  pub limits : IsWithinLimits (committed rows commit)
+  pub limits : IsWithinRowLimits (committed rows commit)
 
-inserted : (rows : RowMap) (key : ℤ) (value : List ℕ) (known full large : Bool) → IsUtf8 value → length value ≤ MAX_VALUE_BYTES → map.contains_key rows key ≡ known → is_full rows ≡ full
+inserted : (rows : RowMap) (key : ℤ) (value : List ℕ) (known full large : Bool) → IsUtf8 value → length value ≤ max_value_bytes → map.contains_key rows key ≡ known → is_full rows ≡ full
     → is_too_large (map.insert rows key value) ≡ large → (commit_of rows (Insert key value ∷ []) ≡ []) ⊎ ((commit_of rows (Insert key value ∷ []) ≡ Put key value ∷ []) × (full ≡ false) × (large ≡ false) × (known ≡ false))
 inserted rows key value true full large utf8 short k f l = inl (rw k refl)
 inserted rows key value false true large utf8 short k f l = inl (rw (k, f) refl)
@@ -34,7 +34,7 @@ inserted rows key value false false true utf8 short k f l = inl (rw (k, f, l) re
 inserted rows key value false false false utf8 short k f l = inr (rw (k, f, l) refl, refl, refl, refl)
 
 -- a row that is added keeps the limits
-within : (rows : RowMap) (key : ℤ) (value : List ℕ) → is_full rows ≡ false → is_too_large (map.insert rows key value) ≡ false → map.contains_key rows key ≡ false → IsWithinLimits (map.insert rows key value)
+within : (rows : RowMap) (key : ℤ) (value : List ℕ) → is_full rows ≡ false → is_too_large (map.insert rows key value) ≡ false → map.contains_key rows key ≡ false → IsWithinRowLimits (map.insert rows key value)
 within rows key value full large known = record {
   few = omega (arith, leb-false _ _ full, map.len-insert int_cmp_total rows key value ∙ ap (λ (b : Bool). cond b (map.len rows) (map.len rows + 1)) known);
   small = ltb-false _ _ large;
@@ -50,17 +50,10 @@ plain_commit rows script (inl plain) some =
       | inl nothing ↦ absurd (omega (arith, some, ap length (is ∙ nothing)))
       | inr row ↦ record {
         row = record { key = key; value = value; puts = is ∙ row.0; in_range = plain.3; text = plain.4; short = plain.5 };
-        limits = subst (λ (commit : List Change). IsWithinLimits (committed rows commit)) (sym (is ∙ row.0)) (within rows key value row.1 row.2 row.3);
+        limits = subst (λ (commit : List Change). IsWithinRowLimits (committed rows commit)) (sym (is ∙ row.0)) (within rows key value row.1 row.2 row.3);
       }
     ]
 plain_commit rows script (inr plain) some = absurd (omega (arith, some, ap length (ap (commit_of rows) plain.1)))
-
--- and can be spelled
-pub row_spelled : (commit : List Change) → IsRow commit → IsSpelled commit
-row_spelled commit row = record {
-  few = omega (arith, ap length row.puts);
-  short = subst (λ (c : List Change). All HasShortValue c) (sym row.puts) (All-cons HasShortValue (Put row.key row.value) [] row.short (All-nil HasShortValue));
-}
 
 one_short : (item : Item) → HasShortValues item → All HasShortValues (item ∷ [])
 one_short item short = All-cons HasShortValues item [] short (All-nil HasShortValues)

@@ -1,9 +1,10 @@
 -- The links of a port that are out.
-use Rattle.std.proofs.Common.{◌≡◌, ℕ, ◌≤◌, ◌<◌, ◌⊎◌, inl, inr, List, [], ◌∷◌, ◌++◌, length, Option, None, Some, option_map, IfSome, refl, sym, ◌∙◌, ap, subst, arith, length-append}
-use Rattle.pm_outside.specs.declared.port.Accepted.{Accepted}
-use Rattle.pm_outside.specs.declared.port.Accepted.TheVariants.{Link, NotYet, End, Failed}
+use Rattle.std.proofs.Common.{◌≡◌, ℕ, ◌+◌, ◌-◌, ◌≤◌, ◌<◌, ◌⊎◌, inl, inr, List, [], ◌∷◌, ◌++◌, length, Option, None, Some, option_map, IfSome, refl, sym, ◌∙◌, ap, subst, arith, length-append}
 use Rattle.pm_outside.specs.Traffic.{Traffic}
-use Rattle.pm_outside.specs.Visits.{Visits, after_accept, after_done}
+use Rattle.std.specs.Prelude.{slice_get, unwrap_or}
+use Rattle.std.proofs.lemmas.Option.{slice_get-get_or}
+use Rattle.std.proofs.Math.Seq.{get_or-append_seam}
+use Rattle.pm_outside.specs.Visits.{Visits, after_done, faults_when_given}
 use Rattle.pm_exit.specs.declared.child.Status.{Status}
 use Rattle.pm_exit.specs.declared.child.Status.TheVariants.{Code, Signal}
 use Rattle.pm_top.specs.declared.session.Ending.{Ending}
@@ -17,26 +18,28 @@ use Rattle.pm_top.specs.Session.{status_of}
 use Rattle.pm_top.specs.Words.{IsLine}
 use Rattle.pm_top.specs.Once.{HadNoVisit, HadOneVisit, top_of, with_link, with_visit}
 
--- no more links came back than were given
-abbrev pub Balanced : Option Visits → Type 0
-Balanced visits = IfSome visits (λ v. length v.back ≤ length v.given)
-
-pub still_balanced : {L : Type 0} (number : L → ℕ) (before now : Option Visits) (answer : Accepted L) → Balanced before → now ≡ option_map (λ v. after_accept number v answer) before → Balanced now
-still_balanced number None now answer b is = subst Balanced (sym is) tt
-still_balanced number (Some v) now (Link link) b is = subst Balanced (sym is) (omega (arith, b, length-append v.given (number link ∷ [])))
-still_balanced number (Some v) now NotYet b is = subst Balanced (sym is) b
-still_balanced number (Some v) now End b is = subst Balanced (sym is) b
-still_balanced number (Some v) now Failed b is = subst Balanced (sym is) b
-
 -- one that was given is out
-pub one_is_out : (number : ℕ) (before now : Option Visits) → Balanced before → now ≡ option_map (λ (v : Visits). record v { given = v.given ++ number ∷ [] }) before → IfSome now (λ v. length v.back < length v.given)
-one_is_out number None now b is = subst (λ (n : Option Visits). IfSome n (λ v. length v.back < length v.given)) (sym is) tt
-one_is_out number (Some v) now b is = subst (λ (n : Option Visits). IfSome n (λ v. length v.back < length v.given)) (sym is) (omega (arith, b, length-append v.given (number ∷ [])))
+pub one_is_out : (faults : ℕ) (before now : Option Visits) → IfSome before (λ v. length v.back ≤ length v.given) → now ≡ option_map (with_link faults) before → IfSome now (λ v. length v.back < length v.given)
+one_is_out faults None now balanced is = subst (λ (n : Option Visits). IfSome n (λ v. length v.back < length v.given)) (sym is) tt
+one_is_out faults (Some v) now balanced is = subst (λ (n : Option Visits). IfSome n (λ v. length v.back < length v.given)) (sym is) (omega (arith, balanced, length-append v.given (faults ∷ [])))
+
+-- how often the link that was given last had failed
+last_given : (faults number : ℕ) (v : Visits) → number ≡ length v.given + 1 → faults_when_given (with_link faults v) number ≡ faults
+last_given faults number v is =
+    let all = v.given ++ faults ∷ [] in
+    let place : number - 1 ≡ length v.given = omega (arith, is) in
+    ap (λ (n : ℕ). unwrap_or (slice_get all n) 0) place
+    ∙ ap (λ (o : Option ℕ). unwrap_or o 0) (slice_get-get_or all (length v.given) 0 (omega (arith, length-append v.given (faults ∷ []))))
+    ∙ get_or-append_seam v.given faults [] 0
 
 -- a link that was given came back
-pub visit_of : (number : ℕ) (traffic : Option Traffic) (before mid now : Option Visits) → mid ≡ option_map (with_link number) before → now ≡ option_map (λ v. after_done v number traffic) mid → now ≡ option_map (with_visit number traffic) before
-visit_of number traffic None mid now given back = back ∙ ap (option_map (λ v. after_done v number traffic)) given
-visit_of number traffic (Some v) mid now given back = back ∙ ap (option_map (λ v. after_done v number traffic)) given
+pub visit_of : (number given back : ℕ) (traffic : Option Traffic) (before mid now : Option Visits) → mid ≡ option_map (with_link given) before → IfSome before (λ v. number ≡ length v.given + 1)
+    → now ≡ option_map (λ v. after_done v number traffic back) mid → now ≡ option_map (with_visit given traffic back) before
+visit_of number given back traffic None mid now is numbered done = done ∙ ap (option_map (λ v. after_done v number traffic back)) is
+visit_of number given back traffic (Some v) mid now is numbered done =
+    done ∙ ap (option_map (λ v. after_done v number traffic back)) is
+    ∙ ap (λ (f : ℕ). Some (record (with_link given v) { back = v.back ++ record { number = number; traffic = traffic; faults_given = f; faults_back = back } ∷ [] })) (last_given given number v numbered)
+    ∙ ap (λ (n : ℕ). Some (record (with_link given v) { back = v.back ++ record { number = n; traffic = traffic; faults_given = given; faults_back = back } ∷ [] })) numbered
 
 abbrev IsCode : Status → Type 0
 IsCode (Code n) = Unit {0}
@@ -52,10 +55,10 @@ crash_of Refused n is = absurd (subst IsCode is tt)
 crash_of NoMemory n is = absurd (subst IsCode is tt)
 
 -- a visit whose fault of the disk was met in a longer time
-pub visit_since : {L : Type 0} (number : L → ℕ) (traffic : L → Option Traffic) (faults : L → ℕ) (key : ℕ) (status : Top) (p0 p1 : Option Visits) (b0 b1 : Option (List BookEntry)) (failed failed_since : Type 0) → (failed → failed_since)
-    → HadNoVisit status p0 p1 b0 b1 ⊎ HadOneVisit number traffic faults key failed status p0 p1 b0 b1 → HadNoVisit status p0 p1 b0 b1 ⊎ HadOneVisit number traffic faults key failed_since status p0 p1 b0 b1
-visit_since number traffic faults key status p0 p1 b0 b1 failed failed_since weaker (inl none) = inl none
-visit_since number traffic faults key status p0 p1 b0 b1 failed failed_since weaker (inr one) = inr (record {
+pub visit_since : {L : Type 0} (traffic : L → Option Traffic) (faults : L → ℕ) (key : ℕ) (status : Top) (p0 p1 : Option Visits) (b0 b1 : Option (List BookEntry)) (failed failed_since : Type 0) → (failed → failed_since)
+    → HadNoVisit status p0 p1 b0 b1 ⊎ HadOneVisit traffic faults key failed status p0 p1 b0 b1 → HadNoVisit status p0 p1 b0 b1 ⊎ HadOneVisit traffic faults key failed_since status p0 p1 b0 b1
+visit_since traffic faults key status p0 p1 b0 b1 failed failed_since weaker (inl none) = inl none
+visit_since traffic faults key status p0 p1 b0 b1 failed failed_since weaker (inr one) = inr (record {
   link = one.link;
   back = one.back;
   fresh = one.fresh;

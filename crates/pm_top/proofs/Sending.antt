@@ -1,8 +1,8 @@
 -- Bytes that are sent piece by piece.
-use Rattle.std.proofs.Common.{◌≡◌, ℕ, ◌-◌, List, [], ◌++◌, Result, Ok, Err, OnOk, length, take, drop, Option, None, Some, refl, sym, ◌∙◌, ap, arith, append_assoc, take-append-drop, length-drop}
+use Rattle.std.proofs.Common.{◌≡◌, ℕ, ◌-◌, List, ◌++◌, Result, Ok, Err, OnOk, length, take, drop, Option, None, Some, refl, sym, ◌∙◌, ap, arith, append_assoc, take-append-drop, length-drop}
 use Rattle.std.specs.Option.{option_map}
 use Rattle.std.specs.Prelude.{codes, decimal}
-use Rattle.std.proofs.lemmas.List.{take_all, append-nil}
+use Rattle.std.proofs.lemmas.List.{take_all}
 use Rattle.pm_disk.specs.declared.disk.Which.{Which}
 use Rattle.pm_disk.specs.declared.disk.Which.TheVariants.{A, B}
 use Rattle.pm_top.specs.declared.print.SinkFailed.{SinkFailed}
@@ -18,11 +18,6 @@ rest_of xs n = take_all _ _ (omega (arith, length-drop n xs))
 pub piece_then : (told : Option (List ℕ)) (xs : List ℕ) (n : ℕ) → option_map (λ w. w ++ drop n xs) (option_map (λ w. w ++ take n xs) told) ≡ option_map (λ w. w ++ xs) told
 piece_then None xs n = refl
 piece_then (Some w) xs n = ap (λ (l : List ℕ). Some l) (append_assoc w (take n xs) (drop n xs) ∙ ap (λ (l : List ℕ). w ++ l) (take-append-drop n xs))
-
--- nothing more behind what stands
-pub nothing_then : (told : Option (List ℕ)) → option_map (λ w. w ++ []) told ≡ told
-nothing_then None = refl
-nothing_then (Some w) = ap (λ (l : List ℕ). Some l) (append-nil w)
 
 -- three pieces behind what stands
 three_then : (a b c line : List ℕ) (told w1 w2 w3 : Option (List ℕ)) → line ≡ a ++ b ++ c → w1 ≡ option_map (λ w. w ++ a) told → w2 ≡ option_map (λ w. w ++ b) w1 → w3 ≡ option_map (λ w. w ++ c) w2

@@ -6,25 +6,25 @@ use Rattle.pm_rows.specs.declared.commit.Change.{Change}
 use Rattle.pm_rows.specs.declared.commit.Change.TheVariants.{Put}
 use Rattle.pm_rows.specs.Fold.{RowMap, changed, committed, folded}
 use Rattle.pm_rows.proofs.FoldLaws.{same_key, get-changed}
-use Rattle.pm_sql.specs.declared.script.TheConstants.{MAX_VALUE_BYTES}
 use Rattle.pm_top.specs.StandsFor.{Batches, IsRow}
 use Rattle.pm_top.specs.Short.{HasShortRows, IsRowOrNone}
 use Rattle.pm_top.specs.StandsFor.{StandsFor}
+use Rattle.pm_rows.specs.Limits.{max_value_bytes}
 
 pub short_empty : HasShortRows map.empty
 short_empty = record { short = λ key value is. none key value (sym (map.get-empty int_cmp key) ∙ is) }
   where
-    none : (key : ℤ) (value : List ℕ) → None ≡ Some value → length value ≤ MAX_VALUE_BYTES
+    none : (key : ℤ) (value : List ℕ) → None ≡ Some value → length value ≤ max_value_bytes
     none key value is = absurd cc
 
-either : (b : Bool) (new value : List ℕ) (old : Option (List ℕ)) → length new ≤ MAX_VALUE_BYTES → (old ≡ Some value → length value ≤ MAX_VALUE_BYTES) → cond b (Some new) old ≡ Some value → length value ≤ MAX_VALUE_BYTES
+either : (b : Bool) (new value : List ℕ) (old : Option (List ℕ)) → length new ≤ max_value_bytes → (old ≡ Some value → length value ≤ max_value_bytes) → cond b (Some new) old ≡ Some value → length value ≤ max_value_bytes
 either true new value old short kept is = let same : new ≡ value = cc in omega (arith, short, ap length same)
 either false new value old short kept is = kept is
 
 pub short_committed : (rows : RowMap) (commit : List Change) → HasShortRows rows → IsRow commit → HasShortRows (committed rows commit)
 short_committed rows commit short row = record { short = λ key value is. kept key value is }
   where
-    kept : (key : ℤ) (value : List ℕ) → map.get (committed rows commit) key ≡ Some value → length value ≤ MAX_VALUE_BYTES
+    kept : (key : ℤ) (value : List ℕ) → map.get (committed rows commit) key ≡ Some value → length value ≤ max_value_bytes
     kept key value is =
         let put : map.get (changed rows (Put row.key row.value)) key ≡ Some value = ap (λ (c : List Change). map.get (committed rows c) key) (sym row.puts) ∙ is in
         either (same_key key row.key) row.value value (map.get rows key) row.short (short.short key value) (sym (get-changed rows (Put row.key row.value) key) ∙ put)

@@ -1,5 +1,5 @@
 -- How long a commit's bytes are.
-use Rattle.std.proofs.Common.{◌≡◌, ℕ, ◌+◌, ◌-◌, ◌*◌, ◌≤◌, ◌<◌, ◌^◌, List, [], ◌∷◌, ◌++◌, length, All, take, drop, get_or, refl, sym, ◌∙◌, ap, subst, arith, add-one, ℤ, append_assoc, append-nil, length-append}
+use Rattle.std.proofs.Common.{◌≡◌, ℕ, ◌+◌, ◌-◌, ◌*◌, ◌≤◌, ◌<◌, ◌^◌, List, [], ◌∷◌, ◌++◌, length, All, take, drop, get_or, refl, sym, ◌∙◌, ap, arith, add-one, ℤ, append_assoc, append-nil, length-append}
 use Rattle.std.specs.List.{flat_map}
 use Rattle.std.specs.Str.{IsUtf8}
 use Rattle.std.specs.Int.{w16, w32, w64, to_be_bytes, from_be_bytes, cast_unsigned, cast_signed}
@@ -9,11 +9,11 @@ use Rattle.std.proofs.lemmas.Nat.{from_be_bytes-to_be_bytes_4, from_be_bytes-to_
 use Rattle.std.proofs.Math.Facts.{Fits-of_z}
 use Rattle.std.proofs.Math.Seq.{drop-append_seam, take-append_seam, take-suc}
 use Rattle.std.proofs.lemmas.List.Concat.{flat_map-cons}
-use Rattle.std.proofs.lemmas.List.Elements.{All-head, All-tail, All-push}
+use Rattle.std.proofs.lemmas.List.Elements.{All-head, All-tail}
 use Rattle.std.proofs.lemmas.List.{flat_map_more}
 use Rattle.pm_rows.specs.declared.commit.Change.{Change}
 use Rattle.pm_rows.specs.declared.commit.Change.TheVariants.{Put, Del}
-use Rattle.pm_top.specs.StandsFor.{HasShortValue, IsSpelled, IsRow, IsTyped, batch_bytes, change_bytes, commit_bytes, body_bytes}
+use Rattle.pm_top.specs.StandsFor.{HasShortValue, IsSpelled, IsRow, batch_bytes, change_bytes, commit_bytes, body_bytes}
 
 length-change : (change : Change) → HasShortValue change → length (change_bytes change) ≤ 8205
 length-change (Put key value) short = omega (arith, length-append (to_be_bytes w64 (cast_unsigned w64 key)) (to_be_bytes w32 (length value) ++ value), length-append (to_be_bytes w32 (length value)) value)
@@ -54,10 +54,6 @@ body_more out head r s commit i change lt is before now =
     ∙ flat_map_more change_bytes (out ++ head) (take i commit) change
     ∙ ap (λ (l : List Change). (out ++ head) ++ flat_map change_bytes l) (sym (take_one_more commit i change lt is))
     ∙ append_assoc out head (flat_map change_bytes (take (i + 1) commit))
-
-pub typed_more : (commit : List Change) (i : ℕ) (change : Change) → i < length commit → change ≡ get_or commit i change
-    → All IsTyped (take i commit) → IsTyped change → All IsTyped (take (i + 1) commit)
-typed_more commit i change lt is before now = subst (All IsTyped) (sym (take_one_more commit i change lt is)) (All-push IsTyped (take i commit) change before now)
 
 -- two lists that begin with parts of one length are equal only part by part
 pub same_parts : (a b x y : List ℕ) → length a ≡ length b → a ++ x ≡ b ++ y → (a ≡ b) × (x ≡ y)

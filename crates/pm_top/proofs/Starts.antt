@@ -87,9 +87,6 @@ from_empty status base entries None left legal tells is empty = subst (LeavesBoo
 from_empty status base entries (Some book) left legal tells is empty =
     subst (LeavesBook status base) (sym (is ∙ ap (λ (b : List BookEntry). Some (b ++ entries)) empty)) (legal, tells)
 
-pub opened_legal : (base : Base) → IsLegal base (Opened 1 ∷ [])
-opened_legal base = ((refl, λ pid. refl), tt)
-
 pub left_legal : (base : Base) → IsLegal base (Opened 1 ∷ Attached 1 1 ∷ Detached 1 ∷ [])
 left_legal base = ((refl, λ pid. refl), ((omega arith, refl), (omega arith, tt)))
 
@@ -248,10 +245,10 @@ broken_start base faults since count told mid behind left same rose more fits fi
     (Appended-then (entered ++ Broke 1 since count ∷ []) (Detached 1 ∷ []) told behind left (Appended-then entered (Broke 1 since count ∷ []) told mid behind first broke) last) empty
 
 pub failed_leaves : (fault : RedoFault) (base : Base) (faults count : ℕ) (told mid behind left : Option (List BookEntry)) → base.faults ≡ faults
-    → (fault ≡ redo.Disk → Rose faults count) → faults ≤ count → (fault ≡ redo.Disk → count < 2 ^ 64) → mid ≡ option_map (λ b. b ++ entered) told
+    → (fault ≡ redo.Disk → Rose faults count) → faults ≤ count → count < 2 ^ 64 → mid ≡ option_map (λ b. b ++ entered) told
     → (fault ≡ redo.Disk → (since : ℕ) × (behind ≡ option_map (λ b. b ++ Broke 1 since count ∷ []) mid)) → (fault ≢ redo.Disk → behind ≡ mid) → left ≡ option_map (λ b. b ++ Detached 1 ∷ []) behind
     → IsEmptyBook told → LeavesBook (Abnormal (StartupFailed (Redo fault))) base left
-failed_leaves redo.Disk base faults count told mid behind left same rose more fits first broke other last empty = broken_start base faults (broke refl).0 count told mid behind left same (rose refl) more (fits refl) first (broke refl).1 last empty
+failed_leaves redo.Disk base faults count told mid behind left same rose more fits first broke other last empty = broken_start base faults (broke refl).0 count told mid behind left same (rose refl) more fits first (broke refl).1 last empty
 failed_leaves redo.NoCluster base faults count told mid behind left same rose more fits first broke other last empty =
     unread_leaves (Abnormal (StartupFailed (Redo redo.NoCluster))) base told mid behind left refl first (other (λ is. not_disk redo.NoCluster tt is)) last empty
 failed_leaves (redo.BadFile file at) base faults count told mid behind left same rose more fits first broke other last empty =

@@ -13,7 +13,6 @@ use Rattle.std.proofs.lemmas.Int.{ints, to_z-of_z}
 use Rattle.std.proofs.lemmas.List.{get_or_past, get_or_append_left, get_or-append_right, get_or-append-add}
 use Rattle.std.proofs.lemmas.List.Elements.{Contains-get_or}
 use Rattle.std.proofs.lemmas.Str.{IsUtf8-append, IsUtf8-from_ascii}
-use Rattle.pm_sql.specs.declared.script.TheConstants.{MAX_VALUE_BYTES}
 use Rattle.pm_top.proofs.Messages.{key_magnitude}
 use Rattle.std.specs.Str.Pattern.{FindsTextPrefix, FindsTextSuffix}
 use Rattle.std.proofs.Math.Seq.{take-append_seam}
@@ -21,6 +20,7 @@ use Rattle.pm_sql.specs.declared.stmt.Stmt.{Stmt}
 use Rattle.pm_sql.specs.declared.stmt.Stmt.TheVariants as stmts
 use Rattle.pm_top.specs.Session.{IsInsert, IsSelect, IsServed, insert_spelling}
 use Rattle.pm_top.proofs.Packets.{drop_seam, true_false}
+use Rattle.pm_rows.specs.Limits.{max_value_bytes}
 
 abbrev pub select_front : List ℕ
 select_front = codes "SELECT k, v FROM kv WHERE k = "
@@ -54,9 +54,6 @@ no_insert_front text none key value is = none ((key ++ (middle ++ value)) ++ ins
 
 behind_front : (text rest key value : List ℕ) → text ≡ insert_front ++ rest → text ≡ insert_spelling key value → rest ≡ (key ++ (middle ++ value)) ++ insert_end
 behind_front text rest key value front is = sym (drop_seam insert_front rest) ∙ ap (drop (length insert_front)) (sym front ∙ is ∙ spelling_parts key value) ∙ drop_seam insert_front ((key ++ (middle ++ value)) ++ insert_end)
-
-pub no_insert_end : (text rest : List ℕ) → text ≡ insert_front ++ rest → ((body : List ℕ) → rest ≡ body ++ insert_end → ⊥) → (key value : List ℕ) → text ≡ insert_spelling key value → ⊥
-no_insert_end text rest front none key value is = none (key ++ (middle ++ value)) (behind_front text rest key value front is)
 
 same_body : (body other : List ℕ) → body ++ insert_end ≡ other ++ insert_end → body ≡ other
 same_body body other is =
@@ -137,13 +134,13 @@ pub no_number : (text key value : List ℕ) → NoSelect text → text ≡ inser
 no_number text key value no_select is none script (inl insert) = none insert.0 insert.2.number ((insert_split text key value insert.0 insert.1 is insert.2).0)
 no_number text key value no_select is none script (inr select) = no_select select.0 select.1
 
-pub no_value : (text key value : List ℕ) → NoSelect text → text ≡ insert_spelling key value → ((length value ≤ MAX_VALUE_BYTES) × (Contains value 39 → ⊥) → ⊥) → (script : List Stmt) → IsServed text script → ⊥
+pub no_value : (text key value : List ℕ) → NoSelect text → text ≡ insert_spelling key value → ((length value ≤ max_value_bytes) × (Contains value 39 → ⊥) → ⊥) → (script : List Stmt) → IsServed text script → ⊥
 no_value text key value no_select is none script (inl insert) =
     let same : value ≡ insert.1 = (insert_split text key value insert.0 insert.1 is insert.2).1 in
-    none (subst (λ (v : List ℕ). (length v ≤ MAX_VALUE_BYTES) × (Contains v 39 → ⊥)) (sym same) (insert.2.short, insert.2.unquoted))
+    none (subst (λ (v : List ℕ). (length v ≤ max_value_bytes) × (Contains v 39 → ⊥)) (sym same) (insert.2.short, insert.2.unquoted))
 no_value text key value no_select is none script (inr select) = no_select select.0 select.1
 
-pub insert_served : (text key value stored : List ℕ) (number sent : ℤ) → text ≡ insert_spelling key value → key ≡ signed_decimal number → FitsSigned w64 number → sent ≡ number → (length value ≤ MAX_VALUE_BYTES) × (Contains value 39 → ⊥) → IsUtf8 value → stored ≡ value
+pub insert_served : (text key value stored : List ℕ) (number sent : ℤ) → text ≡ insert_spelling key value → key ≡ signed_decimal number → FitsSigned w64 number → sent ≡ number → (length value ≤ max_value_bytes) × (Contains value 39 → ⊥) → IsUtf8 value → stored ≡ value
     → IsServed text (stmts.Insert sent stored ∷ [])
 insert_served text key value stored number sent is key_is fits sent_is fine utf8 stored_is = inl (
   number,

@@ -1,21 +1,17 @@
 -- What a stop leaves of a log while a batch is appended.
-use Rattle.std.proofs.Common.{◌≡◌, ◌≢◌, ◌⊎◌, inl, inr, ℕ, zero, suc, ◌+◌, ◌-◌, ◌^◌, ◌≤◌, ◌<◌, List, [], ◌∷◌, ◌++◌, length, get_or, take, drop, refl, sym, ◌∙◌, ap, subst, arith, add-one, length-append, append_assoc, length-take-le}
-use Rattle.std.specs.Prelude.{All, ℤ, true, false, if◌then◌else◌, ◌==◌, Option, Some, None, IfSome, option_map, slice_get, slice_index}
-use Rattle.std.proofs.lemmas.Bool.{cases_lt, eqb-false}
+use Rattle.std.proofs.Common.{◌≡◌, ◌⊎◌, inl, inr, ℕ, zero, suc, ◌+◌, ◌-◌, ◌≤◌, ◌<◌, List, [], ◌∷◌, ◌++◌, length, get_or, take, drop, refl, sym, ◌∙◌, ap, subst, arith, add-one, length-append, append_assoc, length-take-le}
+use Rattle.std.specs.Prelude.{Option, Some, None, IfSome, option_map, slice_get, slice_index}
+use Rattle.std.proofs.lemmas.Bool.{cases_lt}
 use Rattle.std.proofs.lemmas.List.{take-append-drop}
 use Rattle.std.proofs.lemmas.Option.{same_Some, slice_get-get_or}
 use Rattle.std.proofs.Math.Seq.{take-suc, drop-cons, get_or-append_seam, take-append_seam, take-append-add, drop-append-add}
 use Rattle.pm_disk.specs.declared.disk.Which.{Which}
 use Rattle.pm_disk.specs.declared.disk.Which.TheVariants.{A, B}
 use Rattle.pm_disk.specs.Files.{Files, file_of, overwritten, with_file}
-use Rattle.pm_disk.specs.Reads.{length-overwritten}
 use Rattle.pm_disk.specs.Disk.{Elapses, Follows, Only, StopsNoWider, Torn}
 use Rattle.pm_rows.specs.declared.commit.Change.{Change}
-use Rattle.pm_rows.specs.declared.commit.Change.TheVariants.{Put}
-use Rattle.pm_sql.specs.declared.script.TheConstants.{MAX_VALUE_BYTES}
-use Rattle.std.proofs.lemmas.List.Elements.{All-head}
-use Rattle.pm_top.specs.Log.{FollowsWithin, GrowsBy, IsNext, KeepsAtStops, Passes, with_batch}
-use Rattle.pm_top.specs.StandsFor.{IsRow, IsTyped, StandsFor, batch_bytes}
+use Rattle.pm_top.specs.Log.{FollowsWithin, GrowsBy, IsNext, KeepsAtStops, TakesCalls, with_batch}
+use Rattle.pm_top.specs.StandsFor.{StandsFor, batch_bytes}
 use Rattle.pm_top.proofs.Batches.{Shape, shape_of}
 
 -- lists that agree at each place of a part have that part
@@ -151,14 +147,13 @@ keeps_body batch file end next count from to before now stops = λ commits commi
 
 -- the gate is being written
 pub keeps_gate : (batch : List ℕ) (files : Files) (end least most count from mid to : ℕ) (before between now : ℕ → Files → Type 0)
-    → FollowsWithin (Torn A (end + 1) count) from mid before between → Passes least most mid to between now → FollowsWithin (Torn A end 1) mid to between now
+    → FollowsWithin (Torn A (end + 1) count) from mid before between → TakesCalls least most mid to between now → FollowsWithin (Torn A end 1) mid to between now
     → Only A (overwritten files.a (end + 1) (drop 1 batch)) (between mid) → KeepsAtStops batch end (end + (length batch - 1)) files.a from to before now
 keeps_gate batch files end least most count from mid to before between now first passes second durable_mid = λ commits commit log is durable t le ge image there. elim (cases_lt mid t) [
   | inl later ↦
       let e = second t (omega arith) ge image there in
       torn_gate files.a (e.0).a image.a batch commits commit end log is (durable_mid e.0 e.1) e.2.no_shorter e.2.outside
   | inr early ↦
-      let last = passes.no_more in
       keeps_body batch files.a end (end + (length batch - 1)) count from mid before between first commits commit log is durable t le early image ((passes.past t (omega arith) image).0 there)
 ]
 
@@ -196,14 +191,16 @@ with_a at bytes files = with_file files A (overwritten (file_of files A) at byte
 abbrev pub HasGate : Option Files → ℕ → Type 0
 HasGate files at = IfSome files (λ f. (at < length f.a) × (slice_index f.a at ≡ 0))
 
+-- a write behind a place leaves the file long enough for one there
+stays_long : (old behind : List ℕ) (at : ℕ) → at < length old → at ≤ length (overwritten old (at + 1) behind)
+stays_long old behind at there =
+    omega (arith, length-take-le (at + 1) old (omega arith), length-append (take (at + 1) old) behind, length-append (take (at + 1) old ++ behind) (drop (at + 1 + length behind) old))
+
 -- there is room for the gate behind the body's write
 pub gate_there : (before mid : Option Files) (behind : List ℕ) (at : ℕ) → HasGate before at → mid ≡ option_map (with_a (at + 1) behind) before → IfSome mid (λ f. at ≤ length f.a)
 gate_there None mid behind at there written = subst (λ (m : Option Files). IfSome m (λ f. at ≤ length f.a)) (sym written) tt
 gate_there (Some f) mid behind at there written =
-    let longer = length-overwritten f.a (at + 1) behind in
-    let before = there.0 in
-    let now : at ≤ length (overwritten f.a (at + 1) behind) = omega arith in
-    subst (λ (m : Option Files). IfSome m (λ n. at ≤ length n.a)) (sym written) now
+    subst (λ (m : Option Files). IfSome m (λ n. at ≤ length n.a)) (sym written) (stays_long f.a behind at there.0)
 
 pub appended : (before mid now : Option Files) (batch : List ℕ) (at : ℕ) → HasGate before at → 1 ≤ length batch
     → mid ≡ option_map (with_a (at + 1) (drop 1 batch)) before → now ≡ option_map (with_a at (take 1 batch)) mid → now ≡ option_map (with_batch at batch) before
@@ -243,7 +240,7 @@ keeps_first (Some files) batch end next count from to i j stops = keeps_body bat
 
 -- and then the gate
 pub keeps_both : (before mid : Option Files) (batch : List ℕ) (end least most count one from at to : ℕ) (i j k : ℕ → Files → Type 0)
-    → FollowsWithin (Torn A (end + 1) count) from at i j → Passes least most at to j k → FollowsWithin (Torn A end one) at to j k → one ≡ 1
+    → FollowsWithin (Torn A (end + 1) count) from at i j → TakesCalls least most at to j k → FollowsWithin (Torn A end one) at to j k → one ≡ 1
     → mid ≡ option_map (with_a (end + 1) (drop 1 batch)) before → IfSome mid (λ files. Only A files.a (j at))
     → IfSome before (λ files. KeepsAtStops batch end (end + (length batch - 1)) files.a from to i k)
 keeps_both None mid batch end least most count one from at to i j k first passes second is_one written durable = tt
@@ -268,18 +265,3 @@ gate_of file commits end log =
       omega (arith, shape.long, ap length shape.split, length-append shape.front (0 ∷ shape.free)),
       ap (λ (l : List ℕ). slice_index l end) shape.split ∙ ap (λ (n : ℕ). slice_index (shape.front ++ (0 ∷ shape.free)) n) (sym shape.long) ∙ get_or-append_seam shape.front 0 shape.free 0,
     )
-
--- a commit of one put that isn't too long is a row, by the types of its key and its value
-pub row_of : (commit : List Change) (key : ℤ) (value : List ℕ) → commit ≡ Put key value ∷ [] → length value ≤ MAX_VALUE_BYTES → All IsTyped commit → IsRow commit
-row_of commit key value puts short typed =
-    let all : All IsTyped (Put key value ∷ []) = subst (All IsTyped) puts typed in
-    let first = All-head IsTyped (Put key value) [] all in
-    record { key = key; value = value; puts = puts; in_range = first.0; text = first.1; short = short }
-
--- a batch that needs no more than the room can be appended
-pub room_fits : (count end need long room : ℕ) → room ≡ (if count == 18446744073709551615 then 0 else 268435456 - 1 - end) → 1 ≤ need → need ≤ room → need + 1 ≡ long → count < 2 ^ 64
-    → (end + long ≤ 268435456) × (count < 2 ^ 64 - 1)
-room_fits count end need long room is some fits whole small = elim (count == 18446744073709551615) as (λ b. (count == 18446744073709551615) ≡ b → (end + long ≤ 268435456) × (count < 2 ^ 64 - 1)) [
-  | true ↦ λ same. (let none = rw same at is in absurd (omega arith))
-  | false ↦ λ differs. (let left = rw differs at is in let other : count ≢ 18446744073709551615 = eqb-false count 18446744073709551615 differs in (omega arith, omega arith))
-] refl

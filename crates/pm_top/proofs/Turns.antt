@@ -17,15 +17,15 @@ use Rattle.pm_query.specs.declared.item.Item.{Item}
 use Rattle.pm_top.specs.declared.book.BookEntry.{BookEntry}
 use Rattle.pm_top.specs.declared.book.BookEntry.TheVariants.{Answered, Released, LogFull}
 use Rattle.pm_top.specs.Exchange.{Exchanged, SentAllBut}
-use Rattle.pm_top.specs.Store.{Notes, NotesAnswer}
+use Rattle.pm_top.specs.Store.{NotesEntries, NotesAnswer}
 use Rattle.pm_top.specs.Session.{Ran, LogIsFull, ShortOfMemory, TurnNotes, IsServed, IsUntold, Ends, IsOther, HoldsNoRequest, bytes_of, query_bytes, turn_messages}
-use Rattle.pm_top.specs.Conversation.{Answers, between, Passes, TookTurn, CutTurn, Stopped, ReplyGoes, TurnGoes, IsReadEnding, HasItsLength}
+use Rattle.pm_top.specs.Conversation.{Answers, between, IsSpanOf, TookTurn, CutTurn, Stopped, ReplyGoes, TurnGoes, HasItsLength}
 use Rattle.pm_top.proofs.Exchanges.{Appended-none, Appended-then, passed_then}
 use Rattle.pm_top.proofs.Headers.{IsRequest, all_of_request}
 
 -- an entry that no answer was told of
 abbrev pub Untold : ℕ → List ℕ → Option (List BookEntry) → Option (List BookEntry) → Type 0
-Untold pid text before now = (noted : List BookEntry) × TurnNotes pid text ShortOfMemory noted × Notes noted before now
+Untold pid text before now = (noted : List BookEntry) × TurnNotes pid text ShortOfMemory noted × NotesEntries noted before now
 
 pub answer_untold : (pid : ℕ) (text : List ℕ) (script : List Stmt) (reply : List Item) (front : ℕ) (before now : Option (List BookEntry)) → IsServed text script → NotesAnswer pid script reply front before now → Untold pid text before now
 answer_untold pid text script reply front before now served notes =
@@ -33,14 +33,14 @@ answer_untold pid text script reply front before now served notes =
     let untold : IsUntold pid text entry = (script, served, inl (reply, record { commit = notes.0; front = front; tick = notes.1; is = refl })) in
     (entry ∷ [], inr (entry, untold, refl), notes.2)
 
-pub full_untold : (pid : ℕ) (text : List ℕ) (script : List Stmt) (need room : ℕ) (before now : Option (List BookEntry)) → IsServed text script → Notes (LogFull pid script need room ∷ []) before now → Untold pid text before now
+pub full_untold : (pid : ℕ) (text : List ℕ) (script : List Stmt) (need room : ℕ) (before now : Option (List BookEntry)) → IsServed text script → NotesEntries (LogFull pid script need room ∷ []) before now → Untold pid text before now
 full_untold pid text script need room before now served notes =
     let entry : BookEntry = LogFull pid script need room in
     let untold : IsUntold pid text entry = (script, served, inr (need, room, refl)) in
     (entry ∷ [], inr (entry, untold, refl), notes)
 
 pub answer_told : (pid : ℕ) (text ready : List ℕ) (script : List Stmt) (reply : List Item) (front : ℕ) (before between now : Option (List BookEntry)) → IsServed text script → NotesAnswer pid script reply front before between
-    → ((tick : ℕ) × Notes (Released pid front tick ∷ []) between now) → ready ≡ bytes_of (turn_messages (Ran reply)) → Answers pid text ready before now
+    → ((tick : ℕ) × NotesEntries (Released pid front tick ∷ []) between now) → ready ≡ bytes_of (turn_messages (Ran reply)) → Answers pid text ready before now
 answer_told pid text ready script reply front before between now served notes released spelled = record {
   turn = Ran reply;
   noted = Answered pid script reply notes.0 front notes.1 ∷ Released pid front released.0 ∷ [];
@@ -49,7 +49,7 @@ answer_told pid text ready script reply front before between now served notes re
   entries = Appended-then (Answered pid script reply notes.0 front notes.1 ∷ []) (Released pid front released.0 ∷ []) before between now notes.2 released.1;
 }
 
-pub full_told : (pid : ℕ) (text ready : List ℕ) (script : List Stmt) (need room : ℕ) (before now : Option (List BookEntry)) → IsServed text script → Notes (LogFull pid script need room ∷ []) before now
+pub full_told : (pid : ℕ) (text ready : List ℕ) (script : List Stmt) (need room : ℕ) (before now : Option (List BookEntry)) → IsServed text script → NotesEntries (LogFull pid script need room ∷ []) before now
     → ready ≡ bytes_of (turn_messages LogIsFull) → Answers pid text ready before now
 full_told pid text ready script need room before now served notes spelled = record {
   turn = LogIsFull;
@@ -82,8 +82,8 @@ nothing_cut pid text words link_before link_now book_before book_now untold is c
   passes = record { bytes = cut.1.passed; entries = untold.2 };
 }
 
-came_more : (came went : List ℕ) (bytes : List ℕ) (noted : List BookEntry) (first second third : Option Traffic) (book_before book_now : Option (List BookEntry)) → Exchanged bytes [] first second → Passes [] went noted (between second third book_before book_now)
-    → Passes bytes went noted (between first third book_before book_now)
+came_more : (came went : List ℕ) (bytes : List ℕ) (noted : List BookEntry) (first second third : Option Traffic) (book_before book_now : Option (List BookEntry)) → Exchanged bytes [] first second → IsSpanOf [] went noted (between second third book_before book_now)
+    → IsSpanOf bytes went noted (between first third book_before book_now)
 came_more came went bytes noted first second third book_before book_now one passes = record {
   bytes = subst (λ (i : List ℕ). Exchanged i went first third) (append-nil bytes) (passed_then bytes [] [] went first second third one passes.bytes);
   entries = passes.entries;
@@ -107,16 +107,6 @@ turn_goes pid text (Err NoMemory) first second third book_before book_now front 
 pub stopped : (pid : ℕ) (ending : Ending) (last : List ℕ) (link_before link_now : Option Traffic) (book : Option (List BookEntry)) → Ends pid ending last [] → Exchanged last [] link_before link_now → Stopped pid ending (between link_before link_now book book)
 stopped pid ending last link_before link_now book ends passed = record { last = last; noted = []; ends = ends; passes = record { bytes = passed; entries = Appended-none book } }
 
--- what reading stops at holds no request
-pub stopped_reading : (pid : ℕ) (ending : Ending) (link_before link_now : Option Traffic) (book : Option (List BookEntry)) → IsReadEnding ending → ((came : List ℕ) × HoldsNoRequest came × Exchanged came [] link_before link_now)
-    → Stopped pid ending (between link_before link_now book book)
-stopped_reading pid LinkEnded link_before link_now book kind came = stopped pid LinkEnded came.0 link_before link_now book (came.1, refl) came.2
-stopped_reading pid LinkFailed link_before link_now book kind came = stopped pid LinkFailed came.0 link_before link_now book (came.1, refl) came.2
-stopped_reading pid NoMemory link_before link_now book kind came = stopped pid NoMemory came.0 link_before link_now book (came.1, refl) came.2
-stopped_reading pid Terminated link_before link_now book kind came = absurd kind
-stopped_reading pid Refused link_before link_now book kind came = absurd kind
-stopped_reading pid Panic link_before link_now book kind came = absurd kind
-
 -- what the reader finds no request in holds none
 pub no_request_read : (bytes : List ℕ) (result : Take Front) → ((spelled rest : List ℕ) (m : FrontMessage) → IsFront spelled m → bytes ≡ spelled ++ rest → seen_by front_message result ≡ Whole m (length spelled))
     → ((value : Front) (used : ℕ) → result ≡ Whole value used → IsOther (front_message value)) → HoldsNoRequest bytes
@@ -124,7 +114,7 @@ no_request_read bytes (Whole value used) every others spelled rest m front is =
     let seen : Whole (front_message value) used ≡ Whole m (length spelled) = every spelled rest m front is in
     let same : front_message value ≡ m = cc in
     subst IsOther same (others value used refl)
-no_request_read bytes Short every others spelled rest m front is = let seen : Short ≡ Whole m (length spelled) = every spelled rest m front is in absurd cc
+no_request_read bytes (Short wanted) every others spelled rest m front is = let seen : Short wanted ≡ Whole m (length spelled) = every spelled rest m front is in absurd cc
 no_request_read bytes (Bad fault) every others spelled rest m front is = let seen : Bad fault ≡ Whole m (length spelled) = every spelled rest m front is in absurd cc
 
 -- the request that the reader found is all of the bytes

@@ -8,9 +8,9 @@ use Rattle.pm_query.specs.declared.item.Item.{Item}
 use Rattle.pm_query.specs.Answer.{items_of, commit_of}
 use Rattle.pm_top.specs.declared.book.BookEntry.{BookEntry}
 use Rattle.pm_top.specs.declared.book.BookEntry.TheVariants.{Opened, Attached, Redone, Answered, Released, Detached, Broke, LogFull}
-use Rattle.pm_top.specs.declared.log.TheConstants.{MAX_LOG}
-use Rattle.pm_top.specs.History.{History, beginning, count_of, rows_of, with_commit, acknowledged, kept}
+use Rattle.pm_top.specs.History.{History, beginning, count_of, rows_of, with_commit, acknowledged, with_generation, with_redo}
 use Rattle.pm_top.specs.StandsFor.{body_bytes}
+use Rattle.pm_rows.specs.Limits.{max_file_bytes}
 
 -- What the first redo finds: the rows, the number of commits in them, the bytes of the file up to and with its closed
 -- gate, and the disk's count of faults as it was handed in.
@@ -23,9 +23,10 @@ pub record Base : Type 0 where
 -- ---- what the entries so far say
 
 abbrev pub after_entry : History → BookEntry → History
+after_entry history (Opened generation) = with_generation history
 after_entry history (Answered pid script reply commit front tick) = with_commit history commit
 after_entry history (Released pid front tick) = acknowledged history front
-after_entry history (Redone pid generation count) = kept history count
+after_entry history (Redone pid generation count) = with_redo history count
 after_entry history _ = history
 
 -- the history after them
@@ -149,7 +150,7 @@ pub record MayBeFull (base : Base) (before : List BookEntry) (pid : ℕ) (script
   pub attached : 1 ≤ times_attached before pid
   pub need_is : need ≡ need_of (commit_of (rows_of (history_of base before)) script)
   pub above : room < need
-  pub cause : ((count_of (history_of base before) ≡ 2 ^ 64 - 1) × (room ≡ 0)) ⊎ (MAX_LOG ≤ room + base.bytes + 1024 + needs_of before)
+  pub cause : ((count_of (history_of base before) ≡ 2 ^ 64 - 1) × (room ≡ 0)) ⊎ (max_file_bytes ≤ room + base.bytes + 1024 + needs_of before)
 
 abbrev pub MayFollow : Base → List BookEntry → BookEntry → Type 0
 MayFollow base before (Opened generation) = (generation ≡ generation_of before + 1) × ((pid : ℕ) → times_attached before pid ≡ 0)

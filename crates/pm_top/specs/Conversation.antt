@@ -10,7 +10,7 @@ use Rattle.pm_top.specs.declared.session.Unanswered.TheVariants as whys
 use Rattle.pm_top.specs.declared.session.Ending.{Ending}
 use Rattle.pm_top.specs.declared.session.Ending.TheVariants.{LinkEnded, LinkFailed, NoMemory, Panic}
 use Rattle.pm_top.specs.Exchange.{Exchanged, HasEnded}
-use Rattle.pm_top.specs.Store.{Notes}
+use Rattle.pm_top.specs.Store.{NotesEntries}
 use Rattle.pm_top.specs.Session.{Turn, ShortOfMemory, turn_messages, last_messages, bytes_of, query_bytes, TurnNotes, Breaks, AllNotes, Ends, Converses, IsTurnedAway, IsSent}
 
 -- the link and the book at two moments
@@ -24,9 +24,9 @@ abbrev pub between : (link_before link_now : Option Traffic) (book_before book_n
 between link_before link_now book_before book_now = record { link_before = link_before; link_now = link_now; book_before = book_before; book_now = book_now }
 
 -- these bytes came in, these went out, and these entries were noted
-pub record Passes (came went : List ℕ) (noted : List BookEntry) (span : Span) : Type 0 where
+pub record IsSpanOf (came went : List ℕ) (noted : List BookEntry) (span : Span) : Type 0 where
   pub bytes : Exchanged came went span.link_before span.link_now
-  pub entries : Notes noted span.book_before span.book_now
+  pub entries : NotesEntries noted span.book_before span.book_now
 
 -- the answer to a text stands ready, and was noted
 pub record Answers (pid : ℕ) (text ready : List ℕ) (before now : Option (List BookEntry)) : Type 0 where
@@ -34,14 +34,14 @@ pub record Answers (pid : ℕ) (text ready : List ℕ) (before now : Option (Lis
   pub noted : List BookEntry
   pub means : TurnNotes pid text turn noted
   pub spelled : ready ≡ bytes_of (turn_messages turn)
-  pub entries : Notes noted before now
+  pub entries : NotesEntries noted before now
 
 -- a query was answered, behind bytes that came in
 pub record TookTurn (pid : ℕ) (text came : List ℕ) (span : Span) : Type 0 where
   pub turn : Turn
   pub noted : List BookEntry
   pub means : TurnNotes pid text turn noted
-  pub passes : Passes came (bytes_of (turn_messages turn)) noted span
+  pub passes : IsSpanOf came (bytes_of (turn_messages turn)) noted span
 
 -- a query was answered, and the link failed before all of the answer was sent
 pub record CutTurn (pid : ℕ) (text came : List ℕ) (span : Span) : Type 0 where
@@ -51,19 +51,19 @@ pub record CutTurn (pid : ℕ) (text came : List ℕ) (span : Span) : Type 0 whe
   pub missing : List ℕ
   pub means : TurnNotes pid text turn noted
   pub whole : bytes_of (turn_messages turn) ≡ went ++ missing
-  pub passes : Passes came went noted span
+  pub passes : IsSpanOf came went noted span
 
 -- the disk failed behind the answer of a query, of which nothing was sent
 pub record BrokeOff (pid : ℕ) (text came : List ℕ) (span : Span) : Type 0 where
   pub noted : List BookEntry
   pub breaks : Breaks pid text noted
-  pub passes : Passes came [] noted span
+  pub passes : IsSpanOf came [] noted span
 
 -- an answer is ready and noted, or why there is none
 abbrev pub QueryGoes : (pid : ℕ) (text ready : List ℕ) → Result (Unit {0}) Unanswered → (before now : Option (List BookEntry)) → Type 0
 QueryGoes pid text ready (Ok done) before now = Answers pid text ready before now
-QueryGoes pid text ready (Err whys.NoMemory) before now = (noted : List BookEntry) × TurnNotes pid text ShortOfMemory noted × Notes noted before now
-QueryGoes pid text ready (Err whys.Disk) before now = (noted : List BookEntry) × Breaks pid text noted × Notes noted before now
+QueryGoes pid text ready (Err whys.NoMemory) before now = (noted : List BookEntry) × TurnNotes pid text ShortOfMemory noted × NotesEntries noted before now
+QueryGoes pid text ready (Err whys.Disk) before now = (noted : List BookEntry) × Breaks pid text noted × NotesEntries noted before now
 
 -- the answer was sent, or why not all of it
 abbrev pub ReplyGoes : (pid : ℕ) (text : List ℕ) → Result (Unit {0}) Ending → Span → Type 0
@@ -88,7 +88,7 @@ pub record Stopped (pid : ℕ) (ending : Ending) (span : Span) : Type 0 where
   pub last : List ℕ
   pub noted : List BookEntry
   pub ends : Ends pid ending last noted
-  pub passes : Passes last [] noted span
+  pub passes : IsSpanOf last [] noted span
 
 -- a query was read and answered, or the session is at its end
 abbrev pub TurnGoes : (pid : ℕ) → Result (Unit {0}) Ending → Span → Type 0
@@ -103,7 +103,7 @@ pub record Conversing (pid : ℕ) (greeting : List ℕ) (span : Span) : Type 0 w
   pub turns : List Turn
   pub asked : List BookEntry
   pub each : AllNotes pid texts turns asked
-  pub passes : Passes (flat_map query_bytes texts) (greeting ++ bytes_of (flat_map turn_messages turns)) asked span
+  pub passes : IsSpanOf (flat_map query_bytes texts) (greeting ++ bytes_of (flat_map turn_messages turns)) asked span
 
 -- so were all of them, and this ended it; what is missing of what was to be sent is missing because the link has failed
 pub record Conversed (pid : ℕ) (greeting : List ℕ) (ending : Ending) (span : Span) : Type 0 where
@@ -116,7 +116,7 @@ pub record Conversed (pid : ℕ) (greeting : List ℕ) (ending : Ending) (span :
   pub each : AllNotes pid texts turns asked
   pub ends : Ends pid ending last ended
   pub sent : IsSent (ending ≡ LinkFailed) went (greeting ++ bytes_of (flat_map turn_messages turns))
-  pub passes : Passes (flat_map query_bytes texts ++ last) went (asked ++ ended) span
+  pub passes : IsSpanOf (flat_map query_bytes texts ++ last) went (asked ++ ended) span
 
 -- the client was let in, or it was turned away
 abbrev pub Says : (pid key : ℕ) (came_in whole : List ℕ) → List BookEntry → Ending → Type 0
@@ -128,7 +128,7 @@ pub record Talks (pid key : ℕ) (ending : Ending) (span : Span) : Type 0 where
   pub went_out : List ℕ
   pub whole : List ℕ
   pub noted : List BookEntry
-  pub passes : Passes came_in went_out noted span
+  pub passes : IsSpanOf came_in went_out noted span
   pub sent : IsSent (ending ≡ LinkFailed) went_out whole
   pub says : Says pid key came_in (whole ++ bytes_of (last_messages ending)) noted ending
 
@@ -144,7 +144,7 @@ pub record IsSession (pid key : ℕ) (failed : Type 0) (ending : Ending) (span :
   pub went_out : List ℕ
   pub whole : List ℕ
   pub noted : List BookEntry
-  pub passes : Passes came_in went_out noted span
+  pub passes : IsSpanOf came_in went_out noted span
   pub sent : IsSent failed went_out whole
   pub says : Says pid key came_in whole noted ending
 

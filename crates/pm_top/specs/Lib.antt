@@ -4,6 +4,7 @@ pub mod Damage
 pub mod Contents
 pub mod History
 pub mod Book
+pub mod Laws
 pub mod Exchange
 pub mod Session
 pub mod Store

@@ -6,16 +6,17 @@ use Rattle.pm_disk.specs.Disk.{Follows, Only}
 use Rattle.pm_disk.specs.declared.disk.Which.TheVariants.{A}
 use Rattle.pm_rows.specs.declared.commit.Change.{Change}
 use Rattle.pm_rows.specs.Fold.{committed, folded}
-use Rattle.pm_top.specs.declared.record.TheConstants.{CLOSED, HEADER, OPEN}
 use Rattle.pm_top.specs.Contents.{IsClosed}
-use Rattle.pm_top.specs.StandsFor.{IsRow, IsWithinLimits, StandsFor, batch_bytes}
+use Rattle.pm_top.specs.StandsFor.{IsRow, StandsFor, batch_bytes, log_header}
+use Rattle.pm_rows.specs.Limits.{IsWithinRowLimits}
 
 -- A number of device calls went by, within these bounds; the disk stops counting at the last number. What a stop may
 -- have left after an earlier call is as it was.
-pub record Passes (least most before now : ℕ) (images_before images_now : ℕ → Files → Type 0) : Type 0 where
+pub record TakesCalls (least most before now : ℕ) (images_before images_now : ℕ → Files → Type 0) : Type 0 where
+  pub later : before ≤ now
   pub no_fewer : min (before + least) (2 ^ 64 - 1) ≤ now
-  pub no_more : now ≤ min (before + most) (2 ^ 64 - 1)
-  pub past : (t : ℕ) → t ≤ min before (2 ^ 64 - 1) → (image : Files) → images_now t image ↔ images_before t image
+  pub no_more : now ≤ before + most
+  pub past : (t : ℕ) → t ≤ before → (image : Files) → images_now t image ↔ images_before t image
 
 -- a file's first byte stands there, and isn't 0
 abbrev pub IsOpen : List ℕ → Type 0
@@ -24,8 +25,8 @@ IsOpen bytes = IsClosed bytes → ⊥
 -- the files with a log of no commits in A, and B closed; what stood behind stays
 abbrev pub with_empty_log : Files → Files
 with_empty_log files = record {
-  a = overwritten files.a 0 (OPEN ∷ HEADER ++ CLOSED ∷ []);
-  b = overwritten files.b 0 (CLOSED ∷ []);
+  a = overwritten files.a 0 (1 ∷ log_header ++ 0 ∷ []);
+  b = overwritten files.b 0 (0 ∷ []);
 }
 
 -- the files with these bytes at a place of A
@@ -38,9 +39,9 @@ FollowsWithin change from to before now = (t : ℕ) → from ≤ t → t ≤ to 
 
 -- the batch of a commit that this program writes, which keeps the limits behind those commits
 pub record IsNext (commits : List (List Change)) (commit : List Change) (batch : List ℕ) : Type 0 where
-  pub bytes : batch ≡ OPEN ∷ batch_bytes commit ++ CLOSED ∷ []
+  pub bytes : batch ≡ 1 ∷ batch_bytes commit ++ 0 ∷ []
   pub row : IsRow commit
-  pub within : IsWithinLimits (committed (folded map.empty commits) commit)
+  pub within : IsWithinRowLimits (committed (folded map.empty commits) commit)
 
 -- A log up to its closed gate, which is durable, while a batch is appended: whatever a stop leaves of it at any moment
 -- from the one tick to the other is that log, or the log of one commit more.

@@ -1,5 +1,5 @@
 -- What a run of `once` leaves: its book, its link, and file A.
-use Rattle.std.specs.Prelude.{◌≡◌, ℕ, ◌+◌, true, List, [], ◌∷◌, ◌++◌, length, Any, IfSome, Option, None, Some, option_map}
+use Rattle.std.specs.Prelude.{◌≡◌, ℕ, ◌+◌, List, [], ◌∷◌, ◌++◌, length, Any, IfSome, Option, None, Some, option_map, unwrap_or}
 use Rattle.std.specs.FinMap as map
 use Rattle.pm_disk.specs.Cause.{Rose}
 use Rattle.pm_disk.specs.Files.{Files}
@@ -16,7 +16,6 @@ use Rattle.pm_top.specs.declared.top.Top.{Top}
 use Rattle.pm_top.specs.declared.top.Top.TheVariants.{Done, Abnormal}
 use Rattle.pm_top.specs.declared.top.Why.TheVariants.{AfterCrash, StartupFailed}
 use Rattle.pm_top.specs.declared.top.StartWhy.TheVariants.{Redo}
-use Rattle.pm_top.specs.declared.top.TheConstants.{FIRST_PID, STARTUP_PID}
 use Rattle.pm_top.specs.StandsFor.{StandsFor}
 use Rattle.pm_top.specs.History.{count_of}
 use Rattle.pm_top.specs.Book.{Base, IsLegal, faults_here, history_of}
@@ -78,22 +77,24 @@ pub record IsOnceStory (status : Top) (handed_in left : Option Files) (faults : 
 
 -- ---- the link
 
--- the entries of the run that reads the log
+-- the entries of the run that reads the log, whose pid is 1
 abbrev pub startup_entries : ℕ → List BookEntry
-startup_entries kept = Opened 1 ∷ Attached STARTUP_PID 1 ∷ Redone STARTUP_PID 1 kept ∷ Detached STARTUP_PID ∷ []
+startup_entries kept = Opened 1 ∷ Attached 1 1 ∷ Redone 1 1 kept ∷ Detached 1 ∷ []
 
--- the port gave its end
+-- the port gave its end, which it may have given before
 abbrev pub with_end : Visits → Visits
-with_end visits = record visits { ended = true }
+with_end visits = record visits { ended_behind = Some (unwrap_or visits.ended_behind (length visits.given)) }
 
--- the port gave a link of this number
+-- the port gave a link that had failed so often
 abbrev pub with_link : ℕ → Visits → Visits
-with_link number visits = record visits { given = visits.given ++ number ∷ [] }
+with_link faults visits = record visits { given = visits.given ++ faults ∷ [] }
 
--- and it came back, with what has passed on it
-abbrev pub with_visit : ℕ → Option Traffic → Visits → Visits
-with_visit number traffic visits =
-    record visits { given = visits.given ++ number ∷ []; back = visits.back ++ record { number = number; traffic = traffic } ∷ [] }
+-- and it came back, by its number, with what has passed on it and how often it had failed by then
+abbrev pub with_visit : ℕ → Option Traffic → ℕ → Visits → Visits
+with_visit faults_given traffic faults_back visits = record visits {
+  given = visits.given ++ faults_given ∷ [];
+  back = visits.back ++ record { number = length visits.given + 1; traffic = traffic; faults_given = faults_given; faults_back = faults_back } ∷ [];
+}
 
 -- the status of a run whose one session ended so
 abbrev pub top_of : Ending → Top
@@ -106,13 +107,13 @@ pub record HadNoVisit (status : Top) (port_before port_now : Option Visits) (boo
   pub silent : book_now ≡ book_before
   pub status_is : status ≡ Done
 
--- One link was given, on which nothing had passed, and it came back behind a session with this key.
-pub record HadOneVisit {L : Type 0} (number : L → ℕ) (traffic : L → Option Traffic) (faults : L → ℕ) (key : ℕ) (disk_failed : Type 0) (status : Top) (port_before port_now : Option Visits) (book_before book_now : Option (List BookEntry)) : Type 0 where
+-- One link was given, on which nothing had passed, and it came back behind a session with pid 4 and this key.
+pub record HadOneVisit {L : Type 0} (traffic : L → Option Traffic) (faults : L → ℕ) (key : ℕ) (disk_failed : Type 0) (status : Top) (port_before port_now : Option Visits) (book_before book_now : Option (List BookEntry)) : Type 0 where
   pub link : L
   pub back : L
   pub fresh : IsFresh (traffic link)
-  pub visit : port_now ≡ option_map (with_visit (number link) (traffic back)) port_before
+  pub visit : port_now ≡ option_map (with_visit (faults link) (traffic back) (faults back)) port_before
   pub ending : Ending
-  pub session : IsSession FIRST_PID key (Rose (faults link) (faults back)) ending (between (traffic link) (traffic back) book_before book_now)
+  pub session : IsSession 4 key (Rose (faults link) (faults back)) ending (between (traffic link) (traffic back) book_before book_now)
   pub caused : IsCaused ending (traffic back) (Rose (faults link) (faults back)) disk_failed
   pub status_is : status ≡ top_of ending

@@ -1,5 +1,5 @@
 -- What one client is sent, for what it sent, and what its session notes in the book.
-use Rattle.std.specs.Prelude.{◌≡◌, ◌≢◌, ◌⊎◌, ℕ, ℤ, ◌+◌, ◌*◌, ◌^◌, ◌≤◌, List, [], ◌∷◌, ◌++◌, length, map, codes, decimal, Option, None, Some, All, Contains, FitsSigned}
+use Rattle.std.specs.Prelude.{◌≡◌, ◌≢◌, ◌⊎◌, ℕ, ℤ, ◌+◌, ◌*◌, ◌^◌, ◌≤◌, List, [], ◌∷◌, ◌++◌, length, map, codes, decimal, None, Some, All, Contains, FitsSigned}
 use Rattle.std.specs.Fmt.{signed_decimal}
 use Rattle.std.specs.Int.{w64}
 use Rattle.std.specs.List.{flat_map}
@@ -9,21 +9,22 @@ use Rattle.pm_sql.specs.declared.stmt.Stmt.{Stmt}
 use Rattle.pm_sql.specs.declared.stmt.Stmt.TheVariants as stmts
 use Rattle.pm_query.specs.declared.item.Item.{Item}
 use Rattle.pm_query.specs.declared.item.Item.TheVariants as items
-use Rattle.pm_wire.specs.declared.back.Severity.{Severity}
-use Rattle.pm_wire.specs.declared.back.Severity.TheVariants.{Error, Fatal, Panic as AsPanic}
+use Rattle.pm_wire.specs.declared.condition.Condition.TheVariants as conditions
+use Rattle.pm_wire.specs.declared.condition.Fixed.TheVariants as fixes
+use Rattle.pm_wire.specs.declared.state.SqlState.TheVariants as states
+use Rattle.pm_wire.specs.Conditions.{error, fatal, fixed_message, told}
 use Rattle.pm_wire.specs.declared.back.Shape.TheVariants as shapes
 use Rattle.pm_wire.specs.declared.back.Tag.TheVariants as tags
-use Rattle.pm_wire.specs.Backend.{BackMessage, Auth, Param, Key, Ready, Fields, Pair, One, Complete, Empty, Fault, spelling}
+use Rattle.pm_wire.specs.Backend.{BackMessage, Auth, Param, Key, Ready, Fields, Pair, One, Complete, Empty, spelling}
 use Rattle.pm_exit.specs.declared.child.Status.{Status}
 use Rattle.pm_exit.specs.declared.child.Status.TheVariants.{Code, Signal}
 use Rattle.pm_wire.specs.Frontend.{FrontMessage, Query, Terminate, IsFront}
 use Rattle.pm_wire.specs.Pieces.{HasNoZero, int32, message, string}
-use Rattle.pm_top.specs.declared.session.TheConstants.{MAX_PACKET}
 use Rattle.pm_top.specs.declared.book.BookEntry.{BookEntry}
 use Rattle.pm_top.specs.declared.book.BookEntry.TheVariants.{Attached, Answered, Released, Detached, Broke, LogFull}
 use Rattle.pm_top.specs.declared.session.Ending.{Ending}
 use Rattle.pm_top.specs.declared.session.Ending.TheVariants.{Terminated, LinkEnded, LinkFailed, Refused, NoMemory, Panic}
-use Rattle.pm_sql.specs.declared.script.TheConstants.{MAX_VALUE_BYTES}
+use Rattle.pm_rows.specs.Limits.{max_value_bytes}
 
 -- ---- what is sent
 
@@ -41,16 +42,6 @@ settings =
 abbrev pub greeting : ℕ → ℕ → List BackMessage
 greeting pid key = Auth ∷ map (λ setting. Param setting.0 setting.1) settings ++ Key pid key ∷ Ready ∷ []
 
-abbrev pub said : Severity → (code text : List ℕ) → Option (List ℕ) → BackMessage
-said severity code text detail = Fault (record { severity = severity; code = code; text = text; detail = detail })
-
-abbrev pub error : (code text : List ℕ) → Option (List ℕ) → BackMessage
-error code text detail = said Error code text detail
-
--- an error of one text, behind which the session goes on
-abbrev pub report_messages : (code text : List ℕ) → List BackMessage
-report_messages code text = error code text None ∷ Ready ∷ []
-
 -- rows: their columns, each row, and their number
 abbrev pub row_messages : List (ℤ × List ℕ) → List BackMessage
 row_messages rows = Fields shapes.Pair ∷ map (λ row. Pair row.0 row.1) rows ++ Complete (tags.Select (length rows)) ∷ []
@@ -64,14 +55,13 @@ item_messages (items.Delete count) = Complete (tags.Delete count) ∷ []
 item_messages (items.Rows rows) = row_messages rows
 item_messages (items.Count count) = Fields shapes.Count ∷ One (decimal count) ∷ Complete (tags.Select 1) ∷ []
 item_messages items.Slept = Fields shapes.Sleep ∷ One [] ∷ Complete (tags.Select 1) ∷ []
-item_messages (items.Duplicate key) =
-    error (codes "23505") (codes "duplicate key value violates unique constraint \"kv_pkey\"") (Some (codes "Key (k)=(" ++ signed_decimal key ++ codes ") already exists.")) ∷ []
-item_messages items.TableFull = error (codes "54000") (codes "table exceeds 100000 rows") None ∷ []
-item_messages items.RowsTooLarge = error (codes "54000") (codes "rows exceed 67108864 bytes") None ∷ []
+item_messages (items.Duplicate key) = told (conditions.Duplicate key) ∷ []
+item_messages items.TableFull = fixed_message fixes.TableFull ∷ []
+item_messages items.RowsTooLarge = fixed_message fixes.RowsTooLarge ∷ []
 
 -- an item whose values are no longer than those that are stored, so that each row fits a message
 abbrev pub IsShortRow : ℤ × List ℕ → Type 0
-IsShortRow row = length row.1 ≤ MAX_VALUE_BYTES
+IsShortRow row = length row.1 ≤ max_value_bytes
 
 abbrev pub HasShortValues : Item → Type 0
 HasShortValues (items.Rows rows) = All IsShortRow rows
@@ -86,18 +76,18 @@ pub data Turn : Type 0 where
 
 abbrev pub turn_messages : Turn → List BackMessage
 turn_messages (Ran reply) = flat_map item_messages reply ++ Ready ∷ []
-turn_messages Unserved = report_messages (codes "0A000") (codes "form is not supported")
-turn_messages LogIsFull = report_messages (codes "54000") (codes "the commit log is full")
-turn_messages ShortOfMemory = report_messages (codes "53200") (codes "out of memory")
+turn_messages Unserved = error states.FeatureNotSupported (codes "form is not supported") None ∷ Ready ∷ []
+turn_messages LogIsFull = fixed_message fixes.LogFull ∷ Ready ∷ []
+turn_messages ShortOfMemory = fixed_message fixes.ErrorMemory ∷ Ready ∷ []
 
 -- what is said last; at the end of the link, of its use, or of the session by the client nothing is
 abbrev pub last_messages : Ending → List BackMessage
 last_messages Terminated = []
 last_messages LinkEnded = []
 last_messages LinkFailed = []
-last_messages Refused = said Fatal (codes "0A000") (codes "form is not supported") None ∷ []
-last_messages NoMemory = said Fatal (codes "53200") (codes "out of memory") None ∷ []
-last_messages Panic = said AsPanic (codes "58030") (codes "could not write to the commit log") None ∷ []
+last_messages Refused = fatal states.FeatureNotSupported (codes "form is not supported") ∷ []
+last_messages NoMemory = fixed_message fixes.FatalMemory ∷ []
+last_messages Panic = fixed_message fixes.CouldNotWrite ∷ []
 
 unfoldable pub bytes_of : List BackMessage → List ℕ
 bytes_of messages = flat_map spelling messages
@@ -135,7 +125,7 @@ pub record IsServedPacket (packet : List ℕ) : Type 0 where
   pub body : List ℕ
   pub spelled : packet ≡ int32 (4 + length body) ++ body
   pub served : IsServedBody body
-  pub short : length packet ≤ MAX_PACKET
+  pub short : length packet ≤ 10004
 
 -- A message that ends the session as one that isn't served.
 abbrev pub IsOther : FrontMessage → Type 0
@@ -154,7 +144,7 @@ insert_spelling key value = codes "INSERT INTO kv VALUES (" ++ key ++ codes ", '
 pub record IsInsert (text : List ℕ) (key : ℤ) (value : List ℕ) : Type 0 where
   pub spelled : text ≡ insert_spelling (signed_decimal key) value
   pub number : FitsSigned w64 key
-  pub short : length value ≤ MAX_VALUE_BYTES
+  pub short : length value ≤ max_value_bytes
   pub utf8 : IsUtf8 value
   pub unquoted : ¬ (Contains value 39)
 

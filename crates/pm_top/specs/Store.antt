@@ -10,7 +10,6 @@ use Rattle.pm_rows.specs.Fold.{RowMap, folded}
 use Rattle.pm_rows.specs.declared.commit.Change.{Change}
 use Rattle.pm_sql.specs.declared.stmt.Stmt.{Stmt}
 use Rattle.pm_sql.specs.declared.stmt.Stmt.TheVariants.{Insert, Select}
-use Rattle.pm_sql.specs.declared.script.TheConstants.{MAX_VALUE_BYTES}
 use Rattle.pm_query.specs.declared.item.Item.{Item}
 use Rattle.pm_top.specs.StandsFor.{StandsFor}
 use Rattle.pm_top.specs.History.{History, count_of, kept, rows_of}
@@ -18,26 +17,27 @@ use Rattle.pm_top.specs.Book.{AnswersUpTo, Base, IsLegal, generation_of, history
 use Rattle.pm_top.specs.declared.log.Log.{Log}
 use Rattle.pm_top.specs.declared.book.BookEntry.{BookEntry}
 use Rattle.pm_top.specs.declared.book.BookEntry.TheVariants.{Answered, Broke}
+use Rattle.pm_rows.specs.Limits.{max_value_bytes}
 
 -- these entries were added, where the book tells them
-abbrev pub Notes : List BookEntry → Option (List BookEntry) → Option (List BookEntry) → Type 0
-Notes entries before now = now ≡ option_map (λ book. book ++ entries) before
+abbrev pub NotesEntries : List BookEntry → Option (List BookEntry) → Option (List BookEntry) → Type 0
+NotesEntries entries before now = now ≡ option_map (λ book. book ++ entries) before
 
 -- the answer to a script was noted: this reply, up to this front
 abbrev pub NotesAnswer : ℕ → List Stmt → List Item → ℕ → Option (List BookEntry) → Option (List BookEntry) → Type 0
 NotesAnswer pid script reply front before now =
-    (commit : List Change) × (tick : ℕ) × Notes (Answered pid script reply commit front tick ∷ []) before now
+    (commit : List Change) × (tick : ℕ) × NotesEntries (Answered pid script reply commit front tick ∷ []) before now
 
 -- an answer was noted, and behind it a fault of the disk
 abbrev pub NotesBreak : ℕ → List Stmt → Option (List BookEntry) → Option (List BookEntry) → Type 0
 NotesBreak pid script before now =
     (reply : List Item) × (commit : List Change) × (front : ℕ) × (tick : ℕ) × (since : ℕ) × (count : ℕ)
-    × Notes (Answered pid script reply commit front tick ∷ Broke pid since count ∷ []) before now
+    × NotesEntries (Answered pid script reply commit front tick ∷ Broke pid since count ∷ []) before now
 
 -- a script that is served today: one row is inserted, or the row of one key is selected
 abbrev pub IsPlain : List Stmt → Type 0
 IsPlain script =
-    ((key : ℤ) × (value : List ℕ) × (script ≡ Insert key value ∷ []) × FitsSigned w64 key × IsUtf8 value × (length value ≤ MAX_VALUE_BYTES))
+    ((key : ℤ) × (value : List ℕ) × (script ≡ Insert key value ∷ []) × FitsSigned w64 key × IsUtf8 value × (length value ≤ max_value_bytes))
     ⊎ ((key : ℤ) × (script ≡ Select (Some key) ∷ []))
 
 -- ---- what the store keeps

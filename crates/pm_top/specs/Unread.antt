@@ -4,10 +4,10 @@ use Rattle.std.specs.Int.{w32, w64, to_be_bytes, cast_unsigned}
 use Rattle.std.specs.Int.RustNames.{FitsSigned}
 use Rattle.std.specs.Str.{IsUtf8}
 use Rattle.pm_rows.specs.declared.commit.Change.{Change}
-use Rattle.pm_sql.specs.declared.script.TheConstants.{MAX_VALUE_BYTES}
 use Rattle.pm_top.specs.StandsFor.{IsRow, batch_bytes}
 use Rattle.pm_top.specs.declared.record.Unread.{Unread}
 use Rattle.pm_top.specs.declared.record.Unread.TheVariants.{Bad, NoMemory}
+use Rattle.pm_rows.specs.Limits.{max_value_bytes}
 
 -- no more bytes are left from the wrong one on than there were
 abbrev pub IsLeft : Unread → ℕ → Type 0
@@ -23,7 +23,7 @@ OnlyWithout claim NoMemory = Unit {0}
 
 -- the length of a body: that of one put of a value that isn't too long
 abbrev pub IsBodyLength : List ℕ → Type 0
-IsBodyLength word = (count : ℕ) × (19 ≤ count) × (count ≤ 19 + MAX_VALUE_BYTES) × (word ≡ to_be_bytes w32 count)
+IsBodyLength word = (count : ℕ) × (19 ≤ count) × (count ≤ 19 + max_value_bytes) × (word ≡ to_be_bytes w32 count)
 
 abbrev pub IsKey : List ℕ → Type 0
 IsKey word = (key : ℤ) × FitsSigned w64 key × (word ≡ to_be_bytes w64 (cast_unsigned w64 key))
@@ -44,8 +44,8 @@ IsBatch word = (commit : List Change) × IsRow commit × (word ≡ batch_bytes c
 -- ---- the wrong byte
 
 -- some word begins with these bytes
-abbrev pub Begins : (List ℕ → Type 0) → List ℕ → Type 0
-Begins IsWord bytes = (more : List ℕ) × IsWord (bytes ++ more)
+abbrev pub BeginsWord : (List ℕ → Type 0) → List ℕ → Type 0
+BeginsWord IsWord bytes = (more : List ℕ) × IsWord (bytes ++ more)
 
 -- So many bytes are left from the first wrong one on: the bytes in front of it are begun, and with it, whatever stands
 -- behind it, they aren't. Where none is left, the bytes end too early.

@@ -8,10 +8,11 @@ ghost use Rattle.std.specs.Str.{IsUtf8};
 ghost use Rattle.pm_sql.specs.declared.stmt.Stmt.{Stmt};
 ghost use Rattle.pm_wire.specs.Pieces.{HasNoZero};
 ghost use Rattle.pm_top.specs.Session.{IsServedBody, IsServed, IsSelect, insert_spelling};
+ghost use Rattle.pm_rows.specs.Limits.{max_value_bytes};
 
 use itoa::Buffer;
-use pm_rows::Text;
-use pm_sql::{MAX_VALUE_BYTES, Script, Stmt};
+use pm_rows::{MAX_VALUE_BYTES, Text};
+use pm_sql::{Script, Stmt};
 use std::alloc::{AllocError, Global};
 
 /// Whether what stands behind a startup packet's length is of version 3.0, and its one pair is `user` with a value that
@@ -115,7 +116,7 @@ fn key_of(text: &str) -> Option<i64>
 
 // Whether a value may be stored as it is spelled.
 fn is_value(value: &str) -> bool
-    ensures fits { IsTrue result ↔ ((length value.now ≤ MAX_VALUE_BYTES) × (¬ (Contains value.now 39))) }
+    ensures fits { IsTrue result ↔ ((length value.now ≤ max_value_bytes) × (¬ (Contains value.now 39))) }
     ensures utf8 { IsUtf8 value.now }
 {
     value.len() <= MAX_VALUE_BYTES && !value.as_bytes().contains(&b'\'')

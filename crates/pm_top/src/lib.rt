@@ -4,18 +4,18 @@
 
 mod book;
 mod form;
+mod laws;
 mod log;
 mod print;
 mod record;
 mod reply;
 mod segment;
 mod session;
-#[cfg(test)]
-mod tests;
 mod top;
 mod words;
 
 pub use book::BookEntry;
+pub use laws::{redo_keeps_acknowledged, repeated_redo_changes_nothing};
 pub use record::RedoFault;
 pub use top::{Ended, Outside, StartWhy, Top, Why, run};
 pub use words::{Command, Line, WordsNo, read_words};

@@ -9,16 +9,15 @@ ghost use Rattle.pm_disk.specs.Disk.{Follows, Only, TellsStill, Torn};
 ghost use Rattle.pm_disk.specs.Files.{file_of, overwritten, with_file};
 ghost use Rattle.pm_disk.specs.declared.disk.Which.TheVariants as Which;
 ghost use Rattle.pm_top.specs.Contents.{IsClosed};
-ghost use Rattle.pm_top.specs.Log.{FollowsWithin, GrowsBy, IsOpen, KeepsAtStops, Passes, with_batch, with_empty_log};
-ghost use Rattle.pm_top.specs.StandsFor.{StandsFor};
+ghost use Rattle.pm_top.specs.Log.{FollowsWithin, GrowsBy, IsOpen, KeepsAtStops, TakesCalls, with_batch, with_empty_log};
+ghost use Rattle.pm_top.specs.StandsFor.{StandsFor, log_header};
 ghost use Rattle.pm_top.specs.declared.log.InitNo.TheVariants.{Disk};
+ghost use Rattle.pm_rows.specs.Limits.{max_file_bytes};
 
 use crate::record::{BASE_END, Batch, CLOSED, Found, HEADER, OPEN};
 use pm_disk::{Disk, DiskFault, Which};
+use pm_rows::MAX_FILE_BYTES;
 use thiserror::Error;
-
-/// How long a log file is at the most, in bytes.
-pub const MAX_LOG: u64 = 268_435_456;
 
 /// Why no cluster was made.
 #[derive(Clone, Copy, Debug, PartialEq, Eq, Error)]
@@ -40,13 +39,13 @@ impl From<DiskFault> for InitNo {
 /// Makes a cluster in two files that hold none: file B closed, then file A with no rows, opened last.
 pub fn init<D: Disk>(disk: &mut D) -> Result<(), InitNo>
     ensures made { OnOk result (D.seen disk.new ≡ option_map with_empty_log (D.seen disk.old)) }
-    ensures stands { OnOk result (IfSome (D.seen disk.new) (λ files. StandsFor files.a [] BASE_END × IsClosed files.b)) }
+    ensures stands { OnOk result (IfSome (D.seen disk.new) (λ files. StandsFor files.a [] 30 × IsClosed files.b)) }
     ensures durable_a { OnOk result (IfSome (D.seen disk.new) (λ files. Only Which.A files.a (D.images disk.new (D.ticks disk.new)))) }
     ensures durable_b { OnOk result (IfSome (D.seen disk.new) (λ files. Only Which.B files.b (D.images disk.new (D.ticks disk.new)))) }
     ensures fresh { OnOk result (IfSome (D.seen disk.old) (λ files. IsClosed files.a × IsClosed files.b)) }
     ensures exists { result ≡ Err InitNo.Exists → IfSome (D.seen disk.old) (λ files. IsOpen files.a ⊎ IsOpen files.b) }
     ensures kept { result ≡ Err InitNo.Exists → D.seen disk.new ≡ D.seen disk.old }
-    ensures time { Passes 1 10 (D.ticks disk.old) (D.ticks disk.new) (D.images disk.old) (D.images disk.new) }
+    ensures time { TakesCalls 1 10 (D.ticks disk.old) (D.ticks disk.new) (D.images disk.old) (D.images disk.new) }
     ensures cause { IsCounted (D.faults disk.old) (D.faults disk.new) (result ≡ Err InitNo.Disk) }
 {
     if stands(disk, Which::A)? || stands(disk, Which::B)? {
@@ -60,7 +59,7 @@ pub fn init<D: Disk>(disk: &mut D) -> Result<(), InitNo>
 fn stands<D: Disk>(disk: &mut D, file: Which) -> Result<bool, DiskFault>
     ensures tells { IfOk result (λ found. IfSome (D.seen disk.old) (λ files. IsTrue found ↔ IsOpen (file_of files file))) }
     ensures seen { D.seen disk.new ≡ D.seen disk.old }
-    ensures time { Passes 1 2 (D.ticks disk.old) (D.ticks disk.new) (D.images disk.old) (D.images disk.new) }
+    ensures time { TakesCalls 1 2 (D.ticks disk.old) (D.ticks disk.new) (D.images disk.old) (D.images disk.new) }
     ensures cause { IsCounted (D.faults disk.old) (D.faults disk.new) (IsErr result) }
 {
     if disk.len(file)? == 0 {
@@ -76,7 +75,7 @@ fn make<D: Disk>(disk: &mut D) -> Result<(), DiskFault>
     ensures made { OnOk result (D.seen disk.new ≡ option_map with_empty_log (D.seen disk.old)) }
     ensures durable_a { OnOk result (IfSome (D.seen disk.new) (λ files. Only Which.A files.a (D.images disk.new (D.ticks disk.new)))) }
     ensures durable_b { OnOk result (IfSome (D.seen disk.new) (λ files. Only Which.B files.b (D.images disk.new (D.ticks disk.new)))) }
-    ensures time { Passes 1 6 (D.ticks disk.old) (D.ticks disk.new) (D.images disk.old) (D.images disk.new) }
+    ensures time { TakesCalls 1 6 (D.ticks disk.old) (D.ticks disk.new) (D.images disk.old) (D.images disk.new) }
     ensures cause { IsCounted (D.faults disk.old) (D.faults disk.new) (IsErr result) }
 {
     write_durably(disk, Which::B, 0, &[CLOSED])?;
@@ -86,7 +85,7 @@ fn make<D: Disk>(disk: &mut D) -> Result<(), DiskFault>
 
 // A log without rows: a closed gate, the header and the next gate, closed too.
 fn empty_log() -> [u8; 31]
-    ensures { result ≡ CLOSED ∷ HEADER ++ CLOSED ∷ [] }
+    ensures { result ≡ 0 ∷ log_header ++ 0 ∷ [] }
 {
     let mut bytes = [CLOSED; 31];
     bytes[1..BASE_END as usize].copy_from_slice(&HEADER);
@@ -105,8 +104,8 @@ fn write_durably<D: Disk>(disk: &mut D, file: Which, at: u64, bytes: &[u8]) -> R
         (D.images disk.old (D.ticks disk.old)) (D.images disk.new (D.ticks disk.new)) }
     ensures stops { FollowsWithin (Torn file at (length bytes.now))
         (D.ticks disk.old) (D.ticks disk.new) (D.images disk.old) (D.images disk.new) }
-    ensures time { Passes 1 2 (D.ticks disk.old) (D.ticks disk.new) (D.images disk.old) (D.images disk.new) }
-    ensures ok_time { OnOk result (Passes 2 2 (D.ticks disk.old) (D.ticks disk.new) (D.images disk.old) (D.images disk.new)) }
+    ensures time { TakesCalls 1 2 (D.ticks disk.old) (D.ticks disk.new) (D.images disk.old) (D.images disk.new) }
+    ensures ok_time { OnOk result (TakesCalls 2 2 (D.ticks disk.old) (D.ticks disk.new) (D.images disk.old) (D.images disk.new)) }
     ensures cause { IsCounted (D.faults disk.old) (D.faults disk.new) (IsErr result) }
 {
     disk.write(file, at, bytes)?;
@@ -136,18 +135,18 @@ impl Log {
 
     /// For how many bytes there is room behind the closed gate; none at the last number of commits.
     pub fn room(&self) -> u64
-        ensures room { result ≡ (if self.now.count == 2 ^ 64 - 1 then 0 else MAX_LOG - 1 - self.now.end) }
+        ensures room { result ≡ (if self.now.count == 2 ^ 64 - 1 then 0 else max_file_bytes - 1 - self.now.end) }
         ensures number { self.now.count < 2 ^ 64 }
     {
         if self.count == u64::MAX {
             return 0;
         }
-        (MAX_LOG - 1).saturating_sub(self.end)
+        (MAX_FILE_BYTES - 1).saturating_sub(self.end)
     }
 
     /// Appends a batch of one commit to file A. Where it fails the log is as it was, and file A holds the commit or not.
     pub fn append<D: Disk>(&mut self, disk: &mut D, batch: &Batch) -> Result<(), DiskFault>
-        requires room { self.old.end + length batch.now ≤ MAX_LOG }
+        requires room { self.old.end + length batch.now ≤ max_file_bytes }
         requires number { self.old.count < 2 ^ 64 - 1 }
         requires gate { IfSome (D.seen disk.old) (λ files. (self.old.end < length files.a) × (slice_index files.a self.old.end ≡ 0)) }
         ensures ok { OnOk result (self.new ≡ record { end = self.old.end + (length batch.now - 1); count = self.old.count + 1 }) }
@@ -160,8 +159,8 @@ impl Log {
             KeepsAtStops batch.now self.old.end (self.old.end + (length batch.now - 1)) files.a
             (D.ticks disk.old) (D.ticks disk.new) (D.images disk.old) (D.images disk.new)) }
         ensures beside { option_map (λ files. files.b) (D.seen disk.new) ≡ option_map (λ files. files.b) (D.seen disk.old) }
-        ensures time { Passes 1 4 (D.ticks disk.old) (D.ticks disk.new) (D.images disk.old) (D.images disk.new) }
-        ensures ok_time { OnOk result (Passes 4 4 (D.ticks disk.old) (D.ticks disk.new) (D.images disk.old) (D.images disk.new)) }
+        ensures time { TakesCalls 1 4 (D.ticks disk.old) (D.ticks disk.new) (D.images disk.old) (D.images disk.new) }
+        ensures ok_time { OnOk result (TakesCalls 4 4 (D.ticks disk.old) (D.ticks disk.new) (D.images disk.old) (D.images disk.new)) }
         ensures cause { IsCounted (D.faults disk.old) (D.faults disk.new) (IsErr result) }
     {
         let (gate, behind) = batch.bytes().split_at(1);

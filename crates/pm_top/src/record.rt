@@ -3,7 +3,7 @@
 ghost use Rattle.std.specs.Prelude.{◌≡◌, ◌++◌, ◌∷◌, [], ◌+◌, ◌-◌, ◌<◌, ◌≤◌, ◌^◌, ℕ, ℤ, List, All, length, drop, take, IfOk, IfErr, IfNone, IfSome, OnOk, ◌⊎◌, nat_eq, slice_index};
 ghost use Rattle.pm_rows.specs.Fold.{folded};
 ghost use Rattle.std.specs.FinMap as map;
-ghost use Rattle.pm_top.specs.StandsFor.{HasShortValue, IsRow, IsSpelled, IsTyped, Stands, StandsFor, batch_bytes, body_bytes, change_bytes};
+ghost use Rattle.pm_top.specs.StandsFor.{HasShortValue, IsRow, IsSpelled, Stands, StandsFor, batch_bytes, body_bytes, change_bytes};
 ghost use Rattle.pm_rows.specs.declared.commit.Change.{Change};
 ghost use Rattle.std.specs.Int.{w32, w64, to_be_bytes, cast_unsigned};
 ghost use Rattle.std.specs.Int.RustNames.{FitsSigned};
@@ -11,15 +11,14 @@ ghost use Rattle.std.specs.Str.{IsUtf8, IsValidUpTo};
 ghost use Rattle.std.specs.Str.Lossy.{utf8_error_len};
 ghost use Rattle.pm_top.specs.Contents.{Damages, Holds, IsClosed, IsOf};
 ghost use Rattle.std.specs.List.{common_prefix_len};
-ghost use Rattle.pm_top.specs.Unread.{Begins, IsBatch, IsBodyLength, IsKey, IsLead, IsLeft, IsText, OnlyWithout, Stops, StopsAt};
+ghost use Rattle.pm_top.specs.Unread.{BeginsWord, IsBatch, IsBodyLength, IsKey, IsLead, IsLeft, IsText, OnlyWithout, Stops, StopsAt};
 ghost use Rattle.pm_top.specs.Damage.{IsLogFront};
 ghost use Rattle.pm_top.specs.declared.record.Unread.TheVariants.{NoMemory};
 ghost use Rattle.pm_top.specs.declared.record.RedoFault.TheVariants as redo;
+ghost use Rattle.pm_rows.specs.Limits.{max_value_bytes};
 
 use pm_disk::{DiskFault, Which};
-use pm_query::{MAX_ROWS, MAX_ROWS_BYTES};
-use pm_rows::{Change, Commit, Rows, Text};
-use pm_sql::MAX_VALUE_BYTES;
+use pm_rows::{Change, Commit, MAX_ROWS, MAX_ROWS_BYTES, MAX_VALUE_BYTES, Rows, Text};
 use std::alloc::{AllocError, Global};
 use std::marker::Model;
 use thiserror::Error;
@@ -134,8 +133,7 @@ impl Batch {
     /// The batch of a commit.
     pub fn of(alloc: Global, commit: &Commit) -> Result<Batch, AllocError>
         requires { IsSpelled commit.now }
-        ensures bytes { IfOk result (λ batch. batch ≡ OPEN ∷ batch_bytes commit.now ++ CLOSED ∷ []) }
-        ensures typed { OnOk result (All IsTyped commit.now) }
+        ensures { IfOk result (λ batch. batch ≡ 1 ∷ batch_bytes commit.now ++ 0 ∷ []) }
     {
         let mut body = Vec::new(alloc);
         put_body(&mut body, commit)?;
@@ -165,8 +163,7 @@ impl Batch {
 
 fn put_body(out: &mut Vec<u8>, commit: &Commit) -> Result<(), AllocError>
     requires { IsSpelled commit.now }
-    ensures bytes { OnOk result (out.new.items ≡ out.old.items ++ body_bytes commit.now) }
-    ensures typed { OnOk result (All IsTyped commit.now) }
+    ensures { OnOk result (out.new.items ≡ out.old.items ++ body_bytes commit.now) }
 {
     let changes = commit.changes();
     out.extend_from_slice(&1u32.to_be_bytes())?;
@@ -179,8 +176,7 @@ fn put_body(out: &mut Vec<u8>, commit: &Commit) -> Result<(), AllocError>
 
 fn put_change(out: &mut Vec<u8>, change: &Change) -> Result<(), AllocError>
     requires { HasShortValue change.now }
-    ensures bytes { OnOk result (out.new.items ≡ out.old.items ++ change_bytes change.now) }
-    ensures typed { OnOk result (IsTyped change.now) }
+    ensures { OnOk result (out.new.items ≡ out.old.items ++ change_bytes change.now) }
 {
     match change {
         Change::Put { key, value } => {
@@ -258,7 +254,7 @@ fn commit_of(alloc: Global, bytes: &[u8]) -> Result<(Commit, &[u8]), Unread>
     ensures wrong { IfErr result (OnlyWithout
         ((commit : List Change) × (next : List ℕ) × IsRow commit × (bytes.now ≡ batch_bytes commit ++ next))) }
     ensures place { IfErr result (λ e. IsLeft e (length bytes.now)) }
-    ensures stops { IfErr result (Stops (Begins IsBatch) bytes.now) }
+    ensures stops { IfErr result (Stops (BeginsWord IsBatch) bytes.now) }
 {
     let (length, rest) = body_length(bytes)?;
     let rest = fixed(rest, &[0, 0, 0, 1, 0, 1, 1])?;
@@ -275,7 +271,7 @@ fn fixed<'a>(bytes: &'a [u8], wanted: &[u8]) -> Result<&'a [u8], Unread>
     ensures found { IfOk result (λ rest. bytes.now ≡ wanted.now ++ rest.now) }
     ensures wrong { IfErr result (OnlyWithout ((rest : List ℕ) × (bytes.now ≡ wanted.now ++ rest))) }
     ensures place { IfErr result (λ e. IsLeft e (length bytes.now)) }
-    ensures stops { IfErr result (Stops (Begins (λ word. word ≡ wanted.now)) bytes.now) }
+    ensures stops { IfErr result (Stops (BeginsWord (λ word. word ≡ wanted.now)) bytes.now) }
 {
     match bytes.strip_prefix(wanted) {
         Some(rest) => Ok(rest),
@@ -299,11 +295,11 @@ fn alike(bytes: &[u8], wanted: &[u8]) -> usize
 // A body's length, which is that of one put of a value that isn't too long.
 fn body_length(bytes: &[u8]) -> Result<(u32, &[u8]), Unread>
     ensures found { IfOk result (λ x. bytes.now ≡ to_be_bytes w32 x.0 ++ x.1.now) }
-    ensures range { IfOk result (λ x. (19 ≤ x.0) × (x.0 ≤ 19 + MAX_VALUE_BYTES)) }
+    ensures range { IfOk result (λ x. (19 ≤ x.0) × (x.0 ≤ 19 + max_value_bytes)) }
     ensures wrong { IfErr result (OnlyWithout ((length : ℕ) × (rest : List ℕ)
-        × (19 ≤ length) × (length ≤ 19 + MAX_VALUE_BYTES) × (bytes.now ≡ to_be_bytes w32 length ++ rest))) }
+        × (19 ≤ length) × (length ≤ 19 + max_value_bytes) × (bytes.now ≡ to_be_bytes w32 length ++ rest))) }
     ensures place { IfErr result (λ e. IsLeft e (length bytes.now)) }
-    ensures stops { IfErr result (Stops (Begins IsBodyLength) bytes.now) }
+    ensures stops { IfErr result (Stops (BeginsWord IsBodyLength) bytes.now) }
 {
     let (front, rest) = bytes.split_at(bytes.len().min(4));
     let wrong = Unread::Bad {
@@ -322,7 +318,7 @@ fn body_length(bytes: &[u8]) -> Result<(u32, &[u8]), Unread>
 // How many of these bytes, four at most, can begin such a length.
 fn length_begun(front: &[u8]) -> usize
     ensures within { result ≤ length front.now }
-    ensures stops { length front.now ≤ 4 → ((i : ℕ) → slice_index front.now i < 256) → StopsAt (Begins IsBodyLength) front.now (length front.now - result) }
+    ensures stops { length front.now ≤ 4 → ((i : ℕ) → slice_index front.now i < 256) → StopsAt (BeginsWord IsBodyLength) front.now (length front.now - result) }
 {
     let lowest = ROW_BYTES.to_be_bytes();
     let highest = (ROW_BYTES + MAX_VALUE_BYTES as u32).to_be_bytes();
@@ -341,7 +337,7 @@ fn key_of(bytes: &[u8]) -> Result<(i64, &[u8]), Unread>
     ensures wrong { IfErr result (OnlyWithout ((key : ℤ) × (rest : List ℕ)
         × (bytes.now ≡ to_be_bytes w64 (cast_unsigned w64 key) ++ rest))) }
     ensures place { IfErr result (λ e. IsLeft e (length bytes.now)) }
-    ensures stops { IfErr result (Stops (Begins IsKey) bytes.now) }
+    ensures stops { IfErr result (Stops (BeginsWord IsKey) bytes.now) }
 {
     if bytes.len() < 8 {
         return Err(Unread::Bad { left: 0 });
@@ -359,7 +355,7 @@ fn text_of(alloc: Global, count: usize, bytes: &[u8]) -> Result<(Text, &[u8]), U
     ensures wrong { IfErr result (OnlyWithout ((text : List ℕ) × (rest : List ℕ)
         × (bytes.now ≡ text ++ rest) × (length text ≡ count) × IsUtf8 text)) }
     ensures place { IfErr result (λ e. IsLeft e (length bytes.now)) }
-    ensures stops { IfErr result (Stops (Begins (IsText count)) bytes.now) }
+    ensures stops { IfErr result (Stops (BeginsWord (IsText count)) bytes.now) }
 {
     let (front, rest) = bytes.split_at(bytes.len().min(count));
     match str::from_utf8(front) {
@@ -379,7 +375,7 @@ fn text_begun(front: &[u8], whole: usize, begun: Option<usize>, count: usize) ->
     requires within { length front.now ≤ count }
     requires inside { IfSome begun (λ n. whole + n ≤ length front.now) }
     ensures within { result ≤ length front.now }
-    ensures stops { StopsAt (Begins (IsText count)) front.now (length front.now - result) }
+    ensures stops { StopsAt (BeginsWord (IsText count)) front.now (length front.now - result) }
 {
     let Some(long) = wide_count(front[whole]) else {
         return whole;
@@ -405,6 +401,3 @@ fn wide_count(first: u8) -> Option<usize>
         _ => None,
     }
 }
-
-#[cfg(test)]
-mod tests;

@@ -1,14 +1,14 @@
 //! What a client is sent: the greeting, the messages of a reply, and errors. Each call appends to what is to be sent.
 //! Where memory runs out, a part of its messages may stand behind what stood there.
-ghost use Rattle.std.specs.Prelude.{◌≡◌, ◌++◌, ◌∷◌, [], None, option_map, map, All, OnOk, OnErr};
-ghost use Rattle.pm_wire.specs.Backend.{back_message, IsWritable, Fields, One, Complete};
+ghost use Rattle.std.specs.Prelude.{◌≡◌, ◌++◌, ◌∷◌, [], map, All, OnOk, OnErr};
+ghost use Rattle.pm_wire.specs.Backend.{back_message, IsWritable, Fields, One, Complete, Ready};
 ghost use Rattle.pm_wire.specs.declared.back.Tag.TheVariants as tags;
 ghost use Rattle.pm_query.specs.declared.item.Item.TheVariants as items;
-ghost use Rattle.pm_top.specs.Session.{greeting, error, item_messages, turn_messages, row_messages, report_messages, Ran, HasShortValues, IsShortRow, bytes_of, BeginsWith};
+ghost use Rattle.pm_top.specs.Session.{greeting, item_messages, turn_messages, row_messages, Ran, Unserved, HasShortValues, IsShortRow, bytes_of, BeginsWith};
 
 use pm_query::{Item, Reply};
 use pm_rows::Text;
-use pm_wire::{Back, Bytes, Report, Severity, Shape, Tag};
+use pm_wire::{Back, Bytes, Condition, Fixed, Report, Severity, Shape, SqlState, Tag};
 use std::alloc::{AllocError, Global};
 
 /// The settings that a client is told at the start, in this order.
@@ -34,14 +34,28 @@ pub fn greet(out: &mut Bytes, pid: u32, key: u32) -> Result<(), AllocError>
     Back::Ready.write(out)
 }
 
-/// An error of one text, and ReadyForQuery behind it.
-pub fn report(out: &mut Bytes, code: [u8; 5], text: &str) -> Result<(), AllocError>
-    requires { IsWritable (error code text.now None) }
-    ensures ok { OnOk result (out.new ≡ out.old ++ bytes_of (report_messages code text.now)) }
+/// An error, and ReadyForQuery behind it.
+pub fn report(out: &mut Bytes, error: Back) -> Result<(), AllocError>
+    requires { IsWritable (back_message error) }
+    ensures ok { OnOk result (out.new ≡ out.old ++ bytes_of (back_message error.entry ∷ Ready ∷ [])) }
     ensures err { OnErr result (BeginsWith out.old out.new) }
 {
-    put_error(out, code, text, None)?;
+    error.write(out)?;
     Back::Ready.write(out)
+}
+
+/// The answer to a query that isn't served.
+pub fn report_unserved(out: &mut Bytes) -> Result<(), AllocError>
+    ensures ok { OnOk result (out.new ≡ out.old ++ bytes_of (turn_messages Unserved)) }
+    ensures err { OnErr result (BeginsWith out.old out.new) }
+{
+    let unserved = Report {
+        severity: Severity::Error,
+        code: SqlState::FeatureNotSupported.code(),
+        text: "form is not supported",
+        detail: None,
+    };
+    report(out, Back::Fault(unserved))
 }
 
 /// The messages of each item in order, and then ReadyForQuery.
@@ -69,9 +83,9 @@ fn put_item(alloc: Global, out: &mut Bytes, item: &Item) -> Result<(), AllocErro
         Item::Rows(pairs) => put_rows(out, pairs.pairs()),
         Item::Count(count) => put_count(alloc, out, *count),
         Item::Slept => put_one(out, Shape::Sleep, ""),
-        Item::Duplicate { key } => put_duplicate(alloc, out, *key),
-        Item::TableFull => put_error(out, *b"54000", "table exceeds 100000 rows", None),
-        Item::RowsTooLarge => put_error(out, *b"54000", "rows exceed 67108864 bytes", None),
+        Item::Duplicate { key } => put_duplicate(out, *key),
+        Item::TableFull => put(out, Back::Told(Condition::Fixed(Fixed::TableFull))),
+        Item::RowsTooLarge => put(out, Back::Told(Condition::Fixed(Fixed::RowsTooLarge))),
     }
 }
 
@@ -107,35 +121,11 @@ fn put_one(out: &mut Bytes, shape: Shape, text: &str) -> Result<(), AllocError>
     Back::Complete(Tag::Select(1)).write(out)
 }
 
-fn put_duplicate(alloc: Global, out: &mut Bytes, key: i64) -> Result<(), AllocError>
+fn put_duplicate(out: &mut Bytes, key: i64) -> Result<(), AllocError>
     ensures ok { OnOk result (out.new ≡ out.old ++ bytes_of (item_messages (items.Duplicate key))) }
     ensures err { OnErr result (BeginsWith out.old out.new) }
 {
-    let detail = format!(in alloc; "Key (k)=({key}) already exists.")?;
-    let text = "duplicate key value violates unique constraint \"kv_pkey\"";
-    put_error(out, *b"23505", text, Some(detail.as_str()))
-}
-
-fn put_error(
-    out: &mut Bytes,
-    code: [u8; 5],
-    text: &str,
-    detail: Option<&str>,
-) -> Result<(), AllocError>
-    requires { IsWritable (error code text.now (option_map (λ t. t.now) detail)) }
-    ensures ok { OnOk result (out.new ≡ out.old ++ bytes_of (error code text.now (option_map (λ t. t.now) detail.entry) ∷ [])) }
-    ensures err { OnErr result (BeginsWith out.old out.new) }
-{
-    let severity = Severity::Error;
-    put(
-        out,
-        Back::Fault(Report {
-            severity,
-            code,
-            text,
-            detail,
-        }),
-    )
+    put(out, Back::Told(Condition::Duplicate { key }))
 }
 
 fn put(out: &mut Bytes, message: Back) -> Result<(), AllocError>

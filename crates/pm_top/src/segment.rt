@@ -10,10 +10,10 @@ ghost use Rattle.pm_top.specs.Ends.{IsReason};
 ghost use Rattle.pm_disk.specs.Disk.{Only};
 ghost use Rattle.pm_disk.specs.declared.disk.Which.TheVariants as Which;
 ghost use Rattle.pm_top.specs.Log.{GrowsBy, MayGrow, with_batch};
-ghost use Rattle.pm_top.specs.declared.log.TheConstants.{MAX_LOG};
 ghost use Rattle.pm_top.specs.Session.{HasShortValues};
 ghost use Rattle.pm_top.specs.Short.{HasShortRows, IsRowOrNone};
-ghost use Rattle.pm_top.specs.Store.{BookHolds, BookRests, LogHolds, HasAnswer, IsBroken, IsPlain, Notes, NotesAnswer, NotesBreak};
+ghost use Rattle.pm_top.specs.Store.{BookHolds, BookRests, LogHolds, HasAnswer, IsBroken, IsPlain, NotesEntries, NotesAnswer, NotesBreak};
+ghost use Rattle.pm_rows.specs.Limits.{max_file_bytes};
 
 use crate::book::BookEntry;
 use crate::log::Log;
@@ -111,7 +111,7 @@ impl<D: Disk, B: Chronicle<BookEntry>> Sole<D, B> {
 
     /// Begins the first generation.
     pub fn open(&mut self) -> Result<(), AllocError>
-        ensures ok { OnOk result (Notes (BookEntry.Opened 1 ∷ []) (B.entries self.old.book) (B.entries self.new.book)) }
+        ensures ok { OnOk result (NotesEntries (BookEntry.Opened 1 ∷ []) (B.entries self.old.book) (B.entries self.new.book)) }
         ensures err { OnErr result (B.entries self.new.book ≡ B.entries self.old.book) }
         ensures disk { self.new.disk ≡ self.old.disk }
     {
@@ -122,7 +122,7 @@ impl<D: Disk, B: Chronicle<BookEntry>> Sole<D, B> {
 
     /// Lets a child in, and keeps room for the entry of its leave.
     pub fn enter(&mut self, pid: u32, generation: u32) -> Result<Pass, AllocError>
-        ensures ok { OnOk result (Notes (BookEntry.Attached pid generation ∷ []) (B.entries self.old.book) (B.entries self.new.book)) }
+        ensures ok { OnOk result (NotesEntries (BookEntry.Attached pid generation ∷ []) (B.entries self.old.book) (B.entries self.new.book)) }
         ensures pass { IfOk result (λ pass. (pass.pid ≡ pid) × (pass.generation ≡ generation)) }
         ensures room { OnOk result (1 ≤ B.spare self.new.book) }
         ensures err { OnErr result (B.entries self.new.book ≡ B.entries self.old.book) }
@@ -141,7 +141,7 @@ impl<D: Disk, B: Chronicle<BookEntry>> Sole<D, B> {
     /// Lets a child go. It takes no memory.
     pub fn leave(&mut self, pass: Pass)
         requires { 1 ≤ B.spare self.old.book }
-        ensures notes { Notes (BookEntry.Detached pass.pid ∷ []) (B.entries self.old.book) (B.entries self.new.book) }
+        ensures notes { NotesEntries (BookEntry.Detached pass.pid ∷ []) (B.entries self.old.book) (B.entries self.new.book) }
         ensures rows { self.new.rows ≡ self.old.rows }
         ensures log { self.new.log ≡ self.old.log }
         ensures disk { self.new.disk ≡ self.old.disk }
@@ -155,12 +155,11 @@ impl<D: Disk, B: Chronicle<BookEntry>> Sole<D, B> {
     /// Reads the log again, and answers how many commits stand.
     pub fn redo(&mut self, pass: Pass) -> Result<u64, RedoFault>
         requires { 1 ≤ B.spare self.old.book }
-        ensures ok { IfOk result (λ kept. Notes (BookEntry.Redone pass.pid pass.generation kept ∷ []) (B.entries self.old.book) (B.entries self.new.book)) }
+        ensures ok { IfOk result (λ kept. NotesEntries (BookEntry.Redone pass.pid pass.generation kept ∷ []) (B.entries self.old.book) (B.entries self.new.book)) }
         ensures log { IfOk result (λ kept. (end : ℕ) × (self.new.log ≡ Some (record { end = end; count = kept }))) }
         ensures file { OnOk result (LogHolds (D.seen self.new.disk) (D.images self.new.disk (D.ticks self.new.disk)) self.new.rows self.new.log) }
         ensures disk { result ≡ Err RedoFault.Disk
-            → (since : ℕ) × Notes (BookEntry.Broke pass.pid since (D.faults self.new.disk) ∷ []) (B.entries self.old.book) (B.entries self.new.book) }
-        ensures fits { result ≡ Err RedoFault.Disk → D.faults self.new.disk < 2 ^ 64 }
+            → (since : ℕ) × NotesEntries (BookEntry.Broke pass.pid since (D.faults self.new.disk) ∷ []) (B.entries self.old.book) (B.entries self.new.book) }
         ensures other { (fault : RedoFault) → result ≡ Err fault → fault ≢ RedoFault.Disk → B.entries self.new.book ≡ B.entries self.old.book }
         ensures reason { (fault : RedoFault) → result ≡ Err fault → IfSome (D.seen self.old.disk) (λ files. IsReason fault files.a) }
         ensures seen { D.seen self.new.disk ≡ D.seen self.old.disk }
@@ -183,7 +182,7 @@ impl<D: Disk, B: Chronicle<BookEntry>> Sole<D, B> {
         requires room { 1 ≤ B.spare self.old.book }
         requires short { HasShortRows found.rows }
         ensures count { result ≡ found.count }
-        ensures notes { Notes (BookEntry.Redone pass.pid pass.generation result ∷ []) (B.entries self.old.book) (B.entries self.new.book) }
+        ensures notes { NotesEntries (BookEntry.Redone pass.pid pass.generation result ∷ []) (B.entries self.old.book) (B.entries self.new.book) }
         ensures room { B.spare self.new.book + 1 ≡ B.spare self.old.book }
         ensures rows { self.new.rows ≡ found.rows }
         ensures log { self.new.log ≡ Some (record { end = found.end; count = found.count }) }
@@ -203,13 +202,12 @@ impl<D: Disk, B: Chronicle<BookEntry>> Sole<D, B> {
     // Notes a fault of the disk.
     fn broke(&mut self, pid: u32)
         requires { 1 ≤ B.spare self.old.book }
-        ensures notes { Notes (BookEntry.Broke pid (D.ticks self.old.disk) (D.faults self.old.disk) ∷ [])
+        ensures notes { NotesEntries (BookEntry.Broke pid (D.ticks self.old.disk) (D.faults self.old.disk) ∷ [])
             (B.entries self.old.book) (B.entries self.new.book) }
         ensures room { B.spare self.new.book + 1 ≡ B.spare self.old.book }
         ensures rows { self.new.rows ≡ self.old.rows }
         ensures log { self.new.log ≡ self.old.log }
         ensures disk { self.new.disk ≡ self.old.disk }
-        ensures fits { D.faults self.old.disk < 2 ^ 64 }
     {
         let entry = BookEntry::Broke {
             pid,
@@ -229,7 +227,7 @@ impl<D: Disk, B: Chronicle<BookEntry>> Sole<D, B> {
             NotesAnswer pass.pid script.now staged.reply staged.front (B.entries self.old.book) (B.entries self.new.book)) }
         ensures short { IfOk result (λ staged. All HasShortValues staged.reply) }
         ensures full { (need room : ℕ) → result ≡ Err (StoreNo.Full need room)
-            → Notes (BookEntry.LogFull pass.pid script.now need room ∷ []) (B.entries self.old.book) (B.entries self.new.book) }
+            → NotesEntries (BookEntry.LogFull pass.pid script.now need room ∷ []) (B.entries self.old.book) (B.entries self.new.book) }
         ensures disk { result ≡ Err StoreNo.Disk
             → NotesBreak pass.pid script.now (B.entries self.old.book) (B.entries self.new.book) }
         ensures memory { result ≡ Err StoreNo.NoMemory → B.entries self.new.book ≡ B.entries self.old.book }
@@ -262,7 +260,7 @@ impl<D: Disk, B: Chronicle<BookEntry>> Sole<D, B> {
         Ok(staged)
     }
 
-    // Applies the commit of a script to the rows, and notes the answer.
+    // Notes the answer of a script, and applies its commit to the rows. All memory is taken before that.
     fn note_answer(
         &mut self,
         pass: Pass,
@@ -273,19 +271,18 @@ impl<D: Disk, B: Chronicle<BookEntry>> Sole<D, B> {
         requires room { 1 ≤ B.spare self.old.book }
         requires row { IsRowOrNone outcome.commit }
         ensures staged { IfOk result (λ staged. (staged.reply ≡ outcome.reply) × (staged.front ≡ front)) }
-        ensures notes { OnOk result (Notes (BookEntry.Answered pass.pid script.now outcome.reply outcome.commit front (D.ticks self.old.disk) ∷ [])
+        ensures notes { OnOk result (NotesEntries (BookEntry.Answered pass.pid script.now outcome.reply outcome.commit front (D.ticks self.old.disk) ∷ [])
             (B.entries self.old.book) (B.entries self.new.book)) }
         ensures rows { OnOk result (self.new.rows ≡ committed self.old.rows outcome.commit) }
         ensures room { B.spare self.old.book ≤ B.spare self.new.book + 1 }
         ensures log { self.new.log ≡ self.old.log }
         ensures disk { self.new.disk ≡ self.old.disk }
-        ensures time { OnOk result (D.ticks self.old.disk < 2 ^ 64) }
         ensures err { OnErr result (self.new ≡ self.old) }
     {
         let script = script.copy()?;
         let Outcome { reply, commit } = outcome;
         let noted = reply.copy()?;
-        self.rows.apply(&commit)?;
+        let prepared = self.rows.prepare(&commit)?;
         let entry = BookEntry::Answered {
             pid: pass.pid,
             script,
@@ -295,6 +292,7 @@ impl<D: Disk, B: Chronicle<BookEntry>> Sole<D, B> {
             tick: self.disk.ticks(),
         };
         self.book.note(entry);
+        self.rows = prepared.apply();
         Ok(Staged { reply, front })
     }
 
@@ -307,7 +305,7 @@ impl<D: Disk, B: Chronicle<BookEntry>> Sole<D, B> {
         room: u64,
     ) -> Result<(), AllocError>
         requires { 1 ≤ B.spare self.old.book }
-        ensures notes { OnOk result (Notes (BookEntry.LogFull pass.pid script.now need room ∷ [])
+        ensures notes { OnOk result (NotesEntries (BookEntry.LogFull pass.pid script.now need room ∷ [])
             (B.entries self.old.book) (B.entries self.new.book)) }
         ensures room { B.spare self.old.book ≤ B.spare self.new.book + 1 }
         ensures rows { self.new.rows ≡ self.old.rows }
@@ -328,25 +326,24 @@ impl<D: Disk, B: Chronicle<BookEntry>> Sole<D, B> {
     // Appends a batch, for which there is room.
     fn append(&mut self, pid: u32, log: Log, batch: &Batch) -> Result<(), DiskFault>
         requires spare { 1 ≤ B.spare self.old.book }
-        requires room { log.end + length batch.now ≤ MAX_LOG }
+        requires room { log.end + length batch.now ≤ max_file_bytes }
         requires number { log.count < 2 ^ 64 - 1 }
         requires gate { IfSome (D.seen self.old.disk) (λ files. (log.end < length files.a) × (slice_index files.a log.end ≡ 0)) }
         ensures log { OnOk result (self.new.log ≡ Some (record { end = log.end + (length batch.now - 1); count = log.count + 1 })) }
         ensures grown { OnOk result (IfSome (D.seen self.old.disk) (λ before. IfSome (D.seen self.new.disk) (λ now.
             GrowsBy batch.now before.a log.end now.a (log.end + (length batch.now - 1))))) }
         ensures durable { OnOk result (IfSome (D.seen self.new.disk) (λ files. Only Which.A files.a (D.images self.new.disk (D.ticks self.new.disk)))) }
-        ensures torn { D.ticks self.old.disk < 2 ^ 64 → IfSome (D.seen self.old.disk) (λ before. IfSome (D.seen self.new.disk) (λ now.
+        ensures torn { IfSome (D.seen self.old.disk) (λ before. IfSome (D.seen self.new.disk) (λ now.
             MayGrow batch.now before.a log.end now.a (log.end + (length batch.now - 1)) (D.images self.old.disk (D.ticks self.old.disk)))) }
         ensures beside { option_map (λ files. files.b) (D.seen self.new.disk) ≡ option_map (λ files. files.b) (D.seen self.old.disk) }
         ensures tells { OnOk result (D.seen self.new.disk ≡ option_map (with_batch log.end batch.now) (D.seen self.old.disk)) }
         ensures book { OnOk result (self.new.book ≡ self.old.book) }
-        ensures broke { OnErr result (Notes (BookEntry.Broke pid (D.ticks self.new.disk) (D.faults self.new.disk) ∷ [])
+        ensures broke { OnErr result (NotesEntries (BookEntry.Broke pid (D.ticks self.new.disk) (D.faults self.new.disk) ∷ [])
             (B.entries self.old.book) (B.entries self.new.book)) }
         ensures spare { OnErr result (B.spare self.new.book + 1 ≡ B.spare self.old.book) }
         ensures rows { self.new.rows ≡ self.old.rows }
-        ensures time { D.ticks self.old.disk < 2 ^ 64 → D.ticks self.old.disk ≤ D.ticks self.new.disk }
+        ensures time { D.ticks self.old.disk ≤ D.ticks self.new.disk }
         ensures cause { IsCounted (D.faults self.old.disk) (D.faults self.new.disk) (IsErr result) }
-        ensures fits { OnErr result (D.faults self.new.disk < 2 ^ 64) }
     {
         let mut log = log;
         match log.append(&mut self.disk, batch) {
@@ -364,7 +361,7 @@ impl<D: Disk, B: Chronicle<BookEntry>> Sole<D, B> {
     /// Notes that the answers up to this front may be sent. The log holds them, since `run` appends.
     pub fn seen(&mut self, pass: Pass, front: u64) -> Result<(), AllocError>
         requires { 1 ≤ B.spare self.old.book }
-        ensures ok { OnOk result (Notes (BookEntry.Released pass.pid front (D.ticks self.old.disk) ∷ []) (B.entries self.old.book) (B.entries self.new.book)) }
+        ensures ok { OnOk result (NotesEntries (BookEntry.Released pass.pid front (D.ticks self.old.disk) ∷ []) (B.entries self.old.book) (B.entries self.new.book)) }
         ensures err { OnErr result (B.entries self.new.book ≡ B.entries self.old.book) }
         ensures room { 1 ≤ B.spare self.new.book }
         ensures rows { self.new.rows ≡ self.old.rows }

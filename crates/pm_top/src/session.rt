@@ -14,12 +14,12 @@ ghost use Rattle.pm_top.specs.Conversation.{between, QueryGoes, ReplyGoes, TurnG
 
 use crate::book::BookEntry;
 use crate::form::{is_served, script_in};
-use crate::reply::{greet, put_reply, report};
+use crate::reply::{greet, put_reply, report, report_unserved};
 use crate::segment::{Pass, Sole, StoreNo};
 use pm_disk::Disk;
 use pm_exit::Status;
 use pm_outside::{Chronicle, Got, Link, Put};
-use pm_wire::{Bytes, Fixed, Front, Take, fixed};
+use pm_wire::{Back, Bytes, Condition, Fixed, Front, Take, fixed};
 use std::alloc::{AllocError, Global};
 use std::sync::Wait;
 
@@ -319,9 +319,8 @@ fn next_message<R: Wait, L: Link>(rt: &R, link: &mut L, inbox: &mut Vec<u8>) -> 
 {
     inbox.clear();
     fill(rt, link, inbox, 1 + LENGTH_BYTES)?;
-    if let Take::Short = Front::read(inbox) {
-        let length = number_at(inbox, 1) as usize;
-        fill(rt, link, inbox, length.saturating_sub(LENGTH_BYTES))?;
+    if let Take::Short { wanted } = Front::read(inbox) {
+        fill(rt, link, inbox, wanted - inbox.len())?;
     }
     Ok(())
 }
@@ -347,14 +346,17 @@ fn answer_query<D: Disk, B: Chronicle<BookEntry>>(
 {
     outbox.clear();
     let Some(script) = script_in(alloc, text)? else {
-        return Ok(report(outbox, *b"0A000", "form is not supported")?);
+        return Ok(report_unserved(outbox)?);
     };
     match store.run(pass, &script) {
         Ok(staged) => {
             put_reply(alloc, outbox, &staged.reply)?;
             Ok(store.seen(pass, staged.front)?)
         }
-        Err(StoreNo::Full { .. }) => Ok(report(outbox, *b"54000", "the commit log is full")?),
+        Err(StoreNo::Full { .. }) => {
+            let full = Back::Told(Condition::Fixed(Fixed::LogFull));
+            Ok(report(outbox, full)?)
+        }
         Err(StoreNo::NoMemory) => Err(Unanswered::NoMemory),
         Err(StoreNo::Disk) => Err(Unanswered::Disk),
     }

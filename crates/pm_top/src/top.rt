@@ -1,17 +1,16 @@
 //! The top call: all that the program does, over the outside that it is handed.
 
-ghost use Rattle.std.specs.Prelude.{◌≡◌, ◌≢◌, ◌≤◌, ◌<◌, ◌++◌, ◌⊎◌, ℕ, [], List, codes, length, Option, option_map, IfNone, IfSome, OnOk, Err, MatchResult};
+ghost use Rattle.std.specs.Prelude.{◌≡◌, ◌≢◌, ◌+◌, ◌≤◌, ◌<◌, ◌++◌, ◌⊎◌, ℕ, [], List, codes, length, Option, option_map, IfNone, IfSome, OnOk, Err, MatchResult};
 ghost use Rattle.pm_disk.specs.Cause.{IsCounted, Rose};
 ghost use Rattle.pm_keys.specs.CancelKey.{cancel_key};
 ghost use Rattle.pm_outside.specs.Traffic.{IsFresh};
 ghost use Rattle.pm_top.specs.declared.words.Command.{Command};
 ghost use Rattle.pm_top.specs.declared.record.RedoFault.{RedoFault};
-ghost use Rattle.pm_top.specs.declared.record.TheConstants.{BASE_END};
 ghost use Rattle.pm_top.specs.Contents.{IsClosed};
 ghost use Rattle.pm_top.specs.Log.{IsOpen};
 ghost use Rattle.pm_top.specs.StandsFor.{StandsFor};
 ghost use Rattle.pm_top.specs.Book.{Base};
-ghost use Rattle.pm_top.specs.Store.{BookRests, LogHolds, IsBroken, Notes};
+ghost use Rattle.pm_top.specs.Store.{BookRests, LogHolds, IsBroken, NotesEntries};
 ghost use Rattle.pm_top.specs.Words.{IsLine};
 ghost use Rattle.pm_top.specs.Ends.{HasMade, IsInitdbEnd, IsOnceEnd, IsPrinted, IsReason, IsServedEnd, IsStartEnd, StandsWhole, exit_code, line_of};
 ghost use Rattle.pm_top.specs.Once.{HadNoVisit, HadOneVisit, HasStarted, IsBaseOf, IsEmptyBook, IsOnceStory, LeavesBook, startup_entries, with_end, with_link};
@@ -105,7 +104,6 @@ where
     O: Sink,
     D: Disk,
     B: Chronicle<BookEntry>,
-    requires port { IfSome (P.visits outside.port) (λ visits. length visits.back ≤ length visits.given) }
     // The usage is told exactly where the words are no command line; each command has ends of its own.
     ensures usage { result.status ≡ Top.Usage → (command : Command) (dir : List ℕ) → ¬ (IsLine words.now command dir) }
     ensures initdb_ends { (dir : List ℕ) → IsLine words.now Command.Initdb dir → IsInitdbEnd result.status }
@@ -113,7 +111,7 @@ where
     ensures words { result.status ≢ Top.Usage → (command : Command) × (dir : List ℕ) × IsLine words.now command dir }
     // `initdb`: a cluster is made where both files hold none. File A stands for no commits, and file B is closed.
     ensures made { (dir : List ℕ) → IsLine words.now Command.Initdb dir → HasMade result.status
-        → IfSome (D.seen result.outside.disk) (λ files. StandsFor files.a [] BASE_END × IsClosed files.b) }
+        → IfSome (D.seen result.outside.disk) (λ files. StandsFor files.a [] 30 × IsClosed files.b) }
     ensures fresh { (dir : List ℕ) → IsLine words.now Command.Initdb dir → HasMade result.status
         → IfSome (D.seen outside.disk) (λ files. IsClosed files.a × IsClosed files.b) }
     ensures initialized { (dir : List ℕ) → IsLine words.now Command.Initdb dir → result.status ≡ Top.Done
@@ -127,9 +125,9 @@ where
         → IsOnceStory result.status (D.seen outside.disk) (D.seen result.outside.disk) (D.faults outside.disk) (B.entries result.outside.book) }
     // The link that was given came back behind a session, which is told by its bytes and the book; or nobody came.
     ensures visit { (dir : List ℕ) → IsLine words.now Command.Once dir → HasStarted result.status
-        → (kept : ℕ) × (begun : Option (List BookEntry)) × Notes (startup_entries kept) (B.entries outside.book) begun
+        → (kept : ℕ) × (begun : Option (List BookEntry)) × NotesEntries (startup_entries kept) (B.entries outside.book) begun
         × (HadNoVisit result.status (P.visits outside.port) (P.visits result.outside.port) begun (B.entries result.outside.book)
-        ⊎ HadOneVisit P.Link.number P.Link.traffic P.Link.faults (cancel_key outside.seed FIRST_PID) (Rose (D.faults outside.disk) (D.faults result.outside.disk))
+        ⊎ HadOneVisit P.Link.traffic P.Link.faults (cancel_key outside.seed 4) (Rose (D.faults outside.disk) (D.faults result.outside.disk))
         result.status (P.visits outside.port) (P.visits result.outside.port) begun (B.entries result.outside.book)) }
     ensures stands { result.status ≡ Top.Done → StandsWhole (D.seen result.outside.disk) }
     ensures reason { (fault : RedoFault) → result.status ≡ Top.Abnormal (Why.StartupFailed (StartWhy.Redo fault))
@@ -160,7 +158,7 @@ where
 
 fn initdb<P, O: Sink, D: Disk, B>(outside: Outside<P, O, D, B>) -> Ended<P, O, D, B>
     ensures kind { IsInitdbEnd result.status }
-    ensures made { HasMade result.status → IfSome (D.seen result.outside.disk) (λ files. StandsFor files.a [] BASE_END × IsClosed files.b) }
+    ensures made { HasMade result.status → IfSome (D.seen result.outside.disk) (λ files. StandsFor files.a [] 30 × IsClosed files.b) }
     ensures fresh { HasMade result.status → IfSome (D.seen outside.disk) (λ files. IsClosed files.a × IsClosed files.b) }
     ensures initialized { result.status ≡ Top.Done
         → O.written result.outside.sink ≡ option_map (λ written. written ++ codes "initialized\n") (O.written outside.sink) }
@@ -189,14 +187,13 @@ where
     O: Sink,
     D: Disk,
     B: Chronicle<BookEntry>,
-    requires { IfSome (P.visits outside.port) (λ visits. length visits.back ≤ length visits.given) }
     ensures kind { IsOnceEnd result.status }
     ensures story { IsEmptyBook (B.entries outside.book)
         → IsOnceStory result.status (D.seen outside.disk) (D.seen result.outside.disk) (D.faults outside.disk) (B.entries result.outside.book) }
     ensures visit { HasStarted result.status
-        → (kept : ℕ) × (begun : Option (List BookEntry)) × Notes (startup_entries kept) (B.entries outside.book) begun
+        → (kept : ℕ) × (begun : Option (List BookEntry)) × NotesEntries (startup_entries kept) (B.entries outside.book) begun
         × (HadNoVisit result.status (P.visits outside.port) (P.visits result.outside.port) begun (B.entries result.outside.book)
-        ⊎ HadOneVisit P.Link.number P.Link.traffic P.Link.faults (cancel_key outside.seed FIRST_PID) (Rose (D.faults outside.disk) (D.faults result.outside.disk))
+        ⊎ HadOneVisit P.Link.traffic P.Link.faults (cancel_key outside.seed 4) (Rose (D.faults outside.disk) (D.faults result.outside.disk))
         result.status (P.visits outside.port) (P.visits result.outside.port) begun (B.entries result.outside.book)) }
     ensures stands { result.status ≡ Top.Done → StandsWhole (D.seen result.outside.disk) }
     ensures reason { (fault : RedoFault) → result.status ≡ Top.Abnormal (Why.StartupFailed (StartWhy.Redo fault))
@@ -233,7 +230,7 @@ where
 fn started<D: Disk, B: Chronicle<BookEntry>>(store: &mut Sole<D, B>) -> Result<(), Top>
     ensures kind { MatchResult result (λ _. Unit {0}) IsStartEnd }
     ensures file { OnOk result (LogHolds (D.seen store.new.disk) (D.images store.new.disk (D.ticks store.new.disk)) store.new.rows store.new.log) }
-    ensures notes { OnOk result ((kept : ℕ) × Notes (startup_entries kept) (B.entries store.old.book) (B.entries store.new.book)) }
+    ensures notes { OnOk result ((kept : ℕ) × NotesEntries (startup_entries kept) (B.entries store.old.book) (B.entries store.new.book)) }
     ensures rests { OnOk result (IsEmptyBook (B.entries store.old.book)
         → (base : Base) × (base.faults ≡ D.faults store.old.disk) × IfSome (D.seen store.old.disk) (λ files. IsBaseOf files.a base)
         × BookRests base (B.entries store.new.book) (D.ticks store.new.disk) (D.faults store.new.disk) store.new.rows store.new.log) }
@@ -271,8 +268,7 @@ where
     P: Port,
     D: Disk,
     B: Chronicle<BookEntry>,
-    requires port { IfSome (P.visits port.old) (λ visits. length visits.back ≤ length visits.given) }
-    requires file { LogHolds (D.seen store.old.disk) (D.images store.old.disk (D.ticks store.old.disk)) store.old.rows store.old.log }
+    requires { LogHolds (D.seen store.old.disk) (D.images store.old.disk (D.ticks store.old.disk)) store.old.rows store.old.log }
     ensures kind { IsServedEnd result }
     ensures file { result ≡ Top.Done → LogHolds (D.seen store.new.disk) (D.images store.new.disk (D.ticks store.new.disk)) store.new.rows store.new.log }
     ensures legal { (base : Base) → BookRests base (B.entries store.old.book) (D.ticks store.old.disk) (D.faults store.old.disk) store.old.rows store.old.log
@@ -280,7 +276,7 @@ where
     ensures broken { (base : Base) → BookRests base (B.entries store.old.book) (D.ticks store.old.disk) (D.faults store.old.disk) store.old.rows store.old.log
         → result ≡ Top.Abnormal Why.AfterCrash → IsBroken base (B.entries store.new.book) (D.seen store.new.disk) }
     ensures visit { HadNoVisit result (P.visits port.old) (P.visits port.new) (B.entries store.old.book) (B.entries store.new.book)
-        ⊎ HadOneVisit P.Link.number P.Link.traffic P.Link.faults (cancel_key seed.now FIRST_PID) (Rose (D.faults store.old.disk) (D.faults store.new.disk))
+        ⊎ HadOneVisit P.Link.traffic P.Link.faults (cancel_key seed.now 4) (Rose (D.faults store.old.disk) (D.faults store.new.disk))
         result (P.visits port.old) (P.visits port.new) (B.entries store.old.book) (B.entries store.new.book) }
     ensures cause { IsCounted (D.faults store.old.disk) (D.faults store.new.disk) (result ≡ Top.Abnormal Why.AfterCrash) }
 {
@@ -298,9 +294,9 @@ where
 
 // The port's next link, or none where it has come to its end. A fault of the port is passed over.
 fn next_link<R: Wait, P: Port>(rt: &R, port: &mut P) -> Option<P::Link>
-    requires { IfSome (P.visits port.old) (λ visits. length visits.back ≤ length visits.given) }
     ensures out { IfSome result (λ link. IfSome (P.visits port.new) (λ visits. length visits.back < length visits.given)) }
-    ensures given { IfSome result (λ link. P.visits port.new ≡ option_map (with_link (P.Link.number link)) (P.visits port.old)) }
+    ensures given { IfSome result (λ link. P.visits port.new ≡ option_map (with_link (P.Link.faults link)) (P.visits port.old)) }
+    ensures number { IfSome result (λ link. IfSome (P.visits port.old) (λ visits. P.Link.number link ≡ length visits.given + 1)) }
     ensures fresh { IfSome result (λ link. IsFresh (P.Link.traffic link)) }
     ensures ended { IfNone result (P.visits port.new ≡ option_map with_end (P.visits port.old)) }
 {

@@ -26,7 +26,7 @@ pub struct Line<'a> {
 
 #[derive(Clone, Copy, Debug, PartialEq, Eq, Error)]
 pub enum WordsNo {
-    #[error("usage: initdb | once | serve | controldata | workload")]
+    #[error("the words are no command line")]
     Usage,
 }
 

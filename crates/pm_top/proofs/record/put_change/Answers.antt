@@ -3,10 +3,10 @@ use Rattle.std.specs.Int.{w32, w64, cast_unsigned, cast_signed, to_be_bytes}
 use Rattle.pm_top.proofs.Spelling.{appended-four}
 use Rattle.pm_top.proofs.record.put_change.Goals as goal
 
-pub returns-in_ok-extend_from_slice-in-Put-3-clause-bytes : goal.returns-in_ok-extend_from_slice-in-Put-3-clause-bytes
-returns-in_ok-extend_from_slice-in-Put-3-clause-bytes c =
+pub returns-in_ok-extend_from_slice-in-Put-3 : goal.returns-in_ok-extend_from_slice-in-Put-3
+returns-in_ok-extend_from_slice-in-Put-3 c =
     let same : cast_signed w64 (cast_unsigned w64 c.in-Put.key) ≡ c.in-Put.key = search rules in
-    let text = c.as_bytes-value.ensures.value ∙ c.as_str.ensures in
+    let text = c.as_bytes-value.ensures.value ∙ c.as_str.ensures.bytes in
     rw c.in-Put.is
     (appended-four _ _ _ _ _ _ _ _ _ _ _ _ c.in_ok-push-in-Put.ensures.items c.in_ok-extend_from_slice-in-Put.ensures.items c.in_ok-extend_from_slice-in-Put-2.ensures.items c.in_ok-extend_from_slice-in-Put-3.ensures.items
     (c.to_be_bytes.ensures ∙ ap (λ k. to_be_bytes w64 (cast_unsigned w64 k)) same) (c.to_be_bytes-in-Put.ensures ∙ ap (λ (l : List ℕ). to_be_bytes w32 (length l)) text) text)

@@ -15,13 +15,13 @@ pub write-requires-in-loop-key : goal.write-requires-in-loop-key
 write-requires-in-loop-key c =
     let fits : FitsSigned w64 c.loop-key-item.result.0 = search rules in
     let row : IsShortRow c.loop-key-item.result = subst IsShortRow (sym c.loop-key-item.is) (All-get_or IsShortRow _ _ c.loop-key-item.result c.loop-key-test.true c.requires) in
-    pair_writable c.loop-key-item.result.0 _ _ fits (to_z-of_z w64 _ fits) (subst (λ v. length v ≤ 8192) (sym c.as_str-value.ensures) row)
+    pair_writable c.loop-key-item.result.0 _ _ fits (to_z-of_z w64 _ fits) (subst (λ v. length v ≤ 8192) (sym c.as_str-value.ensures.bytes) row)
 
 pub loop-key-preserved : goal.loop-key-preserved
 loop-key-preserved c =
     let fits : FitsSigned w64 c.loop-key-item.result.0 = search rules in
     one_more_of (λ row. Pair row.0 row.1) _ _ _ (_ ∷ []) _ _ c.loop-key-item.result c.loop-key-test.true c.loop-key.invariant
-    (row_sent _ _ _ _ c.loop-key-item.result _ (to_z-of_z w64 _ fits) c.as_str-value.ensures c.loop-key-item.is c.in_ok-write-2.ensures.ok)
+    (row_sent _ _ _ _ c.loop-key-item.result _ (to_z-of_z w64 _ fits) c.as_str-value.ensures.bytes c.loop-key-item.is c.in_ok-write-2.ensures.ok)
 
 pub returns-clause-ok : goal.returns-clause-ok
 returns-clause-ok c =

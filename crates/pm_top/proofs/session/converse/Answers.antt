@@ -4,7 +4,7 @@ use Rattle.pm_top.specs.declared.book.BookEntry.{BookEntry}
 use Rattle.pm_top.specs.declared.book.BookEntry.TheVariants.{Detached}
 use Rattle.pm_top.specs.declared.session.Ending.{Ending}
 use Rattle.pm_top.specs.declared.session.Ending.TheVariants.{NoMemory}
-use Rattle.pm_top.specs.Store.{Notes}
+use Rattle.pm_top.specs.Store.{NotesEntries}
 use Rattle.pm_top.specs.Session.{bytes_of, greeting, leaving}
 use Rattle.pm_top.specs.Conversation.{between, Conversed, Talks}
 use Rattle.pm_top.proofs.Exchanges.{Appended-none}
@@ -48,10 +48,10 @@ returns-clause-talks g c =
     let conversed : Conversed c.args.pid (bytes_of (greeting c.args.pid c.args.key)) ending (between l1 l2 b1 b2) =
     subst (λ (pid : ℕ). Conversed pid (bytes_of (greeting c.args.pid c.args.key)) ending (between l1 l2 b1 b2)) pid_is
     (subst (λ (bytes : List ℕ). Conversed c.in-Ok.pass.pid bytes ending (between l1 l2 b1 b2)) ready c.attached-ending.ensures.talks) in
-    let left : Notes (leaving c.args.pid ending) b2 b3 = elim c.match-ending.branch [
-      | in-Panic w ↦ rw w.store-is (subst (λ (e : Ending). Notes (leaving c.args.pid e) b2 b2) (sym w.in-Panic.is) (Appended-none b2))
-      | in_default-ending w ↦ rw w.store-is (subst (λ (noted : List BookEntry). Notes noted b2 (g.B.Chronicle.entries w.leave.new.self.book)) (sym (leaving_other c.args.pid ending w.in_default-ending.not-Panic))
-          (subst (λ (pid : ℕ). Notes (Detached pid ∷ []) b2 (g.B.Chronicle.entries w.leave.new.self.book)) pid_is w.leave.ensures.notes))
+    let left : NotesEntries (leaving c.args.pid ending) b2 b3 = elim c.match-ending.branch [
+      | in-Panic w ↦ rw w.store-is (subst (λ (e : Ending). NotesEntries (leaving c.args.pid e) b2 b2) (sym w.in-Panic.is) (Appended-none b2))
+      | in_default-ending w ↦ rw w.store-is (subst (λ (noted : List BookEntry). NotesEntries noted b2 (g.B.Chronicle.entries w.leave.new.self.book)) (sym (leaving_other c.args.pid ending w.in_default-ending.not-Panic))
+          (subst (λ (pid : ℕ). NotesEntries (Detached pid ∷ []) b2 (g.B.Chronicle.entries w.leave.new.self.book)) pid_is w.leave.ensures.notes))
     ] in
     talked c.args.pid c.args.key packet.0 ending _ l1 l2 _ b1 b2 b3 packet.1 packet.2 c.in-Ok.ensures.ok conversed left
 

@@ -1,9 +1,5 @@
 use Rattle.std.proofs.Common.{◌≡◌}
-use Rattle.pm_top.proofs.Ports.{Balanced}
 use Rattle.pm_top.proofs.top.next_link.Given as goal
 
 abbrev pub invariant-loop : goal.invariant-loop
-invariant-loop g l = record {
-  balanced : Balanced (g.P.Port.visits l.port);
-  same : g.P.Port.visits l.port ≡ g.P.Port.visits l.initial.port;
-}
+invariant-loop g l = g.P.Port.visits l.port ≡ g.P.Port.visits l.initial.port

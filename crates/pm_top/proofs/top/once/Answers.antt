@@ -27,7 +27,7 @@ returns-clause-visit g c = λ has_started. elim c.match-started.branch [
       let notes = w.in-Ok.ensures.notes in
       let served = w.served-status in
       let later : g.D.Disk.faults c.args.outside.disk ≤ g.D.Disk.faults c.started.new.store.disk = omega (arith, c.started.ensures.cause.later, ap g.D.Disk.faults c.new-store.ensures.disk) in
-      let visit = visit_since _ _ _ _ _ _ _ _ _ _ _ (rose_since (g.D.Disk.faults c.args.outside.disk) (g.D.Disk.faults c.started.new.store.disk) (g.D.Disk.faults served.new.store.disk) later) served.ensures.visit in
+      let visit = visit_since _ _ _ _ _ _ _ _ _ _ (rose_since (g.D.Disk.faults c.args.outside.disk) (g.D.Disk.faults c.started.new.store.disk) (g.D.Disk.faults served.new.store.disk) later) served.ensures.visit in
       (notes.0, g.B.Chronicle.entries c.started.new.store.book, rw c.new-store.ensures.book at notes.1, rw (w.status-is, w.port-is, c.into_parts-disk.ensures.0, c.into_parts-disk.ensures.1, w.store-is) visit)
   | in-Err w ↦ absurd (not_started w.in-Err.status w.in-Err.ensures.kind (rw w.status-is at has_started))
 ]

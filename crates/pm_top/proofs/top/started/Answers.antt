@@ -41,7 +41,7 @@ returns-in-Err-clause-failed g c = λ status is empty base same.
     let leaves = failed_leaves fault base before after told mid behind left same
     (λ disk. omega (arith, c.redo-redone.ensures.cause.rose (c.in-Err.is ∙ ap (λ f. Err f) disk), same_disk))
     (omega (arith, c.redo-redone.ensures.cause.later, same_disk))
-    (λ disk. c.redo-redone.ensures.fits (c.in-Err.is ∙ ap (λ f. Err f) disk))
+    (g.met.D.Disk.counted c.redo-redone.new.self.disk).1
     first
     (λ disk. let broke = c.redo-redone.ensures.disk (c.in-Err.is ∙ ap (λ f. Err f) disk) in (broke.0, rw pass.0 at broke.1))
     (λ other. c.redo-redone.ensures.other fault c.in-Err.is other) third empty in

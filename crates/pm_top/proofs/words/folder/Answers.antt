@@ -13,7 +13,7 @@ two_words (a ∷ b ∷ c ∷ words) first second long one two = absurd (omega ar
 pub returns-then-is_plain-clause-found : goal.returns-then-is_plain-clause-found
 returns-then-is_plain-clause-found c =
     let plain = c.is_plain.ensures.0 c.if-is_plain.true in
-    let name : c.name-item.result ≡ codes "--data" = sym c.as_str-then-options-lt3.ensures ∙ (bytes_eq-Decides c.as_str-then-options-lt3.result.now (codes "--data")).0 (sym c.eq.ensures ∙ c.if-eq.true) in
+    let name : c.name-item.result ≡ codes "--data" = sym c.as_str-then-options-lt3.ensures.bytes ∙ (bytes_eq-Decides c.as_str-then-options-lt3.result.now (codes "--data")).0 (sym c.eq.ensures ∙ c.if-eq.true) in
     let words : c.args.options.now ≡ codes "--data" ∷ c.as_str-dir.result.now ∷ [] =
-    two_words c.args.options.now c.name-item.result c.value-item.result (omega arith) c.name-item.is c.value-item.is ∙ ap (λ (n : List ℕ). n ∷ c.value-item.result ∷ []) name ∙ ap (λ (v : List ℕ). codes "--data" ∷ v ∷ []) (sym c.as_str-dir.ensures) in
+    two_words c.args.options.now c.name-item.result c.value-item.result (omega arith) c.name-item.is c.value-item.is ∙ ap (λ (n : List ℕ). n ∷ c.value-item.result ∷ []) name ∙ ap (λ (v : List ℕ). codes "--data" ∷ v ∷ []) (sym c.as_str-dir.ensures.bytes) in
     inl (words, plain.0, plain.1)

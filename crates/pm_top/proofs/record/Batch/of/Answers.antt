@@ -6,4 +6,4 @@ use Rattle.pm_top.proofs.record.Batch.of.Goals as goal
 pub overflow_cast-len : goal.overflow_cast-len
 overflow_cast-len c =
     let fits = body_fits c.args.commit.now c.requires in
-    record { fits = omega (arith, c.len.ensures, ap (λ (l : List ℕ). length l) (c.in_ok-put_body.ensures.bytes ∙ ap (λ (l : List ℕ). l ++ body_bytes c.args.commit.now) c.new-body.ensures.items)) }
+    record { fits = omega (arith, c.len.ensures, ap (λ (l : List ℕ). length l) (c.in_ok-put_body.ensures ∙ ap (λ (l : List ℕ). l ++ body_bytes c.args.commit.now) c.new-body.ensures.items)) }

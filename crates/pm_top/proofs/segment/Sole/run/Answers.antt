@@ -12,16 +12,16 @@ use Rattle.std.specs.Prelude.{IfSome}
 use Rattle.pm_top.specs.Log.{GrowsBy, with_batch}
 use Rattle.pm_top.specs.Store.{BookHolds, FileHolds, LogHolds}
 use Rattle.pm_top.proofs.Files.{file_failed, file_goes, gate_where_told}
-use Rattle.pm_top.specs.declared.log.TheConstants.{MAX_LOG}
 use Rattle.pm_query.specs.Answer.{commit_of}
 use Rattle.pm_top.specs.Book.{need_of, history_of}
-use Rattle.pm_top.specs.StandsFor.{IsRow, IsWithinLimits, batch_bytes}
+use Rattle.pm_top.specs.StandsFor.{IsRow, batch_bytes}
 use Rattle.pm_top.proofs.Books.{book_goes, true_read, true_full, true_answered, has_failed, book_ends, book_answers, notes_both, need_of_batch, front_more, nonempty, no_room, left_room, not_spent}
 use Rattle.std.specs.Prelude.{All}
 use Rattle.pm_top.specs.Session.{HasShortValues}
 use Rattle.pm_top.proofs.Plain.{plain_commit, plain_short}
 use Rattle.pm_top.specs.Store.{IsTrueTo}
 use Rattle.pm_top.proofs.segment.Sole.run.Goals as goal
+use Rattle.pm_rows.specs.Limits.{max_file_bytes, IsWithinRowLimits}
 
 pub returns-then-is_empty-clause-legal : goal.returns-then-is_empty-clause-legal
 returns-then-is_empty-clause-legal g c = λ base holds other.
@@ -31,7 +31,7 @@ returns-then-is_empty-clause-legal g c = λ base holds other.
     let log = c.in-Some.log in
     let tick = g.D.Disk.ticks c.args.self.now.disk in
     let entry : BookEntry = Answered c.args.pass.pid c.args.script.now reply commit log.count tick in
-    let nothing : commit ≡ [] = nil_from_length commit (omega (arith, ap length c.changes.ensures, eqb-true _ _ (sym c.is_empty.ensures ∙ c.if-is_empty.true))) in
+    let nothing : commit ≡ [] = nil_from_length commit (omega (arith, ap length c.changes.ensures.list, eqb-true _ _ (sym c.is_empty.ensures ∙ c.if-is_empty.true))) in
     let held : BookHolds base c.args.pass.pid told tick (g.D.Disk.faults c.args.self.now.disk) c.args.self.now.rows (Some log) =
     subst (λ (l : Option Log). BookHolds base c.args.pass.pid told tick (g.D.Disk.faults c.args.self.now.disk) c.args.self.now.rows l) c.in-Some.is holds in
     let notes : g.B.Chronicle.entries c.note_answer.new.self.book ≡ option_map (λ (b : List BookEntry). b ++ entry ∷ []) told =
@@ -55,13 +55,13 @@ returns-then-need-room-clause-legal g c = λ base holds other.
     let rows = c.args.self.now.rows in
     let need = c.need-need.result in
     let room = c.room-room.result in
-    let some : 0 < length commit = nonempty commit c.changes.result.now c.is_empty.result c.changes.ensures c.is_empty.ensures c.if-is_empty.false in
+    let some : 0 < length commit = nonempty commit c.changes.result.now c.is_empty.result c.changes.ensures.list c.is_empty.ensures c.if-is_empty.false in
     let entry : BookEntry = LogFull c.args.pass.pid c.args.script.now need room in
     let held : BookHolds base c.args.pass.pid told tick faults rows (Some log) = subst (λ (l : Option Log). BookHolds base c.args.pass.pid told tick faults rows l) c.in-Some.is holds in
     let notes : g.B.Chronicle.entries c.note_full.new.self.book ≡ option_map (λ (b : List BookEntry). b ++ entry ∷ []) told =
     c.in_ok-note_full.ensures.notes ∙ ap (option_map (λ (b : List BookEntry). b ++ entry ∷ [])) c.in_ok-reserve.ensures.entries in
-    let needs : need ≡ need_of (commit_of rows c.args.script.now) = need_of_batch commit (length c.in_ok-batch.batch) need some (ap length c.in_ok-batch.ensures.bytes) c.need-need.ensures ∙ ap need_of c.in_ok-outcome.ensures.commit in
-    let cause : ((log.count ≡ 2 ^ 64 - 1) × (room ≡ 0)) ⊎ (MAX_LOG ≤ room + log.end + 1) = elim (cases_eq log.count (2 ^ 64 - 1)) [
+    let needs : need ≡ need_of (commit_of rows c.args.script.now) = need_of_batch commit (length c.in_ok-batch.batch) need some (ap length c.in_ok-batch.ensures) c.need-need.ensures ∙ ap need_of c.in_ok-outcome.ensures.commit in
+    let cause : ((log.count ≡ 2 ^ 64 - 1) × (room ≡ 0)) ⊎ (max_file_bytes ≤ room + log.end + 1) = elim (cases_eq log.count (2 ^ 64 - 1)) [
       | inl spent ↦ inl (spent, no_room log.count log.end room spent c.room-room.ensures.room)
       | inr more ↦ inr (left_room log.count log.end room more c.room-room.ensures.room)
     ] in
@@ -73,7 +73,7 @@ returns-then-need-room-clause-legal g c = λ base holds other.
 pub overflow_add-log : goal.overflow_add-log
 overflow_add-log g c =
     let commit = c.in_ok-outcome.outcome.commit in
-    let long : 1 < length c.in_ok-batch.batch = omega (arith, ap length c.in_ok-batch.ensures.bytes, length-append (batch_bytes commit) (0 ∷ [])) in
+    let long : 1 < length c.in_ok-batch.batch = omega (arith, ap length c.in_ok-batch.ensures, length-append (batch_bytes commit) (0 ∷ [])) in
     record { fits = not_spent c.in-Some.log.count c.in-Some.log.end c.room-room.result c.need-need.result c.room-room.ensures.room c.if-need-room.false (omega (arith, long, c.need-need.ensures)) c.room-room.ensures.number }
 
 pub append-requires-clause-gate : goal.append-requires-clause-gate
@@ -110,7 +110,7 @@ returns-in_err-append-clause-broken g c = λ base holds is.
     let now = g.D.Disk.seen c.append.new.self.disk in
     let images = g.D.Disk.images c.args.self.now.disk tick in
     let batch = c.in_ok-batch.batch in
-    let some : 0 < length commit = nonempty commit c.changes.result.now c.is_empty.result c.changes.ensures c.is_empty.ensures c.if-is_empty.false in
+    let some : 0 < length commit = nonempty commit c.changes.result.now c.is_empty.result c.changes.ensures.list c.is_empty.ensures c.if-is_empty.false in
     let first : BookEntry = Answered c.args.pass.pid c.args.script.now reply commit (log.count + 1) tick in
     let second : BookEntry = Broke c.args.pass.pid (g.D.Disk.ticks c.append.new.self.disk) (g.D.Disk.faults c.append.new.self.disk) in
     let held : BookHolds base c.args.pass.pid told tick faults rows (Some log) = subst (λ (l : Option Log). BookHolds base c.args.pass.pid told tick faults rows l) c.in-Some.is holds in
@@ -122,13 +122,13 @@ returns-in_err-append-clause-broken g c = λ base holds is.
     let is_commit = c.in_ok-outcome.ensures.commit in
     let plain = plain_commit rows c.args.script.now c.requires.plain (omega (arith, some, ap length is_commit)) in
     let row : IsRow commit = subst IsRow (sym is_commit) plain.row in
-    let limits : IsWithinLimits (committed rows commit) = subst (λ (k : List Change). IsWithinLimits (committed rows k)) (sym is_commit) plain.limits in
-    let torn = (rw same_disk at c.append.ensures.torn) c.in_ok-staged.ensures.time in
+    let limits : IsWithinRowLimits (committed rows commit) = subst (λ (k : List Change). IsWithinRowLimits (committed rows k)) (sym is_commit) plain.limits in
+    let torn = rw same_disk at c.append.ensures.torn in
     let beside = rw same_disk at c.append.ensures.beside in
     book_ends base c.args.pass.pid now told (g.B.Chronicle.entries c.note_answer-2.new.self.book) (g.B.Chronicle.entries c.append.new.self.book) first second tick faults rows log
     (λ book t here. has_failed base c.args.pass.pid book tick faults rows log t here now c.args.script.now reply commit (log.count + 1) (g.D.Disk.ticks c.append.new.self.disk) (g.D.Disk.faults c.append.new.self.disk)
-    c.in_ok-outcome.ensures.reply c.in_ok-outcome.ensures.commit (front_more (history_of base book) commit log.count some t.count_is) rose (omega (arith, cause.later, same)) c.in_err-append.ensures.fits
-    (file_failed (history_of base book) commit seen now images rows log batch (log.end + (length batch - 1)) file torn beside c.in_ok-batch.ensures.bytes row limits t.rows_are t.count_is t.acked_in))
+    c.in_ok-outcome.ensures.reply c.in_ok-outcome.ensures.commit (front_more (history_of base book) commit log.count some t.count_is) rose (omega (arith, cause.later, same)) (g.met.D.Disk.counted c.append.new.self.disk).1
+    (file_failed (history_of base book) commit seen now images rows log batch (log.end + (length batch - 1)) file torn beside c.in_ok-batch.ensures row limits t.rows_are t.count_is t.acked_in))
     held (c.in_ok-staged.ensures.notes ∙ ap (option_map (λ (b : List BookEntry). b ++ first ∷ [])) c.in_ok-reserve.ensures.entries) c.in_err-append.ensures.broke
 
 pub returns-clause-file : goal.returns-clause-file
@@ -137,15 +137,15 @@ returns-clause-file g c = λ other.
     let commit = c.in_ok-outcome.outcome.commit in
     let rows = c.args.self.now.rows in
     let seen = g.D.Disk.seen c.args.self.now.disk in
-    let some : 0 < length commit = nonempty commit c.changes.result.now c.is_empty.result c.changes.ensures c.is_empty.ensures c.if-is_empty.false in
+    let some : 0 < length commit = nonempty commit c.changes.result.now c.is_empty.result c.changes.ensures.list c.is_empty.ensures c.if-is_empty.false in
     let holds : FileHolds seen rows (Some log) = subst (λ (l : Option Log). FileHolds seen rows l) c.in-Some.is c.requires.file.file in
     let is = c.in_ok-outcome.ensures.commit in
     let commits = plain_commit rows c.args.script.now c.requires.plain (omega (arith, some, ap length is)) in
     let tells : g.D.Disk.seen c.append.new.self.disk ≡ option_map (with_batch log.end c.in_ok-batch.batch) seen =
     c.in_ok-append.ensures.tells ∙ ap (λ d. option_map (with_batch log.end c.in_ok-batch.batch) (g.D.Disk.seen d)) c.in_ok-staged.ensures.disk in
     let grown = subst (λ d. IfSome (g.D.Disk.seen d) (λ old. IfSome (g.D.Disk.seen c.append.new.self.disk) (λ new. GrowsBy c.in_ok-batch.batch old.a log.end new.a (log.end + (length c.in_ok-batch.batch - 1))))) c.in_ok-staged.ensures.disk c.in_ok-append.ensures.grown in
-    let goes = file_goes seen (g.D.Disk.seen c.append.new.self.disk) rows log c.in_ok-batch.batch commit (log.end + (length c.in_ok-batch.batch - 1)) holds tells grown c.in_ok-batch.ensures.bytes
-    (subst IsRow (sym is) commits.row) (subst (λ (k : List Change). IsWithinLimits (committed rows k)) (sym is) commits.limits) in
+    let goes = file_goes seen (g.D.Disk.seen c.append.new.self.disk) rows log c.in_ok-batch.batch commit (log.end + (length c.in_ok-batch.batch - 1)) holds tells grown c.in_ok-batch.ensures
+    (subst IsRow (sym is) commits.row) (subst (λ (k : List Change). IsWithinRowLimits (committed rows k)) (sym is) commits.limits) in
     record { file = rw (c.append.ensures.rows, c.in_ok-staged.ensures.rows, c.in_ok-append.ensures.log) goes; durable = c.in_ok-append.ensures.durable }
 
 pub returns-clause-legal : goal.returns-clause-legal
@@ -158,13 +158,13 @@ returns-clause-legal g c = λ base holds other.
     let faults = g.D.Disk.faults c.args.self.now.disk in
     let rows = c.args.self.now.rows in
     let batch = c.in_ok-batch.batch in
-    let some : 0 < length commit = nonempty commit c.changes.result.now c.is_empty.result c.changes.ensures c.is_empty.ensures c.if-is_empty.false in
+    let some : 0 < length commit = nonempty commit c.changes.result.now c.is_empty.result c.changes.ensures.list c.is_empty.ensures c.if-is_empty.false in
     let first : BookEntry = Answered c.args.pass.pid c.args.script.now reply commit (log.count + 1) tick in
     let held : BookHolds base c.args.pass.pid told tick faults rows (Some log) = subst (λ (l : Option Log). BookHolds base c.args.pass.pid told tick faults rows l) c.in-Some.is holds in
-    let need : length batch - 1 ≡ need_of commit = need_of_batch commit (length batch) (length batch - 1) some (ap length c.in_ok-batch.ensures.bytes) (omega (arith, ap length c.in_ok-batch.ensures.bytes)) in
+    let need : length batch - 1 ≡ need_of commit = need_of_batch commit (length batch) (length batch - 1) some (ap length c.in_ok-batch.ensures) (omega (arith, ap length c.in_ok-batch.ensures)) in
     let same : g.D.Disk.faults c.note_answer-2.new.self.disk ≡ faults = ap g.D.Disk.faults c.in_ok-staged.ensures.disk in
     let passed : g.D.Disk.ticks c.note_answer-2.new.self.disk ≡ tick = ap g.D.Disk.ticks c.in_ok-staged.ensures.disk in
-    let later : tick ≤ g.D.Disk.ticks c.append.new.self.disk = omega (arith, passed, c.append.ensures.time (omega (arith, passed, c.in_ok-staged.ensures.time))) in
+    let later : tick ≤ g.D.Disk.ticks c.append.new.self.disk = omega (arith, passed, c.append.ensures.time) in
     let more : faults ≤ g.D.Disk.faults c.append.new.self.disk = omega (arith, same, c.append.ensures.cause.later) in
     let notes : g.B.Chronicle.entries c.append.new.self.book ≡ option_map (λ (b : List BookEntry). b ++ first ∷ []) told =
     ap g.B.Chronicle.entries c.in_ok-append.ensures.book ∙ c.in_ok-staged.ensures.notes ∙ ap (option_map (λ (b : List BookEntry). b ++ first ∷ [])) c.in_ok-reserve.ensures.entries in
@@ -205,3 +205,10 @@ returns-then-is_empty-clause-short g c =
 pub returns-clause-short : goal.returns-clause-short
 returns-clause-short g c =
     subst (All HasShortValues) (sym (c.in_ok-staged.ensures.staged.0 ∙ c.in_ok-outcome.ensures.reply)) (plain_short c.args.self.now.rows c.args.script.now c.args.self.now.short c.requires.plain)
+
+pub note_answer-requires-2-clause-row : goal.note_answer-requires-2-clause-row
+note_answer-requires-2-clause-row g c =
+    let commit = c.in_ok-outcome.outcome.commit in
+    let some : 0 < length commit = nonempty commit c.changes.result.now c.is_empty.result c.changes.ensures.list c.is_empty.ensures c.if-is_empty.false in
+    let is = c.in_ok-outcome.ensures.commit in
+    inr (subst IsRow (sym is) (plain_commit c.args.self.now.rows c.args.script.now c.requires.plain (omega (arith, some, ap length is))).row)

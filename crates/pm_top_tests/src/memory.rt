@@ -1,0 +1,149 @@
+// Commands over memory.
+use pm_disk::{Disk, MemDisk, Which};
+use pm_outside::{Kept, LinkScript, MemPort, MemSink};
+use pm_rows::Text;
+use pm_top::{BookEntry, Ended, Outside, run};
+use std::alloc::{AllocError, Global};
+use std::process::Abort;
+use std::sync::Wait;
+use std::test::Fail;
+
+pub type Memory<D> = Outside<MemPort, MemSink, D, Kept<BookEntry>>;
+
+pub type Left<D> = Ended<MemPort, MemSink, D, Kept<BookEntry>>;
+
+const INITDB: [&str; 3] = ["initdb", "--data", "folder"];
+
+const ONCE: [&str; 2] = ["once", "--data=folder"];
+
+/// Which accept, read and write of the port and its link fails, and which write of the sink, by their numbers.
+/// They count from 1, so at 0 none does.
+#[derive(Clone, Copy)]
+pub struct Faults {
+    pub accept: u64,
+    pub read: u64,
+    pub write: u64,
+    pub line: u64,
+}
+
+pub const NO_FAULTS: Faults = Faults {
+    accept: 0,
+    read: 0,
+    write: 0,
+    line: 0,
+};
+
+pub fn joined(alloc: Global, parts: &[&[u8]]) -> Result<Vec<u8>, AllocError> {
+    let mut all = Vec::new(alloc);
+    for part in parts {
+        all.extend_from_slice(part)?;
+    }
+    Ok(all)
+}
+
+/// The words, each as a text.
+pub fn texts(alloc: Global, words: &[&str]) -> Result<Vec<Text>, AllocError> {
+    let mut all = Vec::new(alloc);
+    for word in words {
+        all.push(Text::of(alloc, word)?)?;
+    }
+    Ok(all)
+}
+
+/// A disk whose file A is made of these parts, behind two calls.
+pub fn disk_with(alloc: Global, parts: &[&[u8]]) -> Result<MemDisk, Fail> {
+    let mut disk = MemDisk::new(alloc);
+    disk.write(Which::A, 0, &joined(alloc, parts)?)?;
+    disk.sync(Which::A)?;
+    Ok(disk)
+}
+
+/// An outside in memory with this disk, and one link on which these bytes come in. A call of the link moves at most 64
+/// bytes, and one of the sink 5.
+pub fn memory<D: Drop>(
+    alloc: Global,
+    disk: D,
+    incoming: &[&[u8]],
+    faults: Faults,
+) -> Result<Memory<D>, AllocError> {
+    let mut scripts = Vec::new(alloc);
+    scripts.push(LinkScript {
+        incoming: joined(alloc, incoming)?,
+        per_call: 64,
+        failing_reads: vec![in alloc; faults.read]?,
+        failing_writes: vec![in alloc; faults.write]?,
+        holds: Vec::new(alloc),
+    })?;
+    Ok(Outside {
+        port: MemPort::new(alloc, scripts, vec![in alloc; faults.accept]?),
+        sink: MemSink::new(alloc, 5, vec![in alloc; faults.line]?),
+        disk,
+        book: Kept::new(alloc),
+        seed: [0; 32],
+    })
+}
+
+pub fn initdb<R: Wait, D: Disk + Drop>(
+    rt: &R,
+    alloc: Global,
+    disk: D,
+    faults: Faults,
+) -> Result<Left<D>, AllocError> {
+    let words = texts(alloc, &INITDB)?;
+    Ok(run(rt, alloc, &words, memory(alloc, disk, &[], faults)?))
+}
+
+pub fn once<R: Wait, D: Disk + Drop>(
+    rt: &R,
+    alloc: Global,
+    disk: D,
+    incoming: &[&[u8]],
+    faults: Faults,
+) -> Result<Left<D>, AllocError> {
+    let words = texts(alloc, &ONCE)?;
+    Ok(run(rt, alloc, &words, memory(alloc, disk, incoming, faults)?))
+}
+
+/// All that was sent.
+pub fn sent(alloc: Global, port: &MemPort) -> Result<Vec<u8>, AllocError> {
+    let mut all = Vec::new(alloc);
+    for link in port.links() {
+        all.extend_from_slice(link.sent())?;
+    }
+    Ok(all)
+}
+
+/// The entries of the book must print as the lines of these two lists, one behind the other.
+pub fn check_book<R: Abort>(
+    rt: &R,
+    alloc: Global,
+    book: &Kept<BookEntry>,
+    front: &[&str],
+    back: &[&str],
+    name: &str,
+) -> Result<(), Fail> {
+    let mut wanted = String::new(alloc);
+    push_lines(&mut wanted, front)?;
+    push_lines(&mut wanted, back)?;
+    let printed = printed(alloc, book.entries())?;
+    assert_eq!(rt; printed.as_str(), wanted.as_str(), "{name}");
+    Ok(())
+}
+
+fn push_lines(text: &mut String, lines: &[&str]) -> Result<(), AllocError> {
+    for line in lines {
+        text.push_str(line)?;
+        text.push_str("\n")?;
+    }
+    Ok(())
+}
+
+// Each entry as it prints, on a line of its own.
+fn printed(alloc: Global, entries: &[BookEntry]) -> Result<String, AllocError> {
+    let mut text = String::new(alloc);
+    for entry in entries {
+        let line = format!(in alloc; "{entry:?}\n")?;
+        text.push_str(line.as_str())?;
+    }
+    Ok(text)
+}
