@@ -1,6 +1,6 @@
 //! Recovery over a disk.
 
-ghost use Rattle.std.specs.Prelude.{◌≡◌, ◌⊎◌, ◌+◌, ℕ, IfOk, IfSome, IsErr, OnOk};
+ghost use Rattle.std.specs.Prelude.{◌≡◌, ◌≢◌, ◌⊎◌, ◌+◌, ℕ, IfOk, IfSome, IsErr, OnOk};
 ghost use Rattle.pm_disk.specs.Cause.{IsCounted};
 ghost use Rattle.pm_disk.specs.Disk.{TellsStill};
 ghost use Rattle.pm_disk.specs.Files.{file_of};
@@ -19,12 +19,14 @@ use std::alloc::Global;
 /// before it answers.
 ///
 /// At every tick of the call whatever a stop leaves means what it could mean at the start, and from the end of the two
-/// syncs on it means what is answered. `Disk` comes only where the disk's count of faults rose.
+/// syncs on it means what is answered. `Disk` comes only where the disk's count of faults rose; any other refusal leaves
+/// both files as they read.
 pub fn recover<D: Disk>(alloc: Global, disk: &mut D) -> Result<Found, RedoFault>
     ensures found { IfOk result (λ found. TellsStill (λ files now. FindsPair found files
         (λ content. Rests found.file content found.end now (D.images disk.new (D.ticks disk.new)))) (D.seen disk.old) (D.seen disk.new)) }
     ensures exact { IfOk result (λ found. IfSome (D.seen disk.old) (MeansOnly found)) }
     ensures reason { (fault : RedoFault) → result ≡ Err fault → IfSome (D.seen disk.old) (λ files. IsReason fault files) }
+    ensures kept { (fault : RedoFault) → result ≡ Err fault → fault ≢ RedoFault.Disk → D.seen disk.new ≡ D.seen disk.old }
     ensures stops { IfSome (D.seen disk.old) (λ files. FollowsWithin MeansWhat (D.ticks disk.old) (D.ticks disk.new) (D.images disk.old) (D.images disk.new)) }
     ensures barrier { OnOk result (IfSome (D.seen disk.old) (λ files. Throughout (D.ticks disk.old + 2) (D.ticks disk.new) (D.images disk.new) (MeansWhat files))) }
     ensures time { GoesOn (D.ticks disk.old) (D.ticks disk.new) (D.images disk.old) (D.images disk.new) }
