@@ -1,4 +1,4 @@
-//! What the supervisor of a server and its children share: a child's life, its signals, and the gate.
+//! A child's life as the child sees it: its pid, its signals, and what the gate answers.
 #![tactic(auto)]
 
 mod life;

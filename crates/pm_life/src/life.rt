@@ -1,6 +1,6 @@
 //! What a child's own life gives it: its pid, its signals, and its attachment at the gate.
 ghost use Rattle.std.specs.Prelude.{◌≡◌, ℕ, Option, Some, None, option_map, IfOk, IsTrue, OnErr};
-ghost use Rattle.pm_board.specs.Life.{Told, Child, asked_again, met_at_gate, attached_in, let_go};
+ghost use Rattle.pm_life.specs.Life.{Told, Child, asked_again, met_at_gate, attached_in, let_go};
 
 use pm_supervisor::Reason;
 

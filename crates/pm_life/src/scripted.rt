@@ -21,9 +21,9 @@ pub struct ScriptedLife {
 
 impl ScriptedLife {
     ghost use Rattle.std.specs.Prelude.{◌≡◌, None, [], Ok, false};
-    ghost use Rattle.pm_board.specs.declared.life.Cancelled.TheVariants.{NoSuchPid};
-    ghost use Rattle.pm_board.specs.Life.{nothing_told};
-    ghost use Rattle.pm_board.specs.Scripted.{child_of_script, told_by_script};
+    ghost use Rattle.pm_life.specs.declared.life.Cancelled.TheVariants.{NoSuchPid};
+    ghost use Rattle.pm_life.specs.Life.{nothing_told};
+    ghost use Rattle.pm_life.specs.Scripted.{child_of_script, told_by_script};
 
     /// A life that isn't attached yet, and hasn't asked for anything.
     pub fn new(
@@ -69,7 +69,7 @@ impl ScriptedLife {
 
 impl Life for ScriptedLife {
     ghost use Rattle.std.specs.Prelude.{Some};
-    ghost use Rattle.pm_board.specs.Scripted.{child_of_script, told_by_script};
+    ghost use Rattle.pm_life.specs.Scripted.{child_of_script, told_by_script};
 
     ghost child = { child_of_script };
 

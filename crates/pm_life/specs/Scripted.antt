@@ -1,8 +1,8 @@
 -- What a scripted life tells.
 use Rattle.std.specs.Prelude.{take}
 use Rattle.std.specs.List.{flat_map}
-use Rattle.pm_board.specs.declared.scripted.ScriptedLife.{ScriptedLife}
-use Rattle.pm_board.specs.Life.{Child, Told, signals_in}
+use Rattle.pm_life.specs.declared.scripted.ScriptedLife.{ScriptedLife}
+use Rattle.pm_life.specs.Life.{Child, Told, signals_in}
 
 abbrev pub child_of_script : ScriptedLife → Child
 child_of_script life = record { pid = life.pid; is_dead_end = life.is_dead_end; attached = life.attached }
