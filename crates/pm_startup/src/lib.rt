@@ -10,6 +10,3 @@ mod reading;
 pub use packet::{Packet, Read, StartFault};
 pub use phase::{Phase, Step, next};
 pub use reading::{prefix_free, read};
-
-#[cfg(test)]
-mod tests;

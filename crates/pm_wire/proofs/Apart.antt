@@ -8,8 +8,8 @@ use Rattle.pm_wire.specs.Backend.{BackMessage, Auth, Param, Key, Ready, Fields, 
 use Rattle.pm_wire.specs.Frontend.{IsFront}
 use Rattle.pm_wire.specs.Reading.{front_of}
 use Rattle.pm_wire.specs.Stream.{StandApart}
-use Rattle.pm_wire.proofs.Numbers.{length_int32, number_again}
-use Rattle.pm_wire.proofs.Sizes.{short_iff}
+use Rattle.pm_wire.specs.Numbers.{length_int32, number_again}
+use Rattle.pm_wire.specs.Sizes.{short_iff}
 use Rattle.pm_wire.proofs.FrontLaws.{front_again}
 
 -- what is read of both is one answer

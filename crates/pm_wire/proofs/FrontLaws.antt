@@ -10,7 +10,7 @@ use Rattle.pm_wire.specs.declared.take.WireFault.TheVariants.{BadLength}
 use Rattle.pm_wire.specs.Pieces.{int32, string, message}
 use Rattle.pm_wire.specs.Frontend.{FrontMessage, Query, BadQuery, LongQuery, Terminate, Extended, Other, IsFront, IsString, IsBadHeader, BeginsBadly, Wants, its_type, its_length, its_body, is_extended, is_simple}
 use Rattle.pm_wire.specs.Reading.{text_of, query_or_bad, query_of_length, terminate_of_length, query_of, terminate_of, front_of}
-use Rattle.pm_wire.proofs.Numbers.{IsBytes, length_int32, number_again, number_below, number_split}
+use Rattle.pm_wire.specs.Numbers.{IsBytes, length_int32, number_again, number_below, number_split}
 use Rattle.pm_wire.proofs.Strings.{text_again, text_takes, text_none}
 
 abbrev Answer : Type 0

@@ -8,7 +8,7 @@ use Rattle.pm_wire.specs.declared.take.WireFault.TheVariants.{BadLength, BadForm
 use Rattle.pm_wire.specs.Taking.{IfWhole}
 use Rattle.pm_wire.specs.Frontend.{FrontMessage, IsFront, IsUndecided, Wants, BeginsBadly, front_message}
 use Rattle.pm_wire.specs.Reading.{seen_by, front_of}
-use Rattle.pm_wire.proofs.Numbers.{IsBytes}
+use Rattle.pm_wire.specs.Numbers.{IsBytes}
 use Rattle.pm_wire.proofs.FrontLaws.{Begins, IsSound, front_again, bad_again, front_sound, wants_short, wants_more}
 
 -- the reader's answer is what the bytes begin with

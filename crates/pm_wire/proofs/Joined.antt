@@ -1,8 +1,8 @@
 -- The pieces of a message, put together as the code puts them, are its body.
-use Rattle.std.proofs.Common.{◌≡◌, ℕ, ◌+◌, ◌*◌, ◌++◌, ◌∷◌, [], List, length, Option, Some, None, codes, ap, ap₂, ◌∙◌, append_assoc, arith}
-use Rattle.std.proofs.lemmas.List.{append-nil, length-append}
+use Rattle.std.proofs.Common.{◌≡◌, ℕ, ◌++◌, ◌∷◌, [], List, length, Some, None, codes, ap, ap₂, ◌∙◌, append_assoc}
+use Rattle.std.proofs.lemmas.List.{append-nil}
 use Rattle.pm_wire.specs.Pieces.{int16, int32, string, counted}
-use Rattle.pm_wire.specs.Backend.{fields, detail_length}
+use Rattle.pm_wire.specs.Backend.{fields}
 
 -- its zero bytes stand with the letters behind them
 pub plain_fields : (word code text : List ℕ) → (83 ∷ []) ++ (word ++ ((0 ∷ 86 ∷ []) ++ (word ++ ((0 ∷ 67 ∷ []) ++ (code ++ ((0 ∷ 77 ∷ []) ++ (text ++ ((0 ∷ 0 ∷ []) ++ []))))))))
@@ -22,12 +22,6 @@ pair_body key value = simp (append_assoc, append-nil)
 pub one_body : (text : List ℕ) → (0 ∷ 1 ∷ []) ++ (int32 (length text) ++ (text ++ [])) ≡ int16 1 ++ counted text
 unfolding int16
 one_body text = simp append-nil
-
-pub length_fields : (word code text : List ℕ) (detail : Option (List ℕ))
-    → length (fields word code text detail) ≡ 2 * (2 + length word) + (2 + length code) + (2 + length text) + detail_length detail + 1
-unfolding fields
-length_fields word code text None = simp length-append (omega arith)
-length_fields word code text (Some detail) = simp length-append (omega arith)
 
 -- the fields of an error up to its text
 abbrev head : (word code before : List ℕ) → List ℕ

@@ -12,8 +12,8 @@ use Rattle.pm_wire.specs.declared.back.Tag.TheVariants.{Insert, Update, Delete, 
 use Rattle.pm_wire.specs.Pieces.{int16, int32, string}
 use Rattle.pm_wire.specs.Backend.{BackMessage, Auth, Param, Key, Ready, Fields, Pair, One, Complete, Empty, Fault, Notice, Saying, body, kind_of, spelling, severity_word, report_length}
 use Rattle.pm_wire.specs.Longest.{longest, longest_report, HasSizes}
-use Rattle.pm_wire.proofs.Numbers.{length_int32}
-use Rattle.pm_wire.proofs.Sizes.{length_fields_of, param_size, pair_size, one_size}
+use Rattle.pm_wire.specs.Numbers.{length_int32}
+use Rattle.pm_wire.specs.Sizes.{length_fields_of, param_size, pair_size, one_size}
 use Rattle.pm_wire.proofs.Apart.{length_kind, length_message}
 
 pub key_digits : (key : ℤ) → mag key < 2 ^ 63 → length (signed_decimal key) ≤ 20

@@ -1,29 +1,14 @@
 -- A string ends at its first zero.
 use Rattle.std.proofs.Common.{◌≡◌, ℕ, zero, suc, ◌+◌, ◌<◌, ◌≤◌, ◌++◌, ◌∷◌, [], List, length, get_or, take, drop, true, false, not, eqb, ltb, Some, None, refl, sym, ap, subst, ◌∙◌, arith}
-use Rattle.std.specs.List.{AllByRecursion, prefix_len, position}
+use Rattle.std.specs.List.{prefix_len, position}
 use Rattle.std.proofs.lemmas.Bool.{eqb-true, eqb-false, lt-ltb}
 use Rattle.std.proofs.lemmas.Option.{cond_some}
 use Rattle.std.proofs.lemmas.List.{length-append, take_at, take-append-drop, drop_more, drop_all}
 use Rattle.std.proofs.lemmas.List.Quantifiers.{position-Some}
 use Rattle.pm_wire.specs.Pieces.{HasNoZero, string}
+use Rattle.pm_wire.specs.Nonzero.{AllNonzero, suc_nonzero, all_nonzero, has_no_zero}
 use Rattle.pm_wire.specs.Frontend.{IsString}
 use Rattle.pm_wire.specs.Reading.{text_of, text_before}
-
-abbrev pub AllNonzero : List ℕ → Type 0
-AllNonzero bytes = AllByRecursion (λ b. 0 < b) bytes
-
-suc_nonzero : (b : ℕ) → eqb (suc b) 0 ≡ false
-suc_nonzero b = elim (eqb (suc b) 0) as (λ t. eqb (suc b) 0 ≡ t → t ≡ false) [ true ↦ λ e. absurd (omega (arith, eqb-true _ _ e)) | false ↦ λ _. refl ] refl
-
-pub all_nonzero : (bytes : List ℕ) → HasNoZero bytes → AllNonzero bytes
-all_nonzero [] h = tt
-all_nonzero (zero ∷ bs) h = absurd cc
-all_nonzero (suc b ∷ bs) h = (omega arith, all_nonzero bs (rw (suc_nonzero b) at h))
-
-pub has_no_zero : (bytes : List ℕ) → AllNonzero bytes → HasNoZero bytes
-has_no_zero [] h = refl
-has_no_zero (zero ∷ bs) h = absurd (omega (arith, h.0))
-has_no_zero (suc b ∷ bs) h = rw (suc_nonzero b) (has_no_zero bs h.1)
 
 zero_place : (text : List ℕ) → AllNonzero text → prefix_len (λ x. not (eqb x 0)) (text ++ 0 ∷ []) ≡ length text
 zero_place [] h = refl

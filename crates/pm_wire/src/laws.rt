@@ -1,14 +1,14 @@
-//! What holds of every stream of messages. The functions do nothing: each stands for the law in its
-//! contract, over the definitions that `Front::read`, `Back::read` and `Back::write` cite.
+//! What holds of every client's stream of messages, and of what is written. The functions do nothing: each stands for the
+//! law in its contract, over the definitions that `Front::read` and `Back::write` cite.
 
 ghost use Rattle.std.specs.Prelude.{◌≡◌, ◌↔◌, ◌+◌, ◌<◌, ◌≤◌, ◌^◌, List, ℕ, [], ◌++◌, length};
 ghost use Rattle.pm_wire.specs.Frontend.{IsFront};
-ghost use Rattle.pm_wire.specs.Backend.{BackMessage, body, spelling, IsBack, IsShort, IsWritable, HasCount};
+ghost use Rattle.pm_wire.specs.Backend.{BackMessage, body, spelling, IsShort, IsWritable, HasCount};
 ghost use Rattle.pm_wire.specs.declared.condition.Condition.{Condition};
 ghost use Rattle.pm_wire.specs.Conditions.{told};
 ghost use Rattle.pm_wire.specs.Longest.{longest, HasSizes, IsGiven, longest_told};
 ghost use Rattle.pm_wire.specs.Stream.{StandApart, SplitOneWay, SplitInPieces, FailsOnce, FailsForGood, FailsInPieces};
-ghost use Rattle.pm_wire.specs.Failing.{FrontFails, BackFails, place_of};
+ghost use Rattle.pm_wire.specs.Failing.{FrontFails, place_of};
 
 /// No message of a client begins another one, and no bytes are two messages.
 pub fn front_messages_stand_apart()
@@ -28,24 +28,6 @@ pub fn front_stream_fails_at_one_byte()
     ensures once { FailsOnce IsFront FrontFails place_of }
     ensures for_good { FailsForGood IsFront FrontFails place_of }
     ensures in_pieces { FailsInPieces IsFront FrontFails place_of }
-{}
-
-/// No message of the server begins another one, and no bytes are two messages.
-pub fn back_messages_stand_apart()
-    ensures { StandApart IsBack }
-{}
-
-/// How the server's stream was cut into pieces makes no difference either.
-pub fn back_stream_has_one_reading()
-    ensures one_way { SplitOneWay IsBack }
-    ensures in_pieces { SplitInPieces IsBack }
-{}
-
-/// The server's stream, too, fails at one byte, however it was cut.
-pub fn back_stream_fails_at_one_byte()
-    ensures once { FailsOnce IsBack BackFails place_of }
-    ensures for_good { FailsForGood IsBack BackFails place_of }
-    ensures in_pieces { FailsInPieces IsBack BackFails place_of }
 {}
 
 /// The spelling of no message that can be written begins another's, whatever its texts are.

@@ -10,7 +10,6 @@ ghost use Rattle.pm_wire.specs.Backend.{back_message, saying, fields, fields_of,
 
 use crate::back::{Back, Report, Severity, Shape, Tag};
 use crate::bytes::Bytes;
-use crate::columns::columns_of;
 use crate::condition::Condition;
 use crate::outbox::Outbox;
 use crate::ready::fixed;
@@ -20,7 +19,7 @@ use std::alloc::AllocError;
 
 /// A number in four bytes, the highest first.
 #[tactic(auto, unfolding(crate::specs::Pieces::int32))]
-pub(crate) fn int32_bytes(n: u32) -> [u8; 4]
+fn int32_bytes(n: u32) -> [u8; 4]
     ensures { result ≡ int32 n }
 {
     let mut bytes = [0; 4];
@@ -128,7 +127,7 @@ fn push_detailed(
 }
 
 /// Appends an error or a notice.
-#[tactic(auto, using(crate::proofs::Joined::length_fields))]
+#[tactic(auto, using(crate::specs::Sizes::length_fields))]
 fn push_report(out: &mut Outbox, kind: u8, report: &Report) -> Result<(), AllocError>
     requires { report_length (saying report.now) < 2 ^ 31 }
     ensures ok { OnOk result (out.new.bytes ≡ out.old.bytes ++ message (kind ∷ []) (fields_of (saying report.now))) }
@@ -151,7 +150,7 @@ fn push_columns(out: &mut Outbox, shape: Shape) -> Result<(), AllocError>
     ensures full { OnErr result (room out.old < length (spelling (Fields shape))) }
     ensures capacity { out.old.capacity ≤ out.new.capacity }
 {
-    push_message(out, b'T', &[columns_of(shape)])
+    push_message(out, b'T', &[shape.description()])
 }
 
 /// Appends the tag that has this text before its number.
@@ -312,7 +311,7 @@ fn push_duplicate(out: &mut Outbox, key: i64) -> Result<(), AllocError>
 }
 
 /// Appends an error or a notice of the table.
-#[tactic(auto, using(crate::proofs::Joined::length_fields))]
+#[tactic(auto, using(crate::specs::Sizes::length_fields))]
 fn push_told(out: &mut Outbox, condition: &Condition) -> Result<(), AllocError>
     requires { IsShort (told condition.now) }
     ensures ok { OnOk result (out.new.bytes ≡ out.old.bytes ++ spelling (told condition.now)) }

@@ -1,5 +1,5 @@
-//! Tests of the public calls of `pm_wire` against bytes that were written down outside of it: captured conversations, and
-//! lengths counted by hand.
+//! Tests of the public calls of `pm_wire`, `pm_wire_back` and `pm_startup` against bytes that were written down outside of
+//! them: captured conversations, and lengths counted by hand.
 #![tactic(auto)]
 
 #[cfg(test)]
@@ -10,5 +10,7 @@ mod front;
 mod outbox;
 #[cfg(test)]
 mod read;
+#[cfg(test)]
+mod startup;
 #[cfg(test)]
 mod write;

@@ -1,6 +1,7 @@
-//! What the server sent, read again.
+//! What the server sent, read by a client.
 
 use pm_wire::{Back, Report, Severity, Shape, Tag, Take, WireFault};
+use pm_wire_back::read_back;
 use std::test::*;
 
 /// Messages of the server as bytes, with what they say.
@@ -101,11 +102,11 @@ const SENT: [(&[u8], Back<'static>); 19] = [
 fn server_messages_are_read_when_they_are_whole(rt: HostRuntime) {
     for (bytes, value) in SENT {
         let used = bytes.len();
-        assert_eq!(rt; Back::read(bytes), Take::Whole { value, used });
+        assert_eq!(rt; read_back(bytes), Take::Whole { value, used });
         for cut in 0..used {
             if let Some(front) = bytes.get(..cut) {
                 let wanted = if cut < 5 { 5 } else { used };
-                assert_eq!(rt; Back::read(front), Take::Short { wanted }, "cut at {cut}");
+                assert_eq!(rt; read_back(front), Take::Short { wanted }, "cut at {cut}");
             }
         }
     }
@@ -147,6 +148,6 @@ fn faults_of_server_messages_stand_where_they_are(rt: HostRuntime) {
         (b"E\0\0\0\x1cSERROR\0VFATAL", form(13)),
         (b"Z\0\0\0\x05T", form(5)),
     ] {
-        assert_eq!(rt; Back::read(bytes), expected);
+        assert_eq!(rt; read_back(bytes), expected);
     }
 }

@@ -1,4 +1,4 @@
-use Rattle.pm_wire.proofs.Sizes.{short_iff}
+use Rattle.pm_wire.specs.Sizes.{short_iff}
 use Rattle.pm_wire.proofs.laws.back_lengths_are_short.Goals as goal
 
 pub returns : goal.returns

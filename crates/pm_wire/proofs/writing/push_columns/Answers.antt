@@ -1,7 +1,7 @@
 use Rattle.std.proofs.Common.{[], length, ap, arith}
 use Rattle.std.proofs.lemmas.List.{length-append}
-use Rattle.pm_wire.proofs.Sizes.{columns_short}
+use Rattle.pm_wire.specs.Sizes.{columns_short}
 use Rattle.pm_wire.proofs.writing.push_columns.Goals as goal
 
 pub push_message-requires : goal.push_message-requires
-push_message-requires c = omega (arith, columns_short c.args.shape, ap length c.columns_of.ensures, length-append c.columns_of.result.now [])
+push_message-requires c = omega (arith, columns_short c.args.shape, ap length c.description.ensures, length-append c.description.result.now [])

@@ -1,7 +1,0 @@
-use Rattle.std.proofs.Common.{◌≡◌, ◌≤◌, ◌-◌, length, take, drop}
-use Rattle.pm_wire.specs.Parts.{code_at}
-use Rattle.pm_wire.proofs.Walks.{with_front}
-use Rattle.pm_wire.proofs.parts.nonzero.Given as goal
-
-abbrev pub invariant-loop-i : goal.invariant-loop-i
-invariant-loop-i l = (with_front (take l.i l.bytes) (code_at (l.count - l.i) (drop l.i l.bytes)) ≡ code_at l.count l.bytes) × (l.i ≤ length l.bytes)

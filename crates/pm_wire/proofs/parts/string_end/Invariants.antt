@@ -1,8 +1,0 @@
-use Rattle.std.proofs.Common.{◌≡◌, ◌≤◌, ◌-◌, take, drop, Some}
-use Rattle.pm_utf8.specs.Utf8.{boundary, run}
-use Rattle.pm_wire.specs.Parts.{string_at}
-use Rattle.pm_wire.proofs.Walks.{with_front}
-use Rattle.pm_wire.proofs.parts.string_end.Given as goal
-
-abbrev pub invariant-loop-i : goal.invariant-loop-i
-invariant-loop-i l = (with_front (take l.i l.bytes) (string_at l.ending l.state (l.room - l.i) (drop l.i l.bytes)) ≡ string_at l.ending boundary l.room l.bytes) × (run boundary (take l.i l.bytes) ≡ Some l.state) × (l.i ≤ l.room)

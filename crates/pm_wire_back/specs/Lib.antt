@@ -1,0 +1,5 @@
+pub mod Letters
+pub mod Parts
+pub mod BackReading
+pub mod Received
+pub mod Failing
