@@ -11,7 +11,6 @@
 mod book;
 mod draft;
 mod effect;
-mod fault;
 mod item;
 mod laws;
 mod pairs;
@@ -20,13 +19,13 @@ mod run;
 mod store;
 
 pub use book::BookEntry;
-pub use fault::RedoFault;
 pub use item::Item;
 pub use laws::{
     acked_is_within, acked_never_falls, acknowledged_stays, commit_leaves_rows, past_stays,
     present_is_whole, repeat_changes_nothing, worked_books,
 };
 pub use pairs::Pairs;
+pub use pm_record::RedoFault;
 pub use reply::Reply;
 pub use run::{Outcome, answer};
 pub use store::{Seen, Staged, Store, StoreNo};

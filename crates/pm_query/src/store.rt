@@ -6,9 +6,9 @@ ghost use Rattle.pm_query.specs.Calls.{PassView, user_of, newcomer, new_pass, wi
 ghost use Rattle.pm_query.specs.Limits.{HasShortValues};
 
 use crate::book::BookEntry;
-use crate::fault::RedoFault;
 use crate::reply::Reply;
 use pm_disk::DiskFault;
+use pm_record::RedoFault;
 use pm_sql::Script;
 use std::alloc::AllocError;
 use thiserror::Error;
