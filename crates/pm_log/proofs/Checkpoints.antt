@@ -1,5 +1,5 @@
 -- What the checkpoint of a log says, by what the move to the other file says.
-use Rattle.std.proofs.Common.{◌≡◌, ◌⊎◌, inl, inr, ℕ, ◌+◌, ◌-◌, ◌^◌, ◌<◌, ◌≤◌, Bool, List, [], ◌∷◌, ◌++◌, length, zero, suc, refl, sym, ◌∙◌, ap, subst, arith, length-append}
+use Rattle.std.proofs.Common.{◌≡◌, inl, ℕ, ◌+◌, ◌-◌, ◌^◌, ◌<◌, Bool, List, [], ◌∷◌, ◌++◌, length, zero, suc, refl, ◌∙◌, ap, subst, arith, length-append}
 use Rattle.std.specs.Prelude.{Option, Some, None, IfSome, All, take}
 use Rattle.std.specs.FinMap as map
 use Rattle.pm_rows.specs.Fold.{folded}
@@ -10,9 +10,8 @@ use Rattle.pm_disk.specs.Files.{Files, other}
 use Rattle.pm_rows.specs.Fold.{RowMap}
 use Rattle.pm_record.specs.Spelling.{base_bytes}
 use Rattle.pm_record.specs.StandsFor.{Content, IsContent, IsRow, checkpointed, standing_of}
-use Rattle.pm_record.specs.Pair.{MeansIn}
 use Rattle.pm_log.specs.Append.{MeansOneOf}
-use Rattle.pm_record.specs.OnDisk.{Rests, Throughout}
+use Rattle.pm_record.specs.OnDisk.{Throughout}
 use Rattle.pm_log.specs.Move.{HasMoved, IsBase, KeepsMoving}
 use Rattle.pm_log.specs.Log.{Lives, base_length}
 use Rattle.pm_log.specs.declared.log.Log.{Log}

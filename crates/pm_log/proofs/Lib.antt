@@ -1,7 +1,9 @@
 mod Appends
 mod Checkpoints
 mod Fronts
+mod Inits
 mod Lists
+mod Looks
 mod Moves
 mod Steps
 mod Told

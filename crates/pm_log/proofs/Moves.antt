@@ -1,20 +1,19 @@
 -- What a stop leaves of a log over the device calls of a checkpoint.
-use Rattle.std.proofs.Common.{◌≡◌, ◌≢◌, ◌⊎◌, inl, inr, ℕ, zero, suc, ◌+◌, ◌-◌, ◌≤◌, ◌<◌, Bool, List, [], ◌∷◌, ◌++◌, length, take, drop, refl, sym, ◌∙◌, ap, subst, arith, length-append, append_assoc, append-nil}
-use Rattle.std.specs.Prelude.{◌↔◌, slice_get, Option, Some, None, IfSome, option_map}
+use Rattle.std.proofs.Common.{◌≡◌, ◌≢◌, ◌⊎◌, inl, inr, ℕ, ◌+◌, ◌-◌, ◌≤◌, ◌<◌, Bool, List, [], ◌∷◌, ◌++◌, length, drop, refl, sym, ◌∙◌, ap, subst, arith, length-append, append_assoc, append-nil}
+use Rattle.std.specs.Prelude.{slice_get}
 use Rattle.std.proofs.lemmas.Bool.{cases_lt}
 use Rattle.std.proofs.lemmas.Option.{same_Some}
 use Rattle.pm_disk.specs.declared.disk.Which.{Which}
 use Rattle.pm_disk.specs.declared.disk.Which.TheVariants.{A, B}
-use Rattle.pm_disk.specs.Files.{Files, file_of, other, overwritten, with_file}
-use Rattle.pm_disk.specs.Disk.{Follows, Only, TellsStill, Torn}
+use Rattle.pm_disk.specs.Files.{Files, file_of, other, overwritten}
+use Rattle.pm_disk.specs.Disk.{Only, Torn}
 use Rattle.pm_rows.specs.declared.commit.Change.{Change}
 use Rattle.pm_record.specs.Spelling.{base_bytes}
-use Rattle.pm_rows.specs.Standing.{Standing}
-use Rattle.pm_record.specs.StandsFor.{AreBatches, Content, IsContent, Spells, StandsFor, checkpointed, standing_of}
-use Rattle.pm_record.specs.Pair.{IsShut, MeansIn, PairStandsFor, Yields}
+use Rattle.pm_record.specs.StandsFor.{AreBatches, Content, IsContent, StandsFor, checkpointed, standing_of}
+use Rattle.pm_record.specs.Pair.{IsShut, MeansIn, Yields}
 use Rattle.pm_log.specs.Append.{MeansOneOf}
 use Rattle.pm_record.specs.OnDisk.{FollowsWithin, GoesOn, Rests, Throughout}
-use Rattle.pm_log.specs.Move.{HasMoved, IsBase, KeepsMoving}
+use Rattle.pm_log.specs.Move.{IsBase}
 use Rattle.pm_log.proofs.Lists.{flipped, over}
 use Rattle.pm_log.proofs.Fronts.{same_standing}
 use Rattle.pm_log.proofs.Steps.{means_shut}

@@ -1,18 +1,17 @@
 -- What a stop leaves of a log over the device calls of an append.
-use Rattle.std.proofs.Common.{◌≡◌, ◌≢◌, ◌⊎◌, inl, inr, ℕ, zero, suc, ◌+◌, ◌-◌, ◌≤◌, ◌<◌, List, [], ◌∷◌, ◌++◌, length, take, drop, refl, sym, ◌∙◌, ap, subst, arith, length-append, append_assoc}
-use Rattle.std.specs.Prelude.{◌↔◌, slice_get, Option, Some, None, IfSome, option_map}
+use Rattle.std.proofs.Common.{◌≡◌, ◌≢◌, ◌⊎◌, inl, inr, ℕ, ◌+◌, ◌-◌, ◌≤◌, ◌<◌, List, [], ◌∷◌, ◌++◌, length, take, drop, refl, sym, ◌∙◌, ap, subst, arith, length-append, append_assoc}
+use Rattle.std.specs.Prelude.{slice_get}
 use Rattle.std.proofs.lemmas.Bool.{cases_lt}
 use Rattle.pm_disk.specs.declared.disk.Which.{Which}
-use Rattle.pm_disk.specs.declared.disk.Which.TheVariants.{A, B}
-use Rattle.pm_disk.specs.Files.{Files, file_of, other, overwritten, with_file}
-use Rattle.pm_disk.specs.Disk.{Elapses, Follows, Only, StopsNoWider, TellsStill, Torn}
+use Rattle.pm_disk.specs.Files.{Files, file_of, other, overwritten}
+use Rattle.pm_disk.specs.Disk.{Only, Torn}
 use Rattle.pm_rows.specs.declared.commit.Change.{Change}
 use Rattle.pm_record.specs.Spelling.{batch_bytes}
 use Rattle.pm_rows.specs.Standing.{Standing, after}
 use Rattle.pm_record.specs.StandsFor.{Content, MayAppend, StandsFor, standing_of, with_batch}
-use Rattle.pm_record.specs.Pair.{IsShut, MeansIn, PairStandsFor}
+use Rattle.pm_record.specs.Pair.{IsShut, MeansIn}
 use Rattle.pm_record.specs.OnDisk.{FollowsWithin, GoesOn, Rests, Throughout}
-use Rattle.pm_log.specs.Append.{HasAppended, IsSpelled, KeepsAppending, MeansOneOf}
+use Rattle.pm_log.specs.Append.{IsSpelled, MeansOneOf}
 use Rattle.pm_log.proofs.Lists.{begins, flipped, over}
 use Rattle.pm_log.proofs.Fronts.{standing-push, stands_closed, stands_open}
 
@@ -119,14 +118,6 @@ pub means_now : (file : Which) (content : Content) (end : ℕ) (files : Files) (
     → (image : Files) → images image → MeansIn image (standing_of content) (end + 1)
 means_now file content end files images rests image is =
     means_shut image file content end (subst (λ (l : List ℕ). StandsFor l content end) (sym (rests.durable image is)) rests.stands) (rests.beside image is)
-
-pub file_with : (files : Files) (file : Which) (bytes : List ℕ) → file_of (with_file files file bytes) file ≡ bytes
-file_with files A bytes = refl
-file_with files B bytes = refl
-
-pub beside_with : (files : Files) (file : Which) (bytes : List ℕ) → file_of (with_file files file bytes) (other file) ≡ file_of files (other file)
-beside_with files A bytes = refl
-beside_with files B bytes = refl
 
 -- ---- over the ticks
 -- the body is being written: at every tick a stop leaves the log as it was, and the other file shut

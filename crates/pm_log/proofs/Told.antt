@@ -1,13 +1,14 @@
 -- An append where the disk tells its files.
-use Rattle.std.proofs.Common.{◌≡◌, ℕ, ◌+◌, ◌-◌, ◌≤◌, ◌<◌, List, [], ◌∷◌, ◌++◌, length, take, drop, refl, sym, ◌∙◌, ap, subst, arith}
+use Rattle.std.proofs.Common.{◌≡◌, ℕ, ◌+◌, ◌≤◌, ◌<◌, List, length, take, drop, refl, sym, ◌∙◌, ap, subst, arith}
 use Rattle.std.specs.Prelude.{Option, Some, None, IfSome, option_map}
 use Rattle.pm_disk.specs.declared.disk.Which.{Which}
 use Rattle.pm_disk.specs.Files.{Files, file_of, other, overwritten, with_file}
 use Rattle.pm_log.proofs.Lists.{length-overwritten}
-use Rattle.pm_disk.specs.Disk.{Follows, Only, TellsStill, Torn}
-use Rattle.pm_record.specs.OnDisk.{FollowsWithin, GoesOn, Rests, Throughout}
+use Rattle.pm_disk.specs.Disk.{Only, TellsStill, Torn}
+use Rattle.pm_record.specs.OnDisk.{FollowsWithin, GoesOn}
 use Rattle.pm_log.specs.Append.{HasAppended, KeepsAppending}
-use Rattle.pm_log.proofs.Steps.{body_in, file_with, beside_with, rests_after, stops_both, stops_first}
+use Rattle.pm_record.specs.Calls.{beside_with, file_with}
+use Rattle.pm_log.proofs.Steps.{rests_after, stops_both, stops_first}
 
 -- the files with these bytes at a place of one of them
 abbrev pub written_at : Which → ℕ → List ℕ → Files → Files

@@ -1,3 +1,4 @@
 pub mod Append
+pub mod Init
 pub mod Log
 pub mod Move

@@ -1,11 +1,8 @@
 -- The log's calls: what its fields say of the content, and what a call may leave.
-use Rattle.std.specs.Prelude.{◌≡◌, ◌⊎◌, ℕ, ◌+◌, ◌-◌, ◌≤◌, ◌<◌, List, ◌∷◌, [], ◌++◌, length, Option, None}
-use Rattle.pm_disk.specs.declared.disk.Which.{Which}
-use Rattle.pm_disk.specs.Files.{Files, file_of}
-use Rattle.pm_rows.specs.declared.commit.Change.{Change}
-use Rattle.pm_record.specs.Spelling.{base_bytes, body_bytes}
-use Rattle.pm_rows.specs.Standing.{Standing, after}
-use Rattle.pm_record.specs.StandsFor.{Content, MayAppend, StandsFor, standing_of, with_batch}
+use Rattle.std.specs.Prelude.{◌≡◌, ℕ, ◌+◌, ◌-◌, length, None}
+use Rattle.pm_disk.specs.Files.{Files}
+use Rattle.pm_record.specs.Spelling.{base_bytes}
+use Rattle.pm_record.specs.StandsFor.{Content, standing_of}
 use Rattle.pm_record.specs.OnDisk.{Rests}
 use Rattle.pm_record.specs.declared.found.Found.{Found}
 use Rattle.pm_log.specs.declared.log.Log.{Log}

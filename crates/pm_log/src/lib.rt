@@ -1,10 +1,15 @@
 //! The commit log over two files: batches behind gates, and checkpoints that move it to the other file.
 //!
-//! [`Log::resume`] goes on with what a recovery has found. [`Log::append`] adds a batch of commits, and
-//! [`Log::checkpoint`] writes all rows as the base of the other file. At every tick of a call a stop leaves what stood
-//! before, or that with all of the call's work; after a fault of the disk the log is broken and makes no device call.
+//! [`init`] makes a cluster of no commits. [`Log::resume`] goes on with what a recovery has found, [`Log::append`] adds a
+//! batch of commits, and [`Log::checkpoint`] writes all rows as the base of the other file. At every tick of these a stop
+//! leaves what stood before, or that with all of the call's work; after a fault of the disk the log is broken and makes
+//! no device call. A stop inside `init` may leave a part of a cluster.
 #![tactic(auto)]
 
+mod cluster;
+mod limits;
 mod log;
 
+pub use cluster::{InitNo, init};
+pub use limits::may_append;
 pub use log::{Log, LogFault, Receipt};

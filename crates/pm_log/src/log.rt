@@ -195,6 +195,7 @@ impl Log {
         ensures disk { result ≡ Err LogFault.Disk → (self.new ≡ record self.old { since = Some (D.ticks disk.new) })
             × (self.old.since ≡ None) × (self.old.epoch < 2 ^ 64 - 1) }
         ensures untouched { (fault : LogFault) → result ≡ Err fault → fault ≢ LogFault.Disk → (self.new ≡ self.old) × (disk.new ≡ disk.old) }
+        ensures tells { TellsStill (λ files now. Unit {0}) (D.seen disk.old) (D.seen disk.new) }
         ensures time { GoesOn (D.ticks disk.old) (D.ticks disk.new) (D.images disk.old) (D.images disk.new) }
         ensures cause { IsCounted (D.faults disk.old) (D.faults disk.new) (result ≡ Err LogFault.Disk) }
     {
@@ -283,6 +284,7 @@ fn move_to_other<D: Disk>(disk: &mut D, file: Which, bytes: &[u8]) -> Result<(),
         KeepsMoving file bytes.now files (D.ticks disk.old) (D.ticks disk.new) (D.images disk.old) (D.images disk.new)) }
     ensures moved { OnOk result (TellsStill (λ files now.
         HasMoved file bytes.now files now (D.images disk.old (D.ticks disk.old)) (D.images disk.new (D.ticks disk.new))) (D.seen disk.old) (D.seen disk.new)) }
+    ensures tells { TellsStill (λ files now. Unit {0}) (D.seen disk.old) (D.seen disk.new) }
     ensures time { GoesOn (D.ticks disk.old) (D.ticks disk.new) (D.images disk.old) (D.images disk.new) }
     ensures cause { IsCounted (D.faults disk.old) (D.faults disk.new) (IsErr result) }
 {

@@ -56,7 +56,14 @@ pub fn told(alloc: Global, found: &Found) -> Result<String, Fail> {
         found.end,
         found.clean
     )?;
-    for (key, value) in found.rows.iter() {
+    text.push_str(rows_told(alloc, &found.rows)?.as_str())?;
+    Ok(text)
+}
+
+/// Rows, each behind a space.
+pub fn rows_told(alloc: Global, rows: &Rows) -> Result<String, Fail> {
+    let mut text = String::new(alloc);
+    for (key, value) in rows.iter() {
         let row = format!(in alloc; " {}={}", key, value.as_str())?;
         text.push_str(row.as_str())?;
     }

@@ -2,8 +2,12 @@
 #![tactic(auto)]
 
 #[cfg(test)]
+mod cluster;
+#[cfg(test)]
 mod damage;
 #[cfg(test)]
 mod files;
+#[cfg(test)]
+mod log;
 #[cfg(test)]
 mod redo;

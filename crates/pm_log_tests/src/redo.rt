@@ -6,7 +6,8 @@ use pm_redo::recover;
 use std::alloc::Global;
 use std::test::Fail;
 
-fn disk_of(alloc: Global, a: &[u8], b: &[u8]) -> Result<MemDisk, Fail> {
+/// A disk in memory that reads so.
+pub fn disk_of(alloc: Global, a: &[u8], b: &[u8]) -> Result<MemDisk, Fail> {
     let mut disk = MemDisk::new(alloc);
     disk.write(Which::A, 0, a)?;
     disk.write(Which::B, 0, b)?;
@@ -22,8 +23,8 @@ fn answer(alloc: Global, a: &[u8], b: &[u8]) -> Result<String, Fail> {
     }
 }
 
-// A file with its gate closed.
-fn closed(alloc: Global, file: &[u8]) -> Result<Vec<u8>, Fail> {
+/// A file with its gate closed.
+pub fn closed(alloc: Global, file: &[u8]) -> Result<Vec<u8>, Fail> {
     let mut bytes = Vec::new(alloc);
     bytes.push(0)?;
     for byte in file.iter().skip(1) {

@@ -1,5 +1,6 @@
 -- What reading the two files leaves as it was.
 use Rattle.std.specs.Prelude.{◌≡◌, ℕ, Option}
+use Rattle.pm_disk.specs.Disk.{TellsStill}
 use Rattle.pm_disk.specs.Files.{Files}
 use Rattle.pm_record.specs.OnDisk.{FollowsWithin, GoesOn}
 
@@ -16,3 +17,7 @@ pub record IsQuiet (seen_before seen_now : Option Files) (from to : ℕ) (before
 -- a stop leaves these files and no others
 abbrev pub IsOnly : Files → (Files → Type 0) → Type 0
 IsOnly files images = (image : Files) → images image → image ≡ files
+
+-- a disk that tells its files goes on telling them, and one that doesn't begins nothing of it
+abbrev pub GoesOnTelling : Option Files → Option Files → Type 0
+GoesOnTelling before now = TellsStill (λ files files_now. Unit {0}) before now

@@ -1,13 +1,16 @@
 //! Recovery over a disk.
 
-ghost use Rattle.std.specs.Prelude.{◌≡◌, ◌≢◌, ◌⊎◌, ◌+◌, ℕ, IfOk, IfSome, IsErr, OnOk};
+ghost use Rattle.std.specs.Prelude.{◌≡◌, ◌≢◌, ◌⊎◌, ◌+◌, ℕ, All, IfOk, IfSome, IsErr, OnOk};
+ghost use Rattle.std.specs.FinMap as map;
 ghost use Rattle.pm_disk.specs.Cause.{IsCounted};
 ghost use Rattle.pm_disk.specs.Disk.{TellsStill};
 ghost use Rattle.pm_disk.specs.Files.{file_of};
 ghost use Rattle.pm_record.specs.OnDisk.{FollowsWithin, GoesOn, Rests, Throughout};
 ghost use Rattle.pm_record.specs.Pair.{MeansWhat};
+ghost use Rattle.pm_record.specs.StandsFor.{IsRow};
+ghost use Rattle.pm_rows.specs.Limits.{IsWithinRowLimits};
 ghost use Rattle.pm_redo.specs.Found.{FindsPair, IsReason, MeansOnly};
-ghost use Rattle.pm_redo.specs.Redo.{IsQuiet, IsOnly};
+ghost use Rattle.pm_redo.specs.Redo.{GoesOnTelling, IsQuiet, IsOnly};
 
 use crate::pair::pair_in;
 use pm_disk::{Disk, DiskFault, Which};
@@ -19,14 +22,17 @@ use std::alloc::Global;
 /// before it answers.
 ///
 /// At every tick of the call whatever a stop leaves means what it could mean at the start, and from the end of the two
-/// syncs on it means what is answered. `Disk` comes only where the disk's count of faults rose; any other refusal leaves
-/// both files as they read.
+/// syncs on it means what is answered. Whatever a disk tells of its files, rows that are answered keep the limits. `Disk`
+/// comes only where the disk's count of faults rose; any other refusal leaves both files as they read.
 pub fn recover<D: Disk>(alloc: Global, disk: &mut D) -> Result<Found, RedoFault>
     ensures found { IfOk result (λ found. TellsStill (λ files now. FindsPair found files
         (λ content. Rests found.file content found.end now (D.images disk.new (D.ticks disk.new)))) (D.seen disk.old) (D.seen disk.new)) }
     ensures exact { IfOk result (λ found. IfSome (D.seen disk.old) (MeansOnly found)) }
+    ensures rows { IfOk result (λ found. All IsRow (map.entries found.rows)) }
+    ensures limits { IfOk result (λ found. IsWithinRowLimits found.rows) }
     ensures reason { (fault : RedoFault) → result ≡ Err fault → IfSome (D.seen disk.old) (λ files. IsReason fault files) }
     ensures kept { (fault : RedoFault) → result ≡ Err fault → fault ≢ RedoFault.Disk → D.seen disk.new ≡ D.seen disk.old }
+    ensures tells { GoesOnTelling (D.seen disk.old) (D.seen disk.new) }
     ensures stops { IfSome (D.seen disk.old) (λ files. FollowsWithin MeansWhat (D.ticks disk.old) (D.ticks disk.new) (D.images disk.old) (D.images disk.new)) }
     ensures barrier { OnOk result (IfSome (D.seen disk.old) (λ files. Throughout (D.ticks disk.old + 2) (D.ticks disk.new) (D.images disk.new) (MeansWhat files))) }
     ensures time { GoesOn (D.ticks disk.old) (D.ticks disk.new) (D.images disk.old) (D.images disk.new) }

@@ -1,5 +1,6 @@
 use Rattle.std.proofs.Common.{◌≡◌, ◌+◌, subst, List, ℕ, rules, Bool, true, false}
 use Rattle.pm_redo.specs.Found.{Finds, MeansOnly}
+use Rattle.pm_redo.proofs.Kept.{found_limits, found_rows}
 use Rattle.pm_redo.proofs.Redos.{found_quiet, found_written, is_read, only_told, quiet_barrier, quiet_means, pair_of, quiet_then, written_barrier, written_means}
 use Rattle.pm_redo.proofs.redo.recover.Goals as goal
 
@@ -236,3 +237,15 @@ returns-then-not-both-clause-stops g c =
     let all = quiet_then before s1 s3 t0 t1 t3 h i j c.in_ok-settle.ensures.quiet reading in
     let read = is_read before s1 s2 a b t1 t3 i j c.in_ok-settle.ensures.quiet.seen c.in_ok-a.ensures.quiet.seen c.in_ok-a.ensures.bytes c.in_ok-b.ensures.bytes c.in_ok-settle.ensures.only reading.stops in
     quiet_means before t0 t3 h j all.stops
+
+pub returns-then-not-both-clause-rows : goal.returns-then-not-both-clause-rows
+returns-then-not-both-clause-rows g c = found_rows c.in_ok-found.found c.in_ok-found.both _ c.in_ok-found.ensures.found
+
+pub returns-then-not-both-clause-limits : goal.returns-then-not-both-clause-limits
+returns-then-not-both-clause-limits g c = found_limits c.in_ok-found.found c.in_ok-found.both _ c.in_ok-found.ensures.found
+
+pub returns-clause-rows : goal.returns-clause-rows
+returns-clause-rows g c = found_rows c.in_ok-found.found c.in_ok-found.both _ c.in_ok-found.ensures.found
+
+pub returns-clause-limits : goal.returns-clause-limits
+returns-clause-limits g c = found_limits c.in_ok-found.found c.in_ok-found.both _ c.in_ok-found.ensures.found

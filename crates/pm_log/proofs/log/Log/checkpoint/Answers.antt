@@ -1,4 +1,4 @@
-use Rattle.std.proofs.Common.{◌≡◌, ◌∙◌, ap, List, ℕ, refl, arith, rules, length}
+use Rattle.std.proofs.Common.{◌∙◌, refl, rules, length}
 use Rattle.pm_disk.specs.Files.{other}
 use Rattle.pm_log.proofs.Checkpoints.{moved_log, checkpoint_lives, checkpoint_still, checkpoint_stops}
 use Rattle.pm_log.proofs.log.Log.checkpoint.Goals as goal

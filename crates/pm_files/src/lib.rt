@@ -1,0 +1,9 @@
+//! The commit log's two files on the file system.
+#![tactic(auto)]
+
+mod log_file;
+mod log_files;
+#[cfg(test)]
+mod tests;
+
+pub use log_files::LogFiles;

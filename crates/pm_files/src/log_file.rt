@@ -1,0 +1,120 @@
+// One file of a folder: found where it is there, made by the first write.
+use std::alloc::{AllocError, Global};
+use std::fs::{File, OpenOptions, TryLockError};
+use std::io;
+use std::os::unix::fs::{FileExt, OpenOptionsExt};
+
+/// A log file is its owner's alone, as the files of PostgreSQL's data directory are.
+const OWNER_ALONE: u32 = 0o600;
+
+/// A file that is opened by the first call that finds or makes it, and stays open then. A file that isn't there reads
+/// as empty.
+#[derive(Drop)]
+pub struct LogFile {
+    rt: HostRuntime,
+    folder: String,
+    path: String,
+    is_lock: bool,
+    handle: Option<File>,
+}
+
+impl LogFile {
+    /// The file of this name in this folder. Whoever opens a file that is a lock holds it alone, up to his end.
+    pub fn of(
+        rt: HostRuntime,
+        alloc: Global,
+        folder: &str,
+        name: &str,
+        is_lock: bool,
+    ) -> Result<LogFile, AllocError> {
+        Ok(LogFile {
+            rt,
+            folder: String::from_str(alloc, folder)?,
+            path: format!(in alloc; "{folder}/{name}")?,
+            is_lock,
+            handle: None,
+        })
+    }
+
+    /// Its length, in bytes.
+    pub fn len(&mut self) -> io::Result<u64> {
+        self.find()?;
+        match &self.handle {
+            Some(file) => Ok(file.metadata()?.len()),
+            None => Ok(0),
+        }
+    }
+
+    /// Fills the slice with the bytes from this place on. All of them must be there.
+    pub fn read(&mut self, at: u64, into: &mut [u8]) -> io::Result<()> {
+        self.find()?;
+        match &self.handle {
+            Some(file) => file.read_exact_at(into, at),
+            None if into.is_empty() => Ok(()),
+            None => Err(io::Error::from(io::ErrorKind::UnexpectedEof)),
+        }
+    }
+
+    /// Writes all of the bytes, from this place on.
+    pub fn write(&mut self, at: u64, bytes: &[u8]) -> io::Result<()> {
+        self.find()?;
+        if self.handle.is_none() {
+            let file = OpenOptions::new()
+                .read(true)
+                .write(true)
+                .create_new(true)
+                .mode(OWNER_ALONE)
+                .open(&self.rt, self.path.as_str())?;
+            self.keep(file)?;
+        }
+        match &self.handle {
+            Some(file) => file.write_all_at(bytes, at),
+            None => Err(io::Error::from(io::ErrorKind::NotFound)),
+        }
+    }
+
+    /// Makes durable what was written.
+    pub fn sync(&mut self) -> io::Result<()> {
+        self.find()?;
+        match &self.handle {
+            Some(file) => file.sync_all(),
+            None => Ok(()),
+        }
+    }
+
+    // Opens the file, where it is there and isn't open yet.
+    fn find(&mut self) -> io::Result<()> {
+        if self.handle.is_some() {
+            return Ok(());
+        }
+        let found = OpenOptions::new()
+            .read(true)
+            .write(true)
+            .open(&self.rt, self.path.as_str());
+        match found {
+            Ok(file) => self.keep(file),
+            Err(error) if error.kind() == io::ErrorKind::NotFound => Ok(()),
+            Err(error) => Err(error),
+        }
+    }
+
+    // Keeps the file open. Its folder is synced first, so that its name is as durable as its bytes: also where a
+    // program that was stopped had just made it.
+    fn keep(&mut self, file: File) -> io::Result<()> {
+        if self.is_lock {
+            lock(&file)?;
+        }
+        File::open(&self.rt, self.folder.as_str())?.sync_all()?;
+        self.handle = Some(file);
+        Ok(())
+    }
+}
+
+// Locks the file up to its closing, unless another has locked it.
+fn lock(file: &File) -> io::Result<()> {
+    match file.try_lock() {
+        Ok(()) => Ok(()),
+        Err(TryLockError::WouldBlock) => Err(io::Error::from(io::ErrorKind::WouldBlock)),
+        Err(TryLockError::Error(error)) => Err(error),
+    }
+}

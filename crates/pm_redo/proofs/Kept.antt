@@ -1,0 +1,89 @@
+-- The rows of a content can be spelled, as those of its base and its commits can, and keep the limits.
+use Rattle.std.proofs.Common.{◌≡◌, ℕ, ℤ, Bool, true, false, cond, not, List, [], ◌∷◌, length, None, refl, sym, ap, subst, ◌∙◌, arith, Less, Equal, Greater}
+use Rattle.std.specs.Prelude.{All}
+use Rattle.std.specs.List.{flat_map}
+use Rattle.std.specs.Ordering.{int_cmp, eq_by_cmp, is_eq}
+use Rattle.std.specs.Cmp.{int_cmp_total, alike_right, eq_by_cmp_equiv}
+use Rattle.std.specs.FinMap.{get, remove, entries, put, from_sorted, entries_sorted, entries-insert, entries-from_sorted, get-from_sorted, get-entries, get-remove, same_map, int_cmp-IsAntisymmetric}
+use Rattle.std.specs.FinMap.Entries.{by_order, where_key, is_sorted-where_key, find-where_key}
+use Rattle.std.proofs.lemmas.List.{take_all}
+use Rattle.std.proofs.lemmas.List.Elements.{All-nil, All-cons, All-head, All-tail, All-append, All-same, All-filter}
+use Rattle.pm_rows.specs.declared.commit.Change.{Change}
+use Rattle.pm_rows.specs.declared.commit.Change.TheVariants.{Put, Del}
+use Rattle.pm_rows.specs.Fold.{RowMap, changed, committed, folded}
+use Rattle.pm_rows.specs.Limits.{IsWithinRowLimits}
+use Rattle.pm_disk.specs.Files.{Files}
+use Rattle.pm_redo.specs.Found.{Finds}
+use Rattle.pm_record.specs.declared.found.Found.{Found}
+use Rattle.pm_record.specs.StandsFor.{Content, IsBatch, IsChange, IsCommit, IsContent, IsRow, commits_of, standing_of}
+
+-- ---- one change
+
+put_kept : (key : ℤ) (value : List ℕ) (es : List (ℤ × List ℕ)) → IsRow (key, value) → All IsRow es → All IsRow (put int_cmp key value es)
+put_kept key value [] is all = All-cons IsRow (key, value) [] is all
+put_kept key value (e ∷ es) is all =
+    let first = All-head IsRow e es all in
+    let rest = All-tail IsRow e es all in
+    elim (int_cmp key e.0) as (λ r. All IsRow (by_order r ((key, value) ∷ e ∷ es) ((e.0, value) ∷ es) (e ∷ put int_cmp key value es))) [
+      | Less ↦ All-cons IsRow (key, value) (e ∷ es) is all
+      | Equal ↦ All-cons IsRow (e.0, value) es (first.0, is.1, is.2) rest
+      | Greater ↦ All-cons IsRow e (put int_cmp key value es) first (put_kept key value es is rest)
+    ]
+
+turned : {A : Type 0} (b : Bool) (x y : A) → cond (not b) x y ≡ cond b y x
+turned true x y = refl
+turned false x y = refl
+
+-- to take a key out is to drop its entry
+entries-remove : (rows : RowMap) (key : ℤ) → entries (remove rows key) ≡ where_key int_cmp (λ other. not (eq_by_cmp int_cmp key other)) (entries rows)
+entries-remove rows key =
+    let others : ℤ → Bool = λ other. not (eq_by_cmp int_cmp key other) in
+    let rest = where_key int_cmp others (entries rows) in
+    let rise = is_sorted-where_key int_cmp others (entries rows) (entries_sorted rows) in
+    let alike : (q x : ℤ) → int_cmp q x ≡ Equal → others x ≡ others q = λ q x t. ap (λ r. not (is_eq r)) (sym (alike_right int_cmp_total q x key t)) in
+    ap entries (same_map int_cmp_total int_cmp-IsAntisymmetric (remove rows key) (from_sorted rest) (λ q.
+    get-remove int_cmp_total rows key q
+    ∙ ap (λ b. cond b None (get rows q)) ((eq_by_cmp_equiv int_cmp_total).symm q key)
+    ∙ sym (turned (eq_by_cmp int_cmp key q) (get rows q) None)
+    ∙ ap (λ o. cond (others q) o None) (get-entries rows q)
+    ∙ sym (get-from_sorted int_cmp rest q rise ∙ find-where_key int_cmp others q (alike q) (entries rows))))
+    ∙ entries-from_sorted int_cmp rest rise
+
+-- ---- commits
+
+changed_kept : (rows : RowMap) (change : Change) → IsChange change → All IsRow (entries rows) → All IsRow (entries (changed rows change))
+changed_kept rows (Put key value) is all = All-same IsRow _ _ (entries-insert int_cmp_total rows key value) (put_kept key value (entries rows) is all)
+changed_kept rows (Del key) is all = All-same IsRow _ _ (entries-remove rows key) (All-filter _ IsRow (entries rows) all)
+
+committed_kept : (rows : RowMap) (changes : List Change) → All IsChange changes → All IsRow (entries rows) → All IsRow (entries (committed rows changes))
+committed_kept rows [] is all = all
+committed_kept rows (change ∷ changes) is all =
+    committed_kept (changed rows change) changes (All-tail IsChange change changes is) (changed_kept rows change (All-head IsChange change changes is) all)
+
+folded_kept : (rows : RowMap) (commits : List (List Change)) → All IsCommit commits → All IsRow (entries rows) → All IsRow (entries (folded rows commits))
+folded_kept rows [] is all = all
+folded_kept rows (commit ∷ commits) is all =
+    folded_kept (committed rows commit) commits (All-tail IsCommit commit commits is) (committed_kept rows commit (All-head IsCommit commit commits is).changes all)
+
+all_commits : (batches : List (List (List Change))) → All IsBatch batches → All IsCommit (flat_map (λ batch. batch) batches)
+all_commits [] all = All-nil IsCommit
+all_commits (batch ∷ batches) all =
+    All-append IsCommit batch (flat_map (λ b. b) batches) (All-head IsBatch batch batches all).commits (all_commits batches (All-tail IsBatch batch batches all))
+
+-- ---- a content
+
+rows_kept : (content : Content) → IsContent content → All IsRow (entries (standing_of content).rows)
+rows_kept content is = folded_kept content.base_rows (commits_of content) (all_commits content.batches is.batches) is.rows
+
+limits_kept : (content : Content) → IsContent content → IsWithinRowLimits (standing_of content).rows
+limits_kept content is =
+    subst (λ (l : List (List Change)). IsWithinRowLimits (folded content.base_rows l)) (take_all (length (commits_of content)) (commits_of content) (omega arith))
+    (is.follows.limits (length (commits_of content)) (omega arith))
+
+-- ---- what was found
+
+pub found_rows : (found : Found) (both : Bool) (files : Files) → Finds found both files → All IsRow (entries found.rows)
+found_rows found both files finds = subst (λ (rows : RowMap). All IsRow (entries rows)) (sym finds.is.rows) (rows_kept finds.content finds.pair.stands.limits)
+
+pub found_limits : (found : Found) (both : Bool) (files : Files) → Finds found both files → IsWithinRowLimits found.rows
+found_limits found both files finds = subst IsWithinRowLimits (sym finds.is.rows) (limits_kept finds.content finds.pair.stands.limits)
