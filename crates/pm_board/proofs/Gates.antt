@@ -1,0 +1,142 @@
+-- What stays of the gate when one slot moves.
+use Rattle.std.proofs.Common.{◌≡◌, ℕ, zero, suc, ◌+◌, ◌<◌, ◌≤◌, ◌==◌, List, [], ◌∷◌, ◌++◌, get_or, set, refl, sym, ap, ◌∙◌, subst, arith, eq-eqb, get_or-set_other}
+use Rattle.std.specs.Prelude.{Bool, true, false, ◌&&◌}
+use Rattle.pm_exit.specs.declared.child.Kind.{Kind}
+use Rattle.pm_exit.specs.declared.child.Status.{Status}
+use Rattle.pm_supervisor.specs.Children.{is_session}
+use Rattle.pm_board.specs.declared.views.Offer.{Offer}
+use Rattle.pm_board.specs.declared.views.PastChild.{PastChild}
+use Rattle.pm_board.specs.declared.views.PostNotes.{PostNotes}
+use Rattle.pm_board.specs.declared.views.Work.{Work}
+use Rattle.pm_board.specs.declared.views.Work.TheVariants.{Idle, Sees, Inactive, Active, Refused, Attached}
+use Rattle.pm_board.specs.declared.views.PostView.{PostView}
+use Rattle.pm_board.specs.Words.{bit}
+use Rattle.pm_board.specs.Places.{is_auxiliary, lost}
+use Rattle.pm_board.specs.Gate.{Gate, gate_packed, sum_below, at_gate, attached, counted, staying, IsCurrent, AllUpTo, InGeneration, GateOk, first_gate}
+use Rattle.pm_board.specs.Rule.{Cell, put, at_put}
+use Rattle.pm_board.specs.Told.{MayEnd, post_view, past_child}
+
+sum_same : (n : ℕ) (f g : ℕ → ℕ) → ((j : ℕ) → j < n → g j ≡ f j) → sum_below n g ≡ sum_below n f
+sum_same zero f g h = refl
+sum_same (suc n) f g h = let a : sum_below n g ≡ sum_below n f = sum_same n f g (λ j l. h j (omega arith)) in let b : g n ≡ f n = h n (omega arith) in omega arith
+
+sum_zero : (n : ℕ) (f : ℕ → ℕ) → ((k : ℕ) → k < n → f k ≡ 0) → sum_below n f ≡ 0
+sum_zero zero f h = refl
+sum_zero (suc n) f h = let a : sum_below n f ≡ 0 = sum_zero n f (λ k l. h k (omega arith)) in let b : f n ≡ 0 = h n (omega arith) in omega arith
+
+module _ {D : Type 0} where
+  lost-append : (test : Kind → Bool) (g : ℕ) (xs : List (PastChild D)) (x : PastChild D) → lost test g (xs ++ x ∷ []) ≡ lost test g xs + bit (x.was_active && ((x.offer.generation == g) && test x.offer.kind))
+  lost-append test g [] x = omega arith
+  lost-append test g (y ∷ xs) x = let h : lost test g (xs ++ x ∷ []) ≡ lost test g xs + bit (x.was_active && ((x.offer.generation == g) && test x.offer.kind)) = lost-append test g xs x in omega arith
+
+  up_to-append : (g : ℕ) (xs : List (PastChild D)) (x : PastChild D) → AllUpTo g xs → x.offer.generation ≤ g → AllUpTo g (xs ++ x ∷ [])
+  up_to-append g [] x a l = (l, tt)
+  up_to-append g (y ∷ xs) x a l = (a.0, up_to-append g xs x a.1 l)
+
+  -- a post counts at the gate for what it did before
+  pub record SameCounts (g : ℕ) (w w' : PostView D) : Type 0 where
+    pub sessions : counted is_session g w' ≡ counted is_session g w
+    pub auxiliaries : counted is_auxiliary g w' ≡ counted is_auxiliary g w
+    pub stays : staying is_session g w' ≡ staying is_session g w
+    pub current : InGeneration g w → InGeneration g w'
+
+  pub gate_moves : (limit n k word : ℕ) (words : List ℕ) (gate : Gate) (cells : ℕ → Cell D) (c : Cell D) (w : PostView D) → k < n → (cells k).post ≡ w → SameCounts gate.generation w c.post
+      → GateOk limit n (get_or words n 0) gate (λ j. (cells j).post) → GateOk limit n (get_or (set words k word) n 0) gate (λ j. (put cells k c j).post)
+  gate_moves limit n k word words gate cells c w near is same ok =
+      let g : ℕ = gate.generation in
+      let by : (F : PostView D → ℕ) → F c.post ≡ F w → sum_below n (λ j. F (put cells k c j).post) ≡ sum_below n (λ j. F (cells j).post) =
+      (λ F e. sum_same n (λ j. F (cells j).post) (λ j. F (put cells k c j).post) (λ j _. at_put cells k c (λ q x. F x.post ≡ F (cells q).post) j (e ∙ ap F (sym is)) (λ _. refl))) in
+      let a = by (counted is_session g) same.sessions in let b = by (counted is_auxiliary g) same.auxiliaries in let s = by (staying is_session g) same.stays in
+      record {
+        shows = get_or-set_other words k n word 0 (λ e. absurd (omega arith)) ∙ (ok.shows
+            ∙ (λ i. gate_packed record { generation = g; is_open = gate.is_open; noticed = gate.noticed; sessions = sym a i; auxiliaries = sym b i }));
+        few = subst (λ (z : ℕ). z ≤ limit) (sym s) ok.few;
+        shut = λ e. s ∙ ok.shut e;
+        first = ok.first;
+        fits = ok.fits;
+        current = λ j. at_put cells k c (λ q x. InGeneration g x.post) j (same.current (subst (InGeneration g) is (ok.current k))) (λ _. ok.current j);
+      }
+
+  abbrev pub away : Work D → Bool
+  away Idle = true
+  away (Sees word) = true
+  away (Inactive o) = true
+  away (Active o) = true
+  away (Refused o h) = false
+  away (Attached o h) = false
+
+  none : (test : Kind → Bool) (v : Work D) → away v ≡ true → at_gate test v ≡ 0
+  none test Idle e = refl
+  none test (Sees word) e = refl
+  none test (Inactive o) e = refl
+  none test (Active o) e = refl
+  none test (Refused o h) e = absurd (cc)
+  none test (Attached o h) e = absurd (cc)
+
+  gone : (test : Kind → Bool) (v : Work D) → away v ≡ true → attached test v ≡ 0
+  gone test Idle e = refl
+  gone test (Sees word) e = refl
+  gone test (Inactive o) e = refl
+  gone test (Active o) e = refl
+  gone test (Refused o h) e = refl
+  gone test (Attached o h) e = absurd (cc)
+
+  free : (g : ℕ) (v : Work D) → away v ≡ true → IsCurrent g v
+  free g Idle e = tt
+  free g (Sees word) e = tt
+  free g (Inactive o) e = tt
+  free g (Active o) e = tt
+  free g (Refused o h) e = absurd (cc)
+  free g (Attached o h) e = absurd (cc)
+
+  -- a step that no gate counts
+  pub uncounted : (g : ℕ) (w : PostView D) → SameCounts g w w
+  uncounted g w = record { sessions = refl; auxiliaries = refl; stays = refl; current = λ z. z }
+
+  -- nor one in which a worker that isn't at the gate stays away from it
+  pub uncounted_by : (g : ℕ) (notes notes' : PostNotes) (past : List (PastChild D)) (v v' : Work D) → away v ≡ true → away v' ≡ true → SameCounts g (post_view notes past v) (post_view notes' past v')
+  uncounted_by g notes notes' past v v' e e' = record {
+    sessions = ap (λ (z : ℕ). z + lost is_session g past) (none is_session v' e' ∙ sym (none is_session v e));
+    auxiliaries = ap (λ (z : ℕ). z + lost is_auxiliary g past) (none is_auxiliary v' e' ∙ sym (none is_auxiliary v e));
+    stays = ap (λ (z : ℕ). z + lost is_session g past) (gone is_session v' e' ∙ sym (gone is_session v e));
+    current = λ z. record { now = free g v' e'; before = z.before };
+  }
+
+  -- a child ends, as it stood at the gate
+  ends_as : (test : Kind → Bool) (g : ℕ) (w : Work D) (o : Offer D) (a : Bool) → MayEnd w o a → o.generation ≡ g → (at_gate test w ≡ bit (a && ((o.generation == g) && test o.kind))) × (attached test w ≡ bit (a && ((o.generation == g) && test o.kind)))
+  ends_as test g Idle o a may now = absurd may
+  ends_as test g (Sees word) o a may now = absurd may
+  ends_as test g (Active p) o a may now = absurd may
+  ends_as test g (Refused p h) o a may now = absurd may
+  ends_as test g (Inactive p) o a may now = let e = ap (λ (z : Bool). bit (z && ((o.generation == g) && test o.kind))) (sym may.1) in (e, e)
+  ends_as test g (Attached p h) o a may now =
+      let e : bit (test p.kind) ≡ bit (a && ((o.generation == g) && test o.kind)) =
+      ap (λ (z : Offer D). bit (test z.kind)) may.0 ∙ (ap (λ (z : Bool). bit (z && test o.kind)) (sym (eq-eqb o.generation g now)) ∙ ap (λ (z : Bool). bit (z && ((o.generation == g) && test o.kind))) (sym may.1)) in (e, e)
+
+  pub ended_counts : (g : ℕ) (notes notes' : PostNotes) (past : List (PastChild D)) (w : Work D) (o : Offer D) (status : Status) (a : Bool) (back : D) → MayEnd w o a → o.generation ≡ g
+      → SameCounts g (post_view notes past w) (post_view notes' (past ++ past_child o status a back ∷ []) Idle)
+  ended_counts g notes notes' past w o status a back may now =
+      let x : PastChild D = past_child o status a back in let ys : List (PastChild D) = past ++ x ∷ [] in
+      let count : (test : Kind → Bool) → lost test g ys ≡ at_gate test w + lost test g past = (λ test.
+      let h : lost test g ys ≡ lost test g past + bit (a && ((o.generation == g) && test o.kind)) = lost-append test g past x in
+      let e : at_gate test w ≡ bit (a && ((o.generation == g) && test o.kind)) = (ends_as test g w o a may now).0 in omega arith) in
+      record {
+        sessions = (let h : lost is_session g ys ≡ at_gate is_session w + lost is_session g past = count is_session in omega arith);
+        auxiliaries = (let h : lost is_auxiliary g ys ≡ at_gate is_auxiliary w + lost is_auxiliary g past = count is_auxiliary in omega arith);
+        stays = (let h : lost is_session g ys ≡ lost is_session g past + bit (a && ((o.generation == g) && is_session o.kind)) = lost-append is_session g past x in
+            let e : attached is_session w ≡ bit (a && ((o.generation == g) && is_session o.kind)) = (ends_as is_session g w o a may now).1 in omega arith);
+        current = λ z. record { now = tt; before = up_to-append g past x z.before (let e : o.generation ≡ g = now in omega arith) };
+      }
+
+  pub first_gate_ok : (limit n word : ℕ) (posts : ℕ → PostView D) → word ≡ 134217728 → ((k : ℕ) → posts k ≡ post_view (posts k).notes [] Idle) → GateOk limit n word first_gate posts
+  first_gate_ok limit n word posts is new =
+      let none : (F : PostView D → ℕ) → ((notes : PostNotes) → F (post_view notes [] Idle) ≡ 0) → sum_below n (λ k. F (posts k)) ≡ 0 = (λ F z. sum_zero n (λ k. F (posts k)) (λ k _. ap F (new k) ∙ z (posts k).notes)) in
+      let a = none (counted is_session 1) (λ _. refl) in let b = none (counted is_auxiliary 1) (λ _. refl) in let s = none (staying is_session 1) (λ _. refl) in
+      record {
+        shows = is ∙ (λ i. gate_packed record { generation = 1; is_open = false; noticed = first_gate.noticed; sessions = sym a i; auxiliaries = sym b i });
+        few = subst (λ (z : ℕ). z ≤ limit) (sym s) (omega arith);
+        shut = λ _. s;
+        first = omega arith;
+        fits = omega arith;
+        current = λ k. subst (InGeneration 1) (sym (new k)) record { now = tt; before = tt };
+      }

@@ -1,0 +1,113 @@
+-- What stays of the rule when one slot and one seat move.
+use Rattle.std.proofs.Common.{◌≡◌, ◌≢◌, ℕ, ◌+◌, ◌<◌, ◌≤◌, List, [], length, get_or, set, sym, refl, ap, ◌∙◌, subst, ⊎_elim, arith, length-set, get_or-set_other, get_or-set_same}
+use mathlib.Core.Option.{some, some-ne-none, some-injective}
+use mathlib.Core.Option as maybe
+use lib.ListN.{get_elem?}
+use Rattle.std.specs.Prelude.{Option}
+use Rattle.atomic_table.specs.Table.{State}
+use Rattle.atomic_table.proofs.Lists.{at_set}
+use Rattle.pm_board.specs.declared.views.Sight.TheVariants.{Unused}
+use Rattle.pm_board.specs.declared.views.SlotView.{SlotView}
+use Rattle.pm_board.specs.declared.views.RosterNotes.{RosterNotes}
+use Rattle.pm_board.specs.declared.views.RosterView.{RosterView}
+use Rattle.pm_board.specs.declared.views.PostView.{PostView}
+use Rattle.pm_board.specs.declared.views.View.{View}
+use Rattle.pm_board.specs.declared.views.View.TheVariants.{Postmaster, Worker, Spent}
+use Rattle.pm_board.specs.Places.{slot_view, slot_at}
+use Rattle.pm_board.specs.Rule.{put, at_put, Phase, PidsOk, Cell, SlotOk, OfChild, IsPlaced, Agrees, Holds, idle_post}
+use Rattle.pm_board.specs.Told.{with_slot}
+
+get_or-set_at : (l : List ℕ) (i j a : ℕ) → j ≡ i → i < length l → get_or (set l i a) j 0 ≡ a
+get_or-set_at l i j a e h = ap (λ (k : ℕ). get_or (set l i a) k 0) e ∙ get_or-set_same l i a 0 h
+
+module _ {J D : Type 0} (told : J → D) where
+  abbrev pub St : Type 0
+  St = State (Option J) (View D)
+
+  abbrev pub Homes : Type 0
+  Homes = List (maybe.Option (Option J))
+
+  abbrev pub moved_to : St → ℕ → ℕ → Homes → ℕ → View D → St
+  moved_to s i word homes id v = record { words = set s.words i word; homes = homes; views = set s.views id v }
+
+  -- the rule, with what the supervisor's seat shows
+  pub rebased : (s : St) (m id : ℕ) (d e : RosterView D) (cells : ℕ → Cell D) → Holds told m e cells s → get_elem? s.views id ≡ some (Postmaster d) → Holds told id d cells s
+  rebased s m id d e cells h at = let is = h.each_seat id (Postmaster d) at in subst (λ (z : ℕ × RosterView D). Holds told z.0 z.1 cells s) (λ i. (sym is.0 i, sym is.1 i)) h
+
+  module _ (s : St) (id k i : ℕ) (word : ℕ) (homes : Homes) (near : k < length s.homes) (here : i ≡ k) (as_long : length homes ≡ length s.homes) (apart : (j : ℕ) → j ≢ k → get_elem? homes j ≡ get_elem? s.homes j) where
+    -- the slots after a step on the slot k
+    slots_move : (cells : ℕ → Cell D) (x x' : ℕ → SlotView D) (c' : Cell D)
+        → ((j : ℕ) → j ≢ k → x' j ≡ x j) → SlotOk told (get_or (set s.words i word) k 0) (get_elem? homes k) (x' k) c'
+        → ((j : ℕ) → j < length s.homes → SlotOk told (get_or s.words j 0) (get_elem? s.homes j) (x j) (cells j))
+        → (j : ℕ) → j < length homes → SlotOk told (get_or (set s.words i word) j 0) (get_elem? homes j) (x' j) (put cells k c' j)
+    slots_move cells x x' c' others ok each j l =
+        at_put cells k c' (λ q c. q < length homes → SlotOk told (get_or (set s.words i word) q 0) (get_elem? homes q) (x' q) c) j
+        (λ _. ok)
+        (λ other l'. subst (λ (z : ℕ × maybe.Option (maybe.Option (Option J)) × SlotView D). SlotOk told z.0 z.1 z.2 (cells j))
+        (λ u. (sym (get_or-set_other s.words i j word 0 (λ e. other (e ∙ here))) u, sym (apart j other) u, sym (others j other) u))
+        (each j (omega arith)))
+        l
+
+    children_move : (d : RosterView D) (cells : ℕ → Cell D) (c' : Cell D) → OfChild (IsPlaced (length s.homes) d.generation k) c'.phase
+        → ((j : ℕ) → j < length s.homes → OfChild (IsPlaced (length s.homes) d.generation j) (cells j).phase)
+        → (j : ℕ) → j < length homes → OfChild (IsPlaced (length homes) d.generation j) (put cells k c' j).phase
+    children_move d cells c' new each j l = subst (λ (n : ℕ). OfChild (IsPlaced n d.generation j) (put cells k c' j).phase) (sym as_long)
+        (at_put cells k c' (λ q c. q < length s.homes → OfChild (IsPlaced (length s.homes) d.generation q) c.phase) j (λ _. new) (λ _ l'. each j l') (omega arith))
+
+    -- the supervisor's step on a slot
+    pub master_step : (d : RosterView D) (cells : ℕ → Cell D) → Holds told id d cells s → (x' : SlotView D) (ph : Phase D) (notes : RosterNotes)
+        → SlotOk told word (get_elem? homes k) x' record { phase = ph; seat = (cells k).seat; post = (cells k).post }
+        → OfChild (IsPlaced (length s.homes) d.generation k) ph → PidsOk (with_slot d k x' notes)
+        → Holds told id (with_slot d k x' notes) (put cells k record { phase = ph; seat = (cells k).seat; post = (cells k).post }) (moved_to s i word homes id (Postmaster (with_slot d k x' notes)))
+    master_step d cells h x' ph notes ok placed pids =
+        let many : length d.slots ≡ length s.homes = h.many in let wide : length s.words ≡ length s.homes + 1 = h.wide in
+        let c' : Cell D = record { phase = ph; seat = (cells k).seat; post = (cells k).post } in let d' : RosterView D = with_slot d k x' notes in let cells' : ℕ → Cell D = put cells k c' in
+        let ok' = subst (λ (z : ℕ). SlotOk told z (get_elem? homes k) x' c') (sym (get_or-set_at s.words i k word (sym here) (omega arith))) ok in
+        record {
+          wide = length-set s.words i word ∙ (h.wide ∙ ap (λ (n : ℕ). n + 1) (sym as_long));
+          many = length-set d.slots k x' ∙ (h.many ∙ sym as_long);
+          pids = pids;
+          some_posts = subst (λ (n : ℕ). d.dealt ≤ n) (sym as_long) h.some_posts;
+          new_posts = λ j le. at_put cells k c' (λ q c. d.dealt ≤ q → c.post ≡ idle_post d.session_limit) j (λ le'. h.new_posts k le') (λ _ le'. h.new_posts j le') le;
+          each_slot = slots_move cells (slot_at d) (slot_at d') c' (λ j other. get_or-set_other d.slots k j x' (slot_view [] Unused) (λ e. other e))
+              (subst (λ (y : SlotView D). SlotOk told (get_or (set s.words i word) k 0) (get_elem? homes k) y c') (sym (get_or-set_same d.slots k x' (slot_view [] Unused) (omega arith))) ok') h.each_slot;
+          each_child = children_move d cells c' placed h.each_child;
+          each_seat = λ j v e. ⊎_elim (λ (t : (j ≡ id) × (Postmaster d' ≡ v)). subst (λ (z : ℕ × View D). Agrees id d' cells' z.0 z.1) (λ i. (sym t.0 i, t.1 i)) (refl, refl))
+              (λ (t : (j ≢ id) × (get_elem? s.views j ≡ some v)). others j v t.0 (h.each_seat j v t.1)) (at_set s.views id j (Postmaster d') v e);
+        }
+      where
+        others : (j : ℕ) (v : View D) → j ≢ id → Agrees id d cells j v → Agrees id (with_slot d k x' notes) (put cells k record { phase = ph; seat = (cells k).seat; post = (cells k).post }) j v
+        others j (Postmaster e) other f = absurd (other f.0)
+        others j (Worker i w) other f = at_put cells k record { phase = ph; seat = (cells k).seat; post = (cells k).post } (λ q c. (q ≡ i) → (c.seat ≡ j) × (c.post ≡ w) × (i < d.dealt)) i
+            (λ is. subst (λ (q : ℕ). ((cells q).seat ≡ j) × ((cells q).post ≡ w) × (i < d.dealt)) (sym is) f) (λ _ _. f) refl
+        others j Spent other f = tt
+
+    -- a worker's step on its own slot
+    pub worker_step : (m : ℕ) (d : RosterView D) (cells : ℕ → Cell D) → Holds told m d cells s → (w w' : PostView D) (ph : Phase D) → get_elem? s.views id ≡ some (Worker k w)
+        → SlotOk told word (get_elem? homes k) (slot_at d k) record { phase = ph; seat = id; post = w' }
+        → OfChild (IsPlaced (length s.homes) d.generation k) ph
+        → Holds told m d (put cells k record { phase = ph; seat = id; post = w' }) (moved_to s i word homes id (Worker k w'))
+    worker_step m d cells h w w' ph mine ok placed =
+        let f = h.each_seat id (Worker k w) mine in let dealt : k < d.dealt = f.2 in let wide : length s.words ≡ length s.homes + 1 = h.wide in
+        let c' : Cell D = record { phase = ph; seat = id; post = w' } in let cells' : ℕ → Cell D = put cells k c' in
+        record {
+          wide = length-set s.words i word ∙ (h.wide ∙ ap (λ (n : ℕ). n + 1) (sym as_long));
+          many = h.many ∙ sym as_long;
+          pids = h.pids;
+          some_posts = subst (λ (n : ℕ). d.dealt ≤ n) (sym as_long) h.some_posts;
+          new_posts = λ j le. at_put cells k c' (λ q c. d.dealt ≤ q → c.post ≡ idle_post d.session_limit) j (λ le'. absurd (omega arith)) (λ _ le'. h.new_posts j le') le;
+          each_slot = slots_move cells (slot_at d) (slot_at d) c' (λ _ _. refl)
+              (subst (λ (z : ℕ). SlotOk told z (get_elem? homes k) (slot_at d k) c') (sym (get_or-set_at s.words i k word (sym here) (omega arith))) ok) h.each_slot;
+          each_child = children_move d cells c' placed h.each_child;
+          each_seat = λ j v e. ⊎_elim (λ (t : (j ≡ id) × (Worker k w' ≡ v)). subst (λ (z : ℕ × View D). Agrees m d cells' z.0 z.1) (λ i. (sym t.0 i, t.1 i)) (own f))
+              (λ (t : (j ≢ id) × (get_elem? s.views j ≡ some v)). others f.0 j v t.0 (h.each_seat j v t.1)) (at_set s.views id j (Worker k w') v e);
+        }
+      where
+        own : Agrees m d cells id (Worker k w) → Agrees m d (put cells k record { phase = ph; seat = id; post = w' }) id (Worker k w')
+        own f = at_put cells k record { phase = ph; seat = id; post = w' } (λ q c. q ≡ k → (c.seat ≡ id) × (c.post ≡ w') × (k < d.dealt)) k (λ _. (refl, refl, f.2)) (λ n is. absurd (n is)) refl
+
+        others : (cells k).seat ≡ id → (j : ℕ) (v : View D) → j ≢ id → Agrees m d cells j v → Agrees m d (put cells k record { phase = ph; seat = id; post = w' }) j v
+        others is j (Postmaster e) other f = f
+        others is j (Worker i u) other f = at_put cells k record { phase = ph; seat = id; post = w' } (λ q c. (q ≡ i) → (c.seat ≡ j) × (c.post ≡ u) × (i < d.dealt)) i
+            (λ at_k. absurd (other (sym f.0 ∙ (ap (λ (q : ℕ). (cells q).seat) (sym at_k) ∙ is)))) (λ _ _. f) refl
+        others is j Spent other f = tt

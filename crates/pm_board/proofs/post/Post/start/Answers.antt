@@ -1,0 +1,53 @@
+use Rattle.std.proofs.Common.{ℕ, arith, sym, ap, ◌∙◌, subst}
+use Rattle.std.specs.Prelude.{false}
+use Rattle.pm_exit.specs.declared.child.Status.TheVariants.{Code}
+use Rattle.pm_board.specs.declared.views.Work.TheVariants.{Inactive}
+use Rattle.pm_board.specs.Told.{post_of, post_view, noted_start, noted_load}
+use Rattle.pm_board.specs.Models.{HoldsMail}
+use Rattle.pm_board.proofs.Steps as steps
+use Rattle.pm_board.proofs.post.Post.start.Goals as goal
+
+pub load-found-requires : goal.load-found-requires
+load-found-requires g c =
+    let inv = c.self.invariant in
+    let t = ap (λ b. b.shared.table_id) c.deref.ensures ∙ inv.0 in
+    let idle = ap (λ v. v.knows.work) c.self.view_is ∙ c.requires in
+    let has = subst (λ w. HoldsMail c.self.inside.index w c.self.inside.seat.me.1) idle inv.4 in
+    (sym t, steps.in_words _ _ _ inv.3 inv.2 t, steps.loads_as g.J.Letter.told _ _ _ _ _ _ _ (steps.doing_at c.self.inside.index c.self.inside.seat.me _ _ inv.1 idle has))
+
+pub fetch_add-requires : goal.fetch_add-requires
+fetch_add-requires g c =
+    let inv = c.self.invariant in
+    let t = ap (λ b. b.shared.table_id) c.deref-2.ensures ∙ inv.0 in
+    let saw = c.load-found.ensures.2.0 (sym c.stage-found_stage.ensures ∙ c.if-found_stage-ne-OFFERED.false) in
+    (c.load-found.ensures.0 ∙ sym t, steps.in_words _ _ _ inv.3 inv.2 t, steps.starts_as g.J.Letter.told _ _ _ _ _ _ _ _ saw)
+
+pub exchange-mail-requires : goal.exchange-mail-requires
+exchange-mail-requires g c =
+    let inv = c.self.invariant in
+    let t = ap (λ b. b.shared.table_id) c.deref-3.ensures ∙ inv.0 in
+    let saw = c.load-found.ensures.2.0 (sym c.stage-found_stage.ensures ∙ c.if-found_stage-ne-OFFERED.false) in
+    let got = c.fetch_add.ensures.2 _ (ap (λ m. (post_of m.0).work) saw) in
+    (c.fetch_add.ensures.0 ∙ c.load-found.ensures.0 ∙ sym t, steps.holds_one _ _ _ _ got.5)
+
+pub returns-clause-met : goal.returns-clause-met
+returns-clause-met g c =
+    let saw = c.load-found.ensures.2.0 (sym c.stage-found_stage.ensures ∙ c.if-found_stage-ne-OFFERED.false) in
+    let got = c.fetch_add.ensures.2 _ (ap (λ m. (post_of m.0).work) saw) in
+    let o = got.0 in
+    let word : ℕ = c.load-found.result in
+    let read = steps.reads word 1 o (Code 0) false got.2 (omega arith) got.3 (omega arith) in
+    let out = steps.came_out _ _ _ _ _ got.5 c.exchange-mail.ensures.2 ∙ c.unwrap-job.ensures in
+    let is = steps.exchanged _ _ _ _ _ _ got.5 c.exchange-mail.ensures.3 in (
+      word,
+      (
+        o,
+        got.2,
+        sym read.0 ∙ sym c.pid-pid.ensures,
+        sym read.1 ∙ sym c.kind-kind.ensures,
+        sym got.4 ∙ ap g.J.Letter.told (steps.some_is _ _ out),
+        ap (λ m. post_of m.0) is
+            ∙ ap (λ m. post_view (noted_start (post_of m.0).notes) (post_of m.0).past (Inactive o)) saw
+            ∙ ap (λ v. post_view (noted_start (noted_load v.knows.notes word)) v.knows.past (Inactive o)) c.self.view_is,
+      ),
+    )

@@ -1,0 +1,72 @@
+use Rattle.std.proofs.Common.{ℕ, ◌+◌, ◌<◌, ◌≤◌, ◌∷◌, length, arith, refl, sym, ap, ◌∙◌, subst, length-set}
+use Rattle.std.specs.Prelude.{Some}
+use Rattle.atomic_table.specs.Table.{rest}
+use Rattle.pm_board.specs.declared.views.Offer.{Offer}
+use Rattle.pm_board.specs.declared.views.Sight.TheVariants.{Opened}
+use Rattle.pm_board.specs.declared.views.RosterView.{RosterView}
+use Rattle.pm_board.specs.Places.{slot_view, slot_at, SlotServes, used_in}
+use Rattle.pm_board.specs.Told.{roster_of, with_slot, with_sight, assigned_slot, noted_assign}
+use Rattle.pm_board.proofs.Steps as steps
+use Rattle.pm_board.proofs.roster.Roster.assign.Goals as goal
+
+pub load-requires : goal.load-requires
+load-requires g c =
+    let inv = c.self.invariant in
+    let e = ap (λ v. v.knows) c.self.view_is in
+    let t = ap (λ b. b.shared.table_id) c.deref.ensures ∙ inv.0 in
+    let near = steps.in_table _ _ _ _ _ e inv.3 inv.2 t c.requires.slot in
+    (sym t, near.0, steps.opens_as g.J.Letter.told _ _ _ _ _ _ inv.1 near.1 (ap (λ z. (slot_at z c.args.slot).sight) e ∙ c.requires.unused))
+
+pub store-requires : goal.store-requires
+store-requires g c =
+    let inv = c.self.invariant in
+    let e = ap (λ v. v.knows) c.self.view_is in
+    let t = ap (λ b. b.shared.table_id) c.deref-3.ensures ∙ inv.0 in
+    let near = steps.in_table _ _ _ _ _ e inv.3 inv.2 t c.requires.slot in
+    let d : RosterView g.row.J-Told.Denot = roster_of c.self.inside.seat.me.0 in
+    let k : ℕ = c.args.slot in
+    let now = c.load.ensures.2 in
+    let short : k < length d.slots = subst (λ z. k < length z.slots) (sym e) c.requires.slot in
+    let count = ap (λ (z : RosterView g.row.J-Told.Denot). length z.slots) (sym e) ∙ inv.3 ∙ ap (λ z. z.slots) (sym t) in
+    let o : Offer g.row.J-Told.Denot = record { pid = c.args.pid; kind = c.args.kind; generation = d.generation; given = g.J.Letter.told c.args.job } in (
+      c.exchange.ensures.0 ∙ c.load.ensures.0 ∙ sym t,
+      near.0,
+      steps.assigns_as g.J.Letter.told _ _ _ k _ o _ (with_sight d k Opened) c.args.job (c.exchange.ensures.3 ∙ (λ i. ((now i).0, (k, Some c.args.job) ∷ rest (now i).1))) c.offered-word.ensures near.1
+          (ap (λ x. x.sight) (steps.slot_set d k (slot_view (slot_at d k).past Opened) d.notes short)) (subst (λ z. z.notes.last_pid < c.args.pid) (sym e) c.requires.new) c.requires.fits
+          (subst (λ (z : ℕ). SlotServes z k c.args.kind) count c.requires.serves) refl refl,
+    )
+
+pub overflow_add-self : goal.overflow_add-self
+overflow_add-self g c =
+    let inv = c.self.invariant in
+    let d : RosterView g.row.J-Told.Denot = roster_of c.self.inside.seat.me.0 in
+    let a : used_in d.slots ≤ length d.slots = steps.used_few d.slots in
+    let b : c.self.inside.used ≤ 407 = subst (λ (z : ℕ). z ≤ 407) (sym inv.5) (let l : length d.slots ≤ 407 = subst (λ (z : ℕ). z ≤ 407) (sym inv.3) inv.4 in omega arith) in
+    omega arith
+
+pub invariant_of-self : goal.invariant_of-self
+invariant_of-self g c =
+    let inv = c.self.invariant in
+    let e = ap (λ v. v.knows) c.self.view_is in
+    let d : RosterView g.row.J-Told.Denot = roster_of c.self.inside.seat.me.0 in
+    let k : ℕ = c.args.slot in
+    let now = c.load.ensures.2 in
+    let short : k < length d.slots = subst (λ z. k < length z.slots) (sym e) c.requires.slot in
+    let o : Offer g.row.J-Told.Denot = record { pid = c.args.pid; kind = c.args.kind; generation = d.generation; given = g.J.Letter.told c.args.job } in
+    let end = steps.assigned_as g.J.Letter.told 0 k _ o _ _ d c.args.job (c.exchange.ensures.3 ∙ (λ i. ((now i).0, (k, Some c.args.job) ∷ rest (now i).1))) c.offered-word.ensures short refl refl c.store.ensures.2 in
+    let unused = ap (λ z. (slot_at z k).sight) e ∙ c.requires.unused in
+    steps.sealed _ _ _ _ _ _ inv.0 (c.store.ensures.0 ∙ c.exchange.ensures.0 ∙ c.load.ensures.0) inv.2 inv.4 end (length-set d.slots k _ ∙ inv.3)
+    (ap (λ (z : ℕ). z + 1) inv.5 ∙ sym (steps.used_more d k (assigned_slot (slot_at d k) o) (noted_assign d.notes o) _ short unused refl refl))
+
+pub returns-clause-slot : goal.returns-clause-slot
+returns-clause-slot g c =
+    let inv = c.self.invariant in
+    let e = ap (λ v. v.knows) c.self.view_is in
+    let d : RosterView g.row.J-Told.Denot = roster_of c.self.inside.seat.me.0 in
+    let k : ℕ = c.args.slot in
+    let now = c.load.ensures.2 in
+    let short : k < length d.slots = subst (λ z. k < length z.slots) (sym e) c.requires.slot in
+    let offer : RosterView g.row.J-Told.Denot → Offer g.row.J-Told.Denot = λ z. record { pid = c.args.pid; kind = c.args.kind; generation = z.generation; given = g.J.Letter.told c.args.job } in
+    let end = steps.assigned_as g.J.Letter.told 0 k _ (offer d) _ _ d c.args.job (c.exchange.ensures.3 ∙ (λ i. ((now i).0, (k, Some c.args.job) ∷ rest (now i).1))) c.offered-word.ensures short refl refl c.store.ensures.2 in
+    let is = ap (λ m. roster_of m.0) end ∙ ap (λ (z : RosterView g.row.J-Told.Denot). with_slot z k (assigned_slot (slot_at z k) (offer z)) (noted_assign z.notes (offer z))) e in
+    (offer c.args.self.now.knows, refl, steps.became _ _ k _ _ c.requires.slot is)

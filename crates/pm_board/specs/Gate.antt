@@ -1,0 +1,126 @@
+-- The gate: what its word tells, and which children it counts.
+use Rattle.std.specs.Prelude.{◌≡◌, ℕ, zero, suc, ◌+◌, ◌*◌, ◌<◌, ◌≤◌, Bool, true, false, List, [], ◌∷◌, Option, Some, None}
+use Rattle.pm_exit.specs.declared.child.Kind.{Kind}
+use Rattle.pm_supervisor.specs.declared.Reason.{Reason}
+use Rattle.pm_supervisor.specs.declared.Reason.TheVariants as reason
+use Rattle.pm_supervisor.specs.Children.{is_session}
+use Rattle.pm_board.specs.declared.views.PastChild.{PastChild}
+use Rattle.pm_board.specs.declared.views.RosterStep.{RosterStep}
+use Rattle.pm_board.specs.declared.views.RosterStep.TheVariants.{Assign, Release, Quit, Ready, Reset, Send}
+use Rattle.pm_board.specs.declared.views.RosterView.{RosterView}
+use Rattle.pm_board.specs.declared.views.Work.{Work}
+use Rattle.pm_board.specs.declared.views.Work.TheVariants.{Idle, Sees, Inactive, Active, Refused, Attached}
+use Rattle.pm_board.specs.declared.views.PostView.{PostView}
+use Rattle.pm_board.specs.Words.{bit}
+use Rattle.pm_board.specs.Places.{is_auxiliary, lost}
+
+-- what the supervisor has made of the gate
+pub record Gate : Type 0 where
+  pub generation : ℕ
+  pub is_open : Bool
+  pub noticed : Option Reason
+
+abbrev pub first_gate : Gate
+first_gate = record { generation = 1; is_open = false; noticed = None }
+
+abbrev pub gate_of : {D : Type 0} → RosterView D → Gate
+gate_of d = record { generation = d.generation; is_open = d.is_open; noticed = d.noticed }
+
+-- the gate after a step of the supervisor, and after all of them
+abbrev pub gate_after : Gate → RosterStep → Gate
+gate_after gate (Quit reason generation) = record gate { noticed = Some reason }
+gate_after gate (Ready generation) = record gate { is_open = true; noticed = None }
+gate_after gate (Reset generation) = record { generation = generation; is_open = false; noticed = None }
+gate_after gate (Assign pid kind generation) = gate
+gate_after gate (Release pid kind generation) = gate
+gate_after gate (Send pid kind signal generation) = gate
+
+abbrev pub gate_of_steps : Gate → List RosterStep → Gate
+gate_of_steps gate [] = gate
+gate_of_steps gate (s ∷ ss) = gate_of_steps (gate_after gate s) ss
+
+-- quit in bit 0, and its reason in bit 1
+abbrev pub notice_bits : Option Reason → ℕ
+notice_bits None = 0
+notice_bits (Some reason.Crash) = 1
+notice_bits (Some reason.Stop) = 3
+
+pub record GateWord : Type 0 where
+  pub generation : ℕ
+  pub is_open : Bool
+  pub noticed : Option Reason
+  -- so many sessions, and so many auxiliary children
+  pub sessions : ℕ
+  pub auxiliaries : ℕ
+
+-- sessions in bits 0 to 11, auxiliary children in 12 to 23, open in 24, notice in 25 and 26, generation in 27 to 58
+abbrev pub gate_packed : GateWord → ℕ
+gate_packed w = w.sessions + (4096 * w.auxiliaries + (16777216 * bit w.is_open + (33554432 * notice_bits w.noticed + 134217728 * w.generation)))
+
+-- the sum of f at the numbers below n
+abbrev pub sum_below : ℕ → (ℕ → ℕ) → ℕ
+sum_below zero f = 0
+sum_below (suc n) f = sum_below n f + f n
+
+module _ {D : Type 0} where
+  -- a child of such a kind stands at the gate: it was refused and hasn't backed out yet, or is attached
+  abbrev pub at_gate : (Kind → Bool) → Work D → ℕ
+  at_gate test (Refused o g) = bit (test o.kind)
+  at_gate test (Attached o g) = bit (test o.kind)
+  at_gate test Idle = 0
+  at_gate test (Sees word) = 0
+  at_gate test (Inactive o) = 0
+  at_gate test (Active o) = 0
+
+  abbrev pub attached : (Kind → Bool) → Work D → ℕ
+  attached test (Attached o g) = bit (test o.kind)
+  attached test Idle = 0
+  attached test (Sees word) = 0
+  attached test (Inactive o) = 0
+  attached test (Active o) = 0
+  attached test (Refused o g) = 0
+
+  -- what a worker has at the gate: its child, and those that exited attached in this generation
+  abbrev pub counted : (Kind → Bool) → ℕ → PostView D → ℕ
+  counted test g w = at_gate test w.work + lost test g w.past
+
+  abbrev pub staying : (Kind → Bool) → ℕ → PostView D → ℕ
+  staying test g w = attached test w.work + lost test g w.past
+
+  -- a child at the gate stands there in its own, present generation
+  abbrev pub IsCurrent : ℕ → Work D → Type 0
+  IsCurrent g (Refused o h) = h ≡ g
+  IsCurrent g (Attached o h) = h ≡ g
+  IsCurrent g Idle = Unit {0}
+  IsCurrent g (Sees word) = Unit {0}
+  IsCurrent g (Inactive o) = Unit {0}
+  IsCurrent g (Active o) = Unit {0}
+
+  -- no child is of a later generation
+  abbrev pub AllUpTo : ℕ → List (PastChild D) → Type 0
+  AllUpTo g [] = Unit {0}
+  AllUpTo g (x ∷ xs) = (x.offer.generation ≤ g) × AllUpTo g xs
+
+  pub record InGeneration (g : ℕ) (w : PostView D) : Type 0 where
+    pub now : IsCurrent g w.work
+    pub before : AllUpTo g w.past
+
+  abbrev pub gate_word : ℕ → Gate → (ℕ → PostView D) → ℕ
+  gate_word n gate posts =
+      gate_packed record {
+        generation = gate.generation;
+        is_open = gate.is_open;
+        noticed = gate.noticed;
+        sessions = sum_below n (λ k. counted is_session gate.generation (posts k));
+        auxiliaries = sum_below n (λ k. counted is_auxiliary gate.generation (posts k));
+      }
+
+  -- The gate's word shows what the supervisor has made of it and counts the children of n slots. No more sessions stay than
+  -- the limit, and none before the generation is open. All of them are of the present generation.
+  pub record GateOk (limit n word : ℕ) (gate : Gate) (posts : ℕ → PostView D) : Type 0 where
+    pub shows : word ≡ gate_word n gate posts
+    pub few : sum_below n (λ k. staying is_session gate.generation (posts k)) ≤ limit
+    pub shut : gate.is_open ≡ false → sum_below n (λ k. staying is_session gate.generation (posts k)) ≡ 0
+    pub first : 0 < gate.generation
+    pub fits : gate.generation < 4294967296
+    pub current : (k : ℕ) → InGeneration gate.generation (posts k)

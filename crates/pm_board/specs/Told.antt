@@ -1,0 +1,209 @@
+-- What each step tells the seat that makes it.
+use Rattle.std.specs.Prelude.{◌≡◌, ◌≢◌, ℕ, ◌+◌, ◌<◌, Bool, true, false, if◌then◌else◌, List, [], ◌∷◌, ◌++◌, Option, Some, None, slice_set, replicate}
+use Rattle.atomic_table.specs.Table.{Me, Step}
+use Rattle.pm_exit.specs.declared.child.Status.{Status}
+use Rattle.pm_board.specs.declared.views.Offer.{Offer}
+use Rattle.pm_board.specs.declared.views.PastChild.{PastChild}
+use Rattle.pm_board.specs.declared.views.PostNotes.{PostNotes}
+use Rattle.pm_board.specs.declared.views.RosterNotes.{RosterNotes}
+use Rattle.pm_board.specs.declared.views.RosterStep.TheVariants.{Assign, Release}
+use Rattle.pm_board.specs.declared.views.Sight.{Sight}
+use Rattle.pm_board.specs.declared.views.Sight.TheVariants.{Unused, Opened, Assigned, Exited, Collected, Gathered}
+use Rattle.pm_board.specs.declared.views.SlotView.{SlotView}
+use Rattle.pm_board.specs.declared.views.RosterView.{RosterView}
+use Rattle.pm_board.specs.declared.views.Work.{Work}
+use Rattle.pm_board.specs.declared.views.Work.TheVariants.{Idle, Sees, Inactive, Active, Refused, Attached}
+use Rattle.pm_board.specs.declared.views.PostView.{PostView}
+use Rattle.pm_board.specs.declared.views.View.{View}
+use Rattle.pm_board.specs.declared.views.View.TheVariants.{Postmaster, Worker, Spent}
+use Rattle.pm_board.specs.Words.{stage_in, active_in, status_in, status_number, exit_step}
+use Rattle.pm_board.specs.Places.{slot_view, slot_at, is_connection, EndsWell}
+use Rattle.pm_board.specs.Rule.{child_word, offer_word, idle_post}
+
+abbrev pub no_roster_notes : RosterNotes
+no_roster_notes = record { last_pid = 0; last_connection = 0; steps = []; met = []; homes = [] }
+
+-- the roster's notes after a look that met this word
+abbrev pub noted_look : RosterNotes → ℕ → RosterNotes
+noted_look notes word = record notes { met = notes.met ++ word ∷ [] }
+
+module _ {D : Type 0} where
+  abbrev pub post_view : PostNotes → List (PastChild D) → Work D → PostView D
+  post_view notes past w = record { past = past; work = w; notes = notes }
+
+  abbrev pub past_child : Offer D → Status → Bool → D → PastChild D
+  past_child o status active back = record { offer = o; status = status; was_active = active; back = back }
+
+  -- the roster, where the slot k is so, with these notes
+  abbrev pub with_slot : RosterView D → ℕ → SlotView D → RosterNotes → RosterView D
+  with_slot d k x notes = record d { slots = slice_set d.slots k x; notes = notes }
+
+  -- the roster, where the supervisor sees this of the slot k
+  abbrev pub with_sight : RosterView D → ℕ → Sight D → RosterView D
+  with_sight d k s = with_slot d k (slot_view (slot_at d k).past s) d.notes
+
+  -- the notes of the roster after an assign and a release
+  abbrev pub noted_assign : RosterNotes → Offer D → RosterNotes
+  noted_assign notes o =
+      record notes {
+        last_pid = o.pid;
+        last_connection = if is_connection o.kind then o.pid else notes.last_connection;
+        steps = notes.steps ++ Assign o.pid o.kind o.generation ∷ [];
+      }
+
+  abbrev pub noted_release : RosterNotes → Offer D → RosterNotes
+  noted_release notes o = record notes { steps = notes.steps ++ Release o.pid o.kind o.generation ∷ [] }
+
+  -- a slot whose child was assigned, found running, found exited or released
+  abbrev pub assigned_slot : SlotView D → Offer D → SlotView D
+  assigned_slot x o = slot_view x.past (Assigned o)
+
+  abbrev pub running_slot : SlotView D → Offer D → ℕ → SlotView D
+  running_slot x o last = record { past = x.past; sight = Assigned o; found_running = last }
+
+  abbrev pub exited_slot : SlotView D → Offer D → Status → Bool → SlotView D
+  exited_slot x o status active = slot_view x.past (Exited o status active)
+
+  abbrev pub released_slot : SlotView D → PastChild D → SlotView D
+  released_slot x child = slot_view (x.past ++ child ∷ []) Unused
+
+  -- what the supervisor knows of a new board, with so many posts made
+  abbrev pub new_roster : ℕ → ℕ → ℕ → RosterView D
+  new_roster count limit dealt =
+      record {
+        slots = replicate count (slot_view [] Unused);
+        dealt = dealt;
+        notes = no_roster_notes;
+        generation = 1;
+        is_open = false;
+        noticed = None;
+        session_limit = limit;
+      }
+
+  abbrev pub newcomer : ℕ → ℕ → View D
+  newcomer count limit = Postmaster (new_roster count limit 0)
+
+  abbrev pub roster_of : View D → RosterView D
+  roster_of (Postmaster d) = d
+  roster_of (Worker k w) = new_roster 0 0 0
+  roster_of Spent = new_roster 0 0 0
+
+  abbrev pub post_of : View D → PostView D
+  post_of (Postmaster d) = idle_post 0
+  post_of (Worker k w) = w
+  post_of Spent = idle_post 0
+
+  -- one more post is made
+  abbrev pub with_post : RosterView D → RosterView D
+  with_post d = record d { dealt = d.dealt + 1 }
+
+  abbrev pub dealt_more : View D → View D
+  dealt_more (Postmaster d) = Postmaster (with_post d)
+  dealt_more (Worker k w) = Worker k w
+  dealt_more Spent = Spent
+
+  abbrev pub next_post : View D → View D
+  next_post (Postmaster d) = Worker d.dealt (idle_post d.session_limit)
+  next_post (Worker k w) = Spent
+  next_post Spent = Spent
+
+  -- the supervisor takes in what a worker knows
+  abbrev pub taken_in : View D → View D → View D
+  taken_in (Postmaster d) (Worker k w) = Postmaster (with_sight d k (Gathered w.past w.notes))
+  taken_in (Postmaster d) (Postmaster e) = Postmaster d
+  taken_in (Postmaster d) Spent = Postmaster d
+  taken_in (Worker k w) v = Worker k w
+  taken_in Spent v = Spent
+
+  -- a child may end where it isn't at the gate, or attached
+  abbrev pub MayEnd : Work D → Offer D → Bool → Type 0
+  MayEnd (Inactive p) o active = (p ≡ o) × (active ≡ false)
+  MayEnd (Attached p g) o active = (p ≡ o) × (active ≡ true)
+  MayEnd Idle o active = ⊥
+  MayEnd (Sees word) o active = ⊥
+  MayEnd (Active p) o active = ⊥
+  MayEnd (Refused p g) o active = ⊥
+
+-- the worker's notes after a load, a start and an exit
+abbrev pub noted_load : PostNotes → ℕ → PostNotes
+noted_load notes word = record notes { met = notes.met ++ word ∷ [] }
+
+abbrev pub noted_start : PostNotes → PostNotes
+noted_start notes = record notes { now = record { asked = 0; given = []; met = None } }
+
+abbrev pub noted_exit : PostNotes → PostNotes
+noted_exit notes = record notes { heard = notes.heard ++ notes.now ∷ [] }
+
+abbrev pub Seated : Type 0 → Type 0 → Type 0
+Seated J D = Me (Option J) (View D)
+
+module _ {J D : Type 0} where
+  -- the supervisor has the mail slot of an unused slot
+  abbrev pub Opens : Step (Option J) → Seated J D → ℕ → Seated J D → Type 0
+  Opens st m found n = n ≡ (Postmaster (with_sight (roster_of m.0) st.word Opened), (st.word, None) ∷ [])
+
+  -- the worker sees an offer, or none
+  abbrev pub Loads : Step (Option J) → Seated J D → ℕ → Seated J D → Type 0
+  Loads st m found n =
+      (stage_in found ≡ 1 → n ≡ (Worker st.word (post_view (noted_load (post_of m.0).notes found) (post_of m.0).past (Sees found)), []))
+      × (stage_in found ≢ 1 → n ≡ (Worker st.word (post_view (noted_load (post_of m.0).notes found) (post_of m.0).past Idle), []))
+
+  -- the supervisor sees that a child has exited, and how, or that it has not
+  abbrev pub Looks : Step (Option J) → Seated J D → ℕ → Seated J D → Type 0
+  Looks st m found n =
+      (o : Offer D) → (slot_at (roster_of m.0) st.word).sight ≡ Assigned o
+      → (stage_in found ≡ 3
+      → (n ≡ (
+        Postmaster (with_slot (roster_of m.0) st.word (exited_slot (slot_at (roster_of m.0) st.word) o (status_in found) (active_in found))
+            (noted_look (roster_of m.0).notes found)),
+        [],
+      ))
+      × (found ≡ child_word 3 o (status_in found) (active_in found)) × EndsWell o.kind (status_in found) (active_in found))
+      × (stage_in found ≢ 3
+      → n ≡ (
+        Postmaster (with_slot (roster_of m.0) st.word (running_slot (slot_at (roster_of m.0) st.word) o (roster_of m.0).notes.last_connection)
+            (noted_look (roster_of m.0).notes found)),
+        [],
+      ))
+
+  -- the supervisor has given the mail slot back
+  abbrev pub Clears : Step (Option J) → Seated J D → ℕ → Seated J D → Type 0
+  Clears st m found n = n ≡ (Postmaster (with_sight (roster_of m.0) st.word Unused), [])
+
+  -- what a gathered worker knew of its children is what the supervisor knows
+  abbrev pub Compares : Step (Option J) → Seated J D → ℕ → Seated J D → Type 0
+  Compares st m found n =
+      (n ≡ m)
+      × ((xs : List (PastChild D)) (notes : PostNotes) → (slot_at (roster_of m.0) st.word).sight ≡ Gathered xs notes → xs ≡ (slot_at (roster_of m.0) st.word).past)
+
+  module _ (told : J → D) where
+    -- the mail that the supervisor holds is offered, with the child that the word has
+    abbrev pub Assigns : Step (Option J) → Seated J D → ℕ → Seated J D → Type 0
+    Assigns st m found n =
+        (j : J) (o : Offer D) → m.1 ≡ (st.word, Some j) ∷ [] → st.first ≡ offer_word o → o.generation ≡ (roster_of m.0).generation → o.given ≡ told j
+        → n ≡ (Postmaster (with_slot (roster_of m.0) st.word (assigned_slot (slot_at (roster_of m.0) st.word) o) (noted_assign (roster_of m.0).notes o)), [])
+
+    -- the worker has the mail
+    abbrev pub Starts : Step (Option J) → Seated J D → ℕ → Seated J D → Type 0
+    Starts st m found n =
+        (word : ℕ) → (post_of m.0).work ≡ Sees word
+        → (o : Offer D) × (j : J) × (word ≡ offer_word o) × (o.pid < 2147483648) × (told j ≡ o.given)
+        × (n ≡ (Worker st.word (post_view (noted_start (post_of m.0).notes) (post_of m.0).past (Inactive o)), (st.word, Some j) ∷ []))
+
+    -- the worker has ended its child, and given the mail back
+    abbrev pub Ends : Step (Option J) → Seated J D → ℕ → Seated J D → Type 0
+    Ends st m found n =
+        (j : J) (o : Offer D) (status : Status) (active : Bool) → m.1 ≡ (st.word, Some j) ∷ [] → MayEnd (post_of m.0).work o active → st.first ≡ exit_step status
+        → n ≡ (Worker st.word (post_view (noted_exit (post_of m.0).notes) ((post_of m.0).past ++ past_child o status active (told j) ∷ []) Idle), [])
+
+    -- the supervisor has the mail of a child that had exited
+    abbrev pub Releases : Step (Option J) → Seated J D → ℕ → Seated J D → Type 0
+    Releases st m found n =
+        (o : Offer D) (status : Status) (active : Bool) → (slot_at (roster_of m.0) st.word).sight ≡ Exited o status active
+        → (found ≡ child_word 3 o status active) × (o.pid < 2147483648) × (status_number status < 256)
+        × ((j : J) × (n ≡ (
+          Postmaster (with_slot (roster_of m.0) st.word
+              (slot_view ((slot_at (roster_of m.0) st.word).past ++ past_child o status active (told j) ∷ []) (Collected o status active))
+              (noted_release (roster_of m.0).notes o)),
+          (st.word, Some j) ∷ [],
+        )))

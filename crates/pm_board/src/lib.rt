@@ -1,0 +1,24 @@
+//! The board: the words that the supervisor and its children share, one slot for each child.
+//!
+//! A [`Roster`] is the supervisor's seat at the board, and a [`Post`] that of the worker of one slot. The supervisor
+//! assigns a child to an unused slot and hands a mail over with it; the worker starts the child, and hands a mail back at
+//! its end; the supervisor finds the end by a look, and releases the slot. Each step is one atomic operation on one word.
+//!
+//! A seat has a view, what it knows, which exists in proofs alone. One rule ties words, mails and all views together
+//! (`specs/Rule`). It holds between any two steps, and each call tells its caller what it adds to the own view.
+#![tactic(auto)]
+
+mod packing;
+mod plays;
+mod post;
+mod posts;
+mod roster;
+mod views;
+
+pub use post::{Post, Started};
+pub use posts::Posts;
+pub use roster::{Board, Look, Released, Roster};
+pub use views::{
+    Cancel, Heard, Home, Letter, Offer, PastChild, PostNotes, PostView, RosterNotes, RosterStep,
+    RosterView, Sight, Signal, SlotView, View, Work,
+};

@@ -1,0 +1,8 @@
+use Rattle.pm_board_tests.proofs.Drives as drives
+use Rattle.pm_board_tests.proofs.one_slot.make_board.Goals as goal
+
+pub loop-preserved : goal.loop-preserved
+loop-preserved c = drives.taken_idle _ _ _ c.take.ensures c.loop.invariant
+
+pub returns : goal.returns
+returns c = (drives.is_free _ _ c.in_ok-roster.ensures.roster, drives.first_idle _ _ _ c.in-Some.ensures c.loop.invariant)

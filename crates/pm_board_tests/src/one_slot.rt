@@ -1,0 +1,136 @@
+//! One slot through a thousand children: each release gives the pid, kind, status and mail that were given.
+ghost use Rattle.std.specs.Prelude.{◌≡◌, ◌<◌, ◌+◌, false, IfOk};
+ghost use Rattle.pm_board.specs.Words.{status_number};
+ghost use Rattle.pm_board.specs.Places.{SlotServes, is_auxiliary};
+ghost use Rattle.pm_board.specs.declared.views.Work.TheVariants.{Idle};
+ghost use Rattle.pm_board_tests.specs.Drive.{IsFree};
+
+use pm_board::{Board, Letter, Look, Post, Released, Roster, Started};
+use pm_exit::{Kind, Status};
+use std::alloc::{AllocError, Global};
+use std::sync::Wait;
+use std::test::Fail;
+use std::thread;
+
+const SLOTS: u32 = 9;
+/// A slot that serves sessions.
+const SLOT: u32 = 4;
+
+const CHILDREN: u32 = 1_000;
+
+/// A mail that is a number.
+#[derive(Drop)]
+struct Note(u64);
+
+impl Letter for Note {
+    type Told = u64;
+
+    ghost told = { λ n. n.0 };
+}
+
+// The kind that the child of this pid is given.
+fn kind_for(pid: u32) -> Kind
+    ensures serves { SlotServes 9 4 result }
+    ensures session { is_auxiliary result ≡ false }
+{
+    match pid % 3 {
+        0 => Kind::Backend,
+        1 => Kind::Worker,
+        _ => Kind::DeadEnd,
+    }
+}
+
+// The status that the child of this pid ends with.
+fn status_for(pid: u32) -> Status
+    ensures { status_number result < 256 }
+{
+    let number = (pid % 251) as u8;
+    if pid % 2 == 0 {
+        Status::Code(number)
+    } else {
+        Status::Signal(number)
+    }
+}
+
+// One child from its assign to its release.
+fn drive<R: Wait>(rt: &R, roster: &mut Roster<Note>, index: u32) -> Released<Note>
+    requires free { IsFree roster.old.knows index }
+    requires fits { index < 1000 }
+    ensures { IsFree roster.new.knows (index + 1) }
+{
+    let pid = index + 1;
+    let kind = kind_for(pid);
+    roster.assign(SLOT, pid, kind, Note(u64::from(pid) * 3));
+    for _ in rt.forever() {
+        match roster.look(SLOT) {
+            Look::Running => thread::yield_now(),
+            Look::Exited { .. } => return roster.release(SLOT),
+        }
+    }
+    unreachable!()
+}
+
+// All children, one after the other, and how many releases gave what was given.
+fn drive_all<R: Wait>(rt: &R, mut roster: Roster<Note>) -> (u32, Roster<Note>)
+    requires { IsFree roster.knows 0 }
+{
+    let mut right = 0u32;
+    for index in 0..CHILDREN {
+        let released = drive(rt, &mut roster, index);
+        let pid = index + 1;
+        if released.pid == pid
+            && released.kind == kind_for(pid)
+            && released.status == status_for(pid)
+            && !released.was_active
+            && released.job.0 == u64::from(pid) * 3 + 1
+        {
+            right = right.saturating_add(1);
+        }
+    }
+    (right, roster)
+}
+
+// The worker of the slot: it ends each child at once, and gives the mail back with one more.
+fn work<R: Wait>(rt: &R, mut post: Post<Note>) -> Post<Note>
+    requires { post.knows.work ≡ Idle }
+    ensures { result.knows.work ≡ Idle }
+{
+    let mut done = 0u32;
+    for _ in rt.forever() {
+        if done == CHILDREN {
+            break;
+        }
+        match post.start() {
+            Started::Idle => thread::yield_now(),
+            Started::Job { pid, kind: _, job } => {
+                post.exit(status_for(pid), Note(job.0.wrapping_add(1)));
+                done = done.saturating_add(1);
+            }
+        }
+    }
+    post
+}
+
+// A new board, and the post of the driven slot.
+fn make_board(alloc: Global) -> Result<(Roster<Note>, Post<Note>), AllocError>
+    ensures { IfOk result (λ made. IsFree made.0.knows 0 × (made.1.knows.work ≡ Idle)) }
+{
+    let (roster, mut posts) = Board::new::<Note>(alloc, SLOTS, 1)?;
+    for _ in 0..SLOT {
+        posts.take();
+    }
+    let Some(post) = posts.take() else {
+        return Err(AllocError);
+    };
+    Ok((roster, post))
+}
+
+#[test]
+fn a_thousand_children_of_one_slot(rt: HostRuntime) -> Result<(), Fail> {
+    let (roster, post) = make_board(rt.alloc())?;
+    let ((right, roster), post) = thread::join(&rt, || drive_all(&rt, roster), || work(&rt, post));
+    drop(post);
+    assert_eq!(rt; roster.used(), 0);
+    assert_eq!(rt; right, CHILDREN);
+    Ok(())
+}
