@@ -1,0 +1,223 @@
+-- Books of a store that go on by an entry.
+use Rattle.std.proofs.Common.{◌≡◌, Bool, true, false, ◌||◌, ◌⊎◌, inl, inr, ℕ, ◌+◌, ◌-◌, ◌^◌, ◌<◌, ◌≤◌, List, [], ◌∷◌, ◌++◌, All, Option, None, Some, refl, sym, ◌∙◌, ap, subst, arith, append_assoc, append-nil, length-append}
+use Rattle.std.specs.List.{list_any}
+use Rattle.std.proofs.lemmas.Bool.{cases_lt}
+use Rattle.std.proofs.lemmas.List.Sums.{fold-append}
+use Rattle.std.proofs.lemmas.List.Folds.{list_any-append}
+use Rattle.std.proofs.lemmas.List.Elements.{All-push, All-weaker}
+use Rattle.pm_disk.specs.Cause.{Rose}
+use Rattle.pm_rows.specs.declared.commit.Change.{Change}
+use Rattle.pm_rows.specs.Fold.{committed}
+use Rattle.pm_rows.specs.Limits.{max_file_bytes}
+use Rattle.pm_record.specs.Pair.{Means}
+use Rattle.pm_query.specs.declared.book.BookEntry.{BookEntry}
+use Rattle.pm_query.specs.declared.book.BookEntry.TheVariants.{Opened, Attached, Redone, Answered, Released, Detached, Gone, CheckpointEnded, Broke, LogFull}
+use Rattle.pm_query.specs.History.{History, beginning, count_of, rows_of, with_commit}
+use Rattle.pm_query.specs.Book.{Base, BeginsRenewal, IsLegal, MayFollow, MayGoOn, RenewsBehindGone, ends_checkpoint, ends_cleanly, fault_here, faults_after, faults_here, faults_of, generation_after, generation_of, has_checkpoint, history_after, history_of, is_closed, kept_after, kept_by_redo, last_tick, need_after, needs_of, present, present_after, standing_of, tick_after, times_after, times_attached}
+use Rattle.pm_query.specs.Durable.{Keeps}
+use Rattle.pm_segment.specs.declared.live.Live.{Live}
+use Rattle.pm_segment.specs.Moment.{Moment}
+use Rattle.pm_segment.specs.Stands.{HasGone, HasNoTick, HasWaited, IsFaultBy, IsOpening, Origin, TellsBreak}
+use Rattle.pm_segment.proofs.Runs.{history_push}
+
+-- ---- legal books
+
+goes_on : (base : Base) (before book : List BookEntry) (entry : BookEntry) → MayGoOn base before book → MayFollow base (before ++ book) entry → MayGoOn base before (book ++ entry ∷ [])
+goes_on base before [] entry all next = (subst (λ (l : List BookEntry). MayFollow base l entry) (append-nil before) next, tt)
+goes_on base before (first ∷ book) entry all next =
+    (all.0, goes_on base (before ++ first ∷ []) book entry all.1 (subst (λ (l : List BookEntry). MayFollow base l entry) (sym (append_assoc before (first ∷ []) book)) next))
+
+-- no child is gone
+abbrev pub IsNotGone : BookEntry → Type 0
+IsNotGone (Gone pid) = ⊥
+IsNotGone _ = Unit {0}
+
+begins_still : (book : List BookEntry) (entry : BookEntry) → BeginsRenewal book → BeginsRenewal (book ++ entry ∷ [])
+begins_still [] entry begins = absurd begins
+begins_still (Gone pid ∷ book) entry begins = begins_still book entry begins
+begins_still (Opened generation ∷ book) entry begins = tt
+begins_still (Attached pid generation ∷ book) entry begins = absurd begins
+begins_still (Redone pid generation count ∷ book) entry begins = absurd begins
+begins_still (Answered pid script reply commit front tick ∷ book) entry begins = absurd begins
+begins_still (Released pid front tick ∷ book) entry begins = absurd begins
+begins_still (Detached pid ∷ book) entry begins = absurd begins
+begins_still (CheckpointEnded pid done clean ∷ book) entry begins = absurd begins
+begins_still (Broke pid since count ∷ book) entry begins = absurd begins
+begins_still (LogFull pid script need room ∷ book) entry begins = absurd begins
+
+one_renews : (entry : BookEntry) → IsNotGone entry → RenewsBehindGone (entry ∷ [])
+one_renews (Gone pid) not = absurd not
+one_renews (Opened generation) not = tt
+one_renews (Attached pid generation) not = tt
+one_renews (Redone pid generation count) not = tt
+one_renews (Answered pid script reply commit front tick) not = tt
+one_renews (Released pid front tick) not = tt
+one_renews (Detached pid) not = tt
+one_renews (CheckpointEnded pid done clean) not = tt
+one_renews (Broke pid since count) not = tt
+one_renews (LogFull pid script need room) not = tt
+
+renews : (book : List BookEntry) (entry : BookEntry) → IsNotGone entry → RenewsBehindGone book → RenewsBehindGone (book ++ entry ∷ [])
+renews [] entry not all = one_renews entry not
+renews (Gone pid ∷ book) entry not all = (begins_still book entry all.0, renews book entry not all.1)
+renews (Opened generation ∷ book) entry not all = renews book entry not all
+renews (Attached pid generation ∷ book) entry not all = renews book entry not all
+renews (Redone pid generation count ∷ book) entry not all = renews book entry not all
+renews (Answered pid script reply commit front tick ∷ book) entry not all = renews book entry not all
+renews (Released pid front tick ∷ book) entry not all = renews book entry not all
+renews (Detached pid ∷ book) entry not all = renews book entry not all
+renews (CheckpointEnded pid done clean ∷ book) entry not all = renews book entry not all
+renews (Broke pid since count ∷ book) entry not all = renews book entry not all
+renews (LogFull pid script need room ∷ book) entry not all = renews book entry not all
+
+-- a legal book with an entry that may follow
+pub legal_push : (base : Base) (book : List BookEntry) (entry : BookEntry) → IsNotGone entry → IsLegal base book → MayFollow base book entry → IsLegal base (book ++ entry ∷ [])
+legal_push base book entry not legal next = record { entries = goes_on base [] book entry legal.entries next; renewals = renews book entry not legal.renewals }
+
+-- ---- what one entry more does to what a book says
+
+pub generation_push : (book : List BookEntry) (entry : BookEntry) → generation_of (book ++ entry ∷ []) ≡ generation_after (generation_of book) entry
+generation_push book entry = fold-append generation_after 0 book (entry ∷ [])
+
+pub redone_push : (book : List BookEntry) (entry : BookEntry) → kept_by_redo (book ++ entry ∷ []) ≡ kept_after (kept_by_redo book) entry
+redone_push book entry = fold-append kept_after None book (entry ∷ [])
+
+pub here_push : (book : List BookEntry) (entry : BookEntry) → faults_here (book ++ entry ∷ []) ≡ fault_here (faults_here book) entry
+here_push book entry = fold-append fault_here None book (entry ∷ [])
+
+pub faults_push : (book : List BookEntry) (entry : BookEntry) → faults_of (book ++ entry ∷ []) ≡ faults_after (faults_of book) entry
+faults_push book entry = fold-append faults_after [] book (entry ∷ [])
+
+pub tick_push : (book : List BookEntry) (entry : BookEntry) → last_tick (book ++ entry ∷ []) ≡ tick_after (last_tick book) entry
+tick_push book entry = fold-append tick_after 0 book (entry ∷ [])
+
+pub needs_push : (book : List BookEntry) (entry : BookEntry) → needs_of (book ++ entry ∷ []) ≡ need_after (needs_of book) entry
+needs_push book entry = fold-append need_after 0 book (entry ∷ [])
+
+pub present_push : (book : List BookEntry) (entry : BookEntry) → present (book ++ entry ∷ []) ≡ present_after (present book) entry
+present_push book entry = fold-append present_after [] book (entry ∷ [])
+
+pub times_push : (book : List BookEntry) (entry : BookEntry) (pid : ℕ) → times_attached (book ++ entry ∷ []) pid ≡ times_after pid (times_attached book pid) entry
+times_push book entry pid = fold-append (times_after pid) 0 book (entry ∷ [])
+
+pub closed_push : (book : List BookEntry) (entry : BookEntry) → is_closed (book ++ entry ∷ []) ≡ list_any ends_cleanly (present_after (present book) entry)
+closed_push book entry = ap (list_any ends_cleanly) (present_push book entry)
+
+pub checkpoint_push : (book : List BookEntry) (entry : BookEntry) → has_checkpoint (book ++ entry ∷ []) ≡ list_any ends_checkpoint (present_after (present book) entry)
+checkpoint_push book entry = ap (list_any ends_checkpoint) (present_push book entry)
+
+or_false : (a : Bool) → a || false ≡ a
+or_false true = refl
+or_false false = refl
+
+-- a test of the entries behind one more
+pub any_push : (p : BookEntry → Bool) (entries : List BookEntry) (entry : BookEntry) (was is : Bool) → list_any p entries ≡ was → p entry ≡ is → list_any p (entries ++ entry ∷ []) ≡ was || is
+any_push p entries entry was is so this =
+    list_any-append p entries (entry ∷ []) ∙ ap (λ (b : Bool). b || (p entry || false)) so ∙ ap (λ (b : Bool). was || (b || false)) this ∙ ap (λ (b : Bool). was || b) (or_false is)
+
+pub any_still : (p : BookEntry → Bool) (entries : List BookEntry) (entry : BookEntry) (was : Bool) → list_any p entries ≡ was → p entry ≡ false → list_any p (entries ++ entry ∷ []) ≡ was
+any_still p entries entry was so this = any_push p entries entry was false so this ∙ or_false was
+
+fault_later : (before now : ℕ) → before ≤ now → (fault : ℕ × ℕ) → IsFaultBy before fault → IsFaultBy now fault
+fault_later before now le fault by = omega (arith, le, by)
+
+-- ---- the store behind one entry more
+
+-- the tallies that an entry leaves, where redo has ended: how they are read off the entry
+pub record Tallies (base : Base) (book : List BookEntry) (entry : BookEntry) (kept : ℕ) (closed : Bool) (tick faults : ℕ) (history : History) : Type 0 where
+  pub not_gone : IsNotGone entry
+  pub may : MayFollow base book entry
+  pub generation : (n : ℕ) → generation_after n entry ≡ n
+  pub redone : kept_after (kept_by_redo book) entry ≡ Some kept
+  pub closed_is : list_any ends_cleanly (present_after (present book) entry) ≡ closed
+  pub history_is : history_after (kept_by_redo book) (history_of base book) entry ≡ history
+  pub in_time : tick_after (last_tick book) entry ≤ tick
+  pub each : All (IsFaultBy faults) (faults_after (faults_of book) entry)
+
+pub gone_push : (origin : Origin) (base : Base) (at : Moment) (live : Live) (book : List BookEntry) (entry : BookEntry) (history : History) (start : ℕ)
+    → at.live ≡ Some live → IsLegal base book → generation_of book ≡ 1 → Tallies base book entry live.kept live.closed at.ticks at.faults history
+    → TellsBreak live.log.since live.faults (fault_here (faults_here book) entry) → ((since : ℕ) → live.log.since ≡ Some since → live.faults ≤ at.faults)
+    → at.rows ≡ rows_of history → (live.log.since ≡ None → live.log.count ≡ count_of history) → history.base ≡ standing_of base
+    → (live.log.since ≡ None → live.closed ≡ false → live.log.end + 1 ≤ base.bytes + 1024 + need_after (needs_of book) entry)
+    → live.log.limit ≡ max_file_bytes → base.faults ≤ at.faults → origin.tick ≤ start → IsOpening origin start at.images
+    → Keeps Means base (book ++ entry ∷ []) start at.ticks at.ticks live.log.count at.images
+    → HasGone origin base at live (book ++ entry ∷ [])
+gone_push origin base at live book entry history start read legal generation tallies broken known rows count base_is fits limit later begun opening keeps =
+    let is : history_of base (book ++ entry ∷ []) ≡ history = history_push base book entry ∙ tallies.history_is in
+    record {
+      read = read;
+      legal = legal_push base book entry tallies.not_gone legal tallies.may;
+      generation = generation_push book entry ∙ tallies.generation (generation_of book) ∙ generation;
+      redone = redone_push book entry ∙ tallies.redone;
+      closed = closed_push book entry ∙ tallies.closed_is;
+      broken = subst (TellsBreak live.log.since live.faults) (sym (here_push book entry)) broken;
+      known = known;
+      rows_are = rows ∙ sym (ap rows_of is);
+      count_is = λ unbroken. count unbroken ∙ sym (ap count_of is);
+      base_is = ap (λ (h : History). h.base) is ∙ base_is;
+      fits = λ unbroken unclosed. subst (λ (n : ℕ). live.log.end + 1 ≤ base.bytes + 1024 + n) (sym (needs_push book entry)) (fits unbroken unclosed);
+      limit = limit;
+      in_time = subst (λ (n : ℕ). n ≤ at.ticks) (sym (tick_push book entry)) tallies.in_time;
+      counted = record { later = later; each = subst (All (IsFaultBy at.faults)) (sym (faults_push book entry)) tallies.each };
+      start = start;
+      begun = begun;
+      opening = opening;
+      keeps = keeps;
+    }
+
+-- before the first redo
+pub waited_push : (origin : Origin) (at : Moment) (book : List BookEntry) (entry : BookEntry) → at.live ≡ None → ((base : Base) → base.faults ≡ origin.faults → IsLegal base book)
+    → ((base : Base) → history_of base book ≡ beginning (standing_of base)) → kept_by_redo book ≡ None → faults_here book ≡ None → All HasNoTick book
+    → IsNotGone entry → ((base : Base) → base.faults ≡ origin.faults → MayFollow base book entry)
+    → ((base : Base) → history_after None (beginning (standing_of base)) entry ≡ beginning (standing_of base))
+    → generation_after (generation_of book) entry ≡ 1 → kept_after None entry ≡ None → fault_here None entry ≡ None
+    → list_any ends_checkpoint (present_after (present book) entry) ≡ at.skipped → list_any ends_cleanly (present_after (present book) entry) ≡ false
+    → HasNoTick entry → tick_after (last_tick book) entry ≡ 0 → need_after (needs_of book) entry ≡ 0 → origin.faults ≤ at.faults → All (IsFaultBy at.faults) (faults_after (faults_of book) entry)
+    → origin.tick ≤ at.ticks → IsOpening origin at.ticks at.images → Rose origin.faults at.faults ⊎ (at.files ≡ origin.files)
+    → HasWaited origin at (book ++ entry ∷ [])
+waited_push origin at book entry unread legal fresh unredone here no_ticks not may history generation kept none checkpoint clean no_tick no_time no_need later each reached opening reads = record {
+  unread = unread;
+  legal = λ base same. legal_push base book entry not (legal base same) (may base same);
+  fresh = λ base. history_push base book entry ∙ ap (λ (r : Option ℕ). history_after r (history_of base book) entry) unredone ∙ ap (λ (h : History). history_after None h entry) (fresh base) ∙ history base;
+  generation = generation_push book entry ∙ generation;
+  unredone = redone_push book entry ∙ ap (λ (r : Option ℕ). kept_after r entry) unredone ∙ kept;
+  none_here = here_push book entry ∙ ap (λ (f : Option (List (ℕ × ℕ))). fault_here f entry) here ∙ none;
+  skipped = checkpoint_push book entry ∙ checkpoint;
+  unclosed = closed_push book entry ∙ clean;
+  no_ticks = All-push HasNoTick book entry no_ticks no_tick;
+  no_time = tick_push book entry ∙ no_time;
+  no_needs = needs_push book entry ∙ no_need;
+  counted = record { later = later; each = subst (All (IsFaultBy at.faults)) (sym (faults_push book entry)) each };
+  reached = reached;
+  opening = opening;
+  reads = reads;
+}
+
+-- ---- histories with a commit
+
+pub rows-with_commit : (history : History) (commit : List Change) → rows_of (with_commit history commit) ≡ committed (rows_of history) commit
+rows-with_commit history [] = refl
+rows-with_commit history (change ∷ changes) = fold-append committed history.base.rows history.commits ((change ∷ changes) ∷ [])
+
+pub count-with_commit : (history : History) (change : Change) (changes : List Change) → count_of (with_commit history (change ∷ changes)) ≡ count_of history + 1
+count-with_commit history change changes = omega (arith, length-append history.commits ((change ∷ changes) ∷ []))
+
+pub base-with_commit : (history : History) (commit : List Change) → (with_commit history commit).base ≡ history.base
+base-with_commit history [] = refl
+base-with_commit history (change ∷ changes) = refl
+
+-- a new fault's count is above all before it, or it is the last number
+pub tells_new : (first before now : ℕ) (faults : List (ℕ × ℕ)) → first ≤ before → All (IsFaultBy before) faults → Rose before now → before ≤ now → now < 2 ^ 64
+    → ((first < now) × All (λ (fault : ℕ × ℕ). fault.1 < now) faults) ⊎ (now ≡ 2 ^ 64 - 1)
+tells_new first before now faults le each rose later small = elim (cases_lt before (2 ^ 64 - 1)) [
+  | inl below ↦ inl (omega (arith, rose, below, le), All-weaker (IsFaultBy before) (λ (fault : ℕ × ℕ). fault.1 < now) (λ fault by. omega (arith, rose, below, by)) faults each)
+  | inr spent ↦ inr (omega (arith, spent, later, small))
+]
+
+-- all faults so far, and one of now
+pub each_push : (before now since : ℕ) (faults : List (ℕ × ℕ)) → before ≤ now → All (IsFaultBy before) faults → All (IsFaultBy now) (faults ++ (since, now) ∷ [])
+each_push before now since faults le each =
+    All-push (IsFaultBy now) faults (since, now) (All-weaker (IsFaultBy before) (IsFaultBy now) (fault_later before now le) faults each) (omega arith)
+
+pub each_later : (before now : ℕ) (faults : List (ℕ × ℕ)) → before ≤ now → All (IsFaultBy before) faults → All (IsFaultBy now) faults
+each_later before now faults le each = All-weaker (IsFaultBy before) (IsFaultBy now) (fault_later before now le) faults each

@@ -1,0 +1,9 @@
+pub mod Books
+pub mod Checkpoints
+pub mod Lawful
+pub mod Opens
+pub mod Passing
+pub mod Redos
+pub mod Resting
+pub mod Runs
+pub mod Steps

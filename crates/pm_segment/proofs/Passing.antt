@@ -1,0 +1,97 @@
+-- Passes as the book goes on.
+use Rattle.std.proofs.Common.{◌≡◌, Bool, ℕ, ◌+◌, ◌≤◌, List, [], ◌∷◌, ◌++◌, Option, None, Some, refl, sym, ◌∙◌, ap, subst, arith, length-append}
+use Rattle.std.specs.Prelude.{IfSome, Any, cond}
+use Rattle.std.proofs.lemmas.Grind.{common_steps}
+use Rattle.std.proofs.lemmas.Bool.{eq-eqb}
+use Rattle.std.proofs.lemmas.List.Quantifiers.{Any-push}
+use Rattle.pm_rows.specs.declared.commit.Change.{Change}
+use Rattle.pm_sql.specs.declared.stmt.Stmt.{Stmt}
+use Rattle.pm_query.specs.declared.item.Item.{Item}
+use Rattle.pm_query.specs.declared.book.BookEntry.{BookEntry}
+use Rattle.pm_query.specs.declared.book.BookEntry.TheVariants.{Opened, Attached, Redone, Answered, Released, Detached, Gone, CheckpointEnded, Broke, LogFull}
+use Rattle.pm_query.specs.Book.{AnswersUpTo, present, present_after, times_after, times_attached}
+use Rattle.pm_query.specs.Calls.{IsNoLess, IsWithin}
+use Rattle.pm_segment.specs.declared.live.Live.{Live}
+use Rattle.pm_segment.specs.declared.pass.Pass.{Pass}
+use Rattle.pm_segment.specs.Moves.{NotesEntries}
+use Rattle.pm_segment.specs.Passes.{Admits, HasAnswer, IsFlushed, IsInside}
+use Rattle.pm_segment.proofs.Books.{present_push, times_push}
+use Rattle.pm_segment.proofs.Steps.{Attends}
+
+-- the child of a pass is attached
+pub attends : (pass : Pass) (live : Option Live) (book : Option (List BookEntry)) (spare : ℕ) → Admits pass live book spare → Attends pass.pid book
+attends pass live None spare admits = tt
+attends pass live (Some book) spare admits = admits.inside.attached
+
+-- an entry in the present generation that takes no child out
+pub record Stays (pid : ℕ) (entry : BookEntry) : Type 0 where
+  pub present_is : (entries : List BookEntry) → present_after entries entry ≡ entries ++ entry ∷ []
+  pub times : (n : ℕ) → n ≤ times_after pid n entry
+
+Any-before : (P : BookEntry → Type 0) (entries : List BookEntry) (entry : BookEntry) → Any P entries → Any P (entries ++ entry ∷ [])
+Any-before P entries entry any =
+    (any.0, any.1, omega (arith, any.2, length-append entries (entry ∷ [])), grind (arith, common_steps, any.2, any.3), any.4)
+
+answer_still : (pid : ℕ) (front : Option ℕ) (book : List BookEntry) (entry : BookEntry) → Stays pid entry → HasAnswer pid front book → HasAnswer pid front (book ++ entry ∷ [])
+answer_still pid None book entry stays has = tt
+answer_still pid (Some front) book entry stays has =
+    subst (Any (AnswersUpTo pid front)) (sym (present_push book entry ∙ stays.present_is (present book))) (Any-before (AnswersUpTo pid front) (present book) entry has)
+
+-- a child is still inside
+pub inside_still : (pid : ℕ) (front : Option ℕ) (entry : BookEntry) (book now : Option (List BookEntry)) → Stays pid entry → NotesEntries (entry ∷ []) book now → IfSome book (IsInside pid front) → IfSome now (IsInside pid front)
+inside_still pid front entry None now stays notes inside = subst (λ (b : Option (List BookEntry)). IfSome b (IsInside pid front)) (sym notes) tt
+inside_still pid front entry (Some book) now stays notes inside = subst (λ (b : Option (List BookEntry)). IfSome b (IsInside pid front)) (sym notes) (record {
+  attached = omega (arith, inside.attached, times_push book entry pid, stays.times (times_attached book pid));
+  answered = answer_still pid front book entry stays inside.answered;
+})
+
+-- it was answered
+pub inside_answered : (pid front tick : ℕ) (script : List Stmt) (reply : List Item) (commit : List Change) (seen : Option ℕ) (book now : Option (List BookEntry))
+    → NotesEntries (Answered pid script reply commit front tick ∷ []) book now → IfSome book (IsInside pid seen) → IfSome now (IsInside pid (Some front))
+inside_answered pid front tick script reply commit seen None now notes inside = subst (λ (b : Option (List BookEntry)). IfSome b (IsInside pid (Some front))) (sym notes) tt
+inside_answered pid front tick script reply commit seen (Some book) now notes inside =
+    let entry : BookEntry = Answered pid script reply commit front tick in
+    subst (λ (b : Option (List BookEntry)). IfSome b (IsInside pid (Some front))) (sym notes) (record {
+      attached = omega (arith, inside.attached, times_push book entry pid);
+      answered = subst (Any (AnswersUpTo pid front)) (sym (present_push book entry)) (Any-push (AnswersUpTo pid front) (present book) entry (refl, omega arith));
+    })
+
+-- it comes in
+pub inside_entered : (pid : ℕ) (book now : Option (List BookEntry)) → NotesEntries (Attached pid 1 ∷ []) book now → IfSome now (IsInside pid None)
+inside_entered pid None now notes = subst (λ (b : Option (List BookEntry)). IfSome b (IsInside pid None)) (sym notes) tt
+inside_entered pid (Some book) now notes =
+    let times : times_attached (book ++ Attached pid 1 ∷ []) pid ≡ times_attached book pid + 1 =
+    times_push book (Attached pid 1) pid ∙ ap (λ (b : Bool). cond b (times_attached book pid + 1) (times_attached book pid)) (eq-eqb pid pid refl) in
+    subst (λ (b : Option (List BookEntry)). IfSome b (IsInside pid None)) (sym notes) (record { attached = omega (arith, times); answered = tt })
+
+-- what it has reached was answered
+within_answer : (pid seen front : ℕ) → front ≤ seen → (entry : BookEntry) → AnswersUpTo pid seen entry → AnswersUpTo pid front entry
+within_answer pid seen front le (Answered who script reply commit upto tick) up = (up.0, omega (arith, le, up.1))
+within_answer pid seen front le (Opened generation) up = up
+within_answer pid seen front le (Attached who generation) up = up
+within_answer pid seen front le (Redone who generation count) up = up
+within_answer pid seen front le (Released who upto tick) up = up
+within_answer pid seen front le (Detached who) up = up
+within_answer pid seen front le (Gone who) up = up
+within_answer pid seen front le (CheckpointEnded who done clean) up = up
+within_answer pid seen front le (Broke who since count) up = up
+within_answer pid seen front le (LogFull who script need room) up = up
+
+reached_in : (pid : ℕ) (seen : Option ℕ) (front : ℕ) (book : List BookEntry) → IsWithin seen front → HasAnswer pid seen book → Any (AnswersUpTo pid front) (present book)
+reached_in pid None front book within has = absurd within
+reached_in pid (Some seen) front book within has = (has.0, has.1, has.2, has.3, within_answer pid seen front within has.1 has.4)
+
+pub reached_answer : (pid : ℕ) (seen : Option ℕ) (front : ℕ) (book : Option (List BookEntry)) → IsWithin seen front → IfSome book (IsInside pid seen) → IfSome book (λ list. Any (AnswersUpTo pid front) (present list))
+reached_answer pid seen front None within inside = tt
+reached_answer pid seen front (Some book) within inside = reached_in pid seen front book within inside.answered
+
+-- what it has seen isn't above the log
+pub not_above : (seen : Option ℕ) (live : Option Live) (its : Live) → live ≡ Some its → IsFlushed seen live → IsNoLess seen its.log.count
+not_above None live its is flushed = tt
+not_above (Some front) live its is flushed = subst (IsFlushed (Some front)) is flushed
+
+pub flushed_still : (seen : Option ℕ) (live now : Option Live) (its new : Live) → live ≡ Some its → now ≡ Some new → its.log.count ≤ new.log.count → IsFlushed seen live → IsFlushed seen now
+flushed_still None live now its new was is le flushed = tt
+flushed_still (Some front) live now its new was is le flushed =
+    let within : front ≤ its.log.count = subst (IsFlushed (Some front)) was flushed in
+    subst (IsFlushed (Some front)) (sym is) (omega (arith, within, le))

@@ -1,0 +1,9 @@
+pub mod Answers
+pub mod Moment
+pub mod Moves
+pub mod MovesLaws
+pub mod Passes
+pub mod Redos
+pub mod Rests
+pub mod Runs
+pub mod Stands

@@ -1,0 +1,47 @@
+-- What the calls of a store do from one moment to another.
+use Rattle.std.specs.Prelude.{◌≡◌, ◌⊎◌, ℕ, ◌≤◌, List, ◌++◌, All, Option, None, Some, option_map}
+use Rattle.pm_disk.specs.Cause.{Rose}
+use Rattle.pm_record.specs.OnDisk.{GoesOn}
+use Rattle.pm_query.specs.declared.book.BookEntry.{BookEntry}
+use Rattle.pm_query.specs.declared.book.BookEntry.TheVariants.{Broke}
+use Rattle.pm_query.specs.Book.{Base}
+use Rattle.pm_segment.specs.declared.live.Live.{Live}
+use Rattle.pm_segment.specs.Moment.{Moment}
+use Rattle.pm_segment.specs.Stands.{Begins, GoesFrom, Origin, WaitsFrom}
+
+-- these entries were added, where the book tells
+abbrev pub NotesEntries : List BookEntry → Option (List BookEntry) → Option (List BookEntry) → Type 0
+NotesEntries entries before now = now ≡ option_map (λ book. book ++ entries) before
+
+-- a fault that was noted shows in the disk's count, which has risen from this one
+abbrev pub IsShown : ℕ → ℕ → BookEntry → Type 0
+IsShown from faults (Broke pid since count) = Rose from faults
+IsShown from faults _ = Unit {0}
+
+-- and so does the one that broke the log
+abbrev pub IsShownAt : ℕ → ℕ → Option ℕ → Type 0
+IsShownAt from faults None = Unit {0}
+IsShownAt from faults (Some since) = Rose from faults
+
+abbrev pub BreakIsShown : ℕ → ℕ → Option Live → Type 0
+BreakIsShown from faults None = Unit {0}
+BreakIsShown from faults (Some live) = IsShownAt from faults live.log.since
+
+-- the count isn't below this one, and has risen from it where the log is broken
+pub record IsCountedFrom (from faults : ℕ) (live : Option Live) : Type 0 where
+  pub later : from ≤ faults
+  pub shown : BreakIsShown from faults live
+
+pub record CountsEntries (from : ℕ) (entries : List BookEntry) (faults : ℕ) (live : Option Live) : Type 0 where
+  pub counted : IsCountedFrom from faults live
+  pub each : All (IsShown from faults) entries
+
+-- These entries were noted. What held from a beginning holds from it still, or the first redo has come; what a stop could
+-- leave before is as it was, and each fault that was noted was counted, whether book and disk tell or not.
+pub record Moves (entries : List BookEntry) (before now : Moment) : Type 0 where
+  pub notes : NotesEntries entries before.book now.book
+  pub time : GoesOn before.ticks now.ticks before.images now.images
+  pub later : before.faults ≤ now.faults
+  pub counts : (from : ℕ) → IsCountedFrom from before.faults before.live → CountsEntries from entries now.faults now.live
+  pub waits : (origin : Origin) → WaitsFrom origin before → WaitsFrom origin now ⊎ Begins origin now
+  pub goes_on : (origin : Origin) (base : Base) → GoesFrom origin base before → GoesFrom origin base now

@@ -1,0 +1,87 @@
+-- The laws of what the calls of a store do.
+use Rattle.std.proofs.Common.{◌⊎◌, inl, inr, ℕ, ◌≤◌, List, [], ◌++◌, Option, None, Some, refl, sym, ◌∙◌, ap, arith, append_assoc, append-nil}
+use Rattle.std.specs.Option.{option_map}
+use Rattle.std.proofs.lemmas.List.Elements.{All-nil, All-append, All-weaker}
+use Rattle.pm_disk.specs.Cause.{Rose}
+use Rattle.pm_disk.specs.Files.{Files}
+use Rattle.pm_record.specs.OnDisk.{GoesOn}
+use Rattle.pm_query.specs.declared.book.BookEntry.{BookEntry}
+use Rattle.pm_query.specs.declared.book.BookEntry.TheVariants.{Opened, Attached, Redone, Answered, Released, Detached, Gone, CheckpointEnded, Broke, LogFull}
+use Rattle.pm_query.specs.Book.{Base}
+use Rattle.pm_segment.specs.Moment.{Moment}
+use Rattle.pm_segment.specs.Moves.{IsShown, CountsEntries, Moves, NotesEntries}
+use Rattle.pm_segment.specs.Stands.{Begins, IsBaseOf, Origin, WaitsFrom}
+
+pub rose_later : (from before now : ℕ) → before ≤ now → Rose from before → Rose from now
+rose_later from before now le rose = omega (arith, le, rose)
+
+pub shown_later : (from before now : ℕ) → before ≤ now → (entry : BookEntry) → IsShown from before entry → IsShown from now entry
+shown_later from before now le (Broke pid since count) shown = rose_later from before now le shown
+shown_later from before now le (Opened generation) shown = tt
+shown_later from before now le (Attached pid generation) shown = tt
+shown_later from before now le (Redone pid generation kept) shown = tt
+shown_later from before now le (Answered pid script reply commit front tick) shown = tt
+shown_later from before now le (Released pid front tick) shown = tt
+shown_later from before now le (Detached pid) shown = tt
+shown_later from before now le (Gone pid) shown = tt
+shown_later from before now le (CheckpointEnded pid done clean) shown = tt
+shown_later from before now le (LogFull pid script need room) shown = tt
+
+-- no entry
+pub notes_none : (book : Option (List BookEntry)) → NotesEntries [] book book
+notes_none None = refl
+notes_none (Some book) = ap (λ (b : List BookEntry). Some b) (sym (append-nil book))
+
+-- some, and then some more
+pub notes_both : (first second : List BookEntry) (before between now : Option (List BookEntry)) → NotesEntries first before between → NotesEntries second between now → NotesEntries (first ++ second) before now
+notes_both first second None between now one two = two ∙ ap (option_map (λ (b : List BookEntry). b ++ second)) one
+notes_both first second (Some book) between now one two =
+    two ∙ ap (option_map (λ (b : List BookEntry). b ++ second)) one ∙ ap (λ (b : List BookEntry). Some b) (append_assoc book first second)
+
+pub time_still : (tick : ℕ) (images : ℕ → Files → Type 0) → GoesOn tick tick images images
+time_still tick images = record { later = omega arith; past = λ t le image. (λ there. there, λ there. there) }
+
+pub time_on : (before between now : ℕ) (i j k : ℕ → Files → Type 0) → GoesOn before between i j → GoesOn between now j k → GoesOn before now i k
+time_on before between now i j k one two = record {
+  later = omega (arith, one.later, two.later);
+  past = λ t le image.
+      let first = one.past t le image in
+      let second = two.past t (omega (arith, le, one.later)) image in
+      (λ there. first.0 (second.0 there), λ there. second.1 (first.1 there));
+}
+
+base_later : (origin : Origin) (base : Base) (before now : ℕ) → before ≤ now → IsBaseOf origin base before → IsBaseOf origin base now
+base_later origin base before now le (inl rose) = inl (rose_later origin.faults before now le rose)
+base_later origin base before now le (inr means) = inr means
+
+pub moves_none : (at : Moment) → Moves [] at at
+moves_none at = record {
+  notes = notes_none at.book;
+  time = time_still at.ticks at.images;
+  later = omega arith;
+  counts = λ from counted. record { counted = counted; each = All-nil (IsShown from at.faults) };
+  waits = λ origin stands. inl stands;
+  goes_on = λ origin base stands. stands;
+}
+
+pub moves_on : (first second : List BookEntry) (before between now : Moment) → Moves first before between → Moves second between now → Moves (first ++ second) before now
+moves_on first second before between now one two = record {
+  notes = notes_both first second before.book between.book now.book one.notes two.notes;
+  time = time_on before.ticks between.ticks now.ticks before.images between.images now.images one.time two.time;
+  later = omega (arith, one.later, two.later);
+  counts = λ from counted.
+      let a : CountsEntries from first between.faults between.live = one.counts from counted in
+      let b : CountsEntries from second now.faults now.live = two.counts from a.counted in
+      record { counted = b.counted; each = All-append (IsShown from now.faults) first second (All-weaker (IsShown from between.faults) (IsShown from now.faults) (shown_later from between.faults now.faults two.later) first a.each) b.each };
+  waits = λ origin stands. behind origin (one.waits origin stands);
+  goes_on = λ origin base stands. two.goes_on origin base (one.goes_on origin base stands);
+}
+  where
+    behind : (origin : Origin) → WaitsFrom origin between ⊎ Begins origin between → WaitsFrom origin now ⊎ Begins origin now
+    behind origin (inl waits) = two.waits origin waits
+    behind origin (inr begins) = inr (record {
+      base = begins.base;
+      faults = begins.faults;
+      found = base_later origin begins.base between.faults now.faults two.later begins.found;
+      goes = two.goes_on origin begins.base begins.goes;
+    })

@@ -1,0 +1,37 @@
+-- A pass of a store that one thread uses alone.
+use Rattle.std.specs.Prelude.{◌≡◌, ℕ, ◌≤◌, List, Any, Option, None, Some, IfSome}
+use Rattle.pm_query.specs.declared.book.BookEntry.{BookEntry}
+use Rattle.pm_query.specs.Book.{AnswersUpTo, IsAttached, present}
+use Rattle.pm_query.specs.Calls.{PassView}
+use Rattle.pm_segment.specs.declared.live.Live.{Live}
+use Rattle.pm_segment.specs.declared.pass.Pass.{Pass}
+
+-- the only generation that there is
+abbrev pub first_generation : ℕ
+first_generation = 1
+
+abbrev pub view_of : Pass → PassView
+view_of pass = record { pid = pass.pid; generation = pass.generation; front = pass.front }
+
+-- the child was answered up to the front that it has seen, in this generation
+abbrev pub HasAnswer : ℕ → Option ℕ → List BookEntry → Type 0
+HasAnswer pid None book = Unit {0}
+HasAnswer pid (Some front) book = Any (AnswersUpTo pid front) (present book)
+
+-- the child is attached in the book, where it tells
+pub record IsInside (pid : ℕ) (front : Option ℕ) (book : List BookEntry) : Type 0 where
+  pub attached : IsAttached book pid
+  pub answered : HasAnswer pid front book
+
+-- and what it has seen is flushed
+abbrev pub IsFlushed : Option ℕ → Option Live → Type 0
+IsFlushed None live = Unit {0}
+IsFlushed (Some front) None = ⊥
+IsFlushed (Some front) (Some live) = front ≤ live.log.count
+
+-- An `enter` answered the pass: it is of the present generation, its child is inside, and the book has room for its leave.
+pub record Admits (pass : Pass) (live : Option Live) (book : Option (List BookEntry)) (spare : ℕ) : Type 0 where
+  pub room : 1 ≤ spare
+  pub generation_is : pass.generation ≡ first_generation
+  pub inside : IfSome book (IsInside pass.pid pass.front)
+  pub flushed : IsFlushed pass.front live

@@ -1,0 +1,15 @@
+//! The log as a generation goes on with it.
+
+use pm_log::Log;
+
+/// The log behind a generation's redo.
+#[derive(Clone, Copy, Debug, PartialEq, Eq)]
+pub struct Live {
+    pub log: Log,
+    /// How many commits the redo has kept.
+    pub kept: u64,
+    /// The disk's count of faults behind the one that broke the log, and 0 before.
+    pub faults: u64,
+    /// Whether a clean checkpoint was made. Then nothing more is committed.
+    pub closed: bool,
+}
