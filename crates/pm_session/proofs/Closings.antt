@@ -1,0 +1,237 @@
+-- How a session comes to its end: what is said last, and as what the child exits.
+use Rattle.std.proofs.Common.{◌≡◌, ◌≢◌, ◌⊎◌, inl, inr, ℕ, ◌+◌, ◌≤◌, ◌<◌, Bool, true, false, cond, IsTrue, List, [], ◌∷◌, ◌++◌, length, map, take, get_or, Option, None, Some, Result, Ok, Err, MatchResult, refl, sym, ◌∙◌, ap, subst, arith, append_assoc}
+use Rattle.std.specs.List.{flat_map}
+use Rattle.std.proofs.lemmas.List.{append-nil, map-append, take_more}
+use Rattle.pm_supervisor.specs.declared.Reason.{Reason}
+use Rattle.pm_admit.specs.declared.Cac.{Cac}
+use Rattle.pm_exit.specs.declared.child.Status.{Status}
+use Rattle.pm_exit.specs.declared.child.Status.TheVariants as statuses
+use Rattle.pm_startup.specs.declared.packet.StartFault.TheVariants as packets
+use Rattle.pm_life.specs.Life.{Told, Signal, Kill, Quit, Terminate, was_told}
+use Rattle.std.proofs.lemmas.Grind.{flat_map-append}
+use Rattle.std.proofs.lemmas.List.Concat.{flat_map-cons}
+use Rattle.pm_wire.specs.Backend.{BackMessage, spelling}
+use Rattle.pm_session.specs.declared.attention.Standing.{Standing}
+use Rattle.pm_session.specs.declared.ending.Cause.{Cause}
+use Rattle.pm_session.specs.declared.ending.Cause.TheVariants.{Terminated, Cancelling, LinkEnded, LinkFailed, TimedOut, PacketRefused, MessageRefused, DecisionRefused, GateRefused, ShortOfMemory, Panicked, ToldToTerminate, ToldToQuit, Killed, Overtaken}
+use Rattle.pm_session.specs.declared.ending.Stage.{Stage}
+use Rattle.pm_session.specs.Exchange.{LinkView, Passes, HasFailed, CutsOff, IsSentAll, Sends}
+use Rattle.pm_session.specs.Attention.{Attention, ends_by, ends_of, Stands, IsAttentive, Hears, was_given}
+use Rattle.pm_session.specs.Sent.{bytes_of, last_of}
+use Rattle.pm_session.specs.Session.{Ending, Heeds, HeedsTold, LetsGo, last_messages, status_by, status_of}
+use Rattle.pm_session.specs.Conversation.{IsBreak, ShowsCause}
+use Rattle.pm_session.specs.Entry.{outside, SaysLast, IsLastCause, IsTold, EndsBy, Closes}
+use Rattle.pm_session.proofs.Attentions.{hears_none, hears_both, hears_fewer, told_cause}
+use Rattle.pm_session.proofs.Links.{passes_none}
+use Rattle.pm_session.proofs.Said.{bytes_of-none, bytes_of-one, bytes_of-append}
+
+-- one more message
+pub one_more : (was now : List ℕ) (sent : List BackMessage) (m : BackMessage) → was ≡ bytes_of sent → now ≡ was ++ spelling m → now ≡ bytes_of (sent ++ m ∷ [])
+one_more was now sent m before after =
+    after ∙ ap (λ (w : List ℕ). w ++ spelling m) before ∙ ap (λ (b : List ℕ). bytes_of sent ++ b) (sym (bytes_of-one m)) ∙ sym (bytes_of-append sent (m ∷ []))
+
+-- one more element's message
+pub one_more_of : {A : Type 0} (f : A → BackMessage) (was now : List ℕ) (sent : List BackMessage) (xs : List A) (i : ℕ) (d : A) → i < length xs
+    → was ≡ bytes_of (sent ++ map f (take i xs)) → now ≡ was ++ spelling (f (get_or xs i d)) → now ≡ bytes_of (sent ++ map f (take (i + 1) xs))
+one_more_of f was now sent xs i d lt before after =
+    one_more was now (sent ++ map f (take i xs)) (f (get_or xs i d)) before after
+    ∙ ap (λ (ms : List BackMessage). bytes_of ms) (append_assoc sent (map f (take i xs)) (f (get_or xs i d) ∷ [])
+    ∙ ap (λ (ms : List BackMessage). sent ++ ms) (sym (map-append f (take i xs) (get_or xs i d ∷ [])) ∙ ap (λ ys. map f ys) (sym (take_more xs i d lt))))
+
+-- ---- what a status of 0 means
+
+-- a child that exits as if nothing had happened says nothing last
+pub says_nothing : (decision : Cac) (stage : Stage) (cause : Cause) → status_by cause ≡ statuses.Code 0 → last_of decision stage cause ≡ []
+says_nothing decision stage Terminated is = refl
+says_nothing decision stage Cancelling is = refl
+says_nothing decision stage LinkEnded is = refl
+says_nothing decision stage LinkFailed is = refl
+says_nothing decision stage TimedOut is = refl
+says_nothing decision stage (PacketRefused (packets.Length seen)) is = refl
+says_nothing decision stage (PacketRefused (packets.Version major minor)) is = absurd cc
+says_nothing decision stage (PacketRefused packets.NoUser) is = absurd cc
+says_nothing decision stage (PacketRefused packets.Replication) is = absurd cc
+says_nothing decision stage (PacketRefused (packets.Malformed place)) is = absurd cc
+says_nothing decision stage (PacketRefused packets.PqOption) is = absurd cc
+says_nothing decision stage (MessageRefused fault) is = absurd cc
+says_nothing decision stage DecisionRefused is = absurd cc
+says_nothing decision stage (GateRefused refusal) is = absurd cc
+says_nothing decision stage ShortOfMemory is = absurd cc
+says_nothing decision stage Panicked is = absurd cc
+says_nothing decision stage ToldToTerminate is = absurd cc
+says_nothing decision stage (ToldToQuit reason) is = absurd cc
+says_nothing decision stage Killed is = refl
+says_nothing decision stage Overtaken is = refl
+
+-- nothing stands that ends a session
+none_stands : (kill : Bool) (quit : Option Reason) (terminate : Bool) → ends_by kill quit terminate ≡ None → (quit ≡ None) × (terminate ≡ false)
+none_stands true quit terminate is = absurd cc
+none_stands false (Some reason) terminate is = absurd cc
+none_stands false None true is = absurd cc
+none_stands false None false is = (refl, refl)
+
+-- a signal doesn't end a child as if nothing had happened
+pub told_status : (kill : Bool) (quit : Option Reason) (terminate : Bool) (cause : Cause) → ends_by kill quit terminate ≡ Some cause → status_by cause ≢ statuses.Code 0
+told_status true quit terminate cause is zero =
+    let e : Killed ≡ cause = cc in
+    let f : statuses.Signal 9 ≡ statuses.Code 0 = ap status_by e ∙ zero in absurd cc
+told_status false (Some reason) terminate cause is zero =
+    let e : ToldToQuit reason ≡ cause = cc in
+    let f : statuses.Code 2 ≡ statuses.Code 0 = ap status_by e ∙ zero in absurd cc
+told_status false None true cause is zero =
+    let e : ToldToTerminate ≡ cause = cc in
+    let f : statuses.Code 1 ≡ statuses.Code 0 = ap status_by e ∙ zero in absurd cc
+told_status false None false cause is zero = absurd cc
+
+-- ---- what the child heeds
+
+heeds_by : (kill : Bool) (standing : Standing) (told : Told) (cause : Cause) → standing.kill ≡ kill → Stands standing told → (status_by cause ≡ statuses.Code 0 → ends_of standing ≡ None)
+    → HeedsTold (status_by (cond kill Killed cause)) told
+heeds_by true standing told cause is stands none = record { kill = λ given. refl; quit = λ reason given e. absurd cc; terminate = λ given e. absurd cc }
+heeds_by false standing told cause is stands none = record {
+  kill = λ given. let k : standing.kill ≡ true = stands.kill.1 given in absurd cc;
+  quit = λ reason given e. stands.quits reason given ((none_stands standing.kill standing.quit standing.terminate (none e)).0);
+  terminate = λ given e.
+      let t : standing.terminate ≡ true = stands.terminate.1 given in
+      let f : standing.terminate ≡ false = (none_stands standing.kill standing.quit standing.terminate (none e)).1 in
+      absurd cc;
+}
+
+attentive_at : (told : Told) (at : Attention) → at.told ≡ Some told → IsAttentive at → Stands at.standing told
+attentive_at told at is attentive = rw is at attentive
+
+heeds_if : (told : Option Told) (at : Attention) (cause : Cause) → at.told ≡ told → IsAttentive at → (status_by cause ≡ statuses.Code 0 → ends_of at.standing ≡ None) → Heeds (status_by (cond at.standing.kill Killed cause)) told
+heeds_if None at cause is attentive none = tt
+heeds_if (Some told) at cause is attentive none =
+    heeds_by at.standing.kill at.standing told cause refl (attentive_at told at is attentive) none
+
+-- what was told is told still
+pub told_still : (cause : Cause) (before now : Attention) (m : ℕ) → Hears m before now → IsTold cause before → IsTold cause now
+told_still ToldToTerminate before now m hears told = hears.given Terminate told
+told_still (ToldToQuit reason) before now m hears told = hears.given (Quit reason) told
+told_still Killed before now m hears told = hears.given Kill told
+told_still Terminated before now m hears told = absurd told
+told_still Cancelling before now m hears told = absurd told
+told_still LinkEnded before now m hears told = absurd told
+told_still LinkFailed before now m hears told = absurd told
+told_still TimedOut before now m hears told = absurd told
+told_still (PacketRefused fault) before now m hears told = absurd told
+told_still (MessageRefused fault) before now m hears told = absurd told
+told_still DecisionRefused before now m hears told = absurd told
+told_still (GateRefused refusal) before now m hears told = absurd told
+told_still ShortOfMemory before now m hears told = absurd told
+told_still Panicked before now m hears told = absurd told
+told_still Overtaken before now m hears told = absurd told
+
+pub told_by : (kill : Bool) (quit : Option Reason) (terminate : Bool) (cause : Cause) (link : LinkView) (at : Attention) → ends_by kill quit terminate ≡ Some cause → ShowsCause cause link link at → IsTold cause at
+told_by true quit terminate cause link at is shows =
+    let e : Killed ≡ cause = cc in subst (λ (c : Cause). ShowsCause c link link at → IsTold c at) e (λ h. h) shows
+told_by false (Some reason) terminate cause link at is shows =
+    let e : ToldToQuit reason ≡ cause = cc in subst (λ (c : Cause). ShowsCause c link link at → IsTold c at) e (λ h. h) shows
+told_by false None true cause link at is shows =
+    let e : ToldToTerminate ≡ cause = cc in subst (λ (c : Cause). ShowsCause c link link at → IsTold c at) e (λ h. h) shows
+told_by false None false cause link at is shows = absurd cc
+
+pub told_now : (at : Attention) (cause : Cause) (link : LinkView) → IsAttentive at → ends_of at.standing ≡ Some cause → IsTold cause at
+told_now at cause link attentive is = let shows = told_cause at cause link link attentive is in told_by at.standing.kill at.standing.quit at.standing.terminate cause link at is shows.1
+
+-- ---- the end
+
+exits_as : (kill : Bool) (cause : Cause) → (cond kill Killed cause ≡ cause) ⊎ (cond kill Killed cause ≡ Killed)
+exits_as true cause = inr refl
+exits_as false cause = inl refl
+
+kill_given : (kill : Bool) (told : Option Told) (at : Attention) (cause : Cause) → at.standing.kill ≡ kill → at.told ≡ told → IsAttentive at → cond kill Killed cause ≡ Killed → (cause ≡ Killed) ⊎ was_given Kill told
+kill_given false told at cause is told_is attentive e = inl e
+kill_given true None at cause is told_is attentive e = inr tt
+kill_given true (Some told) at cause is told_is attentive e = inr ((attentive_at told at told_is attentive).kill.0 is)
+
+cut_by : (kill : Bool) (cause : Cause) (failed : Type 0) (missing : List ℕ) → (missing ≡ []) ⊎ (IsTrue kill ⊎ failed) → (missing ≡ []) ⊎ (CutsOff (cond kill Killed cause) ⊎ failed)
+cut_by kill cause failed missing (inl e) = inl e
+cut_by kill cause failed missing (inr (inr f)) = inr (inr f)
+cut_by true cause failed missing (inr (inl k)) = inr (inl tt)
+cut_by false cause failed missing (inr (inl k)) = absurd cc
+
+heeded_none : (decision : Cac) (stage : Stage) (cause ends : Cause) (words : List ℕ) (before now : Attention) → IsLastCause before.standing cause ends → words ≡ bytes_of (last_of decision stage ends) → (words ≡ [] → now ≡ before)
+    → status_by ends ≡ statuses.Code 0 → ends_of now.standing ≡ None
+heeded_none decision stage cause ends words before now (inr h) is silent zero = absurd (told_status before.standing.kill before.standing.quit before.standing.terminate ends h.1 zero)
+heeded_none decision stage cause ends words before now (inl h) is silent zero =
+    let nothing : words ≡ [] = is ∙ ap (λ (ms : List BackMessage). bytes_of ms) (says_nothing decision stage ends zero) ∙ bytes_of-none in
+    ap (λ (at : Attention). ends_of at.standing) (silent nothing) ∙ h.1 (ap status_by (sym h.0) ∙ zero)
+
+ends_so : (cause ends : Cause) (link : LinkView) (before now : Attention) → IsAttentive before → Hears 0 before now → IsLastCause before.standing cause ends → EndsBy cause ends now
+ends_so cause ends link before now attentive hears (inl h) = inl h.0
+ends_so cause ends link before now attentive hears (inr h) =
+    let shows = told_cause before ends link link attentive h.1 in
+    inr (h.0, told_still ends before now 0 hears (told_by before.standing.kill before.standing.quit before.standing.terminate ends link before h.1 shows.1))
+
+pub closed : (decision : Cac) (stage : Stage) (cause ends exit : Cause) (words : List ℕ) (link_before link_now : LinkView) (before between now : Attention) → IsAttentive before → Hears 1 before between → IsLastCause between.standing cause ends
+    → words ≡ bytes_of (last_of decision stage ends) → SaysLast words (outside link_before [] between) (outside link_now [] now) → exit ≡ cond now.standing.kill Killed ends
+    → (ending : Ending) × (ending.stage ≡ stage) × (ending.exit ≡ exit) × Closes decision cause ending (outside link_before [] before) (outside link_now [] now)
+closed decision stage cause ends exit words link_before link_now before between now attentive listened heeded is says exit_is =
+    let there : IsAttentive between = listened.stands attentive in
+    let here : IsAttentive now = says.hears.stands there in
+    let kill = now.standing.kill in (
+      record { cause = ends; stage = stage; exit = cond kill Killed ends; exits = exits_as kill ends },
+      refl,
+      sym exit_is,
+      record {
+        went = says.went;
+        missing = says.missing;
+        ends = ends_so cause ends link_before between now there says.hears heeded;
+        killed = kill_given kill now.told now ends refl refl here;
+        whole = sym is ∙ says.whole;
+        cut = cut_by kill ends (HasFailed link_before link_now) says.missing says.cut;
+        passes = says.passes;
+        hears = hears_both 1 0 before between now listened says.hears;
+        heeds = heeds_if now.told now ends refl here (heeded_none decision stage cause ends words between now heeded is says.silent);
+      },
+    )
+
+-- ---- what is said
+
+pub says_none : (words : List ℕ) (link : LinkView) (at : Attention) → (words ≡ []) ⊎ IsTrue at.standing.kill → SaysLast words (outside link [] at) (outside link [] at)
+says_none words link at why = record {
+  went = [];
+  missing = words;
+  whole = refl;
+  cut = elim why [ inl e ↦ inl e | inr k ↦ inr (inl k) ];
+  passes = passes_none link;
+  hears = hears_none at;
+  silent = λ e. refl;
+}
+
+cut_of : (cause : Cause) (kill : Bool) (link_before link_now : LinkView) (at : Attention) → CutsOff cause → IsBreak cause × ShowsCause cause link_before link_now at → (cause ≡ Killed → IsTrue kill) → IsTrue kill ⊎ HasFailed link_before link_now
+cut_of LinkFailed kill link_before link_now at cuts shows killed = inr shows.1
+cut_of Killed kill link_before link_now at cuts shows killed = inl (killed refl)
+cut_of Overtaken kill link_before link_now at cuts shows killed = absurd shows.0
+cut_of Terminated kill link_before link_now at cuts shows killed = absurd cuts
+cut_of Cancelling kill link_before link_now at cuts shows killed = absurd cuts
+cut_of LinkEnded kill link_before link_now at cuts shows killed = absurd cuts
+cut_of TimedOut kill link_before link_now at cuts shows killed = absurd cuts
+cut_of (PacketRefused fault) kill link_before link_now at cuts shows killed = absurd cuts
+cut_of (MessageRefused fault) kill link_before link_now at cuts shows killed = absurd cuts
+cut_of DecisionRefused kill link_before link_now at cuts shows killed = absurd cuts
+cut_of (GateRefused refusal) kill link_before link_now at cuts shows killed = absurd cuts
+cut_of ShortOfMemory kill link_before link_now at cuts shows killed = absurd cuts
+cut_of Panicked kill link_before link_now at cuts shows killed = absurd cuts
+cut_of ToldToTerminate kill link_before link_now at cuts shows killed = absurd cuts
+cut_of (ToldToQuit reason) kill link_before link_now at cuts shows killed = absurd cuts
+
+sent_cut : (result : Result (Unit {0}) Cause) (missing : List ℕ) (kill : Bool) (link_before link_now : LinkView) (at : Attention) → IsSentAll result missing
+    → MatchResult result (λ _. Unit {0}) (λ cause. IsBreak cause × ShowsCause cause link_before link_now at) → (result ≡ Err Killed → IsTrue kill) → (missing ≡ []) ⊎ (IsTrue kill ⊎ HasFailed link_before link_now)
+sent_cut (Ok done) missing kill link_before link_now at all shows killed = inl all
+sent_cut (Err cause) missing kill link_before link_now at all shows killed = inr (cut_of cause kill link_before link_now at all shows (λ e. killed (ap (λ (c : Cause). Err c) e)))
+
+pub said : (result : Result (Unit {0}) Cause) (words : List ℕ) (link_before link_now : LinkView) (before between now : Attention) → words ≢ [] → Sends result words link_before link_now
+    → MatchResult result (λ _. Unit {0}) (λ cause. IsBreak cause × ShowsCause cause link_before link_now between) → (result ≡ Err Killed → IsTrue between.standing.kill) → Hears 0 before between → Hears 1 between now
+    → SaysLast words (outside link_before [] before) (outside link_now [] now)
+said result words link_before link_now before between now some sends shows killed sending listened = record {
+  went = sends.went;
+  missing = sends.missing;
+  whole = sends.whole;
+  cut = sent_cut result sends.missing now.standing.kill link_before link_now between sends.all shows (λ e. listened.kill (killed e));
+  passes = sends.passes;
+  hears = hears_fewer 0 1 before now (hears_both 0 1 before between now sending listened);
+  silent = λ e. absurd (some e);
+}

@@ -1,0 +1,231 @@
+-- The packets before a session, one behind the other.
+use Rattle.std.proofs.Common.{if◌then◌else◌, ◌≡◌, ◌≢◌, ◌⊎◌, inl, inr, ℕ, ◌+◌, ◌≤◌, ◌<◌, Bool, true, false, List, [], ◌∷◌, ◌++◌, length, map, take, drop, take-append-drop, length-append, Option, None, Some, Result, Ok, Err, MatchResult, refl, sym, ◌∙◌, ap, subst, arith, append_assoc}
+use Rattle.std.specs.List.{flat_map}
+use Rattle.std.proofs.lemmas.Grind.{flat_map-append}
+use Rattle.std.proofs.lemmas.List.{append-nil, map-append, take_all}
+use Rattle.std.proofs.lemmas.List.Concat.{flat_map-cons}
+use Rattle.pm_startup.specs.declared.packet.StartFault.{StartFault}
+use Rattle.pm_startup.specs.declared.packet.StartFault.TheVariants as packets
+use Rattle.pm_startup.specs.declared.phase.Phase.{Phase}
+use Rattle.pm_startup.specs.declared.phase.Step.{Step}
+use Rattle.pm_startup.specs.declared.phase.Step.TheVariants as steps
+use Rattle.pm_startup.specs.Grammar.{Content, int32, packet, startup, ssl_request, gssenc_request, cancel_request, FrontDecides, Decides, IsUndecided, IsIncomplete}
+use Rattle.pm_startup.specs.Phases.{step_of}
+use Rattle.pm_session.specs.declared.ending.Cause.{Cause}
+use Rattle.pm_session.specs.declared.ending.Cause.TheVariants.{Terminated, Cancelling, LinkEnded, LinkFailed, TimedOut, PacketRefused, MessageRefused, DecisionRefused, GateRefused, ShortOfMemory, Panicked, ToldToTerminate, ToldToQuit, Killed, Overtaken}
+use Rattle.pm_session.specs.Exchange.{LinkView, Passes, CutsOff, IsSentAll, Sends, Receives, ReceivesNothing}
+use Rattle.pm_session.specs.Attention.{Attention, Hears}
+use Rattle.pm_session.specs.Session.{AskInTurn, IsStart, IsRefusedPacket, StopsAt, MayPassOver, first_phase}
+use Rattle.pm_session.specs.Conversation.{IsBreak, ShowsCause}
+use Rattle.pm_session.specs.Entry.{outside, Asked, GoesOn, Enters}
+use Rattle.pm_session.proofs.Attentions.{hears_none, hears_both, hears_fewer}
+use Rattle.pm_session.proofs.Links.{passes_none, passes_both, passes_no_more}
+use Rattle.pm_session.proofs.Said.{shows_since}
+
+-- ---- what a step means
+
+no_start : (used : Bool) (fault : StartFault) (next : Phase) → (if used then steps.Refuse fault else steps.SayNo next) ≡ steps.Start → ⊥
+no_start true fault next is = cc
+no_start false fault next is = cc
+
+no_cancel : (used : Bool) (fault : StartFault) (next : Phase) → (if used then steps.Refuse fault else steps.SayNo next) ≡ steps.Cancel → ⊥
+no_cancel true fault next is = cc
+no_cancel false fault next is = cc
+
+pub at_start : (phase : Phase) (content : Content) → step_of phase content ≡ steps.Start → (user : List ℕ) × (content ≡ startup user)
+at_start phase (startup user) is = (user, refl)
+at_start phase ssl_request is = absurd (no_start phase.ssl_used (packets.Version 1234 5679) (record phase { ssl_used = true }) is)
+at_start phase gssenc_request is = absurd (no_start phase.gss_used (packets.Version 1234 5680) (record phase { gss_used = true }) is)
+at_start phase (cancel_request pid key) is = absurd cc
+
+pub is_cancel : (phase : Phase) (content : Content) → step_of phase content ≡ steps.Cancel → (pid : ℕ) × (key : ℕ) × (content ≡ cancel_request pid key)
+is_cancel phase (startup user) is = absurd cc
+is_cancel phase ssl_request is = absurd (no_cancel phase.ssl_used (packets.Version 1234 5679) (record phase { ssl_used = true }) is)
+is_cancel phase gssenc_request is = absurd (no_cancel phase.gss_used (packets.Version 1234 5680) (record phase { gss_used = true }) is)
+is_cancel phase (cancel_request pid key) is = (pid, key, refl)
+
+-- ---- no packet
+
+pub no_packet_yet : IsUndecided []
+no_packet_yet n verdict front =
+    let none : take n [] ≡ [] = take_all n [] (omega arith) in
+    elim front.decides [
+      | inl p ↦ let e : [] ≡ packet p.code p.body = sym none ∙ p.spelled in absurd cc
+      | inr p ↦ let e : [] ≡ int32 p.seen = sym none ∙ p.spelled in absurd cc
+    ]
+
+-- ---- requests
+
+AskInTurn-push : (before between now : Phase) (packets : List (List ℕ)) (packet : List ℕ) (content : Content) → AskInTurn before packets between → Decides packet (Ok content) → step_of between content ≡ steps.SayNo now → AskInTurn before (packets ++ packet ∷ []) now
+AskInTurn-push before between now [] packet content asks decides says =
+    subst (λ (p : Phase). (content : Content) × (next : Phase) × Decides packet (Ok content) × (step_of p content ≡ steps.SayNo next) × (next ≡ now)) (sym asks) (content, now, decides, says, refl)
+AskInTurn-push before between now (p ∷ packets) packet content asks decides says =
+    (asks.0, asks.1, asks.2, asks.3, AskInTurn-push asks.1 between now packets packet content asks.4 decides says)
+
+abbrev all_of : List (List ℕ) → List ℕ
+all_of packets = flat_map (λ packet. packet) packets
+
+abbrev answers_to : List (List ℕ) → List ℕ
+answers_to packets = map (λ packet. 78) packets
+
+all_of-push : (packets : List (List ℕ)) (packet : List ℕ) → all_of (packets ++ packet ∷ []) ≡ all_of packets ++ packet
+all_of-push packets packet = flat_map-append (λ p. p) packets (packet ∷ []) ∙ ap (λ (l : List ℕ). all_of packets ++ l) (flat_map-cons (λ p. p) packet [] ∙ append-nil packet)
+
+pub asked_none : (link : LinkView) (unread : List ℕ) (at : Attention) → Asked first_phase (outside link unread at) (outside link unread at)
+asked_none link unread at = record { requests = []; came = []; asks = refl; input = append-nil unread; passes = passes_none link; hears = hears_none at }
+
+-- bytes came in
+pub asked_received : (phase : Phase) (link0 link1 link2 : LinkView) (unread0 unread1 unread2 : List ℕ) (at0 at1 at2 : Attention) → Asked phase (outside link0 unread0 at0) (outside link1 unread1 at1) → Receives unread1 unread2 link1 link2 → Hears 1 at1 at2
+    → Asked phase (outside link0 unread0 at0) (outside link2 unread2 at2)
+asked_received phase link0 link1 link2 unread0 unread1 unread2 at0 at1 at2 asked receives hears = record {
+  requests = asked.requests;
+  came = asked.came ++ receives.came;
+  asks = asked.asks;
+  input = sym (append_assoc unread0 asked.came receives.came) ∙ ap (λ (l : List ℕ). l ++ receives.came) asked.input ∙ append_assoc (all_of asked.requests) unread1 receives.came ∙ ap (λ (l : List ℕ). all_of asked.requests ++ l) (sym receives.unread);
+  passes = subst (λ (w : List ℕ). Passes (asked.came ++ receives.came) w link0 link2) (append-nil (answers_to asked.requests)) (passes_both asked.came (answers_to asked.requests) receives.came [] link0 link1 link2 asked.passes receives.passes);
+  hears = hears_fewer 0 1 at0 at2 (hears_both 0 1 at0 at1 at2 asked.hears hears);
+}
+
+-- the front of what is unread is one more request
+requests_more : (requests : List (List ℕ)) (before came unread : List ℕ) (used : ℕ) → before ++ came ≡ all_of requests ++ unread → before ++ came ≡ all_of (requests ++ take used unread ∷ []) ++ drop used unread
+requests_more requests before came unread used is =
+    is ∙ ap (λ (l : List ℕ). all_of requests ++ l) (sym (take-append-drop used unread)) ∙ sym (append_assoc (all_of requests) (take used unread) (drop used unread))
+    ∙ ap (λ (l : List ℕ). l ++ drop used unread) (sym (all_of-push requests (take used unread)))
+
+answers_more : (requests : List (List ℕ)) (packet : List ℕ) → answers_to (requests ++ packet ∷ []) ≡ answers_to requests ++ 78 ∷ []
+answers_more requests packet = map-append (λ p. 78) requests (packet ∷ [])
+
+-- one more request was answered
+pub asked_more : (phase next : Phase) (content : Content) (used : ℕ) (link0 link1 link2 : LinkView) (unread0 unread1 unread2 : List ℕ) (at0 at1 at2 : Attention) → Asked phase (outside link0 unread0 at0) (outside link1 unread1 at1)
+    → FrontDecides unread1 used (Ok content) → step_of phase content ≡ steps.SayNo next → unread2 ≡ drop used unread1 → Passes [] (78 ∷ []) link1 link2 → Hears 0 at1 at2 → Asked next (outside link0 unread0 at0) (outside link2 unread2 at2)
+asked_more phase next content used link0 link1 link2 unread0 unread1 unread2 at0 at1 at2 asked front says rest passes hears = record {
+  requests = asked.requests ++ take used unread1 ∷ [];
+  came = asked.came;
+  asks = AskInTurn-push first_phase phase next asked.requests (take used unread1) content asked.asks front.decides says;
+  input = requests_more asked.requests unread0 asked.came unread1 used asked.input ∙ ap (λ (l : List ℕ). all_of (asked.requests ++ take used unread1 ∷ []) ++ l) (sym rest);
+  passes = subst (λ (w : List ℕ). Passes asked.came w link0 link2) (sym (answers_more asked.requests (take used unread1)))
+      (subst (λ (i : List ℕ). Passes i (answers_to asked.requests ++ 78 ∷ []) link0 link2) (append-nil asked.came) (passes_both asked.came (answers_to asked.requests) [] (78 ∷ []) link0 link1 link2 asked.passes passes));
+  hears = hears_both 0 0 at0 at1 at2 asked.hears hears;
+}
+
+-- ---- the end of it
+
+asked_front : (requests : List (List ℕ)) (before came unread : List ℕ) (used : ℕ) → before ++ came ≡ all_of requests ++ unread → before ++ came ≡ all_of requests ++ take used unread ++ drop used unread
+asked_front requests before came unread used is =
+    is ∙ ap (λ (l : List ℕ). all_of requests ++ l) (sym (take-append-drop used unread)) ∙ sym (append_assoc (all_of requests) (take used unread) (drop used unread))
+
+-- the packet at the front decides
+pub enters_by : (result : Result (Unit {0}) Cause) (phase : Phase) (used : ℕ) (link0 link1 : LinkView) (unread0 unread1 unread2 : List ℕ) (at0 at1 : Attention) → Asked phase (outside link0 unread0 at0) (outside link1 unread1 at1)
+    → GoesOn result phase (take used unread1) (drop used unread1) [] (outside link0 unread0 at0) (outside link1 unread2 at1) → Enters result (outside link0 unread0 at0) (outside link1 unread2 at1)
+enters_by result phase used link0 link1 unread0 unread1 unread2 at0 at1 asked goes = record {
+  requests = asked.requests;
+  phase = phase;
+  last = take used unread1;
+  beyond = drop used unread1;
+  came = asked.came;
+  went = answers_to asked.requests;
+  missing = [];
+  asks = asked.asks;
+  goes_on = goes;
+  input = asked_front asked.requests unread0 asked.came unread1 used asked.input;
+  output = sym (append-nil (answers_to asked.requests));
+  passes = asked.passes;
+  hears = asked.hears;
+}
+
+stops_by : (phase : Phase) (cause : Cause) (last : List ℕ) → IsBreak cause → IsUndecided last → StopsAt phase cause last × MayPassOver cause []
+stops_by phase Terminated last breaks none = absurd breaks
+stops_by phase Cancelling last breaks none = absurd breaks
+stops_by phase LinkEnded last breaks none = (none, refl)
+stops_by phase LinkFailed last breaks none = (none, tt)
+stops_by phase TimedOut last breaks none = absurd breaks
+stops_by phase (PacketRefused fault) last breaks none = absurd breaks
+stops_by phase (MessageRefused fault) last breaks none = absurd breaks
+stops_by phase DecisionRefused last breaks none = absurd breaks
+stops_by phase (GateRefused refusal) last breaks none = absurd breaks
+stops_by phase ShortOfMemory last breaks none = absurd breaks
+stops_by phase Panicked last breaks none = absurd breaks
+stops_by phase ToldToTerminate last breaks none = (inl none, tt)
+stops_by phase (ToldToQuit reason) last breaks none = (inl none, tt)
+stops_by phase Killed last breaks none = (inl none, tt)
+stops_by phase Overtaken last breaks none = absurd breaks
+
+-- no more came
+pub enters_broken : (phase : Phase) (cause : Cause) (link0 link1 link2 : LinkView) (unread0 unread1 unread2 : List ℕ) (at0 at1 at2 : Attention) → Asked phase (outside link0 unread0 at0) (outside link1 unread1 at1) → IsUndecided unread1
+    → ReceivesNothing unread1 unread2 link1 link2 → Hears 1 at1 at2 → IsBreak cause × ShowsCause cause link1 link2 at2 → Enters (Err cause) (outside link0 unread0 at0) (outside link2 unread2 at2)
+enters_broken phase cause link0 link1 link2 unread0 unread1 unread2 at0 at1 at2 asked none receives hears shows =
+    let stops = stops_by phase cause unread1 shows.0 none in
+    record {
+      requests = asked.requests;
+      phase = phase;
+      last = unread1;
+      beyond = [];
+      came = asked.came;
+      went = answers_to asked.requests;
+      missing = [];
+      asks = asked.asks;
+      goes_on = (stops.0, stops.1, inl refl, shows_since cause link0 link1 link2 at2 asked.passes.later shows.1);
+      input = asked.input ∙ sym (append-nil (all_of asked.requests ++ unread1));
+      output = sym (append-nil (answers_to asked.requests));
+      passes = passes_no_more asked.came (answers_to asked.requests) link0 link1 link2 asked.passes receives.passes;
+      hears = hears_fewer 0 1 at0 at2 (hears_both 0 1 at0 at1 at2 asked.hears hears);
+    }
+
+cut_stops : (phase : Phase) (cause : Cause) (beyond : List ℕ) → IsBreak cause → CutsOff cause → StopsAt phase cause [] × MayPassOver cause beyond
+cut_stops phase Terminated beyond breaks cuts = absurd cuts
+cut_stops phase Cancelling beyond breaks cuts = absurd cuts
+cut_stops phase LinkEnded beyond breaks cuts = absurd cuts
+cut_stops phase LinkFailed beyond breaks cuts = (no_packet_yet, tt)
+cut_stops phase TimedOut beyond breaks cuts = absurd cuts
+cut_stops phase (PacketRefused fault) beyond breaks cuts = absurd cuts
+cut_stops phase (MessageRefused fault) beyond breaks cuts = absurd cuts
+cut_stops phase DecisionRefused beyond breaks cuts = absurd cuts
+cut_stops phase (GateRefused refusal) beyond breaks cuts = absurd cuts
+cut_stops phase ShortOfMemory beyond breaks cuts = absurd cuts
+cut_stops phase Panicked beyond breaks cuts = absurd cuts
+cut_stops phase ToldToTerminate beyond breaks cuts = absurd cuts
+cut_stops phase (ToldToQuit reason) beyond breaks cuts = absurd cuts
+cut_stops phase Killed beyond breaks cuts = (inl no_packet_yet, tt)
+cut_stops phase Overtaken beyond breaks cuts = absurd breaks
+
+-- an answer to a request was broken off
+pub enters_cut : (phase next : Phase) (content : Content) (cause : Cause) (used : ℕ) (link0 link1 link2 : LinkView) (unread0 unread1 unread2 : List ℕ) (at0 at1 at2 : Attention) → Asked phase (outside link0 unread0 at0) (outside link1 unread1 at1)
+    → FrontDecides unread1 used (Ok content) → step_of phase content ≡ steps.SayNo next → unread2 ≡ drop used unread1 → Sends (Err cause) (78 ∷ []) link1 link2 → Hears 0 at1 at2 → IsBreak cause × ShowsCause cause link1 link2 at2
+    → Enters (Err cause) (outside link0 unread0 at0) (outside link2 unread2 at2)
+enters_cut phase next content cause used link0 link1 link2 unread0 unread1 unread2 at0 at1 at2 asked front says rest sends hears shows =
+    let packet = take used unread1 in
+    let stops = cut_stops next cause unread2 shows.0 sends.all in
+    record {
+      requests = asked.requests ++ packet ∷ [];
+      phase = next;
+      last = [];
+      beyond = unread2;
+      came = asked.came;
+      went = answers_to asked.requests ++ sends.went;
+      missing = sends.missing;
+      asks = AskInTurn-push first_phase phase next asked.requests packet content asked.asks front.decides says;
+      goes_on = (stops.0, stops.1, inr sends.all, shows_since cause link0 link1 link2 at2 asked.passes.later shows.1);
+      input = requests_more asked.requests unread0 asked.came unread1 used asked.input ∙ ap (λ (l : List ℕ). all_of (asked.requests ++ packet ∷ []) ++ l) (sym rest)
+          ∙ ap (λ (l : List ℕ). l ++ unread2) (sym (append-nil (all_of (asked.requests ++ packet ∷ []))));
+      output = answers_more asked.requests packet ∙ ap (λ (l : List ℕ). answers_to asked.requests ++ l) sends.whole ∙ sym (append_assoc (answers_to asked.requests) sends.went sends.missing);
+      passes = subst (λ (i : List ℕ). Passes i (answers_to asked.requests ++ sends.went) link0 link2) (append-nil asked.came) (passes_both asked.came (answers_to asked.requests) [] sends.went link0 link1 link2 asked.passes sends.passes);
+      hears = hears_both 0 0 at0 at1 at2 asked.hears hears;
+    }
+
+-- memory was short before the first byte
+pub enters_not : (link : LinkView) (at : Attention) → Enters (Err ShortOfMemory) (outside link [] at) (outside link [] at)
+enters_not link at = record {
+  requests = [];
+  phase = first_phase;
+  last = [];
+  beyond = [];
+  came = [];
+  went = [];
+  missing = [];
+  asks = refl;
+  goes_on = (inl no_packet_yet, tt, inl refl, tt);
+  input = refl;
+  output = refl;
+  passes = passes_none link;
+  hears = hears_none at;
+}

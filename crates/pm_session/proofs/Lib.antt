@@ -1,0 +1,10 @@
+pub mod Attentions
+pub mod Closings
+pub mod Conversing
+pub mod Entries
+pub mod Links
+pub mod Noted
+pub mod Said
+pub mod Sessions
+pub mod Signals
+pub mod Steps

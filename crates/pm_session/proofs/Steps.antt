@@ -1,0 +1,115 @@
+-- Steps of a session: a wait, a message, an end.
+use Rattle.std.proofs.Common.{◌≡◌, ◌⊎◌, inl, inr, ℕ, ◌+◌, ◌<◌, ◌≤◌, List, [], ◌∷◌, ◌++◌, length, drop, Result, Ok, Err, refl, sym, ◌∙◌, ap, subst, arith, length-append}
+use Rattle.std.proofs.lemmas.List.{append-nil}
+use Rattle.pm_query.specs.declared.book.BookEntry.{BookEntry}
+use Rattle.pm_query.specs.Calls.{User}
+use Rattle.pm_wire.specs.Pieces.{int32}
+use Rattle.pm_wire.specs.Frontend.{IsUndecided, IsBadHeader, BeginsBadly, Wants, its_type, its_length, its_body}
+use Rattle.pm_session.specs.declared.ending.MessageFault.TheVariants.{BadLength}
+use Rattle.pm_session.specs.declared.ending.Cause.{Cause}
+use Rattle.pm_session.specs.declared.ending.Cause.TheVariants.{Terminated, Cancelling, LinkEnded, LinkFailed, TimedOut, PacketRefused, MessageRefused, DecisionRefused, GateRefused, ShortOfMemory, Panicked, ToldToTerminate, ToldToQuit, Killed, Overtaken}
+use Rattle.pm_session.specs.Exchange.{LinkView, Passes}
+use Rattle.pm_session.specs.Attention.{Attention, Hears}
+use Rattle.pm_session.specs.Sent.{bytes_of}
+use Rattle.pm_session.specs.Session.{MayPassOver, pieces}
+use Rattle.pm_session.specs.Conversation.{Moment, moment, Conversed, IsBreak}
+use Rattle.pm_session.specs.Turns.{IsSignal, Comes, Conversing, Converses}
+use Rattle.pm_session.proofs.Attentions.{hears_both, hears_fewer}
+use Rattle.pm_session.proofs.Links.{passes_none}
+use Rattle.pm_session.proofs.Said.{bytes_of-none}
+use Rattle.pm_session.proofs.Conversing.{nothing_among, nothing_yet, nothing_beyond, broken_ends, ends_here}
+
+signal_breaks : (cause : Cause) → IsSignal cause → IsBreak cause
+signal_breaks Terminated signal = absurd signal
+signal_breaks Cancelling signal = absurd signal
+signal_breaks LinkEnded signal = absurd signal
+signal_breaks LinkFailed signal = absurd signal
+signal_breaks TimedOut signal = absurd signal
+signal_breaks (PacketRefused fault) signal = absurd signal
+signal_breaks (MessageRefused fault) signal = absurd signal
+signal_breaks DecisionRefused signal = absurd signal
+signal_breaks (GateRefused refusal) signal = absurd signal
+signal_breaks ShortOfMemory signal = absurd signal
+signal_breaks Panicked signal = absurd signal
+signal_breaks ToldToTerminate signal = tt
+signal_breaks (ToldToQuit reason) signal = tt
+signal_breaks Killed signal = tt
+signal_breaks Overtaken signal = absurd signal
+
+signal_beyond : (cause : Cause) (beyond : List ℕ) → IsSignal cause → MayPassOver cause beyond
+signal_beyond Terminated beyond signal = absurd signal
+signal_beyond Cancelling beyond signal = absurd signal
+signal_beyond LinkEnded beyond signal = absurd signal
+signal_beyond LinkFailed beyond signal = absurd signal
+signal_beyond TimedOut beyond signal = absurd signal
+signal_beyond (PacketRefused fault) beyond signal = absurd signal
+signal_beyond (MessageRefused fault) beyond signal = absurd signal
+signal_beyond DecisionRefused beyond signal = absurd signal
+signal_beyond (GateRefused refusal) beyond signal = absurd signal
+signal_beyond ShortOfMemory beyond signal = absurd signal
+signal_beyond Panicked beyond signal = absurd signal
+signal_beyond ToldToTerminate beyond signal = tt
+signal_beyond (ToldToQuit reason) beyond signal = tt
+signal_beyond Killed beyond signal = tt
+signal_beyond Overtaken beyond signal = absurd signal
+
+-- a signal ended the session before a message was taken
+pub stops_here : {S : Type 0} (notes : List BookEntry → S → S → Type 0) (user : User) (cause : Cause) (unread : List ℕ) (link : LinkView) (store : S) (child_before child_now : Attention) → IsSignal cause → notes [] store store
+    → Hears 1 child_before child_now → Conversed notes user cause (moment link unread store child_before) (moment link unread store child_now)
+stops_here notes user cause unread link store child_before child_now signal rests heard =
+    ends_here notes user cause [] [] 1 (moment link unread store child_before) (moment link unread store child_now) (broken_ends user cause [] (signal_breaks cause signal) nothing_yet) (signal_beyond cause unread signal)
+    (append-nil unread) (passes_none link) rests heard
+
+-- bytes came in, or the wait for them was broken off
+pub waited : {S : Type 0} (notes : List BookEntry → S → S → Type 0) (user : User) (wanted : ℕ) (result : Result (Unit {0}) Cause) (unread_before unread_now : List ℕ) (link_before link_now : LinkView) (store : S)
+    (child_before child_between child_now : Attention) → notes [] store store → Hears 1 child_before child_between → Hears 0 child_between child_now → Comes wanted result unread_before unread_now link_before link_now
+    → ((more : List ℕ) → length (unread_before ++ more) < wanted → IsUndecided (unread_before ++ more))
+    → Converses notes user result (moment link_before unread_before store child_before) (moment link_now unread_now store child_now)
+waited notes user wanted (Ok done) unread_before unread_now link_before link_now store child_before child_between child_now rests heard more_heard comes undecided = record {
+  texts = [];
+  turns = [];
+  asked = [];
+  came = comes.came;
+  each = refl;
+  input = sym comes.unread;
+  passes = subst (λ (l : List ℕ). Passes comes.came l link_before link_now) (sym bytes_of-none) comes.passes;
+  entries = rests;
+  hears = hears_fewer 0 1 child_before child_now (hears_both 1 0 child_before child_between child_now heard more_heard);
+  cancelled = λ turn among is. absurd (nothing_among turn among);
+}
+waited notes user wanted (Err cause) unread_before unread_now link_before link_now store child_before child_between child_now rests heard more_heard comes undecided =
+    let why = comes.unread in
+    ends_here notes user cause (unread_before ++ comes.came) comes.came 1 (moment link_before unread_before store child_before) (moment link_now unread_now store child_now)
+    (broken_ends user cause (unread_before ++ comes.came) why.2 (undecided comes.came why.1)) (subst (MayPassOver cause) (sym why.0) (nothing_beyond cause))
+    (sym (append-nil (unread_before ++ comes.came)) ∙ ap (λ (l : List ℕ). (unread_before ++ comes.came) ++ l) (sym why.0))
+    comes.passes rests (hears_both 1 0 child_before child_between child_now heard more_heard)
+
+length_int32 : (n : ℕ) → length (int32 n) ≡ 4
+unfolding int32
+length_int32 n = refl
+
+header_length : (header : List ℕ) (seen : ℕ) → IsBadHeader header seen → length header ≡ 5
+header_length header seen (inl bad) = ap length bad.0 ∙ omega (arith, length_int32 seen)
+header_length header seen (inr bad) = ap length bad.0 ∙ omega (arith, length_int32 seen)
+
+pub bad_length : (unread : List ℕ) (seen : ℕ) → BeginsBadly unread seen → 5 ≤ length unread
+bad_length unread seen (header, rest, is, bad) = omega (arith, ap length is, length-append header rest, header_length header seen bad)
+
+-- a length that no message has
+pub length_refused : {S : Type 0} (notes : List BookEntry → S → S → Type 0) (user : User) (seen : ℕ) (unread : List ℕ) (link : LinkView) (store : S) (child_before child_now : Attention) → notes [] store store → Hears 1 child_before child_now
+    → BeginsBadly unread seen → Conversed notes user (MessageRefused (BadLength seen)) (moment link unread store child_before) (moment link (drop 5 unread) store child_now)
+length_refused notes user seen unread link store child_before child_now rests heard (header, rest, is, bad) =
+    let size : length header ≡ 5 = header_length header seen bad in
+    let behind : drop 5 unread ≡ rest = ap (λ (l : List ℕ). drop 5 l) is ∙ ap (λ (n : ℕ). drop n (header ++ rest)) (sym size) ∙ drop_front header rest in
+    ends_here notes user (MessageRefused (BadLength seen)) header [] 1 (moment link unread store child_before) (moment link (drop 5 unread) store child_now) (bad, refl) tt
+    (append-nil unread ∙ is ∙ ap (λ (l : List ℕ). header ++ l) (sym behind)) (passes_none link) rests heard
+  where
+    drop_front : (front rest : List ℕ) → drop (length front) (front ++ rest) ≡ rest
+    drop_front [] rest = refl
+    drop_front (x ∷ front) rest = drop_front front rest
+
+-- so many bytes fit the inbox
+pub wanted_fits : (unread : List ℕ) (wanted : ℕ) → Wants unread wanted → wanted ≤ 66048
+wanted_fits unread wanted (its_type none is) = omega (arith, is)
+wanted_fits unread wanted (its_length kind part is simple few is_wanted) = omega (arith, is_wanted)
+wanted_fits unread wanted (its_body seen part is within more is_wanted) = omega (arith, is_wanted, within)

@@ -1,0 +1,152 @@
+-- The start of a connection, up to its startup packet; and what is said last.
+use Rattle.std.specs.Prelude.{◌≡◌, ◌⊎◌, ℕ, ◌<◌, ◌≤◌, List, [], ◌∷◌, ◌++◌, length, take, map, Option, None, Some, Result, Ok, Err, IsTrue}
+use Rattle.std.specs.List.{flat_map}
+use Rattle.pm_admit.specs.declared.Cac.{Cac}
+use Rattle.pm_exit.specs.declared.child.Status.TheVariants as statuses
+use Rattle.pm_startup.specs.declared.packet.StartFault.{StartFault}
+use Rattle.pm_startup.specs.declared.phase.Phase.{Phase}
+use Rattle.pm_startup.specs.declared.phase.Step.TheVariants.{SayNo}
+use Rattle.pm_startup.specs.Grammar.{Content, startup, cancel_request, FrontDecides, IsUndecided as IsNoPacketYet}
+use Rattle.pm_startup.specs.Phases.{step_of}
+use Rattle.pm_query.specs.declared.book.BookEntry.{BookEntry}
+use Rattle.pm_query.specs.declared.book.BookEntry.TheVariants.{Attached}
+use Rattle.pm_query.specs.declared.store.StoreNo.{StoreNo}
+use Rattle.pm_query.specs.declared.store.StoreNo.TheVariants as nos
+use Rattle.pm_query.specs.Calls.{User}
+use Rattle.pm_life.specs.Life.{Kill, Quit, Terminate}
+use Rattle.pm_session.specs.declared.ending.Cause.{Cause}
+use Rattle.pm_session.specs.declared.ending.Cause.TheVariants.{ToldToTerminate, ToldToQuit, Killed, Overtaken, ShortOfMemory}
+use Rattle.pm_session.specs.declared.ending.Stage.{Stage}
+use Rattle.pm_session.specs.declared.startup.Ask.{Ask}
+use Rattle.pm_session.specs.declared.startup.Ask.TheVariants.{Nothing, Encryption, Start, Cancel, Refused}
+use Rattle.pm_session.specs.Exchange.{LinkView, Passes, HasFailed, CutsOff}
+use Rattle.pm_session.specs.declared.attention.Standing.{Standing}
+use Rattle.pm_session.specs.Attention.{Attention, Hears, was_given, ends_of}
+use Rattle.pm_session.specs.Sent.{Turn, bytes_of}
+use Rattle.pm_session.specs.Session.{Ending, Heeds, HasAskedFor, IsCaused, IsText, IsStart, IsRefusedPacket, AskInTurn, StopsAt, MayPassOver, Leaves, first_phase, last_messages, status_by, status_of}
+use Rattle.pm_session.specs.Conversation.{Moment, moment, ShowsCause}
+
+-- a moment at which no store is used
+abbrev pub outside : LinkView → List ℕ → Attention → Moment (Unit {0})
+outside link unread child = moment link unread tt child
+
+-- ---- the startup packet
+
+-- what the bytes that came so far ask for in a phase
+abbrev pub AsksFor : Phase → List ℕ → Ask → Type 0
+AsksFor phase bytes Nothing = IsNoPacketYet bytes × (length bytes < 10004)
+AsksFor phase bytes (Encryption behind used) = (content : Content) × FrontDecides bytes used (Ok content) × (step_of phase content ≡ SayNo behind)
+AsksFor phase bytes (Start used) = (user : List ℕ) × FrontDecides bytes used (Ok (startup user))
+AsksFor phase bytes (Cancel pid key) = (used : ℕ) × FrontDecides bytes used (Ok (cancel_request pid key))
+AsksFor phase bytes (Refused fault) = (used : ℕ) × (used ≤ length bytes) × IsRefusedPacket phase (take used bytes) fault
+
+-- the requests for encryption so far, all answered
+pub record Asked (phase : Phase) (before now : Moment (Unit {0})) : Type 0 where
+  pub requests : List (List ℕ)
+  pub came : List ℕ
+  pub asks : AskInTurn first_phase requests phase
+  pub input : before.unread ++ came ≡ flat_map (λ packet. packet) requests ++ now.unread
+  pub passes : Passes came (map (λ packet. 78) requests) before.link now.link
+  pub hears : Hears 0 before.child now.child
+
+-- behind the requests this packet starts the session, or it goes no further
+abbrev pub GoesOn : Result (Unit {0}) Cause → Phase → (last beyond missing : List ℕ) → (before now : Moment (Unit {0})) → Type 0
+GoesOn (Ok done) phase last beyond missing before now = IsStart last × (beyond ≡ now.unread) × (missing ≡ [])
+GoesOn (Err cause) phase last beyond missing before now =
+    StopsAt phase cause last × MayPassOver cause beyond × ((missing ≡ []) ⊎ CutsOff cause) × ShowsCause cause before.link now.link now.child
+
+-- The packets up to the one that starts the session, or up to its end; each request for encryption was answered, but for
+-- one whose answer was broken off.
+pub record Enters (result : Result (Unit {0}) Cause) (before now : Moment (Unit {0})) : Type 0 where
+  pub requests : List (List ℕ)
+  pub phase : Phase
+  pub last : List ℕ
+  pub beyond : List ℕ
+  pub came : List ℕ
+  pub went : List ℕ
+  pub missing : List ℕ
+  pub asks : AskInTurn first_phase requests phase
+  pub goes_on : GoesOn result phase last beyond missing before now
+  pub input : before.unread ++ came ≡ flat_map (λ packet. packet) requests ++ last ++ beyond
+  pub output : map (λ packet. 78) requests ≡ went ++ missing
+  pub passes : Passes came went before.link now.link
+  pub hears : Hears 0 before.child now.child
+
+-- ---- the store
+
+-- by what a session ends that the store doesn't let in, which it does for these two alone
+abbrev pub refusal_cause : StoreNo → Cause
+refusal_cause (nos.Stale mine found) = Overtaken
+refusal_cause _ = ShortOfMemory
+
+-- ---- the last words
+
+-- these words were said, or a front of them: the child was killed, or the link failed
+pub record SaysLast (words : List ℕ) (before now : Moment (Unit {0})) : Type 0 where
+  pub went : List ℕ
+  pub missing : List ℕ
+  pub whole : words ≡ went ++ missing
+  pub cut : (missing ≡ []) ⊎ (IsTrue now.child.standing.kill ⊎ HasFailed before.link now.link)
+  pub passes : Passes [] went before.link now.link
+  pub hears : Hears 0 before.child now.child
+  pub silent : words ≡ [] → now.child ≡ before.child
+
+-- By what a session ends in place of a cause, where this stands: by what was told, where the child would exit as if nothing
+-- had happened.
+abbrev pub IsLastCause : Standing → (cause ends : Cause) → Type 0
+IsLastCause standing cause ends =
+    ((ends ≡ cause) × (status_by cause ≡ statuses.Code 0 → ends_of standing ≡ None)) ⊎ ((status_by cause ≡ statuses.Code 0) × (ends_of standing ≡ Some ends))
+
+-- what the child was told to do
+abbrev pub IsTold : Cause → Attention → Type 0
+IsTold ToldToTerminate child = was_given Terminate child.told
+IsTold (ToldToQuit reason) child = was_given (Quit reason) child.told
+IsTold Killed child = was_given Kill child.told
+IsTold _ child = ⊥
+
+-- by what the session ends in the end: by this cause, or by a signal where the child would exit as if nothing had happened
+abbrev pub EndsBy : Cause → Cause → Attention → Type 0
+EndsBy cause ends child = (ends ≡ cause) ⊎ ((status_by cause ≡ statuses.Code 0) × IsTold ends child)
+
+-- A session that comes to its end for a cause has said its last words, or a front of them.
+pub record Closes (decision : Cac) (cause : Cause) (ending : Ending) (before now : Moment (Unit {0})) : Type 0 where
+  pub went : List ℕ
+  pub missing : List ℕ
+  pub ends : EndsBy cause ending.cause now.child
+  pub killed : ending.exit ≡ Killed → (ending.cause ≡ Killed) ⊎ was_given Kill now.child.told
+  pub whole : bytes_of (last_messages decision ending) ≡ went ++ missing
+  pub cut : (missing ≡ []) ⊎ (CutsOff ending.exit ⊎ HasFailed before.link now.link)
+  pub passes : Passes [] went before.link now.link
+  pub hears : Hears 1 before.child now.child
+  pub heeds : Heeds (status_of ending) now.child.told
+
+-- ---- behind the startup packet
+
+-- With any requests for encryption and any startup packet before it, this makes the text of a session.
+abbrev pub IsTextBehind : Cac → User → ℕ → Ending → List Turn → (came whole : List ℕ) → List BookEntry → Type 0
+IsTextBehind decision user key ending turns came whole noted =
+    (requests : List (List ℕ)) (phase : Phase) (packet : List ℕ) → AskInTurn first_phase requests phase → IsStart packet
+    → IsText decision user key turns ending (flat_map (λ p. p) requests ++ packet ++ came) (map (λ p. 78) requests ++ whole) noted
+
+-- The same of a child that has entered the store and has not left it.
+abbrev pub IsTextInside : Cac → User → ℕ → Ending → List Turn → (came whole : List ℕ) → List BookEntry → Type 0
+IsTextInside decision user key ending turns came whole noted =
+    (left : List BookEntry) → Leaves user ending.exit left → IsTextBehind decision user key ending turns came whole (Attached user.pid user.generation ∷ noted ++ left)
+
+-- What passed up to a session's end, what was noted, and why it ended, whatever its limit of time is; its text is of this
+-- kind.
+pub record Serves {S : Type 0} (notes : List BookEntry → S → S → Type 0) (Text : Ending → List Turn → (came whole : List ℕ) → List BookEntry → Type 0) (decision : Cac) (generation : ℕ) (gives : ℕ → Type 0) (ending : Ending) (before now : Moment S) : Type 0 where
+  pub turns : List Turn
+  pub came : List ℕ
+  pub went : List ℕ
+  pub missing : List ℕ
+  pub whole : List ℕ
+  pub noted : List BookEntry
+  pub text : Text ending turns (before.unread ++ came) whole noted
+  pub sent : whole ≡ went ++ missing
+  pub cut : (missing ≡ []) ⊎ (CutsOff ending.exit ⊎ HasFailed before.link now.link)
+  pub passes : Passes came went before.link now.link
+  pub entries : notes noted before.store now.store
+  pub asked : HasAskedFor turns before.child.told now.child.told
+  pub caused : (limit : ℕ) → IsCaused ending turns generation decision now.link.traffic (HasFailed before.link now.link) now.child.told limit gives
+  pub heeds : Heeds (status_of ending) now.child.told

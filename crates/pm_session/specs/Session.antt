@@ -1,0 +1,351 @@
+-- A whole session: what its client is sent for what it sent, what the child notes, how it ends, and why.
+use Rattle.std.specs.Prelude.{◌≡◌, ◌≢◌, ◌⊎◌, ℕ, ◌+◌, ◌-◌, ◌^◌, ◌≤◌, min, Bool, true, false, List, [], ◌∷◌, ◌++◌, length, map, codes, Option, None, Some, Result, Ok, Err, IfSome, IsTrue}
+use Rattle.std.specs.List.{flat_map}
+use Rattle.std.specs.Str.{IsUtf8}
+use Rattle.pm_outside.specs.Traffic.{Traffic}
+use Rattle.pm_admit.specs.declared.Cac.{Cac}
+use Rattle.pm_admit.specs.declared.Cac.TheVariants as decisions
+use Rattle.pm_exit.specs.declared.child.Status.{Status}
+use Rattle.pm_exit.specs.declared.child.Status.TheVariants as statuses
+use Rattle.pm_startup.specs.declared.packet.StartFault.{StartFault}
+use Rattle.pm_startup.specs.declared.packet.StartFault.TheVariants.{Length}
+use Rattle.pm_startup.specs.declared.phase.Phase.{Phase}
+use Rattle.pm_startup.specs.declared.phase.Step.TheVariants.{SayNo, Refuse}
+use Rattle.pm_startup.specs.Grammar.{Content, startup, cancel_request, Decides, IsUndecided as IsNoPacketYet}
+use Rattle.pm_startup.specs.Phases.{step_of}
+use Rattle.pm_sql.specs.declared.stmt.Stmt.{Stmt}
+use Rattle.pm_sql.specs.declared.query.SqlFault.{SqlFault}
+use Rattle.pm_sql.specs.declared.query.SqlFault.TheVariants as texts
+use Rattle.pm_sql.specs.Statements.{IsQueryText}
+use Rattle.pm_sql.specs.Faults.{IsFaultOf}
+use Rattle.pm_rows.specs.declared.commit.Change.{Change}
+use Rattle.pm_query.specs.declared.item.Item.{Item}
+use Rattle.pm_query.specs.declared.book.BookEntry.{BookEntry}
+use Rattle.pm_query.specs.declared.book.BookEntry.TheVariants.{Attached, Answered, Released, LogFull}
+use Rattle.pm_query.specs.Calls.{User, MayBeOver, NotesAnswer, NotesFault, LeaveNotes}
+use Rattle.pm_supervisor.specs.declared.Reason.{Reason}
+use Rattle.pm_life.specs.declared.life.GateNo.{GateNo}
+use Rattle.pm_life.specs.Life.{Child, Told, Signal, Kill, Quit, Terminate as ToTerminate, Cancel, was_told}
+use Rattle.pm_wire.specs.Backend.{BackMessage}
+use Rattle.pm_wire.specs.Frontend.{FrontMessage, Query, BadQuery, LongQuery as IsLongQuery, Terminate, Extended as IsExtended, Other, IsFront, IsUndecided as IsNoMessageYet, IsBadHeader}
+use Rattle.pm_wire.specs.Pieces.{message, string}
+use Rattle.pm_session.specs.declared.ending.MessageFault.{MessageFault}
+use Rattle.pm_session.specs.declared.ending.MessageFault.TheVariants.{BadLength, BadForm, LongQuery, Extended, UnknownType}
+use Rattle.pm_session.specs.declared.ending.Cause.{Cause}
+use Rattle.pm_session.specs.declared.ending.Cause.TheVariants.{Terminated, Cancelling, LinkEnded, LinkFailed, TimedOut, PacketRefused, MessageRefused, DecisionRefused, GateRefused, ShortOfMemory, Panicked, ToldToTerminate, ToldToQuit, Killed, Overtaken}
+use Rattle.pm_session.specs.declared.ending.Stage.{Stage}
+use Rattle.pm_session.specs.declared.ending.Stage.TheVariants.{Outside, Entering, Greeted}
+use Rattle.pm_session.specs.Exchange.{CutsOff}
+use Rattle.pm_session.specs.Attention.{was_given}
+use Rattle.pm_session.specs.Sent.{Turn, Ran, Faulted, NotUtf8, Cancelled, LogIsFull, Memory, bytes_of, greeting, turn_messages, last_of}
+
+-- ---- endings
+
+-- By what a session came to its end, how far it had come, and as what the child exits: for that cause, or killed while it
+-- said its last.
+pub record Ending : Type 0 where
+  pub cause : Cause
+  pub stage : Stage
+  pub exit : Cause
+  pub exits : (exit ≡ cause) ⊎ (exit ≡ Killed)
+
+abbrev pub last_messages : Cac → Ending → List BackMessage
+last_messages decision ending = last_of decision ending.stage ending.cause
+
+-- how the child exits
+abbrev pub status_by : Cause → Status
+status_by Terminated = statuses.Code 0
+status_by Cancelling = statuses.Code 0
+status_by LinkEnded = statuses.Code 0
+status_by LinkFailed = statuses.Code 1
+status_by TimedOut = statuses.Code 1
+status_by (PacketRefused (Length seen)) = statuses.Code 0
+status_by (PacketRefused fault) = statuses.Code 1
+status_by (MessageRefused fault) = statuses.Code 1
+status_by DecisionRefused = statuses.Code 1
+status_by (GateRefused refusal) = statuses.Code 1
+status_by ShortOfMemory = statuses.Code 1
+status_by Panicked = statuses.Signal 6
+status_by ToldToTerminate = statuses.Code 1
+status_by (ToldToQuit reason) = statuses.Code 2
+status_by Killed = statuses.Signal 9
+status_by Overtaken = statuses.Signal 6
+
+abbrev pub status_of : Ending → Status
+status_of ending = status_by ending.exit
+
+-- ---- turns
+
+-- an answer to this text, not released; or nothing
+abbrev pub IsUnreleased : ℕ → List ℕ → List BookEntry → Type 0
+IsUnreleased pid text entries =
+    (entries ≡ [])
+    ⊎ ((script : List Stmt) × (reply : List Item) × (front : ℕ) × (commit : List Change) × IsQueryText text script × NotesAnswer pid script reply front commit entries)
+
+-- an answer to this text, and its release
+pub record IsReleased (pid : ℕ) (text : List ℕ) (reply : List Item) (entries : List BookEntry) : Type 0 where
+  pub script : List Stmt
+  pub commit : List Change
+  pub front : ℕ
+  pub tick : ℕ
+  pub answered : List BookEntry
+  pub query : IsQueryText text script
+  pub answer : NotesAnswer pid script reply front commit answered
+  pub entries_are : entries ≡ answered ++ Released pid front tick ∷ []
+
+abbrev pub TurnNotes : ℕ → List ℕ → Turn → List BookEntry → Type 0
+TurnNotes pid text (Ran reply) entries = IsReleased pid text reply entries
+TurnNotes pid text (Faulted fault) entries = (fault ≢ texts.NoMemory) × IsFaultOf text fault × (entries ≡ [])
+TurnNotes pid text NotUtf8 entries = ¬ (IsUtf8 text) × (entries ≡ [])
+TurnNotes pid text Cancelled entries = entries ≡ []
+TurnNotes pid text LogIsFull entries = (script : List Stmt) × (need : ℕ) × (room : ℕ) × IsQueryText text script × (entries ≡ LogFull pid script need room ∷ [])
+TurnNotes pid text Memory entries =
+    IsUnreleased pid text entries ⊎ ((script : List Stmt) × (need : ℕ) × (room : ℕ) × IsQueryText text script × (entries ≡ LogFull pid script need room ∷ []))
+
+abbrev pub query_bytes : List ℕ → List ℕ
+query_bytes text = message (codes "Q") (string text)
+
+-- the queries in order, each with its turn, and all that they note
+abbrev pub AllNotes : ℕ → List (List ℕ) → List Turn → List BookEntry → Type 0
+AllNotes pid [] [] entries = entries ≡ []
+AllNotes pid (text ∷ texts) (turn ∷ turns) entries =
+    (first : List BookEntry) × (others : List BookEntry) × (entries ≡ first ++ others) × IsFront (query_bytes text) (Query text)
+    × TurnNotes pid text turn first × AllNotes pid texts turns others
+AllNotes pid [] (turn ∷ turns) entries = ⊥
+AllNotes pid (text ∷ texts) [] entries = ⊥
+
+abbrev pub pieces : List (List ℕ) → List Turn → List BackMessage
+pieces [] turns = []
+pieces (text ∷ texts) [] = []
+pieces (text ∷ texts) (turn ∷ turns) = turn_messages text turn ++ pieces texts turns
+
+-- ---- what came in before the session was greeted
+
+-- encryption requests, each answered with `N`
+abbrev pub AskInTurn : Phase → List (List ℕ) → Phase → Type 0
+AskInTurn before [] now = before ≡ now
+AskInTurn before (packet ∷ packets) now =
+    (content : Content) × (between : Phase) × Decides packet (Ok content) × (step_of before content ≡ SayNo between) × AskInTurn between packets now
+
+abbrev pub first_phase : Phase
+first_phase = record { ssl_used = false; gss_used = false }
+
+-- a packet that is refused behind those requests
+abbrev pub IsRefusedPacket : Phase → List ℕ → StartFault → Type 0
+IsRefusedPacket phase packet fault =
+    Decides packet (Err fault) ⊎ ((content : Content) × Decides packet (Ok content) × (step_of phase content ≡ Refuse fault))
+
+abbrev pub IsStart : List ℕ → Type 0
+IsStart packet = (user : List ℕ) × Decides packet (Ok (startup user))
+
+-- the packet behind the requests, at an ending before the greeting
+abbrev pub StopsAt : Phase → Cause → List ℕ → Type 0
+StopsAt phase Terminated last = ⊥
+StopsAt phase Cancelling last = (pid : ℕ) × (key : ℕ) × Decides last (Ok (cancel_request pid key))
+StopsAt phase LinkEnded last = IsNoPacketYet last
+StopsAt phase LinkFailed last = IsNoPacketYet last
+StopsAt phase TimedOut last = IsNoPacketYet last
+StopsAt phase (PacketRefused fault) last = IsRefusedPacket phase last fault
+StopsAt phase (MessageRefused fault) last = ⊥
+StopsAt phase DecisionRefused last = IsStart last
+StopsAt phase (GateRefused refusal) last = IsStart last
+StopsAt phase ShortOfMemory last = IsNoPacketYet last ⊎ IsStart last
+StopsAt phase Panicked last = ⊥
+StopsAt phase ToldToTerminate last = IsNoPacketYet last ⊎ IsStart last
+StopsAt phase (ToldToQuit reason) last = IsNoPacketYet last ⊎ IsStart last
+StopsAt phase Killed last = IsNoPacketYet last ⊎ IsStart last
+StopsAt phase Overtaken last = ⊥
+
+-- or a child that was let through the gate finds the store in another generation
+abbrev pub TurnsAway : User → Stage → Phase → Cause → List ℕ → Type 0
+TurnsAway user stage phase Overtaken last = (stage ≡ Entering) × MayBeOver user × IsStart last
+TurnsAway user stage phase cause last = StopsAt phase cause last
+
+-- ---- what came in behind the greeting
+
+abbrev pub IsRefusedMessage : MessageFault → List ℕ → Type 0
+IsRefusedMessage (BadLength seen) last = IsBadHeader last seen
+IsRefusedMessage BadForm last = IsFront last BadQuery
+IsRefusedMessage (LongQuery seen) last = IsFront last (IsLongQuery seen)
+IsRefusedMessage (Extended kind) last = IsFront last (IsExtended kind)
+IsRefusedMessage (UnknownType kind) last = IsFront last (Other kind)
+
+-- a query that was in progress, and what it noted
+abbrev pub BreaksOff : ℕ → List ℕ → List BookEntry → Type 0
+BreaksOff pid last noted = (text : List ℕ) × (last ≡ query_bytes text) × IsFront last (Query text) × IsUnreleased pid text noted
+
+-- nothing was in progress, or a query was
+abbrev pub StopsInside : ℕ → List ℕ → List BookEntry → Type 0
+StopsInside pid last noted = (IsNoMessageYet last × (noted ≡ [])) ⊎ BreaksOff pid last noted
+
+-- the last bytes behind the queries that were answered, and what is noted for them
+abbrev pub EndsAt : User → Cause → List ℕ → List BookEntry → Type 0
+EndsAt user Terminated last noted = (last ≡ message (codes "X") []) × (noted ≡ [])
+EndsAt user Cancelling last noted = ⊥
+EndsAt user LinkEnded last noted = IsNoMessageYet last × (noted ≡ [])
+EndsAt user LinkFailed last noted = IsNoMessageYet last × (noted ≡ [])
+EndsAt user TimedOut last noted = ⊥
+EndsAt user (PacketRefused fault) last noted = ⊥
+EndsAt user (MessageRefused fault) last noted = IsRefusedMessage fault last × (noted ≡ [])
+EndsAt user DecisionRefused last noted = ⊥
+EndsAt user (GateRefused refusal) last noted = ⊥
+EndsAt user ShortOfMemory last noted = ⊥
+EndsAt user Panicked last noted =
+    (asked : List BookEntry) × (broke : List BookEntry) × BreaksOff user.pid last asked × NotesFault user.pid broke × (noted ≡ asked ++ broke)
+EndsAt user ToldToTerminate last noted = StopsInside user.pid last noted × (noted ≡ [])
+EndsAt user (ToldToQuit reason) last noted = StopsInside user.pid last noted
+EndsAt user Killed last noted = StopsInside user.pid last noted
+EndsAt user Overtaken last noted = MayBeOver user × BreaksOff user.pid last noted
+
+-- ---- the whole
+
+-- A child that exits of itself lets go of the store and of its attachment. A panic, a Quit and a Kill leave both to the
+-- supervisor.
+abbrev pub LetsGo : Cause → Type 0 → Type 0 → Type 0
+LetsGo Panicked leaves stays = stays
+LetsGo (ToldToQuit reason) leaves stays = stays
+LetsGo Killed leaves stays = stays
+LetsGo Overtaken leaves stays = stays
+LetsGo _ leaves stays = leaves
+
+abbrev pub Leaves : User → Cause → List BookEntry → Type 0
+Leaves user cause left = LetsGo cause (LeaveNotes user left) (left ≡ [])
+
+-- what was noted before the session was greeted: nothing, or that it entered and left again
+abbrev pub NotesOutside : User → Stage → Cause → List BookEntry → Type 0
+NotesOutside user Outside cause noted = noted ≡ []
+NotesOutside user Entering cause noted =
+    (noted ≡ []) ⊎ ((left : List BookEntry) × (noted ≡ Attached user.pid user.generation ∷ left) × Leaves user cause left)
+NotesOutside user Greeted cause noted = ⊥
+
+-- Bytes that were read together with what ended the session are passed over; behind the link's end, and at the limit of
+-- time, there are none.
+abbrev pub MayPassOver : Cause → List ℕ → Type 0
+MayPassOver LinkEnded beyond = beyond ≡ []
+MayPassOver TimedOut beyond = beyond ≡ []
+MayPassOver _ beyond = Unit {0}
+
+-- only a child whose decision is Ok goes through the gate
+abbrev pub IsAdmitted : Stage → Cac → Type 0
+IsAdmitted Outside decision = Unit {0}
+IsAdmitted _ decision = decision ≡ decisions.Ok
+
+-- It ended before the greeting.
+pub record IsTurnedAway (decision : Cac) (user : User) (ending : Ending) (came_in : List ℕ) (whole : List ℕ) (noted : List BookEntry) : Type 0 where
+  pub requests : List (List ℕ)
+  pub phase : Phase
+  pub last : List ℕ
+  pub beyond : List ℕ
+  pub admitted : IsAdmitted ending.stage decision
+  pub asks : AskInTurn first_phase requests phase
+  pub stops : TurnsAway user ending.stage phase ending.cause last
+  pub input : came_in ≡ flat_map (λ packet. packet) requests ++ last ++ beyond
+  pub passes_over : MayPassOver ending.cause beyond
+  pub output : whole ≡ map (λ packet. 78) requests ++ bytes_of (last_messages decision ending)
+  pub notes : NotesOutside user ending.stage ending.exit noted
+
+-- It was greeted, and answered its queries in order, up to its end.
+pub record IsServed (decision : Cac) (user : User) (key : ℕ) (turns : List Turn) (ending : Ending) (came_in : List ℕ) (whole : List ℕ) (noted : List BookEntry) : Type 0 where
+  pub requests : List (List ℕ)
+  pub phase : Phase
+  pub packet : List ℕ
+  pub texts : List (List ℕ)
+  pub last : List ℕ
+  pub beyond : List ℕ
+  pub asked : List BookEntry
+  pub ended : List BookEntry
+  pub left : List BookEntry
+  pub admitted : decision ≡ decisions.Ok
+  pub stage : ending.stage ≡ Greeted
+  pub asks : AskInTurn first_phase requests phase
+  pub start : IsStart packet
+  pub input : came_in ≡ flat_map (λ packet. packet) requests ++ packet ++ flat_map query_bytes texts ++ last ++ beyond
+  pub passes_over : MayPassOver ending.cause beyond
+  pub output : whole ≡ map (λ packet. 78) requests ++ bytes_of (greeting user.pid key ++ pieces texts turns ++ last_messages decision ending)
+  pub notes : noted ≡ (Attached user.pid user.generation ∷ asked) ++ ended ++ left
+  pub each : AllNotes user.pid texts turns asked
+  pub ends : EndsAt user ending.cause last ended
+  pub leaves : Leaves user ending.exit left
+
+abbrev pub IsText : Cac → User → ℕ → List Turn → Ending → (came_in whole : List ℕ) → List BookEntry → Type 0
+IsText decision user key turns ending came_in whole noted =
+    IsTurnedAway decision user ending came_in whole noted × (turns ≡ []) ⊎ IsServed decision user key turns ending came_in whole noted
+
+-- the link at the end of a session, and the store at its beginning and its end
+pub record Span (S : Type 0) : Type 0 where
+  pub link : Option Traffic
+  pub store_before : S
+  pub store_now : S
+
+abbrev pub between : {S : Type 0} → Option Traffic → S → S → Span S
+between link store_before store_now = record { link = link; store_before = store_before; store_now = store_now }
+
+-- what passed on the link is the text, or a beginning of it
+pub record HasPassed (cut : Type 0) (came_in whole : List ℕ) (link : Option Traffic) : Type 0 where
+  pub missing : List ℕ
+  pub read : IfSome link (λ traffic. traffic.came_in ≡ came_in)
+  pub sent : IfSome link (λ traffic. traffic.went_out ++ missing ≡ whole)
+  pub cause : (missing ≡ []) ⊎ cut
+
+pub record IsSession {S : Type 0} (notes : List BookEntry → S → S → Type 0) (decision : Cac) (user : User) (key : ℕ) (turns : List Turn) (ending : Ending) (link_failed : Type 0) (span : Span S) : Type 0 where
+  pub came_in : List ℕ
+  pub whole : List ℕ
+  pub noted : List BookEntry
+  pub text : IsText decision user key turns ending came_in whole noted
+  pub passed : HasPassed (CutsOff ending.exit ⊎ link_failed) came_in whole span.link
+  pub entries : notes noted span.store_before span.store_now
+
+-- ---- causes
+
+-- the clock gives two moments so far apart
+pub record IsApart (gives : ℕ → Type 0) (limit : ℕ) : Type 0 where
+  pub earlier : ℕ
+  pub later : ℕ
+  pub first : gives earlier
+  pub second : gives later
+  pub apart : earlier + limit ≤ later
+
+abbrev pub CausedBy : Cause → Cac → Option Traffic → (link_failed : Type 0) → Option Told → ℕ → (ℕ → Type 0) → Type 0
+CausedBy LinkEnded decision link link_failed told limit gives = IfSome link (λ traffic. traffic.ended ≡ true)
+CausedBy LinkFailed decision link link_failed told limit gives = link_failed
+CausedBy TimedOut decision link link_failed told limit gives = IfSome link (λ traffic. traffic.waits ≡ true) × IsApart gives limit
+CausedBy DecisionRefused decision link link_failed told limit gives = decision ≢ decisions.Ok
+CausedBy (GateRefused refusal) decision link link_failed told limit gives = (decision ≡ decisions.Ok) × IfSome told (λ t. t.met ≡ Some (Err refusal))
+CausedBy ToldToTerminate decision link link_failed told limit gives = was_given ToTerminate told
+CausedBy (ToldToQuit reason) decision link link_failed told limit gives = was_given (Quit reason) told
+CausedBy Killed decision link link_failed told limit gives = was_given Kill told
+CausedBy _ decision link link_failed told limit gives = Unit {0}
+
+-- it went through the gate into this generation
+abbrev pub HasEntered : Stage → ℕ → Option Told → Type 0
+HasEntered Outside generation told = Unit {0}
+HasEntered _ generation told = IfSome told (λ t. t.met ≡ Some (Ok generation))
+
+abbrev pub IsCancelledTurn : Turn → Type 0
+IsCancelledTurn Cancelled = Unit {0}
+IsCancelledTurn _ = ⊥
+
+pub record IsCaused (ending : Ending) (turns : List Turn) (generation : ℕ) (decision : Cac) (link : Option Traffic) (link_failed : Type 0) (told : Option Told) (limit : ℕ) (gives : ℕ → Type 0) : Type 0 where
+  pub cause : CausedBy ending.cause decision link link_failed told limit gives
+  pub exit : CausedBy ending.exit decision link link_failed told limit gives
+  pub gate : HasEntered ending.stage generation told
+  pub cancelled : (before : List Turn) (turn : Turn) (behind : List Turn) → turns ≡ before ++ turn ∷ behind → IsCancelledTurn turn → was_given Cancel told
+
+-- it has asked for its signals once more at least than it has turns, or up to the last number
+abbrev pub HasAskedFor : List Turn → Option Told → Option Told → Type 0
+HasAskedFor turns None now = Unit {0}
+HasAskedFor turns (Some before) None = ⊥
+HasAskedFor turns (Some before) (Some now) = min (before.asked + length turns + 1) (2 ^ 64 - 1) ≤ now.asked
+
+-- a child that was killed says so, and one that was told to end doesn't exit as if nothing had happened
+pub record HeedsTold (status : Status) (told : Told) : Type 0 where
+  pub kill : was_told Kill told → status ≡ statuses.Signal 9
+  pub quit : (reason : Reason) → was_told (Quit reason) told → status ≢ statuses.Code 0
+  pub terminate : was_told ToTerminate told → status ≢ statuses.Code 0
+
+abbrev pub Heeds : Status → Option Told → Type 0
+Heeds status told = IfSome told (HeedsTold status)
+
+-- it is attached at its end only where it doesn't exit of itself
+abbrev pub IsAttachedBehind : Ending → Child → Type 0
+IsAttachedBehind ending child = LetsGo ending.exit (child.attached ≡ None) (Unit {0})

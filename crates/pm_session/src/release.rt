@@ -1,0 +1,141 @@
+//! What answers a query, and when a reply may be sent.
+ghost use Rattle.std.specs.Prelude.{◌≡◌, List, IfErr};
+ghost use Rattle.pm_query.specs.declared.book.BookEntry.{BookEntry};
+ghost use Rattle.pm_query.specs.Calls.{user_of, HasReached};
+ghost use Rattle.pm_session.specs.Attention.{attention, Hears, IsAttentive};
+ghost use Rattle.pm_session.specs.Turns.{no_release, WaitNotes, ReleaseNotes, IsHeeded};
+
+use crate::attention::{Standing, listen};
+use crate::ending::Cause;
+use pm_life::Life;
+use pm_outside::Clock;
+use pm_query::{Reply, Seen, Staged, Store, StoreNo};
+use pm_rows::Text;
+use pm_sql::SqlFault;
+use std::marker::Model;
+use std::sync::Wait;
+
+/// A reply that may be sent: the log is flushed up to its front. Only [`release`] makes one. Contracts see it as the reply.
+#[derive(Debug, Drop)]
+pub(crate) struct Released {
+    reply: Reply,
+}
+
+impl Model for Released {
+    ghost use Rattle.std.specs.Prelude.{List};
+    ghost use Rattle.pm_query.specs.declared.item.Item.{Item};
+
+    ghost Value = { List Item };
+
+    ghost view = { λ released. released.reply };
+}
+
+impl Released {
+    pub(crate) fn reply(&self) -> &Reply
+        ensures { result.now ≡ self.now }
+    {
+        &self.reply
+    }
+}
+
+/// The answer to a query.
+#[derive(Debug, Drop)]
+pub(crate) enum Answer {
+    Ran(Released),
+    /// Its text is no script, as the message says.
+    Faulted { fault: SqlFault, message: Text },
+    NotUtf8,
+    Cancelled,
+    LogIsFull,
+    Memory,
+}
+
+/// What waiting for the log came to.
+#[derive(Clone, Copy, Debug, PartialEq, Eq)]
+pub(crate) enum Awaited {
+    /// The log is flushed up to the front.
+    Flushed,
+    NoMemory,
+}
+
+/// Waits until the log is flushed up to what was staged. A Kill or a Quit ends the wait; other signals stand until later.
+pub(crate) fn release<R: Wait, S: Store, C: Clock, F: Life>(
+    rt: &R,
+    clock: &C,
+    life: &mut F,
+    standing: &mut Standing,
+    store: &mut S,
+    pass: &mut S::Pass,
+    staged: Staged,
+) -> Result<Answer, Cause>
+    requires admits { S.admits store.old pass.old }
+    requires reached { HasReached (S.view pass.old) staged.front }
+    requires attentive { IsAttentive (attention (F.told life.old) (F.child life.old) standing.old) }
+    ensures notes { (entries : List BookEntry) × S.notes entries store.old store.new
+        × ReleaseNotes (user_of (S.stamp store.old) (S.view pass.old)) staged result entries }
+    ensures admits { S.admits store.new pass.new }
+    ensures user { user_of (S.stamp store.new) (S.view pass.new) ≡ user_of (S.stamp store.old) (S.view pass.old) }
+    ensures hears { Hears 0 (attention (F.told life.old) (F.child life.old) standing.old) (attention (F.told life.new) (F.child life.new) standing.new) }
+    ensures heeded { IfErr result (λ cause. IsHeeded cause (attention (F.told life.new) (F.child life.new) standing.new)) }
+{
+    match await_flush(rt, clock, life, standing, store, pass, staged.front)? {
+        Awaited::Flushed => {
+            let reply = staged.reply;
+            Ok(Answer::Ran(Released { reply }))
+        }
+        Awaited::NoMemory => Ok(Answer::Memory),
+    }
+}
+
+// Waits until the log is flushed up to a front.
+fn await_flush<R: Wait, S: Store, C: Clock, F: Life>(
+    rt: &R,
+    clock: &C,
+    life: &mut F,
+    standing: &mut Standing,
+    store: &mut S,
+    pass: &mut S::Pass,
+    front: u64,
+) -> Result<Awaited, Cause>
+    requires admits { S.admits store.old pass.old }
+    requires reached { HasReached (S.view pass.old) front }
+    requires attentive { IsAttentive (attention (F.told life.old) (F.child life.old) standing.old) }
+    ensures notes { (entries : List BookEntry) × S.notes entries store.old store.new
+        × WaitNotes (user_of (S.stamp store.old) (S.view pass.old)) front result entries }
+    ensures admits { S.admits store.new pass.new }
+    ensures user { user_of (S.stamp store.new) (S.view pass.new) ≡ user_of (S.stamp store.old) (S.view pass.old) }
+    ensures hears { Hears 0 (attention (F.told life.old) (F.child life.old) standing.old) (attention (F.told life.new) (F.child life.new) standing.new) }
+    ensures heeded { IfErr result (λ cause. IsHeeded cause (attention (F.told life.new) (F.child life.new) standing.new)) }
+{
+    for _ in rt.forever() {
+        match store.seen(pass, front) {
+            Ok(Seen::Released) => return Ok(Awaited::Flushed),
+            Ok(Seen::NotFlushed { .. }) => {}
+            Err(no) => return no_release(no),
+        }
+        listen(life, standing);
+        // A Terminate stands until the reply was sent.
+        let waiting = Standing {
+            terminate: false,
+            ..*standing
+        };
+        if let Some(cause) = waiting.ends() {
+            return Err(cause);
+        }
+        clock.pause();
+    }
+    unreachable!()
+}
+
+// What a refusal to release comes to.
+fn no_release(no: StoreNo) -> Result<Awaited, Cause>
+    ensures { result ≡ no_release no }
+{
+    match no {
+        StoreNo::NoMemory => Ok(Awaited::NoMemory),
+        StoreNo::Stale { .. } => Err(Cause::Overtaken),
+        StoreNo::Disk | StoreNo::Broken { .. } | StoreNo::Full { .. } | StoreNo::Redo(_) => {
+            Err(Cause::Panicked)
+        }
+    }
+}

@@ -1,0 +1,100 @@
+//! The start of a connection: requests for encryption, each refused by `N`, up to the packet that starts the session.
+ghost use Rattle.std.specs.Prelude.{◌≡◌, ℕ, List, [], Ok};
+ghost use Rattle.pm_startup.specs.Grammar.{content_of, FrontDecides};
+ghost use Rattle.pm_session.specs.Attention.{attention, IsAttentive};
+ghost use Rattle.pm_session.specs.Exchange.{link_view};
+ghost use Rattle.pm_session.specs.Entry.{AsksFor, Enters, outside};
+
+use crate::attention::Standing;
+use crate::ending::Cause;
+use crate::inbox::Inbox;
+use crate::line::{receive, send};
+use pm_life::Life;
+use pm_outside::{Clock, Link};
+use pm_startup::{Packet, Phase, Read, StartFault, Step, next, read};
+use std::sync::Wait;
+
+/// The answer to a request for encryption.
+const NO_ENCRYPTION: &[u8] = b"N";
+
+/// What the bytes that came so far ask for.
+#[derive(Clone, Copy, Debug, PartialEq, Eq)]
+enum Ask {
+    /// They are too few to tell.
+    Nothing,
+    /// Encryption, by so many bytes; the connection is in this phase then.
+    Encryption { behind: Phase, used: usize },
+    /// A session, by so many bytes.
+    Start { used: usize },
+    /// That another query be cancelled.
+    Cancel { pid: u32, key: u32 },
+    /// Nothing that is served.
+    Refused(StartFault),
+}
+
+/// Reads packets until one starts the session. Any other end of it is an error.
+pub fn startup<R: Wait, L: Link, C: Clock, F: Life>(
+    rt: &R,
+    clock: &C,
+    link: &mut L,
+    life: &mut F,
+    standing: &mut Standing,
+    inbox: &mut Inbox,
+) -> Result<(), Cause>
+    requires attentive { IsAttentive (attention (F.told life.old) (F.child life.old) standing.old) }
+    requires empty { inbox.old ≡ [] }
+    ensures enters { Enters result
+        (outside (link_view (L.traffic link.old) (L.number link.old) (L.faults link.old)) inbox.old (attention (F.told life.old) (F.child life.old) standing.old))
+        (outside (link_view (L.traffic link.new) (L.number link.new) (L.faults link.new)) inbox.new (attention (F.told life.new) (F.child life.new) standing.new)) }
+{
+    let mut phase = Phase {
+        ssl_used: false,
+        gss_used: false,
+    };
+    for _ in rt.forever() {
+        match asked_by(phase, inbox.unread()) {
+            Ask::Nothing => receive(rt, clock, link, life, standing, inbox)?,
+            Ask::Encryption { behind, used } => {
+                inbox.pass(used);
+                phase = behind;
+                send(link, life, standing, NO_ENCRYPTION)?;
+            }
+            Ask::Start { used } => {
+                inbox.pass(used);
+                return Ok(());
+            }
+            Ask::Cancel { pid, key } => {
+                life.cancel(pid, key);
+                return Err(Cause::Cancelling);
+            }
+            Ask::Refused(fault) => return Err(Cause::PacketRefused(fault)),
+        }
+    }
+    unreachable!()
+}
+
+// What the bytes ask for in this phase.
+fn asked_by(phase: Phase, bytes: &[u8]) -> Ask
+    ensures { AsksFor phase bytes.now result }
+{
+    match read(bytes) {
+        Read::Whole { packet, used } => asked_by_packet(phase, &packet, used),
+        Read::Short => Ask::Nothing,
+        Read::Bad(fault) => Ask::Refused(fault),
+    }
+}
+
+// What a packet of so many bytes asks for.
+fn asked_by_packet(phase: Phase, packet: &Packet, used: usize) -> Ask
+    ensures { (bytes : List ℕ) → FrontDecides bytes used (Ok (content_of packet.now)) → AsksFor phase bytes result }
+{
+    match next(phase, packet) {
+        Step::SayNo(behind) => Ask::Encryption { behind, used },
+        Step::Start => Ask::Start { used },
+        Step::Refuse(fault) => Ask::Refused(fault),
+        Step::Cancel => match *packet {
+            Packet::Cancel { pid, key } => Ask::Cancel { pid, key },
+            _ => unreachable!(),
+        },
+    }
+}

@@ -1,0 +1,125 @@
+// One connection over memory, and how it ended.
+ghost use Rattle.std.specs.Prelude.{◌≡◌, ◌<◌, IfOk};
+ghost use Rattle.pm_outside.specs.MemLink.{link_traffic};
+ghost use Rattle.pm_outside.specs.Traffic.{no_traffic};
+
+use pm_admit::Cac;
+use pm_exit::Status;
+use pm_life::{Cancelled, GateNo, ScriptedLife, Signals};
+use pm_outside::{Chronicle, Clock, Kept, LinkScript, MemClock, MemLink};
+use pm_query::{BookEntry, Store};
+use pm_query_tests::{GENERATION, MemStore};
+use pm_session::{Done, SessionConf, serve};
+use std::alloc::{AllocError, Global};
+use std::process::Abort;
+use std::sync::Wait;
+use std::test::Fail;
+use std::time;
+
+const PID: u32 = 4;
+
+const KEY: u32 = 0xb819_d2bd;
+
+pub const NO_SIGNALS: Signals = Signals {
+    kill: false,
+    quit: None,
+    terminate: false,
+    cancel: false,
+    checkpoint: false,
+};
+
+/// What a connection meets.
+#[derive(Clone, Copy)]
+pub struct Case<'a> {
+    pub name: &'a str,
+    /// All that comes in.
+    pub incoming: &'a [&'a [u8]],
+    pub decision: Cac,
+    /// What it is given at each ask.
+    pub signals: &'a [Signals],
+    pub gate: Result<u32, GateNo>,
+    /// How it exits, and all that goes out.
+    pub status: Status,
+    pub sent: &'a [&'a [u8]],
+}
+
+/// A connection that nothing hinders, and which ends by itself.
+pub const PLAIN: Case<'static> = Case {
+    name: "plain",
+    incoming: &[],
+    decision: Cac::Ok,
+    signals: &[],
+    gate: Ok(GENERATION),
+    status: Status::Code(0),
+    sent: &[],
+};
+
+pub fn joined(alloc: Global, parts: &[&[u8]]) -> Result<Vec<u8>, AllocError> {
+    let mut all = Vec::new(alloc);
+    for part in parts {
+        all.extend_from_slice(part)?;
+    }
+    Ok(all)
+}
+
+/// The link of a case, which moves at most so many bytes a call.
+fn link_of(alloc: Global, case: &Case, per_call: usize) -> Result<MemLink, AllocError>
+    requires { 0 < per_call }
+    ensures { IfOk result (λ link. link_traffic link ≡ no_traffic) }
+{
+    let script = LinkScript {
+        incoming: joined(alloc, case.incoming)?,
+        per_call,
+        failing_reads: Vec::new(alloc),
+        failing_writes: Vec::new(alloc),
+        holds: Vec::new(alloc),
+    };
+    Ok(MemLink::new(alloc, 1, script, None))
+}
+
+/// How a case ends on a link that moves at most so many bytes a call: its status, and all that goes out.
+pub fn served<R: Wait + Abort + time::Clock + Copy + Drop>(
+    rt: &R,
+    alloc: Global,
+    case: &Case,
+    per_call: usize,
+) -> Result<(Status, Vec<u8>), Fail>
+    requires { 0 < per_call }
+{
+    let link = link_of(alloc, case, per_call)?;
+    let mut script = Vec::new(alloc);
+    script.extend_from_slice(case.signals)?;
+    let mut life = ScriptedLife::new(PID, false, script, case.gate, Cancelled::NoSuchPid);
+    let mut store = MemStore::new(alloc, Kept::<BookEntry>::new(alloc));
+    let clock = MemClock::still(0, *rt);
+    let conf = SessionConf {
+        authentication_ms: 60_000,
+    };
+    let Done { status, link } = serve(
+        rt,
+        alloc,
+        link,
+        case.decision,
+        KEY,
+        &conf,
+        &mut store,
+        &clock,
+        &mut life,
+    );
+    Ok((status, joined(alloc, &[link.sent()])?))
+}
+
+/// Serves the connection, which must end so however its bytes are cut.
+pub fn check<R: Wait + Abort + time::Clock + Copy + Drop>(
+    rt: &R,
+    alloc: Global,
+    case: &Case,
+) -> Result<(), Fail> {
+    let wanted = joined(alloc, case.sent)?;
+    for per_call in [1, 5, 4096] {
+        let (status, sent) = served(rt, alloc, case, per_call)?;
+        assert_eq!(rt; status, case.status, "{}", case.name);
+        assert_eq!(rt; sent.as_slice(), wanted.as_slice(), "{}", case.name);
+    }
+    Ok(())
+}
