@@ -1,14 +1,14 @@
 //! The program `pg_postmaster`: its words, and the outside that they are run over.
 #![tactic(auto)]
 
-mod log_file;
-mod log_files;
+mod clock;
 mod standard;
 #[cfg(test)]
 mod tests;
 
-use crate::log_files::LogFiles;
+use crate::clock::SystemClock;
 use crate::standard::{StandardPort, StandardSink};
+use pm_files::LogFiles;
 use pm_outside::Forgotten;
 use pm_rows::Text;
 use pm_top::{Command, Ended, Outside, Top, read_words, run};
@@ -20,6 +20,7 @@ use std::os::fd::{AsRawFd, IntoRawFd};
 use std::process::ExitCode;
 use std::random::RandomSource;
 use std::sync::Wait;
+use std::time::Clock;
 
 /// The exit code where the program can't start.
 const COULD_NOT_START: u8 = 1;
@@ -69,13 +70,20 @@ fn is_server(rt: &HostRuntime) -> bool {
 }
 
 // Reads the words and runs them over the real outside. A link may keep it waiting forever.
-fn start<R: Wait, W: Write + Drop>(rt: HostRuntime, wait: &R, sink: StandardSink<W>) -> ExitCode {
+fn start<R, W>(rt: HostRuntime, wait: &R, sink: StandardSink<W>) -> ExitCode
+where
+    R: Wait + Clock + Copy + Drop,
+    W: Write + Drop,
+{
     let Ok(words) = words(&rt) else {
         return ExitCode::from(Top::NoMemory.code());
     };
     let (command, folder) = match read_words(&words) {
         Ok(line) => (Some(line.command), line.dir),
         Err(_) => (None, ""),
+    };
+    let Ok(clock) = SystemClock::new(*wait) else {
+        return could_not_start(&rt);
     };
     let mut seed = [0; 32];
     if command == Some(Command::Once) && rt.fill_bytes(&mut seed).is_err() {
@@ -92,6 +100,7 @@ fn start<R: Wait, W: Write + Drop>(rt: HostRuntime, wait: &R, sink: StandardSink
         port: StandardPort::new(rt.stdin(), rt.stdout()),
         sink,
         disk,
+        clock,
         book: Forgotten::new(),
         seed,
     };
@@ -100,6 +109,7 @@ fn start<R: Wait, W: Write + Drop>(rt: HostRuntime, wait: &R, sink: StandardSink
         port: _port,
         sink: _sink,
         disk: _disk,
+        clock: _clock,
         book: _book,
         seed: _,
     } = outside;

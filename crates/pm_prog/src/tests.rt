@@ -1,40 +1,8 @@
 //! What no clause says: that the adapters reach what they stand for.
-use crate::log_files::LogFiles;
+use crate::clock::SystemClock;
 use crate::standard::{StandardPort, StandardSink};
-use pm_disk::{Disk, Which};
-use pm_outside::{Accepted, Got, Link, Port, Put, Sink};
+use pm_outside::{Accepted, Clock, Got, Link, Port, Put, Sink};
 use std::test::Fail;
-use std::{fs, process};
-
-#[test]
-fn files_keep_what_is_written_and_one_server_alone(rt: HostRuntime) -> Result<(), Fail> {
-    let alloc = rt.alloc();
-    let temp = std::env::temp_dir(&rt)?;
-    let temp = temp.as_str();
-    let id = process::id(rt.process());
-    let folder = format!(in alloc; "{temp}/pm_prog_test_{id}")?;
-    fs::create_dir_all(&rt, folder.as_str())?;
-    let mut disk = LogFiles::of(rt, alloc, folder.as_str())?;
-    assert_eq!(rt; disk.len(Which::A)?, 0);
-    disk.write(Which::B, 0, b"b")?;
-    disk.write(Which::A, 0, b"commit")?;
-    disk.write(Which::A, 3, b"pare")?;
-    disk.sync(Which::A)?;
-    assert_eq!(rt; disk.len(Which::A)?, 7);
-    let mut back = [0; 5];
-    disk.read(Which::A, 2, &mut back)?;
-    assert_eq!(rt; back, *b"mpare");
-    assert!(rt; disk.read(Which::A, 3, &mut back).is_err());
-    assert_eq!(rt; (disk.ticks(), disk.faults()), (8, 1));
-
-    let mut second = LogFiles::of(rt, alloc, folder.as_str())?;
-    assert!(rt; second.len(Which::A).is_err());
-    assert_eq!(rt; (second.len(Which::B)?, second.faults()), (1, 1));
-    drop(disk);
-    assert_eq!(rt; second.len(Which::A)?, 7);
-    fs::remove_dir_all(&rt, folder.as_str())?;
-    Ok(())
-}
 
 #[test]
 fn the_port_gives_its_link_once(rt: HostRuntime) -> Result<(), Fail> {
@@ -66,5 +34,18 @@ fn the_sink_writes_until_its_writer_is_full(rt: HostRuntime) -> Result<(), Fail>
     assert_eq!(rt; sink.faults(), 1);
     drop(sink);
     assert_eq!(rt; line, *b"dow");
+    Ok(())
+}
+
+#[test]
+fn the_clock_goes_on_while_it_pauses(rt: HostRuntime) -> Result<(), Fail> {
+    let clock = SystemClock::new(rt)?;
+    let before = clock.now();
+    for _ in 0..3 {
+        clock.pause();
+    }
+    let after = clock.now();
+    assert!(rt; before < after);
+    assert!(rt; after <= clock.another()?.now());
     Ok(())
 }

@@ -1,301 +1,365 @@
--- Books that go on by an entry.
-use Rattle.std.proofs.Common.{◌≡◌, ◌≢◌, Bool, false, cond, eqb, ◌⊎◌, inl, inr, ℕ, ◌+◌, ◌-◌, ◌^◌, ◌<◌, ◌≤◌, max, List, [], ◌∷◌, ◌++◌, length, All, Any, IfSome, Option, None, Some, refl, sym, ◌∙◌, ap, subst, arith, append_assoc, length-append}
-use Rattle.std.specs.Option.{option_map}
-use Rattle.std.proofs.lemmas.Bool.{cases_lt, cases_eq, eqb-false, eq-eqb, ne_eqb}
-use Rattle.std.proofs.lemmas.List.{append-nil}
+-- What the book of a run tells.
+use Rattle.std.proofs.Common.{◌≡◌, ◌⊎◌, inl, inr, ℕ, ◌<◌, List, [], ◌∷◌, ◌++◌, length, get_or, All, Option, None, Some, refl, sym, ◌∙◌, ap, subst, arith, append_assoc, append-nil}
+use Rattle.std.specs.Prelude.{Bool, true, false, ◌||◌, fold, IfSome}
+use Rattle.std.specs.List.{flat_map, list_any}
+use Rattle.std.proofs.lemmas.Grind.{flat_map-append}
+use Rattle.std.proofs.lemmas.List.Elements.{All-nil, All-cons, All-head, All-tail, All-append, All-weaker}
+use Rattle.std.proofs.lemmas.List.Folds.{list_any-append}
 use Rattle.std.proofs.lemmas.List.Sums.{fold-append}
-use Rattle.std.proofs.lemmas.List.Elements.{All-nil, All-push, All-weaker}
-use Rattle.std.proofs.lemmas.List.Quantifiers.{Any-push}
-use Rattle.pm_rows.specs.declared.commit.Change.{Change}
-use Rattle.pm_rows.specs.Fold.{RowMap, committed}
-use Rattle.pm_rows.proofs.FoldLaws.{folded-push}
-use Rattle.pm_sql.specs.declared.stmt.Stmt.{Stmt}
-use Rattle.pm_query.specs.declared.item.Item.{Item}
-use Rattle.pm_query.specs.Answer.{items_of, commit_of}
-use Rattle.pm_top.specs.declared.log.Log.{Log}
-use Rattle.pm_top.specs.declared.book.BookEntry.{BookEntry}
-use Rattle.pm_top.specs.declared.book.BookEntry.TheVariants.{Opened, Attached, Redone, Answered, Released, Detached, Broke, LogFull}
-use Rattle.pm_disk.specs.Cause.{Rose}
+use Rattle.std.proofs.lemmas.Option.{slice_get-get_or}
 use Rattle.pm_disk.specs.Files.{Files}
-use Rattle.std.specs.Int.{w32, to_be_bytes}
-use Rattle.pm_top.specs.StandsFor.{batch_bytes, body_bytes}
-use Rattle.pm_top.specs.History.{History, beginning, count_of, rows_of, with_commit}
-use Rattle.pm_top.specs.Book.{Base, IsLegal, MayGoOn, MayFollow, MayAnswer, MayBeFull, MayBreak, MayRelease, AnswersUpTo, after_entry, generation_after, generation_of, history_of, first_kept, times_after, times_attached, tick_after, last_tick, fault_after, faults_of, fault_here, faults_here, TellsFault, need_after, need_of, needs_of}
-use Rattle.pm_top.specs.Store.{AnswersWithin, IsTrueTo, BookHolds, BookRests, HasAnswer, HasFailed, HoldsAcknowledged, IsBroken}
-use Rattle.pm_rows.specs.Limits.{max_file_bytes}
+use Rattle.pm_disk.specs.Cause.{Rose}
+use Rattle.pm_outside.specs.Visits.{Visits}
+use Rattle.pm_segment.specs.Moves.{IsShown}
+use Rattle.pm_segment.specs.Redos.{IsAtLastEpoch}
+use Rattle.pm_query.specs.Book.{ends_cleanly, fault_here, faults_after, faults_here, faults_of, is_closed, kept_after, kept_by_redo, present, present_after}
+use Rattle.pm_query.specs.declared.book.BookEntry.{BookEntry}
+use Rattle.pm_query.specs.declared.book.BookEntry.TheVariants.{Opened, Attached, Redone, Answered, Released, Detached, Gone, CheckpointEnded, Broke, LogFull}
+use Rattle.pm_record.specs.declared.fault.RedoFault.{RedoFault}
+use Rattle.pm_record.specs.declared.fault.RedoFault.TheVariants as redo
+use Rattle.pm_top.specs.declared.status.Top.{Top}
+use Rattle.pm_top.specs.declared.status.Top.TheVariants.{Done, Abnormal, OutFault, DiskFault, Exists, Usage, NoMemory}
+use Rattle.pm_top.specs.declared.status.Why.TheVariants.{AfterCrash, StartupFailed}
+use Rattle.pm_top.specs.declared.status.StartWhy.TheVariants.{Redo}
+use Rattle.pm_top.specs.Service.{AreServed, AtEnd, AtLastPid, AtPanic, Connection, HasPanicked, IsServedAs, OnlyLastPanicked, Stop, StopsBehind, noted_by}
+use Rattle.pm_top.specs.Once.{CheckpointNotes, CloseNotes, HasBroken, IsUnbroken, StartNotes, Tells, redo_entries}
+use Rattle.pm_top.proofs.Notes.{IsMild, IsBreak, broken_noted, calm_noted}
 
-goes_on : (base : Base) (before book : List BookEntry) (entry : BookEntry) → MayGoOn base before book → MayFollow base (before ++ book) entry → MayGoOn base before (book ++ entry ∷ [])
-goes_on base before [] entry all next = (subst (λ (l : List BookEntry). MayFollow base l entry) (append-nil before) next, tt)
-goes_on base before (first ∷ book) entry all next =
-    (all.0, goes_on base (before ++ first ∷ []) book entry all.1 (subst (λ (l : List BookEntry). MayFollow base l entry) (sym (append_assoc before (first ∷ []) book)) next))
+-- ---- parts of a list
 
--- a legal book with an entry that may follow
-pub legal_push : (base : Base) (book : List BookEntry) (entry : BookEntry) → IsLegal base book → MayFollow base book entry → IsLegal base (book ++ entry ∷ [])
-legal_push base book entry legal next = goes_on base [] book entry legal next
+pub All-front : {X : Type 0} (P : X → Type 0) (xs ys : List X) → All P (xs ++ ys) → All P xs
+All-front P [] ys all = All-nil P
+All-front P (x ∷ xs) ys all = All-cons P x xs (All-head P x (xs ++ ys) all) (All-front P xs ys (All-tail P x (xs ++ ys) all))
 
--- the rows and the number of a history with a commit
-pub rows-with_commit : (history : History) (commit : List Change) → rows_of (with_commit history commit) ≡ committed (rows_of history) commit
-rows-with_commit history [] = refl
-rows-with_commit history (change ∷ changes) = folded-push history.base_rows history.commits (change ∷ changes)
+pub All-back : {X : Type 0} (P : X → Type 0) (xs ys : List X) → All P (xs ++ ys) → All P ys
+All-back P [] ys all = all
+All-back P (x ∷ xs) ys all = All-back P xs ys (All-tail P x (xs ++ ys) all)
 
-pub count-with_commit : (history : History) (change : Change) (changes : List Change) → count_of (with_commit history (change ∷ changes)) ≡ count_of history + 1
-count-with_commit history change changes = omega (arith, length-append history.commits ((change ∷ changes) ∷ []))
+All-last : {X : Type 0} (P : X → Type 0) (xs : List X) (x : X) → All P (xs ++ x ∷ []) → P x
+All-last P xs x all = All-head P x [] (All-back P xs (x ∷ []) all)
 
--- a commit leaves what is acknowledged, and the number doesn't fall
-acked-with_commit : (history : History) (commit : List Change) → (with_commit history commit).acked ≡ history.acked
-acked-with_commit history [] = refl
-acked-with_commit history (change ∷ changes) = refl
+-- ---- entries of one generation
 
-count_grows : (history : History) (commit : List Change) → count_of history ≤ count_of (with_commit history commit)
-count_grows history [] = omega arith
-count_grows history (change ∷ changes) = omega (arith, count-with_commit history change changes)
+abbrev IsInside : BookEntry → Type 0
+IsInside (Opened generation) = ⊥
+IsInside _ = Unit {0}
 
-within_more : (count more : ℕ) → count ≤ more → (entry : BookEntry) → AnswersWithin count entry → AnswersWithin more entry
-within_more count more le (Answered pid script reply commit front tick) within = omega (arith, le, within)
-within_more count more le (Opened generation) within = tt
-within_more count more le (Attached pid generation) within = tt
-within_more count more le (Redone pid generation kept) within = tt
-within_more count more le (Released pid front tick) within = tt
-within_more count more le (Detached pid) within = tt
-within_more count more le (Broke pid since faults) within = tt
-within_more count more le (LogFull pid script need room) within = tt
+mild_inside : (entry : BookEntry) → IsMild entry → IsInside entry
+mild_inside (Opened generation) mild = absurd mild
+mild_inside (Attached pid generation) mild = tt
+mild_inside (Redone pid generation kept) mild = tt
+mild_inside (Answered pid script reply commit front tick) mild = tt
+mild_inside (Released pid front tick) mild = tt
+mild_inside (Detached pid) mild = tt
+mild_inside (Gone pid) mild = tt
+mild_inside (CheckpointEnded pid done clean) mild = tt
+mild_inside (Broke pid since count) mild = tt
+mild_inside (LogFull pid script need room) mild = tt
 
-within_front : (pid front count : ℕ) (entry : BookEntry) → AnswersUpTo pid front entry → AnswersWithin count entry → front ≤ count
-within_front pid front count (Answered who script reply commit upto tick) answers within = omega (arith, answers.1, within)
-within_front pid front count (Opened generation) answers within = absurd answers
-within_front pid front count (Attached who generation) answers within = absurd answers
-within_front pid front count (Redone who generation kept) answers within = absurd answers
-within_front pid front count (Released who upto tick) answers within = absurd answers
-within_front pid front count (Detached who) answers within = absurd answers
-within_front pid front count (Broke who since faults) answers within = absurd answers
-within_front pid front count (LogFull who script need room) answers within = absurd answers
+present_step : (before : List BookEntry) (entry : BookEntry) → IsInside entry → present_after before entry ≡ before ++ entry ∷ []
+present_step before (Opened generation) inside = absurd inside
+present_step before (Attached pid generation) inside = refl
+present_step before (Redone pid generation kept) inside = refl
+present_step before (Answered pid script reply commit front tick) inside = refl
+present_step before (Released pid front tick) inside = refl
+present_step before (Detached pid) inside = refl
+present_step before (Gone pid) inside = refl
+present_step before (CheckpointEnded pid done clean) inside = refl
+present_step before (Broke pid since count) inside = refl
+present_step before (LogFull pid script need room) inside = refl
 
--- an answer up to this front is within the number of commits
-front_within : (pid front count : ℕ) (book : List BookEntry) → Any (AnswersUpTo pid front) book → All (AnswersWithin count) book → front ≤ count
-front_within pid front count book any all = within_front pid front count any.1 any.4 (subst (AnswersWithin count) any.3 (all any.0 any.1 any.2))
+all_present : (before entries : List BookEntry) → All IsInside entries → fold present_after before entries ≡ before ++ entries
+all_present before [] inside = sym (append-nil before)
+all_present before (entry ∷ entries) inside =
+    ap (λ (l : List BookEntry). fold present_after l entries) (present_step before entry (All-head IsInside entry entries inside))
+    ∙ all_present (before ++ entry ∷ []) entries (All-tail IsInside entry entries inside)
+    ∙ append_assoc before (entry ∷ []) entries
 
--- an entry that leaves rows, numbers and faults alone
-quiet : (base : Base) (book : List BookEntry) (entry : BookEntry) (tick faults : ℕ) (rows : RowMap) (log : Log) → IsTrueTo base book tick faults rows log → MayFollow base book entry
-    → rows_of (after_entry (history_of base book) entry) ≡ rows_of (history_of base book) → count_of (after_entry (history_of base book) entry) ≡ count_of (history_of base book)
-    → generation_after (generation_of book) entry ≡ generation_of book → ((count : ℕ) → first_kept (Some count) entry ≡ Some count) → fault_after [] entry ≡ [] → fault_here (Some []) entry ≡ Some []
-    → need_after (needs_of book) entry ≡ needs_of book → tick_after (last_tick book) entry ≤ tick
-    → (after_entry (history_of base book) entry).acked ≤ count_of (history_of base book) → AnswersWithin (count_of (history_of base book)) entry → IsTrueTo base (book ++ entry ∷ []) tick faults rows log
-quiet base book entry tick faults rows log true_to may same_rows same_count same_generation same_kept same_faults same_here same_needs in_time acked front =
-    let history : history_of base (book ++ entry ∷ []) ≡ after_entry (history_of base book) entry = fold-append after_entry (beginning base.rows base.count) book (entry ∷ []) in
-    let needs : needs_of (book ++ entry ∷ []) ≡ need_after (needs_of book) entry = fold-append need_after 0 book (entry ∷ []) in
-    let ticks : last_tick (book ++ entry ∷ []) ≡ tick_after (last_tick book) entry = fold-append tick_after 0 book (entry ∷ []) in
+kept_step : (count : ℕ) (entry : BookEntry) → IsInside entry → kept_after (Some count) entry ≡ Some count
+kept_step count (Opened generation) inside = absurd inside
+kept_step count (Attached pid generation) inside = refl
+kept_step count (Redone pid generation kept) inside = refl
+kept_step count (Answered pid script reply commit front tick) inside = refl
+kept_step count (Released pid front tick) inside = refl
+kept_step count (Detached pid) inside = refl
+kept_step count (Gone pid) inside = refl
+kept_step count (CheckpointEnded pid done clean) inside = refl
+kept_step count (Broke pid since count') inside = refl
+kept_step count (LogFull pid script need room) inside = refl
+
+still_kept : (count : ℕ) (entries : List BookEntry) → All IsInside entries → fold kept_after (Some count) entries ≡ Some count
+still_kept count [] inside = refl
+still_kept count (entry ∷ entries) inside =
+    ap (λ (k : Option ℕ). fold kept_after k entries) (kept_step count entry (All-head IsInside entry entries inside)) ∙ still_kept count entries (All-tail IsInside entry entries inside)
+
+-- ---- mild entries
+
+here_step : (faults : List (ℕ × ℕ)) (entry : BookEntry) → IsMild entry → fault_here (Some faults) entry ≡ Some faults
+here_step faults (Opened generation) mild = absurd mild
+here_step faults (Attached pid generation) mild = refl
+here_step faults (Redone pid generation kept) mild = absurd mild
+here_step faults (Answered pid script reply commit front tick) mild = refl
+here_step faults (Released pid front tick) mild = refl
+here_step faults (Detached pid) mild = refl
+here_step faults (Gone pid) mild = absurd mild
+here_step faults (CheckpointEnded pid done clean) mild = absurd mild
+here_step faults (Broke pid since count) mild = absurd mild
+here_step faults (LogFull pid script need room) mild = refl
+
+mild_here : (faults : List (ℕ × ℕ)) (entries : List BookEntry) → All IsMild entries → fold fault_here (Some faults) entries ≡ Some faults
+mild_here faults [] mild = refl
+mild_here faults (entry ∷ entries) mild =
+    ap (λ (h : Option (List (ℕ × ℕ))). fold fault_here h entries) (here_step faults entry (All-head IsMild entry entries mild)) ∙ mild_here faults entries (All-tail IsMild entry entries mild)
+
+after_step : (faults : List (ℕ × ℕ)) (entry : BookEntry) → IsMild entry → faults_after faults entry ≡ faults
+after_step faults (Opened generation) mild = refl
+after_step faults (Attached pid generation) mild = refl
+after_step faults (Redone pid generation kept) mild = refl
+after_step faults (Answered pid script reply commit front tick) mild = refl
+after_step faults (Released pid front tick) mild = refl
+after_step faults (Detached pid) mild = refl
+after_step faults (Gone pid) mild = refl
+after_step faults (CheckpointEnded pid done clean) mild = refl
+after_step faults (Broke pid since count) mild = absurd mild
+after_step faults (LogFull pid script need room) mild = refl
+
+mild_after : (faults : List (ℕ × ℕ)) (entries : List BookEntry) → All IsMild entries → fold faults_after faults entries ≡ faults
+mild_after faults [] mild = refl
+mild_after faults (entry ∷ entries) mild =
+    ap (λ (h : List (ℕ × ℕ)). fold faults_after h entries) (after_step faults entry (All-head IsMild entry entries mild)) ∙ mild_after faults entries (All-tail IsMild entry entries mild)
+
+mild_open : (entries : List BookEntry) → All IsMild entries → list_any ends_cleanly entries ≡ false
+mild_open [] mild = refl
+mild_open (entry ∷ entries) mild = open_step entry entries (All-head IsMild entry entries mild) (mild_open entries (All-tail IsMild entry entries mild))
+  where
+    open_step : (entry : BookEntry) (entries : List BookEntry) → IsMild entry → list_any ends_cleanly entries ≡ false → list_any ends_cleanly (entry ∷ entries) ≡ false
+    open_step (Opened generation) entries mild rest = absurd mild
+    open_step (Attached pid generation) entries mild rest = rest
+    open_step (Redone pid generation kept) entries mild rest = absurd mild
+    open_step (Answered pid script reply commit front tick) entries mild rest = rest
+    open_step (Released pid front tick) entries mild rest = rest
+    open_step (Detached pid) entries mild rest = rest
+    open_step (Gone pid) entries mild rest = absurd mild
+    open_step (CheckpointEnded pid done clean) entries mild rest = absurd mild
+    open_step (Broke pid since count) entries mild rest = absurd mild
+    open_step (LogFull pid script need room) entries mild rest = rest
+
+-- ---- a book whose redo has ended
+
+abbrev pub book_of : ℕ → (noted closing : List BookEntry) → List BookEntry
+book_of kept noted closing = Opened 1 ∷ redo_entries kept ++ noted ++ closing
+
+here_of : (kept : ℕ) (noted closing : List BookEntry) → All IsMild noted → faults_here (book_of kept noted closing) ≡ fold fault_here (Some []) closing
+here_of kept noted closing mild = fold-append fault_here (Some []) noted closing ∙ ap (λ (h : Option (List (ℕ × ℕ))). fold fault_here h closing) (mild_here [] noted mild)
+
+after_of : (kept : ℕ) (noted closing : List BookEntry) → All IsMild noted → faults_of (book_of kept noted closing) ≡ fold faults_after [] closing
+after_of kept noted closing mild = fold-append faults_after [] noted closing ∙ ap (λ (h : List (ℕ × ℕ)). fold faults_after h closing) (mild_after [] noted mild)
+
+redo_inside : (kept : ℕ) (behind : List BookEntry) → All IsInside behind → All IsInside (redo_entries kept ++ behind)
+redo_inside kept behind inside =
+    All-cons IsInside (Attached 1 1) (Redone 1 1 kept ∷ Detached 1 ∷ behind) tt (All-cons IsInside (Redone 1 1 kept) (Detached 1 ∷ behind) tt (All-cons IsInside (Detached 1) behind tt inside))
+
+closed_of : (kept : ℕ) (noted closing : List BookEntry) → All IsMild noted → All IsInside closing → is_closed (book_of kept noted closing) ≡ list_any ends_cleanly closing
+closed_of kept noted closing mild inside =
+    let all : All IsInside (redo_entries kept ++ noted ++ closing) = redo_inside kept (noted ++ closing) (All-append IsInside noted closing (All-weaker IsMild IsInside mild_inside noted mild) inside) in
+    ap (list_any ends_cleanly) (all_present [] (redo_entries kept ++ noted ++ closing) all) ∙ list_any-append ends_cleanly noted closing ∙ ap (λ (b : Bool). b || list_any ends_cleanly closing) (mild_open noted mild)
+
+pub kept_of : (kept : ℕ) (behind : List BookEntry) → All IsInside behind → kept_by_redo (Opened 1 ∷ redo_entries kept ++ behind) ≡ Some kept
+kept_of kept behind inside = still_kept kept (Detached 1 ∷ behind) (All-cons IsInside (Detached 1) behind tt inside)
+
+-- ---- what is noted of all connections
+
+each_of : (seed : List ℕ) (gives : ℕ → Type 0) (cs : List Connection) (start : Option Visits) → AreServed seed gives cs start
+    → All (λ c. (pid : ℕ) × (key : ℕ) × IsServedAs pid key gives c) cs
+each_of seed gives cs start served = λ n d below. (_, _, served.each n (get_or cs n d) (slice_get-get_or cs n d below))
+
+abbrev Is : (ℕ → Type 0) → Connection → Type 0
+Is gives c = (pid : ℕ) × (key : ℕ) × IsServedAs pid key gives c
+
+calm_all : (gives : ℕ → Type 0) (cs : List Connection) → All (Is gives) cs → All (λ c. HasPanicked c → ⊥) cs → All IsMild (noted_by cs)
+calm_all gives [] served calm = All-nil IsMild
+calm_all gives (c ∷ cs) served calm =
+    let one = All-head (Is gives) c cs served in
+    All-append IsMild c.noted (noted_by cs) (calm_noted one.0 one.1 gives c one.2 (All-head (λ d. HasPanicked d → ⊥) c cs calm))
+    (calm_all gives cs (All-tail (Is gives) c cs served) (All-tail (λ d. HasPanicked d → ⊥) c cs calm))
+
+-- up to the one that panicked
+broken_all : (gives : ℕ → Type 0) (cs : List Connection) → All (Is gives) cs → OnlyLastPanicked cs → IsBreak (noted_by cs)
+broken_all gives cs served only =
+    let all : All (Is gives) (only.0 ++ only.1 ∷ []) = subst (All (Is gives)) only.2 served in
+    let others = All-front (Is gives) only.0 (only.1 ∷ []) all in
+    let last = All-last (Is gives) only.0 only.1 all in
+    let calm = calm_all gives only.0 others only.3 in
+    let broke = broken_noted last.0 last.1 gives only.1 last.2 only.4 in
+    let whole : noted_by cs ≡ noted_by only.0 ++ only.1.noted =
+    ap noted_by only.2 ∙ flat_map-append (λ (c : Connection). c.noted) only.0 (only.1 ∷ []) ∙ ap (λ (l : List BookEntry). noted_by only.0 ++ l) (append-nil only.1.noted) in
     record {
-      legal = legal_push base book entry true_to.legal may;
-      generation = fold-append generation_after 0 book (entry ∷ []) ∙ same_generation ∙ true_to.generation;
-      redone = (true_to.redone.0, fold-append first_kept None book (entry ∷ []) ∙ ap (λ (k : Option ℕ). first_kept k entry) true_to.redone.1 ∙ same_kept true_to.redone.0);
-      no_fault = fold-append fault_after [] book (entry ∷ []) ∙ ap (λ (f : List (ℕ × ℕ)). fault_after f entry) true_to.no_fault ∙ same_faults;
-      no_fault_here = fold-append fault_here None book (entry ∷ []) ∙ ap (λ (k : Option (List (ℕ × ℕ))). fault_here k entry) true_to.no_fault_here ∙ same_here;
-      rows_are = true_to.rows_are ∙ sym (ap rows_of history ∙ same_rows);
-      count_is = true_to.count_is ∙ sym (ap count_of history ∙ same_count);
-      end_is = omega (arith, needs, same_needs, true_to.end_is);
-      acked_in = omega (arith, ap (λ (h : History). h.acked) history, ap count_of history, same_count, acked);
-      fronts_in = subst (λ (n : ℕ). All (AnswersWithin n) (book ++ entry ∷ [])) (sym (ap count_of history ∙ same_count)) (All-push (AnswersWithin (count_of (history_of base book))) book entry true_to.fronts_in front);
-      in_time = omega (arith, ticks, in_time);
-      counted = true_to.counted;
+      front = noted_by only.0 ++ broke.front;
+      pid = broke.pid;
+      since = broke.since;
+      count = broke.count;
+      mild = All-append IsMild (noted_by only.0) broke.front calm broke.mild;
+      is = whole ∙ ap (λ (l : List BookEntry). noted_by only.0 ++ l) broke.is ∙ sym (append_assoc (noted_by only.0) broke.front (Broke broke.pid broke.since broke.count ∷ []));
     }
 
-module _ (base : Base) (pid : ℕ) (book : List BookEntry) (tick faults : ℕ) (rows : RowMap) (log : Log) (true_to : IsTrueTo base book tick faults rows log) where
-  -- a child comes in
-  pub true_entered : IsTrueTo base (book ++ Attached pid 1 ∷ []) tick faults rows log
-  true_entered =
-      quiet base book (Attached pid 1) tick faults rows log true_to (omega arith, sym true_to.generation) refl refl refl (λ count. refl) refl refl refl true_to.in_time true_to.acked_in tt
+-- ---- what the closing entries tell
 
-module _ (base : Base) (pid : ℕ) (book : List BookEntry) (tick faults : ℕ) (rows : RowMap) (log : Log) (true_to : IsTrueTo base book tick faults rows log) (here : 1 ≤ times_attached book pid) where
-  -- a child goes
-  pub true_left : IsTrueTo base (book ++ Detached pid ∷ []) tick faults rows log
-  true_left = quiet base book (Detached pid) tick faults rows log true_to here refl refl refl (λ count. refl) refl refl refl true_to.in_time true_to.acked_in tt
+abbrev closed_well : List BookEntry
+closed_well = Attached 2 1 ∷ CheckpointEnded 2 true true ∷ Detached 2 ∷ []
 
-  -- an answer is released
-  pub true_released : (front : ℕ) → Any (AnswersUpTo pid front) book → IsTrueTo base (book ++ Released pid front tick ∷ []) tick faults rows log
-  true_released front answered =
-      let may : MayRelease book pid front tick = record { attached = here; answered = answered; in_time = true_to.in_time } in
-      quiet base book (Released pid front tick) tick faults rows log true_to may refl refl refl (λ count. refl) refl refl refl (omega (arith, true_to.in_time)) (omega (arith, true_to.acked_in, front_within pid front (count_of (history_of base book)) book answered true_to.fronts_in)) tt
+abbrev closed_skipped : List BookEntry
+closed_skipped = Attached 2 1 ∷ CheckpointEnded 2 false true ∷ Detached 2 ∷ []
 
-  -- an answer that may follow
-  pub may_answer : (script : List Stmt) (reply : List Item) (commit : List Change) (front now : ℕ) → reply ≡ items_of rows script → commit ≡ commit_of rows script
-      → front ≡ count_of (with_commit (history_of base book) commit) → tick ≤ now → MayAnswer base book pid script reply commit front now
-  may_answer script reply commit front now reply_is commit_is front_is later = record {
-    redone = true_to.redone;
-    attached = here;
-    reply_is = reply_is ∙ ap (λ (r : RowMap). items_of r script) true_to.rows_are;
-    commit_is = commit_is ∙ ap (λ (r : RowMap). commit_of r script) true_to.rows_are;
-    front_is = front_is;
-    in_time = omega (arith, true_to.in_time, later);
-  }
+abbrev closed_broken : (since faults : ℕ) → List BookEntry
+closed_broken since faults = Attached 2 1 ∷ Broke 2 since faults ∷ Detached 2 ∷ []
 
-  -- the store behind an answer, once the log has its commit
-  pub true_answered : (script : List Stmt) (reply : List Item) (commit : List Change) (front end now count : ℕ) → reply ≡ items_of rows script → commit ≡ commit_of rows script
-      → front ≡ count_of (with_commit (history_of base book) commit) → end ≡ log.end + need_of commit → tick ≤ now → faults ≤ count
-      → IsTrueTo base (book ++ Answered pid script reply commit front tick ∷ []) now count (committed rows commit) (record { end = end; count = front })
-  true_answered script reply commit front end now count reply_is commit_is front_is end_is later more =
-      let entry = Answered pid script reply commit front tick in
-      let history : history_of base (book ++ entry ∷ []) ≡ with_commit (history_of base book) commit = fold-append after_entry (beginning base.rows base.count) book (entry ∷ []) in
-      let needs : needs_of (book ++ entry ∷ []) ≡ needs_of book + need_of commit = fold-append need_after 0 book (entry ∷ []) in
-      let ticks : last_tick (book ++ entry ∷ []) ≡ max (last_tick book) tick = fold-append tick_after 0 book (entry ∷ []) in
-      record {
-        legal = legal_push base book entry true_to.legal (may_answer script reply commit front tick reply_is commit_is front_is (omega arith));
-        generation = fold-append generation_after 0 book (entry ∷ []) ∙ true_to.generation;
-        redone = (true_to.redone.0, fold-append first_kept None book (entry ∷ []) ∙ ap (λ (k : Option ℕ). first_kept k entry) true_to.redone.1);
-        no_fault = fold-append fault_after [] book (entry ∷ []) ∙ true_to.no_fault;
-        no_fault_here = fold-append fault_here None book (entry ∷ []) ∙ ap (λ (k : Option (List (ℕ × ℕ))). fault_here k entry) true_to.no_fault_here;
-        rows_are = ap (λ (r : RowMap). committed r commit) true_to.rows_are ∙ sym (ap rows_of history ∙ rows-with_commit (history_of base book) commit);
-        count_is = front_is ∙ sym (ap count_of history);
-        end_is = omega (arith, end_is, needs, true_to.end_is);
-        acked_in = omega (arith, ap (λ (h : History). h.acked) history, acked-with_commit (history_of base book) commit, ap count_of history, count_grows (history_of base book) commit, true_to.acked_in);
-        fronts_in = subst (λ (n : ℕ). All (AnswersWithin n) (book ++ entry ∷ [])) (sym (ap count_of history))
-            (All-push (AnswersWithin (count_of (with_commit (history_of base book) commit))) book entry
-            (All-weaker (AnswersWithin (count_of (history_of base book))) (AnswersWithin (count_of (with_commit (history_of base book) commit))) (within_more (count_of (history_of base book)) (count_of (with_commit (history_of base book) commit)) (count_grows (history_of base book) commit)) book true_to.fronts_in)
-            (omega (arith, front_is)));
-        in_time = omega (arith, ticks, true_to.in_time, later);
-        counted = omega (arith, true_to.counted, more);
-      }
+abbrev not_closed : List BookEntry
+not_closed = Attached 2 1 ∷ Detached 2 ∷ []
 
-  -- behind a read nothing else has changed
-  pub true_read : (script : List Stmt) (reply : List Item) → reply ≡ items_of rows script → [] ≡ commit_of rows script → IsTrueTo base (book ++ Answered pid script reply [] log.count tick ∷ []) tick faults rows log
-  true_read script reply reply_is commit_is = true_answered script reply [] log.count log.end tick faults reply_is commit_is true_to.count_is (omega arith) (omega arith) (omega arith)
+three_inside : (middle : BookEntry) → IsInside middle → All IsInside (Attached 2 1 ∷ middle ∷ Detached 2 ∷ [])
+three_inside middle inside =
+    All-cons IsInside (Attached 2 1) (middle ∷ Detached 2 ∷ []) tt (All-cons IsInside middle (Detached 2 ∷ []) inside (All-cons IsInside (Detached 2) [] tt (All-nil IsInside)))
 
-  -- behind a log without room nothing has changed
-  pub true_full : (script : List Stmt) (need room : ℕ) → need ≡ need_of (commit_of rows script) → room < need → ((log.count ≡ 2 ^ 64 - 1) × (room ≡ 0)) ⊎ (max_file_bytes ≤ room + log.end + 1)
-      → IsTrueTo base (book ++ LogFull pid script need room ∷ []) tick faults rows log
-  true_full script need room need_is above cause =
-      let may : MayBeFull base book pid script need room = record {
-        redone = true_to.redone;
-        attached = here;
-        need_is = need_is ∙ ap (λ (r : RowMap). need_of (commit_of r script)) true_to.rows_are;
-        above = above;
-        cause = elim cause [
-          | inl spent ↦ inl (sym true_to.count_is ∙ spent.0, spent.1)
-          | inr long ↦ inr (omega (arith, long, true_to.end_is))
-        ];
-      } in
-      quiet base book (LogFull pid script need room) tick faults rows log true_to may refl refl refl (λ count. refl) refl refl refl true_to.in_time true_to.acked_in tt
+two_inside : All IsInside not_closed
+two_inside = All-cons IsInside (Attached 2 1) (Detached 2 ∷ []) tt (All-cons IsInside (Detached 2) [] tt (All-nil IsInside))
 
-  -- a fault of the disk behind an answer
-  pub has_failed : (seen : Option Files) (script : List Stmt) (reply : List Item) (commit : List Change) (front since count : ℕ) → reply ≡ items_of rows script → commit ≡ commit_of rows script
-      → front ≡ count_of (with_commit (history_of base book) commit) → Rose faults count → faults ≤ count → count < 2 ^ 64
-      → IfSome seen (λ files. HoldsAcknowledged (with_commit (history_of base book) commit) files.a)
-      → HasFailed base ((book ++ Answered pid script reply commit front tick ∷ []) ++ Broke pid since count ∷ []) seen
-  has_failed seen script reply commit front since count reply_is commit_is front_is rose more fits file =
-      let entry = Answered pid script reply commit front tick in
-      let attached : times_attached (book ++ entry ∷ []) pid ≡ times_attached book pid = fold-append (times_after pid) 0 book (entry ∷ []) in
-      let none : faults_of (book ++ entry ∷ []) ≡ [] = fold-append fault_after [] book (entry ∷ []) ∙ true_to.no_fault in
-      let fresh : faults_here (book ++ entry ∷ []) ≡ Some [] = fold-append fault_here None book (entry ∷ []) ∙ ap (λ (k : Option (List (ℕ × ℕ))). fault_here k entry) true_to.no_fault_here in
-      let told : ((base.faults < count) × All (λ (fault : ℕ × ℕ). fault.1 < count) (faults_of (book ++ entry ∷ []))) ⊎ (count ≡ 2 ^ 64 - 1) = elim (cases_lt faults (2 ^ 64 - 1)) [
-        | inl below ↦ inl (omega (arith, rose, below, true_to.counted), subst (λ (fs : List (ℕ × ℕ)). All (λ (fault : ℕ × ℕ). fault.1 < count) fs) (sym none) (All-nil _))
-        | inr spent ↦ inr (omega (arith, spent, more, fits))
-      ] in
-      let may : MayBreak base (book ++ entry ∷ []) pid since count = record {
-        attached = omega (arith, attached, here);
-        fault = subst (λ (fs : Option (List (ℕ × ℕ))). TellsFault base (book ++ entry ∷ []) fs since count) (sym fresh) told;
-      } in
-      let behind : faults_here ((book ++ entry ∷ []) ++ Broke pid since count ∷ []) ≡ Some ((since, count) ∷ []) =
-      fold-append fault_here None (book ++ entry ∷ []) (Broke pid since count ∷ []) ∙ ap (λ (k : Option (List (ℕ × ℕ))). fault_here k (Broke pid since count)) fresh in
-      let history : history_of base ((book ++ entry ∷ []) ++ Broke pid since count ∷ []) ≡ with_commit (history_of base book) commit =
-      fold-append after_entry (beginning base.rows base.count) (book ++ entry ∷ []) (Broke pid since count ∷ []) ∙ fold-append after_entry (beginning base.rows base.count) book (entry ∷ []) in
-      record {
-        legal = legal_push base (book ++ entry ∷ []) (Broke pid since count) (legal_push base book entry true_to.legal (may_answer script reply commit front tick reply_is commit_is front_is (omega arith))) may;
-        broken = ((since, count), [], behind);
-        file = subst (λ (h : History). IfSome seen (λ files. HoldsAcknowledged h files.a)) (sym history) file;
-      }
+close_inside : (files : Option Files) (status : Top) (closing : List BookEntry) → CheckpointNotes files status closing → All IsInside closing
+close_inside files Done closing is = subst (All IsInside) (sym is) (three_inside (CheckpointEnded 2 true true) tt)
+close_inside files (Abnormal AfterCrash) closing (inl broke) = subst (All IsInside) (sym broke.2) (three_inside (Broke 2 broke.0 broke.1) tt)
+close_inside files (Abnormal AfterCrash) closing (inr full) = subst (All IsInside) (sym full.0) two_inside
+close_inside files (Abnormal (StartupFailed why)) closing notes = absurd notes
+close_inside files NoMemory closing (inl none) = subst (All IsInside) (sym none) (All-nil IsInside)
+close_inside files NoMemory closing (inr (inl two)) = subst (All IsInside) (sym two) two_inside
+close_inside files NoMemory closing (inr (inr skipped)) = subst (All IsInside) (sym skipped) (three_inside (CheckpointEnded 2 false true) tt)
+close_inside files OutFault closing notes = absurd notes
+close_inside files DiskFault closing notes = absurd notes
+close_inside files Exists closing notes = absurd notes
+close_inside files Usage closing notes = absurd notes
 
--- how often a child is attached behind one entry more
-pub attached_more : (book : List BookEntry) (entry : BookEntry) (pid : ℕ) → times_attached (book ++ entry ∷ []) pid ≡ times_after pid (times_attached book pid) entry
-attached_more book entry pid = fold-append (times_after pid) 0 book (entry ∷ [])
+tells_made : (kept : ℕ) (noted : List BookEntry) → All IsMild noted → Tells Done (book_of kept noted closed_well)
+tells_made kept noted mild = (here_of kept noted closed_well mild, closed_of kept noted closed_well mild (three_inside (CheckpointEnded 2 true true) tt))
 
--- the book of the store goes on by an entry, which leaves a child attached or lets it in
-pub book_goes : (base : Base) (pid : ℕ) (told now : Option (List BookEntry)) (entry : BookEntry) (tick faults tick' faults' : ℕ) (rows rows' : RowMap) (log log' : Log)
-    → ((book : List BookEntry) → IsTrueTo base book tick faults rows log → 1 ≤ times_attached book pid → IsTrueTo base (book ++ entry ∷ []) tick' faults' rows' log')
-    → ((times : ℕ) → times ≤ times_after pid times entry)
-    → BookHolds base pid told tick faults rows (Some log) → now ≡ option_map (λ b. b ++ entry ∷ []) told → BookHolds base pid now tick' faults' rows' (Some log')
-book_goes base pid None now entry tick faults tick' faults' rows rows' log log' step stays holds is =
-    subst (λ (n : Option (List BookEntry)). BookHolds base pid n tick' faults' rows' (Some log')) (sym is) (record { rests = tt; attached = tt })
-book_goes base pid (Some book) now entry tick faults tick' faults' rows rows' log log' step stays holds is =
-    subst (λ (n : Option (List BookEntry)). BookHolds base pid n tick' faults' rows' (Some log')) (sym is) (record {
-      rests = step book holds.rests holds.attached;
-      attached = omega (arith, holds.attached, attached_more book entry pid, stays (times_attached book pid));
-    })
+tells_broken : (kept : ℕ) (noted : List BookEntry) (since faults : ℕ) → All IsMild noted → Tells (Abnormal AfterCrash) (book_of kept noted (closed_broken since faults))
+tells_broken kept noted since faults mild = inl ((since, faults), [], here_of kept noted (closed_broken since faults) mild)
 
--- it goes on by two, and stays legal
-pub book_ends : (base : Base) (pid : ℕ) (seen : Option Files) (told mid now : Option (List BookEntry)) (first second : BookEntry) (tick faults : ℕ) (rows : RowMap) (log : Log)
-    → ((book : List BookEntry) → IsTrueTo base book tick faults rows log → 1 ≤ times_attached book pid → HasFailed base ((book ++ first ∷ []) ++ second ∷ []) seen)
-    → BookHolds base pid told tick faults rows (Some log) → mid ≡ option_map (λ b. b ++ first ∷ []) told → now ≡ option_map (λ b. b ++ second ∷ []) mid → IsBroken base now seen
-book_ends base pid seen None mid now first second tick faults rows log step holds is then = subst (λ (b : Option (List BookEntry)). IsBroken base b seen) (sym (then ∙ ap (option_map (λ b. b ++ second ∷ [])) is)) tt
-book_ends base pid seen (Some book) mid now first second tick faults rows log step holds is then =
-    subst (λ (b : Option (List BookEntry)). IsBroken base b seen) (sym (then ∙ ap (option_map (λ b. b ++ second ∷ [])) is)) (step book holds.rests holds.attached)
+tells_full : (kept : ℕ) (noted : List BookEntry) → All IsMild noted → Tells (Abnormal AfterCrash) (book_of kept noted not_closed)
+tells_full kept noted mild = inr (here_of kept noted not_closed mild, closed_of kept noted not_closed mild two_inside)
 
--- two entries are noted one by one
-pub notes_both : (told mid now : Option (List BookEntry)) (first second : BookEntry) → mid ≡ option_map (λ b. b ++ first ∷ []) told → now ≡ option_map (λ b. b ++ second ∷ []) mid
-    → now ≡ option_map (λ b. b ++ first ∷ second ∷ []) told
-notes_both None mid now first second is then = then ∙ ap (option_map (λ b. b ++ second ∷ [])) is
-notes_both (Some book) mid now first second is then = then ∙ ap (option_map (λ b. b ++ second ∷ [])) is ∙ ap (λ (b : List BookEntry). Some b) (append_assoc book (first ∷ []) (second ∷ []))
+tells_close : (files : Option Files) (status : Top) (kept : ℕ) (noted closing : List BookEntry) → All IsMild noted → CheckpointNotes files status closing → Tells status (book_of kept noted closing)
+tells_close files Done kept noted closing mild is = subst (λ (l : List BookEntry). Tells Done (book_of kept noted l)) (sym is) (tells_made kept noted mild)
+tells_close files (Abnormal AfterCrash) kept noted closing mild (inl broke) =
+    subst (λ (l : List BookEntry). Tells (Abnormal AfterCrash) (book_of kept noted l)) (sym broke.2) (tells_broken kept noted broke.0 broke.1 mild)
+tells_close files (Abnormal AfterCrash) kept noted closing mild (inr full) = subst (λ (l : List BookEntry). Tells (Abnormal AfterCrash) (book_of kept noted l)) (sym full.0) (tells_full kept noted mild)
+tells_close files (Abnormal (StartupFailed why)) kept noted closing mild notes = absurd notes
+tells_close files NoMemory kept noted closing mild (inl none) = after_of kept noted closing mild ∙ ap (fold faults_after []) none
+tells_close files NoMemory kept noted closing mild (inr (inl two)) = after_of kept noted closing mild ∙ ap (fold faults_after []) two
+tells_close files NoMemory kept noted closing mild (inr (inr skipped)) = after_of kept noted closing mild ∙ ap (fold faults_after []) skipped
+tells_close files OutFault kept noted closing mild notes = absurd notes
+tells_close files DiskFault kept noted closing mild notes = absurd notes
+tells_close files Exists kept noted closing mild notes = absurd notes
+tells_close files Usage kept noted closing mild notes = absurd notes
 
--- the number of commits behind one that has changes
-pub front_more : (history : History) (commit : List Change) (count : ℕ) → 0 < length commit → count ≡ count_of history → count + 1 ≡ count_of (with_commit history commit)
-front_more history [] count some is = absurd (omega arith)
-front_more history (change ∷ changes) count some is = omega (arith, is, count-with_commit history change changes)
+-- behind a panic
+panic_here : (kept : ℕ) (noted closing : List BookEntry) → closing ≡ [] → (broke : IsBreak noted) → faults_here (book_of kept noted closing) ≡ Some ((broke.since, broke.count) ∷ [])
+panic_here kept noted closing none broke =
+    ap (λ (l : List BookEntry). fold fault_here (Some []) (noted ++ l)) none
+    ∙ ap (fold fault_here (Some [])) (append-nil noted ∙ broke.is)
+    ∙ fold-append fault_here (Some []) broke.front (Broke broke.pid broke.since broke.count ∷ [])
+    ∙ ap (λ (h : Option (List (ℕ × ℕ))). fold fault_here h (Broke broke.pid broke.since broke.count ∷ [])) (mild_here [] broke.front broke.mild)
 
--- what a batch needs beside the gate behind it
-pub need_of_batch : (commit : List Change) (bytes need : ℕ) → 0 < length commit → bytes ≡ length (1 ∷ batch_bytes commit ++ 0 ∷ []) → need + 1 ≡ bytes → need ≡ need_of commit
-need_of_batch [] bytes need some long is = absurd (omega arith)
-need_of_batch (change ∷ changes) bytes need some long is =
-    let commit = change ∷ changes in
-    omega (arith, long, is, length-append (batch_bytes commit) (0 ∷ []), length-append (to_be_bytes w32 (length (body_bytes commit))) (body_bytes commit))
+break_inside : (noted : List BookEntry) → IsBreak noted → All IsInside noted
+break_inside noted broke = subst (All IsInside) (sym broke.is)
+    (All-append IsInside broke.front (Broke broke.pid broke.since broke.count ∷ []) (All-weaker IsMild IsInside mild_inside broke.front broke.mild)
+    (All-cons IsInside (Broke broke.pid broke.since broke.count) [] tt (All-nil IsInside)))
 
--- what the test of an empty list says
-pub nonempty : (commit changes : List Change) (r : Bool) → changes ≡ commit → r ≡ eqb (length changes) 0 → r ≡ false → 0 < length commit
-nonempty [] changes r same is empty = absurd (eqb-false (length changes) 0 (sym is ∙ empty) (ap length same))
-nonempty (change ∷ commit) changes r same is empty = omega arith
+tells_panic : (status : Top) (kept : ℕ) (noted closing : List BookEntry) → IsBreak noted → status ≡ Abnormal AfterCrash → closing ≡ [] → Tells status (book_of kept noted closing)
+tells_panic status kept noted closing broke is none =
+    subst (λ (s : Top). Tells s (book_of kept noted closing)) (sym is) (inl ((broke.since, broke.count), [], panic_here kept noted closing none broke))
 
--- the room of a log, by its number of commits
-pub no_room : (count end room : ℕ) → count ≡ 2 ^ 64 - 1 → room ≡ cond (eqb count (2 ^ 64 - 1)) 0 (max_file_bytes - 1 - end) → room ≡ 0
-no_room count end room spent is = is ∙ ap (λ (b : Bool). cond b 0 (max_file_bytes - 1 - end)) (eq-eqb count (2 ^ 64 - 1) spent)
+-- ---- the whole
 
-pub left_room : (count end room : ℕ) → count ≢ 2 ^ 64 - 1 → room ≡ cond (eqb count (2 ^ 64 - 1)) 0 (max_file_bytes - 1 - end) → max_file_bytes ≤ room + end + 1
-left_room count end room more is = omega (arith, is ∙ ap (λ (b : Bool). cond b 0 (max_file_bytes - 1 - end)) (ne_eqb count (2 ^ 64 - 1) more))
+pub inside_of : (files : Option Files) (seed : List ℕ) (gives : ℕ → Type 0) (stop : Stop) (cs : List Connection) (start : Option Visits) (status : Top) (closing : List BookEntry) → AreServed seed gives cs start → StopsBehind stop cs
+    → CloseNotes stop files status closing → All IsInside (noted_by cs ++ closing)
+inside_of files seed gives AtEnd cs start status closing served stops close =
+    All-append IsInside (noted_by cs) closing (All-weaker IsMild IsInside mild_inside (noted_by cs) (calm_all gives cs (each_of seed gives cs start served) stops)) (close_inside files status closing close)
+inside_of files seed gives AtLastPid cs start status closing served stops close =
+    All-append IsInside (noted_by cs) closing (All-weaker IsMild IsInside mild_inside (noted_by cs) (calm_all gives cs (each_of seed gives cs start served) stops.0)) (close_inside files status closing close)
+inside_of files seed gives AtPanic cs start status closing served stops close =
+    All-append IsInside (noted_by cs) closing (break_inside (noted_by cs) (broken_all gives cs (each_of seed gives cs start served) stops)) (subst (All IsInside) (sym close.1) (All-nil IsInside))
 
-pub not_spent : (count end room need : ℕ) → room ≡ cond (eqb count (2 ^ 64 - 1)) 0 (max_file_bytes - 1 - end) → need ≤ room → 0 < need → count < 2 ^ 64 → count + 1 < 2 ^ 64
-not_spent count end room need is fits some bound = elim (cases_eq count (2 ^ 64 - 1)) [
-  | inl spent ↦ absurd (omega (arith, no_room count end room spent is, fits, some))
-  | inr more ↦ omega (arith, more, bound)
-]
+pub tells_of : (files : Option Files) (seed : List ℕ) (gives : ℕ → Type 0) (stop : Stop) (cs : List Connection) (start : Option Visits) (status : Top) (kept : ℕ) (closing : List BookEntry) → AreServed seed gives cs start → StopsBehind stop cs
+    → CloseNotes stop files status closing → Tells status (book_of kept (noted_by cs) closing)
+tells_of files seed gives AtEnd cs start status kept closing served stops close =
+    tells_close files status kept (noted_by cs) closing (calm_all gives cs (each_of seed gives cs start served) stops) close
+tells_of files seed gives AtLastPid cs start status kept closing served stops close =
+    tells_close files status kept (noted_by cs) closing (calm_all gives cs (each_of seed gives cs start served) stops.0) close
+tells_of files seed gives AtPanic cs start status kept closing served stops close =
+    tells_panic status kept (noted_by cs) closing (broken_all gives cs (each_of seed gives cs start served) stops) close.0 close.1
 
--- a child comes in
-pub book_enters : (base : Base) (pid : ℕ) (told now : Option (List BookEntry)) (tick faults : ℕ) (rows : RowMap) (log : Option Log) → BookRests base told tick faults rows log
-    → now ≡ option_map (λ b. b ++ Attached pid 1 ∷ []) told → BookHolds base pid now tick faults rows log
-book_enters base pid None now tick faults rows log rests is = subst (λ (n : Option (List BookEntry)). BookHolds base pid n tick faults rows log) (sym is) (record { rests = tt; attached = tt })
-book_enters base pid (Some book) now tick faults rows None rests is = absurd rests
-book_enters base pid (Some book) now tick faults rows (Some log) rests is =
-    let attached : times_attached (book ++ Attached pid 1 ∷ []) pid ≡ times_attached book pid + 1 =
-    attached_more book (Attached pid 1) pid ∙ ap (λ (b : Bool). cond b (times_attached book pid + 1) (times_attached book pid)) (eq-eqb pid pid refl) in
-    subst (λ (n : Option (List BookEntry)). BookHolds base pid n tick faults rows (Some log)) (sym is) (record { rests = true_entered base pid book tick faults rows log rests; attached = omega (arith, attached) })
+-- ---- a start that failed
 
--- a child goes
-pub book_leaves : (base : Base) (pid : ℕ) (told now : Option (List BookEntry)) (tick faults : ℕ) (rows : RowMap) (log : Option Log) → BookHolds base pid told tick faults rows log
-    → now ≡ option_map (λ b. b ++ Detached pid ∷ []) told → BookRests base now tick faults rows log
-book_leaves base pid None now tick faults rows log holds is = subst (λ (n : Option (List BookEntry)). BookRests base n tick faults rows log) (sym is) tt
-book_leaves base pid (Some book) now tick faults rows None holds is = absurd holds.rests
-book_leaves base pid (Some book) now tick faults rows (Some log) holds is =
-    subst (λ (n : Option (List BookEntry)). BookRests base n tick faults rows (Some log)) (sym is) (true_left base pid book tick faults rows log holds.rests holds.attached)
+abbrev unread : List BookEntry
+unread = Opened 1 ∷ Attached 1 1 ∷ Detached 1 ∷ []
 
--- an answer is released
-pub book_releases : (base : Base) (pid front : ℕ) (told now : Option (List BookEntry)) (tick faults : ℕ) (rows : RowMap) (log : Option Log) → BookHolds base pid told tick faults rows log → HasAnswer pid front told
-    → now ≡ option_map (λ b. b ++ Released pid front tick ∷ []) told → BookHolds base pid now tick faults rows log
-book_releases base pid front None now tick faults rows log holds answered is = subst (λ (n : Option (List BookEntry)). BookHolds base pid n tick faults rows log) (sym is) (record { rests = tt; attached = tt })
-book_releases base pid front (Some book) now tick faults rows None holds answered is = absurd holds.rests
-book_releases base pid front (Some book) now tick faults rows (Some log) holds answered is =
-    subst (λ (n : Option (List BookEntry)). BookHolds base pid n tick faults rows (Some log)) (sym is) (record {
-      rests = true_released base pid book tick faults rows log holds.rests holds.attached front answered;
-      attached = omega (arith, holds.attached, attached_more book (Released pid front tick) pid);
-    })
+pub start_unredone : (status : Top) (entries : List BookEntry) → StartNotes status entries → kept_by_redo entries ≡ None
+start_unredone (Abnormal (StartupFailed (Redo redo.Disk))) entries notes = ap kept_by_redo notes.2
+start_unredone (Abnormal (StartupFailed (Redo redo.NoCluster))) entries notes = ap kept_by_redo notes
+start_unredone (Abnormal (StartupFailed (Redo (redo.BadFile file at)))) entries notes = ap kept_by_redo notes
+start_unredone (Abnormal (StartupFailed (Redo (redo.SameEpoch epoch)))) entries notes = ap kept_by_redo notes
+start_unredone (Abnormal (StartupFailed (Redo redo.NoMemory))) entries notes = absurd notes
+start_unredone (Abnormal AfterCrash) entries notes = absurd notes
+start_unredone NoMemory entries (inl none) = ap kept_by_redo none
+start_unredone NoMemory entries (inr (inl opened)) = ap kept_by_redo opened
+start_unredone NoMemory entries (inr (inr left)) = ap kept_by_redo left
+start_unredone Done entries notes = absurd notes
+start_unredone OutFault entries notes = absurd notes
+start_unredone DiskFault entries notes = absurd notes
+start_unredone Exists entries notes = absurd notes
+start_unredone Usage entries notes = absurd notes
 
--- the answer that was noted
-pub book_answers : (pid front : ℕ) (script : List Stmt) (reply : List Item) (commit : List Change) (tick : ℕ) (told now : Option (List BookEntry))
-    → now ≡ option_map (λ b. b ++ Answered pid script reply commit front tick ∷ []) told → HasAnswer pid front now
-book_answers pid front script reply commit tick None now is = subst (HasAnswer pid front) (sym is) tt
-book_answers pid front script reply commit tick (Some book) now is =
-    subst (HasAnswer pid front) (sym is) (Any-push (AnswersUpTo pid front) book (Answered pid script reply commit front tick) (refl, omega arith))
+pub start_tells : (status : Top) (entries : List BookEntry) → StartNotes status entries → Tells status entries
+start_tells (Abnormal (StartupFailed (Redo redo.Disk))) entries notes =
+    subst (Tells (Abnormal (StartupFailed (Redo redo.Disk)))) (sym notes.2) (refl, (2, Broke 1 notes.0 notes.1, omega arith, refl, tt))
+start_tells (Abnormal (StartupFailed (Redo redo.NoCluster))) entries notes = (ap kept_by_redo notes, ap faults_of notes)
+start_tells (Abnormal (StartupFailed (Redo (redo.BadFile file at)))) entries notes = (ap kept_by_redo notes, ap faults_of notes)
+start_tells (Abnormal (StartupFailed (Redo (redo.SameEpoch epoch)))) entries notes = (ap kept_by_redo notes, ap faults_of notes)
+start_tells (Abnormal (StartupFailed (Redo redo.NoMemory))) entries notes = absurd notes
+start_tells (Abnormal AfterCrash) entries notes = absurd notes
+start_tells NoMemory entries (inl none) = ap faults_of none
+start_tells NoMemory entries (inr (inl opened)) = ap faults_of opened
+start_tells NoMemory entries (inr (inr left)) = ap faults_of left
+start_tells Done entries notes = absurd notes
+start_tells OutFault entries notes = absurd notes
+start_tells DiskFault entries notes = absurd notes
+start_tells Exists entries notes = absurd notes
+start_tells Usage entries notes = absurd notes
+
+-- ---- faults that were noted
+
+pub start_rose : (from faults : ℕ) (entries : List BookEntry) → StartNotes (Abnormal (StartupFailed (Redo redo.Disk))) (Opened 1 ∷ entries) → All (IsShown from faults) entries → Rose from faults
+start_rose from faults entries notes shown =
+    (subst (All (IsShown from faults)) (behind_first entries (Attached 1 1 ∷ Broke 1 notes.0 notes.1 ∷ Detached 1 ∷ []) notes.2) shown) 1 (Detached 1) (omega arith)
+  where
+    behind_first : (one two : List BookEntry) → Opened 1 ∷ one ≡ Opened 1 ∷ two → one ≡ two
+    behind_first one two is = cc
+
+close_rose : (from count : ℕ) (files : Option Files) (closing : List BookEntry) → CheckpointNotes files (Abnormal AfterCrash) closing → All (IsShown from count) closing → Rose from count ⊎ IfSome files (λ f. ∥ IsAtLastEpoch f ∥₁)
+close_rose from count files closing (inl broke) shown = inl ((subst (All (IsShown from count)) broke.2 shown) 1 (Detached 2) (omega arith))
+close_rose from count files closing (inr full) shown = inr full.1
+
+panic_rose : (from count : ℕ) (noted : List BookEntry) → IsBreak noted → All (IsShown from count) noted → Rose from count
+panic_rose from count noted broke shown = All-last (IsShown from count) broke.front (Broke broke.pid broke.since broke.count) (subst (All (IsShown from count)) broke.is shown)
+
+pub crash_rose : (from count : ℕ) (files : Option Files) (seed : List ℕ) (gives : ℕ → Type 0) (stop : Stop) (cs : List Connection) (start : Option Visits) (before closing : List BookEntry) → AreServed seed gives cs start → StopsBehind stop cs
+    → CloseNotes stop files (Abnormal AfterCrash) closing → All (IsShown from count) (before ++ noted_by cs ++ closing) → Rose from count ⊎ IfSome files (λ f. ∥ IsAtLastEpoch f ∥₁)
+crash_rose from count files seed gives AtEnd cs start before closing served stops close shown = close_rose from count files closing close (All-back (IsShown from count) (before ++ noted_by cs) closing shown)
+crash_rose from count files seed gives AtLastPid cs start before closing served stops close shown = close_rose from count files closing close (All-back (IsShown from count) (before ++ noted_by cs) closing shown)
+crash_rose from count files seed gives AtPanic cs start before closing served stops close shown =
+    inl (panic_rose from count (noted_by cs) (broken_all gives cs (each_of seed gives cs start served) stops)
+    (All-back (IsShown from count) before (noted_by cs) (All-front (IsShown from count) (before ++ noted_by cs) closing shown)))
+
+-- a start that failed has no end of a server that has started
+pub close_started : (stop : Stop) (files : Option Files) (fault : RedoFault) (closing : List BookEntry) → CloseNotes stop files (Abnormal (StartupFailed (Redo fault))) closing → ⊥
+close_started AtEnd files fault closing never = never
+close_started AtLastPid files fault closing never = never
+close_started AtPanic files fault closing never = let is = never.0 in cc

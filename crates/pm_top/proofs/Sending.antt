@@ -1,40 +1,91 @@
--- Bytes that are sent piece by piece.
-use Rattle.std.proofs.Common.{◌≡◌, ℕ, ◌-◌, List, ◌++◌, Result, Ok, Err, OnOk, length, take, drop, Option, None, Some, refl, sym, ◌∙◌, ap, arith, append_assoc, take-append-drop, length-drop}
+-- Text that is written piece by piece.
+use Rattle.std.proofs.Common.{◌≡◌, ◌⊎◌, inl, inr, ℕ, ◌-◌, List, [], ◌++◌, length, take, drop, Option, None, Some, refl, sym, ◌∙◌, ap, subst, arith, append_assoc, append-nil, take-append-drop, length-drop}
 use Rattle.std.specs.Option.{option_map}
-use Rattle.std.specs.Prelude.{codes, decimal}
+use Rattle.std.specs.Prelude.{true, false}
 use Rattle.std.proofs.lemmas.List.{take_all}
-use Rattle.pm_disk.specs.declared.disk.Which.{Which}
-use Rattle.pm_disk.specs.declared.disk.Which.TheVariants.{A, B}
-use Rattle.pm_top.specs.declared.print.SinkFailed.{SinkFailed}
-use Rattle.pm_top.specs.declared.record.RedoFault.{RedoFault}
-use Rattle.pm_top.specs.declared.record.RedoFault.TheVariants.{BadFile}
-use Rattle.pm_top.specs.Ends.{file_letter, redo_line}
+use Rattle.pm_top.specs.Print.{IsPrinted}
 
 -- what is left behind the first n, as the code takes it
 pub rest_of : (xs : List ℕ) (n : ℕ) → take (length xs - n) (drop n xs) ≡ drop n xs
 rest_of xs n = take_all _ _ (omega (arith, length-drop n xs))
 
--- a piece behind what stands, and then the others
-pub piece_then : (told : Option (List ℕ)) (xs : List ℕ) (n : ℕ) → option_map (λ w. w ++ drop n xs) (option_map (λ w. w ++ take n xs) told) ≡ option_map (λ w. w ++ xs) told
-piece_then None xs n = refl
-piece_then (Some w) xs n = ap (λ (l : List ℕ). Some l) (append_assoc w (take n xs) (drop n xs) ∙ ap (λ (l : List ℕ). w ++ l) (take-append-drop n xs))
+none_added : (told : Option (List ℕ)) → told ≡ option_map (λ w. w ++ []) told
+none_added None = refl
+none_added (Some w) = ap (λ (l : List ℕ). Some l) (sym (append-nil w))
 
--- three pieces behind what stands
-three_then : (a b c line : List ℕ) (told w1 w2 w3 : Option (List ℕ)) → line ≡ a ++ b ++ c → w1 ≡ option_map (λ w. w ++ a) told → w2 ≡ option_map (λ w. w ++ b) w1 → w3 ≡ option_map (λ w. w ++ c) w2
-    → w3 ≡ option_map (λ w. w ++ line) told
-three_then a b c line None w1 w2 w3 whole first second third = third ∙ ap (option_map (λ w. w ++ c)) (second ∙ ap (option_map (λ w. w ++ b)) first)
-three_then a b c line (Some w) w1 w2 w3 whole first second third =
-    third ∙ ap (option_map (λ w. w ++ c)) (second ∙ ap (option_map (λ w. w ++ b)) first)
-    ∙ ap (λ (l : List ℕ). Some l) (append_assoc (w ++ a) b c ∙ append_assoc w a (b ++ c) ∙ ap (λ (l : List ℕ). w ++ l) (sym (append_assoc a b c) ∙ sym whole))
+nothing_put : (told : Option (List ℕ)) → option_map (λ w. w) told ≡ told
+nothing_put None = refl
+nothing_put (Some w) = refl
 
-damage_line : (file : Which) (at : ℕ) (front number : List ℕ) → front ≡ codes "damaged file " ++ file_letter file ++ codes " at " → number ≡ decimal at → redo_line (BadFile file at) ≡ front ++ number ++ codes "\n"
-damage_line A at front number is at_is = sym (ap (λ (l : List ℕ). l ++ number ++ codes "\n") is ∙ ap (λ (l : List ℕ). (codes "damaged file A at ") ++ l ++ codes "\n") at_is)
-damage_line B at front number is at_is = sym (ap (λ (l : List ℕ). l ++ number ++ codes "\n") is ∙ ap (λ (l : List ℕ). (codes "damaged file B at ") ++ l ++ codes "\n") at_is)
+two_added : (a b : List ℕ) (told : Option (List ℕ)) → option_map (λ w. w ++ b) (option_map (λ w. w ++ a) told) ≡ option_map (λ w. w ++ (a ++ b)) told
+two_added a b None = refl
+two_added a b (Some w) = ap (λ (l : List ℕ). Some l) (append_assoc w a b)
 
--- the three pieces that tell of a damaged file
-pub damage_printed : (fault : RedoFault) (file : Which) (at : ℕ) (front number : List ℕ) (result : Result (Unit {0}) SinkFailed) (told w1 w2 w3 : Option (List ℕ)) → fault ≡ BadFile file at
-    → front ≡ codes "damaged file " ++ file_letter file ++ codes " at " → number ≡ decimal at → w1 ≡ option_map (λ w. w ++ front) told → w2 ≡ option_map (λ w. w ++ number) w1
-    → OnOk result (w3 ≡ option_map (λ w. w ++ codes "\n") w2) → OnOk result (w3 ≡ option_map (λ w. w ++ redo_line fault) told)
-damage_printed fault file at front number (Ok done) told w1 w2 w3 is front_is at_is first second third =
-    three_then front number (codes "\n") (redo_line fault) told w1 w2 w3 (ap redo_line is ∙ damage_line file at front number front_is at_is) first second third
-damage_printed fault file at front number (Err e) told w1 w2 w3 is front_is at_is first second third = third
+-- ---- a part of a text
+
+-- a front of the text was written, and this is the rest
+pub record IsUpTo (text rest : List ℕ) (before now : Option (List ℕ)) : Type 0 where
+  pub front : List ℕ
+  pub parts : text ≡ front ++ rest
+  pub written : now ≡ option_map (λ w. w ++ front) before
+
+pub nothing_yet : (text : List ℕ) (told : Option (List ℕ)) → IsUpTo text text told told
+nothing_yet text told = record { front = []; parts = refl; written = none_added told }
+
+-- n bytes more
+pub further : (text rest : List ℕ) (n : ℕ) (before mid now : Option (List ℕ)) → IsUpTo text rest before mid → now ≡ option_map (λ w. w ++ take n rest) mid → IsUpTo text (take (length rest - n) (drop n rest)) before now
+further text rest n before mid now up written = record {
+  front = up.front ++ take n rest;
+  parts = up.parts ∙ ap (λ (l : List ℕ). up.front ++ l) (sym (take-append-drop n rest)) ∙ sym (append_assoc up.front (take n rest) (drop n rest))
+      ∙ ap (λ (l : List ℕ). (up.front ++ take n rest) ++ l) (sym (rest_of rest n));
+  written = written ∙ ap (option_map (λ (w : List ℕ). w ++ take n rest)) up.written ∙ two_added up.front (take n rest) before;
+}
+
+pub all_of : (text rest : List ℕ) (cut : Type 0) (before now : Option (List ℕ)) → IsUpTo text rest before now → rest ≡ [] → IsPrinted text cut before now
+all_of text rest cut before now up none = record { front = up.front; rest = rest; parts = up.parts; written = up.written; whole = inl none }
+
+pub cut_off : (text rest : List ℕ) (cut : Type 0) (before mid now : Option (List ℕ)) → IsUpTo text rest before mid → now ≡ option_map (λ w. w) mid → cut → IsPrinted text cut before now
+cut_off text rest cut before mid now up none failed = record { front = up.front; rest = rest; parts = up.parts; written = none ∙ nothing_put mid ∙ up.written; whole = inr failed }
+
+-- ---- texts one behind the other
+
+pub nothing_printed : (cut : Type 0) (told : Option (List ℕ)) → IsPrinted [] cut told told
+nothing_printed cut told = record { front = []; rest = []; parts = refl; written = none_added told; whole = inl refl }
+
+-- the sink didn't fail
+pub printed_whole : (text : List ℕ) (before now : Option (List ℕ)) → IsPrinted text (false ≡ true) before now → now ≡ option_map (λ w. w ++ text) before
+printed_whole text before now printed = elim printed.whole [
+  | inl none ↦ printed.written ∙ ap (λ (l : List ℕ). option_map (λ (w : List ℕ). w ++ l) before) (sym (printed.parts ∙ ap (λ (l : List ℕ). printed.front ++ l) none ∙ append-nil printed.front))
+  | inr never ↦ cc
+]
+
+-- other words for a text
+pub printed_as : (one text : List ℕ) (cut : Type 0) (before now : Option (List ℕ)) → one ≡ text → IsPrinted one cut before now → IsPrinted text cut before now
+printed_as one text cut before now same printed = subst (λ (l : List ℕ). IsPrinted l cut before now) same printed
+
+pub printed_then : (a b : List ℕ) (cut : Type 0) (before mid now : Option (List ℕ)) → mid ≡ option_map (λ w. w ++ a) before → IsPrinted b cut mid now → IsPrinted (a ++ b) cut before now
+printed_then a b cut before mid now first printed = record {
+  front = a ++ printed.front;
+  rest = printed.rest;
+  parts = ap (λ (l : List ℕ). a ++ l) printed.parts ∙ sym (append_assoc a printed.front printed.rest);
+  written = printed.written ∙ ap (option_map (λ (w : List ℕ). w ++ printed.front)) first ∙ two_added a printed.front before;
+  whole = printed.whole;
+}
+
+pub cut_short : (a b : List ℕ) (one cut : Type 0) (before now : Option (List ℕ)) → cut → IsPrinted a one before now → IsPrinted (a ++ b) cut before now
+cut_short a b one cut before now failed printed = record {
+  front = printed.front;
+  rest = printed.rest ++ b;
+  parts = ap (λ (l : List ℕ). l ++ b) printed.parts ∙ append_assoc printed.front printed.rest b;
+  written = printed.written;
+  whole = inr failed;
+}
+
+pub printed_weaker : (text : List ℕ) (one cut : Type 0) (before now : Option (List ℕ)) → (one → cut) → IsPrinted text one before now → IsPrinted text cut before now
+printed_weaker text one cut before now weaker printed = record {
+  front = printed.front;
+  rest = printed.rest;
+  parts = printed.parts;
+  written = printed.written;
+  whole = elim printed.whole [ inl none ↦ inl none | inr failed ↦ inr (weaker failed) ];
+}

@@ -1,19 +1,17 @@
--- How a command ends, why, and what it says.
-use Rattle.std.specs.Prelude.{◌≡◌, ◌⊎◌, ℕ, List, [], ◌++◌, Option, None, Some, codes, decimal, option_map}
-use Rattle.pm_disk.specs.Files.{Files}
-use Rattle.pm_rows.specs.declared.commit.Change.{Change}
-use Rattle.pm_top.specs.StandsFor.{StandsFor}
-use Rattle.pm_disk.specs.Cause.{Rose}
+-- How a command ends, and what it says.
+use Rattle.std.specs.Prelude.{ℕ, List, [], ◌++◌, codes, decimal, Result, Ok, Err}
 use Rattle.pm_disk.specs.declared.disk.Which.{Which}
 use Rattle.pm_disk.specs.declared.disk.Which.TheVariants.{A, B}
-use Rattle.pm_top.specs.Contents.{Damages, IsClosed}
-use Rattle.pm_top.specs.declared.record.FileFault.TheVariants.{Bad}
-use Rattle.pm_top.specs.declared.record.RedoFault.{RedoFault}
-use Rattle.pm_top.specs.declared.record.RedoFault.TheVariants as redo
-use Rattle.pm_top.specs.declared.top.Top.{Top}
-use Rattle.pm_top.specs.declared.top.Top.TheVariants.{Done, Abnormal, OutFault, DiskFault, Exists, Usage, NoMemory}
-use Rattle.pm_top.specs.declared.top.Why.TheVariants.{AfterCrash, StartupFailed}
-use Rattle.pm_top.specs.declared.top.StartWhy.TheVariants.{Redo}
+use Rattle.pm_record.specs.declared.fault.RedoFault.{RedoFault}
+use Rattle.pm_record.specs.declared.fault.RedoFault.TheVariants as redo
+use Rattle.pm_query.specs.declared.store.StoreNo.{StoreNo}
+use Rattle.pm_query.specs.declared.store.StoreNo.TheVariants as stores
+use Rattle.pm_segment.specs.declared.redo.Checkpointed.{Checkpointed}
+use Rattle.pm_segment.specs.declared.redo.Checkpointed.TheVariants as made
+use Rattle.pm_top.specs.declared.status.Top.{Top}
+use Rattle.pm_top.specs.declared.status.Top.TheVariants.{Done, Abnormal, OutFault, DiskFault, Exists, Usage, NoMemory}
+use Rattle.pm_top.specs.declared.status.Why.TheVariants.{AfterCrash, StartupFailed}
+use Rattle.pm_top.specs.declared.status.StartWhy.TheVariants.{Redo}
 
 -- the exit code of the program: served, refused or failed, no command line, out of memory
 abbrev pub exit_code : Top → ℕ
@@ -41,38 +39,26 @@ IsOnceEnd Done = Unit {0}
 IsOnceEnd NoMemory = Unit {0}
 IsOnceEnd _ = ⊥
 
--- how a server ends that doesn't start
-abbrev pub IsStartEnd : Top → Type 0
-IsStartEnd (Abnormal (StartupFailed (Redo redo.NoMemory))) = ⊥
-IsStartEnd (Abnormal (StartupFailed why)) = Unit {0}
-IsStartEnd NoMemory = Unit {0}
-IsStartEnd _ = ⊥
-
--- how a server ends that has started
-abbrev pub IsServedEnd : Top → Type 0
-IsServedEnd Done = Unit {0}
-IsServedEnd (Abnormal AfterCrash) = Unit {0}
-IsServedEnd _ = ⊥
-
 -- `initdb` has made a cluster: its line was printed, or the sink failed
 abbrev pub HasMade : Top → Type 0
 HasMade Done = Unit {0}
 HasMade OutFault = Unit {0}
 HasMade _ = ⊥
 
--- file A stands for some commits, where the disk tells
-abbrev pub StandsWhole : Option Files → Type 0
-StandsWhole None = Unit {0}
-StandsWhole (Some files) = (commits : List (List Change)) × (end : ℕ) × StandsFor files.a commits end
+-- how a server ends whose redo was refused so
+abbrev pub refused_start : StoreNo → Top
+refused_start (stores.Redo redo.NoMemory) = NoMemory
+refused_start (stores.Redo fault) = Abnormal (StartupFailed (Redo fault))
+refused_start _ = NoMemory
 
--- ---- why a log can't be read
-
--- what file A is where it can't be read for this reason; a fault of the disk and want of memory say nothing of it
-abbrev pub IsReason : RedoFault → List ℕ → Type 0
-IsReason redo.Disk file = Unit {0}
-IsReason redo.NoCluster file = IsClosed file
-IsReason (redo.BadFile which at) file = (which ≡ A) × Damages file (Bad at)
-IsReason redo.NoMemory file = Unit {0}
+-- how a server ends whose last checkpoint came to this
+abbrev pub closed_status : Result Checkpointed StoreNo → Top
+closed_status (Ok (made.Done epoch)) = Done
+closed_status (Ok made.Skipped) = NoMemory
+closed_status (Err stores.Disk) = Abnormal AfterCrash
+closed_status (Err (stores.Broken since)) = Abnormal AfterCrash
+closed_status (Err (stores.Full need room)) = Abnormal AfterCrash
+closed_status (Err _) = NoMemory
 
 -- ---- what is printed
 
@@ -84,6 +70,7 @@ abbrev pub redo_line : RedoFault → List ℕ
 redo_line redo.Disk = codes "disk fault\n"
 redo_line redo.NoCluster = codes "no readable cluster\n"
 redo_line (redo.BadFile which at) = codes "damaged file " ++ file_letter which ++ codes " at " ++ decimal at ++ codes "\n"
+redo_line (redo.SameEpoch epoch) = codes "two files of epoch " ++ decimal epoch ++ codes "\n"
 redo_line redo.NoMemory = codes "out of memory\n"
 
 -- the line of a status
@@ -97,6 +84,8 @@ line_of Exists = codes "a cluster exists\n"
 line_of Usage = codes "usage: initdb | once | serve | controldata | workload\n"
 line_of NoMemory = codes "out of memory\n"
 
--- this was written, or the sink has failed
-abbrev pub IsPrinted : List ℕ → (before now : Option (List ℕ)) → (faults_before faults_now : ℕ) → Type 0
-IsPrinted text before now faults_before faults_now = (now ≡ option_map (λ written. written ++ text) before) ⊎ Rose faults_before faults_now
+-- what `initdb` says
+abbrev pub initdb_line : Top → List ℕ
+initdb_line Done = codes "initialized\n"
+initdb_line OutFault = codes "initialized\n"
+initdb_line status = line_of status

@@ -1,119 +1,138 @@
--- What a run of `once` leaves: its book, its link, and file A.
-use Rattle.std.specs.Prelude.{◌≡◌, ℕ, ◌+◌, List, [], ◌∷◌, ◌++◌, length, Any, IfSome, Option, None, Some, option_map, unwrap_or}
-use Rattle.std.specs.FinMap as map
+-- What a run of `once` notes, and what it leaves in its two files.
+use Rattle.std.specs.Prelude.{◌≡◌, ◌⊎◌, ℕ, ◌≤◌, true, false, List, [], ◌∷◌, ◌++◌, Any, Option, None, Some, Result, Ok, Err, IsSome, IfSome}
 use Rattle.pm_disk.specs.Cause.{Rose}
 use Rattle.pm_disk.specs.Files.{Files}
-use Rattle.pm_outside.specs.Traffic.{Traffic, IsFresh}
-use Rattle.pm_outside.specs.Visits.{Visits}
-use Rattle.pm_rows.specs.declared.commit.Change.{Change}
-use Rattle.pm_rows.specs.Fold.{folded}
-use Rattle.pm_top.specs.declared.book.BookEntry.{BookEntry}
-use Rattle.pm_top.specs.declared.book.BookEntry.TheVariants.{Opened, Attached, Redone, Detached, Broke}
-use Rattle.pm_top.specs.declared.record.RedoFault.TheVariants as redo
-use Rattle.pm_top.specs.declared.session.Ending.{Ending}
-use Rattle.pm_top.specs.declared.session.Ending.TheVariants.{Panic}
-use Rattle.pm_top.specs.declared.top.Top.{Top}
-use Rattle.pm_top.specs.declared.top.Top.TheVariants.{Done, Abnormal}
-use Rattle.pm_top.specs.declared.top.Why.TheVariants.{AfterCrash, StartupFailed}
-use Rattle.pm_top.specs.declared.top.StartWhy.TheVariants.{Redo}
-use Rattle.pm_top.specs.StandsFor.{StandsFor}
-use Rattle.pm_top.specs.History.{count_of}
-use Rattle.pm_top.specs.Book.{Base, IsLegal, faults_here, history_of}
-use Rattle.pm_top.specs.Store.{HasBroken, HoldsAcknowledged, HoldsNumber}
-use Rattle.pm_top.specs.Conversation.{IsCaused, IsSession, between}
+use Rattle.pm_disk.specs.declared.disk.Which.{Which}
+use Rattle.pm_record.specs.Pair.{Means, MeansIn, PairStandsFor}
+use Rattle.pm_record.specs.StandsFor.{Content, standing_of}
+use Rattle.pm_record.specs.declared.fault.RedoFault.TheVariants as redo
+use Rattle.pm_query.specs.History.{History, count_of, number}
+use Rattle.pm_query.specs.Book.{Base, IsLegal, faults_here, faults_of, history_of, is_closed, kept_by_redo, standing_of as base_standing}
+use Rattle.pm_query.specs.Durable.{IsDurable, MeansAsOne}
+use Rattle.pm_query.specs.declared.book.BookEntry.{BookEntry}
+use Rattle.pm_query.specs.declared.book.BookEntry.TheVariants.{Opened, Attached, Redone, Detached, CheckpointEnded, Broke}
+use Rattle.pm_segment.specs.Moves.{NotesEntries}
+use Rattle.pm_segment.specs.Redos.{IsAtLastEpoch}
+use Rattle.pm_top.specs.Service.{Service, Stop, AtEnd, AtLastPid, AtPanic, noted_by}
+use Rattle.pm_top.specs.declared.status.Top.{Top}
+use Rattle.pm_top.specs.declared.status.Top.TheVariants.{Done, Abnormal, NoMemory}
+use Rattle.pm_top.specs.declared.status.Why.TheVariants.{AfterCrash, StartupFailed}
+use Rattle.pm_top.specs.declared.status.StartWhy.TheVariants.{Redo}
 
--- ---- the book and file A
+-- ---- what is noted
 
--- The base that a log file stands for: the rows and the number of its commits, and its bytes up to and with the closed
--- gate.
-pub record IsBaseOf (file : List ℕ) (base : Base) : Type 0 where
-  pub commits : List (List Change)
-  pub end : ℕ
-  pub stands : StandsFor file commits end
-  pub rows_are : base.rows ≡ folded map.empty commits
-  pub count_is : base.count ≡ length commits
-  pub bytes_are : base.bytes ≡ end + 1
+-- the log was read, by the child with pid 1
+abbrev pub redo_entries : ℕ → List BookEntry
+redo_entries kept = Attached 1 1 ∷ Redone 1 1 kept ∷ Detached 1 ∷ []
 
--- Behind a redo, file A stands for all commits of the book; behind a fault of the disk, for a number of them that holds
--- every acknowledged one.
-pub record IsHeld (base : Base) (book : List BookEntry) (file : List ℕ) : Type 0 where
-  pub all : faults_here book ≡ Some [] → HoldsNumber (history_of base book) (count_of (history_of base book)) file
-  pub acknowledged : HasBroken book → HoldsAcknowledged (history_of base book) file
+-- it wasn't
+abbrev pub StartNotes : Top → List BookEntry → Type 0
+StartNotes (Abnormal (StartupFailed (Redo redo.Disk))) entries =
+    (since : ℕ) × (faults : ℕ) × (entries ≡ Opened 1 ∷ Attached 1 1 ∷ Broke 1 since faults ∷ Detached 1 ∷ [])
+StartNotes (Abnormal (StartupFailed (Redo redo.NoMemory))) entries = ⊥
+StartNotes (Abnormal (StartupFailed (Redo fault))) entries = entries ≡ Opened 1 ∷ Attached 1 1 ∷ Detached 1 ∷ []
+StartNotes NoMemory entries = (entries ≡ []) ⊎ ((entries ≡ Opened 1 ∷ []) ⊎ (entries ≡ Opened 1 ∷ Attached 1 1 ∷ Detached 1 ∷ []))
+StartNotes _ entries = ⊥
+
+-- the log was read, or it wasn't, behind the opening of the store
+abbrev pub StartsAs : Result (Unit {0}) Top → List BookEntry → Type 0
+StartsAs (Ok done) entries = (kept : ℕ) × (entries ≡ redo_entries kept)
+StartsAs (Err status) entries = StartNotes status (Opened 1 ∷ entries)
+
+-- The last checkpoint, which the child with pid 2 makes: it leaves the log clean. A fault of the disk crashes that child, and
+-- so does a log in its last epoch.
+abbrev pub CheckpointNotes : Option Files → Top → List BookEntry → Type 0
+CheckpointNotes files Done entries = entries ≡ Attached 2 1 ∷ CheckpointEnded 2 true true ∷ Detached 2 ∷ []
+CheckpointNotes files (Abnormal AfterCrash) entries =
+    ((since : ℕ) × (faults : ℕ) × (entries ≡ Attached 2 1 ∷ Broke 2 since faults ∷ Detached 2 ∷ []))
+    ⊎ ((entries ≡ Attached 2 1 ∷ Detached 2 ∷ []) × IfSome files (λ f. ∥ IsAtLastEpoch f ∥₁))
+CheckpointNotes files NoMemory entries =
+    (entries ≡ []) ⊎ ((entries ≡ Attached 2 1 ∷ Detached 2 ∷ []) ⊎ (entries ≡ Attached 2 1 ∷ CheckpointEnded 2 false true ∷ Detached 2 ∷ []))
+CheckpointNotes files _ entries = ⊥
+
+-- behind a panic there is none
+abbrev pub CloseNotes : Stop → Option Files → Top → List BookEntry → Type 0
+CloseNotes AtEnd files status entries = CheckpointNotes files status entries
+CloseNotes AtLastPid files status entries = CheckpointNotes files status entries
+CloseNotes AtPanic files status entries = (status ≡ Abnormal AfterCrash) × (entries ≡ [])
+
+-- Redo didn't end, and no link was accepted.
+pub record HasNotStarted (status : Top) (before now : Option (List BookEntry)) : Type 0 where
+  pub entries : List BookEntry
+  pub start : StartNotes status entries
+  pub notes : NotesEntries entries before now
+
+-- The log was read, the sessions followed in order, and then the checkpoint, which left these files.
+pub record HasNoted (status : Top) (service : Service) (files : Option Files) (before now : Option (List BookEntry)) : Type 0 where
+  pub kept : ℕ
+  pub closing : List BookEntry
+  pub close : CloseNotes service.stop files status closing
+  pub notes : NotesEntries (Opened 1 ∷ redo_entries kept ++ noted_by service.connections ++ closing) before now
+
+-- ---- what the status tells of the book
 
 abbrev pub IsBroke : BookEntry → Type 0
 IsBroke (Broke pid since count) = Unit {0}
 IsBroke _ = ⊥
 
--- What the status tells of the book. It is `Done` where redo has ended and no fault stands behind it, and `AfterCrash`
--- where one does; redo failed by the disk where no redo has ended and a fault was noted.
+-- a fault of the disk stands behind the first redo
+abbrev pub HasBroken : List BookEntry → Type 0
+HasBroken book = (fault : ℕ × ℕ) × (faults : List (ℕ × ℕ)) × (faults_here book ≡ Some (fault ∷ faults))
+
+-- none does
+abbrev pub IsUnbroken : List BookEntry → Type 0
+IsUnbroken book = faults_here book ≡ Some []
+
+-- It is `Done` where redo has ended, no fault stands behind it and the last checkpoint was made, and `AfterCrash` where a
+-- fault does, or that checkpoint wasn't made. Where the start failed no redo has ended, and a fault was noted exactly where
+-- that was the disk's. Where memory was short no fault was noted.
 abbrev pub Tells : Top → List BookEntry → Type 0
-Tells Done book = faults_here book ≡ Some []
-Tells (Abnormal AfterCrash) book = HasBroken book
-Tells (Abnormal (StartupFailed (Redo redo.Disk))) book = (faults_here book ≡ None) × Any IsBroke book
-Tells _ book = faults_here book ≡ None
+Tells Done book = IsUnbroken book × (is_closed book ≡ true)
+Tells (Abnormal AfterCrash) book = HasBroken book ⊎ (IsUnbroken book × (is_closed book ≡ false))
+Tells (Abnormal (StartupFailed (Redo redo.Disk))) book = (kept_by_redo book ≡ None) × Any IsBroke book
+Tells (Abnormal (StartupFailed (Redo fault))) book = (kept_by_redo book ≡ None) × (faults_of book ≡ [])
+Tells NoMemory book = faults_of book ≡ []
+Tells _ book = ⊥
 
--- a legal book that tells the status
-abbrev pub LeavesBook : Top → Base → Option (List BookEntry) → Type 0
-LeavesBook status base book = IfSome book (λ entries. IsLegal base entries × Tells status entries)
+-- ---- what is left
 
--- redo has ended
-abbrev pub HasStarted : Top → Type 0
-HasStarted Done = Unit {0}
-HasStarted (Abnormal AfterCrash) = Unit {0}
-HasStarted _ = ⊥
+-- a disk at one moment: the files as they read, what a stop may leave after so many calls, and its counts
+pub record DiskView : Type 1 where
+  pub files : Option Files
+  pub images : ℕ → Files → Type 0
+  pub ticks : ℕ
+  pub faults : ℕ
 
--- nothing was noted yet, or the book doesn't tell
-abbrev pub IsEmptyBook : Option (List BookEntry) → Type 0
-IsEmptyBook book = IfSome book (λ entries. entries ≡ [])
+abbrev pub disk_view : Option Files → (ℕ → Files → Type 0) → (ticks faults : ℕ) → DiskView
+disk_view files images ticks faults = record { files = files; images = images; ticks = ticks; faults = faults }
 
--- What a run leaves that was handed an empty book: the book is legal from the base that file A stood for, with the
--- disk's count of faults as it was, it tells the status, and file A holds its commits.
-pub record IsOnceStory (status : Top) (handed_in left : Option Files) (faults : ℕ) (book : Option (List BookEntry)) : Type 0 where
+-- at every tick whatever a stop leaves means what a stop could have left at first
+abbrev pub KeepsMeaning : (before now : DiskView) → Type 0
+KeepsMeaning before now = (t : ℕ) → before.ticks ≤ t → t ≤ now.ticks → (image : Files) → now.images t image → MeansAsOne Means (before.images before.ticks) image
+
+-- Redo has ended. The base is what the files meant that were handed in, and so many bytes, unless the disk has failed; at
+-- every tick whatever a stop leaves means a number of the history at that tick that holds every acknowledged commit.
+pub record HoldsHistory (base : Base) (book : List BookEntry) (before now : DiskView) : Type 0 where
+  pub redone : IsSome (kept_by_redo book)
+  pub base_is : Rose before.faults now.faults ⊎ IfSome before.files (λ files. MeansIn files (base_standing base) base.bytes)
+  pub durable : IsDurable Means base book before.ticks now.ticks before.images now.images
+
+-- The files mean all commits of the history, and the log is clean: it says so, and no batch stands behind its base.
+pub record IsClean (history : History) (files : Files) : Type 0 where
+  pub file : Which
+  pub content : Content
+  pub end : ℕ
+  pub pair : PairStandsFor files file content end
+  pub is : standing_of content ≡ number history (count_of history)
+  pub clean : content.clean ≡ true
+  pub nothing_behind : content.batches ≡ []
+
+-- What a run leaves that was handed an empty book: a book that is legal from a base and tells the status, and files that at
+-- every tick hold its history, or mean what they meant where no redo has ended.
+pub record IsOnceStory (status : Top) (before now : DiskView) (book : List BookEntry) : Type 0 where
   pub base : Base
-  pub faults_are : base.faults ≡ faults
-  pub base_is : HasStarted status → IfSome handed_in (λ files. IsBaseOf files.a base)
-  pub book_is : LeavesBook status base book
-  pub file_is : IfSome left (λ files. IfSome book (λ entries. IsHeld base entries files.a))
-
--- ---- the link
-
--- the entries of the run that reads the log, whose pid is 1
-abbrev pub startup_entries : ℕ → List BookEntry
-startup_entries kept = Opened 1 ∷ Attached 1 1 ∷ Redone 1 1 kept ∷ Detached 1 ∷ []
-
--- the port gave its end, which it may have given before
-abbrev pub with_end : Visits → Visits
-with_end visits = record visits { ended_behind = Some (unwrap_or visits.ended_behind (length visits.given)) }
-
--- the port gave a link that had failed so often
-abbrev pub with_link : ℕ → Visits → Visits
-with_link faults visits = record visits { given = visits.given ++ faults ∷ [] }
-
--- and it came back, by its number, with what has passed on it and how often it had failed by then
-abbrev pub with_visit : ℕ → Option Traffic → ℕ → Visits → Visits
-with_visit faults_given traffic faults_back visits = record visits {
-  given = visits.given ++ faults_given ∷ [];
-  back = visits.back ++ record { number = length visits.given + 1; traffic = traffic; faults_given = faults_given; faults_back = faults_back } ∷ [];
-}
-
--- the status of a run whose one session ended so
-abbrev pub top_of : Ending → Top
-top_of Panic = Abnormal AfterCrash
-top_of _ = Done
-
--- No client came, and the port gave its end.
-pub record HadNoVisit (status : Top) (port_before port_now : Option Visits) (book_before book_now : Option (List BookEntry)) : Type 0 where
-  pub ended : port_now ≡ option_map with_end port_before
-  pub silent : book_now ≡ book_before
-  pub status_is : status ≡ Done
-
--- One link was given, on which nothing had passed, and it came back behind a session with pid 4 and this key.
-pub record HadOneVisit {L : Type 0} (traffic : L → Option Traffic) (faults : L → ℕ) (key : ℕ) (disk_failed : Type 0) (status : Top) (port_before port_now : Option Visits) (book_before book_now : Option (List BookEntry)) : Type 0 where
-  pub link : L
-  pub back : L
-  pub fresh : IsFresh (traffic link)
-  pub visit : port_now ≡ option_map (with_visit (faults link) (traffic back) (faults back)) port_before
-  pub ending : Ending
-  pub session : IsSession 4 key (Rose (faults link) (faults back)) ending (between (traffic link) (traffic back) book_before book_now)
-  pub caused : IsCaused ending (traffic back) (Rose (faults link) (faults back)) disk_failed
-  pub status_is : status ≡ top_of ending
+  pub faults_are : base.faults ≡ before.faults
+  pub legal : IsLegal base book
+  pub tells : Tells status book
+  pub stops : ((kept_by_redo book ≡ None) × KeepsMeaning before now) ⊎ HoldsHistory base book before now
+  pub clean : status ≡ Done → IfSome now.files (λ files. ∥ IsClean (history_of base book) files ∥₁)

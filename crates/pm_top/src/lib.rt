@@ -1,21 +1,18 @@
-//! The top call of the server, and today all of it that has no crate of its own yet: the words of the command line,
-//! the log's file, the store, and one session.
+//! The top call of the server: the words of the command line, the commands over the outside that they are handed, and the
+//! lines that are printed.
 #![tactic(auto)]
 
-mod book;
-mod form;
-mod laws;
-mod log;
+mod outside;
 mod print;
-mod record;
-mod reply;
-mod segment;
-mod session;
+mod quiet;
+mod server;
+mod status;
 mod top;
 mod words;
 
-pub use book::BookEntry;
-pub use laws::{redo_keeps_acknowledged, repeated_redo_changes_nothing};
-pub use record::RedoFault;
-pub use top::{Ended, Outside, StartWhy, Top, Why, run};
+pub use outside::{Ended, Outside};
+pub use pm_query::BookEntry;
+pub use pm_record::RedoFault;
+pub use status::{StartWhy, Top, Why};
+pub use top::run;
 pub use words::{Command, Line, WordsNo, read_words};

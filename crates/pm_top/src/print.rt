@@ -1,21 +1,22 @@
 //! Lines for the sink.
 
-ghost use Rattle.std.specs.Prelude.{◌≡◌, ◌++◌, IsErr, OnOk, option_map};
+ghost use Rattle.std.specs.Prelude.{◌++◌, IsErr, codes, decimal};
 ghost use Rattle.pm_disk.specs.Cause.{IsCounted};
 ghost use Rattle.pm_top.specs.Ends.{redo_line};
+ghost use Rattle.pm_top.specs.Print.{IsPrinted};
 
-use crate::record::RedoFault;
 use itoa::Buffer;
 use pm_disk::Which;
 use pm_outside::{Put, Sink};
+use pm_record::RedoFault;
 
 /// The sink failed.
 #[derive(Clone, Copy, Debug, PartialEq, Eq)]
 pub struct SinkFailed;
 
-/// Writes all the bytes.
+/// Writes all the bytes, or a front of them until the sink fails.
 pub fn print<O: Sink>(sink: &mut O, text: &[u8]) -> Result<(), SinkFailed>
-    ensures said { OnOk result (O.written sink.new ≡ option_map (λ w. w ++ text.now) (O.written sink.old)) }
+    ensures said { IsPrinted text.now (IsErr result) (O.written sink.old) (O.written sink.new) }
     ensures cause { IsCounted (O.faults sink.old) (O.faults sink.new) (IsErr result) }
 {
     let mut rest = text;
@@ -30,23 +31,25 @@ pub fn print<O: Sink>(sink: &mut O, text: &[u8]) -> Result<(), SinkFailed>
 
 /// Writes why the log can't be read.
 pub fn print_redo<O: Sink>(sink: &mut O, fault: RedoFault) -> Result<(), SinkFailed>
-    ensures said { OnOk result (O.written sink.new ≡ option_map (λ w. w ++ redo_line fault) (O.written sink.old)) }
+    ensures said { IsPrinted (redo_line fault) (IsErr result) (O.written sink.old) (O.written sink.new) }
     ensures cause { IsCounted (O.faults sink.old) (O.faults sink.new) (IsErr result) }
 {
     match fault {
         RedoFault::Disk => print(sink, b"disk fault\n"),
         RedoFault::NoCluster => print(sink, b"no readable cluster\n"),
+        RedoFault::BadFile { file: Which::A, at } => print_number(sink, b"damaged file A at ", at),
+        RedoFault::BadFile { file: Which::B, at } => print_number(sink, b"damaged file B at ", at),
+        RedoFault::SameEpoch { epoch } => print_number(sink, b"two files of epoch ", epoch),
         RedoFault::NoMemory => print(sink, b"out of memory\n"),
-        RedoFault::BadFile { file, at } => {
-            print(
-                sink,
-                match file {
-                    Which::A => b"damaged file A at ",
-                    Which::B => b"damaged file B at ",
-                },
-            )?;
-            print(sink, Buffer::new().format(at).as_bytes())?;
-            print(sink, b"\n")
-        }
     }
+}
+
+// Writes a line that ends with a number.
+fn print_number<O: Sink>(sink: &mut O, front: &[u8], number: u64) -> Result<(), SinkFailed>
+    ensures said { IsPrinted (front.now ++ decimal number ++ codes "\n") (IsErr result) (O.written sink.old) (O.written sink.new) }
+    ensures cause { IsCounted (O.faults sink.old) (O.faults sink.new) (IsErr result) }
+{
+    print(sink, front)?;
+    print(sink, Buffer::new().format(number).as_bytes())?;
+    print(sink, b"\n")
 }

@@ -1,15 +1,16 @@
 // How a command ends where nothing fails.
 use crate::bytes::{CLOSED, HEADER, OPEN};
-use crate::memory::{NO_FAULTS, initdb, joined, memory, texts};
-use pm_disk::{MemDisk, Which};
-use pm_top::{Top, run};
+use crate::memory::{NO_FAULTS, check_files, initdb, memory, once, texts};
+use pm_disk::MemDisk;
+use pm_top::{RedoFault, StartWhy, Top, Why, run};
 use std::alloc::Global;
 use std::process::Abort;
 use std::sync::Wait;
 use std::test::Fail;
+use std::time::Clock;
 
 // An `initdb` that ends so, and behind which there is a cluster without rows.
-fn check_initdb<R: Wait + Abort>(
+fn check_initdb<R: Wait + Clock + Copy + Drop + Abort>(
     rt: &R,
     alloc: Global,
     disk: MemDisk,
@@ -22,9 +23,14 @@ fn check_initdb<R: Wait + Abort>(
     assert_eq!(rt; ended.status.code(), code);
     let outside = ended.outside;
     assert_eq!(rt; outside.sink.bytes(), line);
-    let log = joined(alloc, &[OPEN, HEADER, CLOSED])?;
-    assert_eq!(rt; outside.disk.file(Which::A), log.as_slice());
-    assert_eq!(rt; outside.disk.file(Which::B), CLOSED);
+    check_files(
+        rt,
+        alloc,
+        &outside.disk,
+        &[OPEN, HEADER, CLOSED],
+        &[CLOSED],
+        "initdb",
+    )?;
     Ok(outside.disk)
 }
 
@@ -34,6 +40,23 @@ fn a_cluster_is_made_once(rt: HostRuntime) -> Result<(), Fail> {
     let disk = MemDisk::new(alloc);
     let disk = check_initdb(&rt, alloc, disk, Top::Done, 0, b"initialized\n")?;
     check_initdb(&rt, alloc, disk, Top::Exists, 1, b"a cluster exists\n")?;
+    Ok(())
+}
+
+#[test]
+fn nothing_is_served_over_two_empty_files(rt: HostRuntime) -> Result<(), Fail> {
+    let alloc = rt.alloc();
+    let ended = once(&rt, alloc, MemDisk::new(alloc), &[&[b"\0"]], NO_FAULTS)?;
+    assert_eq!(rt;
+        ended.status,
+        Top::Abnormal(Why::StartupFailed(StartWhy::Redo(RedoFault::NoCluster)))
+    );
+    assert_eq!(rt; ended.status.code(), 1);
+    assert_eq!(rt;
+        ended.outside.sink.bytes(),
+        b"no readable cluster\n".as_slice()
+    );
+    assert_eq!(rt; ended.outside.port.links().len(), 0);
     Ok(())
 }
 
@@ -49,7 +72,7 @@ fn words_that_are_no_line_get_the_usage(rt: HostRuntime) -> Result<(), Fail> {
     ];
     for words in cases {
         let words = texts(alloc, words)?;
-        let outside = memory(alloc, MemDisk::new(alloc), &[], NO_FAULTS)?;
+        let outside = memory(&rt, alloc, MemDisk::new(alloc), &[], NO_FAULTS)?;
         let ended = run(&rt, alloc, &words, outside);
         assert_eq!(rt; ended.status, Top::Usage);
         assert_eq!(rt; ended.status.code(), 2);

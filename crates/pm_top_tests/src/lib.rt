@@ -16,4 +16,6 @@ mod outside_faults;
 #[cfg(test)]
 mod scripts;
 #[cfg(test)]
+mod talks;
+#[cfg(test)]
 mod unreadable;

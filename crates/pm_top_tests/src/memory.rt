@@ -1,22 +1,23 @@
 // Commands over memory.
 use pm_disk::{Disk, MemDisk, Which};
-use pm_outside::{Kept, LinkScript, MemPort, MemSink};
+use pm_outside::{Kept, LinkScript, MemClock, MemPort, MemSink};
 use pm_rows::Text;
 use pm_top::{BookEntry, Ended, Outside, run};
 use std::alloc::{AllocError, Global};
 use std::process::Abort;
 use std::sync::Wait;
 use std::test::Fail;
+use std::time::Clock;
 
-pub type Memory<D> = Outside<MemPort, MemSink, D, Kept<BookEntry>>;
+pub type Memory<D, R> = Outside<MemPort, MemSink, D, MemClock<R>, Kept<BookEntry>>;
 
-pub type Left<D> = Ended<MemPort, MemSink, D, Kept<BookEntry>>;
+pub type Left<D, R> = Ended<MemPort, MemSink, D, MemClock<R>, Kept<BookEntry>>;
 
 const INITDB: [&str; 3] = ["initdb", "--data", "folder"];
 
 const ONCE: [&str; 2] = ["once", "--data=folder"];
 
-/// Which accept, read and write of the port and its link fails, and which write of the sink, by their numbers.
+/// Which accept, read and write of the port and its links fails, and which write of the sink, by their numbers.
 /// They count from 1, so at 0 none does.
 #[derive(Clone, Copy)]
 pub struct Faults {
@@ -50,61 +51,67 @@ pub fn texts(alloc: Global, words: &[&str]) -> Result<Vec<Text>, AllocError> {
     Ok(all)
 }
 
-/// A disk whose file A is made of these parts, behind two calls.
-pub fn disk_with(alloc: Global, parts: &[&[u8]]) -> Result<MemDisk, Fail> {
+/// A disk whose files are made of these parts, behind four calls.
+pub fn disk_with(alloc: Global, a: &[&[u8]], b: &[&[u8]]) -> Result<MemDisk, Fail> {
     let mut disk = MemDisk::new(alloc);
-    disk.write(Which::A, 0, &joined(alloc, parts)?)?;
+    disk.write(Which::A, 0, &joined(alloc, a)?)?;
     disk.sync(Which::A)?;
+    disk.write(Which::B, 0, &joined(alloc, b)?)?;
+    disk.sync(Which::B)?;
     Ok(disk)
 }
 
-/// An outside in memory with this disk, and one link on which these bytes come in. A call of the link moves at most 64
-/// bytes, and one of the sink 5.
-pub fn memory<D: Drop>(
+/// An outside in memory with this disk, and a link for each of these, on which its bytes come in. A call of a link moves
+/// at most 64 bytes, and one of the sink 5. The clock stands still.
+pub fn memory<R: Wait + Clock + Copy + Drop, D: Drop>(
+    rt: &R,
     alloc: Global,
     disk: D,
-    incoming: &[&[u8]],
+    links: &[&[&[u8]]],
     faults: Faults,
-) -> Result<Memory<D>, AllocError> {
+) -> Result<Memory<D, R>, AllocError> {
     let mut scripts = Vec::new(alloc);
-    scripts.push(LinkScript {
-        incoming: joined(alloc, incoming)?,
-        per_call: 64,
-        failing_reads: vec![in alloc; faults.read]?,
-        failing_writes: vec![in alloc; faults.write]?,
-        holds: Vec::new(alloc),
-    })?;
+    for incoming in links {
+        scripts.push(LinkScript {
+            incoming: joined(alloc, incoming)?,
+            per_call: 64,
+            failing_reads: vec![in alloc; faults.read]?,
+            failing_writes: vec![in alloc; faults.write]?,
+            holds: Vec::new(alloc),
+        })?;
+    }
     Ok(Outside {
         port: MemPort::new(alloc, scripts, vec![in alloc; faults.accept]?),
         sink: MemSink::new(alloc, 5, vec![in alloc; faults.line]?),
         disk,
+        clock: MemClock::still(0, *rt),
         book: Kept::new(alloc),
         seed: [0; 32],
     })
 }
 
-pub fn initdb<R: Wait, D: Disk + Drop>(
+pub fn initdb<R: Wait + Clock + Copy + Drop, D: Disk + Drop>(
     rt: &R,
     alloc: Global,
     disk: D,
     faults: Faults,
-) -> Result<Left<D>, AllocError> {
+) -> Result<Left<D, R>, AllocError> {
     let words = texts(alloc, &INITDB)?;
-    Ok(run(rt, alloc, &words, memory(alloc, disk, &[], faults)?))
+    Ok(run(rt, alloc, &words, memory(rt, alloc, disk, &[], faults)?))
 }
 
-pub fn once<R: Wait, D: Disk + Drop>(
+pub fn once<R: Wait + Clock + Copy + Drop, D: Disk + Drop>(
     rt: &R,
     alloc: Global,
     disk: D,
-    incoming: &[&[u8]],
+    links: &[&[&[u8]]],
     faults: Faults,
-) -> Result<Left<D>, AllocError> {
+) -> Result<Left<D, R>, AllocError> {
     let words = texts(alloc, &ONCE)?;
-    Ok(run(rt, alloc, &words, memory(alloc, disk, incoming, faults)?))
+    Ok(run(rt, alloc, &words, memory(rt, alloc, disk, links, faults)?))
 }
 
-/// All that was sent.
+/// All that was sent on the links that came back.
 pub fn sent(alloc: Global, port: &MemPort) -> Result<Vec<u8>, AllocError> {
     let mut all = Vec::new(alloc);
     for link in port.links() {
@@ -113,20 +120,35 @@ pub fn sent(alloc: Global, port: &MemPort) -> Result<Vec<u8>, AllocError> {
     Ok(all)
 }
 
-/// The entries of the book must print as the lines of these two lists, one behind the other.
+/// The entries of the book must print as the lines of these lists, one behind the other.
 pub fn check_book<R: Abort>(
     rt: &R,
     alloc: Global,
     book: &Kept<BookEntry>,
-    front: &[&str],
-    back: &[&str],
+    lines: &[&[&str]],
     name: &str,
 ) -> Result<(), Fail> {
     let mut wanted = String::new(alloc);
-    push_lines(&mut wanted, front)?;
-    push_lines(&mut wanted, back)?;
+    for part in lines {
+        push_lines(&mut wanted, part)?;
+    }
     let printed = printed(alloc, book.entries())?;
     assert_eq!(rt; printed.as_str(), wanted.as_str(), "{name}");
+    Ok(())
+}
+
+/// The files must be made of these parts.
+pub fn check_files<R: Abort>(
+    rt: &R,
+    alloc: Global,
+    disk: &MemDisk,
+    a: &[&[u8]],
+    b: &[&[u8]],
+    name: &str,
+) -> Result<(), Fail> {
+    let (a, b) = (joined(alloc, a)?, joined(alloc, b)?);
+    assert_eq!(rt; disk.file(Which::A), a.as_slice(), "{name}");
+    assert_eq!(rt; disk.file(Which::B), b.as_slice(), "{name}");
     Ok(())
 }
 

@@ -1,30 +1,27 @@
 // Each call of the link and of the sink failing in turn.
 use crate::bytes::*;
-use crate::memory::{Faults, NO_FAULTS, disk_with, initdb, joined, once, sent};
+use crate::memory::{Faults, NO_FAULTS, check_files, disk_with, initdb, joined, once, sent};
 use pm_disk::{MemDisk, Which};
 use pm_top::{RedoFault, StartWhy, Top, Why};
 use std::alloc::Global;
 use std::process::Abort;
 use std::sync::Wait;
 use std::test::Fail;
+use std::time::Clock;
 
-const NO_ROW: Parts = &[OPEN, HEADER, CLOSED];
+const NEW: Parts = &[OPEN, HEADER, CLOSED];
 
-const ONE_ROW: Parts = &[OPEN, HEADER, OPEN, PUT_SEVEN, CLOSED];
+// File B behind the last checkpoint.
+const NO_ROW: Parts = &[OPEN, SECOND_HEADER, NO_COMMIT, CLOSED];
 
-// The read that fails, how many bytes were sent before it, and the log behind it.
-const READS: [(u64, usize, Parts); 7] = [
-    // the packet: its length, and the rest
+const ONE_ROW: Parts = &[OPEN, SECOND_HEADER, ONE_COMMIT, ROW_SEVEN, CLOSED];
+
+// The read that fails, of at most 64 bytes, how many bytes were sent before it, and file B behind the run.
+const READS: [(u64, usize, Parts); 2] = [
+    // the packet, the insert and the front of the select
     (1, 0, NO_ROW),
-    (2, 0, NO_ROW),
-    // the insert: its type and length, and the rest
-    (3, 191, NO_ROW),
-    (4, 191, NO_ROW),
-    // the select
-    (5, 213, ONE_ROW),
-    (6, 213, ONE_ROW),
-    // the end, which has no rest
-    (7, 301, ONE_ROW),
+    // the rest
+    (2, 213, ONE_ROW),
 ];
 
 // The same of the writes, of at most 64 bytes.
@@ -40,27 +37,30 @@ const WRITES: [(u64, usize, Parts); 6] = [
     (6, 277, ONE_ROW),
 ];
 
-// A session that inserts a row and reads it, with these faults, must send so many bytes and leave this log.
-fn check_session<R: Wait + Abort>(
+// A session that inserts a row and reads it, with these faults, must send so many bytes and leave this in file B.
+fn check_session<R: Wait + Clock + Copy + Drop + Abort>(
     rt: &R,
     alloc: Global,
     faults: Faults,
     count: usize,
     log: Parts,
 ) -> Result<(), Fail> {
-    let disk = disk_with(alloc, NO_ROW)?;
+    let disk = disk_with(alloc, NEW, &[CLOSED])?;
     let asked = [PACKET, INSERT_SEVEN, SELECT_SEVEN, TERMINATE];
-    let ended = once(rt, alloc, disk, &asked, faults)?;
+    let ended = once(rt, alloc, disk, &[&asked], faults)?;
     assert_eq!(rt; ended.status, Top::Done, "{count} bytes");
     let outside = ended.outside;
     assert!(rt; outside.sink.bytes().is_empty(), "{count} bytes");
     let reply = sent(alloc, &outside.port)?;
-    let whole = joined(alloc, &[GREETING, INSERTED, COLUMNS, SEVEN, FOUND])?;
+    let whole = joined(
+        alloc,
+        &[GREETING, KEY_OF_4, INSERTED, COLUMNS, SEVEN, FOUND],
+    )?;
     assert_eq!(rt; reply.len(), count);
     assert!(rt; whole.starts_with(&reply), "{count} bytes");
     let log = joined(alloc, log)?;
     assert_eq!(rt;
-        outside.disk.file(Which::A),
+        outside.disk.file(Which::B),
         log.as_slice(),
         "{count} bytes"
     );
@@ -97,7 +97,6 @@ const ONCE_LINES: [(u64, &[u8]); 4] = [
 #[test]
 fn a_line_that_fails_undoes_nothing(rt: HostRuntime) -> Result<(), Fail> {
     let alloc = rt.alloc();
-    let log = joined(alloc, NO_ROW)?;
     for (line, told) in INITDB_LINES {
         let faults = Faults { line, ..NO_FAULTS };
         let ended = initdb(&rt, alloc, MemDisk::new(alloc), faults)?;
@@ -105,12 +104,11 @@ fn a_line_that_fails_undoes_nothing(rt: HostRuntime) -> Result<(), Fail> {
         assert_eq!(rt; ended.status.code(), 1);
         let outside = ended.outside;
         assert_eq!(rt; outside.sink.bytes(), told, "write {line}");
-        assert_eq!(rt; outside.disk.file(Which::A), log.as_slice(), "write {line}");
-        assert_eq!(rt; outside.disk.file(Which::B), CLOSED, "write {line}");
+        check_files(&rt, alloc, &outside.disk, NEW, &[CLOSED], "initdb")?;
     }
     for (line, told) in ONCE_LINES {
         let faults = Faults { line, ..NO_FAULTS };
-        let ended = once(&rt, alloc, MemDisk::new(alloc), &[PACKET], faults)?;
+        let ended = once(&rt, alloc, MemDisk::new(alloc), &[&[PACKET]], faults)?;
         assert_eq!(rt;
             ended.status,
             Top::Abnormal(Why::StartupFailed(StartWhy::Redo(RedoFault::NoCluster))),
