@@ -217,3 +217,71 @@ fn the_last_row_fills_the_table(rt: HostRuntime) -> Result<(), Fail> {
     }
     Ok(())
 }
+
+// The rows of pairs of a key and its value.
+fn made(alloc: Global, pairs: &[(i64, &str)]) -> Result<Rows, Fail> {
+    let mut owned = Vec::new(alloc);
+    for (key, value) in pairs {
+        owned.push((*key, Text::of(alloc, *value)?))?;
+    }
+    Ok(Rows::of_pairs(alloc, owned)?)
+}
+
+#[test]
+fn of_the_pairs_of_one_key_the_last_makes_the_row(rt: HostRuntime) -> Result<(), Fail> {
+    let alloc = rt.alloc();
+    let cases: [(&[(i64, &str)], &str, usize, u64); 5] = [
+        (&[], "", 0, 0),
+        (
+            &[(-2, "a"), (0, ""), (7, "seven")],
+            "-2=a 0= 7=seven ",
+            3,
+            42,
+        ),
+        (
+            &[(7, "seven"), (-2, "a"), (0, "")],
+            "-2=a 0= 7=seven ",
+            3,
+            42,
+        ),
+        (&[(1, "one"), (1, "eins")], "1=eins ", 1, 16),
+        (
+            &[(3, "x"), (1, "one"), (3, "three"), (2, ""), (1, "i")],
+            "1=i 2= 3=three ",
+            3,
+            42,
+        ),
+    ];
+    for (pairs, listing, len, size) in cases {
+        let rows = made(alloc, pairs)?;
+        assert_eq!(rt; listed(alloc, &rows)?.as_str(), listing);
+        assert_eq!(rt; rows.len(), len);
+        assert_eq!(rt; rows.size(), size);
+    }
+    Ok(())
+}
+
+// Pairs of each key from 0 on and the value `x`, so many.
+fn pairs_of(alloc: Global, count: i64) -> Result<Vec<(i64, Text)>, Fail> {
+    let mut pairs = Vec::new(alloc);
+    for key in 0..count {
+        pairs.push((key, Text::of(alloc, "x")?))?;
+    }
+    Ok(pairs)
+}
+
+#[test]
+fn a_full_table_is_made_of_pairs(rt: HostRuntime) -> Result<(), Fail> {
+    let alloc = rt.alloc();
+    let rising = Rows::of_pairs(alloc, pairs_of(alloc, 100_000)?)?;
+    let mut pairs = pairs_of(alloc, 100_000)?;
+    pairs.reverse();
+    let falling = Rows::of_pairs(alloc, pairs)?;
+    assert_eq!(rt; rising.len(), 100_000);
+    assert_eq!(rt; rising.size(), 1_300_000);
+    assert_eq!(rt; falling.size(), 1_300_000);
+    let listing = listed(alloc, &rising)?;
+    assert_eq!(rt; listing.len(), 788_890);
+    assert_eq!(rt; listed(alloc, &falling)?.as_str(), listing.as_str());
+    Ok(())
+}

@@ -1,15 +1,16 @@
 -- What the entries of an ordered table are as a finite map.
 use Rattle.std.proofs.Common.{◌≡◌, ℤ, Bool, true, false, cond, T, List, [], ◌∷◌, Option, Some, None, refl, sym, ap, subst, ◌∙◌, Less}
+use Rattle.std.specs.Prelude.{fold}
 use Rattle.std.specs.Ordering.{int_cmp, eq_by_cmp, is_lt}
 use Rattle.std.specs.Cmp.{int_cmp_total}
 use Rattle.std.specs.FinMap as map
 use Rattle.std.specs.FinMap.{FinMap, from_sorted, find, is_sorted, same_map, int_cmp-IsAntisymmetric, get-from_sorted, get-insert, get-remove, get-empty}
 use Rattle.std.specs.FinMap.Entries.{below_all}
-use Rattle.std.specs.Map.{keys_of, lookup}
+use Rattle.std.specs.Map.{keys_of, lookup, update, update_all}
 use Rattle.std.specs.List.{AllByRecursion}
 use Rattle.std.specs.List.Sorted.{IsStrictlySortedBy}
 use Rattle.std.specs.BTreeMap as tree
-use Rattle.std.specs.BTreeMap.{BTreeMap, is_at, IsOrdered, Updates}
+use Rattle.std.specs.BTreeMap.{BTreeMap, is_at, IsFromIterResult, IsOrdered, Updates}
 use Rattle.std.proofs.lemmas.Bool.{and_from}
 use Rattle.std.proofs.lemmas.Cmp.{eq_by_cmp_equiv}
 use Rattle.std.proofs.lemmas.Map.Keys.{sorted_head, sorted_tail}
@@ -61,3 +62,15 @@ module _ {X : Type 0} where
   -- a table with a key taken out
   pub table_remove : (m n : BTreeMap ℤ X) (k : ℤ) → IsOrdered int_cmp m → IsOrdered int_cmp n → Updates int_cmp m n k None → from_sorted {R = int_cmp} n.entries ≡ map.remove (from_sorted m.entries) k
   table_remove m n k hm hn u = same_as_table n _ hn (λ q. u.0 q ∙ turned k q _ _ ∙ ap (cond (eq_by_cmp int_cmp q k) None) (sym (get-of_table m q hm)) ∙ sym (get-remove int_cmp_total _ k q))
+
+  -- what a list of entries leaves at a key, inserted in turn
+  inserted_at : (es : List (ℤ × X)) (before : ℤ → Option X) (f : FinMap int_cmp X) (q : ℤ) → before q ≡ map.get f q
+      → update_all (eq_by_cmp int_cmp) before es q ≡ map.get (fold (λ g (e : ℤ × X). map.insert g e.0 e.1) f es) q
+  inserted_at [] before f q same = same
+  inserted_at (e ∷ es) before f q same =
+      inserted_at es (update (eq_by_cmp int_cmp) before e.0 (Some e.1)) (map.insert f e.0 e.1) q
+      (turned e.0 q _ _ ∙ ap (cond (eq_by_cmp int_cmp q e.0) (Some e.1)) same ∙ sym (get-insert int_cmp_total f e.0 e.1 q))
+
+  -- a table made of a list of entries
+  pub table_made : (m : BTreeMap ℤ X) (es : List (ℤ × X)) → IsFromIterResult int_cmp es m → from_sorted {R = int_cmp} m.entries ≡ fold (λ g (e : ℤ × X). map.insert g e.0 e.1) map.empty es
+  table_made m es made = same_as_table m _ made.1 (λ q. made.0 q ∙ inserted_at es (λ _. None) map.empty q (sym (get-empty int_cmp q)))

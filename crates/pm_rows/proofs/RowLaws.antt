@@ -19,6 +19,7 @@ use Rattle.std.proofs.lemmas.Map.Keys.{IsDistinct-from_sorted}
 use Rattle.pm_rows.specs.declared.commit.Change.{Change}
 use Rattle.pm_rows.specs.declared.commit.Change.TheVariants.{Put, Del}
 use Rattle.pm_rows.specs.Fold.{RowMap, changed, key_of, value_left}
+use Rattle.pm_rows.specs.Limits.{IsWithinRowLimits}
 use Rattle.pm_rows.specs.Size.{row_size, size_at, size_of}
 use Rattle.pm_rows.proofs.Entries.{sorted_from_ordered, find-lookup}
 use Rattle.pm_rows.proofs.Sizes.{entries_size, size-insert_entry, size-remove_entry}
@@ -114,6 +115,10 @@ nothing (e ∷ es) h = absurd (omega arith)
 
 pub size-empty : size_of empty ≡ 0
 size-empty = ap entries_size (nothing (entries empty) (sym (len-entries empty) ∙ len-empty int_cmp (List ℕ)))
+
+-- no rows are within their limits
+pub empty_within : IsWithinRowLimits empty
+empty_within = record { few = omega (arith, len-empty int_cmp (List ℕ)); small = omega (arith, size-empty) }
 
 pub size-insert : (rows : RowMap) (key : ℤ) (value : List ℕ) → size_of (insert rows key value) + size_at (get rows key) ≡ size_of rows + row_size value
 size-insert rows key value =

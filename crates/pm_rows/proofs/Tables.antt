@@ -9,7 +9,7 @@ use Rattle.std.specs.List.Sorted.{IsStrictlySortedBy}
 use Rattle.std.specs.BTreeMap as tree
 use Rattle.std.specs.BTreeMap.{BTreeMap, is_at, insert_entry, IsClone, IsOrdered, Updates, btree_map_len}
 use Rattle.std.proofs.lemmas.List.{get_or-map}
-use Rattle.std.proofs.lemmas.List.Elements.{same_from_all_zip}
+use Rattle.std.proofs.lemmas.List.Elements.{All-map, same_from_all_zip}
 use Rattle.std.proofs.lemmas.Map.Entries.{length-keys_of, length-values_of}
 use Rattle.std.proofs.lemmas.Map.Views.{All-keys-insert_entry, All-values-insert_entry, All-map-remove_entry}
 use Rattle.pm_rows.specs.Size.{row_size, size_at, size_of}
@@ -37,6 +37,20 @@ rows_typed es in_range texts = λ k d inside. (
 
 pub typed-rows_in : (m : BTreeMap ℤ (List ℕ)) (size : ℕ) → IsTable m size → All IsTypedRow (entries (rows_in m))
 typed-rows_in m size h = subst (All IsTypedRow) (sym (entries-rows_in m h.ordered)) (rows_typed m.entries h.in_range h.texts)
+
+-- a row is of its types, and its value's length fits a `usize`
+abbrev pub IsTypedShort : ℤ × List ℕ → Type 0
+IsTypedShort row = FitsSigned w64 row.0 × IsUtf8 row.1 × (length row.1 < 2 ^ 64)
+
+-- so a table of such rows is one
+pub table_of : (m : BTreeMap ℤ (List ℕ)) (size : ℕ) → IsOrdered int_cmp m → size ≡ entries_size m.entries → All IsTypedShort m.entries → IsTable m size
+table_of m size h sum typed = record {
+  ordered = h;
+  in_range = All-map (FitsSigned w64) (λ row. row.0) m.entries (λ k d l. (typed k d l).0);
+  texts = All-map IsUtf8 (λ row. row.1) m.entries (λ k d l. (typed k d l).1);
+  lengths = All-map (λ value. length value < 2 ^ 64) (λ row. row.1) m.entries (λ k d l. (typed k d l).2);
+  sum = sum;
+}
 
 -- a table with the same entries stands for the same rows
 pub same_table : (m n : BTreeMap ℤ (List ℕ)) (size : ℕ) → n.entries ≡ m.entries → IsTable m size → IsTable n size

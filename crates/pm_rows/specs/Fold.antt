@@ -1,13 +1,21 @@
 -- The rows as a finite map, and what commits make of them.
 use Rattle.std.specs.Prelude.{ℕ, ℤ, List, Option, Some, None, fold}
 use Rattle.std.specs.Ordering.{int_cmp}
-use Rattle.std.specs.FinMap.{FinMap, insert, remove}
+use Rattle.std.specs.FinMap.{FinMap, empty, insert, remove}
 use Rattle.pm_rows.specs.declared.commit.Change.{Change}
 use Rattle.pm_rows.specs.declared.commit.Change.TheVariants.{Put, Del}
 
 -- rows: each key has at most one value, a list of bytes
 abbrev pub RowMap : Type 0
 RowMap = FinMap int_cmp (List ℕ)
+
+-- the second of a pair put at the first, its key
+abbrev pub put_pair : RowMap → ℤ × List ℕ → RowMap
+put_pair rows pair = insert rows pair.0 pair.1
+
+-- the rows of pairs, put one behind the other: of those of one key the last is left
+abbrev pub rows_of_pairs : List (ℤ × List ℕ) → RowMap
+rows_of_pairs pairs = fold put_pair empty pairs
 
 -- the key that a change is about
 abbrev pub key_of : Change → ℤ

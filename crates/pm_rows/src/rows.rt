@@ -1,10 +1,14 @@
 //! The rows of the table.
-ghost use Rattle.std.specs.Prelude.{◌≡◌, ◌+◌, ◌-◌, ◌^◌, ◌<◌, min, All, IfOk, IfSome, OnOk, OnErr};
+ghost use Rattle.std.specs.Prelude.{◌≡◌, ◌+◌, ◌-◌, ◌^◌, ◌<◌, min, All, FitsSigned, IfOk, IfSome, OnOk, OnErr};
+ghost use Rattle.std.specs.Int.{w64};
 ghost use Rattle.std.specs.FinMap as map;
 ghost use Rattle.std.specs.Map.Iter.{ShowsInOrder};
 ghost use Rattle.std.specs.Option.{option_copied};
+ghost use Rattle.pm_rows.specs.Fold.{rows_of_pairs};
+ghost use Rattle.pm_rows.specs.Limits.{IsWithinRowLimits};
 ghost use Rattle.pm_rows.specs.RowsIter.{shown_row};
 ghost use Rattle.pm_rows.specs.Size.{row_size, size_of};
+ghost use Rattle.pm_rows.specs.Table.{IsTable};
 ghost use Rattle.pm_rows.specs.Typed.{IsTypedRow};
 ghost use Rattle.std.specs.Str.{IsUtf8};
 
@@ -42,13 +46,25 @@ impl Model for Rows {
 impl Rows {
     /// A table without rows. It takes no memory.
     pub fn new(alloc: Global) -> Rows
-        ensures { result ≡ map.empty }
+        ensures none { result ≡ map.empty }
+        ensures limits { IsWithinRowLimits result }
     {
         Rows {
             table: BTreeMap::new(alloc),
             size: 0,
             alloc,
         }
+    }
+
+    /// The rows of pairs of a key and its value, put one behind the other: of those of one key the last is left. It fails
+    /// only where memory is short. Where the keys rise it takes time of the order of the list's length, and else that
+    /// times its logarithm.
+    pub fn of_pairs(alloc: Global, pairs: Vec<(i64, Text)>) -> Result<Rows, AllocError>
+        ensures { IfOk result (λ rows. rows ≡ rows_of_pairs pairs.items) }
+    {
+        let table: BTreeMap<i64, Text> = pairs.into_iter().collect(alloc)?;
+        let size = table_size(&table);
+        Ok(Rows { table, size, alloc })
     }
 
     /// The value of the row of a key, where there is one. It takes time of the order of the logarithm of the rows.
@@ -129,6 +145,25 @@ impl Rows {
             self.size -= row_size(&removed);
         }
     }
+}
+
+// The size of the rows of a table.
+fn table_size(table: &BTreeMap<i64, Text>) -> u128
+    ensures { IsTable table.now result }
+{
+    let mut size = 0;
+    for (key, value) in table.iter() {
+        key_fits(key);
+        size += row_size(value);
+    }
+    size
+}
+
+// The law that a key fits 64 bits.
+fn key_fits(key: &i64)
+    ensures { FitsSigned w64 key.now }
+{
+    let _key = *key;
 }
 
 // The bytes that a row of this value takes.
