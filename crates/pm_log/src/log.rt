@@ -188,6 +188,7 @@ impl Log {
         ensures epoch { IfOk result (λ epoch. (epoch ≡ self.old.epoch + 1) × (self.new.epoch ≡ epoch)) }
         ensures kept { OnOk result ((self.new.file ≡ other self.old.file) × (self.new.count ≡ self.old.count) × (self.new.end ≡ self.new.base_end)
             × (self.new.limit ≡ self.old.limit) × (self.new.since ≡ None)) }
+        ensures base { OnOk result (self.new.base_end ≡ 1 + length (base_bytes (self.old.epoch + 1) clean self.old.count rows.now)) }
         ensures broken { (since : ℕ) → result ≡ Err (LogFault.Broken since) ↔ self.old.since ≡ Some since }
         ensures full { (need room : ℕ) → result ≡ Err (LogFault.Full need room)
             → (self.old.since ≡ None) × (self.old.epoch ≡ 2 ^ 64 - 1) × (need ≡ 9) × (room ≡ 0) }

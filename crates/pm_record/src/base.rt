@@ -1,8 +1,9 @@
 //! The base of a log file: its header, and its rows by rising key.
 
-ghost use Rattle.std.specs.Prelude.{◌≡◌, ◌≤◌, ◌<◌, ◌^◌};
+ghost use Rattle.std.specs.Prelude.{◌≡◌, ◌≤◌, ◌<◌, ◌^◌, FitsSigned, IfOk};
+ghost use Rattle.std.specs.Int.{w64};
 ghost use Rattle.pm_record.specs.Reading.{Gives};
-ghost use Rattle.pm_record.specs.Base.{base_at, key_ranges, place, row_at, row_step, rows_at};
+ghost use Rattle.pm_record.specs.Base.{base_at, key_ranges, place, row_at, rows_at};
 
 use crate::fault::Unread;
 use crate::number::{Ranges, read_number};
@@ -74,45 +75,30 @@ fn key_ranges(n: u64, from: u64) -> Ranges
 // A row whose key stands at this place or behind it, with room for so many keys.
 fn read_row(alloc: Global, n: u64, from: u64, bytes: &[u8]) -> Result<(i64, Text, &[u8]), Unread>
     requires { n ≤ 100000 }
-    ensures { Gives (λ x. ((x.0, x.1), x.2.now)) result (row_at n from bytes.now) }
+    ensures read { Gives (λ x. ((x.0, x.1), x.2.now)) result (row_at n from bytes.now) }
+    ensures fits { IfOk result (λ x. FitsSigned w64 x.0) }
 {
     let (word, rest) = read_number(bytes, 8, &key_ranges(n, from))?;
     let (value, rest) = read_string(alloc, &LENGTHS, rest)?;
     Ok((word.cast_signed(), value, rest))
 }
 
-// A row, added to the rows: from which place on the next may stand, the rows, and the bytes behind it.
-fn row_into(
-    alloc: Global,
-    n: u64,
-    from: u64,
-    mut rows: Rows,
-    bytes: &[u8],
-) -> Result<(u64, Rows, &[u8]), Unread>
-    requires { n ≤ 100000 }
-    ensures { Gives (λ x. ((x.0, x.1), x.2.now)) result (row_step n (from, rows) bytes.now) }
-{
-    let (key, value, rest) = read_row(alloc, n, from, bytes)?;
-    let next = place(key).saturating_add(1);
-    rows.put(key, value)?;
-    Ok((next, rows, rest))
-}
-
-// The rows of a base.
+// The rows of a base. They are listed first, since a table is made of rising keys in time linear in their number. The
+// list grows with what is read, and not with the number that the base tells.
 fn read_rows(alloc: Global, bytes: &[u8]) -> Result<(Rows, &[u8]), Unread>
     ensures { Gives (λ x. (x.0, x.1.now)) result (rows_at bytes.now) }
 {
     let (count, behind) = read_number(bytes, 4, &COUNTS)?;
-    let mut rows = Rows::new(alloc);
+    let mut pairs = Vec::new(alloc);
     let mut from = 0;
     let mut rest = behind;
     for i in 0..count {
-        let (next, more, after) = row_into(alloc, count - 1 - i, from, rows, rest)?;
-        from = next;
-        rows = more;
+        let (key, value, after) = read_row(alloc, count - 1 - i, from, rest)?;
+        pairs.push((key, value))?;
+        from = place(key).saturating_add(1);
         rest = after;
     }
-    Ok((rows, rest))
+    Ok((Rows::of_pairs(alloc, pairs)?, rest))
 }
 
 /// The base of a file behind its gate.

@@ -52,7 +52,8 @@ fn behind_gate(alloc: Global, file: Which, bytes: &[u8]) -> Result<Found, Unread
     })
 }
 
-/// Reads a file whole, in time linear in its length, and with the logarithm of the rows for each row and change.
+/// Reads a file whole, in time linear in its length, and with the logarithm of the rows for each change. It takes memory
+/// of the order of the file's length.
 pub fn read_file(alloc: Global, file: Which, bytes: &[u8]) -> Result<Contents, FileFault>
     ensures found { IfOk result (λ contents. Holds file contents bytes.now) }
     // Whatever the file stands for was found.

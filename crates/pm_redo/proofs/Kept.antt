@@ -12,10 +12,11 @@ use Rattle.pm_rows.specs.declared.commit.Change.{Change}
 use Rattle.pm_rows.specs.declared.commit.Change.TheVariants.{Put, Del}
 use Rattle.pm_rows.specs.Fold.{RowMap, changed, committed, folded}
 use Rattle.pm_rows.specs.Limits.{IsWithinRowLimits}
-use Rattle.pm_disk.specs.Files.{Files}
+use Rattle.pm_disk.specs.Files.{Files, file_of}
+use Rattle.pm_record.specs.Found.{IsFound}
 use Rattle.pm_redo.specs.Found.{Finds}
 use Rattle.pm_record.specs.declared.found.Found.{Found}
-use Rattle.pm_record.specs.StandsFor.{Content, IsBatch, IsChange, IsCommit, IsContent, IsRow, commits_of, standing_of}
+use Rattle.pm_record.specs.StandsFor.{Content, IsBatch, IsChange, IsCommit, IsContent, IsRow, StandsFor, commits_of, standing_of}
 
 -- ---- one change
 
@@ -87,3 +88,7 @@ found_rows found both files finds = subst (λ (rows : RowMap). All IsRow (entrie
 
 pub found_limits : (found : Found) (both : Bool) (files : Files) → Finds found both files → IsWithinRowLimits found.rows
 found_limits found both files finds = subst IsWithinRowLimits (sym finds.is.rows) (limits_kept finds.content finds.pair.stands.limits)
+
+-- it stands in the bytes of a file
+pub found_stands : (found : Found) (both : Bool) (files : Files) → Finds found both files → (bytes : List ℕ) × (content : Content) × IsFound found content × StandsFor bytes content found.end
+found_stands found both files finds = (file_of files found.file, finds.content, finds.is, finds.pair.stands)

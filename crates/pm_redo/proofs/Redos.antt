@@ -1,5 +1,5 @@
 -- What reading the two files leaves of what they mean.
-use Rattle.std.proofs.Common.{◌≡◌, ◌⊎◌, inl, inr, ℕ, ◌≤◌, ◌<◌, true, false, List, [], ◌∷◌, ◌++◌, take, drop, refl, sym, ◌∙◌, ap, subst, arith}
+use Rattle.std.proofs.Common.{◌≡◌, ◌⊎◌, inl, inr, ℕ, ◌+◌, ◌≤◌, ◌<◌, Bool, true, false, List, [], ◌∷◌, ◌++◌, take, drop, refl, sym, ◌∙◌, ap, subst, arith}
 use Rattle.std.specs.Prelude.{Option, Some, None, IfSome, option_map}
 use Rattle.std.specs.Int.{w64, from_be_bytes}
 use Rattle.std.proofs.lemmas.Bool.{cases_lt}
@@ -13,7 +13,7 @@ use Rattle.pm_record.specs.Pair.{IsShut, MeansIn, MeansWhat, PairStandsFor, Yiel
 use Rattle.pm_record.specs.OnDisk.{FollowsWithin, GoesOn, Rests, Throughout}
 use Rattle.pm_redo.specs.Redo.{IsOnly, IsQuiet, Same}
 use Rattle.pm_record.specs.Found.{Holds, IsClosed, IsFound}
-use Rattle.pm_redo.specs.Found.{Finds, FindsPair, IsDamaged, MeansOnly, standing_in}
+use Rattle.pm_redo.specs.Found.{Finds, FindsOnly, FindsPair, IsDamaged, MeansOnly, standing_in}
 use Rattle.pm_record.specs.declared.found.Contents.{Contents}
 use Rattle.pm_record.specs.declared.found.Found.{Found}
 use Rattle.pm_record.specs.declared.found.Contents.TheVariants.{Closed, Standing as Stood}
@@ -155,11 +155,16 @@ pub quiet_means : (before : Option Files) (from to : ℕ) (i j : ℕ → Files �
 quiet_means None from to i j stops = tt
 quiet_means (Some files) from to i j stops = λ t le ge image there. (let e = stops t le ge image there in (e.0, e.1, same_means e.0 image e.2))
 
-pub quiet_barrier : (before : Option Files) (start from to : ℕ) (i j : ℕ → Files → Type 0) → IfSome before (λ files. IsOnly files (i from)) → from ≡ start → FollowsWithin Same from to i j
-    → IfSome before (λ files. Throughout start to j (MeansWhat files))
-quiet_barrier None start from to i j only is stops = tt
-quiet_barrier (Some files) start from to i j only is stops = λ t le ge image there.
-    same_means files image (only_through files from to i j only stops t (omega (arith, is)) ge image there)
+pub quiet_barrier : (before : Option Files) (from to : ℕ) (j : ℕ → Files → Type 0) → IfSome before (λ files. Throughout from to j (Same files))
+    → IfSome before (λ files. Throughout from to j (MeansWhat files))
+quiet_barrier None from to j through = tt
+quiet_barrier (Some files) from to j through = λ t le ge image there. same_means files image (through t le ge image there)
+
+-- from the barrier on nothing but the files is left
+pub same_through : (before : Option Files) (start from to : ℕ) (i j : ℕ → Files → Type 0) → IfSome before (λ files. IsOnly files (i from)) → from ≡ start
+    → FollowsWithin Same from to i j → IfSome before (λ files. Throughout start to j (Same files))
+same_through None start from to i j only is stops = tt
+same_through (Some files) start from to i j only is stops = λ t le ge image there. only_through files from to i j only stops t (omega (arith, is)) ge image there
 
 -- ---- where the disk tells
 abbrev pub pair_of : List ℕ → List ℕ → Files
@@ -169,27 +174,40 @@ pair_of a b = record { a = a; b = b }
 pub read_files : (files : Files) (a b : List ℕ) → a ≡ files.a → b ≡ files.b → pair_of a b ≡ files
 read_files files a b one two = ap (λ (l : List ℕ). pair_of l b) one ∙ ap (λ (l : List ℕ). pair_of files.a l) two
 
--- all that was read before one may have to be written
-pub record IsRead (files : Files) (a b : List ℕ) (from to : ℕ) (i j : ℕ → Files → Type 0) : Type 0 where
-  pub files_are : pair_of a b ≡ files
-  pub through : Throughout from to j (λ image. image ≡ files)
+-- what holds of the bytes that were read holds of the files
+pub told : (Holds : Files → Type 0) (before s1 s2 : Option Files) (a b : List ℕ) → s1 ≡ before → s2 ≡ s1
+    → IfSome s1 (λ files. a ≡ file_of files A) → IfSome s2 (λ files. b ≡ file_of files B) → Holds (pair_of a b) → IfSome before Holds
+told Holds None s1 s2 a b is1 is2 reads_a reads_b holds = tt
+told Holds (Some files) s1 s2 a b is1 is2 reads_a reads_b holds =
+    subst Holds (read_files files a b (subst (λ (s : Option Files). IfSome s (λ files. a ≡ file_of files A)) is1 reads_a)
+    (subst (λ (s : Option Files). IfSome s (λ files. b ≡ file_of files B)) (is2 ∙ is1) reads_b)) holds
 
-pub is_read : (before s1 s2 : Option Files) (a b : List ℕ) (from to : ℕ) (i j : ℕ → Files → Type 0)
-    → s1 ≡ before → s2 ≡ s1 → IfSome s1 (λ files. a ≡ file_of files A) → IfSome s2 (λ files. b ≡ file_of files B)
-    → IfSome before (λ files. IsOnly files (i from)) → FollowsWithin Same from to i j → IfSome before (λ files. IsRead files a b from to i j)
-is_read None s1 s2 a b from to i j is1 is2 reads_a reads_b only stops = tt
-is_read (Some files) s1 s2 a b from to i j is1 is2 reads_a reads_b only stops = record {
-  files_are = read_files files a b (subst (λ (s : Option Files). IfSome s (λ files. a ≡ file_of files A)) is1 reads_a)
-      (subst (λ (s : Option Files). IfSome s (λ files. b ≡ file_of files B)) (is2 ∙ is1) reads_b);
-  through = only_through files from to i j only stops;
+-- the files as they were read, before one may have to be shut
+pub record IsRead (found : Found) (both : Bool) (files : Files) (from to : ℕ) (j : ℕ → Files → Type 0) : Type 0 where
+  pub finds : Finds found both files
+  pub through : Throughout from to j (Same files)
+
+pub is_read : (before : Option Files) (found : Found) (both is : Bool) (from to : ℕ) (j : ℕ → Files → Type 0) → both ≡ is
+    → IfSome before (Finds found both) → IfSome before (λ files. Throughout from to j (Same files)) → IfSome before (λ files. IsRead found is files from to j)
+is_read None found both is from to j same finds through = tt
+is_read (Some files) found both is from to j same finds through = record { finds = subst (λ (x : Bool). Finds found x files) same finds; through = through }
+
+pub found_only : (before : Option Files) (found : Found) (both : Bool) (from to : ℕ) (j : ℕ → Files → Type 0)
+    → IfSome before (λ files. IsRead found both files from to j) → from ≤ to → IfSome before (λ files. FindsPair found files (λ content. IsOnly files (j to)))
+found_only None found both from to j read le = tt
+found_only (Some files) found both from to j read le = record {
+  content = read.finds.content;
+  is = read.finds.is;
+  pair = read.finds.pair;
+  besides = λ image there. read.through to le (omega arith) image there;
 }
 
-pub found_quiet : (before now : Option Files) (found : Found) (a b : List ℕ) (from to : ℕ) (i j : ℕ → Files → Type 0) → Finds found false (pair_of a b)
-    → now ≡ before → IfSome before (λ files. IsRead files a b from to i j) → from ≤ to
+pub found_quiet : (before now : Option Files) (found : Found) (from to : ℕ) (j : ℕ → Files → Type 0)
+    → now ≡ before → IfSome before (λ files. IsRead found false files from to j) → from ≤ to
     → TellsStill (λ files now. FindsPair found files (λ content. Rests found.file content found.end now (j to))) before now
-found_quiet None now found a b from to i j finds is read le = is
-found_quiet (Some files) now found a b from to i j finds is read le =
-    let f = subst (Finds found false) read.files_are finds in
+found_quiet None now found from to j is read le = is
+found_quiet (Some files) now found from to j is read le =
+    let f = read.finds in
     subst (λ (n : Option Files). TellsStill (λ files now. FindsPair found files (λ content. Rests found.file content found.end now (j to))) (Some files) n) (sym is) (record {
       content = f.content;
       is = f.is;
@@ -201,13 +219,13 @@ found_quiet (Some files) now found a b from to i j finds is read le =
       };
     })
 
-pub found_written : (before s3 now : Option Files) (found : Found) (o : Which) (a b : List ℕ) (from mid to : ℕ) (i j k : ℕ → Files → Type 0) → Finds found true (pair_of a b)
+pub found_written : (before s3 now : Option Files) (found : Found) (o : Which) (from mid to : ℕ) (j k : ℕ → Files → Type 0)
     → s3 ≡ before → o ≡ other found.file → now ≡ option_map (written_at o 0 (0 ∷ [])) s3 → IfSome now (λ f. Only o (file_of f o) (k to))
-    → IfSome before (λ files. IsRead files a b from mid i j) → from ≤ mid → mid ≤ to → FollowsWithin (Torn o 0 1) mid to j k
+    → IfSome before (λ files. IsRead found true files from mid j) → from ≤ mid → mid ≤ to → FollowsWithin (Torn o 0 1) mid to j k
     → TellsStill (λ files now. FindsPair found files (λ content. Rests found.file content found.end now (k to))) before now
-found_written None s3 now found o a b from mid to i j k finds is is_o written durable read le ge stops = written ∙ ap (λ (s : Option Files). option_map (written_at o 0 (0 ∷ [])) s) is
-found_written (Some files) s3 now found o a b from mid to i j k finds is is_o written durable read le ge stops =
-    let f = subst (Finds found true) read.files_are finds in
+found_written None s3 now found o from mid to j k is is_o written durable read le ge stops = written ∙ ap (λ (s : Option Files). option_map (written_at o 0 (0 ∷ [])) s) is
+found_written (Some files) s3 now found o from mid to j k is is_o written durable read le ge stops =
+    let f = read.finds in
     let w = other found.file in
     let last = written_at w 0 (0 ∷ []) files in
     let there : now ≡ Some last = written ∙ ap (λ (s : Option Files). option_map (written_at o 0 (0 ∷ [])) s) is ∙ ap (λ (x : Which). Some (written_at x 0 (0 ∷ []) files)) is_o in
@@ -232,13 +250,13 @@ found_written (Some files) s3 now found o a b from mid to i j k finds is is_o wr
     })
 
 -- the file that doesn't count is being shut
-pub written_means : (before : Option Files) (found : Found) (o : Which) (a b : List ℕ) (start from mid to : ℕ) (h i j k : ℕ → Files → Type 0) → Finds found true (pair_of a b)
-    → o ≡ other found.file → IfSome before (λ files. IsRead files a b from mid i j) → from ≤ mid → FollowsWithin Same start mid h j → start ≤ mid
+pub written_means : (before : Option Files) (found : Found) (o : Which) (start from mid to : ℕ) (h j k : ℕ → Files → Type 0)
+    → o ≡ other found.file → IfSome before (λ files. IsRead found true files from mid j) → from ≤ mid → FollowsWithin Same start mid h j → start ≤ mid
     → FollowsWithin (Torn o 0 1) mid to j k → GoesOn mid to j k → IfSome before (λ files. FollowsWithin MeansWhat start to h k)
-written_means None found o a b start from mid to h i j k finds is_o read le quiet begun stops time = tt
-written_means (Some files) found o a b start from mid to h i j k finds is_o read le quiet begun stops time = λ t after upto image there. elim (cases_lt mid t) [
+written_means None found o start from mid to h j k is_o read le quiet begun stops time = tt
+written_means (Some files) found o start from mid to h j k is_o read le quiet begun stops time = λ t after upto image there. elim (cases_lt mid t) [
   | inl later ↦
-      let f = subst (Finds found true) read.files_are finds in
+      let f = read.finds in
       let torn = subst (λ (x : Which). FollowsWithin (Torn x 0 1) mid to j k) is_o stops in
       let e = torn t (omega arith) upto image there in
       let was = read.through mid le (omega arith) e.0 e.1 in
@@ -253,18 +271,18 @@ written_means (Some files) found o a b start from mid to h i j k finds is_o read
       (e.0, e.1, same_means e.0 image e.2)
 ]
 
-pub written_barrier : (before : Option Files) (found : Found) (o : Which) (a b : List ℕ) (start from mid to : ℕ) (i j k : ℕ → Files → Type 0) → Finds found true (pair_of a b)
-    → o ≡ other found.file → IfSome before (λ files. IsRead files a b from mid i j) → from ≤ mid → from ≡ start
-    → FollowsWithin (Torn o 0 1) mid to j k → GoesOn mid to j k → IfSome before (λ files. Throughout start to k (MeansWhat files))
-written_barrier None found o a b start from mid to i j k finds is_o read le is stops time = tt
-written_barrier (Some files) found o a b start from mid to i j k finds is_o read le is stops time = λ t after upto image there. elim (cases_lt mid t) [
+pub written_barrier : (before : Option Files) (found : Found) (o : Which) (from mid to : ℕ) (j k : ℕ → Files → Type 0)
+    → o ≡ other found.file → IfSome before (λ files. IsRead found true files from mid j) → from ≤ mid
+    → FollowsWithin (Torn o 0 1) mid to j k → GoesOn mid to j k → IfSome before (λ files. Throughout from to k (MeansWhat files))
+written_barrier None found o from mid to j k is_o read le stops time = tt
+written_barrier (Some files) found o from mid to j k is_o read le stops time = λ t after upto image there. elim (cases_lt mid t) [
   | inl later ↦
-      let f = subst (Finds found true) read.files_are finds in
+      let f = read.finds in
       let torn = subst (λ (x : Which). FollowsWithin (Torn x 0 1) mid to j k) is_o stops in
       let e = torn t (omega arith) upto image there in
       let was = read.through mid le (omega arith) e.0 e.1 in
       shut_keeps found.file f.content found.end files image f.pair (f.stays refl) (subst (λ (x : Files). Torn (other found.file) 0 1 x image) was e.2)
-  | inr early ↦ same_means files image (read.through t (omega (arith, is)) early image ((time.past t early image).0 there))
+  | inr early ↦ same_means files image (read.through t after early image ((time.past t early image).0 there))
 ]
 
 -- ---- what was found is all that the files mean
@@ -276,28 +294,30 @@ abbrev pub Tells : List ℕ → Found → Type 0
 Tells bytes found = (content : Content) → (end : ℕ) → StandsFor bytes content end → (found.end ≡ end) × IsFound found content
 
 -- nothing stands in the other file
-pub only_one : (file : Which) (found : Found) (files : Files) → Tells (file_of files file) found
-    → ((content : Content) → (end : ℕ) → StandsFor (file_of files (other file)) content end → ⊥) → MeansOnly found files
-only_one file found files tells nothing standing some = let means = some.1 in elim (sides file means.file) [
+pub only_one : (file : Which) (found : Found) (files : Files) → found.file ≡ file → Tells (file_of files file) found
+    → ((content : Content) → (end : ℕ) → StandsFor (file_of files (other file)) content end → ⊥) → FindsOnly found files
+only_one file found files is_file tells nothing w content end pair = elim (sides file w) [
   | inl same ↦
-      let its = subst (λ (w : Which). PairStandsFor files w means.content means.end) same means.pair in
-      sym means.is ∙ found_is found means.content (tells means.content means.end its.stands).1
+      let its = subst (λ (x : Which). PairStandsFor files x content end) same pair in
+      let is = tells content end its.stands in
+      (is_file ∙ sym same, is.0, is.1)
   | inr differs ↦
-      let its = subst (λ (w : Which). PairStandsFor files w means.content means.end) differs means.pair in
-      absurd (nothing means.content means.end its.stands)
+      let its = subst (λ (x : Which). PairStandsFor files x content end) differs pair in
+      absurd (nothing content end its.stands)
 ]
 
 -- something of a smaller epoch stands in the other file
 pub only_greater : (file : Which) (found two : Found) (files : Files) → Holds file (Stood found) (file_of files file) → Tells (file_of files file) found
-    → Tells (file_of files (other file)) two → two.epoch < found.epoch → MeansOnly found files
-only_greater file found two files holds tells beside less standing some = let means = some.1 in elim (sides file means.file) [
+    → Tells (file_of files (other file)) two → two.epoch < found.epoch → FindsOnly found files
+only_greater file found two files holds tells beside less w content end pair = elim (sides file w) [
   | inl same ↦
-      let its = subst (λ (w : Which). PairStandsFor files w means.content means.end) same means.pair in
-      sym means.is ∙ found_is found means.content (tells means.content means.end its.stands).1
+      let its = subst (λ (x : Which). PairStandsFor files x content end) same pair in
+      let is = tells content end its.stands in
+      (holds.3 ∙ sym same, is.0, is.1)
   | inr differs ↦
-      let its = subst (λ (w : Which). PairStandsFor files w means.content means.end) differs means.pair in
-      let under = subst (λ (w : Which). Yields (file_of files w) means.content.epoch) (back file) its.beside in
-      let is_two = (beside means.content means.end its.stands).1.epoch in
+      let its = subst (λ (x : Which). PairStandsFor files x content end) differs pair in
+      let under = subst (λ (x : Which). Yields (file_of files x) content.epoch) (back file) its.beside in
+      let is_two = (beside content end its.stands).1.epoch in
       absurd (elim under [
         | inl shut ↦ not_shut (file_of files file) holds.0 found.end holds.1 shut
         | inr older ↦
@@ -306,10 +326,12 @@ only_greater file found two files holds tells beside less standing some = let me
       ])
 ]
 
-pub only_told : (before : Option Files) (found : Found) (a b : List ℕ) (from to : ℕ) (i j : ℕ → Files → Type 0) → MeansOnly found (pair_of a b)
-    → IfSome before (λ files. IsRead files a b from to i j) → IfSome before (MeansOnly found)
-only_told None found a b from to i j only read = tt
-only_told (Some files) found a b from to i j only read = subst (MeansOnly found) read.files_are only
+-- what was found is what the files mean
+pub means_only : (before : Option Files) (found : Found) → IfSome before (FindsOnly found) → IfSome before (MeansOnly found)
+means_only None found only = tt
+means_only (Some files) found only = λ standing bytes means.
+    let is = only means.file means.content means.end means.pair in
+    (sym means.is ∙ found_is found means.content is.2, omega (arith, means.long, is.1))
 
 -- ---- which file is damaged
 

@@ -1,5 +1,5 @@
 -- What reading finds in the pair of files, and why it finds nothing.
-use Rattle.std.specs.Prelude.{◌≡◌, ◌⊎◌, ℕ, Bool, true, false, []}
+use Rattle.std.specs.Prelude.{◌≡◌, ◌⊎◌, ℕ, ◌+◌, Bool, true, false, []}
 use Rattle.pm_disk.specs.declared.disk.Which.{Which}
 use Rattle.pm_disk.specs.declared.disk.Which.TheVariants.{A, B}
 use Rattle.pm_disk.specs.Files.{Files, file_of, other}
@@ -7,7 +7,7 @@ use Rattle.pm_rows.specs.Standing.{Standing}
 use Rattle.pm_record.specs.StandsFor.{Content, StandsFor}
 use Rattle.pm_record.specs.Damage.{IsFirstWrong}
 use Rattle.pm_record.specs.Found.{IsClosed, IsFound, MeansNothing}
-use Rattle.pm_record.specs.Pair.{IsShut, Means, PairStandsFor}
+use Rattle.pm_record.specs.Pair.{IsShut, MeansIn, PairStandsFor}
 use Rattle.pm_record.specs.declared.found.Found.{Found}
 use Rattle.pm_record.specs.declared.fault.RedoFault.{RedoFault}
 use Rattle.pm_record.specs.declared.fault.RedoFault.TheVariants as redo
@@ -31,9 +31,14 @@ pub record FindsPair (found : Found) (files : Files) (Besides : Content → Type
   pub pair : PairStandsFor files found.file content found.end
   pub besides : Besides content
 
--- the files mean what was found, and nothing else
+-- Whatever the pair stands for, that was found: its file, its place, epoch, counts and rows.
+abbrev pub FindsOnly : Found → Files → Type 0
+FindsOnly found files = (file : Which) (content : Content) (end : ℕ) → PairStandsFor files file content end
+    → (found.file ≡ file) × (found.end ≡ end) × IsFound found content
+
+-- the files mean what was found, in so many bytes, and nothing else
 abbrev pub MeansOnly : Found → Files → Type 0
-MeansOnly found files = (standing : Standing) → Means files standing → standing ≡ standing_in found
+MeansOnly found files = (standing : Standing) (bytes : ℕ) → MeansIn files standing bytes → (standing ≡ standing_in found) × (bytes ≡ found.end + 1)
 
 -- ---- why nothing is found
 

@@ -4,4 +4,4 @@
 mod pair;
 mod redo;
 
-pub use redo::recover;
+pub use redo::{examine, recover};

@@ -4,7 +4,7 @@ ghost use Rattle.std.specs.Prelude.{◌≡◌, ◌≢◌, ◌⊎◌, ℕ, [], If
 ghost use Rattle.pm_record.specs.StandsFor.{Content, StandsFor};
 ghost use Rattle.pm_record.specs.Damage.{IsFirstWrong};
 ghost use Rattle.pm_record.specs.Found.{Holds, IsClosed, IsOf, MeansNothing};
-ghost use Rattle.pm_redo.specs.Found.{Finds, IsReason, MeansOnly};
+ghost use Rattle.pm_redo.specs.Found.{Finds, FindsOnly, IsReason};
 
 use pm_disk::Which;
 use pm_record::{CLOSED, Contents, FileFault, Found, RedoFault, read_file};
@@ -13,7 +13,7 @@ use std::alloc::Global;
 /// What two files stand for, and whether both are open.
 pub fn pair_in(alloc: Global, a: &[u8], b: &[u8]) -> Result<(Found, bool), RedoFault>
     ensures found { IfOk result (λ x. Finds x.0 x.1 (record { a = a.now; b = b.now })) }
-    ensures exact { IfOk result (λ x. MeansOnly x.0 (record { a = a.now; b = b.now })) }
+    ensures exact { IfOk result (λ x. FindsOnly x.0 (record { a = a.now; b = b.now })) }
     ensures reason { IfErr result (λ fault. IsReason fault (record { a = a.now; b = b.now })) }
     ensures disk { result ≢ Err RedoFault.Disk }
 {

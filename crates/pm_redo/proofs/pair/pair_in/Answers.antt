@@ -54,13 +54,15 @@ pub returns-in-Standing-Closed-clause-exact : goal.returns-in-Standing-Closed-cl
 returns-in-Standing-Closed-clause-exact c =
     let tells : Tells c.args.a.now c.in-Standing-Closed.found = λ content end log. (rw c.in-Standing-Closed.is-0 at (c.in_ok-in_a.ensures.meaning content end log)) in
     let nothing : (content : Content) → (end : ℕ) → StandsFor c.args.b.now content end → ⊥ = λ content end log. (rw c.in-Standing-Closed.is-1 at (c.in_ok-in_b.ensures.meaning content end log)) in
-    only_one A c.in-Standing-Closed.found (pair_of c.args.a.now c.args.b.now) tells nothing
+    let holds : Holds A (Standing c.in-Standing-Closed.found) c.args.a.now = rw c.in-Standing-Closed.is-0 at c.in_ok-in_a.ensures.found in
+    only_one A c.in-Standing-Closed.found (pair_of c.args.a.now c.args.b.now) holds.3 tells nothing
 
 pub returns-in-Closed-Standing-clause-exact : goal.returns-in-Closed-Standing-clause-exact
 returns-in-Closed-Standing-clause-exact c =
     let tells : Tells c.args.b.now c.in-Closed-Standing.found = λ content end log. (rw c.in-Closed-Standing.is-1 at (c.in_ok-in_b.ensures.meaning content end log)) in
     let nothing : (content : Content) → (end : ℕ) → StandsFor c.args.a.now content end → ⊥ = λ content end log. (rw c.in-Closed-Standing.is-0 at (c.in_ok-in_a.ensures.meaning content end log)) in
-    only_one B c.in-Closed-Standing.found (pair_of c.args.a.now c.args.b.now) tells nothing
+    let holds : Holds B (Standing c.in-Closed-Standing.found) c.args.b.now = rw c.in-Closed-Standing.is-1 at c.in_ok-in_b.ensures.found in
+    only_one B c.in-Closed-Standing.found (pair_of c.args.a.now c.args.b.now) holds.3 tells nothing
 
 pub returns-then-one-two-2-clause-exact : goal.returns-then-one-two-2-clause-exact
 returns-then-one-two-2-clause-exact c =
