@@ -8,3 +8,4 @@ pub mod Keeping
 pub mod Books
 pub mod WorkedBookProofs
 pub mod Ticks
+pub mod Growth

@@ -1,9 +1,13 @@
 -- Laws of legal books.
-use Rattle.std.specs.Prelude.{◌≡◌, ℕ, ◌≤◌, List, [], ◌∷◌, ◌++◌, Some}
+use Rattle.std.specs.Prelude.{◌≡◌, ℕ, ◌+◌, ◌≤◌, List, [], ◌∷◌, ◌++◌, Some, sum_by}
+use Rattle.pm_rows.specs.declared.commit.Change.{Change}
+use Rattle.pm_rows.specs.Fold.{RowMap, folded}
+use Rattle.pm_rows.specs.LogSize.{commit_length}
+use Rattle.pm_rows.specs.Size.{size_of}
 use Rattle.pm_query.specs.declared.book.BookEntry.{BookEntry}
 use Rattle.pm_query.specs.declared.book.BookEntry.TheVariants.{Redone}
 use Rattle.pm_query.specs.History.{count_of, number}
-use Rattle.pm_query.specs.Book.{Base, IsLegal, history_of, kept_by_redo}
+use Rattle.pm_query.specs.Book.{Base, IsLegal, history_of, kept_by_redo, needs_of}
 
 -- in a legal book no more commits are acknowledged than there are
 abbrev pub AckedIsWithin : Type 0
@@ -22,3 +26,11 @@ AcknowledgedStays = (base : Base) (book behind : List BookEntry) (n : ℕ) → I
 abbrev pub RepeatChangesNothing : Type 0
 RepeatChangesNothing = (base : Base) (book : List BookEntry) (pid generation count first : ℕ) → kept_by_redo book ≡ Some first
     → history_of base (book ++ Redone pid generation count ∷ []) ≡ history_of base book
+
+-- commits add to the rows no more bytes than they take in the log
+abbrev pub CommitsAddTheirBytes : Type 0
+CommitsAddTheirBytes = (rows : RowMap) (commits : List (List Change)) → size_of (folded rows commits) ≤ size_of rows + sum_by commit_length commits
+
+-- the rows of each number of a history are at most as large as those of the base and all answered commits
+abbrev pub RowsAreWithinNeeds : Type 0
+RowsAreWithinNeeds = (base : Base) (book : List BookEntry) (n : ℕ) → size_of (number (history_of base book) n).rows ≤ size_of base.rows + needs_of book

@@ -1,13 +1,16 @@
 -- What a store's calls note, by what they answer.
-use Rattle.std.specs.Prelude.{◌≡◌, ◌≢◌, ◌⊎◌, ◌≤◌, ◌<◌, ◌↔◌, ◌++◌, ℕ, List, [], ◌∷◌, Option, None, Some, Result, Ok, Err, IsTrue}
+use Rattle.std.specs.Prelude.{◌≡◌, ◌≢◌, ◌⊎◌, ◌≤◌, ◌<◌, ◌↔◌, ◌++◌, ℕ, Bool, true, false, List, [], ◌∷◌, Option, None, Some, Result, Ok, Err, IsTrue}
+use Rattle.pm_record.specs.declared.fault.RedoFault.TheVariants as redo
 use Rattle.pm_rows.specs.declared.commit.Change.{Change}
 use Rattle.pm_sql.specs.declared.stmt.Stmt.{Stmt}
 use Rattle.pm_query.specs.declared.item.Item.{Item}
 use Rattle.pm_query.specs.declared.book.BookEntry.{BookEntry}
-use Rattle.pm_query.specs.declared.book.BookEntry.TheVariants.{Attached, Answered, Released, Detached, Broke, LogFull}
+use Rattle.pm_query.specs.declared.book.BookEntry.TheVariants.{Attached, Redone, Answered, Released, Detached, CheckpointEnded, Broke, LogFull}
 use Rattle.pm_query.specs.declared.store.Staged.{Staged}
 use Rattle.pm_query.specs.declared.store.Seen.{Seen}
 use Rattle.pm_query.specs.declared.store.Seen.TheVariants.{Released as CanBeSent, NotFlushed}
+use Rattle.pm_query.specs.declared.store.Checkpointed.{Checkpointed}
+use Rattle.pm_query.specs.declared.store.Checkpointed.TheVariants.{Done, Skipped, NotDue}
 use Rattle.pm_query.specs.declared.store.StoreNo.{StoreNo}
 use Rattle.pm_query.specs.declared.store.StoreNo.TheVariants.{Stale, Disk, Broken, Full, Redo, NoMemory}
 
@@ -117,6 +120,39 @@ SeenNotes user front (Err (Stale mine found)) entries = MayBeOver user × (entri
 SeenNotes user front (Err (Broken since)) entries = RepeatsFault user.pid since entries
 SeenNotes user front (Err NoMemory) entries = entries ≡ []
 SeenNotes user front (Err _) entries = ⊥
+
+-- a flush notes a fault, or nothing
+abbrev pub FlushNotes : User → Result ℕ StoreNo → List BookEntry → Type 0
+FlushNotes user (Ok flushed) entries = entries ≡ []
+FlushNotes user (Err (Stale mine found)) entries = MayBeOver user × (entries ≡ [])
+FlushNotes user (Err Disk) entries = NotesFault user.pid entries
+FlushNotes user (Err (Broken since)) entries = RepeatsFault user.pid since entries
+FlushNotes user (Err NoMemory) entries = entries ≡ []
+FlushNotes user (Err _) entries = ⊥
+
+-- a redo notes the number that it answers
+abbrev pub RedoNotes : User → Result ℕ StoreNo → List BookEntry → Type 0
+RedoNotes user (Ok kept) entries = entries ≡ Redone user.pid user.generation kept ∷ []
+RedoNotes user (Err (Stale mine found)) entries = MayBeOver user × (entries ≡ [])
+RedoNotes user (Err (Redo redo.Disk)) entries = NotesFault user.pid entries
+RedoNotes user (Err (Redo _)) entries = entries ≡ []
+RedoNotes user (Err _) entries = ⊥
+
+-- the bytes of batches behind the log's base with which a checkpoint is due
+abbrev pub due_bytes : ℕ
+due_bytes = 67108864
+
+-- A checkpoint notes that it came to its end, made or left out. One that isn't due notes nothing, and no clean one is such.
+abbrev pub CheckpointNotes : User → (clean : Bool) → Result Checkpointed StoreNo → List BookEntry → Type 0
+CheckpointNotes user clean (Ok (Done epoch)) entries = entries ≡ CheckpointEnded user.pid true clean ∷ []
+CheckpointNotes user clean (Ok Skipped) entries = entries ≡ CheckpointEnded user.pid false clean ∷ []
+CheckpointNotes user clean (Ok (NotDue behind)) entries = (clean ≡ false) × (behind < due_bytes) × (entries ≡ [])
+CheckpointNotes user clean (Err (Stale mine found)) entries = MayBeOver user × (entries ≡ [])
+CheckpointNotes user clean (Err Disk) entries = NotesFault user.pid entries
+CheckpointNotes user clean (Err (Broken since)) entries = RepeatsFault user.pid since entries
+CheckpointNotes user clean (Err (Full need room)) entries = (room ≡ 0) × (entries ≡ [])
+CheckpointNotes user clean (Err (Redo fault)) entries = ⊥
+CheckpointNotes user clean (Err NoMemory) entries = entries ≡ []
 
 abbrev pub LeaveNotes : User → List BookEntry → Type 0
 LeaveNotes user entries = (entries ≡ Detached user.pid ∷ []) ⊎ (MayBeOver user × (entries ≡ []))

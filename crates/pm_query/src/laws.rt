@@ -1,10 +1,13 @@
 //! Laws of answers and of books, for the layers above. Their bodies are empty.
 ghost use Rattle.std.specs.Prelude.{◌≡◌};
 ghost use Rattle.pm_query.specs.Book.{IsLegal, needs_of};
-ghost use Rattle.pm_query.specs.BookLaws.{AckedIsWithin, AckedNeverFalls, AcknowledgedStays, RepeatChangesNothing};
+ghost use Rattle.pm_query.specs.Calls.{due_bytes};
+ghost use Rattle.pm_query.specs.BookLaws.{AckedIsWithin, AckedNeverFalls, AcknowledgedStays, CommitsAddTheirBytes, RepeatChangesNothing, RowsAreWithinNeeds};
 ghost use Rattle.pm_query.specs.Laws.{CommitLeavesRows};
 ghost use Rattle.pm_query.specs.TickLaws.{PastStays, PresentIsWhole};
 ghost use Rattle.pm_query.specs.WorkedBooks.{answered, forgotten, nothing, unanswered};
+
+use crate::store::CHECKPOINT_BYTES;
 
 /// Where no error is answered, the rows after a script are the table with the script's commit made.
 pub fn commit_leaves_rows()
@@ -31,6 +34,13 @@ pub fn repeat_changes_nothing()
     ensures { RepeatChangesNothing }
 {}
 
+/// Commits add to the rows no more bytes than they take in the log. So the rows of each number of a history are at most
+/// as large as those of the base and all answered commits.
+pub fn rows_are_within_needs()
+    ensures commits { CommitsAddTheirBytes }
+    ensures numbers { RowsAreWithinNeeds }
+{}
+
 /// An answer or a release whose tick is still to come changes nothing of the history at a tick.
 pub fn past_stays()
     ensures { PastStays }
@@ -39,6 +49,11 @@ pub fn past_stays()
 /// One that is made by that tick brings the whole history up to it.
 pub fn present_is_whole()
     ensures { PresentIsWhole }
+{}
+
+/// The bytes behind a base with which a checkpoint is due are the number of the definition.
+pub fn checkpoint_bytes_are_the_number()
+    ensures { CHECKPOINT_BYTES ≡ due_bytes }
 {}
 
 /// A book of one inserted row is legal. It is no longer where the next redo forgets that row, or where an answer is

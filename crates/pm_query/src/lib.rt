@@ -21,11 +21,12 @@ mod store;
 pub use book::BookEntry;
 pub use item::Item;
 pub use laws::{
-    acked_is_within, acked_never_falls, acknowledged_stays, commit_leaves_rows, past_stays,
-    present_is_whole, repeat_changes_nothing, worked_books,
+    acked_is_within, acked_never_falls, acknowledged_stays, checkpoint_bytes_are_the_number,
+    commit_leaves_rows, past_stays, present_is_whole, repeat_changes_nothing,
+    rows_are_within_needs, worked_books,
 };
 pub use pairs::Pairs;
 pub use pm_record::RedoFault;
 pub use reply::Reply;
 pub use run::{Outcome, answer};
-pub use store::{Seen, Staged, Store, StoreNo};
+pub use store::{CHECKPOINT_BYTES, Checkpointed, Seen, Staged, Store, StoreNo};

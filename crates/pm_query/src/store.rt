@@ -2,7 +2,7 @@
 ghost use Rattle.std.specs.Prelude.{◌≡◌, ◌++◌, [], ℕ, List, Option, All, IfOk, OnErr};
 ghost use Rattle.pm_query.specs.declared.book.BookEntry.{BookEntry};
 ghost use Rattle.pm_query.specs.declared.store.StoreNo.TheVariants.{Disk, NoMemory};
-ghost use Rattle.pm_query.specs.Calls.{PassView, user_of, newcomer, new_pass, with_front, ReachesNoLess, HasReached, EnterNotes, RunNotes, SeenNotes, LeaveNotes};
+ghost use Rattle.pm_query.specs.Calls.{PassView, user_of, newcomer, new_pass, with_front, ReachesNoLess, HasReached, EnterNotes, RunNotes, SeenNotes, FlushNotes, RedoNotes, CheckpointNotes, LeaveNotes};
 ghost use Rattle.pm_query.specs.Limits.{HasShortValues};
 
 use crate::book::BookEntry;
@@ -12,6 +12,9 @@ use pm_record::RedoFault;
 use pm_sql::Script;
 use std::alloc::AllocError;
 use thiserror::Error;
+
+/// With so many bytes of batches behind its base, the log is due for a checkpoint.
+pub const CHECKPOINT_BYTES: u64 = 67_108_864;
 
 /// Why the store refused a call.
 #[derive(Clone, Copy, Debug, PartialEq, Eq, Error)]
@@ -66,15 +69,25 @@ pub enum Seen {
     NotFlushed { flushed: u64 },
 }
 
-/// The store, as one child uses it: it enters, runs scripts, waits until what it saw is flushed, and leaves.
+/// What a checkpoint came to.
+#[derive(Clone, Copy, Debug, PartialEq, Eq)]
+pub enum Checkpointed {
+    /// The log goes on in the other file, in this epoch.
+    Done { epoch: u64 },
+    /// Redo hasn't ended in this generation, and nothing was written.
+    Skipped,
+    /// Only so many bytes of batches stand behind the log's base, and nothing was written.
+    NotDue { behind: u64 },
+}
+
+/// The store, as one child uses it: it enters, runs scripts, waits until what it saw is flushed, and leaves. A child of
+/// the server reads the log, flushes commits, or writes checkpoints in place of scripts.
 ///
 /// Each call notes entries in the book. A caller sees those that this store's own calls have noted, in order; what else
 /// stands between them, and what the book as a whole keeps, is each store's own.
 ///
-/// Behind a fault of the disk a store stands broken, and its calls still may be made: `run`, and `seen` above what is
-/// flushed, answer `Broken` and note the same fault again, until the log is read again.
-///
-/// Flushing, redo and checkpoints are calls of this trait too, once there is a child that makes them.
+/// Behind a fault of the disk a store stands broken, and its calls still may be made: those that would write, and `seen`
+/// above what is flushed, answer `Broken` and note the same fault again, until the log is read again.
 pub trait Store {
     /// The leave of one child to use the store, from `enter` to `leave`.
     type Pass: Drop;
@@ -114,6 +127,31 @@ pub trait Store {
         requires admits { admits self.old pass.old }
         requires reached { HasReached (view pass.old) front }
         ensures notes { (entries : List BookEntry) × notes entries self.old self.new × SeenNotes (user_of (stamp self.old) (view pass.old)) front result entries }
+        ensures admits { admits self.new pass.new }
+        ensures view { view pass.new ≡ view pass.old };
+
+    /// Writes at most one batch of the staged commits, and answers up to where the log is flushed. With none staged no
+    /// device call is made.
+    fn flush(&mut self, pass: &mut Self::Pass) -> Result<u64, StoreNo>
+        requires { admits self.old pass.old }
+        ensures notes { (entries : List BookEntry) × notes entries self.old self.new × FlushNotes (user_of (stamp self.old) (view pass.old)) result entries }
+        ensures admits { admits self.new pass.new }
+        ensures view { view pass.new ≡ view pass.old };
+
+    /// Reads the log, and answers how many commits stand. Where it was read in this generation already, it answers that
+    /// number again.
+    fn redo(&mut self, pass: &mut Self::Pass) -> Result<u64, StoreNo>
+        requires { admits self.old pass.old }
+        ensures notes { (entries : List BookEntry) × notes entries self.old self.new × RedoNotes (user_of (stamp self.old) (view pass.old)) result entries }
+        ensures admits { admits self.new pass.new }
+        ensures view { view pass.new ≡ view pass.old };
+
+    /// Writes all rows as the base of the log's other file, where redo has ended in this generation. A clean one is the
+    /// last: no changes are committed behind it. Any other is made once so many bytes of batches stand behind the base
+    /// that the log is due for it.
+    fn checkpoint(&mut self, pass: &mut Self::Pass, clean: bool) -> Result<Checkpointed, StoreNo>
+        requires { admits self.old pass.old }
+        ensures notes { (entries : List BookEntry) × notes entries self.old self.new × CheckpointNotes (user_of (stamp self.old) (view pass.old)) clean result entries }
         ensures admits { admits self.new pass.new }
         ensures view { view pass.new ≡ view pass.old };
 

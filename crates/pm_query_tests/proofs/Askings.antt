@@ -1,13 +1,14 @@
 -- One question of a child, put together from what the calls of any store note.
-use Rattle.std.proofs.Common.{◌≡◌, ℕ, List, [], ◌∷◌, ◌++◌, Option, None, Some, Result, Ok, Err, inl, inr, refl, ap, subst}
+use Rattle.std.proofs.Common.{◌≡◌, ℕ, Bool, List, [], ◌∷◌, ◌++◌, Option, None, Some, Result, Ok, Err, inl, inr, refl, ap, subst}
 use Rattle.pm_sql.specs.declared.stmt.Stmt.{Stmt}
 use Rattle.pm_query.specs.declared.item.Item.{Item}
 use Rattle.pm_query.specs.declared.book.BookEntry.{BookEntry}
 use Rattle.pm_query.specs.declared.store.Staged.{Staged}
 use Rattle.pm_query.specs.declared.store.Seen.{Seen}
 use Rattle.pm_query.specs.declared.store.StoreNo.{StoreNo}
-use Rattle.pm_query.specs.Calls.{EnterNotes, LeaveNotes, NotesStaged, PassView, SeenNotes, User, new_pass, newcomer, user_of, with_front}
-use Rattle.pm_query_tests.specs.Asking.{AnsweredThen, ReplyNotes, VisitNotes, Visits}
+use Rattle.pm_query.specs.Calls.{EnterNotes, FlushNotes, LeaveNotes, NotesStaged, PassView, RedoNotes, SeenNotes, User, new_pass, newcomer, user_of, with_front}
+use Rattle.pm_query_tests.specs.declared.tending.Tended.{Tended}
+use Rattle.pm_query_tests.specs.Asking.{AnsweredThen, RedoneThen, ReplyNotes, TendNotes, TendingNotes, VisitNotes, Visits}
 
 abbrev pub GoesInTurn : {S : Type 0} → (List BookEntry → S → S → Type 0) → Type 0
 GoesInTurn {S} notes = (before between now : S) (first second : List BookEntry) → notes first before between → notes second between now → notes (first ++ second) before now
@@ -33,12 +34,12 @@ answered_then notes user who script staged result looked before between now in_t
 )
 
 -- a whole visit
-pub visits : {S : Type 0} (notes : List BookEntry → S → S → Type 0) (user asker leaver : User) (script : List Stmt) (result : Result (Option (List Item)) StoreNo) (start entered asked left : S) → GoesInTurn notes → asker ≡ user → leaver ≡ user
+pub visits : {S : Type 0} (notes : List BookEntry → S → S → Type 0) (user asker leaver : User) (Asks : User → List BookEntry → Type 0) (start entered asked left : S) → GoesInTurn notes → asker ≡ user → leaver ≡ user
     → (entries : List BookEntry) × notes entries start entered × EnterNotes {P = ℕ} user (Ok 0) entries
-    → (entries : List BookEntry) × notes entries entered asked × ReplyNotes asker script result entries
+    → (entries : List BookEntry) × notes entries entered asked × Asks asker entries
     → (entries : List BookEntry) × notes entries asked left × LeaveNotes leaver entries
-    → (entries : List BookEntry) × notes entries start left × Visits user script result entries
-visits notes user asker leaver script result start entered asked left in_turn e f (first, one, enter) (second, two, ask) (third, three, leave) = (
+    → (entries : List BookEntry) × notes entries start left × Visits user (Asks user) entries
+visits notes user asker leaver Asks start entered asked left in_turn e f (first, one, enter) (second, two, ask) (third, three, leave) = (
   (first ++ second) ++ third,
   in_turn start asked left (first ++ second) third (in_turn start entered asked first second one two) three,
   record {
@@ -46,12 +47,39 @@ visits notes user asker leaver script result start entered asked left in_turn e 
     asked = second;
     left = third;
     enter = enter;
-    ask = subst (λ (p : User). ReplyNotes p script result second) e ask;
+    ask = subst (λ (p : User). Asks p second) e ask;
     leave = subst (λ (p : User). LeaveNotes p third) f leave;
     entries_are = refl;
   },
 )
 
-pub visit_notes : (user : User) (script : List Stmt) (result : Result (Option (List Item)) StoreNo) (entries : List BookEntry) → Visits user script result entries → VisitNotes user script result entries
+pub visit_notes : (user : User) (script : List Stmt) (result : Result (Option (List Item)) StoreNo) (entries : List BookEntry) → Visits user (ReplyNotes user script result) entries → VisitNotes user script result entries
 visit_notes user script (Ok answer) entries visit = visit
 visit_notes user script (Err refusal) entries visit = inl visit
+
+pub tending_notes : (user : User) (clean : Bool) (result : Result Tended StoreNo) (entries : List BookEntry) → Visits user (TendNotes user clean result) entries → TendingNotes user clean result entries
+tending_notes user clean (Ok tended) entries visit = visit
+tending_notes user clean (Err refusal) entries visit = inl visit
+
+-- ---- a redo, and what stands behind it
+
+pub redone_then : {S : Type 0} (notes : List BookEntry → S → S → Type 0) (user who : User) (kept : ℕ) (Then : User → List BookEntry → Type 0) (before between now : S) → GoesInTurn notes → who ≡ user
+    → (entries : List BookEntry) × notes entries before between × RedoNotes user (Ok kept) entries
+    → (entries : List BookEntry) × notes entries between now × Then who entries
+    → (entries : List BookEntry) × notes entries before now × RedoneThen user kept (Then user) entries
+redone_then notes user who kept Then before between now in_turn e (first, one, redone) (second, two, behind) = (
+  first ++ second,
+  in_turn before between now first second one two,
+  record { behind = second; goes_on = subst (λ (p : User). Then p second) e behind; entries_are = ap (λ (es : List BookEntry). es ++ second) redone },
+)
+
+-- a flush notes nothing
+pub flushed_then : {S : Type 0} (notes : List BookEntry → S → S → Type 0) (user who : User) (flushed : ℕ) (Then : User → List BookEntry → Type 0) (before between now : S) → GoesInTurn notes → who ≡ user
+    → (entries : List BookEntry) × notes entries before between × FlushNotes user (Ok flushed) entries
+    → (entries : List BookEntry) × notes entries between now × Then who entries
+    → (entries : List BookEntry) × notes entries before now × Then user entries
+flushed_then notes user who flushed Then before between now in_turn e (first, one, none) (second, two, behind) = (
+  second,
+  subst (λ (es : List BookEntry). notes (es ++ second) before now) none (in_turn before between now first second one two),
+  subst (λ (p : User). Then p second) e behind,
+)

@@ -4,28 +4,30 @@ use Rattle.pm_rows.specs.Fold.{RowMap}
 use Rattle.pm_rows.specs.declared.commit.Change.{Change}
 use Rattle.pm_query.specs.declared.book.BookEntry.{BookEntry}
 use Rattle.pm_query.specs.History.{count_of, rows_of}
-use Rattle.pm_query.specs.Book.{Base, history_of}
+use Rattle.pm_query.specs.Book.{Base, course_of, history_of}
 
 -- what is seen of it
 pub record Moment : Type 0 where
   pub book : Option (List BookEntry)
   pub rows : RowMap
   pub count : ℕ
+  pub redone : Option ℕ
 
--- its rows are those of the book's history, and so is their number of commits
-pub record IsOf (base : Base) (book : List BookEntry) (rows : RowMap) (count : ℕ) : Type 0 where
+-- its rows are those of the book's history, and so are their number of commits and the number that the redo has kept
+pub record IsOf (base : Base) (book : List BookEntry) (rows : RowMap) (count : ℕ) (redone : Option ℕ) : Type 0 where
   pub rows_are : rows ≡ rows_of (history_of base book)
   pub count_is : count ≡ count_of (history_of base book)
+  pub redone_is : redone ≡ (course_of base book).redone
 
 -- where the book tells
-abbrev pub Holds : Base → Option (List BookEntry) → RowMap → ℕ → Type 0
-Holds base None rows count = Unit {0}
-Holds base (Some book) rows count = IsOf base book rows count
+abbrev pub Holds : Base → Option (List BookEntry) → Moment → Type 0
+Holds base None at = Unit {0}
+Holds base (Some book) at = IsOf base book at.rows at.count at.redone
 
 -- These entries were noted, and rows that were those of the book's history still are.
 pub record Goes (entries : List BookEntry) (before now : Moment) : Type 0 where
   pub notes : now.book ≡ option_map (λ book. book ++ entries) before.book
-  pub keeps : (base : Base) → Holds base before.book before.rows before.count → Holds base now.book now.rows now.count
+  pub keeps : (base : Base) → Holds base before.book before → Holds base now.book now
 
 -- one commit more where it has changes
 abbrev pub count_behind : ℕ → List Change → ℕ

@@ -1,11 +1,13 @@
-//! Tests of the public calls of `pm_query`, and for them a store in memory and a child that asks it.
+//! Tests of the public calls of `pm_query`, and for them a store in memory, a child that asks it and one that tends it.
 #![tactic(auto)]
 
 mod asking;
 mod mem_store;
+mod tending;
 
 pub use asking::ask;
 pub use mem_store::{Fault, GENERATION, MemPass, MemStore};
+pub use tending::{Tended, tend};
 
 #[cfg(test)]
 mod answers;

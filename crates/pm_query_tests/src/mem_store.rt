@@ -1,11 +1,14 @@
-//! A store in memory, which one caller uses alone. Its log is flushed, and fails, when its owner says so.
+//! A store in memory, which one caller uses alone. Its log grows, is flushed, and fails, when its owner says so.
 ghost use Rattle.std.specs.Prelude.{◌≡◌, ◌+◌, ◌≤◌, ◌++◌, ◌∷◌, [], option_map, IfOk};
 ghost use Rattle.pm_query.specs.Limits.{HasShortRows};
 ghost use Rattle.pm_query_tests.specs.MemStore.{count_behind};
 
 use pm_outside::Chronicle;
-use pm_query::{BookEntry, Outcome, Seen, Staged, Store, StoreNo, answer};
-use pm_rows::{Commit, Rows};
+use pm_query::{
+    BookEntry, CHECKPOINT_BYTES, Checkpointed, Outcome, RedoFault, Seen, Staged, Store, StoreNo,
+    answer, checkpoint_bytes_are_the_number,
+};
+use pm_rows::{Commit, MAX_COMMITS, Rows};
 use pm_sql::Script;
 use std::alloc::{AllocError, Global};
 
@@ -19,7 +22,8 @@ pub struct Fault {
     pub faults: u64,
 }
 
-/// The rows, how many commits left them, how many of these are flushed, and the book.
+/// The rows, how many commits left them, how many of these are flushed and how many redo has kept, the log's epoch and
+/// its bytes behind its base, and the book.
 #[derive(Debug, Drop)]
 pub struct MemStore<B> {
     pub(crate) book: B,
@@ -27,6 +31,9 @@ pub struct MemStore<B> {
     pub(crate) count: u64,
     pub(crate) flushed: u64,
     pub(crate) fault: Option<Fault>,
+    pub(crate) redone: Option<u64>,
+    pub(crate) epoch: u64,
+    pub(crate) behind: u64,
     alloc: Global,
     ghost short: { HasShortRows rows },
 }
@@ -43,7 +50,8 @@ impl<B: Chronicle<BookEntry>> MemStore<B> {
     /// A store without rows, whose book is to be told here.
     pub fn new(alloc: Global, book: B) -> MemStore<B>
         ensures book { result.book ≡ book }
-        ensures begin { (result.count ≡ 0) × (result.flushed ≡ 0) × (result.fault ≡ None) }
+        ensures begin { (result.count ≡ 0) × (result.flushed ≡ 0) × (result.fault ≡ None) × (result.redone ≡ None) }
+        ensures log { (result.epoch ≡ 1) × (result.behind ≡ 0) }
     {
         MemStore {
             book,
@@ -51,12 +59,22 @@ impl<B: Chronicle<BookEntry>> MemStore<B> {
             count: 0,
             flushed: 0,
             fault: None,
+            redone: None,
+            epoch: 1,
+            behind: 0,
             alloc,
         }
     }
 
+    /// Lets the log have so many bytes behind its base.
+    pub fn grow(&mut self, behind: u64)
+        ensures { self.new ≡ record self.old { behind = behind } }
+    {
+        self.behind = behind;
+    }
+
     /// Flushes all commits.
-    pub fn flush(&mut self)
+    pub fn flush_all(&mut self)
         ensures { self.new ≡ record self.old { flushed = self.old.count } }
     {
         self.flushed = self.count;
@@ -79,6 +97,9 @@ impl<B: Chronicle<BookEntry>> MemStore<B> {
             count: _,
             flushed: _,
             fault: _,
+            redone: _,
+            epoch: _,
+            behind: _,
             alloc: _,
         } = self;
         book
@@ -93,8 +114,8 @@ impl<B: Chronicle<BookEntry>> Store for MemStore<B> {
     type Pass = MemPass;
 
     ghost notes = { λ entries before now. Goes entries
-        (record { book = B.entries before.book; rows = before.rows; count = before.count })
-        (record { book = B.entries now.book; rows = now.rows; count = now.count }) };
+        (record { book = B.entries before.book; rows = before.rows; count = before.count; redone = before.redone })
+        (record { book = B.entries now.book; rows = now.rows; count = now.count; redone = now.redone }) };
 
     ghost admits = { λ store pass. Admits pass.front store.count (B.spare store.book) };
 
@@ -164,16 +185,72 @@ impl<B: Chronicle<BookEntry>> Store for MemStore<B> {
         }
     }
 
+    fn flush(&mut self, pass: &mut MemPass) -> Result<u64, StoreNo> {
+        self.book.reserve(2)?;
+        if let Some(fault) = self.fault {
+            return Err(self.broken(pass.pid, fault));
+        }
+        let batch_end = self.flushed.saturating_add(MAX_COMMITS as u64);
+        self.flushed = self.count.min(batch_end);
+        Ok(self.flushed)
+    }
+
+    fn redo(&mut self, pass: &mut MemPass) -> Result<u64, StoreNo> {
+        if self.book.reserve(2).is_err() {
+            return Err(StoreNo::Redo(RedoFault::NoMemory));
+        }
+        let kept = self.redone.unwrap_or(self.count);
+        self.redone = Some(kept);
+        self.book.note(BookEntry::Redone {
+            pid: pass.pid,
+            generation: pass.generation,
+            kept,
+        });
+        Ok(kept)
+    }
+
+    fn checkpoint(&mut self, pass: &mut MemPass, clean: bool) -> Result<Checkpointed, StoreNo> {
+        checkpoint_bytes_are_the_number();
+        self.book.reserve(2)?;
+        if self.redone.is_none() {
+            self.book.note(BookEntry::CheckpointEnded {
+                pid: pass.pid,
+                done: false,
+                clean,
+            });
+            return Ok(Checkpointed::Skipped);
+        }
+        if let Some(fault) = self.fault {
+            return Err(self.broken(pass.pid, fault));
+        }
+        if !clean && self.behind < CHECKPOINT_BYTES {
+            return Ok(Checkpointed::NotDue {
+                behind: self.behind,
+            });
+        }
+        if self.epoch == u64::MAX {
+            return Err(StoreNo::Full { need: 9, room: 0 });
+        }
+        self.epoch += 1;
+        self.behind = 0;
+        self.book.note(BookEntry::CheckpointEnded {
+            pid: pass.pid,
+            done: true,
+            clean,
+        });
+        Ok(Checkpointed::Done { epoch: self.epoch })
+    }
+
     fn leave(&mut self, pass: MemPass) {
         self.book.note(BookEntry::Detached { pid: pass.pid });
     }
 
-    ghost at_rest = { λ store. goes_nowhere (record { book = B.entries store.book; rows = store.rows; count = store.count }) };
+    ghost at_rest = { λ store. goes_nowhere (record { book = B.entries store.book; rows = store.rows; count = store.count; redone = store.redone }) };
 
     ghost in_turn = { λ before between now first second one two. goes_on first second
-        (record { book = B.entries before.book; rows = before.rows; count = before.count })
-        (record { book = B.entries between.book; rows = between.rows; count = between.count })
-        (record { book = B.entries now.book; rows = now.rows; count = now.count }) one two };
+        (record { book = B.entries before.book; rows = before.rows; count = before.count; redone = before.redone })
+        (record { book = B.entries between.book; rows = between.rows; count = between.count; redone = between.redone })
+        (record { book = B.entries now.book; rows = now.rows; count = now.count; redone = now.redone }) one two };
 
     ghost stays = { λ before now entries one. refl };
 }
@@ -185,7 +262,7 @@ impl<B: Chronicle<BookEntry>> MemStore<B> {
         ensures answer { result ≡ StoreNo.Broken fault.since }
         ensures noted { B.entries self.new.book ≡ option_map (λ book. book ++ BookEntry.Broke pid fault.since fault.faults ∷ []) (B.entries self.old.book) }
         ensures room { B.spare self.new.book + 1 ≡ B.spare self.old.book }
-        ensures kept { (self.new.rows ≡ self.old.rows) × (self.new.count ≡ self.old.count) }
+        ensures kept { (self.new.rows ≡ self.old.rows) × (self.new.count ≡ self.old.count) × (self.new.redone ≡ self.old.redone) }
     {
         self.book.note(BookEntry::Broke {
             pid,

@@ -12,4 +12,4 @@ no_rows (first ∷ es) e = absurd (omega arith)
 pub invariant_of-result : goal.invariant_of-result
 invariant_of-result g c =
     let none = no_rows (entries empty) (sym (len-entries empty) ∙ len-empty int_cmp (List ℕ)) in
-    record { short = subst HasShortRows (sym c.new.ensures) none }
+    record { short = subst HasShortRows (sym c.new.ensures.none) none }
