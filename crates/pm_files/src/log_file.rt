@@ -16,6 +16,9 @@ pub struct LogFile {
     path: String,
     is_lock: bool,
     handle: Option<File>,
+    // A sync has failed. The system may have dropped what it couldn't write, and then a later sync succeeds and proves
+    // nothing of it.
+    is_lost: bool,
 }
 
 impl LogFile {
@@ -33,6 +36,7 @@ impl LogFile {
             path: format!(in alloc; "{folder}/{name}")?,
             is_lock,
             handle: None,
+            is_lost: false,
         })
     }
 
@@ -73,17 +77,23 @@ impl LogFile {
         }
     }
 
-    /// Makes durable what was written.
+    /// Makes durable what was written, with the length that it gave the file, by the call that PostgreSQL uses on this
+    /// system unless it is told otherwise. Behind a sync that failed every call of the file fails.
     pub fn sync(&mut self) -> io::Result<()> {
         self.find()?;
-        match &self.handle {
-            Some(file) => file.sync_all(),
-            None => Ok(()),
-        }
+        let Some(file) = &self.handle else {
+            return Ok(());
+        };
+        let synced = file.sync_data();
+        self.is_lost = synced.is_err();
+        synced
     }
 
     // Opens the file, where it is there and isn't open yet.
     fn find(&mut self) -> io::Result<()> {
+        if self.is_lost {
+            return Err(io::Error::from(io::ErrorKind::Other));
+        }
         if self.handle.is_some() {
             return Ok(());
         }
