@@ -17,11 +17,12 @@ use Rattle.pm_life.specs.declared.life.GateNo.TheVariants as gate
 use Rattle.pm_wire.specs.declared.back.Shape.TheVariants as shapes
 use Rattle.pm_wire.specs.declared.back.Tag.TheVariants as tags
 use Rattle.pm_wire.specs.declared.state.SqlState.{SqlState}
+use Rattle.pm_wire.specs.declared.condition.StatementFault.TheVariants as faults
 use Rattle.pm_wire.specs.declared.state.SqlState.TheVariants as states
 use Rattle.pm_wire.specs.declared.condition.Fixed.{Fixed}
 use Rattle.pm_wire.specs.declared.condition.Fixed.TheVariants as fixes
 use Rattle.pm_wire.specs.declared.condition.Condition.TheVariants as conditions
-use Rattle.pm_wire.specs.Conditions.{error, fixed_message, told}
+use Rattle.pm_wire.specs.Conditions.{error, fixed_message, state_of, told}
 use Rattle.pm_wire.specs.Backend.{BackMessage, Auth, Param, Key, Ready, Fields, Pair, One, Complete, Empty, spelling}
 use Rattle.pm_session.specs.declared.ending.MessageFault.{MessageFault}
 use Rattle.pm_session.specs.declared.ending.MessageFault.TheVariants as messages
@@ -70,11 +71,11 @@ item_messages items.RowsTooLarge = fixed_message fixes.RowsTooLarge ∷ []
 
 -- the code of a text's fault
 abbrev pub fault_state : SqlFault → SqlState
-fault_state (texts.Syntax place) = states.SyntaxError
-fault_state (texts.Table place) = states.UndefinedTable
-fault_state (texts.Range place) = states.NumberOutOfRange
-fault_state (texts.TooLong place) = states.StringTooLong
-fault_state (texts.TooMany place) = states.LimitExceeded
+fault_state (texts.Syntax place) = state_of faults.Syntax
+fault_state (texts.Table place) = state_of faults.NoTable
+fault_state (texts.Range place) = state_of faults.NumberRange
+fault_state (texts.TooLong place) = state_of faults.LongValue
+fault_state (texts.TooMany place) = state_of faults.ManyStatements
 fault_state texts.NoMemory = states.OutOfMemory
 
 -- how a query was answered: its reply, or why it has none

@@ -25,7 +25,7 @@ use pm_query::Item;
 use pm_rows::Text;
 use pm_sql::SqlFault;
 use pm_wire::{
-    Back, Condition, Fixed, Outbox, Report, Severity, Shape, SqlState, Tag,
+    Back, Condition, Fixed, Outbox, Report, Severity, Shape, SqlState, StatementFault, Tag,
     back_messages_have_a_longest, conditions_can_be_told,
 };
 
@@ -164,11 +164,11 @@ fn fault_state(fault: SqlFault) -> SqlState
     ensures { result ≡ fault_state fault }
 {
     match fault {
-        SqlFault::Syntax { .. } => SqlState::SyntaxError,
-        SqlFault::Table { .. } => SqlState::UndefinedTable,
-        SqlFault::Range { .. } => SqlState::NumberOutOfRange,
-        SqlFault::TooLong { .. } => SqlState::StringTooLong,
-        SqlFault::TooMany { .. } => SqlState::LimitExceeded,
+        SqlFault::Syntax { .. } => StatementFault::Syntax.state(),
+        SqlFault::Table { .. } => StatementFault::NoTable.state(),
+        SqlFault::Range { .. } => StatementFault::NumberRange.state(),
+        SqlFault::TooLong { .. } => StatementFault::LongValue.state(),
+        SqlFault::TooMany { .. } => StatementFault::ManyStatements.state(),
         SqlFault::NoMemory => SqlState::OutOfMemory,
     }
 }

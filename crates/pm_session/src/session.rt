@@ -29,7 +29,7 @@ use pm_wire::{Back, Outbox, back_messages_have_a_longest};
 use std::alloc::Global;
 use std::sync::Wait;
 
-/// How many bytes a part of an answer has at most: one row with the longest value, and some more.
+/// How many bytes a part of an answer has at most: the longest message, which says a token of the client's query, and some more.
 const OUTBOX_BYTES: usize = 66_048;
 
 /// The settings that a client is told at the start, in this order.
