@@ -1,6 +1,7 @@
 -- How the history follows each step.
 use Rattle.std.proofs.Common.{◌≡◌, ◌≢◌, ℕ, ◌<◌, ◌≤◌, ◌==◌, List, [], ◌∷◌, ◌++◌, length, map, get_or, refl, sym, ap, ◌∙◌, subst, arith, ne_eqb, eq-eqb, append-nil}
 use Rattle.std.proofs.lemmas.List.{map-append}
+use Rattle.std.specs.List.{flat_map}
 use Rattle.std.proofs.lemmas.Grind.{flat_map-append}
 use lib.ListN.{get_elem?}
 use mathlib.Core.Option.{some}
@@ -16,32 +17,41 @@ use Rattle.pm_supervisor.specs.Shared as shared
 use Rattle.pm_board.specs.declared.views.Offer.{Offer}
 use Rattle.pm_board.specs.declared.views.PastChild.{PastChild}
 use Rattle.pm_board.specs.declared.views.Sight.{Sight}
+use Rattle.pm_board.specs.declared.views.Sight.TheVariants.{Unused, Opened, Assigned, Exited, Collected, Gathered}
 use Rattle.pm_board.specs.declared.views.RosterView.{RosterView}
 use Rattle.pm_board.specs.declared.views.Work.{Work}
 use Rattle.pm_board.specs.declared.views.View.{View}
 use Rattle.pm_board.specs.declared.views.View.TheVariants.{Postmaster}
 use Rattle.pm_board.specs.Places.{slot_at}
 use Rattle.pm_board.specs.Gate.{Gate, GateOk, gate_after, gate_of_steps, first_gate, gate_of}
+use Rattle.pm_board.specs.Told.{after_step}
+use Rattle.pm_board.specs.Latches.{NotReleased, OfUnreleased, Latches}
+use Rattle.pm_board.specs.Seats.{Seats}
+use Rattle.pm_board.proofs.Latches.{release_is_other}
 use Rattle.pm_board.specs.Rule.{Phase, unused, opened, offered, running, ended, collected, gathered, Seen, used_pid, Cell, Holds, put, at_put}
 use Rattle.pm_board.specs.declared.views.RosterStep.{RosterStep}
-use Rattle.pm_board.specs.declared.views.RosterStep.TheVariants.{Assign, Release}
-use Rattle.pm_board.specs.History.{Entry, begins, goes_on, join_in, joined, leave_in, left, assign_in, assigned, pid_and_kind, living, shown_child, ShowsChild, Shows, OwnSteps, History, Kept}
+use Rattle.pm_board.specs.declared.views.Signal.{Signal}
+use Rattle.pm_board.specs.declared.views.RosterStep.TheVariants.{Assign, Release, Send}
+use Rattle.pm_board.specs.declared.views.PostStep.{PostStep}
+use Rattle.pm_board.specs.declared.views.PostStep.TheVariants as post_step
+use Rattle.pm_board.specs.declared.views.PostView.{PostView}
+use Rattle.pm_board.specs.History.{Entry, begins, goes_on, supervisor_event, supervisor_in, of_supervisor, worker_event, leave_of, event_of, events_of, worker_step, pid_and_kind, living, shown_child, ShowsChild, Shows, OwnSteps, OwnPart, History, Kept}
 
 -- lists of children
 
-child_hit : (pid : ℕ) (c : Child) (cs : List Child) → c.pid ≡ pid → child_of pid (c ∷ cs) ≡ Some c
+pub child_hit : (pid : ℕ) (c : Child) (cs : List Child) → c.pid ≡ pid → child_of pid (c ∷ cs) ≡ Some c
 child_hit pid c cs e = ap (λ (b : Bool). if b then Some c else child_of pid cs) (eq-eqb c.pid pid e)
 
-child_miss : (pid : ℕ) (c : Child) (cs : List Child) → c.pid ≢ pid → child_of pid (c ∷ cs) ≡ child_of pid cs
+pub child_miss : (pid : ℕ) (c : Child) (cs : List Child) → c.pid ≢ pid → child_of pid (c ∷ cs) ≡ child_of pid cs
 child_miss pid c cs ne = ap (λ (b : Bool). if b then Some c else child_of pid cs) (ne_eqb c.pid pid ne)
 
-without_hit : (pid : ℕ) (c : Child) (cs : List Child) → c.pid ≡ pid → without pid (c ∷ cs) ≡ cs
+pub without_hit : (pid : ℕ) (c : Child) (cs : List Child) → c.pid ≡ pid → without pid (c ∷ cs) ≡ cs
 without_hit pid c cs e = ap (λ (b : Bool). if b then cs else c ∷ without pid cs) (eq-eqb c.pid pid e)
 
-without_miss : (pid : ℕ) (c : Child) (cs : List Child) → c.pid ≢ pid → without pid (c ∷ cs) ≡ c ∷ without pid cs
+pub without_miss : (pid : ℕ) (c : Child) (cs : List Child) → c.pid ≢ pid → without pid (c ∷ cs) ≡ c ∷ without pid cs
 without_miss pid c cs ne = ap (λ (b : Bool). if b then cs else c ∷ without pid cs) (ne_eqb c.pid pid ne)
 
-without_other : (p q : ℕ) (cs : List Child) → q ≢ p → child_of q (without p cs) ≡ child_of q cs
+pub without_other : (p q : ℕ) (cs : List Child) → q ≢ p → child_of q (without p cs) ≡ child_of q cs
 without_other p q [] ne = refl
 without_other p q (c ∷ cs) ne = dite (ℕ_discrete c.pid p)
     (λ is. ap (child_of q) (without_hit p c cs is) ∙ sym (child_miss q c cs (λ e. ne (sym e ∙ is))))
@@ -49,10 +59,10 @@ without_other p q (c ∷ cs) ne = dite (ℕ_discrete c.pid p)
     (λ hit. child_hit q c (without p cs) hit ∙ sym (child_hit q c cs hit))
     (λ miss. child_miss q c (without p cs) miss ∙ (without_other p q cs ne ∙ sym (child_miss q c cs miss))))
 
-abbrev Once : ℕ → List Child → Type 0
+abbrev pub Once : ℕ → List Child → Type 0
 Once pid cs = child_of pid (without pid cs) ≡ None
 
-none_in : (p : ℕ) (cs : List Child) → child_of p cs ≡ None → Once p cs
+pub none_in : (p : ℕ) (cs : List Child) → child_of p cs ≡ None → Once p cs
 none_in p [] none = refl
 none_in p (c ∷ cs) none = dite (ℕ_discrete c.pid p)
     (λ is. let no : Some c ≡ None = sym (child_hit p c cs is) ∙ none in absurd (cc))
@@ -74,7 +84,7 @@ once_apart p q (c ∷ cs) ne h = dite (ℕ_discrete c.pid p)
     (λ miss. ap (child_of q) (without_miss q c (without p cs) miss) ∙ (child_miss q c (without q (without p cs)) miss
     ∙ once_apart p q cs ne (sym (child_miss q c (without q cs) miss) ∙ (ap (child_of q) (sym (without_miss q c cs miss)) ∙ h)))))
 
-once_left : (p q : ℕ) (cs : List Child) → ((r : ℕ) → Once r cs) → Once q (without p cs)
+pub once_left : (p q : ℕ) (cs : List Child) → ((r : ℕ) → Once r cs) → Once q (without p cs)
 once_left p q cs h = dite (ℕ_discrete q p) (λ is. none_in q (without p cs) (ap (λ (z : ℕ). child_of z (without p cs)) is ∙ h p)) (λ ne. once_apart p q cs ne (h q))
 
 -- the supervisor's part
@@ -83,49 +93,79 @@ gate_more : (gate : Gate) (ss : List RosterStep) (s : RosterStep) → gate_of_st
 gate_more gate [] s = refl
 gate_more gate (x ∷ ss) s = gate_more (gate_after gate x) ss s
 
--- after an assign, with the event that it is
-own_assign : (log : List Entry) (steps : List RosterStep) (gate : Gate) (k pid generation : ℕ) (kind : Kind) → OwnSteps log steps gate
-    → OwnSteps (log ++ record { event = shared.Join pid kind; slot = k } ∷ []) (steps ++ Assign pid kind generation ∷ []) gate
-own_assign log steps gate k pid generation kind own = record {
-  assigns = flat_map-append join_in log _ ∙ (ap (λ (z : List (ℕ × Kind)). z ++ (pid, kind) ∷ []) own.assigns ∙ sym (flat_map-append assign_in steps _));
-  leave = gate_more first_gate steps (Assign pid kind generation) ∙ own.leave;
+-- after a step with the event that it is
+pub own_step : (log : List Entry) (steps : List RosterStep) (gate : Gate) (k : ℕ) (e : SharedEvent) (s : RosterStep) → supervisor_event e ≡ event_of s → OwnSteps log steps gate
+    → OwnSteps (log ++ record { event = e; slot = k } ∷ []) (steps ++ s ∷ []) (gate_after gate s)
+own_step log steps gate k e s same own = record {
+  made = flat_map-append supervisor_in log _ ∙ ((λ i. own.made i ++ (same i ++ [])) ∙ sym (flat_map-append event_of steps _));
+  leave = gate_more first_gate steps s ∙ ap (λ (g : Gate). gate_after g s) own.leave;
 }
 
 -- after a release, which is no event
 pub own_release : (log : List Entry) (steps : List RosterStep) (gate : Gate) (pid generation : ℕ) (kind : Kind) → OwnSteps log steps gate → OwnSteps log (steps ++ Release pid kind generation ∷ []) gate
 own_release log steps gate pid generation kind own = record {
-  assigns = own.assigns ∙ (sym (append-nil (assigned steps)) ∙ sym (flat_map-append assign_in steps _));
+  made = own.made ∙ (sym (append-nil (events_of steps)) ∙ sym (flat_map-append event_of steps _));
   leave = gate_more first_gate steps (Release pid kind generation) ∙ own.leave;
 }
 
--- after the end of a child
-own_leave : (log : List Entry) (steps : List RosterStep) (gate : Gate) (k pid : ℕ) (kind : Kind) → OwnSteps log steps gate → OwnSteps (log ++ record { event = shared.Leave pid kind; slot = k } ∷ []) steps gate
-own_leave log steps gate k pid kind own = record {
-  assigns = flat_map-append join_in log _ ∙ (append-nil (joined log) ∙ own.assigns);
+-- and after a send
+own_send : (log : List Entry) (steps : List RosterStep) (gate : Gate) (pid generation : ℕ) (kind : Kind) (signal : Signal) → OwnSteps log steps gate → OwnSteps log (steps ++ Send pid kind signal generation ∷ []) gate
+own_send log steps gate pid generation kind signal own = record {
+  made = own.made ∙ (sym (append-nil (events_of steps)) ∙ sym (flat_map-append event_of steps _));
+  leave = gate_more first_gate steps (Send pid kind signal generation) ∙ own.leave;
+}
+
+-- after an event of a worker
+pub own_worker : (log : List Entry) (steps : List RosterStep) (gate : Gate) (k : ℕ) (e : SharedEvent) → supervisor_event e ≡ [] → OwnSteps log steps gate → OwnSteps (log ++ record { event = e; slot = k } ∷ []) steps gate
+own_worker log steps gate k e none own = record {
+  made = flat_map-append supervisor_in log _ ∙ (ap (λ (z : List SharedEvent). of_supervisor log ++ (z ++ [])) none ∙ (append-nil (of_supervisor log) ∙ own.made));
   leave = own.leave;
 }
 
 -- the workers' parts
 
-left_here : (log : List Entry) (k pid : ℕ) (kind : Kind) → left k (log ++ record { event = shared.Leave pid kind; slot = k } ∷ []) ≡ left k log ++ (pid, kind) ∷ []
-left_here log k pid kind = flat_map-append (leave_in k) log _ ∙ ap (λ (b : Bool). left k log ++ ((if b then (pid, kind) ∷ [] else []) ++ [])) (eq-eqb k k refl)
+abbrev part : {X : Type 0} → (SharedEvent → List X) → ℕ → Entry → List X
+part f k e = if e.slot == k then f e.event else []
 
-left_elsewhere : (log : List Entry) (j k pid : ℕ) (kind : Kind) → j ≢ k → left j (log ++ record { event = shared.Leave pid kind; slot = k } ∷ []) ≡ left j log
-left_elsewhere log j k pid kind ne = flat_map-append (leave_in j) log _ ∙ (ap (λ (b : Bool). left j log ++ ((if b then (pid, kind) ∷ [] else []) ++ [])) (ne_eqb k j (λ e. ne (sym e))) ∙ append-nil (left j log))
+part_here : {X : Type 0} (f : SharedEvent → List X) (log : List Entry) (k : ℕ) (e : SharedEvent) → flat_map (part f k) (log ++ record { event = e; slot = k } ∷ []) ≡ flat_map (part f k) log ++ f e
+part_here f log k e = flat_map-append (part f k) log _ ∙ (ap (λ (b : Bool). flat_map (part f k) log ++ ((if b then f e else []) ++ [])) (eq-eqb k k refl) ∙ ap (λ z. flat_map (part f k) log ++ z) (append-nil (f e)))
 
-left_joined : (log : List Entry) (j k pid : ℕ) (kind : Kind) → left j (log ++ record { event = shared.Join pid kind; slot = k } ∷ []) ≡ left j log
-left_joined log j k pid kind = flat_map-append (leave_in j) log _ ∙ (ap (λ (z : List (ℕ × Kind)). left j log ++ (z ++ [])) (nothing (k == j)) ∙ append-nil (left j log))
+part_elsewhere : {X : Type 0} (f : SharedEvent → List X) (log : List Entry) (j k : ℕ) (e : SharedEvent) → j ≢ k → flat_map (part f j) (log ++ record { event = e; slot = k } ∷ []) ≡ flat_map (part f j) log
+part_elsewhere f log j k e ne = flat_map-append (part f j) log _ ∙ (ap (λ (b : Bool). flat_map (part f j) log ++ ((if b then f e else []) ++ [])) (ne_eqb k j (λ z. ne (sym z))) ∙ append-nil (flat_map (part f j) log))
+
+part_of_none : {X : Type 0} (f : SharedEvent → List X) (log : List Entry) (j k : ℕ) (e : SharedEvent) → f e ≡ [] → flat_map (part f j) (log ++ record { event = e; slot = k } ∷ []) ≡ flat_map (part f j) log
+part_of_none {X} f log j k e none = flat_map-append (part f j) log _ ∙ (ap (λ z. flat_map (part f j) log ++ (z ++ [])) (nothing (k == j) (f e) none) ∙ append-nil (flat_map (part f j) log))
   where
-    nothing : (b : Bool) → ◌≡◌ {A = List (ℕ × Kind)} (if b then [] else []) []
-    nothing true = refl
-    nothing false = refl
+    nothing : (b : Bool) (x : List X) → x ≡ [] → ◌≡◌ {A = List X} (if b then x else []) []
+    nothing true x e = e
+    nothing false x e = refl
+
+module _ {D : Type 0} where
+  pub own_part : (log : List Entry) (k : ℕ) (e : SharedEvent) (p : PostStep) (post post' : PostView D) → post'.notes.steps ≡ post.notes.steps ++ p ∷ [] → worker_event e ≡ worker_step p ∷ [] → map pid_and_kind post'.past ≡ map pid_and_kind post.past ++ leave_of e
+      → OwnPart log k post → OwnPart (log ++ record { event = e; slot = k } ∷ []) k post'
+  own_part log k e p post post' steps is past own = record {
+    made = part_here worker_event log k e ∙ ((λ i. own.made i ++ is i) ∙ (sym (map-append worker_step post.notes.steps (p ∷ [])) ∙ ap (map worker_step) (sym steps)));
+    ends = part_here leave_of log k e ∙ (ap (λ z. z ++ leave_of e) own.ends ∙ sym past);
+  }
+
+  pub other_part : (log : List Entry) (j k : ℕ) (e : SharedEvent) (post : PostView D) → j ≢ k → OwnPart log j post → OwnPart (log ++ record { event = e; slot = k } ∷ []) j post
+  other_part log j k e post ne own = record { made = part_elsewhere worker_event log j k e ne ∙ own.made; ends = part_elsewhere leave_of log j k e ne ∙ own.ends }
+
+  pub no_part : (log : List Entry) (j k : ℕ) (e : SharedEvent) (post post' : PostView D) → worker_event e ≡ [] → leave_of e ≡ [] → post'.notes.steps ≡ post.notes.steps → post'.past ≡ post.past → OwnPart log j post → OwnPart (log ++ record { event = e; slot = k } ∷ []) j post'
+  no_part log j k e post post' none none' steps past own = record {
+    made = part_of_none worker_event log j k e none ∙ (own.made ∙ ap (map worker_step) (sym steps));
+    ends = part_of_none leave_of log j k e none' ∙ (own.ends ∙ ap (map pid_and_kind) (sym past));
+  }
+
+  same_part : (log : List Entry) (j : ℕ) (post post' : PostView D) → post'.notes.steps ≡ post.notes.steps → post'.past ≡ post.past → OwnPart log j post → OwnPart log j post'
+  same_part log j post post' steps past own = record { made = own.made ∙ ap (map worker_step) (sym steps); ends = own.ends ∙ ap (map pid_and_kind) (sym past) }
 
 module _ {D : Type 0} where
   other_cell : (cs cs' : List Child) (p : ℕ) (ph : Phase D) (w : Work D) → ((q : ℕ) → q ≢ p → child_of q cs' ≡ child_of q cs) → living ph ≢ p → ShowsChild cs ph w → ShowsChild cs' ph w
   other_cell cs cs' p (offered o) w same ne e = same o.pid ne ∙ e
   other_cell cs cs' p (running o a) w same ne e = same o.pid ne ∙ e
   other_cell cs cs' p unused w same ne e = tt
-  other_cell cs cs' p opened w same ne e = tt
+  other_cell cs cs' p (opened q) w same ne e = tt
   other_cell cs cs' p (ended o st a b) w same ne e = tt
   other_cell cs cs' p (collected o st a) w same ne e = tt
   other_cell cs cs' p gathered w same ne e = tt
@@ -135,20 +175,20 @@ module _ {D : Type 0} where
   seen_pid (offered o) past x e pos = ap used_pid (sym e)
   seen_pid (running o a) past x e pos = ap used_pid (sym e)
   seen_pid unused past x e pos = absurd (omega arith)
-  seen_pid opened past x e pos = absurd (omega arith)
+  seen_pid (opened q) past x e pos = absurd (omega arith)
   seen_pid (ended o st a b) past x e pos = absurd (omega arith)
   seen_pid (collected o st a) past x e pos = absurd (omega arith)
   seen_pid gathered past x e pos = absurd (omega arith)
 
   -- what a roster shows beside its children
-  record Beside (s : Shared) (d : RosterView D) : Type 0 where
-    generation : s.generation ≡ d.generation
-    is_open : s.is_open ≡ d.is_open
-    noticed : s.noticed ≡ d.noticed
-    last_pid : s.last_pid ≡ d.notes.last_pid
+  pub record Beside (s : Shared) (d : RosterView D) : Type 0 where
+    pub generation : s.generation ≡ d.generation
+    pub is_open : s.is_open ≡ d.is_open
+    pub noticed : s.noticed ≡ d.noticed
+    pub last_pid : s.last_pid ≡ d.notes.last_pid
 
   -- a step on the slot k changes what stands under the pid p alone
-  shows_moves : (s s' : Shared) (d d' : RosterView D) (cells : ℕ → Cell D) (n k p : ℕ) (c : Cell D) → Shows s d cells n → k < n → 0 < p → Beside s' d'
+  pub shows_moves : (s s' : Shared) (d d' : RosterView D) (cells : ℕ → Cell D) (n k p : ℕ) (c : Cell D) → Shows s d cells n → k < n → 0 < p → Beside s' d'
       → ((q : ℕ) → q ≢ p → child_of q s'.children ≡ child_of q s.children)
       → ((j : ℕ) → j < n → j ≢ k → living (cells j).phase ≢ p)
       → ShowsChild s'.children c.phase c.post.work
@@ -176,9 +216,9 @@ module _ {D : Type 0} where
   pub quiet : (limit : ℕ) (d d' : RosterView D) (cells : ℕ → Cell D) (n k : ℕ) (c : Cell D) (ph : Phase D) (w : Work D)
       → d'.generation ≡ d.generation → d'.is_open ≡ d.is_open → d'.noticed ≡ d.noticed → d'.notes.last_pid ≡ d.notes.last_pid
       → ((log : List Entry) → OwnSteps log d.notes.steps (gate_of d) → OwnSteps log d'.notes.steps (gate_of d'))
-      → k < n → (cells k).phase ≡ ph → (cells k).post.work ≡ w → (cells k).post.past ≡ c.post.past → living c.phase ≡ living ph
+      → k < n → (cells k).phase ≡ ph → (cells k).post.work ≡ w → c.post.notes.steps ≡ (cells k).post.notes.steps → c.post.past ≡ (cells k).post.past → living c.phase ≡ living ph
       → ((cs : List Child) → ShowsChild cs ph w → ShowsChild cs c.phase c.post.work) → History limit d cells n → History limit d' (put cells k c) n
-  quiet limit d d' cells n k c ph w eg eo en el own near is does past same go st = let h = st.3 in (
+  quiet limit d d' cells n k c ph w eg eo en el own near is does steps past same go st = let h = st.3 in (
     st.0,
     st.1,
     st.2,
@@ -199,33 +239,66 @@ module _ {D : Type 0} where
       once = h.once;
     },
     own st.0 st.4,
-    λ j l. at_put cells k c (λ q x. q < n → left q st.0 ≡ map pid_and_kind x.post.past) j (λ l'. st.5 k l' ∙ ap (map pid_and_kind) past) (λ _ l'. st.5 j l') l,
+    λ j l. at_put cells k c (λ q x. q < n → OwnPart st.0 q x.post) j (λ l'. same_part st.0 k (cells k).post c.post steps past (st.5 k l')) (λ _ l'. st.5 j l') l,
+  )
+
+module _ {D : Type 0} where
+  -- a send is no event
+  pub send_history : (limit n : ℕ) (d : RosterView D) (cells : ℕ → Cell D) (pid g : ℕ) (kind : Kind) (signal : Signal) → History limit d cells n → History limit (after_step d (Send pid kind signal g)) cells n
+  send_history limit n d cells pid g kind signal st = let h = st.3 in (
+    st.0,
+    st.1,
+    st.2,
+    record { generation = h.generation; is_open = h.is_open; noticed = h.noticed; last_pid = h.last_pid; each = h.each; no_other = h.no_other; once = h.once },
+    own_send st.0 d.notes.steps (gate_of d) pid g kind signal st.4,
+    st.5,
   )
 
 module _ {J D : Type 0} (told : J → D) (limit : ℕ) where
   -- pids of living children differ
-  pids_apart : (s : State (Option J) (View D)) (m : ℕ) (d : RosterView D) (cells : ℕ → Cell D) → Holds told m d cells s → (k j : ℕ) → k < length s.homes → j < length s.homes → j ≢ k → 0 < living (cells k).phase → living (cells j).phase ≢ living (cells k).phase
+  pub pids_apart : (s : State (Option J) (View D)) (m : ℕ) (d : RosterView D) (cells : ℕ → Cell D) → Holds told m d cells s → (k j : ℕ) → k < length s.homes → j < length s.homes → j ≢ k → 0 < living (cells k).phase → living (cells j).phase ≢ living (cells k).phase
   pids_apart s m d cells h k j lk lj ne pos e = let a = seen_pid (cells k).phase (slot_at d k).past (slot_at d k).sight (h.each_slot k lk).seen pos in
       let pos' : 0 < living (cells j).phase = omega arith in let b = seen_pid (cells j).phase (slot_at d j).past (slot_at d j).sight (h.each_slot j lj).seen pos' in
       ne (h.pids.differ j k (subst (λ (z : ℕ). 0 < z) b pos') (sym b ∙ (e ∙ a)))
 
+  -- the pid of a child that isn't released is the one that the supervisor sees
+  unreleased_pid : (Q : ℕ → Type 0) (ph : Phase D) (past : List (PastChild D)) (x : Sight D) → Seen ph past x → ((p : ℕ) → used_pid x ≡ p → Q p) → OfUnreleased (λ o. Q o.pid) ph
+  unreleased_pid Q (offered o) past x e f = f o.pid (ap used_pid e)
+  unreleased_pid Q (running o a) past x e f = f o.pid (ap used_pid e)
+  unreleased_pid Q (ended o st a b) past Unused e f = absurd e
+  unreleased_pid Q (ended o st a b) past (Opened q) e f = absurd e
+  unreleased_pid Q (ended o st a b) past (Assigned p) e f = f o.pid (ap (λ (z : Offer D). z.pid) e)
+  unreleased_pid Q (ended o st a b) past (Exited p t c) e f = f o.pid (ap (λ (z : Offer D). z.pid) e.0)
+  unreleased_pid Q (ended o st a b) past (Collected p t c) e f = absurd e
+  unreleased_pid Q (ended o st a b) past (Gathered xs notes) e f = absurd e
+  unreleased_pid Q unused past x e f = tt
+  unreleased_pid Q (opened q) past x e f = tt
+  unreleased_pid Q (collected o st a) past x e f = tt
+  unreleased_pid Q gathered past x e f = tt
+
+  -- the release of one child is that of no other
+  pub others_stay : (s : State (Option J) (View D)) (m : ℕ) (d : RosterView D) (cells : ℕ → Cell D) → Holds told m d cells s → (k j : ℕ) → j < length s.homes → j ≢ k → (pid g : ℕ) (kind : Kind) → 0 < pid → used_pid (slot_at d k).sight ≡ pid
+      → OfUnreleased (λ o. NotReleased o.pid (Release pid kind g ∷ [])) (cells j).phase
+  others_stay s m d cells h k j l ne pid g kind pos is = unreleased_pid (λ p. NotReleased p (Release pid kind g ∷ [])) (cells j).phase (slot_at d j).past (slot_at d j).sight (h.each_slot j l).seen
+      (λ p at_p. release_is_other p pid g kind (λ same. ne (sym (h.pids.differ k j (subst (λ (z : ℕ). 0 < z) (sym is) pos) (is ∙ (sym same ∙ sym at_p))))))
+
   pub kept : (s : State (Option J) (View D)) (n m : ℕ) (d : RosterView D) (cells : ℕ → Cell D) → Holds told m d cells s → length s.homes ≡ n
-      → GateOk limit n (get_or s.words n 0) (gate_of d) (λ k. (cells k).post) → History limit d cells n → Kept told limit s
-  kept s n m d cells h e gate st = (m, d, cells, h, subst (λ (z : ℕ). GateOk limit z (get_or s.words z 0) (gate_of d) (λ k. (cells k).post)) (sym e) gate, subst (History limit d cells) (sym e) st)
+      → GateOk limit n (get_or s.words n 0) (gate_of d) cells → History limit d cells n → Latches n s.words d cells → Seats s.views d cells → Kept told limit s
+  kept s n m d cells h e gate st la se = (m, d, cells, h, subst (λ (z : ℕ). GateOk limit z (get_or s.words z 0) (gate_of d) cells) (sym e) gate, subst (History limit d cells) (sym e) st, subst (λ (z : ℕ). Latches z s.words d cells) (sym e) la, se)
 
   -- the history, with what the supervisor's seat shows
   pub same_history : (s : State (Option J) (View D)) (m id : ℕ) (d e : RosterView D) (cells : ℕ → Cell D) → Holds told m e cells s → get_elem? s.views id ≡ some (Postmaster d)
-      → GateOk limit (length s.homes) (get_or s.words (length s.homes) 0) (gate_of e) (λ k. (cells k).post) → History limit e cells (length s.homes)
-      → GateOk limit (length s.homes) (get_or s.words (length s.homes) 0) (gate_of d) (λ k. (cells k).post) × History limit d cells (length s.homes)
-  same_history s m id d e cells h at gate st = subst (λ (z : RosterView D). GateOk limit (length s.homes) (get_or s.words (length s.homes) 0) (gate_of z) (λ k. (cells k).post) × History limit z cells (length s.homes)) (sym (h.each_seat id (Postmaster d) at).1) (gate, st)
+      → GateOk limit (length s.homes) (get_or s.words (length s.homes) 0) (gate_of e) cells → History limit e cells (length s.homes) → Latches (length s.homes) s.words e cells → Seats s.views e cells
+      → GateOk limit (length s.homes) (get_or s.words (length s.homes) 0) (gate_of d) cells × History limit d cells (length s.homes) × Latches (length s.homes) s.words d cells × Seats s.views d cells
+  same_history s m id d e cells h at gate st la se = subst (λ (z : RosterView D). GateOk limit (length s.homes) (get_or s.words (length s.homes) 0) (gate_of z) cells × History limit z cells (length s.homes) × Latches (length s.homes) s.words z cells × Seats s.views z cells) (sym (h.each_seat id (Postmaster d) at).1) (gate, st, la, se)
 
   module _ (s : State (Option J) (View D)) (m : ℕ) (d d' : RosterView D) (cells : ℕ → Cell D) (h : Holds told m d cells s) (st : History limit d cells (length s.homes))
       (eg : d'.generation ≡ d.generation) (eo : d'.is_open ≡ d.is_open) (en : d'.noticed ≡ d.noticed) (k : ℕ) (near : k < length s.homes) where
     -- the child of the slot k, which had the phase ph and did w, leaves
     pub leaves : (o : Offer D) (a : Bool) (w : Work D) (c : Cell D) → (cells k).phase ≡ running o a → (cells k).post.work ≡ w → living c.phase ≡ 0 → 0 < o.pid → d'.notes ≡ d.notes
-        → (y : PastChild D) → y.offer ≡ o → c.post.past ≡ (cells k).post.past ++ y ∷ []
+        → (y : PastChild D) → y.offer ≡ o → c.post.past ≡ (cells k).post.past ++ y ∷ [] → c.post.notes.steps ≡ (cells k).post.notes.steps ++ post_step.Exit o.pid o.kind ∷ []
         → ((cs : List Child) → ShowsChild cs c.phase c.post.work) → History limit d' (put cells k c) (length s.homes)
-    leaves o a w c is does gone pos el y of_o past any = let p : ℕ = o.pid in let x : Shared = st.1 in let e : Entry = record { event = shared.Leave p o.kind; slot = k } in let here : living (cells k).phase ≡ p = ap living is in
+    leaves o a w c is does gone pos el y of_o past steps any = let p : ℕ = o.pid in let x : Shared = st.1 in let e : Entry = record { event = shared.Leave p o.kind; slot = k } in let here : living (cells k).phase ≡ p = ap living is in
         let known = subst (λ (z : Phase D × Work D). ShowsChild x.children z.0 z.1) {x = ((cells k).phase, (cells k).post.work)} {y = (running o a, w)} (λ i. (is i, does i)) (st.3.each k near) in (
           st.0 ++ e ∷ [],
           after_shared x e.event,
@@ -236,17 +309,17 @@ module _ {J D : Type 0} (told : J → D) (limit : ℕ) where
               (λ j l ne same. pids_apart s m d cells h k j near l ne (subst (λ (z : ℕ). 0 < z) (sym here) pos) (same ∙ sym here))
               (any _) (λ y some_. let no : None ≡ Some y = sym (st.3.once p) ∙ some_ in absurd (cc)) (λ q ne _ same. ne (sym same ∙ here))
               (λ q. once_left p q x.children st.3.once),
-          subst (λ (z : List RosterStep × Gate). OwnSteps (st.0 ++ e ∷ []) z.0 z.1) (λ i. (ap (λ z. z.steps) (sym el) i, record { generation = sym eg i; is_open = sym eo i; noticed = sym en i })) (own_leave st.0 d.notes.steps (gate_of d) k p o.kind st.4),
-          λ j l. at_put cells k c (λ q z. q < length s.homes → left q (st.0 ++ e ∷ []) ≡ map pid_and_kind z.post.past) j
-              (λ l'. left_here st.0 k p o.kind ∙ (ap (λ (z : List (ℕ × Kind)). z ++ (p, o.kind) ∷ []) (st.5 k l')
-              ∙ (ap (λ (z : Offer D). map pid_and_kind (cells k).post.past ++ (z.pid, z.kind) ∷ []) (sym of_o) ∙ (sym (map-append pid_and_kind (cells k).post.past (y ∷ [])) ∙ ap (map pid_and_kind) (sym past)))))
-              (λ ne l'. left_elsewhere st.0 j k p o.kind ne ∙ st.5 j l') l,
+          subst (λ (z : List RosterStep × Gate). OwnSteps (st.0 ++ e ∷ []) z.0 z.1) (λ i. (ap (λ z. z.steps) (sym el) i, record { generation = sym eg i; is_open = sym eo i; noticed = sym en i })) (own_worker st.0 d.notes.steps (gate_of d) k e.event refl st.4),
+          λ j l. at_put cells k c (λ q z. q < length s.homes → OwnPart (st.0 ++ e ∷ []) q z.post) j
+              (λ l'. own_part st.0 k e.event (post_step.Exit p o.kind) (cells k).post c.post steps refl
+              (ap (map pid_and_kind) past ∙ (map-append pid_and_kind (cells k).post.past (y ∷ []) ∙ ap (λ (z : Offer D). map pid_and_kind (cells k).post.past ++ (z.pid, z.kind) ∷ []) of_o)) (st.5 k l'))
+              (λ ne l'. other_part st.0 j k e.event (cells j).post ne (st.5 j l')) l,
         )
 
     -- a new child joins, whose pid is above all earlier ones
-    pub joins : (o : Offer D) (c : Cell D) → (cells k).phase ≡ opened → c.phase ≡ offered o → o.generation ≡ d.generation → d.notes.last_pid < o.pid → d'.notes.last_pid ≡ o.pid → d'.notes.steps ≡ d.notes.steps ++ Assign o.pid o.kind o.generation ∷ [] → c.post.past ≡ (cells k).post.past
+    pub joins : (o : Offer D) (c : Cell D) → (q : ℕ) → (cells k).phase ≡ opened q → c.phase ≡ offered o → o.generation ≡ d.generation → d.notes.last_pid < o.pid → d'.notes.last_pid ≡ o.pid → d'.notes.steps ≡ d.notes.steps ++ Assign o.pid o.kind o.generation ∷ [] → c.post ≡ (cells k).post
         → History limit d' (put cells k c) (length s.homes)
-    joins o c is is' now new el steps past = let p : ℕ = o.pid in let x : Shared = st.1 in let e : Entry = record { event = shared.Join p o.kind; slot = k } in let here : living (cells k).phase ≡ 0 = ap living is in
+    joins o c q is is' now new el steps same = let p : ℕ = o.pid in let x : Shared = st.1 in let e : Entry = record { event = shared.Join p o.kind; slot = k } in let here : living (cells k).phase ≡ 0 = ap living is in
         let last : x.last_pid ≡ d.notes.last_pid = st.3.last_pid in
         let child : Child = record { pid = p; kind = o.kind; generation = x.generation; attached = false } in
         let shown : child ≡ shown_child o false = (λ i. record { pid = p; kind = o.kind; generation = (st.3.generation ∙ sym now) i; attached = false }) in
@@ -264,9 +337,10 @@ module _ {J D : Type 0} (told : J → D) (limit : ℕ) where
               (λ _ _. ap living is')
               (λ q ne pos same. let z : 0 ≡ q = sym here ∙ same in absurd (omega arith))
               (λ q. once_joined q child x.children none (st.3.once q)),
-          subst (λ (z : List RosterStep × Gate). OwnSteps (st.0 ++ e ∷ []) z.0 z.1) (λ i. (sym steps i, record { generation = sym eg i; is_open = sym eo i; noticed = sym en i })) (own_assign st.0 d.notes.steps (gate_of d) k p o.generation o.kind st.4),
-          λ j l. at_put cells k c (λ q z. q < length s.homes → left q (st.0 ++ e ∷ []) ≡ map pid_and_kind z.post.past) j
-              (λ l'. left_joined st.0 k k p o.kind ∙ (st.5 k l' ∙ ap (map pid_and_kind) (sym past))) (λ _ l'. left_joined st.0 j k p o.kind ∙ st.5 j l') l,
+          subst (λ (z : List RosterStep × Gate). OwnSteps (st.0 ++ e ∷ []) z.0 z.1) (λ i. (sym steps i, record { generation = sym eg i; is_open = sym eo i; noticed = sym en i })) (own_step st.0 d.notes.steps (gate_of d) k e.event (Assign p o.kind o.generation) refl st.4),
+          λ j l. at_put cells k c (λ q z. q < length s.homes → OwnPart (st.0 ++ e ∷ []) q z.post) j
+              (λ l'. no_part st.0 k k e.event (cells k).post c.post refl refl (ap (λ (z : PostView D). z.notes.steps) same) (ap (λ (z : PostView D). z.past) same) (st.5 k l'))
+              (λ _ l'. no_part st.0 j k e.event (cells j).post (cells j).post refl refl refl refl (st.5 j l')) l,
         )
       where
         absent : (p : ℕ) (cs : List Child) → ((y : Child) → child_of p cs ≡ Some y → ⊥) → child_of p cs ≡ None
@@ -277,8 +351,8 @@ module _ {J D : Type 0} (told : J → D) (limit : ℕ) where
             go (Some y) e = absurd (never y e)
 
   -- nothing has happened yet
-  pub first_history : (n : ℕ) (d : RosterView D) (cells : ℕ → Cell D) → d.generation ≡ 1 → d.is_open ≡ false → d.noticed ≡ None → d.notes.last_pid ≡ 0 → d.notes.steps ≡ [] → ((k : ℕ) → (cells k).phase ≡ unused) → ((k : ℕ) → (cells k).post.past ≡ []) → History limit d cells n
-  first_history n d cells eg eo en el steps new none = (
+  pub first_history : (n : ℕ) (d : RosterView D) (cells : ℕ → Cell D) → d.generation ≡ 1 → d.is_open ≡ false → d.noticed ≡ None → d.notes.last_pid ≡ 0 → d.notes.steps ≡ [] → ((k : ℕ) → (cells k).phase ≡ unused) → ((k : ℕ) → (cells k).post.past ≡ []) → ((k : ℕ) → (cells k).post.notes.steps ≡ []) → History limit d cells n
+  first_history n d cells eg eo en el steps new none nothing = (
     [],
     first.shared,
     begins,
@@ -291,6 +365,6 @@ module _ {J D : Type 0} (told : J → D) (limit : ℕ) where
       no_other = λ p x some_. absurd (cc);
       once = λ p. refl;
     },
-    subst (λ (z : List RosterStep × Gate). OwnSteps [] z.0 z.1) (λ i. (sym steps i, record { generation = sym eg i; is_open = sym eo i; noticed = sym en i })) record { assigns = refl; leave = refl },
-    λ k _. ap (map pid_and_kind) (sym (none k)),
+    subst (λ (z : List RosterStep × Gate). OwnSteps [] z.0 z.1) (λ i. (sym steps i, record { generation = sym eg i; is_open = sym eo i; noticed = sym en i })) record { made = refl; leave = refl },
+    λ k _. record { made = ap (map worker_step) (sym (nothing k)); ends = ap (map pid_and_kind) (sym (none k)) },
   )

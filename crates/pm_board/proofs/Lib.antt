@@ -1,6 +1,13 @@
 pub mod Bits
 pub mod Moves
 pub mod Gates
+pub mod Counts
+pub mod Latches
+pub mod Seats
+pub mod Hearing
 pub mod Histories
+pub mod Passes
 pub mod Keeps
+pub mod Gating
+pub mod Latching
 pub mod Steps

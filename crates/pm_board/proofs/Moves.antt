@@ -1,21 +1,23 @@
 -- What stays of the rule when one slot and one seat move.
-use Rattle.std.proofs.Common.{◌≡◌, ◌≢◌, ℕ, ◌+◌, ◌<◌, ◌≤◌, List, [], length, get_or, set, sym, refl, ap, ◌∙◌, subst, ⊎_elim, arith, length-set, get_or-set_other, get_or-set_same}
+use Rattle.std.proofs.Common.{◌≡◌, ◌≢◌, ℕ, ◌+◌, ◌*◌, ◌<◌, ◌≤◌, List, [], length, get_or, set, sym, refl, ap, ◌∙◌, subst, ⊎_elim, arith, length-set, get_or-set_other, get_or-set_same}
 use mathlib.Core.Option.{some, some-ne-none, some-injective}
 use mathlib.Core.Option as maybe
 use lib.ListN.{get_elem?}
+use lib.Seq.{set-get_or}
 use Rattle.std.specs.Prelude.{Option}
 use Rattle.atomic_table.specs.Table.{State}
 use Rattle.atomic_table.proofs.Lists.{at_set}
 use Rattle.pm_board.specs.declared.views.Sight.TheVariants.{Unused}
 use Rattle.pm_board.specs.declared.views.SlotView.{SlotView}
 use Rattle.pm_board.specs.declared.views.RosterNotes.{RosterNotes}
+use Rattle.pm_board.specs.declared.views.RosterStep.{RosterStep}
 use Rattle.pm_board.specs.declared.views.RosterView.{RosterView}
 use Rattle.pm_board.specs.declared.views.PostView.{PostView}
 use Rattle.pm_board.specs.declared.views.View.{View}
 use Rattle.pm_board.specs.declared.views.View.TheVariants.{Postmaster, Worker, Spent}
 use Rattle.pm_board.specs.Places.{slot_view, slot_at}
 use Rattle.pm_board.specs.Rule.{put, at_put, Phase, PidsOk, Cell, SlotOk, OfChild, IsPlaced, Agrees, Holds, idle_post}
-use Rattle.pm_board.specs.Told.{with_slot}
+use Rattle.pm_board.specs.Told.{with_slot, after_step}
 
 get_or-set_at : (l : List ℕ) (i j a : ℕ) → j ≡ i → i < length l → get_or (set l i a) j 0 ≡ a
 get_or-set_at l i j a e h = ap (λ (k : ℕ). get_or (set l i a) k 0) e ∙ get_or-set_same l i a 0 h
@@ -60,11 +62,11 @@ module _ {J D : Type 0} (told : J → D) where
         → OfChild (IsPlaced (length s.homes) d.generation k) ph → PidsOk (with_slot d k x' notes)
         → Holds told id (with_slot d k x' notes) (put cells k record { phase = ph; seat = (cells k).seat; post = (cells k).post }) (moved_to s i word homes id (Postmaster (with_slot d k x' notes)))
     master_step d cells h x' ph notes ok placed pids =
-        let many : length d.slots ≡ length s.homes = h.many in let wide : length s.words ≡ length s.homes + 1 = h.wide in
+        let many : length d.slots ≡ length s.homes = h.many in let wide : length s.words ≡ 3 * length s.homes + 1 = h.wide in
         let c' : Cell D = record { phase = ph; seat = (cells k).seat; post = (cells k).post } in let d' : RosterView D = with_slot d k x' notes in let cells' : ℕ → Cell D = put cells k c' in
         let ok' = subst (λ (z : ℕ). SlotOk told z (get_elem? homes k) x' c') (sym (get_or-set_at s.words i k word (sym here) (omega arith))) ok in
         record {
-          wide = length-set s.words i word ∙ (h.wide ∙ ap (λ (n : ℕ). n + 1) (sym as_long));
+          wide = length-set s.words i word ∙ (h.wide ∙ ap (λ (n : ℕ). 3 * n + 1) (sym as_long));
           many = length-set d.slots k x' ∙ (h.many ∙ sym as_long);
           pids = pids;
           some_posts = subst (λ (n : ℕ). d.dealt ≤ n) (sym as_long) h.some_posts;
@@ -88,10 +90,10 @@ module _ {J D : Type 0} (told : J → D) where
         → OfChild (IsPlaced (length s.homes) d.generation k) ph
         → Holds told m d (put cells k record { phase = ph; seat = id; post = w' }) (moved_to s i word homes id (Worker k w'))
     worker_step m d cells h w w' ph mine ok placed =
-        let f = h.each_seat id (Worker k w) mine in let dealt : k < d.dealt = f.2 in let wide : length s.words ≡ length s.homes + 1 = h.wide in
+        let f = h.each_seat id (Worker k w) mine in let dealt : k < d.dealt = f.2 in let wide : length s.words ≡ 3 * length s.homes + 1 = h.wide in
         let c' : Cell D = record { phase = ph; seat = id; post = w' } in let cells' : ℕ → Cell D = put cells k c' in
         record {
-          wide = length-set s.words i word ∙ (h.wide ∙ ap (λ (n : ℕ). n + 1) (sym as_long));
+          wide = length-set s.words i word ∙ (h.wide ∙ ap (λ (n : ℕ). 3 * n + 1) (sym as_long));
           many = h.many ∙ sym as_long;
           pids = h.pids;
           some_posts = subst (λ (n : ℕ). d.dealt ≤ n) (sym as_long) h.some_posts;
@@ -111,3 +113,56 @@ module _ {J D : Type 0} (told : J → D) where
         others is j (Worker i u) other f = at_put cells k record { phase = ph; seat = id; post = w' } (λ q c. (q ≡ i) → (c.seat ≡ j) × (c.post ≡ u) × (i < d.dealt)) i
             (λ at_k. absurd (other (sym f.0 ∙ (ap (λ (q : ℕ). (cells q).seat) (sym at_k) ∙ is)))) (λ _ _. f) refl
         others is j Spent other f = tt
+
+  -- the rule of the slots doesn't speak of the words behind them
+  pub other_word : (s : St) (m : ℕ) (d : RosterView D) (cells : ℕ → Cell D) (i word : ℕ) → length s.homes ≤ i → Holds told m d cells s → Holds told m d cells record { words = set s.words i word; homes = s.homes; views = s.views }
+  other_word s m d cells i word behind h = record {
+    wide = length-set s.words i word ∙ h.wide;
+    many = h.many;
+    pids = h.pids;
+    some_posts = h.some_posts;
+    new_posts = h.new_posts;
+    each_slot = λ k l. subst (λ (z : ℕ). SlotOk told z (get_elem? s.homes k) (slot_at d k) (cells k)) (sym (get_or-set_other s.words i k word 0 (λ e. absurd (omega arith)))) (h.each_slot k l);
+    each_child = h.each_child;
+    each_seat = h.each_seat;
+  }
+
+  -- a worker's step on such a word
+  pub word_step : (s : St) (id k i word m : ℕ) (d : RosterView D) (cells : ℕ → Cell D) → Holds told m d cells s → k < length s.homes → length s.homes ≤ i → (w w' : PostView D) (ph : Phase D) → get_elem? s.views id ≡ some (Worker k w)
+      → SlotOk told (get_or s.words k 0) (get_elem? s.homes k) (slot_at d k) record { phase = ph; seat = id; post = w' } → OfChild (IsPlaced (length s.homes) d.generation k) ph
+      → Holds told m d (put cells k record { phase = ph; seat = id; post = w' }) (moved_to s i word s.homes id (Worker k w'))
+  word_step s id k i word m d cells h near behind w w' ph mine ok placed =
+      let stay = worker_step s id k k (get_or s.words k 0) s.homes near refl refl (λ _ _. refl) m d cells h w w' ph mine ok placed in
+      subst (λ (z : List ℕ). Holds told m d (put cells k record { phase = ph; seat = id; post = w' }) record { words = set z i word; homes = s.homes; views = set s.views id (Worker k w') }) (set-get_or s.words k 0)
+      (other_word (moved_to s k (get_or s.words k 0) s.homes id (Worker k w')) m d (put cells k record { phase = ph; seat = id; post = w' }) i word behind stay)
+
+  -- the supervisor's step on such a word that changes no slot
+  pub word_turn : (s : St) (id i word : ℕ) (d : RosterView D) (cells : ℕ → Cell D) (t : RosterStep) → length s.homes ≤ i → Holds told id d cells s
+      → ((k : ℕ) → k < length s.homes → OfChild (IsPlaced (length s.homes) (after_step d t).generation k) (cells k).phase) → Holds told id (after_step d t) cells (moved_to s i word s.homes id (Postmaster (after_step d t)))
+  word_turn s id i word d cells t behind h placed = let o = other_word s id d cells i word behind h in record {
+    wide = o.wide;
+    many = h.many;
+    pids = record { below = h.pids.below; differ = h.pids.differ };
+    some_posts = h.some_posts;
+    new_posts = h.new_posts;
+    each_slot = o.each_slot;
+    each_child = placed;
+    each_seat = λ j v e. ⊎_elim (λ (z : (j ≡ id) × (Postmaster (after_step d t) ≡ v)). subst (λ (y : ℕ × View D). Agrees id (after_step d t) cells y.0 y.1) (λ u. (sym z.0 u, z.1 u)) (refl, refl))
+        (λ (z : (j ≢ id) × (get_elem? s.views j ≡ some v)). others j v z.0 (h.each_seat j v z.1)) (at_set s.views id j (Postmaster (after_step d t)) v e);
+  }
+    where
+      others : (j : ℕ) (v : View D) → j ≢ id → Agrees id d cells j v → Agrees id (after_step d t) cells j v
+      others j (Postmaster e) other f = absurd (other f.0)
+      others j (Worker i w) other f = f
+      others j Spent other f = tt
+
+  -- the supervisor's step on such a word that changes the slot k
+  pub slot_turn : (s : St) (id k i word : ℕ) (homes : Homes) (near : k < length s.homes) → length s.homes ≤ i → length homes ≡ length s.homes → ((j : ℕ) → j ≢ k → get_elem? homes j ≡ get_elem? s.homes j)
+      → (d : RosterView D) (cells : ℕ → Cell D) → Holds told id d cells s → (x' : SlotView D) (ph : Phase D) (notes : RosterNotes)
+      → SlotOk told (get_or s.words k 0) (get_elem? homes k) x' record { phase = ph; seat = (cells k).seat; post = (cells k).post }
+      → OfChild (IsPlaced (length s.homes) d.generation k) ph → PidsOk (with_slot d k x' notes)
+      → Holds told id (with_slot d k x' notes) (put cells k record { phase = ph; seat = (cells k).seat; post = (cells k).post }) (moved_to s i word homes id (Postmaster (with_slot d k x' notes)))
+  slot_turn s id k i word homes near behind as_long apart d cells h x' ph notes ok placed pids =
+      let stay = master_step s id k k (get_or s.words k 0) homes near refl as_long apart d cells h x' ph notes ok placed pids in
+      subst (λ (z : List ℕ). Holds told id (with_slot d k x' notes) (put cells k record { phase = ph; seat = (cells k).seat; post = (cells k).post }) record { words = set z i word; homes = homes; views = set s.views id (Postmaster (with_slot d k x' notes)) }) (set-get_or s.words k 0)
+      (other_word (moved_to s k (get_or s.words k 0) homes id (Postmaster (with_slot d k x' notes))) id (with_slot d k x' notes) (put cells k record { phase = ph; seat = (cells k).seat; post = (cells k).post }) i word (subst (λ (n : ℕ). n ≤ i) (sym as_long) behind) stay)

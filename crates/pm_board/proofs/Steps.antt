@@ -1,18 +1,25 @@
 -- The steps, at a seat that is known by equations.
-use Rattle.std.proofs.Common.{◌≡◌, ℕ, zero, suc, ◌+◌, ◌-◌, ◌%◌, ◌^◌, ◌<◌, ◌≤◌, ◌≢◌, ◌⊎◌, inl, inr, ⊎_elim, List, [], ◌∷◌, ◌++◌, length, get_or, set, sym, refl, ap, ◌∙◌, subst, arith, length-set, get_or-set_same, get_or-set_other}
+use Rattle.std.proofs.Common.{◌≡◌, ℕ, zero, suc, ◌+◌, ◌-◌, ◌*◌, ◌%◌, ◌^◌, ◌<◌, ◌≤◌, ◌≢◌, ◌⊎◌, inl, inr, ⊎_elim, List, [], ◌∷◌, ◌++◌, length, get_or, set, sym, refl, ap, ◌∙◌, subst, arith, length-set, get_or-set_same, get_or-set_other}
+use Rattle.std.proofs.lemmas.List.{length-replicate}
 use mathlib.Core.Option.{none}
 use mathlib.Core.Logic.{dite}
 use native.Mathlib.Decide.{ℕ_discrete}
-use Rattle.std.specs.Prelude.{Bool, true, false, Option, Some, None, replicate, slice_get}
+use Rattle.std.specs.Prelude.{Bool, true, false, Option, Some, None, Result, Ok, Err, replicate, slice_get, eqb, max, bit_or, bit_and}
+use prog.Atomic.{either}
 use Rattle.atomic_table.specs.Table.{step, rest, opening, Allows, Joins, Splits}
 use Rattle.atomic_table.specs.Seated.{TableId}
+use Rattle.pm_exit.specs.declared.child.Kind.{Kind}
 use Rattle.pm_exit.specs.declared.child.Status.{Status}
+use Rattle.pm_supervisor.specs.declared.Reason.{Reason}
+use Rattle.pm_life.specs.declared.life.GateNo.{GateNo}
+use Rattle.pm_board.specs.declared.views.Cancel.{Cancel}
 use Rattle.pm_board.specs.declared.views.Offer.{Offer}
 use Rattle.pm_board.specs.declared.views.PastChild.{PastChild}
 use Rattle.pm_board.specs.declared.views.PostNotes.{PostNotes}
 use Rattle.pm_board.specs.declared.views.RosterNotes.{RosterNotes}
 use Rattle.pm_board.specs.declared.views.Sight.{Sight}
 use Rattle.pm_board.specs.declared.views.Sight.TheVariants.{Unused, Opened, Assigned, Exited, Collected}
+use Rattle.pm_board.specs.declared.views.Signal.{Signal}
 use Rattle.pm_board.specs.declared.views.SlotView.{SlotView}
 use Rattle.pm_board.specs.declared.views.RosterView.{RosterView}
 use Rattle.pm_board.specs.declared.views.Work.{Work}
@@ -21,14 +28,20 @@ use Rattle.pm_board.specs.declared.views.PostView.{PostView}
 use Rattle.pm_board.specs.declared.views.View.{View}
 use Rattle.pm_board.specs.declared.views.View.TheVariants.{Postmaster, Worker, Spent}
 use Rattle.pm_board.specs.Words.{exit_step, stage_in, active_in, kind_in, status_in, pid_in, status_number}
-use Rattle.pm_board.specs.Places.{slot_view, slot_at, SlotServes, EndsWell, is_used, used_in}
+use Rattle.pm_board.specs.Places.{slot_view, slot_at, is_auxiliary, lost, SlotServes, EndsWell, is_used, used_in}
 use Rattle.pm_board.specs.Words.{bit}
+use Rattle.pm_supervisor.specs.Children.{is_session, is_dead_end}
+use Rattle.pm_board.specs.Gate.{place_of, gate_answer}
+use Rattle.pm_keys.specs.CancelKey.{cancel_key}
+use Rattle.pm_board.specs.Latch.{latch_place, cancel_place, armed_word, signal_number}
 use Rattle.pm_board.specs.Rule.{child_word, offer_word}
 use Rattle.pm_board.specs.History.{Kept}
-use Rattle.pm_board.specs.Told.{Seated, MayEnd, roster_of, post_of, post_view, past_child, with_slot, with_sight, assigned_slot, running_slot, exited_slot, noted_assign, noted_release, noted_look, noted_exit, Opens, Assigns, Loads, Starts, Ends, Looks, Releases, Clears, Compares, taken_in, dealt_more, next_post, newcomer}
-use Rattle.pm_board.specs.Models.{HoldsMail, SlotBecame}
+use Rattle.pm_board.specs.Told.{Seated, MayEnd, roster_of, post_of, post_view, with_notes, child_in, past_child, with_slot, with_sight, assigned_slot, running_slot, exited_slot, noted_assign, noted_release, noted_look, noted_exit, Arms, Sends, Takes, Heeds, LooksAtLatch, Cancels, Assigns, Loads, Starts, Ends, Looks, Releases, Clears, Compares, Marks, Unmarks, Tries, BacksOut, Detaches, Quits, Readies, Resets, tried, tried_by, MayQuit, quit_step, ready_step, new_gate, reposted, taken_in, dealt_more, next_post, newcomer}
+use Rattle.pm_board.specs.Models.{HoldsMail, MayOpen, MayReset, RunsKind, RunsPid, IsWholePost, IsWholeRoster, SlotBecame}
 use Rattle.pm_board.proofs.Bits.{pid_again, kind_read, status_read, active_again}
 use Rattle.pm_board.proofs.Keeps as keep
+use Rattle.pm_board.proofs.Gating as gate
+use Rattle.pm_board.proofs.Latching as latch
 
 set_set : {A : Type 0} (l : List A) (k : ℕ) (a b : A) → set (set l k a) k b ≡ set l k b
 set_set [] k a b = refl
@@ -90,15 +103,12 @@ module _ {D : Type 0} where
 
 -- the words of a new board of n slots
 abbrev pub new_words : ℕ → List ℕ
-new_words n = replicate n 0 ++ 134217728 ∷ []
+new_words n = set (replicate (3 * n + 1) 0) n 134217728
 
 module _ {J D : Type 0} (told : J → D) (limit : ℕ) where
-  pub opens_as : (n id k : ℕ) (me : Seated J D) (d : RosterView D) → me ≡ (Postmaster d, []) → k < n → (slot_at d k).sight ≡ Unused → Allows (Kept told limit) n id me k (λ x. x) (Opens (step n k 0 0 none) me)
-  opens_as n id k me d is near sight = subst (λ (m : Seated J D). Allows (Kept told limit) n id m k (λ x. x) (Opens (step n k 0 0 none) m)) (sym is) (keep.opens told limit n id k d near sight)
-
-  pub assigns_as : (n id k word : ℕ) (o : Offer D) (me : Seated J D) (d : RosterView D) (j : J) → me ≡ (Postmaster d, (k, Some j) ∷ []) → word ≡ offer_word o → k < n → (slot_at d k).sight ≡ Opened → d.notes.last_pid < o.pid → o.pid < 2147483648 → SlotServes n k o.kind → o.generation ≡ d.generation → o.given ≡ told j
+  pub assigns_as : (n id k word : ℕ) (o : Offer D) (me : Seated J D) (d : RosterView D) (j : J) → me ≡ (Postmaster d, (k, Some j) ∷ []) → word ≡ offer_word o → k < n → (slot_at d k).sight ≡ Opened o.pid → d.notes.last_pid < o.pid → o.pid < 2147483648 → SlotServes n k o.kind → o.generation ≡ d.generation → o.given ≡ told j → (is_auxiliary o.kind ≡ true → lost is_auxiliary d.generation (slot_at d k).past ≡ 0)
       → Allows (Kept told limit) n id me k (λ _. word) (λ _. Assigns told (step n k word 0 none) me word)
-  assigns_as n id k word o me d j is w near sight new low serves now gave = subst (λ (z : Seated J D × ℕ). Allows (Kept told limit) n id z.0 k (λ _. z.1) (λ _. Assigns told (step n k z.1 0 none) z.0 z.1)) (λ i. (sym is i, sym w i)) (keep.assigns told limit n id k o d j near sight new low serves now gave)
+  assigns_as n id k word o me d j is w near sight new low serves now gave alone = subst (λ (z : Seated J D × ℕ). Allows (Kept told limit) n id z.0 k (λ _. z.1) (λ _. Assigns told (step n k z.1 0 none) z.0 z.1)) (λ i. (sym is i, sym w i)) (keep.assigns told limit n id k o d j near sight new low serves now gave alone)
 
   pub clears_as : (n id k : ℕ) (t : Status) (a : Bool) (o : Offer D) (me : Seated J D) (d : RosterView D) → me ≡ (Postmaster d, (k, None) ∷ []) → k < n → (slot_at d k).sight ≡ Collected o t a → Allows (Kept told limit) n id me k (λ _. 0) (λ _. Clears (step n k 0 0 none) me 0)
   clears_as n id k t a o me d is near sight = subst (λ (m : Seated J D). Allows (Kept told limit) n id m k (λ _. 0) (λ _. Clears (step n k 0 0 none) m 0)) (sym is) (keep.clears told limit n id k t a o d near sight)
@@ -128,40 +138,124 @@ module _ {J D : Type 0} (told : J → D) (limit : ℕ) where
   pub deals_as : (id : ℕ) (v : View D) (d : RosterView D) → v ≡ Postmaster d → d.dealt < length d.slots → Splits (Kept told limit) id v (dealt_more v) (next_post v)
   deals_as id v d is less = subst (λ (z : View D). Splits (Kept told limit) id z (dealt_more z) (next_post z)) (sym is) (keep.deals told limit id d less)
 
-  pub begins_as : (n m l : ℕ) (words : List ℕ) → words ≡ new_words n → m ≡ n → l ≡ limit → Kept told limit (opening words (replicate n None) (newcomer m l))
-  begins_as n m l words is same lim = subst (λ (z : ℕ × ℕ × List ℕ). Kept told limit (opening z.2 (replicate n None) (newcomer z.0 z.1))) (λ i. (sym same i, sym lim i, sym is i))
-      (keep.begins told limit n (new_words n) (long n) (zero_at n) (last_at n))
-    where
-      long : (n : ℕ) → length (new_words n) ≡ n + 1
-      long zero = refl
-      long (suc n) = let h : length (new_words n) ≡ n + 1 = long n in omega arith
+  pub begins_as : (n m l : ℕ) (words : List ℕ) → words ≡ new_words n → m ≡ n → l ≡ limit → n ≤ 407 → limit ≤ 200 → Kept told limit (opening words (replicate n None) (newcomer m l))
+  begins_as n m l words is same lim few most = subst (λ (z : ℕ × ℕ × List ℕ). Kept told limit (opening z.2 (replicate n None) (newcomer z.0 z.1))) (λ i. (sym same i, sym lim i, sym is i))
+      (keep.begins told limit n (new_words n) (length-set (replicate (3 * n + 1) 0) n 134217728 ∙ length-replicate (3 * n + 1) 0)
+      (λ k ne. get_or-set_other (replicate (3 * n + 1) 0) n k 134217728 0 (λ e. ne e) ∙ keep.same_everywhere (3 * n + 1) k 0)
+      (get_or-set_same (replicate (3 * n + 1) 0) n 134217728 0 (subst (λ (z : ℕ). n < z) (sym (length-replicate (3 * n + 1) 0)) (omega arith))) few most)
 
-      zero_at : (n k : ℕ) → k < n → get_or (new_words n) k 0 ≡ 0
-      zero_at zero k l = absurd (omega arith)
-      zero_at (suc n) zero l = refl
-      zero_at (suc n) (suc k) l = zero_at n k (omega arith)
+-- the steps at the gate
 
-      last_at : (n : ℕ) → get_or (new_words n) n 0 ≡ 134217728
-      last_at zero = refl
-      last_at (suc n) = last_at n
+module _ {J D : Type 0} (told : J → D) (limit : ℕ) where
+  pub marks_as : (n id k : ℕ) (o : Offer D) (notes : PostNotes) (past : List (PastChild D)) (c : List (ℕ × Option J)) (me : Seated J D) → me ≡ (Worker k (post_view notes past (Inactive o)), c) → Allows (Kept told limit) n id me k (λ x. (x + 8) % 2 ^ 64) (Marks (step n k 8 0 none) me)
+  marks_as n id k o notes past c me is = subst (λ (m : Seated J D). Allows (Kept told limit) n id m k (λ x. (x + 8) % 2 ^ 64) (Marks (step n k 8 0 none) m)) (sym is) (gate.marks told limit n id k o notes past c)
+
+  pub unmarks_as : (n id k : ℕ) (o : Offer D) (notes : PostNotes) (past : List (PastChild D)) (c : List (ℕ × Option J)) (me : Seated J D) → me ≡ (Worker k (post_view notes past (Active o)), c) → Allows (Kept told limit) n id me k (λ x. (x + (2 ^ 64 - 8)) % 2 ^ 64) (Unmarks (step n k 8 0 none) me)
+  unmarks_as n id k o notes past c me is = subst (λ (m : Seated J D). Allows (Kept told limit) n id m k (λ x. (x + (2 ^ 64 - 8)) % 2 ^ 64) (Unmarks (step n k 8 0 none) m)) (sym is) (gate.unmarks told limit n id k o notes past c)
+
+  pub tries_as : (n i id k add : ℕ) (o : Offer D) (notes : PostNotes) (past : List (PastChild D)) (c : List (ℕ × Option J)) (me : Seated J D) → i ≡ n → add ≡ place_of (is_session o.kind) → is_dead_end o.kind ≡ false → me ≡ (Worker k (post_view notes past (Active o)), c)
+      → Allows (Kept told limit) n id me i (λ x. (x + add) % 2 ^ 64) (Tries (step n i add 0 none) me)
+  tries_as n i id k add o notes past c me there adds lives is = subst (λ (z : Seated J D × ℕ × ℕ). Allows (Kept told limit) n id z.0 z.1 (λ x. (x + z.2) % 2 ^ 64) (Tries (step n z.1 z.2 0 none) z.0)) (λ j. (sym is j, sym there j, sym adds j))
+      (gate.tries told limit n id k o notes past c lives)
+
+  pub backs_out_as : (n i id k takes g : ℕ) (o : Offer D) (notes : PostNotes) (past : List (PastChild D)) (c : List (ℕ × Option J)) (me : Seated J D) → i ≡ n → takes ≡ place_of (is_session o.kind) → me ≡ (Worker k (post_view notes past (Refused o g)), c)
+      → Allows (Kept told limit) n id me i (λ x. (x + (2 ^ 64 - takes)) % 2 ^ 64) (BacksOut (step n i takes 0 none) me)
+  backs_out_as n i id k takes g o notes past c me there takes_is is = subst (λ (z : Seated J D × ℕ × ℕ). Allows (Kept told limit) n id z.0 z.1 (λ x. (x + (2 ^ 64 - z.2)) % 2 ^ 64) (BacksOut (step n z.1 z.2 0 none) z.0)) (λ j. (sym is j, sym there j, sym takes_is j))
+      (gate.backs_out told limit n id k o g notes past c)
+
+  pub detaches_as : (n i id k takes g : ℕ) (o : Offer D) (notes : PostNotes) (past : List (PastChild D)) (c : List (ℕ × Option J)) (me : Seated J D) → i ≡ n → takes ≡ place_of (is_session o.kind) → me ≡ (Worker k (post_view notes past (Attached o g)), c)
+      → Allows (Kept told limit) n id me i (λ x. (x + (2 ^ 64 - takes)) % 2 ^ 64) (Detaches (step n i takes 0 none) me)
+  detaches_as n i id k takes g o notes past c me there takes_is is = subst (λ (z : Seated J D × ℕ × ℕ). Allows (Kept told limit) n id z.0 z.1 (λ x. (x + (2 ^ 64 - z.2)) % 2 ^ 64) (Detaches (step n z.1 z.2 0 none) z.0)) (λ j. (sym is j, sym there j, sym takes_is j))
+      (gate.detaches told limit n id k o g notes past c)
+
+  pub quits_as : (n i id adds : ℕ) (d : RosterView D) (why : Reason) (me : Seated J D) → i ≡ n → adds ≡ quit_step d.noticed why → MayQuit d.noticed why → me ≡ (Postmaster d, []) → Allows (Kept told limit) n id me i (λ x. (x + adds) % 2 ^ 64) (Quits (step n i adds 0 none) me)
+  quits_as n i id adds d why me there adds_is may is = subst (λ (z : Seated J D × ℕ × ℕ). Allows (Kept told limit) n id z.0 z.1 (λ x. (x + z.2) % 2 ^ 64) (Quits (step n z.1 z.2 0 none) z.0)) (λ j. (sym is j, sym there j, sym adds_is j)) (gate.quits told limit n id d why may)
+
+  pub readies_as : (n i id adds : ℕ) (d : RosterView D) (me : Seated J D) → i ≡ n → adds ≡ ready_step d.noticed → MayOpen d → me ≡ (Postmaster d, []) → Allows (Kept told limit) n id me i (λ x. (x + adds) % 2 ^ 64) (Readies (step n i adds 0 none) me)
+  readies_as n i id adds d me there adds_is may is = subst (λ (z : Seated J D × ℕ × ℕ). Allows (Kept told limit) n id z.0 z.1 (λ x. (x + z.2) % 2 ^ 64) (Readies (step n z.1 z.2 0 none) z.0)) (λ j. (sym is j, sym there j, sym adds_is j)) (gate.readies told limit n id d may.0 may.1)
+
+  pub resets_as : (n i id word : ℕ) (d : RosterView D) (me : Seated J D) → i ≡ n → word ≡ new_gate (d.generation + 1) → MayReset d → me ≡ (Postmaster d, []) → Allows (Kept told limit) n id me i (λ _. word) (λ _. Resets (step n i word 0 none) me word)
+  resets_as n i id word d me there word_is may is = subst (λ (z : Seated J D × ℕ × ℕ). Allows (Kept told limit) n id z.0 z.1 (λ _. z.2) (λ _. Resets (step n z.1 z.2 0 none) z.0 z.2)) (λ j. (sym is j, sym there j, sym word_is j))
+      (gate.resets told limit n id d may.0 (let l : d.generation < 4294967295 = may.1 in omega arith))
+
+-- the steps at latches and cancels
+
+module _ {J D : Type 0} (told : J → D) (limit : ℕ) where
+  pub arms_as : (n i id k word pid : ℕ) (d : RosterView D) (me : Seated J D) → i ≡ latch_place n k → word ≡ armed_word pid → me ≡ (Postmaster d, []) → k < n → pid < 2147483648 → (slot_at d k).sight ≡ Unused → Allows (Kept told limit) n id me i (λ _. word) (Arms (step n i word 0 none) me)
+  arms_as n i id k word pid d me there word_is is near low sight = subst (λ (z : Seated J D × ℕ × ℕ). Allows (Kept told limit) n id z.0 z.1 (λ _. z.2) (Arms (step n z.1 z.2 0 none) z.0)) (λ j. (sym is j, sym there j, sym word_is j))
+      (latch.arms told limit n id k pid d near low sight)
+
+  pub sends_as : (n i id k bits : ℕ) (d : RosterView D) (o : Offer D) (sig : Signal) (me : Seated J D) → i ≡ latch_place n k → bits ≡ 2 ^ signal_number sig → me ≡ (Postmaster d, []) → k < n → (slot_at d k).sight ≡ Assigned o → Allows (Kept told limit) n id me i (λ w. bit_or w bits) (Sends (step n i bits 0 none) me)
+  sends_as n i id k bits d o sig me there bits_are is near sight = subst (λ (z : Seated J D × ℕ × ℕ). Allows (Kept told limit) n id z.0 z.1 (λ w. bit_or w z.2) (Sends (step n z.1 z.2 0 none) z.0)) (λ j. (sym is j, sym there j, sym bits_are j))
+      (latch.sends told limit n id k d o sig near sight)
+
+  pub takes_as : (n i id k : ℕ) (o : Offer D) (w : PostView D) (c : List (ℕ × Option J)) (me : Seated J D) → i ≡ latch_place n k → me ≡ (Worker k w, c) → child_in w.work ≡ Some o → Allows (Kept told limit) n id me i (λ x. bit_and x 18446744073709551584) (Takes (step n i 18446744073709551584 0 none) me)
+  takes_as n i id k o w c me there is runs = subst (λ (z : Seated J D × ℕ). Allows (Kept told limit) n id z.0 z.1 (λ x. bit_and x 18446744073709551584) (Takes (step n z.1 18446744073709551584 0 none) z.0)) (λ j. (sym is j, sym there j)) (latch.takes_signals told limit n id k o w c runs)
+
+  pub heeds_as : (n i id k pid : ℕ) (o : Offer D) (w : PostView D) (c : List (ℕ × Option J)) (me : Seated J D) → i ≡ cancel_place n k → pid ≡ o.pid → me ≡ (Worker k w, c) → child_in w.work ≡ Some o → Allows (Kept told limit) n id me i (λ x. either (eqb x pid) 0 x) (Heeds (step n i pid 0 none) me)
+  heeds_as n i id k pid o w c me there pid_is is runs = subst (λ (z : Seated J D × ℕ × ℕ). Allows (Kept told limit) n id z.0 z.1 (λ x. either (eqb x z.2) 0 x) (Heeds (step n z.1 z.2 0 none) z.0)) (λ j. (sym is j, sym there j, sym pid_is j)) (latch.heeds told limit n id k o w c runs)
+
+  pub peeks_as : (n i id k j : ℕ) (w : PostView D) (c : List (ℕ × Option J)) (me : Seated J D) → i ≡ latch_place n j → me ≡ (Worker k w, c) → j < n → Allows (Kept told limit) n id me i (λ x. x) (LooksAtLatch (step n i 0 0 none) me)
+  peeks_as n i id k j w c me there is near = subst (λ (z : Seated J D × ℕ). Allows (Kept told limit) n id z.0 z.1 (λ x. x) (LooksAtLatch (step n z.1 0 0 none) z.0)) (λ u. (sym is u, sym there u)) (latch.peeks told limit n id k j w c near)
+
+  pub cancels_as : (n i id k pid : ℕ) (x : Cancel) (w : PostView D) (c : List (ℕ × Option J)) (me : Seated J D) → i ≡ cancel_place n x.slot → pid ≡ x.pid → me ≡ (Worker k w, c) → x.slot < n → x.key ≡ cancel_key x.seed x.pid → Allows (Kept told limit) n id me i (λ z. max z pid) (Cancels x (step n i pid 0 none) me)
+  cancels_as n i id k pid x w c me there pid_is is near key = subst (λ (z : Seated J D × ℕ × ℕ). Allows (Kept told limit) n id z.0 z.1 (λ y. max y z.2) (Cancels x (step n z.1 z.2 0 none) z.0)) (λ u. (sym is u, sym there u, sym pid_is u)) (latch.cancels told limit n id k x w c near key)
+
+-- the index of the word of a latch, and of the cancels of a slot
+pub latch_in : (i n k : ℕ) (t t' : TableId) → n ≡ t.slots → i ≡ n + 1 + k → k < t.slots → t.words ≡ 3 * t.slots + 1 → t' ≡ t → (i < t'.words) × (i ≡ latch_place t'.slots k)
+latch_in i n k t t' is e near w f = let c : t'.words ≡ t.words = ap (λ z. z.words) f in let d : t'.slots ≡ t.slots = ap (λ z. z.slots) f in (omega arith, omega arith)
+
+pub cancels_in : (i n k : ℕ) (t t' : TableId) → n ≡ t.slots → i ≡ n + 1 + n + k → k < t.slots → t.words ≡ 3 * t.slots + 1 → t' ≡ t → (i < t'.words) × (i ≡ cancel_place t'.slots k)
+cancels_in i n k t t' is e near w f = let c : t'.words ≡ t.words = ap (λ z. z.words) f in let d : t'.slots ≡ t.slots = ap (λ z. z.slots) f in (omega arith, omega arith)
+
+-- a worker's seat, as it is
+pub seat_as : {J D : Type 0} (k : ℕ) (me : Seated J D) → me.0 ≡ Worker k (post_of me.0) → me ≡ (Worker k (post_of me.0), me.1)
+seat_as k me is = λ i. (is i, me.1)
+
+-- and after a step that changes its notes alone
+pub noted_as : {J D : Type 0} (k : ℕ) (me me' : Seated J D) (notes : PostNotes) → me.0 ≡ Worker k (post_of me.0) → me' ≡ (reposted me.0 (with_notes (post_of me.0) notes), me.1) → me' ≡ (Worker k (with_notes (post_of me.0) notes), me.1)
+noted_as k me me' notes is did = did ∙ (λ i. (reposted (is i) (with_notes (post_of me.0) notes), me.1))
+
+-- the pid that the post has at hand is that of its child
+pub pid_is : {D : Type 0} (pid : ℕ) (w : Work D) (o : Offer D) → child_in w ≡ Some o → RunsPid pid w → pid ≡ o.pid
+pid_is pid Idle o is runs = absurd (cc)
+pid_is pid (Sees word) o is runs = absurd (cc)
+pid_is pid (Inactive p) o is runs = let it : p ≡ o = cc in runs ∙ ap (λ z. z.pid) it
+pid_is pid (Active p) o is runs = let it : p ≡ o = cc in runs ∙ ap (λ z. z.pid) it
+pid_is pid (Refused p g) o is runs = let it : p ≡ o = cc in runs ∙ ap (λ z. z.pid) it
+pid_is pid (Attached p g) o is runs = let it : p ≡ o = cc in runs ∙ ap (λ z. z.pid) it
+
+-- the index of the gate's word
+pub gate_in : (i : ℕ) (t t' : TableId) → i ≡ t.slots → t.words ≡ 3 * t.slots + 1 → t' ≡ t → (i < t'.words) × (i ≡ t'.slots)
+gate_in i t t' is w e = let c : t'.words ≡ t.words = ap (λ z. z.words) e in let d : t'.slots ≡ t.slots = ap (λ z. z.slots) e in (omega arith, omega arith)
+
+-- a worker's seat after a step that leaves its mail slot
+pub reposted_as : {J D : Type 0} (k : ℕ) (me me' : Seated J D) (w : PostView D) (c : List (ℕ × Option J)) → me.0 ≡ Worker k (post_of me.0) → me.1 ≡ c → me' ≡ (reposted me.0 w, me.1) → me' ≡ (Worker k w, c)
+reposted_as k me me' w c is has did = did ∙ (λ i. (reposted (is i) w, has i))
+
+-- the supervisor's seat after a step at the gate
+pub turned_as : {J D : Type 0} (me me' : Seated J D) (d : RosterView D) → me ≡ (Postmaster (roster_of me.0), []) → me' ≡ (Postmaster d, me.1) → me' ≡ (Postmaster d, [])
+turned_as {J} {D} me me' d is did = did ∙ ap (λ (m : Seated J D). (Postmaster d, m.1)) is
 
 -- an index of a slot is one of a word
-pub in_words : (k : ℕ) (t t' : TableId) → k < t.slots → t.words ≡ t.slots + 1 → t' ≡ t → k < t'.words
+pub in_words : (k : ℕ) (t t' : TableId) → k < t.slots → t.words ≡ 3 * t.slots + 1 → t' ≡ t → k < t'.words
 in_words k t t' near w e = let c : t'.words ≡ t.words = ap (λ z. z.words) e in omega arith
 
-pub in_table : {D : Type 0} (k : ℕ) (d d' : RosterView D) (t t' : TableId) → d ≡ d' → length d.slots ≡ t.slots → t.words ≡ t.slots + 1 → t' ≡ t → k < length d'.slots → (k < t'.words) × (k < t'.slots)
+pub in_table : {D : Type 0} (k : ℕ) (d d' : RosterView D) (t t' : TableId) → d ≡ d' → length d.slots ≡ t.slots → t.words ≡ 3 * t.slots + 1 → t' ≡ t → k < length d'.slots → (k < t'.words) × (k < t'.slots)
 in_table k d d' t t' e l w f near = let a : length d.slots ≡ length d'.slots = ap (λ z. length z.slots) e in let b : t'.slots ≡ t.slots = ap (λ z. z.slots) f in let c : t'.words ≡ t.words = ap (λ z. z.words) f in (omega arith, omega arith)
 
 -- the roster is whole again
-pub sealed : {J D : Type 0} (b t t' : TableId) (u : ℕ) (me : Seated J D) (d : RosterView D) → b ≡ t → t' ≡ t → t.words ≡ t.slots + 1 → t.slots ≤ 407 → me ≡ (Postmaster d, []) → length d.slots ≡ t.slots → u ≡ used_in d.slots
-    → (b ≡ t') × (me ≡ (Postmaster (roster_of me.0), [])) × (t'.words ≡ t'.slots + 1) × (length (roster_of me.0).slots ≡ t'.slots) × (t'.slots ≤ 407) × (u ≡ used_in (roster_of me.0).slots)
-sealed {J} {D} b t t' u me d e f w few is l used = (
+pub sealed : {J D : Type 0} (b t t' : TableId) (u g : ℕ) (q : Option Reason) (me : Seated J D) (d : RosterView D) → b ≡ t → t' ≡ t → t.words ≡ 3 * t.slots + 1 → t.slots ≤ 407 → me ≡ (Postmaster d, []) → length d.slots ≡ t.slots → u ≡ used_in d.slots → g ≡ d.generation → q ≡ d.noticed
+    → IsWholeRoster b t' u g q me
+sealed {J} {D} b t t' u g q me d e f w few is l used now noticed = (
   e ∙ sym f,
   is ∙ (λ i. (Postmaster (roster_of (sym is i).0), [])),
-  ap (λ z. z.words) f ∙ (w ∙ ap (λ z. z.slots + 1) (sym f)),
+  ap (λ z. z.words) f ∙ (w ∙ ap (λ z. 3 * z.slots + 1) (sym f)),
   ap (λ (z : Seated J D). length (roster_of z.0).slots) is ∙ (l ∙ ap (λ z. z.slots) (sym f)),
   subst (λ (z : TableId). z.slots ≤ 407) (sym f) few,
   used ∙ ap (λ (z : Seated J D). used_in (roster_of z.0).slots) (sym is),
+  now ∙ ap (λ (z : Seated J D). (roster_of z.0).generation) (sym is),
+  noticed ∙ ap (λ (z : Seated J D). (roster_of z.0).noticed) (sym is),
 )
 
 module _ {J D : Type 0} where
@@ -169,15 +263,28 @@ module _ {J D : Type 0} where
   doing_at k me w c is does has = λ i. ((is ∙ (λ j. Worker k (post_view (post_of me.0).notes (post_of me.0).past (does j)))) i, has i)
 
   -- the post is whole again
-  pub post_sealed : (b t t' : TableId) (k : ℕ) (me : Seated J D) (w : PostView D) (c : List (ℕ × Option J)) → b ≡ t → t' ≡ t → t.words ≡ t.slots + 1 → k < t.slots → me ≡ (Worker k w, c) → HoldsMail k w.work c
-      → (b ≡ t') × (me.0 ≡ Worker k (post_of me.0)) × (t'.words ≡ t'.slots + 1) × (k < t'.slots) × HoldsMail k (post_of me.0).work me.1
-  post_sealed b t t' k me w c e f ws l is has = (
+  pub post_sealed : (b t t' : TableId) (k limit : ℕ) (kind : Kind) (pid : ℕ) (me : Seated J D) (w : PostView D) (c : List (ℕ × Option J)) → b ≡ t → t' ≡ t → t.words ≡ 3 * t.slots + 1 → k < t.slots → me ≡ (Worker k w, c) → HoldsMail k w.work c → RunsKind kind w.work → limit ≡ w.notes.session_limit → RunsPid pid w.work → t.slots ≤ 407
+      → IsWholePost b t' k kind pid limit me
+  post_sealed b t t' k limit kind pid me w c e f ws l is has runs most named few = (
     e ∙ sym f,
     ap (λ (z : Seated J D). z.0) is ∙ ap (λ (z : Seated J D). Worker k (post_of z.0)) (sym is),
-    ap (λ z. z.words) f ∙ (ws ∙ ap (λ z. z.slots + 1) (sym f)),
+    ap (λ z. z.words) f ∙ (ws ∙ ap (λ z. 3 * z.slots + 1) (sym f)),
     subst (λ (z : TableId). k < z.slots) (sym f) l,
     subst (λ (z : Seated J D). HoldsMail k (post_of z.0).work z.1) (sym is) has,
+    subst (λ (z : Seated J D). RunsKind kind (post_of z.0).work) (sym is) runs,
+    most ∙ ap (λ (z : Seated J D). (post_of z.0).notes.session_limit) (sym is),
+    subst (λ (z : Seated J D). RunsPid pid (post_of z.0).work) (sym is) named,
+    subst (λ (z : TableId). z.slots ≤ 407) (sym f) few,
   )
+
+  -- and after a try at the gate, whatever the answer
+  pub tried_sealed : (b t t' : TableId) (k limit : ℕ) (kind : Kind) (pid : ℕ) (me : Seated J D) (w : PostView D) (o : Offer D) (word : ℕ) (c : List (ℕ × Option J)) → b ≡ t → t' ≡ t → t.words ≡ 3 * t.slots + 1 → k < t.slots → me ≡ (Worker k (tried w o word), c) → c ≡ (k, None) ∷ [] → kind ≡ o.kind → limit ≡ w.notes.session_limit → pid ≡ o.pid → t.slots ≤ 407
+      → IsWholePost b t' k kind pid limit me
+  tried_sealed b t t' k limit kind pid me w o word c e f ws l is has runs most named few = go (gate_answer o.kind w.notes.session_limit word) is
+    where
+      go : (a : Result ℕ GateNo) → me ≡ (Worker k (tried_by w o word a), c) → IsWholePost b t' k kind pid limit me
+      go (Ok g) at = post_sealed b t t' k limit kind pid me (tried_by w o word (Ok g)) c e f ws l at has runs most named few
+      go (Err refusal) at = post_sealed b t t' k limit kind pid me (tried_by w o word (Err refusal)) c e f ws l at has runs most named few
 
   -- a worker whose child may end holds its empty mail slot
   pub holds_none : (k : ℕ) (w : Work D) (c : List (ℕ × Option J)) (o : Offer D) (a : Bool) → HoldsMail k w c → MayEnd w o a → c ≡ (k, None) ∷ []
@@ -212,21 +319,21 @@ module _ {J D : Type 0} where
       × (stage_in word ≢ 3 → me' ≡ (Postmaster (with_slot d k (running_slot (slot_at d k) o d.notes.last_connection) (noted_look d.notes word)), []))
   looked_as n k word me me' d o is sight did = subst (λ (m : Seated J D). Looks (step n k 0 0 none) m word me') is did o sight
 
-  pub looked_seal : (b t t' : TableId) (u n k word : ℕ) (me me' : Seated J D) (d : RosterView D) (o : Offer D) → b ≡ t → t' ≡ t → t.words ≡ t.slots + 1 → t.slots ≤ 407 → me ≡ (Postmaster d, []) → length d.slots ≡ t.slots → k < length d.slots → u ≡ used_in d.slots → (slot_at d k).sight ≡ Assigned o
-      → Looks (step n k 0 0 none) me word me' → (b ≡ t') × (me' ≡ (Postmaster (roster_of me'.0), [])) × (t'.words ≡ t'.slots + 1) × (length (roster_of me'.0).slots ≡ t'.slots) × (t'.slots ≤ 407) × (u ≡ used_in (roster_of me'.0).slots)
-  looked_seal b t t' u n k word me me' d o e f w few is l near used sight did = let h = looked_as n k word me me' d o is sight did in let notes : RosterNotes = noted_look d.notes word in
+  pub looked_seal : (b t t' : TableId) (u g : ℕ) (q : Option Reason) (n k word : ℕ) (me me' : Seated J D) (d : RosterView D) (o : Offer D) → b ≡ t → t' ≡ t → t.words ≡ 3 * t.slots + 1 → t.slots ≤ 407 → me ≡ (Postmaster d, []) → length d.slots ≡ t.slots → k < length d.slots → u ≡ used_in d.slots → g ≡ d.generation → q ≡ d.noticed → (slot_at d k).sight ≡ Assigned o
+      → Looks (step n k 0 0 none) me word me' → IsWholeRoster b t' u g q me'
+  looked_seal b t t' u g q n k word me me' d o e f w few is l near used now noticed sight did = let h = looked_as n k word me me' d o is sight did in let notes : RosterNotes = noted_look d.notes word in
       let x : SlotView D = exited_slot (slot_at d k) o (status_in word) (active_in word) in let y : SlotView D = running_slot (slot_at d k) o d.notes.last_connection in
       dite (ℕ_discrete (stage_in word) 3)
-      (λ three. sealed b t t' u me' (with_slot d k x notes) e f w few (h.0 three).0 (length-set d.slots k x ∙ l) (used ∙ sym (used_same d k x notes (Assigned o) near sight refl)))
-      (λ no_. sealed b t t' u me' (with_slot d k y notes) e f w few (h.1 no_) (length-set d.slots k y ∙ l) (used ∙ sym (used_same d k y notes (Assigned o) near sight refl)))
+      (λ three. sealed b t t' u g q me' (with_slot d k x notes) e f w few (h.0 three).0 (length-set d.slots k x ∙ l) (used ∙ sym (used_same d k x notes (Assigned o) near sight refl)) now noticed)
+      (λ no_. sealed b t t' u g q me' (with_slot d k y notes) e f w few (h.1 no_) (length-set d.slots k y ∙ l) (used ∙ sym (used_same d k y notes (Assigned o) near sight refl)) now noticed)
 
 module _ {J D : Type 0} (told : J → D) where
-  pub assigned_as : (n k word : ℕ) (o : Offer D) (me me' : Seated J D) (d : RosterView D) (j : J) → me ≡ (Postmaster (with_sight d k Opened), (k, Some j) ∷ []) → word ≡ offer_word o → k < length d.slots → o.generation ≡ d.generation → o.given ≡ told j → Assigns told (step n k word 0 none) me word me'
+  pub assigned_as : (n k word : ℕ) (o : Offer D) (me me' : Seated J D) (d : RosterView D) (j : J) → me ≡ (Postmaster (with_sight d k (Opened o.pid)), (k, Some j) ∷ []) → word ≡ offer_word o → k < length d.slots → o.generation ≡ d.generation → o.given ≡ told j → Assigns told (step n k word 0 none) me word me'
       → me' ≡ (Postmaster (with_slot d k (assigned_slot (slot_at d k) o) (noted_assign d.notes o)), [])
   assigned_as n k word o me me' d j is w near now gave did =
       subst (λ (m : Seated J D). Assigns told (step n k word 0 none) m word me') is did j o refl w now gave
-      ∙ (λ i. (Postmaster (with_slot (with_sight d k Opened) k (assigned_slot (slot_set d k (slot_view (slot_at d k).past Opened) d.notes near i) o) (noted_assign d.notes o)), []))
-      ∙ (λ i. (Postmaster (twice d k (slot_view (slot_at d k).past Opened) (assigned_slot (slot_at d k) o) d.notes (noted_assign d.notes o) i), []))
+      ∙ (λ i. (Postmaster (with_slot (with_sight d k (Opened o.pid)) k (assigned_slot (slot_set d k (slot_view (slot_at d k).past (Opened o.pid)) d.notes near i) o) (noted_assign d.notes o)), []))
+      ∙ (λ i. (Postmaster (twice d k (slot_view (slot_at d k).past (Opened o.pid)) (assigned_slot (slot_at d k) o) d.notes (noted_assign d.notes o) i), []))
 
   pub released_as : (n k word : ℕ) (t : Status) (a : Bool) (me me' : Seated J D) (d : RosterView D) (o : Offer D) → me ≡ (Postmaster d, []) → (slot_at d k).sight ≡ Exited o t a → Releases told (step n k 1 0 none) me word me'
       → (word ≡ child_word 3 o t a) × (o.pid < 2147483648) × (status_number t < 256)
@@ -234,7 +341,7 @@ module _ {J D : Type 0} (told : J → D) where
   released_as n k word t a me me' d o is sight did = subst (λ (m : Seated J D). Releases told (step n k 1 0 none) m word me') is did o t a sight
 
   pub ended_as : (n k word add : ℕ) (t : Status) (a : Bool) (me me' : Seated J D) (notes : PostNotes) (past : List (PastChild D)) (w : Work D) (o : Offer D) (j : J) → me ≡ (Worker k (post_view notes past w), (k, Some j) ∷ []) → add ≡ exit_step t → MayEnd w o a → Ends told (step n k add 0 none) me word me'
-      → me' ≡ (Worker k (post_view (noted_exit notes) (past ++ past_child o t a (told j) ∷ []) Idle), [])
+      → me' ≡ (Worker k (post_view (noted_exit notes o) (past ++ past_child o t a (told j) ∷ []) Idle), [])
   ended_as n k word add t a me me' notes past w o j is e may did = subst (λ (m : Seated J D). Ends told (step n k add 0 none) m word me') is did j o t a refl may e
 
 module _ {D : Type 0} where

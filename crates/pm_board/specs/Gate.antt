@@ -1,9 +1,9 @@
 -- The gate: what its word tells, and which children it counts.
-use Rattle.std.specs.Prelude.{◌≡◌, ℕ, zero, suc, ◌+◌, ◌*◌, ◌<◌, ◌≤◌, Bool, true, false, List, [], ◌∷◌, Option, Some, None}
+use Rattle.std.specs.Prelude.{◌≡◌, ℕ, zero, suc, ◌+◌, ◌*◌, ◌/◌, ◌%◌, ◌<◌, ◌≤◌, Bool, true, false, not, nat_lt, if◌then◌else◌, List, [], ◌∷◌, Option, Some, None, Result, Ok, Err}
 use Rattle.pm_exit.specs.declared.child.Kind.{Kind}
 use Rattle.pm_supervisor.specs.declared.Reason.{Reason}
 use Rattle.pm_supervisor.specs.declared.Reason.TheVariants as reason
-use Rattle.pm_supervisor.specs.Children.{is_session}
+use Rattle.pm_supervisor.specs.Children.{is_session, is_dead_end}
 use Rattle.pm_board.specs.declared.views.PastChild.{PastChild}
 use Rattle.pm_board.specs.declared.views.RosterStep.{RosterStep}
 use Rattle.pm_board.specs.declared.views.RosterStep.TheVariants.{Assign, Release, Quit, Ready, Reset, Send}
@@ -11,8 +11,11 @@ use Rattle.pm_board.specs.declared.views.RosterView.{RosterView}
 use Rattle.pm_board.specs.declared.views.Work.{Work}
 use Rattle.pm_board.specs.declared.views.Work.TheVariants.{Idle, Sees, Inactive, Active, Refused, Attached}
 use Rattle.pm_board.specs.declared.views.PostView.{PostView}
-use Rattle.pm_board.specs.Words.{bit}
+use Rattle.pm_life.specs.declared.life.GateNo.{GateNo}
+use Rattle.pm_life.specs.declared.life.GateNo.TheVariants as gate_no
+use Rattle.pm_board.specs.Words.{bit, flag}
 use Rattle.pm_board.specs.Places.{is_auxiliary, lost}
+use Rattle.pm_board.specs.Rule.{Cell, OfLiving}
 
 -- what the supervisor has made of the gate
 pub record Gate : Type 0 where
@@ -57,6 +60,49 @@ pub record GateWord : Type 0 where
 abbrev pub gate_packed : GateWord → ℕ
 gate_packed w = w.sessions + (4096 * w.auxiliaries + (16777216 * bit w.is_open + (33554432 * notice_bits w.noticed + 134217728 * w.generation)))
 
+abbrev pub sessions_in : ℕ → ℕ
+sessions_in word = word % 4096
+
+abbrev pub auxiliaries_in : ℕ → ℕ
+auxiliaries_in word = word / 4096 % 4096
+
+abbrev pub open_in : ℕ → Bool
+open_in word = flag (word / 16777216 % 2)
+
+abbrev pub notice_of : ℕ → Option Reason
+notice_of zero = None
+notice_of (suc zero) = Some reason.Crash
+notice_of (suc (suc n)) = Some reason.Stop
+
+abbrev pub notice_in : ℕ → Option Reason
+notice_in word = notice_of (word / 33554432 % 4)
+
+abbrev pub generation_in : ℕ → ℕ
+generation_in word = word / 134217728
+
+-- the parts fit their bits
+pub record FitsGate (w : GateWord) : Type 0 where
+  pub sessions : w.sessions < 4095
+  pub auxiliaries : w.auxiliaries < 4095
+  pub generation : w.generation < 4294967296
+
+-- what a child of such a kind adds to the word at the gate
+abbrev pub place_of : Bool → ℕ
+place_of true = 1
+place_of false = 4096
+
+-- Whether a child is let in that meets this word, where so many sessions may be attached. A session needs an open gate and
+-- room; any other child is let in where there is no notice.
+abbrev pub answer_to : Bool → ℕ → Option Reason → ℕ → Result ℕ GateNo
+answer_to is_session limit (Some why) word = Err (gate_no.Quit (generation_in word) why)
+answer_to false limit None word = Ok (generation_in word)
+answer_to true limit None word =
+    if not (open_in word) then Err (gate_no.NotReady (generation_in word))
+    else (if nat_lt (sessions_in word) limit then Ok (generation_in word) else Err (gate_no.TooMany (sessions_in word)))
+
+abbrev pub gate_answer : Kind → ℕ → ℕ → Result ℕ GateNo
+gate_answer kind limit word = answer_to (is_session kind) limit (notice_in word) word
+
 -- the sum of f at the numbers below n
 abbrev pub sum_below : ℕ → (ℕ → ℕ) → ℕ
 sum_below zero f = 0
@@ -87,10 +133,10 @@ module _ {D : Type 0} where
   abbrev pub staying : (Kind → Bool) → ℕ → PostView D → ℕ
   staying test g w = attached test w.work + lost test g w.past
 
-  -- a child at the gate stands there in its own, present generation
+  -- a child at the gate stands there in the present generation, and is no dead-end child
   abbrev pub IsCurrent : ℕ → Work D → Type 0
-  IsCurrent g (Refused o h) = h ≡ g
-  IsCurrent g (Attached o h) = h ≡ g
+  IsCurrent g (Refused o h) = (h ≡ g) × (is_dead_end o.kind ≡ false)
+  IsCurrent g (Attached o h) = (h ≡ g) × (is_dead_end o.kind ≡ false)
   IsCurrent g Idle = Unit {0}
   IsCurrent g (Sees word) = Unit {0}
   IsCurrent g (Inactive o) = Unit {0}
@@ -101,26 +147,34 @@ module _ {D : Type 0} where
   AllUpTo g [] = Unit {0}
   AllUpTo g (x ∷ xs) = (x.offer.generation ≤ g) × AllUpTo g xs
 
-  pub record InGeneration (g : ℕ) (w : PostView D) : Type 0 where
+  pub record InGeneration (limit g : ℕ) (w : PostView D) : Type 0 where
     pub now : IsCurrent g w.work
     pub before : AllUpTo g w.past
+    pub limit_is : w.notes.session_limit ≡ limit
 
-  abbrev pub gate_word : ℕ → Gate → (ℕ → PostView D) → ℕ
-  gate_word n gate posts =
+  -- At most one auxiliary child of a slot exits attached in a generation: none that is offered or runs has such a forerunner
+  pub record AuxiliaryOnce (g : ℕ) (c : Cell D) : Type 0 where
+    pub at_most : lost is_auxiliary g c.post.past ≤ 1
+    pub none_before : OfLiving (λ o. is_auxiliary o.kind ≡ true → lost is_auxiliary g c.post.past ≡ 0) c.phase
+
+  abbrev pub gate_word : ℕ → Gate → (ℕ → Cell D) → ℕ
+  gate_word n gate cells =
       gate_packed record {
         generation = gate.generation;
         is_open = gate.is_open;
         noticed = gate.noticed;
-        sessions = sum_below n (λ k. counted is_session gate.generation (posts k));
-        auxiliaries = sum_below n (λ k. counted is_auxiliary gate.generation (posts k));
+        sessions = sum_below n (λ k. counted is_session gate.generation (cells k).post);
+        auxiliaries = sum_below n (λ k. counted is_auxiliary gate.generation (cells k).post);
       }
 
   -- The gate's word shows what the supervisor has made of it and counts the children of n slots. No more sessions stay than
   -- the limit, and none before the generation is open. All of them are of the present generation.
-  pub record GateOk (limit n word : ℕ) (gate : Gate) (posts : ℕ → PostView D) : Type 0 where
-    pub shows : word ≡ gate_word n gate posts
-    pub few : sum_below n (λ k. staying is_session gate.generation (posts k)) ≤ limit
-    pub shut : gate.is_open ≡ false → sum_below n (λ k. staying is_session gate.generation (posts k)) ≡ 0
+  pub record GateOk (limit n word : ℕ) (gate : Gate) (cells : ℕ → Cell D) : Type 0 where
+    pub shows : word ≡ gate_word n gate cells
+    pub few : sum_below n (λ k. staying is_session gate.generation (cells k).post) ≤ limit
+    pub shut : gate.is_open ≡ false → sum_below n (λ k. staying is_session gate.generation (cells k).post) ≡ 0
+    pub small : (n ≤ 407) × (limit ≤ 200)
     pub first : 0 < gate.generation
     pub fits : gate.generation < 4294967296
-    pub current : (k : ℕ) → InGeneration gate.generation (posts k)
+    pub current : (k : ℕ) → InGeneration limit gate.generation (cells k).post
+    pub once : (k : ℕ) → AuxiliaryOnce gate.generation (cells k)

@@ -5,16 +5,21 @@ use Rattle.atomic_table.specs.Table.{State}
 use Rattle.pm_exit.specs.declared.child.Kind.{Kind}
 use Rattle.pm_supervisor.specs.Children.{Child, child_of, without}
 use Rattle.pm_supervisor.specs.Supervisor.{Shared, first}
-use Rattle.pm_supervisor.specs.Shared.{SharedEvent, Join, Leave, Allows, after_shared}
+use Rattle.pm_supervisor.specs.Shared.{SharedEvent, Join, Attach, Touch, Detach, Leave, Notice, Open, Reset, Allows, after_shared}
 use Rattle.pm_board.specs.declared.views.Offer.{Offer}
 use Rattle.pm_board.specs.declared.views.PastChild.{PastChild}
 use Rattle.pm_board.specs.declared.views.RosterStep.{RosterStep}
-use Rattle.pm_board.specs.declared.views.RosterStep.TheVariants.{Assign}
+use Rattle.pm_board.specs.declared.views.RosterStep.TheVariants as step
+use Rattle.pm_board.specs.declared.views.PostStep.{PostStep}
+use Rattle.pm_board.specs.declared.views.PostStep.TheVariants as post_step
 use Rattle.pm_board.specs.declared.views.RosterView.{RosterView}
 use Rattle.pm_board.specs.declared.views.Work.{Work}
 use Rattle.pm_board.specs.declared.views.Work.TheVariants.{Idle, Sees, Inactive, Active, Refused, Attached}
+use Rattle.pm_board.specs.declared.views.PostView.{PostView}
 use Rattle.pm_board.specs.declared.views.View.{View}
 use Rattle.pm_board.specs.Gate.{Gate, GateOk, first_gate, gate_of, gate_of_steps}
+use Rattle.pm_board.specs.Latches.{Latches}
+use Rattle.pm_board.specs.Seats.{Seats}
 use Rattle.pm_board.specs.Rule.{Phase, unused, opened, offered, running, ended, collected, gathered, Cell, Holds}
 
 -- an event, and the slot whose word it was made on
@@ -27,18 +32,41 @@ pub data Run (limit : ℕ) : List Entry → Shared → Type 0 where
   begins : Run limit [] first.shared
   goes_on : (log : List Entry) (s : Shared) (e : Entry) → Run limit log s → Allows limit s e.event → Run limit (log ++ e ∷ []) (after_shared s e.event)
 
--- pid and kind of the children that joined, in order
-abbrev pub join_of : SharedEvent → List (ℕ × Kind)
-join_of (Join pid kind) = (pid, kind) ∷ []
-join_of _ = []
+-- the events that the supervisor makes, in order
+abbrev pub supervisor_event : SharedEvent → List SharedEvent
+supervisor_event (Join pid kind) = Join pid kind ∷ []
+supervisor_event (Notice why) = Notice why ∷ []
+supervisor_event Open = Open ∷ []
+supervisor_event Reset = Reset ∷ []
+supervisor_event (Attach pid) = []
+supervisor_event (Touch pid) = []
+supervisor_event (Detach pid) = []
+supervisor_event (Leave pid kind) = []
 
-abbrev pub join_in : Entry → List (ℕ × Kind)
-join_in e = join_of e.event
+abbrev pub supervisor_in : Entry → List SharedEvent
+supervisor_in e = supervisor_event e.event
 
-abbrev pub joined : List Entry → List (ℕ × Kind)
-joined log = flat_map join_in log
+abbrev pub of_supervisor : List Entry → List SharedEvent
+of_supervisor log = flat_map supervisor_in log
 
--- and of those that left the slot k
+-- and those of the worker of the slot k
+abbrev pub worker_event : SharedEvent → List SharedEvent
+worker_event (Attach pid) = Attach pid ∷ []
+worker_event (Touch pid) = Touch pid ∷ []
+worker_event (Detach pid) = Detach pid ∷ []
+worker_event (Leave pid kind) = Leave pid kind ∷ []
+worker_event (Join pid kind) = []
+worker_event (Notice why) = []
+worker_event Open = []
+worker_event Reset = []
+
+abbrev pub worker_in : ℕ → Entry → List SharedEvent
+worker_in k e = if e.slot == k then worker_event e.event else []
+
+abbrev pub of_worker : ℕ → List Entry → List SharedEvent
+of_worker k log = flat_map (worker_in k) log
+
+-- pid and kind of the children that left the slot k, in order
 abbrev pub leave_of : SharedEvent → List (ℕ × Kind)
 leave_of (Leave pid kind) = (pid, kind) ∷ []
 leave_of _ = []
@@ -49,17 +77,27 @@ leave_in k e = if e.slot == k then leave_of e.event else []
 abbrev pub left : ℕ → List Entry → List (ℕ × Kind)
 left k log = flat_map (leave_in k) log
 
--- pid and kind of the children that the supervisor assigned
-abbrev pub assign_in : RosterStep → List (ℕ × Kind)
-assign_in (Assign pid kind generation) = (pid, kind) ∷ []
-assign_in _ = []
+-- the event that a step of the supervisor is, if it is one
+abbrev pub event_of : RosterStep → List SharedEvent
+event_of (step.Assign pid kind generation) = Join pid kind ∷ []
+event_of (step.Quit why generation) = Notice why ∷ []
+event_of (step.Ready generation) = Open ∷ []
+event_of (step.Reset generation) = Reset ∷ []
+event_of (step.Release pid kind generation) = []
+event_of (step.Send pid kind signal generation) = []
 
-abbrev pub assigned : List RosterStep → List (ℕ × Kind)
-assigned steps = flat_map assign_in steps
+abbrev pub events_of : List RosterStep → List SharedEvent
+events_of steps = flat_map event_of steps
+
+-- and that of a worker
+abbrev pub worker_step : PostStep → SharedEvent
+worker_step (post_step.Attach pid) = Attach pid
+worker_step (post_step.Detach pid) = Detach pid
+worker_step (post_step.Exit pid kind) = Leave pid kind
 
 -- the supervisor's own steps are its part of the history, and leave the gate as it is
 pub record OwnSteps (log : List Entry) (steps : List RosterStep) (gate : Gate) : Type 0 where
-  pub assigns : joined log ≡ assigned steps
+  pub made : of_supervisor log ≡ events_of steps
   pub leave : gate_of_steps first_gate steps ≡ gate
 
 module _ {D : Type 0} where
@@ -71,7 +109,7 @@ module _ {D : Type 0} where
   living (offered o) = o.pid
   living (running o active) = o.pid
   living unused = 0
-  living opened = 0
+  living (opened q) = 0
   living (ended o status active back) = 0
   living (collected o status active) = 0
   living gathered = 0
@@ -92,7 +130,7 @@ module _ {D : Type 0} where
   ShowsChild cs (offered o) w = child_of o.pid cs ≡ Some (shown_child o false)
   ShowsChild cs (running o active) w = child_of o.pid cs ≡ Some (shown_child o (is_attached w))
   ShowsChild cs unused w = Unit {0}
-  ShowsChild cs opened w = Unit {0}
+  ShowsChild cs (opened q) w = Unit {0}
   ShowsChild cs (ended o status active back) w = Unit {0}
   ShowsChild cs (collected o status active) w = Unit {0}
   ShowsChild cs gathered w = Unit {0}
@@ -107,18 +145,22 @@ module _ {D : Type 0} where
     pub no_other : (pid : ℕ) (c : Child) → child_of pid s.children ≡ Some c → (k : ℕ) × (k < count) × (living (cells k).phase ≡ pid) × (0 < pid)
     pub once : (pid : ℕ) → child_of pid (without pid s.children) ≡ None
 
-  -- the ends of each worker's children are its part of the history
-  abbrev pub OwnEnds : List Entry → (ℕ → Cell D) → ℕ → Type 0
-  OwnEnds log cells count = (k : ℕ) → k < count → left k log ≡ map pid_and_kind (cells k).post.past
+  -- a worker's own steps, and the ends of its children, are its part of the history
+  pub record OwnPart (log : List Entry) (k : ℕ) (post : PostView D) : Type 0 where
+    pub made : of_worker k log ≡ map worker_step post.notes.steps
+    pub ends : left k log ≡ map pid_and_kind post.past
+
+  abbrev pub OwnParts : List Entry → (ℕ → Cell D) → ℕ → Type 0
+  OwnParts log cells count = (k : ℕ) → k < count → OwnPart log k (cells k).post
 
   abbrev pub History : ℕ → RosterView D → (ℕ → Cell D) → ℕ → Type 0
   History limit d cells count =
-      (log : List Entry) × (s : Shared) × Run limit log s × Shows s d cells count × OwnSteps log d.notes.steps (gate_of d) × OwnEnds log cells count
+      (log : List Entry) × (s : Shared) × Run limit log s × Shows s d cells count × OwnSteps log d.notes.steps (gate_of d) × OwnParts log cells count
 
 module _ {J D : Type 0} (told : J → D) (limit : ℕ) where
   -- what holds between any two steps, where so many sessions may be attached
   abbrev pub Kept : State (Option J) (View D) → Type 0
   Kept s =
       (master : ℕ) × (d : RosterView D) × (cells : ℕ → Cell D) × Holds told master d cells s
-      × GateOk limit (length s.homes) (slice_index_or s.words (length s.homes) 0) (gate_of d) (λ k. (cells k).post)
-      × History limit d cells (length s.homes)
+      × GateOk limit (length s.homes) (slice_index_or s.words (length s.homes) 0) (gate_of d) cells
+      × History limit d cells (length s.homes) × Latches (length s.homes) s.words d cells × Seats s.views d cells

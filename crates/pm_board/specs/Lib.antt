@@ -2,6 +2,11 @@ pub mod Words
 pub mod Places
 pub mod Gate
 pub mod Rule
+pub mod Latch
+pub mod Latches
+pub mod Seats
+pub mod Heard
 pub mod History
 pub mod Told
 pub mod Models
+pub mod Laws

@@ -4,6 +4,7 @@ use Rattle.pm_exit.specs.declared.child.Kind.{Kind}
 use Rattle.pm_exit.specs.declared.child.Kind.TheVariants as kind
 use Rattle.pm_exit.specs.declared.child.Status.{Status}
 use Rattle.pm_exit.specs.Ends.{is_exit_0}
+use Rattle.pm_board.specs.declared.views.Offer.{Offer}
 use Rattle.pm_board.specs.declared.views.PastChild.{PastChild}
 use Rattle.pm_board.specs.declared.views.Sight.{Sight}
 use Rattle.pm_board.specs.declared.views.Sight.TheVariants.{Unused, Opened, Assigned, Exited, Collected, Gathered}
@@ -54,7 +55,7 @@ module _ {D : Type 0} where
 
   abbrev pub is_used : Sight D → Bool
   is_used Unused = false
-  is_used Opened = false
+  is_used (Opened q) = false
   is_used (Assigned o) = true
   is_used (Exited o status active) = true
   is_used (Collected o status active) = true
@@ -86,3 +87,12 @@ module _ {D : Type 0} where
     -- an auxiliary child whose forerunner died attached waits for the next generation
     pub forerunners : is_auxiliary kind ≡ true → lost is_auxiliary d.generation (slot_at d k).past ≡ 0
     pub reaped : is_connection kind ≡ true → AllReaped d
+
+  -- the slot k has a child, whose end no look has found
+  abbrev pub IsAssigned : RosterView D → ℕ → Type 0
+  IsAssigned d k = (k < length d.slots) × ((o : Offer D) × ((slot_at d k).sight ≡ Assigned o))
+
+  -- a look has found that the child of the slot k has exited
+  abbrev pub HasEnded : RosterView D → ℕ → Type 0
+  HasEnded d k =
+      (k < length d.slots) × ((o : Offer D) × (status : Status) × (active : Bool) × ((slot_at d k).sight ≡ Exited o status active))

@@ -1,5 +1,5 @@
 -- The rule of the board: the words, the mails at home and all views agree, slot by slot.
-use Rattle.std.specs.Prelude.{◌≡◌, ◌≢◌, ℕ, ◌+◌, ◌<◌, ◌≤◌, Bool, true, false, List, [], ◌∷◌, ◌++◌, Option, Some, None, length, slice_index_or}
+use Rattle.std.specs.Prelude.{◌≡◌, ◌≢◌, ℕ, ◌+◌, ◌*◌, ◌<◌, ◌≤◌, Bool, true, false, List, [], ◌∷◌, ◌++◌, Option, Some, None, length, slice_index_or}
 use mathlib.Core.Option.{some}
 use native.Mathlib.Decide.{ℕ_discrete}
 use Rattle.std.proofs.Common.{subst, sym}
@@ -8,6 +8,7 @@ use lib.ListN.{get_elem?}
 use Rattle.atomic_table.specs.Table.{State}
 use Rattle.pm_exit.specs.declared.child.Status.{Status}
 use Rattle.pm_exit.specs.declared.child.Status.TheVariants as status
+use Rattle.pm_board.specs.declared.views.Heard.{Heard}
 use Rattle.pm_board.specs.declared.views.Offer.{Offer}
 use Rattle.pm_board.specs.declared.views.PastChild.{PastChild}
 use Rattle.pm_board.specs.declared.views.PostNotes.{PostNotes}
@@ -23,10 +24,11 @@ use Rattle.pm_board.specs.declared.views.View.TheVariants.{Postmaster, Worker, S
 use Rattle.pm_board.specs.Words.{packed, status_number}
 use Rattle.pm_board.specs.Places.{slot_at, SlotServes, EndsWell}
 
--- Where a slot stands. A child that runs has its active bit, and one that has exited its status and whether it was active.
+-- Where a slot stands. One that is opened has the pid that its latch is armed for, a child that runs its
+-- active bit, and one that has exited its status and whether it was active.
 pub data Phase (D : Type 0) : Type 0 where
   unused : Phase D
-  opened : Phase D
+  opened : ℕ → Phase D
   offered : Offer D → Phase D
   running : Offer D → Bool → Phase D
   ended : Offer D → Status → Bool → D → Phase D
@@ -39,8 +41,22 @@ pub record Cell (D : Type 0) : Type 0 where
   pub seat : ℕ
   pub post : PostView D
 
+-- of a child that has just started
+abbrev pub no_signals : Heard
+no_signals = record { asked = 0; given = []; heeded = false; met = None }
+
 abbrev pub no_notes : ℕ → PostNotes
-no_notes limit = record { session_limit = limit; met = []; now = record { asked = 0; given = []; met = None }; heard = []; cancels = []; homes = [] }
+no_notes limit =
+    record {
+      session_limit = limit;
+      met = [];
+      steps = [];
+      looked = [];
+      now = no_signals;
+      heard = [];
+      cancels = [];
+      homes = [];
+    }
 
 module _ {D : Type 0} where
   -- the slot's word, for a child at this stage
@@ -52,7 +68,7 @@ module _ {D : Type 0} where
 
   abbrev pub word_of : Phase D → ℕ
   word_of unused = 0
-  word_of opened = 0
+  word_of (opened q) = 0
   word_of (offered o) = offer_word o
   word_of (running o active) = child_word 2 o (status.Code 0) active
   word_of (ended o status active back) = child_word 3 o status active
@@ -62,11 +78,11 @@ module _ {D : Type 0} where
   -- what the supervisor sees of a slot that stands there
   abbrev pub Seen : Phase D → List (PastChild D) → Sight D → Type 0
   Seen unused past s = s ≡ Unused
-  Seen opened past s = s ≡ Opened
+  Seen (opened q) past s = s ≡ Opened q
   Seen (offered o) past s = s ≡ Assigned o
   Seen (running o active) past s = s ≡ Assigned o
   Seen (ended o status active back) past Unused = ⊥
-  Seen (ended o status active back) past Opened = ⊥
+  Seen (ended o status active back) past (Opened q) = ⊥
   Seen (ended o status active back) past (Assigned p) = p ≡ o
   Seen (ended o status active back) past (Exited p t a) = (p ≡ o) × (t ≡ status) × (a ≡ active)
   Seen (ended o status active back) past (Collected p t a) = ⊥
@@ -89,7 +105,7 @@ module _ {D : Type 0} where
   Does (running o active) (Refused p g) = (p ≡ o) × (active ≡ true)
   Does (running o active) (Attached p g) = (p ≡ o) × (active ≡ true)
   Does unused w = w ≡ Idle
-  Does opened w = w ≡ Idle
+  Does (opened q) w = w ≡ Idle
   Does (ended o status active back) w = w ≡ Idle
   Does (collected o status active) w = w ≡ Idle
   Does gathered w = w ≡ Idle
@@ -98,7 +114,7 @@ module _ {D : Type 0} where
   abbrev pub unreleased : Phase D → List (PastChild D)
   unreleased (ended o status active back) = record { offer = o; status = status; was_active = active; back = back } ∷ []
   unreleased unused = []
-  unreleased opened = []
+  unreleased (opened q) = []
   unreleased (offered o) = []
   unreleased (running o active) = []
   unreleased (collected o status active) = []
@@ -111,7 +127,7 @@ module _ {D : Type 0} where
   Fits (ended o status active back) = (o.pid < 2147483648) × (status_number status < 256) × EndsWell o.kind status active
   Fits (collected o status active) = (o.pid < 2147483648) × (status_number status < 256) × EndsWell o.kind status active
   Fits unused = Unit {0}
-  Fits opened = Unit {0}
+  Fits (opened q) = Unit {0}
   Fits gathered = Unit {0}
 
   -- what holds of the child of a used slot
@@ -121,8 +137,18 @@ module _ {D : Type 0} where
   OfChild P (ended o status active back) = P o
   OfChild P (collected o status active) = P o
   OfChild P unused = Unit {0}
-  OfChild P opened = Unit {0}
+  OfChild P (opened q) = Unit {0}
   OfChild P gathered = Unit {0}
+
+  -- and of that of a slot whose child hasn't exited
+  abbrev pub OfLiving : (Offer D → Type 0) → Phase D → Type 0
+  OfLiving P (offered o) = P o
+  OfLiving P (running o active) = P o
+  OfLiving P unused = Unit {0}
+  OfLiving P (opened q) = Unit {0}
+  OfLiving P (ended o status active back) = Unit {0}
+  OfLiving P (collected o status active) = Unit {0}
+  OfLiving P gathered = Unit {0}
 
   -- a child is of the present generation, and its slot is one for its kind
   abbrev pub IsPlaced : ℕ → ℕ → ℕ → Offer D → Type 0
@@ -131,7 +157,7 @@ module _ {D : Type 0} where
   -- the pid of a used slot, or 0
   abbrev pub used_pid : Sight D → ℕ
   used_pid Unused = 0
-  used_pid Opened = 0
+  used_pid (Opened q) = 0
   used_pid (Assigned o) = o.pid
   used_pid (Exited o status active) = o.pid
   used_pid (Collected o status active) = o.pid
@@ -175,7 +201,7 @@ module _ {J D : Type 0} (told : J → D) where
   Mail unused h = h ≡ some None
   Mail (offered o) h = (j : J) × (h ≡ some (Some j)) × (told j ≡ o.given)
   Mail (ended o status active back) h = (j : J) × (h ≡ some (Some j)) × (told j ≡ back)
-  Mail opened h = Unit {0}
+  Mail (opened q) h = Unit {0}
   Mail (running o active) h = Unit {0}
   Mail (collected o status active) h = Unit {0}
   Mail gathered h = Unit {0}
@@ -192,8 +218,8 @@ module _ {J D : Type 0} (told : J → D) where
     pub mail : Mail c.phase there
 
   pub record Holds (master : ℕ) (d : RosterView D) (cells : ℕ → Cell D) (s : State (Option J) (View D)) : Type 0 where
-    -- a word for each slot, and one for the gate
-    pub wide : length s.words ≡ length s.homes + 1
+    -- a word for each slot, one for the gate, and one for each latch and for the cancels of each slot
+    pub wide : length s.words ≡ 3 * length s.homes + 1
     pub many : length d.slots ≡ length s.homes
     pub pids : PidsOk d
     pub some_posts : d.dealt ≤ length s.homes

@@ -1,14 +1,19 @@
 -- What each step tells the seat that makes it.
-use Rattle.std.specs.Prelude.{◌≡◌, ◌≢◌, ℕ, ◌+◌, ◌<◌, Bool, true, false, if◌then◌else◌, List, [], ◌∷◌, ◌++◌, Option, Some, None, slice_set, replicate}
+use Rattle.std.specs.Prelude.{◌≡◌, ◌≢◌, ℕ, ◌+◌, ◌-◌, ◌*◌, ◌%◌, ◌^◌, ◌<◌, ◌==◌, min, Bool, true, false, if◌then◌else◌, List, [], ◌∷◌, ◌++◌, Option, Some, None, Result, Ok, Err, slice_set, replicate}
 use Rattle.atomic_table.specs.Table.{Me, Step}
 use Rattle.pm_exit.specs.declared.child.Status.{Status}
+use Rattle.pm_board.specs.declared.views.Cancel.{Cancel}
+use Rattle.pm_board.specs.declared.views.Heard.{Heard}
 use Rattle.pm_board.specs.declared.views.Offer.{Offer}
 use Rattle.pm_board.specs.declared.views.PastChild.{PastChild}
 use Rattle.pm_board.specs.declared.views.PostNotes.{PostNotes}
 use Rattle.pm_board.specs.declared.views.RosterNotes.{RosterNotes}
-use Rattle.pm_board.specs.declared.views.RosterStep.TheVariants.{Assign, Release}
+use Rattle.pm_board.specs.declared.views.PostStep.TheVariants.{Attach, Detach, Exit}
+use Rattle.pm_board.specs.declared.views.RosterStep.{RosterStep}
+use Rattle.pm_board.specs.declared.views.RosterStep.TheVariants.{Assign, Release, Quit, Ready, Reset, Send}
 use Rattle.pm_board.specs.declared.views.Sight.{Sight}
 use Rattle.pm_board.specs.declared.views.Sight.TheVariants.{Unused, Opened, Assigned, Exited, Collected, Gathered}
+use Rattle.pm_board.specs.declared.views.Signal.{Signal}
 use Rattle.pm_board.specs.declared.views.SlotView.{SlotView}
 use Rattle.pm_board.specs.declared.views.RosterView.{RosterView}
 use Rattle.pm_board.specs.declared.views.Work.{Work}
@@ -18,7 +23,14 @@ use Rattle.pm_board.specs.declared.views.View.{View}
 use Rattle.pm_board.specs.declared.views.View.TheVariants.{Postmaster, Worker, Spent}
 use Rattle.pm_board.specs.Words.{stage_in, active_in, status_in, status_number, exit_step}
 use Rattle.pm_board.specs.Places.{slot_view, slot_at, is_connection, EndsWell}
-use Rattle.pm_board.specs.Rule.{child_word, offer_word, idle_post}
+use Rattle.pm_supervisor.specs.declared.Reason.{Reason}
+use Rattle.pm_supervisor.specs.declared.Reason.TheVariants.{Stop}
+use Rattle.pm_life.specs.declared.life.GateNo.{GateNo}
+use Rattle.pm_life.specs.declared.life.Signals.{Signals}
+use Rattle.pm_board.specs.Gate.{gate_of, gate_after, gate_answer, generation_in, notice_bits}
+use Rattle.pm_board.specs.Heard.{HeardAsSent}
+use Rattle.pm_board.specs.Latch.{latch_place, latch_pid, signal_number, armed_word, signals_at}
+use Rattle.pm_board.specs.Rule.{child_word, offer_word, no_signals, idle_post}
 
 abbrev pub no_roster_notes : RosterNotes
 no_roster_notes = record { last_pid = 0; last_connection = 0; steps = []; met = []; homes = [] }
@@ -129,18 +141,111 @@ abbrev pub noted_load : PostNotes → ℕ → PostNotes
 noted_load notes word = record notes { met = notes.met ++ word ∷ [] }
 
 abbrev pub noted_start : PostNotes → PostNotes
-noted_start notes = record notes { now = record { asked = 0; given = []; met = None } }
+noted_start notes = record notes { now = no_signals }
 
-abbrev pub noted_exit : PostNotes → PostNotes
-noted_exit notes = record notes { heard = notes.heard ++ notes.now ∷ [] }
+abbrev pub noted_exit : {D : Type 0} → PostNotes → Offer D → PostNotes
+noted_exit notes o = record notes { heard = notes.heard ++ notes.now ∷ []; steps = notes.steps ++ Exit o.pid o.kind ∷ [] }
+
+-- after a take that met this word of its latch, and a heed, for this pid, that met this word of its cancels
+abbrev pub answered : Heard → Signals → Heard
+answered now signals =
+    record now { asked = min (now.asked + 1) (2 ^ 64 - 1); given = now.given ++ signals ∷ []; heeded = false }
+
+abbrev pub noted_take : PostNotes → ℕ → PostNotes
+noted_take notes word =
+    record notes { met = notes.met ++ word ∷ []; now = answered notes.now (signals_at word notes.now.heeded) }
+
+abbrev pub noted_heed : PostNotes → ℕ → ℕ → PostNotes
+noted_heed notes pid word = record notes { met = notes.met ++ word ∷ []; now = record notes.now { heeded = word == pid } }
+
+-- after a look at the latch of the slot k, and a cancel
+abbrev pub noted_latch_look : PostNotes → ℕ → ℕ → PostNotes
+noted_latch_look notes k word = record notes { looked = notes.looked ++ record { slot = k; word = word } ∷ [] }
+
+abbrev pub noted_cancel : PostNotes → Cancel → PostNotes
+noted_cancel notes x = record notes { cancels = notes.cancels ++ x ∷ [] }
+
+-- after an attach and a detach
+abbrev pub noted_try : PostNotes → ℕ → Result ℕ GateNo → PostNotes
+noted_try notes word answer = record notes { met = notes.met ++ word ∷ []; now = record notes.now { met = Some answer } }
+
+abbrev pub noted_attach : {D : Type 0} → PostNotes → Offer D → PostNotes
+noted_attach notes o = record notes { steps = notes.steps ++ Attach o.pid ∷ [] }
+
+abbrev pub noted_detach : {D : Type 0} → PostNotes → Offer D → PostNotes
+noted_detach notes o = record notes { steps = notes.steps ++ Detach o.pid ∷ [] }
+
+module _ {D : Type 0} where
+  -- the child that a worker runs, if it runs one
+  abbrev pub child_in : Work D → Option (Offer D)
+  child_in Idle = None
+  child_in (Sees word) = None
+  child_in (Inactive o) = Some o
+  child_in (Active o) = Some o
+  child_in (Refused o g) = Some o
+  child_in (Attached o g) = Some o
+
+  -- the worker, with these notes
+  abbrev pub with_notes : PostView D → PostNotes → PostView D
+  with_notes w notes = post_view notes w.past w.work
+
+  -- the worker, that does this now
+  abbrev pub with_work : PostView D → Work D → PostView D
+  with_work w work = post_view w.notes w.past work
+
+  -- the worker of a child that has tried at the gate, met this word and got this answer
+  abbrev pub tried_by : PostView D → Offer D → ℕ → Result ℕ GateNo → PostView D
+  tried_by w o word (Ok g) = post_view (noted_attach (noted_try w.notes word (Ok g)) o) w.past (Attached o g)
+  tried_by w o word (Err refusal) = post_view (noted_try w.notes word (Err refusal)) w.past (Refused o (generation_in word))
+
+  abbrev pub tried : PostView D → Offer D → ℕ → PostView D
+  tried w o word = tried_by w o word (gate_answer o.kind w.notes.session_limit word)
+
+  -- and that of one that has let go
+  abbrev pub detached : PostView D → Offer D → PostView D
+  detached w o = post_view (noted_detach w.notes o) w.past (Active o)
+
+  -- the supervisor has made a step at the gate
+  abbrev pub after_step : RosterView D → RosterStep → RosterView D
+  after_step d s =
+      record d {
+        generation = (gate_after (gate_of d) s).generation;
+        is_open = (gate_after (gate_of d) s).is_open;
+        noticed = (gate_after (gate_of d) s).noticed;
+        notes = record d.notes { steps = d.notes.steps ++ s ∷ [] };
+      }
+
+  -- a worker's seat, that knows this now
+  abbrev pub reposted : View D → PostView D → View D
+  reposted (Worker k w) w' = Worker k w'
+  reposted (Postmaster d) w' = Postmaster d
+  reposted Spent w' = Spent
+
+-- behind the notice of a stop no other is given in its generation
+abbrev pub MayQuit : Option Reason → Reason → Type 0
+MayQuit noticed why = noticed ≡ Some Stop → why ≡ Stop
+
+-- what a notice adds to the gate's word
+abbrev pub quit_step : Option Reason → Reason → ℕ
+quit_step noticed why = 33554432 * (notice_bits (Some why) - notice_bits noticed)
+
+-- what opening the gate adds to its word, and takes from it
+abbrev pub ready_step : Option Reason → ℕ
+ready_step noticed = (16777216 + (18446744073709551616 - 33554432 * notice_bits noticed)) % 18446744073709551616
+
+-- the word of a new generation
+abbrev pub new_gate : ℕ → ℕ
+new_gate generation = 134217728 * generation
 
 abbrev pub Seated : Type 0 → Type 0 → Type 0
 Seated J D = Me (Option J) (View D)
 
 module _ {J D : Type 0} where
-  -- the supervisor has the mail slot of an unused slot
-  abbrev pub Opens : Step (Option J) → Seated J D → ℕ → Seated J D → Type 0
-  Opens st m found n = n ≡ (Postmaster (with_sight (roster_of m.0) st.word Opened), (st.word, None) ∷ [])
+  -- the supervisor has armed the latch of an unused slot, and has its mail slot
+  abbrev pub Arms : Step (Option J) → Seated J D → ℕ → Seated J D → Type 0
+  Arms st m found n =
+      (k pid : ℕ) → st.word ≡ latch_place st.slots k → st.first ≡ armed_word pid
+      → n ≡ (Postmaster (with_sight (roster_of m.0) k (Opened pid)), (k, None) ∷ [])
 
   -- the worker sees an offer, or none
   abbrev pub Loads : Step (Option J) → Seated J D → ℕ → Seated J D → Type 0
@@ -170,11 +275,71 @@ module _ {J D : Type 0} where
   abbrev pub Clears : Step (Option J) → Seated J D → ℕ → Seated J D → Type 0
   Clears st m found n = n ≡ (Postmaster (with_sight (roster_of m.0) st.word Unused), [])
 
-  -- what a gathered worker knew of its children is what the supervisor knows
+  -- what a gathered worker knew of its children is what the supervisor knows, and what they heard was sent to them
   abbrev pub Compares : Step (Option J) → Seated J D → ℕ → Seated J D → Type 0
   Compares st m found n =
       (n ≡ m)
       × ((xs : List (PastChild D)) (notes : PostNotes) → (slot_at (roster_of m.0) st.word).sight ≡ Gathered xs notes → xs ≡ (slot_at (roster_of m.0) st.word).past)
+      × HeardAsSent (roster_of m.0)
+
+  -- the worker's slot is active, or no longer
+  abbrev pub Marks : Step (Option J) → Seated J D → ℕ → Seated J D → Type 0
+  Marks st m found n =
+      (o : Offer D) → (post_of m.0).work ≡ Inactive o → n ≡ (reposted m.0 (with_work (post_of m.0) (Active o)), m.1)
+
+  abbrev pub Unmarks : Step (Option J) → Seated J D → ℕ → Seated J D → Type 0
+  Unmarks st m found n =
+      (o : Offer D) → (post_of m.0).work ≡ Active o → n ≡ (reposted m.0 (with_work (post_of m.0) (Inactive o)), m.1)
+
+  -- the worker's child is attached where the word that it met allows it, and else refused
+  abbrev pub Tries : Step (Option J) → Seated J D → ℕ → Seated J D → Type 0
+  Tries st m found n =
+      (o : Offer D) → (post_of m.0).work ≡ Active o
+      → (n ≡ (reposted m.0 (tried (post_of m.0) o found), m.1)) × (generation_in found < 4294967296)
+
+  -- it has given back its place, as one that was refused or as one that was attached
+  abbrev pub BacksOut : Step (Option J) → Seated J D → ℕ → Seated J D → Type 0
+  BacksOut st m found n =
+      (o : Offer D) (g : ℕ) → (post_of m.0).work ≡ Refused o g → n ≡ (reposted m.0 (with_work (post_of m.0) (Active o)), m.1)
+
+  abbrev pub Detaches : Step (Option J) → Seated J D → ℕ → Seated J D → Type 0
+  Detaches st m found n =
+      (o : Offer D) (g : ℕ) → (post_of m.0).work ≡ Attached o g → n ≡ (reposted m.0 (detached (post_of m.0) o), m.1)
+
+  -- the supervisor has given notice, opened the gate, or begun a generation
+  abbrev pub Quits : Step (Option J) → Seated J D → ℕ → Seated J D → Type 0
+  Quits st m found n =
+      (why : Reason) → MayQuit (roster_of m.0).noticed why → st.first ≡ quit_step (roster_of m.0).noticed why
+      → n ≡ (Postmaster (after_step (roster_of m.0) (Quit why (roster_of m.0).generation)), m.1)
+
+  abbrev pub Readies : Step (Option J) → Seated J D → ℕ → Seated J D → Type 0
+  Readies st m found n = n ≡ (Postmaster (after_step (roster_of m.0) (Ready (roster_of m.0).generation)), m.1)
+
+  abbrev pub Resets : Step (Option J) → Seated J D → ℕ → Seated J D → Type 0
+  Resets st m found n = n ≡ (Postmaster (after_step (roster_of m.0) (Reset ((roster_of m.0).generation + 1))), m.1)
+
+  -- the supervisor has sent a signal to the child of a slot
+  abbrev pub Sends : Step (Option J) → Seated J D → ℕ → Seated J D → Type 0
+  Sends st m found n =
+      (k : ℕ) (o : Offer D) (signal : Signal) → st.word ≡ latch_place st.slots k → (slot_at (roster_of m.0) k).sight ≡ Assigned o
+      → st.first ≡ 2 ^ signal_number signal → n ≡ (Postmaster (after_step (roster_of m.0) (Send o.pid o.kind signal o.generation)), m.1)
+
+  -- the worker has taken the signals that stood for its child, and heeded the cancels of this pid
+  abbrev pub Takes : Step (Option J) → Seated J D → ℕ → Seated J D → Type 0
+  Takes st m found n = n ≡ (reposted m.0 (with_notes (post_of m.0) (noted_take (post_of m.0).notes found)), m.1)
+
+  abbrev pub Heeds : Step (Option J) → Seated J D → ℕ → Seated J D → Type 0
+  Heeds st m found n = n ≡ (reposted m.0 (with_notes (post_of m.0) (noted_heed (post_of m.0).notes st.first found)), m.1)
+
+  -- it has looked at the latch of a slot
+  abbrev pub LooksAtLatch : Step (Option J) → Seated J D → ℕ → Seated J D → Type 0
+  LooksAtLatch st m found n =
+      (k : ℕ) → st.word ≡ latch_place st.slots k
+      → (n ≡ (reposted m.0 (with_notes (post_of m.0) (noted_latch_look (post_of m.0).notes k found)), m.1)) × (latch_pid found < 2147483648)
+
+  -- it has made this cancel
+  abbrev pub Cancels : Cancel → Step (Option J) → Seated J D → ℕ → Seated J D → Type 0
+  Cancels x st m found n = n ≡ (reposted m.0 (with_notes (post_of m.0) (noted_cancel (post_of m.0).notes x)), m.1)
 
   module _ (told : J → D) where
     -- the mail that the supervisor holds is offered, with the child that the word has
@@ -194,7 +359,7 @@ module _ {J D : Type 0} where
     abbrev pub Ends : Step (Option J) → Seated J D → ℕ → Seated J D → Type 0
     Ends st m found n =
         (j : J) (o : Offer D) (status : Status) (active : Bool) → m.1 ≡ (st.word, Some j) ∷ [] → MayEnd (post_of m.0).work o active → st.first ≡ exit_step status
-        → n ≡ (Worker st.word (post_view (noted_exit (post_of m.0).notes) ((post_of m.0).past ++ past_child o status active (told j) ∷ []) Idle), [])
+        → n ≡ (Worker st.word (post_view (noted_exit (post_of m.0).notes o) ((post_of m.0).past ++ past_child o status active (told j) ∷ []) Idle), [])
 
     -- the supervisor has the mail of a child that had exited
     abbrev pub Releases : Step (Option J) → Seated J D → ℕ → Seated J D → Type 0

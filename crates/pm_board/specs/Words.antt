@@ -56,6 +56,10 @@ packed w =
     w.stage
     + (8 * bit w.is_active + (16 * kind_number w.kind + (128 * signal_bit w.status + (256 * status_number w.status + 65536 * w.pid))))
 
+-- the word that offers a child
+abbrev pub offered_word : ℕ → Kind → ℕ
+offered_word pid kind = packed record { stage = 1; is_active = false; kind = kind; status = status.Code 0; pid = pid }
+
 -- what a status adds to the word of a child that runs, with one stage
 abbrev pub exit_step : Status → ℕ
 exit_step s = 1 + (128 * signal_bit s + 256 * status_number s)

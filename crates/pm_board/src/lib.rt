@@ -8,6 +8,9 @@
 //! (`specs/Rule`). It holds between any two steps, and each call tells its caller what it adds to the own view.
 #![tactic(auto)]
 
+mod gate_steps;
+mod latch_steps;
+mod laws;
 mod packing;
 mod plays;
 mod post;
@@ -15,10 +18,13 @@ mod posts;
 mod roster;
 mod views;
 
+pub use laws::{
+    hears_what_was_sent, history_is_of_the_seats, reset_finds_nobody, shows_a_sound_state,
+};
 pub use post::{Post, Started};
 pub use posts::Posts;
 pub use roster::{Board, Look, Released, Roster};
 pub use views::{
-    Cancel, Heard, Home, Letter, Offer, PastChild, PostNotes, PostView, RosterNotes, RosterStep,
-    RosterView, Sight, Signal, SlotView, View, Work,
+    Cancel, Heard, Home, LatchLook, Letter, Offer, PastChild, PostNotes, PostStep, PostView,
+    RosterNotes, RosterStep, RosterView, Sight, Signal, SlotView, View, Work,
 };

@@ -1,9 +1,15 @@
-//! How a slot's word is packed. All bounds of its parts stand here.
-ghost use Rattle.std.specs.Prelude.{◌≡◌, ◌<◌, false};
-ghost use Rattle.pm_exit.specs.declared.child.Status.TheVariants.{Code};
-ghost use Rattle.pm_board.specs.Words.{packed, exit_step, stage_in, active_in, kind_in, status_in, pid_in, kind_number, status_number};
+//! How the words of slots, gate and latches are packed. All bounds of their parts stand here.
+ghost use Rattle.std.specs.Prelude.{◌≡◌, ◌^◌, ◌/◌, ◌%◌, ◌<◌, ◌≤◌};
+ghost use Rattle.pm_supervisor.specs.Children.{is_session};
+ghost use Rattle.pm_board.specs.Gate.{notice_bits, notice_in, open_in, generation_in, place_of, gate_answer};
+ghost use Rattle.pm_board.specs.Latch.{armed_word, signal_number, quit_of, signals_at, latch_pid};
+ghost use Rattle.pm_board.specs.Told.{MayQuit, quit_step, ready_step, new_gate};
+ghost use Rattle.pm_board.specs.Words.{offered_word, exit_step, stage_in, active_in, kind_in, status_in, pid_in, flag, kind_number, status_number};
 
+use crate::views::Signal;
 use pm_exit::{Kind, Status};
+use pm_life::{GateNo, Signals};
+use pm_supervisor::Reason;
 
 /// The word of a slot that is unused.
 pub(crate) const UNUSED: u64 = 0;
@@ -14,8 +20,17 @@ pub(crate) const OFFERED: u64 = 1;
 
 pub(crate) const EXITED: u64 = 3;
 
+/// What marks a slot as active.
+pub(crate) const ACTIVE: u64 = 8;
+
 /// The gate's word at first: generation 1, not open, no notice, nobody counted.
-pub(crate) const FIRST_GATE: u64 = 134_217_728;
+pub(crate) const FIRST_GATE: u64 = GENERATION;
+
+const OPEN: u64 = 16_777_216;
+
+const NOTICE: u64 = 33_554_432;
+
+const GENERATION: u64 = 134_217_728;
 
 fn number_of(kind: Kind) -> u64
     ensures is { result ≡ kind_number kind }
@@ -34,7 +49,7 @@ fn number_of(kind: Kind) -> u64
 /// The word that offers a child.
 pub(crate) fn offered(pid: u32, kind: Kind) -> u64
     requires { pid < 2147483648 }
-    ensures { result ≡ packed record { stage = 1; is_active = false; kind = kind; status = Code 0; pid = pid } }
+    ensures { result ≡ offered_word pid kind }
 {
     OFFERED + 16 * number_of(kind) + 65536 * u64::from(pid)
 }
@@ -91,4 +106,152 @@ pub(crate) fn pid(word: u64) -> u32
     ensures { result ≡ pid_in word }
 {
     (word / 65536) as u32
+}
+
+fn serves_sessions(kind: Kind) -> bool
+    ensures { result ≡ is_session kind }
+{
+    matches!(kind, Kind::Backend | Kind::Worker)
+}
+
+/// What a child adds to the gate's word: one to the count of sessions, or to that of all others.
+pub(crate) fn place(kind: Kind) -> u64
+    ensures { result ≡ place_of (is_session kind) }
+{
+    if serves_sessions(kind) { 1 } else { 4096 }
+}
+
+fn notice_at(word: u64) -> Option<Reason>
+    ensures { result ≡ notice_in word }
+{
+    match word / NOTICE % 4 {
+        0 => None,
+        1 => Some(Reason::Crash),
+        _ => Some(Reason::Stop),
+    }
+}
+
+fn is_open(word: u64) -> bool
+    ensures { result ≡ open_in word }
+{
+    word / OPEN % 2 != 0
+}
+
+/// Whether a child of this kind is let in that meets this word of the gate, where so many sessions may be attached.
+pub(crate) fn answer_at(kind: Kind, limit: u64, word: u64) -> Result<u32, GateNo>
+    requires { generation_in word < 4294967296 }
+    ensures { result ≡ gate_answer kind limit word }
+{
+    let generation = (word / GENERATION) as u32;
+    if let Some(reason) = notice_at(word) {
+        return Err(GateNo::Quit { generation, reason });
+    }
+    if !serves_sessions(kind) {
+        return Ok(generation);
+    }
+    if !is_open(word) {
+        return Err(GateNo::NotReady { generation });
+    }
+    let count = (word % 4096) as u32;
+    if u64::from(count) < limit {
+        Ok(generation)
+    } else {
+        Err(GateNo::TooMany { count })
+    }
+}
+
+fn notice_number(noticed: Option<Reason>) -> u64
+    ensures is { result ≡ notice_bits noticed }
+    ensures small { result ≤ 3 }
+{
+    match noticed {
+        None => 0,
+        Some(Reason::Crash) => 1,
+        Some(Reason::Stop) => 3,
+    }
+}
+
+/// What a notice adds to the gate's word.
+pub(crate) fn quit_adds(noticed: Option<Reason>, why: Reason) -> u64
+    requires { MayQuit noticed why }
+    ensures { result ≡ quit_step noticed why }
+{
+    NOTICE * (notice_number(Some(why)) - notice_number(noticed))
+}
+
+/// What opening the gate adds to its word.
+pub(crate) fn ready_adds(noticed: Option<Reason>) -> u64
+    ensures { result ≡ ready_step noticed }
+{
+    OPEN.wrapping_sub(NOTICE * notice_number(noticed))
+}
+
+/// The word of a latch that is armed for this pid, in which no signal stands.
+pub(crate) fn armed(pid: u32) -> u64
+    ensures { result ≡ armed_word pid }
+{
+    32 * u64::from(pid)
+}
+
+/// Clears the signals of a latch's word, and leaves its pid.
+pub(crate) const NO_SIGNALS: u64 = 18_446_744_073_709_551_584;
+
+/// The bit of a signal in a latch's word.
+pub(crate) fn signal_bit(signal: Signal) -> u64
+    ensures { result ≡ 2 ^ signal_number signal }
+{
+    match signal {
+        Signal::Quit(Reason::Crash) => 1,
+        Signal::Quit(Reason::Stop) => 2,
+        Signal::Terminate => 4,
+        Signal::Kill => 8,
+        Signal::Checkpoint => 16,
+    }
+}
+
+fn quit_among(stop: bool, crash: bool) -> Option<Reason>
+    ensures { result ≡ quit_of stop crash }
+{
+    if stop {
+        Some(Reason::Stop)
+    } else if crash {
+        Some(Reason::Crash)
+    } else {
+        None
+    }
+}
+
+fn has_bit(word: u64, bit: u64) -> bool
+    requires { 0 < bit }
+    ensures { result ≡ flag (word / bit % 2) }
+{
+    word / bit % 2 != 0
+}
+
+/// What stands in a latch's word, beside a cancel that was heeded or not.
+pub(crate) fn signals(word: u64, cancel: bool) -> Signals
+    ensures { result ≡ signals_at word cancel }
+{
+    Signals {
+        kill: has_bit(word, 8),
+        quit: quit_among(has_bit(word, 2), has_bit(word, 1)),
+        terminate: has_bit(word, 4),
+        cancel,
+        checkpoint: has_bit(word, 16),
+    }
+}
+
+/// The pid that a latch's word is armed for.
+pub(crate) fn armed_for(word: u64) -> u32
+    requires { latch_pid word < 4294967296 }
+    ensures { result ≡ latch_pid word }
+{
+    (word / 32) as u32
+}
+
+/// The gate's word in a new generation: not open, no notice, nobody counted.
+pub(crate) fn new_word(generation: u32) -> u64
+    ensures { result ≡ new_gate generation }
+{
+    GENERATION * u64::from(generation)
 }

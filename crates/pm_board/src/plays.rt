@@ -1,8 +1,11 @@
 //! The rule of the table, and what each step tells the seat that makes it.
+ghost use Rattle.std.specs.Prelude.{[]};
+ghost use Rattle.pm_board.specs.declared.views.Cancel.{Cancel};
+
 use crate::views::{Letter, View};
 use atomic_table::{Join, Play, Split, Table, TableRule};
 use std::alloc::Global;
-use std::marker::PhantomData;
+use std::marker::{Brand, PhantomData};
 
 /// How many slots there are, and how many sessions may be attached.
 #[derive(Drop)]
@@ -26,12 +29,12 @@ impl<J: Letter> TableRule<Option<J>, View<J::Told>, Limits> for Slots<J> {
 
 pub(crate) type Words<J> = Table<Option<J>, View<<J as Letter>::Told>, Limits, Slots<J>, Global>;
 
-pub(crate) struct Opens;
+pub(crate) struct Arms;
 
-impl<J, D> Play<Option<J>, View<D>> for Opens {
+impl<J, D> Play<Option<J>, View<D>> for Arms {
     ghost use Rattle.pm_board.specs.Told as told;
 
-    ghost then = { told.Opens };
+    ghost then = { told.Arms };
 }
 
 pub(crate) struct Clears;
@@ -85,6 +88,121 @@ impl<D> Join<View<D>> for Gathers {
     ghost both = { taken_in };
 
     ghost spent = { Spent };
+}
+
+pub(crate) struct Marks;
+
+impl<J, D> Play<Option<J>, View<D>> for Marks {
+    ghost use Rattle.pm_board.specs.Told as told;
+
+    ghost then = { told.Marks };
+}
+
+pub(crate) struct Unmarks;
+
+impl<J, D> Play<Option<J>, View<D>> for Unmarks {
+    ghost use Rattle.pm_board.specs.Told as told;
+
+    ghost then = { told.Unmarks };
+}
+
+pub(crate) struct Tries;
+
+impl<J, D> Play<Option<J>, View<D>> for Tries {
+    ghost use Rattle.pm_board.specs.Told as told;
+
+    ghost then = { told.Tries };
+}
+
+pub(crate) struct BacksOut;
+
+impl<J, D> Play<Option<J>, View<D>> for BacksOut {
+    ghost use Rattle.pm_board.specs.Told as told;
+
+    ghost then = { told.BacksOut };
+}
+
+pub(crate) struct Detaches;
+
+impl<J, D> Play<Option<J>, View<D>> for Detaches {
+    ghost use Rattle.pm_board.specs.Told as told;
+
+    ghost then = { told.Detaches };
+}
+
+pub(crate) struct Quits;
+
+impl<J, D> Play<Option<J>, View<D>> for Quits {
+    ghost use Rattle.pm_board.specs.Told as told;
+
+    ghost then = { told.Quits };
+}
+
+pub(crate) struct Readies;
+
+impl<J, D> Play<Option<J>, View<D>> for Readies {
+    ghost use Rattle.pm_board.specs.Told as told;
+
+    ghost then = { told.Readies };
+}
+
+pub(crate) struct Resets;
+
+impl<J, D> Play<Option<J>, View<D>> for Resets {
+    ghost use Rattle.pm_board.specs.Told as told;
+
+    ghost then = { told.Resets };
+}
+
+pub(crate) struct Sends;
+
+impl<J, D> Play<Option<J>, View<D>> for Sends {
+    ghost use Rattle.pm_board.specs.Told as told;
+
+    ghost then = { told.Sends };
+}
+
+pub(crate) struct Takes;
+
+impl<J, D> Play<Option<J>, View<D>> for Takes {
+    ghost use Rattle.pm_board.specs.Told as told;
+
+    ghost then = { told.Takes };
+}
+
+pub(crate) struct Heeds;
+
+impl<J, D> Play<Option<J>, View<D>> for Heeds {
+    ghost use Rattle.pm_board.specs.Told as told;
+
+    ghost then = { told.Heeds };
+}
+
+pub(crate) struct LooksAtLatch;
+
+impl<J, D> Play<Option<J>, View<D>> for LooksAtLatch {
+    ghost use Rattle.pm_board.specs.Told as told;
+
+    ghost then = { told.LooksAtLatch };
+}
+
+/// Which cancel a step makes. The words don't tell it, since they have no room for seed and key.
+pub(crate) trait Made {
+    ghost cancel: { Cancel };
+}
+
+impl Made for Brand {
+    ghost cancel = { record { slot = 0; pid = 0; seed = []; key = 0 } };
+}
+
+pub(crate) struct Cancels<C> {
+    cancel: PhantomData<C>,
+}
+
+impl<J, D, C: Made> Play<Option<J>, View<D>> for Cancels<C> {
+    ghost use Rattle.pm_board.specs.Told as told;
+
+    ghost then = { told.Cancels C.cancel };
 }
 
 pub(crate) struct Assigns<J> {

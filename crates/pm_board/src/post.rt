@@ -1,20 +1,17 @@
 //! A worker's seat.
-ghost use Rattle.std.specs.Prelude.{◌≡◌, ℕ, ◌<◌, ◌+◌, ◌++◌, Bool, [], ◌∷◌};
+ghost use Rattle.std.specs.Prelude.{◌≡◌, ◌<◌};
 ghost use Rattle.std.specs.Arc.{arc_value};
-ghost use Rattle.pm_board.specs.declared.views.View.TheVariants.{Worker};
 ghost use Rattle.pm_board.specs.declared.views.Work.TheVariants.{Idle};
-ghost use Rattle.pm_board.specs.declared.views.Offer.{Offer};
 ghost use Rattle.pm_board.specs.Words.{status_number};
-ghost use Rattle.pm_board.specs.Places.{EndsWell};
-ghost use Rattle.pm_board.specs.Told.{post_of, post_view, past_child, noted_exit, MayEnd};
-ghost use Rattle.pm_board.specs.Models.{PostModel, HoldsMail, StartMet};
+ghost use Rattle.pm_board.specs.Told.{post_of};
+ghost use Rattle.pm_board.specs.Models.{PostModel, IsWholePost, MayExit, HasStarted, HasExited};
 
 use crate::packing::{NEXT_STAGE, OFFERED, ended, kind, pid, stage};
 use crate::plays::{Ends, Loads, Starts, Words};
 use crate::views::{Letter, View};
 use atomic_table::Seat;
 use pm_exit::{Kind, Status};
-use std::marker::Model;
+use std::marker::{Model, PhantomData};
 use std::sync::Arc;
 
 /// What a post finds on its slot.
@@ -26,30 +23,35 @@ pub enum Started<J> {
     Job { pid: u32, kind: Kind, job: J },
 }
 
-/// The seat of the worker of one slot.
+/// The seat of the worker of one slot, at a board with a home for an H.
 #[derive(Drop)]
-pub struct Post<J: Letter + Drop> {
+pub struct Post<J: Letter + Drop, H> {
     pub(crate) words: Arc<Words<J>>,
     pub(crate) seat: Seat<Option<J>, View<J::Told>>,
     pub(crate) index: usize,
+    /// Of the child that runs.
+    pub(crate) kind: Kind,
+    pub(crate) pid: u32,
+    pub(crate) session_limit: u64,
+    pub(crate) home: PhantomData<H>,
 }
 
-impl<J: Letter + Drop> Model for Post<J> {
+impl<J: Letter + Drop, H> Model for Post<J, H> {
     ghost Value = { PostModel J.Told };
 
     ghost view = { λ r. record { table = r.seat.table_id; slot = r.index; knows = post_of r.seat.me.0 } };
 
-    ghost invariant = { λ r. ((arc_value r.words).shared.table_id ≡ r.seat.table_id) × (r.seat.me.0 ≡ Worker r.index (post_of r.seat.me.0)) × (r.seat.table_id.words ≡ r.seat.table_id.slots + 1) × (r.index < r.seat.table_id.slots) × HoldsMail r.index (post_of r.seat.me.0).work r.seat.me.1 };
+    ghost invariant = { λ r. IsWholePost (arc_value r.words).shared.table_id r.seat.table_id r.index r.kind r.pid r.session_limit r.seat.me };
 }
 
-impl<J: Letter + Drop> Post<J> {
+impl<J: Letter + Drop, H> Post<J, H> {
     /// Starts the child that is offered on the post's slot, with its mail. `Idle` exactly where the slot's word, as this
     /// call loads it, offers none. No child may run on the post.
     pub fn start(&mut self) -> Started<J>
         requires { self.old.knows.work ≡ Idle }
         ensures table { self.new.table ≡ self.old.table }
         ensures slot { self.new.slot ≡ self.old.slot }
-        ensures met { (word : ℕ) × StartMet J.told word result self.old.knows self.new.knows }
+        ensures met { HasStarted J.told result self.old.knows self.new.knows }
     {
         let found = self.words.shared.load::<Loads>(&mut self.seat, self.index);
         let found_stage = stage(found);
@@ -63,17 +65,19 @@ impl<J: Letter + Drop> Post<J> {
         let job = mail.unwrap();
         let pid = pid(found);
         let kind = kind(found);
+        self.kind = kind;
+        self.pid = pid;
         Started::Job { pid, kind, job }
     }
 
     /// Ends the child that runs on the post, from outside the gate or attached, and gives a mail back. An auxiliary child
     /// that is attached may not end with exit code 0.
     pub fn exit(&mut self, status: Status, job: J)
-        requires runs { (o : Offer J.Told) × (active : Bool) × MayEnd self.old.knows.work o active × EndsWell o.kind status active }
+        requires runs { MayExit self.old.knows.work status }
         requires status { status_number status < 256 }
         ensures table { self.new.table ≡ self.old.table }
         ensures slot { self.new.slot ≡ self.old.slot }
-        ensures knows { (o : Offer J.Told) (active : Bool) → MayEnd self.old.knows.work o active → self.new.knows ≡ post_view (noted_exit self.old.knows.notes) (self.old.knows.past ++ past_child o status active (J.told job) ∷ []) Idle }
+        ensures knows { HasExited status (J.told job) self.old.knows self.new.knows }
     {
         let step = ended(status);
         match self

@@ -1,5 +1,5 @@
 //! The posts of a new board.
-ghost use Rattle.std.specs.Prelude.{◌≡◌, [], ◌∷◌, MatchOption};
+ghost use Rattle.pm_board.specs.Models.{TakesFirst};
 
 use crate::post::Post;
 use crate::views::Letter;
@@ -7,14 +7,14 @@ use std::collections::VecDeque;
 
 /// The posts that are left, that of slot 0 first.
 #[derive(Drop)]
-pub struct Posts<J: Letter + Drop> {
-    pub(crate) left: VecDeque<Post<J>>,
+pub struct Posts<J: Letter + Drop, H> {
+    pub(crate) left: VecDeque<Post<J, H>>,
 }
 
-impl<J: Letter + Drop> Posts<J> {
+impl<J: Letter + Drop, H> Posts<J, H> {
     /// Hands out the first post that is left. None exactly where none is.
-    pub fn take(&mut self) -> Option<Post<J>>
-        ensures { MatchOption result ((self.old.left.items ≡ []) × (self.new.left.items ≡ [])) (λ post. self.old.left.items ≡ post ∷ self.new.left.items) }
+    pub fn take(&mut self) -> Option<Post<J, H>>
+        ensures { TakesFirst result self.old.left.items self.new.left.items }
     {
         self.left.pop_front()
     }

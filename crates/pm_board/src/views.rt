@@ -56,16 +56,27 @@ pub struct PastChild<D> {
 pub struct Heard {
     /// How often it asked for its signals.
     pub asked: u64,
+    /// Each answer that it was given.
     pub given: LinkedList<Signals>,
+    /// It has heeded a cancel that no answer has told yet.
+    pub heeded: bool,
     /// What its last step at the gate met.
     pub met: Option<Result<u32, GateNo>>,
 }
 
 /// A cancel that a child sent to another.
 pub struct Cancel {
+    /// The slot on whose cancel word it was made.
+    pub slot: u32,
     pub pid: u32,
     pub seed: [u8; 32],
     pub key: u32,
+}
+
+/// What a look at the latch of a slot met.
+pub struct LatchLook {
+    pub slot: u32,
+    pub word: u64,
 }
 
 /// A step that the supervisor made.
@@ -98,11 +109,18 @@ pub enum RosterStep {
     },
 }
 
+/// A step of a worker that changes what the board shows.
+pub enum PostStep {
+    Attach { pid: u32 },
+    Detach { pid: u32 },
+    Exit { pid: u32, kind: Kind },
+}
+
 /// What the supervisor sees of a slot.
 pub enum Sight<D> {
     Unused,
-    /// It is about to be assigned.
-    Opened,
+    /// It is about to be assigned, and its latch is armed for this pid.
+    Opened(u32),
     Assigned(Offer<D>),
     /// A look found its child exited: its status, and whether it was active.
     Exited(Offer<D>, Status, bool),
@@ -162,8 +180,11 @@ pub enum Work<D> {
 /// What a worker notes of its own steps.
 pub struct PostNotes {
     pub session_limit: u64,
-    /// The words that its loads met.
+    /// The words that its loads, its tries at the gate, and its takes and heeds met.
     pub met: LinkedList<u64>,
+    /// Its looks at latches.
+    pub looked: LinkedList<LatchLook>,
+    pub steps: LinkedList<PostStep>,
     /// Of the child that it runs.
     pub now: Heard,
     /// Of each child that has exited.

@@ -1,5 +1,6 @@
 -- How the driven slot moves.
-use Rattle.std.proofs.Common.{◌≡◌, ◌≢◌, ℕ, zero, suc, ◌+◌, ◌<◌, List, [], ◌∷◌, length, get_or, sym, refl, ap, ◌∙◌, subst, arith}
+use Rattle.std.proofs.Common.{◌≡◌, ◌≢◌, ℕ, zero, suc, ◌+◌, ◌<◌, ◌≤◌, List, [], ◌∷◌, length, get_or, sym, refl, ap, ◌∙◌, subst, arith}
+use Rattle.std.proofs.lemmas.List.{length-replicate}
 use mathlib.Core.Logic.{dite}
 use native.Mathlib.Decide.{ℕ_discrete}
 use Rattle.std.specs.Prelude.{Bool, true, false, Option, Some, None, MatchOption, replicate}
@@ -12,32 +13,37 @@ use Rattle.pm_board.specs.declared.views.Sight.{Sight}
 use Rattle.pm_board.specs.declared.views.Sight.TheVariants.{Unused, Assigned}
 use Rattle.pm_board.specs.declared.views.SlotView.{SlotView}
 use Rattle.pm_board.specs.declared.views.Work.TheVariants.{Idle}
-use Rattle.pm_board.specs.Places.{slot_at, slot_view, SlotServes, is_auxiliary, IsReaped, MayAssign}
+use Rattle.pm_board.specs.Places.{slot_at, slot_view, is_auxiliary, IsReaped, MayAssign}
 use Rattle.pm_board.specs.Told.{new_roster}
 use Rattle.pm_board.specs.Models.{PostModel, SlotBecame}
-use Rattle.pm_board_tests.specs.Drive.{Sees, IsFree, AllIdle}
+use Rattle.pm_board_tests.specs.Drive.{Sees, IsFree, AllIdle, ServesFrom}
 
-pub may_assign : (d : RosterView ℕ) (last pid : ℕ) (kind : Kind) → IsFree d last → SlotServes 9 4 kind → is_auxiliary kind ≡ false → last < pid → pid < 2147483648 → MayAssign d 4 pid kind
-may_assign d last pid kind free serves session new fits = let count : length d.slots ≡ 9 = free.count in let top : d.notes.last_pid ≡ last = free.last_pid in record {
+pub may_assign : (d : RosterView ℕ) (last pid : ℕ) (kind : Kind) → IsFree d last → ServesFrom 9 4 kind → is_auxiliary kind ≡ false → last < pid → pid < 2147483648 → MayAssign d 4 pid kind
+may_assign d last pid kind free serves session new fits = let count : 9 ≤ length d.slots = free.count in let top : d.notes.last_pid ≡ last = free.last_pid in record {
   slot = omega arith;
   unused = free.driven;
   new = omega arith;
   fits = fits;
-  serves = subst (λ (n : ℕ). SlotServes n 4 kind) (sym count) serves;
+  serves = serves (length d.slots) free.count;
   forerunners = λ aux. let no_ : false ≡ true = sym session ∙ aux in absurd (cc);
   reaped = λ _ k _. subst (IsReaped d.notes.last_connection (slot_at d k)) (sym (dite (ℕ_discrete k 4) (λ is. ap (λ (j : ℕ). (slot_at d j).sight) is ∙ free.driven) (free.others k))) tt;
 }
 
 pub moved : (d e : RosterView ℕ) (s : Sight ℕ) (x : SlotView ℕ) (notes : RosterNotes) (last pid : ℕ) → Sees d s last → SlotBecame 4 x notes d e → notes.last_pid ≡ pid → Sees e x.sight pid
 moved d e s x notes last pid sees became top = record {
-  count = became.count ∙ sees.count;
+  count = subst (λ (n : ℕ). 9 ≤ n) (sym became.count) sees.count;
   driven = ap (λ (y : SlotView ℕ). y.sight) became.here;
   others = λ k ne. ap (λ (y : SlotView ℕ). y.sight) (became.others k ne) ∙ sees.others k ne;
   last_pid = ap (λ (n : RosterNotes). n.last_pid) became.notes_are ∙ top;
 }
 
-pub is_free : (d : RosterView ℕ) (dealt : ℕ) → d ≡ new_roster 9 1 dealt → IsFree d 0
-is_free d dealt is = subst (λ (z : RosterView ℕ). IsFree z 0) (sym is) record { count = refl; driven = refl; others = λ k _. ap (λ (x : SlotView ℕ). x.sight) (same_everywhere 9 k (slot_view [] Unused)); last_pid = refl }
+pub is_free : (d : RosterView ℕ) (count limit dealt : ℕ) → 9 ≤ count → d ≡ new_roster count limit dealt → IsFree d 0
+is_free d count limit dealt many is = subst (λ (z : RosterView ℕ). IsFree z 0) (sym is) record {
+  count = subst (λ (n : ℕ). 9 ≤ n) (sym (length-replicate count (slot_view [] Unused))) many;
+  driven = ap (λ (x : SlotView ℕ). x.sight) (same_everywhere count 4 (slot_view [] Unused));
+  others = λ k _. ap (λ (x : SlotView ℕ). x.sight) (same_everywhere count k (slot_view [] Unused));
+  last_pid = refl;
+}
   where
     same_everywhere : {A : Type 0} (n k : ℕ) (a : A) → get_or (replicate n a) k a ≡ a
     same_everywhere zero k a = refl

@@ -1,17 +1,18 @@
--- What the tests know of a board of nine slots, of which the fifth is driven.
-use Rattle.std.specs.Prelude.{◌≡◌, ◌≢◌, ℕ, Bool, List, Some, length, slice_get}
+-- What the tests know of a board of at least nine slots, of which the fifth is driven.
+use Rattle.std.specs.Prelude.{◌≡◌, ◌≢◌, ◌≤◌, ℕ, Bool, List, Some, length, slice_get}
+use Rattle.pm_exit.specs.declared.child.Kind.{Kind}
 use Rattle.pm_exit.specs.declared.child.Status.{Status}
 use Rattle.pm_board.specs.declared.views.Offer.{Offer}
 use Rattle.pm_board.specs.declared.views.RosterView.{RosterView}
 use Rattle.pm_board.specs.declared.views.Sight.{Sight}
 use Rattle.pm_board.specs.declared.views.Sight.TheVariants.{Unused, Assigned, Exited}
 use Rattle.pm_board.specs.declared.views.Work.TheVariants.{Idle}
-use Rattle.pm_board.specs.Places.{slot_at}
+use Rattle.pm_board.specs.Places.{slot_at, SlotServes}
 use Rattle.pm_board.specs.Models.{PostModel}
 
 -- this is what the supervisor sees of the driven slot, the others are unused, and this is the last pid
 pub record Sees (d : RosterView ℕ) (sight : Sight ℕ) (last : ℕ) : Type 0 where
-  pub count : length d.slots ≡ 9
+  pub count : 9 ≤ length d.slots
   pub driven : (slot_at d 4).sight ≡ sight
   pub others : (k : ℕ) → k ≢ 4 → (slot_at d k).sight ≡ Unused
   pub last_pid : d.notes.last_pid ≡ last
@@ -31,3 +32,7 @@ HasExited d last = (o : Offer ℕ) × (status : Status) × (active : Bool) × Se
 -- no child runs on any of these posts
 abbrev pub AllIdle : List (PostModel ℕ) → Type 0
 AllIdle posts = (k : ℕ) (p : PostModel ℕ) → slice_get posts k ≡ Some p → p.knows.work ≡ Idle
+
+-- a slot serves this kind on every board of at least so many slots
+abbrev pub ServesFrom : ℕ → ℕ → Kind → Type 0
+ServesFrom least slot kind = (count : ℕ) → least ≤ count → SlotServes count slot kind

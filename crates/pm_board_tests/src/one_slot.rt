@@ -1,36 +1,28 @@
 //! One slot through a thousand children: each release gives the pid, kind, status and mail that were given.
-ghost use Rattle.std.specs.Prelude.{◌≡◌, ◌<◌, ◌+◌, false, IfOk};
+ghost use Rattle.std.specs.Prelude.{◌≡◌, ◌<◌, ◌≤◌, ◌+◌, false, IfOk};
 ghost use Rattle.pm_board.specs.Words.{status_number};
-ghost use Rattle.pm_board.specs.Places.{SlotServes, is_auxiliary};
+ghost use Rattle.pm_board.specs.Places.{is_auxiliary};
 ghost use Rattle.pm_board.specs.declared.views.Work.TheVariants.{Idle};
-ghost use Rattle.pm_board_tests.specs.Drive.{IsFree};
+ghost use Rattle.pm_board_tests.specs.Drive.{IsFree, ServesFrom};
 
-use pm_board::{Board, Letter, Look, Post, Released, Roster, Started};
+use crate::notes::Note;
+use pm_board::{Board, Look, Post, Released, Roster, Started};
 use pm_exit::{Kind, Status};
 use std::alloc::{AllocError, Global};
 use std::sync::Wait;
 use std::test::Fail;
 use std::thread;
 
+/// At least nine.
 const SLOTS: u32 = 9;
 /// A slot that serves sessions.
 const SLOT: u32 = 4;
 
 const CHILDREN: u32 = 1_000;
 
-/// A mail that is a number.
-#[derive(Drop)]
-struct Note(u64);
-
-impl Letter for Note {
-    type Told = u64;
-
-    ghost told = { λ n. n.0 };
-}
-
 // The kind that the child of this pid is given.
 fn kind_for(pid: u32) -> Kind
-    ensures serves { SlotServes 9 4 result }
+    ensures serves { ServesFrom 9 4 result }
     ensures session { is_auxiliary result ≡ false }
 {
     match pid % 3 {
@@ -53,7 +45,7 @@ fn status_for(pid: u32) -> Status
 }
 
 // One child from its assign to its release.
-fn drive<R: Wait>(rt: &R, roster: &mut Roster<Note>, index: u32) -> Released<Note>
+fn drive<R: Wait>(rt: &R, roster: &mut Roster<Note, ()>, index: u32) -> Released<Note>
     requires free { IsFree roster.old.knows index }
     requires fits { index < 1000 }
     ensures { IsFree roster.new.knows (index + 1) }
@@ -71,7 +63,7 @@ fn drive<R: Wait>(rt: &R, roster: &mut Roster<Note>, index: u32) -> Released<Not
 }
 
 // All children, one after the other, and how many releases gave what was given.
-fn drive_all<R: Wait>(rt: &R, mut roster: Roster<Note>) -> (u32, Roster<Note>)
+fn drive_all<R: Wait>(rt: &R, mut roster: Roster<Note, ()>) -> (u32, Roster<Note, ()>)
     requires { IsFree roster.knows 0 }
 {
     let mut right = 0u32;
@@ -91,7 +83,7 @@ fn drive_all<R: Wait>(rt: &R, mut roster: Roster<Note>) -> (u32, Roster<Note>)
 }
 
 // The worker of the slot: it ends each child at once, and gives the mail back with one more.
-fn work<R: Wait>(rt: &R, mut post: Post<Note>) -> Post<Note>
+fn work<R: Wait>(rt: &R, mut post: Post<Note, ()>) -> Post<Note, ()>
     requires { post.knows.work ≡ Idle }
     ensures { result.knows.work ≡ Idle }
 {
@@ -111,11 +103,12 @@ fn work<R: Wait>(rt: &R, mut post: Post<Note>) -> Post<Note>
     post
 }
 
-// A new board, and the post of the driven slot.
-fn make_board(alloc: Global) -> Result<(Roster<Note>, Post<Note>), AllocError>
+// A new board of so many slots, and the post of the driven one.
+fn make_board(alloc: Global, slots: u32) -> Result<(Roster<Note, ()>, Post<Note, ()>), AllocError>
+    requires { (9 ≤ slots) × (slots ≤ 407) }
     ensures { IfOk result (λ made. IsFree made.0.knows 0 × (made.1.knows.work ≡ Idle)) }
 {
-    let (roster, mut posts) = Board::new::<Note>(alloc, SLOTS, 1)?;
+    let (roster, mut posts) = Board::new::<Note, ()>(alloc, slots, 1, ())?;
     for _ in 0..SLOT {
         posts.take();
     }
@@ -127,7 +120,7 @@ fn make_board(alloc: Global) -> Result<(Roster<Note>, Post<Note>), AllocError>
 
 #[test]
 fn a_thousand_children_of_one_slot(rt: HostRuntime) -> Result<(), Fail> {
-    let (roster, post) = make_board(rt.alloc())?;
+    let (roster, post) = make_board(rt.alloc(), SLOTS)?;
     let ((right, roster), post) = thread::join(&rt, || drive_all(&rt, roster), || work(&rt, post));
     drop(post);
     assert_eq!(rt; roster.used(), 0);

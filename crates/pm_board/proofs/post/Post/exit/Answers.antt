@@ -21,4 +21,4 @@ invariant_of-self g c =
     let has = steps.holds_none _ _ _ _ _ inv.4 may in
     let is = steps.exchanged _ _ _ _ _ _ (steps.doing_at c.self.inside.index c.self.inside.seat.me _ _ inv.1 refl has) c.exchange.ensures.3 in
     let end = steps.ended_as g.J.Letter.told 0 _ 0 _ c.args.status runs.1 _ _ _ _ _ runs.0 c.args.job is c.ended-step.ensures may c.fetch_add.ensures.2 in
-    steps.post_sealed _ _ _ _ _ _ _ inv.0 (c.fetch_add.ensures.0 ∙ c.exchange.ensures.0) inv.2 inv.3 end refl
+    steps.post_sealed _ _ _ _ _ _ _ _ _ _ inv.0 (c.fetch_add.ensures.0 ∙ c.exchange.ensures.0) inv.2 inv.3 end refl tt inv.6 tt inv.8

@@ -1,4 +1,4 @@
-use Rattle.std.proofs.Common.{rules, ◌≡◌, ℕ, ◌+◌, ◌≤◌, List, [], length, arith, refl, sym, ap, ◌∙◌, subst}
+use Rattle.std.proofs.Common.{rules, ◌≡◌, ℕ, ◌+◌, ◌*◌, ◌≤◌, List, [], length, arith, refl, sym, ap, ◌∙◌, subst}
 use Rattle.std.specs.Prelude.{Some, slice_get}
 use Rattle.std.proofs.lemmas.List.{length-replicate}
 use Rattle.pm_board.specs.declared.views.View.TheVariants.{Postmaster}
@@ -11,15 +11,16 @@ use Rattle.pm_board.proofs.Steps as steps
 use Rattle.pm_board.proofs.roster.Board.new.Goals as goal
 
 pub vacant-requires : goal.vacant-requires
-vacant-requires g c = steps.begins_as g.J.Letter.told c.from-2.result c.args.slots c.from.result c.from-2.result c.as_slice.result.now (search rules) (search rules) refl
+vacant-requires g c = steps.begins_as g.J.Letter.told c.from-2.result c.args.slots c.from.result c.from-2.result c.as_slice.result.now (search rules) (search rules) refl c.requires.1
+    (let e : c.from-2.result ≡ c.args.session_limit = search rules in let l : c.args.session_limit ≤ 200 = c.requires.2 in omega arith)
 
 pub invariant_of-roster : goal.invariant_of-roster
 invariant_of-roster g c =
     let w = c.in_ok-words.ensures in
     let n : ℕ = c.args.slots in
     let same : c.from.result ≡ n = search rules in
-    let wide : length c.as_slice.result.now ≡ n + 1 = search rules in
-    let words : c.in_ok-words.seat.table_id.words ≡ n + 1 = ap (λ z. z.words) w.2 ∙ w.0 ∙ wide in
+    let wide : length c.as_slice.result.now ≡ 3 * n + 1 = search rules in
+    let words : c.in_ok-words.seat.table_id.words ≡ 3 * n + 1 = ap (λ z. z.words) w.2 ∙ w.0 ∙ wide in
     let slots : c.in_ok-words.seat.table_id.slots ≡ n = ap (λ z. z.slots) w.2 ∙ w.1 in
     let count = ap (λ m. length (roster_of m.0).slots) w.4 ∙ length-replicate c.from.result _ ∙ same in (
       ap (λ b. b.shared.table_id) c.in_ok-new.ensures.ok ∙ sym w.2,
@@ -28,6 +29,8 @@ invariant_of-roster g c =
       count ∙ sym slots,
       subst (λ (z : ℕ). z ≤ 407) (sym slots) c.requires.1,
       sym (ap (λ m. used_in (roster_of m.0).slots) w.4 ∙ steps.used_none _ c.from.result),
+      sym (ap (λ m. (roster_of m.0).generation) w.4),
+      sym (ap (λ m. (roster_of m.0).noticed) w.4),
     )
 
 pub loop-index-preserved : goal.loop-index-preserved
@@ -44,4 +47,5 @@ loop-index-preserved g c =
       below,
       λ k p e. steps.one_more F c.loop-index.left.items c.in_ok-post.post (made ∙ ap F (sym inv.1)) inv.3 k p (subst (λ (z : List (PostModel g.row.J-Told.Denot)). slice_get z k ≡ Some p) c.in_ok-push_back.ensures.items e)
           ∙ (λ j. record { table = sym c.deal.ensures.table j; slot = k; knows = idle_post c.args.session_limit }),
+      c.deal.ensures.home ∙ inv.4,
     )

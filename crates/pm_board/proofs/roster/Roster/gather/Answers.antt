@@ -40,4 +40,4 @@ invariant_of-self g c =
     let near : c.post.inside.index < length d.slots = subst (λ n. c.post.inside.index < n) (ap (λ z. z.slots) both ∙ sym inv.3) inv'.3 in
     let sight = ap (λ v. (slot_at v.knows c.post.inside.index).sight) c.self.view_is ∙ ap (λ v. (slot_at c.args.self.now.knows v.slot).sight) c.post.view_is ∙ c.requires.slot in
     let is = c.join_seat.ensures.2 ∙ ap (λ z. (taken_in z.0 c.post.inside.seat.me.0, z.1)) inv.1 ∙ ap (λ z. (taken_in (Postmaster (roster_of c.self.inside.seat.me.0)) z, [])) inv'.1 in
-    steps.sealed _ _ _ _ _ _ inv.0 (c.load.ensures.0 ∙ c.join_seat.ensures.0) inv.2 inv.4 (c.load.ensures.2.0 ∙ is) (length-set d.slots _ _ ∙ inv.3) (inv.5 ∙ sym (steps.used_same d _ _ d.notes _ near sight refl))
+    steps.sealed _ _ _ _ _ _ _ _ inv.0 (c.load.ensures.0 ∙ c.join_seat.ensures.0) inv.2 inv.4 (c.load.ensures.2.0 ∙ is) (length-set d.slots _ _ ∙ inv.3) (inv.5 ∙ sym (steps.used_same d _ _ d.notes _ near sight refl)) inv.6 inv.7

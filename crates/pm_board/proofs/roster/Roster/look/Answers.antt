@@ -16,4 +16,4 @@ invariant_of-self g c =
     let inv = c.self.invariant in
     let e = ap (λ v. v.knows) c.self.view_is in
     let near = subst (λ z. c.args.slot < length z.slots) (sym e) c.requires.0 in
-    steps.looked_seal _ _ _ _ 0 _ _ _ _ _ _ inv.0 c.load-found.ensures.0 inv.2 inv.4 inv.1 inv.3 near inv.5 (ap (λ z. (slot_at z c.args.slot).sight) e ∙ c.requires.1.1) c.load-found.ensures.2
+    steps.looked_seal _ _ _ _ _ _ 0 _ _ _ _ _ _ inv.0 c.load-found.ensures.0 inv.2 inv.4 inv.1 inv.3 near inv.5 inv.6 inv.7 (ap (λ z. (slot_at z c.args.slot).sight) e ∙ c.requires.1.1) c.load-found.ensures.2

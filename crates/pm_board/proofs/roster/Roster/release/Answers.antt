@@ -91,5 +91,5 @@ invariant_of-self g c =
     let got = steps.released_as g.J.Letter.told 0 _ _ _ _ _ _ d _ inv.1 sight c.fetch_add-found.ensures.2 in
     let is = steps.exchanged _ _ _ _ _ _ got.3.1 c.exchange-mail.ensures.3 in
     let end = c.store.ensures.2 ∙ ap (λ m. (Postmaster (with_sight (roster_of m.0) k Unused), [])) is ∙ ap (λ z. (Postmaster z, [])) (steps.cleared d k _ _ short) in
-    steps.sealed _ _ _ _ _ _ inv.0 (c.store.ensures.0 ∙ c.exchange-mail.ensures.0 ∙ c.fetch_add-found.ensures.0) inv.2 inv.4 end (length-set d.slots k _ ∙ inv.3)
-    (steps.one_less _ _ _ inv.5 (steps.used_less d k (slot_view ((slot_at d k).past ++ past_child c.requires.1.0 c.requires.1.1 c.requires.1.2 (g.J.Letter.told got.3.0) ∷ []) Unused) (noted_release d.notes c.requires.1.0) _ short sight refl refl))
+    steps.sealed _ _ _ _ _ _ _ _ inv.0 (c.store.ensures.0 ∙ c.exchange-mail.ensures.0 ∙ c.fetch_add-found.ensures.0) inv.2 inv.4 end (length-set d.slots k _ ∙ inv.3)
+    (steps.one_less _ _ _ inv.5 (steps.used_less d k (slot_view ((slot_at d k).past ++ past_child c.requires.1.0 c.requires.1.1 c.requires.1.2 (g.J.Letter.told got.3.0) ∷ []) Unused) (noted_release d.notes c.requires.1.0) _ short sight refl refl)) inv.6 inv.7

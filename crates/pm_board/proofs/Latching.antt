@@ -1,0 +1,536 @@
+-- Each step at a latch or at the cancels of a slot keeps the rule.
+use Rattle.std.proofs.Common.{◌≡◌, ◌≢◌, ℕ, zero, suc, ◌+◌, ◌*◌, ◌/◌, ◌^◌, ◌<◌, ◌≤◌, ◌==◌, max, List, [], ◌∷◌, ◌++◌, length, get_or, set, sym, refl, ap, ◌∙◌, subst, arith, length-set, append-nil, get_or-set_other, get_or-set_same, eq-eqb, ne_eqb}
+use Rattle.std.proofs.lemmas.List.Elements.{Contains-append_left}
+use Rattle.std.proofs.lemmas.Nat.{or_shr}
+use Rattle.std.proofs.lemmas.Nat.Bits.{bit_at_or, bit_at-pow_same, bit_at-pow_other, bit_at-lt, bit_at_cat_low, bit_at-zero, and_high_mask}
+use Rattle.std.specs.Int.Bits.{or_zero_r}
+use lib.ListN.{get_elem?}
+use lib.Seq.{set-get_or}
+use mathlib.Core.Logic.{dite}
+use mathlib.Core.Option.{none, some}
+use native.Mathlib.Decide.{ℕ_discrete, dec_le}
+use prog.Atomic.{either}
+use Rattle.std.specs.Prelude.{Bool, true, false, ◌&&◌, eqb, Option, Some, None, bit_or, bit_and}
+use Rattle.std.specs.Int.{bit_at}
+use Rattle.std.specs.List.{AllByRecursion}
+use Rattle.atomic_table.specs.Table.{step, Act, keeps, takes, Valid, stepped, carried_after, Allows}
+use Rattle.atomic_table.proofs.Lists.{set_here, set_else, exchanged}
+use Rattle.pm_exit.specs.declared.child.Kind.{Kind}
+use Rattle.pm_keys.specs.CancelKey.{cancel_key}
+use Rattle.pm_supervisor.specs.declared.Reason.TheVariants as reason
+use Rattle.pm_life.specs.declared.life.Signals.{Signals}
+use Rattle.pm_board.specs.declared.views.Cancel.{Cancel}
+use Rattle.pm_board.specs.declared.views.Heard.{Heard}
+use Rattle.pm_board.specs.declared.views.Offer.{Offer}
+use Rattle.pm_board.specs.declared.views.PastChild.{PastChild}
+use Rattle.pm_board.specs.declared.views.PostNotes.{PostNotes}
+use Rattle.pm_board.specs.declared.views.RosterStep.{RosterStep}
+use Rattle.pm_board.specs.declared.views.RosterStep.TheVariants.{Send}
+use Rattle.pm_board.specs.declared.views.RosterView.{RosterView}
+use Rattle.pm_board.specs.declared.views.Sight.TheVariants.{Unused, Opened, Assigned, Gathered}
+use Rattle.pm_board.specs.declared.views.Signal.{Signal}
+use Rattle.pm_board.specs.declared.views.Signal.TheVariants as signal
+use Rattle.pm_board.specs.declared.views.SlotView.{SlotView}
+use Rattle.pm_board.specs.declared.views.Work.{Work}
+use Rattle.pm_board.specs.declared.views.Work.TheVariants.{Idle, Sees, Inactive, Active, Refused, Attached}
+use Rattle.pm_board.specs.declared.views.PostView.{PostView}
+use Rattle.pm_board.specs.declared.views.View.{View}
+use Rattle.pm_board.specs.declared.views.View.TheVariants.{Postmaster, Worker}
+use Rattle.pm_board.specs.Words.{bit, flag}
+use Rattle.pm_board.specs.Places.{slot_view, slot_at}
+use Rattle.pm_board.specs.Gate.{sum_below, GateOk, gate_of}
+use Rattle.pm_board.specs.Latch.{latch_place, cancel_place, signal_number, latch_pid, armed_word, stands, quit_of, signals_at, is_crash, is_stop, is_given}
+use Rattle.pm_board.specs.Latches.{is_send, times_sent, times_given, HeardRightly, HearsRightly, ArmedFor, OfRunning, EachHeard, HeardBy, beside, waiting, times_told, times_made, WereMade, LatchOk, latch_at, cancel_at, Latches}
+use Rattle.pm_board.specs.Rule.{Phase, unused, opened, offered, running, ended, collected, gathered, Seen, Does, Cell, put, at_put}
+use Rattle.pm_board.specs.Seats.{is_gathered}
+use Rattle.pm_board.specs.History.{Kept}
+use Rattle.pm_board.specs.Told.{Seated, with_slot, with_sight, with_notes, child_in, after_step, answered, noted_take, noted_heed, noted_latch_look, noted_cancel, Arms, Sends, Takes, Heeds, LooksAtLatch, Cancels}
+use Rattle.pm_board.proofs.Bits.{bit_small}
+use Rattle.pm_board.proofs.Counts.{count_moves}
+use Rattle.pm_board.proofs.Moves.{rebased, word_step, word_turn, slot_turn, St}
+use Rattle.pm_board.proofs.Gates.{uncounted, uncounted_notes, gate_moves, once_still}
+use Rattle.pm_board.proofs.Latches.{all_more, no_release, send_is_no_release, sent-append, unreleased_all, latch_here, latch-more, hears-more, running_map, each-map, cancels_stay, cancelled_more, latches_moved, latches_word}
+use Rattle.pm_board.proofs.Seats.{seats_step, seats_turn, seats_still}
+use Rattle.pm_board.proofs.Histories.{kept, same_history, quiet, send_history}
+use Rattle.pm_board.proofs.Keeps.{at_phase, owned, see_unused, pids_drop, does_run, does_act, does_back, does_stay}
+
+same_number : (a b : ℕ) → (a == b) ≡ true → a ≡ b
+same_number a b is = dite (ℕ_discrete a b) (λ e. e) (λ ne. let no_ : true ≡ false = sym is ∙ ne_eqb a b ne in absurd (cc))
+
+-- one signal of a word
+
+pow_low : (b : ℕ) → b < 5 → 2 ^ b / 32 ≡ 0
+pow_low zero l = omega arith
+pow_low (suc zero) l = omega arith
+pow_low (suc (suc zero)) l = omega arith
+pow_low (suc (suc (suc zero))) l = omega arith
+pow_low (suc (suc (suc (suc zero)))) l = omega arith
+pow_low (suc (suc (suc (suc (suc b))))) l = absurd (omega arith)
+
+-- a signal that is sent leaves the pid
+pub pid_stays : (word b : ℕ) → b < 5 → latch_pid (bit_or word (2 ^ b)) ≡ latch_pid word
+pid_stays word b l = or_shr word (2 ^ b) 5 ∙ (ap (λ (z : ℕ). bit_or (word / 32) z) (pow_low b l) ∙ or_zero_r (word / 32))
+
+-- and lets its own bit stand
+bits_after : (word b number : ℕ) → bit_at (bit_or word (2 ^ b)) number ≤ bit_at word number + bit (b == number)
+bits_after word b number = let e : bit_at (bit_or word (2 ^ b)) number ≡ max (bit_at word number) (bit_at (2 ^ b) number) = bit_at_or word (2 ^ b) number in dite (ℕ_discrete b number)
+    (λ is. let one : bit (b == number) ≡ 1 = ap bit (eq-eqb b number is) in let low : bit_at (2 ^ b) number < 2 = bit_at-lt (2 ^ b) number in let low' : bit_at word number < 2 = bit_at-lt word number in omega arith)
+    (λ ne. let z : bit_at (2 ^ b) number ≡ 0 = bit_at-pow_other b number (λ same. ne (sym same)) in omega arith)
+
+-- the word whose signals are cleared
+module _ (word : ℕ) (small : word < 18446744073709551616) where
+  cleared : bit_and word 18446744073709551584 ≡ word / 32 * 32
+  cleared = and_high_mask 64 5 (omega arith) word small
+
+  pub cleared_pid : latch_pid (bit_and word 18446744073709551584) ≡ latch_pid word
+  cleared_pid = let e : bit_and word 18446744073709551584 ≡ word / 32 * 32 = cleared in omega arith
+
+  pub cleared_bits : (number : ℕ) → number < 5 → bit_at (bit_and word 18446744073709551584) number ≡ 0
+  cleared_bits number l = ap (λ (w : ℕ). bit_at w number) (cleared ∙ (let f : word / 32 * 32 ≡ word / 32 * 2 ^ 5 + 0 = omega arith in f)) ∙ (bit_at_cat_low (word / 32) 5 0 number l ∙ bit_at-zero number)
+
+pub armed_pid : (pid : ℕ) → latch_pid (armed_word pid) ≡ pid
+armed_pid pid = omega arith
+
+pub armed_bits : (pid number : ℕ) → number < 5 → bit_at (armed_word pid) number ≡ 0
+armed_bits pid number l = ap (λ (w : ℕ). bit_at w number) (let f : 32 * pid ≡ pid * 2 ^ 5 + 0 = omega arith in f) ∙ (bit_at_cat_low pid 5 0 number l ∙ bit_at-zero number)
+
+bit_flag : (n : ℕ) → bit (flag n) ≤ n
+bit_flag zero = omega arith
+bit_flag (suc n) = omega arith
+
+crash_of : (s c : Bool) → bit (is_crash (quit_of s c)) ≤ bit c
+crash_of true true = omega arith
+crash_of true false = omega arith
+crash_of false true = omega arith
+crash_of false false = omega arith
+
+stop_of : (s c : Bool) → bit (is_stop (quit_of s c)) ≤ bit s
+stop_of true c = omega arith
+stop_of false true = omega arith
+stop_of false false = omega arith
+
+-- what is given stood in the word
+given_stands : (word : ℕ) (b : Bool) (number : ℕ) → number < 5 → bit (is_given number (signals_at word b)) ≤ bit_at word number
+given_stands word b zero l = let x : bit (is_crash (quit_of (stands (signal.Quit reason.Stop) word) (stands (signal.Quit reason.Crash) word))) ≤ bit (stands (signal.Quit reason.Crash) word) = crash_of (stands (signal.Quit reason.Stop) word) (stands (signal.Quit reason.Crash) word) in
+    let y : bit (stands (signal.Quit reason.Crash) word) ≤ bit_at word 0 = bit_flag (bit_at word 0) in omega arith
+given_stands word b (suc zero) l = let x : bit (is_stop (quit_of (stands (signal.Quit reason.Stop) word) (stands (signal.Quit reason.Crash) word))) ≤ bit (stands (signal.Quit reason.Stop) word) = stop_of (stands (signal.Quit reason.Stop) word) (stands (signal.Quit reason.Crash) word) in
+    let y : bit (stands (signal.Quit reason.Stop) word) ≤ bit_at word 1 = bit_flag (bit_at word 1) in omega arith
+given_stands word b (suc (suc zero)) l = bit_flag (bit_at word 2)
+given_stands word b (suc (suc (suc zero))) l = bit_flag (bit_at word 3)
+given_stands word b (suc (suc (suc (suc zero)))) l = bit_flag (bit_at word 4)
+given_stands word b (suc (suc (suc (suc (suc n))))) l = absurd (omega arith)
+
+none_given : (number : ℕ) (s : Signals) → 5 ≤ number → bit (is_given number s) ≡ 0
+none_given zero s l = absurd (omega arith)
+none_given (suc zero) s l = absurd (omega arith)
+none_given (suc (suc zero)) s l = absurd (omega arith)
+none_given (suc (suc (suc zero))) s l = absurd (omega arith)
+none_given (suc (suc (suc (suc zero)))) s l = absurd (omega arith)
+none_given (suc (suc (suc (suc (suc n))))) s l = refl
+
+given-append : (number : ℕ) (xs : List Signals) (s : Signals) → times_given number (xs ++ s ∷ []) ≡ times_given number xs + bit (is_given number s)
+given-append number [] s = omega arith
+given-append number (x ∷ xs) s = let h : times_given number (xs ++ s ∷ []) ≡ times_given number xs + bit (is_given number s) = given-append number xs s in omega arith
+
+pub number_small : (s : Signal) → signal_number s < 5
+number_small (signal.Quit reason.Crash) = omega arith
+number_small (signal.Quit reason.Stop) = omega arith
+number_small signal.Terminate = omega arith
+number_small signal.Kill = omega arith
+number_small signal.Checkpoint = omega arith
+
+abbrev signal_of : ℕ → Signal
+signal_of zero = signal.Quit reason.Crash
+signal_of (suc zero) = signal.Quit reason.Stop
+signal_of (suc (suc zero)) = signal.Terminate
+signal_of (suc (suc (suc zero))) = signal.Kill
+signal_of (suc (suc (suc (suc n)))) = signal.Checkpoint
+
+signal_again : (s : Signal) → signal_of (signal_number s) ≡ s
+signal_again (signal.Quit reason.Crash) = refl
+signal_again (signal.Quit reason.Stop) = refl
+signal_again signal.Terminate = refl
+signal_again signal.Kill = refl
+signal_again signal.Checkpoint = refl
+
+-- a signal is told by its bit
+pub same_signal : (s t : Signal) → 2 ^ signal_number s ≡ 2 ^ signal_number t → s ≡ t
+same_signal s t e = sym (signal_again s) ∙ (ap signal_of (same (signal_number s) (signal_number t) e) ∙ signal_again t)
+  where
+    same : (a b : ℕ) → 2 ^ a ≡ 2 ^ b → a ≡ b
+    same a b e = dite (ℕ_discrete a b) (λ is. is) (λ ne. let one : bit_at (2 ^ a) a ≡ 1 = bit_at-pow_same a in let none_ : bit_at (2 ^ b) a ≡ 0 = bit_at-pow_other b a ne in let z : bit_at (2 ^ a) a ≡ bit_at (2 ^ b) a = ap (λ (w : ℕ). bit_at w a) e in absurd (omega arith))
+
+-- a send counts for its signal and its pid
+sent_more : (number pid g : ℕ) (kind : Kind) (s : Signal) (steps : List RosterStep) → times_sent number pid (steps ++ Send pid kind s g ∷ []) ≡ times_sent number pid steps + bit (signal_number s == number)
+sent_more number pid g kind s steps = let h : times_sent number pid (steps ++ Send pid kind s g ∷ []) ≡ times_sent number pid steps + times_sent number pid (Send pid kind s g ∷ []) = sent-append number pid steps (Send pid kind s g ∷ []) in
+    let e : bit (is_send number pid (Send pid kind s g)) ≡ bit (signal_number s == number) = ap (λ (b : Bool). bit (b && (signal_number s == number))) (eq-eqb pid pid refl) in omega arith
+
+module _ {D : Type 0} where
+  -- a worker that runs a child
+  pub does_child : (ph : Phase D) (w : Work D) (o : Offer D) → Does ph w → child_in w ≡ Some o → (a : Bool) × (ph ≡ running o a)
+  does_child ph Idle o does is = absurd (cc)
+  does_child ph (Sees word) o does is = absurd (cc)
+  does_child ph (Inactive p) o does is = let it : p ≡ o = cc in (false, does_run ph p does ∙ (λ i. running (it i) false))
+  does_child ph (Active p) o does is = let it : p ≡ o = cc in (true, does_act ph p does ∙ (λ i. running (it i) true))
+  does_child ph (Refused p g) o does is = let it : p ≡ o = cc in (true, does_back ph p g does ∙ (λ i. running (it i) true))
+  does_child ph (Attached p g) o does is = let it : p ≡ o = cc in (true, does_stay ph p g does ∙ (λ i. running (it i) true))
+
+  -- the latch of an assigned slot is armed for its child
+  armed_assigned : (pid : ℕ) (ph : Phase D) (past : List (PastChild D)) (o : Offer D) → Seen ph past (Assigned o) → ArmedFor pid ph → pid ≡ o.pid
+  armed_assigned pid unused past o seen armed = absurd (cc)
+  armed_assigned pid (opened q) past o seen armed = absurd (cc)
+  armed_assigned pid (offered p) past o seen armed = let same : Assigned p ≡ Assigned o = sym seen in let it : p ≡ o = cc in armed ∙ ap (λ (z : Offer D). z.pid) it
+  armed_assigned pid (running p a) past o seen armed = let same : Assigned p ≡ Assigned o = sym seen in let it : p ≡ o = cc in armed ∙ ap (λ (z : Offer D). z.pid) it
+  armed_assigned pid (ended p st a b) past o seen armed = armed ∙ ap (λ (z : Offer D). z.pid) (sym seen)
+  armed_assigned pid (collected p st a) past o seen armed = absurd (cc)
+  armed_assigned pid gathered past o seen armed = let no_ : Assigned o ≡ Gathered past seen.0 = seen.1 in absurd (cc)
+
+made-append : (pid : ℕ) (xs : List Cancel) (x : Cancel) → times_made pid (xs ++ x ∷ []) ≡ times_made pid xs + bit (x.pid == pid)
+made-append pid [] x = omega arith
+made-append pid (y ∷ xs) x = let h : times_made pid (xs ++ x ∷ []) ≡ times_made pid xs + bit (x.pid == pid) = made-append pid xs x in omega arith
+
+waiting_small : (c p : ℕ) → waiting c p ≤ 1
+waiting_small zero p = omega arith
+waiting_small (suc c) p = let b : bit (suc c == p) < 2 = bit_small (suc c == p) in omega arith
+
+told-append : (xs : List Signals) (s : Signals) → times_told (xs ++ s ∷ []) ≡ times_told xs + bit s.cancel
+told-append [] s = omega arith
+told-append (y ∷ xs) s = let h : times_told (xs ++ s ∷ []) ≡ times_told xs + bit s.cancel = told-append xs s in omega arith
+
+module _ (steps : List RosterStep) (x : ℕ → ℕ → Type 0) where
+  -- a child has taken what stood
+  hears_taken : (latch pid g : ℕ) (h : Heard) → latch < 18446744073709551616 → HearsRightly steps x latch pid g h → HearsRightly steps x (bit_and latch 18446744073709551584) pid g (answered h (signals_at latch h.heeded))
+  hears_taken latch pid g h full r = let s : Signals = signals_at latch h.heeded in record {
+    so_far = record {
+      sent = λ number. let all : times_given number (h.given ++ s ∷ []) ≡ times_given number h.given + bit (is_given number s) = given-append number h.given s in dite (dec_le (number + 1) 5)
+          (λ small. let stood : bit (is_given number s) ≤ bit_at latch number = given_stands latch h.heeded number (omega arith) in let was : times_given number h.given + bit_at latch number ≤ times_sent number pid steps = r.still number (omega arith) in omega arith)
+          (λ big. let none_ : bit (is_given number s) ≡ 0 = none_given number s (omega arith) in let was : times_given number h.given ≤ times_sent number pid steps = r.so_far.sent number in omega arith);
+      cancels = subst (x pid) (let more : times_told (h.given ++ s ∷ []) ≡ times_told h.given + bit s.cancel = told-append h.given s in let all_ : times_told h.given + bit h.heeded ≡ times_told (h.given ++ s ∷ []) + bit false = omega arith in all_) r.so_far.cancels;
+      met = r.so_far.met;
+    };
+    still = λ number small. let all : times_given number (h.given ++ s ∷ []) ≡ times_given number h.given + bit (is_given number s) = given-append number h.given s in
+        let stood : bit (is_given number s) ≤ bit_at latch number = given_stands latch h.heeded number small in let was : times_given number h.given + bit_at latch number ≤ times_sent number pid steps = r.still number small in
+        let z : bit_at (bit_and latch 18446744073709551584) number ≡ 0 = cleared_bits latch full number small in omega arith;
+  }
+
+  -- a child has heeded a cancel, or met none
+  hears_heeded : ((p m m' : ℕ) → m' ≤ m → x p m → x p m') → (latch pid g cancel : ℕ) (h : Heard) → 0 < pid → HearsRightly steps (beside x cancel) latch pid g h → HearsRightly steps (beside x (either (eqb cancel pid) 0 cancel)) latch pid g record h { heeded = cancel == pid }
+  hears_heeded less_ latch pid g cancel h pos r = record {
+    so_far = record { sent = r.so_far.sent; cancels = less_ pid (times_told h.given + bit h.heeded + waiting cancel pid) _ (moved cancel pid pos (times_told h.given) (bit h.heeded)) r.so_far.cancels; met = r.so_far.met };
+    still = r.still;
+  }
+    where
+      moved : (c p : ℕ) → 0 < p → (t b : ℕ) → t + bit (c == p) + waiting (either (eqb c p) 0 c) p ≤ t + b + waiting c p
+      moved zero p pos t b = let z : bit (zero == p) ≡ 0 = ap bit (ne_eqb zero p (λ e. absurd (omega arith))) in exchanged zero p 0 (λ w. t + bit (zero == p) + waiting w p ≤ t + b + waiting zero p) (λ _. omega arith) (λ _. omega arith)
+      moved (suc c) p pos t b = exchanged (suc c) p 0 (λ w. t + bit (suc c == p) + waiting w p ≤ t + b + waiting (suc c) p) (λ _. omega arith)
+          (λ ne. let z : bit (suc c == p) ≡ 0 = ap bit (ne_eqb (suc c) p ne) in omega arith)
+
+  -- what was heard before stays right where the cancel is heeded
+  heard_still : ((p m m' : ℕ) → m' ≤ m → x p m → x p m') → (own cancel pid g : ℕ) (h : Heard) → HeardRightly steps (beside x cancel) pid g h → HeardRightly steps (beside x (either (eqb cancel own) 0 cancel)) pid g h
+  heard_still less_ own cancel pid g h r = record { sent = r.sent; cancels = less_ pid (times_told h.given + bit h.heeded + waiting cancel pid) _ (exchanged cancel own 0 (λ w. times_told h.given + bit h.heeded + waiting w pid ≤ times_told h.given + bit h.heeded + waiting cancel pid) (λ _. omega arith) (λ _. omega arith)) r.cancels; met = r.met }
+
+module _ (steps : List RosterStep) (x : ℕ → ℕ → Type 0) where
+  module _ {D : Type 0} (latch cancel : ℕ) (o : Offer D) (a : Bool) (seat : ℕ) (w : PostView D) (ok : LatchOk steps x latch cancel record { phase = running o a; seat = seat; post = w }) where
+    latch_taken : latch < 18446744073709551616 → LatchOk steps x (bit_and latch 18446744073709551584) cancel record { phase = running o a; seat = seat; post = with_notes w (noted_take w.notes latch) }
+    latch_taken full = record {
+      armed = cleared_pid latch full ∙ ok.armed;
+      fits = subst (λ (z : ℕ). z < 2147483648) (sym (cleared_pid latch full)) ok.fits;
+      standing = λ number small. let z : bit_at (bit_and latch 18446744073709551584) number ≡ 0 = cleared_bits latch full number small in omega arith;
+      cancel_is = ok.cancel_is;
+      now = hears_taken steps (beside x cancel) latch o.pid o.generation w.notes.now full ok.now;
+      past = ok.past;
+      unreleased = ok.unreleased;
+      named = ok.named;
+      keyed = ok.keyed;
+    }
+
+    latch_heeded : ((p m m' : ℕ) → m' ≤ m → x p m → x p m') → LatchOk steps x latch (either (eqb cancel o.pid) 0 cancel) record { phase = running o a; seat = seat; post = with_notes w (noted_heed w.notes o.pid cancel) }
+    latch_heeded less_ = record {
+      armed = ok.armed;
+      fits = ok.fits;
+      standing = ok.standing;
+      cancel_is = exchanged cancel o.pid 0 (λ z. 0 < z → x z 1) (λ _ pos. absurd (omega arith)) (λ _. ok.cancel_is);
+      now = hears_heeded steps x less_ latch o.pid o.generation cancel w.notes.now ok.named ok.now;
+      past = each-map _ _ (λ y h r. heard_still steps x less_ o.pid cancel y.offer.pid y.offer.generation h r) w.past w.notes.heard ok.past;
+      unreleased = ok.unreleased;
+      named = ok.named;
+      keyed = ok.keyed;
+    }
+
+  -- a signal was sent to the child of a slot
+  module _ (latch cancel pid g : ℕ) (kind : Kind) (s : Signal) where
+    abbrev after : List RosterStep
+    after = steps ++ Send pid kind s g ∷ []
+
+    abbrev latch' : ℕ
+    latch' = bit_or latch (2 ^ signal_number s)
+
+    sent_now : {D : Type 0} (ph : Phase D) (h : Heard) → latch_pid latch ≡ pid → ArmedFor (latch_pid latch) ph → OfRunning (λ o. HearsRightly steps (beside x cancel) latch o.pid o.generation h) ph → OfRunning (λ o. HearsRightly after (beside x cancel) latch' o.pid o.generation h) ph
+    sent_now unused h is armed r = tt
+    sent_now (opened q) h is armed r = tt
+    sent_now (offered o) h is armed r = tt
+    sent_now (ended o st a b) h is armed r = tt
+    sent_now (collected o st a) h is armed r = tt
+    sent_now gathered h is armed r = tt
+    sent_now (running o a) h is armed r = record {
+      so_far = (hears-more steps (Send pid kind s g ∷ []) (beside x cancel) (beside x cancel) (λ _ _ z. z) latch o.pid o.generation h r).so_far;
+      still = λ number small. let was : times_given number h.given + bit_at latch number ≤ times_sent number o.pid steps = r.still number small in
+          let bits : bit_at latch' number ≤ bit_at latch number + bit (signal_number s == number) = bits_after latch (signal_number s) number in
+          let mine : pid ≡ o.pid = sym is ∙ armed in
+          let more : times_sent number o.pid after ≡ times_sent number o.pid steps + bit (signal_number s == number) = subst (λ (z : ℕ). times_sent number z after ≡ times_sent number z steps + bit (signal_number s == number)) mine (sent_more number pid g kind s steps) in omega arith;
+    }
+
+    latch_sent : {D : Type 0} (c : Cell D) → latch_pid latch ≡ pid → LatchOk steps x latch cancel c → LatchOk after x latch' cancel c
+    latch_sent c is ok = let more = latch-more steps (Send pid kind s g ∷ []) x x latch cancel c (λ _ _ z. z) (unreleased_all _ c.phase (λ o. send_is_no_release o.pid pid g kind s)) ok in
+        let stays : latch_pid latch' ≡ latch_pid latch = pid_stays latch (signal_number s) (number_small s) in record {
+          armed = subst (λ (z : ℕ). ArmedFor z c.phase) (sym stays) ok.armed;
+          fits = subst (λ (z : ℕ). z < 2147483648) (sym stays) ok.fits;
+          standing = λ number small. subst (λ (z : ℕ). bit_at latch' number ≤ times_sent number z after) (sym (stays ∙ is))
+              (let was : bit_at latch number ≤ times_sent number pid steps = subst (λ (z : ℕ). bit_at latch number ≤ times_sent number z steps) is (ok.standing number small) in
+              let bits : bit_at latch' number ≤ bit_at latch number + bit (signal_number s == number) = bits_after latch (signal_number s) number in
+              let all : times_sent number pid after ≡ times_sent number pid steps + bit (signal_number s == number) = sent_more number pid g kind s steps in omega arith);
+          cancel_is = more.cancel_is;
+          now = sent_now c.phase c.post.notes.now is ok.armed ok.now;
+          past = more.past;
+          unreleased = more.unreleased;
+          named = more.named;
+          keyed = more.keyed;
+        }
+
+-- a cancel was made on the word of a slot
+module _ (steps : List RosterStep) (x y : ℕ → ℕ → Type 0) (pid : ℕ) (grow : (p m : ℕ) → x p m → y p m) (one : (m : ℕ) → x pid m → y pid (m + 1)) (less_ : (p m m' : ℕ) → m' ≤ m → y p m → y p m') (none_ : (p : ℕ) → x p 0) where
+  raised : (c p m : ℕ) → beside x c p m → beside y (max c pid) p m
+  raised c p m made = dite (ℕ_discrete p pid)
+      (λ is. subst (λ (q : ℕ). y q (m + waiting (max c pid) q)) (sym is) (less_ pid (m + waiting c pid + 1) _ (let a : waiting (max c pid) pid ≤ 1 = waiting_small (max c pid) pid in omega arith) (one (m + waiting c pid) (subst (λ (q : ℕ). x q (m + waiting c q)) is made))))
+      (λ ne. less_ p (m + waiting c p) _ (fewer ne) (grow p (m + waiting c p) made))
+    where
+      other : (c p : ℕ) → p ≢ c → waiting c p ≡ 0
+      other zero p ne = refl
+      other (suc c) p ne = ap bit (ne_eqb (suc c) p (λ e. ne (sym e)))
+
+      fewer : p ≢ pid → m + waiting (max c pid) p ≤ m + waiting c p
+      fewer ne = dite (dec_le c pid)
+          (λ le. let e : max c pid ≡ pid = omega arith in let z : waiting (max c pid) p ≡ 0 = ap (λ (q : ℕ). waiting q p) e ∙ other pid p ne in omega arith)
+          (λ gt. let e : max c pid ≡ c = omega arith in let z : waiting (max c pid) p ≡ waiting c p = ap (λ (q : ℕ). waiting q p) e in omega arith)
+
+  heard_raised : (c p g : ℕ) (h : Heard) → HeardRightly steps (beside x c) p g h → HeardRightly steps (beside y (max c pid)) p g h
+  heard_raised c p g h r = record { sent = r.sent; cancels = raised c p (times_told h.given + bit h.heeded) r.cancels; met = r.met }
+
+  latch_raised : {D : Type 0} (latch c : ℕ) (b : Cell D) → LatchOk steps x latch c b → LatchOk steps y latch (max c pid) b
+  latch_raised latch c b ok = record {
+    armed = ok.armed;
+    fits = ok.fits;
+    standing = ok.standing;
+    cancel_is = λ pos. dite (dec_le c pid)
+        (λ le. let e : pid ≡ max c pid = omega arith in subst (λ (q : ℕ). y q 1) e (one 0 (none_ pid)))
+        (λ gt. let e : c ≡ max c pid = omega arith in subst (λ (q : ℕ). y q 1) e (grow c 1 (ok.cancel_is (omega arith))));
+    now = running_map _ _ b.phase (λ o r. record { so_far = heard_raised c o.pid o.generation b.post.notes.now r.so_far; still = r.still }) ok.now;
+    past = each-map _ _ (λ z h r. heard_raised c z.offer.pid z.offer.generation h r) b.post.past b.post.notes.heard ok.past;
+    unreleased = ok.unreleased;
+    named = ok.named;
+    keyed = ok.keyed;
+  }
+
+-- one cancel more for its pid
+one_more : {D : Type 0} (n k m : ℕ) (x : Cancel) (cells : ℕ → Cell D) (c : Cell D) (w : PostView D) → k < n → (cells k).post ≡ w → c.post.notes.cancels ≡ w.notes.cancels ++ x ∷ [] → WereMade n cells x.pid m → WereMade n (put cells k c) x.pid (m + 1)
+one_more {D} n k m x cells c w near is more made =
+    let F : PostView D → ℕ = λ v. times_made x.pid v.notes.cancels in
+    let all : sum_below n (λ j. F (put cells k c j).post) + F w ≡ sum_below n (λ j. F (cells j).post) + F c.post = count_moves F cells n k c w near is in
+    let up : F c.post ≡ F w + bit (x.pid == x.pid) = ap (times_made x.pid) more ∙ made-append x.pid w.notes.cancels x in let one : bit (x.pid == x.pid) ≡ 1 = ap bit (eq-eqb x.pid x.pid refl) in omega arith
+
+module _ {J D : Type 0} (told : J → D) (limit : ℕ) where
+  -- what a step owes
+  abbrev Owes : (s : St told) (id i : ℕ) (me : Seated J D) (f : ℕ → ℕ) (tells : ℕ → Seated J D → Type 0) → Type 0
+  Owes s id i me f tells = (v : View D) × (a : Act (Option J)) × Valid s.homes me.1 a × Kept told limit (stepped s i (f (get_or s.words i 0)) id me.1 v a) × tells (get_or s.words i 0) (v, carried_after me.1 a)
+
+  -- the gate's part, where a word behind the gate's changes
+  far_gate : (n k i word : ℕ) (words : List ℕ) (d : RosterView D) (cells : ℕ → Cell D) → n < i → GateOk limit n (get_or (set words k (get_or words k 0)) n 0) (gate_of d) cells → GateOk limit n (get_or (set words i word) n 0) (gate_of d) cells
+  far_gate n k i word words d cells behind ok = subst (λ (z : ℕ). GateOk limit n z (gate_of d) cells) (ap (λ (l : List ℕ). get_or l n 0) (set-get_or words k 0) ∙ sym (get_or-set_other words i n word 0 (λ e. absurd (omega arith)))) ok
+
+  -- a worker's step behind the gate's word that changes its notes alone
+  notes_step : (s : St told) (r : Kept told limit s) (id k i word : ℕ) (w : PostView D) (notes : PostNotes) → get_elem? s.views id ≡ some (Worker k w) → length s.homes < i → notes.session_limit ≡ w.notes.session_limit → notes.steps ≡ w.notes.steps
+      → Latches (length s.homes) (set s.words i word) r.1 (put r.2 k record { phase = (r.2 k).phase; seat = id; post = with_notes w notes })
+      → Kept told limit record { words = set s.words i word; homes = s.homes; views = set s.views id (Worker k (with_notes w notes)) }
+  notes_step s r id k i word w notes at behind lim steps la = let mine = owned told limit s r.0 r.1 r.2 r.3 id k w at in let was = mine.1 in let w' : PostView D = with_notes w notes in
+      kept told limit _ _ _ _ _ (word_step told s id k i word r.0 r.1 r.2 r.3 mine.0 (omega arith) w w' (r.2 k).phase at
+      record { shows = was.shows; fits = was.fits; seen = was.seen; does = was.does; lists = was.lists; there = was.there; there_is = was.there_is; mail = was.mail }
+      (r.3.each_child k mine.0)) refl
+      (far_gate (length s.homes) k i word s.words r.1 _ behind (gate_moves limit _ k (get_or s.words k 0) s.words (gate_of r.1) r.2 _ w mine.0 mine.2 (uncounted_notes limit _ w notes lim) (once_still _ (r.2 k) (r.2 k).phase _ w' (sym (ap (λ (z : PostView D). z.past) mine.2)) (λ _ z. z) (r.4.once k)) r.4))
+      (quiet limit r.1 r.1 r.2 (length s.homes) k _ (r.2 k).phase w.work refl refl refl refl (λ _ o. o) mine.0 refl (ap (λ (z : PostView D). z.work) mine.2) (steps ∙ sym (ap (λ (z : PostView D). z.notes.steps) mine.2)) (sym (ap (λ (z : PostView D). z.past) mine.2)) refl (λ _ z. z) r.5)
+      la (seats_step id k s.views r.1 r.2 _ _ _ at (r.3.each_seat id _ at) r.7)
+
+  -- the words of the other slots, where the word of one latch or of one slot's cancels changes
+  beside_latch : (n k j word : ℕ) (words : List ℕ) → k < n → j < n → j ≢ k → (latch_at n (set words (latch_place n k) word) j ≡ latch_at n words j) × (cancel_at n (set words (latch_place n k) word) j ≡ cancel_at n words j)
+  beside_latch n k j word words near l ne = (get_or-set_other words (n + 1 + k) (n + 1 + j) word 0 (λ e. ne (omega arith)), get_or-set_other words (n + 1 + k) (n + 1 + n + j) word 0 (λ e. absurd (omega arith)))
+
+  beside_cancel : (n k j word : ℕ) (words : List ℕ) → k < n → j < n → j ≢ k → (latch_at n (set words (cancel_place n k) word) j ≡ latch_at n words j) × (cancel_at n (set words (cancel_place n k) word) j ≡ cancel_at n words j)
+  beside_cancel n k j word words near l ne = (get_or-set_other words (n + 1 + n + k) (n + 1 + j) word 0 (λ e. absurd (omega arith)), get_or-set_other words (n + 1 + n + k) (n + 1 + n + j) word 0 (λ e. ne (omega arith)))
+
+  -- and those of the slot itself
+  at_latch : (n k word : ℕ) (words : List ℕ) → k < n → length words ≡ 3 * n + 1 → (latch_at n (set words (latch_place n k) word) k ≡ word) × (cancel_at n (set words (latch_place n k) word) k ≡ cancel_at n words k)
+  at_latch n k word words near wide = (get_or-set_same words (n + 1 + k) word 0 (omega arith), get_or-set_other words (n + 1 + k) (n + 1 + n + k) word 0 (λ e. absurd (omega arith)))
+
+  at_cancel : (n k word : ℕ) (words : List ℕ) → k < n → length words ≡ 3 * n + 1 → (latch_at n (set words (cancel_place n k) word) k ≡ latch_at n words k) × (cancel_at n (set words (cancel_place n k) word) k ≡ word)
+  at_cancel n k word words near wide = (get_or-set_other words (n + 1 + n + k) (n + 1 + k) word 0 (λ e. absurd (omega arith)), get_or-set_same words (n + 1 + n + k) word 0 (omega arith))
+
+  -- the supervisor arms the latch of an unused slot
+  arms_here : (s : St told) (r : Kept told limit s) (id k pid : ℕ) (d : RosterView D) → k < length s.homes → pid < 2147483648 → (slot_at d k).sight ≡ Unused → get_elem? s.views id ≡ some (Postmaster d)
+      → Owes s id (latch_place (length s.homes) k) (Postmaster d, []) (λ _. armed_word pid) (Arms (step (length s.homes) (latch_place (length s.homes) k) (armed_word pid) 0 none) (Postmaster d, []))
+  arms_here s r id k pid d near low is at = let n : ℕ = length s.homes in let i : ℕ = latch_place n k in let h = rebased told s r.0 id d r.1 r.2 r.3 at in let both = same_history told limit s r.0 id d r.1 r.2 r.3 at r.4 r.5 r.6 r.7 in let many : length d.slots ≡ length s.homes = h.many in
+      let was = h.each_slot k near in let ph = see_unused _ _ (subst (Seen (r.2 k).phase (slot_at d k).past) is was.seen) in let ok = at_phase told limit _ _ _ _ _ ph was in
+      let x : SlotView D = slot_view (slot_at d k).past (Opened pid) in let c : Cell D = record { phase = opened pid; seat = (r.2 k).seat; post = (r.2 k).post } in let words : List ℕ = set s.words i (armed_word pid) in (
+        Postmaster (with_slot d k x d.notes),
+        takes k None,
+        ok.there_is ∙ ap some ok.mail,
+        kept told limit _ _ _ _ _ (slot_turn told s id k i (armed_word pid) (set s.homes k none) near (omega arith) (length-set s.homes k none) (λ j other. set_else s.homes k j none other) d r.2 h x (opened pid) d.notes
+            record { shows = ok.shows; fits = tt; seen = refl; does = ok.does; lists = ok.lists; there = none; there_is = set_here s.homes k none near; mail = tt }
+            tt (pids_drop d k x d.notes (omega arith) h.pids refl refl)) (length-set s.homes k none)
+            (far_gate n k i (armed_word pid) s.words d _ (omega arith) (gate_moves limit n k (get_or s.words k 0) s.words (gate_of d) r.2 c _ near refl (uncounted _ _ _) (once_still _ (r.2 k) (opened pid) _ _ refl (λ _ _. tt) (both.0.once k)) both.0))
+            (quiet limit d _ r.2 n k c unused _ refl refl refl refl (λ _ o. o) near ph refl refl refl refl (λ _ _. tt) both.1)
+            (let l = both.2.each k near in latches_moved n k s.words words d _ r.2 c near (λ j l' ne. beside_latch n k j (armed_word pid) s.words near l' ne) (λ _. omega arith) refl refl refl refl
+            (subst (λ (z : ℕ × ℕ). LatchOk d.notes.steps (WereMade n r.2) z.0 z.1 c) {x = (armed_word pid, cancel_at n s.words k)} {y = (latch_at n words k, cancel_at n words k)} (λ u. (sym (at_latch n k (armed_word pid) s.words near h.wide).0 u, sym (at_latch n k (armed_word pid) s.words near h.wide).1 u))
+            record { armed = armed_pid pid; fits = subst (λ (z : ℕ). z < 2147483648) (sym (armed_pid pid)) low; standing = λ number small. (let z : bit_at (armed_word pid) number ≡ 0 = armed_bits pid number small in omega arith); cancel_is = l.cancel_is; now = tt; past = l.past; unreleased = tt; named = tt; keyed = l.keyed })
+            both.2) (seats_turn id k s.views d r.2 _ _ _ at (omega arith) (ap is_gathered is) refl both.3),
+        λ k' pid' there word. let same : k ≡ k' = omega arith in let it : pid ≡ pid' = omega arith in λ u. (Postmaster (with_sight d (same u) (Opened (it u))), (same u, None) ∷ []),
+      )
+
+  pub arms : (n id k pid : ℕ) (d : RosterView D) → k < n → pid < 2147483648 → (slot_at d k).sight ≡ Unused → Allows (Kept told limit) n id (Postmaster d, []) (latch_place n k) (λ _. armed_word pid) (Arms (step n (latch_place n k) (armed_word pid) 0 none) (Postmaster d, []))
+  arms n id k pid d near low is s r wide at _ =
+      subst (λ (m : ℕ). Owes s id (latch_place m k) (Postmaster d, []) (λ _. armed_word pid) (Arms (step m (latch_place m k) (armed_word pid) 0 none) (Postmaster d, []))) wide (arms_here s r id k pid d (omega arith) low is at)
+
+  -- the supervisor sends a signal
+  sends_here : (s : St told) (r : Kept told limit s) (id k : ℕ) (d : RosterView D) (o : Offer D) (sig : Signal) → k < length s.homes → (slot_at d k).sight ≡ Assigned o → get_elem? s.views id ≡ some (Postmaster d)
+      → Owes s id (latch_place (length s.homes) k) (Postmaster d, []) (λ w. bit_or w (2 ^ signal_number sig)) (Sends (step (length s.homes) (latch_place (length s.homes) k) (2 ^ signal_number sig) 0 none) (Postmaster d, []))
+  sends_here s r id k d o sig near is at = let n : ℕ = length s.homes in let i : ℕ = latch_place n k in let h = rebased told s r.0 id d r.1 r.2 r.3 at in let both = same_history told limit s r.0 id d r.1 r.2 r.3 at r.4 r.5 r.6 r.7 in
+      let word : ℕ = bit_or (get_or s.words i 0) (2 ^ signal_number sig) in let words : List ℕ = set s.words i word in let t : RosterStep = Send o.pid o.kind sig o.generation in let d' : RosterView D = after_step d t in
+      let l = both.2.each k near in let mine : latch_pid (latch_at n s.words k) ≡ o.pid = armed_assigned _ (r.2 k).phase (slot_at d k).past o (subst (Seen (r.2 k).phase (slot_at d k).past) is (h.each_slot k near).seen) l.armed in (
+        Postmaster d',
+        keeps,
+        tt,
+        kept told limit _ _ _ _ _ (word_turn told s id i word d r.2 t (omega arith) h h.each_child) refl
+            (subst (λ (z : ℕ). GateOk limit n z (gate_of d) r.2) (sym (get_or-set_other s.words i n word 0 (λ e. absurd (omega arith)))) both.0)
+            (send_history limit n d r.2 o.pid o.generation o.kind sig both.1)
+            (latches_word n k s.words words d d' r.2 (t ∷ []) refl refl (λ pid. send_is_no_release pid o.pid o.generation o.kind sig) (λ why e. Contains-append_left d.notes.steps (t ∷ []) _ (both.2.noticed why e))
+            (λ j l' ne. beside_latch n k j word s.words near l' ne)
+            (λ _. subst (λ (z : ℕ × ℕ). LatchOk d'.notes.steps (WereMade n r.2) z.0 z.1 (r.2 k)) {x = (word, cancel_at n s.words k)} {y = (latch_at n words k, cancel_at n words k)} (λ u. (sym (at_latch n k word s.words near h.wide).0 u, sym (at_latch n k word s.words near h.wide).1 u))
+            (latch_sent d.notes.steps (WereMade n r.2) (latch_at n s.words k) (cancel_at n s.words k) o.pid o.generation o.kind sig (r.2 k) mine l))
+            both.2) (seats_still id s.views d _ r.2 at refl refl both.3),
+        λ k' o' sig' there sight bits. let same : k' ≡ k = omega arith in let both_ : Assigned o ≡ Assigned o' = sym is ∙ (ap (λ (q : ℕ). (slot_at d q).sight) (sym same) ∙ sight) in let oe : o ≡ o' = cc in let it : sig ≡ sig' = same_signal sig sig' bits in
+            λ u. (Postmaster (after_step d (Send (oe u).pid (oe u).kind (it u) (oe u).generation)), []),
+      )
+
+  pub sends : (n id k : ℕ) (d : RosterView D) (o : Offer D) (sig : Signal) → k < n → (slot_at d k).sight ≡ Assigned o → Allows (Kept told limit) n id (Postmaster d, []) (latch_place n k) (λ w. bit_or w (2 ^ signal_number sig)) (Sends (step n (latch_place n k) (2 ^ signal_number sig) 0 none) (Postmaster d, []))
+  sends n id k d o sig near is s r wide at _ =
+      subst (λ (m : ℕ). Owes s id (latch_place m k) (Postmaster d, []) (λ w. bit_or w (2 ^ signal_number sig)) (Sends (step m (latch_place m k) (2 ^ signal_number sig) 0 none) (Postmaster d, []))) wide (sends_here s r id k d o sig (omega arith) is at)
+
+  -- a worker takes the signals of its child
+  takes_here : (s : St told) (r : Kept told limit s) (id k : ℕ) (o : Offer D) (w : PostView D) (c : List (ℕ × Option J)) → child_in w.work ≡ Some o → get_elem? s.views id ≡ some (Worker k w) → get_or s.words (latch_place (length s.homes) k) 0 < 18446744073709551616
+      → Owes s id (latch_place (length s.homes) k) (Worker k w, c) (λ x. bit_and x 18446744073709551584) (Takes (step (length s.homes) (latch_place (length s.homes) k) 18446744073709551584 0 none) (Worker k w, c))
+  takes_here s r id k o w c runs at full = let n : ℕ = length s.homes in let i : ℕ = latch_place n k in let mine = owned told limit s r.0 r.1 r.2 r.3 id k w at in let near : k < n = mine.0 in let child = does_child _ w.work o mine.1.does runs in
+      let found : ℕ = get_or s.words i 0 in let word : ℕ = bit_and found 18446744073709551584 in let words : List ℕ = set s.words i word in let notes : PostNotes = noted_take w.notes found in let w' : PostView D = with_notes w notes in
+      let l = latch_here r.1.notes.steps (WereMade n r.2) found (cancel_at n s.words k) (r.2 k) (running o child.0) w child.1 mine.2 (r.6.each k near) in (
+        Worker k w',
+        keeps,
+        tt,
+        notes_step s r id k i word w notes at (omega arith) refl refl
+            (latches_moved n k s.words words r.1 r.1 r.2 record { phase = (r.2 k).phase; seat = id; post = w' } near (λ j l' ne. beside_latch n k j word s.words near l' ne) (λ p. cancels_stay p (r.2 k).post w mine.2) refl refl refl refl
+            (subst (λ (z : ℕ × ℕ × Phase D). LatchOk r.1.notes.steps (WereMade n r.2) z.0 z.1 record { phase = z.2; seat = id; post = w' }) {x = (word, cancel_at n s.words k, running o child.0)} {y = (latch_at n words k, cancel_at n words k, (r.2 k).phase)}
+            (λ u. (sym (at_latch n k word s.words near r.3.wide).0 u, sym (at_latch n k word s.words near r.3.wide).1 u, sym child.1 u))
+            (latch_taken r.1.notes.steps (WereMade n r.2) found (cancel_at n s.words k) o child.0 id w record { armed = l.armed; fits = l.fits; standing = l.standing; cancel_is = l.cancel_is; now = l.now; past = l.past; unreleased = l.unreleased; named = l.named; keyed = l.keyed } full))
+            r.6),
+        refl,
+      )
+
+  pub takes_signals : (n id k : ℕ) (o : Offer D) (w : PostView D) (c : List (ℕ × Option J)) → child_in w.work ≡ Some o → Allows (Kept told limit) n id (Worker k w, c) (latch_place n k) (λ x. bit_and x 18446744073709551584) (Takes (step n (latch_place n k) 18446744073709551584 0 none) (Worker k w, c))
+  takes_signals n id k o w c runs s r wide at full =
+      subst (λ (m : ℕ). Owes s id (latch_place m k) (Worker k w, c) (λ x. bit_and x 18446744073709551584) (Takes (step m (latch_place m k) 18446744073709551584 0 none) (Worker k w, c))) wide
+      (takes_here s r id k o w c runs at (subst (λ (m : ℕ). get_or s.words (latch_place m k) 0 < 18446744073709551616) (sym wide) full))
+
+  -- a worker heeds the cancels of its child
+  heeds_here : (s : St told) (r : Kept told limit s) (id k : ℕ) (o : Offer D) (w : PostView D) (c : List (ℕ × Option J)) → child_in w.work ≡ Some o → get_elem? s.views id ≡ some (Worker k w)
+      → Owes s id (cancel_place (length s.homes) k) (Worker k w, c) (λ x. either (eqb x o.pid) 0 x) (Heeds (step (length s.homes) (cancel_place (length s.homes) k) o.pid 0 none) (Worker k w, c))
+  heeds_here s r id k o w c runs at = let n : ℕ = length s.homes in let i : ℕ = cancel_place n k in let mine = owned told limit s r.0 r.1 r.2 r.3 id k w at in let near : k < n = mine.0 in let child = does_child _ w.work o mine.1.does runs in
+      let found : ℕ = get_or s.words i 0 in let word : ℕ = either (eqb found o.pid) 0 found in let words : List ℕ = set s.words i word in let notes : PostNotes = noted_heed w.notes o.pid found in let w' : PostView D = with_notes w notes in
+      let l = latch_here r.1.notes.steps (WereMade n r.2) (latch_at n s.words k) found (r.2 k) (running o child.0) w child.1 mine.2 (r.6.each k near) in (
+        Worker k w',
+        keeps,
+        tt,
+        notes_step s r id k i word w notes at (omega arith) refl refl
+            (latches_moved n k s.words words r.1 r.1 r.2 record { phase = (r.2 k).phase; seat = id; post = w' } near (λ j l' ne. beside_cancel n k j word s.words near l' ne) (λ p. cancels_stay p (r.2 k).post w mine.2) refl refl refl refl
+            (subst (λ (z : ℕ × ℕ × Phase D). LatchOk r.1.notes.steps (WereMade n r.2) z.0 z.1 record { phase = z.2; seat = id; post = w' }) {x = (latch_at n s.words k, word, running o child.0)} {y = (latch_at n words k, cancel_at n words k, (r.2 k).phase)}
+            (λ u. (sym (at_cancel n k word s.words near r.3.wide).0 u, sym (at_cancel n k word s.words near r.3.wide).1 u, sym child.1 u))
+            (latch_heeded r.1.notes.steps (WereMade n r.2) (latch_at n s.words k) found o child.0 id w record { armed = l.armed; fits = l.fits; standing = l.standing; cancel_is = l.cancel_is; now = l.now; past = l.past; unreleased = l.unreleased; named = l.named; keyed = l.keyed } (λ p m m' le made. omega arith)))
+            r.6),
+        refl,
+      )
+
+  pub heeds : (n id k : ℕ) (o : Offer D) (w : PostView D) (c : List (ℕ × Option J)) → child_in w.work ≡ Some o → Allows (Kept told limit) n id (Worker k w, c) (cancel_place n k) (λ x. either (eqb x o.pid) 0 x) (Heeds (step n (cancel_place n k) o.pid 0 none) (Worker k w, c))
+  heeds n id k o w c runs s r wide at _ =
+      subst (λ (m : ℕ). Owes s id (cancel_place m k) (Worker k w, c) (λ x. either (eqb x o.pid) 0 x) (Heeds (step m (cancel_place m k) o.pid 0 none) (Worker k w, c))) wide (heeds_here s r id k o w c runs at)
+
+  -- the keys of the cancels that a worker has made
+  own_keys : (s : St told) (r : Kept told limit s) (id k : ℕ) (w : PostView D) → get_elem? s.views id ≡ some (Worker k w) → AllByRecursion (λ (y : Cancel). y.key ≡ cancel_key y.seed y.pid) w.notes.cancels
+  own_keys s r id k w at = let mine = owned told limit s r.0 r.1 r.2 r.3 id k w at in (latch_here r.1.notes.steps (WereMade (length s.homes) r.2) (latch_at (length s.homes) s.words k) (cancel_at (length s.homes) s.words k) (r.2 k) (r.2 k).phase w refl mine.2 (r.6.each k mine.0)).keyed
+
+  -- a worker's notes grow, and with them the cancels that it has made
+  noted_more : (s : St told) (r : Kept told limit s) (id k : ℕ) (w : PostView D) (notes : PostNotes) → get_elem? s.views id ≡ some (Worker k w) → notes.heard ≡ w.notes.heard → notes.now ≡ w.notes.now → ((pid : ℕ) → times_made pid w.notes.cancels ≤ times_made pid notes.cancels) → AllByRecursion (λ x. x.key ≡ cancel_key x.seed x.pid) notes.cancels
+      → Latches (length s.homes) s.words r.1 (put r.2 k record { phase = (r.2 k).phase; seat = id; post = with_notes w notes })
+  noted_more s r id k w notes at heard now grow keys = let n : ℕ = length s.homes in let mine = owned told limit s r.0 r.1 r.2 r.3 id k w at in let near : k < n = mine.0 in
+      let l = latch_here r.1.notes.steps (WereMade n r.2) (latch_at n s.words k) (cancel_at n s.words k) (r.2 k) (r.2 k).phase w refl mine.2 (r.6.each k near) in
+      latches_moved n k s.words s.words r.1 r.1 r.2 record { phase = (r.2 k).phase; seat = id; post = with_notes w notes } near (λ j l' ne. (refl, refl)) (λ p. let a : times_made p (r.2 k).post.notes.cancels ≤ times_made p w.notes.cancels = cancels_stay p (r.2 k).post w mine.2 in let b : times_made p w.notes.cancels ≤ times_made p notes.cancels = grow p in omega arith) refl refl refl refl
+      record {
+        armed = l.armed;
+        fits = l.fits;
+        standing = l.standing;
+        cancel_is = l.cancel_is;
+        now = subst (λ (z : Heard). OfRunning (λ o. HearsRightly r.1.notes.steps (beside (WereMade n r.2) (cancel_at n s.words k)) (latch_at n s.words k) o.pid o.generation z) (r.2 k).phase) (sym now) l.now;
+        past = subst (λ (z : List Heard). EachHeard (HeardBy r.1.notes.steps (beside (WereMade n r.2) (cancel_at n s.words k))) w.past z) (sym heard) l.past;
+        unreleased = l.unreleased;
+        named = l.named;
+        keyed = keys;
+      }
+      r.6
+
+  -- a worker looks at the latch of any slot
+  peeks_here : (s : St told) (r : Kept told limit s) (id k j : ℕ) (w : PostView D) (c : List (ℕ × Option J)) → j < length s.homes → get_elem? s.views id ≡ some (Worker k w)
+      → Owes s id (latch_place (length s.homes) j) (Worker k w, c) (λ x. x) (LooksAtLatch (step (length s.homes) (latch_place (length s.homes) j) 0 0 none) (Worker k w, c))
+  peeks_here s r id k j w c near at = let n : ℕ = length s.homes in let i : ℕ = latch_place n j in let found : ℕ = get_or s.words i 0 in let notes : PostNotes = noted_latch_look w.notes j found in (
+    Worker k (with_notes w notes),
+    keeps,
+    tt,
+    notes_step s r id k i found w notes at (omega arith) refl refl
+        (subst (λ (z : List ℕ). Latches n z r.1 (put r.2 k record { phase = (r.2 k).phase; seat = id; post = with_notes w notes })) (sym (set-get_or s.words i 0)) (noted_more s r id k w notes at refl refl (λ _. omega arith) (own_keys s r id k w at))),
+    λ j' there. let same : j ≡ j' = omega arith in ((λ u. (Worker k (with_notes w (noted_latch_look w.notes (same u) found)), c)), (r.6.each j near).fits),
+  )
+
+  pub peeks : (n id k j : ℕ) (w : PostView D) (c : List (ℕ × Option J)) → j < n → Allows (Kept told limit) n id (Worker k w, c) (latch_place n j) (λ x. x) (LooksAtLatch (step n (latch_place n j) 0 0 none) (Worker k w, c))
+  peeks n id k j w c near s r wide at _ =
+      subst (λ (m : ℕ). Owes s id (latch_place m j) (Worker k w, c) (λ x. x) (LooksAtLatch (step m (latch_place m j) 0 0 none) (Worker k w, c))) wide (peeks_here s r id k j w c (omega arith) at)
+
+  -- a worker makes a cancel on the word of any slot
+  cancels_here : (s : St told) (r : Kept told limit s) (id k : ℕ) (x : Cancel) (w : PostView D) (c : List (ℕ × Option J)) → x.slot < length s.homes → x.key ≡ cancel_key x.seed x.pid → get_elem? s.views id ≡ some (Worker k w)
+      → Owes s id (cancel_place (length s.homes) x.slot) (Worker k w, c) (λ z. max z x.pid) (Cancels x (step (length s.homes) (cancel_place (length s.homes) x.slot) x.pid 0 none) (Worker k w, c))
+  cancels_here s r id k x w c near key at = let n : ℕ = length s.homes in let j : ℕ = x.slot in let i : ℕ = cancel_place n j in let mine = owned told limit s r.0 r.1 r.2 r.3 id k w at in
+      let found : ℕ = get_or s.words i 0 in let word : ℕ = max found x.pid in let words : List ℕ = set s.words i word in let notes : PostNotes = noted_cancel w.notes x in
+      let cell : Cell D = record { phase = (r.2 k).phase; seat = id; post = with_notes w notes } in let cells : ℕ → Cell D = put r.2 k cell in
+      let keys = all_more (λ (y : Cancel). y.key ≡ cancel_key y.seed y.pid) w.notes.cancels x (own_keys s r id k w at) key in
+      let la = noted_more s r id k w notes at refl refl (λ p. let e : times_made p (w.notes.cancels ++ x ∷ []) ≡ times_made p w.notes.cancels + bit (x.pid == p) = made-append p w.notes.cancels x in omega arith) keys in
+      let l = latch_raised r.1.notes.steps (WereMade n r.2) (WereMade n cells) x.pid (cancelled_more n k r.2 cell mine.0 (λ p. let a : times_made p (r.2 k).post.notes.cancels ≤ times_made p w.notes.cancels = cancels_stay p (r.2 k).post w mine.2 in let e : times_made p (w.notes.cancels ++ x ∷ []) ≡ times_made p w.notes.cancels + bit (x.pid == p) = made-append p w.notes.cancels x in omega arith))
+      (λ m made. one_more n k m x r.2 cell w mine.0 mine.2 refl made) (λ p m m' le made. omega arith) (λ p. omega arith) (latch_at n s.words j) found (r.2 j) (r.6.each j near) in (
+        Worker k (with_notes w notes),
+        keeps,
+        tt,
+        notes_step s r id k i word w notes at (omega arith) refl refl
+            (latches_word n j s.words words r.1 r.1 cells [] (sym (append-nil r.1.notes.steps)) refl no_release la.noticed (λ q l' ne. beside_cancel n j q word s.words near l' ne)
+            (λ _. subst (λ (z : ℕ × ℕ). LatchOk r.1.notes.steps (WereMade n cells) z.0 z.1 (cells j)) {x = (latch_at n s.words j, word)} {y = (latch_at n words j, cancel_at n words j)} (λ u. (sym (at_cancel n j word s.words near r.3.wide).0 u, sym (at_cancel n j word s.words near r.3.wide).1 u))
+            (at_put r.2 k cell (λ q y. q ≡ j → LatchOk r.1.notes.steps (WereMade n cells) (latch_at n s.words j) word y) j
+            (λ e. let o = latch_here r.1.notes.steps (WereMade n cells) (latch_at n s.words j) word (r.2 k) (r.2 k).phase w refl mine.2 (subst (λ (q : ℕ). LatchOk r.1.notes.steps (WereMade n cells) (latch_at n s.words j) word (r.2 q)) (sym e) l) in
+            record { armed = o.armed; fits = o.fits; standing = o.standing; cancel_is = o.cancel_is; now = o.now; past = o.past; unreleased = o.unreleased; named = o.named; keyed = keys })
+            (λ _ _. l) refl))
+            la),
+        refl,
+      )
+
+  pub cancels : (n id k : ℕ) (x : Cancel) (w : PostView D) (c : List (ℕ × Option J)) → x.slot < n → x.key ≡ cancel_key x.seed x.pid → Allows (Kept told limit) n id (Worker k w, c) (cancel_place n x.slot) (λ z. max z x.pid) (Cancels x (step n (cancel_place n x.slot) x.pid 0 none) (Worker k w, c))
+  cancels n id k x w c near key s r wide at _ =
+      subst (λ (m : ℕ). Owes s id (cancel_place m x.slot) (Worker k w, c) (λ z. max z x.pid) (Cancels x (step m (cancel_place m x.slot) x.pid 0 none) (Worker k w, c))) wide (cancels_here s r id k x w c (omega arith) key at)

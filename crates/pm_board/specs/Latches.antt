@@ -1,0 +1,151 @@
+-- The rule of the latches: what stands for a child, and what it was given, was sent to it.
+use Rattle.std.specs.Prelude.{◌≡◌, ℕ, zero, suc, ◌+◌, ◌<◌, ◌≤◌, Bool, ◌==◌, ◌&&◌, List, [], ◌∷◌, ◌++◌, Some, Err, slice_index_or}
+use Rattle.std.specs.Int.{bit_at}
+use Rattle.std.specs.List.{Contains, AllByRecursion}
+use Rattle.pm_exit.specs.declared.child.Kind.{Kind}
+use Rattle.pm_keys.specs.CancelKey.{cancel_key}
+use Rattle.pm_supervisor.specs.declared.Reason.{Reason}
+use Rattle.pm_life.specs.declared.life.GateNo.TheVariants as gate_no
+use Rattle.pm_life.specs.declared.life.Signals.{Signals}
+use Rattle.pm_board.specs.declared.views.Cancel.{Cancel}
+use Rattle.pm_board.specs.declared.views.Heard.{Heard}
+use Rattle.pm_board.specs.declared.views.Offer.{Offer}
+use Rattle.pm_board.specs.declared.views.PastChild.{PastChild}
+use Rattle.pm_board.specs.declared.views.RosterStep.{RosterStep}
+use Rattle.pm_board.specs.declared.views.RosterStep.TheVariants.{Assign, Release, Quit, Ready, Reset, Send}
+use Rattle.pm_board.specs.declared.views.RosterView.{RosterView}
+use Rattle.pm_board.specs.Words.{bit}
+use Rattle.pm_board.specs.Latch.{latch_place, cancel_place, signal_number, latch_pid, is_given}
+use Rattle.pm_board.specs.Gate.{sum_below}
+use Rattle.pm_board.specs.Rule.{Phase, unused, opened, offered, running, ended, collected, gathered, Cell}
+
+-- a step is a send of the signal of this number to this pid
+abbrev pub is_send : ℕ → ℕ → RosterStep → Bool
+is_send number pid (Send p kind signal generation) = (p == pid) && (signal_number signal == number)
+is_send number pid (Assign p kind generation) = Bool.false
+is_send number pid (Release p kind generation) = Bool.false
+is_send number pid (Quit why generation) = Bool.false
+is_send number pid (Ready generation) = Bool.false
+is_send number pid (Reset generation) = Bool.false
+
+-- how often the supervisor sent that signal to that pid
+abbrev pub times_sent : ℕ → ℕ → List RosterStep → ℕ
+times_sent number pid [] = 0
+times_sent number pid (s ∷ ss) = bit (is_send number pid s) + times_sent number pid ss
+
+-- and how often it was given in these answers
+abbrev pub times_given : ℕ → List Signals → ℕ
+times_given number [] = 0
+times_given number (s ∷ ss) = bit (is_given number s) + times_given number ss
+
+-- no child of this pid was released
+abbrev pub NotReleased : ℕ → List RosterStep → Type 0
+NotReleased pid steps = (kind : Kind) (generation : ℕ) → ¬ (Contains steps (Release pid kind generation))
+
+-- the supervisor gave this notice in this generation, before it released a child of this pid, if it did
+abbrev pub NoticedBefore : List RosterStep → ℕ → Reason → ℕ → Type 0
+NoticedBefore steps pid why generation =
+    (before after : List RosterStep) × (steps ≡ before ++ Quit why generation ∷ after) × NotReleased pid before
+
+-- how many of these answers told of a cancel
+abbrev pub times_told : List Signals → ℕ
+times_told [] = 0
+times_told (s ∷ ss) = bit s.cancel + times_told ss
+
+-- how many of these cancels are for this pid
+abbrev pub times_made : ℕ → List Cancel → ℕ
+times_made pid [] = 0
+times_made pid (x ∷ xs) = bit (x.pid == pid) + times_made pid xs
+
+-- 1 where a slot's cancels hold this pid
+abbrev pub waiting : ℕ → ℕ → ℕ
+waiting zero pid = 0
+waiting (suc n) pid = bit (suc n == pid)
+
+-- What a child of this pid and generation heard was meant for it. It was given no signal more often than it was sent to it,
+-- and heeded no more cancels than there are for its pid. Where the gate told it of a notice, the supervisor had given that
+pub record HeardRightly (steps : List RosterStep) (cancelled : ℕ → ℕ → Type 0) (pid generation : ℕ) (h : Heard) : Type 0 where
+  pub sent : (number : ℕ) → times_given number h.given ≤ times_sent number pid steps
+  pub cancels : cancelled pid (times_told h.given + bit h.heeded)
+  pub met : (g : ℕ) (why : Reason) → h.met ≡ Some (Err (gate_no.Quit g why)) → (g ≡ generation) × NoticedBefore steps pid why generation
+
+-- Of the child that runs: a signal that stands hasn't been given yet for one of the sends
+pub record HearsRightly (steps : List RosterStep) (cancelled : ℕ → ℕ → Type 0) (latch pid generation : ℕ) (h : Heard) : Type 0 where
+  pub so_far : HeardRightly steps cancelled pid generation h
+  pub still : (number : ℕ) → number < 5 → times_given number h.given + bit_at latch number ≤ times_sent number pid steps
+
+-- the words of the latch and of the cancels of the slot k, of n
+abbrev pub latch_at : ℕ → List ℕ → ℕ → ℕ
+latch_at n words k = slice_index_or words (latch_place n k) 0
+
+abbrev pub cancel_at : ℕ → List ℕ → ℕ → ℕ
+cancel_at n words k = slice_index_or words (cancel_place n k) 0
+
+-- the cancel that a slot's word holds is one that nobody has heeded yet
+abbrev pub beside : (ℕ → ℕ → Type 0) → ℕ → ℕ → ℕ → Type 0
+beside cancelled cancel pid times = cancelled pid (times + waiting cancel pid)
+
+module _ {D : Type 0} where
+  -- the latch of a slot that has a child, or is about to have one, is armed for its pid
+  abbrev pub ArmedFor : ℕ → Phase D → Type 0
+  ArmedFor pid unused = Unit {0}
+  ArmedFor pid (opened q) = pid ≡ q
+  ArmedFor pid (offered o) = pid ≡ o.pid
+  ArmedFor pid (running o active) = pid ≡ o.pid
+  ArmedFor pid (ended o status active back) = pid ≡ o.pid
+  ArmedFor pid (collected o status active) = pid ≡ o.pid
+  ArmedFor pid gathered = Unit {0}
+
+  -- what holds of the child that runs
+  abbrev pub OfRunning : (Offer D → Type 0) → Phase D → Type 0
+  OfRunning P (running o active) = P o
+  OfRunning P unused = Unit {0}
+  OfRunning P (opened q) = Unit {0}
+  OfRunning P (offered o) = Unit {0}
+  OfRunning P (ended o status active back) = Unit {0}
+  OfRunning P (collected o status active) = Unit {0}
+  OfRunning P gathered = Unit {0}
+
+  -- and of one that isn't released
+  abbrev pub OfUnreleased : (Offer D → Type 0) → Phase D → Type 0
+  OfUnreleased P (offered o) = P o
+  OfUnreleased P (running o active) = P o
+  OfUnreleased P (ended o status active back) = P o
+  OfUnreleased P unused = Unit {0}
+  OfUnreleased P (opened q) = Unit {0}
+  OfUnreleased P (collected o status active) = Unit {0}
+  OfUnreleased P gathered = Unit {0}
+
+  -- P holds of each child and what it heard, and there are as many of both
+  abbrev pub EachHeard : (PastChild D → Heard → Type 0) → List (PastChild D) → List Heard → Type 0
+  EachHeard P [] [] = Unit {0}
+  EachHeard P (x ∷ xs) (h ∷ hs) = P x h × EachHeard P xs hs
+  EachHeard P [] (h ∷ hs) = ⊥
+  EachHeard P (x ∷ xs) [] = ⊥
+
+  abbrev pub HeardBy : List RosterStep → (ℕ → ℕ → Type 0) → PastChild D → Heard → Type 0
+  HeardBy steps cancelled x h = HeardRightly steps cancelled x.offer.pid x.offer.generation h
+
+  -- the workers have made so many cancels for this pid, or more
+  abbrev pub WereMade : ℕ → (ℕ → Cell D) → ℕ → ℕ → Type 0
+  WereMade n cells pid times = times ≤ sum_below n (λ j. times_made pid (cells j).post.notes.cancels)
+
+  -- the words of a slot's latch and cancels
+  pub record LatchOk (steps : List RosterStep) (cancelled : ℕ → ℕ → Type 0) (latch cancel : ℕ) (c : Cell D) : Type 0 where
+    pub armed : ArmedFor (latch_pid latch) c.phase
+    pub fits : latch_pid latch < 2147483648
+    -- a signal stands only where it was sent to that pid
+    pub standing : (number : ℕ) → number < 5 → bit_at latch number ≤ times_sent number (latch_pid latch) steps
+    pub cancel_is : 0 < cancel → cancelled cancel 1
+    pub now : OfRunning (λ o. HearsRightly steps (beside cancelled cancel) latch o.pid o.generation c.post.notes.now) c.phase
+    pub past : EachHeard (HeardBy steps (beside cancelled cancel)) c.post.past c.post.notes.heard
+    pub unreleased : OfUnreleased (λ o. NotReleased o.pid steps) c.phase
+    pub named : OfUnreleased (λ o. 0 < o.pid) c.phase
+    -- a cancel is made with the key of its pid, under the seed that its call was given
+    pub keyed : AllByRecursion (λ x. x.key ≡ cancel_key x.seed x.pid) c.post.notes.cancels
+
+  pub record Latches (n : ℕ) (words : List ℕ) (d : RosterView D) (cells : ℕ → Cell D) : Type 0 where
+    pub each : (k : ℕ) → k < n → LatchOk d.notes.steps (WereMade n cells) (latch_at n words k) (cancel_at n words k) (cells k)
+    -- the notice that stands was given in this generation
+    pub noticed : (why : Reason) → d.noticed ≡ Some why → Contains d.notes.steps (Quit why d.generation)
+    pub fresh : (pid : ℕ) → d.notes.last_pid < pid → NotReleased pid d.notes.steps

@@ -1,0 +1,137 @@
+//! The steps at the gate, one call each. The crate of the gate makes its calls of them, and nobody else uses them.
+ghost use Rattle.std.specs.Prelude.{◌≡◌, ◌+◌};
+ghost use Rattle.pm_board.specs.declared.views.RosterStep.TheVariants.{Quit, Ready, Reset};
+ghost use Rattle.pm_board.specs.Told.{MayQuit};
+ghost use Rattle.pm_board.specs.Models.{MayAttach, MayTry, IsActive, IsRefused, IsAttached, HasMarked, HasUnmarked, HasTried, HasBackedOut, HasDetached, MayOpen, MayReset, HasStepped};
+
+use crate::packing::{ACTIVE, answer_at, new_word, place, quit_adds, ready_adds};
+use crate::plays::{BacksOut, Detaches, Marks, Quits, Readies, Resets, Tries, Unmarks};
+use crate::post::Post;
+use crate::roster::Roster;
+use crate::views::Letter;
+use pm_life::GateNo;
+use pm_supervisor::Reason;
+
+impl<J: Letter + Drop, H> Post<J, H> {
+    /// Marks the slot as active.
+    pub fn mark(&mut self)
+        requires { MayAttach self.old.knows.work }
+        ensures table { self.new.table ≡ self.old.table }
+        ensures slot { self.new.slot ≡ self.old.slot }
+        ensures knows { HasMarked self.old.knows self.new.knows }
+    {
+        self.words
+            .shared
+            .fetch_add::<Marks>(&mut self.seat, self.index, ACTIVE);
+    }
+
+    /// Takes a place at the gate: the child is attached, or refused, by the gate's word as this call meets it.
+    pub fn try_gate(&mut self) -> Result<u32, GateNo>
+        requires { MayTry self.old.knows.work }
+        ensures table { self.new.table ≡ self.old.table }
+        ensures slot { self.new.slot ≡ self.old.slot }
+        ensures met { HasTried result self.old.knows self.new.knows }
+    {
+        let gate = self.words.slot_count();
+        let adds = place(self.kind);
+        let found = self
+            .words
+            .shared
+            .fetch_add::<Tries>(&mut self.seat, gate, adds);
+        answer_at(self.kind, self.session_limit, found)
+    }
+
+    /// Gives the place of a child back that was refused.
+    pub fn back_out(&mut self)
+        requires { IsRefused self.old.knows.work }
+        ensures table { self.new.table ≡ self.old.table }
+        ensures slot { self.new.slot ≡ self.old.slot }
+        ensures knows { HasBackedOut self.old.knows self.new.knows }
+    {
+        let gate = self.words.slot_count();
+        let takes = place(self.kind);
+        self.words
+            .shared
+            .fetch_sub::<BacksOut>(&mut self.seat, gate, takes);
+    }
+
+    /// Gives the place of a child back that is attached.
+    pub fn let_go(&mut self)
+        requires { IsAttached self.old.knows.work }
+        ensures table { self.new.table ≡ self.old.table }
+        ensures slot { self.new.slot ≡ self.old.slot }
+        ensures knows { HasDetached self.old.knows self.new.knows }
+    {
+        let gate = self.words.slot_count();
+        let takes = place(self.kind);
+        self.words
+            .shared
+            .fetch_sub::<Detaches>(&mut self.seat, gate, takes);
+    }
+
+    /// Marks the slot as no longer active.
+    pub fn unmark(&mut self)
+        requires { IsActive self.old.knows.work }
+        ensures table { self.new.table ≡ self.old.table }
+        ensures slot { self.new.slot ≡ self.old.slot }
+        ensures knows { HasUnmarked self.old.knows self.new.knows }
+    {
+        self.words
+            .shared
+            .fetch_sub::<Unmarks>(&mut self.seat, self.index, ACTIVE);
+    }
+}
+
+impl<J: Letter + Drop, H: Drop> Roster<J, H> {
+    /// Gives notice: no child is let in any more.
+    pub fn quit(&mut self, why: Reason)
+        requires { MayQuit self.old.knows.noticed why }
+        ensures table { self.new.table ≡ self.old.table }
+        ensures home { self.new.home ≡ self.old.home }
+        ensures knows { HasStepped (Quit why self.old.knows.generation) self.old.knows self.new.knows }
+    {
+        let gate = self.words.slot_count();
+        let adds = quit_adds(self.noticed, why);
+        self.words
+            .shared
+            .fetch_add::<Quits>(&mut self.seat, gate, adds);
+        self.noticed = Some(why);
+    }
+
+    /// Opens the gate to sessions, and takes the notice back.
+    pub fn ready(&mut self)
+        requires { MayOpen self.old.knows }
+        ensures table { self.new.table ≡ self.old.table }
+        ensures home { self.new.home ≡ self.old.home }
+        ensures knows { HasStepped (Ready self.old.knows.generation) self.old.knows self.new.knows }
+    {
+        let gate = self.words.slot_count();
+        let adds = ready_adds(self.noticed);
+        self.words
+            .shared
+            .fetch_add::<Readies>(&mut self.seat, gate, adds);
+        self.noticed = None;
+    }
+
+    /// Begins the next generation, whatever the gate has counted.
+    pub fn reset(&mut self)
+        requires { MayReset self.old.knows }
+        ensures table { self.new.table ≡ self.old.table }
+        ensures home { self.new.home ≡ self.old.home }
+        ensures knows { HasStepped (Reset (self.old.knows.generation + 1)) self.old.knows self.new.knows }
+    {
+        let gate = self.words.slot_count();
+        let generation = self.generation + 1;
+        self.words
+            .shared
+            .store::<Resets>(&mut self.seat, gate, new_word(generation));
+        self.generation = generation;
+        self.noticed = None;
+    }
+
+    pub fn generation(&self) -> u32
+        ensures { result ≡ self.now.knows.generation }
+    {
+        self.generation
+    }
+}

@@ -1,0 +1,33 @@
+//! What holds of a board between any two steps. Each law is stated in `specs/Laws`, and carried by the function of its name.
+
+ghost use Rattle.pm_board.specs.Laws.{ResetFindsNobody, ShowsASoundState, HistoryIsOfTheSeats, HearsWhatWasSent};
+
+use crate::views::Letter;
+use pm_supervisor::keeps_what_is_shared;
+
+/// Where the supervisor sees no slot with a child, no worker does anything. So a reset finds nobody attached, whatever the
+/// gate has counted.
+pub fn reset_finds_nobody<J: Letter>()
+    ensures { ResetFindsNobody J.told }
+{}
+
+/// What the board shows is sound: pids differ, every child is of the present generation, a session is attached only in a
+/// generation that has been open, and no more are than the limit.
+pub fn shows_a_sound_state<J: Letter>()
+    ensures { ShowsASoundState J.told }
+{
+    keeps_what_is_shared();
+}
+
+/// The events that led to what the board shows are the own steps of its seats: the supervisor's are what its view has noted,
+/// in order, and those on a slot what the view of its worker has.
+pub fn history_is_of_the_seats<J: Letter>()
+    ensures { HistoryIsOfTheSeats J.told }
+{}
+
+/// What a child heard was meant for it: each signal that it was given was sent to its pid, once for each time that it was given;
+/// a cancel that it heeded was made for its pid, with the key of that pid; and where the gate told it of a notice, the
+/// supervisor had given that notice in the child's generation, before the child's release.
+pub fn hears_what_was_sent<J: Letter>()
+    ensures { HearsWhatWasSent J.told }
+{}

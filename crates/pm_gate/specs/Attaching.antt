@@ -1,0 +1,40 @@
+-- What a child's calls at the gate tell.
+use Rattle.std.specs.Prelude.{◌≡◌, ℕ, Result, Ok, Err}
+use Rattle.pm_life.specs.declared.life.GateNo.{GateNo}
+use Rattle.pm_board.specs.declared.views.Offer.{Offer}
+use Rattle.pm_board.specs.declared.views.Work.{Work}
+use Rattle.pm_board.specs.declared.views.Work.TheVariants.{Inactive, Attached}
+use Rattle.pm_board.specs.declared.views.PostView.{PostView}
+use Rattle.pm_board.specs.Gate.{gate_answer}
+use Rattle.pm_board.specs.Told.{with_work, tried_by, detached}
+use Rattle.pm_gate.specs.declared.tokens.Attached.{Attached as Attached_}
+
+-- the generation of who was let in, or the refusal
+abbrev pub answer_of : Result Attached_ GateNo → Result ℕ GateNo
+answer_of (Ok a) = Ok a.generation
+answer_of (Err refusal) = Err refusal
+
+module _ {D : Type 0} where
+  -- the child is attached in this generation
+  abbrev pub IsAttachedIn : ℕ → Work D → Type 0
+  IsAttachedIn generation work = (o : Offer D) × (work ≡ Attached o generation)
+
+  -- it does what it did before, and has had the same children
+  abbrev pub Stays : PostView D → PostView D → Type 0
+  Stays before after = (after.work ≡ before.work) × (after.past ≡ before.past)
+
+  -- what a worker knows once its child, that met this word, got this answer: one that was refused is as before
+  abbrev pub after_attach : PostView D → Offer D → ℕ → Result ℕ GateNo → PostView D
+  after_attach w o word (Ok generation) = tried_by w o word (Ok generation)
+  after_attach w o word (Err refusal) = with_work (tried_by w o word (Err refusal)) (Inactive o)
+
+  -- the child met a word of the gate and got the answer to it
+  abbrev pub HasAttached : Result Attached_ GateNo → PostView D → PostView D → Type 0
+  HasAttached answer before after =
+      (o : Offer D) → before.work ≡ Inactive o
+      → (word : ℕ) × (answer_of answer ≡ gate_answer o.kind before.notes.session_limit word) × (after ≡ after_attach before o word (answer_of answer))
+
+  -- the child has let go
+  abbrev pub HasLeft : ℕ → PostView D → PostView D → Type 0
+  HasLeft generation before after =
+      (o : Offer D) → before.work ≡ Attached o generation → after ≡ with_work (detached before o) (Inactive o)

@@ -1,0 +1,92 @@
+//! The gate: which children may attach to what a generation shares. All of its calls are a constant number of the board's
+//! steps: they take no memory, wait for nobody and retry nothing.
+#![tactic(auto)]
+
+ghost use Rattle.std.specs.Prelude.{◌≡◌, ◌+◌, IfOk, OnErr};
+ghost use Rattle.pm_board.specs.declared.views.RosterStep.TheVariants.{Quit, Ready, Reset};
+ghost use Rattle.pm_board.specs.Told.{MayQuit};
+ghost use Rattle.pm_board.specs.Models.{MayAttach, MayOpen, MayReset, HasStepped};
+ghost use Rattle.pm_gate.specs.Attaching.{IsAttachedIn, Stays, HasAttached, HasLeft};
+
+mod tokens;
+
+use pm_board::{Letter, Post, Roster};
+use pm_life::GateNo;
+use pm_supervisor::Reason;
+pub use tokens::{Attached, Generation};
+
+/// Lets the child in that runs on the post, or says why not, by the gate's word as this call meets it: a notice comes first;
+/// a session is besides told that the gate isn't open, or that the limit of sessions is reached. A child that was refused
+/// leaves nothing behind: its place at the gate is given back, and its slot isn't active.
+pub fn attach<J: Letter + Drop, H>(post: &mut Post<J, H>) -> Result<Attached, GateNo>
+    requires { MayAttach post.old.knows.work }
+    ensures table { post.new.table ≡ post.old.table }
+    ensures slot { post.new.slot ≡ post.old.slot }
+    ensures met { HasAttached result post.old.knows post.new.knows }
+    ensures attached { IfOk result (λ a. IsAttachedIn a.generation post.new.knows.work) }
+    ensures refused { OnErr result (Stays post.old.knows post.new.knows) }
+{
+    post.mark();
+    match post.try_gate() {
+        Ok(generation) => Ok(Attached { generation }),
+        Err(refusal) => {
+            post.back_out();
+            post.unmark();
+            Err(refusal)
+        }
+    }
+}
+
+/// Lets go of what the child was attached to.
+pub fn detach<J: Letter + Drop, H>(post: &mut Post<J, H>, attached: Attached)
+    requires { IsAttachedIn attached.generation post.old.knows.work }
+    ensures table { post.new.table ≡ post.old.table }
+    ensures slot { post.new.slot ≡ post.old.slot }
+    ensures knows { HasLeft attached.generation post.old.knows post.new.knows }
+{
+    drop(attached);
+    post.let_go();
+    post.unmark();
+}
+
+/// Shuts the gate: until the next `ready` or `reset` nobody is let in.
+pub fn quit<J: Letter + Drop, H: Drop>(roster: &mut Roster<J, H>, reason: Reason)
+    requires { MayQuit roster.old.knows.noticed reason }
+    ensures table { roster.new.table ≡ roster.old.table }
+    ensures home { roster.new.home ≡ roster.old.home }
+    ensures knows { HasStepped (Quit reason roster.old.knows.generation) roster.old.knows roster.new.knows }
+{
+    roster.quit(reason);
+}
+
+/// Opens the gate to sessions, once in a generation, and takes a notice back.
+pub fn ready<J: Letter + Drop, H: Drop>(roster: &mut Roster<J, H>)
+    requires { MayOpen roster.old.knows }
+    ensures table { roster.new.table ≡ roster.old.table }
+    ensures home { roster.new.home ≡ roster.old.home }
+    ensures knows { HasStepped (Ready roster.old.knows.generation) roster.old.knows roster.new.knows }
+{
+    roster.ready();
+}
+
+/// Begins the next generation, where no slot has a child. Whatever the gate has counted goes: children that died attached are
+/// counted until then.
+pub fn reset<J: Letter + Drop, H: Drop>(roster: &mut Roster<J, H>) -> Generation
+    requires { MayReset roster.old.knows }
+    ensures table { roster.new.table ≡ roster.old.table }
+    ensures home { roster.new.home ≡ roster.old.home }
+    ensures knows { HasStepped (Reset (roster.old.knows.generation + 1)) roster.old.knows roster.new.knows }
+    ensures number { result.number ≡ roster.old.knows.generation + 1 }
+{
+    roster.reset();
+    Generation {
+        number: roster.generation(),
+    }
+}
+
+/// The present generation.
+pub fn generation<J: Letter + Drop, H: Drop>(roster: &Roster<J, H>) -> u32
+    ensures { result ≡ roster.now.knows.generation }
+{
+    roster.generation()
+}
