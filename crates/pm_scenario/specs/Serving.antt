@@ -40,6 +40,17 @@ then_called call s = if s.machine.ended then s else called call s
 abbrev pub may_accept : Machine → Bool
 may_accept m = not m.ended && accepts_in m.state && nat_lt m.dead_ends 4
 
+-- the next connection is accepted under the next pid
+abbrev pub next_accept : Served → Served
+next_accept s = called (Accepts (s.replay.shown.last_pid + 1)) s
+
+-- the child with this pid
+abbrev pub child_at : ℕ → Served → Option Child
+child_at pid s = child_of pid s.replay.shown.children
+
+abbrev pub kill_noted : ℕ → Served → Served
+kill_noted pid s = noted (entry.KillAsked pid ∷ []) s.machine s
+
 -- the end of a child counts only where the child is there
 abbrev pub exited : Option Child → ℕ → Status → Bool → ℕ → Served → Served
 exited None pid status was_active at s = s
@@ -47,13 +58,13 @@ exited (Some c) pid status was_active at s = called (Exits pid c.kind status was
 
 abbrev pub kill_asked : Option Child → ℕ → Served → Served
 kill_asked None pid s = s
-kill_asked (Some c) pid s = noted (entry.KillAsked pid ∷ []) s.machine s
+kill_asked (Some c) pid s = kill_noted pid s
 
 abbrev pub caused : Cause → ℕ → Served → Served
-caused cause.Connection at s = if may_accept s.machine then called (Accepts (s.replay.shown.last_pid + 1)) s else s
-caused (cause.Exit pid status was_active) at s = exited (child_of pid s.replay.shown.children) pid status was_active at s
+caused cause.Connection at s = if may_accept s.machine then next_accept s else s
+caused (cause.Exit pid status was_active) at s = exited (child_at pid s) pid status was_active at s
 caused (cause.Request mode) at s = called (Asks mode at) s
-caused (cause.Kill pid) at s = kill_asked (child_of pid s.replay.shown.children) pid s
+caused (cause.Kill pid) at s = kill_asked (child_at pid s) pid s
 caused cause.Time at s = s
 
 -- what happens, and then the clock and a turn: but nothing once the server has ended, nor at a moment that has passed

@@ -1,39 +1,52 @@
-use Rattle.std.proofs.Common.{◌≡◌, true, false, ◌||◌, [], ◌∷◌, refl, ap, sym, ◌∙◌, arith}
-use Rattle.pm_state.specs.declared.event.PmEvent.TheVariants as entry
+use Rattle.std.proofs.Common.{lit≤, ◌≤◌, ◌++◌, ap, refl, ◌∙◌, subst}
+use Rattle.std.specs.Option.{option_map}
 use Rattle.pm_state.specs.Machine.{Asked}
 use Rattle.pm_state.specs.Shows.{Asks}
-use Rattle.pm_state.specs.Journal.{all_reported}
-use Rattle.pm_state.specs.Starts.{has_end}
-use Rattle.pm_scenario.proofs.Making.{goes-on, did, knows-end, ready}
+use Rattle.pm_journal.specs.Laws.{with_due}
+use Rattle.pm_journal.specs.Standing.{asking, later}
+use Rattle.pm_journal.specs.Stands.{behind}
+use Rattle.pm_scenario.specs.declared.server.Server.{Server}
+use Rattle.pm_scenario.specs.Server.{GoesOn, standing_in}
+use Rattle.pm_scenario.specs.Serving.{called}
+use Rattle.pm_scenario.proofs.Making.{asked-leaves, asked-moments, at-rest, call-goes-on, later-is, leaves-few, may-ask, unowed}
 use Rattle.pm_scenario.proofs.server.Server.ask.Goals as goal
 
-pub do_all-requires-clause-few : goal.do_all-requires-clause-few
-do_all-requires-clause-few c =
-    rw c.asked-actions.ensures.acts (c.tells_of_each_start.ensures.few c.args.self.now.core (Asked c.args.mode c.args.at))
+pub ask-requires : goal.ask-requires
+ask-requires c =
+    let given = c.requires.serving in
+    record {
+      stands = (given.0, given.2.past, given.2.stands);
+      rests = at-rest given.0 c.args.self.now given.1 given.2 c.requires.goes_on;
+      may = may-ask c.args.mode (standing_in c.args.self.now) (unowed given.0 c.args.self.now given.1 given.2 c.requires.room);
+    }
 
-pub do_all-requires-clause-owes : goal.do_all-requires-clause-owes
-do_all-requires-clause-owes c =
-    let on = ready c.args.self.now c.requires.serving c.requires.goes_on in
-    rw (c.asked-actions.ensures.acts, c.in_ok-note.ensures.core, c.asked-actions.ensures.machine) (c.tells_of_each_start.ensures.tells c.args.self.now.core (Asked c.args.mode c.args.at) refl on)
+pub finish-requires : goal.finish-requires
+finish-requires c =
+    let given = c.requires.serving in
+    let s = standing_in c.args.self.now in
+    record {
+      stands = (given.0, behind s.machine (asking c.args.mode c.args.at s).call given.2.past, c.in_ok-ask.ensures.stands given.0 given.2.past given.2.stands);
+      generations =
+          leaves-few s _ (Asks c.args.mode (later c.args.at s)) 0 (asked-leaves s _ c.args.mode c.args.at c.in_ok-ask.ensures.standing)
+          (c.tells_of_each_start.ensures.few s.machine (Asked c.args.mode (later c.args.at s))) c.requires.room.generations;
+    }
 
 pub returns-clause-goes_on : goal.returns-clause-goes_on
-returns-clause-goes_on c =
-    let old = c.args.self.now in
-    let on = ready old c.requires.serving c.requires.goes_on in
-    let done = c.in_ok-do_all.ensures in
-    let noted = c.in_ok-note.ensures in
-    goes-on c.stays_in_step.ensures c.writes_a_legal_journal.ensures old c.do_all.new.self (Asks c.args.mode c.args.at) c.requires.serving on
-    (λ asks. absurd (let isnt : true ≡ false = sym asks ∙ c.requires.serving.remembers.asks_smart in cc), (rw (← c.requires.serving.remembers.moment) c.requires.moment, refl))
-    (record {
-      journal = rw (← c.asked-actions.ensures.acts)
-          (did c.writes_a_legal_journal.ensures old c.note.new.self c.do_all.new.self (entry.Asked c.args.mode c.args.at ∷ []) c.asked-actions.result c.args.at
-          noted.journal noted.limits done.journal);
-      core = rw (← c.asked-actions.ensures.acts, ← c.asked-actions.ensures.machine) (done.core ∙ ap (all_reported c.asked-actions.result) noted.core);
-      remembers = done.remembers;
-      ended = rw (done.core, noted.core) (rw (c.asked-actions.ensures.acts, c.asked-actions.ensures.machine)
-          (knows-end c.tells_of_each_start.ensures old.core (Asked c.args.mode c.args.at) refl on old.ended c.do_all.new.self.ended c.requires.goes_on
-          (rw (← c.asked-actions.ensures.acts) (done.ended ∙ ap (λ b. b || has_end c.asked-actions.result) noted.ended))));
-      limits = done.limits ∙ noted.limits;
-      pids = omega (arith, done.pids, noted.pids);
-      generations = omega (arith, done.generations, noted.generations);
-    })
+returns-clause-goes_on c = λ limits v serving.
+    let s = standing_in c.args.self.now in
+    let making = asking c.args.mode c.args.at s in
+    let h = behind s.machine making.call serving.past in
+    let mid : Server = record { supervision = c.ask.new.self } in
+    subst (λ n. GoesOn limits c.args.self.now c.finish.new.self (called (Asks c.args.mode n) v)) (later-is c.args.at s c.requires.moment)
+    (call-goes-on c.writes_a_legal_journal.ensures limits c.args.self.now mid c.finish.new.self v h making.call (v.journal ++ making.entries) 0 (lit≤ tt)
+    (c.tells_of_each_start.ensures.few s.machine (Asked c.args.mode (later c.args.at s)))
+    (asked-leaves s (standing_in mid) c.args.mode c.args.at c.in_ok-ask.ensures.standing) serving
+    (c.in_ok-ask.ensures.told ∙ ap (option_map (λ es. es ++ making.entries)) serving.told_is)
+    (ap (with_due limits (v.journal ++ making.entries)) c.in_ok-ask.ensures.standing ∙ c.notes_what_is_due.ensures.asks limits v.journal s c.args.mode c.args.at)
+    (c.finish.ensures.on limits h (c.in_ok-ask.ensures.stands limits serving.past serving.stands)) c.finish.ensures.within c.finish.ensures.none_due)
+
+pub returns-clause-moment : goal.returns-clause-moment
+returns-clause-moment c =
+    let s = standing_in c.args.self.now in
+    let moments = asked-moments s _ c.args.mode c.args.at c.requires.moment c.in_ok-ask.ensures.standing in
+    (c.finish.ensures.within.moments c.args.at moments.0 moments.1).0

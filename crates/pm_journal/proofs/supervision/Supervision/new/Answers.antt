@@ -1,0 +1,7 @@
+use Rattle.std.proofs.Common.{refl, arith}
+use Rattle.pm_journal.proofs.Making.{stands-begun}
+use Rattle.pm_journal.proofs.supervision.Supervision.new.Goals as goal
+
+pub returns-clause-stands : goal.returns-clause-stands
+returns-clause-stands g c =
+    λ none. rw c.new.ensures (stands-begun c.laws.ensures.steps c.args.limits (g.J.Chronicle.entries c.args.journal) none)
