@@ -1,0 +1,5 @@
+pub mod Chain
+pub mod Steps
+pub mod WorkedChains
+pub mod WorkedSteps
+pub mod Laws
