@@ -9,20 +9,19 @@ use Rattle.pm_disk.specs.Cause.{Rose}
 use Rattle.pm_rows.specs.declared.commit.Change.{Change}
 use Rattle.pm_rows.specs.Fold.{committed}
 use Rattle.pm_rows.specs.Limits.{max_file_bytes}
-use Rattle.pm_record.specs.Pair.{Means}
 use Rattle.pm_query.specs.declared.book.BookEntry.{BookEntry}
 use Rattle.pm_query.specs.declared.book.BookEntry.TheVariants.{Opened, Attached, Redone, Answered, Released, Detached, Gone, CheckpointEnded, Broke, LogFull}
 use Rattle.pm_query.specs.History.{History, beginning, count_of, rows_of, with_commit}
 use Rattle.pm_query.specs.Book.{Base, BeginsRenewal, IsLegal, MayFollow, MayGoOn, RenewsBehindGone, ends_checkpoint, ends_cleanly, fault_here, faults_after, faults_here, faults_of, generation_after, generation_of, has_checkpoint, history_after, history_of, is_closed, kept_after, kept_by_redo, last_tick, need_after, needs_of, present, present_after, standing_of, tick_after, times_after, times_attached}
-use Rattle.pm_query.specs.Durable.{Keeps}
 use Rattle.pm_segment.specs.declared.live.Live.{Live}
 use Rattle.pm_segment.specs.Moment.{Moment}
-use Rattle.pm_segment.specs.Stands.{HasGone, HasNoTick, HasWaited, IsFaultBy, IsOpening, Origin, TellsBreak}
+use Rattle.pm_segment.specs.Children.{IsAttendedBy, times_in}
+use Rattle.pm_segment.specs.Stands.{HasGone, HasNoTick, HasRenewed, HasWaited, IsFaultBy, Origin, TellsBreak, bytes_of_rows, most_bytes}
 use Rattle.pm_segment.proofs.Runs.{history_push}
 
 -- ---- legal books
 
-goes_on : (base : Base) (before book : List BookEntry) (entry : BookEntry) → MayGoOn base before book → MayFollow base (before ++ book) entry → MayGoOn base before (book ++ entry ∷ [])
+pub goes_on : (base : Base) (before book : List BookEntry) (entry : BookEntry) → MayGoOn base before book → MayFollow base (before ++ book) entry → MayGoOn base before (book ++ entry ∷ [])
 goes_on base before [] entry all next = (subst (λ (l : List BookEntry). MayFollow base l entry) (append-nil before) next, tt)
 goes_on base before (first ∷ book) entry all next =
     (all.0, goes_on base (before ++ first ∷ []) book entry all.1 (subst (λ (l : List BookEntry). MayFollow base l entry) (sym (append_assoc before (first ∷ []) book)) next))
@@ -106,7 +105,7 @@ closed_push book entry = ap (list_any ends_cleanly) (present_push book entry)
 pub checkpoint_push : (book : List BookEntry) (entry : BookEntry) → has_checkpoint (book ++ entry ∷ []) ≡ list_any ends_checkpoint (present_after (present book) entry)
 checkpoint_push book entry = ap (list_any ends_checkpoint) (present_push book entry)
 
-or_false : (a : Bool) → a || false ≡ a
+pub or_false : (a : Bool) → a || false ≡ a
 or_false true = refl
 or_false false = refl
 
@@ -123,31 +122,59 @@ fault_later before now le fault by = omega (arith, le, by)
 
 -- ---- the store behind one entry more
 
+-- each child is attached as often as it is inside
+pub attended_push : (inside inside_now : List ℕ) (book : List BookEntry) (entry : BookEntry) → IsAttendedBy inside book
+    → ((pid : ℕ) → times_after pid (times_in pid inside) entry ≡ times_in pid inside_now) → IsAttendedBy inside_now (book ++ entry ∷ [])
+attended_push inside inside_now book entry is step pid = times_push book entry pid ∙ ap (λ (n : ℕ). times_after pid n entry) (is pid) ∙ step pid
+
+-- an entry that takes no child in or out
+pub attended_still : (inside : List ℕ) (book : List BookEntry) (entry : BookEntry) → ((pid n : ℕ) → times_after pid n entry ≡ n) → IsAttendedBy inside book → IsAttendedBy inside (book ++ entry ∷ [])
+attended_still inside book entry none is = attended_push inside inside book entry is (λ pid. none pid (times_in pid inside))
+
+need_grows : (total : ℕ) (entry : BookEntry) → total ≤ need_after total entry
+need_grows total (Answered pid script reply commit front tick) = omega arith
+need_grows total (Opened generation) = omega arith
+need_grows total (Attached pid generation) = omega arith
+need_grows total (Redone pid generation count) = omega arith
+need_grows total (Released pid front tick) = omega arith
+need_grows total (Detached pid) = omega arith
+need_grows total (Gone pid) = omega arith
+need_grows total (CheckpointEnded pid done clean) = omega arith
+need_grows total (Broke pid since count) = omega arith
+need_grows total (LogFull pid script need room) = omega arith
+
+-- the log may only have become longer
+pub most_grows : (base : Base) (book : List BookEntry) (entry : BookEntry) → most_bytes base book ≤ most_bytes base (book ++ entry ∷ [])
+most_grows base book entry = omega (arith, need_grows (needs_of book) entry, needs_push book entry)
+
 -- the tallies that an entry leaves, where redo has ended: how they are read off the entry
-pub record Tallies (base : Base) (book : List BookEntry) (entry : BookEntry) (kept : ℕ) (closed : Bool) (tick faults : ℕ) (history : History) : Type 0 where
+pub record Tallies (base : Base) (at : Moment) (book : List BookEntry) (entry : BookEntry) (kept : ℕ) (closed : Bool) (history : History) : Type 0 where
   pub not_gone : IsNotGone entry
   pub may : MayFollow base book entry
+  pub begun : 1 ≤ at.generation
   pub generation : (n : ℕ) → generation_after n entry ≡ n
+  pub attended : IsAttendedBy at.inside (book ++ entry ∷ [])
   pub redone : kept_after (kept_by_redo book) entry ≡ Some kept
   pub closed_is : list_any ends_cleanly (present_after (present book) entry) ≡ closed
   pub history_is : history_after (kept_by_redo book) (history_of base book) entry ≡ history
-  pub in_time : tick_after (last_tick book) entry ≤ tick
-  pub each : All (IsFaultBy faults) (faults_after (faults_of book) entry)
+  pub in_time : tick_after (last_tick book) entry ≤ at.ticks
+  pub each : All (IsFaultBy at.faults) (faults_after (faults_of book) entry)
+  pub base_fits : bytes_of_rows base.rows ≤ base.bytes
 
-pub gone_push : (origin : Origin) (base : Base) (at : Moment) (live : Live) (book : List BookEntry) (entry : BookEntry) (history : History) (start : ℕ)
-    → at.live ≡ Some live → IsLegal base book → generation_of book ≡ 1 → Tallies base book entry live.kept live.closed at.ticks at.faults history
+pub gone_push : (base : Base) (at : Moment) (live : Live) (book : List BookEntry) (entry : BookEntry) (history : History)
+    → at.live ≡ Some live → IsLegal base book → generation_of book ≡ at.generation → Tallies base at book entry live.kept live.closed history
     → TellsBreak live.log.since live.faults (fault_here (faults_here book) entry) → ((since : ℕ) → live.log.since ≡ Some since → live.faults ≤ at.faults)
     → at.rows ≡ rows_of history → (live.log.since ≡ None → live.log.count ≡ count_of history) → history.base ≡ standing_of base
-    → (live.log.since ≡ None → live.closed ≡ false → live.log.end + 1 ≤ base.bytes + 1024 + need_after (needs_of book) entry)
-    → live.log.limit ≡ max_file_bytes → base.faults ≤ at.faults → origin.tick ≤ start → IsOpening origin start at.images
-    → Keeps Means base (book ++ entry ∷ []) start at.ticks at.ticks live.log.count at.images
-    → HasGone origin base at live (book ++ entry ∷ [])
-gone_push origin base at live book entry history start read legal generation tallies broken known rows count base_is fits limit later begun opening keeps =
+    → (live.log.since ≡ None → live.log.end + 1 ≤ base.bytes + 1024 + need_after (needs_of book) entry)
+    → live.log.limit ≡ max_file_bytes → base.faults ≤ at.faults → HasGone base at live (book ++ entry ∷ [])
+gone_push base at live book entry history read legal generation tallies broken known rows count base_is fits limit later =
     let is : history_of base (book ++ entry ∷ []) ≡ history = history_push base book entry ∙ tallies.history_is in
     record {
       read = read;
       legal = legal_push base book entry tallies.not_gone legal tallies.may;
+      begun = tallies.begun;
       generation = generation_push book entry ∙ tallies.generation (generation_of book) ∙ generation;
+      attended = tallies.attended;
       redone = redone_push book entry ∙ tallies.redone;
       closed = closed_push book entry ∙ tallies.closed_is;
       broken = subst (TellsBreak live.log.since live.faults) (sym (here_push book entry)) broken;
@@ -155,31 +182,31 @@ gone_push origin base at live book entry history start read legal generation tal
       rows_are = rows ∙ sym (ap rows_of is);
       count_is = λ unbroken. count unbroken ∙ sym (ap count_of is);
       base_is = ap (λ (h : History). h.base) is ∙ base_is;
-      fits = λ unbroken unclosed. subst (λ (n : ℕ). live.log.end + 1 ≤ base.bytes + 1024 + n) (sym (needs_push book entry)) (fits unbroken unclosed);
+      base_fits = tallies.base_fits;
+      fits = λ unbroken. subst (λ (n : ℕ). live.log.end + 1 ≤ base.bytes + 1024 + n) (sym (needs_push book entry)) (fits unbroken);
       limit = limit;
       in_time = subst (λ (n : ℕ). n ≤ at.ticks) (sym (tick_push book entry)) tallies.in_time;
       counted = record { later = later; each = subst (All (IsFaultBy at.faults)) (sym (faults_push book entry)) tallies.each };
-      start = start;
-      begun = begun;
-      opening = opening;
-      keeps = keeps;
     }
 
 -- before the first redo
-pub waited_push : (origin : Origin) (at : Moment) (book : List BookEntry) (entry : BookEntry) → at.live ≡ None → ((base : Base) → base.faults ≡ origin.faults → IsLegal base book)
+pub waited_push : (origin : Origin) (at : Moment) (book : List BookEntry) (entry : BookEntry) → at.live ≡ None → 1 ≤ at.generation → IsAttendedBy at.inside (book ++ entry ∷ [])
+    → ((base : Base) → base.faults ≡ origin.faults → IsLegal base book)
     → ((base : Base) → history_of base book ≡ beginning (standing_of base)) → kept_by_redo book ≡ None → faults_here book ≡ None → All HasNoTick book
     → IsNotGone entry → ((base : Base) → base.faults ≡ origin.faults → MayFollow base book entry)
     → ((base : Base) → history_after None (beginning (standing_of base)) entry ≡ beginning (standing_of base))
-    → generation_after (generation_of book) entry ≡ 1 → kept_after None entry ≡ None → fault_here None entry ≡ None
+    → generation_after (generation_of book) entry ≡ at.generation → kept_after None entry ≡ None → fault_here None entry ≡ None
     → list_any ends_checkpoint (present_after (present book) entry) ≡ at.skipped → list_any ends_cleanly (present_after (present book) entry) ≡ false
     → HasNoTick entry → tick_after (last_tick book) entry ≡ 0 → need_after (needs_of book) entry ≡ 0 → origin.faults ≤ at.faults → All (IsFaultBy at.faults) (faults_after (faults_of book) entry)
-    → origin.tick ≤ at.ticks → IsOpening origin at.ticks at.images → Rose origin.faults at.faults ⊎ (at.files ≡ origin.files)
+    → origin.tick ≤ at.ticks → Rose origin.faults at.faults ⊎ (at.files ≡ origin.files)
     → HasWaited origin at (book ++ entry ∷ [])
-waited_push origin at book entry unread legal fresh unredone here no_ticks not may history generation kept none checkpoint clean no_tick no_time no_need later each reached opening reads = record {
+waited_push origin at book entry unread begun attended legal fresh unredone here no_ticks not may history generation kept none checkpoint clean no_tick no_time no_need later each reached reads = record {
   unread = unread;
   legal = λ base same. legal_push base book entry not (legal base same) (may base same);
   fresh = λ base. history_push base book entry ∙ ap (λ (r : Option ℕ). history_after r (history_of base book) entry) unredone ∙ ap (λ (h : History). history_after None h entry) (fresh base) ∙ history base;
+  begun = begun;
   generation = generation_push book entry ∙ generation;
+  attended = attended;
   unredone = redone_push book entry ∙ ap (λ (r : Option ℕ). kept_after r entry) unredone ∙ kept;
   none_here = here_push book entry ∙ ap (λ (f : Option (List (ℕ × ℕ))). fault_here f entry) here ∙ none;
   skipped = checkpoint_push book entry ∙ checkpoint;
@@ -189,9 +216,33 @@ waited_push origin at book entry unread legal fresh unredone here no_ticks not m
   no_needs = needs_push book entry ∙ no_need;
   counted = record { later = later; each = subst (All (IsFaultBy at.faults)) (sym (faults_push book entry)) each };
   reached = reached;
-  opening = opening;
   reads = reads;
 }
+
+-- in a later generation, before its redo
+pub renewed_push : (base : Base) (before at : Moment) (book : List BookEntry) (entry : BookEntry) → at.live ≡ None → at.generation ≡ before.generation → IsAttendedBy at.inside (book ++ entry ∷ [])
+    → IsNotGone entry → MayFollow base book entry → ((n : ℕ) → generation_after n entry ≡ n) → kept_after None entry ≡ None → fault_here None entry ≡ None
+    → list_any ends_checkpoint (present_after (present book) entry) ≡ at.skipped → list_any ends_cleanly (present_after (present book) entry) ≡ false
+    → history_after None (history_of base book) entry ≡ history_of base book → tick_after (last_tick book) entry ≤ at.ticks → base.faults ≤ at.faults → All (IsFaultBy at.faults) (faults_after (faults_of book) entry)
+    → HasRenewed base before book → HasRenewed base at (book ++ entry ∷ [])
+renewed_push base before at book entry unread same attended not may generation kept none checkpoint clean history in_time later each is =
+    let history_is : history_of base (book ++ entry ∷ []) ≡ history_of base book =
+    history_push base book entry ∙ ap (λ (r : Option ℕ). history_after r (history_of base book) entry) is.unredone ∙ history in
+    record {
+      unread = unread;
+      legal = legal_push base book entry not is.legal may;
+      later = omega (arith, is.later, same);
+      generation = generation_push book entry ∙ generation (generation_of book) ∙ is.generation ∙ sym same;
+      attended = attended;
+      unredone = redone_push book entry ∙ ap (λ (r : Option ℕ). kept_after r entry) is.unredone ∙ kept;
+      none_here = here_push book entry ∙ ap (λ (f : Option (List (ℕ × ℕ))). fault_here f entry) is.none_here ∙ none;
+      skipped = checkpoint_push book entry ∙ checkpoint;
+      unclosed = closed_push book entry ∙ clean;
+      base_is = ap (λ (h : History). h.base) history_is ∙ is.base_is;
+      base_fits = is.base_fits;
+      in_time = subst (λ (n : ℕ). n ≤ at.ticks) (sym (tick_push book entry)) in_time;
+      counted = record { later = later; each = subst (All (IsFaultBy at.faults)) (sym (faults_push book entry)) each };
+    }
 
 -- ---- histories with a commit
 

@@ -1,9 +1,14 @@
 pub mod Books
 pub mod Checkpoints
 pub mod Lawful
+pub mod Lengths
 pub mod Opens
 pub mod Passing
+pub mod Reading
 pub mod Redos
 pub mod Resting
 pub mod Runs
 pub mod Steps
+pub mod Removals
+pub mod Renewals
+pub mod Others

@@ -1,20 +1,27 @@
 -- A store that begins.
-use Rattle.std.proofs.Common.{◌≡◌, inr, ℕ, List, [], ◌∷◌, ◌++◌, Option, None, Some, refl, sym, ◌∙◌, ap, subst, arith, false}
+use Rattle.std.specs.Ordering.{int_cmp}
+use Rattle.std.specs.FinMap.{empty, entries, len-empty, len-entries}
+use Rattle.pm_rows.specs.Fold.{RowMap}
+use Rattle.pm_query.specs.Limits.{HasShortRows, IsShortRow}
+use Rattle.std.proofs.Common.{◌≡◌, inr, ℕ, ℤ, length, All, List, [], ◌∷◌, ◌++◌, Option, None, Some, refl, sym, ◌∙◌, ap, subst, arith, false}
 use Rattle.std.specs.Prelude.{IfSome}
 use Rattle.std.specs.Option.{option_map}
 use Rattle.std.proofs.lemmas.List.Elements.{All-nil, All-push}
 use Rattle.pm_disk.specs.Files.{Files}
 use Rattle.pm_query.specs.declared.book.BookEntry.{BookEntry}
 use Rattle.pm_query.specs.declared.book.BookEntry.TheVariants.{Opened}
+use Rattle.pm_segment.specs.Children.{times_in}
 use Rattle.pm_segment.specs.Moment.{Moment}
-use Rattle.pm_segment.specs.Stands.{HasNoTick, HasWaited, IsFaultBy, WaitsFrom}
+use Rattle.pm_segment.specs.Stands.{HasNoTick, HasWaited, IsFaultBy, IsOpening, Origin, WaitsFrom}
 
-begins : (at : Moment) → at.live ≡ None → at.skipped ≡ false → HasWaited (record { files = at.files; tick = at.ticks; faults = at.faults }) at (Opened 1 ∷ [])
-begins at unread unskipped = record {
+begins : (at : Moment) → at.live ≡ None → at.skipped ≡ false → at.generation ≡ 1 → at.inside ≡ [] → HasWaited (record { files = at.files; tick = at.ticks; faults = at.faults }) at (Opened 1 ∷ [])
+begins at unread unskipped first empty = record {
   unread = unread;
   legal = λ base same. record { entries = (record { next = refl; empty = λ pid. refl }, tt); renewals = tt };
   fresh = λ base. refl;
-  generation = refl;
+  begun = omega (arith, first);
+  generation = sym first;
+  attended = λ pid. ap (times_in pid) (sym empty);
   unredone = refl;
   none_here = refl;
   skipped = sym unskipped;
@@ -24,16 +31,29 @@ begins at unread unskipped = record {
   no_needs = refl;
   counted = record { later = omega arith; each = All-nil (IsFaultBy at.faults) };
   reached = omega arith;
-  opening = λ t le ge image there. ∣ (image, subst (λ (n : ℕ). at.images n image) (omega (arith, le, ge)) there, λ s m. m) ∣₁;
   reads = inr refl;
 }
 
-pub opens_waiting : (at : Moment) (book : Option (List BookEntry)) → at.live ≡ None → at.skipped ≡ false → book ≡ Some [] → at.book ≡ option_map (λ es. es ++ Opened 1 ∷ []) book
+-- at its first tick it is still as it opens
+opening : (at : Moment) → IsOpening (record { files = at.files; tick = at.ticks; faults = at.faults }) at.ticks at.images
+opening at = λ t le ge image there. ∣ (image, subst (λ (n : ℕ). at.images n image) (omega (arith, le, ge)) there, λ s m. m) ∣₁
+
+pub opens_waiting : (at : Moment) (book : Option (List BookEntry)) → at.live ≡ None → at.skipped ≡ false → at.generation ≡ 1 → at.inside ≡ [] → book ≡ Some [] → at.book ≡ option_map (λ es. es ++ Opened 1 ∷ []) book
     → WaitsFrom (record { files = at.files; tick = at.ticks; faults = at.faults }) at
-opens_waiting at book unread unskipped empty notes =
+opens_waiting at book unread unskipped first nobody empty notes =
     let is : at.book ≡ Some (Opened 1 ∷ []) = notes ∙ ap (option_map (λ es. es ++ Opened 1 ∷ [])) empty in
-    subst (λ (b : Option (List BookEntry)). IfSome b (λ list. IfSome at.files (λ seen. HasWaited (record { files = at.files; tick = at.ticks; faults = at.faults }) at list))) (sym is) (each at.files)
+    let origin : Origin = record { files = at.files; tick = at.ticks; faults = at.faults } in
+    subst (λ (b : Option (List BookEntry)). IfSome b (HasWaited origin at) × IfSome b (λ list. IfSome at.files (λ seen. IsOpening origin at.ticks at.images))) (sym is) (begins at unread unskipped first nobody, each at.files)
   where
-    each : (f : Option Files) → IfSome f (λ seen. HasWaited (record { files = at.files; tick = at.ticks; faults = at.faults }) at (Opened 1 ∷ []))
+    each : (f : Option Files) → IfSome f (λ seen. IsOpening (record { files = at.files; tick = at.ticks; faults = at.faults }) at.ticks at.images)
     each None = tt
-    each (Some files) = begins at unread unskipped
+    each (Some files) = opening at
+
+-- ---- no rows
+
+no_entry : (es : List (ℤ × List ℕ)) → length es ≡ 0 → All IsShortRow es
+no_entry [] e = All-nil IsShortRow
+no_entry (first ∷ es) e = absurd (omega arith)
+
+pub short_empty : (rows : RowMap) → rows ≡ empty → HasShortRows rows
+short_empty rows is = subst HasShortRows (sym is) (no_entry (entries empty) (sym (len-entries empty) ∙ len-empty int_cmp (List ℕ)))

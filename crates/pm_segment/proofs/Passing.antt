@@ -13,15 +13,19 @@ use Rattle.pm_query.specs.Book.{AnswersUpTo, present, present_after, times_after
 use Rattle.pm_query.specs.Calls.{IsNoLess, IsWithin}
 use Rattle.pm_segment.specs.declared.live.Live.{Live}
 use Rattle.pm_segment.specs.declared.pass.Pass.{Pass}
+use Rattle.pm_segment.specs.Moment.{Moment}
 use Rattle.pm_segment.specs.Moves.{NotesEntries}
 use Rattle.pm_segment.specs.Passes.{Admits, HasAnswer, IsFlushed, IsInside}
 use Rattle.pm_segment.proofs.Books.{present_push, times_push}
 use Rattle.pm_segment.proofs.Steps.{Attends}
 
 -- the child of a pass is attached
-pub attends : (pass : Pass) (live : Option Live) (book : Option (List BookEntry)) (spare : ℕ) → Admits pass live book spare → Attends pass.pid book
-attends pass live None spare admits = tt
-attends pass live (Some book) spare admits = admits.inside.attached
+pub attends : (pass : Pass) (at : Moment) → Admits pass at → Attends pass.pid at.book
+attends pass at admits = each at.book admits.inside
+  where
+    each : (book : Option (List BookEntry)) → IfSome book (IsInside pass.pid pass.front) → Attends pass.pid book
+    each None inside = tt
+    each (Some book) inside = inside.attached
 
 -- an entry in the present generation that takes no child out
 pub record Stays (pid : ℕ) (entry : BookEntry) : Type 0 where
@@ -57,11 +61,11 @@ inside_answered pid front tick script reply commit seen (Some book) now notes in
     })
 
 -- it comes in
-pub inside_entered : (pid : ℕ) (book now : Option (List BookEntry)) → NotesEntries (Attached pid 1 ∷ []) book now → IfSome now (IsInside pid None)
-inside_entered pid None now notes = subst (λ (b : Option (List BookEntry)). IfSome b (IsInside pid None)) (sym notes) tt
-inside_entered pid (Some book) now notes =
-    let times : times_attached (book ++ Attached pid 1 ∷ []) pid ≡ times_attached book pid + 1 =
-    times_push book (Attached pid 1) pid ∙ ap (λ (b : Bool). cond b (times_attached book pid + 1) (times_attached book pid)) (eq-eqb pid pid refl) in
+pub inside_entered : (pid generation : ℕ) (book now : Option (List BookEntry)) → NotesEntries (Attached pid generation ∷ []) book now → IfSome now (IsInside pid None)
+inside_entered pid generation None now notes = subst (λ (b : Option (List BookEntry)). IfSome b (IsInside pid None)) (sym notes) tt
+inside_entered pid generation (Some book) now notes =
+    let times : times_attached (book ++ Attached pid generation ∷ []) pid ≡ times_attached book pid + 1 =
+    times_push book (Attached pid generation) pid ∙ ap (λ (b : Bool). cond b (times_attached book pid + 1) (times_attached book pid)) (eq-eqb pid pid refl) in
     subst (λ (b : Option (List BookEntry)). IfSome b (IsInside pid None)) (sym notes) (record { attached = omega (arith, times); answered = tt })
 
 -- what it has reached was answered
@@ -95,3 +99,8 @@ flushed_still None live now its new was is le flushed = tt
 flushed_still (Some front) live now its new was is le flushed =
     let within : front ≤ its.log.count = subst (IsFlushed (Some front)) was flushed in
     subst (IsFlushed (Some front)) (sym is) (omega (arith, within, le))
+
+-- before redo it has seen nothing
+pub none_flushed : (seen : Option ℕ) (live now : Option Live) → live ≡ None → IsFlushed seen live → IsFlushed seen now
+none_flushed None live now none flushed = tt
+none_flushed (Some front) live now none flushed = absurd (subst (IsFlushed (Some front)) none flushed)

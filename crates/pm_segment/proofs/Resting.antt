@@ -1,5 +1,5 @@
 -- How the log of a store rests on its disk, from call to call.
-use Rattle.std.proofs.Common.{◌≡◌, ◌≢◌, ◌⊎◌, inl, inr, ℕ, zero, suc, ◌+◌, ◌^◌, ◌<◌, List, [], ◌∷◌, ◌++◌, length, get_or, take, All, Option, None, Some, refl, sym, ◌∙◌, ap, subst, arith, append-nil, length-append}
+use Rattle.std.proofs.Common.{◌≡◌, ◌≢◌, ◌⊎◌, inl, inr, ℕ, zero, suc, ◌+◌, ◌^◌, ◌<◌, List, [], ◌∷◌, ◌++◌, length, get_or, take, All, Option, None, Some, refl, sym, ◌∙◌, ap, subst, arith, append-nil, length-append, false, true≢false}
 use Rattle.std.specs.Prelude.{IfSome}
 use Rattle.std.proofs.Math.Logic.{∥∥₁_map, ∥∥₁_elim}
 use Rattle.std.proofs.Math.Bridge.{le_prop}
@@ -16,7 +16,7 @@ use Rattle.pm_rows.specs.LogSize as log
 use Rattle.pm_rows.specs.Standing.{Standing, after}
 use Rattle.pm_rows.specs.Typed.{IsTypedChange}
 use Rattle.pm_record.specs.StandsFor.{Content, IsBatch, IsChange, IsCommit, MayAppend, StandsFor, commits_of, standing_of, with_batch}
-use Rattle.pm_record.specs.Pair.{Means, MeansIn}
+use Rattle.pm_record.specs.Pair.{MeansIn}
 use Rattle.pm_record.specs.OnDisk.{Rests as LogRests, Throughout}
 use Rattle.pm_log.specs.Append.{MeansOneOf}
 use Rattle.pm_log.specs.Log.{Lives}
@@ -28,7 +28,8 @@ use Rattle.pm_query.specs.Book as book
 use Rattle.pm_segment.specs.declared.live.Live.{Live}
 use Rattle.pm_segment.specs.Rests.{HasRows, Rests}
 use Rattle.pm_segment.proofs.Runs.{same_standing, standing}
-use Rattle.pm_segment.proofs.Steps.{OneOf, some_none}
+use Rattle.pm_segment.specs.Stands.{MeansWithin}
+use Rattle.pm_segment.proofs.Steps.{OneOf, some_none, with_need}
 
 -- whatever a stop leaves of a log that rests means its content
 pub means_now : (file : Which) (content : Content) (end : ℕ) (files : Files) (images : Files → Type 0) → LogRests file content end files images → (image : Files) → images image → MeansIn image (standing_of content) (end + 1)
@@ -77,12 +78,13 @@ may_append rows count commit batch within behind small = record { batch_is = bat
 
 -- ---- what the log's append says, for rows and count
 
-pub content_is : (live : Live) (rows : RowMap) (files : Files) (images : Files → Type 0) (h : HasRows live.log rows files images) → standing_of h.content ≡ standing rows live.log.count
+pub content_is : (live : Live) (rows : RowMap) (files : Files) (images : Files → Type 0) (h : HasRows live rows files images) → standing_of h.content ≡ standing rows live.log.count
 content_is live rows files images h = same_standing (standing_of h.content).rows rows (standing_of h.content).count live.log.count (sym h.rows_are) (sym h.lives.count)
 
-one_of : (one two : Standing) (bytes more : ℕ) (commit : List Change) (image : Files) → one ≡ two → MeansOneOf one bytes (after one (commit ∷ [])) more image → Means image two ⊎ Means image (after two (commit ∷ []))
-one_of one two bytes more commit image same (inl m) = inl (subst (λ (s : Standing). Means image s) same (bytes, m))
-one_of one two bytes more commit image same (inr m) = inr (subst (λ (s : Standing). Means image (after s (commit ∷ []))) same (more, m))
+one_of : (one two : Standing) (bytes need : ℕ) (commit : List Change) (image : Files) → one ≡ two → MeansOneOf one bytes (after one (commit ∷ [])) (bytes + need) image
+    → MeansWithin (bytes + need) image two ⊎ MeansWithin (bytes + need) image (after two (commit ∷ []))
+one_of one two bytes need commit image same (inl m) = inl (subst (λ (s : Standing). MeansWithin (bytes + need) image s) same (bytes, omega arith, m))
+one_of one two bytes need commit image same (inr m) = inr (subst (λ (s : Standing). MeansWithin (bytes + need) image (after s (commit ∷ []))) same (bytes + need, omega arith, m))
 
 -- what the log's append says of the stops inside it
 abbrev pub StopsOneOf : Live → List (List Change) → ℕ → ℕ → (Files → Type 0) → (ℕ → Files → Type 0) → Files → Type 0
@@ -92,13 +94,13 @@ StopsOneOf live batch from to before now files =
 
 pub through_of : (seen : Option Files) (live : Live) (rows : RowMap) (from to : ℕ) (i k : ℕ → Files → Type 0) (commit : List Change)
     → ∥ Rests (Some live) rows seen (i from) ∥₁ → live.log.since ≡ None → MayAppend (standing rows live.log.count) (commit ∷ [])
-    → IfSome seen (StopsOneOf live (commit ∷ []) from to (i from) k) → IfSome seen (λ files. Throughout from to k (OneOf (standing rows live.log.count) commit))
+    → IfSome seen (StopsOneOf live (commit ∷ []) from to (i from) k) → IfSome seen (λ files. Throughout from to k (OneOf (with_need live commit) (standing rows live.log.count) commit))
 through_of None live rows from to i k commit rests unbroken may stops = tt
 through_of (Some files) live rows from to i k commit rests unbroken may stops = λ t le ge image there.
     ∥∥₁_map rests (λ r.
     let h = r unbroken in
     let same = content_is live rows files (i from) h in
-    one_of (standing_of h.content) (standing rows live.log.count) (live.log.end + 1) (live.log.end + 1 + log.need_of (commit ∷ [])) commit image same
+    one_of (standing_of h.content) (standing rows live.log.count) (live.log.end + 1) (log.need_of (commit ∷ [])) commit image same
     (stops h.content h.lives (subst (λ (s : Standing). MayAppend s (commit ∷ [])) (sym same) may) t le ge image there))
 
 -- and of the log behind it
@@ -106,35 +108,36 @@ abbrev pub LivesWith : Live → Live → List (List Change) → (Files → Type 
 LivesWith live new batch before now files files_now =
     (content : Content) → Lives live.log content files before → MayAppend (standing_of content) batch → Lives new.log (with_batch content batch) files_now now
 
-pub durable_of : (seen now : Option Files) (live new : Live) (rows : RowMap) (before behind : Files → Type 0) (commit : List Change)
+pub durable_of : (seen now : Option Files) (live new : Live) (rows : RowMap) (before behind : Files → Type 0) (commit : List Change) → new.log.end ≡ live.log.end + log.need_of (commit ∷ [])
     → ∥ Rests (Some live) rows seen before ∥₁ → live.log.since ≡ None → MayAppend (standing rows live.log.count) (commit ∷ [])
     → TellsStill (LivesWith live new (commit ∷ []) before behind) seen now
-    → IfSome seen (λ files. (image : Files) → behind image → ∥ Means image (after (standing rows live.log.count) (commit ∷ [])) ∥₁)
-durable_of None now live new rows before behind commit rests unbroken may lives = tt
-durable_of (Some files) None live new rows before behind commit rests unbroken may lives = absurd lives
-durable_of (Some files) (Some files_now) live new rows before behind commit rests unbroken may lives = λ image there.
+    → IfSome seen (λ files. (image : Files) → behind image → ∥ MeansWithin (with_need live commit) image (after (standing rows live.log.count) (commit ∷ [])) ∥₁)
+durable_of None now live new rows before behind commit end rests unbroken may lives = tt
+durable_of (Some files) None live new rows before behind commit end rests unbroken may lives = absurd lives
+durable_of (Some files) (Some files_now) live new rows before behind commit end rests unbroken may lives = λ image there.
     ∥∥₁_map rests (λ r.
     let h = r unbroken in
     let same = content_is live rows files before h in
     let its = lives h.content h.lives (subst (λ (s : Standing). MayAppend s (commit ∷ [])) (sym same) may) in
     let with_it = with_batch h.content (commit ∷ []) in
-    subst (λ (s : Standing). Means image s) (standing-push h.content (commit ∷ []) ∙ ap (λ (s : Standing). after s (commit ∷ [])) same)
-    (new.log.end + 1, means_now new.log.file with_it new.log.end files_now behind its.rests image there))
+    subst (λ (s : Standing). MeansWithin (with_need live commit) image s) (standing-push h.content (commit ∷ []) ∙ ap (λ (s : Standing). after s (commit ∷ [])) same)
+    (new.log.end + 1, omega (arith, end), means_now new.log.file with_it new.log.end files_now behind its.rests image there))
 
 pub rests_with : (seen now : Option Files) (live new : Live) (rows : RowMap) (before behind : Files → Type 0) (commit : List Change)
-    → ∥ Rests (Some live) rows seen before ∥₁ → live.log.since ≡ None → MayAppend (standing rows live.log.count) (commit ∷ [])
+    → new.closed ≡ false → ∥ Rests (Some live) rows seen before ∥₁ → live.log.since ≡ None → MayAppend (standing rows live.log.count) (commit ∷ [])
     → TellsStill (LivesWith live new (commit ∷ []) before behind) seen now → ∥ Rests (Some new) (committed rows commit) now behind ∥₁
-rests_with seen now live new rows before behind commit rests unbroken may lives = ∥∥₁_map rests (λ r whole. each seen now (r unbroken) lives)
+rests_with seen now live new rows before behind commit unclosed rests unbroken may lives = ∥∥₁_map rests (λ r whole. each seen now (r unbroken) lives)
   where
-    each : (seen now : Option Files) → IfSome seen (λ files. HasRows live.log rows files before) → TellsStill (LivesWith live new (commit ∷ []) before behind) seen now
-        → IfSome now (λ files. HasRows new.log (committed rows commit) files behind)
-    each None now r lives = subst (λ (f : Option Files). IfSome f (λ files. HasRows new.log (committed rows commit) files behind)) (sym lives) tt
+    each : (seen now : Option Files) → IfSome seen (λ files. HasRows live rows files before) → TellsStill (LivesWith live new (commit ∷ []) before behind) seen now
+        → IfSome now (λ files. HasRows new (committed rows commit) files behind)
+    each None now r lives = subst (λ (f : Option Files). IfSome f (λ files. HasRows new (committed rows commit) files behind)) (sym lives) tt
     each (Some files) None r lives = absurd lives
     each (Some files) (Some files_now) h lives =
         let same = content_is live rows files before h in record {
           content = with_batch h.content (commit ∷ []);
           lives = lives h.content h.lives (subst (λ (s : Standing). MayAppend s (commit ∷ [])) (sym same) may);
           rows_are = ap (λ (r : RowMap). committed r commit) h.rows_are ∙ sym (ap (λ (s : Standing). s.rows) (standing-push h.content (commit ∷ [])));
+          closed = λ closed. absurd (true≢false (sym closed ∙ unclosed));
         }
 
 -- a log that is broken claims nothing

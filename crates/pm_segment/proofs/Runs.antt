@@ -7,6 +7,7 @@ use Rattle.std.proofs.lemmas.Bool.Decides.{nat_tests}
 use Rattle.std.proofs.lemmas.List.{take-append-le, take_all}
 use Rattle.std.proofs.lemmas.List.Elements.{All-push}
 use Rattle.std.proofs.lemmas.List.Sums.{fold-append}
+use Rattle.std.proofs.Math.Seq.{length-take-le, take-take}
 use Rattle.pm_disk.specs.Files.{Files}
 use Rattle.pm_rows.specs.declared.commit.Change.{Change}
 use Rattle.pm_rows.specs.Fold.{RowMap, committed, folded}
@@ -65,10 +66,14 @@ pub covers_count : (shown whole : History) → Covers shown whole → count_of w
 covers_count shown whole covers = omega (arith, ap (λ (s : Standing). s.count) covers.base, ap length covers.commits, length-append whole.commits covers.more)
 
 -- a number of the one is one of the other
-holds_in : (shown whole : History) (least from : ℕ) (image : Files) → Covers shown whole → least ≤ from → HoldsFrom Means from whole image → HoldsFrom Means least shown image
-holds_in shown whole least from image covers le holds =
+pub holds_in : (Mean : Files → Standing → Type 0) (shown whole : History) (least from : ℕ) (image : Files) → Covers shown whole → least ≤ from → HoldsFrom Mean from whole image → HoldsFrom Mean least shown image
+holds_in Mean shown whole least from image covers le holds =
     let longer = covers_count shown whole covers in
-    ∥∥₁_map holds (λ h. (h.0, omega (arith, h.1), omega (arith, h.2), subst (λ (s : Standing). Means image s) (sym (covers_number shown whole covers h.0 h.2)) h.3))
+    ∥∥₁_map holds (λ h. (h.0, omega (arith, h.1), omega (arith, h.2), subst (λ (s : Standing). Mean image s) (sym (covers_number shown whole covers h.0 h.2)) h.3))
+
+-- whoever means the one means the other
+pub holds_so : (Mean So : Files → Standing → Type 0) (history : History) (least : ℕ) (image : Files) → ((s : Standing) → Mean image s → So image s) → HoldsFrom Mean least history image → HoldsFrom So least history image
+holds_so Mean So history least image so holds = ∥∥₁_map holds (λ h. (h.0, h.1, h.2, so (number history h.0) h.3))
 
 -- a commit more
 pub covers_commit : (history : History) (commit : List Change) → Covers (with_commit history commit) history
@@ -153,7 +158,7 @@ module _ (past : PastStays) (present : PresentIsWhole) (base : Base) (book : Lis
     | inl early ↦ keeps.past t le early image there
     | inr late ↦
         let covers = covers_whole past present base start mark t late book keeps.entries in
-        holds_in (history_at base book t) (history_of base book) (history_at base book t).acked flushed image covers (omega (arith, covers.acked, keeps.acked)) (keeps.since t late ge image there)
+        holds_in Means (history_at base book t) (history_of base book) (history_at base book t).acked flushed image covers (omega (arith, covers.acked, keeps.acked)) (keeps.since t late ge image there)
   ]
 
   -- device calls went by, in which a stop left numbers of the history
@@ -210,7 +215,7 @@ module _ (past : PastStays) (present : PresentIsWhole) (base : Base) (book : Lis
       let covers = covers_commit h commit in
       pushed (Answered pid script reply commit front mark) (with_commit h commit) refl (keeps.begun, omega arith) (λ t lt. not_yet mark t lt)
       (omega (arith, covers.acked, keeps.acked)) (omega (arith, keeps.whole, covers_count (with_commit h commit) h covers))
-      (λ t after upto image there. holds_in (with_commit h commit) h flushed flushed image covers (omega arith) (keeps.since t after upto image there))
+      (λ t after upto image there. holds_in Means (with_commit h commit) h flushed flushed image covers (omega arith) (keeps.since t after upto image there))
 
   -- a release of what is flushed, with the mark for its tick
   released : (pid front : ℕ) → front ≤ flushed → Keeps Means base (book ++ Released pid front mark ∷ []) start mark now flushed images
@@ -223,6 +228,16 @@ module _ (past : PastStays) (present : PresentIsWhole) (base : Base) (book : Lis
   another : (entry : BookEntry) → history_after (kept_by_redo book) (history_of base book) entry ≡ history_of base book → IsWithin start mark entry → ((t : ℕ) → is_by t entry ≡ false)
       → Keeps Means base (book ++ entry ∷ []) start mark now flushed images
   another entry is within none = pushed entry (history_of base book) is within (λ t lt. none t) keeps.acked keeps.whole keeps.since
+
+  -- a later redo, behind which a stop leaves the number that it kept
+  cut : (pid generation : ℕ) → kept_by_redo book ≡ None → flushed ≤ count_of (kept (history_of base book) flushed)
+      → ((t : ℕ) → mark ≤ t → t ≤ now → (image : Files) → images t image → Means image (number (kept (history_of base book) flushed) flushed))
+      → Keeps Means base (book ++ Redone pid generation flushed ∷ []) start mark now flushed images
+  cut pid generation unredone whole means =
+      let h = history_of base book in
+      let then = kept h flushed in
+      pushed (Redone pid generation flushed) then (ap (λ (r : Option ℕ). history_after r h (Redone pid generation flushed)) unredone) tt (λ t lt. refl) keeps.acked whole
+      (λ t after upto image there. ∣ (flushed, omega arith, whole, means t after upto image there) ∣₁)
 
 -- ---- the store's steps: the mark is now
 
@@ -246,6 +261,15 @@ pub notes_another : (past : PastStays) (present : PresentIsWhole) (base : Base) 
     → (entry : BookEntry) → history_after (kept_by_redo book) (history_of base book) entry ≡ history_of base book → IsWithin start now entry → ((t : ℕ) → is_by t entry ≡ false)
     → Keeps Means base (book ++ entry ∷ []) start now now flushed images
 notes_another past present base book start now flushed images keeps entry is within none = another past present base book start now now flushed images keeps entry is within none
+
+pub notes_cut : (past : PastStays) (present : PresentIsWhole) (base : Base) (book : List BookEntry) (start now flushed : ℕ) (images : ℕ → Files → Type 0) → Keeps Means base book start now now flushed images
+    → (pid generation : ℕ) → kept_by_redo book ≡ None → flushed ≤ count_of (kept (history_of base book) flushed)
+    → ((image : Files) → images now image → Means image (number (kept (history_of base book) flushed) flushed))
+    → Keeps Means base (book ++ Redone pid generation flushed ∷ []) start now now flushed images
+notes_cut past present base book start now flushed images keeps pid generation unredone whole means =
+    cut past present base book start now now flushed images keeps pid generation unredone whole (λ t after upto image there.
+    let same : t ≡ now = omega (arith, after, upto) in
+    means image (subst (λ (n : ℕ). images n image) same there))
 
 -- no commit stands behind the base
 pub beginning_number : (base : Standing) → base ≡ number (beginning base) base.count
@@ -289,6 +313,16 @@ next_commit history change changes =
     ∙ sym (fold-append committed history.base.rows history.commits (commit ∷ []))
     ∙ ap (λ (l : List (List Change)). folded history.base.rows l) (sym there) in
     same_standing _ _ _ _ rows refl
+
+-- ---- a history that is cut
+
+-- the numbers up to the cut are what they were
+pub cut_number : (history : History) (count : ℕ) → number (kept history count) count ≡ number history count
+cut_number history count = ap (of_rows history.base.rows count) (take-take (count - history.base.count) (count - history.base.count) history.commits (omega arith))
+
+-- and there are as many as were kept
+pub cut_count : (history : History) (count : ℕ) → history.base.count ≤ count → count ≤ count_of history → count_of (kept history count) ≡ count
+cut_count history count least most = omega (arith, length-take-le (count - history.base.count) history.commits (omega (arith, most)), least)
 
 -- ---- the clause of a whole run
 

@@ -1,11 +1,12 @@
 -- What each step of a store keeps.
-use Rattle.std.proofs.Common.{◌≡◌, ◌≢◌, true, false, ◌⊎◌, inl, inr, ℕ, ◌+◌, ◌-◌, ◌^◌, ◌<◌, ◌≤◌, List, [], ◌∷◌, ◌++◌, All, Option, None, Some, refl, sym, ◌∙◌, ap, subst, arith, append_assoc, true≢false}
-use Rattle.std.specs.Prelude.{IfSome, is_some, Any, unwrap_or}
+use Rattle.std.proofs.Common.{◌≡◌, ◌≢◌, Bool, true, false, ◌⊎◌, inl, inr, ℕ, ◌+◌, ◌-◌, ◌^◌, ◌<◌, ◌≤◌, List, [], ◌∷◌, ◌++◌, All, Option, None, Some, refl, sym, ◌∙◌, ap, subst, arith, append_assoc, true≢false}
+use Rattle.std.specs.Prelude.{IfSome, is_some, Any, unwrap_or, cond, nat_eq}
 use Rattle.std.specs.List.{list_any}
 use Rattle.std.specs.Option.{option_map}
 use Rattle.std.proofs.Math.Logic.{∥∥₁_map}
 use Rattle.std.proofs.lemmas.List.{take_all}
 use Rattle.std.proofs.lemmas.List.Elements.{All-nil, All-push, Contains-append_left}
+use Rattle.std.proofs.lemmas.List.Sums.{sum_by-append, sum_by-cons}
 use Rattle.pm_disk.specs.Cause.{Rose}
 use Rattle.pm_disk.specs.Files.{Files}
 use Rattle.pm_rows.specs.declared.commit.Change.{Change}
@@ -29,14 +30,17 @@ use Rattle.pm_segment.specs.declared.live.Live.{Live}
 use Rattle.pm_segment.specs.Moment.{Moment}
 use Rattle.pm_segment.specs.Moves.{BreakIsShown, IsCountedFrom, IsShown, IsShownAt, Moves, NotesEntries}
 use Rattle.pm_segment.specs.MovesLaws.{moves_none, notes_none, time_still}
-use Rattle.pm_segment.specs.Stands.{HasGone, HasNoTick, HasWaited, IsFaultBy, IsOpening, Origin, TellsBreak}
-use Rattle.pm_segment.proofs.Books.{IsNotGone, any_still, base-with_commit, closed_push, count-with_commit, each_later, each_push, faults_push, generation_push, gone_push, here_push, legal_push, redone_push, rows-with_commit, tells_new, tick_push, times_push, waited_push}
-use Rattle.pm_segment.proofs.Runs.{covers_commit, covers_number, goes_by, history_push, next_commit, notes_another, notes_answer, notes_release, of_rows, same_standing, standing}
+use Rattle.pm_segment.specs.Children.{IsAttendedBy, once, times_behind, times_in}
+use Rattle.pm_segment.specs.Stands.{Begins, GoesFrom, HasBegun, HasGone, HasHeld, HasNoTick, HasRenewed, HasWaited, IsFaultBy, IsOpening, IsSure, MeansWithin, Origin, TellsBreak, WaitsFrom, most_bytes}
+use Rattle.pm_segment.proofs.Books.{IsNotGone, any_still, attended_push, attended_still, base-with_commit, closed_push, count-with_commit, each_later, each_push, faults_push, generation_push, gone_push, here_push, legal_push, most_grows, needs_push, redone_push, renewed_push, rows-with_commit, tells_new, tick_push, times_push, waited_push}
+use Rattle.pm_segment.proofs.Runs.{covers_commit, covers_number, goes_by, history_push, holds_in, holds_so, next_commit, notes_another, notes_answer, notes_release, of_rows, same_standing, standing}
 
--- the moment with another book
-abbrev pub with_book : Option (List BookEntry) → Moment → Moment
-with_book book at = record {
+-- the moment with another book, and other children inside
+abbrev pub with_child : Option (List BookEntry) → List ℕ → Moment → Moment
+with_child book inside at = record {
   book = book;
+  generation = at.generation;
+  inside = inside;
   rows = at.rows;
   live = at.live;
   skipped = at.skipped;
@@ -46,33 +50,13 @@ with_book book at = record {
   faults = at.faults;
 }
 
+-- with another book alone
+abbrev pub with_book : Option (List BookEntry) → Moment → Moment
+with_book book at = with_child book at.inside at
+
 -- the book tells what it told
 pub stays_put : (at : Moment) (book_now : Option (List BookEntry)) → book_now ≡ at.book → Moves [] at (with_book book_now at)
 stays_put at book_now is = subst (λ (b : Option (List BookEntry)). Moves [] at (with_book b at)) (sym is) (moves_none at)
-
--- ---- where book and disk tell
-
-pub told_on : (book book_now : Option (List BookEntry)) (files files_now : Option Files) (entries : List BookEntry) (P Q : List BookEntry → Type 0)
-    → NotesEntries entries book book_now → (files ≡ None → files_now ≡ None)
-    → ((list : List BookEntry) → book ≡ Some list → (seen : Files) → files ≡ Some seen → P list → Q (list ++ entries))
-    → IfSome book (λ list. IfSome files (λ seen. P list)) → IfSome book_now (λ list. IfSome files_now (λ seen. Q list))
-told_on None book_now files files_now entries P Q notes tells step told = subst (λ (b : Option (List BookEntry)). IfSome b (λ list. IfSome files_now (λ seen. Q list))) (sym notes) tt
-told_on (Some list) book_now None files_now entries P Q notes tells step told =
-    subst (λ (b : Option (List BookEntry)). IfSome b (λ list. IfSome files_now (λ seen. Q list))) (sym notes) (subst (λ (f : Option Files). IfSome f (λ seen. Q (list ++ entries))) (sym (tells refl)) tt)
-told_on (Some list) book_now (Some seen) files_now entries P Q notes tells step told =
-    subst (λ (b : Option (List BookEntry)). IfSome b (λ list. IfSome files_now (λ seen. Q list))) (sym notes) (each files_now (step list refl seen refl told))
-  where
-    each : (f : Option Files) → Q (list ++ entries) → IfSome f (λ seen. Q (list ++ entries))
-    each None holds = tt
-    each (Some other) holds = holds
-
--- an entry was noted in room that was made
-pub notes_by : (entry : BookEntry) (book reserved now : Option (List BookEntry)) → reserved ≡ book → now ≡ option_map (λ es. es ++ entry ∷ []) reserved → NotesEntries (entry ∷ []) book now
-notes_by entry book reserved now er en = en ∙ ap (option_map (λ es. es ++ entry ∷ [])) er
-
--- no entry was noted
-pub notes_none_by : (book now : Option (List BookEntry)) → now ≡ book → NotesEntries [] book now
-notes_none_by book now is = is ∙ notes_none book
 
 -- ---- which log it is
 
@@ -93,26 +77,157 @@ some_none n is = subst some_number is tt
 pub same_live : (o : Option Live) (one other : Live) → o ≡ Some one → o ≡ Some other → one ≡ other
 same_live o one other first second = ap (λ (l : Option Live). unwrap_or l one) (sym first ∙ second)
 
-pub gone_at : (origin : Origin) (base : Base) (at : Moment) (live : Live) (book : List BookEntry) → at.live ≡ Some live → (l : Live) × HasGone origin base at l book → HasGone origin base at live book
-gone_at origin base at live book is gone = subst (λ (l : Live). HasGone origin base at l book) (same_live at.live gone.0 live gone.1.read is) gone.1
+pub gone_at : (base : Base) (at : Moment) (live l : Live) (book : List BookEntry) → at.live ≡ Some live → HasGone base at l book → HasGone base at live book
+gone_at base at live l book is gone = subst (λ (l : Live). HasGone base at l book) (same_live at.live l live gone.read is) gone
+
+abbrev files_told : Option Files → Type 0
+files_told None = ⊥
+files_told (Some files) = Unit {0}
+
+pub no_files : (files : Files) → Some files ≡ None → ⊥
+no_files files is = subst files_told is tt
+
+-- ---- from one moment to another: of the book wherever it tells, and of stops where the disk tells as well
+
+pub told_on : (entries : List BookEntry) (P Q S T : List BookEntry → Type 0) (book book_now : Option (List BookEntry)) (files files_now : Option Files)
+    → NotesEntries entries book book_now → (files ≡ None → files_now ≡ None)
+    → ((list : List BookEntry) → book ≡ Some list → P list → IfSome files (λ seen. S list) → Q (list ++ entries))
+    → ((list : List BookEntry) → book ≡ Some list → (seen : Files) → files ≡ Some seen → P list → S list → T (list ++ entries))
+    → IfSome book P × IfSome book (λ list. IfSome files (λ seen. S list)) → IfSome book_now Q × IfSome book_now (λ list. IfSome files_now (λ seen. T list))
+told_on entries P Q S T None book_now files files_now notes tells step stops told =
+    (subst (λ (b : Option (List BookEntry)). IfSome b Q) (sym notes) tt, subst (λ (b : Option (List BookEntry)). IfSome b (λ list. IfSome files_now (λ seen. T list))) (sym notes) tt)
+told_on entries P Q S T (Some list) book_now files files_now notes tells step stops told = (
+  subst (λ (b : Option (List BookEntry)). IfSome b Q) (sym notes) (step list refl told.0 told.1),
+  subst (λ (b : Option (List BookEntry)). IfSome b (λ list. IfSome files_now (λ seen. T list))) (sym notes) (left files tells (stops list refl) told.1),
+)
+  where
+    each : (f : Option Files) → T (list ++ entries) → IfSome f (λ seen. T (list ++ entries))
+    each None holds = tt
+    each (Some other) holds = holds
+
+    left : (f : Option Files) → (f ≡ None → files_now ≡ None) → ((seen : Files) → f ≡ Some seen → P list → S list → T (list ++ entries)) → IfSome f (λ seen. S list)
+        → IfSome files_now (λ seen. T (list ++ entries))
+    left None tells stops held = subst (λ (f : Option Files). IfSome f (λ seen. T (list ++ entries))) (sym (tells refl)) tt
+    left (Some seen) tells stops held = each files_now (stops seen refl told.0 held)
+
+-- before the first redo
+pub waited_on : (entries : List BookEntry) (before now : Moment) (origin : Origin) → NotesEntries entries before.book now.book → (before.files ≡ None → now.files ≡ None)
+    → ((book : List BookEntry) → before.book ≡ Some book → HasWaited origin before book → HasWaited origin now (book ++ entries))
+    → ((book : List BookEntry) (seen : Files) → before.files ≡ Some seen → HasWaited origin before book → IsOpening origin before.ticks before.images → IsOpening origin now.ticks now.images)
+    → WaitsFrom origin before → WaitsFrom origin now
+waited_on entries before now origin notes tells step stops told =
+    told_on entries (HasWaited origin before) (HasWaited origin now) (λ book. IsOpening origin before.ticks before.images) (λ book. IsOpening origin now.ticks now.images)
+    before.book now.book before.files now.files notes tells (λ book is waited opening. step book is waited) (λ book is seen told waited opening. stops book seen told waited opening) told
+
+-- what is sure of the one moment was so of the other, in the same generation
+sure_before : (before now : Moment) → now.generation ≡ before.generation → (before.files ≡ None → now.files ≡ None) → IsSure now → IsSure before
+sure_before before now same tells (inl first) = inl (sym same ∙ first)
+sure_before before now same tells (inr told) = each before.files refl
+  where
+    each : (f : Option Files) → before.files ≡ f → IsSure before
+    each None none = absurd (no_files told.0 (sym told.1 ∙ tells none))
+    each (Some files) is = inr (files, is)
+
+-- behind the first redo
+pub gone_on : (entries : List BookEntry) (before now : Moment) (origin : Origin) (base : Base) → NotesEntries entries before.book now.book → (before.files ≡ None → now.files ≡ None) → (IsSure now → IsSure before)
+    → ((book : List BookEntry) → before.book ≡ Some book → IsSure now → HasBegun base before book → IfSome before.files (λ seen. HasHeld origin base before book) → HasBegun base now (book ++ entries))
+    → ((book : List BookEntry) (seen : Files) → before.files ≡ Some seen → HasBegun base before book → HasHeld origin base before book → HasHeld origin base now (book ++ entries))
+    → GoesFrom origin base before → GoesFrom origin base now
+gone_on entries before now origin base notes tells sure step stops told =
+    told_on entries (λ book. IsSure before → HasBegun base before book) (λ book. IsSure now → HasBegun base now book) (HasHeld origin base before) (HasHeld origin base now)
+    before.book now.book before.files now.files notes tells (λ book is begun held sure_now. step book is sure_now (begun (sure sure_now)) held)
+    (λ book is seen told begun held. stops book seen told (begun (inr (seen, told))) held) told
+
+-- ... where the log was read in this generation
+pub gone_read : (entries : List BookEntry) (before now : Moment) (live : Live) (origin : Origin) (base : Base) → before.live ≡ Some live → now.generation ≡ before.generation → NotesEntries entries before.book now.book
+    → (before.files ≡ None → now.files ≡ None)
+    → ((book : List BookEntry) → before.book ≡ Some book → HasGone base before live book → (new : Live) × HasGone base now new (book ++ entries))
+    → ((book : List BookEntry) (seen : Files) → before.files ≡ Some seen → HasGone base before live book → HasHeld origin base before book → HasHeld origin base now (book ++ entries))
+    → GoesFrom origin base before → GoesFrom origin base now
+gone_read entries before now live origin base read same notes tells step stops told =
+    gone_on entries before now origin base notes tells (sure_before before now same tells) (λ book is sure begun held. inl (step book is (reading book begun))) (λ book seen told begun held. stops book seen told (reading book begun) held) told
+  where
+    reading : (book : List BookEntry) → HasBegun base before book → HasGone base before live book
+    reading book (inl gone) = gone_at base before live gone.0 book read gone.1
+    reading book (inr renewed) = absurd (not_both before.live live renewed.unread read)
+
+-- ... where it wasn't
+pub gone_unread : (entries : List BookEntry) (before now : Moment) (origin : Origin) (base : Base) → before.live ≡ None → now.generation ≡ before.generation → NotesEntries entries before.book now.book
+    → (before.files ≡ None → now.files ≡ None)
+    → ((book : List BookEntry) → before.book ≡ Some book → IsSure now → HasRenewed base before book → IfSome before.files (λ seen. HasHeld origin base before book) → HasBegun base now (book ++ entries))
+    → ((book : List BookEntry) (seen : Files) → before.files ≡ Some seen → HasRenewed base before book → HasHeld origin base before book → HasHeld origin base now (book ++ entries))
+    → GoesFrom origin base before → GoesFrom origin base now
+gone_unread entries before now origin base unread same notes tells step stops told =
+    gone_on entries before now origin base notes tells (sure_before before now same tells) (λ book is sure begun held. step book is sure (waiting book begun) held) (λ book seen told begun held. stops book seen told (waiting book begun) held) told
+  where
+    waiting : (book : List BookEntry) → HasBegun base before book → HasRenewed base before book
+    waiting book (inl gone) = absurd (not_both before.live gone.0 unread gone.1.read)
+    waiting book (inr renewed) = renewed
+
+-- an entry was noted in room that was made
+pub notes_by : (entry : BookEntry) (book reserved now : Option (List BookEntry)) → reserved ≡ book → now ≡ option_map (λ es. es ++ entry ∷ []) reserved → NotesEntries (entry ∷ []) book now
+notes_by entry book reserved now er en = en ∙ ap (option_map (λ es. es ++ entry ∷ [])) er
+
+-- no entry was noted
+pub notes_none_by : (book now : Option (List BookEntry)) → now ≡ book → NotesEntries [] book now
+notes_none_by book now is = is ∙ notes_none book
+
+-- what was read doesn't wait
+pub never_waits : (entries : List BookEntry) (before now : Moment) (live : Live) → before.live ≡ Some live → NotesEntries entries before.book now.book → (before.files ≡ None → now.files ≡ None)
+    → (origin : Origin) → WaitsFrom origin before → WaitsFrom origin now ⊎ Begins origin now
+never_waits entries before now live read notes tells origin told =
+    inl (waited_on entries before now origin notes tells (λ book is waited. absurd (not_both before.live live waited.unread read)) (λ book seen told waited opening. absurd (not_both before.live live waited.unread read)) told)
 
 -- ---- calls that make no call of the disk
 
--- the store keeps all but its book
-pub still : (entries : List BookEntry) (at : Moment) (book_now : Option (List BookEntry)) → NotesEntries entries at.book book_now
+-- entries by which nobody comes or goes
+pub nobody_moves : (entries : List BookEntry) (before now : Moment) → now.inside ≡ before.inside → ((pid n : ℕ) → times_behind entries pid n ≡ n)
+    → (pid : ℕ) → times_in pid now.inside ≡ times_behind entries pid (times_in pid before.inside)
+nobody_moves entries before now same none pid = ap (times_in pid) same ∙ sym (none pid (times_in pid before.inside))
+
+-- the store keeps all but its book, and who is inside
+pub still_in : (entries : List BookEntry) (at : Moment) (book_now : Option (List BookEntry)) (inside_now : List ℕ) → NotesEntries entries at.book book_now
+    → ((pid : ℕ) → times_in pid inside_now ≡ times_behind entries pid (times_in pid at.inside))
     → ((from : ℕ) → IsCountedFrom from at.faults at.live → All (IsShown from at.faults) entries)
-    → ((origin : Origin) (book : List BookEntry) → at.book ≡ Some book → HasWaited origin at book → HasWaited origin (with_book book_now at) (book ++ entries))
-    → ((origin : Origin) (base : Base) (live : Live) (book : List BookEntry) → at.book ≡ Some book → HasGone origin base at live book → HasGone origin base (with_book book_now at) live (book ++ entries))
-    → Moves entries at (with_book book_now at)
-still entries at book_now notes shown waits goes = record {
+    → ((origin : Origin) (book : List BookEntry) → at.book ≡ Some book → HasWaited origin at book → HasWaited origin (with_child book_now inside_now at) (book ++ entries))
+    → ((base : Base) (live : Live) (book : List BookEntry) → at.book ≡ Some book → HasGone base at live book → HasGone base (with_child book_now inside_now at) live (book ++ entries))
+    → ((base : Base) (book : List BookEntry) → at.book ≡ Some book → HasRenewed base at book → HasRenewed base (with_child book_now inside_now at) (book ++ entries))
+    → ((origin : Origin) (base : Base) (book : List BookEntry) → HasBegun base at book → HasHeld origin base at book → HasHeld origin base (with_child book_now inside_now at) (book ++ entries))
+    → Moves entries at (with_child book_now inside_now at)
+still_in entries at book_now inside_now notes attends shown waits goes renews holds = record {
   notes = notes;
+  generation = refl;
+  attends = attends;
   time = time_still at.ticks at.images;
   later = omega arith;
   counts = λ from counted. record { counted = counted; each = shown from counted };
-  waits = λ origin told. inl (told_on at.book book_now at.files at.files entries (HasWaited origin at) (HasWaited origin (with_book book_now at)) notes (λ none. none) (λ book is seen tells waited. waits origin book is waited) told);
-  goes_on = λ origin base told.
-      told_on at.book book_now at.files at.files entries (λ book. (live : Live) × HasGone origin base at live book) (λ book. (live : Live) × HasGone origin base (with_book book_now at) live book)
-      notes (λ none. none) (λ book is seen tells gone. (gone.0, goes origin base gone.0 book is gone.1)) told;
+  waits = λ origin told. inl (waited_on entries at now origin notes (λ none. none) (λ book is waited. waits origin book is waited) (λ book seen tells waited opening. opening) told);
+  goes_on = λ origin base told. gone_on entries at now origin base notes (λ none. none) (λ sure. sure) (λ book is sure begun held. each base book is begun) (λ book seen tells begun held. holds origin base book begun held) told;
+}
+  where
+    now : Moment
+    now = with_child book_now inside_now at
+
+    each : (base : Base) (book : List BookEntry) → at.book ≡ Some book → HasBegun base at book → HasBegun base (with_child book_now inside_now at) (book ++ entries)
+    each base book is (inl gone) = inl (gone.0, goes base gone.0 book is gone.1)
+    each base book is (inr renewed) = inr (renews base book is renewed)
+
+-- ... and the log was read in this generation
+pub still : (entries : List BookEntry) (at : Moment) (live : Live) (book_now : Option (List BookEntry)) → at.live ≡ Some live → NotesEntries entries at.book book_now
+    → ((pid n : ℕ) → times_behind entries pid n ≡ n)
+    → ((from : ℕ) → IsCountedFrom from at.faults at.live → All (IsShown from at.faults) entries)
+    → ((base : Base) (book : List BookEntry) → at.book ≡ Some book → HasGone base at live book → HasGone base (with_book book_now at) live (book ++ entries))
+    → ((origin : Origin) (base : Base) (book : List BookEntry) → HasGone base at live book → HasHeld origin base at book → HasHeld origin base (with_book book_now at) (book ++ entries))
+    → Moves entries at (with_book book_now at)
+still entries at live book_now read notes none shown goes holds = record {
+  notes = notes;
+  generation = refl;
+  attends = nobody_moves entries at (with_book book_now at) refl none;
+  time = time_still at.ticks at.images;
+  later = omega arith;
+  counts = λ from counted. record { counted = counted; each = shown from counted };
+  waits = never_waits entries at (with_book book_now at) live read notes (λ none. none);
+  goes_on = λ origin base told. gone_read entries at (with_book book_now at) live origin base read refl notes (λ none. none) (λ book is gone. (live, goes base book is gone)) (λ book seen tells gone held. holds origin base book gone held) told;
 }
 
 -- An entry that leaves all but the list of entries alone.
@@ -136,40 +251,93 @@ breaks_still None count here entry quiet tells = ap (λ (h : Option (List (ℕ �
 breaks_still (Some since) count here entry quiet (first, rest, is, there) =
     (first, rest, ap (λ (h : Option (List (ℕ × ℕ))). fault_here h entry) is ∙ quiet (first ∷ rest), there)
 
-pub gone_quiet : PastStays → PresentIsWhole → (origin : Origin) (base : Base) (at : Moment) (live : Live) (book_now : Option (List BookEntry)) (book : List BookEntry) (entry : BookEntry)
-    → IsQuiet live.kept entry → MayFollow base book entry → HasGone origin base at live book → HasGone origin base (with_book book_now at) live (book ++ entry ∷ [])
-gone_quiet past present_whole origin base at live book_now book entry quiet may is =
-    let redone = is.redone in
-    let history : history_after (kept_by_redo book) (history_of base book) entry ≡ history_of base book =
-    ap (λ (r : Option ℕ). history_after r (history_of base book) entry) redone ∙ quiet.history (history_of base book) in
-    gone_push origin base (with_book book_now at) live book entry (history_of base book) is.start is.read is.legal is.generation
+pub gone_quiet : (base : Base) (at : Moment) (live : Live) (book_now : Option (List BookEntry)) (inside_now : List ℕ) (book : List BookEntry) (entry : BookEntry)
+    → IsQuiet live.kept entry → MayFollow base book entry → IsAttendedBy inside_now (book ++ entry ∷ []) → HasGone base at live book → HasGone base (with_child book_now inside_now at) live (book ++ entry ∷ [])
+gone_quiet base at live book_now inside_now book entry quiet may attended is =
+    gone_push base (with_child book_now inside_now at) live book entry (history_of base book) is.read is.legal is.generation
     (record {
       not_gone = quiet.not_gone;
       may = may;
+      begun = is.begun;
       generation = quiet.generation;
-      redone = ap (λ (r : Option ℕ). kept_after r entry) redone ∙ quiet.redone;
+      attended = attended;
+      redone = ap (λ (r : Option ℕ). kept_after r entry) is.redone ∙ quiet.redone;
       closed_is = ap (list_any ends_cleanly) (quiet.present_is (present book)) ∙ any_still ends_cleanly (present book) entry live.closed is.closed quiet.unclean;
-      history_is = history;
+      history_is = ap (λ (r : Option ℕ). history_after r (history_of base book) entry) is.redone ∙ quiet.history (history_of base book);
       in_time = subst (λ (n : ℕ). n ≤ at.ticks) (sym (quiet.tick (last_tick book))) is.in_time;
       each = subst (All (IsFaultBy at.faults)) (sym (quiet.faults (faults_of book))) is.counted.each;
+      base_fits = is.base_fits;
     })
     (breaks_still live.log.since live.faults (faults_here book) entry quiet.here is.broken) is.known is.rows_are is.count_is is.base_is
-    (λ unbroken unclosed. subst (λ (n : ℕ). live.log.end + 1 ≤ base.bytes + 1024 + n) (sym (quiet.need (needs_of book))) (is.fits unbroken unclosed))
-    is.limit is.counted.later is.begun is.opening
-    (notes_another past present_whole base book is.start at.ticks live.log.count at.images is.keeps entry history (quiet.no_tick is.start at.ticks) quiet.hidden)
+    (λ unbroken. subst (λ (n : ℕ). live.log.end + 1 ≤ base.bytes + 1024 + n) (sym (quiet.need (needs_of book))) (is.fits unbroken))
+    is.limit is.counted.later
 
-pub waited_quiet : (origin : Origin) (at : Moment) (book_now : Option (List BookEntry)) (book : List BookEntry) (entry : BookEntry)
-    → IsNotGone entry → ((base : Base) → MayFollow base book entry) → ((n : ℕ) → generation_after n entry ≡ n) → kept_after None entry ≡ None
+-- how long an image is, behind an entry that leaves this history
+pub lengths_push : (base : Base) (book : List BookEntry) (entry : BookEntry) (then : History) (flushed : ℕ) (image : Files) → history_after (kept_by_redo book) (history_of base book) entry ≡ then
+    → HoldsFrom (MeansWithin (most_bytes base book)) flushed then image → HoldsFrom (MeansWithin (most_bytes base (book ++ entry ∷ []))) flushed (history_of base (book ++ entry ∷ [])) image
+lengths_push base book entry then flushed image is holds =
+    let most = most_bytes base (book ++ entry ∷ []) in
+    subst (λ (h : History). HoldsFrom (MeansWithin most) flushed h image) (sym (history_push base book entry ∙ is))
+    (holds_so (MeansWithin (most_bytes base book)) (MeansWithin most) then flushed image (λ s m. (m.0, omega (arith, m.1, most_grows base book entry), m.2)) holds)
+
+-- what a stop leaves stays, where an entry leaves the history alone
+pub held_still : PastStays → PresentIsWhole → (origin : Origin) (base : Base) (at : Moment) (book_now : Option (List BookEntry)) (inside_now : List ℕ) (book : List BookEntry) (entry : BookEntry)
+    → history_after (kept_by_redo book) (history_of base book) entry ≡ history_of base book → HasNoTick entry → ((t : ℕ) → is_by t entry ≡ false)
+    → HasHeld origin base at book → HasHeld origin base (with_child book_now inside_now at) (book ++ entry ∷ [])
+held_still past present_whole origin base at book_now inside_now book entry history no_tick hidden held = record {
+  start = held.start;
+  begun = held.begun;
+  opening = held.opening;
+  flushed = held.flushed;
+  flushed_is = held.flushed_is;
+  keeps = notes_another past present_whole base book held.start at.ticks held.flushed at.images held.keeps entry history (no_tick held.start at.ticks) hidden;
+  lengths = λ image there. lengths_push base book entry (history_of base book) held.flushed image history (held.lengths image there);
+}
+
+-- ... whatever the book tells by then
+pub held_alone : PastStays → PresentIsWhole → (origin : Origin) (base : Base) (at : Moment) (book : List BookEntry) (entry : BookEntry)
+    → history_after (kept_by_redo book) (history_of base book) entry ≡ history_of base book → HasNoTick entry → ((t : ℕ) → is_by t entry ≡ false)
+    → HasHeld origin base at book → HasHeld origin base at (book ++ entry ∷ [])
+held_alone past present_whole origin base at book entry alone no_tick hidden held =
+    let still = held_still past present_whole origin base at at.book at.inside book entry alone no_tick hidden held in record {
+      start = still.start;
+      begun = still.begun;
+      opening = still.opening;
+      flushed = still.flushed;
+      flushed_is = still.flushed_is;
+      keeps = still.keeps;
+      lengths = still.lengths;
+    }
+
+pub held_quiet : PastStays → PresentIsWhole → (origin : Origin) (base : Base) (at : Moment) (live : Live) (book_now : Option (List BookEntry)) (inside_now : List ℕ) (book : List BookEntry) (entry : BookEntry)
+    → IsQuiet live.kept entry → HasGone base at live book → HasHeld origin base at book → HasHeld origin base (with_child book_now inside_now at) (book ++ entry ∷ [])
+held_quiet past present_whole origin base at live book_now inside_now book entry quiet is held =
+    held_still past present_whole origin base at book_now inside_now book entry
+    (ap (λ (r : Option ℕ). history_after r (history_of base book) entry) is.redone ∙ quiet.history (history_of base book)) quiet.no_tick quiet.hidden held
+
+pub waited_quiet : (origin : Origin) (at : Moment) (book_now : Option (List BookEntry)) (inside_now : List ℕ) (book : List BookEntry) (entry : BookEntry)
+    → IsNotGone entry → IsAttendedBy inside_now (book ++ entry ∷ []) → ((base : Base) → MayFollow base book entry) → ((n : ℕ) → generation_after n entry ≡ n) → kept_after None entry ≡ None
     → ((entries : List BookEntry) → present_after entries entry ≡ entries ++ entry ∷ []) → ends_cleanly entry ≡ false → ends_checkpoint entry ≡ false
     → ((h : History) → history_after None h entry ≡ h) → ((n : ℕ) → tick_after n entry ≡ n) → ((fs : List (ℕ × ℕ)) → faults_after fs entry ≡ fs) → fault_here None entry ≡ None
-    → ((n : ℕ) → need_after n entry ≡ n) → HasNoTick entry → HasWaited origin at book → HasWaited origin (with_book book_now at) (book ++ entry ∷ [])
-waited_quiet origin at book_now book entry not may generation kept present_is unclean no_end history tick faults here need no_tick is =
-    waited_push origin (with_book book_now at) book entry is.unread is.legal is.fresh is.unredone is.none_here is.no_ticks not (λ base same. may base)
+    → ((n : ℕ) → need_after n entry ≡ n) → HasNoTick entry → HasWaited origin at book → HasWaited origin (with_child book_now inside_now at) (book ++ entry ∷ [])
+waited_quiet origin at book_now inside_now book entry not attended may generation kept present_is unclean no_end history tick faults here need no_tick is =
+    waited_push origin (with_child book_now inside_now at) book entry is.unread is.begun attended is.legal is.fresh is.unredone is.none_here is.no_ticks not (λ base same. may base)
     (λ base. history (beginning (standing_of base))) (generation (generation_of book) ∙ is.generation) kept here
     (ap (list_any ends_checkpoint) (present_is (present book)) ∙ any_still ends_checkpoint (present book) entry at.skipped is.skipped no_end)
     (ap (list_any ends_cleanly) (present_is (present book)) ∙ any_still ends_cleanly (present book) entry false is.unclosed unclean)
     no_tick (tick (last_tick book) ∙ is.no_time) (need (needs_of book) ∙ is.no_needs) is.counted.later
-    (subst (All (IsFaultBy at.faults)) (sym (faults (faults_of book))) is.counted.each) is.reached is.opening is.reads
+    (subst (All (IsFaultBy at.faults)) (sym (faults (faults_of book))) is.counted.each) is.reached is.reads
+
+pub renewed_quiet : (base : Base) (at : Moment) (book_now : Option (List BookEntry)) (inside_now : List ℕ) (book : List BookEntry) (entry : BookEntry)
+    → IsNotGone entry → IsAttendedBy inside_now (book ++ entry ∷ []) → MayFollow base book entry → ((n : ℕ) → generation_after n entry ≡ n) → kept_after None entry ≡ None
+    → ((entries : List BookEntry) → present_after entries entry ≡ entries ++ entry ∷ []) → ends_cleanly entry ≡ false → ends_checkpoint entry ≡ false
+    → ((h : History) → history_after None h entry ≡ h) → ((n : ℕ) → tick_after n entry ≡ n) → ((fs : List (ℕ × ℕ)) → faults_after fs entry ≡ fs) → fault_here None entry ≡ None
+    → HasRenewed base at book → HasRenewed base (with_child book_now inside_now at) (book ++ entry ∷ [])
+renewed_quiet base at book_now inside_now book entry not attended may generation kept present_is unclean no_end history tick faults here is =
+    renewed_push base at (with_child book_now inside_now at) book entry is.unread refl attended not may generation kept here
+    (ap (list_any ends_checkpoint) (present_is (present book)) ∙ any_still ends_checkpoint (present book) entry at.skipped is.skipped no_end)
+    (ap (list_any ends_cleanly) (present_is (present book)) ∙ any_still ends_cleanly (present book) entry false is.unclosed unclean)
+    (history (history_of base book)) (omega (arith, tick (last_tick book), is.in_time)) (omega (arith, is.counted.later)) (subst (All (IsFaultBy at.faults)) (sym (faults (faults_of book))) is.counted.each) is
 
 -- ---- who is inside
 
@@ -183,27 +351,61 @@ attends_in pid book list is attends = subst (Attends pid) is attends
 pub no_fault_shown : (from faults : ℕ) (entry : BookEntry) → IsShown from faults entry → All (IsShown from faults) (entry ∷ [])
 no_fault_shown from faults entry shown = All-push (IsShown from faults) [] entry (All-nil (IsShown from faults)) shown
 
+-- a child more is inside
+once_more : (who pid : ℕ) (inside : List ℕ) → cond (nat_eq who pid) (times_in who inside + 1) (times_in who inside) ≡ times_in who (inside ++ pid ∷ [])
+once_more who pid inside = each (nat_eq who pid) (times_in who inside) ∙ sym (sum_by-append (once who) inside (pid ∷ []) ∙ ap (λ (n : ℕ). times_in who inside + n) (sum_by-cons (once who) pid []))
+  where
+    each : (b : Bool) (n : ℕ) → cond b (n + 1) n ≡ n + (cond b 1 0 + 0)
+    each true n = refl
+    each false n = omega arith
+
 -- a child comes in
-pub enters : PastStays → PresentIsWhole → (at : Moment) (book_now : Option (List BookEntry)) (pid : ℕ) → NotesEntries (Attached pid 1 ∷ []) at.book book_now
-    → Moves (Attached pid 1 ∷ []) at (with_book book_now at)
+pub enters : PastStays → PresentIsWhole → (at : Moment) (book_now : Option (List BookEntry)) (pid : ℕ) → NotesEntries (Attached pid at.generation ∷ []) at.book book_now
+    → Moves (Attached pid at.generation ∷ []) at (with_child book_now (at.inside ++ pid ∷ []) at)
 enters past present_whole at book_now pid notes =
-    still (Attached pid 1 ∷ []) at book_now notes (λ from counted. no_fault_shown from at.faults (Attached pid 1) tt)
-    (λ origin book told is. waited_quiet origin at book_now book (Attached pid 1) tt (λ base. record { begun = omega arith; present = sym is.generation })
+    still_in (entry ∷ []) at book_now (at.inside ++ pid ∷ []) notes (λ who. sym (once_more who pid at.inside)) (λ from counted. no_fault_shown from at.faults entry tt)
+    (λ origin book told is. waited_quiet origin at book_now (at.inside ++ pid ∷ []) book entry tt (attended book is.attended) (λ base. record { begun = is.begun; present = sym is.generation })
     (λ n. refl) refl (λ es. refl) refl refl (λ h. refl) (λ n. refl) (λ fs. refl) refl (λ n. refl) (λ start mark. tt) is)
-    (λ origin base live book told is. gone_quiet past present_whole origin base at live book_now book (Attached pid 1)
-    (record { not_gone = tt; generation = λ n. refl; redone = refl; present_is = λ es. refl; unclean = refl; history = λ h. refl; tick = λ n. refl; faults = λ fs. refl; here = λ fs. refl; need = λ n. refl; no_tick = λ start mark. tt; hidden = λ t. refl })
-    (record { begun = omega arith; present = sym is.generation }) is)
+    (λ base live book told is. gone_quiet base at live book_now (at.inside ++ pid ∷ []) book entry (quiet live) (record { begun = is.begun; present = sym is.generation }) (attended book is.attended) is)
+    (λ base book told is. renewed_quiet base at book_now (at.inside ++ pid ∷ []) book entry tt (attended book is.attended) (record { begun = omega (arith, is.later); present = sym is.generation })
+    (λ n. refl) refl (λ es. refl) refl refl (λ h. refl) (λ n. refl) (λ fs. refl) refl is)
+    (λ origin base book begun held. held_still past present_whole origin base at book_now (at.inside ++ pid ∷ []) book entry (alone (kept_by_redo book) (history_of base book)) (λ start mark. tt) (λ t. refl) held)
+  where
+    entry : BookEntry
+    entry = Attached pid at.generation
+
+    alone : (redone : Option ℕ) (h : History) → history_after redone h entry ≡ h
+    alone None h = refl
+    alone (Some first) h = refl
+
+    attended : (book : List BookEntry) → IsAttendedBy at.inside book → IsAttendedBy (at.inside ++ pid ∷ []) (book ++ entry ∷ [])
+    attended book is = attended_push at.inside (at.inside ++ pid ∷ []) book entry is (λ who. once_more who pid at.inside)
+
+    quiet : (live : Live) → IsQuiet live.kept entry
+    quiet live = record { not_gone = tt; generation = λ n. refl; redone = refl; present_is = λ es. refl; unclean = refl; history = λ h. refl; tick = λ n. refl; faults = λ fs. refl; here = λ fs. refl; need = λ n. refl; no_tick = λ start mark. tt; hidden = λ t. refl }
 
 -- a child goes
-pub leaves : PastStays → PresentIsWhole → (at : Moment) (book_now : Option (List BookEntry)) (pid : ℕ) → Attends pid at.book → NotesEntries (Detached pid ∷ []) at.book book_now
-    → Moves (Detached pid ∷ []) at (with_book book_now at)
-leaves past present_whole at book_now pid inside notes =
-    still (Detached pid ∷ []) at book_now notes (λ from counted. no_fault_shown from at.faults (Detached pid) tt)
-    (λ origin book told is. waited_quiet origin at book_now book (Detached pid) tt (λ base. attends_in pid at.book book told inside)
+pub leaves : PastStays → PresentIsWhole → (at : Moment) (book_now : Option (List BookEntry)) (inside_now : List ℕ) (pid : ℕ) → Attends pid at.book
+    → ((who : ℕ) → times_in who inside_now ≡ cond (nat_eq who pid) (times_in who at.inside - 1) (times_in who at.inside))
+    → NotesEntries (Detached pid ∷ []) at.book book_now → Moves (Detached pid ∷ []) at (with_child book_now inside_now at)
+leaves past present_whole at book_now inside_now pid inside once_less notes =
+    still_in (Detached pid ∷ []) at book_now inside_now notes once_less (λ from counted. no_fault_shown from at.faults (Detached pid) tt)
+    (λ origin book told is. waited_quiet origin at book_now inside_now book (Detached pid) tt (attended book is.attended) (λ base. attends_in pid at.book book told inside)
     (λ n. refl) refl (λ es. refl) refl refl (λ h. refl) (λ n. refl) (λ fs. refl) refl (λ n. refl) (λ start mark. tt) is)
-    (λ origin base live book told is. gone_quiet past present_whole origin base at live book_now book (Detached pid)
-    (record { not_gone = tt; generation = λ n. refl; redone = refl; present_is = λ es. refl; unclean = refl; history = λ h. refl; tick = λ n. refl; faults = λ fs. refl; here = λ fs. refl; need = λ n. refl; no_tick = λ start mark. tt; hidden = λ t. refl })
-    (attends_in pid at.book book told inside) is)
+    (λ base live book told is. gone_quiet base at live book_now inside_now book (Detached pid) (quiet live) (attends_in pid at.book book told inside) (attended book is.attended) is)
+    (λ base book told is. renewed_quiet base at book_now inside_now book (Detached pid) tt (attended book is.attended) (attends_in pid at.book book told inside)
+    (λ n. refl) refl (λ es. refl) refl refl (λ h. refl) (λ n. refl) (λ fs. refl) refl is)
+    (λ origin base book begun held. held_still past present_whole origin base at book_now inside_now book (Detached pid) (alone (kept_by_redo book) (history_of base book)) (λ start mark. tt) (λ t. refl) held)
+  where
+    alone : (redone : Option ℕ) (h : History) → history_after redone h (Detached pid) ≡ h
+    alone None h = refl
+    alone (Some first) h = refl
+
+    attended : (book : List BookEntry) → IsAttendedBy at.inside book → IsAttendedBy inside_now (book ++ Detached pid ∷ [])
+    attended book is = attended_push at.inside inside_now book (Detached pid) is (λ who. sym (once_less who))
+
+    quiet : (live : Live) → IsQuiet live.kept (Detached pid)
+    quiet live = record { not_gone = tt; generation = λ n. refl; redone = refl; present_is = λ es. refl; unclean = refl; history = λ h. refl; tick = λ n. refl; faults = λ fs. refl; here = λ fs. refl; need = λ n. refl; no_tick = λ start mark. tt; hidden = λ t. refl }
 
 -- ---- entries without a commit
 
@@ -212,15 +414,14 @@ pub releases : PastStays → PresentIsWhole → (at : Moment) (live : Live) (boo
     → IfSome at.book (λ list. Any (AnswersUpTo pid front) (present list)) → NotesEntries (Released pid front at.ticks ∷ []) at.book book_now → Moves (Released pid front at.ticks ∷ []) at (with_book book_now at)
 releases past present_whole at live book_now pid front read flushed inside answered notes =
     let entry : BookEntry = Released pid front at.ticks in
-    still (entry ∷ []) at book_now notes (λ from counted. no_fault_shown from at.faults entry tt)
-    (λ origin book told is. absurd (not_both at.live live is.unread read))
-    (λ origin base l book told is.
-    let same : l ≡ live = same_live at.live l live is.read read in
-    let within : front ≤ l.log.count = subst (λ (x : Live). front ≤ x.log.count) (sym same) flushed in
-    let h = history_of base book in
-    gone_push origin base (with_book book_now at) l book entry (acknowledged h front) is.start is.read is.legal is.generation
+    still (entry ∷ []) at live book_now read notes (λ who n. refl) (λ from counted. no_fault_shown from at.faults entry tt)
+    (λ base book told is.
+    gone_push base (with_book book_now at) live book entry (acknowledged (history_of base book) front) is.read is.legal is.generation
     (record {
       not_gone = tt;
+      begun = is.begun;
+      attended = attended_still at.inside book entry (λ who n. refl) is.attended;
+      base_fits = is.base_fits;
       may = record {
         attached = attends_in pid at.book book told inside;
         answered = subst (λ (b : Option (List BookEntry)). IfSome b (λ list. Any (AnswersUpTo pid front) (present list))) told answered;
@@ -228,19 +429,27 @@ releases past present_whole at live book_now pid front read flushed inside answe
       };
       generation = λ n. refl;
       redone = ap (λ (r : Option ℕ). kept_after r entry) is.redone;
-      closed_is = any_still ends_cleanly (present book) entry l.closed is.closed refl;
+      closed_is = any_still ends_cleanly (present book) entry live.closed is.closed refl;
       history_is = refl;
       in_time = omega (arith, is.in_time);
       each = is.counted.each;
     })
-    (breaks_still l.log.since l.faults (faults_here book) entry (λ fs. refl) is.broken) is.known is.rows_are is.count_is is.base_is is.fits is.limit is.counted.later is.begun is.opening
-    (notes_release past present_whole base book is.start at.ticks l.log.count at.images is.keeps pid front within))
+    (breaks_still live.log.since live.faults (faults_here book) entry (λ fs. refl) is.broken) is.known is.rows_are is.count_is is.base_is is.fits is.limit is.counted.later)
+    (λ origin base book is held. record {
+      start = held.start;
+      begun = held.begun;
+      opening = held.opening;
+      flushed = held.flushed;
+      flushed_is = held.flushed_is;
+      keeps = notes_release past present_whole base book held.start at.ticks held.flushed at.images held.keeps pid front (omega (arith, flushed, held.flushed_is live read));
+      lengths = λ image there. lengths_push base book entry (acknowledged (history_of base book) front) held.flushed image refl (held.lengths image there);
+    })
 
 -- an answer that may follow
-may_answer : (origin : Origin) (base : Base) (at : Moment) (live : Live) (book : List BookEntry) (pid : ℕ) (script : List Stmt) (reply : List Item) (commit : List Change) (front : ℕ)
-    → HasGone origin base at live book → IsAttached book pid → reply ≡ items_of at.rows script → commit ≡ commit_of at.rows script → front ≡ count_of (with_commit (history_of base book) commit)
+may_answer : (base : Base) (at : Moment) (live : Live) (book : List BookEntry) (pid : ℕ) (script : List Stmt) (reply : List Item) (commit : List Change) (front : ℕ)
+    → HasGone base at live book → IsAttached book pid → reply ≡ items_of at.rows script → commit ≡ commit_of at.rows script → front ≡ count_of (with_commit (history_of base book) commit)
     → (live.closed ≡ true → commit ≡ []) → MayAnswer base book pid script reply commit front at.ticks
-may_answer origin base at live book pid script reply commit front is attached reply_is commit_is front_is unclosed = record {
+may_answer base at live book pid script reply commit front is attached reply_is commit_is front_is unclosed = record {
   redone = ap is_some is.redone;
   attached = attached;
   reply_is = reply_is ∙ ap (λ (r : RowMap). items_of r script) is.rows_are;
@@ -257,17 +466,16 @@ pub reads : PastStays → PresentIsWhole → (at : Moment) (live : Live) (book_n
 reads past present_whole at live book_now pid script reply commit read unbroken inside reply_is commit_is nothing notes =
     let entry : BookEntry = Answered pid script reply commit live.log.count at.ticks in
     let bare : BookEntry = Answered pid script reply [] live.log.count at.ticks in
-    still (entry ∷ []) at book_now notes (λ from counted. no_fault_shown from at.faults entry tt)
-    (λ origin book told is. absurd (not_both at.live live is.unread read))
-    (λ origin base l book told gone.
-    let is = gone_at origin base at live book read (l, gone) in
-    let same : l ≡ live = same_live at.live l live gone.read read in
-    let h = history_of base book in
-    let done : HasGone origin base (with_book book_now at) live (book ++ bare ∷ []) =
-    gone_push origin base (with_book book_now at) live book bare h is.start is.read is.legal is.generation
+    still (entry ∷ []) at live book_now read notes (λ who n. refl) (λ from counted. no_fault_shown from at.faults entry tt)
+    (λ base book told is.
+    let done : HasGone base (with_book book_now at) live (book ++ bare ∷ []) =
+    gone_push base (with_book book_now at) live book bare (history_of base book) is.read is.legal is.generation
     (record {
       not_gone = tt;
-      may = may_answer origin base at live book pid script reply [] live.log.count is (attends_in pid at.book book told inside) reply_is (sym nothing ∙ commit_is) (is.count_is unbroken) (λ closed. refl);
+      begun = is.begun;
+      attended = attended_still at.inside book bare (λ who n. refl) is.attended;
+      base_fits = is.base_fits;
+      may = may_answer base at live book pid script reply [] live.log.count is (attends_in pid at.book book told inside) reply_is (sym nothing ∙ commit_is) (is.count_is unbroken) (λ closed. refl);
       generation = λ n. refl;
       redone = ap (λ (r : Option ℕ). kept_after r bare) is.redone;
       closed_is = any_still ends_cleanly (present book) bare live.closed is.closed refl;
@@ -276,10 +484,20 @@ reads past present_whole at live book_now pid script reply commit read unbroken 
       each = is.counted.each;
     })
     (breaks_still live.log.since live.faults (faults_here book) bare (λ fs. refl) is.broken) is.known is.rows_are is.count_is is.base_is
-    (λ open_log unclosed. omega (arith, is.fits open_log unclosed)) is.limit is.counted.later is.begun is.opening
-    (notes_answer past present_whole base book is.start at.ticks live.log.count at.images is.keeps pid live.log.count script reply []) in
-    subst (λ (x : Live). HasGone origin base (with_book book_now at) x (book ++ entry ∷ [])) (sym same)
-    (subst (λ (k : List Change). HasGone origin base (with_book book_now at) live (book ++ Answered pid script reply k live.log.count at.ticks ∷ [])) (sym nothing) done))
+    (λ open_log. omega (arith, is.fits open_log)) is.limit is.counted.later in
+    subst (λ (k : List Change). HasGone base (with_book book_now at) live (book ++ Answered pid script reply k live.log.count at.ticks ∷ [])) (sym nothing) done)
+    (λ origin base book is held. record {
+      start = held.start;
+      begun = held.begun;
+      opening = held.opening;
+      flushed = held.flushed;
+      flushed_is = held.flushed_is;
+      keeps = notes_answer past present_whole base book held.start at.ticks held.flushed at.images held.keeps pid live.log.count script reply commit;
+      lengths = λ image there.
+          let h = history_of base book in
+          lengths_push base book entry (with_commit h commit) held.flushed image refl
+          (holds_in (MeansWithin (most_bytes base book)) (with_commit h commit) h held.flushed held.flushed image (covers_commit h commit) (omega arith) (held.lengths image there));
+    })
 
 -- a fault that broke the log is told again
 may_repeat : (since count : ℕ) (base : Base) (book : List BookEntry) (here : Option (List (ℕ × ℕ))) → TellsBreak (Some since) count here → TellsFault base book here since count
@@ -296,17 +514,17 @@ shown_of from faults o live since read broken shown =
 
 -- ---- an append
 
--- the commits before it, or these with the commit
-abbrev pub OneOf : Standing → List Change → Files → Type 0
-OneOf one commit image = ∥ Means image one ⊎ Means image (after one (commit ∷ [])) ∥₁
+-- the commits before it, or these with the commit, in at most so many bytes
+abbrev pub OneOf : ℕ → Standing → List Change → Files → Type 0
+OneOf most one commit image = ∥ MeansWithin most image one ⊎ MeansWithin most image (after one (commit ∷ [])) ∥₁
 
 pub whole_number : (h : History) → standing (rows_of h) (count_of h) ≡ number h (count_of h)
 whole_number h = sym (ap (of_rows h.base.rows (count_of h)) (take_all (count_of h - h.base.count) h.commits (omega arith)))
 
 -- a number of the history with the commit
-holds_one : (h : History) (change : Change) (changes : List Change) (one : Standing) (flushed : ℕ) (image : Files) → one ≡ standing (rows_of h) (count_of h) → flushed ≡ count_of h
-    → OneOf one (change ∷ changes) image → HoldsFrom Means flushed (with_commit h (change ∷ changes)) image
-holds_one h change changes one flushed image is counted either = ∥∥₁_map either (λ m. each m)
+holds_one : (h : History) (change : Change) (changes : List Change) (most : ℕ) (one : Standing) (flushed : ℕ) (image : Files) → one ≡ standing (rows_of h) (count_of h) → flushed ≡ count_of h
+    → OneOf most one (change ∷ changes) image → HoldsFrom (MeansWithin most) flushed (with_commit h (change ∷ changes)) image
+holds_one h change changes most one flushed image is counted either = ∥∥₁_map either (λ m. each m)
   where
     commit : List Change
     commit = change ∷ changes
@@ -317,26 +535,41 @@ holds_one h change changes one flushed image is counted either = ∥∥₁_map e
     next : after one ((change ∷ changes) ∷ []) ≡ number (with_commit h (change ∷ changes)) (count_of h + 1)
     next = ap (λ (s : Standing). after s ((change ∷ changes) ∷ [])) (is ∙ whole_number h) ∙ next_commit h change changes
 
-    each : Means image one ⊎ Means image (after one ((change ∷ changes) ∷ [])) → (n : ℕ) × (flushed ≤ n) × (n ≤ count_of (with_commit h (change ∷ changes))) × Means image (number (with_commit h (change ∷ changes)) n)
-    each (inl m) = (count_of h, omega (arith, counted), omega (arith, count-with_commit h change changes), subst (λ (s : Standing). Means image s) same m)
-    each (inr m) = (count_of h + 1, omega (arith, counted), omega (arith, count-with_commit h change changes), subst (λ (s : Standing). Means image s) next m)
+    each : MeansWithin most image one ⊎ MeansWithin most image (after one ((change ∷ changes) ∷ []))
+        → (n : ℕ) × (flushed ≤ n) × (n ≤ count_of (with_commit h (change ∷ changes))) × MeansWithin most image (number (with_commit h (change ∷ changes)) n)
+    each (inl m) = (count_of h, omega (arith, counted), omega (arith, count-with_commit h change changes), subst (λ (s : Standing). MeansWithin most image s) same m)
+    each (inr m) = (count_of h + 1, omega (arith, counted), omega (arith, count-with_commit h change changes), subst (λ (s : Standing). MeansWithin most image s) next m)
 
-holds_next : (h : History) (change : Change) (changes : List Change) (one : Standing) (flushed : ℕ) (image : Files) → one ≡ standing (rows_of h) (count_of h) → flushed ≡ count_of h + 1
-    → ∥ Means image (after one ((change ∷ changes) ∷ [])) ∥₁ → HoldsFrom Means flushed (with_commit h (change ∷ changes)) image
-holds_next h change changes one flushed image is counted means =
+holds_next : (h : History) (change : Change) (changes : List Change) (most : ℕ) (one : Standing) (flushed : ℕ) (image : Files) → one ≡ standing (rows_of h) (count_of h) → flushed ≡ count_of h + 1
+    → ∥ MeansWithin most image (after one ((change ∷ changes) ∷ [])) ∥₁ → HoldsFrom (MeansWithin most) flushed (with_commit h (change ∷ changes)) image
+holds_next h change changes most one flushed image is counted means =
     ∥∥₁_map means (λ m. (
       count_of h + 1,
       omega (arith, counted),
       omega (arith, count-with_commit h change changes),
-      subst (λ (s : Standing). Means image s) (ap (λ (s : Standing). after s ((change ∷ changes) ∷ [])) (is ∙ whole_number h) ∙ next_commit h change changes) m,
+      subst (λ (s : Standing). MeansWithin most image s) (ap (λ (s : Standing). after s ((change ∷ changes) ∷ [])) (is ∙ whole_number h) ∙ next_commit h change changes) m,
     ))
+
+-- in however many bytes
+pub means_some : (most : ℕ) (h : History) (least : ℕ) (image : Files) → HoldsFrom (MeansWithin most) least h image → HoldsFrom Means least h image
+means_some most h least image holds = holds_so (MeansWithin most) Means h least image (λ s m. (m.0, m.2)) holds
+
+-- in at most as many as this
+pub means_more : (most more : ℕ) (h : History) (least : ℕ) (image : Files) → most ≤ more → HoldsFrom (MeansWithin most) least h image → HoldsFrom (MeansWithin more) least h image
+means_more most more h least image le holds = holds_so (MeansWithin most) (MeansWithin more) h least image (λ s m. (m.0, omega (arith, m.1, le), m.2)) holds
 
 pub opening_on : (origin : Origin) (start before now : ℕ) (i k : ℕ → Files → Type 0) → origin.tick ≤ start → start ≤ before → GoesOn before now i k → IsOpening origin start i → IsOpening origin start k
 opening_on origin start before now i k begun within time opening = λ t le ge image there.
     ∥∥₁_map (opening t le ge image ((time.past t (omega (arith, ge, within)) image).0 there)) (λ e. (e.0, (time.past origin.tick (omega (arith, begun, within)) e.0).1 e.1, e.2))
 
+-- how long the log is with a commit behind it
+abbrev pub with_need : Live → List Change → ℕ
+with_need live commit = live.log.end + 1 + log.need_of (commit ∷ [])
+
 -- all that an append says, for the history
 pub record Appends (before now : Moment) (live new : Live) (commit : List Change) : Type 0 where
+  pub generation : now.generation ≡ before.generation
+  pub inside : now.inside ≡ before.inside
   pub read : before.live ≡ Some live
   pub unbroken : live.log.since ≡ None
   pub unclosed : live.closed ≡ false
@@ -348,26 +581,56 @@ pub record Appends (before now : Moment) (live new : Live) (commit : List Change
   pub time : GoesOn before.ticks now.ticks before.images now.images
   pub later : before.faults ≤ now.faults
   pub tells : before.files ≡ None → now.files ≡ None
-  pub through : IfSome before.files (λ files. Throughout before.ticks now.ticks now.images (OneOf (standing before.rows live.log.count) commit))
+  pub through : IfSome before.files (λ files. Throughout before.ticks now.ticks now.images (OneOf (with_need live commit) (standing before.rows live.log.count) commit))
 
 -- the run with the answer, where the log holds at least so many commits
-appended_run : PastStays → PresentIsWhole → (origin : Origin) (base : Base) (before now : Moment) (live : Live) (book : List BookEntry) (pid front : ℕ) (script : List Stmt) (reply : List Item) (change : Change) (changes : List Change)
-    (least : ℕ) → live.log.since ≡ None → GoesOn before.ticks now.ticks before.images now.images
-    → Throughout before.ticks now.ticks now.images (OneOf (standing before.rows live.log.count) (change ∷ changes)) → live.log.count ≤ least → least ≤ live.log.count + 1
-    → ((image : Files) → now.images now.ticks image → HoldsFrom Means least (with_commit (history_of base book) (change ∷ changes)) image)
-    → (is : HasGone origin base before live book) → Keeps Means base (book ++ Answered pid script reply (change ∷ changes) front before.ticks ∷ []) is.start now.ticks now.ticks least now.images
-appended_run past present_whole origin base before now live book pid front script reply change changes least unbroken time through le ge holds is =
+appended_run : PastStays → PresentIsWhole → (base : Base) (before now : Moment) (live : Live) (book : List BookEntry) (pid front : ℕ) (script : List Stmt) (reply : List Item) (change : Change) (changes : List Change)
+    (flushed least start : ℕ) → live.log.since ≡ None → flushed ≡ live.log.count → GoesOn before.ticks now.ticks before.images now.images
+    → Throughout before.ticks now.ticks now.images (OneOf (with_need live (change ∷ changes)) (standing before.rows live.log.count) (change ∷ changes)) → live.log.count ≤ least → least ≤ live.log.count + 1
+    → ((image : Files) → now.images now.ticks image → HoldsFrom (MeansWithin (with_need live (change ∷ changes))) least (with_commit (history_of base book) (change ∷ changes)) image)
+    → HasGone base before live book → Keeps Means base book start before.ticks before.ticks flushed before.images
+    → Keeps Means base (book ++ Answered pid script reply (change ∷ changes) front before.ticks ∷ []) start now.ticks now.ticks least now.images
+appended_run past present_whole base before now live book pid front script reply change changes flushed least start unbroken flushed_is time through le ge holds is keeps =
     let commit = change ∷ changes in
+    let most = with_need live commit in
     let entry : BookEntry = Answered pid script reply commit front before.ticks in
     let h = history_of base book in
     let counted : live.log.count ≡ count_of h = is.count_is unbroken in
     let grown : history_of base (book ++ entry ∷ []) ≡ with_commit h commit = history_push base book entry in
     let one : standing before.rows live.log.count ≡ standing (rows_of h) (count_of h) = same_standing _ _ _ _ is.rows_are counted in
-    goes_by past present_whole base (book ++ entry ∷ []) is.start before.ticks live.log.count now.ticks least before.images now.images
-    (notes_answer past present_whole base book is.start before.ticks live.log.count before.images is.keeps pid front script reply commit) time
-    (λ t after_it upto image there. subst (λ (x : History). HoldsFrom Means live.log.count x image) (sym grown) (holds_one h change changes (standing before.rows live.log.count) live.log.count image one counted (through t after_it upto image there)))
+    let whole = subst (λ (n : ℕ). Keeps Means base book start before.ticks before.ticks n before.images) flushed_is keeps in
+    goes_by past present_whole base (book ++ entry ∷ []) start before.ticks live.log.count now.ticks least before.images now.images
+    (notes_answer past present_whole base book start before.ticks live.log.count before.images whole pid front script reply commit) time
+    (λ t after_it upto image there. subst (λ (x : History). HoldsFrom Means live.log.count x image) (sym grown)
+    (means_some most (with_commit h commit) live.log.count image (holds_one h change changes most (standing before.rows live.log.count) live.log.count image one counted (through t after_it upto image there))))
     le (subst (λ (x : History). least ≤ count_of x) (sym grown) (omega (arith, ge, counted, count-with_commit h change changes)))
-    (λ image there. subst (λ (x : History). HoldsFrom Means least x image) (sym grown) (holds image there))
+    (λ image there. subst (λ (x : History). HoldsFrom Means least x image) (sym grown) (means_some most (with_commit h commit) least image (holds image there)))
+
+-- how long an image is, behind an append and the answer
+appended_lengths : (base : Base) (before now : Moment) (live : Live) (book : List BookEntry) (pid front : ℕ) (script : List Stmt) (reply : List Item) (change : Change) (changes : List Change) (least : ℕ)
+    → live.log.since ≡ None → ((image : Files) → now.images now.ticks image → HoldsFrom (MeansWithin (with_need live (change ∷ changes))) least (with_commit (history_of base book) (change ∷ changes)) image)
+    → HasGone base before live book → (image : Files) → now.images now.ticks image
+    → HoldsFrom (MeansWithin (most_bytes base (book ++ Answered pid script reply (change ∷ changes) front before.ticks ∷ []))) least (history_of base (book ++ Answered pid script reply (change ∷ changes) front before.ticks ∷ [])) image
+appended_lengths base before now live book pid front script reply change changes least unbroken holds is image there =
+    let commit = change ∷ changes in
+    let entry : BookEntry = Answered pid script reply commit front before.ticks in
+    let grown : history_of base (book ++ entry ∷ []) ≡ with_commit (history_of base book) commit = history_push base book entry in
+    subst (λ (x : History). HoldsFrom (MeansWithin (most_bytes base (book ++ entry ∷ []))) least x image) (sym grown)
+    (means_more (with_need live commit) (most_bytes base (book ++ entry ∷ [])) (with_commit (history_of base book) commit) least image (omega (arith, is.fits unbroken, needs_push book entry)) (holds image there))
+
+-- what a stop leaves, behind calls of the disk
+pub held_on : (origin : Origin) (base : Base) (before now : Moment) (new : Live) (book book_now : List BookEntry) → now.live ≡ Some new → GoesOn before.ticks now.ticks before.images now.images
+    → (held : HasHeld origin base before book) → Keeps Means base book_now held.start now.ticks now.ticks new.log.count now.images
+    → ((image : Files) → now.images now.ticks image → HoldsFrom (MeansWithin (most_bytes base book_now)) new.log.count (history_of base book_now) image) → HasHeld origin base now book_now
+held_on origin base before now new book book_now read time held keeps lengths = record {
+  start = held.start;
+  begun = held.begun;
+  opening = opening_on origin held.start before.ticks now.ticks before.images now.images held.begun held.keeps.begun time held.opening;
+  flushed = new.log.count;
+  flushed_is = λ live is. ap (λ (l : Live). l.log.count) (same_live now.live new live read is);
+  keeps = keeps;
+  lengths = lengths;
+}
 
 pub none_told : (since : Option ℕ) (count : ℕ) (here : Option (List (ℕ × ℕ))) → since ≡ None → TellsBreak since count here → here ≡ Some []
 none_told since count here unbroken tells = subst (λ (s : Option ℕ). TellsBreak s count here) unbroken tells
@@ -385,41 +648,42 @@ counted_now from before now since_count o o_now new le read shown counted = reco
 -- a commit is durable, and answered
 pub commits : PastStays → PresentIsWhole → (before now : Moment) (live new : Live) (pid : ℕ) (script : List Stmt) (reply : List Item) (commit : List Change) → commit ≢ []
     → Appends before now live new commit → new.log.since ≡ None → new.log.count ≡ live.log.count + 1 → new.log.end ≡ live.log.end + log.need_of (commit ∷ [])
-    → IfSome before.files (λ files. (image : Files) → now.images now.ticks image → ∥ Means image (after (standing before.rows live.log.count) (commit ∷ [])) ∥₁)
+    → IfSome before.files (λ files. (image : Files) → now.images now.ticks image → ∥ MeansWithin (with_need live commit) image (after (standing before.rows live.log.count) (commit ∷ [])) ∥₁)
     → Attends pid before.book → reply ≡ items_of before.rows script → commit ≡ commit_of before.rows script
     → NotesEntries (Answered pid script reply commit new.log.count before.ticks ∷ []) before.book now.book
     → Moves (Answered pid script reply commit new.log.count before.ticks ∷ []) before now
 commits past present_whole before now live new pid script reply [] some appends whole count end durable inside reply_is commit_is notes = absurd (some refl)
 commits past present_whole before now live new pid script reply (change ∷ changes) some appends whole count end durable inside reply_is commit_is notes = record {
   notes = notes;
+  generation = appends.generation;
+  attends = nobody_moves (entry ∷ []) before now appends.inside (λ who n. refl);
   time = appends.time;
   later = appends.later;
   counts = λ from counted. record {
     counted = counted_now from before.faults now.faults 0 before.live now.live new appends.later appends.read_now (subst (IsShownAt from now.faults) (sym whole) tt) counted;
     each = no_fault_shown from now.faults entry tt;
   };
-  waits = λ origin told. inl (told_on before.book now.book before.files now.files (entry ∷ []) (HasWaited origin before) (HasWaited origin now) notes appends.tells
-      (λ book is seen tells waited. absurd (not_both before.live live waited.unread appends.read)) told);
-  goes_on = λ origin base told. told_on before.book now.book before.files now.files (entry ∷ []) (λ book. (l : Live) × HasGone origin base before l book) (λ book. (l : Live) × HasGone origin base now l book) notes appends.tells
-      (λ book is seen tells gone. (new, goes origin base book is seen tells (gone_at origin base before live book appends.read gone))) told;
+  waits = never_waits (entry ∷ []) before now live appends.read notes appends.tells;
+  goes_on = λ origin base told. gone_read (entry ∷ []) before now live origin base appends.read appends.generation notes appends.tells
+      (λ book is gone. (new, goes base book is gone)) (λ book seen tells gone held. holds origin base book seen tells gone held) told;
 }
   where
     entry : BookEntry
     entry = Answered pid script reply (change ∷ changes) new.log.count before.ticks
 
-    goes : (origin : Origin) (base : Base) (book : List BookEntry) → before.book ≡ Some book → (seen : Files) → before.files ≡ Some seen → HasGone origin base before live book → HasGone origin base now new (book ++ entry ∷ [])
-    goes origin base book told seen tells is =
+    goes : (base : Base) (book : List BookEntry) → before.book ≡ Some book → HasGone base before live book → HasGone base now new (book ++ entry ∷ [])
+    goes base book told is =
         let h = history_of base book in
         let commit = change ∷ changes in
         let counted : live.log.count ≡ count_of h = is.count_is appends.unbroken in
-        let through = subst (λ (f : Option Files). IfSome f (λ files. Throughout before.ticks now.ticks now.images (OneOf (standing before.rows live.log.count) commit))) tells appends.through in
-        let behind = subst (λ (f : Option Files). IfSome f (λ files. (image : Files) → now.images now.ticks image → ∥ Means image (after (standing before.rows live.log.count) (commit ∷ [])) ∥₁)) tells durable in
-        let one : standing before.rows live.log.count ≡ standing (rows_of h) (count_of h) = same_standing _ _ _ _ is.rows_are counted in
         let front : new.log.count ≡ count_of (with_commit h commit) = omega (arith, count, counted, count-with_commit h change changes) in
-        gone_push origin base now new book entry (with_commit h commit) is.start appends.read_now is.legal is.generation
+        gone_push base now new book entry (with_commit h commit) appends.read_now is.legal (is.generation ∙ sym appends.generation)
         (record {
           not_gone = tt;
-          may = may_answer origin base before live book pid script reply commit new.log.count is (attends_in pid before.book book told inside) reply_is commit_is front (λ closed. absurd (true≢false (sym closed ∙ appends.unclosed)));
+          begun = subst (λ (n : ℕ). 1 ≤ n) (sym appends.generation) is.begun;
+          attended = subst (λ (l : List ℕ). IsAttendedBy l (book ++ entry ∷ [])) (sym appends.inside) (attended_still before.inside book entry (λ who n. refl) is.attended);
+          base_fits = is.base_fits;
+          may = may_answer base before live book pid script reply commit new.log.count is (attends_in pid before.book book told inside) reply_is commit_is front (λ closed. absurd (true≢false (sym closed ∙ appends.unclosed)));
           generation = λ n. refl;
           redone = ap (λ (r : Option ℕ). kept_after r entry) is.redone ∙ ap (λ (n : ℕ). Some n) (sym appends.kept);
           closed_is = any_still ends_cleanly (present book) entry live.closed is.closed refl ∙ sym appends.closed;
@@ -431,11 +695,25 @@ commits past present_whole before now live new pid script reply (change ∷ chan
         (λ since broke. absurd (some_none since (sym broke ∙ whole)))
         (appends.rows ∙ ap (λ (r : RowMap). committed r commit) is.rows_are ∙ sym (rows-with_commit h commit))
         (λ open_log. front) (base-with_commit h commit ∙ is.base_is)
-        (λ open_log unclosed. omega (arith, end, is.fits appends.unbroken appends.unclosed)) (appends.limit ∙ is.limit) (omega (arith, is.counted.later, appends.later)) is.begun
-        (opening_on origin is.start before.ticks now.ticks before.images now.images is.begun is.keeps.begun appends.time is.opening)
-        (subst (λ (n : ℕ). Keeps Means base (book ++ entry ∷ []) is.start now.ticks now.ticks n now.images) (sym count)
-        (appended_run past present_whole origin base before now live book pid new.log.count script reply change changes (live.log.count + 1) appends.unbroken appends.time through (omega arith) (omega arith)
-        (λ image there. holds_next h change changes (standing before.rows live.log.count) (live.log.count + 1) image one (omega (arith, counted)) (behind image there)) is))
+        (λ open_log. omega (arith, end, is.fits appends.unbroken)) (appends.limit ∙ is.limit) (omega (arith, is.counted.later, appends.later))
+
+    holds : (origin : Origin) (base : Base) (book : List BookEntry) (seen : Files) → before.files ≡ Some seen → HasGone base before live book → HasHeld origin base before book → HasHeld origin base now (book ++ entry ∷ [])
+    holds origin base book seen tells is held =
+        let h = history_of base book in
+        let commit = change ∷ changes in
+        let most = with_need live commit in
+        let counted : live.log.count ≡ count_of h = is.count_is appends.unbroken in
+        let through = subst (λ (f : Option Files). IfSome f (λ files. Throughout before.ticks now.ticks now.images (OneOf most (standing before.rows live.log.count) commit))) tells appends.through in
+        let behind = subst (λ (f : Option Files). IfSome f (λ files. (image : Files) → now.images now.ticks image → ∥ MeansWithin most image (after (standing before.rows live.log.count) (commit ∷ [])) ∥₁)) tells durable in
+        let one : standing before.rows live.log.count ≡ standing (rows_of h) (count_of h) = same_standing _ _ _ _ is.rows_are counted in
+        let next : (image : Files) → now.images now.ticks image → HoldsFrom (MeansWithin most) (live.log.count + 1) (with_commit h commit) image =
+        λ image there. holds_next h change changes most (standing before.rows live.log.count) (live.log.count + 1) image one (omega (arith, counted)) (behind image there) in
+        held_on origin base before now new book (book ++ entry ∷ []) appends.read_now appends.time held
+        (subst (λ (n : ℕ). Keeps Means base (book ++ entry ∷ []) held.start now.ticks now.ticks n now.images) (sym count)
+        (appended_run past present_whole base before now live book pid new.log.count script reply change changes held.flushed (live.log.count + 1) held.start appends.unbroken (held.flushed_is live appends.read) appends.time through
+        (omega arith) (omega arith) next is held.keeps))
+        (λ image there. subst (λ (n : ℕ). HoldsFrom (MeansWithin (most_bytes base (book ++ entry ∷ []))) n (history_of base (book ++ entry ∷ [])) image) (sym count)
+        (appended_lengths base before now live book pid new.log.count script reply change changes (live.log.count + 1) appends.unbroken next is image there))
 
 -- the disk failed at a commit, which may stand or not
 pub loses : PastStays → PresentIsWhole → (before now : Moment) (live new : Live) (pid since : ℕ) (script : List Stmt) (reply : List Item) (commit : List Change) → commit ≢ []
@@ -446,6 +724,8 @@ pub loses : PastStays → PresentIsWhole → (before now : Moment) (live new : L
 loses past present_whole before now live new pid since script reply [] some appends broke count fault rose small inside reply_is commit_is notes = absurd (some refl)
 loses past present_whole before now live new pid since script reply (change ∷ changes) some appends broke count fault rose small inside reply_is commit_is notes = record {
   notes = notes;
+  generation = appends.generation;
+  attends = nobody_moves (first ∷ second ∷ []) before now appends.inside (λ who n. refl);
   time = appends.time;
   later = appends.later;
   counts = λ from counted.
@@ -453,10 +733,10 @@ loses past present_whole before now live new pid since script reply (change ∷ 
         counted = counted_now from before.faults now.faults 0 before.live now.live new appends.later appends.read_now (subst (IsShownAt from now.faults) (sym broke) risen) counted;
         each = All-push (IsShown from now.faults) (first ∷ []) second (no_fault_shown from now.faults first tt) risen;
       };
-  waits = λ origin told. inl (told_on before.book now.book before.files now.files (first ∷ second ∷ []) (HasWaited origin before) (HasWaited origin now) notes appends.tells
-      (λ book is seen tells waited. absurd (not_both before.live live waited.unread appends.read)) told);
-  goes_on = λ origin base told. told_on before.book now.book before.files now.files (first ∷ second ∷ []) (λ book. (l : Live) × HasGone origin base before l book) (λ book. (l : Live) × HasGone origin base now l book) notes appends.tells
-      (λ book is seen tells gone. (new, subst (HasGone origin base now new) (append_assoc book (first ∷ []) (second ∷ [])) (goes origin base book is seen tells (gone_at origin base before live book appends.read gone)))) told;
+  waits = never_waits (first ∷ second ∷ []) before now live appends.read notes appends.tells;
+  goes_on = λ origin base told. gone_read (first ∷ second ∷ []) before now live origin base appends.read appends.generation notes appends.tells
+      (λ book is gone. (new, subst (HasGone base now new) (append_assoc book (first ∷ []) (second ∷ [])) (goes base book is gone)))
+      (λ book seen tells gone held. subst (HasHeld origin base now) (append_assoc book (first ∷ []) (second ∷ [])) (holds origin base book seen tells gone held)) told;
 }
   where
     first : BookEntry
@@ -465,29 +745,32 @@ loses past present_whole before now live new pid since script reply (change ∷ 
     second : BookEntry
     second = Broke pid since now.faults
 
-    goes : (origin : Origin) (base : Base) (book : List BookEntry) → before.book ≡ Some book → (seen : Files) → before.files ≡ Some seen → HasGone origin base before live book → HasGone origin base now new ((book ++ first ∷ []) ++ second ∷ [])
-    goes origin base book told seen tells is =
+    redone_answered : (base : Base) (book : List BookEntry) → HasGone base before live book → kept_by_redo (book ++ first ∷ []) ≡ Some live.kept
+    redone_answered base book is = redone_push book first ∙ ap (λ (r : Option ℕ). kept_after r first) is.redone
+
+    goes : (base : Base) (book : List BookEntry) → before.book ≡ Some book → HasGone base before live book → HasGone base now new ((book ++ first ∷ []) ++ second ∷ [])
+    goes base book told is =
         let h = history_of base book in
         let commit = change ∷ changes in
         let answered = book ++ first ∷ [] in
         let counted : live.log.count ≡ count_of h = is.count_is appends.unbroken in
-        let through = subst (λ (f : Option Files). IfSome f (λ files. Throughout before.ticks now.ticks now.images (OneOf (standing before.rows live.log.count) commit))) tells appends.through in
-        let one : standing before.rows live.log.count ≡ standing (rows_of h) (count_of h) = same_standing _ _ _ _ is.rows_are counted in
         let front : live.log.count + 1 ≡ count_of (with_commit h commit) = omega (arith, counted, count-with_commit h change changes) in
-        let may = may_answer origin base before live book pid script reply commit (live.log.count + 1) is (attends_in pid before.book book told inside) reply_is commit_is front (λ closed. absurd (true≢false (sym closed ∙ appends.unclosed))) in
+        let may = may_answer base before live book pid script reply commit (live.log.count + 1) is (attends_in pid before.book book told inside) reply_is commit_is front (λ closed. absurd (true≢false (sym closed ∙ appends.unclosed))) in
         let grown : history_of base answered ≡ with_commit h commit = history_push base book first in
-        let redone : kept_by_redo answered ≡ Some live.kept = redone_push book first ∙ ap (λ (r : Option ℕ). kept_after r first) is.redone in
+        let redone : kept_by_redo answered ≡ Some live.kept = redone_answered base book is in
         let here : faults_here answered ≡ Some [] = here_push book first ∙ ap (λ (f : Option (List (ℕ × ℕ))). fault_here f first) (none_told live.log.since live.faults (faults_here book) appends.unbroken is.broken) in
         let faults : faults_of answered ≡ faults_of book = faults_push book first in
         let tells_it = tells_new base.faults before.faults now.faults (faults_of book) is.counted.later is.counted.each rose appends.later small in
         let told_new : TellsFault base answered (faults_here answered) since now.faults =
         subst (λ (f : Option (List (ℕ × ℕ))). TellsFault base answered f since now.faults) (sym here)
         (subst (λ (fs : List (ℕ × ℕ)). ((base.faults < now.faults) × All (λ (fault : ℕ × ℕ). fault.1 < now.faults) fs) ⊎ (now.faults ≡ 2 ^ 64 - 1)) (sym faults) tells_it) in
-        let keeps = appended_run past present_whole origin base before now live book pid (live.log.count + 1) script reply change changes live.log.count appends.unbroken appends.time through (omega arith) (omega arith)
-        (λ image there. holds_one h change changes (standing before.rows live.log.count) live.log.count image one counted (through now.ticks appends.time.later (omega arith) image there)) is in
-        gone_push origin base now new answered second (with_commit h commit) is.start appends.read_now (legal_push base book first tt is.legal may) (generation_push book first ∙ is.generation)
+        gone_push base now new answered second (with_commit h commit) appends.read_now (legal_push base book first tt is.legal may) (generation_push book first ∙ is.generation ∙ sym appends.generation)
         (record {
           not_gone = tt;
+          begun = subst (λ (n : ℕ). 1 ≤ n) (sym appends.generation) is.begun;
+          attended = subst (λ (l : List ℕ). IsAttendedBy l (answered ++ second ∷ [])) (sym appends.inside)
+              (attended_still before.inside answered second (λ who n. refl) (attended_still before.inside book first (λ who n. refl) is.attended));
+          base_fits = is.base_fits;
           may = record { attached = subst (λ (n : ℕ). 1 ≤ n) (sym (times_push book first pid)) (attends_in pid before.book book told inside); fault = told_new };
           generation = λ n. refl;
           redone = ap (λ (r : Option ℕ). kept_after r second) redone ∙ ap (λ (n : ℕ). Some n) (sym appends.kept);
@@ -501,62 +784,78 @@ loses past present_whole before now live new pid since script reply (change ∷ 
         (λ tick broken. omega (arith, fault))
         (appends.rows ∙ ap (λ (r : RowMap). committed r commit) is.rows_are ∙ sym (rows-with_commit h commit))
         (λ open_log. absurd (some_none since (sym broke ∙ open_log))) (base-with_commit h commit ∙ is.base_is)
-        (λ open_log unclosed. absurd (some_none since (sym broke ∙ open_log))) (appends.limit ∙ is.limit) (omega (arith, is.counted.later, appends.later)) is.begun
-        (opening_on origin is.start before.ticks now.ticks before.images now.images is.begun is.keeps.begun appends.time is.opening)
-        (notes_another past present_whole base answered is.start now.ticks new.log.count now.images (subst (λ (n : ℕ). Keeps Means base answered is.start now.ticks now.ticks n now.images) (sym count) keeps) second
-        (ap (λ (r : Option ℕ). history_after r (history_of base answered) second) redone) tt (λ t. refl))
+        (λ open_log. absurd (some_none since (sym broke ∙ open_log))) (appends.limit ∙ is.limit) (omega (arith, is.counted.later, appends.later))
+
+    holds : (origin : Origin) (base : Base) (book : List BookEntry) (seen : Files) → before.files ≡ Some seen → HasGone base before live book → HasHeld origin base before book
+        → HasHeld origin base now ((book ++ first ∷ []) ++ second ∷ [])
+    holds origin base book seen tells is held =
+        let h = history_of base book in
+        let commit = change ∷ changes in
+        let most = with_need live commit in
+        let answered = book ++ first ∷ [] in
+        let counted : live.log.count ≡ count_of h = is.count_is appends.unbroken in
+        let through = subst (λ (f : Option Files). IfSome f (λ files. Throughout before.ticks now.ticks now.images (OneOf most (standing before.rows live.log.count) commit))) tells appends.through in
+        let one : standing before.rows live.log.count ≡ standing (rows_of h) (count_of h) = same_standing _ _ _ _ is.rows_are counted in
+        let either : (image : Files) → now.images now.ticks image → HoldsFrom (MeansWithin most) live.log.count (with_commit h commit) image =
+        λ image there. holds_one h change changes most (standing before.rows live.log.count) live.log.count image one counted (through now.ticks appends.time.later (omega arith) image there) in
+        let keeps = appended_run past present_whole base before now live book pid (live.log.count + 1) script reply change changes held.flushed live.log.count held.start appends.unbroken (held.flushed_is live appends.read) appends.time through
+        (omega arith) (omega arith) either is held.keeps in
+        let alone : history_after (kept_by_redo answered) (history_of base answered) second ≡ history_of base answered = ap (λ (r : Option ℕ). history_after r (history_of base answered) second) (redone_answered base book is) in
+        held_on origin base before now new book (answered ++ second ∷ []) appends.read_now appends.time held
+        (notes_another past present_whole base answered held.start now.ticks new.log.count now.images (subst (λ (n : ℕ). Keeps Means base answered held.start now.ticks now.ticks n now.images) (sym count) keeps) second
+        alone tt (λ t. refl))
+        (λ image there. lengths_push base answered second (history_of base answered) new.log.count image alone
+        (subst (λ (n : ℕ). HoldsFrom (MeansWithin (most_bytes base answered)) n (history_of base answered) image) (sym count)
+        (appended_lengths base before now live book pid (live.log.count + 1) script reply change changes live.log.count appends.unbroken either is image there)))
 
 -- a child finds the log broken
 pub finds_broken : PastStays → PresentIsWhole → (at : Moment) (live : Live) (book_now : Option (List BookEntry)) (pid since : ℕ) → at.live ≡ Some live → live.log.since ≡ Some since → Attends pid at.book
     → NotesEntries (Broke pid since live.faults ∷ []) at.book book_now → Moves (Broke pid since live.faults ∷ []) at (with_book book_now at)
 finds_broken past present_whole at live book_now pid since read broke inside notes =
     let entry : BookEntry = Broke pid since live.faults in
-    still (entry ∷ []) at book_now notes (λ from counted. no_fault_shown from at.faults entry (shown_of from at.faults at.live live since read broke counted.shown))
-    (λ origin book told is. absurd (not_both at.live live is.unread read))
-    (λ origin base l book told gone.
-    let is = gone_at origin base at live book read (l, gone) in
-    let same : l ≡ live = same_live at.live l live gone.read read in
+    still (entry ∷ []) at live book_now read notes (λ who n. refl) (λ from counted. no_fault_shown from at.faults entry (shown_of from at.faults at.live live since read broke counted.shown))
+    (λ base book told is.
     let tells : TellsBreak (Some since) live.faults (faults_here book) = subst (λ (s : Option ℕ). TellsBreak s live.faults (faults_here book)) broke is.broken in
-    let history : history_after (kept_by_redo book) (history_of base book) entry ≡ history_of base book = ap (λ (r : Option ℕ). history_after r (history_of base book) entry) is.redone in
-    subst (λ (x : Live). HasGone origin base (with_book book_now at) x (book ++ entry ∷ [])) (sym same)
-    (gone_push origin base (with_book book_now at) live book entry (history_of base book) is.start is.read is.legal is.generation
+    gone_push base (with_book book_now at) live book entry (history_of base book) is.read is.legal is.generation
     (record {
       not_gone = tt;
+      begun = is.begun;
+      attended = attended_still at.inside book entry (λ who n. refl) is.attended;
+      base_fits = is.base_fits;
       may = record { attached = attends_in pid at.book book told inside; fault = may_repeat since live.faults base book (faults_here book) tells };
       generation = λ n. refl;
       redone = ap (λ (r : Option ℕ). kept_after r entry) is.redone;
       closed_is = any_still ends_cleanly (present book) entry live.closed is.closed refl;
-      history_is = history;
+      history_is = ap (λ (r : Option ℕ). history_after r (history_of base book) entry) is.redone;
       in_time = is.in_time;
       each = All-push (IsFaultBy at.faults) (faults_of book) (since, live.faults) is.counted.each (is.known since broke);
     })
     (subst (λ (s : Option ℕ). TellsBreak s live.faults (fault_here (faults_here book) entry)) (sym broke) (breaks_again since live.faults (faults_here book) pid tells))
-    is.known is.rows_are is.count_is is.base_is is.fits is.limit is.counted.later is.begun is.opening
-    (notes_another past present_whole base book is.start at.ticks live.log.count at.images is.keeps entry history tt (λ t. refl))))
+    is.known is.rows_are is.count_is is.base_is is.fits is.limit is.counted.later)
+    (λ origin base book is held. held_still past present_whole origin base at book_now at.inside book entry (ap (λ (r : Option ℕ). history_after r (history_of base book) entry) is.redone) (λ start mark. tt) (λ t. refl) held)
 
 -- a commit finds no room in the log
 pub finds_full : PastStays → PresentIsWhole → (at : Moment) (live : Live) (book_now : Option (List BookEntry)) (pid need room : ℕ) (script : List Stmt) (commit : List Change) → at.live ≡ Some live → live.log.since ≡ None
-    → live.closed ≡ false → Attends pid at.book → commit ≡ commit_of at.rows script → need ≡ need_of commit → room < need
+    → Attends pid at.book → commit ≡ commit_of at.rows script → need ≡ need_of commit → room < need
     → ((live.log.count ≡ 2 ^ 64 - 1) × (room ≡ 0)) ⊎ (room ≡ live.log.limit - (live.log.end + 1))
     → NotesEntries (LogFull pid script need room ∷ []) at.book book_now → Moves (LogFull pid script need room ∷ []) at (with_book book_now at)
-finds_full past present_whole at live book_now pid need room script commit read unbroken unclosed inside commit_is need_is above cause notes =
+finds_full past present_whole at live book_now pid need room script commit read unbroken inside commit_is need_is above cause notes =
     let entry : BookEntry = LogFull pid script need room in
-    still (entry ∷ []) at book_now notes (λ from counted. no_fault_shown from at.faults entry tt)
-    (λ origin book told is. absurd (not_both at.live live is.unread read))
-    (λ origin base l book told gone.
-    let is = gone_at origin base at live book read (l, gone) in
-    let same : l ≡ live = same_live at.live l live gone.read read in
+    still (entry ∷ []) at live book_now read notes (λ who n. refl) (λ from counted. no_fault_shown from at.faults entry tt)
+    (λ base book told is.
     let because : ((count_of (history_of base book) ≡ 2 ^ 64 - 1) × (room ≡ 0)) ⊎ (max_file_bytes ≤ room + base.bytes + 1024 + needs_of book) = elim cause [
       | inl spent ↦ inl (sym (is.count_is unbroken) ∙ spent.0, spent.1)
-      | inr left ↦ inr (omega (arith, left, is.limit, is.fits unbroken unclosed))
+      | inr left ↦ inr (omega (arith, left, is.limit, is.fits unbroken))
     ] in
-    subst (λ (x : Live). HasGone origin base (with_book book_now at) x (book ++ entry ∷ [])) (sym same)
-    (gone_quiet past present_whole origin base at live book_now book entry
-    (record { not_gone = tt; generation = λ n. refl; redone = refl; present_is = λ es. refl; unclean = refl; history = λ h. refl; tick = λ n. refl; faults = λ fs. refl; here = λ fs. refl; need = λ n. refl; no_tick = λ start mark. tt; hidden = λ t. refl })
+    gone_quiet base at live book_now at.inside book entry (quiet live)
     (record {
       redone = ap is_some is.redone;
       attached = attends_in pid at.book book told inside;
       need_is = need_is ∙ ap need_of commit_is ∙ ap (λ (r : RowMap). need_of (commit_of r script)) is.rows_are;
       above = above;
       cause = because;
-    }) is))
+    }) (attended_still at.inside book entry (λ who n. refl) is.attended) is)
+    (λ origin base book is held. held_quiet past present_whole origin base at live book_now at.inside book entry (quiet live) is held)
+  where
+    quiet : (live : Live) → IsQuiet live.kept (LogFull pid script need room)
+    quiet live = record { not_gone = tt; generation = λ n. refl; redone = refl; present_is = λ es. refl; unclean = refl; history = λ h. refl; tick = λ n. refl; faults = λ fs. refl; here = λ fs. refl; need = λ n. refl; no_tick = λ start mark. tt; hidden = λ t. refl }

@@ -1,4 +1,5 @@
 pub mod Answers
+pub mod Children
 pub mod Moment
 pub mod Moves
 pub mod MovesLaws

@@ -1,17 +1,28 @@
 -- What the calls of a store do from one moment to another.
-use Rattle.std.specs.Prelude.{◌≡◌, ◌⊎◌, ℕ, ◌≤◌, List, ◌++◌, All, Option, None, Some, option_map}
+use Rattle.std.specs.Prelude.{◌≡◌, ◌⊎◌, ℕ, ◌+◌, ◌≤◌, false, List, [], ◌++◌, All, Option, None, Some, option_map}
+use Rattle.std.specs.FinMap.{empty}
 use Rattle.pm_disk.specs.Cause.{Rose}
 use Rattle.pm_record.specs.OnDisk.{GoesOn}
 use Rattle.pm_query.specs.declared.book.BookEntry.{BookEntry}
 use Rattle.pm_query.specs.declared.book.BookEntry.TheVariants.{Broke}
 use Rattle.pm_query.specs.Book.{Base}
 use Rattle.pm_segment.specs.declared.live.Live.{Live}
+use Rattle.pm_segment.specs.Children.{times_behind, times_in}
 use Rattle.pm_segment.specs.Moment.{Moment}
 use Rattle.pm_segment.specs.Stands.{Begins, GoesFrom, Origin, WaitsFrom}
 
 -- these entries were added, where the book tells
 abbrev pub NotesEntries : List BookEntry → Option (List BookEntry) → Option (List BookEntry) → Type 0
 NotesEntries entries before now = now ≡ option_map (λ book. book ++ entries) before
+
+-- all that a store keeps of its own is as it was
+pub record IsAsBefore (before now : Moment) : Type 0 where
+  pub book : now.book ≡ before.book
+  pub generation : now.generation ≡ before.generation
+  pub inside : now.inside ≡ before.inside
+  pub rows : now.rows ≡ before.rows
+  pub live : now.live ≡ before.live
+  pub skipped : now.skipped ≡ before.skipped
 
 -- a fault that was noted shows in the disk's count, which has risen from this one
 abbrev pub IsShown : ℕ → ℕ → BookEntry → Type 0
@@ -37,11 +48,27 @@ pub record CountsEntries (from : ℕ) (entries : List BookEntry) (faults : ℕ) 
   pub each : All (IsShown from faults) entries
 
 -- These entries were noted. What held from a beginning holds from it still, or the first redo has come; what a stop could
--- leave before is as it was, and each fault that was noted was counted, whether book and disk tell or not.
+-- leave before is as it was. Each fault that was noted was counted, and each child is inside as often as the entries make
+-- of how often it was, whether book and disk tell or not.
 pub record Moves (entries : List BookEntry) (before now : Moment) : Type 0 where
   pub notes : NotesEntries entries before.book now.book
+  pub generation : now.generation ≡ before.generation
+  pub attends : (pid : ℕ) → times_in pid now.inside ≡ times_behind entries pid (times_in pid before.inside)
   pub time : GoesOn before.ticks now.ticks before.images now.images
   pub later : before.faults ≤ now.faults
   pub counts : (from : ℕ) → IsCountedFrom from before.faults before.live → CountsEntries from entries now.faults now.live
   pub waits : (origin : Origin) → WaitsFrom origin before → WaitsFrom origin now ⊎ Begins origin now
+  pub goes_on : (origin : Origin) (base : Base) → GoesFrom origin base before → GoesFrom origin base now
+
+-- From one generation to the next. These entries were noted, nobody is inside, there are no rows, and the log isn't read.
+-- What held from a beginning holds from it still.
+pub record Renews (entries : List BookEntry) (before now : Moment) : Type 0 where
+  pub notes : NotesEntries entries before.book now.book
+  pub generation : now.generation ≡ before.generation + 1
+  pub inside : now.inside ≡ []
+  pub rows : now.rows ≡ empty
+  pub unread : now.live ≡ None
+  pub unskipped : now.skipped ≡ false
+  pub counts : (from : ℕ) → IsCountedFrom from before.faults before.live → IsCountedFrom from now.faults now.live
+  pub waits : (origin : Origin) → WaitsFrom origin before → WaitsFrom origin now
   pub goes_on : (origin : Origin) (base : Base) → GoesFrom origin base before → GoesFrom origin base now

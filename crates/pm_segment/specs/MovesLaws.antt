@@ -2,12 +2,14 @@
 use Rattle.std.proofs.Common.{◌⊎◌, inl, inr, ℕ, ◌≤◌, List, [], ◌++◌, Option, None, Some, refl, sym, ◌∙◌, ap, arith, append_assoc, append-nil}
 use Rattle.std.specs.Option.{option_map}
 use Rattle.std.proofs.lemmas.List.Elements.{All-nil, All-append, All-weaker}
+use Rattle.std.proofs.lemmas.List.Sums.{fold-append}
 use Rattle.pm_disk.specs.Cause.{Rose}
 use Rattle.pm_disk.specs.Files.{Files}
 use Rattle.pm_record.specs.OnDisk.{GoesOn}
 use Rattle.pm_query.specs.declared.book.BookEntry.{BookEntry}
 use Rattle.pm_query.specs.declared.book.BookEntry.TheVariants.{Opened, Attached, Redone, Answered, Released, Detached, Gone, CheckpointEnded, Broke, LogFull}
-use Rattle.pm_query.specs.Book.{Base}
+use Rattle.pm_query.specs.Book.{Base, times_after}
+use Rattle.pm_segment.specs.Children.{times_behind, times_in}
 use Rattle.pm_segment.specs.Moment.{Moment}
 use Rattle.pm_segment.specs.Moves.{IsShown, CountsEntries, Moves, NotesEntries}
 use Rattle.pm_segment.specs.Stands.{Begins, IsBaseOf, Origin, WaitsFrom}
@@ -57,6 +59,8 @@ base_later origin base before now le (inr means) = inr means
 pub moves_none : (at : Moment) → Moves [] at at
 moves_none at = record {
   notes = notes_none at.book;
+  generation = refl;
+  attends = λ pid. refl;
   time = time_still at.ticks at.images;
   later = omega arith;
   counts = λ from counted. record { counted = counted; each = All-nil (IsShown from at.faults) };
@@ -67,6 +71,8 @@ moves_none at = record {
 pub moves_on : (first second : List BookEntry) (before between now : Moment) → Moves first before between → Moves second between now → Moves (first ++ second) before now
 moves_on first second before between now one two = record {
   notes = notes_both first second before.book between.book now.book one.notes two.notes;
+  generation = two.generation ∙ one.generation;
+  attends = λ pid. two.attends pid ∙ ap (times_behind second pid) (one.attends pid) ∙ sym (fold-append (times_after pid) (times_in pid before.inside) first second);
   time = time_on before.ticks between.ticks now.ticks before.images between.images now.images one.time two.time;
   later = omega (arith, one.later, two.later);
   counts = λ from counted.

@@ -2,16 +2,18 @@
 use Rattle.std.specs.Prelude.{◌≡◌, ℕ, ◌≤◌, List, Any, Option, None, Some, IfSome}
 use Rattle.pm_query.specs.declared.book.BookEntry.{BookEntry}
 use Rattle.pm_query.specs.Book.{AnswersUpTo, IsAttached, present}
-use Rattle.pm_query.specs.Calls.{PassView}
+use Rattle.pm_query.specs.Calls.{PassView, User, user_of}
 use Rattle.pm_segment.specs.declared.live.Live.{Live}
 use Rattle.pm_segment.specs.declared.pass.Pass.{Pass}
-
--- the only generation that there is
-abbrev pub first_generation : ℕ
-first_generation = 1
+use Rattle.pm_segment.specs.Children.{times_in}
+use Rattle.pm_segment.specs.Moment.{Moment}
 
 abbrev pub view_of : Pass → PassView
 view_of pass = record { pid = pass.pid; generation = pass.generation; front = pass.front }
+
+-- whose pass it is, of a store at this moment
+abbrev pub user_in : Moment → Pass → User
+user_in at pass = user_of (Some at.generation) (view_of pass)
 
 -- the child was answered up to the front that it has seen, in this generation
 abbrev pub HasAnswer : ℕ → Option ℕ → List BookEntry → Type 0
@@ -29,9 +31,9 @@ IsFlushed None live = Unit {0}
 IsFlushed (Some front) None = ⊥
 IsFlushed (Some front) (Some live) = front ≤ live.log.count
 
--- An `enter` answered the pass: it is of the present generation, its child is inside, and the book has room for its leave.
-pub record Admits (pass : Pass) (live : Option Live) (book : Option (List BookEntry)) (spare : ℕ) : Type 0 where
-  pub room : 1 ≤ spare
-  pub generation_is : pass.generation ≡ first_generation
-  pub inside : IfSome book (IsInside pass.pid pass.front)
-  pub flushed : IsFlushed pass.front live
+-- An `enter` answered the pass: it is of the present generation, and its child is inside.
+pub record Admits (pass : Pass) (at : Moment) : Type 0 where
+  pub there : 1 ≤ times_in pass.pid at.inside
+  pub generation_is : pass.generation ≡ at.generation
+  pub inside : IfSome at.book (IsInside pass.pid pass.front)
+  pub flushed : IsFlushed pass.front at.live

@@ -1,53 +1,106 @@
--- What redo and checkpoints note, by what they answer.
-use Rattle.std.specs.Prelude.{◌≡◌, ℕ, ◌^◌, ◌-◌, true, false, List, [], ◌∷◌, Option, None, Some, IfSome, Result, Ok, Err}
+-- What redo, flushes and checkpoints come to, and where.
+use Rattle.std.specs.Prelude.{◌≡◌, ◌≢◌, ◌⊎◌, ℕ, ◌^◌, ◌-◌, ◌<◌, ◌≤◌, Bool, true, false, [], Option, None, Some, IfSome, Result, Ok, Err}
 use Rattle.pm_disk.specs.Files.{Files, file_of, other}
 use Rattle.pm_rows.specs.Fold.{RowMap}
 use Rattle.pm_disk.specs.declared.disk.Which.{Which}
 use Rattle.pm_record.specs.Pair.{IsShut, PairStandsFor}
 use Rattle.pm_record.specs.StandsFor.{Content, StandsFor, standing_of}
+use Rattle.pm_record.specs.declared.fault.RedoFault.{RedoFault}
+use Rattle.pm_record.specs.declared.fault.RedoFault.TheVariants as reasons
 use Rattle.pm_log.specs.declared.log.Log.{Log}
-use Rattle.pm_record.specs.declared.fault.RedoFault.TheVariants as fault
-use Rattle.pm_query.specs.declared.book.BookEntry.{BookEntry}
-use Rattle.pm_query.specs.declared.book.BookEntry.TheVariants.{CheckpointEnded, Redone}
+use Rattle.pm_query.specs.declared.store.Checkpointed.{Checkpointed}
+use Rattle.pm_query.specs.declared.store.Checkpointed.TheVariants.{Done, Skipped, NotDue}
 use Rattle.pm_query.specs.declared.store.StoreNo.{StoreNo}
-use Rattle.pm_query.specs.declared.store.StoreNo.TheVariants.{Disk, Broken, Full, Redo, NoMemory}
-use Rattle.pm_query.specs.Calls.{NotesFault, RepeatsFault}
+use Rattle.pm_query.specs.declared.store.StoreNo.TheVariants.{Disk, Broken, Full, Redo}
+use Rattle.pm_query.specs.Calls.{due_bytes}
+use Rattle.pm_redo.specs.Found.{IsReason}
+use Rattle.pm_segment.specs.Moment.{Moment}
 use Rattle.pm_segment.specs.declared.live.Live.{Live}
-use Rattle.pm_segment.specs.declared.redo.Checkpointed.{Checkpointed}
-use Rattle.pm_segment.specs.declared.redo.Checkpointed.TheVariants.{Done, Skipped}
-use Rattle.pm_segment.specs.Passes.{first_generation}
 
 -- the log goes on behind a redo
 abbrev pub IsRead : Option Live → Type 0
 IsRead live = (its : Live) × (live ≡ Some its)
 
-abbrev pub RedoNotes : ℕ → Result ℕ StoreNo → List BookEntry → Type 0
-RedoNotes pid (Ok kept) entries = entries ≡ Redone pid first_generation kept ∷ []
-RedoNotes pid (Err (Redo fault.Disk)) entries = NotesFault pid entries
-RedoNotes pid (Err (Redo _)) entries = entries ≡ []
-RedoNotes pid (Err _) entries = ⊥
+-- the log goes on, and is due for a checkpoint
+pub record IsDue (live : Option Live) (clean : Bool) : Type 0 where
+  pub its : Live
+  pub read : live ≡ Some its
+  pub unbroken : its.log.since ≡ None
+  pub due : (clean ≡ true) ⊎ (due_bytes ≤ its.log.end - its.log.base_end)
 
-abbrev pub CheckpointNotes : ℕ → Result Checkpointed StoreNo → List BookEntry → Type 0
-CheckpointNotes pid (Ok (Done epoch)) entries = entries ≡ CheckpointEnded pid true true ∷ []
-CheckpointNotes pid (Ok Skipped) entries = entries ≡ CheckpointEnded pid false true ∷ []
-CheckpointNotes pid (Err Disk) entries = NotesFault pid entries
-CheckpointNotes pid (Err (Broken since)) entries = RepeatsFault pid since entries
-CheckpointNotes pid (Err (Full need room)) entries = entries ≡ []
-CheckpointNotes pid (Err NoMemory) entries = entries ≡ []
-CheckpointNotes pid (Err _) entries = ⊥
+-- it goes on, and isn't, with so many bytes behind its base
+pub record IsNotDue (live : Option Live) (clean : Bool) (behind : ℕ) : Type 0 where
+  pub its : Live
+  pub read : live ≡ Some its
+  pub unbroken : its.log.since ≡ None
+  pub unclean : clean ≡ false
+  pub behind_is : behind ≡ its.log.end - its.log.base_end
+  pub few : behind < due_bytes
 
--- The files stand for these rows after all commits, in this epoch: a clean base with nothing behind it.
-pub record StandsCleanly (epoch : ℕ) (log : Log) (rows : RowMap) (files : Files) : Type 0 where
+-- it was broken at this tick
+pub record IsBroken (live : Option Live) (since : ℕ) : Type 0 where
+  pub its : Live
+  pub read : live ≡ Some its
+  pub broken : its.log.since ≡ Some since
+
+-- Where a checkpoint comes to what it answers. The causes of any two answers exclude each other, but for want of memory
+-- and faults of the disk.
+abbrev pub CheckpointCause : Option Live → Bool → Result Checkpointed StoreNo → Type 0
+CheckpointCause live clean (Ok (Done epoch)) = IsDue live clean
+CheckpointCause live clean (Ok Skipped) = live ≡ None
+CheckpointCause live clean (Ok (NotDue behind)) = IsNotDue live clean behind
+CheckpointCause live clean (Err (Broken since)) = IsBroken live since
+CheckpointCause live clean (Err (Full need room)) = IsDue live clean
+CheckpointCause live clean (Err Disk) = IsDue live clean
+CheckpointCause live clean (Err _) = Unit {0}
+
+-- only one that was made, or tried, has made calls of the disk
+abbrev pub MakesCalls : Result Checkpointed StoreNo → Type 0
+MakesCalls (Ok (Done epoch)) = Unit {0}
+MakesCalls (Err Disk) = Unit {0}
+MakesCalls _ = ⊥
+
+-- why a redo refuses the files
+abbrev pub HasReason : Option Files → Result ℕ StoreNo → Type 0
+HasReason seen result = (fault : RedoFault) → result ≡ Err (Redo fault) → IfSome seen (IsReason fault)
+
+-- one that is refused by no fault of the disk leaves them as they read
+abbrev pub LeavesFiles : (before now : Option Files) → Result ℕ StoreNo → Type 0
+LeavesFiles before now result = (fault : RedoFault) → result ≡ Err (Redo fault) → fault ≢ reasons.Disk → now ≡ before
+
+-- a redo that is refused so says nothing of the files: the disk has failed, or memory was short
+abbrev pub SaysNothing : RedoFault → Type 0
+SaysNothing reasons.Disk = Unit {0}
+SaysNothing reasons.NoMemory = Unit {0}
+SaysNothing _ = ⊥
+
+-- what a flush answers: nothing is staged, so all that the log has is flushed
+abbrev pub FlushCause : Option Live → Result ℕ StoreNo → Type 0
+FlushCause live (Ok flushed) = (its : Live) × (live ≡ Some its) × (its.log.since ≡ None) × (flushed ≡ its.log.count)
+FlushCause live (Err (Broken since)) = IsBroken live since
+FlushCause live (Err _) = Unit {0}
+
+-- The files stand for these rows after all commits, in this epoch: a base with nothing behind it, clean or not.
+pub record StandsAfresh (epoch : ℕ) (clean : Bool) (log : Log) (rows : RowMap) (files : Files) : Type 0 where
   pub content : Content
   pub stands : StandsFor (file_of files log.file) content log.end
   pub beside : IsShut (file_of files (other log.file))
   pub epoch_is : content.epoch ≡ epoch
-  pub clean : content.clean ≡ true
+  pub clean_is : content.clean ≡ clean
   pub no_batch : content.batches ≡ []
   pub is : standing_of content ≡ record { rows = rows; count = log.count }
 
+-- so the log goes on behind a checkpoint
+abbrev pub IsAfreshAt : (epoch : ℕ) → (clean : Bool) → Option Live → RowMap → Option Files → Type 0
+IsAfreshAt epoch clean live rows seen =
+    (its : Live) × (live ≡ Some its) × (its.log.since ≡ None) × (its.log.epoch ≡ epoch) × IfSome seen (λ files. ∥ StandsAfresh epoch clean its.log rows files ∥₁)
+
 abbrev pub IsCleanAt : ℕ → Option Live → RowMap → Option Files → Type 0
-IsCleanAt epoch live rows seen = (its : Live) × (live ≡ Some its) × (its.log.since ≡ None) × IfSome seen (λ files. ∥ StandsCleanly epoch its.log rows files ∥₁)
+IsCleanAt epoch live rows seen = IsAfreshAt epoch true live rows seen
+
+-- so it does behind one that was made
+abbrev pub MadeAfresh : Bool → Moment → Result Checkpointed StoreNo → Type 0
+MadeAfresh clean at result = (epoch : ℕ) → result ≡ Ok (Done epoch) → IsAfreshAt epoch clean at.live at.rows at.files
 
 -- The log stands in its last epoch, behind which there is none.
 pub record IsAtLastEpoch (files : Files) : Type 0 where
@@ -56,3 +109,7 @@ pub record IsAtLastEpoch (files : Files) : Type 0 where
   pub end : ℕ
   pub pair : PairStandsFor files file content end
   pub last : content.epoch ≡ 2 ^ 64 - 1
+
+-- without room for a checkpoint it does
+abbrev pub FullAtLast : Option Files → Result Checkpointed StoreNo → Type 0
+FullAtLast seen result = (need room : ℕ) → result ≡ Err (Full need room) → IfSome seen (λ files. ∥ IsAtLastEpoch files ∥₁)

@@ -1,28 +1,39 @@
 -- What a store keeps of its run.
-use Rattle.std.specs.Prelude.{◌≡◌, List, None, Some, IfSome}
+use Rattle.std.specs.Prelude.{◌≡◌, ℕ, true, List, [], None, Some, IfSome}
 use Rattle.pm_disk.specs.Files.{Files}
 use Rattle.pm_record.specs.Pair.{Means}
+use Rattle.pm_record.specs.declared.fault.RedoFault.{RedoFault}
+use Rattle.pm_redo.specs.Found.{IsReason}
 use Rattle.pm_query.specs.declared.book.BookEntry.{BookEntry}
 use Rattle.pm_query.specs.History.{count_of, rows_of}
-use Rattle.pm_query.specs.Book.{Base, IsLegal, history_of}
+use Rattle.pm_query.specs.Book.{Base, IsLegal, faults_here, history_of, is_closed}
 use Rattle.pm_query.specs.Durable.{HoldsAcknowledged, IsDurable}
 use Rattle.pm_segment.specs.declared.live.Live.{Live}
 use Rattle.pm_segment.specs.Moment.{Moment}
+use Rattle.pm_segment.specs.Redos.{IsCleanAt, SaysNothing}
 use Rattle.pm_segment.specs.Stands.{Origin}
 
--- The book is legal from its base, and the disk's stops are those of a durable run since the store got it.
-pub record IsRun (origin : Origin) (base : Base) (at : Moment) (book : List BookEntry) : Type 0 where
-  pub legal : IsLegal base book
-  pub durable : IsDurable Means base book origin.tick at.ticks at.images at.images
-
--- The rows are those of all commits of the book, and the log has their number while the disk hasn't failed.
+-- The book is legal from its base. Behind a redo of this generation the rows are those of all its commits, and the log has
+-- their number while the disk hasn't failed.
 pub record IsReplay (base : Base) (at : Moment) (book : List BookEntry) : Type 0 where
-  pub live : Live
-  pub read : at.live ≡ Some live
-  pub rows_are : at.rows ≡ rows_of (history_of base book)
-  pub count_is : live.log.since ≡ None → live.log.count ≡ count_of (history_of base book)
+  pub legal : IsLegal base book
+  pub rows_are : (live : Live) → at.live ≡ Some live → at.rows ≡ rows_of (history_of base book)
+  pub count_is : (live : Live) → at.live ≡ Some live → live.log.since ≡ None → live.log.count ≡ count_of (history_of base book)
+
+-- the disk's stops are those of a durable run since the store got it
+abbrev pub IsRun : Origin → Base → Moment → List BookEntry → Type 0
+IsRun origin base at book = IsDurable Means base book origin.tick at.ticks at.images at.images
 
 -- Whatever a stop leaves now holds every acknowledged commit, and so do the files as they read.
 pub record LeavesAcknowledged (base : Base) (at : Moment) (book : List BookEntry) : Type 0 where
   pub stops : (image : Files) → at.images at.ticks image → HoldsAcknowledged Means (history_of base book) image
   pub reads : IfSome at.files (HoldsAcknowledged Means (history_of base book))
+
+-- a redo of the files as they read is refused by a fault of the disk, or for want of memory, alone
+abbrev pub CanBeRead : Moment → Type 0
+CanBeRead at = IfSome at.files (λ files. (reason : RedoFault) → IsReason reason files → SaysNothing reason)
+
+-- Where the book says that the log was left clean, and no fault of the disk is behind the generation's redo, the log still
+-- stands afresh in the files, clean, for all its rows.
+abbrev pub StaysClean : Moment → List BookEntry → Type 0
+StaysClean at book = is_closed book ≡ true → faults_here book ≡ Some [] → (epoch : ℕ) × IsCleanAt epoch at.live at.rows at.files

@@ -3,13 +3,17 @@ use Rattle.std.specs.Prelude.{◌≡◌, ◌⊎◌, ℕ, ◌+◌, ◌≤◌, fal
 use Rattle.std.specs.List.{Contains}
 use Rattle.pm_disk.specs.Cause.{Rose}
 use Rattle.pm_disk.specs.Files.{Files}
+use Rattle.pm_rows.specs.Fold.{RowMap}
 use Rattle.pm_rows.specs.Limits.{max_file_bytes}
+use Rattle.pm_rows.specs.Size.{size_of}
+use Rattle.pm_rows.specs.Standing.{Standing}
 use Rattle.pm_record.specs.Pair.{Means, MeansIn}
 use Rattle.pm_query.specs.declared.book.BookEntry.{BookEntry}
 use Rattle.pm_query.specs.History.{beginning, count_of, rows_of}
 use Rattle.pm_query.specs.Book.{Base, IsLegal, faults_here, faults_of, generation_of, has_checkpoint, history_of, is_closed, kept_by_redo, last_tick, needs_of, standing_of}
-use Rattle.pm_query.specs.Durable.{IsWithin, Keeps, MeansAsOne}
+use Rattle.pm_query.specs.Durable.{HoldsFrom, IsWithin, Keeps, MeansAsOne}
 use Rattle.pm_segment.specs.declared.live.Live.{Live}
+use Rattle.pm_segment.specs.Children.{IsAttendedBy}
 use Rattle.pm_segment.specs.Moment.{Moment, Told}
 
 -- The disk as the store got it: the files as they read, and its counts of calls and of faults.
@@ -37,13 +41,14 @@ pub record CountsFaults (first now : ℕ) (book : List BookEntry) : Type 0 where
 abbrev pub HasNoTick : BookEntry → Type 0
 HasNoTick entry = (start mark : ℕ) → IsWithin start mark entry
 
--- Nothing is in the history yet, from whatever base; the disk means what it meant at first, and its files read as they
--- did unless it has failed.
+-- Nothing is in the history yet, from whatever base, and the files read as they did unless the disk has failed.
 pub record HasWaited (origin : Origin) (at : Moment) (book : List BookEntry) : Type 0 where
   pub unread : at.live ≡ None
   pub legal : (base : Base) → base.faults ≡ origin.faults → IsLegal base book
   pub fresh : (base : Base) → history_of base book ≡ beginning (standing_of base)
-  pub generation : generation_of book ≡ 1
+  pub begun : 1 ≤ at.generation
+  pub generation : generation_of book ≡ at.generation
+  pub attended : IsAttendedBy at.inside book
   pub unredone : kept_by_redo book ≡ None
   pub none_here : faults_here book ≡ None
   pub skipped : has_checkpoint book ≡ at.skipped
@@ -53,7 +58,6 @@ pub record HasWaited (origin : Origin) (at : Moment) (book : List BookEntry) : T
   pub no_needs : needs_of book ≡ 0
   pub counted : CountsFaults origin.faults at.faults book
   pub reached : origin.tick ≤ at.ticks
-  pub opening : IsOpening origin at.ticks at.images
   pub reads : Rose origin.faults at.faults ⊎ (at.files ≡ origin.files)
 
 -- ---- behind it
@@ -63,12 +67,22 @@ abbrev pub TellsBreak : Option ℕ → ℕ → Option (List (ℕ × ℕ)) → Ty
 TellsBreak None count here = here ≡ Some []
 TellsBreak (Some since) count here = (first : ℕ × ℕ) × (rest : List (ℕ × ℕ)) × (here ≡ Some (first ∷ rest)) × Contains (first ∷ rest) (since, count)
 
--- The book is legal from its base, rows and log are its replay, and at every tick whatever a stop leaves is as a durable
--- run has it.
-pub record HasGone (origin : Origin) (base : Base) (at : Moment) (live : Live) (book : List BookEntry) : Type 0 where
+-- how long a file of these rows alone is, up to and with its closed gate
+abbrev pub bytes_of_rows : RowMap → ℕ
+bytes_of_rows rows = 31 + size_of rows
+
+-- how long the log may have become: as it was found, with all commits that were answered since, and 1,024 bytes for a
+-- checkpoint
+abbrev pub most_bytes : Base → List BookEntry → ℕ
+most_bytes base book = base.bytes + 1024 + needs_of book
+
+-- The book is legal from its base, and rows and log are its replay.
+pub record HasGone (base : Base) (at : Moment) (live : Live) (book : List BookEntry) : Type 0 where
   pub read : at.live ≡ Some live
   pub legal : IsLegal base book
-  pub generation : generation_of book ≡ 1
+  pub begun : 1 ≤ at.generation
+  pub generation : generation_of book ≡ at.generation
+  pub attended : IsAttendedBy at.inside book
   pub redone : kept_by_redo book ≡ Some live.kept
   pub closed : is_closed book ≡ live.closed
   pub broken : TellsBreak live.log.since live.faults (faults_here book)
@@ -76,26 +90,65 @@ pub record HasGone (origin : Origin) (base : Base) (at : Moment) (live : Live) (
   pub rows_are : at.rows ≡ rows_of (history_of base book)
   pub count_is : live.log.since ≡ None → live.log.count ≡ count_of (history_of base book)
   pub base_is : (history_of base book).base ≡ standing_of base
-  pub fits : live.log.since ≡ None → live.closed ≡ false → live.log.end + 1 ≤ base.bytes + 1024 + needs_of book
+  pub base_fits : bytes_of_rows base.rows ≤ base.bytes
+  pub fits : live.log.since ≡ None → live.log.end + 1 ≤ most_bytes base book
   pub limit : live.log.limit ≡ max_file_bytes
   pub in_time : last_tick book ≤ at.ticks
   pub counted : CountsFaults base.faults at.faults book
+
+-- It has come into a later generation behind its first redo, and its log isn't read there yet. The book is legal from its
+-- base.
+pub record HasRenewed (base : Base) (at : Moment) (book : List BookEntry) : Type 0 where
+  pub unread : at.live ≡ None
+  pub legal : IsLegal base book
+  pub later : 2 ≤ at.generation
+  pub generation : generation_of book ≡ at.generation
+  pub attended : IsAttendedBy at.inside book
+  pub unredone : kept_by_redo book ≡ None
+  pub none_here : faults_here book ≡ None
+  pub skipped : has_checkpoint book ≡ at.skipped
+  pub unclosed : is_closed book ≡ false
+  pub base_is : (history_of base book).base ≡ standing_of base
+  pub base_fits : bytes_of_rows base.rows ≤ base.bytes
+  pub in_time : last_tick book ≤ at.ticks
+  pub counted : CountsFaults base.faults at.faults book
+
+-- behind its first redo, in this generation or an earlier one
+abbrev pub HasBegun : Base → Moment → List BookEntry → Type 0
+HasBegun base at book = ((live : Live) × HasGone base at live book) ⊎ HasRenewed base at book
+
+-- It is the first generation, or the disk tells its files: no later redo is known to keep what is acknowledged where the
+-- disk tells nothing.
+abbrev pub IsSure : Moment → Type 0
+IsSure at = (at.generation ≡ 1) ⊎ ((files : Files) × (at.files ≡ Some files))
+
+-- the files mean it, in at most so many bytes
+abbrev pub MeansWithin : ℕ → Files → Standing → Type 0
+MeansWithin most files standing = (bytes : ℕ) × (bytes ≤ most) × MeansIn files standing bytes
+
+-- At every tick whatever a stop leaves is as a durable run has it, and now it is no longer than the log may have become.
+-- What is flushed are the commits that the log has made durable.
+pub record HasHeld (origin : Origin) (base : Base) (at : Moment) (book : List BookEntry) : Type 0 where
   pub start : ℕ
   pub begun : origin.tick ≤ start
   pub opening : IsOpening origin start at.images
-  pub keeps : Keeps Means base book start at.ticks at.ticks live.log.count at.images
+  pub flushed : ℕ
+  pub flushed_is : (live : Live) → at.live ≡ Some live → flushed ≡ live.log.count
+  pub keeps : Keeps Means base book start at.ticks at.ticks flushed at.images
+  pub lengths : (image : Files) → at.images at.ticks image → HoldsFrom (MeansWithin (most_bytes base book)) flushed (history_of base book) image
 
--- ---- from one to the other, where book and disk tell
+-- ---- from one to the other: of the book wherever it tells, in the first generation or where the disk tells as well, and
+-- of the disk's stops where both tell
 
 -- before the first redo
 abbrev pub WaitsFrom : Origin → Moment → Type 0
-WaitsFrom origin at = Told at (HasWaited origin at)
+WaitsFrom origin at = IfSome at.book (HasWaited origin at) × Told at (λ book. IsOpening origin at.ticks at.images)
 
 -- behind it, with what it found for its base
 abbrev pub GoesFrom : Origin → Base → Moment → Type 0
-GoesFrom origin base at = Told at (λ book. (live : Live) × HasGone origin base at live book)
+GoesFrom origin base at = IfSome at.book (λ book. IsSure at → HasBegun base at book) × Told at (HasHeld origin base at)
 
--- the files that the store got mean the base, unless the disk has failed since
+-- the files that the store got mean the base, where they are told, unless the disk has failed since
 abbrev pub IsBaseOf : Origin → Base → ℕ → Type 0
 IsBaseOf origin base faults = Rose origin.faults faults ⊎ IfSome origin.files (λ files. MeansIn files (standing_of base) base.bytes)
 

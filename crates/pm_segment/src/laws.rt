@@ -1,29 +1,52 @@
 //! What a store keeps of its run, for the layers above. The functions make no call of the disk.
 
-use crate::sole::{Sole, history_laws};
+use crate::segment::{Segment, history_laws};
 use pm_disk::Disk;
 use pm_outside::Chronicle;
 use pm_query::BookEntry;
 
-impl<D: Disk, B: Chronicle<BookEntry>> Sole<D, B> {
+impl<D: Disk, B: Chronicle<BookEntry>> Segment<D, B> {
+    ghost use Rattle.std.specs.Prelude.{IfSome};
     ghost use Rattle.pm_query.specs.Book.{Base};
-    ghost use Rattle.pm_segment.specs.Moment.{Told, moment_of};
-    ghost use Rattle.pm_segment.specs.Runs.{IsReplay, IsRun, LeavesAcknowledged};
-    ghost use Rattle.pm_segment.specs.Stands.{GoesFrom, Origin};
+    ghost use Rattle.pm_segment.specs.Moment.{Told, moment};
+    ghost use Rattle.pm_segment.specs.Runs.{CanBeRead, IsReplay, IsRun, LeavesAcknowledged, StaysClean};
+    ghost use Rattle.pm_segment.specs.Stands.{GoesFrom, IsSure, Origin};
 
-    /// The law of a store behind its first redo, where book and disk tell. The book is legal from its base, and at every
-    /// tick since the store got the disk a stop leaves what a durable run leaves. Rows and log are the book's replay, the
-    /// latter up to a fault of the disk. The files as they read, and whatever a stop leaves now, hold every acknowledged
-    /// commit, also behind such a fault.
+    /// The law of a store behind its first redo, in whichever generation. Where book and disk tell, and in the first
+    /// generation wherever the book tells, the book is legal from its base; behind a redo of the generation rows and log
+    /// are its replay, the latter up to a fault of the disk. Where both tell, at every tick since the store got the disk a
+    /// stop leaves what a durable run leaves; the files as they read, and whatever a stop leaves now, hold every
+    /// acknowledged commit, also behind such a fault.
     pub fn keeps_its_run(&self)
-        ensures run { (origin : Origin) (base : Base) → GoesFrom origin base (moment_of (B.entries self.now.book) self.now)
-            → Told (moment_of (B.entries self.now.book) self.now) (IsRun origin base (moment_of (B.entries self.now.book) self.now)) }
-        ensures replay { (origin : Origin) (base : Base) → GoesFrom origin base (moment_of (B.entries self.now.book) self.now)
-            → Told (moment_of (B.entries self.now.book) self.now) (IsReplay base (moment_of (B.entries self.now.book) self.now)) }
-        ensures leaves { (origin : Origin) (base : Base) → GoesFrom origin base (moment_of (B.entries self.now.book) self.now)
-            → Told (moment_of (B.entries self.now.book) self.now) (LeavesAcknowledged base (moment_of (B.entries self.now.book) self.now)) }
+        ensures replay { (origin : Origin) (base : Base) → GoesFrom origin base (moment self.now)
+            → IfSome (moment self.now).book (λ book. IsSure (moment self.now)
+            → IsReplay base (moment self.now) book) }
+        ensures run { (origin : Origin) (base : Base) → GoesFrom origin base (moment self.now)
+            → Told (moment self.now) (IsRun origin base (moment self.now)) }
+        ensures leaves { (origin : Origin) (base : Base) → GoesFrom origin base (moment self.now)
+            → Told (moment self.now) (LeavesAcknowledged base (moment self.now)) }
     {
         history_laws();
+        let _disk = &self.disk;
+    }
+
+    /// The law of a clean log, in whichever generation. Where the book tells that a checkpoint of the generation has left the
+    /// log clean, it stays so while the disk doesn't fail: the files stand for all rows, clean, with no commit behind them.
+    pub fn stays_clean(&self)
+        ensures { (origin : Origin) (base : Base) → GoesFrom origin base (moment self.now)
+            → IfSome (moment self.now).book (λ book. IsSure (moment self.now)
+            → StaysClean (moment self.now) book) }
+    {
+        let _disk = &self.disk;
+    }
+
+    /// The law of the files of a store behind its first redo, in whichever generation. Where book and disk tell, a redo of
+    /// the files as they read finds neither want of a cluster, nor damage, nor one epoch twice: it is refused by a fault of
+    /// the disk, or for want of memory, alone.
+    pub fn reads_its_files(&self)
+        ensures { (origin : Origin) (base : Base) → GoesFrom origin base (moment self.now)
+            → Told (moment self.now) (λ book. CanBeRead (moment self.now)) }
+    {
         let _disk = &self.disk;
     }
 }

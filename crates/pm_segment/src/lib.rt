@@ -1,19 +1,21 @@
 //! The store of a server: the rows, the commit log on its disk and the book of what happened.
 //!
-//! [`Sole`] is a store that one thread uses alone. It notes each of its events in the book, and makes each commit durable
-//! before its answer is given. From the end of the first redo on, at every tick of the disk a stop leaves a number of the
-//! book's history that holds every acknowledged commit.
+//! A [`Segment`] notes each of its events in the book, and makes each commit durable before its answer is given. From the
+//! end of the first redo on, at every tick of the disk a stop leaves a number of the book's history that holds every
+//! acknowledged commit. [`Sole`] is one that a thread has for itself.
 #![tactic(auto)]
 
+mod children;
 mod commit;
 mod laws;
 mod live;
 mod pass;
 mod ran;
 mod redo;
-mod sole;
+mod renew;
+mod segment;
 
+pub use children::Children;
 pub use live::Live;
 pub use pass::Pass;
-pub use redo::Checkpointed;
-pub use sole::Sole;
+pub use segment::{Segment, Sole};

@@ -1,158 +1,118 @@
-//! Redo and the shutdown checkpoint.
+//! Reading the log, and writing its checkpoints.
 
+use crate::commit::note_fault;
 use crate::live::Live;
 use crate::pass::Pass;
-use crate::sole::{FIRST_GENERATION, Sole, history_laws};
+use crate::segment::{Segment, history_laws};
 use pm_disk::Disk;
 use pm_log::{Log, LogFault};
 use pm_outside::Chronicle;
-use pm_query::{BookEntry, StoreNo};
-use pm_record::RedoFault;
+use pm_query::{BookEntry, Checkpointed, StoreNo, rows_are_within_needs};
+use pm_record::{RedoFault, lengths_are_the_numbers};
 use pm_redo::recover;
 use pm_rows::{MAX_FILE_BYTES, limits_are_the_numbers};
 
-/// What a checkpoint came to.
-#[derive(Clone, Copy, Debug, PartialEq, Eq)]
-pub enum Checkpointed {
-    /// The log goes on in the other file, in this epoch.
-    Done { epoch: u64 },
-    /// Redo hasn't ended, and nothing was written.
-    Skipped,
-}
-
-impl<D: Disk, B: Chronicle<BookEntry>> Sole<D, B> {
-    ghost use Rattle.std.specs.Prelude.{◌≡◌, ◌≢◌, ◌⊎◌, ℕ, List, Some, None, IfSome, OnOk};
+impl<D: Disk, B: Chronicle<BookEntry>> Segment<D, B> {
+    ghost use Rattle.std.specs.Prelude.{◌≡◌, ◌⊎◌, ◌+◌, ◌-◌, ◌≤◌, length, List, Some, None, OnOk, true, false};
     ghost use Rattle.pm_query.specs.declared.book.BookEntry.{BookEntry};
     ghost use Rattle.pm_query.specs.declared.store.StoreNo.{StoreNo};
-    ghost use Rattle.pm_record.specs.declared.fault.RedoFault.{RedoFault};
-    ghost use Rattle.pm_redo.specs.Found.{IsReason};
-    ghost use Rattle.pm_segment.specs.Moment.{moment_of};
+    ghost use Rattle.pm_query.specs.Calls.{CheckpointNotes, RedoNotes, due_bytes};
+    ghost use Rattle.pm_segment.specs.Moment.{HasDiskOf, moment};
     ghost use Rattle.pm_segment.specs.Moves.{Moves};
-    ghost use Rattle.pm_segment.specs.Passes.{Admits};
-    ghost use Rattle.pm_segment.specs.Redos.{CheckpointNotes, IsAtLastEpoch, IsCleanAt, IsRead, RedoNotes};
+    ghost use Rattle.pm_segment.specs.Passes.{Admits, user_in};
+    ghost use Rattle.pm_segment.specs.Redos.{CheckpointCause, FullAtLast, HasReason, IsRead, LeavesFiles, MadeAfresh, MakesCalls};
 
-    /// Reads the log, and answers how many commits stand. Once it was read, it answers that number again without a call
-    /// of the disk. Behind a checkpoint that was left out it is refused for want of memory.
-    pub fn redo(&mut self, pass: &mut Pass) -> Result<u64, StoreNo>
-        requires { Admits pass.old self.old.live (B.entries self.old.book) (B.spare self.old.book) }
-        ensures notes { (entries : List BookEntry) × Moves entries (moment_of (B.entries self.old.book) self.old) (moment_of (B.entries self.new.book) self.new)
-            × RedoNotes pass.old.pid result entries }
-        ensures admits { Admits pass.new self.new.live (B.entries self.new.book) (B.spare self.new.book) }
-        ensures pass { pass.new ≡ pass.old }
-        ensures read { OnOk result (IsRead self.new.live) }
-        ensures reason { (fault : RedoFault) → result ≡ Err (StoreNo.Redo fault) → IfSome (D.seen self.old.disk) (IsReason fault) }
-        ensures kept { (fault : RedoFault) → result ≡ Err (StoreNo.Redo fault) → fault ≢ RedoFault.Disk → D.seen self.new.disk ≡ D.seen self.old.disk }
+    // Reads the log for the first time in this generation.
+    pub(crate) fn read_log(&mut self, pass: &Pass) -> Result<u64, StoreNo>
+        requires admits { Admits pass.now (moment self.old) }
+        requires room { length self.old.inside + 1 ≤ B.spare self.old.book }
+        requires unread { self.old.live ≡ None }
+        requires unskipped { self.old.skipped ≡ false }
+        ensures notes { (entries : List BookEntry)
+            × Moves entries (moment self.old) (moment self.new)
+            × RedoNotes (user_in (moment self.old) pass.now) result entries }
+        ensures admits { Admits pass.now (moment self.new) }
+        ensures read { OnOk result (IsRead (moment self.new).live) }
+        ensures reason { HasReason (moment self.old).files result }
+        ensures kept { LeavesFiles (moment self.old).files (moment self.new).files result }
     {
         history_laws();
         limits_are_the_numbers();
-        if self.book.reserve(2).is_err() {
-            return Err(StoreNo::Redo(RedoFault::NoMemory));
-        }
-        if let Some(live) = self.live {
-            self.book.note(BookEntry::Redone {
-                pid: pass.pid,
-                generation: FIRST_GENERATION,
-                kept: live.kept,
-            });
-            return Ok(live.kept);
-        }
-        if self.skipped {
-            return Err(StoreNo::Redo(RedoFault::NoMemory));
-        }
+        lengths_are_the_numbers();
+        rows_are_within_needs();
         match recover(self.alloc, &mut self.disk) {
             Ok(found) => {
-                let live = Live {
+                let kept = found.count;
+                self.live = Some(Live {
                     log: Log::resume(&found, MAX_FILE_BYTES),
-                    kept: found.count,
+                    kept,
                     faults: 0,
                     closed: false,
-                };
+                });
                 self.rows = found.rows;
-                self.live = Some(live);
                 self.book.note(BookEntry::Redone {
                     pid: pass.pid,
-                    generation: FIRST_GENERATION,
-                    kept: live.kept,
+                    generation: self.generation,
+                    kept,
                 });
-                Ok(live.kept)
+                Ok(kept)
             }
             Err(fault) => {
                 if fault == RedoFault::Disk {
-                    self.book.note(BookEntry::Broke {
-                        pid: pass.pid,
-                        since: self.disk.ticks(),
-                        faults: self.disk.faults(),
-                    });
-                    return Err(StoreNo::Redo(RedoFault::Disk));
+                    note_fault(&mut self.book, pass.pid, &self.disk);
                 }
                 Err(StoreNo::Redo(fault))
             }
         }
     }
 
-    /// Writes all rows as the base of the log's other file, marked as clean. Behind it no changes are committed. Where
-    /// redo hasn't ended it is left out, and nothing is written.
-    pub fn checkpoint(&mut self, pass: &mut Pass) -> Result<Checkpointed, StoreNo>
-        requires { Admits pass.old self.old.live (B.entries self.old.book) (B.spare self.old.book) }
-        ensures notes { (entries : List BookEntry) × Moves entries (moment_of (B.entries self.old.book) self.old) (moment_of (B.entries self.new.book) self.new)
-            × CheckpointNotes pass.old.pid result entries }
-        ensures admits { Admits pass.new self.new.live (B.entries self.new.book) (B.spare self.new.book) }
-        ensures pass { pass.new ≡ pass.old }
-        ensures skipped { result ≡ Ok Checkpointed.Skipped → self.old.live ≡ None }
-        ensures unread { self.old.live ≡ None → (result ≡ Ok Checkpointed.Skipped) ⊎ (result ≡ Err StoreNo.NoMemory) }
-        ensures full { (need room : ℕ) → result ≡ Err (StoreNo.Full need room) → IfSome (D.seen self.new.disk) (λ files. ∥ IsAtLastEpoch files ∥₁) }
-        ensures clean { (epoch : ℕ) → result ≡ Ok (Checkpointed.Done epoch) → IsCleanAt epoch self.new.live self.new.rows (D.seen self.new.disk) }
+    // Writes all rows as the base of the log's other file, and goes on there.
+    pub(crate) fn move_log(
+        &mut self,
+        pass: &Pass,
+        live: Live,
+        clean: bool,
+    ) -> Result<Checkpointed, StoreNo>
+        requires admits { Admits pass.now (moment self.old) }
+        requires room { length self.old.inside + 1 ≤ B.spare self.old.book }
+        requires read { self.old.live ≡ Some live }
+        requires unbroken { live.log.since ≡ None }
+        requires due { (clean ≡ true) ⊎ (due_bytes ≤ live.log.end - live.log.base_end) }
+        ensures notes { (entries : List BookEntry)
+            × Moves entries (moment self.old) (moment self.new)
+            × CheckpointNotes (user_in (moment self.old) pass.now) clean result entries }
+        ensures admits { Admits pass.now (moment self.new) }
+        ensures cause { CheckpointCause (moment self.old).live clean result }
+        ensures still { ¬ (MakesCalls result) → HasDiskOf self.old self.new }
+        ensures full { FullAtLast (moment self.new).files result }
+        ensures afresh { MadeAfresh clean (moment self.new) result }
     {
         history_laws();
-        self.book.reserve(2)?;
-        let Some(live) = self.live else {
-            self.skipped = true;
-            self.book.note(BookEntry::CheckpointEnded {
-                pid: pass.pid,
-                done: false,
-                clean: true,
-            });
-            return Ok(Checkpointed::Skipped);
-        };
-        if let Some(since) = live.log.since {
-            self.book.note(BookEntry::Broke {
-                pid: pass.pid,
-                since,
-                faults: live.faults,
-            });
-            return Err(StoreNo::Broken { since });
-        }
+        rows_are_within_needs();
         self.rows.are_typed();
         let mut moved = live;
         match moved
             .log
-            .checkpoint(self.alloc, &mut self.disk, &self.rows, true)
+            .checkpoint(self.alloc, &mut self.disk, &self.rows, clean)
         {
             Ok(epoch) => {
-                moved.closed = true;
+                moved.closed |= clean;
                 self.live = Some(moved);
                 self.book.note(BookEntry::CheckpointEnded {
                     pid: pass.pid,
                     done: true,
-                    clean: true,
+                    clean,
                 });
                 Ok(Checkpointed::Done { epoch })
             }
             Err(LogFault::Disk) => {
-                let since = self.disk.ticks();
-                let faults = self.disk.faults();
-                moved.faults = faults;
+                moved.faults = self.disk.faults();
                 self.live = Some(moved);
-                self.book.note(BookEntry::Broke {
-                    pid: pass.pid,
-                    since,
-                    faults,
-                });
+                note_fault(&mut self.book, pass.pid, &self.disk);
                 Err(StoreNo::Disk)
             }
             Err(LogFault::Full { need, room }) => Err(StoreNo::Full { need, room }),
-            Err(LogFault::Broken { since: _ }) => Err(StoreNo::NoMemory),
-            Err(LogFault::NoMemory) => Err(StoreNo::NoMemory),
+            Err(LogFault::Broken { since: _ } | LogFault::NoMemory) => Err(StoreNo::NoMemory),
         }
     }
 }

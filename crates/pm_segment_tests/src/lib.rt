@@ -8,4 +8,6 @@ mod commits;
 #[cfg(test)]
 mod faults;
 #[cfg(test)]
+mod generations;
+#[cfg(test)]
 mod world;

@@ -1,0 +1,240 @@
+use Rattle.std.proofs.Common.{rules, ◌≡◌, ◌∙◌, inr, ◌+◌, List, [], ◌∷◌, Option, Some, refl, sym, ap, subst, arith, length}
+use Rattle.std.specs.Prelude.{IfSome}
+use Rattle.pm_rows.specs.declared.commit.Change.{Change}
+use Rattle.pm_rows.specs.Fold.{RowMap, committed}
+use Rattle.pm_rows.specs.Limits.{IsWithinRowLimits}
+use Rattle.pm_rows.specs.LogSize as log
+use Rattle.pm_record.specs.StandsFor.{IsBatch}
+use Rattle.pm_disk.specs.Disk.{TellsStill}
+use Rattle.pm_query.specs.Limits.{HasShortRows}
+use Rattle.pm_query.specs.declared.book.BookEntry.{BookEntry}
+use Rattle.pm_query.specs.declared.book.BookEntry.TheVariants.{Answered, Broke, LogFull}
+use Rattle.pm_log.specs.declared.log.Log.{Log}
+use Rattle.pm_log.specs.declared.log.LogFault.{LogFault}
+use Rattle.pm_segment.specs.MovesLaws.{notes_both}
+use Rattle.pm_segment.specs.declared.live.Live.{Live}
+use Rattle.pm_segment.specs.Moment.{Moment, moment_of}
+use Rattle.pm_segment.specs.Moves.{NotesEntries}
+use Rattle.pm_segment.specs.Rests.{Rests}
+use Rattle.pm_segment.proofs.Passing.{attends, flushed_still, inside_answered, inside_still}
+use Rattle.pm_segment.proofs.Resting.{LivesWith, StopsOneOf, batch_is, durable_of, gate_of, may_append, need_is, rests_broken, full_or_disk, rests_with, tells_nothing, through_of}
+use Rattle.pm_segment.proofs.Steps.{Appends, commits, finds_full, loses, stays_put}
+use Rattle.pm_segment.proofs.segment.Segment.append.Goals as goal
+
+pub returns-in_err-prepared-clause-notes : goal.returns-in_err-prepared-clause-notes
+returns-in_err-prepared-clause-notes g c =
+    ([], rw c.in_err-prepared.ensures.err (stays_put (moment_of (g.B.Chronicle.entries c.args.self.now.book) c.args.self.now) (g.B.Chronicle.entries c.args.self.now.book) refl), search rules)
+
+pub append-requires-clause-batch : goal.append-requires-clause-batch
+append-requires-clause-batch g c =
+    subst IsBatch (sym c.from_ref.ensures.value) (batch_is c.args.ran.commit c.requires.some c.requires.answer.commit_limits c.changes-typed.ensures.typed)
+
+pub append-requires-clause-gate : goal.append-requires-clause-gate
+append-requires-clause-gate g c = λ whole.
+    let seen = g.D.Disk.seen c.args.self.now.disk in
+    let images = g.D.Disk.images c.args.self.now.disk (g.D.Disk.ticks c.args.self.now.disk) in
+    gate_of seen c.args.live c.args.self.now.rows images (subst (λ (l : Option Live). ∥ Rests l c.args.self.now.rows seen images ∥₁) c.requires.live c.args.self.now.rests) whole
+
+pub invariant_of-self-in-Ok : goal.invariant_of-self-in-Ok
+invariant_of-self-in-Ok g c =
+    let rows = c.args.self.now.rows in
+    let commit = c.args.ran.commit in
+    let seen = g.D.Disk.seen c.args.self.now.disk in
+    let now = g.D.Disk.seen c.append.new.disk in
+    let before = g.D.Disk.images c.args.self.now.disk (g.D.Disk.ticks c.args.self.now.disk) in
+    let behind = g.D.Disk.images c.append.new.disk (g.D.Disk.ticks c.append.new.disk) in
+    let new : Live = record { log = c.append.new.self; kept = c.args.live.kept; faults = c.args.live.faults; closed = c.args.live.closed } in
+    let is : c.apply.result ≡ committed rows commit = c.apply.ensures ∙ ap (λ p. p.after) c.in_ok-prepared.ensures.ok in
+    let small = c.requires.number in
+    let may = may_append rows c.args.live.log.count commit (batch_is commit c.requires.some c.requires.answer.commit_limits c.changes-typed.ensures.typed) c.args.self.now.limits (c.requires.answer.row_limits c.args.self.now.limits) small in
+    let rests = subst (λ (l : Option Live). ∥ Rests l rows seen before ∥₁) c.requires.live c.args.self.now.rests in
+    let lives = subst (λ (b : List (List Change)). TellsStill (LivesWith c.args.live new b before behind) seen now) c.from_ref.ensures.value c.in-Ok.ensures.lives in
+    record {
+      begun = c.args.self.now.begun;
+      short = subst HasShortRows (sym is) (c.requires.answer.short_rows c.args.self.now.short);
+      limits = subst IsWithinRowLimits (sym is) (c.requires.answer.row_limits c.args.self.now.limits);
+      rests = subst (λ (r : RowMap). ∥ Rests (Some new) r now behind ∥₁) (sym is) (rests_with seen now c.args.live new rows before behind commit c.requires.unclosed rests c.requires.unbroken may lives);
+      room = omega (arith, c.requires.room, c.answer.ensures.room);
+    }
+
+pub invariant_of-self-in-Err-Disk : goal.invariant_of-self-in-Err-Disk
+invariant_of-self-in-Err-Disk g c =
+    let rows = c.args.self.now.rows in
+    let commit = c.args.ran.commit in
+    let now = g.D.Disk.seen c.append.new.disk in
+    let behind = g.D.Disk.images c.append.new.disk (g.D.Disk.ticks c.append.new.disk) in
+    let new : Live = record { log = c.append.new.self; kept = c.args.live.kept; faults = c.faults.result; closed = c.args.live.closed } in
+    let is : c.apply-in-Err-Disk.result ≡ committed rows commit = c.apply-in-Err-Disk.ensures ∙ ap (λ p. p.after) c.in_ok-prepared.ensures.ok in
+    let broke : c.append.new.self.since ≡ Some (g.D.Disk.ticks c.append.new.disk) = ap (λ (l : Log). l.since) (c.in-Err-Disk.ensures.disk (search rules)).0 in
+    record {
+      begun = c.args.self.now.begun;
+      short = subst HasShortRows (sym is) (c.requires.answer.short_rows c.args.self.now.short);
+      limits = subst IsWithinRowLimits (sym is) (c.requires.answer.row_limits c.args.self.now.limits);
+      rests = rests_broken new c.apply-in-Err-Disk.result now behind (g.D.Disk.ticks c.append.new.disk) broke;
+      room = omega (arith, c.requires.room, c.note_answer.ensures.room, c.note_fault.ensures.room);
+    }
+
+pub returns-in-Ok-clause-notes : goal.returns-in-Ok-clause-notes
+returns-in-Ok-clause-notes g c =
+    let told = g.B.Chronicle.entries c.args.self.now.book in
+    let rows = c.args.self.now.rows in
+    let ran = c.args.ran in
+    let commit = c.args.ran.commit in
+    let pid = c.args.pass.now.pid in
+    let tick = g.D.Disk.ticks c.args.self.now.disk in
+    let then = g.D.Disk.ticks c.append.new.disk in
+    let seen = g.D.Disk.seen c.args.self.now.disk in
+    let files_now = g.D.Disk.seen c.append.new.disk in
+    let i = g.D.Disk.images c.args.self.now.disk in
+    let k = g.D.Disk.images c.append.new.disk in
+    let new : Live = record { log = c.append.new.self; kept = c.args.live.kept; faults = c.args.live.faults; closed = c.args.live.closed } in
+    let is : c.apply.result ≡ committed rows commit = c.apply.ensures ∙ ap (λ p. p.after) c.in_ok-prepared.ensures.ok in
+    let may = may_append rows c.args.live.log.count commit (batch_is commit c.requires.some c.requires.answer.commit_limits c.changes-typed.ensures.typed) c.args.self.now.limits (c.requires.answer.row_limits c.args.self.now.limits) c.requires.number in
+    let rests = subst (λ (l : Option Live). ∥ Rests l rows seen (i tick) ∥₁) c.requires.live c.args.self.now.rests in
+    let single = c.from_ref.ensures.value in
+    let lives = subst (λ (b : List (List Change)). TellsStill (LivesWith c.args.live new b (i tick) (k then)) seen files_now) single c.in-Ok.ensures.lives in
+    let stops = subst (λ (b : List (List Change)). IfSome seen (StopsOneOf c.args.live b tick then (i tick) k)) single c.append.ensures.stops in
+    let grown = c.in-Ok.ensures.grown in
+    let now : Moment = record { book = g.B.Chronicle.entries c.answer.new.book; generation = c.args.self.now.generation; inside = c.args.self.now.inside; rows = c.apply.result; live = Some new; skipped = c.args.self.now.skipped; files = files_now; images = k; ticks = then; faults = g.D.Disk.faults c.append.new.disk } in
+    let appends : Appends (moment_of told c.args.self.now) now c.args.live new commit = record {
+      generation = refl;
+      inside = refl;
+      read = c.requires.live;
+      unbroken = c.requires.unbroken;
+      unclosed = c.requires.unclosed;
+      read_now = refl;
+      kept = refl;
+      closed = refl;
+      limit = ap (λ (l : Log). l.limit) grown;
+      rows = is;
+      time = c.append.ensures.time;
+      later = c.append.ensures.cause.later;
+      tells = tells_nothing _ seen files_now c.append.ensures.beside;
+      through = through_of seen c.args.live rows tick then i k commit rests c.requires.unbroken may stops;
+    } in
+    let front = c.in-Ok.ensures.receipt.0 in
+    let notes : NotesEntries (Answered pid ran.script ran.reply commit new.log.count tick ∷ []) told (g.B.Chronicle.entries c.answer.new.book) = rw (front, c.ticks-tick.ensures) at c.answer.ensures.entries in
+    let count : new.log.count ≡ c.args.live.log.count + 1 = ap (λ (l : Log). l.count) grown ∙ ap (λ (b : List (List Change)). c.args.live.log.count + length b) single in
+    let end : new.log.end ≡ c.args.live.log.end + log.need_of (commit ∷ []) = ap (λ (l : Log). l.end) grown ∙ ap (λ (b : List (List Change)). c.args.live.log.end + log.need_of b) single in
+    let moves = commits c.history_laws.ensures.past c.history_laws.ensures.present (moment_of told c.args.self.now) now c.args.live new pid ran.script ran.reply commit c.requires.some appends
+    (ap (λ (l : Log). l.since) grown ∙ c.requires.unbroken) count end (durable_of seen files_now c.args.live new rows (i tick) (k then) commit end rests c.requires.unbroken may lives)
+    (attends c.args.pass.now (moment_of told c.args.self.now) c.requires.admits) c.requires.answer.reply_is c.requires.answer.commit_is notes in (
+      Answered pid ran.script ran.reply commit c.in-Ok.receipt.count c.ticks-tick.result ∷ [],
+      rw (front, c.ticks-tick.ensures) moves,
+      c.answer.ensures.staged,
+    )
+
+pub returns-in-Ok-clause-admits : goal.returns-in-Ok-clause-admits
+returns-in-Ok-clause-admits g c =
+    let told = g.B.Chronicle.entries c.args.self.now.book in
+    let ran = c.args.ran in
+    rw c.answer.ensures.seen (record {
+      there = c.requires.admits.there;
+      generation_is = c.requires.admits.generation_is;
+      inside = inside_answered c.args.pass.now.pid c.in-Ok.receipt.count c.ticks-tick.result ran.script ran.reply ran.commit c.args.pass.now.front told (g.B.Chronicle.entries c.answer.new.book) c.answer.ensures.entries c.requires.admits.inside;
+      flushed = omega (arith, c.in-Ok.ensures.receipt.0);
+    })
+
+pub returns-in-Err-Disk-clause-notes : goal.returns-in-Err-Disk-clause-notes
+returns-in-Err-Disk-clause-notes g c =
+    let told = g.B.Chronicle.entries c.args.self.now.book in
+    let rows = c.args.self.now.rows in
+    let ran = c.args.ran in
+    let commit = c.args.ran.commit in
+    let pid = c.args.pass.now.pid in
+    let tick = g.D.Disk.ticks c.args.self.now.disk in
+    let then = g.D.Disk.ticks c.append.new.disk in
+    let faults = g.D.Disk.faults c.append.new.disk in
+    let seen = g.D.Disk.seen c.args.self.now.disk in
+    let files_now = g.D.Disk.seen c.append.new.disk in
+    let i = g.D.Disk.images c.args.self.now.disk in
+    let k = g.D.Disk.images c.append.new.disk in
+    let new : Live = record { log = c.append.new.self; kept = c.args.live.kept; faults = c.faults.result; closed = c.args.live.closed } in
+    let is : c.apply-in-Err-Disk.result ≡ committed rows commit = c.apply-in-Err-Disk.ensures ∙ ap (λ p. p.after) c.in_ok-prepared.ensures.ok in
+    let may = may_append rows c.args.live.log.count commit (batch_is commit c.requires.some c.requires.answer.commit_limits c.changes-typed.ensures.typed) c.args.self.now.limits (c.requires.answer.row_limits c.args.self.now.limits) c.requires.number in
+    let rests = subst (λ (l : Option Live). ∥ Rests l rows seen (i tick) ∥₁) c.requires.live c.args.self.now.rests in
+    let stops = subst (λ (b : List (List Change)). IfSome seen (StopsOneOf c.args.live b tick then (i tick) k)) c.from_ref.ensures.value c.append.ensures.stops in
+    let broken = (c.in-Err-Disk.ensures.disk (search rules)).0 in
+    let now : Moment = record { book = g.B.Chronicle.entries c.note_fault.new.book; generation = c.args.self.now.generation; inside = c.args.self.now.inside; rows = c.apply-in-Err-Disk.result; live = Some new; skipped = c.args.self.now.skipped; files = files_now; images = k; ticks = then; faults = faults } in
+    let appends : Appends (moment_of told c.args.self.now) now c.args.live new commit = record {
+      generation = refl;
+      inside = refl;
+      read = c.requires.live;
+      unbroken = c.requires.unbroken;
+      unclosed = c.requires.unclosed;
+      read_now = refl;
+      kept = refl;
+      closed = refl;
+      limit = ap (λ (l : Log). l.limit) broken;
+      rows = is;
+      time = c.append.ensures.time;
+      later = c.append.ensures.cause.later;
+      tells = tells_nothing _ seen files_now c.append.ensures.beside;
+      through = through_of seen c.args.live rows tick then i k commit rests c.requires.unbroken may stops;
+    } in
+    let first : BookEntry = Answered pid ran.script ran.reply commit (c.args.live.log.count + 1) tick in
+    let second : BookEntry = Broke pid then faults in
+    let one : NotesEntries (first ∷ []) told (g.B.Chronicle.entries c.note_answer.new.book) = rw c.ticks-tick.ensures at c.note_answer.ensures.entries in
+    let moves = loses c.history_laws.ensures.past c.history_laws.ensures.present (moment_of told c.args.self.now) now c.args.live new pid then ran.script ran.reply commit c.requires.some appends
+    (ap (λ (l : Log). l.since) broken) (ap (λ (l : Log). l.count) broken) c.faults.ensures (c.append.ensures.cause.rose (search rules)) (g.met.D.Disk.counted c.append.new.disk).1
+    (attends c.args.pass.now (moment_of told c.args.self.now) c.requires.admits) c.requires.answer.reply_is c.requires.answer.commit_is
+    (notes_both (first ∷ []) (second ∷ []) told (g.B.Chronicle.entries c.note_answer.new.book) (g.B.Chronicle.entries c.note_fault.new.book) one c.note_fault.ensures.entries) in (
+      first ∷ second ∷ [],
+      moves,
+      inr (record {
+        reply = ran.reply;
+        front = c.args.live.log.count + 1;
+        commit = commit;
+        answered = first ∷ [];
+        broke = second ∷ [];
+        answer = record { tick = tick; entries_are = refl };
+        fault = (then, faults, refl);
+        entries_are = refl;
+      }),
+    )
+
+pub returns-in-Err-Disk-clause-admits : goal.returns-in-Err-Disk-clause-admits
+returns-in-Err-Disk-clause-admits g c =
+    let told = g.B.Chronicle.entries c.args.self.now.book in
+    let pid = c.args.pass.now.pid in
+    let ran = c.args.ran in
+    let mid = g.B.Chronicle.entries c.note_answer.new.book in
+    let first : BookEntry = Answered pid ran.script ran.reply ran.commit (c.args.live.log.count + 1) c.ticks-tick.result in
+    let second : BookEntry = Broke pid (g.D.Disk.ticks c.append.new.disk) (g.D.Disk.faults c.append.new.disk) in
+    let new : Live = record { log = c.append.new.self; kept = c.args.live.kept; faults = c.faults.result; closed = c.args.live.closed } in
+    let count : new.log.count ≡ c.args.live.log.count = ap (λ (l : Log). l.count) (c.in-Err-Disk.ensures.disk (search rules)).0 in record {
+      there = c.requires.admits.there;
+      generation_is = c.requires.admits.generation_is;
+      inside = inside_still pid c.args.pass.now.front second mid (g.B.Chronicle.entries c.note_fault.new.book) (record { present_is = λ es. refl; times = λ n. omega arith }) c.note_fault.ensures.entries
+          (inside_still pid c.args.pass.now.front first told mid (record { present_is = λ es. refl; times = λ n. omega arith }) c.note_answer.ensures.entries c.requires.admits.inside);
+      flushed = flushed_still c.args.pass.now.front c.args.self.now.live (Some new) c.args.live new c.requires.live refl (omega (arith, count)) c.requires.admits.flushed;
+    }
+
+pub returns-in-Err-Full-clause-notes : goal.returns-in-Err-Full-clause-notes
+returns-in-Err-Full-clause-notes g c =
+    let told = g.B.Chronicle.entries c.args.self.now.book in
+    let ran = c.args.ran in
+    let pid = c.args.pass.now.pid in
+    let need = c.in-Err-Full.need in
+    let room = c.in-Err-Full.room in
+    let entry : BookEntry = LogFull pid ran.script need room in
+    let full = c.in-Err-Full.ensures.full need room (search rules) in
+    let is : c.cancel.result ≡ c.args.self.now.rows = c.cancel.ensures ∙ ap (λ p. p.before) c.in_ok-prepared.ensures.ok in
+    let same = (c.in-Err-Full.ensures.untouched (LogFault.Full need room) (search rules) (λ other. absurd (full_or_disk need room other))).1 in
+    let needs = full.1 ∙ ap log.need_of c.from_ref.ensures.value ∙ need_is ran.commit c.requires.some in (
+      entry ∷ [],
+      rw (same, is) (finds_full c.history_laws.ensures.past c.history_laws.ensures.present (moment_of told c.args.self.now) c.args.live (g.B.Chronicle.entries c.note_full.new.book) pid need room ran.script ran.commit
+          c.requires.live c.requires.unbroken (attends c.args.pass.now (moment_of told c.args.self.now) c.requires.admits) c.requires.answer.commit_is needs full.3 (inr full.2)
+          c.note_full.ensures.entries),
+      rw c.note_full.ensures.full refl,
+    )
+
+pub returns-in-Err-Full-clause-admits : goal.returns-in-Err-Full-clause-admits
+returns-in-Err-Full-clause-admits g c =
+    let told = g.B.Chronicle.entries c.args.self.now.book in
+    let entry : BookEntry = LogFull c.args.pass.now.pid c.args.ran.script c.in-Err-Full.need c.in-Err-Full.room in record {
+      there = c.requires.admits.there;
+      generation_is = c.requires.admits.generation_is;
+      inside = inside_still c.args.pass.now.pid c.args.pass.now.front entry told (g.B.Chronicle.entries c.note_full.new.book) (record { present_is = λ es. refl; times = λ n. omega arith }) c.note_full.ensures.entries c.requires.admits.inside;
+      flushed = c.requires.admits.flushed;
+    }

@@ -1,0 +1,28 @@
+use Rattle.std.proofs.Common.{◌∙◌, None, length, refl, ap, arith, false}
+use Rattle.pm_segment.proofs.Opens.{opens_waiting, short_empty}
+use Rattle.pm_segment.proofs.segment.Segment.new.Goals as goal
+
+pub invariant_of-result : goal.invariant_of-result
+invariant_of-result g c = record {
+  begun = omega arith;
+  short = short_empty c.new-2.result c.new-2.ensures.none;
+  limits = c.new-2.ensures.limits;
+  rests = ∣ tt ∣₁;
+  room = omega (arith, ap length c.new.ensures);
+}
+
+pub returns-clause-waits : goal.returns-clause-waits
+returns-clause-waits g c = λ no_entry.
+    opens_waiting (record {
+      book = g.B.Chronicle.entries c.note.new.self;
+      generation = 1;
+      inside = c.new.result;
+      rows = c.new-2.result;
+      live = None;
+      skipped = false;
+      files = g.D.Disk.seen c.args.disk;
+      images = g.D.Disk.images c.args.disk;
+      ticks = g.D.Disk.ticks c.args.disk;
+      faults = g.D.Disk.faults c.args.disk;
+    })
+    (g.B.Chronicle.entries c.reserve.new.self) refl refl refl c.new.ensures (c.reserve.ensures.entries ∙ no_entry) c.note.ensures.entries

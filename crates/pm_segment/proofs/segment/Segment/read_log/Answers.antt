@@ -1,0 +1,151 @@
+use Rattle.std.proofs.Common.{rules, ◌≡◌, ◌≢◌, ℕ, [], ◌∷◌, Some, Err, refl, sym, ap, subst, arith, false}
+use Rattle.pm_rows.specs.Limits.{max_file_bytes}
+use Rattle.pm_record.specs.declared.fault.RedoFault.TheVariants as fault
+use Rattle.pm_query.specs.declared.book.BookEntry.{BookEntry}
+use Rattle.pm_query.specs.declared.book.BookEntry.TheVariants.{Broke, Redone}
+use Rattle.pm_segment.specs.declared.live.Live.{Live}
+use Rattle.pm_segment.specs.Moment.{Moment, moment_of}
+use Rattle.pm_segment.proofs.Passing.{attends, inside_still, none_flushed}
+use Rattle.pm_segment.proofs.Redos.{Reads, Redoes, redo_notes_none, reads_fault, reads_nothing, redoes_first, rests_found}
+use Rattle.pm_segment.proofs.Resting.{tells_nothing}
+use Rattle.pm_segment.proofs.Steps.{notes_by}
+use Rattle.pm_segment.specs.MovesLaws.{notes_none}
+use Rattle.pm_segment.specs.Passes.{view_of}
+use Rattle.pm_query.specs.Calls.{RedoNotes, user_of}
+use Rattle.pm_query.specs.declared.store.StoreNo.TheVariants.{Redo}
+use Rattle.pm_record.specs.declared.fault.RedoFault.{RedoFault}
+use Rattle.pm_segment.specs.Stands.{bytes_of_rows}
+use Rattle.pm_segment.proofs.Lengths.{stands_size}
+use Rattle.pm_segment.proofs.segment.Segment.read_log.Goals as goal
+
+pub invariant_of-self : goal.invariant_of-self
+invariant_of-self g c =
+    let new : Live = record { log = c.resume.result; kept = c.in-Ok.found.count; faults = 0; closed = false } in
+    record {
+      begun = c.args.self.now.begun;
+      short = λ k d lt. (c.in-Ok.ensures.rows k d lt).2;
+      limits = c.in-Ok.ensures.limits;
+      rests = rests_found (g.D.Disk.seen c.args.self.now.disk) (g.D.Disk.seen c.recover.new.disk) c.in-Ok.found max_file_bytes new (g.D.Disk.images c.recover.new.disk (g.D.Disk.ticks c.recover.new.disk)) c.resume.ensures refl c.in-Ok.ensures.found;
+      room = omega (arith, c.requires.room, c.note.ensures.room);
+    }
+
+pub returns-in-Ok-clause-notes : goal.returns-in-Ok-clause-notes
+returns-in-Ok-clause-notes g c =
+    let told = g.B.Chronicle.entries c.args.self.now.book in
+    let content = c.in-Ok.ensures.content in
+    let new : Live = record { log = c.resume.result; kept = c.in-Ok.found.count; faults = 0; closed = false } in
+    let entry : BookEntry = Redone c.args.pass.now.pid c.args.self.now.generation c.in-Ok.found.count in
+    let now : Moment = record {
+      book = g.B.Chronicle.entries c.note.new.self;
+      generation = c.args.self.now.generation;
+      inside = c.args.self.now.inside;
+      rows = c.in-Ok.found.rows;
+      live = Some new;
+      skipped = c.args.self.now.skipped;
+      files = g.D.Disk.seen c.recover.new.disk;
+      images = g.D.Disk.images c.recover.new.disk;
+      ticks = g.D.Disk.ticks c.recover.new.disk;
+      faults = g.D.Disk.faults c.recover.new.disk;
+    } in
+    let redoes : Redoes (moment_of told c.args.self.now) now c.in-Ok.found new = record {
+      generation = refl;
+      inside = refl;
+      fits = omega (arith, stands_size c.lengths_are_the_numbers.ensures.needs c.rows_are_within_needs.ensures.commits content.0 content.1 c.in-Ok.found.end content.3, ap bytes_of_rows content.2.rows);
+      unread = c.requires.unread;
+      unskipped = c.requires.unskipped;
+      read_now = refl;
+      log = c.resume.ensures;
+      kept = refl;
+      closed = refl;
+      rows = refl;
+      time = c.recover.ensures.time;
+      later = c.recover.ensures.cause.later;
+      finds = c.in-Ok.ensures.found;
+      exact = c.in-Ok.ensures.exact;
+      reads = g.met.D.Disk.reads_as_left c.args.self.now.disk;
+      follows = c.recover.ensures.stops;
+    } in (
+      entry ∷ [],
+      redoes_first (record { past = c.history_laws.ensures.past; present = c.history_laws.ensures.present; acked = c.history_laws.ensures.acked }) (moment_of told c.args.self.now) now c.in-Ok.found new c.args.pass.now.pid redoes (attends c.args.pass.now (moment_of told c.args.self.now) c.requires.admits)
+          (notes_by entry told told _ refl c.note.ensures.entries),
+      ap (λ (n : ℕ). Redone c.args.pass.now.pid n c.in-Ok.found.count ∷ []) (sym c.requires.admits.generation_is),
+    )
+
+pub returns-then-eq-clause-notes : goal.returns-then-eq-clause-notes
+returns-then-eq-clause-notes g c =
+    let told = g.B.Chronicle.entries c.args.self.now.book in
+    let faults = g.D.Disk.faults c.recover.new.disk in
+    let is : c.in-Err.fault ≡ fault.Disk = search rules in
+    let then = g.D.Disk.ticks c.recover.new.disk in
+    let entry : BookEntry = Broke c.args.pass.now.pid then faults in
+    let now : Moment = record {
+      book = g.B.Chronicle.entries c.note_fault.new.book;
+      generation = c.args.self.now.generation;
+      inside = c.args.self.now.inside;
+      rows = c.args.self.now.rows;
+      live = c.args.self.now.live;
+      skipped = c.args.self.now.skipped;
+      files = g.D.Disk.seen c.recover.new.disk;
+      images = g.D.Disk.images c.recover.new.disk;
+      ticks = g.D.Disk.ticks c.recover.new.disk;
+      faults = faults;
+    } in
+    let reads : Reads (moment_of told c.args.self.now) now = record {
+      generation = refl;
+      inside = refl;
+      unread = c.requires.unread;
+      unread_now = c.requires.unread;
+      skipped = refl;
+      time = c.recover.ensures.time;
+      later = c.recover.ensures.cause.later;
+      tells = tells_nothing _ (g.D.Disk.seen c.args.self.now.disk) (g.D.Disk.seen c.recover.new.disk) c.recover.ensures.tells;
+      follows = c.recover.ensures.stops;
+    } in (
+      entry ∷ [],
+      reads_fault c.history_laws.ensures.past c.history_laws.ensures.present (moment_of told c.args.self.now) now c.args.pass.now.pid then reads (c.recover.ensures.cause.rose (search rules)) (g.met.D.Disk.counted c.recover.new.disk).1
+          (attends c.args.pass.now (moment_of told c.args.self.now) c.requires.admits) c.note_fault.ensures.entries,
+      subst (λ (why : RedoFault). RedoNotes (user_of (Some c.args.self.now.generation) (view_of c.args.pass.now)) (Err (Redo why)) (entry ∷ [])) (sym is) (then, faults, refl),
+    )
+
+pub returns-else-eq-clause-notes : goal.returns-else-eq-clause-notes
+returns-else-eq-clause-notes g c =
+    let told = g.B.Chronicle.entries c.args.self.now.book in
+    let other : c.in-Err.fault ≢ fault.Disk = search rules in
+    let now : Moment = record {
+      book = told;
+      generation = c.args.self.now.generation;
+      inside = c.args.self.now.inside;
+      rows = c.args.self.now.rows;
+      live = c.args.self.now.live;
+      skipped = c.args.self.now.skipped;
+      files = g.D.Disk.seen c.recover.new.disk;
+      images = g.D.Disk.images c.recover.new.disk;
+      ticks = g.D.Disk.ticks c.recover.new.disk;
+      faults = g.D.Disk.faults c.recover.new.disk;
+    } in
+    let reads : Reads (moment_of told c.args.self.now) now = record {
+      generation = refl;
+      inside = refl;
+      unread = c.requires.unread;
+      unread_now = c.requires.unread;
+      skipped = refl;
+      time = c.recover.ensures.time;
+      later = c.recover.ensures.cause.later;
+      tells = tells_nothing _ (g.D.Disk.seen c.args.self.now.disk) (g.D.Disk.seen c.recover.new.disk) c.recover.ensures.tells;
+      follows = c.recover.ensures.stops;
+    } in (
+      [],
+      reads_nothing c.history_laws.ensures.past c.history_laws.ensures.present (moment_of told c.args.self.now) now reads (notes_none told) (c.in-Err.ensures.kept c.in-Err.fault refl other),
+      redo_notes_none (user_of (Some c.args.self.now.generation) (view_of c.args.pass.now)) c.in-Err.fault other,
+    )
+
+pub returns-in-Ok-clause-admits : goal.returns-in-Ok-clause-admits
+returns-in-Ok-clause-admits g c =
+    let told = g.B.Chronicle.entries c.args.self.now.book in
+    let entry : BookEntry = Redone c.args.pass.now.pid c.args.self.now.generation c.in-Ok.found.count in record {
+      there = c.requires.admits.there;
+      generation_is = c.requires.admits.generation_is;
+      inside = inside_still c.args.pass.now.pid c.args.pass.now.front entry told (g.B.Chronicle.entries c.note.new.self) (record { present_is = λ es. refl; times = λ n. omega arith })
+          (notes_by entry told told _ refl c.note.ensures.entries) c.requires.admits.inside;
+      flushed = none_flushed c.args.pass.now.front c.args.self.now.live _ c.requires.unread c.requires.admits.flushed;
+    }

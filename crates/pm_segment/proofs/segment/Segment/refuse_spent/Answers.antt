@@ -1,0 +1,35 @@
+use Rattle.std.proofs.Common.{◌≡◌, ◌∙◌, inl, ◌+◌, [], ◌∷◌, refl, ap, arith}
+use Rattle.pm_rows.specs.LogSize as log
+use Rattle.pm_query.specs.declared.book.BookEntry.{BookEntry}
+use Rattle.pm_query.specs.declared.book.BookEntry.TheVariants.{LogFull}
+use Rattle.pm_segment.specs.Moment.{moment_of}
+use Rattle.pm_segment.proofs.Passing.{attends, inside_still}
+use Rattle.pm_segment.proofs.Resting.{need_is}
+use Rattle.pm_segment.proofs.Steps.{finds_full}
+use Rattle.pm_segment.proofs.segment.Segment.refuse_spent.Goals as goal
+
+pub returns-clause-notes : goal.returns-clause-notes
+returns-clause-notes g c =
+    let told = g.B.Chronicle.entries c.args.self.now.book in
+    let ran = c.args.ran in
+    let pid = c.args.pass.pid in
+    let need = 5 + c.body_length-need.result in
+    let entry : BookEntry = LogFull pid ran.script need 0 in
+    let long : c.body_length-need.result ≡ log.body_length (ran.commit ∷ []) = c.body_length-need.ensures.length ∙ ap log.body_length c.from_ref.ensures.value in
+    let batch : need ≡ log.need_of (ran.commit ∷ []) = omega (arith, long) in (
+      entry ∷ [],
+      finds_full c.history_laws.ensures.past c.history_laws.ensures.present (moment_of told c.args.self.now) c.args.live (g.B.Chronicle.entries c.note_full.new.book) pid need 0 ran.script ran.commit
+          c.requires.live c.requires.unbroken (attends c.args.pass (moment_of told c.args.self.now) c.requires.admits) c.requires.answer.commit_is (batch ∙ need_is ran.commit c.requires.some)
+          (omega arith) (inl (c.requires.spent, refl)) c.note_full.ensures.entries,
+      rw c.note_full.ensures.full refl,
+    )
+
+pub returns-clause-admits : goal.returns-clause-admits
+returns-clause-admits g c =
+    let told = g.B.Chronicle.entries c.args.self.now.book in
+    let entry : BookEntry = LogFull c.args.pass.pid c.args.ran.script (5 + c.body_length-need.result) 0 in record {
+      there = c.requires.admits.there;
+      generation_is = c.requires.admits.generation_is;
+      inside = inside_still c.args.pass.pid c.args.pass.front entry told (g.B.Chronicle.entries c.note_full.new.book) (record { present_is = λ es. refl; times = λ n. omega arith }) c.note_full.ensures.entries c.requires.admits.inside;
+      flushed = c.requires.admits.flushed;
+    }

@@ -1,0 +1,44 @@
+use Rattle.std.proofs.Common.{ℕ, List, [], ◌∷◌, ◌++◌, length, map, sym, ap, subst, arith}
+use Rattle.std.proofs.lemmas.List.{map-append}
+use Rattle.pm_query.specs.declared.book.BookEntry.{BookEntry}
+use Rattle.pm_query.specs.declared.book.BookEntry.TheVariants.{Gone, Opened}
+use Rattle.pm_segment.specs.Moment.{moment_of}
+use Rattle.pm_segment.specs.Moves.{NotesEntries, Renews}
+use Rattle.pm_segment.specs.MovesLaws.{notes_both}
+use Rattle.pm_segment.proofs.Opens.{short_empty}
+use Rattle.pm_segment.proofs.Renewals.{renewal_is, renews, with_renewal}
+use Rattle.pm_segment.proofs.segment.Segment.renew.Goals as goal
+
+pub invariant_of-self-2 : goal.invariant_of-self-2
+invariant_of-self-2 g c = record {
+  begun = omega (arith, c.requires);
+  short = short_empty c.new-2.result c.new-2.ensures.none;
+  limits = c.new-2.ensures.limits;
+  rests = ∣ tt ∣₁;
+  room = omega (arith, ap length c.new.ensures);
+}
+
+pub returns-clause-renews : goal.returns-clause-renews
+returns-clause-renews g c =
+    let old = c.args.self.now in
+    let told = g.B.Chronicle.entries old.book in
+    let at = moment_of told old in
+    let gone = c.args.gone.now in
+    let others = c.in_ok-others.others.items in
+    let first = g.B.Chronicle.entries c.note_gone.new.book in
+    let second = g.B.Chronicle.entries c.note_gone-2.new.book in
+    let book_now = g.B.Chronicle.entries c.note.new.self in
+    let opened : BookEntry = Opened c.args.generation in
+    let named = map (λ (pid : ℕ). Gone pid) in
+    let one : NotesEntries (named gone) told first = rw c.reserve.ensures.entries at c.note_gone.ensures.entries in
+    let two : NotesEntries (named others) first second = rw c.deref.ensures.value at c.note_gone-2.ensures.entries in
+    let both : NotesEntries (named (gone ++ others)) told second =
+    subst (λ (l : List BookEntry). NotesEntries l told second) (sym (map-append (λ (pid : ℕ). Gone pid) gone others)) (notes_both (named gone) (named others) told first second one two) in
+    let all : NotesEntries (named (gone ++ others) ++ opened ∷ []) told book_now = notes_both (named (gone ++ others)) (opened ∷ []) told second book_now both c.note.ensures.entries in
+    let is = renewal_is (gone ++ others) c.args.generation in (
+      others,
+      c.in_ok-others.ensures,
+      subst (λ (l : List BookEntry). Renews l at (with_renewal book_now c.args.generation c.new.result c.new-2.result at)) is
+          (renews c.history_laws.ensures.past c.history_laws.ensures.present at book_now c.args.generation c.new.result c.new-2.result gone others c.requires c.new.ensures c.in_ok-others.ensures c.new-2.ensures.none old.begun
+          (subst (λ (l : List BookEntry). NotesEntries l told book_now) (sym is) all)),
+    )

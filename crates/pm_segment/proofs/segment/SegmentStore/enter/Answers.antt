@@ -1,0 +1,35 @@
+use Rattle.std.proofs.Common.{rules, ◌≡◌, ℕ, List, [], ◌∷◌, refl, sym, subst}
+use Rattle.pm_query.specs.declared.book.BookEntry.{BookEntry}
+use Rattle.pm_query.specs.declared.book.BookEntry.TheVariants.{Attached}
+use Rattle.pm_segment.specs.Moment.{moment_of}
+use Rattle.pm_segment.specs.Moves.{Moves, NotesEntries}
+use Rattle.pm_segment.proofs.Steps.{enters, notes_by, stays_put, with_child}
+use Rattle.pm_segment.proofs.segment.SegmentStore.enter.Goals as goal
+
+pub returns-clause-notes : goal.returns-clause-notes
+returns-clause-notes g c =
+    let present : c.args.generation ≡ c.args.self.now.generation = search (rules, c.if-generation-self.false) in
+    let told = g.B.Chronicle.entries c.args.self.now.book in
+    let at = moment_of told c.args.self.now in
+    let entry : BookEntry = Attached c.args.pid c.args.generation in
+    let notes : NotesEntries (entry ∷ []) told (g.B.Chronicle.entries c.note.new.self) = notes_by entry told _ _ c.reserve.ensures.entries c.note.ensures.entries in (
+      entry ∷ [],
+      subst (λ (n : ℕ). Moves (Attached c.args.pid n ∷ []) at (with_child (g.B.Chronicle.entries c.note.new.self) c.add.new.self at)) (sym present)
+          (subst (λ (l : List ℕ). Moves (Attached c.args.pid at.generation ∷ []) at (with_child (g.B.Chronicle.entries c.note.new.self) l at)) (sym c.in_ok-add.ensures.ok)
+          (enters c.history_laws.ensures.past c.history_laws.ensures.present at (g.B.Chronicle.entries c.note.new.self) c.args.pid
+          (subst (λ (n : ℕ). NotesEntries (Attached c.args.pid n ∷ []) told (g.B.Chronicle.entries c.note.new.self)) present notes))),
+      refl,
+    )
+
+pub returns-in_err-reserve-clause-notes : goal.returns-in_err-reserve-clause-notes
+returns-in_err-reserve-clause-notes g c =
+    ([], stays_put (moment_of (g.B.Chronicle.entries c.args.self.now.book) c.args.self.now) (g.B.Chronicle.entries c.reserve.new.self) c.reserve.ensures.entries, search rules)
+
+pub returns-in_err-add-clause-notes : goal.returns-in_err-add-clause-notes
+returns-in_err-add-clause-notes g c =
+    let told = g.B.Chronicle.entries c.args.self.now.book in
+    let at = moment_of told c.args.self.now in (
+      [],
+      subst (λ (l : List ℕ). Moves [] at (with_child (g.B.Chronicle.entries c.reserve.new.self) l at)) (sym c.in_err-add.ensures.err) (stays_put at (g.B.Chronicle.entries c.reserve.new.self) c.reserve.ensures.entries),
+      search rules,
+    )
