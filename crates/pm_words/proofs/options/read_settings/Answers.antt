@@ -1,0 +1,17 @@
+use Rattle.std.proofs.Common.{◌≡◌, subst}
+use Rattle.std.specs.Prelude.{IfSome, IfNone}
+use Rattle.pm_words.specs.declared.options.Settings.{Settings}
+use Rattle.pm_words.specs.Words.{Chosen}
+use Rattle.pm_words.specs.Options.{Leaves, chosen_of}
+use Rattle.pm_words.proofs.options.read_settings.Goals as goal
+
+pub returns-clause-only : goal.returns-clause-only
+returns-clause-only c =
+    subst
+    (λ before. IfSome c.read_on.result (λ (settings : Settings). (after : Chosen) → Leaves c.args.command before c.args.words.now after → after ≡ chosen_of settings))
+    c.new.ensures c.read_on.ensures.only
+
+pub returns-clause-none : goal.returns-clause-none
+returns-clause-none c =
+    subst (λ before. IfNone c.read_on.result ((after : Chosen) → Leaves c.args.command before c.args.words.now after → ⊥))
+    c.new.ensures c.read_on.ensures.none

@@ -1,0 +1,51 @@
+-- How options are read, from left to right.
+use Rattle.std.specs.Prelude.{◌≡◌, ◌≢◌, ℕ, List, [], ◌++◌, slice_get, Some, option_map}
+use Rattle.std.specs.List.{AllByRecursion}
+use Rattle.pm_words.specs.declared.options.Setting.{Setting}
+use Rattle.pm_words.specs.declared.options.Setting.TheVariants as setting
+use Rattle.pm_words.specs.declared.options.Settings.{Settings}
+use Rattle.pm_words.specs.declared.words.Command.{Command}
+use Rattle.pm_words.specs.Words.{Choice, Data, MaxConnections, RestartAfterCrash, AuthenticationTimeout, Choose, Chosen, IsGiven, Spells}
+
+-- what the code has of an option
+abbrev pub choice_of : Setting → Choice
+choice_of (setting.Data dir) = Data dir.now
+choice_of (setting.MaxConnections count) = MaxConnections count
+choice_of (setting.RestartAfterCrash restarts) = RestartAfterCrash restarts
+choice_of (setting.AuthenticationTimeout seconds) = AuthenticationTimeout seconds
+
+-- and of those that were given
+abbrev pub chosen_of : Settings → Chosen
+chosen_of settings =
+    record {
+      dir = option_map (λ dir. dir.now) settings.dir;
+      max_connections = settings.max_connections;
+      restart_after_crash = settings.restart_after_crash;
+      authentication_seconds = settings.authentication_seconds;
+    }
+
+-- a name has no `=`
+abbrev pub IsName : List ℕ → Type 0
+IsName name = AllByRecursion (λ byte. byte ≢ 61) name
+
+-- it may stand as a value of its own
+abbrev pub IsPlain : List ℕ → Type 0
+IsPlain value = (value ≢ []) × (slice_get value 0 ≢ Some 45)
+
+-- the words begin with a value behind its name
+pub record BeginsWith (words : List (List ℕ)) (name value : List ℕ) (behind : List (List ℕ)) : Type 0 where
+  pub first : List (List ℕ)
+  pub name_is : IsName name
+  pub given : IsGiven name value first
+  pub words_are : words ≡ first ++ behind
+
+-- and with an option
+pub record BeginsWithOption (words : List (List ℕ)) (choice : Choice) (behind : List (List ℕ)) : Type 0 where
+  pub first : List (List ℕ)
+  pub spells : Spells choice first
+  pub words_are : words ≡ first ++ behind
+
+-- options behind what was chosen before
+pub record Leaves (command : Command) (before : Chosen) (words : List (List ℕ)) (after : Chosen) : Type 0 where
+  pub choices : List Choice
+  pub choose : Choose command before choices words after
