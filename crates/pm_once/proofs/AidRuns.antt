@@ -1,0 +1,65 @@
+-- The runs of the children that serve no connection.
+use Rattle.std.proofs.Common.{◌≡◌, ◌⊎◌, inl, inr, ℕ, List, [], ◌∷◌, Option, None, Some, Result, Ok, Err, refl, sym, subst}
+use Rattle.std.specs.Prelude.{true, false}
+use Rattle.pm_exit.specs.declared.child.Kind.{Kind}
+use Rattle.pm_exit.specs.declared.child.Kind.TheVariants as kind
+use Rattle.pm_exit.specs.declared.child.Status.{Status}
+use Rattle.pm_record.specs.declared.fault.RedoFault.TheVariants as redo
+use Rattle.pm_query.specs.declared.book.BookEntry.{BookEntry}
+use Rattle.pm_query.specs.declared.book.BookEntry.TheVariants.{Redone, CheckpointEnded, Broke}
+use Rattle.pm_chain.specs.Chain.{IsAmong, kept_of, redos_of}
+use Rattle.pm_chain.specs.Steps.{ChildRun, IsRunOf}
+use Rattle.pm_once.specs.Aids.{CloseNotes, GoesThrough, StartNotes, checkpointer_run, startup_run}
+use Rattle.pm_once.specs.declared.checkpointer.Closed.{Closed}
+use Rattle.pm_once.specs.declared.checkpointer.Closed.TheVariants.{Made, Crashed, Full, Short}
+use Rattle.pm_once.specs.declared.end.StartWhy.{StartWhy}
+use Rattle.pm_once.specs.declared.end.StartWhy.TheVariants.{Redo}
+
+went_through : (pid generation : ℕ) (why : Option StartWhy) (noted : List BookEntry) → GoesThrough pid generation noted → IsRunOf (startup_run pid generation (Err why) noted)
+went_through pid generation why noted is = record {
+  use_of_store = inr (record { work = []; noted = is; of_it = tt; serves = refl });
+  redo = refl;
+}
+
+pub startup_is_run : (pid generation : ℕ) (read : Result ℕ (Option StartWhy)) (noted : List BookEntry) → StartNotes pid generation read noted → IsRunOf (startup_run pid generation read noted)
+startup_is_run pid generation (Ok kept) noted is = record {
+  use_of_store = inr (record { work = Redone pid generation kept ∷ []; noted = is; of_it = ((refl, refl, refl), tt); serves = refl });
+  redo = (refl, subst (λ (l : List BookEntry). IsAmong (record { number = kept; generation = generation }) (kept_of (redos_of l))) (sym is) (inl (refl, refl)));
+}
+startup_is_run pid generation (Err (Some (Redo redo.Disk))) noted is = record {
+  use_of_store = inr (record { work = Broke pid is.0 is.1 ∷ []; noted = is.2; of_it = (refl, tt); serves = refl });
+  redo = refl;
+}
+startup_is_run pid generation (Err (Some (Redo redo.NoCluster))) noted is = went_through pid generation (Some (Redo redo.NoCluster)) noted is
+startup_is_run pid generation (Err (Some (Redo (redo.BadFile file at)))) noted is = went_through pid generation (Some (Redo (redo.BadFile file at))) noted is
+startup_is_run pid generation (Err (Some (Redo (redo.SameEpoch epoch)))) noted is = went_through pid generation (Some (Redo (redo.SameEpoch epoch))) noted is
+startup_is_run pid generation (Err (Some (Redo redo.NoMemory))) noted is = absurd is
+startup_is_run pid generation (Err None) noted (inl none) = record { use_of_store = inl (record { noted = none; inactive = refl }); redo = refl }
+startup_is_run pid generation (Err None) noted (inr through) = went_through pid generation None noted through
+
+pub checkpointer_is_run : (pid generation : ℕ) (closed : Closed) (noted : List BookEntry) → CloseNotes pid generation closed noted → IsRunOf (checkpointer_run pid generation closed noted)
+checkpointer_is_run pid generation Made noted is = record {
+  use_of_store = inr (record { work = CheckpointEnded pid true true ∷ []; noted = is; of_it = (refl, tt); serves = refl });
+  redo = refl;
+}
+checkpointer_is_run pid generation Crashed noted is = record {
+  use_of_store = inr (record { work = Broke pid is.0 is.1 ∷ []; noted = is.2; of_it = (refl, tt); serves = refl });
+  redo = refl;
+}
+checkpointer_is_run pid generation Full noted is = record { use_of_store = inr (record { work = []; noted = is; of_it = tt; serves = refl }); redo = refl }
+checkpointer_is_run pid generation Short noted (inl none) = record { use_of_store = inl (record { noted = none; inactive = refl }); redo = refl }
+checkpointer_is_run pid generation Short noted (inr (inl through)) = record { use_of_store = inr (record { work = []; noted = through; of_it = tt; serves = refl }); redo = refl }
+checkpointer_is_run pid generation Short noted (inr (inr ended)) = record {
+  use_of_store = inr (record { work = CheckpointEnded pid false true ∷ []; noted = ended; of_it = (refl, tt); serves = refl });
+  redo = refl;
+}
+
+-- a child that ends at once
+abbrev pub idle_run : (pid generation : ℕ) → Kind → Status → ChildRun
+idle_run pid generation k status = record { pid = pid; kind = k; generation = generation; noted = []; status = status; was_active = false; kept = None }
+
+pub idle_is_run : (pid generation : ℕ) (k : Kind) (status : Status) → (k ≡ kind.Checkpointer) ⊎ (k ≡ kind.Writer) → IsRunOf (idle_run pid generation k status)
+idle_is_run pid generation k status (inl is) =
+    subst (λ (x : Kind). IsRunOf (idle_run pid generation x status)) (sym is) (record { use_of_store = inl (record { noted = refl; inactive = refl }); redo = refl })
+idle_is_run pid generation k status (inr is) =
+    subst (λ (x : Kind). IsRunOf (idle_run pid generation x status)) (sym is) (record { use_of_store = inl (record { noted = refl; inactive = refl }); redo = refl })

@@ -1,0 +1,114 @@
+-- Steps of a server, some behind others.
+use Rattle.std.proofs.Common.{◌≡◌, ℕ, List, [], ◌∷◌, ◌++◌, Option, None, Some, Result, Ok, Err, option_map, refl, sym, ◌∙◌, ap, subst, append_assoc, append-nil}
+use Rattle.std.specs.Prelude.{OnOk, IfErr}
+use Rattle.std.proofs.lemmas.Grind.{flat_map-append}
+use Rattle.pm_state.specs.declared.event.PmEvent.{PmEvent}
+use Rattle.pm_query.specs.declared.book.BookEntry.{BookEntry}
+use Rattle.pm_chain.specs.Steps.{ChildRun, Step, Notes, book_by, book_of, journal_by, journal_of}
+use Rattle.pm_journal.specs.Standing.{Adds}
+use Rattle.pm_journal.specs.declared.supervision.Taken.{Taken}
+use Rattle.pm_once.specs.Goes.{Does, EndsWith, Goes, IsAt, IsEndOf, IsOpen, ServesNone, Spans, StaysOpen, Times, accepted_in, session_by, sessions_in}
+use Rattle.pm_once.specs.View.{View}
+use Rattle.pm_once.specs.declared.end.ServerEnd.{ServerEnd}
+use Rattle.pm_once.specs.declared.end.ServerEnd.TheVariants.{Clean, Abnormal, NoMemory}
+use Rattle.pm_once.specs.declared.end.Why.TheVariants.{AfterCrash, StartupFailed, RestartOff, GenerationsSpent}
+use Rattle.pm_once.proofs.Entries.{accepted_in-append, times_any, times_none, times_on}
+use Rattle.pm_once.proofs.Spans.{spans_none, spans_on}
+
+pub journal-append : (one two : List Step) → journal_of (one ++ two) ≡ journal_of one ++ journal_of two
+journal-append one two = flat_map-append journal_by one two
+
+pub book-append : (one two : List Step) → book_of (one ++ two) ≡ book_of one ++ book_of two
+book-append one two = flat_map-append book_by one two
+
+pub sessions-append : (one two : List Step) → sessions_in (one ++ two) ≡ sessions_in one ++ sessions_in two
+sessions-append one two = flat_map-append session_by one two
+
+-- ---- journals
+
+pub adds_none : (told : Option (List PmEvent)) → Adds [] told told
+adds_none None = refl
+adds_none (Some journal) = ap (λ (j : List PmEvent). Some j) (sym (append-nil journal))
+
+pub adds_both : (one two : List PmEvent) (before between now : Option (List PmEvent)) → Adds one before between → Adds two between now → Adds (one ++ two) before now
+adds_both one two None between now first second = second ∙ ap (option_map (λ (j : List PmEvent). j ++ two)) first
+adds_both one two (Some journal) between now first second =
+    second ∙ ap (option_map (λ (j : List PmEvent). j ++ two)) first ∙ ap (λ (j : List PmEvent). Some j) (append_assoc journal one two)
+
+-- ---- steps
+
+pub goes_none : (gives : ℕ → Type 0) (v : View) → Goes gives [] v v
+goes_none gives v = record {
+  at = λ outset earlier at opened. subst (λ (l : List Step). IsAt outset l v) (sym (append-nil earlier)) at;
+  journal = adds_none v.work.told;
+  times = times_none gives v.work.standing.moment;
+  store = spans_none v.store;
+}
+
+pub stays_none : (v : View) → StaysOpen [] v v
+stays_none v = λ earlier opened. subst (λ (l : List Step). IsOpen l v) (sym (append-nil earlier)) opened
+
+pub goes_on : (gives : ℕ → Type 0) (one two : List Step) (a b c : View) → Goes gives one a b → StaysOpen one a b → Goes gives two b c → Goes gives (one ++ two) a c
+goes_on gives one two a b c first stays second = record {
+  at = λ outset earlier at opened. subst (λ (l : List Step). IsAt outset l c) (append_assoc earlier one two) (second.at outset (earlier ++ one) (first.at outset earlier at opened) (stays earlier opened));
+  journal = subst (λ (j : List PmEvent). Adds j a.work.told c.work.told) (sym (journal-append one two)) (adds_both (journal_of one) (journal_of two) _ _ _ first.journal second.journal);
+  times = subst (λ (j : List PmEvent). Times gives a.work.standing.moment j c.work.standing.moment) (sym (journal-append one two)) (times_on gives (journal_of one) (journal_of two) _ _ _ first.times second.times);
+  store = subst (λ (l : List BookEntry). Spans l a.store c.store) (sym (book-append one two)) (spans_on (book_of one) (book_of two) a.store b.store c.store first.store second.store);
+}
+
+pub stays_on : (one two : List Step) (a b c : View) → StaysOpen one a b → StaysOpen two b c → StaysOpen (one ++ two) a c
+stays_on one two a b c first second = λ earlier opened. subst (λ (l : List Step). IsOpen l c) (append_assoc earlier one two) (second (earlier ++ one) (first earlier opened))
+
+pub goes_any : (gives : ℕ → Type 0) (steps : List Step) (a b : View) → Goes (λ n. ⊥) steps a b → Goes gives steps a b
+goes_any gives steps a b goes = record {
+  at = goes.at;
+  journal = goes.journal;
+  times = times_any gives (journal_of steps) _ _ goes.times;
+  store = goes.store;
+}
+
+-- ---- ends
+
+with_behind : (last : PmEvent) (one two : List Step) → EndsWith last two → EndsWith last (one ++ two)
+with_behind last one two ends = (one ++ ends.0, ap (λ (l : List Step). one ++ l) ends.1 ∙ sym (append_assoc one ends.0 (Notes last ∷ [])))
+
+pub end_behind : (end : ServerEnd) (one two : List Step) (v : View) → IsEndOf end two v → IsEndOf end (one ++ two) v
+end_behind Clean one two v ends = with_behind _ one two ends
+end_behind (Abnormal AfterCrash) one two v ends = with_behind _ one two ends
+end_behind (Abnormal RestartOff) one two v ends = with_behind _ one two ends
+end_behind (Abnormal (StartupFailed why)) one two v ends = (with_behind _ one two ends.0, ends.1)
+end_behind (Abnormal GenerationsSpent) one two v ends = ends
+end_behind NoMemory one two v ends = tt
+
+pub serves_nothing : ServesNone []
+serves_nothing = record { accepted = refl; sessions = refl }
+
+pub serves_both : (one two : List Step) → ServesNone one → ServesNone two → ServesNone (one ++ two)
+serves_both one two first second = record {
+  accepted = ap accepted_in (journal-append one two) ∙ accepted_in-append (journal_of one) (journal_of two)
+      ∙ ap (λ (l : List Taken). l ++ accepted_in (journal_of two)) first.accepted ∙ second.accepted;
+  sessions = sessions-append one two ∙ ap (λ (l : List ChildRun). l ++ sessions_in two) first.sessions ∙ second.sessions;
+}
+
+ends_on : (result : Result (Unit {0}) ServerEnd) (one two : List Step) (c : View) → IfErr result (λ end. IsEndOf end two c) → IfErr result (λ end. IsEndOf end (one ++ two) c)
+ends_on (Ok done) one two c ends = tt
+ends_on (Err end) one two c ends = end_behind end one two c ends
+
+open_on : (result : Result (Unit {0}) ServerEnd) (one two : List Step) (a b c : View) → StaysOpen one a b → OnOk result (StaysOpen two b c) → OnOk result (StaysOpen (one ++ two) a c)
+open_on (Ok done) one two a b c first second = stays_on one two a b c first second
+open_on (Err end) one two a b c first second = tt
+
+-- a call that goes on, and then another
+pub does_then : (gives : ℕ → Type 0) (result : Result (Unit {0}) ServerEnd) (one two : List Step) (a b c : View) → Does gives (Ok tt) one a b → Does gives result two b c → Does gives result (one ++ two) a c
+does_then gives result one two a b c first second = record {
+  goes = goes_on gives one two a b c first.goes first.stays second.goes;
+  stays = open_on result one two a b c first.stays second.stays;
+  ends = ends_on result one two c second.ends;
+  serves = serves_both one two first.serves second.serves;
+}
+
+pub does_nothing : (gives : ℕ → Type 0) (v : View) → Does gives (Ok tt) [] v v
+does_nothing gives v = record { goes = goes_none gives v; stays = stays_none v; ends = tt; serves = serves_nothing }
+
+pub does_any : (gives : ℕ → Type 0) (result : Result (Unit {0}) ServerEnd) (steps : List Step) (a b : View) → Does (λ n. ⊥) result steps a b → Does gives result steps a b
+does_any gives result steps a b does = record { goes = goes_any gives steps a b does.goes; stays = does.stays; ends = does.ends; serves = does.serves }

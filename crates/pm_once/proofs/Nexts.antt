@@ -1,0 +1,589 @@
+-- The next act that is due is done.
+use Rattle.std.proofs.Common.{◌≡◌, inl, ℕ, ◌+◌, nat_eq, cond, List, [], ◌∷◌, ◌++◌, length, Option, None, Some, Result, Ok, Err, refl, sym, ◌∙◌, ap, subst, arith, append_assoc, append-nil}
+use Rattle.std.specs.Prelude.{◌&&◌, nat_lt, Bool, true, false, ◌||◌, if◌then◌else◌, map, IfSome, IfErr, OnOk}
+use Rattle.std.specs.List.{last_or}
+use Rattle.std.proofs.lemmas.Bool.Decides.{nat_tests}
+use Rattle.std.proofs.lemmas.List.Sums.{sum_by-cons}
+use Rattle.pm_state.specs.declared.action.Action.{Action}
+use Rattle.pm_state.specs.declared.action.Action.TheVariants as act
+use Rattle.pm_state.specs.declared.action.Line.{Line}
+use Rattle.pm_state.specs.declared.event.PmEvent.{PmEvent}
+use Rattle.pm_state.specs.declared.event.PmEvent.TheVariants as entry
+use Rattle.pm_state.specs.Journal.{without_first}
+use Rattle.pm_supervisor.specs.declared.Ending.{Ending}
+use Rattle.pm_supervisor.specs.declared.Ending.TheVariants as endings
+use Rattle.pm_supervisor.specs.declared.Limits.{Limits}
+use Rattle.pm_query.specs.declared.book.BookEntry.{BookEntry}
+use Rattle.pm_query.specs.declared.book.BookEntry.TheVariants.{Gone, Opened}
+use Rattle.pm_segment.specs.Children.{AreOthers, once, times_in}
+use Rattle.pm_segment.specs.Moves.{Moves}
+use Rattle.pm_chain.specs.Laws.{StepsGoOn}
+use Rattle.pm_chain.specs.Steps.{Step, Notes, Renews, MayFollow, book_of, journal_of}
+use Rattle.pm_journal.specs.Laws.{GoesOnOverItsJournal}
+use Rattle.pm_journal.specs.Moments.{AreGiven}
+use Rattle.pm_journal.specs.declared.act.Act.{Act}
+use Rattle.pm_journal.specs.declared.act.Act.TheVariants as given
+use Rattle.pm_journal.specs.declared.act.GenerationsSpent.{GenerationsSpent}
+use Rattle.pm_journal.specs.Standing.{Adds, Next, Standing, act_for, done, entry_for, first_due, is_spent, next_in, next_of}
+use Rattle.pm_journal.specs.Stands.{AtWork, IsSettled, Stands}
+use Rattle.pm_once.specs.Calls.{AreSays, DoesNext, HandsBehind, HasRenewed, Keeps, LogBehind, failed_by, Performs, StoreBehind, end_in, outcome}
+use Rattle.pm_once.specs.Goes.{AreOurs, AsksAsDue, Does, Goes, IsAt, IsEndOf, IsFree, IsMoment, IsOpen, IsRunning, Outset, Spans, StaysOpen, asked_in, is_last_drawn}
+use Rattle.pm_once.specs.Hands.{AreThere, IsHand}
+use Rattle.pm_once.specs.Log.{HasSaid}
+use Rattle.pm_once.specs.View.{View}
+use Rattle.pm_once.specs.declared.end.ServerEnd.{ServerEnd}
+use Rattle.pm_once.specs.declared.end.ServerEnd.TheVariants.{Abnormal, NoMemory}
+use Rattle.pm_once.specs.declared.end.Why.TheVariants.{AfterCrash}
+use Rattle.pm_once.specs.declared.end.StartWhy.{StartWhy}
+use Rattle.pm_once.proofs.Acting.{asks_acted, drawn_kept, due_kept, first_is, hand_kept, hands_acted, not_accepted, not_asked, notes_follow, ours_tail, stands_by_itself, unowed_kept}
+use Rattle.pm_once.proofs.Entries.{asked_in-append}
+use Rattle.pm_once.proofs.Going.{goes_none, stays_none, serves_nothing}
+use Rattle.pm_once.proofs.Saying.{said_acted}
+use Rattle.pm_once.proofs.Spans.{spans_moves, spans_renewal}
+
+-- ---- what `next` answers
+
+-- an act was given
+pub record IsGivenNext (a : Action) (act : Act) (s : Standing) (n : Next) : Type 0 where
+  pub first : first_due s.due ≡ Some a
+  pub act_is : act ≡ act_for a s
+  pub entries : n.entries ≡ entry_for a s ∷ []
+  pub after : n.after ≡ done a s
+
+given_in : (due : List Action) (s : Standing) (act : Act) → s.due ≡ due → (next_in due s).answer ≡ Ok (Some act) → (a : Action) × IsGivenNext a act s (next_in due s)
+given_in [] s act is answer = absurd cc
+given_in (a ∷ rest) s act is answer =
+    elim (is_spent a s) as (λ (b : Bool). is_spent a s ≡ b → (next_in (a ∷ rest) s).answer ≡ Ok (Some act) → (x : Action) × IsGivenNext x act s (next_in (a ∷ rest) s)) [
+      | true ↦ λ spent answer'. absurd (let e : (next_in (a ∷ rest) s).answer ≡ Err (record {}) = rw spent refl in cc)
+      | false ↦ λ unspent answer'.
+          let done_is : next_in (a ∷ rest) s ≡ record { answer = Ok (Some (act_for a s)); entries = entry_for a s ∷ []; after = done a s } = rw unspent refl in (
+            a,
+            record {
+              first = ap first_due is;
+              act_is = some_of act (act_for a s) (sym answer' ∙ ap (λ (n : Next). n.answer) done_is);
+              entries = ap (λ (n : Next). n.entries) done_is;
+              after = ap (λ (n : Next). n.after) done_is;
+            },
+          )
+    ] refl answer
+  where
+    some_of : (x y : Act) → (let r : Result (Option Act) GenerationsSpent = Ok (Some x) in r ≡ Ok (Some y)) → x ≡ y
+    some_of x y e = cc
+
+pub next_given : (s : Standing) (act : Act) → (next_of s).answer ≡ Ok (Some act) → (a : Action) × IsGivenNext a act s (next_of s)
+next_given s act answer = given_in s.due s act refl answer
+
+pub record IsNone (s : Standing) (n : Next) : Type 0 where
+  pub none_due : s.due ≡ []
+  pub after : n.after ≡ s
+  pub entries : n.entries ≡ []
+
+none_in : (due : List Action) (s : Standing) → s.due ≡ due → (next_in due s).answer ≡ Ok None → IsNone s (next_in due s)
+none_in [] s is answer = record { none_due = is; after = refl; entries = refl }
+none_in (a ∷ rest) s is answer =
+    elim (is_spent a s) as (λ (b : Bool). is_spent a s ≡ b → (next_in (a ∷ rest) s).answer ≡ Ok None → IsNone s (next_in (a ∷ rest) s)) [
+      | true ↦ λ spent answer'. absurd (let e : (next_in (a ∷ rest) s).answer ≡ Err (record {}) = rw spent refl in cc)
+      | false ↦ λ unspent answer'. absurd (let e : (next_in (a ∷ rest) s).answer ≡ Ok (Some (act_for a s)) = rw unspent refl in cc)
+    ] refl answer
+
+pub next_none : (s : Standing) → (next_of s).answer ≡ Ok None → IsNone s (next_of s)
+next_none s answer = none_in s.due s refl answer
+
+pub record IsSpentNext (s : Standing) (n : Next) : Type 0 where
+  pub generation : s.generation ≡ 4294967295
+  pub after : n.after ≡ s
+  pub entries : n.entries ≡ []
+
+spent_at : (a : Action) (s : Standing) → is_spent a s ≡ true → s.generation ≡ 4294967295
+spent_at (act.Start k) s spent = absurd cc
+spent_at (act.Quit why) s spent = absurd cc
+spent_at act.Terminate s spent = absurd cc
+spent_at act.KillAll s spent = absurd cc
+spent_at act.AskCheckpoint s spent = absurd cc
+spent_at act.Ready s spent = absurd cc
+spent_at act.Reset s spent = grind (arith, nat_tests)
+spent_at (act.Say line) s spent = absurd cc
+spent_at (act.End how) s spent = absurd cc
+
+spent_in : (due : List Action) (s : Standing) (e : GenerationsSpent) → (next_in due s).answer ≡ Err e → IsSpentNext s (next_in due s)
+spent_in [] s e answer = absurd cc
+spent_in (a ∷ rest) s e answer =
+    elim (is_spent a s) as (λ (b : Bool). is_spent a s ≡ b → (next_in (a ∷ rest) s).answer ≡ Err e → IsSpentNext s (next_in (a ∷ rest) s)) [
+      | true ↦ λ spent answer'.
+          let is : next_in (a ∷ rest) s ≡ record { answer = Err (record {}); entries = []; after = s } = rw spent refl in
+          record { generation = spent_at a s spent; after = ap (λ (n : Next). n.after) is; entries = ap (λ (n : Next). n.entries) is }
+      | false ↦ λ unspent answer'. absurd (let x : (next_in (a ∷ rest) s).answer ≡ Ok (Some (act_for a s)) = rw unspent refl in cc)
+    ] refl answer
+
+pub next_spent : (s : Standing) (e : GenerationsSpent) → (next_of s).answer ≡ Err e → IsSpentNext s (next_of s)
+next_spent s e answer = spent_in s.due s e answer
+
+-- ---- its entry
+
+no_moment : (limits : Limits) (a : Action) (s : Standing) (rest : List Action) (P : ℕ → Type 0) → AreOurs limits (a ∷ rest) → AreGiven P (entry_for a s ∷ [])
+no_moment limits (act.Start k) s rest P ours = (tt, tt)
+no_moment limits (act.Quit why) s rest P ours = (tt, tt)
+no_moment limits act.Terminate s rest P ours = (tt, tt)
+no_moment limits act.KillAll s rest P ours = absurd ours
+no_moment limits act.AskCheckpoint s rest P ours = (tt, tt)
+no_moment limits act.Ready s rest P ours = (tt, tt)
+no_moment limits act.Reset s rest P ours = (tt, tt)
+no_moment limits (act.Say line) s rest P ours = (tt, tt)
+no_moment limits (act.End how) s rest P ours = (tt, tt)
+
+moment_kept : (limits : Limits) (a : Action) (s : Standing) (rest : List Action) → AreOurs limits (a ∷ rest) → (done a s).moment ≡ s.moment
+moment_kept limits (act.Start k) s rest ours = refl
+moment_kept limits (act.Quit why) s rest ours = refl
+moment_kept limits act.Terminate s rest ours = refl
+moment_kept limits act.KillAll s rest ours = absurd ours
+moment_kept limits act.AskCheckpoint s rest ours = refl
+moment_kept limits act.Ready s rest ours = refl
+moment_kept limits act.Reset s rest ours = refl
+moment_kept limits (act.Say line) s rest ours = refl
+moment_kept limits (act.End how) s rest ours = refl
+
+pub told_more : (told now : Option (List PmEvent)) (journal more : List PmEvent) → IfSome told (λ es. es ≡ journal) → Adds more told now → IfSome now (λ es. es ≡ journal ++ more)
+told_more None now journal more is adds = subst (λ (t : Option (List PmEvent)). IfSome t (λ es. es ≡ journal ++ more)) (sym adds) tt
+told_more (Some before) now journal more is adds = subst (λ (t : Option (List PmEvent)). IfSome t (λ es. es ≡ journal ++ more)) (sym adds) (ap (λ (j : List PmEvent). j ++ more) is)
+
+-- what an act and its entry leave, but for store and lost children
+pub record IsActed (a : Action) (before now : View) : Type 0 where
+  pub first : first_due before.work.standing.due ≡ Some a
+  pub standing : now.work.standing ≡ done a before.work.standing
+  pub told : Adds (entry_for a before.work.standing ∷ []) before.work.told now.work.told
+  pub hands : HandsBehind (act_for a before.work.standing) before.hands now.hands
+  pub log : LogBehind (act_for a before.work.standing) before.log now.log
+  pub listens : now.listens ≡ before.listens
+
+-- the steps behind the entry
+pub at_entry : StepsGoOn → GoesOnOverItsJournal → (a : Action) (before now : View) → IsActed a before now → now.lost ≡ before.lost
+    → (outset : Outset) (earlier : List Step) → IsAt outset earlier before → IsOpen earlier before → IsAt outset (earlier ++ Notes (entry_for a before.work.standing) ∷ []) now
+at_entry goes work a before now acted lost outset earlier at opened =
+    let s = before.work.standing in
+    let e = entry_for a s in
+    let j : journal_of earlier ++ e ∷ [] ≡ journal_of (earlier ++ Notes e ∷ []) = sym (goes.journal earlier (Notes e)) in
+    record {
+      past = at.past;
+      stands = subst (λ (t : Standing). Stands outset.limits (Some (journal_of (earlier ++ Notes e ∷ []))) t at.past) (sym acted.standing)
+          (subst (λ (l : List PmEvent). Stands outset.limits (Some l) (done a s) at.past) j (work.acts outset.limits (journal_of earlier) s at.past a at.stands acted.first));
+      told = subst (λ (l : List PmEvent). IfSome now.work.told (λ es. es ≡ l)) j (told_more before.work.told now.work.told (journal_of earlier) (e ∷ []) at.told acted.told);
+      are_steps = goes.step outset.limits earlier (Notes e) at.are_steps (record { follows = notes_follow e (last_or None earlier) opened.free; fits = stands_by_itself a s });
+      lost_is = lost ∙ at.lost_is ∙ sym (goes.lost earlier (Notes e));
+      said = subst (λ (l : List PmEvent). HasSaid l outset.log now.log) j (said_acted a s (journal_of earlier) outset.log before.log now.log acted.log at.said);
+      hands = subst (λ (t : Standing). AreThere now.hands t) (sym acted.standing) (hands_acted a s before.hands now.hands acted.hands at.hands);
+      asks = subst (λ (t : Standing). AsksAsDue (asked_in (journal_of (earlier ++ Notes e ∷ []))) now.listens t) (sym acted.standing)
+          (subst (λ (b : Bool). AsksAsDue (asked_in (journal_of (earlier ++ Notes e ∷ []))) b (done a s)) (sym acted.listens)
+          (subst (λ (l : List _). AsksAsDue l before.listens (done a s))
+          (sym (ap asked_in (sym j) ∙ asked_in-append (journal_of earlier) (e ∷ []) ∙ ap (λ l. asked_in (journal_of earlier) ++ l) (not_asked a s) ∙ append-nil (asked_in (journal_of earlier))))
+          (asks_acted a s (asked_in (journal_of earlier)) before.listens at.asks)));
+      acts = subst (AreOurs outset.limits) (sym (ap (λ (t : Standing). t.due) acted.standing ∙ due_kept a s))
+          (ours_tail outset.limits a (without_first s.due) (subst (AreOurs outset.limits) (first_is s.due a acted.first) at.acts));
+    }
+
+-- ---- the whole
+
+entry_free : (a : Action) (s : Standing) → (a ≡ act.Reset → ⊥) → IsFree (Some (Notes (entry_for a s)))
+entry_free (act.Start k) s other = tt
+entry_free (act.Quit why) s other = tt
+entry_free act.Terminate s other = tt
+entry_free act.KillAll s other = tt
+entry_free act.AskCheckpoint s other = tt
+entry_free act.Ready s other = tt
+entry_free act.Reset s other = absurd (other refl)
+entry_free (act.Say line) s other = tt
+entry_free (act.End how) s other = tt
+
+generation_kept : (a : Action) (s : Standing) → (a ≡ act.Reset → ⊥) → (done a s).generation ≡ s.generation
+generation_kept (act.Start k) s other = refl
+generation_kept (act.Quit why) s other = refl
+generation_kept act.Terminate s other = refl
+generation_kept act.KillAll s other = refl
+generation_kept act.AskCheckpoint s other = refl
+generation_kept act.Ready s other = refl
+generation_kept act.Reset s other = absurd (other refl)
+generation_kept (act.Say line) s other = refl
+generation_kept (act.End how) s other = refl
+
+store_kept : (a : Action) (s : Standing) (result : Result (Unit {0}) ServerEnd) (before now : View) → (a ≡ act.Reset → ⊥) → StoreBehind (act_for a s) result before now → (now.lost ≡ before.lost) × Moves [] before.store now.store
+store_kept (act.Start k) s result before now other behind = behind
+store_kept (act.Quit why) s result before now other behind = behind
+store_kept act.Terminate s result before now other behind = behind
+store_kept act.KillAll s result before now other behind = behind
+store_kept act.AskCheckpoint s result before now other behind = behind
+store_kept act.Ready s result before now other behind = behind
+store_kept act.Reset s result before now other behind = absurd (other refl)
+store_kept (act.Say line) s result before now other behind = behind
+store_kept (act.End how) s result before now other behind = behind
+
+or_false : (b : Bool) → (b || false) ≡ b
+or_false true = refl
+or_false false = refl
+
+ended_kept : (a : Action) (s : Standing) → ((how : Ending) → a ≡ act.End how → ⊥) → (done a s).ended ≡ s.ended
+ended_kept (act.Start k) s goes_on = or_false s.ended
+ended_kept (act.Quit why) s goes_on = or_false s.ended
+ended_kept act.Terminate s goes_on = or_false s.ended
+ended_kept act.KillAll s goes_on = or_false s.ended
+ended_kept act.AskCheckpoint s goes_on = or_false s.ended
+ended_kept act.Ready s goes_on = or_false s.ended
+ended_kept act.Reset s goes_on = or_false s.ended
+ended_kept (act.Say line) s goes_on = or_false s.ended
+ended_kept (act.End how) s goes_on = absurd (goes_on how refl)
+
+says_tail : (a : Action) (rest : List Action) → AreSays (a ∷ rest) → AreSays rest
+says_tail (act.Start k) rest says = absurd says
+says_tail (act.Quit why) rest says = absurd says
+says_tail act.Terminate rest says = absurd says
+says_tail act.KillAll rest says = absurd says
+says_tail act.AskCheckpoint rest says = absurd says
+says_tail act.Ready rest says = absurd says
+says_tail act.Reset rest says = absurd says
+says_tail (act.Say line) rest says = says
+says_tail (act.End how) rest says = absurd says
+
+says_owes : (a : Action) (rest : List Action) (s : Standing) → AreSays (a ∷ rest) → (done a s).owes_smart ≡ s.owes_smart
+says_owes (act.Start k) rest s says = absurd says
+says_owes (act.Quit why) rest s says = absurd says
+says_owes act.Terminate rest s says = absurd says
+says_owes act.KillAll rest s says = absurd says
+says_owes act.AskCheckpoint rest s says = absurd says
+says_owes act.Ready rest s says = absurd says
+says_owes act.Reset rest s says = absurd says
+says_owes (act.Say line) rest s says = refl
+says_owes (act.End how) rest s says = absurd says
+
+-- a call that answered so
+abbrev pub answer_of : Result (Unit {0}) ServerEnd → Result Bool ServerEnd
+answer_of (Ok done) = Ok true
+answer_of (Err end) = Err end
+
+same_outcome : (result : Result (Unit {0}) ServerEnd) → outcome (answer_of result) ≡ result
+same_outcome (Ok done) = refl
+same_outcome (Err end) = refl
+
+no_false : (result : Result (Unit {0}) ServerEnd) → answer_of result ≡ Ok false → ⊥
+no_false (Ok done) is = cc
+no_false (Err end) is = cc
+
+shorter : (due : List Action) (a : Action) → first_due due ≡ Some a → length (without_first due) + 1 ≡ length due
+shorter due a is = ap (λ (l : List Action). length (without_first l) + 1) (first_is due a is) ∙ counted (without_first due) ∙ ap length (sym (first_is due a is))
+  where
+    counted : (l : List Action) → length l + 1 ≡ length (a ∷ l)
+    counted l = omega arith
+
+keeps_done : (a : Action) (s t : Standing) → t ≡ done a s → (IsSettled s → IsSettled t) → Keeps s t
+keeps_done a s t is settled = record {
+  hands = λ pid k there. subst (λ (x : Standing). IsHand (Some pid) k x) (sym is) (hand_kept a s pid k there);
+  settled = settled;
+  drawn = λ drawn. subst (λ (x : Standing). is_last_drawn x.last_pid ≡ true) (sym is) (drawn_kept a s drawn);
+  unowed = λ drawn unowed. subst (λ (x : Standing). x.owes_smart ≡ false) (sym is) (unowed_kept a s drawn unowed);
+}
+
+-- one entry alone
+pub does_one : StepsGoOn → GoesOnOverItsJournal → (a : Action) (result : Result (Unit {0}) ServerEnd) (before now : View) → IsRunning before → IsActed a before now
+    → (now.lost ≡ before.lost) × Moves [] before.store now.store → now.failure ≡ before.failure → (IsSettled before.work.standing → IsSettled now.work.standing)
+    → OnOk result ((a ≡ act.Reset → ⊥) × ((how : Ending) → a ≡ act.End how → ⊥))
+    → IfErr result (λ end. IsEndOf end (Notes (entry_for a before.work.standing) ∷ []) now)
+    → DoesNext (answer_of result) (Notes (entry_for a before.work.standing) ∷ []) before now
+does_one goes work a result before now running acted kept failure settled on ends =
+    let s = before.work.standing in
+    let e = entry_for a s in
+    let steps : List Step = Notes e ∷ [] in
+    let rest = without_first s.due in
+    let ours : AreOurs running.0.limits (a ∷ rest) = subst (AreOurs running.0.limits) (first_is s.due a acted.first) running.2.acts in
+    let same_moment : now.work.standing.moment ≡ s.moment = ap (λ (t : Standing). t.moment) acted.standing ∙ moment_kept running.0.limits a s rest ours in
+    let goes_so : Goes (λ at. ⊥) steps before now = record {
+      at = λ outset earlier at opened. at_entry goes work a before now acted kept.0 outset earlier at opened;
+      journal = acted.told;
+      times = record { each = no_moment running.0.limits a s rest (IsMoment (λ at. ⊥) s.moment) ours; last = inl same_moment };
+      store = spans_moves [] before.store now.store kept.1;
+    } in
+    record {
+      does = subst (λ (r : Result (Unit {0}) ServerEnd). Does (λ at. ⊥) r steps before now) (sym (same_outcome result)) (record {
+        goes = goes_so;
+        stays = elim result as (λ r. OnOk r ((a ≡ act.Reset → ⊥) × ((how : Ending) → a ≡ act.End how → ⊥)) → OnOk r (StaysOpen steps before now)) [
+          | Ok done ↦ λ fine. λ earlier opened. record {
+            free = subst IsFree (sym (goes.last earlier (Notes e))) (entry_free a s fine.0);
+            same = kept.1.generation ∙ opened.same ∙ sym (ap (λ (t : Standing). t.generation) acted.standing ∙ generation_kept a s fine.0);
+            inside = λ pid. kept.1.attends pid ∙ opened.inside pid ∙ ap (times_in pid) (sym kept.0);
+          }
+          | Err end ↦ λ fine. tt
+        ] on;
+        ends = ends;
+        serves = record { accepted = not_accepted a s; sessions = refl };
+      });
+      keeps = keeps_done a s now.work.standing acted.standing settled;
+      fewer = λ is. ap (λ (t : Standing). length t.due + 1) acted.standing ∙ ap (λ (l : List Action). length l + 1) (due_kept a s) ∙ shorter s.due a acted.first;
+      none_due = λ is. absurd (no_false result is);
+      ended = elim result as (λ r. OnOk r ((a ≡ act.Reset → ⊥) × ((how : Ending) → a ≡ act.End how → ⊥)) → OnOk (answer_of r) (now.work.standing.ended ≡ s.ended)) [
+        | Ok done ↦ λ fine. ap (λ (t : Standing). t.ended) acted.standing ∙ ended_kept a s fine.1
+        | Err end ↦ λ fine. tt
+      ] on;
+      says = λ says. (subst AreSays (sym (ap (λ (t : Standing). t.due) acted.standing ∙ due_kept a s)) (says_tail a rest (subst AreSays (first_is s.due a acted.first) says)), ap (λ (t : Standing). t.owes_smart) acted.standing ∙ says_owes a rest s (subst AreSays (first_is s.due a acted.first) says));
+      failure = failure;
+      listens = acted.listens;
+    }
+
+-- ---- a renewal
+
+once_self : (pid : ℕ) → once pid pid ≡ 1
+once_self pid = grind (arith, nat_tests)
+
+times_first : (pid : ℕ) (pids : List ℕ) → times_in pid (pid ∷ pids) ≡ once pid pid + times_in pid pids
+times_first pid pids = sum_by-cons (once pid) pid pids
+
+none_at_all : (pids : List ℕ) → ((pid : ℕ) → times_in pid pids ≡ 0) → pids ≡ []
+none_at_all [] none = refl
+none_at_all (pid ∷ pids) none = absurd (omega (arith, none pid, once_self pid, times_first pid pids))
+
+abbrev one_or_none : Bool → ℕ
+one_or_none b = cond b 1 0
+
+both_or_none : (n m : ℕ) → n ≡ m → one_or_none (nat_lt 0 n && nat_eq 0 m) ≡ 0
+both_or_none n m same = ap one_or_none (never_both n m same)
+  where
+    never_both : (n m : ℕ) → n ≡ m → (nat_lt 0 n && nat_eq 0 m) ≡ false
+    never_both n m same = grind (arith, nat_tests)
+
+no_others : (inside lost others : List ℕ) → AreOthers inside lost others → ((pid : ℕ) → times_in pid inside ≡ times_in pid lost) → others ≡ []
+no_others inside lost others are same = none_at_all others (λ pid. are pid ∙ both_or_none (times_in pid inside) (times_in pid lost) (same pid))
+
+pub does_reset : StepsGoOn → GoesOnOverItsJournal → (before now : View) (others : List ℕ) → IsRunning before → IsActed act.Reset before now
+    → now.lost ≡ [] → HasRenewed (before.work.standing.generation + 1) before.lost others before.store now.store → now.failure ≡ before.failure
+    → (IsSettled before.work.standing → IsSettled now.work.standing)
+    → DoesNext (Ok true) (Notes (entry.Reset (before.work.standing.generation + 1)) ∷ Renews (before.work.standing.generation + 1) before.lost ∷ []) before now
+does_reset goes work before now others running acted empty renewed failure settled =
+    let s = before.work.standing in
+    let g = s.generation + 1 in
+    let e = entry.Reset g in
+    let steps : List Step = Notes e ∷ Renews g before.lost ∷ [] in
+    let mid : View = record now { store = before.store; lost = before.lost } in
+    let acted_mid : IsActed act.Reset before mid = record { first = acted.first; standing = acted.standing; told = acted.told; hands = acted.hands; log = acted.log; listens = acted.listens } in
+    let none : others ≡ [] = no_others before.store.inside before.lost others renewed.others_are running.3.inside in
+    let book_is : map Gone (before.lost ++ others) ++ Opened g ∷ [] ≡ book_of steps =
+    ap (λ (l : List ℕ). map Gone (before.lost ++ l) ++ Opened g ∷ []) none ∙ ap (λ (l : List ℕ). map Gone l ++ Opened g ∷ []) (append-nil before.lost)
+    ∙ sym (append-nil (map Gone before.lost ++ Opened g ∷ [])) in
+    record {
+      does = record {
+        goes = record {
+          at = λ outset earlier at opened.
+              let l = earlier ++ Notes e ∷ [] in
+              let m = at_entry goes work act.Reset before mid acted_mid refl outset earlier at opened in
+              let j : journal_of l ≡ journal_of (l ++ Renews g before.lost ∷ []) = sym (goes.journal l (Renews g before.lost) ∙ append-nil (journal_of l)) in
+              subst (λ (x : List Step). IsAt outset x now) (append_assoc earlier (Notes e ∷ []) (Renews g before.lost ∷ [])) (record {
+                past = m.past;
+                stands = subst (λ (x : List PmEvent). Stands outset.limits (Some x) now.work.standing m.past) j m.stands;
+                told = subst (λ (x : List PmEvent). IfSome now.work.told (λ es. es ≡ x)) j m.told;
+                are_steps = goes.step outset.limits l (Renews g before.lost) m.are_steps
+                    (record { follows = subst (λ x. MayFollow x (Renews g before.lost)) (sym (goes.last earlier (Notes e))) refl; fits = m.lost_is });
+                lost_is = empty ∙ sym (goes.lost l (Renews g before.lost));
+                said = subst (λ (x : List PmEvent). HasSaid x outset.log now.log) j m.said;
+                hands = m.hands;
+                asks = subst (λ (x : List PmEvent). AsksAsDue (asked_in x) now.listens now.work.standing) j m.asks;
+                acts = m.acts;
+              });
+          journal = acted.told;
+          times = record { each = (tt, tt); last = inl (ap (λ (t : Standing). t.moment) acted.standing) };
+          store = subst (λ (x : List BookEntry). Spans x before.store now.store) book_is (spans_renewal g before.lost others before.store now.store renewed);
+        };
+        stays = λ earlier opened. record {
+          free = subst IsFree (sym (ap (last_or None) (sym (append_assoc earlier (Notes e ∷ []) (Renews g before.lost ∷ []))) ∙ goes.last (earlier ++ Notes e ∷ []) (Renews g before.lost))) tt;
+          same = renewed.renews.generation ∙ ap (λ (n : ℕ). n + 1) opened.same ∙ sym (ap (λ (t : Standing). t.generation) acted.standing);
+          inside = λ pid. ap (times_in pid) renewed.renews.inside ∙ ap (times_in pid) (sym empty);
+        };
+        ends = tt;
+        serves = record { accepted = refl; sessions = refl };
+      };
+      keeps = keeps_done act.Reset s now.work.standing acted.standing settled;
+      fewer = λ is. ap (λ (t : Standing). length t.due + 1) acted.standing ∙ shorter s.due act.Reset acted.first;
+      none_due = λ is. absurd (no_false (Ok tt) is);
+      ended = ap (λ (t : Standing). t.ended) acted.standing ∙ ended_kept act.Reset s (λ how is. no_end how is);
+      says = λ says. absurd (subst AreSays (first_is s.due act.Reset acted.first) says);
+      failure = failure;
+      listens = acted.listens;
+    }
+  where
+    no_end : (how : Ending) → act.Reset ≡ act.End how → ⊥
+    no_end how is = cc
+
+-- how the server ends where its machine does
+pub end_noted : (how : Ending) (before now : View) → now.failure ≡ before.failure → IsEndOf (end_in how before) (Notes (entry.Ended how) ∷ []) now
+end_noted endings.Clean before now failure = ([], refl)
+end_noted endings.AfterCrash before now failure = if_short before.is_short
+  where
+    if_short : (short : Bool) → IsEndOf (if short then NoMemory else Abnormal AfterCrash) (Notes (entry.Ended endings.AfterCrash) ∷ []) now
+    if_short true = tt
+    if_short false = ([], refl)
+end_noted endings.StartupFailed before now failure = by_reason before.failure refl
+  where
+    by_reason : (why : Option StartWhy) → before.failure ≡ why → IsEndOf (failed_by why) (Notes (entry.Ended endings.StartupFailed) ∷ []) now
+    by_reason None is = tt
+    by_reason (Some why) is = (([], refl), failure ∙ is)
+end_noted endings.RestartOff before now failure = ([], refl)
+
+-- ---- what is done of an act that was given
+
+acted_of : (a : Action) (result : Result (Unit {0}) ServerEnd) (before now : View) (w : AtWork) → first_due before.work.standing.due ≡ Some a → w.standing ≡ done a before.work.standing
+    → Adds (entry_for a before.work.standing ∷ []) before.work.told w.told → now.work ≡ w → Performs (act_for a before.work.standing) result (record before { work = w }) now → IsActed a before now
+acted_of a result before now w first standing told is performs = record {
+  first = first;
+  standing = ap (λ (x : AtWork). x.standing) is ∙ standing;
+  told = subst (λ (x : AtWork). Adds (entry_for a before.work.standing ∷ []) before.work.told x.told) (sym is) told;
+  hands = performs.hands;
+  log = performs.log;
+  listens = performs.listens;
+}
+
+pub performed : StepsGoOn → GoesOnOverItsJournal → (a : Action) (result : Result (Unit {0}) ServerEnd) (before now : View) (w : AtWork) → IsRunning before
+    → first_due before.work.standing.due ≡ Some a → w.standing ≡ done a before.work.standing → Adds (entry_for a before.work.standing ∷ []) before.work.told w.told
+    → now.work ≡ w → Performs (act_for a before.work.standing) result (record before { work = w }) now → (IsSettled before.work.standing → IsSettled w.standing)
+    → (steps : List Step) × DoesNext (answer_of result) steps before now
+performed goes work (act.Start k) result before now w running first standing told is performs settled =
+    let end : result ≡ Ok tt = performs.ends in (
+      Notes (entry_for (act.Start k) before.work.standing) ∷ [],
+      subst (λ (r : Result (Unit {0}) ServerEnd). DoesNext (answer_of r) (Notes (entry_for (act.Start k) before.work.standing) ∷ []) before now) (sym end)
+          (does_one goes work (act.Start k) (Ok tt) before now running (acted_of (act.Start k) result before now w first standing told is performs) performs.store performs.failure
+          (λ was. subst (λ (x : AtWork). IsSettled x.standing) (sym is) (settled was)) ((λ e. cc), (λ how e. cc)) tt),
+    )
+performed goes work (act.Quit why) result before now w running first standing told is performs settled =
+    let end : result ≡ Ok tt = performs.ends in (
+      Notes (entry_for (act.Quit why) before.work.standing) ∷ [],
+      subst (λ (r : Result (Unit {0}) ServerEnd). DoesNext (answer_of r) (Notes (entry_for (act.Quit why) before.work.standing) ∷ []) before now) (sym end)
+          (does_one goes work (act.Quit why) (Ok tt) before now running (acted_of (act.Quit why) result before now w first standing told is performs) performs.store performs.failure
+          (λ was. subst (λ (x : AtWork). IsSettled x.standing) (sym is) (settled was)) ((λ e. cc), (λ how e. cc)) tt),
+    )
+performed goes work act.Terminate result before now w running first standing told is performs settled =
+    let end : result ≡ Ok tt = performs.ends in (
+      Notes (entry_for act.Terminate before.work.standing) ∷ [],
+      subst (λ (r : Result (Unit {0}) ServerEnd). DoesNext (answer_of r) (Notes (entry_for act.Terminate before.work.standing) ∷ []) before now) (sym end)
+          (does_one goes work act.Terminate (Ok tt) before now running (acted_of act.Terminate result before now w first standing told is performs) performs.store performs.failure
+          (λ was. subst (λ (x : AtWork). IsSettled x.standing) (sym is) (settled was)) ((λ e. cc), (λ how e. cc)) tt),
+    )
+performed goes work act.KillAll result before now w running first standing told is performs settled =
+    let end : result ≡ Ok tt = performs.ends in (
+      Notes (entry_for act.KillAll before.work.standing) ∷ [],
+      subst (λ (r : Result (Unit {0}) ServerEnd). DoesNext (answer_of r) (Notes (entry_for act.KillAll before.work.standing) ∷ []) before now) (sym end)
+          (does_one goes work act.KillAll (Ok tt) before now running (acted_of act.KillAll result before now w first standing told is performs) performs.store performs.failure
+          (λ was. subst (λ (x : AtWork). IsSettled x.standing) (sym is) (settled was)) ((λ e. cc), (λ how e. cc)) tt),
+    )
+performed goes work act.AskCheckpoint result before now w running first standing told is performs settled =
+    let end : result ≡ Ok tt = performs.ends in (
+      Notes (entry_for act.AskCheckpoint before.work.standing) ∷ [],
+      subst (λ (r : Result (Unit {0}) ServerEnd). DoesNext (answer_of r) (Notes (entry_for act.AskCheckpoint before.work.standing) ∷ []) before now) (sym end)
+          (does_one goes work act.AskCheckpoint (Ok tt) before now running (acted_of act.AskCheckpoint result before now w first standing told is performs) performs.store performs.failure
+          (λ was. subst (λ (x : AtWork). IsSettled x.standing) (sym is) (settled was)) ((λ e. cc), (λ how e. cc)) tt),
+    )
+performed goes work act.Ready result before now w running first standing told is performs settled =
+    let end : result ≡ Ok tt = performs.ends in (
+      Notes (entry_for act.Ready before.work.standing) ∷ [],
+      subst (λ (r : Result (Unit {0}) ServerEnd). DoesNext (answer_of r) (Notes (entry_for act.Ready before.work.standing) ∷ []) before now) (sym end)
+          (does_one goes work act.Ready (Ok tt) before now running (acted_of act.Ready result before now w first standing told is performs) performs.store performs.failure
+          (λ was. subst (λ (x : AtWork). IsSettled x.standing) (sym is) (settled was)) ((λ e. cc), (λ how e. cc)) tt),
+    )
+performed goes work act.Reset (Ok done) before now w running first standing told is performs settled = (
+  _,
+  does_reset goes work before now performs.store.1 running (acted_of act.Reset (Ok done) before now w first standing told is performs) performs.store.0 performs.store.2 performs.failure
+      (λ was. subst (λ (x : AtWork). IsSettled x.standing) (sym is) (settled was)),
+)
+performed goes work act.Reset (Err end) before now w running first standing told is performs settled = (
+  Notes (entry_for act.Reset before.work.standing) ∷ [],
+  does_one goes work act.Reset (Err end) before now running (acted_of act.Reset (Err end) before now w first standing told is performs) performs.store performs.failure
+      (λ was. subst (λ (x : AtWork). IsSettled x.standing) (sym is) (settled was)) tt (short_end end performs.ends),
+)
+  where
+    short_end : (e : ServerEnd) → e ≡ NoMemory → IsEndOf e (Notes (entry_for act.Reset before.work.standing) ∷ []) now
+    short_end e is = subst (λ (x : ServerEnd). IsEndOf x (Notes (entry_for act.Reset before.work.standing) ∷ []) now) (sym is) tt
+performed goes work (act.Say line) result before now w running first standing told is performs settled =
+    let end : result ≡ Ok tt = performs.ends in (
+      Notes (entry_for (act.Say line) before.work.standing) ∷ [],
+      subst (λ (r : Result (Unit {0}) ServerEnd). DoesNext (answer_of r) (Notes (entry_for (act.Say line) before.work.standing) ∷ []) before now) (sym end)
+          (does_one goes work (act.Say line) (Ok tt) before now running (acted_of (act.Say line) result before now w first standing told is performs) performs.store performs.failure
+          (λ was. subst (λ (x : AtWork). IsSettled x.standing) (sym is) (settled was)) ((λ e. cc), (λ how e. cc)) tt),
+    )
+performed goes work (act.End how) result before now w running first standing told is performs settled =
+    let v : View = record before { work = w } in
+    let end : result ≡ Err (end_in how v) = performs.ends in (
+      Notes (entry.Ended how) ∷ [],
+      subst (λ (r : Result (Unit {0}) ServerEnd). DoesNext (answer_of r) (Notes (entry.Ended how) ∷ []) before now) (sym end)
+          (does_one goes work (act.End how) (Err (end_in how v)) before now running (acted_of (act.End how) result before now w first standing told is performs) performs.store performs.failure
+          (λ was. subst (λ (x : AtWork). IsSettled x.standing) (sym is) (settled was)) tt (end_noted how v now performs.failure)),
+    )
+
+-- ---- nothing is done
+
+pub same_told : (told now : Option (List PmEvent)) → Adds [] told now → now ≡ told
+same_told None now adds = adds
+same_told (Some j) now adds = adds ∙ ap (λ (l : List PmEvent). Some l) (append-nil j)
+
+pub same_work : (v w : AtWork) → w.standing ≡ v.standing → w.told ≡ v.told → w ≡ v
+same_work v w standing told =
+    ap (λ (s : Standing). record { told = w.told; standing = s }) standing ∙ ap (λ (t : Option (List PmEvent)). record { told = t; standing = v.standing }) told
+
+still_keeps : (s : Standing) → Keeps s s
+still_keeps s = record { hands = λ pid k there. there; settled = λ was. was; drawn = λ drawn. drawn; unowed = λ drawn unowed. unowed }
+
+pub waits : (before : View) (w : AtWork) (r : Result Bool ServerEnd) → w.standing ≡ before.work.standing → Adds [] before.work.told w.told → IfErr (outcome r) (λ end. IsEndOf end [] before)
+    → (r ≡ Ok false → before.work.standing.due ≡ []) → (r ≡ Ok true → ⊥) → DoesNext r [] before (record before { work = w })
+waits before w r standing told ends none never =
+    subst (λ (x : AtWork). DoesNext r [] before (record before { work = x })) (sym (same_work before.work w standing (same_told before.work.told w.told told))) (record {
+      does = record {
+        goes = goes_none (λ at. ⊥) before;
+        stays = elim (outcome r) as (λ o. OnOk o (StaysOpen [] before before)) [ Ok done ↦ stays_none before | Err end ↦ tt ];
+        ends = ends;
+        serves = serves_nothing;
+      };
+      keeps = still_keeps before.work.standing;
+      fewer = λ is. absurd (never is);
+      none_due = none;
+      ended = elim r as (λ o. OnOk o (before.work.standing.ended ≡ before.work.standing.ended)) [ Ok on ↦ refl | Err end ↦ tt ];
+      says = λ says. (says, refl);
+      failure = refl;
+      listens = refl;
+    })
+
+-- ---- what `perform` needs
+
+pub reset_number : (a : Action) (s : Standing) (generation : ℕ) → act_for a s ≡ given.Reset generation → generation ≡ s.generation + 1
+reset_number (act.Start k) s generation is = cc
+reset_number (act.Quit why) s generation is = cc
+reset_number act.Terminate s generation is = cc
+reset_number act.KillAll s generation is = cc
+reset_number act.AskCheckpoint s generation is = cc
+reset_number act.Ready s generation is = cc
+reset_number act.Reset s generation is = cc
+reset_number (act.Say line) s generation is = cc
+reset_number (act.End how) s generation is = cc
+
+pub says_unspent : (due : List Action) (s : Standing) (e : GenerationsSpent) → AreSays due → (next_in due s).answer ≡ Err e → ⊥
+says_unspent [] s e says answer = absurd cc
+says_unspent (act.Start k ∷ rest) s e says answer = says
+says_unspent (act.Quit why ∷ rest) s e says answer = says
+says_unspent (act.Terminate ∷ rest) s e says answer = says
+says_unspent (act.KillAll ∷ rest) s e says answer = says
+says_unspent (act.AskCheckpoint ∷ rest) s e says answer = says
+says_unspent (act.Ready ∷ rest) s e says answer = says
+says_unspent (act.Reset ∷ rest) s e says answer = says
+says_unspent (act.Say line ∷ rest) s e says answer = absurd cc
+says_unspent (act.End how ∷ rest) s e says answer = says
+
+-- a line is the first act
+pub record IsLine (a : Action) : Type 0 where
+  pub line : Line
+  pub is : a ≡ act.Say line
+
+pub first_says : (due : List Action) (a : Action) → AreSays due → first_due due ≡ Some a → IsLine a
+first_says [] a says first = absurd cc
+first_says (act.Start k ∷ rest) a says first = absurd says
+first_says (act.Quit why ∷ rest) a says first = absurd says
+first_says (act.Terminate ∷ rest) a says first = absurd says
+first_says (act.KillAll ∷ rest) a says first = absurd says
+first_says (act.AskCheckpoint ∷ rest) a says first = absurd says
+first_says (act.Ready ∷ rest) a says first = absurd says
+first_says (act.Reset ∷ rest) a says first = absurd says
+first_says (act.Say line ∷ rest) a says first = record { line = line; is = cc }
+first_says (act.End how ∷ rest) a says first = absurd says
+
+pub said_well : (a : Action) (s : Standing) (result : Result (Unit {0}) ServerEnd) (before now : View) → IsLine a → Performs (act_for a s) result before now → result ≡ Ok tt
+said_well a s result before now line performs =
+    let by_line : Performs (act_for (act.Say line.line) s) result before now = subst (λ (x : Action). Performs (act_for x s) result before now) line.is performs in
+    by_line.ends

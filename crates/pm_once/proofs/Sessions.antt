@@ -1,0 +1,164 @@
+-- The session of a child to which nothing happens.
+use Rattle.std.proofs.Common.{◌≡◌, ◌⊎◌, inl, inr, ℕ, ◌≤◌, List, [], ◌∷◌, ◌++◌, length, All, Option, None, Some, Result, Ok, Err, refl, sym, ◌∙◌, ap, subst, arith, append_assoc}
+use Rattle.std.specs.Prelude.{Bool, true, false, cond}
+use Rattle.std.specs.List.{Contains}
+use Rattle.std.proofs.lemmas.List.Elements.{All-nil, All-cons}
+use Rattle.pm_outside.specs.Traffic.{Traffic, IsFresh}
+use Rattle.pm_admit.specs.declared.Cac.TheVariants as decisions
+use Rattle.pm_life.specs.declared.life.GateNo.{GateNo}
+use Rattle.pm_life.specs.Life.{Told, Signal, Kill, Quit, Terminate, Cancel}
+use Rattle.pm_query.specs.Calls.{newcomer}
+use Rattle.pm_query.specs.declared.book.BookEntry.{BookEntry}
+use Rattle.pm_session.specs.Exchange.{LinkView, HasFailed}
+use Rattle.pm_session.specs.Sent.{Turn}
+use Rattle.pm_session.specs.Session.{Ending, IsText, IsSession, IsCaused, CausedBy, HasEntered, IsCancelledTurn, NotesOutside, EndsAt, TurnsAway, between}
+use Rattle.pm_session.specs.declared.ending.Cause.{Cause}
+use Rattle.pm_session.specs.declared.ending.Cause.TheVariants.{Terminated, Cancelling, LinkEnded, LinkFailed, TimedOut, PacketRefused, MessageRefused, DecisionRefused, GateRefused, ShortOfMemory, Panicked, ToldToTerminate, ToldToQuit, Killed, Overtaken}
+use Rattle.pm_session.specs.declared.ending.Stage.{Stage}
+use Rattle.pm_session.specs.declared.ending.Stage.TheVariants.{Outside, Entering, Greeted}
+use Rattle.pm_startup.specs.declared.phase.Phase.{Phase}
+use Rattle.pm_once.specs.Service.{IsOfItself, IsServedAs}
+
+-- what the gate can have answered
+abbrev its_gate : ℕ → Bool → Option (Result ℕ GateNo)
+its_gate home has = cond has (Some (Ok home)) None
+
+same_gate : (home : ℕ) (has : Bool) (generation : ℕ) → its_gate home has ≡ Some (Ok generation) → generation ≡ home
+same_gate home true generation is = cc
+same_gate home false generation is = cc
+
+never_refused : (home : ℕ) (has : Bool) (refusal : GateNo) → its_gate home has ≡ Some (Err refusal) → ⊥
+never_refused home true refusal is = cc
+never_refused home false refusal is = cc
+
+-- no signal is among none
+never_given : (signal : Signal) (given : List Signal) → given ≡ [] → Contains given signal → ⊥
+never_given signal given none has = omega (arith, ap length none, has.1)
+
+-- ---- its generation
+
+abbrev IsHome : ℕ → Stage → ℕ → Type 0
+IsHome home stage generation = (stage ≡ Outside) ⊎ (generation ≡ home)
+
+at_home : (home : ℕ) (has : Bool) (told : Told) (stage : Stage) (generation : ℕ) → told.met ≡ its_gate home has → HasEntered stage generation (Some told) → IsHome home stage generation
+at_home home has told Outside generation met entered = inl refl
+at_home home has told Entering generation met entered = inr (same_gate home has generation (sym met ∙ entered))
+at_home home has told Greeted generation met entered = inr (same_gate home has generation (sym met ∙ entered))
+
+outside_notes : (stamp : Option ℕ) (pid one two : ℕ) (stage : Stage) (exit : Cause) (noted : List BookEntry) → stage ≡ Outside → NotesOutside (newcomer stamp pid one) stage exit noted → NotesOutside (newcomer stamp pid two) stage exit noted
+outside_notes stamp pid one two Outside exit noted is notes = notes
+outside_notes stamp pid one two Entering exit noted is notes = absurd (cc)
+outside_notes stamp pid one two Greeted exit noted is notes = absurd (cc)
+
+outside_stops : (stamp : Option ℕ) (pid one two : ℕ) (stage : Stage) (phase : Phase) (cause : Cause) (last : List ℕ) → stage ≡ Outside → TurnsAway (newcomer stamp pid one) stage phase cause last → TurnsAway (newcomer stamp pid two) stage phase cause last
+outside_stops stamp pid one two stage phase Terminated last is stops = stops
+outside_stops stamp pid one two stage phase Cancelling last is stops = stops
+outside_stops stamp pid one two stage phase LinkEnded last is stops = stops
+outside_stops stamp pid one two stage phase LinkFailed last is stops = stops
+outside_stops stamp pid one two stage phase TimedOut last is stops = stops
+outside_stops stamp pid one two stage phase (PacketRefused fault) last is stops = stops
+outside_stops stamp pid one two stage phase (MessageRefused fault) last is stops = stops
+outside_stops stamp pid one two stage phase DecisionRefused last is stops = stops
+outside_stops stamp pid one two stage phase (GateRefused refusal) last is stops = stops
+outside_stops stamp pid one two stage phase ShortOfMemory last is stops = stops
+outside_stops stamp pid one two stage phase Panicked last is stops = stops
+outside_stops stamp pid one two stage phase ToldToTerminate last is stops = stops
+outside_stops stamp pid one two stage phase (ToldToQuit reason) last is stops = stops
+outside_stops stamp pid one two stage phase Killed last is stops = stops
+outside_stops stamp pid one two stage phase Overtaken last is stops = let other : Outside ≡ Entering = sym is ∙ stops.0 in absurd (cc)
+
+home_text : (home pid generation key : ℕ) (turns : List Turn) (ending : Ending) (came_in whole : List ℕ) (noted : List BookEntry) → IsHome home ending.stage generation
+    → IsText decisions.Ok (newcomer (Some home) pid generation) key turns ending came_in whole noted → IsText decisions.Ok (newcomer (Some home) pid home) key turns ending came_in whole noted
+home_text home pid generation key turns ending came_in whole noted (inr same) text =
+    subst (λ (g : ℕ). IsText decisions.Ok (newcomer (Some home) pid g) key turns ending came_in whole noted) same text
+home_text home pid generation key turns ending came_in whole noted (inl outside) (inl away) = inl (
+  record {
+    requests = away.0.requests;
+    phase = away.0.phase;
+    last = away.0.last;
+    beyond = away.0.beyond;
+    admitted = away.0.admitted;
+    asks = away.0.asks;
+    stops = outside_stops (Some home) pid generation home ending.stage away.0.phase ending.cause away.0.last outside away.0.stops;
+    input = away.0.input;
+    passes_over = away.0.passes_over;
+    output = away.0.output;
+    notes = outside_notes (Some home) pid generation home ending.stage ending.exit noted outside away.0.notes;
+  },
+  away.1,
+)
+home_text home pid generation key turns ending came_in whole noted (inl outside) (inr served) =
+    let is : Outside ≡ Greeted = sym outside ∙ served.stage in absurd (cc)
+
+home_entered : (home : ℕ) (told : Told) (stage : Stage) (generation : ℕ) → IsHome home stage generation → HasEntered stage generation (Some told) → HasEntered stage home (Some told)
+home_entered home told stage generation (inl outside) entered = subst (λ (s : Stage). HasEntered s home (Some told)) (sym outside) tt
+home_entered home told stage generation (inr same) entered = subst (λ (g : ℕ). HasEntered stage g (Some told)) same entered
+
+-- ---- by what it ends
+
+never_overtaken : (home pid key : ℕ) (turns : List Turn) (ending : Ending) (came_in whole : List ℕ) (noted : List BookEntry)
+    → IsText decisions.Ok (newcomer (Some home) pid home) key turns ending came_in whole noted → ending.cause ≡ Overtaken → ⊥
+never_overtaken home pid key turns ending came_in whole noted (inl away) is =
+    (subst (λ (cause : Cause). TurnsAway (newcomer (Some home) pid home) ending.stage away.0.phase cause away.0.last) is away.0.stops).1 refl
+never_overtaken home pid key turns ending came_in whole noted (inr served) is =
+    (subst (λ (cause : Cause). EndsAt (newcomer (Some home) pid home) cause served.last served.ended) is served.ends).0 refl
+
+of_itself : (home : ℕ) (has : Bool) (told : Told) (cause : Cause) (link : Option Traffic) (failed : Type 0) (limit : ℕ) (gives : ℕ → Type 0) → told.given ≡ [] → told.met ≡ its_gate home has
+    → CausedBy cause decisions.Ok link failed (Some told) limit gives → (cause ≡ Overtaken → ⊥) → IsOfItself cause
+of_itself home has told Terminated link failed limit gives given met by over = tt
+of_itself home has told Cancelling link failed limit gives given met by over = tt
+of_itself home has told LinkEnded link failed limit gives given met by over = tt
+of_itself home has told LinkFailed link failed limit gives given met by over = tt
+of_itself home has told TimedOut link failed limit gives given met by over = tt
+of_itself home has told (PacketRefused fault) link failed limit gives given met by over = tt
+of_itself home has told (MessageRefused fault) link failed limit gives given met by over = tt
+of_itself home has told DecisionRefused link failed limit gives given met by over = by refl
+of_itself home has told (GateRefused refusal) link failed limit gives given met by over = never_refused home has refusal (sym met ∙ by.1)
+of_itself home has told ShortOfMemory link failed limit gives given met by over = tt
+of_itself home has told Panicked link failed limit gives given met by over = tt
+of_itself home has told ToldToTerminate link failed limit gives given met by over = never_given Terminate told.given given by
+of_itself home has told (ToldToQuit reason) link failed limit gives given met by over = never_given (Quit reason) told.given given by
+of_itself home has told Killed link failed limit gives given met by over = never_given Kill told.given given by
+of_itself home has told Overtaken link failed limit gives given met by over = over refl
+
+as_caused : (told : Told) (ending : Ending) (link : Option Traffic) (failed : Type 0) (limit : ℕ) (gives : ℕ → Type 0) → told.given ≡ []
+    → CausedBy ending.exit decisions.Ok link failed (Some told) limit gives → (ending.exit ≡ ending.cause) ⊎ (ending.exit ≡ Killed) → ending.exit ≡ ending.cause
+as_caused told ending link failed limit gives given by (inl same) = same
+as_caused told ending link failed limit gives given by (inr killed) =
+    absurd (never_given Kill told.given given (subst (λ (cause : Cause). CausedBy cause decisions.Ok link failed (Some told) limit gives) killed by))
+
+-- ---- its turns
+
+-- what holds of each that stands between others holds of all
+of_each : {X : Type 0} (P : X → Type 0) (xs front : List X) → ((before : List X) (x : X) (behind : List X) → front ++ xs ≡ before ++ x ∷ behind → P x) → All P xs
+of_each P [] front each = All-nil P
+of_each P (x ∷ xs) front each =
+    All-cons P x xs (each front x xs refl) (of_each P xs (front ++ x ∷ []) (λ before y behind is. each before y behind (sym (append_assoc front (x ∷ []) xs) ∙ is)))
+
+-- ---- the whole
+
+pub served_alone : {S : Type 0} (notes : List BookEntry → S → S → Type 0) (before now : S) (has : Bool) (told : Told) (home pid generation key limit : ℕ) (gives : ℕ → Type 0) (ending : Ending) (turns : List Turn) (given back : LinkView)
+    → told.given ≡ [] → told.met ≡ its_gate home has → IsFresh given.traffic → back.number ≡ given.number → given.faults ≤ back.faults
+    → IsSession notes decisions.Ok (newcomer (Some home) pid generation) key turns ending (HasFailed given back) (between back.traffic before now)
+    → IsCaused ending turns generation decisions.Ok back.traffic (HasFailed given back) (Some told) limit gives
+    → (noted : List BookEntry) × notes noted before now × IsServedAs key limit gives (record { pid = pid; generation = home; given = given; back = back; turns = turns; ending = ending; noted = noted })
+served_alone notes before now has told home pid generation key limit gives ending turns given back none met fresh same later session caused =
+    let at = at_home home has told ending.stage generation met caused.gate in
+    let text = home_text home pid generation key turns ending session.came_in session.whole session.noted at session.text in (
+      session.noted,
+      session.entries,
+      record {
+        told = told;
+        fresh = fresh;
+        same = same;
+        later = later;
+        session = record { came_in = session.came_in; whole = session.whole; noted = session.noted; text = text; passed = session.passed; entries = refl };
+        ungiven = none;
+        caused = record { cause = caused.cause; exit = caused.exit; gate = home_entered home told ending.stage generation at caused.gate; cancelled = caused.cancelled };
+        alone = record {
+          cause = of_itself home has told ending.cause back.traffic (HasFailed given back) limit gives none met caused.cause (never_overtaken home pid key turns ending session.came_in session.whole session.noted text);
+          exit = as_caused told ending back.traffic (HasFailed given back) limit gives none caused.exit ending.exits;
+          uncancelled = of_each (λ (turn : Turn). IsCancelledTurn turn → ⊥) turns [] (λ front turn behind is cancelled. never_given Cancel told.given none (caused.cancelled front turn behind is cancelled));
+        };
+      },
+    )

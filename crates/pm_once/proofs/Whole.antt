@@ -1,0 +1,173 @@
+-- A whole run.
+use Rattle.std.proofs.Common.{◌≡◌, ◌⊎◌, inl, inr, ℕ, ◌+◌, ◌≤◌, List, [], ◌∷◌, length, Option, Some, Err, refl, sym, ◌∙◌, ap, subst, arith}
+use Rattle.std.specs.Prelude.{Bool, true, false, IfSome}
+use Rattle.std.proofs.lemmas.List.Elements.{All-nil}
+use Rattle.pm_modes.specs.declared.Mode.{Mode}
+use Rattle.pm_modes.specs.declared.Mode.TheVariants.{Smart}
+use Rattle.pm_supervisor.specs.Children.{one_if}
+use Rattle.pm_supervisor.specs.declared.Limits.{Limits}
+use Rattle.pm_supervisor.specs.Steps.{empty_trace}
+use Rattle.pm_state.specs.declared.event.PmEvent.{PmEvent}
+use Rattle.pm_state.specs.Journal.{all_replayed, replay_begun}
+use Rattle.pm_query.specs.declared.book.BookEntry.{BookEntry}
+use Rattle.pm_query.specs.declared.book.BookEntry.TheVariants.{Opened}
+use Rattle.pm_segment.specs.Children.{times_in}
+use Rattle.pm_segment.specs.Moves.{NotesEntries}
+use Rattle.pm_segment.specs.MovesLaws.{notes_both}
+use Rattle.pm_chain.specs.Laws.{StepsGoOn}
+use Rattle.pm_chain.specs.Steps.{Step, book_of, journal_of, replay_of}
+use Rattle.pm_journal.specs.Laws.{GoesOnOverItsJournal, KeepsALegalJournal}
+use Rattle.pm_journal.specs.Standing.{Standing, nothing_done}
+use Rattle.pm_journal.specs.Stands.{Remembers, Stands}
+use Rattle.pm_once.specs.Goes.{AreOurs, AsksAsDue, IsAt, IsEndOf, IsIdle, IsMoment, IsOpen, IsRunning, Outset, asked_in, is_last_drawn}
+use Rattle.pm_once.specs.Hands.{AreThere, nobody}
+use Rattle.pm_once.specs.Log.{HasLogged}
+use Rattle.pm_once.specs.Once.{IsAsked, IsBook, IsJournal, IsOnceEnd, is_spent_of_pids}
+use Rattle.pm_once.specs.Serves.{Serves}
+use Rattle.pm_once.specs.Service.{Connection}
+use Rattle.pm_once.specs.View.{View}
+use Rattle.pm_once.specs.declared.end.ServerEnd.{ServerEnd}
+use Rattle.pm_once.specs.declared.end.ServerEnd.TheVariants.{Clean, Abnormal, NoMemory}
+use Rattle.pm_once.specs.declared.end.Why.TheVariants.{AfterCrash, StartupFailed, RestartOff, GenerationsSpent}
+use Rattle.pm_once.specs.declared.hands.Hands.{Hands}
+use Rattle.pm_once.proofs.Entries.{all_weaker}
+use Rattle.pm_once.proofs.Going.{adds_none}
+use Rattle.pm_once.proofs.Saying.{said_first}
+use Rattle.pm_once.proofs.Sending.{nothing_printed, printed_weaker}
+
+-- a server before it does anything
+pub record HasBegun (limits : Limits) (v : View) : Type 0 where
+  pub standing : v.work.standing ≡ nothing_done limits
+  pub told : IfSome v.work.told (λ es. es ≡ [])
+  pub unbroken : v.log.is_cut ≡ false
+  pub lost : v.lost ≡ []
+  pub hands : v.hands ≡ nobody
+  pub listens : v.listens ≡ true
+  pub generation : v.store.generation ≡ 1
+  pub inside : v.store.inside ≡ []
+
+abbrev outset_of : Limits → View → Outset
+outset_of limits v = record { limits = limits; log = v.log }
+
+begins_at : StepsGoOn → GoesOnOverItsJournal → (limits : Limits) (v : View) → HasBegun limits v → IsAt (outset_of limits v) [] v
+begins_at goes work limits v begun = record {
+  past = empty_trace;
+  stands = subst (λ (s : Standing). Stands limits (Some []) s empty_trace) (sym begun.standing) (work.begins limits);
+  told = begun.told;
+  are_steps = goes.begins limits;
+  lost_is = begun.lost;
+  said = said_first v.log begun.unbroken;
+  hands = subst (λ (h : Hands). AreThere h v.work.standing) (sym begun.hands) (record { startup = tt; checkpointer = tt; writer = tt });
+  asks = subst (λ (s : Standing). AsksAsDue [] v.listens s) (sym begun.standing) (record { smart = All-nil (λ (m : Mode). m ≡ Smart); few = omega (arith, one_at_most v.listens) });
+  acts = subst (λ (s : Standing). AreOurs limits s.due) (sym begun.standing) tt;
+}
+  where
+    one_at_most : (b : Bool) → one_if b ≤ 1
+    one_at_most true = omega arith
+    one_at_most false = omega arith
+
+begins_open : (limits : Limits) (v : View) → HasBegun limits v → IsOpen [] v
+begins_open limits v begun = record {
+  free = tt;
+  same = begun.generation ∙ sym (ap (λ (s : Standing). s.generation) begun.standing);
+  inside = λ pid. ap (times_in pid) (begun.inside ∙ sym begun.lost);
+}
+
+pub begins_running : StepsGoOn → GoesOnOverItsJournal → (limits : Limits) (v : View) → HasBegun limits v → IsRunning v
+begins_running goes work limits v begun = (outset_of limits v, [], begins_at goes work limits v begun, begins_open limits v begun)
+
+pub begins_idle : (limits : Limits) (v : View) → HasBegun limits v → IsIdle v.work.standing
+begins_idle limits v begun = record {
+  rests = record { none_due = ap (λ (s : Standing). s.due) begun.standing; goes_on = ap (λ (s : Standing). s.ended) begun.standing };
+  unowed = ap (λ (s : Standing). s.owes_smart) begun.standing;
+}
+
+-- ---- at its end
+
+never_zero : (gives : ℕ → Type 0) (n : ℕ) → n ≡ 0 → (at : ℕ) → IsMoment gives n at → gives at
+never_zero gives n zero at (inl given) = given
+never_zero gives n zero at (inr old) = absurd (omega (arith, old.1, zero))
+
+remembered : (limits : Limits) (journal : List PmEvent) (s : Standing) (h : _) → Stands limits (Some journal) s h → Remembers s (all_replayed (replay_begun limits) journal)
+remembered limits journal s h stands = subst (λ (j : List PmEvent). Remembers s (all_replayed (replay_begun limits) j)) (sym stands.told_is) stands.remembers
+
+pub whole_journal : StepsGoOn → GoesOnOverItsJournal → KeepsALegalJournal → (limits : Limits) (gives : ℕ → Type 0) (end : ServerEnd) (cs : List Connection) (ended : Bool) (steps : List Step) (v now : View) → HasBegun limits v
+    → Serves gives (Err end) cs ended steps v now → IsJournal limits gives steps v.work.told now.work.told
+whole_journal goes work legal limits gives end cs ended steps v now begun serves =
+    let at : IsAt (outset_of limits v) steps now = serves.goes.at (outset_of limits v) [] (begins_at goes work limits v begun) (begins_open limits v begun) in
+    record {
+      noted = serves.goes.journal;
+      legal = legal.legal limits (journal_of steps) now.work.standing at.past at.stands;
+      given = all_weaker (IsMoment gives v.work.standing.moment) gives (never_zero gives v.work.standing.moment (ap (λ (s : Standing). s.moment) begun.standing)) (journal_of steps) serves.goes.times.each;
+      are_steps = at.are_steps;
+    }
+
+pub whole_asked : StepsGoOn → GoesOnOverItsJournal → (limits : Limits) (gives : ℕ → Type 0) (end : ServerEnd) (cs : List Connection) (ended : Bool) (steps : List Step) (v now : View) → HasBegun limits v
+    → Serves gives (Err end) cs ended steps v now → IsAsked limits ended steps
+whole_asked goes work limits gives end cs ended steps v now begun serves =
+    let at : IsAt (outset_of limits v) steps now = serves.goes.at (outset_of limits v) [] (begins_at goes work limits v begun) (begins_open limits v begun) in
+    let same : now.work.standing.last_pid ≡ (replay_of limits steps).shown.last_pid = (remembered limits (journal_of steps) now.work.standing at.past at.stands).last_pid in
+    let asked = asked_in (journal_of steps) in
+    let few : length asked + one_if now.work.standing.owes_smart + one_if now.listens ≤ 1 + one_if (is_spent_of_pids limits steps) =
+    subst (λ (n : ℕ). length asked + one_if now.work.standing.owes_smart + one_if now.listens ≤ 1 + one_if (is_last_drawn n)) same at.asks.few in
+    record {
+      smart = at.asks.smart;
+      few = omega (arith, few);
+      cause = by_test (is_spent_of_pids limits steps) refl now.listens refl few (λ is. serves.why is) same;
+    }
+  where
+    never : (b : Bool) → b ≡ true → b ≡ false → ⊥
+    never b one two = cc
+
+    by_test : (drawn : Bool) → is_spent_of_pids limits steps ≡ drawn → (listens : Bool) → now.listens ≡ listens
+        → length (asked_in (journal_of steps)) + one_if now.work.standing.owes_smart + one_if now.listens ≤ 1 + one_if (is_spent_of_pids limits steps)
+        → (now.listens ≡ false → (v.listens ≡ false) ⊎ ((ended ≡ true) ⊎ (is_last_drawn now.work.standing.last_pid ≡ true))) → now.work.standing.last_pid ≡ (replay_of limits steps).shown.last_pid
+        → (length (asked_in (journal_of steps)) ≡ 0) ⊎ ((ended ≡ true) ⊎ (is_spent_of_pids limits steps ≡ true))
+    by_test true is listens hears few why same = inr (inr is)
+    by_test false is true hears few why same = inl (omega (arith, few, ap one_if is, ap one_if hears))
+    by_test false is false hears few why same = elim (why hears) [
+      | inl deaf ↦ absurd (never v.listens begun.listens deaf)
+      | inr (inl over) ↦ inr (inl over)
+      | inr (inr drawn) ↦ inr (inr (subst (λ (n : ℕ). is_last_drawn n ≡ true) same drawn))
+    ]
+
+end_by : (limits : Limits) (end : ServerEnd) (steps : List Step) (now : View) → now.work.standing.generation ≡ (replay_of limits steps).shown.generation → IsEndOf end steps now → IsOnceEnd limits end steps
+end_by limits Clean steps now same ends = ends
+end_by limits (Abnormal AfterCrash) steps now same ends = ends
+end_by limits (Abnormal RestartOff) steps now same ends = ends
+end_by limits (Abnormal (StartupFailed why)) steps now same ends = ends.0
+end_by limits (Abnormal GenerationsSpent) steps now same ends = sym same ∙ ends
+end_by limits NoMemory steps now same ends = tt
+
+pub whole_end : StepsGoOn → GoesOnOverItsJournal → (limits : Limits) (gives : ℕ → Type 0) (end : ServerEnd) (cs : List Connection) (ended : Bool) (steps : List Step) (v now : View) → HasBegun limits v
+    → Serves gives (Err end) cs ended steps v now → IsOnceEnd limits end steps
+whole_end goes work limits gives end cs ended steps v now begun serves =
+    let at : IsAt (outset_of limits v) steps now = serves.goes.at (outset_of limits v) [] (begins_at goes work limits v begun) (begins_open limits v begun) in
+    end_by limits end steps now (remembered limits (journal_of steps) now.work.standing at.past at.stands).generation serves.ends
+
+pub whole_log : StepsGoOn → GoesOnOverItsJournal → (limits : Limits) (gives : ℕ → Type 0) (end : ServerEnd) (cs : List Connection) (ended : Bool) (steps : List Step) (v now : View) → HasBegun limits v
+    → Serves gives (Err end) cs ended steps v now → HasLogged (journal_of steps) v.log.written now.log.written v.log.faults now.log.faults
+whole_log goes work limits gives end cs ended steps v now begun serves =
+    let at : IsAt (outset_of limits v) steps now = serves.goes.at (outset_of limits v) [] (begins_at goes work limits v begun) (begins_open limits v begun) in
+    record { printed = printed_weaker _ _ _ _ _ at.said.rose at.said.printed; later = at.said.later }
+
+book_by_end : (end : ServerEnd) (steps : List Step) (before now : Option (List BookEntry)) → NotesEntries (Opened 1 ∷ book_of steps) before now → IsBook end steps before now
+book_by_end NoMemory steps before now notes = inr notes
+book_by_end Clean steps before now notes = notes
+book_by_end (Abnormal why) steps before now notes = notes
+
+pub whole_book_is : (gives : ℕ → Type 0) (end : ServerEnd) (cs : List Connection) (ended : Bool) (steps : List Step) (v now : View) (before : Option (List BookEntry)) → NotesEntries (Opened 1 ∷ []) before v.store.book
+    → Serves gives (Err end) cs ended steps v now → IsBook end steps before now.store.book
+whole_book_is gives end cs ended steps v now before opened serves =
+    book_by_end end steps before now.store.book (notes_both (Opened 1 ∷ []) (book_of steps) before v.store.book now.store.book opened serves.goes.store.notes)
+
+-- ---- where the store couldn't be made
+
+pub nothing_journal : StepsGoOn → (limits : Limits) (gives : ℕ → Type 0) (told : Option (List PmEvent)) → IsJournal limits gives [] told told
+nothing_journal goes limits gives told = record { noted = adds_none told; legal = tt; given = tt; are_steps = goes.begins limits }
+
+pub nothing_asked : (limits : Limits) → IsAsked limits false []
+nothing_asked limits = record { smart = All-nil (λ (m : Mode). m ≡ Smart); few = omega arith; cause = inl refl }
+
+pub nothing_logged : (written : Option (List ℕ)) (faults : ℕ) → HasLogged [] written written faults faults
+nothing_logged written faults = record { printed = nothing_printed _ written; later = omega arith }

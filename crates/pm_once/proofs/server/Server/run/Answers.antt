@@ -1,0 +1,45 @@
+use Rattle.std.proofs.Common.{◌++◌, [], Ok, Err}
+use Rattle.std.specs.Prelude.{false}
+use Rattle.pm_once.specs.View.{View, view_of}
+use Rattle.pm_once.proofs.Alls.{running_on}
+use Rattle.pm_once.proofs.Going.{serves_nothing}
+use Rattle.pm_once.proofs.Serving.{idle_serves, nothing_served, served_on, serves_on}
+use Rattle.pm_once.proofs.server.Server.run.Goals as goal
+
+pub rounds-init : goal.rounds-init
+rounds-init g c =
+    let v : View = view_of (g.B.Chronicle.entries c.args.self.now.store.book) c.args.self.now in
+    let gives = g.C.Clock.gives c.args.clock.now in
+    record { steps = []; connections = []; ended = false; serves = idle_serves gives v c.requires.idle; served = nothing_served c.args.seed.now c.args.conf.now.authentication_ms gives [] (g.P.Port.visits c.args.port.now) serves_nothing }
+
+pub round-requires : goal.round-requires
+round-requires g c =
+    let i = c.rounds.invariant in
+    record { running = running_on (g.C.Clock.gives c.args.clock.now) i.steps _ _ c.requires.running i.serves.goes i.serves.stays; idle = i.serves.idle }
+
+pub rounds-preserved : goal.rounds-preserved
+rounds-preserved g c =
+    let v : View = view_of (g.B.Chronicle.entries c.args.self.now.store.book) c.args.self.now in
+    let gives = g.C.Clock.gives c.args.clock.now in
+    let i = c.rounds.invariant in
+    let two = c.in-Ok.ensures in
+    record {
+      steps = i.steps ++ two.0;
+      connections = i.connections ++ two.1;
+      ended = _;
+      serves = serves_on gives (Ok tt) i.connections two.1 i.ended two.2 i.steps two.0 v _ _ i.serves two.3;
+      served = served_on c.args.seed.now c.args.conf.now.authentication_ms gives i.connections two.1 i.ended two.2 i.steps two.0 _ _ _ (λ is. ((two.3.deaf (i.serves.at_end is)).1, (two.3.deaf (i.serves.at_end is)).2)) i.served two.4;
+    }
+
+pub returns-in-Err : goal.returns-in-Err
+returns-in-Err g c =
+    let v : View = view_of (g.B.Chronicle.entries c.args.self.now.store.book) c.args.self.now in
+    let gives = g.C.Clock.gives c.args.clock.now in
+    let i = c.rounds.invariant in
+    let two = c.in-Err.ensures in (
+      i.steps ++ two.0,
+      i.connections ++ two.1,
+      _,
+      serves_on gives (Err c.in-Err.end) i.connections two.1 i.ended two.2 i.steps two.0 v _ _ i.serves two.3,
+      served_on c.args.seed.now c.args.conf.now.authentication_ms gives i.connections two.1 i.ended two.2 i.steps two.0 _ _ _ (λ is. ((two.3.deaf (i.serves.at_end is)).1, (two.3.deaf (i.serves.at_end is)).2)) i.served two.4,
+    )

@@ -1,0 +1,16 @@
+use Rattle.std.proofs.Common.{List, Ok}
+use Rattle.std.specs.Prelude.{Bool}
+use Rattle.pm_chain.specs.Steps.{Step}
+use Rattle.pm_once.specs.Serves.{HasServed, Serves}
+use Rattle.pm_once.specs.Service.{Connection}
+use Rattle.pm_once.specs.View.{view_of}
+use Rattle.pm_once.proofs.server.Server.run.Given as goal
+
+abbrev pub invariant-rounds : goal.invariant-rounds
+invariant-rounds g l = record {
+  steps : List Step;
+  connections : List Connection;
+  ended : Bool;
+  serves : Serves (g.C.Clock.gives l.clock) (Ok tt) connections ended steps (view_of (g.B.Chronicle.entries l.initial.self.store.book) l.initial.self) (view_of (g.B.Chronicle.entries l.self.store.book) l.self);
+  served : HasServed l.seed l.conf.authentication_ms (g.C.Clock.gives l.clock) connections ended steps (g.P.Port.visits l.initial.port) (g.P.Port.visits l.port);
+}

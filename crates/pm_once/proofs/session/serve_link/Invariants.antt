@@ -1,0 +1,4 @@
+use Rattle.pm_once.proofs.session.serve_link.Given as goal
+
+abbrev pub ghosts-serve_at_home : goal.ghosts-serve_at_home
+ghosts-serve_at_home g a = record { home = a.store.now.generation }

@@ -1,0 +1,243 @@
+-- What the parts of a server's calls do.
+use Rattle.std.specs.Prelude.{◌≡◌, ◌⊎◌, ℕ, ◌+◌, ◌≤◌, Bool, true, false, if◌then◌else◌, List, [], ◌∷◌, ◌++◌, length, map, Option, None, Some, Result, Ok, Err, IfErr, OnOk}
+use Rattle.std.specs.declared.alloc.AllocError.{AllocError}
+use Rattle.pm_exit.specs.declared.child.Kind.{Kind}
+use Rattle.pm_exit.specs.declared.child.Kind.TheVariants as kinds
+use Rattle.pm_supervisor.specs.declared.Ending.{Ending}
+use Rattle.pm_supervisor.specs.declared.Ending.TheVariants as endings
+use Rattle.pm_state.specs.declared.action.Action.{Action}
+use Rattle.pm_state.specs.declared.action.Action.TheVariants as acts
+use Rattle.pm_record.specs.OnDisk.{GoesOn}
+use Rattle.pm_query.specs.declared.book.BookEntry.TheVariants.{Gone, Opened}
+use Rattle.pm_segment.specs.Children.{AreOthers}
+use Rattle.pm_segment.specs.Moment.{Moment}
+use Rattle.pm_segment.specs.Moves.{Moves, Renews}
+use Rattle.pm_admit.specs.declared.Cac.TheVariants as decisions
+use Rattle.pm_chain.specs.Steps.{ChildRun, IsRunOf, Step, journal_of}
+use Rattle.pm_journal.specs.declared.act.Act.{Act}
+use Rattle.pm_journal.specs.declared.act.Act.TheVariants as act
+use Rattle.pm_journal.specs.declared.exit.ChildExit.{ChildExit}
+use Rattle.pm_journal.specs.Roll.{kind_in}
+use Rattle.pm_journal.specs.Standing.{Adds, IsAtRest, Standing, exiting, made}
+use Rattle.pm_journal.specs.Stands.{IsSettled}
+use Rattle.pm_once.specs.Goes.{Does, Goes, IsIdle, StaysOpen, accepted_in, if_session, is_last_drawn, sessions_in}
+use Rattle.pm_once.specs.Hands.{AreThere, IsHand, with_started}
+use Rattle.pm_once.specs.Log.{LogView, Says, log_line}
+use Rattle.pm_once.specs.View.{View}
+use Rattle.pm_once.specs.declared.end.ServerEnd.{ServerEnd}
+use Rattle.pm_once.specs.declared.end.ServerEnd.TheVariants.{Clean, Abnormal, NoMemory}
+use Rattle.pm_once.specs.declared.end.Why.TheVariants.{AfterCrash, RestartOff, StartupFailed}
+use Rattle.pm_once.specs.declared.end.StartWhy.{StartWhy}
+use Rattle.pm_once.specs.declared.hands.Hands.{Hands}
+use Rattle.pm_once.specs.declared.admitted.Admitted.{Admitted}
+
+-- ---- an act
+
+-- how a server ends whose startup child failed for this reason, or for want of memory
+abbrev pub failed_by : Option StartWhy → ServerEnd
+failed_by (Some why) = Abnormal (StartupFailed why)
+failed_by None = NoMemory
+
+-- how the server ends where its machine does
+abbrev pub end_in : Ending → View → ServerEnd
+end_in endings.Clean v = Clean
+end_in endings.AfterCrash v = if v.is_short then NoMemory else Abnormal AfterCrash
+end_in endings.StartupFailed v = failed_by v.failure
+end_in endings.RestartOff v = Abnormal RestartOff
+
+-- the same children are there
+pub record SameHands (before now : Hands) : Type 0 where
+  pub startup : now.startup ≡ before.startup
+  pub checkpointer : now.checkpointer ≡ before.checkpointer
+  pub writer : now.writer ≡ before.writer
+
+abbrev pub HandsBehind : Act → Hands → Hands → Type 0
+HandsBehind (act.Start pid kind) before now = now ≡ with_started pid kind before
+HandsBehind _ before now = SameHands before now
+
+abbrev pub LogBehind : Act → LogView → LogView → Type 0
+LogBehind (act.Say line) before now = Says (log_line line) before now
+LogBehind _ before now = now ≡ before
+
+-- The store begins its next generation: the children that ended inside are gone, and whoever else is inside.
+pub record HasRenewed (generation : ℕ) (lost others : List ℕ) (before now : Moment) : Type 0 where
+  pub others_are : AreOthers before.inside lost others
+  pub renews : Renews (map Gone (lost ++ others) ++ Opened generation ∷ []) before now
+  pub time : GoesOn before.ticks now.ticks before.images now.images
+  pub later : before.faults ≤ now.faults
+
+abbrev pub StoreBehind : Act → Result (Unit {0}) ServerEnd → View → View → Type 0
+StoreBehind (act.Reset generation) (Ok done) before now =
+    (now.lost ≡ []) × (others : List ℕ) × HasRenewed generation before.lost others before.store now.store
+StoreBehind _ result before now = (now.lost ≡ before.lost) × Moves [] before.store now.store
+
+abbrev pub EndBehind : Act → Result (Unit {0}) ServerEnd → View → Type 0
+EndBehind (act.Reset generation) result before = IfErr result (λ end. end ≡ NoMemory)
+EndBehind (act.End ending) result before = result ≡ Err (end_in ending before)
+EndBehind _ result before = result ≡ Ok tt
+
+-- where memory is short
+abbrev pub short_if : Result (Unit {0}) AllocError → Result (Unit {0}) ServerEnd
+short_if (Ok done) = Ok tt
+short_if (Err short) = Err NoMemory
+
+-- all but the store and those that it lost is as it was
+pub record RestBehind (before now : View) : Type 0 where
+  pub hands : now.hands ≡ before.hands
+  pub log : now.log ≡ before.log
+  pub work : now.work ≡ before.work
+  pub failure : now.failure ≡ before.failure
+  pub short : now.is_short ≡ before.is_short
+  pub listens : now.listens ≡ before.listens
+
+abbrev pub RenewsStore : ℕ → Result (Unit {0}) AllocError → View → View → Type 0
+RenewsStore generation result before now = RestBehind before now × StoreBehind (act.Reset generation) (short_if result) before now
+
+-- an act is done, all but its entry
+pub record Performs (a : Act) (result : Result (Unit {0}) ServerEnd) (before now : View) : Type 0 where
+  pub hands : HandsBehind a before.hands now.hands
+  pub log : LogBehind a before.log now.log
+  pub store : StoreBehind a result before now
+  pub ends : EndBehind a result before
+  pub failure : now.failure ≡ before.failure
+  pub short : now.is_short ≡ before.is_short
+  pub listens : now.listens ≡ before.listens
+
+-- ---- acts, one after the other
+
+abbrev pub AreSays : List Action → Type 0
+AreSays [] = Unit {0}
+AreSays (acts.Say line ∷ rest) = AreSays rest
+AreSays (_ ∷ rest) = ⊥
+
+-- what acts keep of where the supervisor stands
+pub record Keeps (before now : Standing) : Type 0 where
+  pub hands : (pid : ℕ) (kind : Kind) → IsHand (Some pid) kind before → IsHand (Some pid) kind now
+  pub settled : IsSettled before → IsSettled now
+  pub drawn : is_last_drawn before.last_pid ≡ true → is_last_drawn now.last_pid ≡ true
+  pub unowed : is_last_drawn before.last_pid ≡ true → before.owes_smart ≡ false → now.owes_smart ≡ false
+
+abbrev pub outcome : Result Bool ServerEnd → Result (Unit {0}) ServerEnd
+outcome (Ok on) = Ok tt
+outcome (Err end) = Err end
+
+-- the first act that is due was done, or there was none
+pub record DoesNext (result : Result Bool ServerEnd) (steps : List Step) (before now : View) : Type 0 where
+  pub does : Does (λ at. ⊥) (outcome result) steps before now
+  pub keeps : Keeps before.work.standing now.work.standing
+  pub fewer : result ≡ Ok true → length now.work.standing.due + 1 ≡ length before.work.standing.due
+  pub none_due : result ≡ Ok false → now.work.standing.due ≡ []
+  pub ended : OnOk result (now.work.standing.ended ≡ before.work.standing.ended)
+  pub says : AreSays before.work.standing.due → AreSays now.work.standing.due × (now.work.standing.owes_smart ≡ before.work.standing.owes_smart)
+  pub failure : now.failure ≡ before.failure
+  pub listens : now.listens ≡ before.listens
+
+-- all acts that were due were done
+pub record Acts (result : Result (Unit {0}) ServerEnd) (steps : List Step) (before now : View) : Type 0 where
+  pub does : Does (λ at. ⊥) result steps before now
+  pub keeps : Keeps before.work.standing now.work.standing
+  pub none_due : OnOk result (now.work.standing.due ≡ [])
+  pub says : AreSays before.work.standing.due → now.work.standing.owes_smart ≡ before.work.standing.owes_smart
+  pub ended : OnOk result (now.work.standing.ended ≡ before.work.standing.ended)
+  pub failure : now.failure ≡ before.failure
+  pub listens : now.listens ≡ before.listens
+
+-- some of them were, and others may be due
+pub record ActsSoFar (steps : List Step) (before now : View) : Type 0 where
+  pub does : Does (λ at. ⊥) (Ok tt) steps before now
+  pub keeps : Keeps before.work.standing now.work.standing
+  pub ended : now.work.standing.ended ≡ before.work.standing.ended
+  pub says : AreSays before.work.standing.due → AreSays now.work.standing.due × (now.work.standing.owes_smart ≡ before.work.standing.owes_smart)
+  pub failure : now.failure ≡ before.failure
+  pub listens : now.listens ≡ before.listens
+
+-- ---- the run of a child
+
+-- the child isn't among those that serve no connection
+abbrev pub IsOff : Kind → Hands → Type 0
+IsOff kinds.Startup hands = hands.startup ≡ None
+IsOff kinds.Checkpointer hands = hands.checkpointer ≡ None
+IsOff kinds.Writer hands = hands.writer ≡ None
+IsOff _ hands = Unit {0}
+
+-- A child that is there has run, and its end isn't noted yet.
+pub record HasRun (run : ChildRun) (before now : View) : Type 0 where
+  pub is_run : IsRunOf run
+  pub there : kind_in run.pid before.work.standing.children ≡ Some run.kind
+  pub generation : run.generation ≡ before.store.generation
+  pub off : IsOff run.kind now.hands
+  pub hands : (s : Standing) → AreThere before.hands s → AreThere now.hands s
+  pub work : now.work ≡ before.work
+  pub store : Moves run.noted before.store now.store
+  pub lost : now.lost ≡ before.lost
+  pub log : now.log ≡ before.log
+  pub listens : now.listens ≡ before.listens
+
+-- the end of a run
+abbrev pub exit_of : ChildRun → ChildExit
+exit_of run = record { pid = run.pid; kind = run.kind; status = run.status; was_active = run.was_active; kept = run.kept }
+
+-- the end of a child is noted at this moment
+pub record NotesExit (gives : ℕ → Type 0) (exit : ChildExit) (at : ℕ) (before now : View) : Type 0 where
+  pub given : gives at
+  pub standing : now.work.standing ≡ made (exiting exit at before.work.standing) before.work.standing
+  pub told : Adds (exiting exit at before.work.standing).entries before.work.told now.work.told
+  pub lost : now.lost ≡ (if exit.was_active then before.lost ++ exit.pid ∷ [] else before.lost)
+  pub store : Moves [] before.store now.store
+  pub log : now.log ≡ before.log
+  pub hands : now.hands ≡ before.hands
+  pub listens : now.listens ≡ before.listens
+
+-- it isn't noted, since memory is short
+pub record NotesNoExit (before now : View) : Type 0 where
+  pub standing : now.work.standing ≡ before.work.standing
+  pub told : now.work.told ≡ before.work.told
+  pub lost : now.lost ≡ before.lost
+  pub store : Moves [] before.store now.store
+  pub log : now.log ≡ before.log
+  pub hands : now.hands ≡ before.hands
+  pub listens : now.listens ≡ before.listens
+
+-- a smart shutdown was asked for
+pub record Asks (gives : ℕ → Type 0) (result : Result (Unit {0}) ServerEnd) (steps : List Step) (before now : View) : Type 0 where
+  pub does : Does gives result steps before now
+  pub hands : (pid : ℕ) (kind : Kind) → IsHand (Some pid) kind before.work.standing → IsHand (Some pid) kind now.work.standing
+  pub idle : OnOk result (IsIdle now.work.standing)
+  pub opened : StaysOpen steps before now
+  pub rests : IsAtRest now.work.standing
+  pub drawn : is_last_drawn before.work.standing.last_pid ≡ true → is_last_drawn now.work.standing.last_pid ≡ true
+  pub deaf : now.listens ≡ false
+  pub short : IfErr result (λ end. end ≡ NoMemory)
+
+-- a child that serves no connection has run
+pub record HasAidRun (run : ChildRun) (before now : View) : Type 0 where
+  pub ran : HasRun run before now
+  pub alone : if_session run.kind run ≡ []
+
+-- all acts that are due were done, and the shutdown was asked for that is owed behind the last pid
+pub record Finishes (gives : ℕ → Type 0) (result : Result (Unit {0}) ServerEnd) (steps : List Step) (before now : View) : Type 0 where
+  pub does : Does gives result steps before now
+  pub idle : OnOk result (IsIdle now.work.standing)
+  pub deaf : (now.listens ≡ before.listens) ⊎ ((now.listens ≡ false) × (is_last_drawn now.work.standing.last_pid ≡ true))
+  pub drawn : is_last_drawn before.work.standing.last_pid ≡ true → is_last_drawn now.work.standing.last_pid ≡ true
+
+-- A connection was taken under this pid, and the shutdown was asked for that is owed where it is the last.
+pub record Admits (gives : ℕ → Type 0) (admitted : Admitted) (steps : List Step) (before now : View) : Type 0 where
+  pub goes : Goes gives steps before now
+  pub opened : StaysOpen steps before now
+  pub rests : IsAtRest now.work.standing
+  pub unowed : OnOk admitted.settled (now.work.standing.owes_smart ≡ false)
+  pub there : IsHand (Some admitted.pid) kinds.Backend now.work.standing
+  pub first : 1 ≤ admitted.pid
+  pub accepted : accepted_in (journal_of steps) ≡ record { pid = admitted.pid; decision = decisions.Ok } ∷ []
+  pub sessions : sessions_in steps ≡ []
+  pub deaf : (now.listens ≡ before.listens) ⊎ ((now.listens ≡ false) × (is_last_drawn now.work.standing.last_pid ≡ true))
+  pub drawn : is_last_drawn before.work.standing.last_pid ≡ true → is_last_drawn now.work.standing.last_pid ≡ true
+
+-- the machine was let do what it does by itself, and its acts were done
+pub record Turns (result : Result (Unit {0}) ServerEnd) (steps : List Step) (before now : View) : Type 0 where
+  pub does : Does (λ at. ⊥) result steps before now
+  pub rests : OnOk result (IsAtRest now.work.standing)
+  pub settled : OnOk result (IsSettled now.work.standing)
+  pub drawn : is_last_drawn before.work.standing.last_pid ≡ true → is_last_drawn now.work.standing.last_pid ≡ true
+  pub listens : now.listens ≡ before.listens

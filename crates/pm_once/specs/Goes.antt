@@ -1,0 +1,184 @@
+-- What a server's calls do from one moment to another, and what holds of it at every moment.
+use Rattle.std.specs.Prelude.{◌≡◌, ◌⊎◌, ℕ, ◌+◌, ◌<◌, ◌≤◌, nat_le, Bool, false, List, [], ◌∷◌, ◌++◌, length, All, Option, None, Some, Result, IfErr, IfSome, OnOk}
+use Rattle.std.specs.List.{flat_map, last_or}
+use Rattle.pm_exit.specs.declared.child.Kind.{Kind}
+use Rattle.pm_exit.specs.declared.child.Kind.TheVariants as kinds
+use Rattle.pm_modes.specs.declared.Mode.{Mode}
+use Rattle.pm_modes.specs.declared.Mode.TheVariants.{Smart}
+use Rattle.pm_supervisor.specs.declared.Limits.{Limits}
+use Rattle.pm_supervisor.specs.declared.Ending.TheVariants as endings
+use Rattle.pm_supervisor.specs.Children.{one_if}
+use Rattle.pm_supervisor.specs.Steps.{Trace}
+use Rattle.pm_state.specs.declared.action.Action.{Action}
+use Rattle.pm_state.specs.declared.action.Action.TheVariants as act
+use Rattle.pm_state.specs.declared.event.PmEvent.{PmEvent}
+use Rattle.pm_state.specs.declared.event.PmEvent.TheVariants as entry
+use Rattle.pm_record.specs.OnDisk.{GoesOn}
+use Rattle.pm_query.specs.declared.book.BookEntry.{BookEntry}
+use Rattle.pm_query.specs.Book.{Base}
+use Rattle.pm_segment.specs.Children.{times_in}
+use Rattle.pm_segment.specs.Moment.{Moment}
+use Rattle.pm_segment.specs.Moves.{CountsEntries, IsCountedFrom, NotesEntries}
+use Rattle.pm_segment.specs.Stands.{Begins, GoesFrom, Origin, WaitsFrom}
+use Rattle.pm_chain.specs.Steps.{Step, Notes, Runs, RunsOn, ChildRun, AreSteps, book_of, journal_of, lost_in}
+use Rattle.pm_journal.specs.declared.supervision.Taken.{Taken}
+use Rattle.pm_journal.specs.Moments.{AreGiven}
+use Rattle.pm_journal.specs.Standing.{Adds, IsAtRest, Standing}
+use Rattle.pm_journal.specs.Stands.{Stands}
+use Rattle.pm_once.specs.Hands.{AreThere}
+use Rattle.pm_once.specs.Log.{HasSaid, LogView}
+use Rattle.pm_once.specs.View.{View}
+use Rattle.pm_once.specs.declared.end.ServerEnd.{ServerEnd}
+use Rattle.pm_once.specs.declared.end.ServerEnd.TheVariants.{Clean, Abnormal, NoMemory}
+use Rattle.pm_once.specs.declared.end.Why.TheVariants.{AfterCrash, StartupFailed, RestartOff, GenerationsSpent}
+
+-- ---- a store, in one generation or through several
+
+-- These entries were noted. What held from a beginning holds from it still, or the first redo has come; what a stop could
+-- leave before is as it was, and each fault that was noted was counted.
+pub record Spans (entries : List BookEntry) (before now : Moment) : Type 0 where
+  pub notes : NotesEntries entries before.book now.book
+  pub time : GoesOn before.ticks now.ticks before.images now.images
+  pub later : before.faults ≤ now.faults
+  pub counts : (from : ℕ) → IsCountedFrom from before.faults before.live → CountsEntries from entries now.faults now.live
+  pub waits : (origin : Origin) → WaitsFrom origin before → WaitsFrom origin now ⊎ Begins origin now
+  pub goes_on : (origin : Origin) (base : Base) → GoesFrom origin base before → GoesFrom origin base now
+
+-- ---- moments
+
+-- the clock gives this one, or it is the last one before, which isn't the first of all
+abbrev pub IsMoment : (ℕ → Type 0) → ℕ → ℕ → Type 0
+IsMoment gives before at = gives at ⊎ ((at ≡ before) × (0 < before))
+
+-- so it is with those of these entries, and with the last one now
+pub record Times (gives : ℕ → Type 0) (before : ℕ) (entries : List PmEvent) (now : ℕ) : Type 0 where
+  pub each : AreGiven (IsMoment gives before) entries
+  pub last : (now ≡ before) ⊎ gives now
+
+-- ---- requests
+
+abbrev pub asked_in : List PmEvent → List Mode
+asked_in [] = []
+asked_in (entry.Asked mode at ∷ journal) = mode ∷ asked_in journal
+asked_in (_ ∷ journal) = asked_in journal
+
+-- the last pid was drawn
+abbrev pub is_last_drawn : ℕ → Bool
+is_last_drawn last_pid = nat_le 2147480000 last_pid
+
+-- Smart shutdowns alone are asked for: one where the port's end has come, and one where the last pid was drawn.
+pub record AsksAsDue (asked : List Mode) (listens : Bool) (s : Standing) : Type 0 where
+  pub smart : All (λ mode. mode ≡ Smart) asked
+  pub few : length asked + one_if s.owes_smart + one_if listens ≤ 1 + one_if (is_last_drawn s.last_pid)
+
+-- ---- acts
+
+-- Nobody is to be killed, since the server tells its machine no time; and a server ends for want of a restart where it isn't to
+-- restart.
+abbrev pub AreOurs : Limits → List Action → Type 0
+AreOurs limits [] = Unit {0}
+AreOurs limits (act.KillAll ∷ acts) = ⊥
+AreOurs limits (act.End endings.RestartOff ∷ acts) = (limits.restart_after_crash ≡ false) × AreOurs limits acts
+AreOurs limits (_ ∷ acts) = AreOurs limits acts
+
+-- ---- at every moment
+
+-- how a server began: by what limits, and with what log
+pub record Outset : Type 0 where
+  pub limits : Limits
+  pub log : LogView
+
+-- These are the steps so far.
+pub record IsAt (outset : Outset) (steps : List Step) (v : View) : Type 0 where
+  pub past : Trace
+  pub stands : Stands outset.limits (Some (journal_of steps)) v.work.standing past
+  pub told : IfSome v.work.told (λ entries. entries ≡ journal_of steps)
+  pub are_steps : AreSteps outset.limits steps
+  pub lost_is : v.lost ≡ lost_in steps
+  pub said : HasSaid (journal_of steps) outset.log v.log
+  pub hands : AreThere v.hands v.work.standing
+  pub asks : AsksAsDue (asked_in (journal_of steps)) v.listens v.work.standing
+  pub acts : AreOurs outset.limits v.work.standing.due
+
+-- any step may follow this one, but for a renewal
+abbrev pub IsFree : Option Step → Type 0
+IsFree (Some (RunsOn run)) = ⊥
+IsFree (Some (Notes (entry.Reset generation))) = ⊥
+IsFree _ = Unit {0}
+
+-- The store is in the generation of the supervisor, and inside it are those that ended there.
+pub record IsOpen (steps : List Step) (v : View) : Type 0 where
+  pub free : IsFree (last_or None steps)
+  pub same : v.store.generation ≡ v.work.standing.generation
+  pub inside : (pid : ℕ) → times_in pid v.store.inside ≡ times_in pid v.lost
+
+-- it has come to where it is from its start
+abbrev pub IsRunning : View → Type 0
+IsRunning v = (outset : Outset) × (steps : List Step) × IsAt outset steps v × IsOpen steps v
+
+-- nothing is due, no request is owed, and the server goes on
+pub record IsIdle (s : Standing) : Type 0 where
+  pub rests : IsAtRest s
+  pub unowed : s.owes_smart ≡ false
+
+-- ---- from one moment to another
+
+-- These steps more.
+pub record Goes (gives : ℕ → Type 0) (steps : List Step) (before now : View) : Type 0 where
+  pub at : (outset : Outset) (earlier : List Step) → IsAt outset earlier before → IsOpen earlier before → IsAt outset (earlier ++ steps) now
+  pub journal : Adds (journal_of steps) before.work.told now.work.told
+  pub times : Times gives before.work.standing.moment (journal_of steps) now.work.standing.moment
+  pub store : Spans (book_of steps) before.store now.store
+
+-- it can go on behind them
+abbrev pub StaysOpen : List Step → View → View → Type 0
+StaysOpen steps before now = (earlier : List Step) → IsOpen earlier before → IsOpen (earlier ++ steps) now
+
+-- ---- ends
+
+-- the last of them is this entry
+abbrev pub EndsWith : PmEvent → List Step → Type 0
+EndsWith last steps = (front : List Step) × (steps ≡ front ++ Notes last ∷ [])
+
+-- how a server ends by its journal
+abbrev pub IsEndOf : ServerEnd → List Step → View → Type 0
+IsEndOf Clean steps v = EndsWith (entry.Ended endings.Clean) steps
+IsEndOf (Abnormal AfterCrash) steps v = EndsWith (entry.Ended endings.AfterCrash) steps
+IsEndOf (Abnormal RestartOff) steps v = EndsWith (entry.Ended endings.RestartOff) steps
+IsEndOf (Abnormal (StartupFailed why)) steps v =
+    EndsWith (entry.Ended endings.StartupFailed) steps × (v.failure ≡ Some why)
+IsEndOf (Abnormal GenerationsSpent) steps v = v.work.standing.generation ≡ 4294967295
+IsEndOf NoMemory steps v = Unit {0}
+
+-- ---- what is served
+
+abbrev pub accepted_in : List PmEvent → List Taken
+accepted_in [] = []
+accepted_in (entry.Accepted pid decision ∷ journal) = record { pid = pid; decision = decision } ∷ accepted_in journal
+accepted_in (_ ∷ journal) = accepted_in journal
+
+abbrev pub if_session : Kind → ChildRun → List ChildRun
+if_session kinds.Backend run = run ∷ []
+if_session _ run = []
+
+abbrev pub session_by : Step → List ChildRun
+session_by (Runs run at) = if_session run.kind run
+session_by (RunsOn run) = if_session run.kind run
+session_by _ = []
+
+-- the runs of sessions
+abbrev pub sessions_in : List Step → List ChildRun
+sessions_in steps = flat_map session_by steps
+
+-- nobody was accepted, and no session ran
+pub record ServesNone (steps : List Step) : Type 0 where
+  pub accepted : accepted_in (journal_of steps) ≡ []
+  pub sessions : sessions_in steps ≡ []
+
+-- ---- a call of a server that may end it
+
+pub record Does (gives : ℕ → Type 0) (result : Result (Unit {0}) ServerEnd) (steps : List Step) (before now : View) : Type 0 where
+  pub goes : Goes gives steps before now
+  pub stays : OnOk result (StaysOpen steps before now)
+  pub ends : IfErr result (λ end. IsEndOf end steps now)
+  pub serves : ServesNone steps

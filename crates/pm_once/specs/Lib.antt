@@ -1,0 +1,11 @@
+pub mod Aids
+pub mod Calls
+pub mod Goes
+pub mod Hands
+pub mod Log
+pub mod Once
+pub mod Print
+pub mod Quiet
+pub mod Serves
+pub mod Service
+pub mod View

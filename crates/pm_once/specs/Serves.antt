@@ -1,0 +1,43 @@
+-- What a server serves: connections, one after another.
+use Rattle.std.specs.Prelude.{◌≡◌, ◌⊎◌, ℕ, Bool, true, false, if◌then◌else◌, List, [], map, All, Option, option_map, Result, IfErr, OnOk}
+use Rattle.pm_admit.specs.declared.Cac.TheVariants as decisions
+use Rattle.pm_keys.specs.CancelKey.{cancel_key}
+use Rattle.pm_outside.specs.Visits.{Visits}
+use Rattle.pm_chain.specs.Steps.{Step, journal_of}
+use Rattle.pm_journal.specs.declared.supervision.Taken.{Taken}
+use Rattle.pm_once.specs.Goes.{Goes, IsEndOf, IsIdle, StaysOpen, accepted_in, is_last_drawn, sessions_in}
+use Rattle.pm_once.specs.Service.{Connection, IsServedAs, run_of, with_connections, with_end}
+use Rattle.pm_once.specs.View.{View}
+use Rattle.pm_once.specs.declared.end.ServerEnd.{ServerEnd}
+
+-- it was accepted, and not refused
+abbrev pub taken_for : Connection → Taken
+taken_for connection = record { pid = connection.pid; decision = decisions.Ok }
+
+-- the port gave these links, which came back, and then its end, if it did
+abbrev pub passed : List Connection → Bool → Visits → Visits
+passed connections ended visits = if ended then with_end (with_connections connections visits) else with_connections connections visits
+
+-- its session is told by the link's bytes and by what was noted, under the key of its pid
+abbrev pub IsServed : (seed : List ℕ) → (limit : ℕ) → (gives : ℕ → Type 0) → Connection → Type 0
+IsServed seed limit gives connection = IsServedAs (cancel_key seed connection.pid) limit gives connection
+
+-- The connections in their order: the n-th link is that of the n-th connection accepted, and its child's run is the n-th of
+-- a session.
+pub record HasServed (seed : List ℕ) (limit : ℕ) (gives : ℕ → Type 0) (connections : List Connection) (ended : Bool) (steps : List Step) (before now : Option Visits) : Type 0 where
+  pub visits : now ≡ option_map (passed connections ended) before
+  pub each : All (IsServed seed limit gives) connections
+  pub accepted : accepted_in (journal_of steps) ≡ map taken_for connections
+  pub sessions : sessions_in steps ≡ map run_of connections
+
+-- A call of a server that may serve connections: these steps more.
+pub record Serves (gives : ℕ → Type 0) (result : Result (Unit {0}) ServerEnd) (connections : List Connection) (ended : Bool) (steps : List Step) (before now : View) : Type 0 where
+  pub goes : Goes gives steps before now
+  pub stays : OnOk result (StaysOpen steps before now)
+  pub ends : IfErr result (λ end. IsEndOf end steps now)
+  pub idle : OnOk result (IsIdle now.work.standing)
+  -- links are served only where they are asked for, and they are asked for until the port's end, or behind the last pid
+  pub deaf : before.listens ≡ false → (now.listens ≡ false) × (connections ≡ []) × (ended ≡ false)
+  pub at_end : ended ≡ true → now.listens ≡ false
+  pub drawn : is_last_drawn before.work.standing.last_pid ≡ true → is_last_drawn now.work.standing.last_pid ≡ true
+  pub why : now.listens ≡ false → (before.listens ≡ false) ⊎ ((ended ≡ true) ⊎ (is_last_drawn now.work.standing.last_pid ≡ true))

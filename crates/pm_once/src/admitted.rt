@@ -1,0 +1,12 @@
+//! A connection that was taken.
+
+use crate::end::ServerEnd;
+
+/// A connection that was taken, before its session.
+#[derive(Clone, Copy, Debug, PartialEq, Eq)]
+pub struct Admitted {
+    /// Its child's number.
+    pub pid: u32,
+    /// Whether the server can go on behind the session: it can't where memory was short for the shutdown that was owed.
+    pub settled: Result<(), ServerEnd>,
+}

@@ -1,0 +1,30 @@
+//! The server of `once`: one thread takes the supervisor's machine through its states, with its journal, serves the links of
+//! a port one after another over a store, and goes through a crash cycle where a child crashes.
+//!
+//! [`once`] is the whole run. A server does what is due before anything else: the acts of the machine, in their order, and
+//! then the runs of children that have something to do, one at a time. Only then the next link is asked for.
+#![tactic(auto)]
+
+mod admitted;
+mod checkpointer;
+mod conf;
+mod end;
+mod hands;
+mod laws;
+mod log;
+mod outside;
+mod printing;
+mod quiet;
+mod quiet_life;
+mod rounds;
+mod run_once;
+mod say;
+mod server;
+mod session;
+mod startup;
+
+pub use conf::Conf;
+pub use end::{ServerEnd, StartWhy, Why};
+pub use outside::{Ended, Outside};
+pub use printing::{SinkFailed, print, print_number};
+pub use run_once::once;

@@ -1,0 +1,145 @@
+//! The loop of a server.
+
+ghost use Rattle.std.specs.Prelude.{◌≡◌, List};
+ghost use Rattle.pm_chain.specs.Steps.{Step};
+
+use crate::end::ServerEnd;
+use crate::laws::laws;
+use crate::server::Server;
+use pm_admit::Cac;
+use pm_disk::Disk;
+use pm_outside::{Chronicle, Clock, Port, Sink};
+use pm_query::BookEntry;
+use pm_session::SessionConf;
+use pm_state::PmEvent;
+use std::alloc::Global;
+use std::sync::Wait;
+
+impl<J: Chronicle<PmEvent>, O: Sink, D: Disk, B: Chronicle<BookEntry>> Server<J, O, D, B> {
+    ghost use Rattle.std.specs.Prelude.{Bool, Err};
+    ghost use Rattle.pm_journal.specs.Stands.{IsSettled};
+    ghost use Rattle.pm_journal.specs.Supervision.{standing};
+    ghost use Rattle.pm_once.specs.Calls.{Turns};
+    ghost use Rattle.pm_once.specs.Goes.{IsIdle, IsRunning};
+    ghost use Rattle.pm_once.specs.Serves.{HasServed, Serves};
+    ghost use Rattle.pm_once.specs.Service.{Connection};
+    ghost use Rattle.pm_once.specs.View.{view_of};
+
+    // Lets the machine do what it does by itself, and does the acts of that.
+    fn turn(&mut self) -> Result<(), ServerEnd>
+        requires running { IsRunning (view_of (B.entries self.old.store.book) self.old) }
+        requires idle { IsIdle (standing self.old.supervision) }
+        ensures { (steps : List Step) × Turns result steps
+            (view_of (B.entries self.old.store.book) self.old) (view_of (B.entries self.new.store.book) self.new) }
+    {
+        laws();
+        match self.supervision.turn() {
+            Ok(()) => self.act_all(),
+            Err(_) => Err(ServerEnd::NoMemory),
+        }
+    }
+
+    // Lets a child run that has something to do, or serves the next link where the machine takes connections.
+    fn go_on<R: Wait, P: Port, C: Clock>(
+        &mut self,
+        rt: &R,
+        alloc: Global,
+        port: &mut P,
+        clock: &C,
+        seed: &[u8; 32],
+        conf: &SessionConf,
+    ) -> Result<(), ServerEnd>
+        requires running { IsRunning (view_of (B.entries self.old.store.book) self.old) }
+        requires idle { IsIdle (standing self.old.supervision) }
+        requires settled { IsSettled (standing self.old.supervision) }
+        ensures { (steps : List Step) × (connections : List Connection) × (ended : Bool)
+            × Serves (C.gives clock.now) result connections ended steps
+            (view_of (B.entries self.old.store.book) self.old) (view_of (B.entries self.new.store.book) self.new)
+            × HasServed seed.now conf.now.authentication_ms (C.gives clock.now) connections ended steps (P.visits port.old) (P.visits port.new) }
+    {
+        match self.run_one(clock) {
+            Some(end) => end,
+            None => self.listen(rt, alloc, port, clock, seed, conf),
+        }
+    }
+
+    // Serves the next link, where links are asked for and the machine takes a connection.
+    fn listen<R: Wait, P: Port, C: Clock>(
+        &mut self,
+        rt: &R,
+        alloc: Global,
+        port: &mut P,
+        clock: &C,
+        seed: &[u8; 32],
+        conf: &SessionConf,
+    ) -> Result<(), ServerEnd>
+        requires running { IsRunning (view_of (B.entries self.old.store.book) self.old) }
+        requires idle { IsIdle (standing self.old.supervision) }
+        requires settled { IsSettled (standing self.old.supervision) }
+        ensures { (steps : List Step) × (connections : List Connection) × (ended : Bool)
+            × Serves (C.gives clock.now) result connections ended steps
+            (view_of (B.entries self.old.store.book) self.old) (view_of (B.entries self.new.store.book) self.new)
+            × HasServed seed.now conf.now.authentication_ms (C.gives clock.now) connections ended steps (P.visits port.old) (P.visits port.new) }
+    {
+        if !self.listens || !self.supervision.may_accept() {
+            return Ok(());
+        }
+        match self.supervision.decision() {
+            Cac::Ok => self.serve_next(rt, alloc, port, clock, seed, conf),
+            _ => Ok(()),
+        }
+    }
+
+    // A turn of the machine, and then one thing more.
+    fn round<R: Wait, P: Port, C: Clock>(
+        &mut self,
+        rt: &R,
+        alloc: Global,
+        port: &mut P,
+        clock: &C,
+        seed: &[u8; 32],
+        conf: &SessionConf,
+    ) -> Result<(), ServerEnd>
+        requires running { IsRunning (view_of (B.entries self.old.store.book) self.old) }
+        requires idle { IsIdle (standing self.old.supervision) }
+        ensures { (steps : List Step) × (connections : List Connection) × (ended : Bool)
+            × Serves (C.gives clock.now) result connections ended steps
+            (view_of (B.entries self.old.store.book) self.old) (view_of (B.entries self.new.store.book) self.new)
+            × HasServed seed.now conf.now.authentication_ms (C.gives clock.now) connections ended steps (P.visits port.old) (P.visits port.new) }
+    {
+        match self.turn() {
+            Ok(()) => {}
+            Err(end) => return Err(end),
+        }
+        if self.supervision.owes_smart() {
+            return self.ask_smart(clock);
+        }
+        self.go_on(rt, alloc, port, clock, seed, conf)
+    }
+
+    /// Does what is due, round after round, until the server ends.
+    pub(crate) fn run<R: Wait, P: Port, C: Clock>(
+        &mut self,
+        rt: &R,
+        alloc: Global,
+        port: &mut P,
+        clock: &C,
+        seed: &[u8; 32],
+        conf: &SessionConf,
+    ) -> ServerEnd
+        requires running { IsRunning (view_of (B.entries self.old.store.book) self.old) }
+        requires idle { IsIdle (standing self.old.supervision) }
+        ensures { (steps : List Step) × (connections : List Connection) × (ended : Bool)
+            × Serves (C.gives clock.now) (Err result) connections ended steps
+            (view_of (B.entries self.old.store.book) self.old) (view_of (B.entries self.new.store.book) self.new)
+            × HasServed seed.now conf.now.authentication_ms (C.gives clock.now) connections ended steps (P.visits port.old) (P.visits port.new) }
+    {
+        'rounds: for _ in rt.forever() {
+            match self.round(rt, alloc, port, clock, seed, conf) {
+                Ok(()) => {}
+                Err(end) => return end,
+            }
+        }
+        unreachable!()
+    }
+}

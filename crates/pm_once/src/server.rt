@@ -1,0 +1,385 @@
+//! The server at work.
+
+ghost use Rattle.std.specs.Prelude.{◌≡◌, List, false, None};
+ghost use Rattle.pm_chain.specs.Steps.{Step};
+ghost use Rattle.pm_once.specs.Service.{is_signal};
+
+use crate::admitted::Admitted;
+use crate::checkpointer::{Closed, write_last};
+use crate::end::{ServerEnd, StartWhy, Why};
+use crate::hands::{Duty, Hands};
+use crate::laws::laws;
+use crate::log::Log;
+use crate::session::{next_link, serve_link};
+use crate::startup::read_log;
+use pm_disk::Disk;
+use pm_exit::{Kind, Status};
+use pm_journal::{Act, ChildExit, GenerationsSpent, Supervision, Taken};
+use pm_modes::Mode;
+use pm_outside::{Chronicle, Clock, Port, Sink};
+use pm_query::BookEntry;
+use pm_segment::Sole;
+use pm_session::{Done, SessionConf};
+use pm_state::PmEvent;
+use pm_supervisor::Ending;
+use std::alloc::{AllocError, Global};
+use std::sync::Wait;
+
+/// A server at work: its supervisor, its store and its log, and what it remembers for them.
+#[derive(Drop)]
+pub(crate) struct Server<J: Chronicle<PmEvent>, O: Sink, D: Disk, B: Chronicle<BookEntry>> {
+    pub(crate) supervision: Supervision<J>,
+    pub(crate) store: Sole<D, B>,
+    pub(crate) log: Log<O>,
+    // The children that ended inside the store in this generation.
+    pub(crate) lost: Vec<u32>,
+    pub(crate) hands: Hands,
+    // Why the last startup child failed, unless memory was short.
+    pub(crate) failure: Option<StartWhy>,
+    // Memory was short at the last checkpoint.
+    pub(crate) is_short: bool,
+    // Links are asked for: the port's end hasn't come, and the last pid wasn't drawn.
+    pub(crate) listens: bool,
+}
+
+impl<J: Chronicle<PmEvent>, O: Sink, D: Disk, B: Chronicle<BookEntry>> Server<J, O, D, B> {
+    ghost use Rattle.std.specs.Prelude.{◌+◌, ℕ, IsOk};
+    ghost use Rattle.pm_journal.specs.Supervision.{standing};
+    ghost use Rattle.pm_journal.specs.declared.act.Act.TheVariants.{Reset, Say};
+    ghost use Rattle.pm_state.specs.declared.action.Line.{Line};
+    ghost use Rattle.pm_once.specs.Calls.{Acts, AreSays, DoesNext, Performs, RenewsStore, end_in};
+    ghost use Rattle.pm_once.specs.Goes.{IsRunning};
+    ghost use Rattle.pm_once.specs.View.{view_of};
+
+    // How the server ends where its machine does.
+    fn end_of(&self, ending: Ending) -> ServerEnd
+        ensures { result ≡ end_in ending (view_of (B.entries self.now.store.book) self.now) }
+    {
+        match ending {
+            Ending::Clean => ServerEnd::Clean,
+            Ending::AfterCrash if self.is_short => ServerEnd::NoMemory,
+            Ending::AfterCrash => ServerEnd::Abnormal(Why::AfterCrash),
+            Ending::StartupFailed => match self.failure {
+                Some(why) => ServerEnd::Abnormal(Why::StartupFailed(why)),
+                None => ServerEnd::NoMemory,
+            },
+            Ending::RestartOff => ServerEnd::Abnormal(Why::RestartOff),
+        }
+    }
+
+    // The store begins its next generation.
+    fn renew(&mut self, generation: u32) -> Result<(), AllocError>
+        requires { generation ≡ self.old.store.generation + 1 }
+        ensures renews { RenewsStore generation result (view_of (B.entries self.old.store.book) self.old) (view_of (B.entries self.new.store.book) self.new) }
+        ensures supervision { self.new.supervision ≡ self.old.supervision }
+    {
+        self.store.renew(generation, &self.lost)?;
+        self.lost.clear();
+        Ok(())
+    }
+
+    // Does an act, whose entry was noted.
+    fn perform(&mut self, act: Act) -> Result<(), ServerEnd>
+        requires { (generation : ℕ) → act ≡ Reset generation → generation ≡ self.old.store.generation + 1 }
+        ensures performs { Performs act result (view_of (B.entries self.old.store.book) self.old) (view_of (B.entries self.new.store.book) self.new) }
+        ensures supervision { self.new.supervision ≡ self.old.supervision }
+        ensures said { (line : Line) → act ≡ Say line → self.new.store ≡ self.old.store }
+    {
+        match act {
+            Act::Start { pid, kind } => self.hands.start(pid, kind),
+            Act::Quit(_) => self.hands.is_quit = true,
+            Act::Terminate => self.hands.is_terminated = true,
+            Act::AskCheckpoint => self.hands.is_asked = true,
+            Act::Say(line) => self.log.say(line),
+            Act::Reset { generation } => self.renew(generation)?,
+            Act::End(ending) => return Err(self.end_of(ending)),
+            Act::Ready { .. } | Act::KillAll => {}
+        }
+        Ok(())
+    }
+
+    // Does the next act that is due, if there is one.
+    fn do_next(&mut self) -> Result<bool, ServerEnd>
+        requires { IsRunning (view_of (B.entries self.old.store.book) self.old) }
+        ensures does { (steps : List Step)
+            × DoesNext result steps (view_of (B.entries self.old.store.book) self.old) (view_of (B.entries self.new.store.book) self.new) }
+        ensures said { AreSays (standing self.old.supervision).due → IsOk result × (self.new.store ≡ self.old.store) }
+    {
+        laws();
+        match self.supervision.next() {
+            Ok(Some(act)) => match self.perform(act) {
+                Ok(()) => Ok(true),
+                Err(end) => Err(end),
+            },
+            Ok(None) => Ok(false),
+            Err(GenerationsSpent) => Err(ServerEnd::Abnormal(Why::GenerationsSpent)),
+        }
+    }
+
+    // Does all acts that are due, in their order.
+    pub(crate) fn act_all(&mut self) -> Result<(), ServerEnd>
+        requires { IsRunning (view_of (B.entries self.old.store.book) self.old) }
+        ensures does { (steps : List Step)
+            × Acts result steps (view_of (B.entries self.old.store.book) self.old) (view_of (B.entries self.new.store.book) self.new) }
+        ensures said { AreSays (standing self.old.supervision).due → IsOk result × (self.new.store ≡ self.old.store) }
+    {
+        laws();
+        'acts: loop {
+            match self.do_next() {
+                Ok(true) => {}
+                Ok(false) => return Ok(()),
+                Err(end) => return Err(end),
+            }
+        }
+    }
+}
+
+impl<J: Chronicle<PmEvent>, O: Sink, D: Disk, B: Chronicle<BookEntry>> Server<J, O, D, B> {
+    ghost use Rattle.std.specs.Prelude.{◌⊎◌, ℕ, Some, IfNone, IfSome, IsSome, OnErr, OnOk, true};
+    ghost use Rattle.pm_exit.specs.declared.child.Kind.TheVariants.{Checkpointer, Startup};
+    ghost use Rattle.pm_chain.specs.Steps.{ChildRun};
+    ghost use Rattle.pm_journal.specs.Roll.{kind_in};
+    ghost use Rattle.pm_journal.specs.Standing.{IsAtRest, ends_redo};
+    ghost use Rattle.pm_journal.specs.Stands.{HasPast};
+    ghost use Rattle.pm_journal.specs.Supervision.{at_work, standing};
+    ghost use Rattle.pm_once.specs.Calls.{Asks, Finishes, HasAidRun, NotesExit, NotesNoExit, exit_of};
+    ghost use Rattle.pm_once.specs.Goes.{IsIdle, IsRunning};
+    ghost use Rattle.pm_once.specs.View.{view_of};
+
+    // Asks for a smart shutdown, and does the acts of that. No further link is asked for.
+    pub(crate) fn ask_smart<C: Clock>(&mut self, clock: &C) -> Result<(), ServerEnd>
+        requires running { IsRunning (view_of (B.entries self.old.store.book) self.old) }
+        requires rests { IsAtRest (standing self.old.supervision) }
+        requires due { (self.old.listens ≡ true) ⊎ ((standing self.old.supervision).owes_smart ≡ true) }
+        ensures asks { (steps : List Step) × Asks (C.gives clock.now) result steps
+            (view_of (B.entries self.old.store.book) self.old) (view_of (B.entries self.new.store.book) self.new) }
+        ensures store { self.new.store ≡ self.old.store }
+    {
+        laws();
+        self.listens = false;
+        match self.supervision.ask(Mode::Smart, clock.now()) {
+            Ok(()) => self.act_all(),
+            Err(_) => Err(ServerEnd::NoMemory),
+        }
+    }
+
+    // Does all acts that are due, and asks for the shutdown that is owed behind the last pid.
+    fn finish<C: Clock>(&mut self, clock: &C) -> Result<(), ServerEnd>
+        requires running { IsRunning (view_of (B.entries self.old.store.book) self.old) }
+        requires goes_on { (standing self.old.supervision).ended ≡ false }
+        ensures { (steps : List Step) × Finishes (C.gives clock.now) result steps
+            (view_of (B.entries self.old.store.book) self.old) (view_of (B.entries self.new.store.book) self.new) }
+    {
+        match self.act_all() {
+            Ok(()) => {}
+            Err(end) => return Err(end),
+        }
+        if self.supervision.owes_smart() {
+            return self.ask_smart(clock);
+        }
+        Ok(())
+    }
+
+    // Notes that a child has ended.
+    fn note_exit<C: Clock>(&mut self, clock: &C, exit: ChildExit) -> Result<(), AllocError>
+        requires stands { HasPast (at_work self.old.supervision) }
+        requires idle { IsIdle (standing self.old.supervision) }
+        requires there { kind_in exit.pid (standing self.old.supervision).children ≡ Some exit.kind }
+        requires kept { ends_redo exit ≡ true → IsSome exit.kept }
+        ensures noted { OnOk result ((at : ℕ) × NotesExit (C.gives clock.now) exit at
+            (view_of (B.entries self.old.store.book) self.old) (view_of (B.entries self.new.store.book) self.new)) }
+        ensures refused { OnErr result (NotesNoExit (view_of (B.entries self.old.store.book) self.old) (view_of (B.entries self.new.store.book) self.new)) }
+    {
+        self.lost.reserve(1)?;
+        self.supervision.exited(exit, clock.now())?;
+        if exit.was_active {
+            self.lost.push(exit.pid).unwrap();
+        }
+        Ok(())
+    }
+
+    // The startup child reads the log.
+    fn read(&mut self, pid: u32) -> ChildExit
+        requires running { IsRunning (view_of (B.entries self.old.store.book) self.old) }
+        requires there { kind_in pid (standing self.old.supervision).children ≡ Some Startup }
+        requires off { self.old.hands.startup ≡ None }
+        ensures { (run : ChildRun) × (result ≡ exit_of run)
+            × HasAidRun run (view_of (B.entries self.old.store.book) self.old) (view_of (B.entries self.new.store.book) self.new) }
+    {
+        match read_log(&mut self.store, pid) {
+            Ok(kept) => exit(pid, Kind::Startup, Status::Code(0), Some(kept)),
+            Err(why) => {
+                self.failure = why;
+                exit(pid, Kind::Startup, Status::Code(1), None)
+            }
+        }
+    }
+
+    // The checkpointer writes the last checkpoint.
+    fn close(&mut self, pid: u32) -> ChildExit
+        requires running { IsRunning (view_of (B.entries self.old.store.book) self.old) }
+        requires there { kind_in pid (standing self.old.supervision).children ≡ Some Checkpointer }
+        requires off { self.old.hands.checkpointer ≡ None }
+        ensures { (run : ChildRun) × (result ≡ exit_of run)
+            × HasAidRun run (view_of (B.entries self.old.store.book) self.old) (view_of (B.entries self.new.store.book) self.new) }
+    {
+        let closed = write_last(&mut self.store, pid);
+        self.is_short = matches!(closed, Closed::Short);
+        ChildExit {
+            pid,
+            kind: Kind::Checkpointer,
+            status: closed.status(),
+            was_active: closed.is_crashed(),
+            kept: None,
+        }
+    }
+
+    // Lets the next child run that has something to do, if there is one.
+    fn run_next(&mut self) -> Option<ChildExit>
+        requires { IsRunning (view_of (B.entries self.old.store.book) self.old) }
+        ensures runs { IfSome result (λ exit. (run : ChildRun) × (exit ≡ exit_of run)
+            × HasAidRun run (view_of (B.entries self.old.store.book) self.old) (view_of (B.entries self.new.store.book) self.new)) }
+        ensures none { IfNone result (self.new ≡ self.old) }
+    {
+        match self.hands.next() {
+            None => None,
+            Some(Duty::Redo { pid }) => Some(self.read(pid)),
+            Some(Duty::Checkpoint { pid }) => Some(self.close(pid)),
+            Some(Duty::Quit { pid, kind }) => Some(exit(pid, kind, Status::Code(2), None)),
+            Some(Duty::Terminate { pid }) => Some(exit(pid, Kind::Writer, Status::Code(0), None)),
+        }
+    }
+
+    // Lets the next child run that has something to do, if there is one, and does what is due behind its end.
+    pub(crate) fn run_one<C: Clock>(&mut self, clock: &C) -> Option<Result<(), ServerEnd>>
+        requires running { IsRunning (view_of (B.entries self.old.store.book) self.old) }
+        requires idle { IsIdle (standing self.old.supervision) }
+        ensures runs { IfSome result (λ end. (steps : List Step) × Finishes (C.gives clock.now) end steps
+            (view_of (B.entries self.old.store.book) self.old) (view_of (B.entries self.new.store.book) self.new)) }
+        ensures none { IfNone result (self.new ≡ self.old) }
+    {
+        laws();
+        match self.run_next() {
+            None => None,
+            Some(exit) => match self.note_exit(clock, exit) {
+                Ok(()) => Some(self.finish(clock)),
+                Err(_) => Some(Err(ServerEnd::NoMemory)),
+            },
+        }
+    }
+}
+
+impl<J: Chronicle<PmEvent>, O: Sink, D: Disk, B: Chronicle<BookEntry>> Server<J, O, D, B> {
+    ghost use Rattle.std.specs.Prelude.{Bool, IfNone, IfSome, length, option_map, true, ◌<◌};
+    ghost use Rattle.pm_chain.specs.Steps.{ChildRun};
+    ghost use Rattle.pm_admit.specs.declared.Cac.{Cac};
+    ghost use Rattle.pm_journal.specs.Standing.{MayTake, decision_on};
+    ghost use Rattle.pm_journal.specs.Stands.{IsSettled};
+    ghost use Rattle.pm_journal.specs.Supervision.{HasRoom, standing};
+    ghost use Rattle.pm_once.specs.Calls.{Admits};
+    ghost use Rattle.pm_once.specs.Goes.{IsIdle, IsRunning};
+    ghost use Rattle.pm_once.specs.Serves.{HasServed, Serves};
+    ghost use Rattle.pm_once.specs.Service.{Connection};
+    ghost use Rattle.pm_once.specs.View.{view_of};
+
+    // Takes the next connection, and asks for the shutdown that is owed where its pid is the last.
+    fn admit<C: Clock>(&mut self, clock: &C) -> Admitted
+        requires running { IsRunning (view_of (B.entries self.old.store.book) self.old) }
+        requires idle { IsIdle (standing self.old.supervision) }
+        requires settled { IsSettled (standing self.old.supervision) }
+        requires may { MayTake (standing self.old.supervision) }
+        requires served { decision_on (standing self.old.supervision) ≡ Cac.Ok }
+        requires room { HasRoom 1 self.old.supervision }
+        ensures admits { (steps : List Step) × Admits (C.gives clock.now) result steps
+            (view_of (B.entries self.old.store.book) self.old) (view_of (B.entries self.new.store.book) self.new) }
+        ensures store { self.new.store ≡ self.old.store }
+    {
+        laws();
+        let Taken { pid, .. } = self.supervision.take();
+        if self.supervision.owes_smart() {
+            let settled = self.ask_smart(clock);
+            return Admitted { pid, settled };
+        }
+        Admitted {
+            pid,
+            settled: Ok(()),
+        }
+    }
+
+    // Serves the port's next link, and does what is due behind the end of its session; or asks for a shutdown at the port's end.
+    pub(crate) fn serve_next<R: Wait, P: Port, C: Clock>(
+        &mut self,
+        rt: &R,
+        alloc: Global,
+        port: &mut P,
+        clock: &C,
+        seed: &[u8; 32],
+        conf: &SessionConf,
+    ) -> Result<(), ServerEnd>
+        requires running { IsRunning (view_of (B.entries self.old.store.book) self.old) }
+        requires idle { IsIdle (standing self.old.supervision) }
+        requires settled { IsSettled (standing self.old.supervision) }
+        requires may { MayTake (standing self.old.supervision) }
+        requires served { decision_on (standing self.old.supervision) ≡ Cac.Ok }
+        requires listens { self.old.listens ≡ true }
+        ensures { (steps : List Step) × (connections : List Connection) × (ended : Bool)
+            × Serves (C.gives clock.now) result connections ended steps
+            (view_of (B.entries self.old.store.book) self.old) (view_of (B.entries self.new.store.book) self.new)
+            × HasServed seed.now conf.now.authentication_ms (C.gives clock.now) connections ended steps (P.visits port.old) (P.visits port.new) }
+    {
+        laws();
+        match self.supervision.make_room() {
+            Ok(()) => {}
+            Err(_) => return Err(ServerEnd::NoMemory),
+        }
+        let Some(link) = next_link(rt, port) else {
+            return self.ask_smart(clock);
+        };
+        let admitted = self.admit(clock);
+        let Done { status, link } = serve_link(
+            rt,
+            alloc,
+            link,
+            admitted.pid,
+            clock,
+            seed,
+            conf,
+            &mut self.store,
+        );
+        port.done(link);
+        match admitted.settled {
+            Ok(()) => {}
+            Err(_) => return Err(ServerEnd::NoMemory),
+        }
+        match self.note_exit(clock, session_exit(admitted.pid, status)) {
+            Ok(()) => self.finish(clock),
+            Err(_) => Err(ServerEnd::NoMemory),
+        }
+    }
+}
+
+// The end of a session's child: it is inside the store exactly where it was ended by a signal.
+fn session_exit(pid: u32, status: Status) -> ChildExit
+    ensures { result ≡ record { pid = pid; kind = Kind.Backend; status = status; was_active = is_signal status; kept = None } }
+{
+    ChildExit {
+        pid,
+        kind: Kind::Backend,
+        status,
+        was_active: matches!(status, Status::Signal(_)),
+        kept: None,
+    }
+}
+
+// The end of a child that left the store, or never was inside.
+fn exit(pid: u32, kind: Kind, status: Status, kept: Option<u64>) -> ChildExit
+    ensures { result ≡ record { pid = pid; kind = kind; status = status; was_active = false; kept = kept } }
+{
+    ChildExit {
+        pid,
+        kind,
+        status,
+        was_active: false,
+        kept,
+    }
+}

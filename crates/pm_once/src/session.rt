@@ -1,0 +1,101 @@
+//! One connection, and where it comes from.
+
+ghost use Rattle.std.specs.Prelude.{◌≡◌, ◌+◌, ◌<◌, ◌≤◌, length, option_map, IfNone, IfSome};
+ghost use Rattle.pm_keys.specs.CancelKey.{cancel_key};
+ghost use Rattle.pm_outside.specs.Traffic.{IsFresh};
+ghost use Rattle.pm_segment.specs.Moment.{moment_of};
+ghost use Rattle.pm_segment.specs.Moves.{Moves};
+ghost use Rattle.pm_session.specs.Exchange.{link_view};
+ghost use Rattle.pm_session.specs.Session.{status_of};
+ghost use Rattle.pm_once.specs.Service.{Connection, IsServedAs, with_end, with_link};
+
+use crate::quiet::{Home, Quiet};
+use pm_admit::Cac;
+use pm_disk::Disk;
+use pm_outside::{Accepted, Chronicle, Clock, Link, Port};
+use pm_query::BookEntry;
+use pm_segment::Sole;
+use pm_session::{Done, SessionConf, serve};
+use std::alloc::Global;
+use std::marker::Brand;
+use std::sync::Wait;
+
+/// The port's next link, or none where it has come to its end. A fault of the port is passed over.
+pub fn next_link<R: Wait, P: Port>(rt: &R, port: &mut P) -> Option<P::Link>
+    ensures out { IfSome result (λ link. IfSome (P.visits port.new) (λ visits. length visits.back < length visits.given)) }
+    ensures given { IfSome result (λ link. P.visits port.new ≡ option_map (with_link (P.Link.faults link)) (P.visits port.old)) }
+    ensures number { IfSome result (λ link. IfSome (P.visits port.old) (λ visits. P.Link.number link ≡ length visits.given + 1)) }
+    ensures fresh { IfSome result (λ link. IsFresh (P.Link.traffic link)) }
+    ensures ended { IfNone result (P.visits port.new ≡ option_map with_end (P.visits port.old)) }
+{
+    for _ in rt.forever() {
+        match port.accept() {
+            Accepted::Link(link) => return Some(link),
+            Accepted::End => return None,
+            Accepted::NotYet | Accepted::Failed => {}
+        }
+    }
+    unreachable!()
+}
+
+/// Serves one link to its end, as the child with this pid, in the store's generation.
+pub fn serve_link<R, L, D, C, B>(
+    rt: &R,
+    alloc: Global,
+    link: L,
+    pid: u32,
+    clock: &C,
+    seed: &[u8; 32],
+    conf: &SessionConf,
+    store: &mut Sole<D, B>,
+) -> Done<L>
+where
+    R: Wait,
+    L: Link,
+    D: Disk,
+    C: Clock,
+    B: Chronicle<BookEntry>,
+    requires fresh { IsFresh (L.traffic link) }
+    requires pid { 1 ≤ pid }
+    ensures session { (connection : Connection) × (connection.pid ≡ pid) × (connection.generation ≡ store.old.generation)
+        × (connection.given ≡ link_view (L.traffic link) (L.number link) (L.faults link))
+        × (connection.back ≡ link_view (L.traffic result.link) (L.number result.link) (L.faults result.link))
+        × (result.status ≡ status_of connection.ending)
+        × IsServedAs (cancel_key seed.now pid) conf.now.authentication_ms (C.gives clock.now) connection
+        × Moves connection.noted (moment_of (B.entries store.old.book) store.old) (moment_of (B.entries store.new.book) store.new) }
+{
+    serve_at_home::<Brand, R, L, D, C, B>(rt, alloc, link, pid, clock, seed, conf, store)
+}
+
+// The same in a generation that is a type's.
+fn serve_at_home<H, R, L, D, C, B>(
+    rt: &R,
+    alloc: Global,
+    link: L,
+    pid: u32,
+    clock: &C,
+    seed: &[u8; 32],
+    conf: &SessionConf,
+    store: &mut Sole<D, B>,
+) -> Done<L>
+where
+    H: Home,
+    R: Wait,
+    L: Link,
+    D: Disk,
+    C: Clock,
+    B: Chronicle<BookEntry>,
+    requires fresh { IsFresh (L.traffic link) }
+    requires pid { 1 ≤ pid }
+    requires home { store.old.generation ≡ H.home }
+    ensures session { (connection : Connection) × (connection.pid ≡ pid) × (connection.generation ≡ store.old.generation)
+        × (connection.given ≡ link_view (L.traffic link) (L.number link) (L.faults link))
+        × (connection.back ≡ link_view (L.traffic result.link) (L.number result.link) (L.faults result.link))
+        × (result.status ≡ status_of connection.ending)
+        × IsServedAs (cancel_key seed.now pid) conf.now.authentication_ms (C.gives clock.now) connection
+        × Moves connection.noted (moment_of (B.entries store.old.book) store.old) (moment_of (B.entries store.new.book) store.new) }
+{
+    let mut life: Quiet<H> = Quiet::new(pid, store.generation());
+    let key = pm_keys::key(seed, pid);
+    serve(rt, alloc, link, Cac::Ok, key, conf, store, clock, &mut life)
+}
