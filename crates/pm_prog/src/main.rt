@@ -8,11 +8,12 @@ mod tests;
 
 use crate::clock::SystemClock;
 use crate::standard::{StandardPort, StandardSink};
+use pm_disk::{Disk, MemDisk};
 use pm_files::LogFiles;
-use pm_outside::Forgotten;
+use pm_outside::{Chronicle, Forgotten, MemClock, MemPort, Port, Sink};
 use pm_rows::Text;
-use pm_top::{Command, Ended, Outside, Top, read_words, run};
-use std::alloc::AllocError;
+use pm_top::{BookEntry, Command, Ended, Outside, Top, read_words, run};
+use std::alloc::{AllocError, Global};
 use std::env::{self, Env};
 use std::fs::{self, OpenOptions};
 use std::io::{self, ErrorKind, Write};
@@ -69,33 +70,56 @@ fn is_server(rt: &HostRuntime) -> bool {
     }
 }
 
-// Reads the words and runs them over the real outside. A link may keep it waiting forever.
+// Reads the words, and hands their command what it uses of the real outside.
 fn start<R, W>(rt: HostRuntime, wait: &R, sink: StandardSink<W>) -> ExitCode
 where
     R: Wait + Clock + Copy + Drop,
     W: Write + Drop,
 {
     let Ok(words) = words(&rt) else {
-        return ExitCode::from(Top::NoMemory.code());
+        return out_of_memory();
     };
-    let (command, folder) = match read_words(&words) {
-        Ok(line) => (Some(line.command), line.dir),
-        Err(_) => (None, ""),
+    let alloc = rt.alloc();
+    let Ok(line) = read_words(&words) else {
+        return over_disk(wait, alloc, &words, MemDisk::new(alloc), sink);
     };
+    let Ok(disk) = LogFiles::of(rt, alloc, line.dir) else {
+        return out_of_memory();
+    };
+    match line.command {
+        Command::Once => over_all(rt, wait, &words, disk, sink),
+        Command::Initdb => {
+            // Where the folder can't be made its files can't either, and then that is told.
+            let _ = fs::create_dir_all(&rt, line.dir);
+            over_disk(wait, alloc, &words, disk, sink)
+        }
+        Command::Controldata => over_disk(wait, alloc, &words, disk, sink),
+    }
+}
+
+fn out_of_memory() -> ExitCode {
+    ExitCode::from(Top::NoMemory.code())
+}
+
+// Runs `once`, over files, standard streams and the system's clock. A link may keep it waiting forever.
+fn over_all<R, W>(
+    rt: HostRuntime,
+    wait: &R,
+    words: &[Text],
+    disk: LogFiles,
+    sink: StandardSink<W>,
+) -> ExitCode
+where
+    R: Wait + Clock + Copy + Drop,
+    W: Write + Drop,
+{
     let Ok(clock) = SystemClock::new(*wait) else {
         return could_not_start(&rt);
     };
     let mut seed = [0; 32];
-    if command == Some(Command::Once) && rt.fill_bytes(&mut seed).is_err() {
+    if rt.fill_bytes(&mut seed).is_err() {
         return could_not_start(&rt);
     }
-    if command == Some(Command::Initdb) {
-        // Where the folder can't be made its files can't either, and then that is told.
-        let _ = fs::create_dir_all(&rt, folder);
-    }
-    let Ok(disk) = LogFiles::of(rt, rt.alloc(), folder) else {
-        return ExitCode::from(Top::NoMemory.code());
-    };
     let outside = Outside {
         port: StandardPort::new(rt.stdin(), rt.stdout()),
         sink,
@@ -104,15 +128,52 @@ where
         book: Forgotten::new(),
         seed,
     };
-    let Ended { status, outside } = run(wait, rt.alloc(), &words, outside);
-    let Outside {
-        port: _port,
-        sink: _sink,
-        disk: _disk,
-        clock: _clock,
-        book: _book,
-        seed: _,
-    } = outside;
+    end_of(wait, rt.alloc(), words, outside)
+}
+
+// Runs words whose command uses a disk and a sink at most. The rest of the outside is in memory.
+fn over_disk<R, D, W>(
+    wait: &R,
+    alloc: Global,
+    words: &[Text],
+    disk: D,
+    sink: StandardSink<W>,
+) -> ExitCode
+where
+    R: Wait + Clock + Copy + Drop,
+    D: Disk + Drop,
+    W: Write + Drop,
+{
+    let outside = Outside {
+        port: MemPort::new(alloc, Vec::new(alloc), Vec::new(alloc)),
+        sink,
+        disk,
+        clock: MemClock::still(0, *wait),
+        book: Forgotten::new(),
+        seed: [0; 32],
+    };
+    end_of(wait, alloc, words, outside)
+}
+
+// Runs the words, and lets go of what they were run over.
+fn end_of<R, P, O, D, C, B>(
+    wait: &R,
+    alloc: Global,
+    words: &[Text],
+    outside: Outside<P, O, D, C, B>,
+) -> ExitCode
+where
+    R: Wait,
+    P: Port + Drop,
+    O: Sink + Drop,
+    D: Disk + Drop,
+    C: pm_outside::Clock + Drop,
+    B: Chronicle<BookEntry> + Drop,
+{
+    let Ended {
+        status,
+        outside: _outside,
+    } = run(wait, alloc, words, outside);
     ExitCode::from(status.code())
 }
 

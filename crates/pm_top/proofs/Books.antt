@@ -18,7 +18,7 @@ use Rattle.pm_query.specs.declared.book.BookEntry.TheVariants.{Opened, Attached,
 use Rattle.pm_record.specs.declared.fault.RedoFault.{RedoFault}
 use Rattle.pm_record.specs.declared.fault.RedoFault.TheVariants as redo
 use Rattle.pm_top.specs.declared.status.Top.{Top}
-use Rattle.pm_top.specs.declared.status.Top.TheVariants.{Done, Abnormal, OutFault, DiskFault, Exists, Usage, NoMemory}
+use Rattle.pm_top.specs.declared.status.Top.TheVariants.{Done, Abnormal, OutFault, DiskFault, Exists, Unreadable, Usage, NoMemory}
 use Rattle.pm_top.specs.declared.status.Why.TheVariants.{AfterCrash, StartupFailed}
 use Rattle.pm_top.specs.declared.status.StartWhy.TheVariants.{Redo}
 use Rattle.pm_top.specs.Service.{AreServed, AtEnd, AtLastPid, AtPanic, Connection, HasPanicked, IsServedAs, OnlyLastPanicked, Stop, StopsBehind, noted_by}
@@ -234,6 +234,7 @@ close_inside files NoMemory closing (inr (inr skipped)) = subst (All IsInside) (
 close_inside files OutFault closing notes = absurd notes
 close_inside files DiskFault closing notes = absurd notes
 close_inside files Exists closing notes = absurd notes
+close_inside files (Unreadable fault) closing notes = absurd notes
 close_inside files Usage closing notes = absurd notes
 
 tells_made : (kept : ℕ) (noted : List BookEntry) → All IsMild noted → Tells Done (book_of kept noted closed_well)
@@ -257,6 +258,7 @@ tells_close files NoMemory kept noted closing mild (inr (inr skipped)) = after_o
 tells_close files OutFault kept noted closing mild notes = absurd notes
 tells_close files DiskFault kept noted closing mild notes = absurd notes
 tells_close files Exists kept noted closing mild notes = absurd notes
+tells_close files (Unreadable fault) kept noted closing mild notes = absurd notes
 tells_close files Usage kept noted closing mild notes = absurd notes
 
 -- behind a panic
@@ -315,6 +317,7 @@ start_unredone Done entries notes = absurd notes
 start_unredone OutFault entries notes = absurd notes
 start_unredone DiskFault entries notes = absurd notes
 start_unredone Exists entries notes = absurd notes
+start_unredone (Unreadable fault) entries notes = absurd notes
 start_unredone Usage entries notes = absurd notes
 
 pub start_tells : (status : Top) (entries : List BookEntry) → StartNotes status entries → Tells status entries
@@ -332,6 +335,7 @@ start_tells Done entries notes = absurd notes
 start_tells OutFault entries notes = absurd notes
 start_tells DiskFault entries notes = absurd notes
 start_tells Exists entries notes = absurd notes
+start_tells (Unreadable fault) entries notes = absurd notes
 start_tells Usage entries notes = absurd notes
 
 -- ---- faults that were noted

@@ -1,5 +1,5 @@
 -- Text that is written piece by piece.
-use Rattle.std.proofs.Common.{◌≡◌, ◌⊎◌, inl, inr, ℕ, ◌-◌, List, [], ◌++◌, length, take, drop, Option, None, Some, refl, sym, ◌∙◌, ap, subst, arith, append_assoc, append-nil, take-append-drop, length-drop}
+use Rattle.std.proofs.Common.{◌≡◌, inl, inr, ℕ, ◌-◌, List, [], ◌++◌, length, take, drop, Option, None, Some, refl, sym, ◌∙◌, ap, subst, arith, append_assoc, append-nil, take-append-drop, length-drop}
 use Rattle.std.specs.Option.{option_map}
 use Rattle.std.specs.Prelude.{true, false}
 use Rattle.std.proofs.lemmas.List.{take_all}
@@ -62,6 +62,35 @@ printed_whole text before now printed = elim printed.whole [
 -- other words for a text
 pub printed_as : (one text : List ℕ) (cut : Type 0) (before now : Option (List ℕ)) → one ≡ text → IsPrinted one cut before now → IsPrinted text cut before now
 printed_as one text cut before now same printed = subst (λ (l : List ℕ). IsPrinted l cut before now) same printed
+
+-- the next part of a text
+pub part_more : (text part rest : List ℕ) (before mid now : Option (List ℕ)) → IsUpTo text (part ++ rest) before mid → IsPrinted part (false ≡ true) mid now → IsUpTo text rest before now
+part_more text part rest before mid now up printed = record {
+  front = up.front ++ part;
+  parts = up.parts ∙ sym (append_assoc up.front part rest);
+  written = printed_whole part mid now printed ∙ ap (option_map (λ (w : List ℕ). w ++ part)) up.written ∙ two_added up.front part before;
+}
+
+-- the part was cut off
+pub part_cut : (text part rest : List ℕ) (one cut : Type 0) (before mid now : Option (List ℕ)) → cut → IsUpTo text (part ++ rest) before mid → IsPrinted part one mid now → IsPrinted text cut before now
+part_cut text part rest one cut before mid now failed up printed = record {
+  front = up.front ++ printed.front;
+  rest = printed.rest ++ rest;
+  parts = up.parts ∙ ap (λ (l : List ℕ). up.front ++ l) (ap (λ (l : List ℕ). l ++ rest) printed.parts ∙ append_assoc printed.front printed.rest rest)
+      ∙ sym (append_assoc up.front printed.front (printed.rest ++ rest));
+  written = printed.written ∙ ap (option_map (λ (w : List ℕ). w ++ printed.front)) up.written ∙ two_added up.front printed.front before;
+  whole = inr failed;
+}
+
+-- the last part
+pub part_last : (text part : List ℕ) (cut : Type 0) (before mid now : Option (List ℕ)) → IsUpTo text (part ++ []) before mid → IsPrinted part cut mid now → IsPrinted text cut before now
+part_last text part cut before mid now up printed = record {
+  front = up.front ++ printed.front;
+  rest = printed.rest;
+  parts = up.parts ∙ ap (λ (l : List ℕ). up.front ++ l) (append-nil part ∙ printed.parts) ∙ sym (append_assoc up.front printed.front printed.rest);
+  written = printed.written ∙ ap (option_map (λ (w : List ℕ). w ++ printed.front)) up.written ∙ two_added up.front printed.front before;
+  whole = printed.whole;
+}
 
 pub printed_then : (a b : List ℕ) (cut : Type 0) (before mid now : Option (List ℕ)) → mid ≡ option_map (λ w. w ++ a) before → IsPrinted b cut mid now → IsPrinted (a ++ b) cut before now
 printed_then a b cut before mid now first printed = record {

@@ -145,12 +145,13 @@ of_each P (x ∷ xs) front each =
 pub record Alone (pid key : ℕ) (gives : ℕ → Type 0) (ending : Ending) (turns : List Turn) (given back : LinkView) (noted : List BookEntry) : Type 0 where
   pub served : IsServedAs pid key gives (record { given = given; back = back; turns = turns; ending = ending; noted = noted })
 
-pub served_alone : {S : Type 0} (notes : List BookEntry → S → S → Type 0) (before now : S) (has : Bool) (told : Told) (pid generation key : ℕ) (gives : ℕ → Type 0) (ending : Ending) (turns : List Turn) (given back : LinkView)
+pub served_alone : {S : Type 0} (notes : List BookEntry → S → S → Type 0) (before now : S) (has : Bool) (told : Told) (stamp pid generation key : ℕ) (gives : ℕ → Type 0) (ending : Ending) (turns : List Turn) (given back : LinkView)
     → told.given ≡ [] → told.met ≡ first_met has → IsFresh given.traffic → back.number ≡ given.number → given.faults ≤ back.faults
-    → IsSession notes decisions.Ok (newcomer (Some 1) pid generation) key turns ending (HasFailed given back) (between back.traffic before now)
+    → stamp ≡ 1 → IsSession notes decisions.Ok (newcomer (Some stamp) pid generation) key turns ending (HasFailed given back) (between back.traffic before now)
     → IsCaused ending turns generation decisions.Ok back.traffic (HasFailed given back) (Some told) authentication_ms gives
     → (noted : List BookEntry) × notes noted before now × Alone pid key gives ending turns given back noted
-served_alone notes before now has told pid generation key gives ending turns given back none met fresh same later session caused =
+served_alone notes before now has told stamp pid generation key gives ending turns given back none met fresh same later begun session_then caused =
+    let session = subst (λ (s : ℕ). IsSession notes decisions.Ok (newcomer (Some s) pid generation) key turns ending (HasFailed given back) (between back.traffic before now)) begun session_then in
     let first = in_first has told ending.stage generation met caused.gate in
     let text = first_text pid generation key turns ending session.came_in session.whole session.noted first session.text in (
       session.noted,

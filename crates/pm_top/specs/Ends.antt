@@ -6,10 +6,10 @@ use Rattle.pm_record.specs.declared.fault.RedoFault.{RedoFault}
 use Rattle.pm_record.specs.declared.fault.RedoFault.TheVariants as redo
 use Rattle.pm_query.specs.declared.store.StoreNo.{StoreNo}
 use Rattle.pm_query.specs.declared.store.StoreNo.TheVariants as stores
-use Rattle.pm_segment.specs.declared.redo.Checkpointed.{Checkpointed}
-use Rattle.pm_segment.specs.declared.redo.Checkpointed.TheVariants as made
+use Rattle.pm_query.specs.declared.store.Checkpointed.{Checkpointed}
+use Rattle.pm_query.specs.declared.store.Checkpointed.TheVariants as made
 use Rattle.pm_top.specs.declared.status.Top.{Top}
-use Rattle.pm_top.specs.declared.status.Top.TheVariants.{Done, Abnormal, OutFault, DiskFault, Exists, Usage, NoMemory}
+use Rattle.pm_top.specs.declared.status.Top.TheVariants.{Done, Abnormal, OutFault, DiskFault, Exists, Unreadable, Usage, NoMemory}
 use Rattle.pm_top.specs.declared.status.Why.TheVariants.{AfterCrash, StartupFailed}
 use Rattle.pm_top.specs.declared.status.StartWhy.TheVariants.{Redo}
 
@@ -20,6 +20,7 @@ exit_code (Abnormal why) = 1
 exit_code OutFault = 1
 exit_code DiskFault = 1
 exit_code Exists = 1
+exit_code (Unreadable fault) = 1
 exit_code Usage = 2
 exit_code NoMemory = 3
 
@@ -39,11 +40,21 @@ IsOnceEnd Done = Unit {0}
 IsOnceEnd NoMemory = Unit {0}
 IsOnceEnd _ = ⊥
 
--- `initdb` has made a cluster: its line was printed, or the sink failed
-abbrev pub HasMade : Top → Type 0
-HasMade Done = Unit {0}
-HasMade OutFault = Unit {0}
-HasMade _ = ⊥
+abbrev pub IsControldataEnd : Top → Type 0
+IsControldataEnd Done = Unit {0}
+IsControldataEnd OutFault = Unit {0}
+IsControldataEnd DiskFault = Unit {0}
+IsControldataEnd (Unreadable redo.Disk) = ⊥
+IsControldataEnd (Unreadable redo.NoMemory) = ⊥
+IsControldataEnd (Unreadable fault) = Unit {0}
+IsControldataEnd NoMemory = Unit {0}
+IsControldataEnd _ = ⊥
+
+-- `initdb` has made a cluster, `controldata` has read one: that was printed, or the sink failed
+abbrev pub HasAnswer : Top → Type 0
+HasAnswer Done = Unit {0}
+HasAnswer OutFault = Unit {0}
+HasAnswer _ = ⊥
 
 -- how a server ends whose redo was refused so
 abbrev pub refused_start : StoreNo → Top
@@ -54,7 +65,7 @@ refused_start _ = NoMemory
 -- how a server ends whose last checkpoint came to this
 abbrev pub closed_status : Result Checkpointed StoreNo → Top
 closed_status (Ok (made.Done epoch)) = Done
-closed_status (Ok made.Skipped) = NoMemory
+closed_status (Ok _) = NoMemory
 closed_status (Err stores.Disk) = Abnormal AfterCrash
 closed_status (Err (stores.Broken since)) = Abnormal AfterCrash
 closed_status (Err (stores.Full need room)) = Abnormal AfterCrash
@@ -81,6 +92,7 @@ line_of (Abnormal (StartupFailed (Redo fault))) = redo_line fault
 line_of OutFault = []
 line_of DiskFault = codes "disk fault\n"
 line_of Exists = codes "a cluster exists\n"
+line_of (Unreadable fault) = redo_line fault
 line_of Usage = codes "usage: initdb | once | serve | controldata | workload\n"
 line_of NoMemory = codes "out of memory\n"
 

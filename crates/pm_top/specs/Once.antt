@@ -110,12 +110,13 @@ disk_view files images ticks faults = record { files = files; images = images; t
 abbrev pub KeepsMeaning : (before now : DiskView) → Type 0
 KeepsMeaning before now = (t : ℕ) → before.ticks ≤ t → t ≤ now.ticks → (image : Files) → now.images t image → MeansAsOne Means (before.images before.ticks) image
 
--- Redo has ended. The base is what the files meant that were handed in, and so many bytes, unless the disk has failed; at
--- every tick whatever a stop leaves means a number of the history at that tick that holds every acknowledged commit.
+-- Redo has ended. The base is what the files meant that were handed in, and so many bytes, where they are told and the disk
+-- hasn't failed. Where it tells its files at the end, at every tick whatever a stop leaves means a number of the history at
+-- that tick that holds every acknowledged commit.
 pub record HoldsHistory (base : Base) (book : List BookEntry) (before now : DiskView) : Type 0 where
   pub redone : IsSome (kept_by_redo book)
   pub base_is : Rose before.faults now.faults ⊎ IfSome before.files (λ files. MeansIn files (base_standing base) base.bytes)
-  pub durable : IsDurable Means base book before.ticks now.ticks before.images now.images
+  pub durable : IfSome now.files (λ files. IsDurable Means base book before.ticks now.ticks before.images now.images)
 
 -- The files mean all commits of the history, and the log is clean: it says so, and no batch stands behind its base.
 pub record IsClean (history : History) (files : Files) : Type 0 where
@@ -127,12 +128,12 @@ pub record IsClean (history : History) (files : Files) : Type 0 where
   pub clean : content.clean ≡ true
   pub nothing_behind : content.batches ≡ []
 
--- What a run leaves that was handed an empty book: a book that is legal from a base and tells the status, and files that at
--- every tick hold its history, or mean what they meant where no redo has ended.
+-- What a run leaves that was handed an empty book: a book that is legal from a base and tells the status, whatever the disk
+-- tells, and where it tells them files that at every tick hold its history, or mean what they meant where no redo has ended.
 pub record IsOnceStory (status : Top) (before now : DiskView) (book : List BookEntry) : Type 0 where
   pub base : Base
   pub faults_are : base.faults ≡ before.faults
   pub legal : IsLegal base book
   pub tells : Tells status book
-  pub stops : ((kept_by_redo book ≡ None) × KeepsMeaning before now) ⊎ HoldsHistory base book before now
+  pub stops : ((kept_by_redo book ≡ None) × IfSome now.files (λ files. KeepsMeaning before now)) ⊎ HoldsHistory base book before now
   pub clean : status ≡ Done → IfSome now.files (λ files. ∥ IsClean (history_of base book) files ∥₁)

@@ -1,11 +1,12 @@
 -- The words of the command line.
 use Rattle.std.specs.Prelude.{◌≡◌, ◌≢◌, ◌⊎◌, ℕ, List, [], ◌∷◌, ◌++◌, codes, slice_get, Some}
 use Rattle.pm_top.specs.declared.words.Command.{Command}
-use Rattle.pm_top.specs.declared.words.Command.TheVariants.{Initdb, Once}
+use Rattle.pm_top.specs.declared.words.Command.TheVariants.{Initdb, Once, Controldata}
 
 abbrev pub command_word : Command → List ℕ
 command_word Initdb = codes "initdb"
 command_word Once = codes "once"
+command_word Controldata = codes "controldata"
 
 -- The folder: a word of its own behind `--data`, where it isn't empty and doesn't begin with `-`, or in one word with
 -- `--data=`, where it isn't empty.

@@ -2,6 +2,7 @@
 //! lines that are printed.
 #![tactic(auto)]
 
+mod control;
 mod outside;
 mod print;
 mod quiet;

@@ -8,7 +8,7 @@ ghost use Rattle.pm_query.specs.declared.book.BookEntry.{BookEntry};
 ghost use Rattle.pm_query.specs.declared.book.BookEntry.TheVariants.{Opened, Attached, Redone, Detached};
 ghost use Rattle.pm_record.specs.declared.fault.RedoFault.{RedoFault};
 ghost use Rattle.pm_redo.specs.Found.{IsReason};
-ghost use Rattle.pm_segment.specs.Moment.{moment_of};
+ghost use Rattle.pm_segment.specs.Moment.{moment};
 ghost use Rattle.pm_segment.specs.Moves.{Moves};
 ghost use Rattle.pm_segment.specs.Redos.{IsAtLastEpoch, IsCleanAt};
 ghost use Rattle.pm_segment.specs.Stands.{Begins, Origin, WaitsFrom};
@@ -25,9 +25,9 @@ use pm_admit::Cac;
 use pm_disk::Disk;
 use pm_exit::Status;
 use pm_outside::{Accepted, Chronicle, Clock, Link, Port};
-use pm_query::{BookEntry, Store, StoreNo};
+use pm_query::{BookEntry, Checkpointed, Store, StoreNo};
 use pm_record::RedoFault;
-use pm_segment::{Checkpointed, Sole};
+use pm_segment::Sole;
 use pm_session::{Done, SessionConf, serve};
 use std::alloc::Global;
 use std::sync::Wait;
@@ -67,9 +67,9 @@ where
     ensures visits { ((result.outside.port ≡ outside.port) × HasNotStarted result.status (B.entries outside.book) (B.entries result.outside.book))
         ⊎ ((service : Service) × HasServed outside.seed (C.gives outside.clock) service (P.visits outside.port) (P.visits result.outside.port)
         × HasNoted result.status service (D.seen result.outside.disk) (B.entries outside.book) (B.entries result.outside.book)) }
-    ensures story { B.entries outside.book ≡ Some [] → IfSome (B.entries result.outside.book) (λ book. IfSome (D.seen result.outside.disk) (λ _.
-        IsOnceStory result.status (disk_view (D.seen outside.disk) (D.images outside.disk) (D.ticks outside.disk) (D.faults outside.disk))
-        (disk_view (D.seen result.outside.disk) (D.images result.outside.disk) (D.ticks result.outside.disk) (D.faults result.outside.disk)) book)) }
+    ensures story { B.entries outside.book ≡ Some [] → IfSome (B.entries result.outside.book)
+        (IsOnceStory result.status (disk_view (D.seen outside.disk) (D.images outside.disk) (D.ticks outside.disk) (D.faults outside.disk))
+        (disk_view (D.seen result.outside.disk) (D.images result.outside.disk) (D.ticks result.outside.disk) (D.faults result.outside.disk))) }
     ensures reason { (fault : RedoFault) → result.status ≡ Top.Abnormal (Why.StartupFailed (StartWhy.Redo fault))
         → IfSome (D.seen outside.disk) (λ files. IsReason fault files) }
     ensures unread { (fault : RedoFault) → result.status ≡ Top.Abnormal (Why.StartupFailed (StartWhy.Redo fault)) → fault ≢ RedoFault.Disk
@@ -134,18 +134,19 @@ where
     D: Disk,
     C: Clock,
     B: Chronicle<BookEntry>,
+    requires generation { (moment store.old).generation ≡ 1 }
     ensures goes { ((port.new ≡ port.old) × (entries : List BookEntry) × StartNotes result (Opened 1 ∷ entries)
-        × Moves entries (moment_of (B.entries store.old.book) store.old) (moment_of (B.entries store.new.book) store.new))
+        × Moves entries (moment store.old) (moment store.new))
         ⊎ ((service : Service) × (kept : ℕ) × (closing : List BookEntry)
         × HasServed seed.now (C.gives clock.now) service (P.visits port.old) (P.visits port.new)
-        × CloseNotes service.stop (D.seen store.new.disk) result closing
+        × CloseNotes service.stop (moment store.new).files result closing
         × Moves (redo_entries kept ++ noted_by service.connections ++ closing)
-        (moment_of (B.entries store.old.book) store.old) (moment_of (B.entries store.new.book) store.new)) }
+        (moment store.old) (moment store.new)) }
     ensures reason { (fault : RedoFault) → result ≡ Top.Abnormal (Why.StartupFailed (StartWhy.Redo fault))
-        → IfSome (D.seen store.old.disk) (λ files. IsReason fault files) }
+        → IfSome (moment store.old).files (λ files. IsReason fault files) }
     ensures unread { (fault : RedoFault) → result ≡ Top.Abnormal (Why.StartupFailed (StartWhy.Redo fault)) → fault ≢ RedoFault.Disk
-        → D.seen store.new.disk ≡ D.seen store.old.disk }
-    ensures clean { result ≡ Top.Done → (epoch : ℕ) × IsCleanAt epoch store.new.live store.new.rows (D.seen store.new.disk) }
+        → (moment store.new).files ≡ (moment store.old).files }
+    ensures clean { result ≡ Top.Done → (epoch : ℕ) × IsCleanAt epoch (moment store.new).live (moment store.new).rows (moment store.new).files }
 {
     if let Err(status) = start(store) {
         return status;
@@ -158,12 +159,13 @@ where
 
 // Reads the log, as the first child.
 fn start<D: Disk, B: Chronicle<BookEntry>>(store: &mut Sole<D, B>) -> Result<(), Top>
+    requires generation { (moment store.old).generation ≡ 1 }
     ensures notes { (entries : List BookEntry) × StartsAs result entries
-        × Moves entries (moment_of (B.entries store.old.book) store.old) (moment_of (B.entries store.new.book) store.new) }
+        × Moves entries (moment store.old) (moment store.new) }
     ensures reason { (fault : RedoFault) → result ≡ Err (Top.Abnormal (Why.StartupFailed (StartWhy.Redo fault)))
-        → IfSome (D.seen store.old.disk) (λ files. IsReason fault files) }
+        → IfSome (moment store.old).files (λ files. IsReason fault files) }
     ensures unread { (fault : RedoFault) → result ≡ Err (Top.Abnormal (Why.StartupFailed (StartWhy.Redo fault))) → fault ≢ RedoFault.Disk
-        → D.seen store.new.disk ≡ D.seen store.old.disk }
+        → (moment store.new).files ≡ (moment store.old).files }
 {
     let Ok(mut pass) = store.enter(STARTUP_PID, FIRST_GENERATION) else {
         return Err(Top::NoMemory);
@@ -202,8 +204,9 @@ where
     D: Disk,
     C: Clock,
     B: Chronicle<BookEntry>,
+    requires generation { (moment store.old).generation ≡ 1 }
     ensures served { (service : Service) × HasServed seed.now (C.gives clock.now) service (P.visits port.old) (P.visits port.new)
-        × Moves (noted_by service.connections) (moment_of (B.entries store.old.book) store.old) (moment_of (B.entries store.new.book) store.new)
+        × Moves (noted_by service.connections) (moment store.old) (moment store.new)
         × StopsAs result service.stop }
 {
     for pid in FIRST_PID..END_OF_PIDS {
@@ -237,12 +240,13 @@ where
     B: Chronicle<BookEntry>,
     requires fresh { IsFresh (L.traffic link) }
     requires pid { 1 ≤ pid }
+    requires generation { (moment store.old).generation ≡ 1 }
     ensures session { (connection : Connection)
         × (connection.given ≡ link_view (L.traffic link) (L.number link) (L.faults link))
         × (connection.back ≡ link_view (L.traffic result.link) (L.number result.link) (L.faults result.link))
         × (result.status ≡ status_of connection.ending)
         × IsServedAs pid (cancel_key seed.now pid) (C.gives clock.now) connection
-        × Moves connection.noted (moment_of (B.entries store.old.book) store.old) (moment_of (B.entries store.new.book) store.new) }
+        × Moves connection.noted (moment store.old) (moment store.new) }
 {
     let conf = SessionConf {
         authentication_ms: AUTHENTICATION_MS,
@@ -282,14 +286,15 @@ fn next_link<R: Wait, P: Port>(rt: &R, port: &mut P) -> Option<P::Link>
 
 // Writes the last checkpoint, as the second child.
 fn close<D: Disk, B: Chronicle<BookEntry>>(store: &mut Sole<D, B>) -> Top
-    ensures notes { (entries : List BookEntry) × CheckpointNotes (D.seen store.new.disk) result entries
-        × Moves entries (moment_of (B.entries store.old.book) store.old) (moment_of (B.entries store.new.book) store.new) }
-    ensures clean { result ≡ Top.Done → (epoch : ℕ) × IsCleanAt epoch store.new.live store.new.rows (D.seen store.new.disk) }
+    requires generation { (moment store.old).generation ≡ 1 }
+    ensures notes { (entries : List BookEntry) × CheckpointNotes (moment store.new).files result entries
+        × Moves entries (moment store.old) (moment store.new) }
+    ensures clean { result ≡ Top.Done → (epoch : ℕ) × IsCleanAt epoch (moment store.new).live (moment store.new).rows (moment store.new).files }
 {
     let Ok(mut pass) = store.enter(CHECKPOINTER_PID, FIRST_GENERATION) else {
         return Top::NoMemory;
     };
-    let made = store.checkpoint(&mut pass);
+    let made = store.checkpoint(&mut pass, true);
     store.leave(pass);
     ending(made)
 }
@@ -300,7 +305,7 @@ fn ending(made: Result<Checkpointed, StoreNo>) -> Top
 {
     match made {
         Ok(Checkpointed::Done { .. }) => Top::Done,
-        Ok(Checkpointed::Skipped) => Top::NoMemory,
+        Ok(Checkpointed::Skipped | Checkpointed::NotDue { .. }) => Top::NoMemory,
         Err(StoreNo::Disk | StoreNo::Broken { .. } | StoreNo::Full { .. }) => {
             Top::Abnormal(Why::AfterCrash)
         }

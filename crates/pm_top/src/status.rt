@@ -13,6 +13,7 @@ pub enum Top {
     OutFault,
     DiskFault,
     Exists,
+    Unreadable(RedoFault),
     Usage,
     NoMemory,
 }
@@ -38,7 +39,8 @@ impl Top {
     {
         match self {
             Top::Done => 0,
-            Top::Abnormal(_) | Top::OutFault | Top::DiskFault | Top::Exists => 1,
+            Top::Abnormal(_) | Top::OutFault | Top::DiskFault | Top::Exists | Top::Unreadable(_) =>
+                1,
             Top::Usage => 2,
             Top::NoMemory => 3,
         }

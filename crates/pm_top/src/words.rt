@@ -14,6 +14,8 @@ pub enum Command {
     Initdb,
     /// Serves one connection, and ends.
     Once,
+    /// Tells what the files of a cluster stand for.
+    Controldata,
 }
 
 /// A command line that is in the grammar.
@@ -30,7 +32,7 @@ pub enum WordsNo {
     Usage,
 }
 
-/// Reads `initdb` or `once` and then `--data D` or `--data=D`. D isn't empty, and as a word of its own it doesn't
+/// Reads `initdb`, `once` or `controldata` and then `--data D` or `--data=D`. D isn't empty, and as a word of its own it doesn't
 /// begin with `-`.
 pub fn read_words<'a>(words: &'a [Text]) -> Result<Line<'a>, WordsNo>
     ensures line { IfOk result (λ line. IsLine words.now line.command line.dir.now) }
@@ -42,6 +44,7 @@ pub fn read_words<'a>(words: &'a [Text]) -> Result<Line<'a>, WordsNo>
     let command = match first.as_str() {
         "initdb" => Command::Initdb,
         "once" => Command::Once,
+        "controldata" => Command::Controldata,
         _ => return Err(WordsNo::Usage),
     };
     match folder(options) {

@@ -63,10 +63,11 @@ fn nothing_is_served_over_two_empty_files(rt: HostRuntime) -> Result<(), Fail> {
 #[test]
 fn words_that_are_no_line_get_the_usage(rt: HostRuntime) -> Result<(), Fail> {
     let alloc = rt.alloc();
-    let cases: [&[&str]; 5] = [
+    let cases: [&[&str]; 6] = [
         &[],
         &["serve"],
         &["once", "--data"],
+        &["controldata", "folder"],
         &["initdb", "--data", "x", "--data", "y"],
         &["workload", "--data", "x"],
     ];

@@ -17,6 +17,8 @@ const INITDB: [&str; 3] = ["initdb", "--data", "folder"];
 
 const ONCE: [&str; 2] = ["once", "--data=folder"];
 
+const CONTROLDATA: [&str; 2] = ["controldata", "--data=folder"];
+
 /// Which accept, read and write of the port and its links fails, and which write of the sink, by their numbers.
 /// They count from 1, so at 0 none does.
 #[derive(Clone, Copy)]
@@ -109,6 +111,16 @@ pub fn once<R: Wait + Clock + Copy + Drop, D: Disk + Drop>(
 ) -> Result<Left<D, R>, AllocError> {
     let words = texts(alloc, &ONCE)?;
     Ok(run(rt, alloc, &words, memory(rt, alloc, disk, links, faults)?))
+}
+
+pub fn controldata<R: Wait + Clock + Copy + Drop, D: Disk + Drop>(
+    rt: &R,
+    alloc: Global,
+    disk: D,
+    faults: Faults,
+) -> Result<Left<D, R>, AllocError> {
+    let words = texts(alloc, &CONTROLDATA)?;
+    Ok(run(rt, alloc, &words, memory(rt, alloc, disk, &[], faults)?))
 }
 
 /// All that was sent on the links that came back.

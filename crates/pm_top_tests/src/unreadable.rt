@@ -1,6 +1,6 @@
-// What `once` says of files that are no log.
+// What `once` and `controldata` say of files that are no log.
 use crate::bytes::{CLOSED, HEADER, OPEN, PACKET, PUT_SEVEN, Parts};
-use crate::memory::{NO_FAULTS, check_files, disk_with, once};
+use crate::memory::{NO_FAULTS, check_files, controldata, disk_with, once};
 use pm_disk::Which;
 use pm_top::{RedoFault, StartWhy, Top, Why};
 use std::alloc::Global;
@@ -82,7 +82,8 @@ const UNREADABLE: [(Parts, Parts, RedoFault, &str); 9] = [
     ),
 ];
 
-// Over these files `once` must end with this fault and its line, serve nobody, and leave the files as they are.
+// Over these files `once` and `controldata` must end with this fault and its line, serve nobody, and leave the files as
+// they are.
 fn check<R: Wait + Clock + Copy + Drop + Abort>(
     rt: &R,
     alloc: Global,
@@ -102,11 +103,16 @@ fn check<R: Wait + Clock + Copy + Drop + Abort>(
     let outside = ended.outside;
     assert_eq!(rt; outside.sink.bytes(), line.as_bytes());
     assert_eq!(rt; outside.port.links().len(), 0, "{line}");
+    let ended = controldata(rt, alloc, outside.disk, NO_FAULTS)?;
+    assert_eq!(rt; ended.status, Top::Unreadable(fault), "{line}");
+    assert_eq!(rt; ended.status.code(), 1);
+    let outside = ended.outside;
+    assert_eq!(rt; outside.sink.bytes(), line.as_bytes());
     check_files(rt, alloc, &outside.disk, a, b, line)
 }
 
 #[test]
-fn no_files_are_served_that_are_no_log(rt: HostRuntime) -> Result<(), Fail> {
+fn no_files_are_read_that_are_no_log(rt: HostRuntime) -> Result<(), Fail> {
     for (a, b, fault, line) in UNREADABLE {
         check(&rt, rt.alloc(), a, b, fault, line)?;
     }

@@ -1,9 +1,8 @@
-use Rattle.std.proofs.Common.{◌≡◌, ℕ, ◌+◌, ◌++◌, ◌∷◌, [], length, refl, sym, ◌∙◌, arith, length-append}
+use Rattle.std.proofs.Common.{◌++◌, ◌∷◌, [], refl, sym, ◌∙◌, arith, length-append}
 use Rattle.std.proofs.lemmas.List.Elements.{All-nil, All-push}
-use Rattle.pm_session.specs.Exchange.{link_view}
-use Rattle.pm_segment.specs.Moment.{moment_of}
+use Rattle.pm_segment.specs.Moment.{moment}
 use Rattle.pm_segment.specs.MovesLaws.{moves_none}
-use Rattle.pm_top.specs.Service.{AtEnd, AtLastPid, AtPanic, Connection, HasPanicked, with_connections, with_end}
+use Rattle.pm_top.specs.Service.{AtEnd, AtLastPid, AtPanic, HasPanicked, with_connections, with_end}
 use Rattle.pm_top.proofs.Links.{both_changes, further, no_change, none_served}
 use Rattle.pm_top.proofs.Sessions.{not_panicked, panicked}
 use Rattle.pm_top.proofs.server.serve_links.Goals as goal
@@ -16,7 +15,7 @@ loop-pid-init g c = record {
   further = record {
     visits = no_change (g.P.Port.visits c.args.port.now);
     served = none_served c.args.seed.now (g.C.Clock.gives c.args.clock.now) (g.P.Port.visits c.args.port.now);
-    moves = moves_none (moment_of (g.B.Chronicle.entries c.args.store.now.book) c.args.store.now);
+    moves = moves_none (moment c.args.store.now);
   };
 }
 

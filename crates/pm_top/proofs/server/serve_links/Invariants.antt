@@ -1,5 +1,5 @@
-use Rattle.std.proofs.Common.{◌≡◌, ℕ, ◌+◌, List, All, length}
-use Rattle.pm_segment.specs.Moment.{moment_of}
+use Rattle.std.proofs.Common.{◌≡◌, ◌+◌, List, All, length}
+use Rattle.pm_segment.specs.Moment.{moment}
 use Rattle.pm_top.specs.Service.{Connection, HasPanicked}
 use Rattle.pm_top.proofs.Links.{Further}
 use Rattle.pm_top.proofs.server.serve_links.Given as goal
@@ -10,5 +10,5 @@ invariant-loop-pid g l = record {
   count : length connections + 4 ≡ l.pid;
   calm : All (λ connection. HasPanicked connection → ⊥) connections;
   further : Further l.seed (g.C.Clock.gives l.clock) connections (g.P.Port.visits l.initial.port) (g.P.Port.visits l.port)
-      (moment_of (g.B.Chronicle.entries l.initial.store.book) l.initial.store) (moment_of (g.B.Chronicle.entries l.store.book) l.store);
+      (moment l.initial.store) (moment l.store);
 }

@@ -1,9 +1,7 @@
-use Rattle.std.proofs.Common.{◌≡◌, ℕ, [], ◌∷◌, ◌++◌, Err, ◌∙◌, refl, ap, subst}
-use Rattle.pm_query.specs.Calls.{PassView}
+use Rattle.std.proofs.Common.{[], ◌∷◌, ◌++◌, Ok, Err, ◌∙◌, refl}
+use Rattle.pm_query.specs.Calls.{LeaveNotes, RedoNotes, User}
 use Rattle.pm_query.specs.declared.book.BookEntry.TheVariants.{Attached, Redone, Detached}
-use Rattle.pm_segment.specs.Passes.{view_of}
-use Rattle.pm_segment.specs.Redos.{RedoNotes}
-use Rattle.pm_top.proofs.Starts.{left_notes, refused_notes, three_moves}
+use Rattle.pm_top.proofs.Starts.{as_first, left_notes, refused_notes, three_moves}
 use Rattle.pm_top.proofs.server.start.Goals as goal
 
 pub returns-in-Ok-redone-clause-notes : goal.returns-in-Ok-redone-clause-notes
@@ -12,9 +10,9 @@ returns-in-Ok-redone-clause-notes g c =
     let r = c.in-Ok-redone.ensures.notes in
     let l = c.leave.ensures.notes in
     let kept = c.in-Ok-redone.field-0 in
-    let pid_is : c.in-Ok.pass.pid ≡ 1 = ap (λ (v : PassView). v.pid) c.in-Ok.ensures.view in
-    let redone = r.2 ∙ ap (λ (p : ℕ). Redone p 1 kept ∷ []) pid_is in
-    let left = left_notes _ 1 l.0 (ap view_of c.redo-redone.ensures.pass ∙ c.in-Ok.ensures.view) l.2 in
+    let entered = e.1.generation ∙ c.requires.generation in
+    let redone = as_first (λ (user : User). RedoNotes user (Ok kept) r.0) _ 1 _ entered c.in-Ok.ensures.view r.2 in
+    let left = left_notes 1 l.0 (as_first (λ (user : User). LeaveNotes user l.0) _ 1 _ (r.1.generation ∙ entered) (c.redo-redone.ensures.view ∙ c.in-Ok.ensures.view) l.2) in
     (_, (kept, refl), three_moves _ _ _ (Attached 1 1 ∷ []) (Redone 1 1 kept ∷ []) (Detached 1 ∷ []) _ _ _ _ e.2 redone left e.1 r.1 l.1)
 
 pub returns-in-Err-clause-notes : goal.returns-in-Err-clause-notes
@@ -22,9 +20,10 @@ returns-in-Err-clause-notes g c =
     let e = c.in-Ok.ensures.notes in
     let r = c.in-Err.ensures.notes in
     let l = c.leave.ensures.notes in
-    let pid_is : c.in-Ok.pass.pid ≡ 1 = ap (λ (v : PassView). v.pid) c.in-Ok.ensures.view in
-    let left = left_notes _ 1 l.0 (ap view_of c.redo-redone.ensures.pass ∙ c.in-Ok.ensures.view) l.2 in (
+    let entered = e.1.generation ∙ c.requires.generation in
+    let refused = as_first (λ (user : User). RedoNotes user (Err c.in-Err.no) r.0) _ 1 _ entered c.in-Ok.ensures.view r.2 in
+    let left = left_notes 1 l.0 (as_first (λ (user : User). LeaveNotes user l.0) _ 1 _ (r.1.generation ∙ entered) (c.redo-redone.ensures.view ∙ c.in-Ok.ensures.view) l.2) in (
       (Attached 1 1 ∷ r.0) ++ Detached 1 ∷ [],
-      rw c.refusal.ensures (refused_notes c.in-Err.no r.0 (subst (λ (p : ℕ). RedoNotes p (Err c.in-Err.no) r.0) pid_is r.2)),
+      rw c.refusal.ensures (refused_notes c.in-Err.no r.0 refused),
       three_moves _ _ _ (Attached 1 1 ∷ []) r.0 (Detached 1 ∷ []) _ _ _ _ e.2 refl left e.1 r.1 l.1,
     )

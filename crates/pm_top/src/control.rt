@@ -1,0 +1,48 @@
+//! `controldata`: what the files of a cluster stand for.
+
+ghost use Rattle.std.specs.Prelude.{◌≡◌, IfSome};
+ghost use Rattle.pm_disk.specs.Cause.{IsCounted};
+ghost use Rattle.pm_log.specs.Init.{IsUntouched};
+ghost use Rattle.pm_record.specs.declared.fault.RedoFault.{RedoFault};
+ghost use Rattle.pm_redo.specs.Found.{IsReason};
+ghost use Rattle.pm_top.specs.Control.{HasTold};
+ghost use Rattle.pm_top.specs.Ends.{HasAnswer, IsControldataEnd};
+
+use crate::outside::{Ended, Outside};
+use crate::print::print_found;
+use crate::status::Top;
+use pm_disk::Disk;
+use pm_outside::Sink;
+use pm_record::RedoFault;
+use pm_redo::examine;
+use std::alloc::Global;
+
+/// Prints what the files stand for. It changes neither, and takes memory and time of the order of their lengths.
+pub fn controldata<P, O: Sink, D: Disk, C, B>(
+    alloc: Global,
+    outside: Outside<P, O, D, C, B>,
+) -> Ended<P, O, D, C, B>
+    ensures kind { IsControldataEnd result.status }
+    ensures told { HasAnswer result.status → HasTold (D.seen outside.disk) (D.images result.outside.disk (D.ticks result.outside.disk))
+        (result.status ≡ Top.OutFault) (O.written outside.sink) (O.written result.outside.sink) }
+    ensures silent { ¬ (HasAnswer result.status) → result.outside.sink ≡ outside.sink }
+    ensures reason { (fault : RedoFault) → result.status ≡ Top.Unreadable fault → IfSome (D.seen outside.disk) (λ files. IsReason fault files) }
+    ensures untouched { IsUntouched (D.seen outside.disk) (D.seen result.outside.disk) (D.ticks outside.disk) (D.ticks result.outside.disk)
+        (D.images outside.disk) (D.images result.outside.disk) }
+    ensures disk_cause { IsCounted (D.faults outside.disk) (D.faults result.outside.disk) (result.status ≡ Top.DiskFault) }
+    ensures out_cause { IsCounted (O.faults outside.sink) (O.faults result.outside.sink) (result.status ≡ Top.OutFault) }
+    ensures rest { (result.outside.port ≡ outside.port) × (result.outside.book ≡ outside.book) × (result.outside.clock ≡ outside.clock)
+        × (result.outside.seed ≡ outside.seed) }
+{
+    let mut outside = outside;
+    let status = match examine(alloc, &mut outside.disk) {
+        Ok(found) => match print_found(&mut outside.sink, &found) {
+            Ok(()) => Top::Done,
+            Err(_) => Top::OutFault,
+        },
+        Err(RedoFault::Disk) => Top::DiskFault,
+        Err(RedoFault::NoMemory) => Top::NoMemory,
+        Err(fault) => Top::Unreadable(fault),
+    };
+    Ended { status, outside }
+}
