@@ -88,7 +88,8 @@ impl<J: Letter + Drop, H: Drop> Roster<J, H> {
         requires { MayQuit self.old.knows.noticed why }
         ensures table { self.new.table ≡ self.old.table }
         ensures home { self.new.home ≡ self.old.home }
-        ensures knows { HasStepped (Quit why self.old.knows.generation) self.old.knows self.new.knows }
+        ensures knows { HasStepped (Quit why self.old.knows.generation) self.old.knows
+            self.new.knows }
     {
         let gate = self.words.slot_count();
         let adds = quit_adds(self.noticed, why);
@@ -118,7 +119,8 @@ impl<J: Letter + Drop, H: Drop> Roster<J, H> {
         requires { MayReset self.old.knows }
         ensures table { self.new.table ≡ self.old.table }
         ensures home { self.new.home ≡ self.old.home }
-        ensures knows { HasStepped (Reset (self.old.knows.generation + 1)) self.old.knows self.new.knows }
+        ensures knows { HasStepped (Reset (self.old.knows.generation + 1)) self.old.knows
+            self.new.knows }
     {
         let gate = self.words.slot_count();
         let generation = self.generation + 1;

@@ -89,14 +89,16 @@ impl<J: Letter + Drop, H> Post<J, H> {
         requires key { key ≡ cancel_key seed.now pid }
         ensures table { self.new.table ≡ self.old.table }
         ensures slot { self.new.slot ≡ self.old.slot }
-        ensures knows { HasCancelled (cancel_of slot seed.now pid key) self.old.knows self.new.knows }
+        ensures knows { HasCancelled (cancel_of slot seed.now pid key) self.old.knows
+            self.new.knows }
     {
         self.raise::<Brand>(slot, seed, pid, key);
     }
 
     // The cancel's step. Seed and key are for the proof alone.
     fn raise<C: Made>(&mut self, slot: u32, _seed: &[u8; 32], pid: u32, _key: u32)
-        requires place { (slot < self.old.table.slots) × (C.cancel.slot ≡ slot) × (C.cancel.pid ≡ pid) }
+        requires place { (slot < self.old.table.slots) × (C.cancel.slot ≡ slot)
+            × (C.cancel.pid ≡ pid) }
         requires key { C.cancel.key ≡ cancel_key C.cancel.seed C.cancel.pid }
         ensures table { self.new.table ≡ self.old.table }
         ensures slot { self.new.slot ≡ self.old.slot }

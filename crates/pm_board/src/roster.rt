@@ -207,7 +207,8 @@ impl Board {
         requires { (0 < slots) × (slots ≤ 407) × (session_limit ≤ 200) }
         ensures roster { IfOk result (λ r. r.0.knows ≡ new_roster slots session_limit slots) }
         ensures home { IfOk result (λ r. r.0.home ≡ home) }
-        ensures posts { IfOk result (λ r. AreNewPosts slots session_limit r.0.table r.1.left.items) }
+        ensures posts { IfOk result (λ r. AreNewPosts slots session_limit r.0.table
+            r.1.left.items) }
     {
         let count = slots as usize;
         let limits = Limits {

@@ -53,21 +53,27 @@ pub trait Disk {
 
     /// The length of a file, in bytes.
     fn len(&mut self, file: Which) -> Result<u64, DiskFault>
-        ensures length { IfOk result (λ n. IfSome (seen self.old) (λ files. n ≡ length (file_of files file))) }
+        ensures length { IfOk result (λ n. IfSome (seen self.old)
+            (λ files. n ≡ length (file_of files file))) }
         ensures seen { seen self.new ≡ seen self.old }
-        ensures images { StopsNoWider (images self.old (ticks self.old)) (images self.new (ticks self.new)) }
-        ensures time { Elapses (ticks self.old) (ticks self.new) (images self.old) (images self.new) }
+        ensures images { StopsNoWider (images self.old (ticks self.old))
+            (images self.new (ticks self.new)) }
+        ensures time { Elapses (ticks self.old) (ticks self.new) (images self.old)
+            (images self.new) }
         ensures last { ticks self.old ≡ 2 ^ 64 - 1 → IsErr result }
         ensures cause { IsCounted (faults self.old) (faults self.new) (IsErr result) };
 
     /// Fills the slice with the bytes from this place on.
     fn read(&mut self, file: Which, at: u64, into: &mut [u8]) -> Result<(), DiskFault>
-        requires { IfSome (seen self.old) (λ files. at + length into.old ≤ length (file_of files file)) }
+        requires { IfSome (seen self.old) (λ files. at + length into.old ≤ length
+            (file_of files file)) }
         ensures bytes { OnOk result (IfSome (seen self.old) (λ files.
             into.new ≡ take (length into.old) (drop at (file_of files file)))) }
         ensures seen { seen self.new ≡ seen self.old }
-        ensures images { StopsNoWider (images self.old (ticks self.old)) (images self.new (ticks self.new)) }
-        ensures time { Elapses (ticks self.old) (ticks self.new) (images self.old) (images self.new) }
+        ensures images { StopsNoWider (images self.old (ticks self.old))
+            (images self.new (ticks self.new)) }
+        ensures time { Elapses (ticks self.old) (ticks self.new) (images self.old)
+            (images self.new) }
         ensures last { ticks self.old ≡ 2 ^ 64 - 1 → IsErr result }
         ensures cause { IsCounted (faults self.old) (faults self.new) (IsErr result) };
 
@@ -77,10 +83,12 @@ pub trait Disk {
         requires { IfSome (seen self.old) (λ files. at ≤ length (file_of files file)) }
         ensures written { OnOk result (seen self.new ≡ option_map (λ files.
             with_file files file (overwritten (file_of files file) at bytes.now)) (seen self.old)) }
-        ensures torn { OnErr result (TellsStill (Torn file at (length bytes.now)) (seen self.old) (seen self.new)) }
+        ensures torn { OnErr result (TellsStill (Torn file at (length bytes.now)) (seen self.old)
+            (seen self.new)) }
         ensures images { Follows (Torn file at (length bytes.now))
             (images self.old (ticks self.old)) (images self.new (ticks self.new)) }
-        ensures time { Elapses (ticks self.old) (ticks self.new) (images self.old) (images self.new) }
+        ensures time { Elapses (ticks self.old) (ticks self.new) (images self.old)
+            (images self.new) }
         ensures last { ticks self.old ≡ 2 ^ 64 - 1 → IsErr result }
         ensures last_keeps { ticks self.old ≡ 2 ^ 64 - 1 → seen self.new ≡ seen self.old }
         ensures cause { IsCounted (faults self.old) (faults self.new) (IsErr result) };
@@ -90,8 +98,10 @@ pub trait Disk {
         ensures durable { OnOk result (IfSome (seen self.old) (λ files.
             Only file (file_of files file) (images self.new (ticks self.new)))) }
         ensures seen { seen self.new ≡ seen self.old }
-        ensures images { StopsNoWider (images self.old (ticks self.old)) (images self.new (ticks self.new)) }
-        ensures time { Elapses (ticks self.old) (ticks self.new) (images self.old) (images self.new) }
+        ensures images { StopsNoWider (images self.old (ticks self.old))
+            (images self.new (ticks self.new)) }
+        ensures time { Elapses (ticks self.old) (ticks self.new) (images self.old)
+            (images self.new) }
         ensures last { ticks self.old ≡ 2 ^ 64 - 1 → IsErr result }
         ensures cause { IsCounted (faults self.old) (faults self.new) (IsErr result) };
 

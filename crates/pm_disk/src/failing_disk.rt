@@ -99,7 +99,8 @@ impl<D: Disk> FailingDisk<D> {
         ensures ok_own { OnOk result (self.new.own ≡ self.old.own) }
         ensures due { OnErr result (IsDue self.old) }
         ensures goes { OnErr result (ChangesNoFile self.old self.new) }
-        ensures rose { OnErr result (IsCounted (failing_faults self.old) (failing_faults self.new) (IsErr result)) }
+        ensures rose { OnErr result (IsCounted (failing_faults self.old) (failing_faults self.new)
+            (IsErr result)) }
     {
         let within = self.disk.ticks();
         let has_tick = within + self.skipped < u64::MAX;
@@ -140,22 +141,26 @@ impl<D: Disk> Disk for FailingDisk<D> {
     ghost counted = { λ failing. failing.counted };
 
     fn len(&mut self, file: Which) -> Result<u64, DiskFault>
-        ensures length { IfOk result (λ n. IfSome (D.seen (inner_of self.old)) (λ files. n ≡ length (file_of files file))) }
+        ensures length { IfOk result (λ n. IfSome (D.seen (inner_of self.old))
+            (λ files. n ≡ length (file_of files file))) }
         ensures goes { ChangesNoFile self.old self.new }
         ensures due { FailsWhenDue self.old self.new (IsErr result) }
-        ensures cause { IsCounted (failing_faults self.old) (failing_faults self.new) (IsErr result) }
+        ensures cause { IsCounted (failing_faults self.old) (failing_faults self.new)
+            (IsErr result) }
     {
         self.enter()?;
         self.disk.len(file)
     }
 
     fn read(&mut self, file: Which, at: u64, into: &mut [u8]) -> Result<(), DiskFault>
-        requires { IfSome (D.seen (inner_of self.old)) (λ files. at + length into.old ≤ length (file_of files file)) }
+        requires { IfSome (D.seen (inner_of self.old))
+            (λ files. at + length into.old ≤ length (file_of files file)) }
         ensures bytes { OnOk result (IfSome (D.seen (inner_of self.old)) (λ files.
             into.new ≡ take (length into.old) (drop at (file_of files file)))) }
         ensures goes { ChangesNoFile self.old self.new }
         ensures due { FailsWhenDue self.old self.new (IsErr result) }
-        ensures cause { IsCounted (failing_faults self.old) (failing_faults self.new) (IsErr result) }
+        ensures cause { IsCounted (failing_faults self.old) (failing_faults self.new)
+            (IsErr result) }
     {
         self.enter()?;
         self.disk.read(file, at, into)
@@ -163,15 +168,19 @@ impl<D: Disk> Disk for FailingDisk<D> {
 
     fn write(&mut self, file: Which, at: u64, bytes: &[u8]) -> Result<(), DiskFault>
         requires { IfSome (D.seen (inner_of self.old)) (λ files. at ≤ length (file_of files file)) }
-        ensures written { OnOk result (D.seen (inner_of self.new) ≡ option_map (λ files.
-            with_file files file (overwritten (file_of files file) at bytes.now)) (D.seen (inner_of self.old))) }
+        ensures written { OnOk result (D.seen (inner_of self.new) ≡ option_map
+            (λ files. with_file files file (overwritten (file_of files file) at bytes.now))
+            (D.seen (inner_of self.old))) }
         ensures torn { OnErr result (TellsStill (Torn file at (length bytes.now))
             (D.seen (inner_of self.old)) (D.seen (inner_of self.new))) }
         ensures images { Follows (Torn file at (length bytes.now))
-            (failing_images self.old (failing_ticks self.old)) (failing_images self.new (failing_ticks self.new)) }
-        ensures time { Elapses (failing_ticks self.old) (failing_ticks self.new) (failing_images self.old) (failing_images self.new) }
+            (failing_images self.old (failing_ticks self.old))
+            (failing_images self.new (failing_ticks self.new)) }
+        ensures time { Elapses (failing_ticks self.old) (failing_ticks self.new)
+            (failing_images self.old) (failing_images self.new) }
         ensures due { FailsWhenDue self.old self.new (IsErr result) }
-        ensures cause { IsCounted (failing_faults self.old) (failing_faults self.new) (IsErr result) }
+        ensures cause { IsCounted (failing_faults self.old) (failing_faults self.new)
+            (IsErr result) }
     {
         self.enter()?; // a write that is due doesn't reach the disk within
         self.disk.write(file, at, bytes)
@@ -182,7 +191,8 @@ impl<D: Disk> Disk for FailingDisk<D> {
             Only file (file_of files file) (failing_images self.new (failing_ticks self.new)))) }
         ensures goes { ChangesNoFile self.old self.new }
         ensures due { FailsWhenDue self.old self.new (IsErr result) }
-        ensures cause { IsCounted (failing_faults self.old) (failing_faults self.new) (IsErr result) }
+        ensures cause { IsCounted (failing_faults self.old) (failing_faults self.new)
+            (IsErr result) }
     {
         self.enter()?;
         self.disk.sync(file)

@@ -28,7 +28,8 @@ impl MemDisk {
     pub fn new(alloc: Global) -> MemDisk
         ensures seen { ⟦<MemDisk as Disk>⟧.seen result ≡ Some (record { a = []; b = [] }) }
         ensures ticks { ⟦<MemDisk as Disk>⟧.ticks result ≡ 0 }
-        ensures images { (tick : ℕ) (image : Files) → ⟦<MemDisk as Disk>⟧.images result tick image → image ≡ record { a = []; b = [] } }
+        ensures images { (tick : ℕ) (image : Files) → ⟦<MemDisk as Disk>⟧.images result tick image
+            → image ≡ record { a = []; b = [] } }
         ensures faults { ⟦<MemDisk as Disk>⟧.faults result ≡ 0 }
     {
         MemDisk {
@@ -54,9 +55,12 @@ impl MemDisk {
     /// written since its last sync. In place of each such write stand the bytes of the fill, over and over from its
     /// first on, or zeros where it is empty. Past its length at that sync a file has at most `beyond` bytes.
     pub fn after_stop(&self, tick: u64, fill: &[u8], beyond: u64) -> Result<MemDisk, AllocError>
-        ensures left { IfOk result (λ disk. ⟦<MemDisk as Disk>⟧.images self.now tick (files_of disk)) }
-        ensures filled { IfOk result (λ disk. files_of disk ≡ stopped_files self.now tick fill.now beyond) }
-        ensures only { IfOk result (λ disk. (t : ℕ) (image : Files) → ⟦<MemDisk as Disk>⟧.images disk t image → image ≡ files_of disk) }
+        ensures left { IfOk result (λ disk. ⟦<MemDisk as Disk>⟧.images self.now tick
+            (files_of disk)) }
+        ensures filled { IfOk result (λ disk. files_of disk ≡ stopped_files self.now tick fill.now
+            beyond) }
+        ensures only { IfOk result (λ disk. (t : ℕ) (image : Files)
+            → ⟦<MemDisk as Disk>⟧.images disk t image → image ≡ files_of disk) }
         ensures ticks { IfOk result (λ disk. ⟦<MemDisk as Disk>⟧.ticks disk ≡ 0) }
         ensures faults { IfOk result (λ disk. ⟦<MemDisk as Disk>⟧.faults disk ≡ 0) }
     {
@@ -156,7 +160,8 @@ impl Disk for MemDisk {
     // It takes no memory either.
     fn read(&mut self, file: Which, at: u64, into: &mut [u8]) -> Result<(), DiskFault>
         requires { at + length into.old ≤ length (file_of (files_of self.old) file) }
-        ensures bytes { OnOk result (into.new ≡ take (length into.old) (drop at (file_of (files_of self.old) file))) }
+        ensures bytes { OnOk result (into.new ≡ take (length into.old)
+            (drop at (file_of (files_of self.old) file))) }
         ensures keeps { ChangesNoFile self.old self.new }
         ensures last { IsErr result ↔ (mem_ticks self.old ≡ 2 ^ 64 - 1) }
         ensures cause { IsCounted (mem_faults self.old) (mem_faults self.new) (IsErr result) }

@@ -62,7 +62,8 @@ impl MemFile {
         requires ticks { ticks < 2 ^ 64 - 1 }
         requires earlier { All (λ entry. entry.tick ≤ ticks) self.old.past.items }
 
-        ensures reads { OnOk result (self.new.bytes.items ≡ overwritten self.old.bytes.items at bytes.now) }
+        ensures reads { OnOk result (self.new.bytes.items ≡ overwritten self.old.bytes.items at
+            bytes.now) }
         ensures noted { OnOk result (AddsChange ticks self.old.past.items self.new.past.items
             (λ state. after_write state at bytes.now)) }
         ensures err { OnErr result (self.new.bytes.items ≡ self.old.bytes.items) }
@@ -85,7 +86,8 @@ impl MemFile {
         requires earlier { All (λ entry. entry.tick ≤ ticks) self.old.past.items }
 
         ensures reads { self.new.bytes.items ≡ self.old.bytes.items }
-        ensures noted { OnOk result (AddsChange ticks self.old.past.items self.new.past.items after_sync) }
+        ensures noted { OnOk result (AddsChange ticks self.old.past.items self.new.past.items
+            after_sync) }
         ensures err_past { OnErr result (self.new.past.items ≡ self.old.past.items) }
     {
         let change = Change::Synced;
@@ -104,9 +106,11 @@ impl MemFile {
         fill: &[u8],
         beyond: u64,
     ) -> Result<MemFile, AllocError>
-        ensures bytes { IfOk result (λ file. file.bytes.items ≡ stopped fill.now beyond (state_at self.now.past.items tick)) }
+        ensures bytes { IfOk result (λ file. file.bytes.items ≡ stopped fill.now beyond
+            (state_at self.now.past.items tick)) }
         ensures kept { IfOk result (λ file. IsKept file.past.items file.bytes.items 0) }
-        ensures only { IfOk result (λ file. (t : ℕ) (image : List ℕ) → MayLeave (state_at file.past.items t) image → image ≡ file.bytes.items) }
+        ensures only { IfOk result (λ file. (t : ℕ) (image : List ℕ)
+            → MayLeave (state_at file.past.items t) image → image ≡ file.bytes.items) }
     {
         let Replayed {
             mut bytes,
@@ -140,7 +144,8 @@ impl MemFile {
     fn settled(alloc: Global, bytes: Vec<u8>) -> Result<MemFile, AllocError>
         ensures bytes { IfOk result (λ file. file.bytes.items ≡ bytes.items) }
         ensures kept { IfOk result (λ file. IsKept file.past.items file.bytes.items 0) }
-        ensures only { IfOk result (λ file. (t : ℕ) (image : List ℕ) → MayLeave (state_at file.past.items t) image → image ≡ file.bytes.items) }
+        ensures only { IfOk result (λ file. (t : ℕ) (image : List ℕ)
+            → MayLeave (state_at file.past.items t) image → image ≡ file.bytes.items) }
     {
         let copy = bytes.to_vec(alloc)?;
         let mut past = Vec::new(alloc);

@@ -54,7 +54,8 @@ pub fn quit<J: Letter + Drop, H: Drop>(roster: &mut Roster<J, H>, reason: Reason
     requires { MayQuit roster.old.knows.noticed reason }
     ensures table { roster.new.table ≡ roster.old.table }
     ensures home { roster.new.home ≡ roster.old.home }
-    ensures knows { HasStepped (Quit reason roster.old.knows.generation) roster.old.knows roster.new.knows }
+    ensures knows { HasStepped (Quit reason roster.old.knows.generation) roster.old.knows
+        roster.new.knows }
 {
     roster.quit(reason);
 }
@@ -64,7 +65,8 @@ pub fn ready<J: Letter + Drop, H: Drop>(roster: &mut Roster<J, H>)
     requires { MayOpen roster.old.knows }
     ensures table { roster.new.table ≡ roster.old.table }
     ensures home { roster.new.home ≡ roster.old.home }
-    ensures knows { HasStepped (Ready roster.old.knows.generation) roster.old.knows roster.new.knows }
+    ensures knows { HasStepped (Ready roster.old.knows.generation) roster.old.knows
+        roster.new.knows }
 {
     roster.ready();
 }
@@ -75,7 +77,8 @@ pub fn reset<J: Letter + Drop, H: Drop>(roster: &mut Roster<J, H>) -> Generation
     requires { MayReset roster.old.knows }
     ensures table { roster.new.table ≡ roster.old.table }
     ensures home { roster.new.home ≡ roster.old.home }
-    ensures knows { HasStepped (Reset (roster.old.knows.generation + 1)) roster.old.knows roster.new.knows }
+    ensures knows { HasStepped (Reset (roster.old.knows.generation + 1)) roster.old.knows
+        roster.new.knows }
     ensures number { result.number ≡ roster.old.knows.generation + 1 }
 {
     roster.reset();

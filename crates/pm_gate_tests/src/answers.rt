@@ -65,7 +65,8 @@ fn serve_one(
     requires may { MayAssign roster.old.knows child.slot child.pid child.kind }
     requires kind { is_dead_end child.kind ≡ false }
     requires post { post.old.knows.work ≡ Idle }
-    ensures { IfSome result (λ _. HasVisited child.slot child.pid roster.old.knows roster.new.knows) }
+    ensures { IfSome result (λ _. HasVisited child.slot child.pid roster.old.knows
+        roster.new.knows) }
 {
     if !begin(roster, post, child, task(1, Ending::AtNotice)) {
         return None;

@@ -119,7 +119,8 @@ fn open(roster: &mut Roster<Note, ()>, progress: &Progress)
 
 fn shut(roster: &mut Roster<Note, ()>, progress: &Progress)
     requires { roster.old.knows.noticed ≡ None }
-    ensures { HasStepped (Quit Crash roster.old.knows.generation) roster.old.knows roster.new.knows }
+    ensures { HasStepped (Quit Crash roster.old.knows.generation) roster.old.knows
+        roster.new.knows }
 {
     let number = generation(roster);
     progress.begins_to_shut(number);

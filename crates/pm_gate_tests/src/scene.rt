@@ -91,7 +91,8 @@ pub fn new_board(
     session_limit: u32,
 ) -> Result<(Roster<Note, ()>, Posts<Note, ()>), AllocError>
     requires { session_limit ≤ 200 }
-    ensures roster { IfOk result (λ made. IsUntouched made.0.knows × (gate_of made.0.knows ≡ shut_gate 1)) }
+    ensures roster { IfOk result (λ made. IsUntouched made.0.knows
+        × (gate_of made.0.knows ≡ shut_gate 1)) }
     ensures posts { IfOk result (λ made. AllIdle made.1.left.items) }
 {
     Board::new::<Note, ()>(alloc, SLOTS, session_limit, ())

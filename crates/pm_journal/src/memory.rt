@@ -144,7 +144,8 @@ impl Memory {
         requires may { MayAccept self.old.core }
         requires none_due { self.old.due.items ≡ [] }
         ensures decision { result ≡ decision_on (standing_of self.old) }
-        ensures standing { standing_of self.new ≡ called (Accepts (next_pid (standing_of self.old))) (standing_of self.old) }
+        ensures standing { standing_of self.new ≡ called (Accepts (next_pid (standing_of self.old)))
+            (standing_of self.old) }
         ensures room { self.new.roll.room ≡ self.old.roll.room }
     {
         self.core.accepted()

@@ -52,7 +52,8 @@ impl<J: Chronicle<PmEvent>> Supervision<J> {
         requires within { limits.max_connections + limits.max_worker_processes ≤ 200 }
         ensures standing { standing result ≡ nothing_done limits }
         ensures told { told result ≡ J.entries journal }
-        ensures stands { IfSome (J.entries journal) (λ entries. entries ≡ []) → Stands limits (told result) (standing result) empty_trace }
+        ensures stands { IfSome (J.entries journal) (λ entries. entries ≡ [])
+            → Stands limits (told result) (standing result) empty_trace }
     {
         laws();
         Supervision {
@@ -128,10 +129,12 @@ impl<J: Chronicle<PmEvent>> Supervision<J> {
         requires stands { HasPast (at_work self.old) }
         requires rests { IsAtRest (standing self.old) }
         requires unowed { (standing self.old).owes_smart ≡ false }
-        ensures standing { OnOk result (standing self.new ≡ made (ticking at (standing self.old)) (standing self.old)) }
+        ensures standing { OnOk result (standing self.new ≡ made (ticking at (standing self.old))
+            (standing self.old)) }
         ensures told { told self.new ≡ told self.old }
         ensures refused { OnErr result (standing self.new ≡ standing self.old) }
-        ensures stands { OnOk result (GoesOnBy (ticking at (standing self.old)).call (at_work self.old) (at_work self.new)) }
+        ensures stands { OnOk result (GoesOnBy (ticking at (standing self.old)).call
+            (at_work self.old) (at_work self.new)) }
     {
         laws();
         self.reserve(ACTS)?;
@@ -163,10 +166,14 @@ impl<J: Chronicle<PmEvent>> Supervision<J> {
         requires stands { HasPast (at_work self.old) }
         requires rests { IsAtRest (standing self.old) }
         requires may { MayAsk mode (standing self.old) }
-        ensures standing { OnOk result (standing self.new ≡ made (asking mode at (standing self.old)) (standing self.old)) }
-        ensures told { OnOk result (Adds (asking mode at (standing self.old)).entries (told self.old) (told self.new)) }
-        ensures refused { OnErr result ((standing self.new ≡ standing self.old) × (told self.new ≡ told self.old)) }
-        ensures stands { OnOk result (GoesOnBy (asking mode at (standing self.old)).call (at_work self.old) (at_work self.new)) }
+        ensures standing { OnOk result (standing self.new ≡ made
+            (asking mode at (standing self.old)) (standing self.old)) }
+        ensures told { OnOk result (Adds (asking mode at (standing self.old)).entries
+            (told self.old) (told self.new)) }
+        ensures refused { OnErr result ((standing self.new ≡ standing self.old)
+            × (told self.new ≡ told self.old)) }
+        ensures stands { OnOk result (GoesOnBy (asking mode at (standing self.old)).call
+            (at_work self.old) (at_work self.new)) }
     {
         laws();
         self.reserve(1 + ACTS)?;
@@ -186,7 +193,8 @@ impl<J: Chronicle<PmEvent>> Supervision<J> {
         requires there { IsSome (kind_in pid (standing self.old).children) }
         ensures standing { OnOk result (standing self.new ≡ killed pid (standing self.old)) }
         ensures told { OnOk result (Adds (kill_entry pid ∷ []) (told self.old) (told self.new)) }
-        ensures refused { OnErr result ((standing self.new ≡ standing self.old) × (told self.new ≡ told self.old)) }
+        ensures refused { OnErr result ((standing self.new ≡ standing self.old)
+            × (told self.new ≡ told self.old)) }
         ensures stands { OnOk result (GoesOn (at_work self.old) (at_work self.new)) }
     {
         laws();
@@ -222,9 +230,12 @@ impl<J: Chronicle<PmEvent>> Supervision<J> {
         requires room { HasRoom 1 self.old }
         ensures pid { result.pid ≡ next_pid (standing self.old) }
         ensures decision { result.decision ≡ decision_on (standing self.old) }
-        ensures standing { standing self.new ≡ made (accepting (standing self.old)) (standing self.old) }
-        ensures told { Adds (accepting (standing self.old)).entries (told self.old) (told self.new) }
-        ensures stands { GoesOnBy (accepting (standing self.old)).call (at_work self.old) (at_work self.new) }
+        ensures standing { standing self.new ≡ made (accepting (standing self.old))
+            (standing self.old) }
+        ensures told { Adds (accepting (standing self.old)).entries (told self.old)
+            (told self.new) }
+        ensures stands { GoesOnBy (accepting (standing self.old)).call (at_work self.old)
+            (at_work self.new) }
     {
         laws();
         let pid = self.memory.last_pid + 1;
@@ -243,10 +254,14 @@ impl<J: Chronicle<PmEvent>> Supervision<J> {
         requires may { MayTake (standing self.old) }
         ensures pid { IfOk result (λ taken. taken.pid ≡ next_pid (standing self.old)) }
         ensures decision { IfOk result (λ taken. taken.decision ≡ decision_on (standing self.old)) }
-        ensures standing { OnOk result (standing self.new ≡ made (accepting (standing self.old)) (standing self.old)) }
-        ensures told { OnOk result (Adds (accepting (standing self.old)).entries (told self.old) (told self.new)) }
-        ensures refused { OnErr result ((standing self.new ≡ standing self.old) × (told self.new ≡ told self.old)) }
-        ensures stands { OnOk result (GoesOnBy (accepting (standing self.old)).call (at_work self.old) (at_work self.new)) }
+        ensures standing { OnOk result (standing self.new ≡ made (accepting (standing self.old))
+            (standing self.old)) }
+        ensures told { OnOk result (Adds (accepting (standing self.old)).entries (told self.old)
+            (told self.new)) }
+        ensures refused { OnErr result ((standing self.new ≡ standing self.old)
+            × (told self.new ≡ told self.old)) }
+        ensures stands { OnOk result (GoesOnBy (accepting (standing self.old)).call
+            (at_work self.old) (at_work self.new)) }
     {
         self.make_room()?;
         Ok(self.take())
@@ -260,10 +275,14 @@ impl<J: Chronicle<PmEvent>> Supervision<J> {
         requires unowed { (standing self.old).owes_smart ≡ false }
         requires there { kind_in exit.pid (standing self.old).children ≡ Some exit.kind }
         requires kept { ends_redo exit ≡ true → IsSome exit.kept }
-        ensures standing { OnOk result (standing self.new ≡ made (exiting exit at (standing self.old)) (standing self.old)) }
-        ensures told { OnOk result (Adds (exiting exit at (standing self.old)).entries (told self.old) (told self.new)) }
-        ensures refused { OnErr result ((standing self.new ≡ standing self.old) × (told self.new ≡ told self.old)) }
-        ensures stands { OnOk result (GoesOnBy (exiting exit at (standing self.old)).call (at_work self.old) (at_work self.new)) }
+        ensures standing { OnOk result (standing self.new ≡ made
+            (exiting exit at (standing self.old)) (standing self.old)) }
+        ensures told { OnOk result (Adds (exiting exit at (standing self.old)).entries
+            (told self.old) (told self.new)) }
+        ensures refused { OnErr result ((standing self.new ≡ standing self.old)
+            × (told self.new ≡ told self.old)) }
+        ensures stands { OnOk result (GoesOnBy (exiting exit at (standing self.old)).call
+            (at_work self.old) (at_work self.new)) }
     {
         laws();
         self.reserve(2 + ACTS)?;
@@ -277,8 +296,10 @@ impl<J: Chronicle<PmEvent>> Supervision<J> {
     fn note_exit(&mut self, exit: ChildExit, at: u64)
         requires room { length (standing self.old).due + 2 ≤ J.spare self.old.journal }
         requires kept { ends_redo exit ≡ true → IsSome exit.kept }
-        ensures standing { standing self.new ≡ all_noted (exit_entry exit at ∷ redo_entries exit (standing self.old)) (standing self.old) }
-        ensures told { Adds (exit_entry exit at ∷ redo_entries exit (standing self.old)) (told self.old) (told self.new) }
+        ensures standing { standing self.new ≡ all_noted
+            (exit_entry exit at ∷ redo_entries exit (standing self.old)) (standing self.old) }
+        ensures told { Adds (exit_entry exit at ∷ redo_entries exit (standing self.old))
+            (told self.old) (told self.new) }
     {
         let generation = self.memory.generation;
         let entry = PmEvent::Exited {
@@ -304,7 +325,8 @@ impl<J: Chronicle<PmEvent>> Supervision<J> {
         ensures act { result ≡ (next_of (standing self.old)).answer }
         ensures standing { standing self.new ≡ (next_of (standing self.old)).after }
         ensures told { Adds (next_of (standing self.old)).entries (told self.old) (told self.new) }
-        ensures pids { (pid : ℕ) (kind : Kind) → result ≡ Ok (Some (Start pid kind)) → pid < 2 ^ 31 }
+        ensures pids { (pid : ℕ) (kind : Kind) → result ≡ Ok (Some (Start pid kind))
+            → pid < 2 ^ 31 }
         ensures stands { GoesOn (at_work self.old) (at_work self.new) }
         ensures settled { IsSettled (standing self.old) → IsSettled (standing self.new) }
     {

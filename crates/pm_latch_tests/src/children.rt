@@ -20,7 +20,8 @@ pub struct Made {
 }
 
 pub fn make(alloc: Global) -> Result<Made, AllocError>
-    ensures { IfOk result (λ made. IsNew made.roster.knows × (made.third.knows.work ≡ Idle) × (made.fourth.knows.work ≡ Idle)) }
+    ensures { IfOk result (λ made. IsNew made.roster.knows × (made.third.knows.work ≡ Idle)
+        × (made.fourth.knows.work ≡ Idle)) }
 {
     let (roster, mut posts) = Board::new::<Note, ()>(alloc, SLOTS, 2, ())?;
     for _ in 0..3u32 {

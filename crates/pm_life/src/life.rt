@@ -53,7 +53,8 @@ pub trait Life {
     fn attach(&mut self) -> Result<u32, GateNo>
         requires free { (child self.old).attached ≡ None }
         requires may { ¬ (IsTrue (child self.old).is_dead_end) }
-        ensures ok { IfOk result (λ generation. child self.new ≡ attached_in generation (child self.old)) }
+        ensures ok { IfOk result (λ generation. child self.new ≡ attached_in generation
+            (child self.old)) }
         ensures refused { OnErr result (child self.new ≡ child self.old) }
         ensures told { told self.new ≡ option_map (met_at_gate result) (told self.old) };
 

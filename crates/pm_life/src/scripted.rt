@@ -33,9 +33,11 @@ impl ScriptedLife {
         gate: Result<u32, GateNo>,
         cancelled: Cancelled,
     ) -> ScriptedLife
-        ensures child { child_of_script result ≡ record { pid = pid; is_dead_end = is_dead_end; attached = None } }
+        ensures child { child_of_script result ≡ record
+            { pid = pid; is_dead_end = is_dead_end; attached = None } }
         ensures told { told_by_script result ≡ nothing_told }
-        ensures answers { (result.script ≡ script) × (result.gate ≡ gate) × (result.cancelled ≡ cancelled) }
+        ensures answers { (result.script ≡ script) × (result.gate ≡ gate)
+            × (result.cancelled ≡ cancelled) }
     {
         ScriptedLife {
             pid,
@@ -53,9 +55,11 @@ impl ScriptedLife {
     /// A life of one to whom nothing happens: no signal reaches it, the gate lets it into this generation, and it knows of
     /// no other child.
     pub fn quiet(alloc: Global, pid: u32, generation: u32) -> ScriptedLife
-        ensures child { child_of_script result ≡ record { pid = pid; is_dead_end = false; attached = None } }
+        ensures child { child_of_script result ≡ record
+            { pid = pid; is_dead_end = false; attached = None } }
         ensures told { told_by_script result ≡ nothing_told }
-        ensures answers { (result.script.items ≡ []) × (result.gate ≡ Ok generation) × (result.cancelled ≡ NoSuchPid) }
+        ensures answers { (result.script.items ≡ []) × (result.gate ≡ Ok generation)
+            × (result.cancelled ≡ NoSuchPid) }
     {
         ScriptedLife::new(
             pid,

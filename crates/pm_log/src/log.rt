@@ -120,29 +120,43 @@ impl Log {
         disk: &mut D,
         batch: &[Commit],
     ) -> Result<Receipt, LogFault>
-        requires gate { self.old.since ≡ None → IfSome (D.seen disk.old) (λ files. self.old.end < length (file_of files self.old.file)) }
+        requires gate { self.old.since ≡ None → IfSome (D.seen disk.old)
+            (λ files. self.old.end < length (file_of files self.old.file)) }
         requires batch { IsBatch batch.now }
         requires number { self.old.count + length batch.now < 2 ^ 64 }
         ensures lives { OnOk result (TellsStill (λ files now. (content : Content)
-            → Lives self.old content files (D.images disk.old (D.ticks disk.old)) → MayAppend (standing_of content) batch.now
-            → Lives self.new (with_batch content batch.now) now (D.images disk.new (D.ticks disk.new))) (D.seen disk.old) (D.seen disk.new)) }
+            → Lives self.old content files (D.images disk.old (D.ticks disk.old))
+            → MayAppend (standing_of content) batch.now
+            → Lives self.new (with_batch content batch.now) now
+            (D.images disk.new (D.ticks disk.new))) (D.seen disk.old) (D.seen disk.new)) }
         ensures stops { IfSome (D.seen disk.old) (λ files. (content : Content)
-            → Lives self.old content files (D.images disk.old (D.ticks disk.old)) → MayAppend (standing_of content) batch.now
+            → Lives self.old content files (D.images disk.old (D.ticks disk.old))
+            → MayAppend (standing_of content) batch.now
             → Throughout (D.ticks disk.old) (D.ticks disk.new) (D.images disk.new)
-            (MeansOneOf (standing_of content) (self.old.end + 1) (after (standing_of content) batch.now) (self.old.end + 1 + need_of batch.now))) }
-        ensures grown { OnOk result (self.new ≡ record self.old { end = self.old.end + need_of batch.now; count = self.old.count + length batch.now }) }
+            (MeansOneOf (standing_of content) (self.old.end + 1)
+            (after (standing_of content) batch.now) (self.old.end + 1 + need_of batch.now))) }
+        ensures grown { OnOk result (self.new ≡ record self.old
+            { end = self.old.end + need_of batch.now; count = self.old.count + length batch.now }) }
         ensures still { OnErr result (self.new.count ≡ self.old.count) }
-        ensures receipt { IfOk result (λ receipt. (receipt.count ≡ self.new.count) × (receipt.tick ≡ D.ticks disk.new)) }
-        ensures broken { (since : ℕ) → result ≡ Err (LogFault.Broken since) ↔ self.old.since ≡ Some since }
+        ensures receipt { IfOk result (λ receipt. (receipt.count ≡ self.new.count)
+            × (receipt.tick ≡ D.ticks disk.new)) }
+        ensures broken { (since : ℕ) → result ≡ Err (LogFault.Broken since)
+            ↔ self.old.since ≡ Some since }
         ensures full { (need room : ℕ) → result ≡ Err (LogFault.Full need room)
-            → (self.old.since ≡ None) × (need ≡ need_of batch.now) × (room ≡ room_of self.old) × (room < need) }
+            → (self.old.since ≡ None) × (need ≡ need_of batch.now) × (room ≡ room_of self.old)
+            × (room < need) }
         ensures fits { OnOk result (need_of batch.now ≤ room_of self.old) }
-        ensures disk { result ≡ Err LogFault.Disk → (self.new ≡ record self.old { since = Some (D.ticks disk.new) })
-            × (self.old.since ≡ None) × (need_of batch.now ≤ room_of self.old) }
-        ensures untouched { (fault : LogFault) → result ≡ Err fault → fault ≢ LogFault.Disk → (self.new ≡ self.old) × (disk.new ≡ disk.old) }
-        ensures beside { TellsStill (λ files now. file_of now (other self.old.file) ≡ file_of files (other self.old.file)) (D.seen disk.old) (D.seen disk.new) }
-        ensures time { GoesOn (D.ticks disk.old) (D.ticks disk.new) (D.images disk.old) (D.images disk.new) }
-        ensures cause { IsCounted (D.faults disk.old) (D.faults disk.new) (result ≡ Err LogFault.Disk) }
+        ensures disk { result ≡ Err LogFault.Disk → (self.new ≡ record self.old
+            { since = Some (D.ticks disk.new) }) × (self.old.since ≡ None)
+            × (need_of batch.now ≤ room_of self.old) }
+        ensures untouched { (fault : LogFault) → result ≡ Err fault → fault ≢ LogFault.Disk
+            → (self.new ≡ self.old) × (disk.new ≡ disk.old) }
+        ensures beside { TellsStill (λ files now. file_of now (other self.old.file) ≡ file_of files
+            (other self.old.file)) (D.seen disk.old) (D.seen disk.new) }
+        ensures time { GoesOn (D.ticks disk.old) (D.ticks disk.new) (D.images disk.old)
+            (D.images disk.new) }
+        ensures cause { IsCounted (D.faults disk.old) (D.faults disk.new)
+            (result ≡ Err LogFault.Disk) }
     {
         if let Some(since) = self.since {
             return Err(LogFault::Broken { since });
@@ -175,30 +189,43 @@ impl Log {
         rows: &Rows,
         clean: bool,
     ) -> Result<u64, LogFault>
-        requires gate { self.old.since ≡ None → IfSome (D.seen disk.old) (λ files. 1 ≤ length (file_of files (other self.old.file))) }
+        requires gate { self.old.since ≡ None → IfSome (D.seen disk.old)
+            (λ files. 1 ≤ length (file_of files (other self.old.file))) }
         requires rows { All IsRow (map.entries rows.now) }
         requires limits { IsWithinRowLimits rows.now }
         ensures lives { OnOk result (TellsStill (λ files now. (content : Content)
-            → Lives self.old content files (D.images disk.old (D.ticks disk.old)) → rows.now ≡ (standing_of content).rows
-            → Lives self.new (checkpointed content clean) now (D.images disk.new (D.ticks disk.new))) (D.seen disk.old) (D.seen disk.new)) }
+            → Lives self.old content files (D.images disk.old (D.ticks disk.old))
+            → rows.now ≡ (standing_of content).rows
+            → Lives self.new (checkpointed content clean) now
+            (D.images disk.new (D.ticks disk.new))) (D.seen disk.old) (D.seen disk.new)) }
         ensures stops { IfSome (D.seen disk.old) (λ files. (content : Content)
-            → Lives self.old content files (D.images disk.old (D.ticks disk.old)) → rows.now ≡ (standing_of content).rows
+            → Lives self.old content files (D.images disk.old (D.ticks disk.old))
+            → rows.now ≡ (standing_of content).rows
             → Throughout (D.ticks disk.old) (D.ticks disk.new) (D.images disk.new)
-            (MeansOneOf (standing_of content) (self.old.end + 1) (standing_of content) (base_length (checkpointed content clean) + 1))) }
-        ensures epoch { IfOk result (λ epoch. (epoch ≡ self.old.epoch + 1) × (self.new.epoch ≡ epoch)) }
-        ensures kept { OnOk result ((self.new.file ≡ other self.old.file) × (self.new.count ≡ self.old.count) × (self.new.end ≡ self.new.base_end)
+            (MeansOneOf (standing_of content) (self.old.end + 1) (standing_of content)
+            (base_length (checkpointed content clean) + 1))) }
+        ensures epoch { IfOk result (λ epoch. (epoch ≡ self.old.epoch + 1)
+            × (self.new.epoch ≡ epoch)) }
+        ensures kept { OnOk result ((self.new.file ≡ other self.old.file)
+            × (self.new.count ≡ self.old.count) × (self.new.end ≡ self.new.base_end)
             × (self.new.limit ≡ self.old.limit) × (self.new.since ≡ None)) }
-        ensures base { OnOk result (self.new.base_end ≡ 1 + length (base_bytes (self.old.epoch + 1) clean self.old.count rows.now)) }
-        ensures broken { (since : ℕ) → result ≡ Err (LogFault.Broken since) ↔ self.old.since ≡ Some since }
+        ensures base { OnOk result (self.new.base_end ≡ 1 + length
+            (base_bytes (self.old.epoch + 1) clean self.old.count rows.now)) }
+        ensures broken { (since : ℕ) → result ≡ Err (LogFault.Broken since)
+            ↔ self.old.since ≡ Some since }
         ensures full { (need room : ℕ) → result ≡ Err (LogFault.Full need room)
             → (self.old.since ≡ None) × (self.old.epoch ≡ 2 ^ 64 - 1) × (need ≡ 9) × (room ≡ 0) }
         ensures last { OnOk result (self.old.epoch < 2 ^ 64 - 1) }
-        ensures disk { result ≡ Err LogFault.Disk → (self.new ≡ record self.old { since = Some (D.ticks disk.new) })
-            × (self.old.since ≡ None) × (self.old.epoch < 2 ^ 64 - 1) }
-        ensures untouched { (fault : LogFault) → result ≡ Err fault → fault ≢ LogFault.Disk → (self.new ≡ self.old) × (disk.new ≡ disk.old) }
+        ensures disk { result ≡ Err LogFault.Disk → (self.new ≡ record self.old
+            { since = Some (D.ticks disk.new) }) × (self.old.since ≡ None)
+            × (self.old.epoch < 2 ^ 64 - 1) }
+        ensures untouched { (fault : LogFault) → result ≡ Err fault → fault ≢ LogFault.Disk
+            → (self.new ≡ self.old) × (disk.new ≡ disk.old) }
         ensures tells { TellsStill (λ files now. Unit {0}) (D.seen disk.old) (D.seen disk.new) }
-        ensures time { GoesOn (D.ticks disk.old) (D.ticks disk.new) (D.images disk.old) (D.images disk.new) }
-        ensures cause { IsCounted (D.faults disk.old) (D.faults disk.new) (result ≡ Err LogFault.Disk) }
+        ensures time { GoesOn (D.ticks disk.old) (D.ticks disk.new) (D.images disk.old)
+            (D.images disk.new) }
+        ensures cause { IsCounted (D.faults disk.old) (D.faults disk.new)
+            (result ≡ Err LogFault.Disk) }
     {
         if let Some(since) = self.since {
             return Err(LogFault::Broken { since });
@@ -263,12 +290,15 @@ fn write_batch<D: Disk>(disk: &mut D, file: Which, end: u64, bytes: &[u8]) -> Re
     requires gate { IfSome (D.seen disk.old) (λ files. end < length (file_of files file)) }
     requires some { 1 ≤ length bytes.now }
     requires fits { end + length bytes.now < 2 ^ 64 }
-    ensures stops { IfSome (D.seen disk.old) (λ files.
-        KeepsAppending file end bytes.now files (D.ticks disk.old) (D.ticks disk.new) (D.images disk.old) (D.images disk.new)) }
-    ensures rests { OnOk result (TellsStill (λ files now.
-        HasAppended file end bytes.now files now (D.images disk.old (D.ticks disk.old)) (D.images disk.new (D.ticks disk.new))) (D.seen disk.old) (D.seen disk.new)) }
-    ensures beside { TellsStill (λ files now. file_of now (other file) ≡ file_of files (other file)) (D.seen disk.old) (D.seen disk.new) }
-    ensures time { GoesOn (D.ticks disk.old) (D.ticks disk.new) (D.images disk.old) (D.images disk.new) }
+    ensures stops { IfSome (D.seen disk.old) (λ files. KeepsAppending file end bytes.now files
+        (D.ticks disk.old) (D.ticks disk.new) (D.images disk.old) (D.images disk.new)) }
+    ensures rests { OnOk result (TellsStill (λ files now. HasAppended file end bytes.now files now
+        (D.images disk.old (D.ticks disk.old)) (D.images disk.new (D.ticks disk.new)))
+        (D.seen disk.old) (D.seen disk.new)) }
+    ensures beside { TellsStill (λ files now. file_of now (other file) ≡ file_of files (other file))
+        (D.seen disk.old) (D.seen disk.new) }
+    ensures time { GoesOn (D.ticks disk.old) (D.ticks disk.new) (D.images disk.old)
+        (D.images disk.new) }
     ensures cause { IsCounted (D.faults disk.old) (D.faults disk.new) (IsErr result) }
 {
     let (gate, behind) = bytes.split_at(1);
@@ -281,12 +311,14 @@ fn write_batch<D: Disk>(disk: &mut D, file: Which, end: u64, bytes: &[u8]) -> Re
 fn move_to_other<D: Disk>(disk: &mut D, file: Which, bytes: &[u8]) -> Result<(), DiskFault>
     requires gate { IfSome (D.seen disk.old) (λ files. 1 ≤ length (file_of files (other file))) }
     requires some { 1 ≤ length bytes.now }
-    ensures stops { IfSome (D.seen disk.old) (λ files.
-        KeepsMoving file bytes.now files (D.ticks disk.old) (D.ticks disk.new) (D.images disk.old) (D.images disk.new)) }
-    ensures moved { OnOk result (TellsStill (λ files now.
-        HasMoved file bytes.now files now (D.images disk.old (D.ticks disk.old)) (D.images disk.new (D.ticks disk.new))) (D.seen disk.old) (D.seen disk.new)) }
+    ensures stops { IfSome (D.seen disk.old) (λ files. KeepsMoving file bytes.now files
+        (D.ticks disk.old) (D.ticks disk.new) (D.images disk.old) (D.images disk.new)) }
+    ensures moved { OnOk result (TellsStill (λ files now. HasMoved file bytes.now files now
+        (D.images disk.old (D.ticks disk.old)) (D.images disk.new (D.ticks disk.new)))
+        (D.seen disk.old) (D.seen disk.new)) }
     ensures tells { TellsStill (λ files now. Unit {0}) (D.seen disk.old) (D.seen disk.new) }
-    ensures time { GoesOn (D.ticks disk.old) (D.ticks disk.new) (D.images disk.old) (D.images disk.new) }
+    ensures time { GoesOn (D.ticks disk.old) (D.ticks disk.new) (D.images disk.old)
+        (D.images disk.new) }
     ensures cause { IsCounted (D.faults disk.old) (D.faults disk.new) (IsErr result) }
 {
     let next = file.other();

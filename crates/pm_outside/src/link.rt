@@ -37,7 +37,8 @@ pub trait Link {
     fn read(&mut self, into: &mut [u8]) -> Got
         requires { 0 < length into.old }
         ensures within { GotWithin result (length into.old) }
-        ensures traffic { traffic self.new ≡ option_map (λ t. after_read t result into.new) (traffic self.old) }
+        ensures traffic { traffic self.new ≡ option_map (λ t. after_read t result into.new)
+            (traffic self.old) }
         ensures number { number self.new ≡ number self.old }
         ensures cause { IsCounted (faults self.old) (faults self.new) (result ≡ Got.Failed) };
 
@@ -45,7 +46,8 @@ pub trait Link {
     fn write(&mut self, from: &[u8]) -> Put
         requires { 0 < length from.now }
         ensures within { PutWithin result (length from.now) }
-        ensures traffic { traffic self.new ≡ option_map (λ t. after_write t result from.now) (traffic self.old) }
+        ensures traffic { traffic self.new ≡ option_map (λ t. after_write t result from.now)
+            (traffic self.old) }
         ensures number { number self.new ≡ number self.old }
         ensures cause { IsCounted (faults self.old) (faults self.new) (result ≡ Put.Failed) };
 

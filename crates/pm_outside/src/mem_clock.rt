@@ -21,7 +21,8 @@ impl<R: Drop> MemClock<R> {
 
     /// A clock that begins at this moment and goes on with each pause.
     pub fn new(alloc: Global, start: u64, rt: R) -> Result<Self, AllocError>
-        ensures { IfOk result (λ clock. (moment : ℕ) → start ≤ moment → moment < 2 ^ 64 → IsMoment clock moment) }
+        ensures { IfOk result (λ clock. (moment : ℕ) → start ≤ moment → moment < 2 ^ 64
+            → IsMoment clock moment) }
     {
         Ok(MemClock {
             start,

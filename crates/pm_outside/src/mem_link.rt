@@ -83,14 +83,18 @@ impl Link for MemLink {
     fn read(&mut self, into: &mut [u8]) -> Got
         requires { 0 < length into.old }
         ensures within { GotWithin result (length into.old) }
-        ensures traffic { link_traffic self.new ≡ after_read (link_traffic self.old) result into.new }
+        ensures traffic { link_traffic self.new ≡ after_read (link_traffic self.old) result
+            into.new }
         ensures number { link_number self.new ≡ link_number self.old }
-        ensures cause { IsCounted (link_faults self.old) (link_faults self.new) (result ≡ Got.Failed) }
+        ensures cause { IsCounted (link_faults self.old) (link_faults self.new)
+            (result ≡ Got.Failed) }
 
         ensures listed { (result ≡ Got.Failed) ↔ IsTrue (is_next_listed (read_calls self.old)) }
         ensures answer { AnswersBy self.old self.new (length into.old) result }
-        ensures next_bytes { result ≢ Got.End → bytes_left self.old ≡ take (got_count result) into.new ++ bytes_left self.new }
-        ensures rest_of_slice { drop (got_count result) into.new ≡ drop (got_count result) into.old }
+        ensures next_bytes { result ≢ Got.End → bytes_left self.old ≡ take (got_count result)
+            into.new ++ bytes_left self.new }
+        ensures rest_of_slice { drop (got_count result) into.new ≡ drop (got_count result)
+            into.old }
         ensures counts { CountsRead self.old self.new result }
     {
         self.waits = false;
@@ -121,12 +125,16 @@ impl Link for MemLink {
     fn write(&mut self, from: &[u8]) -> Put
         requires { 0 < length from.now }
         ensures within { PutWithin result (length from.now) }
-        ensures traffic { link_traffic self.new ≡ after_write (link_traffic self.old) result from.now }
+        ensures traffic { link_traffic self.new ≡ after_write (link_traffic self.old) result
+            from.now }
         ensures number { link_number self.new ≡ link_number self.old }
-        ensures cause { IsCounted (link_faults self.old) (link_faults self.new) (result ≡ Put.Failed) }
+        ensures cause { IsCounted (link_faults self.old) (link_faults self.new)
+            (result ≡ Put.Failed) }
 
-        ensures takes { TakesOrFails result (min (sink_limit (link_sink self.old)) (length from.now)) }
-        ensures listed { IsTrue (is_next_listed (sink_calls (link_sink self.old))) → result ≡ Put.Failed }
+        ensures takes { TakesOrFails result (min (sink_limit (link_sink self.old))
+            (length from.now)) }
+        ensures listed { IsTrue (is_next_listed (sink_calls (link_sink self.old)))
+            → result ≡ Put.Failed }
         ensures counts { CountsWrite (link_sink self.old) (link_sink self.new) result }
         ensures reads_stay { ChangesSinkOnly self.old self.new }
     {

@@ -101,14 +101,18 @@ impl Port for MemPort {
         (subst (λ (n : ℕ). length (links_back p) ≤ n) (sym (length-replicate (links_given p) 0)) p.came_from_here) };
 
     fn accept(&mut self) -> Accepted<MemLink>
-        ensures visits { port_visits self.new ≡ after_accept link_faults (port_visits self.old) result }
+        ensures visits { port_visits self.new ≡ after_accept link_faults (port_visits self.old)
+            result }
         ensures number { IfLink result (λ link. link_number link ≡ links_given self.old + 1) }
         ensures fresh { IfLink result (λ link. IsFresh (Some (link_traffic link))) }
-        ensures cause { IsCounted (accept_calls self.old).failed (accept_calls self.new).failed (result ≡ Accepted.Failed) }
+        ensures cause { IsCounted (accept_calls self.old).failed (accept_calls self.new).failed
+            (result ≡ Accepted.Failed) }
 
         ensures next { GivesNext (scripts_left self.old) result (scripts_left self.new) }
-        ensures listed { IsTrue (is_next_listed (accept_calls self.old)) → result ≡ Accepted.Failed }
-        ensures counts { accept_calls self.new ≡ after_call (accept_calls self.old) (is_accept_failed result) }
+        ensures listed { IsTrue (is_next_listed (accept_calls self.old))
+            → result ≡ Accepted.Failed }
+        ensures counts { accept_calls self.new ≡ after_call (accept_calls self.old)
+            (is_accept_failed result) }
         ensures links { links_back self.new ≡ links_back self.old }
         ensures given { links_given self.new ≡ links_given self.old + links_in result }
     {
@@ -135,8 +139,8 @@ impl Port for MemPort {
 
     fn done(&mut self, link: MemLink)
         requires { length (links_back self.old) < links_given self.old }
-        ensures visits { port_visits self.new
-            ≡ after_done (port_visits self.old) (link_number link) (Some (link_traffic link)) (link_faults link) }
+        ensures visits { port_visits self.new ≡ after_done (port_visits self.old) (link_number link)
+            (Some (link_traffic link)) (link_faults link) }
         ensures cause { (accept_calls self.new).failed ≡ (accept_calls self.old).failed }
 
         ensures links { links_back self.new ≡ links_back self.old ++ link ∷ [] }

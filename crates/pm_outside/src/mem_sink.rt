@@ -58,7 +58,8 @@ impl Sink for MemSink {
         requires { 0 < length from.now }
         ensures within { PutWithin result (length from.now) }
         ensures written { sink_bytes self.new ≡ put_behind (sink_bytes self.old) result from.now }
-        ensures cause { IsCounted (sink_calls self.old).failed (sink_calls self.new).failed (result ≡ Put.Failed) }
+        ensures cause { IsCounted (sink_calls self.old).failed (sink_calls self.new).failed
+            (result ≡ Put.Failed) }
 
         ensures takes { TakesOrFails result (min (sink_limit self.old) (length from.now)) }
         ensures listed { IsTrue (is_next_listed (sink_calls self.old)) → result ≡ Put.Failed }

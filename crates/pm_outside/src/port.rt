@@ -28,16 +28,19 @@ pub trait Port {
 
     /// The next link, on which nothing has passed yet. The first is number 1, and each has the number behind.
     fn accept(&mut self) -> Accepted<Self::Link>
-        ensures visits { visits self.new ≡ option_map (λ v. after_accept Self.Link.faults v result) (visits self.old) }
-        ensures number { IfSome (visits self.old) (λ v. IfLink result (λ link. Self.Link.number link ≡ length v.given + 1)) }
+        ensures visits { visits self.new ≡ option_map (λ v. after_accept Self.Link.faults v result)
+            (visits self.old) }
+        ensures number { IfSome (visits self.old) (λ v. IfLink result
+            (λ link. Self.Link.number link ≡ length v.given + 1)) }
         ensures fresh { IfLink result (λ link. IsFresh (Self.Link.traffic link)) }
         ensures cause { IsCounted (faults self.old) (faults self.new) (result ≡ Accepted.Failed) };
 
     /// Takes a served link back, where one is out. It takes no memory: the call that gave the link made the room.
     fn done(&mut self, link: Self::Link)
         requires { IfSome (visits self.old) (λ v. length v.back < length v.given) }
-        ensures visits { visits self.new
-            ≡ option_map (λ v. after_done v (Self.Link.number link) (Self.Link.traffic link) (Self.Link.faults link)) (visits self.old) }
+        ensures visits { visits self.new ≡ option_map
+            (λ v. after_done v (Self.Link.number link) (Self.Link.traffic link)
+            (Self.Link.faults link)) (visits self.old) }
         ensures cause { faults self.new ≡ faults self.old };
 
     /// How often it has failed, up to 2^64 - 1.

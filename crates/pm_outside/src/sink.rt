@@ -16,7 +16,8 @@ pub trait Sink {
     fn write(&mut self, from: &[u8]) -> Put
         requires { 0 < length from.now }
         ensures within { PutWithin result (length from.now) }
-        ensures written { written self.new ≡ option_map (λ w. put_behind w result from.now) (written self.old) }
+        ensures written { written self.new ≡ option_map (λ w. put_behind w result from.now)
+            (written self.old) }
         ensures cause { IsCounted (faults self.old) (faults self.new) (result ≡ Put.Failed) };
 
     /// How often it has failed, up to 2^64 - 1.

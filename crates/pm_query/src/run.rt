@@ -30,7 +30,8 @@ pub fn answer(alloc: Global, rows: &Rows, script: &Script) -> Result<Outcome, Al
 
     // An error ends the reply, and nothing is committed.
     ensures last { IfOk result (λ outcome. ErrorsComeLast outcome.reply) }
-    ensures failed { IfOk result (λ outcome. IsTrue (has_error outcome.reply) → outcome.commit ≡ []) }
+    ensures failed { IfOk result (λ outcome. IsTrue (has_error outcome.reply)
+        → outcome.commit ≡ []) }
 
     // The limits are kept.
     ensures commit_limits { IfOk result (λ outcome. IsWithinCommitLimits outcome.commit) }
@@ -71,7 +72,8 @@ impl<'a> Run<'a> {
     // Runs the statements of a script.
     fn of(alloc: Global, rows: &'a Rows, stmts: &[Stmt]) -> Result<Run<'a>, AllocError>
         ensures items { IfOk result (λ run. run.reply ≡ items_of rows.now stmts.now) }
-        ensures changes { IfOk result (λ run. cond run.failed [] run.commit ≡ commit_of rows.now stmts.now) }
+        ensures changes { IfOk result (λ run. cond run.failed [] run.commit ≡ commit_of rows.now
+            stmts.now) }
     {
         let mut run = Run::on(alloc, rows)?;
         for stmt in stmts {
@@ -86,7 +88,8 @@ impl<'a> Run<'a> {
     // Runs a statement, unless an error was answered.
     fn step(&mut self, stmt: &Stmt) -> Result<(), AllocError>
         requires { KnowsFailure self.old }
-        ensures progress { OnOk result (progress_of self.new ≡ after_statement (progress_of self.old) stmt.now) }
+        ensures progress { OnOk result (progress_of self.new ≡ after_statement
+            (progress_of self.old) stmt.now) }
         ensures failure { OnOk result (KnowsFailure self.new) }
     {
         if self.failed {

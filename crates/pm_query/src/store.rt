@@ -107,17 +107,20 @@ pub trait Store {
 
     /// Lets a child in, and keeps room for the entry of its leave.
     fn enter(&mut self, pid: u32, generation: u32) -> Result<Self::Pass, StoreNo>
-        ensures notes { (entries : List BookEntry) × notes entries self.old self.new × EnterNotes (newcomer (stamp self.old) pid generation) result entries }
+        ensures notes { (entries : List BookEntry) × notes entries self.old self.new
+            × EnterNotes (newcomer (stamp self.old) pid generation) result entries }
         ensures admits { IfOk result (λ pass. admits self.new pass) }
         ensures view { IfOk result (λ pass. view pass ≡ new_pass pid generation) };
 
     /// Runs a script, and stages its commit where it has changes. All memory is taken before that.
     fn run(&mut self, pass: &mut Self::Pass, script: &Script) -> Result<Staged, StoreNo>
         requires { admits self.old pass.old }
-        ensures notes { (entries : List BookEntry) × notes entries self.old self.new × RunNotes (user_of (stamp self.old) (view pass.old)) script.now result entries }
+        ensures notes { (entries : List BookEntry) × notes entries self.old self.new
+            × RunNotes (user_of (stamp self.old) (view pass.old)) script.now result entries }
         ensures admits { admits self.new pass.new }
         ensures fresh { IfOk result (λ staged. ReachesNoLess (view pass.old) staged.front) }
-        ensures view { IfOk result (λ staged. view pass.new ≡ with_front staged.front (view pass.old)) }
+        ensures view { IfOk result (λ staged. view pass.new ≡ with_front staged.front
+            (view pass.old)) }
         ensures refused { OnErr result (view pass.new ≡ view pass.old) }
         ensures short { IfOk result (λ staged. All HasShortValues staged.reply) };
 
@@ -126,7 +129,8 @@ pub trait Store {
     fn seen(&mut self, pass: &mut Self::Pass, front: u64) -> Result<Seen, StoreNo>
         requires admits { admits self.old pass.old }
         requires reached { HasReached (view pass.old) front }
-        ensures notes { (entries : List BookEntry) × notes entries self.old self.new × SeenNotes (user_of (stamp self.old) (view pass.old)) front result entries }
+        ensures notes { (entries : List BookEntry) × notes entries self.old self.new
+            × SeenNotes (user_of (stamp self.old) (view pass.old)) front result entries }
         ensures admits { admits self.new pass.new }
         ensures view { view pass.new ≡ view pass.old };
 
@@ -134,7 +138,8 @@ pub trait Store {
     /// device call is made.
     fn flush(&mut self, pass: &mut Self::Pass) -> Result<u64, StoreNo>
         requires { admits self.old pass.old }
-        ensures notes { (entries : List BookEntry) × notes entries self.old self.new × FlushNotes (user_of (stamp self.old) (view pass.old)) result entries }
+        ensures notes { (entries : List BookEntry) × notes entries self.old self.new
+            × FlushNotes (user_of (stamp self.old) (view pass.old)) result entries }
         ensures admits { admits self.new pass.new }
         ensures view { view pass.new ≡ view pass.old };
 
@@ -142,7 +147,8 @@ pub trait Store {
     /// number again.
     fn redo(&mut self, pass: &mut Self::Pass) -> Result<u64, StoreNo>
         requires { admits self.old pass.old }
-        ensures notes { (entries : List BookEntry) × notes entries self.old self.new × RedoNotes (user_of (stamp self.old) (view pass.old)) result entries }
+        ensures notes { (entries : List BookEntry) × notes entries self.old self.new
+            × RedoNotes (user_of (stamp self.old) (view pass.old)) result entries }
         ensures admits { admits self.new pass.new }
         ensures view { view pass.new ≡ view pass.old };
 
@@ -151,7 +157,8 @@ pub trait Store {
     /// that the log is due for it.
     fn checkpoint(&mut self, pass: &mut Self::Pass, clean: bool) -> Result<Checkpointed, StoreNo>
         requires { admits self.old pass.old }
-        ensures notes { (entries : List BookEntry) × notes entries self.old self.new × CheckpointNotes (user_of (stamp self.old) (view pass.old)) clean result entries }
+        ensures notes { (entries : List BookEntry) × notes entries self.old self.new
+            × CheckpointNotes (user_of (stamp self.old) (view pass.old)) clean result entries }
         ensures admits { admits self.new pass.new }
         ensures view { view pass.new ≡ view pass.old };
 

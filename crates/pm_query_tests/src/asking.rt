@@ -14,7 +14,8 @@ pub fn ask<S: Store>(
     generation: u32,
     script: &Script,
 ) -> Result<Option<Reply>, StoreNo>
-    ensures { (entries : List BookEntry) × S.notes entries store.old store.new × VisitNotes (newcomer (S.stamp store.old) pid generation) script.now result entries }
+    ensures { (entries : List BookEntry) × S.notes entries store.old store.new
+        × VisitNotes (newcomer (S.stamp store.old) pid generation) script.now result entries }
 {
     let mut pass = store.enter(pid, generation)?;
     let answer = released(store, &mut pass, script);
@@ -29,9 +30,11 @@ fn released<S: Store>(
     script: &Script,
 ) -> Result<Option<Reply>, StoreNo>
     requires { S.admits store.old pass.old }
-    ensures notes { (entries : List BookEntry) × S.notes entries store.old store.new × ReplyNotes (user_of (S.stamp store.old) (S.view pass.old)) script.now result entries }
+    ensures notes { (entries : List BookEntry) × S.notes entries store.old store.new
+        × ReplyNotes (user_of (S.stamp store.old) (S.view pass.old)) script.now result entries }
     ensures admits { S.admits store.new pass.new }
-    ensures user { user_of (S.stamp store.new) (S.view pass.new) ≡ user_of (S.stamp store.old) (S.view pass.old) }
+    ensures user { user_of (S.stamp store.new) (S.view pass.new) ≡ user_of (S.stamp store.old)
+        (S.view pass.old) }
 {
     let Staged {
         reply,

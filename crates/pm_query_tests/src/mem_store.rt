@@ -50,7 +50,8 @@ impl<B: Chronicle<BookEntry>> MemStore<B> {
     /// A store without rows, whose book is to be told here.
     pub fn new(alloc: Global, book: B) -> MemStore<B>
         ensures book { result.book ≡ book }
-        ensures begin { (result.count ≡ 0) × (result.flushed ≡ 0) × (result.fault ≡ None) × (result.redone ≡ None) }
+        ensures begin { (result.count ≡ 0) × (result.flushed ≡ 0) × (result.fault ≡ None)
+            × (result.redone ≡ None) }
         ensures log { (result.epoch ≡ 1) × (result.behind ≡ 0) }
     {
         MemStore {
@@ -260,9 +261,12 @@ impl<B: Chronicle<BookEntry>> MemStore<B> {
     fn broken(&mut self, pid: u32, fault: Fault) -> StoreNo
         requires { 1 ≤ B.spare self.old.book }
         ensures answer { result ≡ StoreNo.Broken fault.since }
-        ensures noted { B.entries self.new.book ≡ option_map (λ book. book ++ BookEntry.Broke pid fault.since fault.faults ∷ []) (B.entries self.old.book) }
+        ensures noted { B.entries self.new.book ≡ option_map
+            (λ book. book ++ BookEntry.Broke pid fault.since fault.faults ∷ [])
+            (B.entries self.old.book) }
         ensures room { B.spare self.new.book + 1 ≡ B.spare self.old.book }
-        ensures kept { (self.new.rows ≡ self.old.rows) × (self.new.count ≡ self.old.count) × (self.new.redone ≡ self.old.redone) }
+        ensures kept { (self.new.rows ≡ self.old.rows) × (self.new.count ≡ self.old.count)
+            × (self.new.redone ≡ self.old.redone) }
     {
         self.book.note(BookEntry::Broke {
             pid,

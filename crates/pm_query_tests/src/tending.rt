@@ -23,7 +23,8 @@ pub fn tend<S: Store>(
     generation: u32,
     clean: bool,
 ) -> Result<Tended, StoreNo>
-    ensures { (entries : List BookEntry) × S.notes entries store.old store.new × TendingNotes (newcomer (S.stamp store.old) pid generation) clean result entries }
+    ensures { (entries : List BookEntry) × S.notes entries store.old store.new
+        × TendingNotes (newcomer (S.stamp store.old) pid generation) clean result entries }
 {
     let mut pass = store.enter(pid, generation)?;
     let outcome = keep_up(store, &mut pass, clean);
@@ -34,9 +35,11 @@ pub fn tend<S: Store>(
 // A redo, a flush and a checkpoint.
 fn keep_up<S: Store>(store: &mut S, pass: &mut S::Pass, clean: bool) -> Result<Tended, StoreNo>
     requires { S.admits store.old pass.old }
-    ensures notes { (entries : List BookEntry) × S.notes entries store.old store.new × TendNotes (user_of (S.stamp store.old) (S.view pass.old)) clean result entries }
+    ensures notes { (entries : List BookEntry) × S.notes entries store.old store.new
+        × TendNotes (user_of (S.stamp store.old) (S.view pass.old)) clean result entries }
     ensures admits { S.admits store.new pass.new }
-    ensures user { user_of (S.stamp store.new) (S.view pass.new) ≡ user_of (S.stamp store.old) (S.view pass.old) }
+    ensures user { user_of (S.stamp store.new) (S.view pass.new) ≡ user_of (S.stamp store.old)
+        (S.view pass.old) }
 {
     let kept = store.redo(pass)?;
     let flushed = match store.flush(pass) {

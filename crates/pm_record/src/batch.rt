@@ -35,7 +35,8 @@ fn commit_into(
     bytes: &[u8],
 ) -> Result<(u64, Rows, &[u8]), Unread>
     requires { (c ≤ 256) × (left < 2 ^ 32) }
-    ensures read { Gives (λ x. ((x.0, x.1), x.2.now)) result (commit_step c (left, rows) bytes.now) }
+    ensures read { Gives (λ x. ((x.0, x.1), x.2.now)) result
+        (commit_step c (left, rows) bytes.now) }
     ensures less { IfOk result (λ x. x.0 ≤ left) }
 {
     let (commit, left, rest) = read_commit(alloc, c, left, bytes)?;
@@ -101,7 +102,8 @@ fn commits_ranges(top: u64, long: u64) -> Ranges
 fn batch_into(alloc: Global, progress: Progress, bytes: &[u8]) -> Result<(Progress, &[u8]), Unread>
     requires { (progress.batches ≤ progress.count) × (progress.count < 2 ^ 64 - 1) }
     ensures read { Gives (λ x. (told x.0, x.1.now)) result (batch_step (told progress) bytes.now) }
-    ensures rises { IfOk result (λ x. (room_for x.0.count < room_for progress.count) × (x.0.batches ≤ x.0.count)) }
+    ensures rises { IfOk result (λ x. (room_for x.0.count < room_for progress.count)
+        × (x.0.batches ≤ x.0.count)) }
 {
     let top = top_for(progress.count);
     let (long, rest) = read_number(bytes, 4, &body_ranges(top))?;
@@ -118,7 +120,8 @@ fn batch_into(alloc: Global, progress: Progress, bytes: &[u8]) -> Result<(Progre
 
 // A gate behind so many commits, which is closed where there is no room for more.
 fn read_gate(count: u64, bytes: &[u8]) -> Result<(u8, &[u8]), Unread>
-    ensures { Gives (λ x. (x.0, x.1.now)) result (byte_at (λ gate. gate == 0 || nat_lt 0 (room_for count)) bytes.now) }
+    ensures { Gives (λ x. (x.0, x.1.now)) result
+        (byte_at (λ gate. gate == 0 || nat_lt 0 (room_for count)) bytes.now) }
 {
     let Some((gate, rest)) = first_of(bytes) else {
         return Err(Unread::Bad { left: 0 });

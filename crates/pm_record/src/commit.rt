@@ -50,7 +50,8 @@ fn read_changes(
     bytes: &[u8],
 ) -> Result<(Commit, u64, &[u8]), Unread>
     requires { (count ≤ 1000) × (c ≤ 256) }
-    ensures read { Gives (λ x. (x.0, x.2.now)) result (items_at (λ n. change_at n c) change_left count start bytes.now) }
+    ensures read { Gives (λ x. (x.0, x.2.now)) result
+        (items_at (λ n. change_at n c) change_left count start bytes.now) }
     ensures left { IfOk result (λ x. x.1 ≡ fold change_left start x.0) }
 {
     let mut commit = Commit::new(alloc);

@@ -21,10 +21,12 @@ pub fn write_durably<D: Disk>(
         with_file files file (overwritten (file_of files file) at bytes.now)) (D.seen disk.old)) }
     ensures durable { OnOk result (IfSome (D.seen disk.new) (λ files.
         Only file (file_of files file) (D.images disk.new (D.ticks disk.new)))) }
-    ensures torn { OnErr result (TellsStill (Torn file at (length bytes.now)) (D.seen disk.old) (D.seen disk.new)) }
+    ensures torn { OnErr result (TellsStill (Torn file at (length bytes.now)) (D.seen disk.old)
+        (D.seen disk.new)) }
     ensures stops { FollowsWithin (Torn file at (length bytes.now))
         (D.ticks disk.old) (D.ticks disk.new) (D.images disk.old) (D.images disk.new) }
-    ensures time { GoesOn (D.ticks disk.old) (D.ticks disk.new) (D.images disk.old) (D.images disk.new) }
+    ensures time { GoesOn (D.ticks disk.old) (D.ticks disk.new) (D.images disk.old)
+        (D.images disk.new) }
     ensures cause { IsCounted (D.faults disk.old) (D.faults disk.new) (IsErr result) }
 {
     disk.write(file, at, bytes)?;

@@ -57,7 +57,8 @@ fn behind_gate(alloc: Global, file: Which, bytes: &[u8]) -> Result<Found, Unread
 pub fn read_file(alloc: Global, file: Which, bytes: &[u8]) -> Result<Contents, FileFault>
     ensures found { IfOk result (λ contents. Holds file contents bytes.now) }
     // Whatever the file stands for was found.
-    ensures meaning { (content : Content) → (end : ℕ) → StandsFor bytes.now content end → IfOk result (IsOf content end) }
+    ensures meaning { (content : Content) → (end : ℕ) → StandsFor bytes.now content end
+        → IfOk result (IsOf content end) }
     // Otherwise it is open and stands for nothing, and the place is that of its first wrong byte.
     ensures damaged { IfErr result (Damages bytes.now) }
 {

@@ -14,6 +14,7 @@ pub fn a_file_stands_for_one_content()
 pub fn a_file_has_one_first_wrong_byte()
     ensures one { (bytes : List ℕ) → All (λ b. b < 256) bytes → (at place : ℕ)
         → IsFirstWrong bytes at → IsFirstWrong bytes place → at ≡ place }
-    ensures nothing { (bytes : List ℕ) → All (λ b. b < 256) bytes → (at : ℕ) (content : Content) (end : ℕ)
-        → IsFirstWrong bytes at → StandsFor bytes content end → ⊥ }
+    ensures nothing { (bytes : List ℕ) → All (λ b. b < 256) bytes
+        → (at : ℕ) (content : Content) (end : ℕ) → IsFirstWrong bytes at
+        → StandsFor bytes content end → ⊥ }
 {}

@@ -63,7 +63,8 @@ pub fn read_number<'a>(
     ranges: &Ranges,
 ) -> Result<(u64, &'a [u8]), Unread>
     requires { size ≤ 8 }
-    ensures read { Gives (λ x. (x.0, x.1.now)) result (number_at (may_be ranges.now) size 0 bytes.now) }
+    ensures read { Gives (λ x. (x.0, x.1.now)) result
+        (number_at (may_be ranges.now) size 0 bytes.now) }
     ensures within { 0 < size → IfOk result (λ x. IsWithin ranges.now x.0) }
 {
     let mut rest = bytes;

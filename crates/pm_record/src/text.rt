@@ -21,7 +21,8 @@ pub const ANY: Ranges = Ranges {
 
 // What may follow a byte that has so many bytes behind it, where the byte may stand here.
 fn follow(state: Awaited, n: usize, byte: u8) -> Option<Awaited>
-    ensures some { IfSome result (λ next. (may_follow state n byte ≡ true) × (next ≡ next_of state byte)) }
+    ensures some { IfSome result (λ next. (may_follow state n byte ≡ true)
+        × (next ≡ next_of state byte)) }
     ensures none { IfNone result (may_follow state n byte ≡ false) }
 {
     match after(state, byte) {

@@ -61,9 +61,11 @@ fn is_missing(bytes: &[u8], beside: &[u8]) -> bool
 
 fn contents_of(alloc: Global, file: Which, bytes: &[u8]) -> Result<Contents, RedoFault>
     ensures found { IfOk result (λ contents. Holds file contents bytes.now) }
-    ensures meaning { (content : Content) → (end : ℕ) → StandsFor bytes.now content end → IfOk result (IsOf content end) }
+    ensures meaning { (content : Content) → (end : ℕ) → StandsFor bytes.now content end
+        → IfOk result (IsOf content end) }
     ensures damaged { (fault : RedoFault) → result ≡ Err fault → (fault ≡ RedoFault.NoMemory)
-        ⊎ ((at : ℕ) × (fault ≡ RedoFault.BadFile file at) × MeansNothing bytes.now × IsFirstWrong bytes.now at) }
+        ⊎ ((at : ℕ) × (fault ≡ RedoFault.BadFile file at) × MeansNothing bytes.now
+        × IsFirstWrong bytes.now at) }
 {
     match read_file(alloc, file, bytes) {
         Ok(contents) => Ok(contents),

@@ -27,19 +27,29 @@ use std::alloc::Global;
 /// and its rows keep the limits. `Disk` comes only where the disk's count of faults rose; any other refusal leaves both
 /// files as they read.
 pub fn recover<D: Disk>(alloc: Global, disk: &mut D) -> Result<Found, RedoFault>
-    ensures found { IfOk result (λ found. TellsStill (λ files now. FindsPair found files
-        (λ content. Rests found.file content found.end now (D.images disk.new (D.ticks disk.new)))) (D.seen disk.old) (D.seen disk.new)) }
+    ensures found { IfOk result (λ found. TellsStill
+        (λ files now. FindsPair found files
+        (λ content. Rests found.file content found.end now (D.images disk.new (D.ticks disk.new))))
+        (D.seen disk.old) (D.seen disk.new)) }
     ensures exact { IfOk result (λ found. IfSome (D.seen disk.old) (MeansOnly found)) }
-    ensures content { IfOk result (λ found. (bytes : List ℕ) × (content : Content) × IsFound found content × StandsFor bytes content found.end) }
+    ensures content { IfOk result (λ found. (bytes : List ℕ) × (content : Content)
+        × IsFound found content × StandsFor bytes content found.end) }
     ensures rows { IfOk result (λ found. All IsRow (map.entries found.rows)) }
     ensures limits { IfOk result (λ found. IsWithinRowLimits found.rows) }
-    ensures reason { (fault : RedoFault) → result ≡ Err fault → IfSome (D.seen disk.old) (λ files. IsReason fault files) }
-    ensures kept { (fault : RedoFault) → result ≡ Err fault → fault ≢ RedoFault.Disk → D.seen disk.new ≡ D.seen disk.old }
+    ensures reason { (fault : RedoFault) → result ≡ Err fault
+        → IfSome (D.seen disk.old) (λ files. IsReason fault files) }
+    ensures kept { (fault : RedoFault) → result ≡ Err fault → fault ≢ RedoFault.Disk
+        → D.seen disk.new ≡ D.seen disk.old }
     ensures tells { GoesOnTelling (D.seen disk.old) (D.seen disk.new) }
-    ensures stops { IfSome (D.seen disk.old) (λ files. FollowsWithin MeansWhat (D.ticks disk.old) (D.ticks disk.new) (D.images disk.old) (D.images disk.new)) }
-    ensures barrier { OnOk result (IfSome (D.seen disk.old) (λ files. Throughout (D.ticks disk.old + 2) (D.ticks disk.new) (D.images disk.new) (MeansWhat files))) }
-    ensures time { GoesOn (D.ticks disk.old) (D.ticks disk.new) (D.images disk.old) (D.images disk.new) }
-    ensures cause { IsCounted (D.faults disk.old) (D.faults disk.new) (result ≡ Err RedoFault.Disk) }
+    ensures stops { IfSome (D.seen disk.old) (λ files. FollowsWithin MeansWhat (D.ticks disk.old)
+        (D.ticks disk.new) (D.images disk.old) (D.images disk.new)) }
+    ensures barrier { OnOk result (IfSome (D.seen disk.old)
+        (λ files. Throughout (D.ticks disk.old + 2) (D.ticks disk.new) (D.images disk.new)
+        (MeansWhat files))) }
+    ensures time { GoesOn (D.ticks disk.old) (D.ticks disk.new) (D.images disk.old)
+        (D.images disk.new) }
+    ensures cause { IsCounted (D.faults disk.old) (D.faults disk.new)
+        (result ≡ Err RedoFault.Disk) }
 {
     let (found, both) = read_pair(alloc, disk)?;
     if !both {
@@ -61,9 +71,12 @@ pub fn examine<D: Disk>(alloc: Global, disk: &mut D) -> Result<Found, RedoFault>
     ensures exact { IfOk result (λ found. IfSome (D.seen disk.old) (FindsOnly found)) }
     ensures rows { IfOk result (λ found. All IsRow (map.entries found.rows)) }
     ensures limits { IfOk result (λ found. IsWithinRowLimits found.rows) }
-    ensures reason { (fault : RedoFault) → result ≡ Err fault → IfSome (D.seen disk.old) (λ files. IsReason fault files) }
-    ensures quiet { IsQuiet (D.seen disk.old) (D.seen disk.new) (D.ticks disk.old) (D.ticks disk.new) (D.images disk.old) (D.images disk.new) }
-    ensures cause { IsCounted (D.faults disk.old) (D.faults disk.new) (result ≡ Err RedoFault.Disk) }
+    ensures reason { (fault : RedoFault) → result ≡ Err fault
+        → IfSome (D.seen disk.old) (λ files. IsReason fault files) }
+    ensures quiet { IsQuiet (D.seen disk.old) (D.seen disk.new) (D.ticks disk.old)
+        (D.ticks disk.new) (D.images disk.old) (D.images disk.new) }
+    ensures cause { IsCounted (D.faults disk.old) (D.faults disk.new)
+        (result ≡ Err RedoFault.Disk) }
 {
     let (found, _) = read_pair(alloc, disk)?;
     Ok(found)
@@ -73,14 +86,20 @@ pub fn examine<D: Disk>(alloc: Global, disk: &mut D) -> Result<Found, RedoFault>
 fn read_pair<D: Disk>(alloc: Global, disk: &mut D) -> Result<(Found, bool), RedoFault>
     ensures found { IfOk result (λ x. IfSome (D.seen disk.old) (Finds x.0 x.1)) }
     ensures exact { IfOk result (λ x. IfSome (D.seen disk.old) (FindsOnly x.0)) }
-    ensures content { IfOk result (λ x. (bytes : List ℕ) × (content : Content) × IsFound x.0 content × StandsFor bytes content x.0.end) }
+    ensures content { IfOk result (λ x. (bytes : List ℕ) × (content : Content) × IsFound x.0 content
+        × StandsFor bytes content x.0.end) }
     ensures rows { IfOk result (λ x. All IsRow (map.entries x.0.rows)) }
     ensures limits { IfOk result (λ x. IsWithinRowLimits x.0.rows) }
-    ensures reason { (fault : RedoFault) → result ≡ Err fault → IfSome (D.seen disk.old) (λ files. IsReason fault files) }
-    ensures quiet { IsQuiet (D.seen disk.old) (D.seen disk.new) (D.ticks disk.old) (D.ticks disk.new) (D.images disk.old) (D.images disk.new) }
-    ensures barrier { OnOk result (IfSome (D.seen disk.old) (λ files. Throughout (D.ticks disk.old + 2) (D.ticks disk.new) (D.images disk.new) (Same files))) }
+    ensures reason { (fault : RedoFault) → result ≡ Err fault
+        → IfSome (D.seen disk.old) (λ files. IsReason fault files) }
+    ensures quiet { IsQuiet (D.seen disk.old) (D.seen disk.new) (D.ticks disk.old)
+        (D.ticks disk.new) (D.images disk.old) (D.images disk.new) }
+    ensures barrier { OnOk result (IfSome (D.seen disk.old)
+        (λ files. Throughout (D.ticks disk.old + 2) (D.ticks disk.new) (D.images disk.new)
+        (Same files))) }
     ensures synced { OnOk result (D.ticks disk.old + 2 ≤ D.ticks disk.new) }
-    ensures cause { IsCounted (D.faults disk.old) (D.faults disk.new) (result ≡ Err RedoFault.Disk) }
+    ensures cause { IsCounted (D.faults disk.old) (D.faults disk.new)
+        (result ≡ Err RedoFault.Disk) }
 {
     settle(disk)?;
     let a = read_whole(alloc, disk, Which::A)?;
@@ -90,8 +109,10 @@ fn read_pair<D: Disk>(alloc: Global, disk: &mut D) -> Result<(Found, bool), Redo
 
 // Makes both files durable.
 fn settle<D: Disk>(disk: &mut D) -> Result<(), DiskFault>
-    ensures quiet { IsQuiet (D.seen disk.old) (D.seen disk.new) (D.ticks disk.old) (D.ticks disk.new) (D.images disk.old) (D.images disk.new) }
-    ensures only { OnOk result (IfSome (D.seen disk.old) (λ files. IsOnly files (D.images disk.new (D.ticks disk.new)))) }
+    ensures quiet { IsQuiet (D.seen disk.old) (D.seen disk.new) (D.ticks disk.old)
+        (D.ticks disk.new) (D.images disk.old) (D.images disk.new) }
+    ensures only { OnOk result (IfSome (D.seen disk.old)
+        (λ files. IsOnly files (D.images disk.new (D.ticks disk.new)))) }
     ensures ticks { OnOk result (D.ticks disk.new ≡ D.ticks disk.old + 2) }
     ensures cause { IsCounted (D.faults disk.old) (D.faults disk.new) (IsErr result) }
 {
@@ -102,10 +123,14 @@ fn settle<D: Disk>(disk: &mut D) -> Result<(), DiskFault>
 
 // A file from its beginning to its end.
 fn read_whole<D: Disk>(alloc: Global, disk: &mut D, file: Which) -> Result<Vec<u8>, RedoFault>
-    ensures bytes { IfOk result (λ bytes. IfSome (D.seen disk.old) (λ files. bytes.items ≡ file_of files file)) }
-    ensures quiet { IsQuiet (D.seen disk.old) (D.seen disk.new) (D.ticks disk.old) (D.ticks disk.new) (D.images disk.old) (D.images disk.new) }
-    ensures faults { (fault : RedoFault) → result ≡ Err fault → (fault ≡ RedoFault.Disk) ⊎ (fault ≡ RedoFault.NoMemory) }
-    ensures cause { IsCounted (D.faults disk.old) (D.faults disk.new) (result ≡ Err RedoFault.Disk) }
+    ensures bytes { IfOk result (λ bytes. IfSome (D.seen disk.old)
+        (λ files. bytes.items ≡ file_of files file)) }
+    ensures quiet { IsQuiet (D.seen disk.old) (D.seen disk.new) (D.ticks disk.old)
+        (D.ticks disk.new) (D.images disk.old) (D.images disk.new) }
+    ensures faults { (fault : RedoFault) → result ≡ Err fault → (fault ≡ RedoFault.Disk)
+        ⊎ (fault ≡ RedoFault.NoMemory) }
+    ensures cause { IsCounted (D.faults disk.old) (D.faults disk.new)
+        (result ≡ Err RedoFault.Disk) }
 {
     let length = disk.len(file)?;
     let mut bytes = vec![in alloc; 0; length as usize]?;

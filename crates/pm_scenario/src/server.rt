@@ -77,12 +77,16 @@ impl Server {
 
     // Does the next act that is due, if there is one.
     fn act(&mut self) -> bool
-        requires stands { (limits : Limits) × (h : Trace) × Stands limits (told_in self.old) (standing_in self.old) h }
-        requires generations { (standing_in self.old).generation + length (standing_in self.old).due ≤ 2000000000 }
-        ensures on { (limits : Limits) (h : Trace) → Stands limits (told_in self.old) (standing_in self.old) h
+        requires stands { (limits : Limits) × (h : Trace)
+            × Stands limits (told_in self.old) (standing_in self.old) h }
+        requires generations { (standing_in self.old).generation + length
+            (standing_in self.old).due ≤ 2000000000 }
+        ensures on { (limits : Limits) (h : Trace)
+            → Stands limits (told_in self.old) (standing_in self.old) h
             → IsOnTheWay limits self.old self.new h }
         ensures within { StaysWithin (standing_in self.old) (standing_in self.new) }
-        ensures fewer { result ≡ true → length (standing_in self.new).due + 1 ≡ length (standing_in self.old).due }
+        ensures fewer { result ≡ true → length (standing_in self.new).due + 1 ≡ length
+            (standing_in self.old).due }
         ensures none_due { result ≡ false → (standing_in self.new).due ≡ [] }
     {
         notes_what_is_due();
@@ -95,9 +99,12 @@ impl Server {
 
     // Does the acts that are due, one after the other.
     fn finish(&mut self)
-        requires stands { (limits : Limits) × (h : Trace) × Stands limits (told_in self.old) (standing_in self.old) h }
-        requires generations { (standing_in self.old).generation + length (standing_in self.old).due ≤ 2000000000 }
-        ensures on { (limits : Limits) (h : Trace) → Stands limits (told_in self.old) (standing_in self.old) h
+        requires stands { (limits : Limits) × (h : Trace)
+            × Stands limits (told_in self.old) (standing_in self.old) h }
+        requires generations { (standing_in self.old).generation + length
+            (standing_in self.old).due ≤ 2000000000 }
+        ensures on { (limits : Limits) (h : Trace)
+            → Stands limits (told_in self.old) (standing_in self.old) h
             → IsOnTheWay limits self.old self.new h }
         ensures within { StaysWithin (standing_in self.old) (standing_in self.new) }
         ensures none_due { (standing_in self.new).due ≡ [] }
@@ -122,7 +129,8 @@ impl Server {
         requires room { HasRoom 5 self.old }
         requires goes_on { (standing_in self.old).ended ≡ false }
         requires moment { (standing_in self.old).moment ≤ at }
-        ensures goes_on { OnOk result ((limits : Limits) (v : Served) → IsServing limits self.old v → GoesOn limits self.old self.new (called (Ticks at) v)) }
+        ensures goes_on { OnOk result ((limits : Limits) (v : Served) → IsServing limits self.old v
+            → GoesOn limits self.old self.new (called (Ticks at) v)) }
         ensures moment { OnOk result ((standing_in self.new).moment ≤ at) }
     {
         writes_a_legal_journal();
@@ -138,7 +146,8 @@ impl Server {
         requires serving { (limits : Limits) × (v : Served) × IsServing limits self.old v }
         requires room { HasRoom 5 self.old }
         requires goes_on { (standing_in self.old).ended ≡ false }
-        ensures goes_on { OnOk result ((limits : Limits) (v : Served) → IsServing limits self.old v → GoesOn limits self.old self.new (called TakesTurn v)) }
+        ensures goes_on { OnOk result ((limits : Limits) (v : Served) → IsServing limits self.old v
+            → GoesOn limits self.old self.new (called TakesTurn v)) }
         ensures still { OnOk result (IsSettled (standing_in self.new)) }
     {
         writes_a_legal_journal();
@@ -154,7 +163,8 @@ impl Server {
         requires room { HasRoom 5 self.old }
         requires goes_on { (standing_in self.old).ended ≡ false }
         requires moment { (standing_in self.old).moment ≤ at }
-        ensures goes_on { OnOk result ((limits : Limits) (v : Served) → IsServing limits self.old v → GoesOn limits self.old self.new (called (Asks mode at) v)) }
+        ensures goes_on { OnOk result ((limits : Limits) (v : Served) → IsServing limits self.old v
+            → GoesOn limits self.old self.new (called (Asks mode at) v)) }
         ensures moment { OnOk result ((standing_in self.new).moment ≤ at) }
     {
         writes_a_legal_journal();
@@ -204,8 +214,10 @@ impl Server {
         requires room { HasRoom 5 self.old }
         requires goes_on { (standing_in self.old).ended ≡ false }
         requires there { is_some (kind_in pid (standing_in self.old).children) ≡ true }
-        ensures goes_on { OnOk result ((limits : Limits) (v : Served) → IsServing limits self.old v → GoesOn limits self.old self.new (kill_noted pid v)) }
-        ensures moment { OnOk result ((standing_in self.new).moment ≡ (standing_in self.old).moment) }
+        ensures goes_on { OnOk result ((limits : Limits) (v : Served) → IsServing limits self.old v
+            → GoesOn limits self.old self.new (kill_noted pid v)) }
+        ensures moment { OnOk result ((standing_in self.new).moment ≡ (standing_in
+            self.old).moment) }
     {
         writes_a_legal_journal();
         self.supervision.kill(pid)?;
@@ -219,8 +231,10 @@ impl Server {
         requires goes_on { (standing_in self.old).ended ≡ false }
         requires still { IsStill self.old }
         requires may { MayTake (standing_in self.old) }
-        ensures goes_on { OnOk result ((limits : Limits) (v : Served) → IsServing limits self.old v → GoesOn limits self.old self.new (next_accept v)) }
-        ensures moment { OnOk result ((standing_in self.new).moment ≡ (standing_in self.old).moment) }
+        ensures goes_on { OnOk result ((limits : Limits) (v : Served) → IsServing limits self.old v
+            → GoesOn limits self.old self.new (next_accept v)) }
+        ensures moment { OnOk result ((standing_in self.new).moment ≡ (standing_in
+            self.old).moment) }
     {
         writes_a_legal_journal();
         self.supervision.accept()?;
@@ -243,7 +257,8 @@ impl Server {
         requires goes_on { (standing_in self.old).ended ≡ false }
         requires still { IsStill self.old }
         requires moment { (standing_in self.old).moment ≤ at }
-        ensures goes_on { OnOk result ((limits : Limits) (v : Served) → IsServing limits self.old v → GoesOn limits self.old self.new (caused Connection at v)) }
+        ensures goes_on { OnOk result ((limits : Limits) (v : Served) → IsServing limits self.old v
+            → GoesOn limits self.old self.new (caused Connection at v)) }
         ensures moment { OnOk result ((standing_in self.new).moment ≤ at) }
     {
         if self.supervision.may_accept() {
@@ -267,7 +282,8 @@ impl Server {
         requires goes_on { (standing_in self.old).ended ≡ false }
         requires moment { (standing_in self.old).moment ≤ at }
         ensures goes_on { OnOk result ((limits : Limits) (v : Served) → IsServing limits self.old v
-            → GoesOn limits self.old self.new (exited (child_at pid v) pid status was_active at v)) }
+            → GoesOn limits self.old self.new
+            (exited (child_at pid v) pid status was_active at v)) }
         ensures moment { OnOk result ((standing_in self.new).moment ≤ at) }
     {
         match self.supervision.kind_of(pid) {
@@ -284,8 +300,10 @@ impl Server {
         requires serving { (limits : Limits) × (v : Served) × IsServing limits self.old v }
         requires room { HasRoom 5 self.old }
         requires goes_on { (standing_in self.old).ended ≡ false }
-        ensures goes_on { OnOk result ((limits : Limits) (v : Served) → IsServing limits self.old v → GoesOn limits self.old self.new (kill_asked (child_at pid v) pid v)) }
-        ensures moment { OnOk result ((standing_in self.new).moment ≡ (standing_in self.old).moment) }
+        ensures goes_on { OnOk result ((limits : Limits) (v : Served) → IsServing limits self.old v
+            → GoesOn limits self.old self.new (kill_asked (child_at pid v) pid v)) }
+        ensures moment { OnOk result ((standing_in self.new).moment ≡ (standing_in
+            self.old).moment) }
     {
         match self.supervision.kind_of(pid) {
             Some(_) => {
@@ -303,7 +321,8 @@ impl Server {
         requires goes_on { (standing_in self.old).ended ≡ false }
         requires still { IsStill self.old }
         requires moment { (standing_in self.old).moment ≤ at }
-        ensures goes_on { OnOk result ((limits : Limits) (v : Served) → IsServing limits self.old v → GoesOn limits self.old self.new (caused cause at v)) }
+        ensures goes_on { OnOk result ((limits : Limits) (v : Served) → IsServing limits self.old v
+            → GoesOn limits self.old self.new (caused cause at v)) }
         ensures moment { OnOk result ((standing_in self.new).moment ≤ at) }
     {
         match cause {
@@ -324,7 +343,8 @@ impl Server {
         requires serving { (limits : Limits) × (v : Served) × IsServing limits self.old v }
         requires room { HasRoom 5 self.old }
         requires moment { (standing_in self.old).moment ≤ at }
-        ensures { OnOk result ((limits : Limits) (v : Served) → IsServing limits self.old v → GoesOn limits self.old self.new (then_called (Ticks at) v)) }
+        ensures { OnOk result ((limits : Limits) (v : Served) → IsServing limits self.old v
+            → GoesOn limits self.old self.new (then_called (Ticks at) v)) }
     {
         if self.supervision.has_ended() {
             Ok(())
@@ -338,7 +358,8 @@ impl Server {
     fn then_turn(&mut self) -> Result<(), AllocError>
         requires serving { (limits : Limits) × (v : Served) × IsServing limits self.old v }
         requires room { HasRoom 5 self.old }
-        ensures goes_on { OnOk result ((limits : Limits) (v : Served) → IsServing limits self.old v → GoesOn limits self.old self.new (then_called TakesTurn v)) }
+        ensures goes_on { OnOk result ((limits : Limits) (v : Served) → IsServing limits self.old v
+            → GoesOn limits self.old self.new (then_called TakesTurn v)) }
         ensures still { OnOk result (IsStill self.new) }
     {
         if self.supervision.has_ended() {
@@ -351,7 +372,8 @@ impl Server {
 
     // Whether what happens at this moment is passed over: the server has ended, or the moment has passed.
     fn passes_over(&self, at: u64) -> bool
-        ensures { result ≡ ((standing_in self.now).ended || nat_lt at (standing_in self.now).moment) }
+        ensures { result ≡ ((standing_in self.now).ended || nat_lt at
+            (standing_in self.now).moment) }
     {
         self.supervision.has_ended() || at < self.supervision.moment()
     }
@@ -361,7 +383,8 @@ impl Server {
         requires serving { (limits : Limits) × (v : Served) × IsServing limits self.old v }
         requires still { IsStill self.old }
         requires room { HasRoom 15 self.old }
-        ensures { OnOk result ((limits : Limits) (v : Served) → IsServing limits self.old v → Serves limits self.old self.new (happened_at happening.now v)) }
+        ensures { OnOk result ((limits : Limits) (v : Served) → IsServing limits self.old v
+            → Serves limits self.old self.new (happened_at happening.now v)) }
     {
         if self.passes_over(happening.at) {
             return Ok(());

@@ -56,7 +56,8 @@ impl Standing {
 /// Takes the child's signals.
 pub fn listen<F: Life>(life: &mut F, standing: &mut Standing)
     requires { IsAttentive (attention (F.told life.old) (F.child life.old) standing.old) }
-    ensures { Hears 1 (attention (F.told life.old) (F.child life.old) standing.old) (attention (F.told life.new) (F.child life.new) standing.new) }
+    ensures { Hears 1 (attention (F.told life.old) (F.child life.old) standing.old)
+        (attention (F.told life.new) (F.child life.new) standing.new) }
 {
     *standing = standing.with(life.signals());
 }

@@ -32,9 +32,12 @@ pub fn close<L: Link, F: Life>(
 ) -> Cause
     requires attentive { IsAttentive (attention (F.told life.old) (F.child life.old) standing.old) }
     requires room { 66048 ≤ outbox.old.capacity }
-    ensures closes { (ending : Ending) × (ending.stage ≡ stage) × (ending.exit ≡ result) × Closes decision cause ending
-        (outside (link_view (L.traffic link.old) (L.number link.old) (L.faults link.old)) [] (attention (F.told life.old) (F.child life.old) standing.old))
-        (outside (link_view (L.traffic link.new) (L.number link.new) (L.faults link.new)) [] (attention (F.told life.new) (F.child life.new) standing.new)) }
+    ensures closes { (ending : Ending) × (ending.stage ≡ stage) × (ending.exit ≡ result)
+        × Closes decision cause ending (outside
+        (link_view (L.traffic link.old) (L.number link.old) (L.faults link.old)) []
+        (attention (F.told life.old) (F.child life.old) standing.old))
+        (outside (link_view (L.traffic link.new) (L.number link.new) (L.faults link.new)) []
+        (attention (F.told life.new) (F.child life.new) standing.new)) }
 {
     listen(life, standing);
     let cause = last_cause(*standing, cause);
@@ -51,9 +54,12 @@ pub fn close_short_of_memory<L: Link, F: Life>(
     decision: Cac,
 ) -> Cause
     requires { IsAttentive (attention (F.told life.old) (F.child life.old) standing.old) }
-    ensures { (ending : Ending) × (ending.stage ≡ Stage.Outside) × (ending.exit ≡ result) × Closes decision Cause.ShortOfMemory ending
-        (outside (link_view (L.traffic link.old) (L.number link.old) (L.faults link.old)) [] (attention (F.told life.old) (F.child life.old) standing.old))
-        (outside (link_view (L.traffic link.new) (L.number link.new) (L.faults link.new)) [] (attention (F.told life.new) (F.child life.new) standing.new)) }
+    ensures { (ending : Ending) × (ending.stage ≡ Stage.Outside) × (ending.exit ≡ result)
+        × Closes decision Cause.ShortOfMemory ending
+        (outside (link_view (L.traffic link.old) (L.number link.old) (L.faults link.old)) []
+        (attention (F.told life.old) (F.child life.old) standing.old))
+        (outside (link_view (L.traffic link.new) (L.number link.new) (L.faults link.new)) []
+        (attention (F.told life.new) (F.child life.new) standing.new)) }
 {
     listen(life, standing);
     say(link, life, standing, fixed(Fixed::FatalMemory));
@@ -81,9 +87,10 @@ fn exit_by(standing: Standing, cause: Cause) -> Cause
 // signals once more.
 fn say<L: Link, F: Life>(link: &mut L, life: &mut F, standing: &mut Standing, words: &[u8])
     requires { IsAttentive (attention (F.told life.old) (F.child life.old) standing.old) }
-    ensures { SaysLast words.now
-        (outside (link_view (L.traffic link.old) (L.number link.old) (L.faults link.old)) [] (attention (F.told life.old) (F.child life.old) standing.old))
-        (outside (link_view (L.traffic link.new) (L.number link.new) (L.faults link.new)) [] (attention (F.told life.new) (F.child life.new) standing.new)) }
+    ensures { SaysLast words.now (outside (link_view (L.traffic link.old) (L.number link.old)
+        (L.faults link.old)) [] (attention (F.told life.old) (F.child life.old) standing.old))
+        (outside (link_view (L.traffic link.new) (L.number link.new) (L.faults link.new)) []
+        (attention (F.told life.new) (F.child life.new) standing.new)) }
 {
     if words.is_empty() || standing.kill {
         return;
@@ -106,7 +113,8 @@ fn put_last(outbox: &mut Outbox, decision: Cac, stage: Stage, cause: Cause)
 
 // What is said last.
 fn last_condition(decision: Cac, stage: Stage, cause: Cause) -> Option<Condition<'static>>
-    ensures says { MatchOption result (last_of decision stage cause ≡ []) (λ condition. last_of decision stage cause ≡ told condition ∷ []) }
+    ensures says { MatchOption result (last_of decision stage cause ≡ [])
+        (λ condition. last_of decision stage cause ≡ told condition ∷ []) }
     ensures given { IfSome result IsGiven }
 {
     match cause {
@@ -131,7 +139,8 @@ fn last_condition(decision: Cac, stage: Stage, cause: Cause) -> Option<Condition
 
 // A child outside says nothing to a signal.
 fn from_attach(stage: Stage, words: Fixed) -> Option<Condition<'static>>
-    ensures says { MatchOption result (from_attach stage (fixed_message words ∷ []) ≡ []) (λ condition. from_attach stage (fixed_message words ∷ []) ≡ told condition ∷ []) }
+    ensures says { MatchOption result (from_attach stage (fixed_message words ∷ []) ≡ [])
+        (λ condition. from_attach stage (fixed_message words ∷ []) ≡ told condition ∷ []) }
     ensures given { IfSome result IsGiven }
 {
     match stage {
@@ -141,7 +150,8 @@ fn from_attach(stage: Stage, words: Fixed) -> Option<Condition<'static>>
 }
 
 fn packet_condition(fault: StartFault) -> Option<Condition<'static>>
-    ensures says { MatchOption result (packet_refusal fault ≡ []) (λ condition. packet_refusal fault ≡ told condition ∷ []) }
+    ensures says { MatchOption result (packet_refusal fault ≡ [])
+        (λ condition. packet_refusal fault ≡ told condition ∷ []) }
     ensures given { IfSome result IsGiven }
 {
     match fault {
@@ -168,7 +178,8 @@ fn message_condition(fault: MessageFault) -> Condition<'static>
 }
 
 fn decision_condition(decision: Cac) -> Option<Condition<'static>>
-    ensures says { MatchOption result (decision_refusal decision ≡ []) (λ condition. decision_refusal decision ≡ told condition ∷ []) }
+    ensures says { MatchOption result (decision_refusal decision ≡ [])
+        (λ condition. decision_refusal decision ≡ told condition ∷ []) }
     ensures given { IfSome result IsGiven }
 {
     match decision {

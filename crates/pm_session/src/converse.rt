@@ -42,11 +42,16 @@ pub(crate) fn converse<R: Wait, L: Link, S: Store, C: Clock, F: Life>(
     requires empty { outbox.old.bytes ≡ [] }
     requires room { 66048 ≤ outbox.old.capacity }
     ensures talks { Conversed S.notes (user_of (S.stamp store.old) (S.view pass.old)) result
-        (moment (link_view (L.traffic link.old) (L.number link.old) (L.faults link.old)) inbox.old store.old (attention (F.told life.old) (F.child life.old) standing.old))
-        (moment (link_view (L.traffic link.new) (L.number link.new) (L.faults link.new)) inbox.new store.new (attention (F.told life.new) (F.child life.new) standing.new)) }
-    ensures cause { ShowsCause result (link_view (L.traffic link.old) (L.number link.old) (L.faults link.old)) (link_view (L.traffic link.new) (L.number link.new) (L.faults link.new)) (attention (F.told life.new) (F.child life.new) standing.new) }
+        (moment (link_view (L.traffic link.old) (L.number link.old) (L.faults link.old)) inbox.old
+        store.old (attention (F.told life.old) (F.child life.old) standing.old))
+        (moment (link_view (L.traffic link.new) (L.number link.new) (L.faults link.new)) inbox.new
+        store.new (attention (F.told life.new) (F.child life.new) standing.new)) }
+    ensures cause { ShowsCause result (link_view (L.traffic link.old) (L.number link.old)
+        (L.faults link.old)) (link_view (L.traffic link.new) (L.number link.new)
+        (L.faults link.new)) (attention (F.told life.new) (F.child life.new) standing.new) }
     ensures admits { S.admits store.new pass.new }
-    ensures user { user_of (S.stamp store.new) (S.view pass.new) ≡ user_of (S.stamp store.old) (S.view pass.old) }
+    ensures user { user_of (S.stamp store.new) (S.view pass.new) ≡ user_of (S.stamp store.old)
+        (S.view pass.old) }
     ensures room { 66048 ≤ outbox.new.capacity }
 {
     for _ in rt.forever() {
@@ -77,11 +82,17 @@ fn step<R: Wait, L: Link, S: Store, C: Clock, F: Life>(
     requires empty { outbox.old.bytes ≡ [] }
     requires room { 66048 ≤ outbox.old.capacity }
     ensures talks { Converses S.notes (user_of (S.stamp store.old) (S.view pass.old)) result
-        (moment (link_view (L.traffic link.old) (L.number link.old) (L.faults link.old)) inbox.old store.old (attention (F.told life.old) (F.child life.old) standing.old))
-        (moment (link_view (L.traffic link.new) (L.number link.new) (L.faults link.new)) inbox.new store.new (attention (F.told life.new) (F.child life.new) standing.new)) }
-    ensures cause { IfErr result (λ cause. ShowsCause cause (link_view (L.traffic link.old) (L.number link.old) (L.faults link.old)) (link_view (L.traffic link.new) (L.number link.new) (L.faults link.new)) (attention (F.told life.new) (F.child life.new) standing.new)) }
+        (moment (link_view (L.traffic link.old) (L.number link.old) (L.faults link.old)) inbox.old
+        store.old (attention (F.told life.old) (F.child life.old) standing.old))
+        (moment (link_view (L.traffic link.new) (L.number link.new) (L.faults link.new)) inbox.new
+        store.new (attention (F.told life.new) (F.child life.new) standing.new)) }
+    ensures cause { IfErr result (λ cause. ShowsCause cause
+        (link_view (L.traffic link.old) (L.number link.old) (L.faults link.old))
+        (link_view (L.traffic link.new) (L.number link.new) (L.faults link.new))
+        (attention (F.told life.new) (F.child life.new) standing.new)) }
     ensures admits { S.admits store.new pass.new }
-    ensures user { user_of (S.stamp store.new) (S.view pass.new) ≡ user_of (S.stamp store.old) (S.view pass.old) }
+    ensures user { user_of (S.stamp store.new) (S.view pass.new) ≡ user_of (S.stamp store.old)
+        (S.view pass.old) }
     ensures empty { OnOk result (outbox.new.bytes ≡ []) }
     ensures room { 66048 ≤ outbox.new.capacity }
 {
@@ -118,9 +129,15 @@ fn await_bytes<R: Wait, L: Link, C: Clock, F: Life>(
 ) -> Result<(), Cause>
     requires attentive { IsAttentive (attention (F.told life.old) (F.child life.old) standing.old) }
     requires room { wanted ≤ 66048 }
-    ensures comes { Comes wanted result inbox.old inbox.new (link_view (L.traffic link.old) (L.number link.old) (L.faults link.old)) (link_view (L.traffic link.new) (L.number link.new) (L.faults link.new)) }
-    ensures hears { Hears 0 (attention (F.told life.old) (F.child life.old) standing.old) (attention (F.told life.new) (F.child life.new) standing.new) }
-    ensures cause { IfErr result (λ cause. ShowsCause cause (link_view (L.traffic link.old) (L.number link.old) (L.faults link.old)) (link_view (L.traffic link.new) (L.number link.new) (L.faults link.new)) (attention (F.told life.new) (F.child life.new) standing.new)) }
+    ensures comes { Comes wanted result inbox.old inbox.new
+        (link_view (L.traffic link.old) (L.number link.old) (L.faults link.old))
+        (link_view (L.traffic link.new) (L.number link.new) (L.faults link.new)) }
+    ensures hears { Hears 0 (attention (F.told life.old) (F.child life.old) standing.old)
+        (attention (F.told life.new) (F.child life.new) standing.new) }
+    ensures cause { IfErr result (λ cause. ShowsCause cause
+        (link_view (L.traffic link.old) (L.number link.old) (L.faults link.old))
+        (link_view (L.traffic link.new) (L.number link.new) (L.faults link.new))
+        (attention (F.told life.new) (F.child life.new) standing.new)) }
 {
     while inbox.unread().len() < wanted {
         if let Err(cause) = receive(rt, clock, link, life, standing, inbox) {
@@ -150,12 +167,19 @@ fn take_message<R: Wait, L: Link, S: Store, C: Clock, F: Life>(
     requires empty { outbox.old.bytes ≡ [] }
     requires room { 66048 ≤ outbox.old.capacity }
     requires text { HasQueryText (front_message message) }
-    ensures goes { MessageGoes S.notes (user_of (S.stamp store.old) (S.view pass.old)) (front_message message.entry) result
-        (moment (link_view (L.traffic link.old) (L.number link.old) (L.faults link.old)) [] store.old (attention (F.told life.old) (F.child life.old) standing.old))
-        (moment (link_view (L.traffic link.new) (L.number link.new) (L.faults link.new)) [] store.new (attention (F.told life.new) (F.child life.new) standing.new)) }
-    ensures cause { IfErr result (λ cause. ShowsCause cause (link_view (L.traffic link.old) (L.number link.old) (L.faults link.old)) (link_view (L.traffic link.new) (L.number link.new) (L.faults link.new)) (attention (F.told life.new) (F.child life.new) standing.new)) }
+    ensures goes { MessageGoes S.notes (user_of (S.stamp store.old) (S.view pass.old))
+        (front_message message.entry) result
+        (moment (link_view (L.traffic link.old) (L.number link.old) (L.faults link.old)) []
+        store.old (attention (F.told life.old) (F.child life.old) standing.old))
+        (moment (link_view (L.traffic link.new) (L.number link.new) (L.faults link.new)) []
+        store.new (attention (F.told life.new) (F.child life.new) standing.new)) }
+    ensures cause { IfErr result (λ cause. ShowsCause cause
+        (link_view (L.traffic link.old) (L.number link.old) (L.faults link.old))
+        (link_view (L.traffic link.new) (L.number link.new) (L.faults link.new))
+        (attention (F.told life.new) (F.child life.new) standing.new)) }
     ensures admits { S.admits store.new pass.new }
-    ensures user { user_of (S.stamp store.new) (S.view pass.new) ≡ user_of (S.stamp store.old) (S.view pass.old) }
+    ensures user { user_of (S.stamp store.new) (S.view pass.new) ≡ user_of (S.stamp store.old)
+        (S.view pass.old) }
     ensures empty { OnOk result (outbox.new.bytes ≡ []) }
     ensures room { 66048 ≤ outbox.new.capacity }
 {
@@ -190,11 +214,17 @@ fn reply_to<R: Wait, L: Link, S: Store, C: Clock, F: Life>(
     requires room { 66048 ≤ outbox.old.capacity }
     requires text { HasNoZero text.now × (length text.now ≤ 65536) }
     ensures goes { ReplyGoes S.notes (user_of (S.stamp store.old) (S.view pass.old)) text.now result
-        (moment (link_view (L.traffic link.old) (L.number link.old) (L.faults link.old)) [] store.old (attention (F.told life.old) (F.child life.old) standing.old))
-        (moment (link_view (L.traffic link.new) (L.number link.new) (L.faults link.new)) [] store.new (attention (F.told life.new) (F.child life.new) standing.new)) }
-    ensures cause { IfErr result (λ cause. ShowsCause cause (link_view (L.traffic link.old) (L.number link.old) (L.faults link.old)) (link_view (L.traffic link.new) (L.number link.new) (L.faults link.new)) (attention (F.told life.new) (F.child life.new) standing.new)) }
+        (moment (link_view (L.traffic link.old) (L.number link.old) (L.faults link.old)) []
+        store.old (attention (F.told life.old) (F.child life.old) standing.old))
+        (moment (link_view (L.traffic link.new) (L.number link.new) (L.faults link.new)) []
+        store.new (attention (F.told life.new) (F.child life.new) standing.new)) }
+    ensures cause { IfErr result (λ cause. ShowsCause cause
+        (link_view (L.traffic link.old) (L.number link.old) (L.faults link.old))
+        (link_view (L.traffic link.new) (L.number link.new) (L.faults link.new))
+        (attention (F.told life.new) (F.child life.new) standing.new)) }
     ensures admits { S.admits store.new pass.new }
-    ensures user { user_of (S.stamp store.new) (S.view pass.new) ≡ user_of (S.stamp store.old) (S.view pass.old) }
+    ensures user { user_of (S.stamp store.new) (S.view pass.new) ≡ user_of (S.stamp store.old)
+        (S.view pass.old) }
     ensures empty { OnOk result (outbox.new.bytes ≡ []) }
     ensures room { 66048 ≤ outbox.new.capacity }
 {

@@ -59,7 +59,9 @@ impl Inbox {
     /// Reads bytes that came in, behind those that stand.
     pub fn read_from<L: Link>(&mut self, link: &mut L) -> Got
         requires { length self.old < 66048 }
-        ensures { Reads result self.old self.new (link_view (L.traffic link.old) (L.number link.old) (L.faults link.old)) (link_view (L.traffic link.new) (L.number link.new) (L.faults link.new)) }
+        ensures { Reads result self.old self.new
+            (link_view (L.traffic link.old) (L.number link.old) (L.faults link.old))
+            (link_view (L.traffic link.new) (L.number link.new) (L.faults link.new)) }
     {
         let (start, end) = room_behind(&mut self.bytes, self.start, self.end);
         self.start = start;

@@ -22,12 +22,18 @@ pub fn receive<R: Wait, L: Link, C: Clock, F: Life>(
 ) -> Result<(), Cause>
     requires attentive { IsAttentive (attention (F.told life.old) (F.child life.old) standing.old) }
     requires room { length inbox.old < 66048 }
-    ensures came { MatchResult result
-        (λ _. Receives inbox.old inbox.new (link_view (L.traffic link.old) (L.number link.old) (L.faults link.old)) (link_view (L.traffic link.new) (L.number link.new) (L.faults link.new)))
-        (λ _. ReceivesNothing inbox.old inbox.new (link_view (L.traffic link.old) (L.number link.old) (L.faults link.old)) (link_view (L.traffic link.new) (L.number link.new) (L.faults link.new))) }
-    ensures hears { Hears 1 (attention (F.told life.old) (F.child life.old) standing.old) (attention (F.told life.new) (F.child life.new) standing.new) }
-    ensures cause { MatchResult result (λ _. Unit {0}) (λ cause. IsBreak cause × ShowsCause cause
-        (link_view (L.traffic link.old) (L.number link.old) (L.faults link.old)) (link_view (L.traffic link.new) (L.number link.new) (L.faults link.new))
+    ensures came { MatchResult result (λ _. Receives inbox.old inbox.new
+        (link_view (L.traffic link.old) (L.number link.old) (L.faults link.old))
+        (link_view (L.traffic link.new) (L.number link.new) (L.faults link.new)))
+        (λ _. ReceivesNothing inbox.old inbox.new
+        (link_view (L.traffic link.old) (L.number link.old) (L.faults link.old))
+        (link_view (L.traffic link.new) (L.number link.new) (L.faults link.new))) }
+    ensures hears { Hears 1 (attention (F.told life.old) (F.child life.old) standing.old)
+        (attention (F.told life.new) (F.child life.new) standing.new) }
+    ensures cause { MatchResult result (λ _. Unit {0})
+        (λ cause. IsBreak cause × ShowsCause cause
+        (link_view (L.traffic link.old) (L.number link.old) (L.faults link.old))
+        (link_view (L.traffic link.new) (L.number link.new) (L.faults link.new))
         (attention (F.told life.new) (F.child life.new) standing.new)) }
 {
     for _ in rt.forever() {
@@ -53,10 +59,15 @@ pub fn send<L: Link, F: Life>(
     bytes: &[u8],
 ) -> Result<(), Cause>
     requires { IsAttentive (attention (F.told life.old) (F.child life.old) standing.old) }
-    ensures sends { Sends result bytes.now (link_view (L.traffic link.old) (L.number link.old) (L.faults link.old)) (link_view (L.traffic link.new) (L.number link.new) (L.faults link.new)) }
-    ensures hears { Hears 0 (attention (F.told life.old) (F.child life.old) standing.old) (attention (F.told life.new) (F.child life.new) standing.new) }
-    ensures cause { MatchResult result (λ _. Unit {0}) (λ cause. IsBreak cause × ShowsCause cause
-        (link_view (L.traffic link.old) (L.number link.old) (L.faults link.old)) (link_view (L.traffic link.new) (L.number link.new) (L.faults link.new))
+    ensures sends { Sends result bytes.now (link_view (L.traffic link.old) (L.number link.old)
+        (L.faults link.old)) (link_view (L.traffic link.new) (L.number link.new)
+        (L.faults link.new)) }
+    ensures hears { Hears 0 (attention (F.told life.old) (F.child life.old) standing.old)
+        (attention (F.told life.new) (F.child life.new) standing.new) }
+    ensures cause { MatchResult result (λ _. Unit {0})
+        (λ cause. IsBreak cause × ShowsCause cause
+        (link_view (L.traffic link.old) (L.number link.old) (L.faults link.old))
+        (link_view (L.traffic link.new) (L.number link.new) (L.faults link.new))
         (attention (F.told life.new) (F.child life.new) standing.new)) }
     ensures kill { result ≡ Err Cause.Killed → IsTrue standing.new.kill }
 {

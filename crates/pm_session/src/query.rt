@@ -39,12 +39,17 @@ pub(crate) fn answer_to<R: Wait, S: Store, C: Clock, F: Life>(
     requires admits { S.admits store.old pass.old }
     requires attentive { IsAttentive (attention (F.told life.old) (F.child life.old) standing.old) }
     requires text { HasNoZero text.now × (length text.now ≤ 65536) }
-    ensures notes { (entries : List BookEntry) × S.notes entries store.old store.new × AnswerNotes (user_of (S.stamp store.old) (S.view pass.old)) text.now result entries }
-    ensures fit { IfOk result (λ answer. IsFit text.now answer (attention (F.told life.new) (F.child life.new) standing.new)) }
+    ensures notes { (entries : List BookEntry) × S.notes entries store.old store.new
+        × AnswerNotes (user_of (S.stamp store.old) (S.view pass.old)) text.now result entries }
+    ensures fit { IfOk result (λ answer. IsFit text.now answer
+        (attention (F.told life.new) (F.child life.new) standing.new)) }
     ensures admits { S.admits store.new pass.new }
-    ensures user { user_of (S.stamp store.new) (S.view pass.new) ≡ user_of (S.stamp store.old) (S.view pass.old) }
-    ensures hears { Hears 0 (attention (F.told life.old) (F.child life.old) standing.old) (attention (F.told life.new) (F.child life.new) standing.new) }
-    ensures heeded { IfErr result (λ cause. IsHeeded cause (attention (F.told life.new) (F.child life.new) standing.new)) }
+    ensures user { user_of (S.stamp store.new) (S.view pass.new) ≡ user_of (S.stamp store.old)
+        (S.view pass.old) }
+    ensures hears { Hears 0 (attention (F.told life.old) (F.child life.old) standing.old)
+        (attention (F.told life.new) (F.child life.new) standing.new) }
+    ensures heeded { IfErr result (λ cause. IsHeeded cause
+        (attention (F.told life.new) (F.child life.new) standing.new)) }
 {
     // A cancel that was taken before this query isn't for it.
     standing.cancel = false;
@@ -85,12 +90,17 @@ fn script_answer<R: Wait, S: Store, C: Clock, F: Life>(
 ) -> Result<Answer, Cause>
     requires admits { S.admits store.old pass.old }
     requires attentive { IsAttentive (attention (F.told life.old) (F.child life.old) standing.old) }
-    ensures notes { (entries : List BookEntry) × S.notes entries store.old store.new × ScriptNotes (user_of (S.stamp store.old) (S.view pass.old)) script.now result entries }
-    ensures fit { IfOk result (λ answer. (text : List ℕ) → IsFit text answer (attention (F.told life.new) (F.child life.new) standing.new)) }
+    ensures notes { (entries : List BookEntry) × S.notes entries store.old store.new
+        × ScriptNotes (user_of (S.stamp store.old) (S.view pass.old)) script.now result entries }
+    ensures fit { IfOk result (λ answer. (text : List ℕ)
+        → IsFit text answer (attention (F.told life.new) (F.child life.new) standing.new)) }
     ensures admits { S.admits store.new pass.new }
-    ensures user { user_of (S.stamp store.new) (S.view pass.new) ≡ user_of (S.stamp store.old) (S.view pass.old) }
-    ensures hears { Hears 0 (attention (F.told life.old) (F.child life.old) standing.old) (attention (F.told life.new) (F.child life.new) standing.new) }
-    ensures heeded { IfErr result (λ cause. IsHeeded cause (attention (F.told life.new) (F.child life.new) standing.new)) }
+    ensures user { user_of (S.stamp store.new) (S.view pass.new) ≡ user_of (S.stamp store.old)
+        (S.view pass.old) }
+    ensures hears { Hears 0 (attention (F.told life.old) (F.child life.old) standing.old)
+        (attention (F.told life.new) (F.child life.new) standing.new) }
+    ensures heeded { IfErr result (λ cause. IsHeeded cause
+        (attention (F.told life.new) (F.child life.new) standing.new)) }
 {
     match sleep(rt, clock, life, standing, script.sleep_seconds())? {
         Slept::Cancelled => Ok(Answer::Cancelled),
@@ -107,8 +117,10 @@ fn sleep<R: Wait, C: Clock, F: Life>(
     seconds: u64,
 ) -> Result<Slept, Cause>
     requires { IsAttentive (attention (F.told life.old) (F.child life.old) standing.old) }
-    ensures goes { SleepGoes (C.gives clock.now) seconds result (attention (F.told life.new) (F.child life.new) standing.new) }
-    ensures hears { Hears 1 (attention (F.told life.old) (F.child life.old) standing.old) (attention (F.told life.new) (F.child life.new) standing.new) }
+    ensures goes { SleepGoes (C.gives clock.now) seconds result
+        (attention (F.told life.new) (F.child life.new) standing.new) }
+    ensures hears { Hears 1 (attention (F.told life.old) (F.child life.old) standing.old)
+        (attention (F.told life.new) (F.child life.new) standing.new) }
 {
     let end = clock.now().saturating_add(seconds.saturating_mul(1000));
     for _ in rt.forever() {
@@ -139,12 +151,17 @@ fn run<R: Wait, S: Store, C: Clock, F: Life>(
 ) -> Result<Answer, Cause>
     requires admits { S.admits store.old pass.old }
     requires attentive { IsAttentive (attention (F.told life.old) (F.child life.old) standing.old) }
-    ensures notes { (entries : List BookEntry) × S.notes entries store.old store.new × ScriptNotes (user_of (S.stamp store.old) (S.view pass.old)) script.now result entries }
-    ensures fit { IfOk result (λ answer. (text : List ℕ) → IsFit text answer (attention (F.told life.new) (F.child life.new) standing.new)) }
+    ensures notes { (entries : List BookEntry) × S.notes entries store.old store.new
+        × ScriptNotes (user_of (S.stamp store.old) (S.view pass.old)) script.now result entries }
+    ensures fit { IfOk result (λ answer. (text : List ℕ)
+        → IsFit text answer (attention (F.told life.new) (F.child life.new) standing.new)) }
     ensures admits { S.admits store.new pass.new }
-    ensures user { user_of (S.stamp store.new) (S.view pass.new) ≡ user_of (S.stamp store.old) (S.view pass.old) }
-    ensures hears { Hears 0 (attention (F.told life.old) (F.child life.old) standing.old) (attention (F.told life.new) (F.child life.new) standing.new) }
-    ensures heeded { IfErr result (λ cause. IsHeeded cause (attention (F.told life.new) (F.child life.new) standing.new)) }
+    ensures user { user_of (S.stamp store.new) (S.view pass.new) ≡ user_of (S.stamp store.old)
+        (S.view pass.old) }
+    ensures hears { Hears 0 (attention (F.told life.old) (F.child life.old) standing.old)
+        (attention (F.told life.new) (F.child life.new) standing.new) }
+    ensures heeded { IfErr result (λ cause. IsHeeded cause
+        (attention (F.told life.new) (F.child life.new) standing.new)) }
 {
     match store.run(pass, script) {
         Ok(staged) => release(rt, clock, life, standing, store, pass, staged),

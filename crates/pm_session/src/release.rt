@@ -74,9 +74,12 @@ pub(crate) fn release<R: Wait, S: Store, C: Clock, F: Life>(
     ensures notes { (entries : List BookEntry) × S.notes entries store.old store.new
         × ReleaseNotes (user_of (S.stamp store.old) (S.view pass.old)) staged result entries }
     ensures admits { S.admits store.new pass.new }
-    ensures user { user_of (S.stamp store.new) (S.view pass.new) ≡ user_of (S.stamp store.old) (S.view pass.old) }
-    ensures hears { Hears 0 (attention (F.told life.old) (F.child life.old) standing.old) (attention (F.told life.new) (F.child life.new) standing.new) }
-    ensures heeded { IfErr result (λ cause. IsHeeded cause (attention (F.told life.new) (F.child life.new) standing.new)) }
+    ensures user { user_of (S.stamp store.new) (S.view pass.new) ≡ user_of (S.stamp store.old)
+        (S.view pass.old) }
+    ensures hears { Hears 0 (attention (F.told life.old) (F.child life.old) standing.old)
+        (attention (F.told life.new) (F.child life.new) standing.new) }
+    ensures heeded { IfErr result (λ cause. IsHeeded cause
+        (attention (F.told life.new) (F.child life.new) standing.new)) }
 {
     match await_flush(rt, clock, life, standing, store, pass, staged.front)? {
         Awaited::Flushed => {
@@ -103,9 +106,12 @@ fn await_flush<R: Wait, S: Store, C: Clock, F: Life>(
     ensures notes { (entries : List BookEntry) × S.notes entries store.old store.new
         × WaitNotes (user_of (S.stamp store.old) (S.view pass.old)) front result entries }
     ensures admits { S.admits store.new pass.new }
-    ensures user { user_of (S.stamp store.new) (S.view pass.new) ≡ user_of (S.stamp store.old) (S.view pass.old) }
-    ensures hears { Hears 0 (attention (F.told life.old) (F.child life.old) standing.old) (attention (F.told life.new) (F.child life.new) standing.new) }
-    ensures heeded { IfErr result (λ cause. IsHeeded cause (attention (F.told life.new) (F.child life.new) standing.new)) }
+    ensures user { user_of (S.stamp store.new) (S.view pass.new) ≡ user_of (S.stamp store.old)
+        (S.view pass.old) }
+    ensures hears { Hears 0 (attention (F.told life.old) (F.child life.old) standing.old)
+        (attention (F.told life.new) (F.child life.new) standing.new) }
+    ensures heeded { IfErr result (λ cause. IsHeeded cause
+        (attention (F.told life.new) (F.child life.new) standing.new)) }
 {
     for _ in rt.forever() {
         match store.seen(pass, front) {

@@ -46,11 +46,15 @@ pub(crate) fn say_answer<L: Link, F: Life>(
     outbox: &mut Outbox,
     answer: &Answer,
 ) -> Result<(), Cause>
-    requires ready { IsReady (desk (link_view (L.traffic link.old) (L.number link.old) (L.faults link.old)) outbox.old (attention (F.told life.old) (F.child life.old) standing.old)) }
+    requires ready { IsReady (desk (link_view (L.traffic link.old) (L.number link.old)
+        (L.faults link.old)) outbox.old (attention (F.told life.old) (F.child life.old)
+        standing.old)) }
     requires sayable { IsSayable answer.now }
     ensures says { Says result (piece_of answer.now)
-        (desk (link_view (L.traffic link.old) (L.number link.old) (L.faults link.old)) outbox.old (attention (F.told life.old) (F.child life.old) standing.old))
-        (desk (link_view (L.traffic link.new) (L.number link.new) (L.faults link.new)) outbox.new (attention (F.told life.new) (F.child life.new) standing.new)) }
+        (desk (link_view (L.traffic link.old) (L.number link.old) (L.faults link.old)) outbox.old
+        (attention (F.told life.old) (F.child life.old) standing.old))
+        (desk (link_view (L.traffic link.new) (L.number link.new) (L.faults link.new)) outbox.new
+        (attention (F.told life.new) (F.child life.new) standing.new)) }
     ensures empty { OnOk result (outbox.new.bytes ≡ []) }
 {
     say_piece(link, life, standing, outbox, answer)?;
@@ -64,10 +68,14 @@ fn flush<L: Link, F: Life>(
     standing: &mut Standing,
     outbox: &mut Outbox,
 ) -> Result<(), Cause>
-    requires ready { IsReady (desk (link_view (L.traffic link.old) (L.number link.old) (L.faults link.old)) outbox.old (attention (F.told life.old) (F.child life.old) standing.old)) }
-    ensures says { Says result []
-        (desk (link_view (L.traffic link.old) (L.number link.old) (L.faults link.old)) outbox.old (attention (F.told life.old) (F.child life.old) standing.old))
-        (desk (link_view (L.traffic link.new) (L.number link.new) (L.faults link.new)) outbox.new (attention (F.told life.new) (F.child life.new) standing.new)) }
+    requires ready { IsReady (desk (link_view (L.traffic link.old) (L.number link.old)
+        (L.faults link.old)) outbox.old (attention (F.told life.old) (F.child life.old)
+        standing.old)) }
+    ensures says { Says result [] (desk (link_view (L.traffic link.old) (L.number link.old)
+        (L.faults link.old)) outbox.old (attention (F.told life.old) (F.child life.old)
+        standing.old)) (desk (link_view (L.traffic link.new) (L.number link.new)
+        (L.faults link.new)) outbox.new (attention (F.told life.new) (F.child life.new)
+        standing.new)) }
     ensures empty { OnOk result (outbox.new.bytes ≡ []) }
 {
     send(link, life, standing, outbox.as_slice())?;
@@ -83,11 +91,15 @@ fn say_piece<L: Link, F: Life>(
     outbox: &mut Outbox,
     answer: &Answer,
 ) -> Result<(), Cause>
-    requires ready { IsReady (desk (link_view (L.traffic link.old) (L.number link.old) (L.faults link.old)) outbox.old (attention (F.told life.old) (F.child life.old) standing.old)) }
+    requires ready { IsReady (desk (link_view (L.traffic link.old) (L.number link.old)
+        (L.faults link.old)) outbox.old (attention (F.told life.old) (F.child life.old)
+        standing.old)) }
     requires sayable { IsSayable answer.now }
     ensures says { Says result (piece_of answer.now)
-        (desk (link_view (L.traffic link.old) (L.number link.old) (L.faults link.old)) outbox.old (attention (F.told life.old) (F.child life.old) standing.old))
-        (desk (link_view (L.traffic link.new) (L.number link.new) (L.faults link.new)) outbox.new (attention (F.told life.new) (F.child life.new) standing.new)) }
+        (desk (link_view (L.traffic link.old) (L.number link.old) (L.faults link.old)) outbox.old
+        (attention (F.told life.old) (F.child life.old) standing.old))
+        (desk (link_view (L.traffic link.new) (L.number link.new) (L.faults link.new)) outbox.new
+        (attention (F.told life.new) (F.child life.new) standing.new)) }
 {
     match answer {
         Answer::Ran(released) => say_reply(link, life, standing, outbox, released),
@@ -114,11 +126,15 @@ fn say_reply<L: Link, F: Life>(
     outbox: &mut Outbox,
     released: &Released,
 ) -> Result<(), Cause>
-    requires ready { IsReady (desk (link_view (L.traffic link.old) (L.number link.old) (L.faults link.old)) outbox.old (attention (F.told life.old) (F.child life.old) standing.old)) }
+    requires ready { IsReady (desk (link_view (L.traffic link.old) (L.number link.old)
+        (L.faults link.old)) outbox.old (attention (F.told life.old) (F.child life.old)
+        standing.old)) }
     requires short { All HasShortValues released.now }
     ensures says { Says result (flat_map item_messages released.now ++ Ready ∷ [])
-        (desk (link_view (L.traffic link.old) (L.number link.old) (L.faults link.old)) outbox.old (attention (F.told life.old) (F.child life.old) standing.old))
-        (desk (link_view (L.traffic link.new) (L.number link.new) (L.faults link.new)) outbox.new (attention (F.told life.new) (F.child life.new) standing.new)) }
+        (desk (link_view (L.traffic link.old) (L.number link.old) (L.faults link.old)) outbox.old
+        (attention (F.told life.old) (F.child life.old) standing.old))
+        (desk (link_view (L.traffic link.new) (L.number link.new) (L.faults link.new)) outbox.new
+        (attention (F.told life.new) (F.child life.new) standing.new)) }
 {
     for item in released.reply().items() {
         say_item(link, life, standing, outbox, item)?;
@@ -135,11 +151,15 @@ fn say_fault<L: Link, F: Life>(
     fault: SqlFault,
     message: &str,
 ) -> Result<(), Cause>
-    requires ready { IsReady (desk (link_view (L.traffic link.old) (L.number link.old) (L.faults link.old)) outbox.old (attention (F.told life.old) (F.child life.old) standing.old)) }
+    requires ready { IsReady (desk (link_view (L.traffic link.old) (L.number link.old)
+        (L.faults link.old)) outbox.old (attention (F.told life.old) (F.child life.old)
+        standing.old)) }
     requires text { HasNoZero message.now × (length message.now ≤ 65573) }
     ensures says { Says result (error (fault_state fault) message.now None ∷ Ready ∷ [])
-        (desk (link_view (L.traffic link.old) (L.number link.old) (L.faults link.old)) outbox.old (attention (F.told life.old) (F.child life.old) standing.old))
-        (desk (link_view (L.traffic link.new) (L.number link.new) (L.faults link.new)) outbox.new (attention (F.told life.new) (F.child life.new) standing.new)) }
+        (desk (link_view (L.traffic link.old) (L.number link.old) (L.faults link.old)) outbox.old
+        (attention (F.told life.old) (F.child life.old) standing.old))
+        (desk (link_view (L.traffic link.new) (L.number link.new) (L.faults link.new)) outbox.new
+        (attention (F.told life.new) (F.child life.new) standing.new)) }
 {
     let report = Report {
         severity: Severity::Error,
@@ -181,10 +201,14 @@ fn say_refusal<L: Link, F: Life>(
     outbox: &mut Outbox,
     fixed: Fixed,
 ) -> Result<(), Cause>
-    requires ready { IsReady (desk (link_view (L.traffic link.old) (L.number link.old) (L.faults link.old)) outbox.old (attention (F.told life.old) (F.child life.old) standing.old)) }
+    requires ready { IsReady (desk (link_view (L.traffic link.old) (L.number link.old)
+        (L.faults link.old)) outbox.old (attention (F.told life.old) (F.child life.old)
+        standing.old)) }
     ensures says { Says result (fixed_message fixed ∷ Ready ∷ [])
-        (desk (link_view (L.traffic link.old) (L.number link.old) (L.faults link.old)) outbox.old (attention (F.told life.old) (F.child life.old) standing.old))
-        (desk (link_view (L.traffic link.new) (L.number link.new) (L.faults link.new)) outbox.new (attention (F.told life.new) (F.child life.new) standing.new)) }
+        (desk (link_view (L.traffic link.old) (L.number link.old) (L.faults link.old)) outbox.old
+        (attention (F.told life.old) (F.child life.old) standing.old))
+        (desk (link_view (L.traffic link.new) (L.number link.new) (L.faults link.new)) outbox.new
+        (attention (F.told life.new) (F.child life.new) standing.new)) }
 {
     say_told(link, life, standing, outbox, Condition::Fixed(fixed))?;
     say_plain(link, life, standing, outbox, Back::Ready)
@@ -198,11 +222,15 @@ fn say_item<L: Link, F: Life>(
     outbox: &mut Outbox,
     item: &Item,
 ) -> Result<(), Cause>
-    requires ready { IsReady (desk (link_view (L.traffic link.old) (L.number link.old) (L.faults link.old)) outbox.old (attention (F.told life.old) (F.child life.old) standing.old)) }
+    requires ready { IsReady (desk (link_view (L.traffic link.old) (L.number link.old)
+        (L.faults link.old)) outbox.old (attention (F.told life.old) (F.child life.old)
+        standing.old)) }
     requires short { HasShortValues item.now }
     ensures says { Says result (item_messages item.now)
-        (desk (link_view (L.traffic link.old) (L.number link.old) (L.faults link.old)) outbox.old (attention (F.told life.old) (F.child life.old) standing.old))
-        (desk (link_view (L.traffic link.new) (L.number link.new) (L.faults link.new)) outbox.new (attention (F.told life.new) (F.child life.new) standing.new)) }
+        (desk (link_view (L.traffic link.old) (L.number link.old) (L.faults link.old)) outbox.old
+        (attention (F.told life.old) (F.child life.old) standing.old))
+        (desk (link_view (L.traffic link.new) (L.number link.new) (L.faults link.new)) outbox.new
+        (attention (F.told life.new) (F.child life.new) standing.new)) }
 {
     match item {
         Item::Empty => say_plain(link, life, standing, outbox, Back::Empty),
@@ -256,11 +284,15 @@ fn say_rows<L: Link, F: Life>(
     outbox: &mut Outbox,
     rows: &[(i64, Text)],
 ) -> Result<(), Cause>
-    requires ready { IsReady (desk (link_view (L.traffic link.old) (L.number link.old) (L.faults link.old)) outbox.old (attention (F.told life.old) (F.child life.old) standing.old)) }
+    requires ready { IsReady (desk (link_view (L.traffic link.old) (L.number link.old)
+        (L.faults link.old)) outbox.old (attention (F.told life.old) (F.child life.old)
+        standing.old)) }
     requires short { All IsShortRow rows.now }
     ensures says { Says result (row_messages rows.now)
-        (desk (link_view (L.traffic link.old) (L.number link.old) (L.faults link.old)) outbox.old (attention (F.told life.old) (F.child life.old) standing.old))
-        (desk (link_view (L.traffic link.new) (L.number link.new) (L.faults link.new)) outbox.new (attention (F.told life.new) (F.child life.new) standing.new)) }
+        (desk (link_view (L.traffic link.old) (L.number link.old) (L.faults link.old)) outbox.old
+        (attention (F.told life.old) (F.child life.old) standing.old))
+        (desk (link_view (L.traffic link.new) (L.number link.new) (L.faults link.new)) outbox.new
+        (attention (F.told life.new) (F.child life.new) standing.new)) }
 {
     say_plain(link, life, standing, outbox, Back::Fields(Shape::Pair))?;
     for (key, value) in rows {
@@ -284,11 +316,15 @@ fn say_row<L: Link, F: Life>(
     key: i64,
     value: &str,
 ) -> Result<(), Cause>
-    requires ready { IsReady (desk (link_view (L.traffic link.old) (L.number link.old) (L.faults link.old)) outbox.old (attention (F.told life.old) (F.child life.old) standing.old)) }
+    requires ready { IsReady (desk (link_view (L.traffic link.old) (L.number link.old)
+        (L.faults link.old)) outbox.old (attention (F.told life.old) (F.child life.old)
+        standing.old)) }
     requires short { length value.now ≤ 8192 }
     ensures says { Says result (Pair key value.now ∷ [])
-        (desk (link_view (L.traffic link.old) (L.number link.old) (L.faults link.old)) outbox.old (attention (F.told life.old) (F.child life.old) standing.old))
-        (desk (link_view (L.traffic link.new) (L.number link.new) (L.faults link.new)) outbox.new (attention (F.told life.new) (F.child life.new) standing.new)) }
+        (desk (link_view (L.traffic link.old) (L.number link.old) (L.faults link.old)) outbox.old
+        (attention (F.told life.old) (F.child life.old) standing.old))
+        (desk (link_view (L.traffic link.new) (L.number link.new) (L.faults link.new)) outbox.new
+        (attention (F.told life.new) (F.child life.new) standing.new)) }
 {
     back_messages_have_a_longest();
     say(
@@ -309,10 +345,14 @@ fn say_count<L: Link, F: Life>(
     outbox: &mut Outbox,
     count: u64,
 ) -> Result<(), Cause>
-    requires ready { IsReady (desk (link_view (L.traffic link.old) (L.number link.old) (L.faults link.old)) outbox.old (attention (F.told life.old) (F.child life.old) standing.old)) }
+    requires ready { IsReady (desk (link_view (L.traffic link.old) (L.number link.old)
+        (L.faults link.old)) outbox.old (attention (F.told life.old) (F.child life.old)
+        standing.old)) }
     ensures says { Says result (item_messages (items.Count count))
-        (desk (link_view (L.traffic link.old) (L.number link.old) (L.faults link.old)) outbox.old (attention (F.told life.old) (F.child life.old) standing.old))
-        (desk (link_view (L.traffic link.new) (L.number link.new) (L.faults link.new)) outbox.new (attention (F.told life.new) (F.child life.new) standing.new)) }
+        (desk (link_view (L.traffic link.old) (L.number link.old) (L.faults link.old)) outbox.old
+        (attention (F.told life.old) (F.child life.old) standing.old))
+        (desk (link_view (L.traffic link.new) (L.number link.new) (L.faults link.new)) outbox.new
+        (attention (F.told life.new) (F.child life.new) standing.new)) }
 {
     let mut digits = Buffer::new();
     say_one(
@@ -334,11 +374,15 @@ fn say_one<L: Link, F: Life>(
     shape: Shape,
     text: &str,
 ) -> Result<(), Cause>
-    requires ready { IsReady (desk (link_view (L.traffic link.old) (L.number link.old) (L.faults link.old)) outbox.old (attention (F.told life.old) (F.child life.old) standing.old)) }
+    requires ready { IsReady (desk (link_view (L.traffic link.old) (L.number link.old)
+        (L.faults link.old)) outbox.old (attention (F.told life.old) (F.child life.old)
+        standing.old)) }
     requires short { length text.now ≤ 40 }
     ensures says { Says result (Fields shape ∷ One text.now ∷ Complete (tags.Select 1) ∷ [])
-        (desk (link_view (L.traffic link.old) (L.number link.old) (L.faults link.old)) outbox.old (attention (F.told life.old) (F.child life.old) standing.old))
-        (desk (link_view (L.traffic link.new) (L.number link.new) (L.faults link.new)) outbox.new (attention (F.told life.new) (F.child life.new) standing.new)) }
+        (desk (link_view (L.traffic link.old) (L.number link.old) (L.faults link.old)) outbox.old
+        (attention (F.told life.old) (F.child life.old) standing.old))
+        (desk (link_view (L.traffic link.new) (L.number link.new) (L.faults link.new)) outbox.new
+        (attention (F.told life.new) (F.child life.new) standing.new)) }
 {
     say_plain(link, life, standing, outbox, Back::Fields(shape))?;
     say_plain(link, life, standing, outbox, Back::One { text })?;
@@ -353,12 +397,16 @@ fn say_told<L: Link, F: Life>(
     outbox: &mut Outbox,
     condition: Condition,
 ) -> Result<(), Cause>
-    requires ready { IsReady (desk (link_view (L.traffic link.old) (L.number link.old) (L.faults link.old)) outbox.old (attention (F.told life.old) (F.child life.old) standing.old)) }
+    requires ready { IsReady (desk (link_view (L.traffic link.old) (L.number link.old)
+        (L.faults link.old)) outbox.old (attention (F.told life.old) (F.child life.old)
+        standing.old)) }
     requires given { IsGiven condition }
     requires short { longest_told condition ≤ 140 }
     ensures says { Says result (told condition.entry ∷ [])
-        (desk (link_view (L.traffic link.old) (L.number link.old) (L.faults link.old)) outbox.old (attention (F.told life.old) (F.child life.old) standing.old))
-        (desk (link_view (L.traffic link.new) (L.number link.new) (L.faults link.new)) outbox.new (attention (F.told life.new) (F.child life.new) standing.new)) }
+        (desk (link_view (L.traffic link.old) (L.number link.old) (L.faults link.old)) outbox.old
+        (attention (F.told life.old) (F.child life.old) standing.old))
+        (desk (link_view (L.traffic link.new) (L.number link.new) (L.faults link.new)) outbox.new
+        (attention (F.told life.new) (F.child life.new) standing.new)) }
 {
     conditions_can_be_told();
     say(
@@ -379,13 +427,17 @@ fn say_plain<L: Link, F: Life>(
     outbox: &mut Outbox,
     message: Back,
 ) -> Result<(), Cause>
-    requires ready { IsReady (desk (link_view (L.traffic link.old) (L.number link.old) (L.faults link.old)) outbox.old (attention (F.told life.old) (F.child life.old) standing.old)) }
+    requires ready { IsReady (desk (link_view (L.traffic link.old) (L.number link.old)
+        (L.faults link.old)) outbox.old (attention (F.told life.old) (F.child life.old)
+        standing.old)) }
     requires writable { IsWritable (back_message message) }
     requires sizes { HasSizes (back_message message) }
     requires short { longest (back_message message) ≤ 140 }
     ensures says { Says result (back_message message.entry ∷ [])
-        (desk (link_view (L.traffic link.old) (L.number link.old) (L.faults link.old)) outbox.old (attention (F.told life.old) (F.child life.old) standing.old))
-        (desk (link_view (L.traffic link.new) (L.number link.new) (L.faults link.new)) outbox.new (attention (F.told life.new) (F.child life.new) standing.new)) }
+        (desk (link_view (L.traffic link.old) (L.number link.old) (L.faults link.old)) outbox.old
+        (attention (F.told life.old) (F.child life.old) standing.old))
+        (desk (link_view (L.traffic link.new) (L.number link.new) (L.faults link.new)) outbox.new
+        (attention (F.told life.new) (F.child life.new) standing.new)) }
 {
     back_messages_have_a_longest();
     say(link, life, standing, outbox, message, SHORT_MESSAGE)
@@ -400,13 +452,17 @@ fn say<L: Link, F: Life>(
     message: Back,
     most: usize,
 ) -> Result<(), Cause>
-    requires ready { IsReady (desk (link_view (L.traffic link.old) (L.number link.old) (L.faults link.old)) outbox.old (attention (F.told life.old) (F.child life.old) standing.old)) }
+    requires ready { IsReady (desk (link_view (L.traffic link.old) (L.number link.old)
+        (L.faults link.old)) outbox.old (attention (F.told life.old) (F.child life.old)
+        standing.old)) }
     requires writable { IsWritable (back_message message) }
     requires most { length (spelling (back_message message)) ≤ most }
     requires fits { most ≤ 66048 }
     ensures says { Says result (back_message message.entry ∷ [])
-        (desk (link_view (L.traffic link.old) (L.number link.old) (L.faults link.old)) outbox.old (attention (F.told life.old) (F.child life.old) standing.old))
-        (desk (link_view (L.traffic link.new) (L.number link.new) (L.faults link.new)) outbox.new (attention (F.told life.new) (F.child life.new) standing.new)) }
+        (desk (link_view (L.traffic link.old) (L.number link.old) (L.faults link.old)) outbox.old
+        (attention (F.told life.old) (F.child life.old) standing.old))
+        (desk (link_view (L.traffic link.new) (L.number link.new) (L.faults link.new)) outbox.new
+        (attention (F.told life.new) (F.child life.new) standing.new)) }
 {
     make_room(link, life, standing, outbox, most)?;
     message.put(outbox);
@@ -421,11 +477,15 @@ fn make_room<L: Link, F: Life>(
     outbox: &mut Outbox,
     most: usize,
 ) -> Result<(), Cause>
-    requires ready { IsReady (desk (link_view (L.traffic link.old) (L.number link.old) (L.faults link.old)) outbox.old (attention (F.told life.old) (F.child life.old) standing.old)) }
+    requires ready { IsReady (desk (link_view (L.traffic link.old) (L.number link.old)
+        (L.faults link.old)) outbox.old (attention (F.told life.old) (F.child life.old)
+        standing.old)) }
     requires fits { most ≤ 66048 }
-    ensures says { Says result []
-        (desk (link_view (L.traffic link.old) (L.number link.old) (L.faults link.old)) outbox.old (attention (F.told life.old) (F.child life.old) standing.old))
-        (desk (link_view (L.traffic link.new) (L.number link.new) (L.faults link.new)) outbox.new (attention (F.told life.new) (F.child life.new) standing.new)) }
+    ensures says { Says result [] (desk (link_view (L.traffic link.old) (L.number link.old)
+        (L.faults link.old)) outbox.old (attention (F.told life.old) (F.child life.old)
+        standing.old)) (desk (link_view (L.traffic link.new) (L.number link.new)
+        (L.faults link.new)) outbox.new (attention (F.told life.new) (F.child life.new)
+        standing.new)) }
     ensures room { OnOk result (most ≤ room outbox.new) }
 {
     if most <= outbox.room() {

@@ -76,10 +76,12 @@ pub fn serve<R: Wait, L: Link, S: Store, C: Clock, F: Life>(
     // status.
     ensures session { (ending : Ending) × (turns : List Turn) × (generation : ℕ)
         × (result.status ≡ status_of ending)
-        × IsSession S.notes decision (newcomer (S.stamp store.old) (F.child life.old).pid generation) key turns ending (Rose (L.faults link) (L.faults result.link))
+        × IsSession S.notes decision (newcomer (S.stamp store.old) (F.child life.old).pid
+        generation) key turns ending (Rose (L.faults link) (L.faults result.link))
         (between (L.traffic result.link) store.old store.new)
-        × IsCaused ending turns generation decision (L.traffic result.link) (Rose (L.faults link) (L.faults result.link)) (F.told life.new) conf.now.authentication_ms (C.gives clock.now)
-        × HasAskedFor turns (F.told life.old) (F.told life.new)
+        × IsCaused ending turns generation decision (L.traffic result.link)
+        (Rose (L.faults link) (L.faults result.link)) (F.told life.new) conf.now.authentication_ms
+        (C.gives clock.now) × HasAskedFor turns (F.told life.old) (F.told life.new)
         × IsAttachedBehind ending (F.child life.new) }
     // What it was given it has heeded.
     ensures heeds { Heeds result.status (F.told life.new) }
@@ -110,13 +112,14 @@ fn session<R: Wait, L: Link, S: Store, C: Clock, F: Life>(
     requires may { decision ≡ Cac.Ok → ¬ (IsTrue (F.child life.old).is_dead_end) }
     requires untold { IfSome (F.told life.old) (λ told. told ≡ nothing_told) }
     ensures session { (ending : Ending) × (turns : List Turn) × (generation : ℕ)
-        × (ending.exit ≡ result)
-        × IsSession S.notes decision (newcomer (S.stamp store.old) (F.child life.old).pid generation) key turns ending (Rose (L.faults link.old) (L.faults link.new))
+        × (ending.exit ≡ result) × IsSession S.notes decision
+        (newcomer (S.stamp store.old) (F.child life.old).pid generation) key turns ending
+        (Rose (L.faults link.old) (L.faults link.new))
         (between (L.traffic link.new) store.old store.new)
-        × ((limit : ℕ) → IsCaused ending turns generation decision (L.traffic link.new) (Rose (L.faults link.old) (L.faults link.new)) (F.told life.new) limit (C.gives clock.now))
+        × ((limit : ℕ) → IsCaused ending turns generation decision (L.traffic link.new)
+        (Rose (L.faults link.old) (L.faults link.new)) (F.told life.new) limit (C.gives clock.now))
         × HasAskedFor turns (F.told life.old) (F.told life.new)
-        × IsAttachedBehind ending (F.child life.new)
-        × Heeds (status_of ending) (F.told life.new) }
+        × IsAttachedBehind ending (F.child life.new) × Heeds (status_of ending) (F.told life.new) }
     ensures number { L.number link.new ≡ L.number link.old }
     ensures link_faults { L.faults link.old ≤ L.faults link.new }
 {
@@ -172,10 +175,15 @@ fn admit<R: Wait, L: Link, S: Store, C: Clock, F: Life>(
     requires attentive { IsAttentive (attention (F.told life.old) (F.child life.old) standing.old) }
     requires empty { outbox.old.bytes ≡ [] }
     requires room { 66048 ≤ outbox.old.capacity }
-    ensures serves { (ending : Ending) × (generation : ℕ) × (ending.exit ≡ result) × IsAttachedBehind ending (F.child life.new)
-        × Serves S.notes (IsTextBehind decision (newcomer (S.stamp store.old) (F.child life.old).pid generation) key) decision generation (C.gives clock.now) ending
-        (moment (link_view (L.traffic link.old) (L.number link.old) (L.faults link.old)) inbox.old store.old (attention (F.told life.old) (F.child life.old) standing.old))
-        (moment (link_view (L.traffic link.new) (L.number link.new) (L.faults link.new)) inbox.new store.new (attention (F.told life.new) (F.child life.new) standing.new)) }
+    ensures serves { (ending : Ending) × (generation : ℕ) × (ending.exit ≡ result)
+        × IsAttachedBehind ending (F.child life.new)
+        × Serves S.notes (IsTextBehind decision
+        (newcomer (S.stamp store.old) (F.child life.old).pid generation) key) decision generation
+        (C.gives clock.now) ending (moment
+        (link_view (L.traffic link.old) (L.number link.old) (L.faults link.old)) inbox.old store.old
+        (attention (F.told life.old) (F.child life.old) standing.old))
+        (moment (link_view (L.traffic link.new) (L.number link.new) (L.faults link.new)) inbox.new
+        store.new (attention (F.told life.new) (F.child life.new) standing.new)) }
 {
     let Cac::Ok = decision else {
         return close(
@@ -244,9 +252,13 @@ fn attached<R: Wait, L: Link, S: Store, C: Clock, F: Life>(
     requires empty { outbox.old.bytes ≡ [] }
     requires room { 66048 ≤ outbox.old.capacity }
     ensures serves { (ending : Ending) × (ending.exit ≡ result)
-        × Serves S.notes (IsTextBehind decision (newcomer (S.stamp store.old) (F.child life.old).pid generation) key) decision generation (C.gives clock.now) ending
-        (moment (link_view (L.traffic link.old) (L.number link.old) (L.faults link.old)) inbox.old store.old (attention (F.told life.old) (F.child life.old) standing.old))
-        (moment (link_view (L.traffic link.new) (L.number link.new) (L.faults link.new)) inbox.new store.new (attention (F.told life.new) (F.child life.new) standing.new)) }
+        × Serves S.notes (IsTextBehind decision
+        (newcomer (S.stamp store.old) (F.child life.old).pid generation) key) decision generation
+        (C.gives clock.now) ending (moment
+        (link_view (L.traffic link.old) (L.number link.old) (L.faults link.old)) inbox.old store.old
+        (attention (F.told life.old) (F.child life.old) standing.old))
+        (moment (link_view (L.traffic link.new) (L.number link.new) (L.faults link.new)) inbox.new
+        store.new (attention (F.told life.new) (F.child life.new) standing.new)) }
     ensures child { F.child life.new ≡ F.child life.old }
 {
     listen(life, standing);
@@ -319,17 +331,22 @@ fn entered<R: Wait, L: Link, S: Store, C: Clock, F: Life>(
     requires admitted { decision ≡ Cac.Ok }
     requires admits { S.admits store.old pass.old }
     requires pid { pid ≡ (S.view pass.old).pid }
-    requires met { IfSome (F.told life.old) (λ told. told.met ≡ Some (Ok (S.view pass.old).generation)) }
+    requires met { IfSome (F.told life.old) (λ told. told.met ≡ Some
+        (Ok (S.view pass.old).generation)) }
     requires attentive { IsAttentive (attention (F.told life.old) (F.child life.old) standing.old) }
     requires empty { outbox.old.bytes ≡ [] }
     requires room { 66048 ≤ outbox.old.capacity }
     ensures serves { (ending : Ending) × (ending.exit ≡ result)
-        × Serves S.notes (IsTextInside decision (user_of (S.stamp store.old) (S.view pass.old)) key) decision (S.view pass.old).generation (C.gives clock.now) ending
-        (moment (link_view (L.traffic link.old) (L.number link.old) (L.faults link.old)) inbox.old store.old (attention (F.told life.old) (F.child life.old) standing.old))
-        (moment (link_view (L.traffic link.new) (L.number link.new) (L.faults link.new)) inbox.new store.new (attention (F.told life.new) (F.child life.new) standing.new)) }
+        × Serves S.notes (IsTextInside decision (user_of (S.stamp store.old) (S.view pass.old)) key)
+        decision (S.view pass.old).generation (C.gives clock.now) ending
+        (moment (link_view (L.traffic link.old) (L.number link.old) (L.faults link.old)) inbox.old
+        store.old (attention (F.told life.old) (F.child life.old) standing.old))
+        (moment (link_view (L.traffic link.new) (L.number link.new) (L.faults link.new)) inbox.new
+        store.new (attention (F.told life.new) (F.child life.new) standing.new)) }
     ensures child { F.child life.new ≡ F.child life.old }
     ensures admits { S.admits store.new pass.new }
-    ensures user { user_of (S.stamp store.new) (S.view pass.new) ≡ user_of (S.stamp store.old) (S.view pass.old) }
+    ensures user { user_of (S.stamp store.new) (S.view pass.new) ≡ user_of (S.stamp store.old)
+        (S.view pass.old) }
 {
     greet(outbox, pid, key);
     let cause = match send(link, life, standing, outbox.as_slice()) {

@@ -43,9 +43,11 @@ pub fn startup<R: Wait, L: Link, C: Clock, F: Life>(
 ) -> Result<(), Cause>
     requires attentive { IsAttentive (attention (F.told life.old) (F.child life.old) standing.old) }
     requires empty { inbox.old ≡ [] }
-    ensures enters { Enters result
-        (outside (link_view (L.traffic link.old) (L.number link.old) (L.faults link.old)) inbox.old (attention (F.told life.old) (F.child life.old) standing.old))
-        (outside (link_view (L.traffic link.new) (L.number link.new) (L.faults link.new)) inbox.new (attention (F.told life.new) (F.child life.new) standing.new)) }
+    ensures enters { Enters result (outside (link_view (L.traffic link.old) (L.number link.old)
+        (L.faults link.old)) inbox.old (attention (F.told life.old) (F.child life.old)
+        standing.old)) (outside (link_view (L.traffic link.new) (L.number link.new)
+        (L.faults link.new)) inbox.new (attention (F.told life.new) (F.child life.new)
+        standing.new)) }
 {
     let mut phase = Phase {
         ssl_used: false,
@@ -86,7 +88,8 @@ fn asked_by(phase: Phase, bytes: &[u8]) -> Ask
 
 // What a packet of so many bytes asks for.
 fn asked_by_packet(phase: Phase, packet: &Packet, used: usize) -> Ask
-    ensures { (bytes : List ℕ) → FrontDecides bytes used (Ok (content_of packet.now)) → AsksFor phase bytes result }
+    ensures { (bytes : List ℕ) → FrontDecides bytes used (Ok (content_of packet.now))
+        → AsksFor phase bytes result }
 {
     match next(phase, packet) {
         Step::SayNo(behind) => Ask::Encryption { behind, used },

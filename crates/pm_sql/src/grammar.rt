@@ -146,7 +146,8 @@ fn key_condition_at(input: &str) -> Result<(i64, &str), Stop>
 
 // The columns of an INSERT, where they are named.
 fn columns_at(input: &str) -> Result<&str, Stop>
-    ensures { Gives (λ rest. rest.now) result (columns_in input.now (behind_mark 40 (skipped input.now))) }
+    ensures { Gives (λ rest. rest.now) result
+        (columns_in input.now (behind_mark 40 (skipped input.now))) }
 {
     let Some(rest) = behind_mark(skipped(input), '(') else {
         return Ok(input);
@@ -215,7 +216,8 @@ fn from_at(input: &str) -> Result<&str, Stop>
 
 // WHERE and a key, where they stand.
 fn condition_at(input: &str) -> Result<(Option<i64>, &str), Stop>
-    ensures { Gives (λ found. (found.0, found.1.now)) result (condition_in input.now (behind_word (codes "where") (skipped input.now))) }
+    ensures { Gives (λ found. (found.0, found.1.now)) result
+        (condition_in input.now (behind_word (codes "where") (skipped input.now))) }
 {
     let Some(rest) = behind_word(skipped(input), "where") else {
         return Ok((None, input));
@@ -226,7 +228,8 @@ fn condition_at(input: &str) -> Result<(Option<i64>, &str), Stop>
 
 // ORDER BY k, where it stands. The order is that of the keys with it and without it.
 fn order_at(input: &str) -> Result<&str, Stop>
-    ensures { Gives (λ rest. rest.now) result (order_in input.now (behind_word (codes "order") (skipped input.now))) }
+    ensures { Gives (λ rest. rest.now) result
+        (order_in input.now (behind_word (codes "order") (skipped input.now))) }
 {
     let Some(rest) = behind_word(skipped(input), "order") else {
         return Ok(input);

@@ -43,7 +43,8 @@ pub enum SqlFault {
 /// The script that a text spells, or its fault. A text that spells a script is refused only where memory is short.
 pub fn parse(alloc: Global, text: &str) -> Result<Script, SqlFault>
     ensures script { IfOk result (λ script. IsQueryText text.now script) }
-    ensures query { (stmts : List Stmt) → IsQueryText text.now stmts → IsScriptUnlessShort result stmts }
+    ensures query { (stmts : List Stmt) → IsQueryText text.now stmts
+        → IsScriptUnlessShort result stmts }
     ensures fault { IfErr result (IsFaultOf text.now) }
 {
     match script_of(alloc, text) {

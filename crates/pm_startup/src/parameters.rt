@@ -42,7 +42,8 @@ fn zero_at(bytes: &[u8]) -> Option<usize>
 
 /// The string at the front, and what stands behind its zero byte. `None` where it doesn't end.
 fn string_at(bytes: &[u8]) -> Option<(&[u8], &[u8])>
-    ensures found { IfSome result (λ s. IsString s.0.now × (bytes.now ≡ string s.0.now ++ s.1.now)) }
+    ensures found { IfSome result (λ s. IsString s.0.now
+        × (bytes.now ≡ string s.0.now ++ s.1.now)) }
     ensures unended { IfNone result (IsString bytes.now) }
 {
     let end = zero_at(bytes)?;
@@ -114,7 +115,8 @@ fn item_at(rest: &[u8]) -> Item<'_>
 
 /// What the pairs of a body ask for. `Err` has the place where it isn't laid out.
 pub fn settings_of(body: &[u8]) -> Result<Settings<'_>, usize>
-    ensures laid_out { IfOk result (λ settings. (ps : List Parameter) × IsLaidOut body.now ps × Tells settings ps) }
+    ensures laid_out { IfOk result (λ settings. (ps : List Parameter) × IsLaidOut body.now ps
+        × Tells settings ps) }
     ensures malformed { IfErr result (IsMalformed body.now) }
     ensures within { IfErr result (λ at. at ≤ length body.now) }
 {

@@ -38,10 +38,12 @@ const CANCEL_BYTES: usize = 8;
 /// stays, whatever comes behind. Of a packet that isn't whole only the first four bytes are looked at, so
 /// a caller may ask again after each byte that comes.
 pub fn read(bytes: &[u8]) -> Read<'_>
-    ensures whole { (content : Content) (n : ℕ) → IsWhole result content n ↔ FrontDecides bytes.now n (Ok content) }
+    ensures whole { (content : Content) (n : ℕ) → IsWhole result content n
+        ↔ FrontDecides bytes.now n (Ok content) }
     ensures short { (result ≡ Read.Short) ↔ IsUndecided bytes.now }
     ensures incomplete { (result ≡ Read.Short) ↔ IsIncomplete bytes.now }
-    ensures bad { (fault : StartFault) → (result ≡ Read.Bad fault) ↔ ((n : ℕ) × FrontDecides bytes.now n (Err fault)) }
+    ensures bad { (fault : StartFault) → (result ≡ Read.Bad fault)
+        ↔ ((n : ℕ) × FrontDecides bytes.now n (Err fault)) }
 {
     if bytes.len() < LENGTH_BYTES {
         return Read::Short;
@@ -64,7 +66,8 @@ pub fn read(bytes: &[u8]) -> Read<'_>
 /// Startup packets are prefix-free: none is the front of another one, whether accepted or refused.
 /// Where two fronts of the same bytes decide, they are the same front and decide the same.
 pub fn prefix_free()
-    ensures { (a b x y : List ℕ) (v w : Result Content StartFault) → Decides a v → Decides b w → a ++ x ≡ b ++ y → (a ≡ b) × (v ≡ w) }
+    ensures { (a b x y : List ℕ) (v w : Result Content StartFault) → Decides a v → Decides b w
+        → a ++ x ≡ b ++ y → (a ≡ b) × (v ≡ w) }
 {}
 
 /// The packet of this code and body.

@@ -16,12 +16,15 @@ pub fn text_ends_between_characters()
 pub fn text_needs_what_is_awaited()
     ensures at_least { (front rest : List ℕ) (state : Awaited) → run boundary front ≡ Some state
         → IsUtf8 (front ++ rest) → state.more ≤ length rest }
-    ensures any_more { (front : List ℕ) (state : Awaited) (count : ℕ) → run boundary front ≡ Some state → state.more ≤ count
-        → (rest : List ℕ) × (length rest ≡ count) × IsUtf8 (front ++ rest) }
-    ensures no_way { (front rest : List ℕ) → run boundary front ≡ None → IsUtf8 (front ++ rest) → ⊥ }
+    ensures any_more { (front : List ℕ) (state : Awaited) (count : ℕ)
+        → run boundary front ≡ Some state → state.more ≤ count → (rest : List ℕ)
+        × (length rest ≡ count) × IsUtf8 (front ++ rest) }
+    ensures no_way { (front rest : List ℕ) → run boundary front ≡ None → IsUtf8 (front ++ rest)
+        → ⊥ }
 {}
 
 /// No byte of a text is above 0xF4.
 pub fn text_has_no_byte_past_the_last()
-    ensures { (bytes : List ℕ) (state : Awaited) → run boundary bytes ≡ Some state → All (λ byte. byte < 245) bytes }
+    ensures { (bytes : List ℕ) (state : Awaited) → run boundary bytes ≡ Some state
+        → All (λ byte. byte < 245) bytes }
 {}

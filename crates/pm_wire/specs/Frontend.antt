@@ -60,4 +60,4 @@ pub record IsUndecided (bytes : List ℕ) : Type 0 where
 pub data Wants (bytes : List ℕ) (wanted : ℕ) : Type 0 where
   its_type : bytes ≡ [] → wanted ≡ 1 → Wants bytes wanted
   its_length : (kind : ℕ) (part : List ℕ) → bytes ≡ kind ∷ part → IsTrue (is_simple kind) → length part < 4 → wanted ≡ 5 → Wants bytes wanted
-  its_body : (seen : ℕ) (part : List ℕ) → bytes ≡ 81 ∷ (int32 seen ++ part) → seen ≤ 65541 → 4 + length part < seen → wanted ≡ seen + 1 → Wants bytes wanted
+  its_body : (seen : ℕ) (part : List ℕ) → bytes ≡ codes "Q" ++ int32 seen ++ part → seen ≤ 65541 → 4 + length part < seen → wanted ≡ seen + 1 → Wants bytes wanted

@@ -128,19 +128,22 @@ impl<'a> Front<'a> {
     /// are there reads each message at most three times.
     pub fn read(bytes: &'a [u8]) -> Take<Front<'a>>
         // What is read stands there, and every message that stands there is read.
-        ensures whole { IfWhole result (λ value used. (used ≤ length bytes.now) × IsFront (take used bytes.now) (front_message value)) }
-        ensures every { (spelled rest : List ℕ) (m : FrontMessage) → IsFront spelled m → bytes.now ≡ spelled ++ rest
-            → seen_by front_message result ≡ Take.Whole m (length spelled) }
+        ensures whole { IfWhole result (λ value used. (used ≤ length bytes.now)
+            × IsFront (take used bytes.now) (front_message value)) }
+        ensures every { (spelled rest : List ℕ) (m : FrontMessage) → IsFront spelled m
+            → bytes.now ≡ spelled ++ rest → seen_by front_message result ≡ Take.Whole m
+            (length spelled) }
 
         // Why nothing is read.
-        ensures bad_length { (seen : ℕ) → (result ≡ Take.Bad (WireFault.BadLength seen)) ↔ BeginsBadly bytes.now seen }
+        ensures bad_length { (seen : ℕ) → (result ≡ Take.Bad (WireFault.BadLength seen))
+            ↔ BeginsBadly bytes.now seen }
         ensures no_bad_form { (at : ℕ) → result ≢ Take.Bad (WireFault.BadForm at) }
         ensures undecided { IsUndecided bytes.now ↔ ((wanted : ℕ) × (result ≡ Take.Short wanted)) }
 
         // What more is wanted, and that nothing less decides.
         ensures short { (wanted : ℕ) → (result ≡ Take.Short wanted) ↔ Wants bytes.now wanted }
-        ensures least { (wanted : ℕ) (more : List ℕ) → result ≡ Take.Short wanted → length (bytes.now ++ more) < wanted
-            → IsUndecided (bytes.now ++ more) }
+        ensures least { (wanted : ℕ) (more : List ℕ) → result ≡ Take.Short wanted
+            → length (bytes.now ++ more) < wanted → IsUndecided (bytes.now ++ more) }
     {
         front_of(bytes)
     }

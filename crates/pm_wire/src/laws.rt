@@ -32,7 +32,8 @@ pub fn front_stream_fails_at_one_byte()
 
 /// The spelling of no message that can be written begins another's, whatever its texts are.
 pub fn back_spellings_stand_apart()
-    ensures { (m n : BackMessage) (more : List ℕ) → HasCount m → HasCount n → IsWritable m → IsWritable n → spelling m ++ more ≡ spelling n → more ≡ [] }
+    ensures { (m n : BackMessage) (more : List ℕ) → HasCount m → HasCount n → IsWritable m
+        → IsWritable n → spelling m ++ more ≡ spelling n → more ≡ [] }
 {}
 
 /// What `Back::write` asks of a message's length is that its length field is at most 2^31 - 1.

@@ -54,9 +54,11 @@ fn append_all(out: &mut Outbox, pieces: &[&[u8]])
 #[tactic(auto, using(crate::proofs::Apart::length_message))]
 fn push_message(out: &mut Outbox, kind: u8, pieces: &[&[u8]]) -> Result<(), AllocError>
     requires { 4 + length (flat_map (λ piece. piece.now) pieces.now) < 2 ^ 31 }
-    ensures ok { OnOk result (out.new.bytes ≡ out.old.bytes ++ message (kind ∷ []) (flat_map (λ piece. piece.now) pieces.now)) }
+    ensures ok { OnOk result (out.new.bytes ≡ out.old.bytes ++ message (kind ∷ [])
+        (flat_map (λ piece. piece.now) pieces.now)) }
     ensures err { OnErr result (out.new.bytes ≡ out.old.bytes) }
-    ensures full { OnErr result (room out.old < length (message (kind ∷ []) (flat_map (λ piece. piece.now) pieces.now))) }
+    ensures full { OnErr result (room out.old < length
+        (message (kind ∷ []) (flat_map (λ piece. piece.now) pieces.now))) }
     ensures capacity { out.old.capacity ≤ out.new.capacity }
 {
     let length = 4 + total(pieces);
@@ -87,9 +89,11 @@ fn push_plain(
     text: &[u8],
 ) -> Result<(), AllocError>
     requires { 4 + length (fields word.now code.now text.now None) < 2 ^ 31 }
-    ensures ok { OnOk result (out.new.bytes ≡ out.old.bytes ++ message (kind ∷ []) (fields word.now code.now text.now None)) }
+    ensures ok { OnOk result (out.new.bytes ≡ out.old.bytes ++ message (kind ∷ [])
+        (fields word.now code.now text.now None)) }
     ensures err { OnErr result (out.new.bytes ≡ out.old.bytes) }
-    ensures full { OnErr result (room out.old < length (message (kind ∷ []) (fields word.now code.now text.now None))) }
+    ensures full { OnErr result (room out.old < length
+        (message (kind ∷ []) (fields word.now code.now text.now None))) }
     ensures capacity { out.old.capacity ≤ out.new.capacity }
 {
     push_message(
@@ -112,9 +116,11 @@ fn push_detailed(
     detail: &[u8],
 ) -> Result<(), AllocError>
     requires { 4 + length (fields word.now code.now text.now (Some detail.now)) < 2 ^ 31 }
-    ensures ok { OnOk result (out.new.bytes ≡ out.old.bytes ++ message (kind ∷ []) (fields word.now code.now text.now (Some detail.now))) }
+    ensures ok { OnOk result (out.new.bytes ≡ out.old.bytes ++ message (kind ∷ [])
+        (fields word.now code.now text.now (Some detail.now))) }
     ensures err { OnErr result (out.new.bytes ≡ out.old.bytes) }
-    ensures full { OnErr result (room out.old < length (message (kind ∷ []) (fields word.now code.now text.now (Some detail.now)))) }
+    ensures full { OnErr result (room out.old < length
+        (message (kind ∷ []) (fields word.now code.now text.now (Some detail.now)))) }
     ensures capacity { out.old.capacity ≤ out.new.capacity }
 {
     push_message(
@@ -130,9 +136,11 @@ fn push_detailed(
 #[tactic(auto, using(crate::specs::Sizes::length_fields))]
 fn push_report(out: &mut Outbox, kind: u8, report: &Report) -> Result<(), AllocError>
     requires { report_length (saying report.now) < 2 ^ 31 }
-    ensures ok { OnOk result (out.new.bytes ≡ out.old.bytes ++ message (kind ∷ []) (fields_of (saying report.now))) }
+    ensures ok { OnOk result (out.new.bytes ≡ out.old.bytes ++ message (kind ∷ [])
+        (fields_of (saying report.now))) }
     ensures err { OnErr result (out.new.bytes ≡ out.old.bytes) }
-    ensures full { OnErr result (room out.old < length (message (kind ∷ []) (fields_of (saying report.now)))) }
+    ensures full { OnErr result (room out.old < length
+        (message (kind ∷ []) (fields_of (saying report.now)))) }
     ensures capacity { out.old.capacity ≤ out.new.capacity }
 {
     let word = severity_word(report.severity);
@@ -156,9 +164,11 @@ fn push_columns(out: &mut Outbox, shape: Shape) -> Result<(), AllocError>
 /// Appends the tag that has this text before its number.
 fn push_counted_tag(out: &mut Outbox, verb: &[u8], count: u64) -> Result<(), AllocError>
     requires { length verb.now < 64 }
-    ensures ok { OnOk result (out.new.bytes ≡ out.old.bytes ++ message (codes "C") (string (verb.now ++ decimal count))) }
+    ensures ok { OnOk result (out.new.bytes ≡ out.old.bytes ++ message (codes "C")
+        (string (verb.now ++ decimal count))) }
     ensures err { OnErr result (out.new.bytes ≡ out.old.bytes) }
-    ensures full { OnErr result (room out.old < length (message (codes "C") (string (verb.now ++ decimal count)))) }
+    ensures full { OnErr result (room out.old < length
+        (message (codes "C") (string (verb.now ++ decimal count)))) }
     ensures capacity { out.old.capacity ≤ out.new.capacity }
 {
     let mut digits = Buffer::new();
@@ -243,10 +253,14 @@ fn push_spelled(
     other: &str,
     behind: &[u8],
 ) -> Result<(), AllocError>
-    requires { length front.now + length number.now + length between.now + length other.now + length behind.now < 2 ^ 30 }
-    ensures ok { OnOk result (out.new.bytes ≡ out.old.bytes ++ message (codes "E") (front.now ++ (number.now ++ (between.now ++ (other.now ++ behind.now))))) }
+    requires { length front.now + length number.now + length between.now + length other.now + length
+        behind.now < 2 ^ 30 }
+    ensures ok { OnOk result (out.new.bytes ≡ out.old.bytes ++ message (codes "E")
+        (front.now ++ (number.now ++ (between.now ++ (other.now ++ behind.now))))) }
     ensures err { OnErr result (out.new.bytes ≡ out.old.bytes) }
-    ensures full { OnErr result (room out.old < length (message (codes "E") (front.now ++ (number.now ++ (between.now ++ (other.now ++ behind.now)))))) }
+    ensures full { OnErr result (room out.old < length
+        (message (codes "E") (front.now ++ (number.now
+        ++ (between.now ++ (other.now ++ behind.now)))))) }
     ensures capacity { out.old.capacity ≤ out.new.capacity }
 {
     push_message(
@@ -258,9 +272,11 @@ fn push_spelled(
 
 /// Appends that a version of the protocol isn't spoken.
 fn push_version(out: &mut Outbox, major: u16, minor: u16) -> Result<(), AllocError>
-    ensures ok { OnOk result (out.new.bytes ≡ out.old.bytes ++ spelling (told (conditions.Version major minor))) }
+    ensures ok { OnOk result (out.new.bytes ≡ out.old.bytes ++ spelling
+        (told (conditions.Version major minor))) }
     ensures err { OnErr result (out.new.bytes ≡ out.old.bytes) }
-    ensures full { OnErr result (room out.old < length (spelling (told (conditions.Version major minor)))) }
+    ensures full { OnErr result (room out.old < length
+        (spelling (told (conditions.Version major minor)))) }
     ensures capacity { out.old.capacity ≤ out.new.capacity }
 {
     let (mut majors, mut minors) = (Buffer::new(), Buffer::new());
@@ -276,9 +292,11 @@ fn push_version(out: &mut Outbox, major: u16, minor: u16) -> Result<(), AllocErr
 
 /// Appends that no message has the type.
 fn push_unknown_type(out: &mut Outbox, kind: u8) -> Result<(), AllocError>
-    ensures ok { OnOk result (out.new.bytes ≡ out.old.bytes ++ spelling (told (conditions.UnknownType kind))) }
+    ensures ok { OnOk result (out.new.bytes ≡ out.old.bytes ++ spelling
+        (told (conditions.UnknownType kind))) }
     ensures err { OnErr result (out.new.bytes ≡ out.old.bytes) }
-    ensures full { OnErr result (room out.old < length (spelling (told (conditions.UnknownType kind)))) }
+    ensures full { OnErr result (room out.old < length
+        (spelling (told (conditions.UnknownType kind)))) }
     ensures capacity { out.old.capacity ≤ out.new.capacity }
 {
     let mut digits = Buffer::new();
@@ -294,9 +312,11 @@ fn push_unknown_type(out: &mut Outbox, kind: u8) -> Result<(), AllocError>
 
 /// Appends that a row with the key is there.
 fn push_duplicate(out: &mut Outbox, key: i64) -> Result<(), AllocError>
-    ensures ok { OnOk result (out.new.bytes ≡ out.old.bytes ++ spelling (told (conditions.Duplicate key))) }
+    ensures ok { OnOk result (out.new.bytes ≡ out.old.bytes ++ spelling
+        (told (conditions.Duplicate key))) }
     ensures err { OnErr result (out.new.bytes ≡ out.old.bytes) }
-    ensures full { OnErr result (room out.old < length (spelling (told (conditions.Duplicate key)))) }
+    ensures full { OnErr result (room out.old < length
+        (spelling (told (conditions.Duplicate key)))) }
     ensures capacity { out.old.capacity ≤ out.new.capacity }
 {
     let mut digits = Buffer::new();

@@ -16,7 +16,8 @@ use pm_wire::{Back, Shape, Take, WireFault};
 /// Reads a message whose body is this word.
 #[tactic(auto, unfolding(crate::specs::BackReading::word_at))]
 fn word<'a>(word: &[u8], value: Back<'a>, bytes: &'a [u8]) -> Read<'a, Back<'a>>
-    ensures { Gives (λ x. (back_message x.0, x.1.now)) result (word_at word.now (back_message value.entry) bytes.now) }
+    ensures { Gives (λ x. (back_message x.0, x.1.now)) result
+        (word_at word.now (back_message value.entry) bytes.now) }
 {
     let rest = literal(word, bytes)?;
     Ok((value, rest))

@@ -73,7 +73,8 @@ pub(crate) fn int32(bytes: &[u8]) -> Read<'_, u32>
 
 /// Reads `count` bytes, none of them zero.
 pub(crate) fn nonzero(bytes: &[u8], count: usize) -> Result<(), Stop>
-    ensures gives { Gives (λ _. (take count bytes.now, drop count bytes.now)) result (code_at count bytes.now) }
+    ensures gives { Gives (λ _. (take count bytes.now, drop count bytes.now)) result
+        (code_at count bytes.now) }
     ensures long { OnOk result (count ≤ length bytes.now) }
 {
     for i in 0..count {
@@ -98,7 +99,8 @@ fn fitting(state: Awaited, byte: u8, left: usize) -> Option<Awaited>
 
 /// Reads a text of `count` bytes: whether it is one.
 fn text_end(bytes: &[u8], count: usize) -> Result<(), Stop>
-    ensures gives { Gives (λ _. (take count bytes.now, drop count bytes.now)) result (text_at boundary count bytes.now) }
+    ensures gives { Gives (λ _. (take count bytes.now, drop count bytes.now)) result
+        (text_at boundary count bytes.now) }
     ensures text { OnOk result (IsUtf8 (take count bytes.now)) }
     ensures long { OnOk result (count ≤ length bytes.now) }
 {
@@ -137,7 +139,8 @@ fn ends_string(state: Awaited, byte: u8) -> bool
 
 /// Reads a string with room for `room` bytes of text: where its zero stands.
 fn string_end(bytes: &[u8], ending: Ending, room: usize) -> Result<usize, Stop>
-    ensures gives { Gives (λ end. (take end bytes.now, drop (end + 1) bytes.now)) result (string_at ending boundary room bytes.now) }
+    ensures gives { Gives (λ end. (take end bytes.now, drop (end + 1) bytes.now)) result
+        (string_at ending boundary room bytes.now) }
     ensures text { IfOk result (λ end. IsUtf8 (take end bytes.now)) }
     ensures place { IfOk result (λ end. end < length bytes.now) }
 {
@@ -177,9 +180,13 @@ pub(crate) fn string(bytes: &[u8], ending: Ending, room: usize) -> Read<'_, &str
 fn behind_digit(value: u64, byte: u8, more: u32, limit: u64, zeros: bool) -> Option<u64>
     requires few { more < 20 }
     requires small { value * 10 ^ (more + 1) ≤ limit }
-    ensures next { IfSome result (λ next. (next ≡ behind_digit value byte) × (next * 10 ^ more ≤ limit)) }
-    ensures digit { IfSome result (λ next. (is_ascii_digit byte ≡ true) × ((next == 0 && not (zeros && more == 0)) ≡ false)) }
-    ensures none { IfNone result ((is_ascii_digit byte ≡ false) ⊎ ((limit / 10 ^ more < behind_digit value byte) ⊎ ((behind_digit value byte == 0 && not (zeros && more == 0)) ≡ true))) }
+    ensures next { IfSome result (λ next. (next ≡ behind_digit value byte)
+        × (next * 10 ^ more ≤ limit)) }
+    ensures digit { IfSome result (λ next. (is_ascii_digit byte ≡ true)
+        × ((next == 0 && not (zeros && more == 0)) ≡ false)) }
+    ensures none { IfNone result ((is_ascii_digit byte ≡ false)
+        ⊎ ((limit / 10 ^ more < behind_digit value byte)
+        ⊎ ((behind_digit value byte == 0 && not (zeros && more == 0)) ≡ true))) }
 {
     if !byte.is_ascii_digit() {
         return None;

@@ -16,15 +16,20 @@ use pm_wire::{Back, Take, WireFault};
 /// reads at each byte, to meet a fault early, reads the front of the message each time.
 pub fn read_back(bytes: &[u8]) -> Take<Back<'_>>
     // What is read stands there, and every message that stands there is read.
-    ensures whole { IfWhole result (λ value used. (used ≤ length bytes.now) × IsBack (take used bytes.now) (back_message value)) }
-    ensures every { (spelled rest : List ℕ) (m : BackMessage) → IsBack spelled m → bytes.now ≡ spelled ++ rest
-        → seen_by back_message result ≡ Take.Whole m (length spelled) }
+    ensures whole { IfWhole result (λ value used. (used ≤ length bytes.now)
+        × IsBack (take used bytes.now) (back_message value)) }
+    ensures every { (spelled rest : List ℕ) (m : BackMessage) → IsBack spelled m
+        → bytes.now ≡ spelled ++ rest → seen_by back_message result ≡ Take.Whole m
+        (length spelled) }
 
     // Why nothing is read.
-    ensures short { (wanted : ℕ) → (result ≡ Take.Short wanted) ↔ (IsPartial bytes.now × IsWholeAt bytes.now wanted) }
+    ensures short { (wanted : ℕ) → (result ≡ Take.Short wanted)
+        ↔ (IsPartial bytes.now × IsWholeAt bytes.now wanted) }
     ensures partial { IsPartial bytes.now ↔ ((wanted : ℕ) × (result ≡ Take.Short wanted)) }
-    ensures bad_length { (seen : ℕ) → (result ≡ Take.Bad (WireFault.BadLength seen)) ↔ HasNoSuchLength bytes.now seen }
-    ensures bad_form { (at : ℕ) → (result ≡ Take.Bad (WireFault.BadForm at)) ↔ DepartsHere bytes.now at }
+    ensures bad_length { (seen : ℕ) → (result ≡ Take.Bad (WireFault.BadLength seen))
+        ↔ HasNoSuchLength bytes.now seen }
+    ensures bad_form { (at : ℕ) → (result ≡ Take.Bad (WireFault.BadForm at))
+        ↔ DepartsHere bytes.now at }
 {
     back_of(bytes)
 }

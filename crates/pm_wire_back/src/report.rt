@@ -12,7 +12,8 @@ use pm_wire::{Report, Severity};
 /// Reads the detail and the end of a report, of which `left` bytes are left besides the end.
 #[tactic(auto, unfolding(crate::specs::BackReading::detail_at))]
 fn detail(bytes: &[u8], left: usize) -> Read<'_, Option<&str>>
-    ensures { Gives (λ x. (option_map (λ text. text.now) x.0, x.1.now)) result (detail_at left bytes.now) }
+    ensures { Gives (λ x. (option_map (λ text. text.now) x.0, x.1.now)) result
+        (detail_at left bytes.now) }
 {
     if left == 0 {
         return Ok((None, literal(b"\0", bytes)?));

@@ -100,8 +100,10 @@ impl<'a> Settings<'a> {
 
 // The options of the words behind the command.
 pub(crate) fn read_settings<'a>(command: Command, words: &'a [Text]) -> Option<Settings<'a>>
-    ensures found { IfSome result (λ settings. Leaves command nothing words.now (chosen_of settings)) }
-    ensures only { IfSome result (λ settings. (after : Chosen) → Leaves command nothing words.now after → after ≡ chosen_of settings) }
+    ensures found { IfSome result (λ settings. Leaves command nothing words.now
+        (chosen_of settings)) }
+    ensures only { IfSome result (λ settings. (after : Chosen)
+        → Leaves command nothing words.now after → after ≡ chosen_of settings) }
     ensures none { IfNone result ((after : Chosen) → ¬ (Leaves command nothing words.now after)) }
 {
     read_on(command, Settings::new(), words)
@@ -109,10 +111,12 @@ pub(crate) fn read_settings<'a>(command: Command, words: &'a [Text]) -> Option<S
 
 // The same behind the options that were given before: not more than four, since each is given once.
 fn read_on<'a>(command: Command, before: Settings<'a>, words: &'a [Text]) -> Option<Settings<'a>>
-    ensures found { IfSome result (λ settings. Leaves command (chosen_of before.entry) words.now (chosen_of settings)) }
-    ensures only { IfSome result (λ settings. (after : Chosen) → Leaves command (chosen_of before.entry) words.now after
-        → after ≡ chosen_of settings) }
-    ensures none { IfNone result ((after : Chosen) → ¬ (Leaves command (chosen_of before.entry) words.now after)) }
+    ensures found { IfSome result (λ settings. Leaves command (chosen_of before.entry) words.now
+        (chosen_of settings)) }
+    ensures only { IfSome result (λ settings. (after : Chosen)
+        → Leaves command (chosen_of before.entry) words.now after → after ≡ chosen_of settings) }
+    ensures none { IfNone result ((after : Chosen)
+        → ¬ (Leaves command (chosen_of before.entry) words.now after)) }
 {
     if words.is_empty() {
         return Some(before);
@@ -135,8 +139,10 @@ struct Next<'a> {
 }
 
 fn next_option<'a>(words: &'a [Text]) -> Option<Next<'a>>
-    ensures found { IfSome result (λ next. BeginsWithOption words.now (choice_of next.setting) next.behind.now) }
-    ensures none { IfNone result ((choice : Choice) (behind : List (List ℕ)) → ¬ (BeginsWithOption words.now choice behind)) }
+    ensures found { IfSome result (λ next. BeginsWithOption words.now (choice_of next.setting)
+        next.behind.now) }
+    ensures none { IfNone result ((choice : Choice) (behind : List (List ℕ))
+        → ¬ (BeginsWithOption words.now choice behind)) }
 {
     let Some(given) = named_value(words) else {
         return None;
@@ -160,8 +166,10 @@ struct Given<'a> {
 
 // What the words begin with: the name is cut off at the first `=`, or the value is the next word.
 fn named_value<'a>(words: &'a [Text]) -> Option<Given<'a>>
-    ensures found { IfSome result (λ given. BeginsWith words.now given.name.now given.value.now given.behind.now) }
-    ensures none { IfNone result ((name value : List ℕ) (behind : List (List ℕ)) → ¬ (BeginsWith words.now name value behind)) }
+    ensures found { IfSome result (λ given. BeginsWith words.now given.name.now given.value.now
+        given.behind.now) }
+    ensures none { IfNone result ((name value : List ℕ) (behind : List (List ℕ))
+        → ¬ (BeginsWith words.now name value behind)) }
 {
     let [first, behind @ ..] = words else {
         return None;
@@ -186,7 +194,8 @@ fn named_value<'a>(words: &'a [Text]) -> Option<Given<'a>>
 fn word_value<'a>(name: &'a str, words: &'a [Text]) -> Option<Given<'a>>
     ensures found { IfSome result (λ given. (given.name.now ≡ name.now) × IsPlain given.value.now
         × (words.now ≡ given.value.now ∷ given.behind.now)) }
-    ensures none { IfNone result ((value : List ℕ) (behind : List (List ℕ)) → words.now ≡ value ∷ behind → ¬ (IsPlain value)) }
+    ensures none { IfNone result ((value : List ℕ) (behind : List (List ℕ))
+        → words.now ≡ value ∷ behind → ¬ (IsPlain value)) }
 {
     let [second, behind @ ..] = words else {
         return None;
@@ -215,8 +224,10 @@ fn is_plain(word: &str) -> bool
 
 // The option of this name, where the value says something of it.
 fn setting_named<'a>(name: &str, value: &'a str) -> Option<Setting<'a>>
-    ensures found { IfSome result (λ setting. (name.now ≡ option_name (choice_of setting)) × Says (choice_of setting) value.now) }
-    ensures none { IfNone result ((choice : Choice) → name.now ≡ option_name choice → ¬ (Says choice value.now)) }
+    ensures found { IfSome result (λ setting. (name.now ≡ option_name (choice_of setting))
+        × Says (choice_of setting) value.now) }
+    ensures none { IfNone result ((choice : Choice) → name.now ≡ option_name choice
+        → ¬ (Says choice value.now)) }
 {
     match name {
         "--data" => Some(Setting::Data(value)),
