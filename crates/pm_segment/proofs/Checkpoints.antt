@@ -35,7 +35,7 @@ use Rattle.pm_segment.proofs.Books.{any_push, any_still, attended_still, or_fals
 use Rattle.pm_segment.proofs.Lengths.{base_size}
 use Rattle.pm_segment.proofs.Resting.{content_is}
 use Rattle.pm_segment.proofs.Runs.{goes_by, notes_another, same_standing, standing}
-use Rattle.pm_segment.proofs.Steps.{Attends, attends_in, counted_now, gone_read, gone_unread, held_alone, held_on, lengths_push, means_more, means_some, never_waits, no_fault_shown, nobody_moves, none_told, some_none, tells_none, waited_on, whole_number}
+use Rattle.pm_segment.proofs.Steps.{not_both, Attends, attends_in, counted_now, gone_read, gone_unread, held_alone, held_on, lengths_push, means_more, means_some, never_waits, no_fault_shown, nobody_moves, none_told, some_none, tells_none, waited_on, whole_number}
 
 or_true : (a : Bool) → a || true ≡ true
 or_true true = refl
@@ -117,6 +117,7 @@ checkpoints laws before now live new pid clean moves whole end closed inside not
     counted = counted_now from before.faults now.faults 0 before.live now.live new moves.later moves.read_now (subst (IsShownAt from now.faults) (sym whole) tt) counted;
     each = no_fault_shown from now.faults entry tt;
   };
+  unread = λ none. absurd (not_both now.live new none moves.read_now);
   waits = never_waits (entry ∷ []) before now live moves.read notes moves.tells;
   goes_on = λ origin base told. gone_read (entry ∷ []) before now live origin base moves.read moves.generation notes moves.tells
       (λ book is gone. (new, goes base book is gone))
@@ -162,6 +163,7 @@ checkpoint_fails laws before now live new pid since moves broke closed fault ros
         counted = counted_now from before.faults now.faults 0 before.live now.live new moves.later moves.read_now (subst (IsShownAt from now.faults) (sym broke) risen) counted;
         each = no_fault_shown from now.faults entry risen;
       };
+  unread = λ none. absurd (not_both now.live new none moves.read_now);
   waits = never_waits (entry ∷ []) before now live moves.read notes moves.tells;
   goes_on = λ origin base told. gone_read (entry ∷ []) before now live origin base moves.read moves.generation notes moves.tells
       (λ book is gone. (new, goes base book is gone))
@@ -240,6 +242,7 @@ skips past present_whole at book_now pid clean unread inside notes =
       time = time_still at.ticks at.images;
       later = omega arith;
       counts = λ from counted. record { counted = counted; each = no_fault_shown from at.faults entry tt };
+      unread = λ none. (none, inr refl);
       waits = λ origin told. inl (waited_on (entry ∷ []) at (with_skip book_now at) origin notes (λ none. none) (λ book is waited.
           waited_push origin (with_skip book_now at) book entry waited.unread waited.begun (attended_still at.inside book entry (λ who n. refl) waited.attended) waited.legal waited.fresh waited.unredone waited.none_here waited.no_ticks tt
           (λ base same. record { attached = attends_in pid at.book book is inside; made = sym (ap is_some waited.unredone) })

@@ -147,6 +147,7 @@ reads_nothing past present_whole before now reads notes same = record {
   time = reads.time;
   later = reads.later;
   counts = λ from counted. record { counted = counts_unread from before.faults now.faults before.live now.live reads.later reads.unread_now counted; each = All-nil (IsShown from now.faults) };
+  unread = λ none. (reads.unread, inr same);
   waits = λ origin told. inl (waited_on [] before now origin notes reads.tells (λ book is waited. subst (HasWaited origin now) (sym (append-nil book)) (waits origin book waited)) (opening_read before now origin reads) told);
   goes_on = λ origin base told. gone_unread [] before now origin base reads.unread reads.generation notes reads.tells
       (λ book is sure renewed held. inr (subst (HasRenewed base now) (sym (append-nil book)) (renews base book renewed)))
@@ -209,6 +210,7 @@ reads_fault past present_whole before now pid since reads rose small inside note
         counted = counts_unread from before.faults now.faults before.live now.live reads.later reads.unread_now counted;
         each = no_fault_shown from now.faults entry (omega (arith, counted.later, rose));
       };
+      unread = λ none. (reads.unread, inl rose);
       waits = λ origin told. inl (waited_on (entry ∷ []) before now origin notes reads.tells (λ book is waited.
           let new = tells_new origin.faults before.faults now.faults (faults_of book) waited.counted.later waited.counted.each rose reads.later small in
           waited_push origin now book entry reads.unread_now (subst (λ (n : ℕ). 1 ≤ n) (sym reads.generation) waited.begun)
@@ -510,6 +512,7 @@ redoes_first laws before now found new pid redoes inside notes = record {
     counted = counted_now from before.faults now.faults 0 before.live now.live new redoes.later redoes.read_now (subst (IsShownAt from now.faults) (sym (ap (λ (l : Log). l.since) redoes.log)) tt) counted;
     each = no_fault_shown from now.faults entry tt;
   };
+  unread = λ none. absurd (not_both now.live new none redoes.read_now);
   waits = λ origin told. begins origin before.book refl told;
   goes_on = λ origin base told. gone_unread (entry ∷ []) before now origin base redoes.unread redoes.generation notes still_told
       (λ book is sure renewed held.

@@ -201,6 +201,7 @@ still_in entries at book_now inside_now notes attends shown waits goes renews ho
   time = time_still at.ticks at.images;
   later = omega arith;
   counts = λ from counted. record { counted = counted; each = shown from counted };
+  unread = λ none. (none, inr refl);
   waits = λ origin told. inl (waited_on entries at now origin notes (λ none. none) (λ book is waited. waits origin book is waited) (λ book seen tells waited opening. opening) told);
   goes_on = λ origin base told. gone_on entries at now origin base notes (λ none. none) (λ sure. sure) (λ book is sure begun held. each base book is begun) (λ book seen tells begun held. holds origin base book begun held) told;
 }
@@ -226,6 +227,7 @@ still entries at live book_now read notes none shown goes holds = record {
   time = time_still at.ticks at.images;
   later = omega arith;
   counts = λ from counted. record { counted = counted; each = shown from counted };
+  unread = λ none. (none, inr refl);
   waits = never_waits entries at (with_book book_now at) live read notes (λ none. none);
   goes_on = λ origin base told. gone_read entries at (with_book book_now at) live origin base read refl notes (λ none. none) (λ book is gone. (live, goes base book is gone)) (λ book seen tells gone held. holds origin base book gone held) told;
 }
@@ -663,6 +665,7 @@ commits past present_whole before now live new pid script reply (change ∷ chan
     counted = counted_now from before.faults now.faults 0 before.live now.live new appends.later appends.read_now (subst (IsShownAt from now.faults) (sym whole) tt) counted;
     each = no_fault_shown from now.faults entry tt;
   };
+  unread = λ none. absurd (not_both now.live new none appends.read_now);
   waits = never_waits (entry ∷ []) before now live appends.read notes appends.tells;
   goes_on = λ origin base told. gone_read (entry ∷ []) before now live origin base appends.read appends.generation notes appends.tells
       (λ book is gone. (new, goes base book is gone)) (λ book seen tells gone held. holds origin base book seen tells gone held) told;
@@ -733,6 +736,7 @@ loses past present_whole before now live new pid since script reply (change ∷ 
         counted = counted_now from before.faults now.faults 0 before.live now.live new appends.later appends.read_now (subst (IsShownAt from now.faults) (sym broke) risen) counted;
         each = All-push (IsShown from now.faults) (first ∷ []) second (no_fault_shown from now.faults first tt) risen;
       };
+  unread = λ none. absurd (not_both now.live new none appends.read_now);
   waits = never_waits (first ∷ second ∷ []) before now live appends.read notes appends.tells;
   goes_on = λ origin base told. gone_read (first ∷ second ∷ []) before now live origin base appends.read appends.generation notes appends.tells
       (λ book is gone. (new, subst (HasGone base now new) (append_assoc book (first ∷ []) (second ∷ [])) (goes base book is gone)))

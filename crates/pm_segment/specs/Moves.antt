@@ -47,6 +47,10 @@ pub record CountsEntries (from : ℕ) (entries : List BookEntry) (faults : ℕ) 
   pub counted : IsCountedFrom from faults live
   pub each : All (IsShown from faults) entries
 
+-- While the log isn't read the files read as they did, unless the disk has failed.
+abbrev pub StaysUnread : (before now : Moment) → Type 0
+StaysUnread before now = now.live ≡ None → (before.live ≡ None) × (Rose before.faults now.faults ⊎ (now.files ≡ before.files))
+
 -- These entries were noted. What held from a beginning holds from it still, or the first redo has come; what a stop could
 -- leave before is as it was. Each fault that was noted was counted, and each child is inside as often as the entries make
 -- of how often it was, whether book and disk tell or not.
@@ -56,6 +60,7 @@ pub record Moves (entries : List BookEntry) (before now : Moment) : Type 0 where
   pub attends : (pid : ℕ) → times_in pid now.inside ≡ times_behind entries pid (times_in pid before.inside)
   pub time : GoesOn before.ticks now.ticks before.images now.images
   pub later : before.faults ≤ now.faults
+  pub unread : StaysUnread before now
   pub counts : (from : ℕ) → IsCountedFrom from before.faults before.live → CountsEntries from entries now.faults now.live
   pub waits : (origin : Origin) → WaitsFrom origin before → WaitsFrom origin now ⊎ Begins origin now
   pub goes_on : (origin : Origin) (base : Base) → GoesFrom origin base before → GoesFrom origin base now

@@ -11,7 +11,7 @@ use Rattle.pm_query.specs.declared.book.BookEntry.TheVariants.{Opened, Attached,
 use Rattle.pm_query.specs.Book.{Base, times_after}
 use Rattle.pm_segment.specs.Children.{times_behind, times_in}
 use Rattle.pm_segment.specs.Moment.{Moment}
-use Rattle.pm_segment.specs.Moves.{IsShown, CountsEntries, Moves, NotesEntries}
+use Rattle.pm_segment.specs.Moves.{IsShown, CountsEntries, Moves, NotesEntries, StaysUnread}
 use Rattle.pm_segment.specs.Stands.{Begins, IsBaseOf, Origin, WaitsFrom}
 
 pub rose_later : (from before now : ℕ) → before ≤ now → Rose from before → Rose from now
@@ -56,6 +56,17 @@ base_later : (origin : Origin) (base : Base) (before now : ℕ) → before ≤ n
 base_later origin base before now le (inl rose) = inl (rose_later origin.faults before now le rose)
 base_later origin base before now le (inr means) = inr means
 
+pub unread_on : (before between now : Moment) → before.faults ≤ between.faults → between.faults ≤ now.faults → StaysUnread before between → StaysUnread between now → StaysUnread before now
+unread_on before between now le ge one two = λ none.
+    let second = two none in
+    let first = one second.0 in (
+      first.0,
+      elim second.1 [
+        | inl rose ↦ inl (omega (arith, le, rose))
+        | inr same ↦ elim first.1 [ inl rose ↦ inl (rose_later before.faults between.faults now.faults ge rose) | inr was ↦ inr (same ∙ was) ]
+      ],
+    )
+
 pub moves_none : (at : Moment) → Moves [] at at
 moves_none at = record {
   notes = notes_none at.book;
@@ -64,6 +75,7 @@ moves_none at = record {
   time = time_still at.ticks at.images;
   later = omega arith;
   counts = λ from counted. record { counted = counted; each = All-nil (IsShown from at.faults) };
+  unread = λ none. (none, inr refl);
   waits = λ origin stands. inl stands;
   goes_on = λ origin base stands. stands;
 }
@@ -75,6 +87,7 @@ moves_on first second before between now one two = record {
   attends = λ pid. two.attends pid ∙ ap (times_behind second pid) (one.attends pid) ∙ sym (fold-append (times_after pid) (times_in pid before.inside) first second);
   time = time_on before.ticks between.ticks now.ticks before.images between.images now.images one.time two.time;
   later = omega (arith, one.later, two.later);
+  unread = unread_on before between now one.later two.later one.unread two.unread;
   counts = λ from counted.
       let a : CountsEntries from first between.faults between.live = one.counts from counted in
       let b : CountsEntries from second now.faults now.live = two.counts from a.counted in

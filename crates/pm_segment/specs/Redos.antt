@@ -1,5 +1,5 @@
 -- What redo, flushes and checkpoints come to, and where.
-use Rattle.std.specs.Prelude.{◌≡◌, ◌≢◌, ◌⊎◌, ℕ, ◌^◌, ◌-◌, ◌<◌, ◌≤◌, Bool, true, false, [], Option, None, Some, IfSome, Result, Ok, Err}
+use Rattle.std.specs.Prelude.{◌≡◌, ◌≢◌, ◌⊎◌, ℕ, ◌^◌, ◌-◌, ◌<◌, ◌≤◌, Bool, true, false, [], Option, None, Some, is_some, IfSome, Result, Ok, Err}
 use Rattle.pm_disk.specs.Files.{Files, file_of, other}
 use Rattle.pm_rows.specs.Fold.{RowMap}
 use Rattle.pm_disk.specs.declared.disk.Which.{Which}
@@ -43,6 +43,10 @@ pub record IsBroken (live : Option Live) (since : ℕ) : Type 0 where
   pub read : live ≡ Some its
   pub broken : its.log.since ≡ Some since
 
+abbrev pub is_broken : Option Live → Bool
+is_broken None = false
+is_broken (Some its) = is_some its.log.since
+
 -- Where a checkpoint comes to what it answers. The causes of any two answers exclude each other, but for want of memory
 -- and faults of the disk.
 abbrev pub CheckpointCause : Option Live → Bool → Result Checkpointed StoreNo → Type 0
@@ -67,6 +71,10 @@ HasReason seen result = (fault : RedoFault) → result ≡ Err (Redo fault) → 
 -- one that is refused by no fault of the disk leaves them as they read
 abbrev pub LeavesFiles : (before now : Option Files) → Result ℕ StoreNo → Type 0
 LeavesFiles before now result = (fault : RedoFault) → result ≡ Err (Redo fault) → fault ≢ reasons.Disk → now ≡ before
+
+-- and one that is refused otherwise than for want of memory leaves the log unread
+abbrev pub LeavesUnread : Option Live → Result ℕ StoreNo → Type 0
+LeavesUnread live result = (fault : RedoFault) → result ≡ Err (Redo fault) → fault ≢ reasons.NoMemory → live ≡ None
 
 -- a redo that is refused so says nothing of the files: the disk has failed, or memory was short
 abbrev pub SaysNothing : RedoFault → Type 0

@@ -61,7 +61,8 @@ impl<D: Disk, B: Chronicle<BookEntry>> Segment<D, B> {
         ensures admits { Admits pass.new (moment self.new) }
         ensures reply { IfOk result (λ staged. staged.reply ≡ ran.reply) }
         ensures fresh { IfOk result (λ staged. ReachesNoLess (view_of pass.old) staged.front) }
-        ensures view { IfOk result (λ staged. view_of pass.new ≡ with_front staged.front (view_of pass.old)) }
+        ensures view { IfOk result (λ staged. view_of pass.new ≡ with_front staged.front
+            (view_of pass.old)) }
         ensures refused { OnErr result (view_of pass.new ≡ view_of pass.old) }
     {
         if live.closed {
@@ -108,7 +109,8 @@ impl<D: Disk, B: Chronicle<BookEntry>> Segment<D, B> {
         ensures admits { Admits pass.new (moment self.new) }
         ensures reply { IfOk result (λ staged. staged.reply ≡ ran.reply) }
         ensures fresh { IfOk result (λ staged. ReachesNoLess (view_of pass.old) staged.front) }
-        ensures view { IfOk result (λ staged. view_of pass.new ≡ with_front staged.front (view_of pass.old)) }
+        ensures view { IfOk result (λ staged. view_of pass.new ≡ with_front staged.front
+            (view_of pass.old)) }
         ensures refused { OnErr result (view_of pass.new ≡ view_of pass.old) }
     {
         history_laws();
@@ -155,8 +157,8 @@ fn answer<B: Chronicle<BookEntry>>(
 ) -> Staged
     requires room { 1 ≤ B.spare book.old }
     requires noted { ran.noted ≡ ran.reply }
-    ensures entries { NotesEntries (Answered pass.old.pid ran.script ran.reply ran.commit front tick ∷ [])
-        (B.entries book.old) (B.entries book.new) }
+    ensures entries { NotesEntries (Answered pass.old.pid ran.script ran.reply ran.commit front tick
+        ∷ []) (B.entries book.old) (B.entries book.new) }
     ensures room { B.spare book.new + 1 ≡ B.spare book.old }
     ensures staged { NotesStaged pass.old.pid ran.script result
         (Answered pass.old.pid ran.script ran.reply ran.commit front tick ∷ []) }

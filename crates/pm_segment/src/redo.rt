@@ -20,7 +20,7 @@ impl<D: Disk, B: Chronicle<BookEntry>> Segment<D, B> {
     ghost use Rattle.pm_segment.specs.Moment.{HasDiskOf, moment};
     ghost use Rattle.pm_segment.specs.Moves.{Moves};
     ghost use Rattle.pm_segment.specs.Passes.{Admits, user_in};
-    ghost use Rattle.pm_segment.specs.Redos.{CheckpointCause, FullAtLast, HasReason, IsRead, LeavesFiles, MadeAfresh, MakesCalls};
+    ghost use Rattle.pm_segment.specs.Redos.{CheckpointCause, FullAtLast, HasReason, IsRead, LeavesFiles, LeavesUnread, MadeAfresh, MakesCalls};
 
     // Reads the log for the first time in this generation.
     pub(crate) fn read_log(&mut self, pass: &Pass) -> Result<u64, StoreNo>
@@ -35,6 +35,7 @@ impl<D: Disk, B: Chronicle<BookEntry>> Segment<D, B> {
         ensures read { OnOk result (IsRead (moment self.new).live) }
         ensures reason { HasReason (moment self.old).files result }
         ensures kept { LeavesFiles (moment self.old).files (moment self.new).files result }
+        ensures unread { LeavesUnread (moment self.new).live result }
     {
         history_laws();
         limits_are_the_numbers();

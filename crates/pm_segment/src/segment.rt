@@ -62,6 +62,7 @@ impl<D: Disk, B: Chronicle<BookEntry>> Segment<D, B> {
     ghost use Rattle.pm_query.specs.declared.book.BookEntry.{BookEntry};
     ghost use Rattle.pm_segment.specs.Moment.{book_of, disk_of, moment};
     ghost use Rattle.pm_segment.specs.Moves.{NotesEntries};
+    ghost use Rattle.pm_segment.specs.Redos.{is_broken};
     ghost use Rattle.pm_segment.specs.Stands.{WaitsFrom};
 
     /// A store in its first generation, which has no rows before its redo. Where memory is short disk and book come back.
@@ -70,8 +71,12 @@ impl<D: Disk, B: Chronicle<BookEntry>> Segment<D, B> {
         ensures notes { IfOk result (λ store.
             NotesEntries (BookEntry.Opened 1 ∷ []) (B.entries book) (moment store).book) }
         ensures waits { IfOk result (λ store. B.entries book ≡ Some []
-            → WaitsFrom (record { files = D.seen disk; tick = D.ticks disk; faults = D.faults disk })
-            (moment store)) }
+            → WaitsFrom (record {
+              files = D.seen disk;
+              tick = D.ticks disk;
+              faults = D.faults
+                  disk;
+            }) (moment store)) }
         ensures generation { IfOk result (λ store. (moment store).generation ≡ 1) }
         ensures unread { IfOk result (λ store. (moment store).live ≡ None) }
         ensures empty { IfOk result (λ store. (moment store).inside ≡ []) }
@@ -104,6 +109,16 @@ impl<D: Disk, B: Chronicle<BookEntry>> Segment<D, B> {
         self.generation
     }
 
+    /// Whether its log is broken: the disk has failed since the redo of this generation.
+    pub fn is_broken(&self) -> bool
+        ensures { result ≡ is_broken (moment self.now).live }
+    {
+        match self.live {
+            None => false,
+            Some(live) => live.log.since.is_some(),
+        }
+    }
+
     /// Gives the disk and the book back. It takes no memory.
     pub fn into_parts(self) -> (D, B)
         ensures { (result.0 ≡ disk_of self) × (result.1 ≡ book_of self) }
@@ -132,7 +147,7 @@ impl<D: Disk, B: Chronicle<BookEntry>> Store for Segment<D, B> {
     ghost use Rattle.pm_segment.specs.Moves.{Moves};
     ghost use Rattle.pm_segment.specs.MovesLaws.{moves_none, moves_on};
     ghost use Rattle.pm_segment.specs.Passes.{Admits, user_in, view_of};
-    ghost use Rattle.pm_segment.specs.Redos.{CheckpointCause, FlushCause, FullAtLast, HasReason, IsRead, LeavesFiles, MadeAfresh, MakesCalls};
+    ghost use Rattle.pm_segment.specs.Redos.{CheckpointCause, FlushCause, FullAtLast, HasReason, IsRead, LeavesFiles, LeavesUnread, MadeAfresh, MakesCalls};
 
     type Pass = Pass;
 
@@ -145,9 +160,9 @@ impl<D: Disk, B: Chronicle<BookEntry>> Store for Segment<D, B> {
     ghost stamp = { λ store. Some (moment store).generation };
 
     fn enter(&mut self, pid: u32, generation: u32) -> Result<Pass, StoreNo>
-        ensures notes { (entries : List BookEntry)
-            × Moves entries (moment self.old) (moment self.new)
-            × EnterNotes (newcomer (Some (moment self.old).generation) pid generation) result entries }
+        ensures notes { (entries : List BookEntry) × Moves entries (moment self.old)
+            (moment self.new) × EnterNotes (newcomer (Some (moment self.old).generation) pid
+            generation) result entries }
         ensures admits { IfOk result (λ pass. Admits pass (moment self.new)) }
         ensures view { IfOk result (λ pass. view_of pass ≡ new_pass pid generation) }
 
@@ -243,6 +258,7 @@ impl<D: Disk, B: Chronicle<BookEntry>> Store for Segment<D, B> {
         ensures again { IsRead (moment self.old).live → HasDiskOf self.old self.new }
         ensures reason { HasReason (moment self.old).files result }
         ensures kept { LeavesFiles (moment self.old).files (moment self.new).files result }
+        ensures unread { LeavesUnread (moment self.new).live result }
     {
         history_laws();
         if self.book.reserve(self.inside.entries_for(1)).is_err() {
