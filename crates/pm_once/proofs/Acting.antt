@@ -16,10 +16,10 @@ use Rattle.pm_state.specs.Journal.{without_first}
 use Rattle.pm_chain.specs.Steps.{ChildRun, MayFollow, Notes, Renews, Runs, RunsOn, StandsByItself, Step}
 use Rattle.pm_journal.specs.Roll.{kind_in}
 use Rattle.pm_journal.specs.Standing.{Standing, act_for, done, entry_for, first_due, next_pid}
-use Rattle.pm_once.specs.Calls.{HandsBehind}
+use Rattle.pm_once.specs.Calls.{AuxiliariesBehind}
 use Rattle.pm_once.specs.Goes.{AreOurs, AsksAsDue, IsFree, accepted_in, asked_in, is_last_drawn}
-use Rattle.pm_once.specs.Hands.{AreThere, IsHand}
-use Rattle.pm_once.specs.declared.hands.Hands.{Hands}
+use Rattle.pm_once.specs.Auxiliaries.{AreThere, IsPresent}
+use Rattle.pm_once.specs.declared.auxiliaries.Auxiliaries.{Auxiliaries}
 
 -- ---- which step may follow
 
@@ -103,61 +103,61 @@ other_pid : (pid last : ℕ) → pid ≤ last → (last + 1 == pid) ≡ false
 other_pid pid last within = grind (arith, nat_tests)
 
 -- a child stays
-pub hand_kept : (a : Action) (s : Standing) (pid : ℕ) (k' : Kind) → IsHand (Some pid) k' s → IsHand (Some pid) k' (done a s)
-hand_kept (act.Start k) s pid k' there = (ap (λ (b : Bool). cond b (Some k) (kind_in pid s.children)) (other_pid pid s.last_pid there.1) ∙ there.0, omega (arith, there.1))
-hand_kept (act.Quit why) s pid k' there = there
-hand_kept act.Terminate s pid k' there = there
-hand_kept act.KillAll s pid k' there = there
-hand_kept act.AskCheckpoint s pid k' there = there
-hand_kept act.Ready s pid k' there = there
-hand_kept act.Reset s pid k' there = there
-hand_kept (act.Say line) s pid k' there = there
-hand_kept (act.End how) s pid k' there = there
+pub auxiliary_kept : (a : Action) (s : Standing) (pid : ℕ) (k' : Kind) → IsPresent (Some pid) k' s → IsPresent (Some pid) k' (done a s)
+auxiliary_kept (act.Start k) s pid k' there = (ap (λ (b : Bool). cond b (Some k) (kind_in pid s.children)) (other_pid pid s.last_pid there.1) ∙ there.0, omega (arith, there.1))
+auxiliary_kept (act.Quit why) s pid k' there = there
+auxiliary_kept act.Terminate s pid k' there = there
+auxiliary_kept act.KillAll s pid k' there = there
+auxiliary_kept act.AskCheckpoint s pid k' there = there
+auxiliary_kept act.Ready s pid k' there = there
+auxiliary_kept act.Reset s pid k' there = there
+auxiliary_kept (act.Say line) s pid k' there = there
+auxiliary_kept (act.End how) s pid k' there = there
 
 -- and one is started
-pub hand_started : (k : Kind) (s : Standing) → IsHand (Some (next_pid s)) k (done (act.Start k) s)
-hand_started k s = (ap (λ (b : Bool). cond b (Some k) (kind_in (next_pid s) s.children)) (same_pid (next_pid s)), omega arith)
+pub auxiliary_started : (k : Kind) (s : Standing) → IsPresent (Some (next_pid s)) k (done (act.Start k) s)
+auxiliary_started k s = (ap (λ (b : Bool). cond b (Some k) (kind_in (next_pid s) s.children)) (same_pid (next_pid s)), omega arith)
 
-maybe_kept : (a : Action) (s : Standing) (hand : Option ℕ) (k' : Kind) → IsHand hand k' s → IsHand hand k' (done a s)
+maybe_kept : (a : Action) (s : Standing) (auxiliary : Option ℕ) (k' : Kind) → IsPresent auxiliary k' s → IsPresent auxiliary k' (done a s)
 maybe_kept a s None k' there = tt
-maybe_kept a s (Some pid) k' there = hand_kept a s pid k' there
+maybe_kept a s (Some pid) k' there = auxiliary_kept a s pid k' there
 
-all_kept : (a : Action) (s : Standing) (hands : Hands) → AreThere hands s → AreThere hands (done a s)
-all_kept a s hands there = record {
-  startup = maybe_kept a s hands.startup kind.Startup there.startup;
-  checkpointer = maybe_kept a s hands.checkpointer kind.Checkpointer there.checkpointer;
-  writer = maybe_kept a s hands.writer kind.Writer there.writer;
+all_kept : (a : Action) (s : Standing) (auxiliaries : Auxiliaries) → AreThere auxiliaries s → AreThere auxiliaries (done a s)
+all_kept a s auxiliaries there = record {
+  startup = maybe_kept a s auxiliaries.startup kind.Startup there.startup;
+  checkpointer = maybe_kept a s auxiliaries.checkpointer kind.Checkpointer there.checkpointer;
+  writer = maybe_kept a s auxiliaries.writer kind.Writer there.writer;
 }
 
-same_hands : (s : Standing) (before now : Hands) → now.startup ≡ before.startup → now.checkpointer ≡ before.checkpointer → now.writer ≡ before.writer → AreThere before s → AreThere now s
-same_hands s before now one two three there = record {
-  startup = subst (λ (h : Option ℕ). IsHand h kind.Startup s) (sym one) there.startup;
-  checkpointer = subst (λ (h : Option ℕ). IsHand h kind.Checkpointer s) (sym two) there.checkpointer;
-  writer = subst (λ (h : Option ℕ). IsHand h kind.Writer s) (sym three) there.writer;
+same_auxiliaries : (s : Standing) (before now : Auxiliaries) → now.startup ≡ before.startup → now.checkpointer ≡ before.checkpointer → now.writer ≡ before.writer → AreThere before s → AreThere now s
+same_auxiliaries s before now one two three there = record {
+  startup = subst (λ (h : Option ℕ). IsPresent h kind.Startup s) (sym one) there.startup;
+  checkpointer = subst (λ (h : Option ℕ). IsPresent h kind.Checkpointer s) (sym two) there.checkpointer;
+  writer = subst (λ (h : Option ℕ). IsPresent h kind.Writer s) (sym three) there.writer;
 }
 
-pub hands_acted : (a : Action) (s : Standing) (before now : Hands) → HandsBehind (act_for a s) before now → AreThere before s → AreThere now (done a s)
-hands_acted (act.Start kind.Startup) s before now is there =
-    subst (λ (h : Hands). AreThere h (done (act.Start kind.Startup) s)) (sym is) (record { startup = hand_started kind.Startup s; checkpointer = tt; writer = tt })
-hands_acted (act.Start kind.Checkpointer) s before now is there =
+pub auxiliaries_acted : (a : Action) (s : Standing) (before now : Auxiliaries) → AuxiliariesBehind (act_for a s) before now → AreThere before s → AreThere now (done a s)
+auxiliaries_acted (act.Start kind.Startup) s before now is there =
+    subst (λ (h : Auxiliaries). AreThere h (done (act.Start kind.Startup) s)) (sym is) (record { startup = auxiliary_started kind.Startup s; checkpointer = tt; writer = tt })
+auxiliaries_acted (act.Start kind.Checkpointer) s before now is there =
     let kept = all_kept (act.Start kind.Checkpointer) s before there in
-    subst (λ (h : Hands). AreThere h (done (act.Start kind.Checkpointer) s)) (sym is)
-    (record { startup = kept.startup; checkpointer = hand_started kind.Checkpointer s; writer = kept.writer })
-hands_acted (act.Start kind.Writer) s before now is there =
+    subst (λ (h : Auxiliaries). AreThere h (done (act.Start kind.Checkpointer) s)) (sym is)
+    (record { startup = kept.startup; checkpointer = auxiliary_started kind.Checkpointer s; writer = kept.writer })
+auxiliaries_acted (act.Start kind.Writer) s before now is there =
     let kept = all_kept (act.Start kind.Writer) s before there in
-    subst (λ (h : Hands). AreThere h (done (act.Start kind.Writer) s)) (sym is)
-    (record { startup = kept.startup; checkpointer = kept.checkpointer; writer = hand_started kind.Writer s })
-hands_acted (act.Start kind.Worker) s before now is there = subst (λ (h : Hands). AreThere h (done (act.Start kind.Worker) s)) (sym is) (all_kept (act.Start kind.Worker) s before there)
-hands_acted (act.Start kind.Backend) s before now is there = subst (λ (h : Hands). AreThere h (done (act.Start kind.Backend) s)) (sym is) (all_kept (act.Start kind.Backend) s before there)
-hands_acted (act.Start kind.DeadEnd) s before now is there = subst (λ (h : Hands). AreThere h (done (act.Start kind.DeadEnd) s)) (sym is) (all_kept (act.Start kind.DeadEnd) s before there)
-hands_acted (act.Quit why) s before now is there = same_hands (done (act.Quit why) s) before now is.startup is.checkpointer is.writer (all_kept (act.Quit why) s before there)
-hands_acted act.Terminate s before now is there = same_hands (done act.Terminate s) before now is.startup is.checkpointer is.writer (all_kept act.Terminate s before there)
-hands_acted act.KillAll s before now is there = same_hands (done act.KillAll s) before now is.startup is.checkpointer is.writer (all_kept act.KillAll s before there)
-hands_acted act.AskCheckpoint s before now is there = same_hands (done act.AskCheckpoint s) before now is.startup is.checkpointer is.writer (all_kept act.AskCheckpoint s before there)
-hands_acted act.Ready s before now is there = same_hands (done act.Ready s) before now is.startup is.checkpointer is.writer (all_kept act.Ready s before there)
-hands_acted act.Reset s before now is there = same_hands (done act.Reset s) before now is.startup is.checkpointer is.writer (all_kept act.Reset s before there)
-hands_acted (act.Say line) s before now is there = same_hands (done (act.Say line) s) before now is.startup is.checkpointer is.writer (all_kept (act.Say line) s before there)
-hands_acted (act.End how) s before now is there = same_hands (done (act.End how) s) before now is.startup is.checkpointer is.writer (all_kept (act.End how) s before there)
+    subst (λ (h : Auxiliaries). AreThere h (done (act.Start kind.Writer) s)) (sym is)
+    (record { startup = kept.startup; checkpointer = kept.checkpointer; writer = auxiliary_started kind.Writer s })
+auxiliaries_acted (act.Start kind.Worker) s before now is there = subst (λ (h : Auxiliaries). AreThere h (done (act.Start kind.Worker) s)) (sym is) (all_kept (act.Start kind.Worker) s before there)
+auxiliaries_acted (act.Start kind.Backend) s before now is there = subst (λ (h : Auxiliaries). AreThere h (done (act.Start kind.Backend) s)) (sym is) (all_kept (act.Start kind.Backend) s before there)
+auxiliaries_acted (act.Start kind.DeadEnd) s before now is there = subst (λ (h : Auxiliaries). AreThere h (done (act.Start kind.DeadEnd) s)) (sym is) (all_kept (act.Start kind.DeadEnd) s before there)
+auxiliaries_acted (act.Quit why) s before now is there = same_auxiliaries (done (act.Quit why) s) before now is.startup is.checkpointer is.writer (all_kept (act.Quit why) s before there)
+auxiliaries_acted act.Terminate s before now is there = same_auxiliaries (done act.Terminate s) before now is.startup is.checkpointer is.writer (all_kept act.Terminate s before there)
+auxiliaries_acted act.KillAll s before now is there = same_auxiliaries (done act.KillAll s) before now is.startup is.checkpointer is.writer (all_kept act.KillAll s before there)
+auxiliaries_acted act.AskCheckpoint s before now is there = same_auxiliaries (done act.AskCheckpoint s) before now is.startup is.checkpointer is.writer (all_kept act.AskCheckpoint s before there)
+auxiliaries_acted act.Ready s before now is there = same_auxiliaries (done act.Ready s) before now is.startup is.checkpointer is.writer (all_kept act.Ready s before there)
+auxiliaries_acted act.Reset s before now is there = same_auxiliaries (done act.Reset s) before now is.startup is.checkpointer is.writer (all_kept act.Reset s before there)
+auxiliaries_acted (act.Say line) s before now is there = same_auxiliaries (done (act.Say line) s) before now is.startup is.checkpointer is.writer (all_kept (act.Say line) s before there)
+auxiliaries_acted (act.End how) s before now is there = same_auxiliaries (done (act.End how) s) before now is.startup is.checkpointer is.writer (all_kept (act.End how) s before there)
 
 -- ---- requests
 

@@ -1,7 +1,7 @@
 -- A connection is taken, and its session's child ends.
-use Rattle.std.proofs.Common.{◌≡◌, ◌⊎◌, inl, inr, ℕ, ◌+◌, List, [], ◌∷◌, ◌++◌, Option, Some, Result, Ok, Err, refl, sym, ◌∙◌, ap, subst, arith, append-nil}
+use Rattle.std.proofs.Common.{◌≡◌, ◌⊎◌, inl, inr, ℕ, ◌+◌, List, [], ◌∷◌, ◌++◌, Option, None, Some, Result, Ok, Err, refl, sym, ◌∙◌, ap, subst, arith, append-nil}
 use Rattle.std.specs.Option.{option_map}
-use Rattle.std.specs.Prelude.{Bool, true, false, nat_le, OnOk}
+use Rattle.std.specs.Prelude.{Bool, true, false, length, nat_le, IfSome, OnOk}
 use Rattle.std.proofs.lemmas.Bool.Decides.{nat_tests}
 use Rattle.std.proofs.lemmas.List.Elements.{All-nil, All-cons}
 use Rattle.pm_admit.specs.declared.Cac.{Cac}
@@ -20,8 +20,8 @@ use Rattle.pm_journal.specs.Standing.{Adds, IsAtRest, MayTake, Standing, accepti
 use Rattle.pm_journal.specs.Stands.{AtWork, IsSettled}
 use Rattle.pm_once.specs.Calls.{Admits, Asks, Finishes, HasRun}
 use Rattle.pm_once.specs.Goes.{Goes, IsIdle, IsRunning, accepted_in, is_last_drawn, sessions_in}
-use Rattle.pm_once.specs.Hands.{AreThere, IsHand}
-use Rattle.pm_once.specs.declared.hands.Hands.{Hands}
+use Rattle.pm_once.specs.Auxiliaries.{AreThere, IsPresent}
+use Rattle.pm_once.specs.declared.auxiliaries.Auxiliaries.{Auxiliaries}
 use Rattle.pm_journal.specs.Roll.{kind_in}
 use Rattle.pm_segment.specs.MovesLaws.{moves_none}
 use Rattle.pm_once.specs.Serves.{HasServed, IsServed, Serves}
@@ -35,7 +35,8 @@ use Rattle.pm_once.proofs.Entries.{accepted_in-append}
 use Rattle.pm_once.proofs.Finishing.{is_drawn}
 use Rattle.pm_once.proofs.SessionRuns.{session_run}
 use Rattle.pm_once.proofs.Going.{goes_none, goes_on, journal-append, sessions-append, stays_on}
-use Rattle.pm_once.proofs.Serving.{ends_on, open_on}
+use Rattle.pm_once.proofs.Serving.{ends_on, one_numbered, open_on}
+use Rattle.pm_once.proofs.Knowing.{known_moved}
 
 -- what the taking of a connection leaves
 pub record HasTaken (before : View) (w : AtWork) : Type 0 where
@@ -56,9 +57,9 @@ one_accepted : (v : View) (pid : ℕ) → decision_on v.work.standing ≡ decisi
 one_accepted v pid ok is =
     ap (λ (d : Cac). record { pid = next_pid v.work.standing; decision = d } ∷ []) ok ∙ ap (λ (p : ℕ). record { pid = p; decision = decisions.Ok } ∷ []) (sym is)
 
-is_there : (gives : ℕ → Type 0) (v : View) (w : AtWork) (pid : ℕ) → HasTaken v w → IsTaken gives v (record v { work = w }) → pid ≡ next_pid v.work.standing → IsHand (Some pid) kind.Backend w.standing
+is_there : (gives : ℕ → Type 0) (v : View) (w : AtWork) (pid : ℕ) → HasTaken v w → IsTaken gives v (record v { work = w }) → pid ≡ next_pid v.work.standing → IsPresent (Some pid) kind.Backend w.standing
 is_there gives v w pid took one is =
-    subst (λ (p : ℕ). IsHand (Some p) kind.Backend w.standing) (sym is)
+    subst (λ (p : ℕ). IsPresent (Some p) kind.Backend w.standing) (sym is)
     (one.there ∙ ap (λ (k : Kind). Some k) (its_kind (decision_on v.work.standing) took.ok), omega (arith, ap (λ (t : Standing). t.last_pid) took.standing))
 
 drawn_on : (n m : ℕ) → m ≡ n + 1 → is_last_drawn n ≡ true → is_last_drawn m ≡ true
@@ -97,7 +98,7 @@ admits_asking goes work gives v w pid result steps now took is owes running asks
       opened = stays_on (accepted_step v ∷ []) steps v mid now one.stays asks.opened;
       rests = asks.rests;
       unowed = elim result as (λ r. OnOk r (IsIdle now.work.standing) → OnOk r (now.work.standing.owes_smart ≡ false)) [ Ok done ↦ λ idle. idle.unowed | Err end ↦ λ idle. tt ] asks.idle;
-      there = asks.hands pid kind.Backend (is_there gives v w pid took one is);
+      there = asks.auxiliaries pid kind.Backend (is_there gives v w pid took one is);
       first = omega (arith, is);
       accepted = ap accepted_in (journal-append (accepted_step v ∷ []) steps) ∙ accepted_in-append (journal_of (accepted_step v ∷ [])) (journal_of steps)
           ∙ ap (λ (l : List Taken). accepted_in (journal_of (accepted_step v ∷ [])) ++ l) asks.does.serves.accepted ∙ append-nil (accepted_in (journal_of (accepted_step v ∷ []))) ∙ one_accepted v pid took.ok is;
@@ -163,12 +164,13 @@ serves_short gives admitted c one v0 v2 v4 listens admits goes same standing =
 -- ---- what was served
 
 pub session_served : (seed : List ℕ) (limit : ℕ) (gives : ℕ → Type 0) (admitted : Admitted) (c : Connection) (at : ℕ) (result : Result (Unit {0}) ServerEnd) (one three : List Step) (v0 v2 v4 v5 : View) (u w : Option Visits)
-    → Admits gives admitted one v0 v2 → Finishes gives result three v4 v5 → c.pid ≡ admitted.pid → IsServed seed limit gives c → w ≡ option_map (with_connections (c ∷ [])) u
+    → Admits gives admitted one v0 v2 → Finishes gives result three v4 v5 → c.pid ≡ admitted.pid → IsServed seed limit gives c → IfSome u (λ visits. c.given.number ≡ length visits.given + 1) → w ≡ option_map (with_connections (c ∷ [])) u
     → HasServed seed limit gives (c ∷ []) false ((one ++ Runs (run_of c) at ∷ []) ++ three) u w
-session_served seed limit gives admitted c at result one three v0 v2 v4 v5 u w admits finishes pid served visits =
+session_served seed limit gives admitted c at result one three v0 v2 v4 v5 u w admits finishes pid served numbered visits =
     let step : List Step = Runs (run_of c) at ∷ [] in
     record {
       visits = visits;
+      numbers = one_numbered c u numbered;
       each = All-cons (IsServed seed limit gives) c [] served (All-nil (IsServed seed limit gives));
       accepted =
           ap accepted_in (journal-append (one ++ step) three) ∙ accepted_in-append (journal_of (one ++ step)) (journal_of three)
@@ -181,11 +183,12 @@ session_served seed limit gives admitted c at result one three v0 v2 v4 v5 u w a
     }
 
 pub short_served : (seed : List ℕ) (limit : ℕ) (gives : ℕ → Type 0) (admitted : Admitted) (c : Connection) (one : List Step) (v0 v2 : View) (u w : Option Visits)
-    → Admits gives admitted one v0 v2 → c.pid ≡ admitted.pid → IsServed seed limit gives c → w ≡ option_map (with_connections (c ∷ [])) u → HasServed seed limit gives (c ∷ []) false (one ++ RunsOn (run_of c) ∷ []) u w
-short_served seed limit gives admitted c one v0 v2 u w admits pid served visits =
+    → Admits gives admitted one v0 v2 → c.pid ≡ admitted.pid → IsServed seed limit gives c → IfSome u (λ visits. c.given.number ≡ length visits.given + 1) → w ≡ option_map (with_connections (c ∷ [])) u → HasServed seed limit gives (c ∷ []) false (one ++ RunsOn (run_of c) ∷ []) u w
+short_served seed limit gives admitted c one v0 v2 u w admits pid served numbered visits =
     let step : List Step = RunsOn (run_of c) ∷ [] in
     record {
       visits = visits;
+      numbers = one_numbered c u numbered;
       each = All-cons (IsServed seed limit gives) c [] served (All-nil (IsServed seed limit gives));
       accepted =
           ap accepted_in (journal-append one step) ∙ accepted_in-append (journal_of one) (journal_of step)
@@ -210,16 +213,18 @@ nothing_short gives v w same = subst (λ (x : AtWork). Serves gives (Err NoMemor
 })
 
 -- the child of a session has run
-pub session_ran : (key limit : ℕ) (gives : ℕ → Type 0) (c : Connection) (pid : ℕ) (before now : View) → IsServedAs key limit gives c → c.pid ≡ pid → c.generation ≡ before.store.generation → IsHand (Some pid) kind.Backend before.work.standing
-    → now.work ≡ before.work → Moves c.noted before.store now.store → now.lost ≡ before.lost → now.log ≡ before.log → now.hands ≡ before.hands → now.listens ≡ before.listens → HasRun (run_of c) before now
-session_ran key limit gives c pid before now served is generation there work store lost log hands listens = record {
+pub session_ran : (key limit : ℕ) (gives : ℕ → Type 0) (c : Connection) (pid : ℕ) (before now : View) → IsServedAs key limit gives c → c.pid ≡ pid → c.generation ≡ before.store.generation → IsPresent (Some pid) kind.Backend before.work.standing
+    → now.work ≡ before.work → now.outcome ≡ None → Moves c.noted before.store now.store → now.lost ≡ before.lost → now.log ≡ before.log → now.auxiliaries ≡ before.auxiliaries → now.listens ≡ before.listens → HasRun (run_of c) before now
+session_ran key limit gives c pid before now served is generation there work forgotten store lost log auxiliaries listens = record {
   is_run = session_run key limit gives c served;
   there = ap (λ (p : ℕ). kind_in p before.work.standing.children) is ∙ there.0;
   generation = generation;
   off = tt;
-  hands = λ s were. subst (λ (h : Hands). AreThere h s) (sym hands) were;
+  auxiliaries = λ s were. subst (λ (h : Auxiliaries). AreThere h s) (sym auxiliaries) were;
   work = work;
   store = store;
+  knows = λ from known. known_moved from c.noted before now forgotten store known;
+  told = tt;
   lost = lost;
   log = log;
   listens = listens;
@@ -229,7 +234,7 @@ session_ran key limit gives c pid before now served is generation there work sto
 pub still_short : StepsGoOn → KeepsALegalJournal → (gives : ℕ → Type 0) (run : ChildRun) (before now : View) → IsRunning before → IsAtRest before.work.standing → HasRun run before now → Goes gives (RunsOn run ∷ []) before now
 still_short goes legal gives run before now running rests ran =
     ran_on goes legal gives run before now now running rests ran
-    (record { standing = refl; told = refl; lost = refl; store = moves_none now.store; log = refl; hands = refl; listens = refl })
+    (record { standing = refl; told = refl; lost = refl; store = record { moves = moves_none now.store; rows = refl; live = refl; files = refl; faults = refl }; outcome = refl; log = refl; auxiliaries = refl; listens = refl })
 
 pub idle_of : (v : View) (r : Result (Unit {0}) ServerEnd) → r ≡ Ok tt → IsAtRest v.work.standing → OnOk r (v.work.standing.owes_smart ≡ false) → IsIdle v.work.standing
 idle_of v r is rests unowed = record { rests = rests; unowed = subst (λ (x : Result (Unit {0}) ServerEnd). OnOk x (v.work.standing.owes_smart ≡ false)) is unowed }

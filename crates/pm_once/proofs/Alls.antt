@@ -14,7 +14,7 @@ running_on gives steps a b running goes stays = (running.0, running.1 ++ steps, 
 
 keeps_on : (a b c : Standing) → Keeps a b → Keeps b c → Keeps a c
 keeps_on a b c one two = record {
-  hands = λ pid kind there. two.hands pid kind (one.hands pid kind there);
+  auxiliaries = λ pid kind there. two.auxiliaries pid kind (one.auxiliaries pid kind there);
   settled = λ was. two.settled (one.settled was);
   drawn = λ drawn. two.drawn (one.drawn drawn);
   unowed = λ drawn unowed. two.unowed (one.drawn drawn) (one.unowed drawn unowed);
@@ -23,10 +23,9 @@ keeps_on a b c one two = record {
 pub none_yet : (v : View) → ActsSoFar [] v v
 none_yet v = record {
   does = does_nothing (λ at. ⊥) v;
-  keeps = record { hands = λ pid kind there. there; settled = λ was. was; drawn = λ drawn. drawn; unowed = λ drawn unowed. unowed };
+  keeps = record { auxiliaries = λ pid kind there. there; settled = λ was. was; drawn = λ drawn. drawn; unowed = λ drawn unowed. unowed };
   ended = refl;
   says = λ says. (says, refl);
-  failure = refl;
   listens = refl;
 }
 
@@ -36,7 +35,6 @@ one_more_act steps next a b c so_far one = record {
   keeps = keeps_on a.work.standing b.work.standing c.work.standing so_far.keeps one.keeps;
   ended = one.ended ∙ so_far.ended;
   says = λ says. ((one.says (so_far.says says).0).0, (one.says (so_far.says says).0).1 ∙ (so_far.says says).1);
-  failure = one.failure ∙ so_far.failure;
   listens = one.listens ∙ so_far.listens;
 }
 
@@ -47,7 +45,6 @@ all_done steps next a b c so_far one = record {
   none_due = one.none_due refl;
   says = λ says. (one.says (so_far.says says).0).1 ∙ (so_far.says says).1;
   ended = one.ended ∙ so_far.ended;
-  failure = one.failure ∙ so_far.failure;
   listens = one.listens ∙ so_far.listens;
 }
 
@@ -58,6 +55,5 @@ ended_in end steps next a b c so_far one = record {
   none_due = tt;
   says = λ says. (one.says (so_far.says says).0).1 ∙ (so_far.says says).1;
   ended = tt;
-  failure = one.failure ∙ so_far.failure;
   listens = one.listens ∙ so_far.listens;
 }

@@ -3,7 +3,7 @@ use Rattle.std.proofs.Common.{◌≡◌, ◌⊎◌, inl, inr, ℕ, ◌+◌, ◌<
 use Rattle.std.specs.Prelude.{Bool, true, false, max, nat_le, IfSome}
 use Rattle.std.specs.List.{last_or}
 use Rattle.std.proofs.lemmas.Bool.Decides.{nat_tests}
-use Rattle.std.proofs.lemmas.List.Elements.{All-push}
+use Rattle.std.proofs.lemmas.List.Elements.{All-nil, All-cons, All-push}
 use Rattle.pm_exit.specs.declared.child.Kind.{Kind}
 use Rattle.pm_exit.specs.declared.child.Kind.TheVariants as kind
 use Rattle.pm_modes.specs.declared.Mode.{Mode}
@@ -19,10 +19,10 @@ use Rattle.pm_journal.specs.Laws.{GoesOnOverItsJournal, KeepsALegalJournal}
 use Rattle.pm_journal.specs.Roll.{kind_in}
 use Rattle.pm_journal.specs.Standing.{Adds, IsAtRest, Standing, asking, later, made, turning}
 use Rattle.pm_journal.specs.Stands.{AtWork, Stands, behind}
-use Rattle.pm_once.specs.Goes.{AreOurs, AsksAsDue, Does, IsAt, IsFree, IsIdle, IsMoment, IsOpen, asked_in, is_last_drawn}
-use Rattle.pm_once.specs.Hands.{AreThere, IsHand}
+use Rattle.pm_once.specs.Goes.{AreOurEnds, AreOurs, AsksAsDue, Does, IsAt, IsFree, IsIdle, IsMoment, IsOpen, asked_in, is_last_drawn}
+use Rattle.pm_once.specs.Auxiliaries.{AreThere, IsPresent}
 use Rattle.pm_once.specs.Log.{HasSaid}
-use Rattle.pm_once.specs.declared.hands.Hands.{Hands}
+use Rattle.pm_once.specs.declared.auxiliaries.Auxiliaries.{Auxiliaries}
 use Rattle.pm_once.specs.View.{View}
 use Rattle.pm_once.proofs.Acting.{notes_follow}
 use Rattle.pm_once.proofs.Entries.{asked_in-append}
@@ -31,6 +31,9 @@ use Rattle.pm_once.proofs.Nexts.{told_more}
 use Rattle.pm_once.proofs.Ours.{ask_says, says_ours, turn_ours}
 use Rattle.pm_once.proofs.Saying.{said_same}
 use Rattle.pm_once.proofs.Spans.{spans_none}
+use Rattle.pm_once.specs.AuxiliaryRuns.{IsToldRun}
+use Rattle.pm_once.proofs.OurEnds.{ends_append}
+use Rattle.pm_segment.specs.MovesLaws.{moves_none}
 
 -- ---- moments
 
@@ -56,15 +59,15 @@ as_last gives before at (inr old) = inl old.0
 
 -- ---- the children stay
 
-pub hand_still : (hand : Option ℕ) (k : Kind) (s t : Standing) → t.children ≡ s.children → t.last_pid ≡ s.last_pid → IsHand hand k s → IsHand hand k t
-hand_still None k s t children pid there = tt
-hand_still (Some p) k s t children pid there = (ap (kind_in p) children ∙ there.0, omega (arith, there.1, pid))
+pub auxiliary_still : (auxiliary : Option ℕ) (k : Kind) (s t : Standing) → t.children ≡ s.children → t.last_pid ≡ s.last_pid → IsPresent auxiliary k s → IsPresent auxiliary k t
+auxiliary_still None k s t children pid there = tt
+auxiliary_still (Some p) k s t children pid there = (ap (kind_in p) children ∙ there.0, omega (arith, there.1, pid))
 
-pub hands_still : (hands : Hands) (s t : Standing) → t.children ≡ s.children → t.last_pid ≡ s.last_pid → AreThere hands s → AreThere hands t
-hands_still hands s t children pid there = record {
-  startup = hand_still hands.startup kind.Startup s t children pid there.startup;
-  checkpointer = hand_still hands.checkpointer kind.Checkpointer s t children pid there.checkpointer;
-  writer = hand_still hands.writer kind.Writer s t children pid there.writer;
+pub auxiliaries_still : (auxiliaries : Auxiliaries) (s t : Standing) → t.children ≡ s.children → t.last_pid ≡ s.last_pid → AreThere auxiliaries s → AreThere auxiliaries t
+auxiliaries_still auxiliaries s t children pid there = record {
+  startup = auxiliary_still auxiliaries.startup kind.Startup s t children pid there.startup;
+  checkpointer = auxiliary_still auxiliaries.checkpointer kind.Checkpointer s t children pid there.checkpointer;
+  writer = auxiliary_still auxiliaries.writer kind.Writer s t children pid there.writer;
 }
 
 -- ---- a request
@@ -105,11 +108,12 @@ asked goes work gives at before w given rests due standing told =
               are_steps = goes.step outset.limits earlier (Notes e) is.are_steps (record { follows = notes_follow e (last_or None earlier) opened.free; fits = tt });
               lost_is = is.lost_is ∙ sym (goes.lost earlier (Notes e));
               said = subst (λ (l : List PmEvent). HasSaid l outset.log before.log) j (said_same (journal_of earlier) (e ∷ []) outset.log before.log refl is.said);
-              hands = subst (λ (t : Standing). AreThere before.hands t) (sym standing) (hands_still before.hands s (made (asking Smart at s) s) refl refl is.hands);
+              auxiliaries = subst (λ (t : Standing). AreThere before.auxiliaries t) (sym standing) (auxiliaries_still before.auxiliaries s (made (asking Smart at s) s) refl refl is.auxiliaries);
               asks = subst (λ (t : Standing). AsksAsDue (asked_in (journal_of (earlier ++ Notes e ∷ []))) false t) (sym standing)
                   (subst (λ (l : List Mode). AsksAsDue l false (made (asking Smart at s) s)) (sym (ap asked_in (sym j) ∙ asked_in-append (journal_of earlier) (e ∷ [])))
                   (asks_more (asked_in (journal_of earlier)) before.listens s (made (asking Smart at s) s) due refl refl is.asks));
               acts = subst (AreOurs outset.limits) (sym (ap (λ (t : Standing). t.due) standing)) (says_ours outset.limits (asked_with (strengthen_of s.machine.shutdown Smart) s.machine (later at s)).acts (ask_says s.machine (later at s)));
+              ends = subst (AreOurEnds outset.limits) j (ends_append outset.limits (journal_of earlier) (e ∷ []) is.ends tt);
             };
         journal = told;
         times = record {
@@ -117,6 +121,10 @@ asked goes work gives at before w given rests due standing told =
           last = subst (λ (t : Standing). (t.moment ≡ s.moment) ⊎ gives t.moment) (sym standing) (as_last gives s.moment (later at s) moment);
         };
         store = spans_none before.store;
+        runs = All-cons IsToldRun (Notes e) [] tt (All-nil IsToldRun);
+        still = λ none. refl;
+        unread = λ none. (moves_none before.store).unread;
+        knows = λ from known. record { counted = known.counted; come = known.come };
       };
       stays = λ earlier opened. record {
         free = subst IsFree (sym (goes.last earlier (Notes e))) tt;
@@ -146,13 +154,18 @@ turned goes work journal gives before w idle standing told =
               are_steps = is.are_steps;
               lost_is = is.lost_is;
               said = is.said;
-              hands = subst (λ (t : Standing). AreThere before.hands t) (sym standing) (hands_still before.hands s (made turning s) refl refl is.hands);
+              auxiliaries = subst (λ (t : Standing). AreThere before.auxiliaries t) (sym standing) (auxiliaries_still before.auxiliaries s (made turning s) refl refl is.auxiliaries);
               asks = subst (λ (t : Standing). AsksAsDue (asked_in (journal_of earlier)) before.listens t) (sym standing) (record { smart = is.asks.smart; few = is.asks.few });
               acts = subst (AreOurs outset.limits) (sym (ap (λ (t : Standing). t.due) standing)) (turn_ours outset.limits s.machine holds.facts.same_limits);
+              ends = is.ends;
             });
         journal = subst (λ (t : Option (List PmEvent)). Adds [] before.work.told t) (sym told) (adds_none before.work.told);
         times = record { each = tt; last = inl (ap (λ (t : Standing). t.moment) standing) };
         store = spans_none before.store;
+        runs = All-nil IsToldRun;
+        still = λ none. refl;
+        unread = λ none. (moves_none before.store).unread;
+        knows = λ from known. record { counted = known.counted; come = known.come };
       };
       stays = λ earlier opened. subst (λ (l : List Step). IsOpen l (record before { work = w })) (sym (append-nil earlier)) (record {
         free = opened.free;

@@ -16,7 +16,7 @@ use Rattle.pm_state.specs.Journal.{acts_of_call}
 use Rattle.pm_query.specs.declared.book.BookEntry.{BookEntry}
 use Rattle.pm_segment.specs.Children.{times_in}
 use Rattle.pm_segment.specs.Moves.{Moves}
-use Rattle.pm_segment.specs.MovesLaws.{moves_on}
+use Rattle.pm_segment.specs.MovesLaws.{moves_none, moves_on}
 use Rattle.pm_chain.specs.Laws.{StepsGoOn}
 use Rattle.pm_chain.specs.Steps.{ChildRun, Notes, Step, Runs, RunsOn, redo_end, journal_by, journal_of}
 use Rattle.pm_journal.specs.Laws.{GoesOnOverItsJournal, KeepsALegalJournal}
@@ -25,20 +25,24 @@ use Rattle.pm_journal.specs.declared.exit.ChildExit.{ChildExit}
 use Rattle.pm_journal.specs.Standing.{Adds, IsAtRest, MayTake, Standing, accepting, all_noted, called, decision_on, exit_call, exit_entry, exiting, later, made, next_pid, ends_redo}
 use Rattle.pm_journal.specs.Stands.{AtWork, IsSettled, Stands, behind}
 use Rattle.pm_once.specs.Calls.{HasRun, NotesExit, NotesNoExit, exit_of}
-use Rattle.pm_once.specs.Goes.{AreOurs, AsksAsDue, Goes, IsFree, IsIdle, IsMoment, IsRunning, Spans, StaysOpen, asked_in, is_last_drawn}
-use Rattle.pm_once.specs.Hands.{AreThere, IsHand}
+use Rattle.pm_once.specs.Goes.{AreOurEnds, AreOurs, AsksAsDue, Goes, IsFree, IsIdle, IsMoment, IsRunning, Spans, StaysOpen, asked_in, is_last_drawn}
+use Rattle.pm_once.specs.Auxiliaries.{AreThere, IsPresent}
 use Rattle.pm_once.specs.Log.{HasSaid, LogView}
 use Rattle.pm_once.specs.View.{View}
-use Rattle.pm_once.specs.declared.hands.Hands.{Hands}
+use Rattle.pm_once.specs.declared.auxiliaries.Auxiliaries.{Auxiliaries}
 use Rattle.pm_once.proofs.Acting.{asks_drawn, notes_follow, run_follows, runs_on_follows}
 use Rattle.pm_once.proofs.Calling.{as_last, later_moment}
 use Rattle.pm_once.proofs.Entries.{asked_in-append}
 use Rattle.pm_once.proofs.Going.{adds_none}
 use Rattle.pm_once.proofs.Nexts.{told_more}
 use Rattle.pm_once.proofs.Ours.{exit_ours}
-use Rattle.pm_once.proofs.Running.{exit_entries, hands_without, lost_more, more_inside, no_asks, no_lines, run_inside, there_in}
+use Rattle.pm_once.proofs.Running.{exit_entries, auxiliaries_without, lost_more, more_inside, no_asks, no_lines, run_inside, there_in}
 use Rattle.pm_once.proofs.Saying.{said_same}
 use Rattle.pm_once.proofs.Spans.{spans_moves, spans_none}
+use Rattle.pm_once.specs.AuxiliaryRuns.{IsToldRun}
+use Rattle.std.proofs.lemmas.List.Elements.{All-nil, All-cons}
+use Rattle.pm_once.proofs.Knowing.{known_still}
+use Rattle.pm_once.proofs.OurEnds.{ends_append, exit_ends}
 
 -- what the end of a child leaves
 record HasExited (exit : ChildExit) (at : ℕ) (s t : Standing) : Type 0 where
@@ -96,7 +100,7 @@ ran_noted goes work legal gives run at before mid now running idle ran noted =
     let told : Adds (journal_by step) before.work.told now.work.told =
     subst (λ (l : List PmEvent). Adds l before.work.told now.work.told) es (subst (λ (w : AtWork). Adds (exiting exit at w.standing).entries w.told now.work.told) ran.work noted.told) in
     let moment : IsMoment gives s.moment when = later_moment gives at s.moment noted.given in
-    let store : Moves run.noted before.store now.store = subst (λ (l : List BookEntry). Moves l before.store now.store) (append-nil run.noted) (moves_on run.noted [] before.store mid.store now.store ran.store noted.store) in
+    let store : Moves run.noted before.store now.store = subst (λ (l : List BookEntry). Moves l before.store now.store) (append-nil run.noted) (moves_on run.noted [] before.store mid.store now.store ran.store noted.store.moves) in
     let lost : now.lost ≡ (if run.was_active then before.lost ++ run.pid ∷ [] else before.lost) = noted.lost ∙ ap (λ (l : List ℕ). if run.was_active then l ++ run.pid ∷ [] else l) ran.lost in
     let log : now.log ≡ before.log = noted.log ∙ ran.log in
     let listens : now.listens ≡ before.listens = noted.listens ∙ ran.listens in
@@ -117,14 +121,16 @@ ran_noted goes work legal gives run at before mid now running idle ran noted =
               lost_is = lost ∙ ap (λ (l : List ℕ). if run.was_active then l ++ run.pid ∷ [] else l) is.lost_is ∙ sym (goes.lost earlier step);
               said = subst (λ (l : List PmEvent). HasSaid l outset.log now.log) j (subst (λ (x : LogView). HasSaid (journal_of earlier ++ journal_by step) outset.log x) (sym log)
                   (said_same (journal_of earlier) (journal_by step) outset.log before.log (no_lines run.kept run.generation) is.said));
-              hands = subst (λ (t : Standing). AreThere now.hands t) (sym standing) (subst (λ (h : Hands). AreThere h (made (exiting exit at s) s)) (sym noted.hands)
-                  (hands_without run.kind run.pid mid.hands s (made (exiting exit at s) s) ran.off ran.there left.children left.last_pid (ran.hands s is.hands)));
+              auxiliaries = subst (λ (t : Standing). AreThere now.auxiliaries t) (sym standing) (subst (λ (h : Auxiliaries). AreThere h (made (exiting exit at s) s)) (sym noted.auxiliaries)
+                  (auxiliaries_without run.kind run.pid mid.auxiliaries s (made (exiting exit at s) s) ran.off ran.there left.children left.last_pid (ran.auxiliaries s is.auxiliaries)));
               asks = subst (λ (t : Standing). AsksAsDue (asked_in (journal_of (earlier ++ step ∷ []))) now.listens t) (sym standing)
                   (subst (λ (b : Bool). AsksAsDue (asked_in (journal_of (earlier ++ step ∷ []))) b (made (exiting exit at s) s)) (sym listens)
                   (subst (λ (l : List Mode). AsksAsDue l before.listens (made (exiting exit at s) s))
                   (sym (ap asked_in (sym j) ∙ asked_in-append (journal_of earlier) (journal_by step) ∙ ap (λ (l : List Mode). asked_in (journal_of earlier) ++ l) (no_asks run.kept run.generation) ∙ append-nil (asked_in (journal_of earlier))))
                   (same_owes (asked_in (journal_of earlier)) before.listens s (made (exiting exit at s) s) left.last_pid left.owes is.asks)));
               acts = subst (AreOurs outset.limits) (sym (ap (λ (t : Standing). t.due) standing ∙ left.due)) (exit_ours outset.limits run.kind s.machine _ run.was_active);
+              ends = subst (AreOurEnds outset.limits) j (ends_append outset.limits (journal_of earlier) (journal_by step) is.ends
+                  (exit_ends outset.limits run.pid run.kind run.status run.was_active when run.generation run.kept));
             };
         journal = subst (λ (l : List PmEvent). Adds l before.work.told now.work.told) (sym (append-nil (journal_by step))) told;
         times = record {
@@ -132,6 +138,10 @@ ran_noted goes work legal gives run at before mid now running idle ran noted =
           last = subst (λ (t : Standing). (t.moment ≡ s.moment) ⊎ gives t.moment) (sym standing) (subst (λ (n : ℕ). (n ≡ s.moment) ⊎ gives n) (sym left.moment) (as_last gives s.moment when moment));
         };
         store = subst (λ (l : List BookEntry). Spans l before.store now.store) (sym (append-nil run.noted)) (spans_moves run.noted before.store now.store store);
+        runs = All-cons IsToldRun step [] ran.told (All-nil IsToldRun);
+        still = λ none. store.generation;
+        unread = λ none. store.unread;
+        knows = λ from known. known_still from mid now noted.outcome noted.store (ran.knows from known);
       };
       stays = λ earlier opened. record {
         free = subst IsFree (sym (goes.last earlier step)) tt;
@@ -156,7 +166,7 @@ ran_on goes legal gives run before mid now running rests ran noted =
     let standing : now.work.standing ≡ s = noted.standing ∙ ap (λ (w : AtWork). w.standing) ran.work in
     let told : now.work.told ≡ before.work.told = noted.told ∙ ap (λ (w : AtWork). w.told) ran.work in
     let generation : run.generation ≡ s.generation = ran.generation ∙ running.3.same in
-    let store : Moves run.noted before.store now.store = subst (λ (l : List BookEntry). Moves l before.store now.store) (append-nil run.noted) (moves_on run.noted [] before.store mid.store now.store ran.store noted.store) in
+    let store : Moves run.noted before.store now.store = subst (λ (l : List BookEntry). Moves l before.store now.store) (append-nil run.noted) (moves_on run.noted [] before.store mid.store now.store ran.store noted.store.moves) in
     let log : now.log ≡ before.log = noted.log ∙ ran.log in
     let listens : now.listens ≡ before.listens = noted.listens ∙ ran.listens in
     record {
@@ -172,31 +182,36 @@ ran_on goes legal gives run before mid now running rests ran noted =
             });
             lost_is = noted.lost ∙ ran.lost ∙ is.lost_is ∙ sym (goes.lost earlier step);
             said = subst (λ (l : List PmEvent). HasSaid l outset.log now.log) j (subst (λ (x : LogView). HasSaid (journal_of earlier) outset.log x) (sym log) is.said);
-            hands = subst (λ (t : Standing). AreThere now.hands t) (sym standing) (subst (λ (h : Hands). AreThere h s) (sym noted.hands) (ran.hands s is.hands));
+            auxiliaries = subst (λ (t : Standing). AreThere now.auxiliaries t) (sym standing) (subst (λ (h : Auxiliaries). AreThere h s) (sym noted.auxiliaries) (ran.auxiliaries s is.auxiliaries));
             asks = subst (λ (t : Standing). AsksAsDue (asked_in (journal_of (earlier ++ step ∷ []))) now.listens t) (sym standing)
                 (subst (λ (b : Bool). AsksAsDue (asked_in (journal_of (earlier ++ step ∷ []))) b s) (sym listens) (subst (λ (l : List PmEvent). AsksAsDue (asked_in l) before.listens s) j is.asks));
             acts = subst (λ (t : Standing). AreOurs outset.limits t.due) (sym standing) is.acts;
+            ends = subst (AreOurEnds outset.limits) j is.ends;
           };
       journal = subst (λ (t : Option (List PmEvent)). Adds [] before.work.told t) (sym told) (adds_none before.work.told);
       times = record { each = tt; last = inl (ap (λ (t : Standing). t.moment) standing) };
       store = subst (λ (l : List BookEntry). Spans l before.store now.store) (sym (append-nil run.noted)) (spans_moves run.noted before.store now.store store);
+      runs = All-cons IsToldRun step [] ran.told (All-nil IsToldRun);
+      still = λ none. store.generation;
+      unread = λ none. store.unread;
+      knows = λ from known. known_still from mid now noted.outcome noted.store (ran.knows from known);
     }
 
 -- ---- a connection is accepted
 
-hand_beside : (hand : Option ℕ) (k new : Kind) (s t : Standing) → t.children ≡ record { pid = s.last_pid + 1; kind = new } ∷ s.children → t.last_pid ≡ s.last_pid + 1 → IsHand hand k s → IsHand hand k t
-hand_beside None k new s t children last is = tt
-hand_beside (Some p) k new s t children last is =
+auxiliary_beside : (auxiliary : Option ℕ) (k new : Kind) (s t : Standing) → t.children ≡ record { pid = s.last_pid + 1; kind = new } ∷ s.children → t.last_pid ≡ s.last_pid + 1 → IsPresent auxiliary k s → IsPresent auxiliary k t
+auxiliary_beside None k new s t children last is = tt
+auxiliary_beside (Some p) k new s t children last is =
     (ap (kind_in p) children ∙ ap (λ (b : Bool). if b then Some new else kind_in p s.children) (another p s.last_pid is.1) ∙ is.0, omega (arith, is.1, last))
   where
     another : (p last : ℕ) → p ≤ last → (last + 1 == p) ≡ false
     another p last within = grind (arith, nat_tests)
 
-pub hands_beside : (hands : Hands) (new : Kind) (s t : Standing) → t.children ≡ record { pid = s.last_pid + 1; kind = new } ∷ s.children → t.last_pid ≡ s.last_pid + 1 → AreThere hands s → AreThere hands t
-hands_beside hands new s t children last is = record {
-  startup = hand_beside hands.startup kind.Startup new s t children last is.startup;
-  checkpointer = hand_beside hands.checkpointer kind.Checkpointer new s t children last is.checkpointer;
-  writer = hand_beside hands.writer kind.Writer new s t children last is.writer;
+pub auxiliaries_beside : (auxiliaries : Auxiliaries) (new : Kind) (s t : Standing) → t.children ≡ record { pid = s.last_pid + 1; kind = new } ∷ s.children → t.last_pid ≡ s.last_pid + 1 → AreThere auxiliaries s → AreThere auxiliaries t
+auxiliaries_beside auxiliaries new s t children last is = record {
+  startup = auxiliary_beside auxiliaries.startup kind.Startup new s t children last is.startup;
+  checkpointer = auxiliary_beside auxiliaries.checkpointer kind.Checkpointer new s t children last is.checkpointer;
+  writer = auxiliary_beside auxiliaries.writer kind.Writer new s t children last is.writer;
 }
 
 pub record IsTaken (gives : ℕ → Type 0) (before now : View) : Type 0 where
@@ -223,15 +238,20 @@ taken goes work gives before w rests settled may standing told =
               are_steps = goes.step outset.limits earlier (Notes e) is.are_steps (record { follows = notes_follow e (last_or None earlier) opened.free; fits = tt });
               lost_is = is.lost_is ∙ sym (goes.lost earlier (Notes e));
               said = subst (λ (l : List PmEvent). HasSaid l outset.log before.log) j (said_same (journal_of earlier) (e ∷ []) outset.log before.log refl is.said);
-              hands = subst (λ (t : Standing). AreThere before.hands t) (sym standing) (hands_beside before.hands (kind_for (decision_on s)) s (made (accepting s) s) refl refl is.hands);
+              auxiliaries = subst (λ (t : Standing). AreThere before.auxiliaries t) (sym standing) (auxiliaries_beside before.auxiliaries (kind_for (decision_on s)) s (made (accepting s) s) refl refl is.auxiliaries);
               asks = subst (λ (t : Standing). AsksAsDue (asked_in (journal_of (earlier ++ Notes e ∷ []))) before.listens t) (sym standing)
                   (subst (λ (l : List Mode). AsksAsDue l before.listens (made (accepting s) s)) (sym (ap asked_in (sym j) ∙ asked_in-append (journal_of earlier) (e ∷ []) ∙ append-nil (asked_in (journal_of earlier))))
                   (asks_drawn (asked_in (journal_of earlier)) before.listens s (made (accepting s) s) refl refl is.asks));
               acts = subst (λ (t : Standing). AreOurs outset.limits t.due) (sym standing) tt;
+              ends = subst (AreOurEnds outset.limits) j (ends_append outset.limits (journal_of earlier) (e ∷ []) is.ends tt);
             };
         journal = told;
         times = record { each = (tt, tt); last = inl (ap (λ (t : Standing). t.moment) standing) };
         store = spans_none before.store;
+        runs = All-cons IsToldRun (Notes e) [] tt (All-nil IsToldRun);
+        still = λ none. refl;
+        unread = λ none. (moves_none before.store).unread;
+        knows = λ from known. record { counted = known.counted; come = known.come };
       };
       stays = λ earlier opened. record {
         free = subst IsFree (sym (goes.last earlier (Notes e))) tt;

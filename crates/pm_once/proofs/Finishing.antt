@@ -15,12 +15,15 @@ use Rattle.pm_once.specs.Goes.{AsksAsDue, IsAt, IsIdle, IsOpen, IsRunning, Stays
 use Rattle.pm_once.specs.View.{View}
 use Rattle.pm_once.specs.declared.end.ServerEnd.{ServerEnd}
 use Rattle.pm_once.specs.declared.end.ServerEnd.TheVariants.{NoMemory}
-use Rattle.pm_once.proofs.Calling.{asked, deaf, hand_still}
+use Rattle.pm_once.proofs.Calling.{asked, deaf, auxiliary_still}
 use Rattle.pm_once.proofs.Going.{adds_none, does_any, does_then, serves_nothing}
 use Rattle.pm_once.proofs.Nexts.{same_work}
 use Rattle.pm_once.proofs.Entries.{times_none}
 use Rattle.pm_once.proofs.Ours.{ask_says}
 use Rattle.pm_once.proofs.Spans.{spans_none}
+use Rattle.pm_once.specs.AuxiliaryRuns.{IsToldRun}
+use Rattle.std.proofs.lemmas.List.Elements.{All-nil}
+use Rattle.pm_segment.specs.MovesLaws.{moves_none}
 
 never_err : {E : Type 0} (e : E) (r : Result (Unit {0}) E) → r ≡ Err e → IsOk r → ⊥
 never_err e (Ok done) is ok = cc
@@ -39,7 +42,7 @@ asks_ok goes work gives at before w result steps now given rests due standing to
     let same_pid : w.standing.last_pid ≡ s.last_pid = ap (λ (t : Standing). t.last_pid) standing in
     record {
       does = does_then gives result (Notes (entry.Asked Smart (later at s)) ∷ []) steps before (deaf before w) now first (does_any gives result steps (deaf before w) now acts.does);
-      hands = λ pid k there. acts.keeps.hands pid k (hand_still (Some pid) k s w.standing same_children same_pid there);
+      auxiliaries = λ pid k there. acts.keeps.auxiliaries pid k (auxiliary_still (Some pid) k s w.standing same_children same_pid there);
       idle = elim result as (λ r. OnOk r (now.work.standing.due ≡ []) → OnOk r (now.work.standing.ended ≡ w.standing.ended) → OnOk r (IsIdle now.work.standing)) [
         | Ok done ↦ λ none ended. record {
           rests = record { none_due = none; goes_on = ended ∙ ap (λ (t : Standing). t.ended) standing ∙ rests.goes_on };
@@ -77,19 +80,24 @@ asks_err gives before w rests standing told =
             are_steps = is.are_steps;
             lost_is = is.lost_is;
             said = is.said;
-            hands = is.hands;
+            auxiliaries = is.auxiliaries;
             asks = fewer_asks (asked_in (journal_of earlier)) before.listens before.work.standing is.asks;
             acts = is.acts;
+            ends = is.ends;
           });
           journal = adds_none before.work.told;
           times = times_none gives before.work.standing.moment;
           store = spans_none before.store;
+          runs = All-nil IsToldRun;
+          still = λ none. refl;
+          unread = λ none. (moves_none before.store).unread;
+          knows = λ from known. record { counted = known.counted; come = known.come };
         };
         stays = tt;
         ends = tt;
         serves = serves_nothing;
       };
-      hands = λ pid k there. there;
+      auxiliaries = λ pid k there. there;
       idle = tt;
       opened = λ earlier opened. subst (λ (l : List Step). IsOpen l (deaf before before.work)) (sym (append-nil earlier)) (record { free = opened.free; same = opened.same; inside = opened.inside });
       rests = rests;

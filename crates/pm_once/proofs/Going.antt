@@ -1,13 +1,17 @@
 -- Steps of a server, some behind others.
 use Rattle.std.proofs.Common.{◌≡◌, ℕ, List, [], ◌∷◌, ◌++◌, Option, None, Some, Result, Ok, Err, option_map, refl, sym, ◌∙◌, ap, subst, append_assoc, append-nil}
 use Rattle.std.specs.Prelude.{OnOk, IfErr}
+use Rattle.std.specs.List.{AllByRecursion}
+use Rattle.std.proofs.lemmas.List.Elements.{All-nil, All-append}
 use Rattle.std.proofs.lemmas.Grind.{flat_map-append}
 use Rattle.pm_state.specs.declared.event.PmEvent.{PmEvent}
 use Rattle.pm_query.specs.declared.book.BookEntry.{BookEntry}
 use Rattle.pm_chain.specs.Steps.{ChildRun, Step, Notes, book_by, book_of, journal_by, journal_of}
 use Rattle.pm_journal.specs.Standing.{Adds}
 use Rattle.pm_journal.specs.declared.supervision.Taken.{Taken}
-use Rattle.pm_once.specs.Goes.{Does, EndsWith, Goes, IsAt, IsEndOf, IsOpen, ServesNone, Spans, StaysOpen, Times, accepted_in, session_by, sessions_in}
+use Rattle.pm_segment.specs.MovesLaws.{moves_none, unread_on}
+use Rattle.pm_once.specs.AuxiliaryRuns.{IsToldRun}
+use Rattle.pm_once.specs.Goes.{Does, EndsWith, Goes, IsAt, IsEndOf, IsNoRenewal, IsOpen, ServesNone, Spans, StaysOpen, Times, accepted_in, session_by, sessions_in}
 use Rattle.pm_once.specs.View.{View}
 use Rattle.pm_once.specs.declared.end.ServerEnd.{ServerEnd}
 use Rattle.pm_once.specs.declared.end.ServerEnd.TheVariants.{Clean, Abnormal, NoMemory}
@@ -37,12 +41,21 @@ adds_both one two (Some journal) between now first second =
 
 -- ---- steps
 
+-- what holds of all holds of the first and of the others
+pub each_part : {X : Type 0} (P : X → Type 0) (xs ys : List X) → AllByRecursion P (xs ++ ys) → AllByRecursion P xs × AllByRecursion P ys
+each_part P [] ys all = (tt, all)
+each_part P (x ∷ xs) ys all = let parts = each_part P xs ys all.1 in ((all.0, parts.0), parts.1)
+
 pub goes_none : (gives : ℕ → Type 0) (v : View) → Goes gives [] v v
 goes_none gives v = record {
   at = λ outset earlier at opened. subst (λ (l : List Step). IsAt outset l v) (sym (append-nil earlier)) at;
   journal = adds_none v.work.told;
   times = times_none gives v.work.standing.moment;
   store = spans_none v.store;
+  runs = All-nil IsToldRun;
+  still = λ none. refl;
+  unread = λ none. (moves_none v.store).unread;
+  knows = λ from known. known;
 }
 
 pub stays_none : (v : View) → StaysOpen [] v v
@@ -54,6 +67,10 @@ goes_on gives one two a b c first stays second = record {
   journal = subst (λ (j : List PmEvent). Adds j a.work.told c.work.told) (sym (journal-append one two)) (adds_both (journal_of one) (journal_of two) _ _ _ first.journal second.journal);
   times = subst (λ (j : List PmEvent). Times gives a.work.standing.moment j c.work.standing.moment) (sym (journal-append one two)) (times_on gives (journal_of one) (journal_of two) _ _ _ first.times second.times);
   store = subst (λ (l : List BookEntry). Spans l a.store c.store) (sym (book-append one two)) (spans_on (book_of one) (book_of two) a.store b.store c.store first.store second.store);
+  runs = All-append IsToldRun one two first.runs second.runs;
+  still = λ none. let parts = each_part IsNoRenewal one two none in second.still parts.1 ∙ first.still parts.0;
+  unread = λ none. let parts = each_part IsNoRenewal one two none in unread_on a.store b.store c.store first.store.later second.store.later (first.unread parts.0) (second.unread parts.1);
+  knows = λ from known. second.knows from (first.knows from known);
 }
 
 pub stays_on : (one two : List Step) (a b c : View) → StaysOpen one a b → StaysOpen two b c → StaysOpen (one ++ two) a c
@@ -65,6 +82,10 @@ goes_any gives steps a b goes = record {
   journal = goes.journal;
   times = times_any gives (journal_of steps) _ _ goes.times;
   store = goes.store;
+  runs = goes.runs;
+  still = goes.still;
+  unread = goes.unread;
+  knows = goes.knows;
 }
 
 -- ---- ends
@@ -73,8 +94,8 @@ with_behind : (last : PmEvent) (one two : List Step) → EndsWith last two → E
 with_behind last one two ends = (one ++ ends.0, ap (λ (l : List Step). one ++ l) ends.1 ∙ sym (append_assoc one ends.0 (Notes last ∷ [])))
 
 pub end_behind : (end : ServerEnd) (one two : List Step) (v : View) → IsEndOf end two v → IsEndOf end (one ++ two) v
-end_behind Clean one two v ends = with_behind _ one two ends
-end_behind (Abnormal AfterCrash) one two v ends = with_behind _ one two ends
+end_behind Clean one two v ends = (with_behind _ one two ends.0, ends.1)
+end_behind (Abnormal AfterCrash) one two v ends = (with_behind _ one two ends.0, ends.1)
 end_behind (Abnormal RestartOff) one two v ends = with_behind _ one two ends
 end_behind (Abnormal (StartupFailed why)) one two v ends = (with_behind _ one two ends.0, ends.1)
 end_behind (Abnormal GenerationsSpent) one two v ends = ends

@@ -1,8 +1,9 @@
 -- The next act that is due is done.
-use Rattle.std.proofs.Common.{◌≡◌, inl, ℕ, ◌+◌, nat_eq, cond, List, [], ◌∷◌, ◌++◌, length, Option, None, Some, Result, Ok, Err, refl, sym, ◌∙◌, ap, subst, arith, append_assoc, append-nil}
-use Rattle.std.specs.Prelude.{◌&&◌, nat_lt, Bool, true, false, ◌||◌, if◌then◌else◌, map, IfSome, IfErr, OnOk}
+use Rattle.std.proofs.Common.{◌≡◌, inl, inr, ℕ, ◌+◌, nat_eq, cond, List, [], ◌∷◌, ◌++◌, length, Option, None, Some, Result, Ok, Err, refl, sym, ◌∙◌, ap, subst, arith, append_assoc, append-nil}
+use Rattle.std.specs.Prelude.{◌&&◌, nat_lt, Bool, true, false, ◌||◌, map, IfSome, IfErr, OnOk}
 use Rattle.std.specs.List.{last_or}
 use Rattle.std.proofs.lemmas.Bool.Decides.{nat_tests}
+use Rattle.std.proofs.lemmas.List.Elements.{All-nil, All-cons}
 use Rattle.std.proofs.lemmas.List.Sums.{sum_by-cons}
 use Rattle.pm_state.specs.declared.action.Action.{Action}
 use Rattle.pm_state.specs.declared.action.Action.TheVariants as act
@@ -17,6 +18,7 @@ use Rattle.pm_query.specs.declared.book.BookEntry.{BookEntry}
 use Rattle.pm_query.specs.declared.book.BookEntry.TheVariants.{Gone, Opened}
 use Rattle.pm_segment.specs.Children.{AreOthers, once, times_in}
 use Rattle.pm_segment.specs.Moves.{Moves}
+use Rattle.pm_segment.specs.Redos.{is_broken}
 use Rattle.pm_chain.specs.Laws.{StepsGoOn}
 use Rattle.pm_chain.specs.Steps.{Step, Notes, Renews, MayFollow, book_of, journal_of}
 use Rattle.pm_journal.specs.Laws.{GoesOnOverItsJournal}
@@ -26,18 +28,23 @@ use Rattle.pm_journal.specs.declared.act.Act.TheVariants as given
 use Rattle.pm_journal.specs.declared.act.GenerationsSpent.{GenerationsSpent}
 use Rattle.pm_journal.specs.Standing.{Adds, Next, Standing, act_for, done, entry_for, first_due, is_spent, next_in, next_of}
 use Rattle.pm_journal.specs.Stands.{AtWork, IsSettled, Stands}
-use Rattle.pm_once.specs.Calls.{AreSays, DoesNext, HandsBehind, HasRenewed, Keeps, LogBehind, failed_by, Performs, StoreBehind, end_in, outcome}
-use Rattle.pm_once.specs.Goes.{AreOurs, AsksAsDue, Does, Goes, IsAt, IsEndOf, IsFree, IsMoment, IsOpen, IsRunning, Outset, Spans, StaysOpen, asked_in, is_last_drawn}
-use Rattle.pm_once.specs.Hands.{AreThere, IsHand}
+use Rattle.pm_once.specs.Calls.{AreSays, DoesNext, AuxiliariesBehind, HasRenewed, Keeps, LogBehind, Performs, Stays, end_by, end_in, outcome}
+use Rattle.pm_once.specs.AuxiliaryRuns.{IsToldRun}
+use Rattle.pm_once.specs.Knows.{HasComeTo, Knows}
+use Rattle.pm_once.specs.Goes.{AreOurEnds, AreOurs, AsksAsDue, Does, Goes, IsAt, IsEndOf, IsFree, IsMoment, IsOpen, IsRunning, Outset, Spans, StaysOpen, asked_in, is_last_drawn}
+use Rattle.pm_once.specs.Auxiliaries.{AreThere, IsPresent}
 use Rattle.pm_once.specs.Log.{HasSaid}
 use Rattle.pm_once.specs.View.{View}
 use Rattle.pm_once.specs.declared.end.ServerEnd.{ServerEnd}
-use Rattle.pm_once.specs.declared.end.ServerEnd.TheVariants.{Abnormal, NoMemory}
-use Rattle.pm_once.specs.declared.end.Why.TheVariants.{AfterCrash}
-use Rattle.pm_once.specs.declared.end.StartWhy.{StartWhy}
-use Rattle.pm_once.proofs.Acting.{asks_acted, drawn_kept, due_kept, first_is, hand_kept, hands_acted, not_accepted, not_asked, notes_follow, ours_tail, stands_by_itself, unowed_kept}
+use Rattle.pm_once.specs.declared.end.ServerEnd.TheVariants.{NoMemory}
+use Rattle.pm_once.specs.declared.checkpointer.Closed.TheVariants.{Made, Crashed, Full, Short}
+use Rattle.pm_once.specs.declared.outcome.Outcome.{Outcome}
+use Rattle.pm_once.specs.declared.outcome.Outcome.TheVariants.{Closed, Refused}
+use Rattle.pm_once.proofs.Acting.{asks_acted, drawn_kept, due_kept, first_is, auxiliary_kept, auxiliaries_acted, not_accepted, not_asked, notes_follow, ours_tail, stands_by_itself, unowed_kept}
 use Rattle.pm_once.proofs.Entries.{asked_in-append}
 use Rattle.pm_once.proofs.Going.{goes_none, stays_none, serves_nothing}
+use Rattle.pm_once.proofs.Knowing.{known_still}
+use Rattle.pm_once.proofs.OurEnds.{act_ends, ends_append}
 use Rattle.pm_once.proofs.Saying.{said_acted}
 use Rattle.pm_once.proofs.Spans.{spans_moves, spans_renewal}
 
@@ -146,12 +153,33 @@ pub told_more : (told now : Option (List PmEvent)) (journal more : List PmEvent)
 told_more None now journal more is adds = subst (λ (t : Option (List PmEvent)). IfSome t (λ es. es ≡ journal ++ more)) (sym adds) tt
 told_more (Some before) now journal more is adds = subst (λ (t : Option (List PmEvent)). IfSome t (λ es. es ≡ journal ++ more)) (sym adds) (ap (λ (j : List PmEvent). j ++ more) is)
 
+-- the store goes on with no entry, and what is known of it stays
+pub record KeepsStore (before now : View) : Type 0 where
+  pub lost : now.lost ≡ before.lost
+  pub store : Moves [] before.store now.store
+  pub knows : (from : ℕ) → Knows from before → Knows from now
+
+-- it is as it was
+pub same_store : (before now : View) → (now.outcome ≡ before.outcome) × (now.lost ≡ before.lost) × Stays before.store now.store → KeepsStore before now
+same_store before now same = record { lost = same.1; store = same.2.moves; knows = λ from known. known_still from before now same.0 same.2 known }
+
+-- a renewal was refused
+pub kept_store : (before now : View) → (now.outcome ≡ None) × (now.lost ≡ before.lost) × Moves [] before.store now.store → KeepsStore before now
+kept_store before now kept = record {
+  lost = kept.1;
+  store = kept.2;
+  knows = λ from known. record {
+    counted = (kept.2.counts from known.counted).counted;
+    come = subst (λ (o : Option Outcome). HasComeTo o from now.store) (sym kept.0) tt;
+  };
+}
+
 -- what an act and its entry leave, but for store and lost children
 pub record IsActed (a : Action) (before now : View) : Type 0 where
   pub first : first_due before.work.standing.due ≡ Some a
   pub standing : now.work.standing ≡ done a before.work.standing
   pub told : Adds (entry_for a before.work.standing ∷ []) before.work.told now.work.told
-  pub hands : HandsBehind (act_for a before.work.standing) before.hands now.hands
+  pub auxiliaries : AuxiliariesBehind (act_for a before.work.standing) before.auxiliaries now.auxiliaries
   pub log : LogBehind (act_for a before.work.standing) before.log now.log
   pub listens : now.listens ≡ before.listens
 
@@ -170,7 +198,7 @@ at_entry goes work a before now acted lost outset earlier at opened =
       are_steps = goes.step outset.limits earlier (Notes e) at.are_steps (record { follows = notes_follow e (last_or None earlier) opened.free; fits = stands_by_itself a s });
       lost_is = lost ∙ at.lost_is ∙ sym (goes.lost earlier (Notes e));
       said = subst (λ (l : List PmEvent). HasSaid l outset.log now.log) j (said_acted a s (journal_of earlier) outset.log before.log now.log acted.log at.said);
-      hands = subst (λ (t : Standing). AreThere now.hands t) (sym acted.standing) (hands_acted a s before.hands now.hands acted.hands at.hands);
+      auxiliaries = subst (λ (t : Standing). AreThere now.auxiliaries t) (sym acted.standing) (auxiliaries_acted a s before.auxiliaries now.auxiliaries acted.auxiliaries at.auxiliaries);
       asks = subst (λ (t : Standing). AsksAsDue (asked_in (journal_of (earlier ++ Notes e ∷ []))) now.listens t) (sym acted.standing)
           (subst (λ (b : Bool). AsksAsDue (asked_in (journal_of (earlier ++ Notes e ∷ []))) b (done a s)) (sym acted.listens)
           (subst (λ (l : List _). AsksAsDue l before.listens (done a s))
@@ -178,6 +206,8 @@ at_entry goes work a before now acted lost outset earlier at opened =
           (asks_acted a s (asked_in (journal_of earlier)) before.listens at.asks)));
       acts = subst (AreOurs outset.limits) (sym (ap (λ (t : Standing). t.due) acted.standing ∙ due_kept a s))
           (ours_tail outset.limits a (without_first s.due) (subst (AreOurs outset.limits) (first_is s.due a acted.first) at.acts));
+      ends = subst (AreOurEnds outset.limits) j (ends_append outset.limits (journal_of earlier) (e ∷ []) at.ends
+          (act_ends outset.limits a s (without_first s.due) (subst (AreOurs outset.limits) (first_is s.due a acted.first) at.acts)));
     }
 
 -- ---- the whole
@@ -203,17 +233,6 @@ generation_kept act.Ready s other = refl
 generation_kept act.Reset s other = absurd (other refl)
 generation_kept (act.Say line) s other = refl
 generation_kept (act.End how) s other = refl
-
-store_kept : (a : Action) (s : Standing) (result : Result (Unit {0}) ServerEnd) (before now : View) → (a ≡ act.Reset → ⊥) → StoreBehind (act_for a s) result before now → (now.lost ≡ before.lost) × Moves [] before.store now.store
-store_kept (act.Start k) s result before now other behind = behind
-store_kept (act.Quit why) s result before now other behind = behind
-store_kept act.Terminate s result before now other behind = behind
-store_kept act.KillAll s result before now other behind = behind
-store_kept act.AskCheckpoint s result before now other behind = behind
-store_kept act.Ready s result before now other behind = behind
-store_kept act.Reset s result before now other behind = absurd (other refl)
-store_kept (act.Say line) s result before now other behind = behind
-store_kept (act.End how) s result before now other behind = behind
 
 or_false : (b : Bool) → (b || false) ≡ b
 or_false true = refl
@@ -273,7 +292,7 @@ shorter due a is = ap (λ (l : List Action). length (without_first l) + 1) (firs
 
 keeps_done : (a : Action) (s t : Standing) → t ≡ done a s → (IsSettled s → IsSettled t) → Keeps s t
 keeps_done a s t is settled = record {
-  hands = λ pid k there. subst (λ (x : Standing). IsHand (Some pid) k x) (sym is) (hand_kept a s pid k there);
+  auxiliaries = λ pid k there. subst (λ (x : Standing). IsPresent (Some pid) k x) (sym is) (auxiliary_kept a s pid k there);
   settled = settled;
   drawn = λ drawn. subst (λ (x : Standing). is_last_drawn x.last_pid ≡ true) (sym is) (drawn_kept a s drawn);
   unowed = λ drawn unowed. subst (λ (x : Standing). x.owes_smart ≡ false) (sym is) (unowed_kept a s drawn unowed);
@@ -281,11 +300,11 @@ keeps_done a s t is settled = record {
 
 -- one entry alone
 pub does_one : StepsGoOn → GoesOnOverItsJournal → (a : Action) (result : Result (Unit {0}) ServerEnd) (before now : View) → IsRunning before → IsActed a before now
-    → (now.lost ≡ before.lost) × Moves [] before.store now.store → now.failure ≡ before.failure → (IsSettled before.work.standing → IsSettled now.work.standing)
+    → KeepsStore before now → (IsSettled before.work.standing → IsSettled now.work.standing)
     → OnOk result ((a ≡ act.Reset → ⊥) × ((how : Ending) → a ≡ act.End how → ⊥))
     → IfErr result (λ end. IsEndOf end (Notes (entry_for a before.work.standing) ∷ []) now)
     → DoesNext (answer_of result) (Notes (entry_for a before.work.standing) ∷ []) before now
-does_one goes work a result before now running acted kept failure settled on ends =
+does_one goes work a result before now running acted kept settled on ends =
     let s = before.work.standing in
     let e = entry_for a s in
     let steps : List Step = Notes e ∷ [] in
@@ -293,10 +312,14 @@ does_one goes work a result before now running acted kept failure settled on end
     let ours : AreOurs running.0.limits (a ∷ rest) = subst (AreOurs running.0.limits) (first_is s.due a acted.first) running.2.acts in
     let same_moment : now.work.standing.moment ≡ s.moment = ap (λ (t : Standing). t.moment) acted.standing ∙ moment_kept running.0.limits a s rest ours in
     let goes_so : Goes (λ at. ⊥) steps before now = record {
-      at = λ outset earlier at opened. at_entry goes work a before now acted kept.0 outset earlier at opened;
+      at = λ outset earlier at opened. at_entry goes work a before now acted kept.lost outset earlier at opened;
       journal = acted.told;
       times = record { each = no_moment running.0.limits a s rest (IsMoment (λ at. ⊥) s.moment) ours; last = inl same_moment };
-      store = spans_moves [] before.store now.store kept.1;
+      store = spans_moves [] before.store now.store kept.store;
+      runs = All-cons IsToldRun (Notes e) [] tt (All-nil IsToldRun);
+      still = λ none. kept.store.generation;
+      unread = λ none. kept.store.unread;
+      knows = kept.knows;
     } in
     record {
       does = subst (λ (r : Result (Unit {0}) ServerEnd). Does (λ at. ⊥) r steps before now) (sym (same_outcome result)) (record {
@@ -304,8 +327,8 @@ does_one goes work a result before now running acted kept failure settled on end
         stays = elim result as (λ r. OnOk r ((a ≡ act.Reset → ⊥) × ((how : Ending) → a ≡ act.End how → ⊥)) → OnOk r (StaysOpen steps before now)) [
           | Ok done ↦ λ fine. λ earlier opened. record {
             free = subst IsFree (sym (goes.last earlier (Notes e))) (entry_free a s fine.0);
-            same = kept.1.generation ∙ opened.same ∙ sym (ap (λ (t : Standing). t.generation) acted.standing ∙ generation_kept a s fine.0);
-            inside = λ pid. kept.1.attends pid ∙ opened.inside pid ∙ ap (times_in pid) (sym kept.0);
+            same = kept.store.generation ∙ opened.same ∙ sym (ap (λ (t : Standing). t.generation) acted.standing ∙ generation_kept a s fine.0);
+            inside = λ pid. kept.store.attends pid ∙ opened.inside pid ∙ ap (times_in pid) (sym kept.lost);
           }
           | Err end ↦ λ fine. tt
         ] on;
@@ -320,7 +343,6 @@ does_one goes work a result before now running acted kept failure settled on end
         | Err end ↦ λ fine. tt
       ] on;
       says = λ says. (subst AreSays (sym (ap (λ (t : Standing). t.due) acted.standing ∙ due_kept a s)) (says_tail a rest (subst AreSays (first_is s.due a acted.first) says)), ap (λ (t : Standing). t.owes_smart) acted.standing ∙ says_owes a rest s (subst AreSays (first_is s.due a acted.first) says));
-      failure = failure;
       listens = acted.listens;
     }
 
@@ -349,16 +371,16 @@ no_others : (inside lost others : List ℕ) → AreOthers inside lost others →
 no_others inside lost others are same = none_at_all others (λ pid. are pid ∙ both_or_none (times_in pid inside) (times_in pid lost) (same pid))
 
 pub does_reset : StepsGoOn → GoesOnOverItsJournal → (before now : View) (others : List ℕ) → IsRunning before → IsActed act.Reset before now
-    → now.lost ≡ [] → HasRenewed (before.work.standing.generation + 1) before.lost others before.store now.store → now.failure ≡ before.failure
+    → now.lost ≡ [] → HasRenewed (before.work.standing.generation + 1) before.lost others before.store now.store → now.outcome ≡ None
     → (IsSettled before.work.standing → IsSettled now.work.standing)
     → DoesNext (Ok true) (Notes (entry.Reset (before.work.standing.generation + 1)) ∷ Renews (before.work.standing.generation + 1) before.lost ∷ []) before now
-does_reset goes work before now others running acted empty renewed failure settled =
+does_reset goes work before now others running acted empty renewed forgotten settled =
     let s = before.work.standing in
     let g = s.generation + 1 in
     let e = entry.Reset g in
     let steps : List Step = Notes e ∷ Renews g before.lost ∷ [] in
     let mid : View = record now { store = before.store; lost = before.lost } in
-    let acted_mid : IsActed act.Reset before mid = record { first = acted.first; standing = acted.standing; told = acted.told; hands = acted.hands; log = acted.log; listens = acted.listens } in
+    let acted_mid : IsActed act.Reset before mid = record { first = acted.first; standing = acted.standing; told = acted.told; auxiliaries = acted.auxiliaries; log = acted.log; listens = acted.listens } in
     let none : others ≡ [] = no_others before.store.inside before.lost others renewed.others_are running.3.inside in
     let book_is : map Gone (before.lost ++ others) ++ Opened g ∷ [] ≡ book_of steps =
     ap (λ (l : List ℕ). map Gone (before.lost ++ l) ++ Opened g ∷ []) none ∙ ap (λ (l : List ℕ). map Gone l ++ Opened g ∷ []) (append-nil before.lost)
@@ -378,13 +400,21 @@ does_reset goes work before now others running acted empty renewed failure settl
                     (record { follows = subst (λ x. MayFollow x (Renews g before.lost)) (sym (goes.last earlier (Notes e))) refl; fits = m.lost_is });
                 lost_is = empty ∙ sym (goes.lost l (Renews g before.lost));
                 said = subst (λ (x : List PmEvent). HasSaid x outset.log now.log) j m.said;
-                hands = m.hands;
+                auxiliaries = m.auxiliaries;
                 asks = subst (λ (x : List PmEvent). AsksAsDue (asked_in x) now.listens now.work.standing) j m.asks;
                 acts = m.acts;
+                ends = subst (AreOurEnds outset.limits) j m.ends;
               });
           journal = acted.told;
           times = record { each = (tt, tt); last = inl (ap (λ (t : Standing). t.moment) acted.standing) };
           store = subst (λ (x : List BookEntry). Spans x before.store now.store) book_is (spans_renewal g before.lost others before.store now.store renewed);
+          runs = All-cons IsToldRun (Notes e) (Renews g before.lost ∷ []) tt (All-cons IsToldRun (Renews g before.lost) [] tt (All-nil IsToldRun));
+          still = λ none. absurd none.1.0;
+          unread = λ none. absurd none.1.0;
+          knows = λ from known. record {
+            counted = renewed.renews.counts from known.counted;
+            come = subst (λ (o : Option Outcome). HasComeTo o from now.store) (sym forgotten) tt;
+          };
         };
         stays = λ earlier opened. record {
           free = subst IsFree (sym (ap (last_or None) (sym (append_assoc earlier (Notes e ∷ []) (Renews g before.lost ∷ []))) ∙ goes.last (earlier ++ Notes e ∷ []) (Renews g before.lost))) tt;
@@ -399,7 +429,6 @@ does_reset goes work before now others running acted empty renewed failure settl
       none_due = λ is. absurd (no_false (Ok tt) is);
       ended = ap (λ (t : Standing). t.ended) acted.standing ∙ ended_kept act.Reset s (λ how is. no_end how is);
       says = λ says. absurd (subst AreSays (first_is s.due act.Reset acted.first) says);
-      failure = failure;
       listens = acted.listens;
     }
   where
@@ -407,21 +436,41 @@ does_reset goes work before now others running acted empty renewed failure settl
     no_end how is = cc
 
 -- how the server ends where its machine does
-pub end_noted : (how : Ending) (before now : View) → now.failure ≡ before.failure → IsEndOf (end_in how before) (Notes (entry.Ended how) ∷ []) now
-end_noted endings.Clean before now failure = ([], refl)
-end_noted endings.AfterCrash before now failure = if_short before.is_short
-  where
-    if_short : (short : Bool) → IsEndOf (if short then NoMemory else Abnormal AfterCrash) (Notes (entry.Ended endings.AfterCrash) ∷ []) now
-    if_short true = tt
-    if_short false = ([], refl)
-end_noted endings.StartupFailed before now failure = by_reason before.failure refl
-  where
-    by_reason : (why : Option StartWhy) → before.failure ≡ why → IsEndOf (failed_by why) (Notes (entry.Ended endings.StartupFailed) ∷ []) now
-    by_reason None is = tt
-    by_reason (Some why) is = (([], refl), failure ∙ is)
-end_noted endings.RestartOff before now failure = ([], refl)
+ended_so : (how : Ending) (o : Option Outcome) (broken : Bool) (now : View) → now.outcome ≡ o → is_broken now.store.live ≡ broken → IsEndOf (end_in how o broken) (Notes (entry.Ended how) ∷ []) now
+ended_so endings.Clean None broken now is at = tt
+ended_so endings.Clean (Some (Refused why)) broken now is at = tt
+ended_so endings.Clean (Some (Closed Made)) broken now is at = (([], refl), is)
+ended_so endings.Clean (Some (Closed Crashed)) broken now is at = tt
+ended_so endings.Clean (Some (Closed Full)) broken now is at = tt
+ended_so endings.Clean (Some (Closed Short)) broken now is at = tt
+ended_so endings.AfterCrash None true now is at = (([], refl), inr at)
+ended_so endings.AfterCrash None false now is at = tt
+ended_so endings.AfterCrash (Some (Refused why)) true now is at = (([], refl), inr at)
+ended_so endings.AfterCrash (Some (Refused why)) false now is at = tt
+ended_so endings.AfterCrash (Some (Closed Made)) true now is at = (([], refl), inr at)
+ended_so endings.AfterCrash (Some (Closed Made)) false now is at = tt
+ended_so endings.AfterCrash (Some (Closed Crashed)) true now is at = (([], refl), inr at)
+ended_so endings.AfterCrash (Some (Closed Crashed)) false now is at = tt
+ended_so endings.AfterCrash (Some (Closed Full)) broken now is at = (([], refl), inl is)
+ended_so endings.AfterCrash (Some (Closed Short)) true now is at = (([], refl), inr at)
+ended_so endings.AfterCrash (Some (Closed Short)) false now is at = tt
+ended_so endings.StartupFailed None broken now is at = tt
+ended_so endings.StartupFailed (Some (Refused why)) broken now is at = (([], refl), is)
+ended_so endings.StartupFailed (Some (Closed closed)) broken now is at = tt
+ended_so endings.RestartOff o broken now is at = ([], refl)
+
+pub end_noted : (how : Ending) (before now : View) → (now.outcome ≡ before.outcome) × (now.lost ≡ before.lost) × Stays before.store now.store → IsEndOf (end_by how before) (Notes (entry.Ended how) ∷ []) now
+end_noted how before now same = ended_so how before.outcome (is_broken before.store.live) now same.0 (ap is_broken same.2.live)
 
 -- ---- what is done of an act that was given
+
+-- the entry of the act leaves the store alone
+kept_of : {before : View} {w : AtWork} {now : View} → KeepsStore (record before { work = w }) now → KeepsStore before now
+kept_of kept = record {
+  lost = kept.lost;
+  store = kept.store;
+  knows = λ from known. kept.knows from (record { counted = known.counted; come = known.come });
+}
 
 acted_of : (a : Action) (result : Result (Unit {0}) ServerEnd) (before now : View) (w : AtWork) → first_due before.work.standing.due ≡ Some a → w.standing ≡ done a before.work.standing
     → Adds (entry_for a before.work.standing ∷ []) before.work.told w.told → now.work ≡ w → Performs (act_for a before.work.standing) result (record before { work = w }) now → IsActed a before now
@@ -429,7 +478,7 @@ acted_of a result before now w first standing told is performs = record {
   first = first;
   standing = ap (λ (x : AtWork). x.standing) is ∙ standing;
   told = subst (λ (x : AtWork). Adds (entry_for a before.work.standing ∷ []) before.work.told x.told) (sym is) told;
-  hands = performs.hands;
+  auxiliaries = performs.auxiliaries;
   log = performs.log;
   listens = performs.listens;
 }
@@ -442,52 +491,52 @@ performed goes work (act.Start k) result before now w running first standing tol
     let end : result ≡ Ok tt = performs.ends in (
       Notes (entry_for (act.Start k) before.work.standing) ∷ [],
       subst (λ (r : Result (Unit {0}) ServerEnd). DoesNext (answer_of r) (Notes (entry_for (act.Start k) before.work.standing) ∷ []) before now) (sym end)
-          (does_one goes work (act.Start k) (Ok tt) before now running (acted_of (act.Start k) result before now w first standing told is performs) performs.store performs.failure
+          (does_one goes work (act.Start k) (Ok tt) before now running (acted_of (act.Start k) result before now w first standing told is performs) (kept_of (same_store (record before { work = w }) now performs.store))
           (λ was. subst (λ (x : AtWork). IsSettled x.standing) (sym is) (settled was)) ((λ e. cc), (λ how e. cc)) tt),
     )
 performed goes work (act.Quit why) result before now w running first standing told is performs settled =
     let end : result ≡ Ok tt = performs.ends in (
       Notes (entry_for (act.Quit why) before.work.standing) ∷ [],
       subst (λ (r : Result (Unit {0}) ServerEnd). DoesNext (answer_of r) (Notes (entry_for (act.Quit why) before.work.standing) ∷ []) before now) (sym end)
-          (does_one goes work (act.Quit why) (Ok tt) before now running (acted_of (act.Quit why) result before now w first standing told is performs) performs.store performs.failure
+          (does_one goes work (act.Quit why) (Ok tt) before now running (acted_of (act.Quit why) result before now w first standing told is performs) (kept_of (same_store (record before { work = w }) now performs.store))
           (λ was. subst (λ (x : AtWork). IsSettled x.standing) (sym is) (settled was)) ((λ e. cc), (λ how e. cc)) tt),
     )
 performed goes work act.Terminate result before now w running first standing told is performs settled =
     let end : result ≡ Ok tt = performs.ends in (
       Notes (entry_for act.Terminate before.work.standing) ∷ [],
       subst (λ (r : Result (Unit {0}) ServerEnd). DoesNext (answer_of r) (Notes (entry_for act.Terminate before.work.standing) ∷ []) before now) (sym end)
-          (does_one goes work act.Terminate (Ok tt) before now running (acted_of act.Terminate result before now w first standing told is performs) performs.store performs.failure
+          (does_one goes work act.Terminate (Ok tt) before now running (acted_of act.Terminate result before now w first standing told is performs) (kept_of (same_store (record before { work = w }) now performs.store))
           (λ was. subst (λ (x : AtWork). IsSettled x.standing) (sym is) (settled was)) ((λ e. cc), (λ how e. cc)) tt),
     )
 performed goes work act.KillAll result before now w running first standing told is performs settled =
     let end : result ≡ Ok tt = performs.ends in (
       Notes (entry_for act.KillAll before.work.standing) ∷ [],
       subst (λ (r : Result (Unit {0}) ServerEnd). DoesNext (answer_of r) (Notes (entry_for act.KillAll before.work.standing) ∷ []) before now) (sym end)
-          (does_one goes work act.KillAll (Ok tt) before now running (acted_of act.KillAll result before now w first standing told is performs) performs.store performs.failure
+          (does_one goes work act.KillAll (Ok tt) before now running (acted_of act.KillAll result before now w first standing told is performs) (kept_of (same_store (record before { work = w }) now performs.store))
           (λ was. subst (λ (x : AtWork). IsSettled x.standing) (sym is) (settled was)) ((λ e. cc), (λ how e. cc)) tt),
     )
 performed goes work act.AskCheckpoint result before now w running first standing told is performs settled =
     let end : result ≡ Ok tt = performs.ends in (
       Notes (entry_for act.AskCheckpoint before.work.standing) ∷ [],
       subst (λ (r : Result (Unit {0}) ServerEnd). DoesNext (answer_of r) (Notes (entry_for act.AskCheckpoint before.work.standing) ∷ []) before now) (sym end)
-          (does_one goes work act.AskCheckpoint (Ok tt) before now running (acted_of act.AskCheckpoint result before now w first standing told is performs) performs.store performs.failure
+          (does_one goes work act.AskCheckpoint (Ok tt) before now running (acted_of act.AskCheckpoint result before now w first standing told is performs) (kept_of (same_store (record before { work = w }) now performs.store))
           (λ was. subst (λ (x : AtWork). IsSettled x.standing) (sym is) (settled was)) ((λ e. cc), (λ how e. cc)) tt),
     )
 performed goes work act.Ready result before now w running first standing told is performs settled =
     let end : result ≡ Ok tt = performs.ends in (
       Notes (entry_for act.Ready before.work.standing) ∷ [],
       subst (λ (r : Result (Unit {0}) ServerEnd). DoesNext (answer_of r) (Notes (entry_for act.Ready before.work.standing) ∷ []) before now) (sym end)
-          (does_one goes work act.Ready (Ok tt) before now running (acted_of act.Ready result before now w first standing told is performs) performs.store performs.failure
+          (does_one goes work act.Ready (Ok tt) before now running (acted_of act.Ready result before now w first standing told is performs) (kept_of (same_store (record before { work = w }) now performs.store))
           (λ was. subst (λ (x : AtWork). IsSettled x.standing) (sym is) (settled was)) ((λ e. cc), (λ how e. cc)) tt),
     )
 performed goes work act.Reset (Ok done) before now w running first standing told is performs settled = (
   _,
-  does_reset goes work before now performs.store.1 running (acted_of act.Reset (Ok done) before now w first standing told is performs) performs.store.0 performs.store.2 performs.failure
+  does_reset goes work before now performs.store.2 running (acted_of act.Reset (Ok done) before now w first standing told is performs) performs.store.1 performs.store.3 performs.store.0
       (λ was. subst (λ (x : AtWork). IsSettled x.standing) (sym is) (settled was)),
 )
 performed goes work act.Reset (Err end) before now w running first standing told is performs settled = (
   Notes (entry_for act.Reset before.work.standing) ∷ [],
-  does_one goes work act.Reset (Err end) before now running (acted_of act.Reset (Err end) before now w first standing told is performs) performs.store performs.failure
+  does_one goes work act.Reset (Err end) before now running (acted_of act.Reset (Err end) before now w first standing told is performs) (kept_of (kept_store (record before { work = w }) now performs.store))
       (λ was. subst (λ (x : AtWork). IsSettled x.standing) (sym is) (settled was)) tt (short_end end performs.ends),
 )
   where
@@ -497,16 +546,16 @@ performed goes work (act.Say line) result before now w running first standing to
     let end : result ≡ Ok tt = performs.ends in (
       Notes (entry_for (act.Say line) before.work.standing) ∷ [],
       subst (λ (r : Result (Unit {0}) ServerEnd). DoesNext (answer_of r) (Notes (entry_for (act.Say line) before.work.standing) ∷ []) before now) (sym end)
-          (does_one goes work (act.Say line) (Ok tt) before now running (acted_of (act.Say line) result before now w first standing told is performs) performs.store performs.failure
+          (does_one goes work (act.Say line) (Ok tt) before now running (acted_of (act.Say line) result before now w first standing told is performs) (kept_of (same_store (record before { work = w }) now performs.store))
           (λ was. subst (λ (x : AtWork). IsSettled x.standing) (sym is) (settled was)) ((λ e. cc), (λ how e. cc)) tt),
     )
 performed goes work (act.End how) result before now w running first standing told is performs settled =
     let v : View = record before { work = w } in
-    let end : result ≡ Err (end_in how v) = performs.ends in (
+    let end : result ≡ Err (end_by how v) = performs.ends in (
       Notes (entry.Ended how) ∷ [],
       subst (λ (r : Result (Unit {0}) ServerEnd). DoesNext (answer_of r) (Notes (entry.Ended how) ∷ []) before now) (sym end)
-          (does_one goes work (act.End how) (Err (end_in how v)) before now running (acted_of (act.End how) result before now w first standing told is performs) performs.store performs.failure
-          (λ was. subst (λ (x : AtWork). IsSettled x.standing) (sym is) (settled was)) tt (end_noted how v now performs.failure)),
+          (does_one goes work (act.End how) (Err (end_by how v)) before now running (acted_of (act.End how) result before now w first standing told is performs) (kept_of (same_store (record before { work = w }) now performs.store))
+          (λ was. subst (λ (x : AtWork). IsSettled x.standing) (sym is) (settled was)) tt (end_noted how v now performs.store)),
     )
 
 -- ---- nothing is done
@@ -520,7 +569,7 @@ same_work v w standing told =
     ap (λ (s : Standing). record { told = w.told; standing = s }) standing ∙ ap (λ (t : Option (List PmEvent)). record { told = t; standing = v.standing }) told
 
 still_keeps : (s : Standing) → Keeps s s
-still_keeps s = record { hands = λ pid k there. there; settled = λ was. was; drawn = λ drawn. drawn; unowed = λ drawn unowed. unowed }
+still_keeps s = record { auxiliaries = λ pid k there. there; settled = λ was. was; drawn = λ drawn. drawn; unowed = λ drawn unowed. unowed }
 
 pub waits : (before : View) (w : AtWork) (r : Result Bool ServerEnd) → w.standing ≡ before.work.standing → Adds [] before.work.told w.told → IfErr (outcome r) (λ end. IsEndOf end [] before)
     → (r ≡ Ok false → before.work.standing.due ≡ []) → (r ≡ Ok true → ⊥) → DoesNext r [] before (record before { work = w })
@@ -537,7 +586,6 @@ waits before w r standing told ends none never =
       none_due = none;
       ended = elim r as (λ o. OnOk o (before.work.standing.ended ≡ before.work.standing.ended)) [ Ok on ↦ refl | Err end ↦ tt ];
       says = λ says. (says, refl);
-      failure = refl;
       listens = refl;
     })
 

@@ -25,8 +25,8 @@ use Rattle.pm_journal.specs.Standing.{Standing, exiting, later, redo_entries}
 use Rattle.pm_journal.specs.Stands.{Remembers, Stands}
 use Rattle.pm_once.specs.Calls.{IsOff, exit_of}
 use Rattle.pm_once.specs.Goes.{accepted_in, asked_in}
-use Rattle.pm_once.specs.Hands.{AreThere, IsHand}
-use Rattle.pm_once.specs.declared.hands.Hands.{Hands}
+use Rattle.pm_once.specs.Auxiliaries.{AreThere, IsPresent}
+use Rattle.pm_once.specs.declared.auxiliaries.Auxiliaries.{Auxiliaries}
 
 -- ---- who is inside
 
@@ -134,9 +134,9 @@ kept_kind p pid (c ∷ cs) other =
     not_it : (x p pid : ℕ) → (x == pid) ≡ true → (p == pid) ≡ false → (x == p) ≡ false
     not_it x p pid one two = grind (arith, nat_tests)
 
-hand_without : (hand : Option ℕ) (k other : Kind) (pid : ℕ) (s t : Standing) → (k ≡ other → hand ≡ None) → kind_in pid s.children ≡ Some other → t.children ≡ without pid s.children → t.last_pid ≡ s.last_pid → IsHand hand k s → IsHand hand k t
-hand_without None k other pid s t off there children last is = tt
-hand_without (Some p) k other pid s t off there children last is =
+auxiliary_without : (auxiliary : Option ℕ) (k other : Kind) (pid : ℕ) (s t : Standing) → (k ≡ other → auxiliary ≡ None) → kind_in pid s.children ≡ Some other → t.children ≡ without pid s.children → t.last_pid ≡ s.last_pid → IsPresent auxiliary k s → IsPresent auxiliary k t
+auxiliary_without None k other pid s t off there children last is = tt
+auxiliary_without (Some p) k other pid s t off there children last is =
     (ap (kind_in p) children ∙ kept_kind p pid s.children (different (p == pid) refl) ∙ is.0, omega (arith, is.1, last))
   where
     some_kind : (x y : Kind) → Some x ≡ Some y → x ≡ y
@@ -152,18 +152,18 @@ hand_without (Some p) k other pid s t off there children last is =
     different true e = absurd (not_none (off (some_kind k other (sym is.0 ∙ ap (λ (n : ℕ). kind_in n s.children) (same_number p pid e) ∙ there))))
     different false e = e
 
-off_startup : (k : Kind) (hands : Hands) → IsOff k hands → kind.Startup ≡ k → hands.startup ≡ None
-off_startup k hands off is = subst (λ (x : Kind). IsOff x hands) (sym is) off
+off_startup : (k : Kind) (auxiliaries : Auxiliaries) → IsOff k auxiliaries → kind.Startup ≡ k → auxiliaries.startup ≡ None
+off_startup k auxiliaries off is = subst (λ (x : Kind). IsOff x auxiliaries) (sym is) off
 
-off_checkpointer : (k : Kind) (hands : Hands) → IsOff k hands → kind.Checkpointer ≡ k → hands.checkpointer ≡ None
-off_checkpointer k hands off is = subst (λ (x : Kind). IsOff x hands) (sym is) off
+off_checkpointer : (k : Kind) (auxiliaries : Auxiliaries) → IsOff k auxiliaries → kind.Checkpointer ≡ k → auxiliaries.checkpointer ≡ None
+off_checkpointer k auxiliaries off is = subst (λ (x : Kind). IsOff x auxiliaries) (sym is) off
 
-off_writer : (k : Kind) (hands : Hands) → IsOff k hands → kind.Writer ≡ k → hands.writer ≡ None
-off_writer k hands off is = subst (λ (x : Kind). IsOff x hands) (sym is) off
+off_writer : (k : Kind) (auxiliaries : Auxiliaries) → IsOff k auxiliaries → kind.Writer ≡ k → auxiliaries.writer ≡ None
+off_writer k auxiliaries off is = subst (λ (x : Kind). IsOff x auxiliaries) (sym is) off
 
-pub hands_without : (k : Kind) (pid : ℕ) (hands : Hands) (s t : Standing) → IsOff k hands → kind_in pid s.children ≡ Some k → t.children ≡ without pid s.children → t.last_pid ≡ s.last_pid → AreThere hands s → AreThere hands t
-hands_without k pid hands s t off there children last is = record {
-  startup = hand_without hands.startup kind.Startup k pid s t (off_startup k hands off) there children last is.startup;
-  checkpointer = hand_without hands.checkpointer kind.Checkpointer k pid s t (off_checkpointer k hands off) there children last is.checkpointer;
-  writer = hand_without hands.writer kind.Writer k pid s t (off_writer k hands off) there children last is.writer;
+pub auxiliaries_without : (k : Kind) (pid : ℕ) (auxiliaries : Auxiliaries) (s t : Standing) → IsOff k auxiliaries → kind_in pid s.children ≡ Some k → t.children ≡ without pid s.children → t.last_pid ≡ s.last_pid → AreThere auxiliaries s → AreThere auxiliaries t
+auxiliaries_without k pid auxiliaries s t off there children last is = record {
+  startup = auxiliary_without auxiliaries.startup kind.Startup k pid s t (off_startup k auxiliaries off) there children last is.startup;
+  checkpointer = auxiliary_without auxiliaries.checkpointer kind.Checkpointer k pid s t (off_checkpointer k auxiliaries off) there children last is.checkpointer;
+  writer = auxiliary_without auxiliaries.writer kind.Writer k pid s t (off_writer k auxiliaries off) there children last is.writer;
 }

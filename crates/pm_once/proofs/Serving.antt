@@ -1,7 +1,7 @@
 -- A connection is served, and others behind it.
-use Rattle.std.proofs.Common.{◌≡◌, ◌⊎◌, inl, inr, ℕ, List, [], ◌++◌, Option, None, Some, Result, Ok, Err, option_map, refl, sym, ◌∙◌, ap, append_assoc, append-nil}
-use Rattle.std.specs.Prelude.{Bool, true, false, if◌then◌else◌, map, IfErr, OnOk}
-use Rattle.std.proofs.lemmas.List.{map-append}
+use Rattle.std.proofs.Common.{◌≡◌, ◌⊎◌, inl, inr, ℕ, ◌+◌, List, [], ◌∷◌, ◌++◌, length, Option, None, Some, Result, Ok, Err, option_map, refl, sym, ◌∙◌, ap, subst, arith, append_assoc, append-nil, length-append}
+use Rattle.std.specs.Prelude.{Bool, true, false, if◌then◌else◌, map, IfErr, IfSome, OnOk}
+use Rattle.std.proofs.lemmas.List.{length-map, map-append}
 use Rattle.std.proofs.lemmas.List.Elements.{All-nil, All-append}
 use Rattle.pm_exit.specs.declared.child.Kind.TheVariants as kind
 use Rattle.pm_exit.specs.declared.child.Status.{Status}
@@ -16,7 +16,7 @@ use Rattle.pm_journal.specs.declared.supervision.Taken.{Taken}
 use Rattle.pm_journal.specs.Standing.{later}
 use Rattle.pm_once.specs.Calls.{Asks, Finishes, exit_of}
 use Rattle.pm_once.specs.Goes.{IsEndOf, IsIdle, ServesNone, StaysOpen, accepted_in, is_last_drawn, sessions_in}
-use Rattle.pm_once.specs.Serves.{HasServed, IsServed, Serves, passed, taken_for}
+use Rattle.pm_once.specs.Serves.{AreNumbered, HasServed, IsServed, Serves, passed, taken_for}
 use Rattle.pm_once.specs.Service.{Connection, IsOfItself, IsServedAs, is_panic, is_signal, run_of, visit_of, with_connections, with_end}
 use Rattle.pm_once.specs.View.{View}
 use Rattle.pm_once.specs.declared.end.ServerEnd.{ServerEnd}
@@ -82,8 +82,16 @@ finishes_serves gives result steps before now finishes = record {
     never : false ≡ true → ⊥
     never e = cc
 
+none_numbered : (v : Option Visits) → IfSome v (λ visits. AreNumbered (length visits.given) [])
+none_numbered None = tt
+none_numbered (Some v) = tt
+
+pub one_numbered : (c : Connection) (v : Option Visits) → IfSome v (λ visits. c.given.number ≡ length visits.given + 1) → IfSome v (λ visits. AreNumbered (length visits.given) (c ∷ []))
+one_numbered c None is = tt
+one_numbered c (Some v) is = (is, tt)
+
 pub nothing_served : (seed : List ℕ) (limit : ℕ) (gives : ℕ → Type 0) (steps : List Step) (v : Option Visits) → ServesNone steps → HasServed seed limit gives [] false steps v v
-nothing_served seed limit gives steps v none = record { visits = no_change v; each = All-nil (IsServed seed limit gives); accepted = none.accepted; sessions = none.sessions }
+nothing_served seed limit gives steps v none = record { visits = no_change v; numbers = none_numbered v; each = All-nil (IsServed seed limit gives); accepted = none.accepted; sessions = none.sessions }
 
 pub idle_serves : (gives : ℕ → Type 0) (v : View) → IsIdle v.work.standing → Serves gives (Ok tt) [] false [] v v
 idle_serves gives v idle = finishes_serves gives (Ok tt) [] v v (record { does = does_nothing gives v; idle = idle; deaf = inl refl; drawn = λ drawn. drawn })
@@ -107,6 +115,7 @@ asks_serves gives result steps before now listens asks = record {
 pub end_served : (seed : List ℕ) (limit : ℕ) (gives : ℕ → Type 0) (steps : List Step) (v now : Option Visits) → ServesNone steps → now ≡ option_map with_end v → HasServed seed limit gives [] true steps v now
 end_served seed limit gives steps v now none is = record {
   visits = both_changes (with_connections []) with_end v v now (no_change v) is;
+  numbers = none_numbered v;
   each = All-nil (IsServed seed limit gives);
   accepted = none.accepted;
   sessions = none.sessions;
@@ -170,10 +179,26 @@ visits_on : (xs ys : List Connection) (x y : Bool) (u v w : Option Visits) → (
 visits_on xs ys x y None v w once one two = two ∙ ap (option_map (passed ys y)) one
 visits_on xs ys x y (Some u) v w once one two = two ∙ ap (option_map (passed ys y)) one ∙ ap (λ (t : Visits). Some t) (passed_on xs ys x y u once)
 
+numbered_append : (n : ℕ) (xs ys : List Connection) → AreNumbered n xs → AreNumbered (n + length xs) ys → AreNumbered n (xs ++ ys)
+numbered_append n [] ys one two = subst (λ (k : ℕ). AreNumbered k ys) (omega arith) two
+numbered_append n (x ∷ xs) ys one two = (one.0, numbered_append (n + 1) xs ys one.1 (subst (λ (k : ℕ). AreNumbered k ys) (omega arith) two))
+
+given_on : (xs : List Connection) (x : Bool) (v : Visits) → length (passed xs x v).given ≡ length v.given + length xs
+given_on xs true v = omega (arith, length-append v.given (map (λ (d : Connection). d.given.faults) xs), length-map xs (λ (d : Connection). d.given.faults))
+given_on xs false v = omega (arith, length-append v.given (map (λ (d : Connection). d.given.faults) xs), length-map xs (λ (d : Connection). d.given.faults))
+
+numbered_on : (xs ys : List Connection) (x : Bool) (u v : Option Visits) → v ≡ option_map (passed xs x) u → IfSome u (λ visits. AreNumbered (length visits.given) xs) → IfSome v (λ visits. AreNumbered (length visits.given) ys)
+    → IfSome u (λ visits. AreNumbered (length visits.given) (xs ++ ys))
+numbered_on xs ys x None v is one two = tt
+numbered_on xs ys x (Some u) v is one two =
+    let behind : AreNumbered (length (passed xs x u).given) ys = subst (λ (o : Option Visits). IfSome o (λ visits. AreNumbered (length visits.given) ys)) is two in
+    numbered_append (length u.given) xs ys one (subst (λ (k : ℕ). AreNumbered k ys) (given_on xs x u) behind)
+
 pub served_on : (seed : List ℕ) (limit : ℕ) (gives : ℕ → Type 0) (xs ys : List Connection) (x y : Bool) (one two : List Step) (u v w : Option Visits) → (x ≡ true → (ys ≡ []) × (y ≡ false))
     → HasServed seed limit gives xs x one u v → HasServed seed limit gives ys y two v w → HasServed seed limit gives (xs ++ ys) (if x then true else y) (one ++ two) u w
 served_on seed limit gives xs ys x y one two u v w once first second = record {
   visits = visits_on xs ys x y u v w once first.visits second.visits;
+  numbers = numbered_on xs ys x u v first.visits first.numbers second.numbers;
   each = All-append (IsServed seed limit gives) xs ys first.each second.each;
   accepted = ap accepted_in (journal-append one two) ∙ accepted_in-append (journal_of one) (journal_of two) ∙ ap (λ (l : List Taken). l ++ accepted_in (journal_of two)) first.accepted
       ∙ ap (λ (l : List Taken). map taken_for xs ++ l) second.accepted ∙ sym (map-append taken_for xs ys);

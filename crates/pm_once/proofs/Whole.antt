@@ -1,5 +1,5 @@
 -- A whole run.
-use Rattle.std.proofs.Common.{◌≡◌, ◌⊎◌, inl, inr, ℕ, ◌+◌, ◌≤◌, List, [], ◌∷◌, length, Option, Some, Err, refl, sym, ◌∙◌, ap, subst, arith}
+use Rattle.std.proofs.Common.{◌≡◌, ◌⊎◌, inl, inr, ℕ, ◌+◌, ◌≤◌, List, [], ◌∷◌, ◌++◌, length, Option, Some, Err, refl, sym, ◌∙◌, ap, subst, arith}
 use Rattle.std.specs.Prelude.{Bool, true, false, IfSome}
 use Rattle.std.proofs.lemmas.List.Elements.{All-nil}
 use Rattle.pm_modes.specs.declared.Mode.{Mode}
@@ -8,6 +8,8 @@ use Rattle.pm_supervisor.specs.Children.{one_if}
 use Rattle.pm_supervisor.specs.declared.Limits.{Limits}
 use Rattle.pm_supervisor.specs.Steps.{empty_trace}
 use Rattle.pm_state.specs.declared.event.PmEvent.{PmEvent}
+use Rattle.pm_state.specs.declared.event.PmEvent.TheVariants as entry
+use Rattle.pm_supervisor.specs.declared.Ending.TheVariants as endings
 use Rattle.pm_state.specs.Journal.{all_replayed, replay_begun}
 use Rattle.pm_query.specs.declared.book.BookEntry.{BookEntry}
 use Rattle.pm_query.specs.declared.book.BookEntry.TheVariants.{Opened}
@@ -15,25 +17,26 @@ use Rattle.pm_segment.specs.Children.{times_in}
 use Rattle.pm_segment.specs.Moves.{NotesEntries}
 use Rattle.pm_segment.specs.MovesLaws.{notes_both}
 use Rattle.pm_chain.specs.Laws.{StepsGoOn}
-use Rattle.pm_chain.specs.Steps.{Step, book_of, journal_of, replay_of}
+use Rattle.pm_chain.specs.Steps.{Notes, Step, book_of, journal_of, replay_of}
 use Rattle.pm_journal.specs.Laws.{GoesOnOverItsJournal, KeepsALegalJournal}
 use Rattle.pm_journal.specs.Standing.{Standing, nothing_done}
 use Rattle.pm_journal.specs.Stands.{Remembers, Stands}
-use Rattle.pm_once.specs.Goes.{AreOurs, AsksAsDue, IsAt, IsEndOf, IsIdle, IsMoment, IsOpen, IsRunning, Outset, asked_in, is_last_drawn}
-use Rattle.pm_once.specs.Hands.{AreThere, nobody}
-use Rattle.pm_once.specs.Log.{HasLogged}
-use Rattle.pm_once.specs.Once.{IsAsked, IsBook, IsJournal, IsOnceEnd, is_spent_of_pids}
+use Rattle.pm_once.specs.Goes.{AreOurEnds, AreOurs, AsksAsDue, EndsWith, IsAt, IsEndOf, IsIdle, IsMoment, IsOpen, IsRunning, Outset, asked_in, is_last_drawn}
+use Rattle.pm_once.specs.Auxiliaries.{AreThere, nobody}
+use Rattle.pm_once.specs.Log.{HasLogged, LogView, Says, log_of}
+use Rattle.pm_once.specs.Once.{IsAsked, IsBook, IsJournal, IsOnceEnd, end_line, is_spent_of_pids}
 use Rattle.pm_once.specs.Serves.{Serves}
 use Rattle.pm_once.specs.Service.{Connection}
 use Rattle.pm_once.specs.View.{View}
 use Rattle.pm_once.specs.declared.end.ServerEnd.{ServerEnd}
 use Rattle.pm_once.specs.declared.end.ServerEnd.TheVariants.{Clean, Abnormal, NoMemory}
 use Rattle.pm_once.specs.declared.end.Why.TheVariants.{AfterCrash, StartupFailed, RestartOff, GenerationsSpent}
-use Rattle.pm_once.specs.declared.hands.Hands.{Hands}
+use Rattle.pm_once.specs.declared.auxiliaries.Auxiliaries.{Auxiliaries}
 use Rattle.pm_once.proofs.Entries.{all_weaker}
-use Rattle.pm_once.proofs.Going.{adds_none}
-use Rattle.pm_once.proofs.Saying.{said_first}
-use Rattle.pm_once.proofs.Sending.{nothing_printed, printed_weaker}
+use Rattle.pm_once.proofs.Going.{adds_none, journal-append}
+use Rattle.pm_once.proofs.OurEnds.{last_ends}
+use Rattle.pm_once.proofs.Saying.{printed_more, said_first}
+use Rattle.pm_once.proofs.Sending.{printed_weaker}
 
 -- a server before it does anything
 pub record HasBegun (limits : Limits) (v : View) : Type 0 where
@@ -41,7 +44,7 @@ pub record HasBegun (limits : Limits) (v : View) : Type 0 where
   pub told : IfSome v.work.told (λ es. es ≡ [])
   pub unbroken : v.log.is_cut ≡ false
   pub lost : v.lost ≡ []
-  pub hands : v.hands ≡ nobody
+  pub auxiliaries : v.auxiliaries ≡ nobody
   pub listens : v.listens ≡ true
   pub generation : v.store.generation ≡ 1
   pub inside : v.store.inside ≡ []
@@ -57,9 +60,10 @@ begins_at goes work limits v begun = record {
   are_steps = goes.begins limits;
   lost_is = begun.lost;
   said = said_first v.log begun.unbroken;
-  hands = subst (λ (h : Hands). AreThere h v.work.standing) (sym begun.hands) (record { startup = tt; checkpointer = tt; writer = tt });
+  auxiliaries = subst (λ (h : Auxiliaries). AreThere h v.work.standing) (sym begun.auxiliaries) (record { startup = tt; checkpointer = tt; writer = tt });
   asks = subst (λ (s : Standing). AsksAsDue [] v.listens s) (sym begun.standing) (record { smart = All-nil (λ (m : Mode). m ≡ Smart); few = omega (arith, one_at_most v.listens) });
   acts = subst (λ (s : Standing). AreOurs limits s.due) (sym begun.standing) tt;
+  ends = tt;
 }
   where
     one_at_most : (b : Bool) → one_if b ≤ 1
@@ -131,25 +135,33 @@ whole_asked goes work limits gives end cs ended steps v now begun serves =
       | inr (inr drawn) ↦ inr (inr (subst (λ (n : ℕ). is_last_drawn n ≡ true) same drawn))
     ]
 
-end_by : (limits : Limits) (end : ServerEnd) (steps : List Step) (now : View) → now.work.standing.generation ≡ (replay_of limits steps).shown.generation → IsEndOf end steps now → IsOnceEnd limits end steps
-end_by limits Clean steps now same ends = ends
-end_by limits (Abnormal AfterCrash) steps now same ends = ends
-end_by limits (Abnormal RestartOff) steps now same ends = ends
-end_by limits (Abnormal (StartupFailed why)) steps now same ends = ends.0
-end_by limits (Abnormal GenerationsSpent) steps now same ends = sym same ∙ ends
-end_by limits NoMemory steps now same ends = tt
+-- a server that isn't to restart
+told_off : (limits : Limits) (steps : List Step) → AreOurEnds limits (journal_of steps) → EndsWith (entry.Ended endings.RestartOff) steps → limits.restart_after_crash ≡ false
+told_off limits steps ours ends =
+    (last_ends limits (journal_of ends.0) (entry.Ended endings.RestartOff ∷ [])
+    (subst (λ (l : List PmEvent). AreOurEnds limits l) (ap journal_of ends.1 ∙ journal-append ends.0 (Notes (entry.Ended endings.RestartOff) ∷ [])) ours)).0
+
+ended_by : (limits : Limits) (end : ServerEnd) (steps : List Step) (now : View) → now.work.standing.generation ≡ (replay_of limits steps).shown.generation → AreOurEnds limits (journal_of steps) → IsEndOf end steps now → IsOnceEnd limits end steps
+ended_by limits Clean steps now same ours ends = ends.0
+ended_by limits (Abnormal AfterCrash) steps now same ours ends = ends.0
+ended_by limits (Abnormal RestartOff) steps now same ours ends = (ends, told_off limits steps ours ends)
+ended_by limits (Abnormal (StartupFailed why)) steps now same ours ends = ends.0
+ended_by limits (Abnormal GenerationsSpent) steps now same ours ends = sym same ∙ ends
+ended_by limits NoMemory steps now same ours ends = tt
 
 pub whole_end : StepsGoOn → GoesOnOverItsJournal → (limits : Limits) (gives : ℕ → Type 0) (end : ServerEnd) (cs : List Connection) (ended : Bool) (steps : List Step) (v now : View) → HasBegun limits v
     → Serves gives (Err end) cs ended steps v now → IsOnceEnd limits end steps
 whole_end goes work limits gives end cs ended steps v now begun serves =
     let at : IsAt (outset_of limits v) steps now = serves.goes.at (outset_of limits v) [] (begins_at goes work limits v begun) (begins_open limits v begun) in
-    end_by limits end steps now (remembered limits (journal_of steps) now.work.standing at.past at.stands).generation serves.ends
+    ended_by limits end steps now (remembered limits (journal_of steps) now.work.standing at.past at.stands).generation at.ends serves.ends
 
-pub whole_log : StepsGoOn → GoesOnOverItsJournal → (limits : Limits) (gives : ℕ → Type 0) (end : ServerEnd) (cs : List Connection) (ended : Bool) (steps : List Step) (v now : View) → HasBegun limits v
-    → Serves gives (Err end) cs ended steps v now → HasLogged (journal_of steps) v.log.written now.log.written v.log.faults now.log.faults
-whole_log goes work limits gives end cs ended steps v now begun serves =
+-- the line of the end behind those of the journal
+pub whole_log : StepsGoOn → GoesOnOverItsJournal → (limits : Limits) (gives : ℕ → Type 0) (end : ServerEnd) (cs : List Connection) (ended : Bool) (steps : List Step) (v now : View) (last : LogView) → HasBegun limits v
+    → Serves gives (Err end) cs ended steps v now → Says (end_line end) now.log last → HasLogged (log_of (journal_of steps) ++ end_line end) v.log.written last.written v.log.faults last.faults
+whole_log goes work limits gives end cs ended steps v now last begun serves says =
     let at : IsAt (outset_of limits v) steps now = serves.goes.at (outset_of limits v) [] (begins_at goes work limits v begun) (begins_open limits v begun) in
-    record { printed = printed_weaker _ _ _ _ _ at.said.rose at.said.printed; later = at.said.later }
+    let printed = printed_more (log_of (journal_of steps)) (end_line end) v.log now.log last at.said says in
+    record { printed = printed_weaker _ _ _ _ _ printed.rose printed.printed; later = printed.later }
 
 book_by_end : (end : ServerEnd) (steps : List Step) (before now : Option (List BookEntry)) → NotesEntries (Opened 1 ∷ book_of steps) before now → IsBook end steps before now
 book_by_end NoMemory steps before now notes = inr notes
@@ -169,5 +181,14 @@ nothing_journal goes limits gives told = record { noted = adds_none told; legal 
 pub nothing_asked : (limits : Limits) → IsAsked limits false []
 nothing_asked limits = record { smart = All-nil (λ (m : Mode). m ≡ Smart); few = omega arith; cause = inl refl }
 
-pub nothing_logged : (written : Option (List ℕ)) (faults : ℕ) → HasLogged [] written written faults faults
-nothing_logged written faults = record { printed = nothing_printed _ written; later = omega arith }
+pub nothing_logged : (first last : LogView) → first.is_cut ≡ false → Says (end_line NoMemory) first last → HasLogged (end_line NoMemory) first.written last.written first.faults last.faults
+nothing_logged first last unbroken says =
+    let printed = printed_more [] (end_line NoMemory) first first last (said_first first unbroken) says in
+    record { printed = printed_weaker _ _ _ _ _ printed.rose printed.printed; later = printed.later }
+
+-- of a sink that is another's
+pub logged_as : {S : Type 0} (written : S → Option (List ℕ)) (faults : S → ℕ) (text : List ℕ) (first before last now : S) → first ≡ before → now ≡ last
+    → HasLogged text (written first) (written last) (faults first) (faults last) → HasLogged text (written before) (written now) (faults before) (faults now)
+logged_as written faults text first before last now one two logged =
+    subst (λ (s : _). HasLogged text (written s) (written now) (faults s) (faults now)) one
+    (subst (λ (s : _). HasLogged text (written first) (written s) (faults first) (faults s)) (sym two) logged)

@@ -12,6 +12,7 @@ use Rattle.pm_query.specs.declared.book.BookEntry.TheVariants.{Gone, Opened}
 use Rattle.pm_segment.specs.Children.{AreOthers}
 use Rattle.pm_segment.specs.Moment.{Moment}
 use Rattle.pm_segment.specs.Moves.{Moves, Renews}
+use Rattle.pm_segment.specs.Redos.{is_broken}
 use Rattle.pm_admit.specs.declared.Cac.TheVariants as decisions
 use Rattle.pm_chain.specs.Steps.{ChildRun, IsRunOf, Step, journal_of}
 use Rattle.pm_journal.specs.declared.act.Act.{Act}
@@ -21,39 +22,44 @@ use Rattle.pm_journal.specs.Roll.{kind_in}
 use Rattle.pm_journal.specs.Standing.{Adds, IsAtRest, Standing, exiting, made}
 use Rattle.pm_journal.specs.Stands.{IsSettled}
 use Rattle.pm_once.specs.Goes.{Does, Goes, IsIdle, StaysOpen, accepted_in, if_session, is_last_drawn, sessions_in}
-use Rattle.pm_once.specs.Hands.{AreThere, IsHand, with_started}
+use Rattle.pm_once.specs.Auxiliaries.{AreThere, IsPresent, with_started}
+use Rattle.pm_once.specs.AuxiliaryRuns.{IsRunAs}
+use Rattle.pm_once.specs.Knows.{Knows}
 use Rattle.pm_once.specs.Log.{LogView, Says, log_line}
 use Rattle.pm_once.specs.View.{View}
 use Rattle.pm_once.specs.declared.end.ServerEnd.{ServerEnd}
 use Rattle.pm_once.specs.declared.end.ServerEnd.TheVariants.{Clean, Abnormal, NoMemory}
 use Rattle.pm_once.specs.declared.end.Why.TheVariants.{AfterCrash, RestartOff, StartupFailed}
-use Rattle.pm_once.specs.declared.end.StartWhy.{StartWhy}
-use Rattle.pm_once.specs.declared.hands.Hands.{Hands}
+use Rattle.pm_once.specs.declared.outcome.Outcome.{Outcome}
+use Rattle.pm_once.specs.declared.outcome.Outcome.TheVariants.{Closed, Refused}
+use Rattle.pm_once.specs.declared.checkpointer.Closed.TheVariants.{Full, Made}
+use Rattle.pm_once.specs.declared.auxiliaries.Auxiliaries.{Auxiliaries}
 use Rattle.pm_once.specs.declared.admitted.Admitted.{Admitted}
 
 -- ---- an act
 
--- how a server ends whose startup child failed for this reason, or for want of memory
-abbrev pub failed_by : Option StartWhy → ServerEnd
-failed_by (Some why) = Abnormal (StartupFailed why)
-failed_by None = NoMemory
+-- how the server ends where its machine does: by what the last auxiliary child came to, or since its log is broken. There is
+-- nothing else but want of memory behind such an end
+abbrev pub end_in : Ending → Option Outcome → Bool → ServerEnd
+end_in endings.Clean (Some (Closed Made)) broken = Clean
+end_in endings.AfterCrash (Some (Closed Full)) broken = Abnormal AfterCrash
+end_in endings.AfterCrash outcome true = Abnormal AfterCrash
+end_in endings.StartupFailed (Some (Refused why)) broken = Abnormal (StartupFailed why)
+end_in endings.RestartOff outcome broken = Abnormal RestartOff
+end_in ending outcome broken = NoMemory
 
--- how the server ends where its machine does
-abbrev pub end_in : Ending → View → ServerEnd
-end_in endings.Clean v = Clean
-end_in endings.AfterCrash v = if v.is_short then NoMemory else Abnormal AfterCrash
-end_in endings.StartupFailed v = failed_by v.failure
-end_in endings.RestartOff v = Abnormal RestartOff
+abbrev pub end_by : Ending → View → ServerEnd
+end_by ending v = end_in ending v.outcome (is_broken v.store.live)
 
 -- the same children are there
-pub record SameHands (before now : Hands) : Type 0 where
+pub record SameAuxiliaries (before now : Auxiliaries) : Type 0 where
   pub startup : now.startup ≡ before.startup
   pub checkpointer : now.checkpointer ≡ before.checkpointer
   pub writer : now.writer ≡ before.writer
 
-abbrev pub HandsBehind : Act → Hands → Hands → Type 0
-HandsBehind (act.Start pid kind) before now = now ≡ with_started pid kind before
-HandsBehind _ before now = SameHands before now
+abbrev pub AuxiliariesBehind : Act → Auxiliaries → Auxiliaries → Type 0
+AuxiliariesBehind (act.Start pid kind) before now = now ≡ with_started pid kind before
+AuxiliariesBehind _ before now = SameAuxiliaries before now
 
 abbrev pub LogBehind : Act → LogView → LogView → Type 0
 LogBehind (act.Say line) before now = Says (log_line line) before now
@@ -66,14 +72,26 @@ pub record HasRenewed (generation : ℕ) (lost others : List ℕ) (before now : 
   pub time : GoesOn before.ticks now.ticks before.images now.images
   pub later : before.faults ≤ now.faults
 
+-- nobody has used the store
+pub record Stays (before now : Moment) : Type 0 where
+  pub moves : Moves [] before now
+  pub rows : now.rows ≡ before.rows
+  pub live : now.live ≡ before.live
+  pub files : now.files ≡ before.files
+  pub faults : now.faults ≡ before.faults
+
+-- the store and those that it lost, behind an act that may have renewed it: nothing was noted where memory was short
 abbrev pub StoreBehind : Act → Result (Unit {0}) ServerEnd → View → View → Type 0
 StoreBehind (act.Reset generation) (Ok done) before now =
-    (now.lost ≡ []) × (others : List ℕ) × HasRenewed generation before.lost others before.store now.store
-StoreBehind _ result before now = (now.lost ≡ before.lost) × Moves [] before.store now.store
+    (now.outcome ≡ None) × (now.lost ≡ []) × (others : List ℕ) × HasRenewed generation before.lost others before.store now.store
+StoreBehind (act.Reset generation) (Err end) before now =
+    (now.outcome ≡ None) × (now.lost ≡ before.lost) × Moves [] before.store now.store
+StoreBehind _ result before now =
+    (now.outcome ≡ before.outcome) × (now.lost ≡ before.lost) × Stays before.store now.store
 
 abbrev pub EndBehind : Act → Result (Unit {0}) ServerEnd → View → Type 0
 EndBehind (act.Reset generation) result before = IfErr result (λ end. end ≡ NoMemory)
-EndBehind (act.End ending) result before = result ≡ Err (end_in ending before)
+EndBehind (act.End ending) result before = result ≡ Err (end_by ending before)
 EndBehind _ result before = result ≡ Ok tt
 
 -- where memory is short
@@ -83,11 +101,9 @@ short_if (Err short) = Err NoMemory
 
 -- all but the store and those that it lost is as it was
 pub record RestBehind (before now : View) : Type 0 where
-  pub hands : now.hands ≡ before.hands
+  pub auxiliaries : now.auxiliaries ≡ before.auxiliaries
   pub log : now.log ≡ before.log
   pub work : now.work ≡ before.work
-  pub failure : now.failure ≡ before.failure
-  pub short : now.is_short ≡ before.is_short
   pub listens : now.listens ≡ before.listens
 
 abbrev pub RenewsStore : ℕ → Result (Unit {0}) AllocError → View → View → Type 0
@@ -95,12 +111,10 @@ RenewsStore generation result before now = RestBehind before now × StoreBehind 
 
 -- an act is done, all but its entry
 pub record Performs (a : Act) (result : Result (Unit {0}) ServerEnd) (before now : View) : Type 0 where
-  pub hands : HandsBehind a before.hands now.hands
+  pub auxiliaries : AuxiliariesBehind a before.auxiliaries now.auxiliaries
   pub log : LogBehind a before.log now.log
   pub store : StoreBehind a result before now
   pub ends : EndBehind a result before
-  pub failure : now.failure ≡ before.failure
-  pub short : now.is_short ≡ before.is_short
   pub listens : now.listens ≡ before.listens
 
 -- ---- acts, one after the other
@@ -112,7 +126,7 @@ AreSays (_ ∷ rest) = ⊥
 
 -- what acts keep of where the supervisor stands
 pub record Keeps (before now : Standing) : Type 0 where
-  pub hands : (pid : ℕ) (kind : Kind) → IsHand (Some pid) kind before → IsHand (Some pid) kind now
+  pub auxiliaries : (pid : ℕ) (kind : Kind) → IsPresent (Some pid) kind before → IsPresent (Some pid) kind now
   pub settled : IsSettled before → IsSettled now
   pub drawn : is_last_drawn before.last_pid ≡ true → is_last_drawn now.last_pid ≡ true
   pub unowed : is_last_drawn before.last_pid ≡ true → before.owes_smart ≡ false → now.owes_smart ≡ false
@@ -129,7 +143,6 @@ pub record DoesNext (result : Result Bool ServerEnd) (steps : List Step) (before
   pub none_due : result ≡ Ok false → now.work.standing.due ≡ []
   pub ended : OnOk result (now.work.standing.ended ≡ before.work.standing.ended)
   pub says : AreSays before.work.standing.due → AreSays now.work.standing.due × (now.work.standing.owes_smart ≡ before.work.standing.owes_smart)
-  pub failure : now.failure ≡ before.failure
   pub listens : now.listens ≡ before.listens
 
 -- all acts that were due were done
@@ -139,7 +152,6 @@ pub record Acts (result : Result (Unit {0}) ServerEnd) (steps : List Step) (befo
   pub none_due : OnOk result (now.work.standing.due ≡ [])
   pub says : AreSays before.work.standing.due → now.work.standing.owes_smart ≡ before.work.standing.owes_smart
   pub ended : OnOk result (now.work.standing.ended ≡ before.work.standing.ended)
-  pub failure : now.failure ≡ before.failure
   pub listens : now.listens ≡ before.listens
 
 -- some of them were, and others may be due
@@ -148,27 +160,28 @@ pub record ActsSoFar (steps : List Step) (before now : View) : Type 0 where
   pub keeps : Keeps before.work.standing now.work.standing
   pub ended : now.work.standing.ended ≡ before.work.standing.ended
   pub says : AreSays before.work.standing.due → AreSays now.work.standing.due × (now.work.standing.owes_smart ≡ before.work.standing.owes_smart)
-  pub failure : now.failure ≡ before.failure
   pub listens : now.listens ≡ before.listens
 
 -- ---- the run of a child
 
 -- the child isn't among those that serve no connection
-abbrev pub IsOff : Kind → Hands → Type 0
-IsOff kinds.Startup hands = hands.startup ≡ None
-IsOff kinds.Checkpointer hands = hands.checkpointer ≡ None
-IsOff kinds.Writer hands = hands.writer ≡ None
-IsOff _ hands = Unit {0}
+abbrev pub IsOff : Kind → Auxiliaries → Type 0
+IsOff kinds.Startup auxiliaries = auxiliaries.startup ≡ None
+IsOff kinds.Checkpointer auxiliaries = auxiliaries.checkpointer ≡ None
+IsOff kinds.Writer auxiliaries = auxiliaries.writer ≡ None
+IsOff _ auxiliaries = Unit {0}
 
 -- A child that is there has run, and its end isn't noted yet.
 pub record HasRun (run : ChildRun) (before now : View) : Type 0 where
   pub is_run : IsRunOf run
   pub there : kind_in run.pid before.work.standing.children ≡ Some run.kind
   pub generation : run.generation ≡ before.store.generation
-  pub off : IsOff run.kind now.hands
-  pub hands : (s : Standing) → AreThere before.hands s → AreThere now.hands s
+  pub off : IsOff run.kind now.auxiliaries
+  pub auxiliaries : (s : Standing) → AreThere before.auxiliaries s → AreThere now.auxiliaries s
   pub work : now.work ≡ before.work
   pub store : Moves run.noted before.store now.store
+  pub knows : (from : ℕ) → Knows from before → Knows from now
+  pub told : IsRunAs run.kind run
   pub lost : now.lost ≡ before.lost
   pub log : now.log ≡ before.log
   pub listens : now.listens ≡ before.listens
@@ -183,9 +196,10 @@ pub record NotesExit (gives : ℕ → Type 0) (exit : ChildExit) (at : ℕ) (bef
   pub standing : now.work.standing ≡ made (exiting exit at before.work.standing) before.work.standing
   pub told : Adds (exiting exit at before.work.standing).entries before.work.told now.work.told
   pub lost : now.lost ≡ (if exit.was_active then before.lost ++ exit.pid ∷ [] else before.lost)
-  pub store : Moves [] before.store now.store
+  pub store : Stays before.store now.store
+  pub outcome : now.outcome ≡ before.outcome
   pub log : now.log ≡ before.log
-  pub hands : now.hands ≡ before.hands
+  pub auxiliaries : now.auxiliaries ≡ before.auxiliaries
   pub listens : now.listens ≡ before.listens
 
 -- it isn't noted, since memory is short
@@ -193,15 +207,16 @@ pub record NotesNoExit (before now : View) : Type 0 where
   pub standing : now.work.standing ≡ before.work.standing
   pub told : now.work.told ≡ before.work.told
   pub lost : now.lost ≡ before.lost
-  pub store : Moves [] before.store now.store
+  pub store : Stays before.store now.store
+  pub outcome : now.outcome ≡ before.outcome
   pub log : now.log ≡ before.log
-  pub hands : now.hands ≡ before.hands
+  pub auxiliaries : now.auxiliaries ≡ before.auxiliaries
   pub listens : now.listens ≡ before.listens
 
 -- a smart shutdown was asked for
 pub record Asks (gives : ℕ → Type 0) (result : Result (Unit {0}) ServerEnd) (steps : List Step) (before now : View) : Type 0 where
   pub does : Does gives result steps before now
-  pub hands : (pid : ℕ) (kind : Kind) → IsHand (Some pid) kind before.work.standing → IsHand (Some pid) kind now.work.standing
+  pub auxiliaries : (pid : ℕ) (kind : Kind) → IsPresent (Some pid) kind before.work.standing → IsPresent (Some pid) kind now.work.standing
   pub idle : OnOk result (IsIdle now.work.standing)
   pub opened : StaysOpen steps before now
   pub rests : IsAtRest now.work.standing
@@ -210,7 +225,7 @@ pub record Asks (gives : ℕ → Type 0) (result : Result (Unit {0}) ServerEnd) 
   pub short : IfErr result (λ end. end ≡ NoMemory)
 
 -- a child that serves no connection has run
-pub record HasAidRun (run : ChildRun) (before now : View) : Type 0 where
+pub record HasAuxiliaryRun (run : ChildRun) (before now : View) : Type 0 where
   pub ran : HasRun run before now
   pub alone : if_session run.kind run ≡ []
 
@@ -227,7 +242,7 @@ pub record Admits (gives : ℕ → Type 0) (admitted : Admitted) (steps : List S
   pub opened : StaysOpen steps before now
   pub rests : IsAtRest now.work.standing
   pub unowed : OnOk admitted.settled (now.work.standing.owes_smart ≡ false)
-  pub there : IsHand (Some admitted.pid) kinds.Backend now.work.standing
+  pub there : IsPresent (Some admitted.pid) kinds.Backend now.work.standing
   pub first : 1 ≤ admitted.pid
   pub accepted : accepted_in (journal_of steps) ≡ record { pid = admitted.pid; decision = decisions.Ok } ∷ []
   pub sessions : sessions_in steps ≡ []

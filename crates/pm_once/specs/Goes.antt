@@ -1,6 +1,6 @@
 -- What a server's calls do from one moment to another, and what holds of it at every moment.
-use Rattle.std.specs.Prelude.{◌≡◌, ◌⊎◌, ℕ, ◌+◌, ◌<◌, ◌≤◌, nat_le, Bool, false, List, [], ◌∷◌, ◌++◌, length, All, Option, None, Some, Result, IfErr, IfSome, OnOk}
-use Rattle.std.specs.List.{flat_map, last_or}
+use Rattle.std.specs.Prelude.{◌≡◌, ◌⊎◌, ℕ, ◌+◌, ◌<◌, ◌≤◌, nat_le, Bool, true, false, List, [], ◌∷◌, ◌++◌, length, All, Option, None, Some, Result, IfErr, IfSome, OnOk}
+use Rattle.std.specs.List.{AllByRecursion, flat_map, last_or}
 use Rattle.pm_exit.specs.declared.child.Kind.{Kind}
 use Rattle.pm_exit.specs.declared.child.Kind.TheVariants as kinds
 use Rattle.pm_modes.specs.declared.Mode.{Mode}
@@ -18,16 +18,21 @@ use Rattle.pm_query.specs.declared.book.BookEntry.{BookEntry}
 use Rattle.pm_query.specs.Book.{Base}
 use Rattle.pm_segment.specs.Children.{times_in}
 use Rattle.pm_segment.specs.Moment.{Moment}
-use Rattle.pm_segment.specs.Moves.{CountsEntries, IsCountedFrom, NotesEntries}
+use Rattle.pm_segment.specs.Moves.{CountsEntries, IsCountedFrom, NotesEntries, StaysUnread}
+use Rattle.pm_segment.specs.Redos.{is_broken}
 use Rattle.pm_segment.specs.Stands.{Begins, GoesFrom, Origin, WaitsFrom}
-use Rattle.pm_chain.specs.Steps.{Step, Notes, Runs, RunsOn, ChildRun, AreSteps, book_of, journal_of, lost_in}
+use Rattle.pm_chain.specs.Steps.{Step, Notes, Renews, Runs, RunsOn, ChildRun, AreSteps, book_of, journal_of, lost_in}
 use Rattle.pm_journal.specs.declared.supervision.Taken.{Taken}
 use Rattle.pm_journal.specs.Moments.{AreGiven}
 use Rattle.pm_journal.specs.Standing.{Adds, IsAtRest, Standing}
 use Rattle.pm_journal.specs.Stands.{Stands}
-use Rattle.pm_once.specs.Hands.{AreThere}
+use Rattle.pm_once.specs.Auxiliaries.{AreThere}
+use Rattle.pm_once.specs.AuxiliaryRuns.{IsToldRun}
+use Rattle.pm_once.specs.Knows.{Knows}
 use Rattle.pm_once.specs.Log.{HasSaid, LogView}
 use Rattle.pm_once.specs.View.{View}
+use Rattle.pm_once.specs.declared.checkpointer.Closed.TheVariants.{Full, Made}
+use Rattle.pm_once.specs.declared.outcome.Outcome.TheVariants.{Closed, Refused}
 use Rattle.pm_once.specs.declared.end.ServerEnd.{ServerEnd}
 use Rattle.pm_once.specs.declared.end.ServerEnd.TheVariants.{Clean, Abnormal, NoMemory}
 use Rattle.pm_once.specs.declared.end.Why.TheVariants.{AfterCrash, StartupFailed, RestartOff, GenerationsSpent}
@@ -81,6 +86,12 @@ AreOurs limits (act.KillAll ∷ acts) = ⊥
 AreOurs limits (act.End endings.RestartOff ∷ acts) = (limits.restart_after_crash ≡ false) × AreOurs limits acts
 AreOurs limits (_ ∷ acts) = AreOurs limits acts
 
+-- a server has ended for want of a restart only where it isn't to restart
+abbrev pub AreOurEnds : Limits → List PmEvent → Type 0
+AreOurEnds limits [] = Unit {0}
+AreOurEnds limits (entry.Ended endings.RestartOff ∷ journal) = (limits.restart_after_crash ≡ false) × AreOurEnds limits journal
+AreOurEnds limits (_ ∷ journal) = AreOurEnds limits journal
+
 -- ---- at every moment
 
 -- how a server began: by what limits, and with what log
@@ -96,9 +107,10 @@ pub record IsAt (outset : Outset) (steps : List Step) (v : View) : Type 0 where
   pub are_steps : AreSteps outset.limits steps
   pub lost_is : v.lost ≡ lost_in steps
   pub said : HasSaid (journal_of steps) outset.log v.log
-  pub hands : AreThere v.hands v.work.standing
+  pub auxiliaries : AreThere v.auxiliaries v.work.standing
   pub asks : AsksAsDue (asked_in (journal_of steps)) v.listens v.work.standing
   pub acts : AreOurs outset.limits v.work.standing.due
+  pub ends : AreOurEnds outset.limits (journal_of steps)
 
 -- any step may follow this one, but for a renewal
 abbrev pub IsFree : Option Step → Type 0
@@ -123,12 +135,21 @@ pub record IsIdle (s : Standing) : Type 0 where
 
 -- ---- from one moment to another
 
+abbrev pub IsNoRenewal : Step → Type 0
+IsNoRenewal (Renews generation gone) = ⊥
+IsNoRenewal _ = Unit {0}
+
 -- These steps more.
 pub record Goes (gives : ℕ → Type 0) (steps : List Step) (before now : View) : Type 0 where
   pub at : (outset : Outset) (earlier : List Step) → IsAt outset earlier before → IsOpen earlier before → IsAt outset (earlier ++ steps) now
   pub journal : Adds (journal_of steps) before.work.told now.work.told
   pub times : Times gives before.work.standing.moment (journal_of steps) now.work.standing.moment
   pub store : Spans (book_of steps) before.store now.store
+  pub runs : All IsToldRun steps
+  -- without a renewal the store is in its generation
+  pub still : AllByRecursion IsNoRenewal steps → now.store.generation ≡ before.store.generation
+  pub unread : AllByRecursion IsNoRenewal steps → StaysUnread before.store now.store
+  pub knows : (from : ℕ) → Knows from before → Knows from now
 
 -- it can go on behind them
 abbrev pub StaysOpen : List Step → View → View → Type 0
@@ -140,13 +161,14 @@ StaysOpen steps before now = (earlier : List Step) → IsOpen earlier before →
 abbrev pub EndsWith : PmEvent → List Step → Type 0
 EndsWith last steps = (front : List Step) × (steps ≡ front ++ Notes last ∷ [])
 
--- how a server ends by its journal
+-- how a server ends by its journal, and by what the last auxiliary child came to
 abbrev pub IsEndOf : ServerEnd → List Step → View → Type 0
-IsEndOf Clean steps v = EndsWith (entry.Ended endings.Clean) steps
-IsEndOf (Abnormal AfterCrash) steps v = EndsWith (entry.Ended endings.AfterCrash) steps
+IsEndOf Clean steps v = EndsWith (entry.Ended endings.Clean) steps × (v.outcome ≡ Some (Closed Made))
+IsEndOf (Abnormal AfterCrash) steps v =
+    EndsWith (entry.Ended endings.AfterCrash) steps × ((v.outcome ≡ Some (Closed Full)) ⊎ (is_broken v.store.live ≡ true))
 IsEndOf (Abnormal RestartOff) steps v = EndsWith (entry.Ended endings.RestartOff) steps
 IsEndOf (Abnormal (StartupFailed why)) steps v =
-    EndsWith (entry.Ended endings.StartupFailed) steps × (v.failure ≡ Some why)
+    EndsWith (entry.Ended endings.StartupFailed) steps × (v.outcome ≡ Some (Refused why))
 IsEndOf (Abnormal GenerationsSpent) steps v = v.work.standing.generation ≡ 4294967295
 IsEndOf NoMemory steps v = Unit {0}
 

@@ -1,11 +1,14 @@
-pub mod Aids
+pub mod Auxiliaries
+pub mod AuxiliaryRuns
 pub mod Calls
 pub mod Goes
-pub mod Hands
+pub mod Knows
 pub mod Log
 pub mod Once
+pub mod Outside
 pub mod Print
 pub mod Quiet
 pub mod Serves
 pub mod Service
+pub mod Story
 pub mod View

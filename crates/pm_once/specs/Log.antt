@@ -44,7 +44,7 @@ pub record HasPrinted (text : List ℕ) (first now : LogView) : Type 0 where
 abbrev pub HasSaid : List PmEvent → LogView → LogView → Type 0
 HasSaid journal first now = HasPrinted (log_of journal) first now
 
--- All lines of the journal were written, or a front of them where the sink failed.
-pub record HasLogged (journal : List PmEvent) (before now : Option (List ℕ)) (faults_before faults_now : ℕ) : Type 0 where
-  pub printed : IsPrinted (log_of journal) (Rose faults_before faults_now) before now
+-- All lines of the journal and the line of the end were written, or a front of them where the sink failed; and nothing else.
+pub record HasLogged (text : List ℕ) (before now : Option (List ℕ)) (faults_before faults_now : ℕ) : Type 0 where
+  pub printed : IsPrinted text (Rose faults_before faults_now) before now
   pub later : faults_before ≤ faults_now

@@ -1,5 +1,5 @@
 -- What a server serves: connections, one after another.
-use Rattle.std.specs.Prelude.{◌≡◌, ◌⊎◌, ℕ, Bool, true, false, if◌then◌else◌, List, [], map, All, Option, option_map, Result, IfErr, OnOk}
+use Rattle.std.specs.Prelude.{◌≡◌, ◌⊎◌, ℕ, ◌+◌, Bool, true, false, if◌then◌else◌, List, [], ◌∷◌, length, map, All, Option, option_map, Result, IfErr, IfSome, OnOk}
 use Rattle.pm_admit.specs.declared.Cac.TheVariants as decisions
 use Rattle.pm_keys.specs.CancelKey.{cancel_key}
 use Rattle.pm_outside.specs.Visits.{Visits}
@@ -22,10 +22,16 @@ passed connections ended visits = if ended then with_end (with_connections conne
 abbrev pub IsServed : (seed : List ℕ) → (limit : ℕ) → (gives : ℕ → Type 0) → Connection → Type 0
 IsServed seed limit gives connection = IsServedAs (cancel_key seed connection.pid) limit gives connection
 
+-- their links have the numbers behind this one, in order
+abbrev pub AreNumbered : ℕ → List Connection → Type 0
+AreNumbered last [] = Unit {0}
+AreNumbered last (connection ∷ connections) = (connection.given.number ≡ last + 1) × AreNumbered (last + 1) connections
+
 -- The connections in their order: the n-th link is that of the n-th connection accepted, and its child's run is the n-th of
 -- a session.
 pub record HasServed (seed : List ℕ) (limit : ℕ) (gives : ℕ → Type 0) (connections : List Connection) (ended : Bool) (steps : List Step) (before now : Option Visits) : Type 0 where
   pub visits : now ≡ option_map (passed connections ended) before
+  pub numbers : IfSome before (λ visits. AreNumbered (length visits.given) connections)
   pub each : All (IsServed seed limit gives) connections
   pub accepted : accepted_in (journal_of steps) ≡ map taken_for connections
   pub sessions : sessions_in steps ≡ map run_of connections

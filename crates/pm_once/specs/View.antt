@@ -5,21 +5,19 @@ use Rattle.pm_journal.specs.Supervision.{at_work}
 use Rattle.pm_query.specs.declared.book.BookEntry.{BookEntry}
 use Rattle.pm_segment.specs.Moment.{Moment, moment_of}
 use Rattle.pm_once.specs.Log.{LogView, view_of as log_view_of}
-use Rattle.pm_once.specs.declared.end.StartWhy.{StartWhy}
-use Rattle.pm_once.specs.declared.hands.Hands.{Hands}
+use Rattle.pm_once.specs.declared.auxiliaries.Auxiliaries.{Auxiliaries}
+use Rattle.pm_once.specs.declared.outcome.Outcome.{Outcome}
 use Rattle.pm_once.specs.declared.server.Server.{Server}
 
--- The supervisor at work, the store, the log, the children that ended inside the store in this generation, those that serve no
--- connection, why its last startup child failed, whether the last checkpoint fell short of memory, and
--- whether the port's end hasn't come.
+-- The supervisor at work, the store, the log, the children that ended inside the store in this generation, the auxiliary ones,
+-- what the last of these came to where nobody has used the store since, and whether the port's end hasn't come.
 pub record View : Type 1 where
   pub work : AtWork
   pub store : Moment
   pub log : LogView
   pub lost : List ℕ
-  pub hands : Hands
-  pub failure : Option StartWhy
-  pub is_short : Bool
+  pub auxiliaries : Auxiliaries
+  pub outcome : Option Outcome
   pub listens : Bool
 
 -- the view of a server whose book tells this
@@ -29,8 +27,7 @@ view_of book server = record {
   store = moment_of book server.store;
   log = log_view_of server.log;
   lost = server.lost.items;
-  hands = server.hands;
-  failure = server.failure;
-  is_short = server.is_short;
+  auxiliaries = server.auxiliaries;
+  outcome = server.outcome;
   listens = server.listens;
 }

@@ -1,18 +1,20 @@
 //! The laws on which a server stands.
 
-ghost use Rattle.pm_chain.specs.Laws.{StepsGoOn};
+ghost use Rattle.pm_chain.specs.Laws.{StepsAreChained, StepsGoOn};
 ghost use Rattle.pm_journal.specs.Laws.{GoesOnOverItsJournal, KeepsALegalJournal};
 
-use pm_chain::steps_go_on;
+use pm_chain::{steps_are_chained, steps_go_on};
 use pm_journal::{goes_on_over_its_journal, keeps_a_legal_journal};
 
 // The supervisor at work, its journal, and the steps of journal and book.
 pub(crate) fn laws()
     ensures steps { StepsGoOn }
+    ensures chained { StepsAreChained }
     ensures work { GoesOnOverItsJournal }
     ensures journal { KeepsALegalJournal }
 {
     steps_go_on();
+    steps_are_chained();
     goes_on_over_its_journal();
     keeps_a_legal_journal();
 }

@@ -6,12 +6,12 @@
 #![tactic(auto)]
 
 mod admitted;
+mod auxiliaries;
 mod checkpointer;
-mod conf;
 mod end;
-mod hands;
 mod laws;
 mod log;
+mod outcome;
 mod outside;
 mod printing;
 mod quiet;
@@ -23,8 +23,8 @@ mod server;
 mod session;
 mod startup;
 
-pub use conf::Conf;
 pub use end::{ServerEnd, StartWhy, Why};
 pub use outside::{Ended, Outside};
-pub use printing::{SinkFailed, print, print_number};
+pub use pm_words::Conf;
+pub use printing::{SinkFailed, file_letter, print, print_redo, print_with};
 pub use run_once::once;

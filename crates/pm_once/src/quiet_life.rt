@@ -14,7 +14,8 @@ impl<H: Home> Quiet<H> {
     /// One that isn't attached, and hasn't asked for anything. The gate lets it into its generation.
     pub fn new(pid: u32, generation: u32) -> Quiet<H>
         requires { generation ≡ H.home }
-        ensures child { quiet_child result ≡ record { pid = pid; is_dead_end = false; attached = None } }
+        ensures child { quiet_child result ≡ record
+            { pid = pid; is_dead_end = false; attached = None } }
         ensures told { quiet_told result ≡ nothing_told }
     {
         Quiet {

@@ -30,7 +30,8 @@ impl<J: Chronicle<PmEvent>, O: Sink, D: Disk, B: Chronicle<BookEntry>> Server<J,
         requires running { IsRunning (view_of (B.entries self.old.store.book) self.old) }
         requires idle { IsIdle (standing self.old.supervision) }
         ensures { (steps : List Step) × Turns result steps
-            (view_of (B.entries self.old.store.book) self.old) (view_of (B.entries self.new.store.book) self.new) }
+            (view_of (B.entries self.old.store.book) self.old)
+            (view_of (B.entries self.new.store.book) self.new) }
     {
         laws();
         match self.supervision.turn() {
@@ -54,8 +55,10 @@ impl<J: Chronicle<PmEvent>, O: Sink, D: Disk, B: Chronicle<BookEntry>> Server<J,
         requires settled { IsSettled (standing self.old.supervision) }
         ensures { (steps : List Step) × (connections : List Connection) × (ended : Bool)
             × Serves (C.gives clock.now) result connections ended steps
-            (view_of (B.entries self.old.store.book) self.old) (view_of (B.entries self.new.store.book) self.new)
-            × HasServed seed.now conf.now.authentication_ms (C.gives clock.now) connections ended steps (P.visits port.old) (P.visits port.new) }
+            (view_of (B.entries self.old.store.book) self.old)
+            (view_of (B.entries self.new.store.book) self.new)
+            × HasServed seed.now conf.now.authentication_ms (C.gives clock.now) connections ended
+            steps (P.visits port.old) (P.visits port.new) }
     {
         match self.run_one(clock) {
             Some(end) => end,
@@ -78,8 +81,10 @@ impl<J: Chronicle<PmEvent>, O: Sink, D: Disk, B: Chronicle<BookEntry>> Server<J,
         requires settled { IsSettled (standing self.old.supervision) }
         ensures { (steps : List Step) × (connections : List Connection) × (ended : Bool)
             × Serves (C.gives clock.now) result connections ended steps
-            (view_of (B.entries self.old.store.book) self.old) (view_of (B.entries self.new.store.book) self.new)
-            × HasServed seed.now conf.now.authentication_ms (C.gives clock.now) connections ended steps (P.visits port.old) (P.visits port.new) }
+            (view_of (B.entries self.old.store.book) self.old)
+            (view_of (B.entries self.new.store.book) self.new)
+            × HasServed seed.now conf.now.authentication_ms (C.gives clock.now) connections ended
+            steps (P.visits port.old) (P.visits port.new) }
     {
         if !self.listens || !self.supervision.may_accept() {
             return Ok(());
@@ -104,8 +109,10 @@ impl<J: Chronicle<PmEvent>, O: Sink, D: Disk, B: Chronicle<BookEntry>> Server<J,
         requires idle { IsIdle (standing self.old.supervision) }
         ensures { (steps : List Step) × (connections : List Connection) × (ended : Bool)
             × Serves (C.gives clock.now) result connections ended steps
-            (view_of (B.entries self.old.store.book) self.old) (view_of (B.entries self.new.store.book) self.new)
-            × HasServed seed.now conf.now.authentication_ms (C.gives clock.now) connections ended steps (P.visits port.old) (P.visits port.new) }
+            (view_of (B.entries self.old.store.book) self.old)
+            (view_of (B.entries self.new.store.book) self.new)
+            × HasServed seed.now conf.now.authentication_ms (C.gives clock.now) connections ended
+            steps (P.visits port.old) (P.visits port.new) }
     {
         match self.turn() {
             Ok(()) => {}
@@ -131,8 +138,10 @@ impl<J: Chronicle<PmEvent>, O: Sink, D: Disk, B: Chronicle<BookEntry>> Server<J,
         requires idle { IsIdle (standing self.old.supervision) }
         ensures { (steps : List Step) × (connections : List Connection) × (ended : Bool)
             × Serves (C.gives clock.now) (Err result) connections ended steps
-            (view_of (B.entries self.old.store.book) self.old) (view_of (B.entries self.new.store.book) self.new)
-            × HasServed seed.now conf.now.authentication_ms (C.gives clock.now) connections ended steps (P.visits port.old) (P.visits port.new) }
+            (view_of (B.entries self.old.store.book) self.old)
+            (view_of (B.entries self.new.store.book) self.new)
+            × HasServed seed.now conf.now.authentication_ms (C.gives clock.now) connections ended
+            steps (P.visits port.old) (P.visits port.new) }
     {
         'rounds: for _ in rt.forever() {
             match self.round(rt, alloc, port, clock, seed, conf) {

@@ -1,15 +1,11 @@
 //! A whole run of the server.
 
-ghost use Rattle.std.specs.Prelude.{◌≡◌, ◌≤◌, ◌+◌, [], Bool, List, IfSome};
-ghost use Rattle.pm_chain.specs.Steps.{Step, journal_of};
-ghost use Rattle.pm_once.specs.Log.{HasLogged};
-ghost use Rattle.pm_once.specs.Once.{IsAsked, IsBook, IsJournal, IsOnceEnd};
-ghost use Rattle.pm_once.specs.Serves.{HasServed};
-ghost use Rattle.pm_once.specs.Service.{Connection};
+ghost use Rattle.std.specs.Prelude.{◌≡◌, ◌≤◌, ◌+◌, [], IfSome};
+ghost use Rattle.pm_once.specs.Once.{IsOnceRun};
+ghost use Rattle.pm_once.specs.Outside.{outside_view};
 
-use crate::conf::Conf;
+use crate::auxiliaries::Auxiliaries;
 use crate::end::ServerEnd;
-use crate::hands::Hands;
 use crate::laws::laws;
 use crate::log::Log;
 use crate::outside::{Ended, Outside};
@@ -20,6 +16,7 @@ use pm_outside::{Chronicle, Clock, Port, Sink};
 use pm_query::BookEntry;
 use pm_segment::Sole;
 use pm_state::PmEvent;
+use pm_words::Conf;
 use std::alloc::Global;
 use std::sync::Wait;
 
@@ -41,14 +38,8 @@ where
     B: Chronicle<BookEntry>,
     requires within { conf.now.limits.max_connections + conf.now.limits.max_worker_processes ≤ 200 }
     requires empty { IfSome (J.entries outside.journal) (λ entries. entries ≡ []) }
-    ensures run { (steps : List Step) × (connections : List Connection) × (ended : Bool)
-        × IsJournal conf.now.limits (C.gives outside.clock) steps (J.entries outside.journal) (J.entries result.outside.journal)
-        × IsBook result.end steps (B.entries outside.book) (B.entries result.outside.book)
-        × IsAsked conf.now.limits ended steps
-        × IsOnceEnd conf.now.limits result.end steps
-        × HasLogged (journal_of steps) (O.written outside.sink) (O.written result.outside.sink) (O.faults outside.sink) (O.faults result.outside.sink)
-        × HasServed outside.seed conf.now.session.authentication_ms (C.gives outside.clock) connections ended steps
-        (P.visits outside.port) (P.visits result.outside.port) }
+    ensures run { IsOnceRun conf.now result.end (outside_view outside)
+        (outside_view result.outside) }
     ensures rest { (result.outside.clock ≡ outside.clock) × (result.outside.seed ≡ outside.seed) }
 {
     laws();
@@ -62,12 +53,14 @@ where
         seed,
     } = outside;
     let supervision = Supervision::new(alloc, conf.limits, journal);
+    let mut log = Log::new(sink);
     let store = match Sole::new(alloc, disk, book) {
         Ok(store) => store,
         Err((disk, book)) => {
+            log.say_end(ServerEnd::NoMemory);
             let outside = Outside {
                 port,
-                sink,
+                sink: log.into_sink(),
                 disk,
                 clock,
                 journal: supervision.into_journal(),
@@ -83,20 +76,22 @@ where
     let mut server = Server {
         supervision,
         store,
-        log: Log::new(sink),
+        log,
         lost: Vec::new(alloc),
-        hands: Hands::none(),
-        failure: None,
-        is_short: false,
+        auxiliaries: Auxiliaries::none(),
+        outcome: None,
         listens: true,
     };
     let end = server.run(rt, alloc, &mut port, &clock, &seed, &conf.session);
+    server.store.keeps_its_run();
+    server.store.reads_its_files();
     let Server {
         supervision,
         store,
-        log,
+        mut log,
         ..
     } = server;
+    log.say_end(end);
     let (disk, book) = store.into_parts();
     let outside = Outside {
         port,

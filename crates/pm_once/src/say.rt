@@ -4,11 +4,13 @@ ghost use Rattle.std.specs.Prelude.{◌≡◌, IsErr};
 ghost use Rattle.pm_disk.specs.Cause.{IsCounted};
 ghost use Rattle.pm_state.specs.Text.{kind_text, status_text};
 ghost use Rattle.pm_once.specs.Log.{log_line};
+ghost use Rattle.pm_once.specs.Once.{end_line};
 ghost use Rattle.pm_once.specs.Print.{IsPrinted};
 ghost use Rattle.pm_state.specs.declared.action.Line.TheVariants.{ChildExit};
 
+use crate::end::{ServerEnd, StartWhy, Why};
 use crate::log::Log;
-use crate::printing::{SinkFailed, print, print_number};
+use crate::printing::{SinkFailed, print, print_number, print_redo};
 use pm_exit::{Kind, Status};
 use pm_outside::Sink;
 use pm_state::Line;
@@ -47,11 +49,38 @@ impl<O: Sink> Log<O> {
             self.is_cut = true;
         }
     }
+
+    /// Writes the line of an end that has one, unless the sink has failed.
+    pub fn say_end(&mut self, end: ServerEnd)
+        ensures { Says (end_line end) (view_of self.old) (view_of self.new) }
+    {
+        if self.is_cut {
+            return;
+        }
+        if print_end(&mut self.sink, end).is_err() {
+            self.is_cut = true;
+        }
+    }
+}
+
+// Writes the line of an end that has one.
+fn print_end<O: Sink>(sink: &mut O, end: ServerEnd) -> Result<(), SinkFailed>
+    ensures said { IsPrinted (end_line end) (IsErr result) (O.written sink.old)
+        (O.written sink.new) }
+    ensures cause { IsCounted (O.faults sink.old) (O.faults sink.new) (IsErr result) }
+{
+    match end {
+        ServerEnd::Clean | ServerEnd::Abnormal(Why::AfterCrash | Why::RestartOff) => Ok(()),
+        ServerEnd::Abnormal(Why::StartupFailed(StartWhy::Redo(fault))) => print_redo(sink, fault),
+        ServerEnd::Abnormal(Why::GenerationsSpent) => print(sink, b"no generation is left\n"),
+        ServerEnd::NoMemory => print(sink, b"out of memory\n"),
+    }
 }
 
 // Writes a line, or a front of it until the sink fails.
 fn say_line<O: Sink>(sink: &mut O, line: Line) -> Result<(), SinkFailed>
-    ensures said { IsPrinted (log_line line) (IsErr result) (O.written sink.old) (O.written sink.new) }
+    ensures said { IsPrinted (log_line line) (IsErr result) (O.written sink.old)
+        (O.written sink.new) }
     ensures cause { IsCounted (O.faults sink.old) (O.faults sink.new) (IsErr result) }
 {
     match line {
@@ -87,11 +116,12 @@ fn say_line<O: Sink>(sink: &mut O, line: Line) -> Result<(), SinkFailed>
 
 // Writes the line of a child that crashed.
 fn say_exit<O: Sink>(sink: &mut O, pid: u32, kind: Kind, status: Status) -> Result<(), SinkFailed>
-    ensures said { IsPrinted (log_line (ChildExit pid kind status)) (IsErr result) (O.written sink.old) (O.written sink.new) }
+    ensures said { IsPrinted (log_line (ChildExit pid kind status)) (IsErr result)
+        (O.written sink.old) (O.written sink.new) }
     ensures cause { IsCounted (O.faults sink.old) (O.faults sink.new) (IsErr result) }
 {
     print(sink, b"LOG:  child ")?;
-    print_number(sink, pid)?;
+    print_number(sink, u64::from(pid))?;
     print(sink, b" (")?;
     print(sink, kind_word(kind))?;
     say_status(sink, status)?;
@@ -100,17 +130,18 @@ fn say_exit<O: Sink>(sink: &mut O, pid: u32, kind: Kind, status: Status) -> Resu
 
 // Writes how a child ended.
 fn say_status<O: Sink>(sink: &mut O, status: Status) -> Result<(), SinkFailed>
-    ensures said { IsPrinted (status_text status) (IsErr result) (O.written sink.old) (O.written sink.new) }
+    ensures said { IsPrinted (status_text status) (IsErr result) (O.written sink.old)
+        (O.written sink.new) }
     ensures cause { IsCounted (O.faults sink.old) (O.faults sink.new) (IsErr result) }
 {
     match status {
         Status::Code(code) => {
             print(sink, b") exited with exit code ")?;
-            print_number(sink, u32::from(code))
+            print_number(sink, u64::from(code))
         }
         Status::Signal(number) => {
             print(sink, b") was terminated by signal ")?;
-            print_number(sink, u32::from(number))
+            print_number(sink, u64::from(number))
         }
     }
 }

@@ -1,15 +1,17 @@
 //! The server at work.
 
-ghost use Rattle.std.specs.Prelude.{◌≡◌, List, false, None};
+ghost use Rattle.std.specs.Prelude.{◌≡◌, List, false, None, option_map};
 ghost use Rattle.pm_chain.specs.Steps.{Step};
 ghost use Rattle.pm_once.specs.Service.{is_signal};
+ghost use Rattle.pm_once.specs.declared.outcome.Outcome.{Outcome};
 
 use crate::admitted::Admitted;
+use crate::auxiliaries::{Auxiliaries, Duty};
 use crate::checkpointer::{Closed, write_last};
 use crate::end::{ServerEnd, StartWhy, Why};
-use crate::hands::{Duty, Hands};
 use crate::laws::laws;
 use crate::log::Log;
+use crate::outcome::Outcome;
 use crate::session::{next_link, serve_link};
 use crate::startup::read_log;
 use pm_disk::Disk;
@@ -33,11 +35,9 @@ pub(crate) struct Server<J: Chronicle<PmEvent>, O: Sink, D: Disk, B: Chronicle<B
     pub(crate) log: Log<O>,
     // The children that ended inside the store in this generation.
     pub(crate) lost: Vec<u32>,
-    pub(crate) hands: Hands,
-    // Why the last startup child failed, unless memory was short.
-    pub(crate) failure: Option<StartWhy>,
-    // Memory was short at the last checkpoint.
-    pub(crate) is_short: bool,
+    pub(crate) auxiliaries: Auxiliaries,
+    // What the last auxiliary child came to that used the store, where nobody has used it since.
+    pub(crate) outcome: Option<Outcome>,
     // Links are asked for: the port's end hasn't come, and the last pid wasn't drawn.
     pub(crate) listens: bool,
 }
@@ -47,32 +47,40 @@ impl<J: Chronicle<PmEvent>, O: Sink, D: Disk, B: Chronicle<BookEntry>> Server<J,
     ghost use Rattle.pm_journal.specs.Supervision.{standing};
     ghost use Rattle.pm_journal.specs.declared.act.Act.TheVariants.{Reset, Say};
     ghost use Rattle.pm_state.specs.declared.action.Line.{Line};
-    ghost use Rattle.pm_once.specs.Calls.{Acts, AreSays, DoesNext, Performs, RenewsStore, end_in};
+    ghost use Rattle.pm_once.specs.Calls.{Acts, AreSays, DoesNext, Performs, RenewsStore, end_by};
     ghost use Rattle.pm_once.specs.Goes.{IsRunning};
     ghost use Rattle.pm_once.specs.View.{view_of};
 
-    // How the server ends where its machine does.
+    // How the server ends where its machine does: by what the last auxiliary child came to, or since its log is broken.
+    // Behind such an end there is nothing else but want of memory.
     fn end_of(&self, ending: Ending) -> ServerEnd
-        ensures { result ≡ end_in ending (view_of (B.entries self.now.store.book) self.now) }
+        ensures { result ≡ end_by ending (view_of (B.entries self.now.store.book) self.now) }
     {
-        match ending {
-            Ending::Clean => ServerEnd::Clean,
-            Ending::AfterCrash if self.is_short => ServerEnd::NoMemory,
-            Ending::AfterCrash => ServerEnd::Abnormal(Why::AfterCrash),
-            Ending::StartupFailed => match self.failure {
-                Some(why) => ServerEnd::Abnormal(Why::StartupFailed(why)),
-                None => ServerEnd::NoMemory,
-            },
-            Ending::RestartOff => ServerEnd::Abnormal(Why::RestartOff),
+        match (ending, self.outcome) {
+            (Ending::Clean, Some(Outcome::Closed(Closed::Made))) => ServerEnd::Clean,
+            (Ending::AfterCrash, Some(Outcome::Closed(Closed::Full))) => {
+                ServerEnd::Abnormal(Why::AfterCrash)
+            }
+            (Ending::AfterCrash, _) if self.store.is_broken() => {
+                ServerEnd::Abnormal(Why::AfterCrash)
+            }
+            (Ending::StartupFailed, Some(Outcome::Refused(why))) => {
+                ServerEnd::Abnormal(Why::StartupFailed(why))
+            }
+            (Ending::RestartOff, _) => ServerEnd::Abnormal(Why::RestartOff),
+            _ => ServerEnd::NoMemory,
         }
     }
 
     // The store begins its next generation.
     fn renew(&mut self, generation: u32) -> Result<(), AllocError>
         requires { generation ≡ self.old.store.generation + 1 }
-        ensures renews { RenewsStore generation result (view_of (B.entries self.old.store.book) self.old) (view_of (B.entries self.new.store.book) self.new) }
+        ensures renews { RenewsStore generation result
+            (view_of (B.entries self.old.store.book) self.old)
+            (view_of (B.entries self.new.store.book) self.new) }
         ensures supervision { self.new.supervision ≡ self.old.supervision }
     {
+        self.outcome = None;
         self.store.renew(generation, &self.lost)?;
         self.lost.clear();
         Ok(())
@@ -80,16 +88,18 @@ impl<J: Chronicle<PmEvent>, O: Sink, D: Disk, B: Chronicle<BookEntry>> Server<J,
 
     // Does an act, whose entry was noted.
     fn perform(&mut self, act: Act) -> Result<(), ServerEnd>
-        requires { (generation : ℕ) → act ≡ Reset generation → generation ≡ self.old.store.generation + 1 }
-        ensures performs { Performs act result (view_of (B.entries self.old.store.book) self.old) (view_of (B.entries self.new.store.book) self.new) }
+        requires { (generation : ℕ) → act ≡ Reset generation
+            → generation ≡ self.old.store.generation + 1 }
+        ensures performs { Performs act result (view_of (B.entries self.old.store.book) self.old)
+            (view_of (B.entries self.new.store.book) self.new) }
         ensures supervision { self.new.supervision ≡ self.old.supervision }
         ensures said { (line : Line) → act ≡ Say line → self.new.store ≡ self.old.store }
     {
         match act {
-            Act::Start { pid, kind } => self.hands.start(pid, kind),
-            Act::Quit(_) => self.hands.is_quit = true,
-            Act::Terminate => self.hands.is_terminated = true,
-            Act::AskCheckpoint => self.hands.is_asked = true,
+            Act::Start { pid, kind } => self.auxiliaries.start(pid, kind),
+            Act::Quit(_) => self.auxiliaries.is_quit = true,
+            Act::Terminate => self.auxiliaries.is_terminated = true,
+            Act::AskCheckpoint => self.auxiliaries.is_asked = true,
             Act::Say(line) => self.log.say(line),
             Act::Reset { generation } => self.renew(generation)?,
             Act::End(ending) => return Err(self.end_of(ending)),
@@ -101,9 +111,11 @@ impl<J: Chronicle<PmEvent>, O: Sink, D: Disk, B: Chronicle<BookEntry>> Server<J,
     // Does the next act that is due, if there is one.
     fn do_next(&mut self) -> Result<bool, ServerEnd>
         requires { IsRunning (view_of (B.entries self.old.store.book) self.old) }
-        ensures does { (steps : List Step)
-            × DoesNext result steps (view_of (B.entries self.old.store.book) self.old) (view_of (B.entries self.new.store.book) self.new) }
-        ensures said { AreSays (standing self.old.supervision).due → IsOk result × (self.new.store ≡ self.old.store) }
+        ensures does { (steps : List Step) × DoesNext result steps
+            (view_of (B.entries self.old.store.book) self.old)
+            (view_of (B.entries self.new.store.book) self.new) }
+        ensures said { AreSays (standing self.old.supervision).due → IsOk result
+            × (self.new.store ≡ self.old.store) }
     {
         laws();
         match self.supervision.next() {
@@ -119,9 +131,11 @@ impl<J: Chronicle<PmEvent>, O: Sink, D: Disk, B: Chronicle<BookEntry>> Server<J,
     // Does all acts that are due, in their order.
     pub(crate) fn act_all(&mut self) -> Result<(), ServerEnd>
         requires { IsRunning (view_of (B.entries self.old.store.book) self.old) }
-        ensures does { (steps : List Step)
-            × Acts result steps (view_of (B.entries self.old.store.book) self.old) (view_of (B.entries self.new.store.book) self.new) }
-        ensures said { AreSays (standing self.old.supervision).due → IsOk result × (self.new.store ≡ self.old.store) }
+        ensures does { (steps : List Step) × Acts result steps
+            (view_of (B.entries self.old.store.book) self.old)
+            (view_of (B.entries self.new.store.book) self.new) }
+        ensures said { AreSays (standing self.old.supervision).due → IsOk result
+            × (self.new.store ≡ self.old.store) }
     {
         laws();
         'acts: loop {
@@ -142,7 +156,7 @@ impl<J: Chronicle<PmEvent>, O: Sink, D: Disk, B: Chronicle<BookEntry>> Server<J,
     ghost use Rattle.pm_journal.specs.Standing.{IsAtRest, ends_redo};
     ghost use Rattle.pm_journal.specs.Stands.{HasPast};
     ghost use Rattle.pm_journal.specs.Supervision.{at_work, standing};
-    ghost use Rattle.pm_once.specs.Calls.{Asks, Finishes, HasAidRun, NotesExit, NotesNoExit, exit_of};
+    ghost use Rattle.pm_once.specs.Calls.{Asks, Finishes, HasAuxiliaryRun, NotesExit, NotesNoExit, exit_of};
     ghost use Rattle.pm_once.specs.Goes.{IsIdle, IsRunning};
     ghost use Rattle.pm_once.specs.View.{view_of};
 
@@ -150,9 +164,11 @@ impl<J: Chronicle<PmEvent>, O: Sink, D: Disk, B: Chronicle<BookEntry>> Server<J,
     pub(crate) fn ask_smart<C: Clock>(&mut self, clock: &C) -> Result<(), ServerEnd>
         requires running { IsRunning (view_of (B.entries self.old.store.book) self.old) }
         requires rests { IsAtRest (standing self.old.supervision) }
-        requires due { (self.old.listens ≡ true) ⊎ ((standing self.old.supervision).owes_smart ≡ true) }
+        requires due { (self.old.listens ≡ true) ⊎ ((standing
+            self.old.supervision).owes_smart ≡ true) }
         ensures asks { (steps : List Step) × Asks (C.gives clock.now) result steps
-            (view_of (B.entries self.old.store.book) self.old) (view_of (B.entries self.new.store.book) self.new) }
+            (view_of (B.entries self.old.store.book) self.old)
+            (view_of (B.entries self.new.store.book) self.new) }
         ensures store { self.new.store ≡ self.old.store }
     {
         laws();
@@ -168,7 +184,8 @@ impl<J: Chronicle<PmEvent>, O: Sink, D: Disk, B: Chronicle<BookEntry>> Server<J,
         requires running { IsRunning (view_of (B.entries self.old.store.book) self.old) }
         requires goes_on { (standing self.old.supervision).ended ≡ false }
         ensures { (steps : List Step) × Finishes (C.gives clock.now) result steps
-            (view_of (B.entries self.old.store.book) self.old) (view_of (B.entries self.new.store.book) self.new) }
+            (view_of (B.entries self.old.store.book) self.old)
+            (view_of (B.entries self.new.store.book) self.new) }
     {
         match self.act_all() {
             Ok(()) => {}
@@ -184,11 +201,14 @@ impl<J: Chronicle<PmEvent>, O: Sink, D: Disk, B: Chronicle<BookEntry>> Server<J,
     fn note_exit<C: Clock>(&mut self, clock: &C, exit: ChildExit) -> Result<(), AllocError>
         requires stands { HasPast (at_work self.old.supervision) }
         requires idle { IsIdle (standing self.old.supervision) }
-        requires there { kind_in exit.pid (standing self.old.supervision).children ≡ Some exit.kind }
+        requires there { kind_in exit.pid (standing self.old.supervision).children ≡ Some
+            exit.kind }
         requires kept { ends_redo exit ≡ true → IsSome exit.kept }
         ensures noted { OnOk result ((at : ℕ) × NotesExit (C.gives clock.now) exit at
-            (view_of (B.entries self.old.store.book) self.old) (view_of (B.entries self.new.store.book) self.new)) }
-        ensures refused { OnErr result (NotesNoExit (view_of (B.entries self.old.store.book) self.old) (view_of (B.entries self.new.store.book) self.new)) }
+            (view_of (B.entries self.old.store.book) self.old)
+            (view_of (B.entries self.new.store.book) self.new)) }
+        ensures refused { OnErr result (NotesNoExit (view_of (B.entries self.old.store.book)
+            self.old) (view_of (B.entries self.new.store.book) self.new)) }
     {
         self.lost.reserve(1)?;
         self.supervision.exited(exit, clock.now())?;
@@ -202,14 +222,16 @@ impl<J: Chronicle<PmEvent>, O: Sink, D: Disk, B: Chronicle<BookEntry>> Server<J,
     fn read(&mut self, pid: u32) -> ChildExit
         requires running { IsRunning (view_of (B.entries self.old.store.book) self.old) }
         requires there { kind_in pid (standing self.old.supervision).children ≡ Some Startup }
-        requires off { self.old.hands.startup ≡ None }
+        requires off { self.old.auxiliaries.startup ≡ None }
         ensures { (run : ChildRun) × (result ≡ exit_of run)
-            × HasAidRun run (view_of (B.entries self.old.store.book) self.old) (view_of (B.entries self.new.store.book) self.new) }
+            × HasAuxiliaryRun run (view_of (B.entries self.old.store.book) self.old)
+            (view_of (B.entries self.new.store.book) self.new) }
     {
+        self.outcome = None;
         match read_log(&mut self.store, pid) {
             Ok(kept) => exit(pid, Kind::Startup, Status::Code(0), Some(kept)),
             Err(why) => {
-                self.failure = why;
+                self.outcome = refused(why);
                 exit(pid, Kind::Startup, Status::Code(1), None)
             }
         }
@@ -219,12 +241,13 @@ impl<J: Chronicle<PmEvent>, O: Sink, D: Disk, B: Chronicle<BookEntry>> Server<J,
     fn close(&mut self, pid: u32) -> ChildExit
         requires running { IsRunning (view_of (B.entries self.old.store.book) self.old) }
         requires there { kind_in pid (standing self.old.supervision).children ≡ Some Checkpointer }
-        requires off { self.old.hands.checkpointer ≡ None }
+        requires off { self.old.auxiliaries.checkpointer ≡ None }
         ensures { (run : ChildRun) × (result ≡ exit_of run)
-            × HasAidRun run (view_of (B.entries self.old.store.book) self.old) (view_of (B.entries self.new.store.book) self.new) }
+            × HasAuxiliaryRun run (view_of (B.entries self.old.store.book) self.old)
+            (view_of (B.entries self.new.store.book) self.new) }
     {
         let closed = write_last(&mut self.store, pid);
-        self.is_short = matches!(closed, Closed::Short);
+        self.outcome = Some(Outcome::Closed(closed));
         ChildExit {
             pid,
             kind: Kind::Checkpointer,
@@ -238,10 +261,11 @@ impl<J: Chronicle<PmEvent>, O: Sink, D: Disk, B: Chronicle<BookEntry>> Server<J,
     fn run_next(&mut self) -> Option<ChildExit>
         requires { IsRunning (view_of (B.entries self.old.store.book) self.old) }
         ensures runs { IfSome result (λ exit. (run : ChildRun) × (exit ≡ exit_of run)
-            × HasAidRun run (view_of (B.entries self.old.store.book) self.old) (view_of (B.entries self.new.store.book) self.new)) }
+            × HasAuxiliaryRun run (view_of (B.entries self.old.store.book) self.old)
+            (view_of (B.entries self.new.store.book) self.new)) }
         ensures none { IfNone result (self.new ≡ self.old) }
     {
-        match self.hands.next() {
+        match self.auxiliaries.next() {
             None => None,
             Some(Duty::Redo { pid }) => Some(self.read(pid)),
             Some(Duty::Checkpoint { pid }) => Some(self.close(pid)),
@@ -254,8 +278,10 @@ impl<J: Chronicle<PmEvent>, O: Sink, D: Disk, B: Chronicle<BookEntry>> Server<J,
     pub(crate) fn run_one<C: Clock>(&mut self, clock: &C) -> Option<Result<(), ServerEnd>>
         requires running { IsRunning (view_of (B.entries self.old.store.book) self.old) }
         requires idle { IsIdle (standing self.old.supervision) }
-        ensures runs { IfSome result (λ end. (steps : List Step) × Finishes (C.gives clock.now) end steps
-            (view_of (B.entries self.old.store.book) self.old) (view_of (B.entries self.new.store.book) self.new)) }
+        ensures runs { IfSome result (λ end. (steps : List Step)
+            × Finishes (C.gives clock.now) end steps
+            (view_of (B.entries self.old.store.book) self.old)
+            (view_of (B.entries self.new.store.book) self.new)) }
         ensures none { IfNone result (self.new ≡ self.old) }
     {
         laws();
@@ -291,7 +317,8 @@ impl<J: Chronicle<PmEvent>, O: Sink, D: Disk, B: Chronicle<BookEntry>> Server<J,
         requires served { decision_on (standing self.old.supervision) ≡ Cac.Ok }
         requires room { HasRoom 1 self.old.supervision }
         ensures admits { (steps : List Step) × Admits (C.gives clock.now) result steps
-            (view_of (B.entries self.old.store.book) self.old) (view_of (B.entries self.new.store.book) self.new) }
+            (view_of (B.entries self.old.store.book) self.old)
+            (view_of (B.entries self.new.store.book) self.new) }
         ensures store { self.new.store ≡ self.old.store }
     {
         laws();
@@ -324,8 +351,10 @@ impl<J: Chronicle<PmEvent>, O: Sink, D: Disk, B: Chronicle<BookEntry>> Server<J,
         requires listens { self.old.listens ≡ true }
         ensures { (steps : List Step) × (connections : List Connection) × (ended : Bool)
             × Serves (C.gives clock.now) result connections ended steps
-            (view_of (B.entries self.old.store.book) self.old) (view_of (B.entries self.new.store.book) self.new)
-            × HasServed seed.now conf.now.authentication_ms (C.gives clock.now) connections ended steps (P.visits port.old) (P.visits port.new) }
+            (view_of (B.entries self.old.store.book) self.old)
+            (view_of (B.entries self.new.store.book) self.new)
+            × HasServed seed.now conf.now.authentication_ms (C.gives clock.now) connections ended
+            steps (P.visits port.old) (P.visits port.new) }
     {
         laws();
         match self.supervision.make_room() {
@@ -336,6 +365,7 @@ impl<J: Chronicle<PmEvent>, O: Sink, D: Disk, B: Chronicle<BookEntry>> Server<J,
             return self.ask_smart(clock);
         };
         let admitted = self.admit(clock);
+        self.outcome = None;
         let Done { status, link } = serve_link(
             rt,
             alloc,
@@ -358,9 +388,22 @@ impl<J: Chronicle<PmEvent>, O: Sink, D: Disk, B: Chronicle<BookEntry>> Server<J,
     }
 }
 
+// What a startup child came to that couldn't read the log, unless memory was short.
+fn refused(why: Option<StartWhy>) -> Option<Outcome>
+    ensures { result ≡ option_map Outcome.Refused why }
+{
+    Some(Outcome::Refused(why?))
+}
+
 // The end of a session's child: it is inside the store exactly where it was ended by a signal.
 fn session_exit(pid: u32, status: Status) -> ChildExit
-    ensures { result ≡ record { pid = pid; kind = Kind.Backend; status = status; was_active = is_signal status; kept = None } }
+    ensures { result ≡ record {
+      pid = pid;
+      kind = Kind.Backend;
+      status = status;
+      was_active = is_signal status;
+      kept = None;
+    } }
 {
     ChildExit {
         pid,
@@ -373,7 +416,13 @@ fn session_exit(pid: u32, status: Status) -> ChildExit
 
 // The end of a child that left the store, or never was inside.
 fn exit(pid: u32, kind: Kind, status: Status, kept: Option<u64>) -> ChildExit
-    ensures { result ≡ record { pid = pid; kind = kind; status = status; was_active = false; kept = kept } }
+    ensures { result ≡ record {
+      pid = pid;
+      kind = kind;
+      status = status;
+      was_active = false;
+      kept = kept;
+    } }
 {
     ChildExit {
         pid,

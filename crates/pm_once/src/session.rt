@@ -22,9 +22,12 @@ use std::sync::Wait;
 
 /// The port's next link, or none where it has come to its end. A fault of the port is passed over.
 pub fn next_link<R: Wait, P: Port>(rt: &R, port: &mut P) -> Option<P::Link>
-    ensures out { IfSome result (λ link. IfSome (P.visits port.new) (λ visits. length visits.back < length visits.given)) }
-    ensures given { IfSome result (λ link. P.visits port.new ≡ option_map (with_link (P.Link.faults link)) (P.visits port.old)) }
-    ensures number { IfSome result (λ link. IfSome (P.visits port.old) (λ visits. P.Link.number link ≡ length visits.given + 1)) }
+    ensures out { IfSome result (λ link. IfSome (P.visits port.new)
+        (λ visits. length visits.back < length visits.given)) }
+    ensures given { IfSome result (λ link. P.visits port.new ≡ option_map
+        (with_link (P.Link.faults link)) (P.visits port.old)) }
+    ensures number { IfSome result (λ link. IfSome (P.visits port.old)
+        (λ visits. P.Link.number link ≡ length visits.given + 1)) }
     ensures fresh { IfSome result (λ link. IsFresh (P.Link.traffic link)) }
     ensures ended { IfNone result (P.visits port.new ≡ option_map with_end (P.visits port.old)) }
 {
@@ -57,12 +60,14 @@ where
     B: Chronicle<BookEntry>,
     requires fresh { IsFresh (L.traffic link) }
     requires pid { 1 ≤ pid }
-    ensures session { (connection : Connection) × (connection.pid ≡ pid) × (connection.generation ≡ store.old.generation)
+    ensures session { (connection : Connection) × (connection.pid ≡ pid)
+        × (connection.generation ≡ store.old.generation)
         × (connection.given ≡ link_view (L.traffic link) (L.number link) (L.faults link))
-        × (connection.back ≡ link_view (L.traffic result.link) (L.number result.link) (L.faults result.link))
-        × (result.status ≡ status_of connection.ending)
-        × IsServedAs (cancel_key seed.now pid) conf.now.authentication_ms (C.gives clock.now) connection
-        × Moves connection.noted (moment_of (B.entries store.old.book) store.old) (moment_of (B.entries store.new.book) store.new) }
+        × (connection.back ≡ link_view (L.traffic result.link) (L.number result.link)
+        (L.faults result.link)) × (result.status ≡ status_of connection.ending)
+        × IsServedAs (cancel_key seed.now pid) conf.now.authentication_ms (C.gives clock.now)
+        connection × Moves connection.noted (moment_of (B.entries store.old.book) store.old)
+        (moment_of (B.entries store.new.book) store.new) }
 {
     serve_at_home::<Brand, R, L, D, C, B>(rt, alloc, link, pid, clock, seed, conf, store)
 }
@@ -88,12 +93,14 @@ where
     requires fresh { IsFresh (L.traffic link) }
     requires pid { 1 ≤ pid }
     requires home { store.old.generation ≡ H.home }
-    ensures session { (connection : Connection) × (connection.pid ≡ pid) × (connection.generation ≡ store.old.generation)
+    ensures session { (connection : Connection) × (connection.pid ≡ pid)
+        × (connection.generation ≡ store.old.generation)
         × (connection.given ≡ link_view (L.traffic link) (L.number link) (L.faults link))
-        × (connection.back ≡ link_view (L.traffic result.link) (L.number result.link) (L.faults result.link))
-        × (result.status ≡ status_of connection.ending)
-        × IsServedAs (cancel_key seed.now pid) conf.now.authentication_ms (C.gives clock.now) connection
-        × Moves connection.noted (moment_of (B.entries store.old.book) store.old) (moment_of (B.entries store.new.book) store.new) }
+        × (connection.back ≡ link_view (L.traffic result.link) (L.number result.link)
+        (L.faults result.link)) × (result.status ≡ status_of connection.ending)
+        × IsServedAs (cancel_key seed.now pid) conf.now.authentication_ms (C.gives clock.now)
+        connection × Moves connection.noted (moment_of (B.entries store.old.book) store.old)
+        (moment_of (B.entries store.new.book) store.new) }
 {
     let mut life: Quiet<H> = Quiet::new(pid, store.generation());
     let key = pm_keys::key(seed, pid);

@@ -6,7 +6,7 @@ ghost use Rattle.pm_record.specs.declared.fault.RedoFault.{RedoFault};
 ghost use Rattle.pm_redo.specs.Found.{IsReason};
 ghost use Rattle.pm_segment.specs.Moment.{moment_of};
 ghost use Rattle.pm_segment.specs.Moves.{Moves};
-ghost use Rattle.pm_once.specs.Aids.{StartNotes, refused_start};
+ghost use Rattle.pm_once.specs.AuxiliaryRuns.{StartNotes, refused_start};
 
 use crate::end::StartWhy;
 use pm_disk::Disk;
@@ -22,11 +22,14 @@ pub fn read_log<D: Disk, B: Chronicle<BookEntry>>(
     pid: u32,
 ) -> Result<u64, Option<StartWhy>>
     ensures notes { (noted : List BookEntry) × StartNotes pid store.old.generation result noted
-        × Moves noted (moment_of (B.entries store.old.book) store.old) (moment_of (B.entries store.new.book) store.new) }
+        × Moves noted (moment_of (B.entries store.old.book) store.old)
+        (moment_of (B.entries store.new.book) store.new) }
     ensures reason { (fault : RedoFault) → result ≡ Err (Some (StartWhy.Redo fault))
         → IfSome (D.seen store.old.disk) (λ files. IsReason fault files) }
     ensures unread { (fault : RedoFault) → result ≡ Err (Some (StartWhy.Redo fault))
         → fault ≢ RedoFault.Disk → D.seen store.new.disk ≡ D.seen store.old.disk }
+    ensures shut { (fault : RedoFault) → result ≡ Err (Some (StartWhy.Redo fault))
+        → store.new.live ≡ None }
 {
     let generation = store.generation();
     let Ok(mut pass) = store.enter(pid, generation) else {

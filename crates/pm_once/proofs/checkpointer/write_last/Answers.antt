@@ -1,9 +1,9 @@
 use Rattle.std.proofs.Common.{[], ◌∷◌, ◌++◌, ◌∙◌, true, refl, sym, subst}
 use Rattle.pm_query.specs.Calls.{CheckpointNotes, LeaveNotes, User}
 use Rattle.pm_query.specs.declared.book.BookEntry.TheVariants.{Attached, Detached}
-use Rattle.pm_once.specs.Aids.{CloseNotes}
+use Rattle.pm_once.specs.AuxiliaryRuns.{CloseNotes}
 use Rattle.pm_once.specs.declared.checkpointer.Closed.{Closed}
-use Rattle.pm_once.proofs.Aids.{closed_notes, crash_notes, crashed_is, in_its, left_notes, made_clean, made_full, not_crashed, three_moves, two_moves}
+use Rattle.pm_once.proofs.AuxiliaryNotes.{closed_notes, crash_notes, crashed_is, in_its, left_notes, made_clean, made_full, not_crashed, three_moves, two_moves}
 use Rattle.pm_once.proofs.checkpointer.write_last.Goals as goal
 
 pub returns-then-is_crashed-clause-notes : goal.returns-then-is_crashed-clause-notes

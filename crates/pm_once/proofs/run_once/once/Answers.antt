@@ -1,27 +1,33 @@
-use Rattle.std.proofs.Common.{◌≡◌, List, [], None, refl, sym, subst, ◌∙◌, inl}
+use Rattle.std.proofs.Common.{◌≡◌, List, [], None, refl, sym, ap, subst, ◌∙◌, inl}
 use Rattle.std.specs.Prelude.{Option, false, true, IfSome}
+use Rattle.std.proofs.lemmas.List.Elements.{All-nil}
 use Rattle.pm_state.specs.declared.event.PmEvent.{PmEvent}
-use Rattle.pm_chain.specs.Steps.{journal_of}
+use Rattle.pm_journal.specs.Stands.{any_moment}
 use Rattle.pm_journal.specs.Supervision.{at_work}
 use Rattle.pm_segment.specs.Moment.{moment_of}
-use Rattle.pm_once.specs.Log.{HasLogged, view_of as log_view_of}
+use Rattle.pm_segment.specs.Moves.{IsShown}
+use Rattle.pm_segment.specs.MovesLaws.{time_still}
+use Rattle.pm_once.specs.AuxiliaryRuns.{IsToldRun}
+use Rattle.pm_once.specs.Log.{view_of as log_view_of}
+use Rattle.pm_once.specs.Outside.{OutsideView, outside_view}
 use Rattle.pm_once.specs.Once.{IsBook, IsJournal}
 use Rattle.pm_once.specs.View.{View, view_of}
-use Rattle.pm_once.proofs.Whole.{HasBegun, begins_idle, begins_running, nothing_asked, nothing_journal, nothing_logged, whole_asked, whole_book_is, whole_end, whole_journal, whole_log}
+use Rattle.pm_once.proofs.Whole.{HasBegun, begins_idle, begins_running, nothing_asked, nothing_journal, logged_as, nothing_logged, whole_asked, whole_book_is, whole_end, whole_journal, whole_log}
 use Rattle.pm_once.proofs.Going.{serves_nothing}
+use Rattle.pm_once.proofs.Stories.{HasRunSo, story_nothing, unread_counts, view_at, whole_cause, whole_story}
 use Rattle.pm_once.proofs.Serving.{nothing_served}
 use Rattle.pm_once.proofs.run_once.once.Goals as goal
 
 pub run-end-requires : goal.run-end-requires
 run-end-requires g c =
     let limits = c.args.conf.now.limits in
-    let v : View = record { work = at_work c.new-supervision.result; store = moment_of (g.B.Chronicle.entries c.in-Ok.store.book) c.in-Ok.store; log = log_view_of c.new-2.result; lost = c.new-3.result.items; hands = c.none.result; failure = None; is_short = false; listens = true } in
+    let v : View = record { work = at_work c.new-supervision.result; store = moment_of (g.B.Chronicle.entries c.in-Ok.store.book) c.in-Ok.store; log = log_view_of c.new-log.result; lost = c.new-2.result.items; auxiliaries = c.none.result; outcome = None; listens = true } in
     let begun : HasBegun limits v = record {
       standing = c.new-supervision.ensures.standing;
       told = subst (λ (t : Option (List PmEvent)). IfSome t (λ es. es ≡ [])) (sym c.new-supervision.ensures.told) c.requires.empty;
-      unbroken = c.new-2.ensures.unbroken;
-      lost = c.new-3.ensures.items;
-      hands = c.none.ensures;
+      unbroken = c.new-log.ensures.unbroken;
+      lost = c.new-2.ensures.items;
+      auxiliaries = c.none.ensures;
       listens = refl;
       generation = c.in-Ok.ensures.generation;
       inside = c.in-Ok.ensures.empty;
@@ -31,30 +37,40 @@ run-end-requires g c =
 pub returns-in-Err-clause-run : goal.returns-in-Err-clause-run
 returns-in-Err-clause-run g c =
     let limits = c.args.conf.now.limits in
-    let gives = g.C.Clock.gives c.args.outside.clock in (
-      [],
-      [],
-      false,
-      subst (λ (t : Option (List PmEvent)). IsJournal limits gives [] (g.J.Chronicle.entries c.args.outside.journal) t) (sym (c.into_journal.ensures ∙ c.new-supervision.ensures.told)) (nothing_journal c.laws.ensures.steps limits gives (g.J.Chronicle.entries c.args.outside.journal)),
-      inl c.in-Err.ensures.refused.1,
-      nothing_asked limits,
-      tt,
-      nothing_logged (g.O.Sink.written c.args.outside.sink) (g.O.Sink.faults c.args.outside.sink),
-      nothing_served c.args.outside.seed c.args.conf.now.session.authentication_ms gives [] (g.P.Port.visits c.args.outside.port) serves_nothing,
-    )
+    let gives = g.C.Clock.gives c.args.outside.clock in
+    let refused = c.in-Err.ensures.refused in
+    record {
+      steps = [];
+      connections = [];
+      ended = false;
+      journal = subst (λ (t : Option (List PmEvent)). IsJournal limits gives [] (g.J.Chronicle.entries c.args.outside.journal) t) (sym (c.into_journal.ensures ∙ c.new-supervision.ensures.told)) (nothing_journal c.laws.ensures.steps limits gives (g.J.Chronicle.entries c.args.outside.journal));
+      book = inl (refl, refused.1);
+      chained = c.laws.ensures.chained limits any_moment [] tt (nothing_journal c.laws.ensures.steps limits gives (g.J.Chronicle.entries c.args.outside.journal)).are_steps;
+      asked = nothing_asked limits;
+      ends = tt;
+      runs = All-nil IsToldRun;
+      served = nothing_served c.args.outside.seed c.args.conf.now.session.authentication_ms gives [] (g.P.Port.visits c.args.outside.port) serves_nothing;
+      logged = logged_as g.O.Sink.written g.O.Sink.faults _ _ _ _ _ c.new-log.ensures.sink c.into_sink.ensures
+          (nothing_logged (log_view_of c.new-log.result) (log_view_of c.say_end.new.self) c.new-log.ensures.unbroken c.say_end.ensures);
+      faults = All-nil (IsShown (g.D.Disk.faults c.args.outside.disk) (g.D.Disk.faults c.in-Err.disk));
+      story = λ empty. rw refused.0 (story_nothing (outside_view c.args.outside).disk _ (refused.1 ∙ empty));
+      cause = tt;
+    }
 
 pub returns-clause-run : goal.returns-clause-run
 returns-clause-run g c =
     let limits = c.args.conf.now.limits in
     let gives = g.C.Clock.gives c.args.outside.clock in
-    let v : View = record { work = at_work c.new-supervision.result; store = moment_of (g.B.Chronicle.entries c.in-Ok.store.book) c.in-Ok.store; log = log_view_of c.new-2.result; lost = c.new-3.result.items; hands = c.none.result; failure = None; is_short = false; listens = true } in
+    let disk = c.args.outside.disk in
+    let store = c.in-Ok.store in
+    let v : View = record { work = at_work c.new-supervision.result; store = moment_of (g.B.Chronicle.entries store.book) store; log = log_view_of c.new-log.result; lost = c.new-2.result.items; auxiliaries = c.none.result; outcome = None; listens = true } in
     let now : View = view_of (g.B.Chronicle.entries c.run-end.new.self.store.book) c.run-end.new.self in
     let begun : HasBegun limits v = record {
       standing = c.new-supervision.ensures.standing;
       told = subst (λ (t : Option (List PmEvent)). IfSome t (λ es. es ≡ [])) (sym c.new-supervision.ensures.told) c.requires.empty;
-      unbroken = c.new-2.ensures.unbroken;
-      lost = c.new-3.ensures.items;
-      hands = c.none.ensures;
+      unbroken = c.new-log.ensures.unbroken;
+      lost = c.new-2.ensures.items;
+      auxiliaries = c.none.ensures;
       listens = refl;
       generation = c.in-Ok.ensures.generation;
       inside = c.in-Ok.ensures.empty;
@@ -63,17 +79,46 @@ returns-clause-run g c =
     let end = c.run-end.result in
     let steps = r.0 in
     let laws = c.laws.ensures in
-    let logged = whole_log laws.steps laws.work limits gives end r.1 r.2 steps v now begun r.3 in (
-      steps,
-      r.1,
-      r.2,
-      subst (λ (t : Option (List PmEvent)). IsJournal limits gives steps (g.J.Chronicle.entries c.args.outside.journal) t) (sym c.into_journal-2.ensures)
-          (subst (λ (t : Option (List PmEvent)). IsJournal limits gives steps t now.work.told) c.new-supervision.ensures.told (whole_journal laws.steps laws.work laws.journal limits gives end r.1 r.2 steps v now begun r.3)),
-      subst (λ b. IsBook end steps (g.B.Chronicle.entries c.args.outside.book) (g.B.Chronicle.entries b)) (sym c.into_parts-disk.ensures.1)
-          (whole_book_is gives end r.1 r.2 steps v now (g.B.Chronicle.entries c.args.outside.book) c.in-Ok.ensures.notes r.3),
-      whole_asked laws.steps laws.work limits gives end r.1 r.2 steps v now begun r.3,
-      whole_end laws.steps laws.work limits gives end r.1 r.2 steps v now begun r.3,
-      subst (λ s. HasLogged (journal_of steps) (g.O.Sink.written c.args.outside.sink) (g.O.Sink.written s) (g.O.Sink.faults c.args.outside.sink) (g.O.Sink.faults s)) (sym c.into_sink.ensures)
-          (subst (λ s. HasLogged (journal_of steps) (g.O.Sink.written s) now.log.written (g.O.Sink.faults s) now.log.faults) c.new-2.ensures.sink logged),
-      r.4,
-    )
+    let before : OutsideView = outside_view c.args.outside in
+    let left : OutsideView = record {
+      visits = g.P.Port.visits c.run-end.new.port;
+      written = g.O.Sink.written c.into_sink-2.result;
+      sink_faults = g.O.Sink.faults c.into_sink-2.result;
+      disk = view_at now.store;
+      gives = gives;
+      journal = g.J.Chronicle.entries c.into_journal-2.result;
+      book = now.store.book;
+      seed = c.args.outside.seed;
+    } in
+    let counted = unread_counts (g.D.Disk.faults disk) v.store.faults v.store.live (sym (ap g.D.Disk.faults c.in-Ok.ensures.disk)) c.in-Ok.ensures.unread in
+    let its_run : HasRunSo before.disk v.store steps now = record {
+      began = rw c.in-Ok.ensures.disk (time_still (g.D.Disk.ticks disk) (g.D.Disk.images disk));
+      generation = c.in-Ok.ensures.generation;
+      spans = r.3.goes.store;
+      still = r.3.goes.still;
+      unread = r.3.goes.unread;
+      files = ap g.D.Disk.seen c.in-Ok.ensures.disk;
+      faults = ap g.D.Disk.faults c.in-Ok.ensures.disk;
+      known = r.3.goes.knows (g.D.Disk.faults disk) (record { counted = counted; come = tt });
+    } in
+    record {
+      steps = steps;
+      connections = r.1;
+      ended = r.2;
+      journal = subst (λ (t : Option (List PmEvent)). IsJournal limits gives steps (g.J.Chronicle.entries c.args.outside.journal) t) (sym c.into_journal-2.ensures)
+          (subst (λ (t : Option (List PmEvent)). IsJournal limits gives steps t now.work.told) c.new-supervision.ensures.told (whole_journal laws.steps laws.work laws.journal limits gives end r.1 r.2 steps v now begun r.3));
+      book = subst (λ b. IsBook end steps (g.B.Chronicle.entries c.args.outside.book) (g.B.Chronicle.entries b)) (sym c.into_parts-disk.ensures.1)
+          (whole_book_is gives end r.1 r.2 steps v now (g.B.Chronicle.entries c.args.outside.book) c.in-Ok.ensures.notes r.3);
+      chained = let j = whole_journal laws.steps laws.work laws.journal limits gives end r.1 r.2 steps v now begun r.3 in laws.chained limits any_moment steps j.legal j.are_steps;
+      asked = whole_asked laws.steps laws.work limits gives end r.1 r.2 steps v now begun r.3;
+      ends = whole_end laws.steps laws.work limits gives end r.1 r.2 steps v now begun r.3;
+      runs = r.3.goes.runs;
+      served = r.4;
+      logged = logged_as g.O.Sink.written g.O.Sink.faults _ _ _ _ _ c.new-log.ensures.sink c.into_sink-2.ensures
+          (whole_log laws.steps laws.work limits gives end r.1 r.2 steps v now (log_view_of c.say_end-2.new.self) begun r.3 c.say_end-2.ensures);
+      faults = rw c.into_parts-disk.ensures.0 (r.3.goes.store.counts (g.D.Disk.faults disk) counted).each;
+      story = λ empty. rw (c.into_parts-disk.ensures.0, c.into_parts-disk.ensures.1)
+          (whole_story end before.disk v.store steps now before.book empty c.in-Ok.ensures.notes (c.in-Ok.ensures.waits empty) its_run r.3.ends c.keeps_its_run.ensures.run);
+      cause = rw (c.into_parts-disk.ensures.0, c.into_parts-disk.ensures.1)
+          (whole_cause end before left v.store steps now (λ empty. c.in-Ok.ensures.waits empty) its_run r.3.ends c.reads_its_files.ensures);
+    }

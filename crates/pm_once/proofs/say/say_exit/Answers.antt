@@ -1,4 +1,4 @@
-use Rattle.std.proofs.Common.{◌≡◌, ℕ, ◌++◌, List, [], append_assoc, sym}
+use Rattle.std.proofs.Common.{◌≡◌, ℕ, ◌++◌, List, [], ap, append_assoc, sym}
 use Rattle.std.specs.Prelude.{Option, codes, decimal}
 use Rattle.pm_exit.specs.declared.child.Kind.{Kind}
 use Rattle.pm_exit.specs.declared.child.Status.{Status}
@@ -42,13 +42,13 @@ returns-in_err-print_number-clause-said g c =
     let text = line_text c.args.pid c.args.kind c.args.status in
     let one = part_more text (codes "LOG:  child ") (decimal c.args.pid ++ behind_pid c.args.kind c.args.status) _ _ _ (nothing_yet text _) c.in_ok-print.ensures.said in
     as_line c.args.pid c.args.kind c.args.status _ _ _
-    (part_cut text (decimal c.args.pid) (behind_pid c.args.kind c.args.status) _ _ _ _ _ c.from_residual-in_err-print_number.ensures.0 one c.print_number.ensures.said)
+    (part_cut text (decimal c.args.pid) (behind_pid c.args.kind c.args.status) _ _ _ _ _ c.from_residual-in_err-print_number.ensures.0 one (printed_as _ (decimal c.args.pid) _ _ _ (ap (λ (n : ℕ). decimal n) c.from.ensures) c.print_number.ensures.said))
 
 pub returns-in_err-print-2-clause-said : goal.returns-in_err-print-2-clause-said
 returns-in_err-print-2-clause-said g c =
     let text = line_text c.args.pid c.args.kind c.args.status in
     let one = part_more text (codes "LOG:  child ") (decimal c.args.pid ++ behind_pid c.args.kind c.args.status) _ _ _ (nothing_yet text _) c.in_ok-print.ensures.said in
-    let two = part_more text (decimal c.args.pid) (behind_pid c.args.kind c.args.status) _ _ _ one c.in_ok-print_number.ensures.said in
+    let two = part_more text (decimal c.args.pid) (behind_pid c.args.kind c.args.status) _ _ _ one (printed_as _ (decimal c.args.pid) _ _ _ (ap (λ (n : ℕ). decimal n) c.from.ensures) c.in_ok-print_number.ensures.said) in
     as_line c.args.pid c.args.kind c.args.status _ _ _
     (part_cut text (codes " (") (kind_text c.args.kind ++ behind_kind c.args.status) _ _ _ _ _ c.from_residual-in_err-print-2.ensures.0 two c.print-2.ensures.said)
 
@@ -56,7 +56,7 @@ pub returns-in_err-print-3-clause-said : goal.returns-in_err-print-3-clause-said
 returns-in_err-print-3-clause-said g c =
     let text = line_text c.args.pid c.args.kind c.args.status in
     let one = part_more text (codes "LOG:  child ") (decimal c.args.pid ++ behind_pid c.args.kind c.args.status) _ _ _ (nothing_yet text _) c.in_ok-print.ensures.said in
-    let two = part_more text (decimal c.args.pid) (behind_pid c.args.kind c.args.status) _ _ _ one c.in_ok-print_number.ensures.said in
+    let two = part_more text (decimal c.args.pid) (behind_pid c.args.kind c.args.status) _ _ _ one (printed_as _ (decimal c.args.pid) _ _ _ (ap (λ (n : ℕ). decimal n) c.from.ensures) c.in_ok-print_number.ensures.said) in
     let three = part_more text (codes " (") (kind_text c.args.kind ++ behind_kind c.args.status) _ _ _ two c.in_ok-print-2.ensures.said in
     as_line c.args.pid c.args.kind c.args.status _ _ _
     (part_cut text (kind_text c.args.kind) (behind_kind c.args.status) _ _ _ _ _ c.from_residual-in_err-print-3.ensures.0 three
@@ -66,7 +66,7 @@ pub returns-in_err-say_status-clause-said : goal.returns-in_err-say_status-claus
 returns-in_err-say_status-clause-said g c =
     let text = line_text c.args.pid c.args.kind c.args.status in
     let one = part_more text (codes "LOG:  child ") (decimal c.args.pid ++ behind_pid c.args.kind c.args.status) _ _ _ (nothing_yet text _) c.in_ok-print.ensures.said in
-    let two = part_more text (decimal c.args.pid) (behind_pid c.args.kind c.args.status) _ _ _ one c.in_ok-print_number.ensures.said in
+    let two = part_more text (decimal c.args.pid) (behind_pid c.args.kind c.args.status) _ _ _ one (printed_as _ (decimal c.args.pid) _ _ _ (ap (λ (n : ℕ). decimal n) c.from.ensures) c.in_ok-print_number.ensures.said) in
     let three = part_more text (codes " (") (kind_text c.args.kind ++ behind_kind c.args.status) _ _ _ two c.in_ok-print-2.ensures.said in
     let four = part_more text (kind_text c.args.kind) (behind_kind c.args.status) _ _ _ three (printed_as _ (kind_text c.args.kind) _ _ _ c.kind_word.ensures c.in_ok-print-3.ensures.said) in
     as_line c.args.pid c.args.kind c.args.status _ _ _
@@ -76,7 +76,7 @@ pub returns-clause-said : goal.returns-clause-said
 returns-clause-said g c =
     let text = line_text c.args.pid c.args.kind c.args.status in
     let one = part_more text (codes "LOG:  child ") (decimal c.args.pid ++ behind_pid c.args.kind c.args.status) _ _ _ (nothing_yet text _) c.in_ok-print.ensures.said in
-    let two = part_more text (decimal c.args.pid) (behind_pid c.args.kind c.args.status) _ _ _ one c.in_ok-print_number.ensures.said in
+    let two = part_more text (decimal c.args.pid) (behind_pid c.args.kind c.args.status) _ _ _ one (printed_as _ (decimal c.args.pid) _ _ _ (ap (λ (n : ℕ). decimal n) c.from.ensures) c.in_ok-print_number.ensures.said) in
     let three = part_more text (codes " (") (kind_text c.args.kind ++ behind_kind c.args.status) _ _ _ two c.in_ok-print-2.ensures.said in
     let four = part_more text (kind_text c.args.kind) (behind_kind c.args.status) _ _ _ three (printed_as _ (kind_text c.args.kind) _ _ _ c.kind_word.ensures c.in_ok-print-3.ensures.said) in
     let five = part_more text (status_text c.args.status) (feed ++ []) _ _ _ four c.in_ok-say_status.ensures.said in

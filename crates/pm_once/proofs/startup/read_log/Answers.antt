@@ -1,7 +1,7 @@
 use Rattle.std.proofs.Common.{[], ◌∷◌, ◌++◌, ◌∙◌, Ok, Err, refl}
 use Rattle.pm_query.specs.Calls.{LeaveNotes, RedoNotes, User}
 use Rattle.pm_query.specs.declared.book.BookEntry.TheVariants.{Attached, Redone, Detached}
-use Rattle.pm_once.proofs.Aids.{in_its, left_notes, refused_notes, three_moves}
+use Rattle.pm_once.proofs.AuxiliaryNotes.{in_its, left_notes, refused_notes, three_moves}
 use Rattle.pm_once.proofs.startup.read_log.Goals as goal
 
 pub returns-in-Ok-redone-clause-notes : goal.returns-in-Ok-redone-clause-notes

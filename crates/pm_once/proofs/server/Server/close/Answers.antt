@@ -1,12 +1,18 @@
-use Rattle.std.proofs.Common.{refl}
-use Rattle.pm_once.specs.Aids.{checkpointer_run}
-use Rattle.pm_once.proofs.AidRuns.{checkpointer_is_run}
+use Rattle.std.proofs.Common.{Some, inr, refl}
+use Rattle.pm_once.specs.AuxiliaryRuns.{checkpointer_run}
+use Rattle.pm_once.specs.View.{View, view_of}
+use Rattle.pm_once.specs.declared.outcome.Outcome.TheVariants.{Closed}
+use Rattle.pm_once.proofs.AuxiliaryRuns.{checkpointer_is_run}
+use Rattle.pm_once.proofs.Knowing.{known_closed}
 use Rattle.pm_once.proofs.server.Server.close.Goals as goal
 
 pub returns : goal.returns
 returns g c =
     let n = c.write_last-closed.ensures.notes in
-    let home = c.args.self.now.store.generation in (
+    let home = c.args.self.now.store.generation in
+    let closed = c.write_last-closed in
+    let v : View = view_of (g.B.Chronicle.entries c.args.self.now.store.book) c.args.self.now in
+    let now : View = view_of (g.B.Chronicle.entries closed.new.store.book) (record c.args.self.now { store = closed.new.store; outcome = Some (Closed closed.result) }) in (
       checkpointer_run c.args.pid home c.write_last-closed.result n.0,
       rw (c.status.ensures, c.is_crashed.ensures) refl,
       record {
@@ -15,9 +21,11 @@ returns g c =
           there = c.requires.there;
           generation = refl;
           off = c.requires.off;
-          hands = λ s there. there;
+          auxiliaries = λ s there. there;
           work = refl;
           store = n.2;
+          knows = λ from known. known_closed from c.args.pid home closed.result n.0 v now refl n.1 n.2 closed.ensures.clean closed.ensures.full known;
+          told = inr (closed.result, n.1, refl);
           lost = refl;
           log = refl;
           listens = refl;

@@ -1,12 +1,16 @@
-use Rattle.std.proofs.Common.{Ok, Err, refl}
-use Rattle.pm_once.specs.Aids.{startup_run}
-use Rattle.pm_once.proofs.AidRuns.{startup_is_run}
+use Rattle.std.proofs.Common.{Ok, Err, None, ◌∙◌, ap, refl}
+use Rattle.pm_once.specs.AuxiliaryRuns.{startup_run}
+use Rattle.pm_once.specs.View.{View, view_of}
+use Rattle.pm_once.proofs.AuxiliaryRuns.{startup_is_run}
+use Rattle.pm_once.proofs.Knowing.{known_moved, known_refused}
 use Rattle.pm_once.proofs.server.Server.read.Goals as goal
 
 pub returns-in-Ok : goal.returns-in-Ok
 returns-in-Ok g c =
     let n = c.in-Ok.ensures.notes in
-    let home = c.args.self.now.store.generation in (
+    let home = c.args.self.now.store.generation in
+    let v : View = view_of (g.B.Chronicle.entries c.args.self.now.store.book) c.args.self.now in
+    let now : View = view_of (g.B.Chronicle.entries c.read_log.new.store.book) (record c.args.self.now { store = c.read_log.new.store; outcome = None }) in (
       startup_run c.args.pid home (Ok c.in-Ok.kept) n.0,
       c.exit.ensures,
       record {
@@ -15,9 +19,11 @@ returns-in-Ok g c =
           there = c.requires.there;
           generation = refl;
           off = c.requires.off;
-          hands = λ s there. there;
+          auxiliaries = λ s there. there;
           work = refl;
           store = n.2;
+          knows = λ from known. known_moved from n.0 v now refl n.2 known;
+          told = (Ok c.in-Ok.kept, n.1, refl);
           lost = refl;
           log = refl;
           listens = refl;
@@ -29,7 +35,9 @@ returns-in-Ok g c =
 pub returns-in-Err : goal.returns-in-Err
 returns-in-Err g c =
     let n = c.in-Err.ensures.notes in
-    let home = c.args.self.now.store.generation in (
+    let home = c.args.self.now.store.generation in
+    let v : View = view_of (g.B.Chronicle.entries c.args.self.now.store.book) c.args.self.now in
+    let now : View = view_of (g.B.Chronicle.entries c.read_log.new.store.book) (record c.args.self.now { store = c.read_log.new.store; outcome = c.refused-self.result }) in (
       startup_run c.args.pid home (Err c.in-Err.why) n.0,
       c.exit-in-Err.ensures,
       record {
@@ -38,9 +46,11 @@ returns-in-Err g c =
           there = c.requires.there;
           generation = refl;
           off = c.requires.off;
-          hands = λ s there. there;
+          auxiliaries = λ s there. there;
           work = refl;
           store = n.2;
+          knows = λ from known. known_refused from c.args.pid home c.in-Err.why n.0 v now c.refused-self.ensures n.1 n.2 (λ fault is. c.read_log.ensures.reason fault (c.in-Err.is ∙ ap (λ w. Err w) is)) (λ fault is. c.read_log.ensures.unread fault (c.in-Err.is ∙ ap (λ w. Err w) is)) (λ fault is. c.read_log.ensures.shut fault (c.in-Err.is ∙ ap (λ w. Err w) is)) known;
+          told = (Err c.in-Err.why, n.1, refl);
           lost = refl;
           log = refl;
           listens = refl;

@@ -1,10 +1,11 @@
-use Rattle.std.proofs.Common.{refl, inr}
+use Rattle.std.proofs.Common.{refl, inl, inr}
 use Rattle.pm_exit.specs.declared.child.Kind.TheVariants.{Writer}
 use Rattle.pm_exit.specs.declared.child.Status.TheVariants.{Code}
 use Rattle.pm_segment.specs.MovesLaws.{moves_none}
 use Rattle.pm_once.specs.View.{View, view_of}
-use Rattle.pm_once.proofs.AidRuns.{idle_is_run, idle_run}
-use Rattle.pm_once.proofs.Aiding.{aid_is_off, aid_kind, aid_off, aid_there, no_session}
+use Rattle.pm_once.specs.AuxiliaryRuns.{idle_run}
+use Rattle.pm_once.proofs.AuxiliaryRuns.{idle_is_run, quit_is_told}
+use Rattle.pm_once.proofs.AuxiliaryEnds.{auxiliary_is_off, auxiliary_kind, auxiliary_off, auxiliary_there, no_session}
 use Rattle.pm_once.proofs.server.Server.run_next.Goals as goal
 
 pub returns-in-Some-Quit-clause-runs : goal.returns-in-Some-Quit-clause-runs
@@ -13,23 +14,25 @@ returns-in-Some-Quit-clause-runs g c =
     let pid = c.in-Some-Quit.pid in
     let k = c.in-Some-Quit.kind in
     let off = rw c.in-Some-Quit.field-0-is at c.in-Some-Quit.ensures in
-    let there = aid_there pid k _ _ v.work.standing off c.requires.2.hands in (
+    let there = auxiliary_there pid k _ _ v.work.standing off c.requires.2.auxiliaries in (
       idle_run pid v.store.generation k (Code 2),
       c.exit.ensures,
       record {
         ran = record {
-          is_run = idle_is_run pid v.store.generation k (Code 2) (aid_kind pid k _ _ off);
+          is_run = idle_is_run pid v.store.generation k (Code 2) (auxiliary_kind pid k _ _ off);
           there = there.0;
           generation = refl;
-          off = aid_is_off pid k _ _ off;
-          hands = aid_off pid k _ _ off;
+          off = auxiliary_is_off pid k _ _ off;
+          auxiliaries = auxiliary_off pid k _ _ off;
           work = refl;
           store = moves_none v.store;
+          knows = λ from known. record { counted = known.counted; come = known.come };
+          told = quit_is_told pid v.store.generation k (auxiliary_kind pid k _ _ off);
           lost = refl;
           log = refl;
           listens = refl;
         };
-        alone = no_session k _ (aid_kind pid k _ _ off);
+        alone = no_session k _ (auxiliary_kind pid k _ _ off);
       },
     )
 
@@ -38,7 +41,7 @@ returns-in-Some-Terminate-clause-runs g c =
     let v : View = view_of (g.B.Chronicle.entries c.args.self.now.store.book) c.args.self.now in
     let pid = c.in-Some-Terminate.pid in
     let off = rw c.in-Some-Terminate.field-0-is at c.in-Some-Terminate.ensures in
-    let there = aid_there pid Writer _ _ v.work.standing off c.requires.2.hands in (
+    let there = auxiliary_there pid Writer _ _ v.work.standing off c.requires.2.auxiliaries in (
       idle_run pid v.store.generation Writer (Code 0),
       c.exit-in-Some-Terminate.ensures,
       record {
@@ -46,10 +49,12 @@ returns-in-Some-Terminate-clause-runs g c =
           is_run = idle_is_run pid v.store.generation Writer (Code 0) (inr refl);
           there = there.0;
           generation = refl;
-          off = aid_is_off pid Writer _ _ off;
-          hands = aid_off pid Writer _ _ off;
+          off = auxiliary_is_off pid Writer _ _ off;
+          auxiliaries = auxiliary_off pid Writer _ _ off;
           work = refl;
           store = moves_none v.store;
+          knows = λ from known. record { counted = known.counted; come = known.come };
+          told = inl refl;
           lost = refl;
           log = refl;
           listens = refl;

@@ -4,7 +4,7 @@ use Rattle.pm_journal.specs.Standing.{later}
 use Rattle.pm_journal.specs.declared.exit.ChildExit.{ChildExit}
 use Rattle.pm_once.specs.Calls.{NotesExit}
 use Rattle.pm_once.specs.View.{View, view_of}
-use Rattle.pm_once.proofs.Aiding.{ran_finishes, ran_short}
+use Rattle.pm_once.proofs.AuxiliaryEnds.{ran_finishes, ran_short}
 use Rattle.pm_once.proofs.Alls.{running_on}
 use Rattle.pm_once.proofs.Ending.{ran_noted}
 use Rattle.pm_once.proofs.server.Server.run_one.Goals as goal
@@ -15,11 +15,11 @@ finish-requires-clause-running g c =
     let mid : View = view_of (g.B.Chronicle.entries c.run_next.new.self.store.book) c.run_next.new.self in
     let now : View = view_of (g.B.Chronicle.entries c.note_exit.new.self.store.book) c.note_exit.new.self in
     let gives = g.C.Clock.gives c.args.clock.now in
-    let aid = c.in-Some.ensures.runs in
+    let auxiliary = c.in-Some.ensures.runs in
     let noted = c.in-Ok.ensures.noted in
-    let one = ran_noted c.laws.ensures.steps c.laws.ensures.work c.laws.ensures.journal gives aid.0 noted.0 v mid now c.requires.running c.requires.idle aid.2.ran
-    (subst (λ (x : ChildExit). NotesExit gives x noted.0 mid now) aid.1 noted.1) in
-    running_on gives (Runs aid.0 (later noted.0 v.work.standing) ∷ []) v now c.requires.running one.goes one.stays
+    let one = ran_noted c.laws.ensures.steps c.laws.ensures.work c.laws.ensures.journal gives auxiliary.0 noted.0 v mid now c.requires.running c.requires.idle auxiliary.2.ran
+    (subst (λ (x : ChildExit). NotesExit gives x noted.0 mid now) auxiliary.1 noted.1) in
+    running_on gives (Runs auxiliary.0 (later noted.0 v.work.standing) ∷ []) v now c.requires.running one.goes one.stays
 
 pub returns-in-Ok-clause-runs : goal.returns-in-Ok-clause-runs
 returns-in-Ok-clause-runs g c =
@@ -27,14 +27,14 @@ returns-in-Ok-clause-runs g c =
     let mid : View = view_of (g.B.Chronicle.entries c.run_next.new.self.store.book) c.run_next.new.self in
     let now : View = view_of (g.B.Chronicle.entries c.note_exit.new.self.store.book) c.note_exit.new.self in
     let gives = g.C.Clock.gives c.args.clock.now in
-    let aid = c.in-Some.ensures.runs in
+    let auxiliary = c.in-Some.ensures.runs in
     let noted = c.in-Ok.ensures.noted in
-    let one = ran_noted c.laws.ensures.steps c.laws.ensures.work c.laws.ensures.journal gives aid.0 noted.0 v mid now c.requires.running c.requires.idle aid.2.ran
-    (subst (λ (x : ChildExit). NotesExit gives x noted.0 mid now) aid.1 noted.1) in
-    ((Runs aid.0 (later noted.0 v.work.standing) ∷ []) ++ c.finish.ensures.0, ran_finishes gives aid.0 noted.0 c.finish.result c.finish.ensures.0 v now _ one aid.2.alone c.finish.ensures.1)
+    let one = ran_noted c.laws.ensures.steps c.laws.ensures.work c.laws.ensures.journal gives auxiliary.0 noted.0 v mid now c.requires.running c.requires.idle auxiliary.2.ran
+    (subst (λ (x : ChildExit). NotesExit gives x noted.0 mid now) auxiliary.1 noted.1) in
+    ((Runs auxiliary.0 (later noted.0 v.work.standing) ∷ []) ++ c.finish.ensures.0, ran_finishes gives auxiliary.0 noted.0 c.finish.result c.finish.ensures.0 v now _ one auxiliary.2.alone c.finish.ensures.1)
 
 pub returns-in-Err-clause-runs : goal.returns-in-Err-clause-runs
 returns-in-Err-clause-runs g c =
     let v : View = view_of (g.B.Chronicle.entries c.args.self.now.store.book) c.args.self.now in
-    let aid = c.in-Some.ensures.runs in
-    (RunsOn aid.0 ∷ [], ran_short c.laws.ensures.steps c.laws.ensures.journal (g.C.Clock.gives c.args.clock.now) aid.0 v _ _ c.requires.running c.requires.idle aid.2 c.in-Err.ensures.refused)
+    let auxiliary = c.in-Some.ensures.runs in
+    (RunsOn auxiliary.0 ∷ [], ran_short c.laws.ensures.steps c.laws.ensures.journal (g.C.Clock.gives c.args.clock.now) auxiliary.0 v _ _ c.requires.running c.requires.idle auxiliary.2 c.in-Err.ensures.refused)

@@ -1,5 +1,5 @@
 use Rattle.std.proofs.Common.{◌++◌, ◌∷◌, ℕ, [], None, refl, sym, ap, subst, ◌∙◌}
-use Rattle.std.specs.Prelude.{false, true}
+use Rattle.std.specs.Prelude.{false, true, ◌≡◌, ◌+◌, length, IfSome}
 use Rattle.pm_exit.specs.declared.child.Kind.TheVariants.{Backend}
 use Rattle.pm_keys.specs.CancelKey.{cancel_key}
 use Rattle.pm_chain.specs.Steps.{Runs, RunsOn}
@@ -59,17 +59,18 @@ returns-in-Err-settled g c =
     let seed = c.args.seed.now in
     let limit = c.args.conf.now.authentication_ms in
     let key = cancel_key seed c.admit-admitted.result.pid in
-    let v3 : View = record v2 { store = moment_of (g.B.Chronicle.entries c.serve_link-status.new.store.book) c.serve_link-status.new.store } in
-    let ran = session_ran key limit gives s.0 c.admit-admitted.result.pid v2 v3 s.6 s.1 s.2 admits.there refl s.7 refl refl refl refl in
+    let v3 : View = record v2 { store = moment_of (g.B.Chronicle.entries c.serve_link-status.new.store.book) c.serve_link-status.new.store; outcome = None } in
+    let ran = session_ran key limit gives s.0 c.admit-admitted.result.pid v2 v3 s.6 s.1 s.2 admits.there refl refl s.7 refl refl refl refl in
     let is_served : IsServed seed limit gives s.0 = subst (λ (p : ℕ). IsServedAs (cancel_key seed p) limit gives s.0) (sym s.1) s.6 in
     let same_number = sym (ap (λ (l : LinkView). l.number) s.4) ∙ s.6.same ∙ ap (λ (l : LinkView). l.number) s.3 in
+    let numbered = subst (λ (l : LinkView). IfSome (g.P.Port.visits c.args.port.now) (λ v. l.number ≡ length v.given + 1)) (sym s.3) c.in-Some.ensures.number in
     let visits = all_back_as [] s.0 _ _ (g.P.Port.visits c.args.port.now) (g.P.Port.visits c.args.port.now) (g.P.Port.visits c.next_link.new.port) _ s.3 s.4 same_number (no_change (g.P.Port.visits c.args.port.now)) c.in-Some.ensures.given c.in-Some.ensures.number c.done.ensures.visits in
     let goes = still_short c.laws.ensures.steps c.laws.ensures.journal gives (run_of s.0) v2 v3 running2 admits.rests ran in (
       one.0 ++ RunsOn (run_of s.0) ∷ [],
       s.0 ∷ [],
       false,
       serves_short gives c.admit-admitted.result s.0 one.0 v v2 v3 c.requires.listens admits goes refl refl,
-      short_served seed limit gives c.admit-admitted.result s.0 one.0 v v2 _ _ admits s.1 is_served visits,
+      short_served seed limit gives c.admit-admitted.result s.0 one.0 v v2 _ _ admits s.1 is_served numbered visits,
     )
 
 pub note_exit-requires-clause-stands : goal.note_exit-requires-clause-stands
@@ -98,8 +99,8 @@ finish-requires-clause-running g c =
     let seed = c.args.seed.now in
     let limit = c.args.conf.now.authentication_ms in
     let key = cancel_key seed c.admit-admitted.result.pid in
-    let v3 : View = record v2 { store = moment_of (g.B.Chronicle.entries c.serve_link-status.new.store.book) c.serve_link-status.new.store } in
-    let ran = session_ran key limit gives s.0 c.admit-admitted.result.pid v2 v3 s.6 s.1 s.2 admits.there refl s.7 refl refl refl refl in
+    let v3 : View = record v2 { store = moment_of (g.B.Chronicle.entries c.serve_link-status.new.store.book) c.serve_link-status.new.store; outcome = None } in
+    let ran = session_ran key limit gives s.0 c.admit-admitted.result.pid v2 v3 s.6 s.1 s.2 admits.there refl refl s.7 refl refl refl refl in
     let v4 : View = view_of (g.B.Chronicle.entries c.note_exit.new.self.store.book) c.note_exit.new.self in
     let exits = c.session_exit.ensures ∙ ap (λ (p : ℕ). record { pid = p; kind = Backend; status = c.serve_link-status.result.status; was_active = is_signal c.serve_link-status.result.status; kept = None }) (sym s.1)
     ∙ session_exit key limit gives s.0 c.serve_link-status.result.status s.5 s.6 in
@@ -122,13 +123,14 @@ returns-in-Ok-note_exit g c =
     let seed = c.args.seed.now in
     let limit = c.args.conf.now.authentication_ms in
     let key = cancel_key seed c.admit-admitted.result.pid in
-    let v3 : View = record v2 { store = moment_of (g.B.Chronicle.entries c.serve_link-status.new.store.book) c.serve_link-status.new.store } in
-    let ran = session_ran key limit gives s.0 c.admit-admitted.result.pid v2 v3 s.6 s.1 s.2 admits.there refl s.7 refl refl refl refl in
+    let v3 : View = record v2 { store = moment_of (g.B.Chronicle.entries c.serve_link-status.new.store.book) c.serve_link-status.new.store; outcome = None } in
+    let ran = session_ran key limit gives s.0 c.admit-admitted.result.pid v2 v3 s.6 s.1 s.2 admits.there refl refl s.7 refl refl refl refl in
     let v4 : View = view_of (g.B.Chronicle.entries c.note_exit.new.self.store.book) c.note_exit.new.self in
     let exits = c.session_exit.ensures ∙ ap (λ (p : ℕ). record { pid = p; kind = Backend; status = c.serve_link-status.result.status; was_active = is_signal c.serve_link-status.result.status; kept = None }) (sym s.1)
     ∙ session_exit key limit gives s.0 c.serve_link-status.result.status s.5 s.6 in
     let is_served : IsServed seed limit gives s.0 = subst (λ (p : ℕ). IsServedAs (cancel_key seed p) limit gives s.0) (sym s.1) s.6 in
     let same_number = sym (ap (λ (l : LinkView). l.number) s.4) ∙ s.6.same ∙ ap (λ (l : LinkView). l.number) s.3 in
+    let numbered = subst (λ (l : LinkView). IfSome (g.P.Port.visits c.args.port.now) (λ v. l.number ≡ length v.given + 1)) (sym s.3) c.in-Some.ensures.number in
     let visits = all_back_as [] s.0 _ _ (g.P.Port.visits c.args.port.now) (g.P.Port.visits c.args.port.now) (g.P.Port.visits c.next_link.new.port) _ s.3 s.4 same_number (no_change (g.P.Port.visits c.args.port.now)) c.in-Some.ensures.given c.in-Some.ensures.number c.done.ensures.visits in
     let v5 : View = view_of (g.B.Chronicle.entries c.finish.new.self.store.book) c.finish.new.self in
     let n = c.in-Ok-note_exit.ensures.noted in
@@ -139,7 +141,7 @@ returns-in-Ok-note_exit g c =
       s.0 ∷ [],
       false,
       serves_session gives c.admit-admitted.result s.0 n.0 c.finish.result one.0 f.0 v v2 v4 v5 c.requires.listens admits done f.1,
-      session_served seed limit gives c.admit-admitted.result s.0 (later n.0 v2.work.standing) c.finish.result one.0 f.0 v v2 v4 v5 _ _ admits f.1 s.1 is_served visits,
+      session_served seed limit gives c.admit-admitted.result s.0 (later n.0 v2.work.standing) c.finish.result one.0 f.0 v v2 v4 v5 _ _ admits f.1 s.1 is_served numbered visits,
     )
 
 pub returns-in-Err-note_exit : goal.returns-in-Err-note_exit
@@ -156,18 +158,19 @@ returns-in-Err-note_exit g c =
     let seed = c.args.seed.now in
     let limit = c.args.conf.now.authentication_ms in
     let key = cancel_key seed c.admit-admitted.result.pid in
-    let v3 : View = record v2 { store = moment_of (g.B.Chronicle.entries c.serve_link-status.new.store.book) c.serve_link-status.new.store } in
-    let ran = session_ran key limit gives s.0 c.admit-admitted.result.pid v2 v3 s.6 s.1 s.2 admits.there refl s.7 refl refl refl refl in
+    let v3 : View = record v2 { store = moment_of (g.B.Chronicle.entries c.serve_link-status.new.store.book) c.serve_link-status.new.store; outcome = None } in
+    let ran = session_ran key limit gives s.0 c.admit-admitted.result.pid v2 v3 s.6 s.1 s.2 admits.there refl refl s.7 refl refl refl refl in
     let v4 : View = view_of (g.B.Chronicle.entries c.note_exit.new.self.store.book) c.note_exit.new.self in
     let exits = c.session_exit.ensures ∙ ap (λ (p : ℕ). record { pid = p; kind = Backend; status = c.serve_link-status.result.status; was_active = is_signal c.serve_link-status.result.status; kept = None }) (sym s.1)
     ∙ session_exit key limit gives s.0 c.serve_link-status.result.status s.5 s.6 in
     let is_served : IsServed seed limit gives s.0 = subst (λ (p : ℕ). IsServedAs (cancel_key seed p) limit gives s.0) (sym s.1) s.6 in
     let same_number = sym (ap (λ (l : LinkView). l.number) s.4) ∙ s.6.same ∙ ap (λ (l : LinkView). l.number) s.3 in
+    let numbered = subst (λ (l : LinkView). IfSome (g.P.Port.visits c.args.port.now) (λ v. l.number ≡ length v.given + 1)) (sym s.3) c.in-Some.ensures.number in
     let visits = all_back_as [] s.0 _ _ (g.P.Port.visits c.args.port.now) (g.P.Port.visits c.args.port.now) (g.P.Port.visits c.next_link.new.port) _ s.3 s.4 same_number (no_change (g.P.Port.visits c.args.port.now)) c.in-Some.ensures.given c.in-Some.ensures.number c.done.ensures.visits in
     let goes = ran_on c.laws.ensures.steps c.laws.ensures.journal gives (run_of s.0) v2 v3 v4 running2 admits.rests ran c.in-Err-note_exit.ensures.refused in (
       one.0 ++ RunsOn (run_of s.0) ∷ [],
       s.0 ∷ [],
       false,
       serves_short gives c.admit-admitted.result s.0 one.0 v v2 v4 c.requires.listens admits goes c.in-Err-note_exit.ensures.refused.listens c.in-Err-note_exit.ensures.refused.standing,
-      short_served seed limit gives c.admit-admitted.result s.0 one.0 v v2 _ _ admits s.1 is_served visits,
+      short_served seed limit gives c.admit-admitted.result s.0 one.0 v v2 _ _ admits s.1 is_served numbered visits,
     )

@@ -16,7 +16,7 @@ use Rattle.pm_segment.specs.MovesLaws.{moves_on}
 use Rattle.pm_segment.specs.Redos.{IsAtLastEpoch, IsCleanAt}
 use Rattle.pm_segment.specs.declared.live.Live.{Live}
 use Rattle.pm_rows.specs.Fold.{RowMap}
-use Rattle.pm_once.specs.Aids.{CloseNotes, StartNotes, closed_as, is_crashed, refused_start}
+use Rattle.pm_once.specs.AuxiliaryRuns.{CloseNotes, StartNotes, closed_as, is_crashed, refused_start}
 use Rattle.pm_once.specs.declared.checkpointer.Closed.{Closed}
 use Rattle.pm_once.specs.declared.checkpointer.Closed.TheVariants.{Made, Crashed, Full, Short}
 

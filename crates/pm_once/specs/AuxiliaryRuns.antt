@@ -1,5 +1,6 @@
 -- The runs of the children that serve no connection.
 use Rattle.std.specs.Prelude.{◌≡◌, ◌⊎◌, ℕ, Bool, true, false, List, [], ◌∷◌, Option, None, Some, Result, Ok, Err}
+use Rattle.pm_exit.specs.declared.child.Kind.{Kind}
 use Rattle.pm_exit.specs.declared.child.Kind.TheVariants as kinds
 use Rattle.pm_exit.specs.declared.child.Status.{Status}
 use Rattle.pm_exit.specs.declared.child.Status.TheVariants.{Code, Signal}
@@ -10,7 +11,7 @@ use Rattle.pm_query.specs.declared.store.Checkpointed.{Checkpointed}
 use Rattle.pm_query.specs.declared.store.Checkpointed.TheVariants as made
 use Rattle.pm_query.specs.declared.store.StoreNo.{StoreNo}
 use Rattle.pm_query.specs.declared.store.StoreNo.TheVariants as stores
-use Rattle.pm_chain.specs.Steps.{ChildRun}
+use Rattle.pm_chain.specs.Steps.{ChildRun, Runs, RunsOn, Step}
 use Rattle.pm_once.specs.declared.checkpointer.Closed.{Closed}
 use Rattle.pm_once.specs.declared.checkpointer.Closed.TheVariants.{Made, Crashed, Full, Short}
 use Rattle.pm_once.specs.declared.end.StartWhy.{StartWhy}
@@ -97,3 +98,46 @@ checkpointer_run pid generation closed noted = record {
   was_active = is_crashed closed;
   kept = None;
 }
+
+-- ---- each of them
+
+-- a child that ends at once, without having been inside
+abbrev pub idle_run : (pid generation : ℕ) → Kind → Status → ChildRun
+idle_run pid generation kind status = record {
+  pid = pid;
+  kind = kind;
+  generation = generation;
+  noted = [];
+  status = status;
+  was_active = false;
+  kept = None;
+}
+
+abbrev pub IsIdleRun : Status → ChildRun → Type 0
+IsIdleRun status run = run ≡ idle_run run.pid run.generation run.kind status
+
+-- it has read the log
+abbrev pub IsStartupRun : ChildRun → Type 0
+IsStartupRun run = (read : Result ℕ (Option StartWhy)) × StartNotes run.pid run.generation read run.noted
+    × (run ≡ startup_run run.pid run.generation read run.noted)
+
+-- it has written the last checkpoint, or was told to end at once
+abbrev pub IsCheckpointerRun : ChildRun → Type 0
+IsCheckpointerRun run = IsIdleRun (Code 2) run
+    ⊎ ((closed : Closed) × CloseNotes run.pid run.generation closed run.noted
+    × (run ≡ checkpointer_run run.pid run.generation closed run.noted))
+
+-- a run by the kind of its child: those of sessions are told by their connections, and there are no others
+abbrev pub IsRunAs : Kind → ChildRun → Type 0
+IsRunAs kinds.Startup run = IsStartupRun run
+IsRunAs kinds.Checkpointer run = IsCheckpointerRun run
+IsRunAs kinds.Writer run = IsIdleRun (Code 0) run ⊎ IsIdleRun (Code 2) run
+IsRunAs kinds.Backend run = Unit {0}
+IsRunAs kinds.Worker run = ⊥
+IsRunAs kinds.DeadEnd run = ⊥
+
+-- what an auxiliary child noted, and how it ended by that
+abbrev pub IsToldRun : Step → Type 0
+IsToldRun (Runs run at) = IsRunAs run.kind run
+IsToldRun (RunsOn run) = IsRunAs run.kind run
+IsToldRun _ = Unit {0}

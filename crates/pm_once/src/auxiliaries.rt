@@ -1,13 +1,13 @@
 //! The children that serve no connection, and what they have to do.
 
 ghost use Rattle.std.specs.Prelude.{◌≡◌};
-ghost use Rattle.pm_once.specs.Hands.{IsNextDuty, nobody, with_started};
+ghost use Rattle.pm_once.specs.Auxiliaries.{IsNextDuty, nobody, with_started};
 
 use pm_exit::Kind;
 
 /// The pids of the children that are there, and what they were told.
 #[derive(Clone, Copy, Debug, PartialEq, Eq)]
-pub struct Hands {
+pub struct Auxiliaries {
     pub startup: Option<u32>,
     pub checkpointer: Option<u32>,
     pub writer: Option<u32>,
@@ -32,12 +32,12 @@ pub enum Duty {
     Terminate { pid: u32 },
 }
 
-impl Hands {
+impl Auxiliaries {
     /// Nobody is there.
-    pub fn none() -> Hands
+    pub fn none() -> Auxiliaries
         ensures { result ≡ nobody }
     {
-        Hands {
+        Auxiliaries {
             startup: None,
             checkpointer: None,
             writer: None,
@@ -53,7 +53,7 @@ impl Hands {
     {
         match kind {
             Kind::Startup => {
-                *self = Hands::none();
+                *self = Auxiliaries::none();
                 self.startup = Some(pid);
             }
             Kind::Checkpointer => self.checkpointer = Some(pid),

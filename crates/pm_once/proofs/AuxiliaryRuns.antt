@@ -4,12 +4,13 @@ use Rattle.std.specs.Prelude.{true, false}
 use Rattle.pm_exit.specs.declared.child.Kind.{Kind}
 use Rattle.pm_exit.specs.declared.child.Kind.TheVariants as kind
 use Rattle.pm_exit.specs.declared.child.Status.{Status}
+use Rattle.pm_exit.specs.declared.child.Status.TheVariants.{Code}
 use Rattle.pm_record.specs.declared.fault.RedoFault.TheVariants as redo
 use Rattle.pm_query.specs.declared.book.BookEntry.{BookEntry}
 use Rattle.pm_query.specs.declared.book.BookEntry.TheVariants.{Redone, CheckpointEnded, Broke}
 use Rattle.pm_chain.specs.Chain.{IsAmong, kept_of, redos_of}
-use Rattle.pm_chain.specs.Steps.{ChildRun, IsRunOf}
-use Rattle.pm_once.specs.Aids.{CloseNotes, GoesThrough, StartNotes, checkpointer_run, startup_run}
+use Rattle.pm_chain.specs.Steps.{IsRunOf}
+use Rattle.pm_once.specs.AuxiliaryRuns.{CloseNotes, GoesThrough, IsRunAs, StartNotes, checkpointer_run, idle_run, startup_run}
 use Rattle.pm_once.specs.declared.checkpointer.Closed.{Closed}
 use Rattle.pm_once.specs.declared.checkpointer.Closed.TheVariants.{Made, Crashed, Full, Short}
 use Rattle.pm_once.specs.declared.end.StartWhy.{StartWhy}
@@ -54,12 +55,15 @@ checkpointer_is_run pid generation Short noted (inr (inr ended)) = record {
   redo = refl;
 }
 
--- a child that ends at once
-abbrev pub idle_run : (pid generation : ℕ) → Kind → Status → ChildRun
-idle_run pid generation k status = record { pid = pid; kind = k; generation = generation; noted = []; status = status; was_active = false; kept = None }
+-- ---- a child that ends at once
 
 pub idle_is_run : (pid generation : ℕ) (k : Kind) (status : Status) → (k ≡ kind.Checkpointer) ⊎ (k ≡ kind.Writer) → IsRunOf (idle_run pid generation k status)
 idle_is_run pid generation k status (inl is) =
     subst (λ (x : Kind). IsRunOf (idle_run pid generation x status)) (sym is) (record { use_of_store = inl (record { noted = refl; inactive = refl }); redo = refl })
 idle_is_run pid generation k status (inr is) =
     subst (λ (x : Kind). IsRunOf (idle_run pid generation x status)) (sym is) (record { use_of_store = inl (record { noted = refl; inactive = refl }); redo = refl })
+
+-- it was told to
+pub quit_is_told : (pid generation : ℕ) (k : Kind) → (k ≡ kind.Checkpointer) ⊎ (k ≡ kind.Writer) → IsRunAs k (idle_run pid generation k (Code 2))
+quit_is_told pid generation k (inl is) = subst (λ (x : Kind). IsRunAs x (idle_run pid generation x (Code 2))) (sym is) (inl refl)
+quit_is_told pid generation k (inr is) = subst (λ (x : Kind). IsRunAs x (idle_run pid generation x (Code 2))) (sym is) (inr refl)

@@ -1,0 +1,308 @@
+-- What a run leaves in its files, by what its store keeps.
+use Rattle.std.proofs.Common.{◌≡◌, ◌≢◌, ◌⊎◌, inl, inr, ℕ, ◌-◌, List, [], ◌∷◌, ◌++◌, Option, None, Some, refl, sym, ◌∙◌, ap, subst, arith}
+use Rattle.std.proofs.Math.Logic.{∥∥₁_map}
+use Rattle.std.specs.Option.{option_map}
+use Rattle.std.specs.Prelude.{All, IfSome, false, is_some, map, true}
+use Rattle.std.specs.List.{AllByRecursion}
+use Rattle.std.specs.FinMap as finite
+use Rattle.std.proofs.lemmas.List.{take_all}
+use Rattle.std.proofs.lemmas.List.Elements.{All-head, All-tail}
+use Rattle.pm_disk.specs.Cause.{Rose}
+use Rattle.pm_disk.specs.Files.{Files}
+use Rattle.pm_record.specs.OnDisk.{GoesOn}
+use Rattle.pm_record.specs.Pair.{Means}
+use Rattle.pm_record.specs.declared.fault.RedoFault.{RedoFault}
+use Rattle.pm_record.specs.declared.fault.RedoFault.TheVariants as redo
+use Rattle.pm_redo.specs.Found.{IsReason}
+use Rattle.pm_rows.specs.Fold.{folded}
+use Rattle.pm_rows.specs.declared.commit.Change.{Change}
+use Rattle.pm_query.specs.Book.{Base, IsLegal, history_of}
+use Rattle.pm_query.specs.Durable.{IsDurable}
+use Rattle.pm_query.specs.History.{History, count_of, number, rows_of}
+use Rattle.pm_query.specs.declared.book.BookEntry.{BookEntry}
+use Rattle.pm_query.specs.declared.book.BookEntry.TheVariants.{Opened, Attached, Redone, Answered, Released, Detached, Gone, CheckpointEnded, Broke, LogFull}
+use Rattle.pm_segment.specs.Moment.{Moment, Told}
+use Rattle.pm_segment.specs.Moves.{BreakIsShown, IsCountedFrom, NotesEntries, StaysUnread}
+use Rattle.pm_segment.specs.MovesLaws.{time_on}
+use Rattle.pm_segment.specs.Redos.{IsAtLastEpoch, IsCleanAt, SaysNothing, is_broken}
+use Rattle.pm_segment.specs.Runs.{CanBeRead, IsRun}
+use Rattle.pm_segment.specs.Stands.{GoesFrom, HasBegun, HasGone, HasNoTick, HasWaited, IsOpening, IsSure as IsSureAt, Origin, WaitsFrom}
+use Rattle.pm_segment.specs.declared.live.Live.{Live}
+use Rattle.pm_chain.specs.Steps.{Step, Notes, Renews, Runs, RunsOn, book_of}
+use Rattle.pm_once.specs.Goes.{IsEndOf, IsNoRenewal, Spans}
+use Rattle.pm_once.specs.Knows.{HasComeTo, HasRefused, Knows}
+use Rattle.pm_once.specs.Once.{IsCausedBy, IsFailedBy, IsTraced}
+use Rattle.pm_once.specs.Outside.{DiskView, OutsideView}
+use Rattle.pm_once.specs.Story.{HasOneGeneration, IsClean, IsNoAnswer, IsNoOpening, IsStory, IsSure}
+use Rattle.pm_once.specs.View.{View}
+use Rattle.pm_once.specs.declared.checkpointer.Closed.TheVariants.{Full}
+use Rattle.pm_once.specs.declared.end.ServerEnd.{ServerEnd}
+use Rattle.pm_once.specs.declared.end.ServerEnd.TheVariants.{Clean, Abnormal, NoMemory}
+use Rattle.pm_once.specs.declared.end.StartWhy.TheVariants.{Redo}
+use Rattle.pm_once.specs.declared.end.Why.TheVariants.{AfterCrash, StartupFailed, RestartOff, GenerationsSpent}
+use Rattle.pm_once.specs.declared.outcome.Outcome.{Outcome}
+use Rattle.pm_once.specs.declared.outcome.Outcome.TheVariants.{Closed}
+use Rattle.pm_once.proofs.Going.{each_part}
+
+-- ---- where the book tells
+
+each_told : (P : List BookEntry → Type 0) (book : Option (List BookEntry)) → ((b : List BookEntry) → book ≡ Some b → P b) → IfSome book P
+each_told P None holds = tt
+each_told P (Some b) holds = holds b refl
+
+told_as : (book : Option (List BookEntry)) (Holds : List BookEntry → Type 0) (b : List BookEntry) → book ≡ Some b → IfSome book Holds → Holds b
+told_as book Holds b is told = subst (λ (bk : Option (List BookEntry)). IfSome bk Holds) is told
+
+-- what holds where the disk tells its files
+where_told : (files : Option Files) (P Q : Type 0) → (P → Q) → IfSome files (λ _. P) → IfSome files (λ _. Q)
+where_told None P Q step told = tt
+where_told (Some f) P Q step told = step told
+
+some_same : (a b : List BookEntry) → Some a ≡ Some b → a ≡ b
+some_same a b is = cc
+
+all_noted : (entries : List BookEntry) (b0 b1 b2 : Option (List BookEntry)) → b0 ≡ Some [] → NotesEntries (Opened 1 ∷ []) b0 b1 → NotesEntries entries b1 b2 → b2 ≡ Some (Opened 1 ∷ entries)
+all_noted entries b0 b1 b2 empty first second =
+    second ∙ ap (option_map (λ (b : List BookEntry). b ++ entries)) (first ∙ ap (option_map (λ (b : List BookEntry). b ++ Opened 1 ∷ [])) empty)
+
+-- ---- generations
+
+no_renewal : (steps : List Step) → AllByRecursion IsNoOpening (book_of steps) → AllByRecursion IsNoRenewal steps
+no_renewal [] all = tt
+no_renewal (Notes noted ∷ steps) all = (tt, no_renewal steps all)
+no_renewal (Runs run at ∷ steps) all = (tt, no_renewal steps (each_part IsNoOpening run.noted (book_of steps) all).1)
+no_renewal (RunsOn run ∷ steps) all = (tt, no_renewal steps (each_part IsNoOpening run.noted (book_of steps) all).1)
+no_renewal (Renews generation gone ∷ steps) all =
+    absurd (each_part IsNoOpening (map Gone gone) (Opened generation ∷ []) (each_part IsNoOpening (map Gone gone ++ Opened generation ∷ []) (book_of steps) all).0).1.0
+
+sure_of : (steps : List Step) (b : List BookEntry) (now : Moment) → b ≡ Opened 1 ∷ book_of steps → (AllByRecursion IsNoRenewal steps → now.generation ≡ 1) → IsSure b now.files → IsSureAt now
+sure_of steps b now is still (inl one) = inl (still (no_renewal steps (subst HasOneGeneration is one)))
+sure_of steps b now is still (inr tells) = inr tells
+
+-- ---- nothing was answered
+
+is_no_answer : (e : BookEntry) → HasNoTick e → IsNoAnswer e
+is_no_answer (Opened generation) none = tt
+is_no_answer (Attached pid generation) none = tt
+is_no_answer (Redone pid generation kept) none = tt
+is_no_answer (Answered pid script reply commit front tick) none = omega (arith, (none 1 0).0, (none 1 0).1)
+is_no_answer (Released pid front tick) none = omega (arith, (none 1 0).0, (none 1 0).1)
+is_no_answer (Detached pid) none = tt
+is_no_answer (Gone pid) none = tt
+is_no_answer (CheckpointEnded pid done clean) none = tt
+is_no_answer (Broke pid since faults) none = tt
+is_no_answer (LogFull pid script need room) none = tt
+
+no_answers : (book : List BookEntry) → All HasNoTick book → AllByRecursion IsNoAnswer book
+no_answers [] all = tt
+no_answers (e ∷ book) all = (is_no_answer e (All-head HasNoTick e book all), no_answers book (All-tail HasNoTick e book all))
+
+-- ---- what a clean checkpoint left
+
+whole_number : (history : History) → number history (count_of history) ≡ record { rows = rows_of history; count = count_of history }
+whole_number history =
+    ap (λ (commits : List (List Change)). record { rows = folded history.base.rows commits; count = count_of history }) (take_all (count_of history - history.base.count) history.commits (omega arith))
+
+same_live : (a b : Live) (at : Option Live) → at ≡ Some a → at ≡ Some b → a ≡ b
+same_live a b at one two = cc
+
+never_read : (live : Option Live) (a : Live) → live ≡ Some a → live ≡ None → ⊥
+never_read live a one two = cc
+
+clean_at : (base : Base) (at : Moment) (live : Live) (book : List BookEntry) (epoch : ℕ) (files : Option Files) → HasGone base at live book → IsCleanAt epoch at.live at.rows files
+    → IfSome files (λ f. ∥ IsClean (history_of base book) f ∥₁)
+clean_at base at live book epoch None gone clean = tt
+clean_at base at live book epoch (Some f) gone clean =
+    let same : live ≡ clean.0 = same_live live clean.0 at.live gone.read clean.1 in
+    let unbroken : live.log.since ≡ None = ap (λ (l : Live). l.log.since) same ∙ clean.2 in
+    ∥∥₁_map clean.4 (λ s. record {
+      file = clean.0.log.file;
+      content = s.content;
+      end = clean.0.log.end;
+      pair = record { stands = s.stands; beside = inl s.beside };
+      is = s.is
+          ∙ ap (λ (r : finite.FinMap _ _). record { rows = r; count = clean.0.log.count }) gone.rows_are
+          ∙ ap (λ (n : ℕ). record { rows = rows_of (history_of base book); count = n }) (sym (ap (λ (l : Live). l.log.count) same) ∙ gone.count_is unbroken)
+          ∙ sym (whole_number (history_of base book));
+      clean = s.clean_is;
+      nothing_behind = s.no_batch;
+    })
+
+clean_begun : (base : Base) (at : Moment) (book : List BookEntry) (epoch : ℕ) → HasBegun base at book → IsCleanAt epoch at.live at.rows at.files → IfSome at.files (λ f. ∥ IsClean (history_of base book) f ∥₁)
+clean_begun base at book epoch (inl gone) clean = clean_at base at gone.0 book epoch at.files gone.1 clean
+clean_begun base at book epoch (inr renewed) clean = absurd (never_read at.live clean.0 clean.1 renewed.unread)
+
+-- where the disk tells its files, and so it is sure
+clean_told : (base : Base) (at : Moment) (book : List BookEntry) (epoch : ℕ) (files : Option Files) → at.files ≡ files → (IsSureAt at → HasBegun base at book) → IsCleanAt epoch at.live at.rows at.files
+    → IfSome at.files (λ f. ∥ IsClean (history_of base book) f ∥₁)
+clean_told base at book epoch None is begun clean = subst (λ (x : Option Files). IfSome x (λ f. ∥ IsClean (history_of base book) f ∥₁)) (sym is) tt
+clean_told base at book epoch (Some f) is begun clean = clean_begun base at book epoch (begun (inr (f, is))) clean
+
+-- ---- the whole
+
+abbrev pub origin_of : DiskView → Origin
+origin_of before = record { files = before.files; tick = before.ticks; faults = before.faults }
+
+abbrev pub view_at : Moment → DiskView
+view_at at = record { files = at.files; images = at.images; ticks = at.ticks; faults = at.faults }
+
+legal_of : (base : Base) (at : Moment) (book : List BookEntry) → HasBegun base at book → IsLegal base book
+legal_of base at book (inl gone) = gone.1.legal
+legal_of base at book (inr renewed) = renewed.legal
+
+-- the last checkpoint made the log clean
+made_at : (end : ServerEnd) (steps : List Step) (from : ℕ) (now : View) → IsEndOf end steps now → Knows from now → end ≡ Clean → (epoch : ℕ) × IsCleanAt epoch now.store.live now.store.rows now.store.files
+made_at end steps from now ends known is =
+    subst (λ (o : Option Outcome). HasComeTo o from now.store) (subst (λ (e : ServerEnd). IsEndOf e steps now) is ends).1 known.come
+
+-- what a run is that began so
+pub record HasRunSo (before : DiskView) (first : Moment) (steps : List Step) (now : View) : Type 0 where
+  pub began : GoesOn before.ticks first.ticks before.images first.images
+  pub generation : first.generation ≡ 1
+  pub spans : Spans (book_of steps) first now.store
+  pub still : AllByRecursion IsNoRenewal steps → now.store.generation ≡ first.generation
+  pub unread : AllByRecursion IsNoRenewal steps → StaysUnread first now.store
+  pub files : first.files ≡ before.files
+  pub faults : first.faults ≡ before.faults
+  pub known : Knows before.faults now
+
+pub whole_story : (end : ServerEnd) (before : DiskView) (first : Moment) (steps : List Step) (now : View) (b0 : Option (List BookEntry)) → b0 ≡ Some [] → NotesEntries (Opened 1 ∷ []) b0 first.book
+    → WaitsFrom (origin_of before) first → HasRunSo before first steps now → IsEndOf end steps now → ((origin : Origin) (base : Base) → GoesFrom origin base now.store → Told now.store (IsRun origin base now.store))
+    → IfSome now.store.book (IsStory end before (view_at now.store))
+whole_story end before first steps now b0 empty opened waits run ends law = each_told (IsStory end before (view_at now.store)) now.store.book (λ b is_book.
+    let at = now.store in
+    let book_is : b ≡ Opened 1 ∷ book_of steps = some_same b (Opened 1 ∷ book_of steps) (sym is_book ∙ all_noted (book_of steps) b0 first.book at.book empty opened run.spans.notes) in
+    let time = time_on before.ticks first.ticks at.ticks before.images first.images at.images run.began run.spans.time in
+    elim (run.spans.waits (origin_of before) waits) [
+      | inl still ↦
+          let w = told_as at.book (HasWaited (origin_of before) at) b is_book still.0 in
+          let opening = told_as at.book (λ book. IfSome at.files (λ _. IsOpening (origin_of before) at.ticks at.images)) b is_book still.1 in
+          record {
+            base = record { rows = finite.empty; count = 0; bytes = 0; faults = before.faults };
+            faults_are = refl;
+            legal = λ sure. w.legal (record { rows = finite.empty; count = 0; bytes = 0; faults = before.faults }) refl;
+            stops = inl (record {
+              unanswered = no_answers b w.no_ticks;
+              keeps = where_told at.files (IsOpening (origin_of before) at.ticks at.images) _
+                  (λ opens t from upto image there. ∥∥₁_map (opens t from upto image there) (λ e. (e.0, (time.past before.ticks (omega arith) e.0).0 e.1, e.2))) opening;
+            });
+            clean = λ is. let made = made_at end steps before.faults now ends run.known is in absurd (never_read at.live made.1.0 made.1.1 w.unread);
+          }
+      | inr begins ↦
+          let begun = told_as at.book (λ book. IsSureAt at → HasBegun begins.base at book) b is_book begins.goes.0 in
+          let its_run = told_as at.book (λ book. IfSome at.files (λ _. IsRun (origin_of before) begins.base at book)) b is_book (law (origin_of before) begins.base begins.goes) in
+          record {
+            base = begins.base;
+            faults_are = begins.faults;
+            legal = λ sure. legal_of begins.base at b (begun (sure_of steps b at book_is (λ none. run.still none ∙ run.generation) sure));
+            stops = inr (record {
+              base_is = begins.found;
+              durable = where_told at.files (IsRun (origin_of before) begins.base at b) (IsDurable Means begins.base b before.ticks at.ticks before.images at.images) (λ durable. record {
+                start = durable.start;
+                begun = durable.begun;
+                reached = durable.reached;
+                entries = durable.entries;
+                opening = λ t from upto image there. ∥∥₁_map (durable.opening t from upto image there) (λ e. (e.0, (time.past before.ticks (omega arith) e.0).0 e.1, e.2));
+                numbers = durable.numbers;
+              }) its_run;
+            });
+            clean = λ is. let made = made_at end steps before.faults now ends run.known is in clean_told begins.base at b made.0 at.files refl begun made.1;
+          }
+    ])
+
+-- ---- why it ended
+
+never : false ≡ true → ⊥
+never e = cc
+
+broken_rose : (from faults : ℕ) (live : Option Live) → BreakIsShown from faults live → is_broken live ≡ true → Rose from faults
+broken_rose from faults None shown broken = absurd (cc)
+broken_rose from faults (Some live) shown broken = by_break live.log.since refl shown broken
+  where
+    by_break : (since : Option ℕ) → live.log.since ≡ since → BreakIsShown from faults (Some live) → is_broken (Some live) ≡ true → Rose from faults
+    by_break None is shown broken = absurd (never (sym (ap is_some is) ∙ broken))
+    by_break (Some tick) is shown broken = rw is at shown
+
+crash_caused : (from : ℕ) (now : View) → Knows from now → (now.outcome ≡ Some (Closed Full)) ⊎ (is_broken now.store.live ≡ true)
+    → Rose from now.store.faults ⊎ IfSome now.store.files (λ files. ∥ IsAtLastEpoch files ∥₁)
+crash_caused from now known (inl full) = inr (subst (λ (o : Option Outcome). HasComeTo o from now.store) full known.come)
+crash_caused from now known (inr broken) = inl (broken_rose from now.store.faults now.store.live known.counted.shown broken)
+
+-- the files are those that were handed in, or the disk has failed
+abbrev AreThose : DiskView → Moment → Type 0
+AreThose before at = IfSome at.files (λ _. Rose before.faults at.faults ⊎ (at.files ≡ before.files))
+
+those : (before : DiskView) (at : Moment) (files : Option Files) → at.files ≡ files → Rose before.faults at.faults ⊎ (at.files ≡ before.files) → AreThose before at
+those before at None is same = subst (λ (x : Option Files). IfSome x (λ _. Rose before.faults at.faults ⊎ (at.files ≡ before.files))) (sym is) tt
+those before at (Some f) is same = subst (λ (x : Option Files). IfSome x (λ _. Rose before.faults at.faults ⊎ (at.files ≡ before.files))) (sym is) same
+
+-- the store was opened once
+those_once : (before : DiskView) (first : Moment) (steps : List Step) (now : View) → HasRunSo before first steps now → now.store.live ≡ None → AllByRecursion IsNoRenewal steps → AreThose before now.store
+those_once before first steps now run none once =
+    those before now.store now.store.files refl (elim (run.unread once none).1 as (λ _. Rose before.faults now.store.faults ⊎ (now.store.files ≡ before.files)) [
+      | inl rose ↦ inl (omega (arith, rose, run.faults))
+      | inr same ↦ inr (same ∙ run.files)
+    ])
+
+-- the book tells
+those_told : (fault : RedoFault) (before : DiskView) (first : Moment) (steps : List Step) (now : View) → (SaysNothing fault → ⊥) → IfSome now.store.files (IsReason fault) → WaitsFrom (origin_of before) first
+    → Spans (book_of steps) first now.store → ((origin : Origin) (base : Base) → GoesFrom origin base now.store → Told now.store (λ book. CanBeRead now.store)) → IfSome now.store.book (λ _. AreThose before now.store)
+those_told fault before first steps now says reason waits spans law = each_told _ now.store.book (λ b is_book.
+    let at = now.store in
+    elim (spans.waits (origin_of before) waits) [
+      | inl still ↦ those before at at.files refl (told_as at.book (HasWaited (origin_of before) at) b is_book still.0).reads
+      | inr begins ↦ can_read at.files refl reason (told_as at.book (λ _. IfSome at.files (λ _. CanBeRead at)) b is_book (law (origin_of before) begins.base begins.goes))
+    ])
+  where
+    can_read : (files : Option Files) → now.store.files ≡ files → IfSome files (IsReason fault) → IfSome now.store.files (λ _. CanBeRead now.store) → AreThose before now.store
+    can_read None is its reads = subst (λ (x : Option Files). IfSome x (λ _. Rose before.faults now.store.faults ⊎ (now.store.files ≡ before.files))) (sym is) tt
+    can_read (Some f) is its reads =
+        let can : CanBeRead now.store = subst (λ (x : Option Files). IfSome x (λ _. CanBeRead now.store)) is reads in
+        absurd (says (subst (λ (x : Option Files). IfSome x (λ files. (reason' : RedoFault) → IsReason reason' files → SaysNothing reason')) is can fault its))
+
+told_is : (book : Option (List BookEntry)) (P : Type 0) → book ≢ None → IfSome book (λ _. P) → P
+told_is None P tells holds = absurd (tells refl)
+told_is (Some b) P tells holds = holds
+
+pub whole_cause : (end : ServerEnd) (before rest : OutsideView) (first : Moment) (steps : List Step) (now : View) → (before.book ≡ Some [] → WaitsFrom (origin_of before.disk) first) → HasRunSo before.disk first steps now → IsEndOf end steps now
+    → ((origin : Origin) (base : Base) → GoesFrom origin base now.store → Told now.store (λ book. CanBeRead now.store)) → IsCausedBy end steps before (record rest { disk = view_at now.store; book = now.store.book })
+whole_cause Clean before rest first steps now waits run ends law = tt
+whole_cause NoMemory before rest first steps now waits run ends law = tt
+whole_cause (Abnormal RestartOff) before rest first steps now waits run ends law = tt
+whole_cause (Abnormal GenerationsSpent) before rest first steps now waits run ends law = tt
+whole_cause (Abnormal AfterCrash) before rest first steps now waits run ends law = crash_caused before.disk.faults now run.known ends.1
+whole_cause (Abnormal (StartupFailed (Redo fault))) before rest first steps now waits run ends law = failed fault (subst (λ (o : Option Outcome). HasComeTo o before.disk.faults now.store) ends.1 run.known.come)
+  where
+    traced : (f : RedoFault) → (SaysNothing f → ⊥) → IfSome now.store.files (IsReason f) → now.store.live ≡ None → IsTraced steps before.book now.store.book → AreThose before.disk now.store
+    traced f says reason none (inl once) = those_once before.disk first steps now run none once
+    traced f says reason none (inr tells) = told_is now.store.book (AreThose before.disk now.store) tells.1 (those_told f before.disk first steps now says reason (waits tells.0) run.spans law)
+
+    failed : (f : RedoFault) → HasRefused f before.disk.faults now.store → IsFailedBy f steps before (record rest { disk = view_at now.store; book = now.store.book })
+    failed redo.Disk has = has
+    failed redo.NoMemory has = has
+    failed redo.NoCluster has = (has.0, λ is. traced redo.NoCluster (λ says. says) has.0 has.1 is)
+    failed (redo.BadFile file at) has = (has.0, λ is. traced (redo.BadFile file at) (λ says. says) has.0 has.1 is)
+    failed (redo.SameEpoch epoch) has = (has.0, λ is. traced (redo.SameEpoch epoch) (λ says. says) has.0 has.1 is)
+
+-- ---- nothing was done
+
+pub unread_counts : (from : ℕ) (faults : ℕ) (live : Option Live) → from ≡ faults → live ≡ None → IsCountedFrom from faults live
+unread_counts from faults live same none = record { later = omega (arith, same); shown = subst (λ (l : Option Live). BreakIsShown from faults l) (sym none) tt }
+
+told_or_not : (files : Option Files) (Q : Type 0) → Q → IfSome files (λ _. Q)
+told_or_not None Q holds = tt
+told_or_not (Some f) Q holds = holds
+
+pub story_nothing : (before : DiskView) (book : Option (List BookEntry)) → book ≡ Some [] → IfSome book (IsStory NoMemory before before)
+story_nothing before book empty = each_told (IsStory NoMemory before before) book (λ b is_book.
+    let none : b ≡ [] = some_same b [] (sym is_book ∙ empty) in
+    subst (IsStory NoMemory before before) (sym none) (record {
+      base = record { rows = finite.empty; count = 0; bytes = 0; faults = before.faults };
+      faults_are = refl;
+      legal = λ sure. record { entries = tt; renewals = tt };
+      stops = inl (record {
+        unanswered = tt;
+        keeps = told_or_not before.files _ (λ t from upto image there. ∣ (image, subst (λ (n : ℕ). before.images n image) (omega (arith, from, upto)) there, λ s means. means) ∣₁);
+      });
+      clean = λ is. cc;
+    }))

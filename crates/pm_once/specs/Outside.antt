@@ -1,0 +1,44 @@
+-- What is told of the things that a server works on, at one moment.
+use Rattle.std.specs.Prelude.{ℕ, List, Option}
+use Rattle.pm_disk.specs.Files.{Files}
+use Rattle.pm_outside.specs.Visits.{Visits}
+use Rattle.pm_state.specs.declared.event.PmEvent.{PmEvent}
+use Rattle.pm_query.specs.declared.book.BookEntry.{BookEntry}
+use Rattle.pm_once.specs.declared.outside.Outside.{Outside}
+
+-- a disk: the files as they read, what a stop may leave after so many calls, and its counts of calls and faults
+pub record DiskView : Type 1 where
+  pub files : Option Files
+  pub images : ℕ → Files → Type 0
+  pub ticks : ℕ
+  pub faults : ℕ
+
+-- The links of the port, what was written to the sink and how often it failed, the disk, the moments that the clock gives, and
+-- the entries of journal and book. The seed is that of the keys of sessions.
+pub record OutsideView : Type 1 where
+  pub visits : Option Visits
+  pub written : Option (List ℕ)
+  pub sink_faults : ℕ
+  pub disk : DiskView
+  pub gives : ℕ → Type 0
+  pub journal : Option (List PmEvent)
+  pub book : Option (List BookEntry)
+  pub seed : List ℕ
+
+abbrev pub outside_view : {P O D C J B L R : Type 0} {p : _} {l : _} {o : _} {d : _} {c : _} {j : _} {b : _}
+    → Outside P O D C J B L R p l o d c j b → OutsideView
+outside_view {p = p} {o = o} {d = d} {c = c} {j = j} {b = b} outside = record {
+  visits = p.visits outside.port;
+  written = o.written outside.sink;
+  sink_faults = o.faults outside.sink;
+  disk = record {
+    files = d.seen outside.disk;
+    images = d.images outside.disk;
+    ticks = d.ticks outside.disk;
+    faults = d.faults outside.disk;
+  };
+  gives = c.gives outside.clock;
+  journal = j.entries outside.journal;
+  book = b.entries outside.book;
+  seed = outside.seed;
+}
