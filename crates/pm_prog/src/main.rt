@@ -10,9 +10,9 @@ use crate::clock::SystemClock;
 use crate::standard::{StandardPort, StandardSink};
 use pm_disk::{Disk, MemDisk};
 use pm_files::LogFiles;
-use pm_outside::{Chronicle, Forgotten, MemClock, MemPort, Port, Sink};
+use pm_outside::{Forgotten, MemClock, MemPort, Port, Sink};
 use pm_rows::Text;
-use pm_top::{BookEntry, Command, Ended, Outside, Top, read_words, run};
+use pm_top::{Command, Ended, Outside, Top, read_words, run};
 use std::alloc::{AllocError, Global};
 use std::env::{self, Env};
 use std::fs::{self, OpenOptions};
@@ -101,7 +101,8 @@ fn out_of_memory() -> ExitCode {
     ExitCode::from(Top::NoMemory.code())
 }
 
-// Runs `once`, over files, standard streams and the system's clock. A link may keep it waiting forever.
+// Runs `once`, over files, standard streams and the system's clock. A link may keep it waiting
+// forever. Its journal and its book aren't kept.
 fn over_all<R, W>(
     rt: HostRuntime,
     wait: &R,
@@ -125,6 +126,7 @@ where
         sink,
         disk,
         clock,
+        journal: Forgotten::new(),
         book: Forgotten::new(),
         seed,
     };
@@ -149,6 +151,7 @@ where
         sink,
         disk,
         clock: MemClock::still(0, *wait),
+        journal: Forgotten::new(),
         book: Forgotten::new(),
         seed: [0; 32],
     };
@@ -156,11 +159,11 @@ where
 }
 
 // Runs the words, and lets go of what they were run over.
-fn end_of<R, P, O, D, C, B>(
+fn end_of<R, P, O, D, C>(
     wait: &R,
     alloc: Global,
     words: &[Text],
-    outside: Outside<P, O, D, C, B>,
+    outside: Outside<P, O, D, C, Forgotten, Forgotten>,
 ) -> ExitCode
 where
     R: Wait,
@@ -168,7 +171,6 @@ where
     O: Sink + Drop,
     D: Disk + Drop,
     C: pm_outside::Clock + Drop,
-    B: Chronicle<BookEntry> + Drop,
 {
     let Ended {
         status,

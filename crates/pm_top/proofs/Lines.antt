@@ -1,28 +1,12 @@
--- Words are the line of one command alone.
-use Rattle.std.proofs.Common.{◌≡◌, ℕ, List, [], ◌∷◌, length, refl, sym, ◌∙◌, ap, arith}
-use Rattle.pm_top.specs.declared.words.Command.{Command}
-use Rattle.pm_top.specs.declared.words.Command.TheVariants.{Initdb, Once, Controldata}
-use Rattle.pm_top.specs.Words.{IsLine, command_word}
+-- Words are one line alone.
+use Rattle.std.proofs.Common.{◌≡◌, ℕ, List}
+use Rattle.pm_words.specs.declared.conf.Conf.{Conf}
+use Rattle.pm_words.specs.declared.words.Command.{Command}
+use Rattle.pm_words.specs.Words.{AreNoLine, IsLine, IsOnlyLine}
 
-abbrev first_length : List (List ℕ) → ℕ
-first_length [] = 0
-first_length (word ∷ words) = length word
+pub no_line : {C : Type 0} (words : List (List ℕ)) (command : Command) (dir : List ℕ) → AreNoLine words → IsLine words command dir → C
+no_line words command dir none line = absurd (none command dir line.0 line.1)
 
--- the commands' words have three lengths
-by_length : (one two : Command) → length (command_word one) ≡ length (command_word two) → one ≡ two
-by_length Initdb Initdb same = refl
-by_length Initdb Once same = absurd (omega (arith, same))
-by_length Initdb Controldata same = absurd (omega (arith, same))
-by_length Once Initdb same = absurd (omega (arith, same))
-by_length Once Once same = refl
-by_length Once Controldata same = absurd (omega (arith, same))
-by_length Controldata Initdb same = absurd (omega (arith, same))
-by_length Controldata Once same = absurd (omega (arith, same))
-by_length Controldata Controldata same = refl
-
-pub one_command : (words : List (List ℕ)) (one two : Command) (dir other : List ℕ) → IsLine words one dir → IsLine words two other → one ≡ two
-one_command words one two dir other first second =
-    by_length one two (sym (ap (λ (l : List (List ℕ)). first_length l) first.1) ∙ ap (λ (l : List (List ℕ)). first_length l) second.1)
-
-pub two_commands : (words : List (List ℕ)) (one two : Command) (dir other : List ℕ) → IsLine words one dir → IsLine words two other → (one ≡ two → ⊥) → ⊥
-two_commands words one two dir other first second differ = differ (one_command words one two dir other first second)
+pub another_line : {C : Type 0} (words : List (List ℕ)) (read command : Command) (folder dir : List ℕ) (conf : Conf)
+    → IsOnlyLine words read folder conf → IsLine words command dir → (command ≡ read → ⊥) → C
+another_line words read command folder dir conf only line differ = absurd (differ (only command dir line.0 line.1).0)

@@ -1,13 +1,12 @@
 -- What `controldata` tells of the files.
-use Rattle.std.specs.Prelude.{ℕ, Bool, true, false, List, [], ◌∷◌, ◌++◌, codes, decimal, Option, IfSome}
+use Rattle.std.specs.Prelude.{ℕ, Bool, true, false, List, [], ◌∷◌, ◌++◌, codes, decimal, IfSome}
 use Rattle.std.specs.List.{concat}
 use Rattle.std.specs.FinMap.{len}
-use Rattle.pm_disk.specs.Files.{Files}
 use Rattle.pm_record.specs.declared.found.Found.{Found}
 use Rattle.pm_redo.specs.Found.{FindsOnly, FindsPair}
 use Rattle.pm_redo.specs.Redo.{IsOnly}
-use Rattle.pm_top.specs.Ends.{file_letter}
-use Rattle.pm_top.specs.Print.{IsPrinted}
+use Rattle.pm_once.specs.Outside.{OutsideView}
+use Rattle.pm_once.specs.Print.{IsPrinted, file_letter}
 
 -- a line: a name and its value
 abbrev pub told_line : List ℕ → List ℕ → List ℕ
@@ -28,10 +27,12 @@ control_lines found = concat (
     ∷ told_line (codes "batches: ") (decimal found.batches)
     ∷ [])
 
--- The lines of what was found are written, or a front of them where that was cut off. Where the disk tells its files,
--- they stand for what was found and nothing else, and a stop leaves these files and no others.
-pub record HasTold (files : Option Files) (images : Files → Type 0) (cut : Type 0) (before now : Option (List ℕ)) : Type 0 where
+-- The lines of what was found are written, or a front of them where that was cut off. Where the
+-- disk tells its files, they stand for what was found and nothing else, and a stop leaves these
+-- files and no others.
+pub record HasTold (cut : Type 0) (before now : OutsideView) : Type 0 where
   pub found : Found
-  pub stands : IfSome files (λ files. FindsPair found files (λ content. IsOnly files images))
-  pub only : IfSome files (FindsOnly found)
-  pub printed : IsPrinted (control_lines found) cut before now
+  pub stands : IfSome before.disk.files (λ files. FindsPair found files (λ content.
+      IsOnly files (now.disk.images now.disk.ticks)))
+  pub only : IfSome before.disk.files (FindsOnly found)
+  pub printed : IsPrinted (control_lines found) cut before.written now.written

@@ -1,17 +1,14 @@
 -- How a command ends, and what it says.
-use Rattle.std.specs.Prelude.{ℕ, List, [], ◌++◌, codes, decimal, Result, Ok, Err}
-use Rattle.pm_disk.specs.declared.disk.Which.{Which}
-use Rattle.pm_disk.specs.declared.disk.Which.TheVariants.{A, B}
-use Rattle.pm_record.specs.declared.fault.RedoFault.{RedoFault}
+use Rattle.std.specs.Prelude.{ℕ, List, [], codes}
+use Rattle.pm_disk.specs.Cause.{Rose}
 use Rattle.pm_record.specs.declared.fault.RedoFault.TheVariants as redo
-use Rattle.pm_query.specs.declared.store.StoreNo.{StoreNo}
-use Rattle.pm_query.specs.declared.store.StoreNo.TheVariants as stores
-use Rattle.pm_query.specs.declared.store.Checkpointed.{Checkpointed}
-use Rattle.pm_query.specs.declared.store.Checkpointed.TheVariants as made
+use Rattle.pm_once.specs.Outside.{OutsideView}
+use Rattle.pm_once.specs.Print.{IsPrinted, redo_line}
+use Rattle.pm_once.specs.declared.end.ServerEnd.{ServerEnd}
+use Rattle.pm_once.specs.declared.end.ServerEnd.TheVariants as ends
 use Rattle.pm_top.specs.declared.status.Top.{Top}
-use Rattle.pm_top.specs.declared.status.Top.TheVariants.{Done, Abnormal, OutFault, DiskFault, Exists, Unreadable, Usage, NoMemory}
-use Rattle.pm_top.specs.declared.status.Why.TheVariants.{AfterCrash, StartupFailed}
-use Rattle.pm_top.specs.declared.status.StartWhy.TheVariants.{Redo}
+use Rattle.pm_top.specs.declared.status.Top.TheVariants.{Done, Abnormal, OutFault, DiskFault}
+use Rattle.pm_top.specs.declared.status.Top.TheVariants.{Exists, Unreadable, Usage, NoMemory}
 
 -- the exit code of the program: served, refused or failed, no command line, out of memory
 abbrev pub exit_code : Top → ℕ
@@ -33,13 +30,6 @@ IsInitdbEnd DiskFault = Unit {0}
 IsInitdbEnd Exists = Unit {0}
 IsInitdbEnd _ = ⊥
 
-abbrev pub IsOnceEnd : Top → Type 0
-IsOnceEnd (Abnormal (StartupFailed (Redo redo.NoMemory))) = ⊥
-IsOnceEnd (Abnormal why) = Unit {0}
-IsOnceEnd Done = Unit {0}
-IsOnceEnd NoMemory = Unit {0}
-IsOnceEnd _ = ⊥
-
 abbrev pub IsControldataEnd : Top → Type 0
 IsControldataEnd Done = Unit {0}
 IsControldataEnd OutFault = Unit {0}
@@ -56,39 +46,18 @@ HasAnswer Done = Unit {0}
 HasAnswer OutFault = Unit {0}
 HasAnswer _ = ⊥
 
--- how a server ends whose redo was refused so
-abbrev pub refused_start : StoreNo → Top
-refused_start (stores.Redo redo.NoMemory) = NoMemory
-refused_start (stores.Redo fault) = Abnormal (StartupFailed (Redo fault))
-refused_start _ = NoMemory
-
--- how a server ends whose last checkpoint came to this
-abbrev pub closed_status : Result Checkpointed StoreNo → Top
-closed_status (Ok (made.Done epoch)) = Done
-closed_status (Ok _) = NoMemory
-closed_status (Err stores.Disk) = Abnormal AfterCrash
-closed_status (Err (stores.Broken since)) = Abnormal AfterCrash
-closed_status (Err (stores.Full need room)) = Abnormal AfterCrash
-closed_status (Err _) = NoMemory
+-- how `once` ends
+abbrev pub status_of : ServerEnd → Top
+status_of ends.Clean = Done
+status_of (ends.Abnormal why) = Abnormal why
+status_of ends.NoMemory = NoMemory
 
 -- ---- what is printed
 
-abbrev pub file_letter : Which → List ℕ
-file_letter A = codes "A"
-file_letter B = codes "B"
-
-abbrev pub redo_line : RedoFault → List ℕ
-redo_line redo.Disk = codes "disk fault\n"
-redo_line redo.NoCluster = codes "no readable cluster\n"
-redo_line (redo.BadFile which at) = codes "damaged file " ++ file_letter which ++ codes " at " ++ decimal at ++ codes "\n"
-redo_line (redo.SameEpoch epoch) = codes "two files of epoch " ++ decimal epoch ++ codes "\n"
-redo_line redo.NoMemory = codes "out of memory\n"
-
--- the line of a status
+-- The line of a status. A server prints its lines itself.
 abbrev pub line_of : Top → List ℕ
 line_of Done = []
-line_of (Abnormal AfterCrash) = []
-line_of (Abnormal (StartupFailed (Redo fault))) = redo_line fault
+line_of (Abnormal why) = []
 line_of OutFault = []
 line_of DiskFault = codes "disk fault\n"
 line_of Exists = codes "a cluster exists\n"
@@ -101,3 +70,8 @@ abbrev pub initdb_line : Top → List ℕ
 initdb_line Done = codes "initialized\n"
 initdb_line OutFault = codes "initialized\n"
 initdb_line status = line_of status
+
+-- the line was written, or a front of it where the sink failed; and nothing else
+abbrev pub HasSaid : List ℕ → (before now : OutsideView) → Type 0
+HasSaid line before now =
+    IsPrinted line (Rose before.sink_faults now.sink_faults) before.written now.written

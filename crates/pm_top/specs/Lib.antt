@@ -1,7 +1,4 @@
-pub mod Words
-pub mod Print
 pub mod Ends
+pub mod Cluster
 pub mod Control
-pub mod Quiet
-pub mod Service
 pub mod Once

@@ -2,36 +2,52 @@
 
 ghost use Rattle.std.specs.Prelude.{◌≡◌, IfSome};
 ghost use Rattle.pm_disk.specs.Cause.{IsCounted};
-ghost use Rattle.pm_log.specs.Init.{IsUntouched};
+ghost use Rattle.pm_once.specs.Outside.{outside_view};
 ghost use Rattle.pm_record.specs.declared.fault.RedoFault.{RedoFault};
 ghost use Rattle.pm_redo.specs.Found.{IsReason};
+ghost use Rattle.pm_top.specs.Cluster.{IsLeftAlone};
 ghost use Rattle.pm_top.specs.Control.{HasTold};
 ghost use Rattle.pm_top.specs.Ends.{HasAnswer, IsControldataEnd};
 
-use crate::outside::{Ended, Outside};
+use crate::outside::Ended;
 use crate::print::print_found;
 use crate::status::Top;
 use pm_disk::Disk;
-use pm_outside::Sink;
+use pm_once::Outside;
+use pm_outside::{Chronicle, Clock, Port, Sink};
+use pm_query::BookEntry;
 use pm_record::RedoFault;
 use pm_redo::examine;
+use pm_state::PmEvent;
 use std::alloc::Global;
 
-/// Prints what the files stand for. It changes neither, and takes memory and time of the order of their lengths.
-pub fn controldata<P, O: Sink, D: Disk, C, B>(
+/// Prints what the files stand for. It changes neither, and takes memory and time of the order of
+/// their lengths.
+pub fn controldata<P, O, D, C, J, B>(
     alloc: Global,
-    outside: Outside<P, O, D, C, B>,
-) -> Ended<P, O, D, C, B>
+    outside: Outside<P, O, D, C, J, B>,
+) -> Ended<P, O, D, C, J, B>
+where
+    P: Port,
+    O: Sink,
+    D: Disk,
+    C: Clock,
+    J: Chronicle<PmEvent>,
+    B: Chronicle<BookEntry>,
     ensures kind { IsControldataEnd result.status }
-    ensures told { HasAnswer result.status → HasTold (D.seen outside.disk) (D.images result.outside.disk (D.ticks result.outside.disk))
-        (result.status ≡ Top.OutFault) (O.written outside.sink) (O.written result.outside.sink) }
+    ensures told { HasAnswer result.status
+        → HasTold (result.status ≡ Top.OutFault) (outside_view outside)
+        (outside_view result.outside) }
     ensures silent { ¬ (HasAnswer result.status) → result.outside.sink ≡ outside.sink }
-    ensures reason { (fault : RedoFault) → result.status ≡ Top.Unreadable fault → IfSome (D.seen outside.disk) (λ files. IsReason fault files) }
-    ensures untouched { IsUntouched (D.seen outside.disk) (D.seen result.outside.disk) (D.ticks outside.disk) (D.ticks result.outside.disk)
-        (D.images outside.disk) (D.images result.outside.disk) }
-    ensures disk_cause { IsCounted (D.faults outside.disk) (D.faults result.outside.disk) (result.status ≡ Top.DiskFault) }
-    ensures out_cause { IsCounted (O.faults outside.sink) (O.faults result.outside.sink) (result.status ≡ Top.OutFault) }
-    ensures rest { (result.outside.port ≡ outside.port) × (result.outside.book ≡ outside.book) × (result.outside.clock ≡ outside.clock)
+    ensures reason { (fault : RedoFault) → result.status ≡ Top.Unreadable fault
+        → IfSome (D.seen outside.disk) (λ files. IsReason fault files) }
+    ensures untouched { IsLeftAlone (outside_view outside).disk (outside_view result.outside).disk }
+    ensures disk_cause { IsCounted (D.faults outside.disk) (D.faults result.outside.disk)
+        (result.status ≡ Top.DiskFault) }
+    ensures out_cause { IsCounted (O.faults outside.sink) (O.faults result.outside.sink)
+        (result.status ≡ Top.OutFault) }
+    ensures rest { (result.outside.port ≡ outside.port) × (result.outside.clock ≡ outside.clock)
+        × (result.outside.journal ≡ outside.journal) × (result.outside.book ≡ outside.book)
         × (result.outside.seed ≡ outside.seed) }
 {
     let mut outside = outside;

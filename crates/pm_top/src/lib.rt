@@ -1,19 +1,18 @@
-//! The top call of the server: the words of the command line, the commands over the outside that they are handed, and the
-//! lines that are printed.
+//! The top call of the program: the words of the command line, and the commands over the outside
+//! that they are handed. `pm_words` reads the words, and `pm_once` is the server of `once`.
 #![tactic(auto)]
 
 mod control;
 mod outside;
 mod print;
-mod quiet;
-mod server;
 mod status;
 mod top;
-mod words;
 
-pub use outside::{Ended, Outside};
+pub use outside::Ended;
+pub use pm_once::{Outside, ServerEnd, StartWhy, Why};
 pub use pm_query::BookEntry;
 pub use pm_record::RedoFault;
-pub use status::{StartWhy, Top, Why};
+pub use pm_state::PmEvent;
+pub use pm_words::{Command, Conf, Line, WordsNo, read_words};
+pub use status::Top;
 pub use top::run;
-pub use words::{Command, Line, WordsNo, read_words};

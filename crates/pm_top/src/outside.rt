@@ -1,20 +1,22 @@
-//! What the program works on.
+//! What the program gives back.
 
 use crate::status::Top;
+use pm_disk::Disk;
+use pm_once::Outside;
+use pm_outside::{Chronicle, Clock, Port, Sink};
+use pm_query::BookEntry;
+use pm_state::PmEvent;
 
-/// What a command works on, and gives back at its end.
+/// How a command ended, and what it worked on.
 #[derive(Debug, Drop)]
-pub struct Outside<P, O, D, C, B> {
-    pub port: P,
-    pub sink: O,
-    pub disk: D,
-    pub clock: C,
-    pub book: B,
-    pub seed: [u8; 32],
-}
-
-#[derive(Debug, Drop)]
-pub struct Ended<P, O, D, C, B> {
+pub struct Ended<
+    P: Port,
+    O: Sink,
+    D: Disk,
+    C: Clock,
+    J: Chronicle<PmEvent>,
+    B: Chronicle<BookEntry>,
+> {
     pub status: Top,
-    pub outside: Outside<P, O, D, C, B>,
+    pub outside: Outside<P, O, D, C, J, B>,
 }

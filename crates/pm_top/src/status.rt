@@ -3,33 +3,26 @@
 ghost use Rattle.std.specs.Prelude.{◌≡◌};
 ghost use Rattle.pm_top.specs.Ends.{exit_code};
 
+use pm_once::{ServerEnd, Why};
 use pm_record::RedoFault;
 
 /// How a command ended.
 #[derive(Clone, Copy, Debug, PartialEq, Eq)]
 pub enum Top {
     Done,
+    /// A server ended abnormally.
     Abnormal(Why),
+    /// The sink failed.
     OutFault,
+    /// The disk failed.
     DiskFault,
+    /// There was a cluster already.
     Exists,
+    /// The files stand for nothing.
     Unreadable(RedoFault),
+    /// The words are no command line.
     Usage,
     NoMemory,
-}
-
-/// Why a server ended abnormally.
-#[derive(Clone, Copy, Debug, PartialEq, Eq)]
-pub enum Why {
-    /// A child crashed.
-    AfterCrash,
-    StartupFailed(StartWhy),
-}
-
-/// Why a server didn't start.
-#[derive(Clone, Copy, Debug, PartialEq, Eq)]
-pub enum StartWhy {
-    Redo(RedoFault),
 }
 
 impl Top {
@@ -43,6 +36,21 @@ impl Top {
                 1,
             Top::Usage => 2,
             Top::NoMemory => 3,
+        }
+    }
+}
+
+impl From<ServerEnd> for Top {
+    ghost use Rattle.std.specs.Prelude.{◌≡◌};
+    ghost use Rattle.pm_top.specs.Ends.{status_of};
+
+    ghost from_gives = { λ end status. status ≡ status_of end };
+
+    fn from(end: ServerEnd) -> Top {
+        match end {
+            ServerEnd::Clean => Top::Done,
+            ServerEnd::Abnormal(why) => Top::Abnormal(why),
+            ServerEnd::NoMemory => Top::NoMemory,
         }
     }
 }

@@ -1,106 +1,101 @@
 //! The top call: all that the program does, over the outside that it is handed.
 
-ghost use Rattle.std.specs.Prelude.{◌≡◌, ◌≢◌, ◌≤◌, ◌⊎◌, ◌++◌, ℕ, [], List, codes, Option, Some, option_map, IfSome};
+ghost use Rattle.std.specs.Prelude.{◌≡◌, ◌≢◌, ◌+◌, ◌≤◌, ◌++◌, ℕ, [], List};
+ghost use Rattle.std.specs.Prelude.{codes, option_map, IfSome};
 ghost use Rattle.pm_disk.specs.Cause.{IsCounted, Rose};
-ghost use Rattle.pm_log.specs.Init.{HasOpen, IsNewCluster, IsUntouched};
-ghost use Rattle.pm_record.specs.Found.{IsClosed};
+ghost use Rattle.pm_once.specs.Outside.{outside_view};
+ghost use Rattle.pm_once.specs.Print.{IsPrinted};
 ghost use Rattle.pm_record.specs.declared.fault.RedoFault.{RedoFault};
 ghost use Rattle.pm_redo.specs.Found.{IsReason};
-ghost use Rattle.pm_segment.specs.Redos.{IsAtLastEpoch};
-ghost use Rattle.pm_top.specs.declared.words.Command.{Command};
+ghost use Rattle.pm_top.specs.Cluster.{HasNewCluster, IsFree, IsLeftAlone, IsTaken, KeepsTaken};
 ghost use Rattle.pm_top.specs.Control.{HasTold};
-ghost use Rattle.pm_top.specs.Ends.{HasAnswer, IsControldataEnd, IsInitdbEnd, IsOnceEnd, initdb_line, line_of};
-ghost use Rattle.pm_top.specs.Once.{HasNoted, HasNotStarted, IsOnceStory, disk_view};
-ghost use Rattle.pm_top.specs.Print.{IsPrinted};
-ghost use Rattle.pm_top.specs.Service.{HasServed, Service};
-ghost use Rattle.pm_top.specs.Words.{IsLine};
+ghost use Rattle.pm_top.specs.Ends.{HasAnswer, HasSaid, IsControldataEnd, IsInitdbEnd};
+ghost use Rattle.pm_top.specs.Ends.{initdb_line, line_of};
+ghost use Rattle.pm_top.specs.Once.{RunsOnce};
+ghost use Rattle.pm_words.specs.Words.{IsLine, IsLineWith};
+ghost use Rattle.pm_words.specs.declared.conf.Conf.{Conf};
+ghost use Rattle.pm_words.specs.declared.words.Command.{Command};
 
 use crate::control::controldata;
-use crate::outside::{Ended, Outside};
-use crate::print::{print, print_redo};
-use crate::server::once;
-use crate::status::{StartWhy, Top, Why};
-use crate::words::{Command, read_words};
+use crate::outside::Ended;
+use crate::status::Top;
 use pm_disk::Disk;
 use pm_log::InitNo;
+use pm_once::{Outside, once, print, print_redo};
 use pm_outside::{Chronicle, Clock, Port, Sink};
 use pm_query::BookEntry;
-use pm_record::RedoFault;
 use pm_rows::Text;
+use pm_state::PmEvent;
+use pm_words::{Command, Conf, read_words};
 use std::alloc::Global;
 use std::sync::Wait;
 
-/// Does what the words ask.
-pub fn run<R, P, O, D, C, B>(
+/// Does what the words ask. The journal that it is given has no entries.
+pub fn run<R, P, O, D, C, J, B>(
     rt: &R,
     alloc: Global,
     words: &[Text],
-    outside: Outside<P, O, D, C, B>,
-) -> Ended<P, O, D, C, B>
+    outside: Outside<P, O, D, C, J, B>,
+) -> Ended<P, O, D, C, J, B>
 where
     R: Wait,
     P: Port,
     O: Sink,
     D: Disk,
     C: Clock,
+    J: Chronicle<PmEvent>,
     B: Chronicle<BookEntry>,
-    // The usage is told exactly where the words are no command line; each command has ends of its own.
-    ensures usage { result.status ≡ Top.Usage → (command : Command) (dir : List ℕ) → ¬ (IsLine words.now command dir) }
-    ensures words { result.status ≢ Top.Usage → (command : Command) × (dir : List ℕ) × IsLine words.now command dir }
-    ensures initdb_ends { (dir : List ℕ) → IsLine words.now Command.Initdb dir → IsInitdbEnd result.status }
-    ensures once_ends { (dir : List ℕ) → IsLine words.now Command.Once dir → IsOnceEnd result.status }
-    ensures controldata_ends { (dir : List ℕ) → IsLine words.now Command.Controldata dir → IsControldataEnd result.status }
-    // `initdb`: a cluster is made where both files hold none. It is durable, and stands for no commits.
+    requires empty { IfSome (J.entries outside.journal) (λ entries. entries ≡ []) }
+    // The usage is told exactly where the words are no command line. Each command has its own ends.
+    ensures usage { result.status ≡ Top.Usage
+        → (command : Command) (dir : List ℕ) → ¬ (IsLine words.now command dir) }
+    ensures words { result.status ≢ Top.Usage
+        → (command : Command) × (dir : List ℕ) × IsLine words.now command dir }
+    ensures initdb_ends { (dir : List ℕ) → IsLine words.now Command.Initdb dir
+        → IsInitdbEnd result.status }
+    ensures controldata_ends { (dir : List ℕ) → IsLine words.now Command.Controldata dir
+        → IsControldataEnd result.status }
+    // `initdb`: a cluster is made where both files hold none. It is durable, and has no commits.
     ensures made { (dir : List ℕ) → IsLine words.now Command.Initdb dir → HasAnswer result.status
-        → IfSome (D.seen result.outside.disk) (λ files. IsNewCluster files (D.images result.outside.disk (D.ticks result.outside.disk))) }
+        → HasNewCluster (outside_view result.outside).disk }
     ensures fresh { (dir : List ℕ) → IsLine words.now Command.Initdb dir → HasAnswer result.status
-        → IfSome (D.seen outside.disk) (λ files. IsClosed files.a × IsClosed files.b) }
-    ensures exists { result.status ≡ Top.Exists → IfSome (D.seen outside.disk) HasOpen }
-    ensures kept { (dir : List ℕ) → IsLine words.now Command.Initdb dir → IfSome (D.seen outside.disk) (λ files. HasOpen files
-        → IsUntouched (D.seen outside.disk) (D.seen result.outside.disk) (D.ticks outside.disk) (D.ticks result.outside.disk) (D.images outside.disk) (D.images result.outside.disk)) }
-    ensures disk_fault { result.status ≡ Top.DiskFault → Rose (D.faults outside.disk) (D.faults result.outside.disk) }
-    ensures out_fault { result.status ≡ Top.OutFault → Rose (O.faults outside.sink) (O.faults result.outside.sink) }
-    // `once`: the links came back behind sessions, and the book has what these noted in between the start and the last
-    // checkpoint. Where the start failed no link was accepted.
-    ensures visits { (dir : List ℕ) → IsLine words.now Command.Once dir
-        → ((result.outside.port ≡ outside.port) × HasNotStarted result.status (B.entries outside.book) (B.entries result.outside.book))
-        ⊎ ((service : Service) × HasServed outside.seed (C.gives outside.clock) service (P.visits outside.port) (P.visits result.outside.port)
-        × HasNoted result.status service (D.seen result.outside.disk) (B.entries outside.book) (B.entries result.outside.book)) }
-    // The book is legal and tells the status, and where the disk tells its files they hold its history at every tick.
-    ensures story { (dir : List ℕ) → IsLine words.now Command.Once dir → B.entries outside.book ≡ Some []
-        → IfSome (B.entries result.outside.book)
-        (IsOnceStory result.status (disk_view (D.seen outside.disk) (D.images outside.disk) (D.ticks outside.disk) (D.faults outside.disk))
-        (disk_view (D.seen result.outside.disk) (D.images result.outside.disk) (D.ticks result.outside.disk) (D.faults result.outside.disk))) }
-    ensures reason { (fault : RedoFault) → result.status ≡ Top.Abnormal (Why.StartupFailed (StartWhy.Redo fault))
-        → IfSome (D.seen outside.disk) (λ files. IsReason fault files) }
-    ensures unread { (fault : RedoFault) → result.status ≡ Top.Abnormal (Why.StartupFailed (StartWhy.Redo fault)) → fault ≢ RedoFault.Disk
-        → D.seen result.outside.disk ≡ D.seen outside.disk }
-    ensures redo_fault { result.status ≡ Top.Abnormal (Why.StartupFailed (StartWhy.Redo RedoFault.Disk))
+        → IsFree (outside_view outside).disk }
+    ensures exists { result.status ≡ Top.Exists → IsTaken (outside_view outside).disk }
+    ensures kept { (dir : List ℕ) → IsLine words.now Command.Initdb dir
+        → KeepsTaken (outside_view outside).disk (outside_view result.outside).disk }
+    ensures disk_fault { result.status ≡ Top.DiskFault
         → Rose (D.faults outside.disk) (D.faults result.outside.disk) }
-    ensures crash { result.status ≡ Top.Abnormal Why.AfterCrash → Rose (D.faults outside.disk) (D.faults result.outside.disk)
-        ⊎ IfSome (D.seen result.outside.disk) (λ files. ∥ IsAtLastEpoch files ∥₁) }
-    // `controldata`: what the files stand for is told, or why they stand for nothing. They aren't touched.
-    ensures told { (dir : List ℕ) → IsLine words.now Command.Controldata dir → HasAnswer result.status
-        → HasTold (D.seen outside.disk) (D.images result.outside.disk (D.ticks result.outside.disk))
-        (result.status ≡ Top.OutFault) (O.written outside.sink) (O.written result.outside.sink) }
-    ensures unreadable { (fault : RedoFault) → result.status ≡ Top.Unreadable fault → IfSome (D.seen outside.disk) (λ files. IsReason fault files) }
+    ensures out_fault { result.status ≡ Top.OutFault
+        → Rose (O.faults outside.sink) (O.faults result.outside.sink) }
+    // `once`: a run of the server, by the options of the line.
+    ensures once { (dir : List ℕ) (conf : Conf) → IsLineWith words.now Command.Once dir conf
+        → RunsOnce conf result.status (outside_view outside) (outside_view result.outside) }
+    // `controldata`: what the files stand for is told, or why they stand for nothing. They stay so.
+    ensures told { (dir : List ℕ) → IsLine words.now Command.Controldata dir
+        → HasAnswer result.status → HasTold (result.status ≡ Top.OutFault)
+        (outside_view outside) (outside_view result.outside) }
+    ensures unreadable { (fault : RedoFault) → result.status ≡ Top.Unreadable fault
+        → IfSome (D.seen outside.disk) (λ files. IsReason fault files) }
     ensures untouched { (dir : List ℕ) → IsLine words.now Command.Controldata dir
-        → IsUntouched (D.seen outside.disk) (D.seen result.outside.disk) (D.ticks outside.disk) (D.ticks result.outside.disk) (D.images outside.disk) (D.images result.outside.disk) }
+        → IsLeftAlone (outside_view outside).disk (outside_view result.outside).disk }
     // What is printed is the line of the status, or a front of it where the sink fails.
     ensures initdb_says { (dir : List ℕ) → IsLine words.now Command.Initdb dir
-        → IsPrinted (initdb_line result.status) (Rose (O.faults outside.sink) (O.faults result.outside.sink)) (O.written outside.sink) (O.written result.outside.sink) }
-    ensures initialized { (dir : List ℕ) → IsLine words.now Command.Initdb dir → result.status ≡ Top.Done
-        → O.written result.outside.sink ≡ option_map (λ written. written ++ codes "initialized\n") (O.written outside.sink) }
-    ensures controldata_says { (dir : List ℕ) → IsLine words.now Command.Controldata dir → ¬ (HasAnswer result.status)
-        → IsPrinted (line_of result.status) (Rose (O.faults outside.sink) (O.faults result.outside.sink)) (O.written outside.sink) (O.written result.outside.sink) }
-    ensures says { ((command : Command) (dir : List ℕ) → IsLine words.now command dir → command ≡ Command.Once)
-        → IsPrinted (line_of result.status) (Rose (O.faults outside.sink) (O.faults result.outside.sink)) (O.written outside.sink) (O.written result.outside.sink) }
-    ensures silent { (dir : List ℕ) → IsLine words.now Command.Once dir → line_of result.status ≡ [] → result.outside.sink ≡ outside.sink }
+        → HasSaid (initdb_line result.status) (outside_view outside) (outside_view result.outside) }
+    ensures initialized { (dir : List ℕ) → IsLine words.now Command.Initdb dir
+        → result.status ≡ Top.Done → O.written result.outside.sink
+        ≡ option_map (λ written. written ++ codes "initialized\n") (O.written outside.sink) }
+    ensures controldata_says { (dir : List ℕ) → IsLine words.now Command.Controldata dir
+        → ¬ (HasAnswer result.status)
+        → HasSaid (line_of result.status) (outside_view outside) (outside_view result.outside) }
+    ensures usage_says { result.status ≡ Top.Usage
+        → HasSaid (line_of Top.Usage) (outside_view outside) (outside_view result.outside) }
     // What a command doesn't use stays as it is.
-    ensures unused { result.status ≡ Top.Usage
-        → (result.outside.port ≡ outside.port) × (result.outside.disk ≡ outside.disk) × (result.outside.book ≡ outside.book) }
-    ensures unasked { (command : Command) (dir : List ℕ) → IsLine words.now command dir → command ≢ Command.Once
-        → (result.outside.port ≡ outside.port) × (result.outside.book ≡ outside.book) }
+    ensures unused { result.status ≡ Top.Usage → (result.outside.port ≡ outside.port)
+        × (result.outside.disk ≡ outside.disk) × (result.outside.journal ≡ outside.journal)
+        × (result.outside.book ≡ outside.book) }
+    ensures unasked { (command : Command) (dir : List ℕ) → IsLine words.now command dir
+        → command ≢ Command.Once → (result.outside.port ≡ outside.port)
+        × (result.outside.journal ≡ outside.journal) × (result.outside.book ≡ outside.book) }
     ensures clock { (result.outside.clock ≡ outside.clock) × (result.outside.seed ≡ outside.seed) }
 {
     let Ended {
@@ -113,7 +108,7 @@ where
         },
         Ok(line) => match line.command {
             Command::Initdb => initdb(outside),
-            Command::Once => once(rt, alloc, outside),
+            Command::Once => return run_server(rt, alloc, &line.conf, outside),
             Command::Controldata => controldata(alloc, outside),
         },
     };
@@ -121,20 +116,56 @@ where
     Ended { status, outside }
 }
 
-fn initdb<P, O: Sink, D: Disk, C, B>(outside: Outside<P, O, D, C, B>) -> Ended<P, O, D, C, B>
+// Runs the server, which prints its lines itself.
+fn run_server<R, P, O, D, C, J, B>(
+    rt: &R,
+    alloc: Global,
+    conf: &Conf,
+    outside: Outside<P, O, D, C, J, B>,
+) -> Ended<P, O, D, C, J, B>
+where
+    R: Wait,
+    P: Port,
+    O: Sink,
+    D: Disk,
+    C: Clock,
+    J: Chronicle<PmEvent>,
+    B: Chronicle<BookEntry>,
+    requires within { conf.now.limits.max_connections + conf.now.limits.max_worker_processes ≤ 200 }
+    requires empty { IfSome (J.entries outside.journal) (λ entries. entries ≡ []) }
+    ensures run { RunsOnce conf.now result.status (outside_view outside)
+        (outside_view result.outside) }
+    ensures rest { (result.outside.clock ≡ outside.clock) × (result.outside.seed ≡ outside.seed) }
+{
+    let pm_once::Ended { end, outside } = once(rt, alloc, conf, outside);
+    Ended {
+        status: Top::from(end),
+        outside,
+    }
+}
+
+fn initdb<P, O, D, C, J, B>(outside: Outside<P, O, D, C, J, B>) -> Ended<P, O, D, C, J, B>
+where
+    P: Port,
+    O: Sink,
+    D: Disk,
+    C: Clock,
+    J: Chronicle<PmEvent>,
+    B: Chronicle<BookEntry>,
     ensures kind { IsInitdbEnd result.status }
-    ensures made { HasAnswer result.status
-        → IfSome (D.seen result.outside.disk) (λ files. IsNewCluster files (D.images result.outside.disk (D.ticks result.outside.disk))) }
-    ensures fresh { HasAnswer result.status → IfSome (D.seen outside.disk) (λ files. IsClosed files.a × IsClosed files.b) }
-    ensures exists { result.status ≡ Top.Exists → IfSome (D.seen outside.disk) HasOpen }
-    ensures kept { IfSome (D.seen outside.disk) (λ files. HasOpen files
-        → IsUntouched (D.seen outside.disk) (D.seen result.outside.disk) (D.ticks outside.disk) (D.ticks result.outside.disk) (D.images outside.disk) (D.images result.outside.disk)) }
-    ensures disk_cause { IsCounted (D.faults outside.disk) (D.faults result.outside.disk) (result.status ≡ Top.DiskFault) }
-    ensures said { HasAnswer result.status
-        → IsPrinted (codes "initialized\n") (result.status ≡ Top.OutFault) (O.written outside.sink) (O.written result.outside.sink) }
+    ensures made { HasAnswer result.status → HasNewCluster (outside_view result.outside).disk }
+    ensures fresh { HasAnswer result.status → IsFree (outside_view outside).disk }
+    ensures exists { result.status ≡ Top.Exists → IsTaken (outside_view outside).disk }
+    ensures kept { KeepsTaken (outside_view outside).disk (outside_view result.outside).disk }
+    ensures disk_cause { IsCounted (D.faults outside.disk) (D.faults result.outside.disk)
+        (result.status ≡ Top.DiskFault) }
+    ensures said { HasAnswer result.status → IsPrinted (codes "initialized\n")
+        (result.status ≡ Top.OutFault) (O.written outside.sink) (O.written result.outside.sink) }
     ensures silent { ¬ (HasAnswer result.status) → result.outside.sink ≡ outside.sink }
-    ensures out_cause { IsCounted (O.faults outside.sink) (O.faults result.outside.sink) (result.status ≡ Top.OutFault) }
-    ensures rest { (result.outside.port ≡ outside.port) × (result.outside.book ≡ outside.book) × (result.outside.clock ≡ outside.clock)
+    ensures out_cause { IsCounted (O.faults outside.sink) (O.faults result.outside.sink)
+        (result.status ≡ Top.OutFault) }
+    ensures rest { (result.outside.port ≡ outside.port) × (result.outside.clock ≡ outside.clock)
+        × (result.outside.journal ≡ outside.journal) × (result.outside.book ≡ outside.book)
         × (result.outside.seed ≡ outside.seed) }
 {
     let mut outside = outside;
@@ -151,12 +182,13 @@ fn initdb<P, O: Sink, D: Disk, C, B>(outside: Outside<P, O, D, C, B>) -> Ended<P
 
 // Prints the line of a status, while the sink works.
 fn tell<O: Sink>(sink: &mut O, status: Top)
-    ensures said { IsPrinted (line_of status) (Rose (O.faults sink.old) (O.faults sink.new)) (O.written sink.old) (O.written sink.new) }
+    ensures said { IsPrinted (line_of status) (Rose (O.faults sink.old) (O.faults sink.new))
+        (O.written sink.old) (O.written sink.new) }
     ensures silent { line_of status ≡ [] → sink.new ≡ sink.old }
     ensures later { O.faults sink.old ≤ O.faults sink.new }
 {
     let told = match status {
-        Top::Done | Top::Abnormal(Why::AfterCrash) | Top::OutFault => return,
+        Top::Done | Top::Abnormal(_) | Top::OutFault => return,
         Top::Usage => print(
             sink,
             b"usage: initdb | once | serve | controldata | workload\n",
@@ -164,9 +196,7 @@ fn tell<O: Sink>(sink: &mut O, status: Top)
         Top::Exists => print(sink, b"a cluster exists\n"),
         Top::DiskFault => print(sink, b"disk fault\n"),
         Top::NoMemory => print(sink, b"out of memory\n"),
-        Top::Abnormal(Why::StartupFailed(StartWhy::Redo(fault))) | Top::Unreadable(fault) => {
-            print_redo(sink, fault)
-        }
+        Top::Unreadable(fault) => print_redo(sink, fault),
     };
     let _ = told;
 }

@@ -3,7 +3,7 @@ use Rattle.std.specs.Prelude.{codes, decimal}
 use Rattle.std.specs.FinMap.{len}
 use Rattle.pm_record.specs.declared.found.Found.{Found}
 use Rattle.pm_top.specs.Control.{control_lines, told_line, yes_or_no}
-use Rattle.pm_top.specs.Ends.{file_letter}
+use Rattle.pm_once.specs.Print.{file_letter}
 use Rattle.pm_top.proofs.Sending.{nothing_yet, part_cut, part_last, part_more, printed_as}
 use Rattle.pm_top.proofs.print.print_found.Goals as goal
 
@@ -48,49 +48,49 @@ returns-in_err-print-clause-said g c =
     part_cut text (file_part found) (behind_file found) _ _ _ _ _ c.from_residual.ensures.0 (nothing_yet text _)
     (printed_as _ (file_part found) _ _ _ c.file_line.ensures c.print.ensures.said)
 
-pub returns-in_err-print_number-clause-said : goal.returns-in_err-print_number-clause-said
-returns-in_err-print_number-clause-said g c =
+pub returns-in_err-print_with-clause-said : goal.returns-in_err-print_with-clause-said
+returns-in_err-print_with-clause-said g c =
     let found = c.args.found.now in
     let text = control_lines found in
     let file = part_more text (file_part found) (behind_file found) _ _ _ (nothing_yet text _) (printed_as _ (file_part found) _ _ _ c.file_line.ensures c.in_ok-print.ensures.said) in
-    part_cut text (epoch_part found) (behind_epoch found) _ _ _ _ _ c.from_residual-in_err-print_number.ensures.0 file c.print_number.ensures.said
+    part_cut text (epoch_part found) (behind_epoch found) _ _ _ _ _ c.from_residual-in_err-print_with.ensures.0 file c.print_with.ensures.said
 
 pub returns-in_err-print-2-clause-said : goal.returns-in_err-print-2-clause-said
 returns-in_err-print-2-clause-said g c =
     let found = c.args.found.now in
     let text = control_lines found in
     let file = part_more text (file_part found) (behind_file found) _ _ _ (nothing_yet text _) (printed_as _ (file_part found) _ _ _ c.file_line.ensures c.in_ok-print.ensures.said) in
-    let epoch = part_more text (epoch_part found) (behind_epoch found) _ _ _ file c.in_ok-print_number.ensures.said in
+    let epoch = part_more text (epoch_part found) (behind_epoch found) _ _ _ file c.in_ok-print_with.ensures.said in
     part_cut text (clean_part found) (behind_clean found) _ _ _ _ _ c.from_residual-in_err-print-2.ensures.0 epoch
     (printed_as _ (clean_part found) _ _ _ c.clean_line.ensures c.print-2.ensures.said)
 
-pub returns-in_err-print_number-2-clause-said : goal.returns-in_err-print_number-2-clause-said
-returns-in_err-print_number-2-clause-said g c =
+pub returns-in_err-print_with-2-clause-said : goal.returns-in_err-print_with-2-clause-said
+returns-in_err-print_with-2-clause-said g c =
     let found = c.args.found.now in
     let text = control_lines found in
     let file = part_more text (file_part found) (behind_file found) _ _ _ (nothing_yet text _) (printed_as _ (file_part found) _ _ _ c.file_line.ensures c.in_ok-print.ensures.said) in
-    let epoch = part_more text (epoch_part found) (behind_epoch found) _ _ _ file c.in_ok-print_number.ensures.said in
+    let epoch = part_more text (epoch_part found) (behind_epoch found) _ _ _ file c.in_ok-print_with.ensures.said in
     let clean = part_more text (clean_part found) (behind_clean found) _ _ _ epoch (printed_as _ (clean_part found) _ _ _ c.clean_line.ensures c.in_ok-print-2.ensures.said) in
-    part_cut text (commits_part found) (behind_commits found) _ _ _ _ _ c.from_residual-in_err-print_number-2.ensures.0 clean c.print_number-2.ensures.said
+    part_cut text (commits_part found) (behind_commits found) _ _ _ _ _ c.from_residual-in_err-print_with-2.ensures.0 clean c.print_with-2.ensures.said
 
-pub returns-in_err-print_number-3-clause-said : goal.returns-in_err-print_number-3-clause-said
-returns-in_err-print_number-3-clause-said g c =
+pub returns-in_err-print_with-3-clause-said : goal.returns-in_err-print_with-3-clause-said
+returns-in_err-print_with-3-clause-said g c =
     let found = c.args.found.now in
     let text = control_lines found in
     let file = part_more text (file_part found) (behind_file found) _ _ _ (nothing_yet text _) (printed_as _ (file_part found) _ _ _ c.file_line.ensures c.in_ok-print.ensures.said) in
-    let epoch = part_more text (epoch_part found) (behind_epoch found) _ _ _ file c.in_ok-print_number.ensures.said in
+    let epoch = part_more text (epoch_part found) (behind_epoch found) _ _ _ file c.in_ok-print_with.ensures.said in
     let clean = part_more text (clean_part found) (behind_clean found) _ _ _ epoch (printed_as _ (clean_part found) _ _ _ c.clean_line.ensures c.in_ok-print-2.ensures.said) in
-    let commits = part_more text (commits_part found) (behind_commits found) _ _ _ clean c.in_ok-print_number-2.ensures.said in
-    part_cut text (rows_part found) (behind_rows found) _ _ _ _ _ c.from_residual-in_err-print_number-3.ensures.0 commits
-    (printed_as _ (rows_part found) _ _ _ (ap (λ (n : ℕ). told_line (codes "rows: ") (decimal n)) c.len.ensures) c.print_number-3.ensures.said)
+    let commits = part_more text (commits_part found) (behind_commits found) _ _ _ clean c.in_ok-print_with-2.ensures.said in
+    part_cut text (rows_part found) (behind_rows found) _ _ _ _ _ c.from_residual-in_err-print_with-3.ensures.0 commits
+    (printed_as _ (rows_part found) _ _ _ (ap (λ (n : ℕ). told_line (codes "rows: ") (decimal n)) c.len.ensures) c.print_with-3.ensures.said)
 
 pub returns-clause-said : goal.returns-clause-said
 returns-clause-said g c =
     let found = c.args.found.now in
     let text = control_lines found in
     let file = part_more text (file_part found) (behind_file found) _ _ _ (nothing_yet text _) (printed_as _ (file_part found) _ _ _ c.file_line.ensures c.in_ok-print.ensures.said) in
-    let epoch = part_more text (epoch_part found) (behind_epoch found) _ _ _ file c.in_ok-print_number.ensures.said in
+    let epoch = part_more text (epoch_part found) (behind_epoch found) _ _ _ file c.in_ok-print_with.ensures.said in
     let clean = part_more text (clean_part found) (behind_clean found) _ _ _ epoch (printed_as _ (clean_part found) _ _ _ c.clean_line.ensures c.in_ok-print-2.ensures.said) in
-    let commits = part_more text (commits_part found) (behind_commits found) _ _ _ clean c.in_ok-print_number-2.ensures.said in
-    let rows = part_more text (rows_part found) (behind_rows found) _ _ _ commits (printed_as _ (rows_part found) _ _ _ (ap (λ (n : ℕ). told_line (codes "rows: ") (decimal n)) c.len.ensures) c.in_ok-print_number-3.ensures.said) in
-    part_last text (batches_part found) _ _ _ _ rows c.print_number-4.ensures.said
+    let commits = part_more text (commits_part found) (behind_commits found) _ _ _ clean c.in_ok-print_with-2.ensures.said in
+    let rows = part_more text (rows_part found) (behind_rows found) _ _ _ commits (printed_as _ (rows_part found) _ _ _ (ap (λ (n : ℕ). told_line (codes "rows: ") (decimal n)) c.len.ensures) c.in_ok-print_with-3.ensures.said) in
+    part_last text (batches_part found) _ _ _ _ rows c.print_with-4.ensures.said

@@ -1,44 +1,46 @@
-use Rattle.std.proofs.Common.{◌≡◌, ◌∙◌, [], ap, refl, subst}
-use Rattle.pm_disk.specs.Cause.{Rose}
+use Rattle.std.proofs.Common.{◌≡◌, [], refl, subst}
 use Rattle.pm_top.specs.declared.status.Top.{Top}
 use Rattle.pm_top.specs.declared.status.Top.TheVariants.{Done, Abnormal, OutFault, DiskFault, Exists, Unreadable, Usage, NoMemory}
-use Rattle.pm_top.specs.declared.words.Command.TheVariants.{Initdb, Once, Controldata}
-use Rattle.pm_top.specs.Ends.{HasAnswer, IsControldataEnd, IsInitdbEnd, IsOnceEnd, line_of}
-use Rattle.pm_top.specs.Print.{IsPrinted}
-use Rattle.pm_top.proofs.Lines.{two_commands}
+use Rattle.pm_top.specs.Ends.{HasAnswer, IsControldataEnd, IsInitdbEnd, line_of}
+use Rattle.pm_words.specs.declared.words.Command.TheVariants.{Initdb, Once, Controldata}
+use Rattle.pm_top.proofs.Lines.{another_line, no_line}
+use Rattle.pm_top.proofs.Within.{within}
 use Rattle.pm_top.proofs.top.run.Goals as goal
-use Rattle.pm_top.proofs.top.run.Goals.{in-Err, in-Ok+in-Initdb, in-Ok+in-Once, in-Ok+in-Controldata}
+use Rattle.pm_top.proofs.top.run.Goals.{in-Err, in-Ok+in-Initdb, in-Ok+in-Controldata}
+
+pub run_server-requires-clause-within : goal.run_server-requires-clause-within
+run_server-requires-clause-within g c = within _ _ _ _ c.in-Ok.ensures.line
+
+pub returns-in-Once-clause-once : goal.returns-in-Once-clause-once
+returns-in-Once-clause-once g c = λ dir conf line.
+    rw (c.in-Ok.ensures.only Once dir conf line).2 c.run_server.ensures.run
 
 pub returns-clause-usage : goal.returns-clause-usage
-returns-clause-usage g c = λ is. elim c.match-read_words.branch [
-  | in-Err w ↦ rw w.in-Err.is at c.read_words.ensures.usage
+returns-clause-usage g c = λ is command dir line. elim c.match-read_words.branch [
+  | in-Err w ↦ no_line _ command dir (rw w.in-Err.is at c.read_words.ensures.usage) line
   | in-Ok+in-Initdb w ↦ absurd (subst IsInitdbEnd (rw w.status-is at is) w.initdb.ensures.kind)
-  | in-Ok+in-Once w ↦ absurd (subst IsOnceEnd (rw w.status-is at is) w.once.ensures.kind)
   | in-Ok+in-Controldata w ↦ absurd (subst IsControldataEnd (rw w.status-is at is) w.controldata.ensures.kind)
 ]
 
 pub returns-clause-initdb_ends : goal.returns-clause-initdb_ends
 returns-clause-initdb_ends g c = λ dir line. elim c.match-read_words.branch [
-  | in-Err w ↦ absurd ((rw w.in-Err.is at c.read_words.ensures.usage) Initdb dir line)
+  | in-Err w ↦ no_line _ Initdb dir (rw w.in-Err.is at c.read_words.ensures.usage) line
   | in-Ok+in-Initdb w ↦ rw w.status-is w.initdb.ensures.kind
-  | in-Ok+in-Once w ↦ absurd (two_commands c.args.words.now Initdb Once dir w.in-Ok.line.dir.now line (rw w.in-Once.is at w.in-Ok.ensures.line) (λ e. cc))
-  | in-Ok+in-Controldata w ↦ absurd (two_commands c.args.words.now Controldata Initdb w.in-Ok.line.dir.now dir (rw w.in-Controldata.is at w.in-Ok.ensures.line) line (λ e. cc))
-]
-
-pub returns-clause-once_ends : goal.returns-clause-once_ends
-returns-clause-once_ends g c = λ dir line. elim c.match-read_words.branch [
-  | in-Err w ↦ absurd ((rw w.in-Err.is at c.read_words.ensures.usage) Once dir line)
-  | in-Ok+in-Initdb w ↦ absurd (two_commands c.args.words.now Initdb Once w.in-Ok.line.dir.now dir (rw w.in-Initdb.is at w.in-Ok.ensures.line) line (λ e. cc))
-  | in-Ok+in-Once w ↦ rw w.status-is w.once.ensures.kind
-  | in-Ok+in-Controldata w ↦ absurd (two_commands c.args.words.now Controldata Once w.in-Ok.line.dir.now dir (rw w.in-Controldata.is at w.in-Ok.ensures.line) line (λ e. cc))
+  | in-Ok+in-Controldata w ↦ another_line _ Controldata Initdb _ dir _ (rw w.in-Controldata.is at w.in-Ok.ensures.only) line (λ e. cc)
 ]
 
 pub returns-clause-controldata_ends : goal.returns-clause-controldata_ends
 returns-clause-controldata_ends g c = λ dir line. elim c.match-read_words.branch [
-  | in-Err w ↦ absurd ((rw w.in-Err.is at c.read_words.ensures.usage) Controldata dir line)
-  | in-Ok+in-Initdb w ↦ absurd (two_commands c.args.words.now Initdb Controldata w.in-Ok.line.dir.now dir (rw w.in-Initdb.is at w.in-Ok.ensures.line) line (λ e. cc))
-  | in-Ok+in-Once w ↦ absurd (two_commands c.args.words.now Once Controldata w.in-Ok.line.dir.now dir (rw w.in-Once.is at w.in-Ok.ensures.line) line (λ e. cc))
+  | in-Err w ↦ no_line _ Controldata dir (rw w.in-Err.is at c.read_words.ensures.usage) line
+  | in-Ok+in-Initdb w ↦ another_line _ Initdb Controldata _ dir _ (rw w.in-Initdb.is at w.in-Ok.ensures.only) line (λ e. cc)
   | in-Ok+in-Controldata w ↦ rw w.status-is w.controldata.ensures.kind
+]
+
+pub returns-clause-once : goal.returns-clause-once
+returns-clause-once g c = λ dir conf line. elim c.match-read_words.branch [
+  | in-Err w ↦ no_line _ Once dir (rw w.in-Err.is at c.read_words.ensures.usage) (conf, line)
+  | in-Ok+in-Initdb w ↦ another_line _ Initdb Once _ dir _ (rw w.in-Initdb.is at w.in-Ok.ensures.only) (conf, line) (λ e. cc)
+  | in-Ok+in-Controldata w ↦ another_line _ Controldata Once _ dir _ (rw w.in-Controldata.is at w.in-Ok.ensures.only) (conf, line) (λ e. cc)
 ]
 
 -- a command that has done its work has no line of a status
@@ -54,42 +56,7 @@ made_silent NoMemory made = absurd made
 
 pub returns-clause-told : goal.returns-clause-told
 returns-clause-told g c = λ dir line made. elim c.match-read_words.branch [
-  | in-Err w ↦ absurd ((rw w.in-Err.is at c.read_words.ensures.usage) Controldata dir line)
-  | in-Ok+in-Initdb w ↦ absurd (two_commands c.args.words.now Initdb Controldata w.in-Ok.line.dir.now dir (rw w.in-Initdb.is at w.in-Ok.ensures.line) line (λ e. cc))
-  | in-Ok+in-Once w ↦ absurd (two_commands c.args.words.now Once Controldata w.in-Ok.line.dir.now dir (rw w.in-Once.is at w.in-Ok.ensures.line) line (λ e. cc))
+  | in-Err w ↦ no_line _ Controldata dir (rw w.in-Err.is at c.read_words.ensures.usage) line
+  | in-Ok+in-Initdb w ↦ another_line _ Initdb Controldata _ dir _ (rw w.in-Initdb.is at w.in-Ok.ensures.only) line (λ e. cc)
   | in-Ok+in-Controldata w ↦ rw (c.tell.ensures.silent (made_silent _ made)) (rw w.status-is (w.controldata.ensures.told (rw w.status-is at made)))
 ]
-
-pub returns-clause-visits : goal.returns-clause-visits
-returns-clause-visits g c = λ dir line. elim c.match-read_words.branch [
-  | in-Err w ↦ absurd ((rw w.in-Err.is at c.read_words.ensures.usage) Once dir line)
-  | in-Ok+in-Initdb w ↦ absurd (two_commands c.args.words.now Initdb Once w.in-Ok.line.dir.now dir (rw w.in-Initdb.is at w.in-Ok.ensures.line) line (λ e. cc))
-  | in-Ok+in-Once w ↦ rw w.status-is w.once.ensures.visits
-  | in-Ok+in-Controldata w ↦ absurd (two_commands c.args.words.now Controldata Once w.in-Ok.line.dir.now dir (rw w.in-Controldata.is at w.in-Ok.ensures.line) line (λ e. cc))
-]
-
-pub returns-clause-story : goal.returns-clause-story
-returns-clause-story g c = λ dir line empty. elim c.match-read_words.branch [
-  | in-Err w ↦ absurd ((rw w.in-Err.is at c.read_words.ensures.usage) Once dir line)
-  | in-Ok+in-Initdb w ↦ absurd (two_commands c.args.words.now Initdb Once w.in-Ok.line.dir.now dir (rw w.in-Initdb.is at w.in-Ok.ensures.line) line (λ e. cc))
-  | in-Ok+in-Once w ↦ rw w.status-is (w.once.ensures.story empty)
-  | in-Ok+in-Controldata w ↦ absurd (two_commands c.args.words.now Controldata Once w.in-Ok.line.dir.now dir (rw w.in-Controldata.is at w.in-Ok.ensures.line) line (λ e. cc))
-]
-
-pub returns-clause-says : goal.returns-clause-says
-returns-clause-says g c = λ other. elim c.match-read_words.branch [
-  | in-Err w ↦
-      subst (λ k. IsPrinted (line_of c.match-read_words.status.status) (Rose (g.O.Sink.faults k) (g.O.Sink.faults c.tell.new.sink)) (g.O.Sink.written k) (g.O.Sink.written c.tell.new.sink))
-      (ap (λ e. e.outside.sink) w.status-is) c.tell.ensures.said
-  | in-Ok+in-Initdb w ↦ absurd (not_initdb (other Initdb w.in-Ok.line.dir.now (rw w.in-Initdb.is at w.in-Ok.ensures.line)))
-  | in-Ok+in-Once w ↦
-      subst (λ k. IsPrinted (line_of c.match-read_words.status.status) (Rose (g.O.Sink.faults k) (g.O.Sink.faults c.tell.new.sink)) (g.O.Sink.written k) (g.O.Sink.written c.tell.new.sink))
-      (ap (λ e. e.outside.sink) w.status-is ∙ w.once.ensures.rest.0) c.tell.ensures.said
-  | in-Ok+in-Controldata w ↦ absurd (not_controldata (other Controldata w.in-Ok.line.dir.now (rw w.in-Controldata.is at w.in-Ok.ensures.line)))
-]
-  where
-    not_initdb : Initdb ≡ Once → ⊥
-    not_initdb e = cc
-
-    not_controldata : Controldata ≡ Once → ⊥
-    not_controldata e = cc

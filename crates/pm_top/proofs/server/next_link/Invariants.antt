@@ -1,5 +1,0 @@
-use Rattle.std.proofs.Common.{◌≡◌}
-use Rattle.pm_top.proofs.server.next_link.Given as goal
-
-abbrev pub invariant-loop : goal.invariant-loop
-invariant-loop g l = g.P.Port.visits l.port ≡ g.P.Port.visits l.initial.port
