@@ -1,8 +1,9 @@
 // How a command ends where nothing fails.
-use crate::bytes::{CLOSED, HEADER, OPEN};
-use crate::memory::{NO_FAULTS, check_files, initdb, memory, once, texts};
+use crate::memory::{NO_FAULTS, check_files, initdb, texts};
 use pm_disk::MemDisk;
-use pm_top::{RedoFault, StartWhy, Top, Why, run};
+use pm_once_tests::bytes::{CLOSED, HEADER, OPEN};
+use pm_once_tests::memory;
+use pm_top::{Top, run};
 use std::alloc::Global;
 use std::process::Abort;
 use std::sync::Wait;
@@ -44,32 +45,19 @@ fn a_cluster_is_made_once(rt: HostRuntime) -> Result<(), Fail> {
 }
 
 #[test]
-fn nothing_is_served_over_two_empty_files(rt: HostRuntime) -> Result<(), Fail> {
-    let alloc = rt.alloc();
-    let ended = once(&rt, alloc, MemDisk::new(alloc), &[&[b"\0"]], NO_FAULTS)?;
-    assert_eq!(rt;
-        ended.status,
-        Top::Abnormal(Why::StartupFailed(StartWhy::Redo(RedoFault::NoCluster)))
-    );
-    assert_eq!(rt; ended.status.code(), 1);
-    assert_eq!(rt;
-        ended.outside.sink.bytes(),
-        b"no readable cluster\n".as_slice()
-    );
-    assert_eq!(rt; ended.outside.port.links().len(), 0);
-    Ok(())
-}
-
-#[test]
 fn words_that_are_no_line_get_the_usage(rt: HostRuntime) -> Result<(), Fail> {
     let alloc = rt.alloc();
-    let cases: [&[&str]; 6] = [
+    let cases: [&[&str]; 10] = [
         &[],
         &["serve"],
         &["once", "--data"],
         &["controldata", "folder"],
         &["initdb", "--data", "x", "--data", "y"],
         &["workload", "--data", "x"],
+        &["once", "--data", "x", "--max-connections", "65"],
+        &["once", "--data", "x", "--max-connections", "0"],
+        &["once", "--data", "x", "--restart-after-crash", "no"],
+        &["initdb", "--data", "x", "--restart-after-crash", "off"],
     ];
     for words in cases {
         let words = texts(alloc, words)?;

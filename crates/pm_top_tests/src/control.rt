@@ -1,7 +1,8 @@
 // What `controldata` tells, and each call of the disk and the sink failing in turn.
 use crate::bytes::*;
-use crate::memory::{Faults, NO_FAULTS, check_files, controldata, disk_with, initdb, once};
+use crate::memory::{Faults, NO_FAULTS, Parts, check_files, controldata, disk_with, initdb, once};
 use pm_disk::{Disk, FailingDisk, MemDisk};
+use pm_once_tests::bytes::*;
 use pm_top::Top;
 use std::alloc::Global;
 use std::process::Abort;
@@ -95,7 +96,8 @@ fn it_tells_a_fault_of_the_disk(rt: HostRuntime) -> Result<(), Fail> {
     Ok(())
 }
 
-// The write of the sink that fails, and how many bytes stand in it then. A write takes at most five.
+// The write of the sink that fails, and how many bytes stand in it then. A write takes at most
+// five.
 const WRITES: [(u64, usize); 20] = [
     // the file, the epoch, clean
     (1, 0),

@@ -1,8 +1,12 @@
 // Each call of the disk failing in turn.
 use crate::bytes::*;
 use crate::entries::*;
-use crate::memory::{NO_FAULTS, check_book, check_files, disk_with, initdb, joined, once, sent};
+use crate::memory::{
+    NO_FAULTS, Parts, check_book, check_files, check_lines, disk_with, initdb, joined, once, sent,
+};
 use pm_disk::{FailingDisk, MemDisk};
+use pm_once_tests::bytes::*;
+use pm_once_tests::lines::*;
 use pm_top::{RedoFault, StartWhy, Top, Why};
 use std::alloc::Global;
 use std::process::Abort;
@@ -84,11 +88,8 @@ fn check_redo<R: Wait + Clock + Copy + Drop + Abort>(
         "call {at}"
     );
     let outside = ended.outside;
-    assert_eq!(rt;
-        outside.sink.bytes(),
-        b"disk fault\n".as_slice(),
-        "call {at}"
-    );
+    let lines = [STARTUP_FAILED, ABORTING, "disk fault\n"];
+    check_lines(rt, alloc, &outside.sink, &lines, broke)?;
     assert_eq!(rt; outside.port.links().len(), 0, "call {at}");
     let noted = [OPENED, REDO_ATTACHED, broke, REDO_DETACHED];
     check_book(rt, alloc, &outside.book, &[&noted], broke)?;
@@ -103,17 +104,18 @@ fn redo_tells_a_fault_of_the_disk(rt: HostRuntime) -> Result<(), Fail> {
     Ok(())
 }
 
-// What a connection that asks for both rows is answered.
-const NEITHER: Parts = &[GREETING, KEY_OF_4, COLUMNS, ABSENT, COLUMNS, ABSENT];
+/// What a connection that asks for both rows is answered.
+pub const NEITHER: Parts = &[GREETING, KEY_OF_4, COLUMNS, ABSENT, COLUMNS, ABSENT];
 
-const ONLY_SEVEN: Parts = &[GREETING, KEY_OF_4, COLUMNS, SEVEN, FOUND, COLUMNS, ABSENT];
+pub const ONLY_SEVEN: Parts = &[GREETING, KEY_OF_4, COLUMNS, SEVEN, FOUND, COLUMNS, ABSENT];
 
-const BOTH: Parts = &[
+pub const BOTH: Parts = &[
     GREETING, KEY_OF_4, COLUMNS, SEVEN, FOUND, COLUMNS, EIGHT, FOUND,
 ];
 
-// The disk behind call `at` must have this log in file A beside a closed one, and then serve a connection with this answer.
-fn check_next<R: Wait + Clock + Copy + Drop + Abort>(
+/// The disk behind call `at` must have this log in file A beside a closed one, and then serve a
+/// connection with this answer.
+pub fn check_next<R: Wait + Clock + Copy + Drop + Abort>(
     rt: &R,
     alloc: Global,
     disk: FailingDisk<MemDisk>,
@@ -131,200 +133,32 @@ fn check_next<R: Wait + Clock + Copy + Drop + Abort>(
     Ok(())
 }
 
-// A session that inserts two rows, behind the six calls that read the log. The connection behind it isn't accepted.
-struct CommitCase {
-    // The call that fails.
-    at: u64,
-    answered: Parts,
-    noted: &'static [&'static str],
-    log: Parts,
-    // The answer to the next connection.
-    found: Parts,
-}
-
-const COMMIT_CASES: [CommitCase; 8] = [
-    // the first body, and its sync
-    CommitCase {
-        at: 7,
-        answered: &[GREETING, KEY_OF_4, PANIC],
-        noted: &[
-            ATTACHED,
-            PUTS_SEVEN,
-            "Broke { pid: 4, since: 11, faults: 1 }",
-        ],
-        log: &[OPEN, HEADER, CLOSED],
-        found: NEITHER,
-    },
-    CommitCase {
-        at: 8,
-        answered: &[GREETING, KEY_OF_4, PANIC],
-        noted: &[
-            ATTACHED,
-            PUTS_SEVEN,
-            "Broke { pid: 4, since: 12, faults: 1 }",
-        ],
-        log: &[OPEN, HEADER, CLOSED, PUT_SEVEN, CLOSED],
-        found: NEITHER,
-    },
-    // the first gate, and its sync: the gate reads as open, so the commit in doubt stands
-    CommitCase {
-        at: 9,
-        answered: &[GREETING, KEY_OF_4, PANIC],
-        noted: &[
-            ATTACHED,
-            PUTS_SEVEN,
-            "Broke { pid: 4, since: 13, faults: 1 }",
-        ],
-        log: &[OPEN, HEADER, CLOSED, PUT_SEVEN, CLOSED],
-        found: NEITHER,
-    },
-    CommitCase {
-        at: 10,
-        answered: &[GREETING, KEY_OF_4, PANIC],
-        noted: &[
-            ATTACHED,
-            PUTS_SEVEN,
-            "Broke { pid: 4, since: 14, faults: 1 }",
-        ],
-        log: &[OPEN, HEADER, OPEN, PUT_SEVEN, CLOSED],
-        found: ONLY_SEVEN,
-    },
-    // the second body, and its sync
-    CommitCase {
-        at: 11,
-        answered: &[GREETING, KEY_OF_4, INSERTED, PANIC],
-        noted: &[
-            ATTACHED,
-            PUTS_SEVEN,
-            RELEASED_AT_14,
-            PUTS_EIGHT,
-            "Broke { pid: 4, since: 15, faults: 1 }",
-        ],
-        log: &[OPEN, HEADER, OPEN, PUT_SEVEN, CLOSED],
-        found: ONLY_SEVEN,
-    },
-    CommitCase {
-        at: 12,
-        answered: &[GREETING, KEY_OF_4, INSERTED, PANIC],
-        noted: &[
-            ATTACHED,
-            PUTS_SEVEN,
-            RELEASED_AT_14,
-            PUTS_EIGHT,
-            "Broke { pid: 4, since: 16, faults: 1 }",
-        ],
-        log: &[OPEN, HEADER, OPEN, PUT_SEVEN, CLOSED, PUT_EIGHT, CLOSED],
-        found: ONLY_SEVEN,
-    },
-    // the second gate, and its sync
-    CommitCase {
-        at: 13,
-        answered: &[GREETING, KEY_OF_4, INSERTED, PANIC],
-        noted: &[
-            ATTACHED,
-            PUTS_SEVEN,
-            RELEASED_AT_14,
-            PUTS_EIGHT,
-            "Broke { pid: 4, since: 17, faults: 1 }",
-        ],
-        log: &[OPEN, HEADER, OPEN, PUT_SEVEN, CLOSED, PUT_EIGHT, CLOSED],
-        found: ONLY_SEVEN,
-    },
-    CommitCase {
-        at: 14,
-        answered: &[GREETING, KEY_OF_4, INSERTED, PANIC],
-        noted: &[
-            ATTACHED,
-            PUTS_SEVEN,
-            RELEASED_AT_14,
-            PUTS_EIGHT,
-            "Broke { pid: 4, since: 18, faults: 1 }",
-        ],
-        log: &[OPEN, HEADER, OPEN, PUT_SEVEN, OPEN, PUT_EIGHT, CLOSED],
-        found: BOTH,
-    },
-];
-
-fn check_commit<R: Wait + Clock + Copy + Drop + Abort>(
-    rt: &R,
-    alloc: Global,
-    case: &CommitCase,
-) -> Result<(), Fail> {
-    let at = case.at;
-    let disk = FailingDisk::blip(disk_with(alloc, &[OPEN, HEADER, CLOSED], &[CLOSED])?, at);
-    let links: [&[&[u8]]; 2] = [
-        &[PACKET, INSERT_SEVEN, INSERT_EIGHT, TERMINATE],
-        &[PACKET, SELECT_SEVEN],
-    ];
-    let ended = once(rt, alloc, disk, &links, NO_FAULTS)?;
-    assert_eq!(rt; ended.status, Top::Abnormal(Why::AfterCrash), "call {at}");
-    let outside = ended.outside;
-    assert!(rt; outside.sink.bytes().is_empty(), "call {at}");
-    let reply = sent(alloc, &outside.port)?;
-    let answered = joined(alloc, case.answered)?;
-    assert_eq!(rt; reply.as_slice(), answered.as_slice(), "call {at}");
-    let noted: [&[&str]; 2] = [&STARTED, case.noted];
-    check_book(rt, alloc, &outside.book, &noted, "a commit")?;
-    check_next(rt, alloc, outside.disk, case.log, case.found, at)
-}
-
-#[test]
-fn a_commit_in_doubt_ends_the_run(rt: HostRuntime) -> Result<(), Fail> {
-    for case in &COMMIT_CASES {
-        check_commit(&rt, rt.alloc(), case)?;
-    }
-    Ok(())
-}
-
-// The call of the last checkpoint that fails, behind ten for the start and one row. Its row stands, whichever file it is in.
+// The call of the last checkpoint that fails, behind ten for the start and one row. Its row stands,
+// whichever file it is in.
 const CHECKPOINT_CALLS: [(u64, &[&str]); 6] = [
     (
         11,
-        &[
-            CLOSE_ATTACHED,
-            "Broke { pid: 2, since: 15, faults: 1 }",
-            CLOSE_DETACHED,
-        ],
+        &[CLOSE_ATTACHED, "Broke { pid: 2, since: 15, faults: 1 }"],
     ),
     (
         12,
-        &[
-            CLOSE_ATTACHED,
-            "Broke { pid: 2, since: 16, faults: 1 }",
-            CLOSE_DETACHED,
-        ],
+        &[CLOSE_ATTACHED, "Broke { pid: 2, since: 16, faults: 1 }"],
     ),
     (
         13,
-        &[
-            CLOSE_ATTACHED,
-            "Broke { pid: 2, since: 17, faults: 1 }",
-            CLOSE_DETACHED,
-        ],
+        &[CLOSE_ATTACHED, "Broke { pid: 2, since: 17, faults: 1 }"],
     ),
     (
         14,
-        &[
-            CLOSE_ATTACHED,
-            "Broke { pid: 2, since: 18, faults: 1 }",
-            CLOSE_DETACHED,
-        ],
+        &[CLOSE_ATTACHED, "Broke { pid: 2, since: 18, faults: 1 }"],
     ),
     (
         15,
-        &[
-            CLOSE_ATTACHED,
-            "Broke { pid: 2, since: 19, faults: 1 }",
-            CLOSE_DETACHED,
-        ],
+        &[CLOSE_ATTACHED, "Broke { pid: 2, since: 19, faults: 1 }"],
     ),
     (
         16,
-        &[
-            CLOSE_ATTACHED,
-            "Broke { pid: 2, since: 20, faults: 1 }",
-            CLOSE_DETACHED,
-        ],
+        &[CLOSE_ATTACHED, "Broke { pid: 2, since: 20, faults: 1 }"],
     ),
 ];
 
@@ -341,6 +175,8 @@ fn check_checkpoint<R: Wait + Clock + Copy + Drop + Abort>(
     let ended = once(rt, alloc, disk, &[&asked], NO_FAULTS)?;
     assert_eq!(rt; ended.status, Top::Abnormal(Why::AfterCrash), "call {at}");
     let outside = ended.outside;
+    let lines = [READY, SMART, CHECKPOINTER_CRASHED, TERMINATING, ABNORMAL];
+    check_lines(rt, alloc, &outside.sink, &lines, "a checkpoint")?;
     let noted: [&[&str]; 3] = [&STARTED, &ONE_ROW, noted];
     check_book(rt, alloc, &outside.book, &noted, "a checkpoint")?;
     let asked = [PACKET, SELECT_SEVEN, SELECT_EIGHT];

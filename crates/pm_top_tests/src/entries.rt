@@ -1,5 +1,5 @@
-// Entries of the book as they print. A disk is made by four calls, its two files are read at ticks 5 to 10, and a commit
-// takes four ticks.
+// Entries of the book as they print. A disk is made by four calls, its two files are read at ticks
+// 5 to 10, and a commit takes four ticks.
 
 pub const OPENED: &str = "Opened { generation: 1 }";
 

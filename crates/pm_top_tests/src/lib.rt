@@ -6,6 +6,8 @@ mod bytes;
 #[cfg(test)]
 mod commands;
 #[cfg(test)]
+mod commits;
+#[cfg(test)]
 mod control;
 #[cfg(test)]
 mod disk_faults;

@@ -1,7 +1,12 @@
 // Each call of the link and of the sink failing in turn.
 use crate::bytes::*;
-use crate::memory::{Faults, NO_FAULTS, check_files, disk_with, initdb, joined, once, sent};
+use crate::memory::{
+    Faults, NO_FAULTS, Parts, check_files, check_lines, disk_with, initdb, joined, once, sent,
+    text_of,
+};
 use pm_disk::{MemDisk, Which};
+use pm_once_tests::bytes::*;
+use pm_once_tests::lines::{ABORTING, NO_CLUSTER, PLAIN, STARTUP_FAILED};
 use pm_top::{RedoFault, StartWhy, Top, Why};
 use std::alloc::Global;
 use std::process::Abort;
@@ -16,7 +21,8 @@ const NO_ROW: Parts = &[OPEN, SECOND_HEADER, NO_COMMIT, CLOSED];
 
 const ONE_ROW: Parts = &[OPEN, SECOND_HEADER, ONE_COMMIT, ROW_SEVEN, CLOSED];
 
-// The read that fails, of at most 64 bytes, how many bytes were sent before it, and file B behind the run.
+// The read that fails, of at most 64 bytes, how many bytes were sent before it, and file B behind
+// the run.
 const READS: [(u64, usize, Parts); 2] = [
     // the packet, the insert and the front of the select
     (1, 0, NO_ROW),
@@ -37,7 +43,8 @@ const WRITES: [(u64, usize, Parts); 6] = [
     (6, 277, ONE_ROW),
 ];
 
-// A session that inserts a row and reads it, with these faults, must send so many bytes and leave this in file B.
+// A session that inserts a row and reads it, with these faults, must send so many bytes and leave
+// this in file B.
 fn check_session<R: Wait + Clock + Copy + Drop + Abort>(
     rt: &R,
     alloc: Global,
@@ -50,7 +57,7 @@ fn check_session<R: Wait + Clock + Copy + Drop + Abort>(
     let ended = once(rt, alloc, disk, &[&asked], faults)?;
     assert_eq!(rt; ended.status, Top::Done, "{count} bytes");
     let outside = ended.outside;
-    assert!(rt; outside.sink.bytes().is_empty(), "{count} bytes");
+    check_lines(rt, alloc, &outside.sink, &PLAIN, "a fault of the link")?;
     let reply = sent(alloc, &outside.port)?;
     let whole = joined(
         alloc,
@@ -87,11 +94,16 @@ fn a_fault_of_the_link_ends_its_session(rt: HostRuntime) -> Result<(), Fail> {
 // The write that fails, and what stands in the sink then. A write takes at most five bytes.
 const INITDB_LINES: [(u64, &[u8]); 3] = [(1, b""), (2, b"initi"), (3, b"initialize")];
 
-const ONCE_LINES: [(u64, &[u8]); 4] = [
-    (1, b""),
-    (2, b"no re"),
-    (3, b"no readabl"),
-    (4, b"no readable clu"),
+// The same of `once` over two empty files, and how many bytes stand in the sink.
+const ONCE_LINES: [(u64, usize); 7] = [
+    // the startup child's line, the next one, and why
+    (1, 0),
+    (2, 5),
+    (15, 48),
+    (25, 98),
+    (26, 102),
+    (27, 107),
+    (29, 117),
 ];
 
 #[test]
@@ -106,7 +118,8 @@ fn a_line_that_fails_undoes_nothing(rt: HostRuntime) -> Result<(), Fail> {
         assert_eq!(rt; outside.sink.bytes(), told, "write {line}");
         check_files(&rt, alloc, &outside.disk, NEW, &[CLOSED], "initdb")?;
     }
-    for (line, told) in ONCE_LINES {
+    let whole = text_of(alloc, &[STARTUP_FAILED, ABORTING, NO_CLUSTER])?;
+    for (line, count) in ONCE_LINES {
         let faults = Faults { line, ..NO_FAULTS };
         let ended = once(&rt, alloc, MemDisk::new(alloc), &[&[PACKET]], faults)?;
         assert_eq!(rt;
@@ -114,7 +127,9 @@ fn a_line_that_fails_undoes_nothing(rt: HostRuntime) -> Result<(), Fail> {
             Top::Abnormal(Why::StartupFailed(StartWhy::Redo(RedoFault::NoCluster))),
             "write {line}"
         );
-        assert_eq!(rt; ended.outside.sink.bytes(), told, "write {line}");
+        let told = ended.outside.sink.bytes();
+        assert_eq!(rt; told.len(), count, "write {line}");
+        assert!(rt; whole.as_bytes().starts_with(told), "write {line}");
     }
     Ok(())
 }

@@ -1,7 +1,11 @@
 // What connections are answered, what the book notes of them, and what they leave in the files.
 use crate::bytes::*;
 use crate::entries::*;
-use crate::memory::{NO_FAULTS, check_book, check_files, disk_with, joined, once, sent};
+use crate::memory::{
+    NO_FAULTS, Parts, check_book, check_files, check_lines, disk_with, joined, once, sent,
+};
+use pm_once_tests::bytes::*;
+use pm_once_tests::lines::PLAIN;
 use pm_top::Top;
 use std::alloc::Global;
 use std::process::Abort;
@@ -113,6 +117,7 @@ fn check<R: Wait + Clock + Copy + Drop + Abort>(
     let ended = once(rt, alloc, disk, case.links, NO_FAULTS)?;
     assert_eq!(rt; ended.status, Top::Done, "{}", case.name);
     let outside = ended.outside;
+    check_lines(rt, alloc, &outside.sink, &PLAIN, case.name)?;
     let reply = sent(alloc, &outside.port)?;
     let answered = joined(alloc, case.answered)?;
     assert_eq!(rt; reply, answered, "{}", case.name);

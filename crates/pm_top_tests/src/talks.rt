@@ -1,6 +1,7 @@
 // What a client is answered, byte for byte.
 use crate::bytes::*;
-use crate::memory::{NO_FAULTS, disk_with, joined, once, sent};
+use crate::memory::{NO_FAULTS, Parts, disk_with, joined, once, sent};
+use pm_once_tests::bytes::*;
 use pm_top::Top;
 use std::alloc::Global;
 use std::process::Abort;

@@ -1,7 +1,9 @@
 // What `once` and `controldata` say of files that are no log.
-use crate::bytes::{CLOSED, HEADER, OPEN, PACKET, PUT_SEVEN, Parts};
-use crate::memory::{NO_FAULTS, check_files, controldata, disk_with, once};
+use crate::bytes::PUT_SEVEN;
+use crate::memory::{NO_FAULTS, Parts, check_files, check_lines, controldata, disk_with, once};
 use pm_disk::Which;
+use pm_once_tests::bytes::{CLOSED, HEADER, OPEN, PACKET};
+use pm_once_tests::lines::{ABORTING, STARTUP_FAILED};
 use pm_top::{RedoFault, StartWhy, Top, Why};
 use std::alloc::Global;
 use std::process::Abort;
@@ -82,8 +84,8 @@ const UNREADABLE: [(Parts, Parts, RedoFault, &str); 9] = [
     ),
 ];
 
-// Over these files `once` and `controldata` must end with this fault and its line, serve nobody, and leave the files as
-// they are.
+// Over these files `once` and `controldata` must end with this fault and its line, serve nobody,
+// and leave the files as they are.
 fn check<R: Wait + Clock + Copy + Drop + Abort>(
     rt: &R,
     alloc: Global,
@@ -101,7 +103,8 @@ fn check<R: Wait + Clock + Copy + Drop + Abort>(
     );
     assert_eq!(rt; ended.status.code(), 1);
     let outside = ended.outside;
-    assert_eq!(rt; outside.sink.bytes(), line.as_bytes());
+    let lines = [STARTUP_FAILED, ABORTING, line];
+    check_lines(rt, alloc, &outside.sink, &lines, line)?;
     assert_eq!(rt; outside.port.links().len(), 0, "{line}");
     let ended = controldata(rt, alloc, outside.disk, NO_FAULTS)?;
     assert_eq!(rt; ended.status, Top::Unreadable(fault), "{line}");
