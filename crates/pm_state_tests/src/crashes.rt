@@ -70,6 +70,45 @@ const NEXT_GENERATION: Scene = Scene {
     ],
 };
 
+// The checkpointer is killed at the first moment of all, and the writer stays.
+const FROM_THE_FIRST_MOMENT: Scene = Scene {
+    happenings: &[
+        exit!(0, 1, OK),
+        crash!(0, 2, KILLED),
+        at!(4_999, Cause::Time),
+        at!(5_000, Cause::Time),
+        at!(10_000, Cause::Time),
+    ],
+    entries: &[
+        exited!(0, 1, Kind::Startup, OK),
+        PmEvent::RedoEnded {
+            generation: 1,
+            kept: 0,
+        },
+        PmEvent::Ready { generation: 1 },
+        PmEvent::Started {
+            pid: 2,
+            kind: Kind::Checkpointer,
+        },
+        PmEvent::Started {
+            pid: 3,
+            kind: Kind::Writer,
+        },
+        PmEvent::Said(Line::Ready),
+        crashed!(0, 2, Kind::Checkpointer, KILLED),
+        tells_of!(2, Kind::Checkpointer, KILLED),
+        PmEvent::Said(Line::TerminatingOthers),
+        PmEvent::QuitSent(Reason::Crash),
+        PmEvent::KillSent { at: 5_000 },
+    ],
+};
+
+#[test]
+fn what_is_left_is_killed_once_at_5000_milliseconds(rt: HostRuntime) -> Result<(), Fail> {
+    let scenes = [START, FROM_THE_FIRST_MOMENT];
+    play(&rt, rt.alloc(), limits(1, true), "at 5,000", &scenes)
+}
+
 #[test]
 fn what_is_left_is_killed_and_a_later_crash_arms_it_again(rt: HostRuntime) -> Result<(), Fail> {
     let scenes = [
