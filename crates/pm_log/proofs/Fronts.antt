@@ -11,6 +11,7 @@ use Rattle.pm_rows.specs.Fold.{RowMap, committed, folded}
 use Rattle.pm_record.specs.Spelling.{base_bytes, batch_bytes}
 use Rattle.pm_rows.specs.Standing.{Standing, after}
 use Rattle.pm_rows.specs.Limits.{IsWithinRowLimits}
+use Rattle.pm_record.specs.GateLaws.{same_standing}
 use Rattle.pm_record.specs.StandsFor.{AreBatches, Content, IsBatch, IsContent, MayAppend, MayFollow, Spells, StandsFor, base_of, commits_of, standing_of, with_batch}
 
 -- one batch more
@@ -40,12 +41,6 @@ commits_push content batch =
 
 pub folded-append : (rows : RowMap) (xs ys : List (List Change)) → folded rows (xs ++ ys) ≡ folded (folded rows xs) ys
 folded-append rows xs ys = fold-append committed rows xs ys
-
-abbrev pub standing : RowMap → ℕ → Standing
-standing rows count = record { rows = rows; count = count }
-
-pub same_standing : (one other : RowMap) (n m : ℕ) → one ≡ other → n ≡ m → standing one n ≡ standing other m
-same_standing one other n m rows count = ap (λ (r : RowMap). standing r n) rows ∙ ap (λ (k : ℕ). standing other k) count
 
 -- what stands behind one batch more
 pub standing-push : (content : Content) (batch : List (List Change)) → standing_of (with_batch content batch) ≡ after (standing_of content) batch

@@ -20,9 +20,9 @@ use Rattle.pm_record.specs.Pair.{IsShut}
 use Rattle.pm_record.specs.OnDisk.{FollowsWithin, GoesOn}
 use Rattle.pm_log.specs.Init.{HasNew, HasNone, HasPart, IsBeingMade, IsNewCluster, OpensLast, new_log, with_new_log}
 use Rattle.pm_log.proofs.Lists.{over}
-use Rattle.pm_log.proofs.Moves.{base_stands, torn_first}
+use Rattle.pm_log.proofs.Moves.{base_stands}
 use Rattle.pm_log.proofs.Steps.{means_shut}
-use Rattle.pm_log.proofs.Told.{written_at}
+use Rattle.pm_record.specs.GateLaws.{torn_first, written_at}
 use Rattle.pm_log.proofs.ToldMoves.{Wrote}
 
 -- ---- the new log

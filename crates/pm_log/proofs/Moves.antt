@@ -4,7 +4,6 @@ use Rattle.std.specs.Prelude.{slice_get}
 use Rattle.std.proofs.lemmas.Bool.{cases_lt}
 use Rattle.std.proofs.lemmas.Option.{same_Some}
 use Rattle.pm_disk.specs.declared.disk.Which.{Which}
-use Rattle.pm_disk.specs.declared.disk.Which.TheVariants.{A, B}
 use Rattle.pm_disk.specs.Files.{Files, file_of, other, overwritten}
 use Rattle.pm_disk.specs.Disk.{Only, Torn}
 use Rattle.pm_rows.specs.declared.commit.Change.{Change}
@@ -14,15 +13,11 @@ use Rattle.pm_record.specs.Pair.{IsShut, MeansIn, Yields}
 use Rattle.pm_log.specs.Append.{MeansOneOf}
 use Rattle.pm_record.specs.OnDisk.{FollowsWithin, GoesOn, Rests, Throughout}
 use Rattle.pm_log.specs.Move.{IsBase}
-use Rattle.pm_log.proofs.Lists.{flipped, over}
-use Rattle.pm_log.proofs.Fronts.{same_standing}
+use Rattle.pm_record.specs.GateLaws.{first_of, other-other, regated, same_standing, torn_first}
+use Rattle.pm_log.proofs.Lists.{over}
 use Rattle.pm_log.proofs.Steps.{means_shut}
 
 -- ---- one file
-
-pub back : (file : Which) → other (other file) ≡ file
-back A = refl
-back B = refl
 
 -- a write behind the file's gate, also one that was stopped, leaves a shut file shut
 pub torn_shut : (old new : List ℕ) (count : ℕ) → IsShut old → length old ≤ length new
@@ -32,34 +27,6 @@ torn_shut old (x ∷ new) count shut longer same =
     let first : slice_get (x ∷ new) 0 ≡ slice_get (0 ∷ shut.0) 0 =
     subst (λ (l : List ℕ). slice_get (x ∷ new) 0 ≡ slice_get l 0) shut.1 (same 0 (omega (arith, ap length shut.1)) (inl (omega arith))) in
     (new, ap (λ (z : ℕ). z ∷ new) (same_Some x 0 first))
-
--- a write of the file's gate that was stopped
-pub torn_first : (old new tail : List ℕ) (x : ℕ) → old ≡ x ∷ tail → length old ≤ length new
-    → ((i : ℕ) → i < length old → (i < 0) ⊎ (0 + 1 ≤ i) → slice_get new i ≡ slice_get old i) → (gate : ℕ) × (more : List ℕ) × (new ≡ gate ∷ (tail ++ more))
-torn_first old new tail x is longer same =
-    flipped [] tail new x (subst (λ (l : List ℕ). length l ≤ length new) is longer)
-    (λ i lt where_is. subst (λ (l : List ℕ). slice_get new i ≡ slice_get l i) is (same i (omega (arith, lt, ap length is)) where_is))
-
--- whatever open gate a file has
-pub regated : (bytes : List ℕ) (content : Content) (end gate : ℕ) (more : List ℕ) (log : StandsFor bytes content end) → gate ≢ 0
-    → StandsFor (gate ∷ (drop 1 bytes ++ more)) content end
-regated bytes content end gate more log is_open =
-    let s = log.spelled in
-    let tail = base_bytes content.epoch content.clean content.base_count content.base_rows ++ s.behind in
-    let rest : drop 1 bytes ≡ tail ++ (0 ∷ log.free) = ap (λ (l : List ℕ). drop 1 l) (log.parts ∙ ap (λ (l : List ℕ). l ++ (0 ∷ log.free)) s.parts) in record {
-      front = gate ∷ tail;
-      free = log.free ++ more;
-      parts = ap (λ (l : List ℕ). gate ∷ l) (ap (λ (l : List ℕ). l ++ more) rest ∙ append_assoc tail (0 ∷ log.free) more);
-      place = log.place ∙ ap length s.parts;
-      spelled = record { gate = gate; behind = s.behind; is_open = is_open; parts = refl; batches = s.batches };
-      limits = log.limits;
-    }
-
--- the first byte and the others
-pub first_of : (bytes : List ℕ) (content : Content) (end : ℕ) → StandsFor bytes content end → (gate : ℕ) × (bytes ≡ gate ∷ drop 1 bytes)
-first_of bytes content end log =
-    let is = log.parts ∙ ap (λ (l : List ℕ). l ++ (0 ∷ log.free)) log.spelled.parts in
-    (log.spelled.gate, is ∙ ap (λ (l : List ℕ). log.spelled.gate ∷ l) (sym (ap (λ (l : List ℕ). drop 1 l) is)))
 
 -- a base behind an open gate stands for itself
 pub base_stands : (content : Content) (gate : ℕ) (free : List ℕ) → content.batches ≡ [] → gate ≢ 0 → IsContent content
@@ -105,7 +72,7 @@ module _ (file : Which) (content : Content) (clean : Bool) (end : ℕ) (bytes : 
     file = o;
     content = next;
     end = at;
-    pair = record { stands = stands; beside = subst (λ (w : Which). Yields (file_of image w) next.epoch) (sym (back file)) yields };
+    pair = record { stands = stands; beside = subst (λ (w : Which). Yields (file_of image w) next.epoch) (sym (other-other file)) yields };
     is = same_meaning;
     long = refl;
   }
@@ -118,7 +85,7 @@ module _ (file : Which) (content : Content) (clean : Bool) (end : ℕ) (bytes : 
   next_in image means = subst (λ (n : ℕ). MeansIn image (standing_of content) n) (omega (arith, ap length spelled, length-append base (0 ∷ []))) means
 
   beside_o : (at count : ℕ) (old new : Files) → Torn o at count old new → file_of new file ≡ file_of old file
-  beside_o at count old new torn = subst (λ (w : Which). file_of new w ≡ file_of old w) (back file) torn.beside
+  beside_o at count old new torn = subst (λ (w : Which). file_of new w ≡ file_of old w) (other-other file) torn.beside
 
   -- the file as it was when the checkpoint began
   abbrev pub was : List ℕ
@@ -244,5 +211,5 @@ module _ (file : Which) (content : Content) (clean : Bool) (end : ℕ) (bytes : 
                   let e = third to third_time.later (omega arith) image there in
                   e.2.beside ∙ open_durable e.0 e.1 ∙ sym same;
               beside = λ image there.
-                  subst (λ (w : Which). IsShut (file_of image w)) (sym (back file)) (subst IsShut (sym (only image there)) shut);
+                  subst (λ (w : Which). IsShut (file_of image w)) (sym (other-other file)) (subst IsShut (sym (only image there)) shut);
             }

@@ -12,7 +12,8 @@ use Rattle.pm_record.specs.StandsFor.{Content, MayAppend, StandsFor, standing_of
 use Rattle.pm_record.specs.Pair.{IsShut, MeansIn}
 use Rattle.pm_record.specs.OnDisk.{FollowsWithin, GoesOn, Rests, Throughout}
 use Rattle.pm_log.specs.Append.{IsSpelled, MeansOneOf}
-use Rattle.pm_log.proofs.Lists.{begins, flipped, over}
+use Rattle.pm_record.specs.GateLaws.{flipped}
+use Rattle.pm_log.proofs.Lists.{begins, over}
 use Rattle.pm_log.proofs.Fronts.{standing-push, stands_closed, stands_open}
 
 -- ---- one file

@@ -2,17 +2,14 @@
 use Rattle.std.proofs.Common.{◌≡◌, ℕ, ◌+◌, ◌≤◌, ◌<◌, List, length, take, drop, refl, sym, ◌∙◌, ap, subst, arith}
 use Rattle.std.specs.Prelude.{Option, Some, None, IfSome, option_map}
 use Rattle.pm_disk.specs.declared.disk.Which.{Which}
-use Rattle.pm_disk.specs.Files.{Files, file_of, other, overwritten, with_file}
+use Rattle.pm_disk.specs.Files.{Files, file_of, other, overwritten}
 use Rattle.pm_log.proofs.Lists.{length-overwritten}
 use Rattle.pm_disk.specs.Disk.{Only, TellsStill, Torn}
 use Rattle.pm_record.specs.OnDisk.{FollowsWithin, GoesOn}
 use Rattle.pm_log.specs.Append.{HasAppended, KeepsAppending}
 use Rattle.pm_record.specs.Calls.{beside_with, file_with}
+use Rattle.pm_record.specs.GateLaws.{written_at}
 use Rattle.pm_log.proofs.Steps.{rests_after, stops_both, stops_first}
-
--- the files with these bytes at a place of one of them
-abbrev pub written_at : Which → ℕ → List ℕ → Files → Files
-written_at file at bytes files = with_file files file (overwritten (file_of files file) at bytes)
 
 pub keeps_first : (before : Option Files) (file : Which) (end count from to : ℕ) (bytes : List ℕ) (i j : ℕ → Files → Type 0) → FollowsWithin (Torn file (end + 1) count) from to i j
     → IfSome before (λ files. KeepsAppending file end bytes files from to i j)

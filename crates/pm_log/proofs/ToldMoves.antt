@@ -11,7 +11,7 @@ use Rattle.pm_record.specs.OnDisk.{FollowsWithin, GoesOn}
 use Rattle.pm_log.specs.Move.{HasMoved, IsBase, KeepsMoving}
 use Rattle.pm_log.proofs.Lists.{over}
 use Rattle.pm_record.specs.Calls.{beside_with, file_with}
-use Rattle.pm_log.proofs.Told.{written_at}
+use Rattle.pm_record.specs.GateLaws.{written_at}
 use Rattle.pm_log.proofs.Moves.{IsIn, base_in, moved, stops_base, stops_close, stops_open}
 
 -- what stands in the other file, once the base is written, and once its gate is open

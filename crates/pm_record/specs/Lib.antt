@@ -5,6 +5,7 @@ pub mod Changes
 pub mod Damage
 pub mod File
 pub mod Found
+pub mod GateLaws
 pub mod Gated
 pub mod OnDisk
 pub mod Pair

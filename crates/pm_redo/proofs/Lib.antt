@@ -1,3 +1,2 @@
-pub mod Gate
 pub mod Kept
 pub mod Redos

@@ -1,5 +1,5 @@
 -- What reading the two files leaves of what they mean.
-use Rattle.std.proofs.Common.{◌≡◌, ◌⊎◌, inl, inr, ℕ, ◌+◌, ◌≤◌, ◌<◌, Bool, true, false, List, [], ◌∷◌, ◌++◌, take, drop, refl, sym, ◌∙◌, ap, subst, arith}
+use Rattle.std.proofs.Common.{◌≡◌, ◌⊎◌, inl, inr, ℕ, ◌≤◌, ◌<◌, Bool, true, false, List, [], ◌∷◌, ◌++◌, take, drop, refl, sym, ◌∙◌, ap, subst, arith}
 use Rattle.std.specs.Prelude.{Option, Some, None, IfSome, option_map}
 use Rattle.std.specs.Int.{w64, from_be_bytes}
 use Rattle.std.proofs.lemmas.Bool.{cases_lt}
@@ -8,6 +8,7 @@ use Rattle.pm_disk.specs.declared.disk.Which.{Which}
 use Rattle.pm_disk.specs.declared.disk.Which.TheVariants.{A, B}
 use Rattle.pm_disk.specs.Files.{Files, file_of, other, overwritten}
 use Rattle.pm_disk.specs.Disk.{Only, TellsStill, Torn}
+use Rattle.pm_record.specs.GateLaws.{first_of, other-other, regated, same_standing, torn_first, written_at}
 use Rattle.pm_record.specs.StandsFor.{Content, StandsFor, standing_of}
 use Rattle.pm_record.specs.Pair.{IsShut, MeansIn, MeansWhat, PairStandsFor, Yields}
 use Rattle.pm_record.specs.OnDisk.{FollowsWithin, GoesOn, Rests, Throughout}
@@ -18,7 +19,6 @@ use Rattle.pm_record.specs.declared.found.Contents.{Contents}
 use Rattle.pm_record.specs.declared.found.Found.{Found}
 use Rattle.pm_record.specs.declared.found.Contents.TheVariants.{Closed, Standing as Stood}
 use Rattle.pm_record.specs.Calls.{beside_with, file_with}
-use Rattle.pm_redo.proofs.Gate.{back, first_of, regated, same_standing, torn_first, written_at}
 
 -- ---- one file
 -- the epoch that the bytes say
@@ -86,7 +86,7 @@ pub shut_keeps : (file : Which) (content : Content) (end : ℕ) (files image : F
     → Torn (other file) 0 1 files image → MeansWhat files image
 shut_keeps file content end files image pair unshut torn standing bytes means =
     let o = other file in
-    let stays : file_of image file ≡ file_of files file = subst (λ (w : Which). file_of image w ≡ file_of files w) (back file) torn.beside in
+    let stays : file_of image file ≡ file_of files file = subst (λ (w : Which). file_of image w ≡ file_of files w) (other-other file) torn.beside in
     elim (sides file means.file) [
       | inl same ↦
           let its = subst (λ (w : Which). PairStandsFor files w means.content means.end) same means.pair in
@@ -112,7 +112,7 @@ shut_keeps file content end files image pair unshut torn standing bytes means =
           ]
       | inr differs ↦
           let its = subst (λ (w : Which). PairStandsFor files w means.content means.end) differs means.pair in
-          let under = subst (λ (w : Which). Yields (file_of files w) means.content.epoch) (back file) its.beside in
+          let under = subst (λ (w : Which). Yields (file_of files w) means.content.epoch) (other-other file) its.beside in
           absurd (elim under [
             | inl shut ↦ not_shut (file_of files file) content end pair.stands shut
             | inr older ↦ elim pair.beside [
@@ -233,7 +233,7 @@ found_written (Some files) s3 now found o from mid to j k is is_o written durabl
     subst (λ (x : Which). Only x (file_of last x) (k to)) is_o (subst (λ (n : Option Files). IfSome n (λ f. Only o (file_of f o) (k to))) there durable) in
     let torn : FollowsWithin (Torn w 0 1) mid to j k = subst (λ (x : Which). FollowsWithin (Torn x 0 1) mid to j k) is_o stops in
     let stays : file_of last found.file ≡ file_of files found.file =
-    subst (λ (x : Which). file_of last x ≡ file_of files x) (back found.file) (beside_with files w (overwritten (file_of files w) 0 (0 ∷ []))) in
+    subst (λ (x : Which). file_of last x ≡ file_of files x) (other-other found.file) (beside_with files w (overwritten (file_of files w) 0 (0 ∷ []))) in
     let shut : IsShut (file_of last w) = (drop 1 (file_of files w), file_with files w (overwritten (file_of files w) 0 (0 ∷ []))) in
     subst (λ (n : Option Files). TellsStill (λ files now. FindsPair found files (λ content. Rests found.file content found.end now (k to))) (Some files) n) (sym there) (record {
       content = f.content;
@@ -244,7 +244,7 @@ found_written (Some files) s3 now found o from mid to j k is is_o written durabl
         durable = λ image left.
             let e = torn to ge (omega arith) image left in
             let was = read.through mid le (omega arith) e.0 e.1 in
-            subst (λ (x : Which). file_of image x ≡ file_of (e.0) x) (back found.file) e.2.beside ∙ ap (λ (x : Files). file_of x found.file) was ∙ sym stays;
+            subst (λ (x : Which). file_of image x ≡ file_of (e.0) x) (other-other found.file) e.2.beside ∙ ap (λ (x : Files). file_of x found.file) was ∙ sym stays;
         beside = λ image left. subst IsShut (sym (only image left)) shut;
       };
     })
@@ -316,7 +316,7 @@ only_greater file found two files holds tells beside less w content end pair = e
       (holds.3 ∙ sym same, is.0, is.1)
   | inr differs ↦
       let its = subst (λ (x : Which). PairStandsFor files x content end) differs pair in
-      let under = subst (λ (x : Which). Yields (file_of files x) content.epoch) (back file) its.beside in
+      let under = subst (λ (x : Which). Yields (file_of files x) content.epoch) (other-other file) its.beside in
       let is_two = (beside content end its.stands).1.epoch in
       absurd (elim under [
         | inl shut ↦ not_shut (file_of files file) holds.0 found.end holds.1 shut

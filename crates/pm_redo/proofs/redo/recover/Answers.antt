@@ -1,4 +1,4 @@
-use Rattle.std.proofs.Common.{◌≡◌, ◌+◌, ℕ, rules, true, false}
+use Rattle.std.proofs.Common.{◌≡◌, ◌+◌, rules, true, false}
 use Rattle.pm_redo.proofs.Redos.{found_quiet, found_written, is_read, means_only, quiet_barrier, quiet_means, written_barrier, written_means}
 use Rattle.pm_redo.proofs.redo.recover.Goals as goal
 

@@ -1,4 +1,4 @@
--- A file whose gate is being written.
+-- Laws of a file whose gate is being written, and of the pair it stands in.
 use Rattle.std.proofs.Common.{◌≡◌, ◌≢◌, ◌⊎◌, inl, inr, ℕ, suc, ◌+◌, ◌≤◌, ◌<◌, List, [], ◌∷◌, ◌++◌, length, drop, refl, sym, ◌∙◌, ap, subst, arith, append_assoc}
 use Rattle.std.specs.Prelude.{slice_get}
 use Rattle.std.proofs.lemmas.Option.{same_Some}
@@ -10,12 +10,12 @@ use Rattle.pm_record.specs.Spelling.{base_bytes}
 use Rattle.pm_rows.specs.Standing.{Standing}
 use Rattle.pm_record.specs.StandsFor.{Content, StandsFor}
 
-pub back : (file : Which) → other (other file) ≡ file
-back A = refl
-back B = refl
+pub other-other : (file : Which) → other (other file) ≡ file
+other-other A = refl
+other-other B = refl
 
 -- a list that has the places of another one begins with it
-goes_on : (old new : List ℕ) → length old ≤ length new → ((i : ℕ) → i < length old → slice_get new i ≡ slice_get old i)
+pub goes_on : (old new : List ℕ) → length old ≤ length new → ((i : ℕ) → i < length old → slice_get new i ≡ slice_get old i)
     → (more : List ℕ) × (new ≡ old ++ more)
 goes_on [] new longer same = (new, refl)
 goes_on (x ∷ old) [] longer same = absurd (omega arith)
@@ -24,7 +24,7 @@ goes_on (x ∷ old) (y ∷ new) longer same =
     (rest.0, ap (λ (z : ℕ). z ∷ new) (same_Some y x (same 0 (omega arith))) ∙ ap (λ (l : List ℕ). x ∷ l) rest.1)
 
 -- a list that has all places of another one but one
-flipped : (front rest new : List ℕ) (x : ℕ) → length (front ++ x ∷ rest) ≤ length new
+pub flipped : (front rest new : List ℕ) (x : ℕ) → length (front ++ x ∷ rest) ≤ length new
     → ((i : ℕ) → i < length (front ++ x ∷ rest) → (i < length front) ⊎ (length front + 1 ≤ i) → slice_get new i ≡ slice_get (front ++ x ∷ rest) i)
     → (gate : ℕ) × (more : List ℕ) × (new ≡ front ++ (gate ∷ (rest ++ more)))
 flipped [] rest [] x longer same = absurd (omega arith)
@@ -68,7 +68,7 @@ first_of bytes content end log =
     let is = log.parts ∙ ap (λ (l : List ℕ). l ++ (0 ∷ log.free)) log.spelled.parts in
     (log.spelled.gate, is ∙ ap (λ (l : List ℕ). log.spelled.gate ∷ l) (sym (ap (λ (l : List ℕ). drop 1 l) is)))
 
-abbrev standing : RowMap → ℕ → Standing
+abbrev pub standing : RowMap → ℕ → Standing
 standing rows count = record { rows = rows; count = count }
 
 pub same_standing : (one other : RowMap) (n m : ℕ) → one ≡ other → n ≡ m → standing one n ≡ standing other m
