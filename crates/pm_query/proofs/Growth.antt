@@ -1,6 +1,5 @@
 -- How rows grow with commits.
-use Rattle.std.proofs.Common.{◌≡◌, ℕ, ◌+◌, ◌-◌, ◌≤◌, List, [], ◌∷◌, ◌++◌, take, Option, None, Some, fold, sum_by, refl, sym, ◌∙◌, ap, subst, arith}
-use Rattle.std.specs.FinMap.{get}
+use Rattle.std.proofs.Common.{◌≡◌, ℕ, ◌+◌, ◌-◌, ◌≤◌, List, [], ◌∷◌, ◌++◌, take, Option, None, Some, fold, sum_by, refl, ap, arith}
 use Rattle.std.proofs.lemmas.List.Sums.{sum_by-cons, sum_by-append, sum_by-take-le}
 use Rattle.pm_rows.specs.Fold.{RowMap, changed, committed, folded}
 use Rattle.pm_rows.specs.LogSize as log
@@ -10,8 +9,8 @@ use Rattle.pm_rows.specs.declared.commit.Change.TheVariants.{Put, Del}
 use Rattle.pm_query.specs.declared.book.BookEntry.{BookEntry}
 use Rattle.pm_query.specs.declared.book.BookEntry.TheVariants.{Opened, Redone, Attached, Answered, Released, Detached, Gone, CheckpointEnded, Broke, LogFull}
 use Rattle.pm_rows.specs.Standing.{Standing}
-use Rattle.pm_query.specs.History.{History, beginning, number}
-use Rattle.pm_query.specs.Book.{Base, Course, course_after, course_of, history_after, history_of, need_after, need_of, needs_of, standing_of}
+use Rattle.pm_query.specs.History.{History, beginning}
+use Rattle.pm_query.specs.Book.{Course, course_after, history_after, history_of, need_after, need_of, needs_of, standing_of}
 use Rattle.pm_query.specs.BookLaws.{CommitsAddTheirBytes, RowsAreWithinNeeds}
 use Rattle.pm_query.proofs.Sizes.{size-insert, size-remove}
 

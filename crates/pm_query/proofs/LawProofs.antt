@@ -9,11 +9,12 @@ use Rattle.pm_rows.specs.Fold.{RowMap, changed, committed}
 use Rattle.pm_rows.specs.Limits.{max_changes, IsWithinRowLimits}
 use Rattle.pm_rows.specs.declared.commit.Change.{Change}
 use Rattle.pm_sql.specs.declared.stmt.Stmt.{Stmt}
-use Rattle.pm_sql.specs.Limits.{IsWithinScriptLimits}
+use Rattle.pm_sql.specs.declared.stmt.Stmt.TheVariants as stmts
+use Rattle.pm_sql.specs.Limits.{IsWithinScriptLimits, is_writing}
 use Rattle.pm_query.specs.declared.item.Item.{Item}
 use Rattle.pm_query.specs.declared.item.Item.TheVariants.{Empty}
 use Rattle.pm_query.specs.Answer.{Progress, is_error, has_error, has_failed, with_change, effect_of, advanced, after_statement, start_on, after_script, items_of, commit_of}
-use Rattle.pm_query.specs.Laws.{CommitLeavesRows, ErrorsComeLast}
+use Rattle.pm_query.specs.Laws.{CommitLeavesRows, ErrorsComeLast, OnlyWritesCommit}
 use Rattle.pm_query.specs.Limits.{HasShortRows, HasShortValues, IsShortChange, IsWithinCommitLimits}
 use Rattle.pm_query.proofs.Keeping.{IsKept, kept_script}
 
@@ -54,13 +55,50 @@ pub failure_commits_nothing : (rows : RowMap) (script : List Stmt) → IsTrue (h
 failure_commits_nothing rows [] h = refl
 failure_commits_nothing rows (stmt ∷ script) h = ap (λ b. cond b [] (after_script rows (stmt ∷ script)).changes) h
 
-no_item : (before after : List Item) (item : Item) → [] ≡ before ++ item ∷ after → after ≡ []
-no_item [] after item e = cc
-no_item (b ∷ before) after item e = cc
-
 either : (a b : Bool) → a || b ≡ false → (a ≡ false) × (b ≡ false)
 either true b e = cc
 either false b e = (refl, e)
+
+-- a statement that doesn't write makes no change
+no_change : (rows : RowMap) (stmt : Stmt) → is_writing stmt ≡ false → (effect_of rows stmt).change ≡ None
+no_change rows (stmts.Insert key value) reads = cc
+no_change rows (stmts.Update key value) reads = cc
+no_change rows (stmts.Delete key) reads = cc
+no_change rows (stmts.Select None) reads = refl
+no_change rows (stmts.Select (Some key)) reads = refl
+no_change rows stmts.Count reads = refl
+no_change rows (stmts.Sleep seconds) reads = refl
+
+reads_statement : (progress : Progress) (stmt : Stmt) → is_writing stmt ≡ false → progress.changes ≡ [] → (after_statement progress stmt).changes ≡ []
+reads_statement progress stmt reads none =
+    elim (has_failed progress) as (λ b. (cond b progress (advanced progress (effect_of progress.rows stmt))).changes ≡ []) [
+      | true ↦ none
+      | false ↦ rw (none, no_change progress.rows stmt reads) refl
+    ]
+
+reads_script : (progress : Progress) (script : List Stmt) → list_any is_writing script ≡ false → progress.changes ≡ [] → (fold after_statement progress script).changes ≡ []
+reads_script progress [] reads none = none
+reads_script progress (stmt ∷ script) reads none =
+    let both = either (is_writing stmt) (list_any is_writing script) reads in
+    reads_script (after_statement progress stmt) script both.1 (reads_statement progress stmt both.0 none)
+
+reads_commit_nothing : (rows : RowMap) (script : List Stmt) → list_any is_writing script ≡ false → commit_of rows script ≡ []
+reads_commit_nothing rows script reads =
+    elim (has_failed (after_script rows script)) as (λ b. cond b [] (after_script rows script).changes ≡ []) [
+      | true ↦ refl
+      | false ↦ reads_script (start_on rows) script reads refl
+    ]
+
+pub only_writes_commit_law : OnlyWritesCommit
+only_writes_commit_law rows script some =
+    elim (list_any is_writing script) as (λ b. list_any is_writing script ≡ b → IsTrue b) [
+      | true ↦ λ _. refl
+      | false ↦ λ reads. absurd (some (reads_commit_nothing rows script reads))
+    ] refl
+
+no_item : (before after : List Item) (item : Item) → [] ≡ before ++ item ∷ after → after ≡ []
+no_item [] after item e = cc
+no_item (b ∷ before) after item e = cc
 
 -- one item more behind items without an error
 one_more : (items : List Item) (last : Item) → list_any is_error items ≡ false → ErrorsComeLast (items ++ last ∷ [])

@@ -1,5 +1,5 @@
 -- The answer of a script: its statements, one after another on the rows so far, up to the first error.
-use Rattle.std.specs.Prelude.{ℕ, ℤ, Bool, true, false, cond, if◌then◌else◌, List, [], ◌∷◌, ◌++◌, Option, Some, None, option_to_list, nat_lt, nat_le, fold}
+use Rattle.std.specs.Prelude.{ℕ, ℤ, IsTrue, Bool, true, false, cond, if◌then◌else◌, List, [], ◌∷◌, ◌++◌, Option, Some, None, option_to_list, nat_lt, nat_le, fold}
 use Rattle.std.specs.List.{list_any}
 use Rattle.std.specs.FinMap.{get, contains_key, insert, entries, len}
 use Rattle.pm_rows.specs.Fold.{RowMap, changed}
@@ -7,6 +7,7 @@ use Rattle.pm_rows.specs.Limits.{max_rows, max_rows_bytes}
 use Rattle.pm_rows.specs.Size.{size_of}
 use Rattle.pm_rows.specs.declared.commit.Change.{Change}
 use Rattle.pm_rows.specs.declared.commit.Change.TheVariants.{Put, Del}
+use Rattle.pm_sql.specs.Limits.{is_writing}
 use Rattle.pm_sql.specs.declared.stmt.Stmt.{Stmt}
 use Rattle.pm_sql.specs.declared.stmt.Stmt.TheVariants as stmts
 use Rattle.pm_query.specs.declared.item.Item.{Item}
@@ -120,3 +121,7 @@ items_of rows (stmt ∷ script) = (after_script rows (stmt ∷ script)).items
 -- what a script leaves to commit: its changes, or nothing where an error was answered
 abbrev pub commit_of : RowMap → List Stmt → List Change
 commit_of rows script = let end = after_script rows script in cond (has_failed end) [] end.changes
+
+-- a statement of the script writes
+abbrev pub Writes : List Stmt → Type 0
+Writes script = IsTrue (list_any is_writing script)

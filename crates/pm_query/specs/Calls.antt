@@ -3,6 +3,7 @@ use Rattle.std.specs.Prelude.{◌≡◌, ◌≢◌, ◌⊎◌, ◌≤◌, ◌<�
 use Rattle.pm_record.specs.declared.fault.RedoFault.TheVariants as redo
 use Rattle.pm_rows.specs.declared.commit.Change.{Change}
 use Rattle.pm_sql.specs.declared.stmt.Stmt.{Stmt}
+use Rattle.pm_query.specs.Answer.{Writes}
 use Rattle.pm_query.specs.declared.item.Item.{Item}
 use Rattle.pm_query.specs.declared.book.BookEntry.{BookEntry}
 use Rattle.pm_query.specs.declared.book.BookEntry.TheVariants.{Attached, Redone, Answered, Released, Detached, CheckpointEnded, Broke, LogFull}
@@ -66,6 +67,22 @@ IsOther (Some stamp) generation = generation ≢ stamp
 abbrev pub MayBeOver : User → Type 0
 MayBeOver user = IsOther user.stamp user.generation
 
+-- ---- the generation that a store has met
+
+-- the store has met a generation above this one
+abbrev pub IsPast : (met generation : ℕ) → Type 0
+IsPast met generation = generation < met
+
+-- Who is refused as stale is told its own generation and the one that the store has met, which is another one.
+abbrev pub MetAnother : {T : Type 0} → (met generation : ℕ) → Result T StoreNo → Type 0
+MetAnother met generation (Err (Stale mine found)) = (mine ≡ generation) × (found ≡ met) × (generation ≢ met)
+MetAnother met generation _ = Unit {0}
+
+-- A child inside is so once the store has met a later one.
+abbrev pub MetLater : {T : Type 0} → (met generation : ℕ) → Result T StoreNo → Type 0
+MetLater met generation (Err (Stale mine found)) = (mine ≡ generation) × (found ≡ met) × IsPast met generation
+MetLater met generation _ = Unit {0}
+
 -- ---- what the calls note
 
 -- a fault of the disk under this child
@@ -104,12 +121,13 @@ pub record NotesLostAnswer (pid : ℕ) (script : List Stmt) (entries : List Book
   pub fault : NotesFault pid broke
   pub entries_are : entries ≡ answered ++ broke
 
+-- Only a script that writes is refused by the disk, or for want of room in the log.
 abbrev pub RunNotes : User → (script : List Stmt) → Result Staged StoreNo → List BookEntry → Type 0
 RunNotes user script (Ok staged) entries = NotesStaged user.pid script staged entries
 RunNotes user script (Err (Stale mine found)) entries = MayBeOver user × (entries ≡ [])
-RunNotes user script (Err Disk) entries = NotesFault user.pid entries ⊎ NotesLostAnswer user.pid script entries
+RunNotes user script (Err Disk) entries = Writes script × (NotesFault user.pid entries ⊎ NotesLostAnswer user.pid script entries)
 RunNotes user script (Err (Broken since)) entries = RepeatsFault user.pid since entries
-RunNotes user script (Err (Full need room)) entries = entries ≡ LogFull user.pid script need room ∷ []
+RunNotes user script (Err (Full need room)) entries = Writes script × (entries ≡ LogFull user.pid script need room ∷ [])
 RunNotes user script (Err (Redo fault)) entries = ⊥
 RunNotes user script (Err NoMemory) entries = entries ≡ []
 

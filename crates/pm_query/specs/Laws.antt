@@ -1,9 +1,9 @@
 -- Laws of the answer of a script.
-use Rattle.std.specs.Prelude.{◌≡◌, IsTrue, false, List, [], ◌∷◌, ◌++◌}
+use Rattle.std.specs.Prelude.{◌≡◌, ◌≢◌, IsTrue, false, List, [], ◌∷◌, ◌++◌}
 use Rattle.pm_rows.specs.Fold.{RowMap, committed}
 use Rattle.pm_sql.specs.declared.stmt.Stmt.{Stmt}
 use Rattle.pm_query.specs.declared.item.Item.{Item}
-use Rattle.pm_query.specs.Answer.{is_error, has_error, after_script, items_of, commit_of}
+use Rattle.pm_query.specs.Answer.{is_error, has_error, after_script, items_of, commit_of, Writes}
 
 -- an error is the last item of a reply
 abbrev pub ErrorsComeLast : List Item → Type 0
@@ -13,3 +13,7 @@ ErrorsComeLast reply = (before after : List Item) (item : Item) → reply ≡ be
 abbrev pub CommitLeavesRows : Type 0
 CommitLeavesRows = (rows : RowMap) (script : List Stmt) → has_error (items_of rows script) ≡ false
     → (after_script rows script).rows ≡ committed rows (commit_of rows script)
+
+-- only a script that writes leaves something to commit
+abbrev pub OnlyWritesCommit : Type 0
+OnlyWritesCommit = (rows : RowMap) (script : List Stmt) → commit_of rows script ≢ [] → Writes script

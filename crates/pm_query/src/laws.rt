@@ -3,7 +3,7 @@ ghost use Rattle.std.specs.Prelude.{◌≡◌};
 ghost use Rattle.pm_query.specs.Book.{IsLegal, needs_of};
 ghost use Rattle.pm_query.specs.Calls.{due_bytes};
 ghost use Rattle.pm_query.specs.BookLaws.{AckedIsWithin, AckedNeverFalls, AcknowledgedStays, CommitsAddTheirBytes, RepeatChangesNothing, RowsAreWithinNeeds};
-ghost use Rattle.pm_query.specs.Laws.{CommitLeavesRows};
+ghost use Rattle.pm_query.specs.Laws.{CommitLeavesRows, OnlyWritesCommit};
 ghost use Rattle.pm_query.specs.TickLaws.{PastStays, PresentIsWhole};
 ghost use Rattle.pm_query.specs.WorkedBooks.{answered, forgotten, nothing, unanswered};
 
@@ -12,6 +12,11 @@ use crate::store::CHECKPOINT_BYTES;
 /// Where no error is answered, the rows after a script are the table with the script's commit made.
 pub fn commit_leaves_rows()
     ensures { CommitLeavesRows }
+{}
+
+/// Only a script that writes leaves something to commit.
+pub fn only_writes_commit()
+    ensures { OnlyWritesCommit }
 {}
 
 /// In a legal book no more commits are acknowledged than there are.

@@ -22,7 +22,7 @@ pub use book::BookEntry;
 pub use item::Item;
 pub use laws::{
     acked_is_within, acked_never_falls, acknowledged_stays, checkpoint_bytes_are_the_number,
-    commit_leaves_rows, past_stays, present_is_whole, repeat_changes_nothing,
+    commit_leaves_rows, only_writes_commit, past_stays, present_is_whole, repeat_changes_nothing,
     rows_are_within_needs, worked_books,
 };
 pub use pairs::Pairs;

@@ -1,8 +1,9 @@
 //! What a child asks of the store.
-ghost use Rattle.std.specs.Prelude.{◌≡◌, ◌++◌, [], ℕ, List, Option, All, IfOk, OnErr};
+ghost use Rattle.std.specs.Prelude.{◌≡◌, ◌≤◌, ◌⊎◌, ◌++◌, ◌∷◌, [], ℕ, List, Option, All, IfOk, OnErr};
 ghost use Rattle.pm_query.specs.declared.book.BookEntry.{BookEntry};
+ghost use Rattle.pm_query.specs.declared.book.BookEntry.TheVariants.{Detached};
 ghost use Rattle.pm_query.specs.declared.store.StoreNo.TheVariants.{Disk, NoMemory};
-ghost use Rattle.pm_query.specs.Calls.{PassView, user_of, newcomer, new_pass, with_front, ReachesNoLess, HasReached, EnterNotes, RunNotes, SeenNotes, FlushNotes, RedoNotes, CheckpointNotes, LeaveNotes};
+ghost use Rattle.pm_query.specs.Calls.{PassView, user_of, newcomer, new_pass, with_front, ReachesNoLess, HasReached, IsPast, MetAnother, MetLater, EnterNotes, RunNotes, SeenNotes, FlushNotes, RedoNotes, CheckpointNotes, LeaveNotes};
 ghost use Rattle.pm_query.specs.Limits.{HasShortValues};
 
 use crate::book::BookEntry;
@@ -19,7 +20,7 @@ pub const CHECKPOINT_BYTES: u64 = 67_108_864;
 /// Why the store refused a call.
 #[derive(Clone, Copy, Debug, PartialEq, Eq, Error)]
 pub enum StoreNo {
-    /// The store has gone on to another generation than the caller's.
+    /// The store is in another generation than the caller's: it was found in this one.
     #[error("generation {mine} is over: the store is in generation {found}")]
     Stale { mine: u32, found: u32 },
     /// The disk failed in this call.
@@ -105,12 +106,16 @@ pub trait Store {
     /// The generation that the store is in. A store that others can bring into the next one between two calls has none.
     ghost stamp: { Self → Option ℕ };
 
+    /// The last generation that its own calls have met it in, whoever brought it there.
+    ghost met: { Self → ℕ };
+
     /// Lets a child in, and keeps room for the entry of its leave.
     fn enter(&mut self, pid: u32, generation: u32) -> Result<Self::Pass, StoreNo>
         ensures notes { (entries : List BookEntry) × notes entries self.old self.new
             × EnterNotes (newcomer (stamp self.old) pid generation) result entries }
         ensures admits { IfOk result (λ pass. admits self.new pass) }
-        ensures view { IfOk result (λ pass. view pass ≡ new_pass pid generation) };
+        ensures view { IfOk result (λ pass. view pass ≡ new_pass pid generation) }
+        ensures stale { MetAnother (met self.new) generation result };
 
     /// Runs a script, and stages its commit where it has changes. All memory is taken before that.
     fn run(&mut self, pass: &mut Self::Pass, script: &Script) -> Result<Staged, StoreNo>
@@ -122,7 +127,8 @@ pub trait Store {
         ensures view { IfOk result (λ staged. view pass.new ≡ with_front staged.front
             (view pass.old)) }
         ensures refused { OnErr result (view pass.new ≡ view pass.old) }
-        ensures short { IfOk result (λ staged. All HasShortValues staged.reply) };
+        ensures short { IfOk result (λ staged. All HasShortValues staged.reply) }
+        ensures stale { MetLater (met self.new) (view pass.old).generation result };
 
     /// Whether the log is flushed up to a front that the pass has reached. Then the answers up to it may be sent, also
     /// where the log is broken.
@@ -132,7 +138,8 @@ pub trait Store {
         ensures notes { (entries : List BookEntry) × notes entries self.old self.new
             × SeenNotes (user_of (stamp self.old) (view pass.old)) front result entries }
         ensures admits { admits self.new pass.new }
-        ensures view { view pass.new ≡ view pass.old };
+        ensures view { view pass.new ≡ view pass.old }
+        ensures stale { MetLater (met self.new) (view pass.old).generation result };
 
     /// Writes at most one batch of the staged commits, and answers up to where the log is flushed. With none staged no
     /// device call is made.
@@ -141,7 +148,8 @@ pub trait Store {
         ensures notes { (entries : List BookEntry) × notes entries self.old self.new
             × FlushNotes (user_of (stamp self.old) (view pass.old)) result entries }
         ensures admits { admits self.new pass.new }
-        ensures view { view pass.new ≡ view pass.old };
+        ensures view { view pass.new ≡ view pass.old }
+        ensures stale { MetLater (met self.new) (view pass.old).generation result };
 
     /// Reads the log, and answers how many commits stand. Where it was read in this generation already, it answers that
     /// number again.
@@ -150,7 +158,8 @@ pub trait Store {
         ensures notes { (entries : List BookEntry) × notes entries self.old self.new
             × RedoNotes (user_of (stamp self.old) (view pass.old)) result entries }
         ensures admits { admits self.new pass.new }
-        ensures view { view pass.new ≡ view pass.old };
+        ensures view { view pass.new ≡ view pass.old }
+        ensures stale { MetLater (met self.new) (view pass.old).generation result };
 
     /// Writes all rows as the base of the log's other file, where redo has ended in this generation. A clean one is the
     /// last: no changes are committed behind it. Any other is made once so many bytes of batches stand behind the base
@@ -160,12 +169,14 @@ pub trait Store {
         ensures notes { (entries : List BookEntry) × notes entries self.old self.new
             × CheckpointNotes (user_of (stamp self.old) (view pass.old)) clean result entries }
         ensures admits { admits self.new pass.new }
-        ensures view { view pass.new ≡ view pass.old };
+        ensures view { view pass.new ≡ view pass.old }
+        ensures stale { MetLater (met self.new) (view pass.old).generation result };
 
-    /// Lets a child go. It takes no memory.
+    /// Lets a child go, and notes that, unless the store has met a later generation. It takes no memory.
     fn leave(&mut self, pass: Self::Pass)
         requires { admits self.old pass }
-        ensures { (entries : List BookEntry) × notes entries self.old self.new × LeaveNotes (user_of (stamp self.old) (view pass)) entries };
+        ensures notes { (entries : List BookEntry) × notes entries self.old self.new × LeaveNotes (user_of (stamp self.old) (view pass)) entries }
+        ensures stale { notes (Detached (view pass).pid ∷ []) self.old self.new ⊎ IsPast (met self.new) (view pass).generation };
 
     /// Where no call is made, nothing is noted.
     ghost at_rest: { (store : Self) → notes [] store store };
@@ -176,4 +187,7 @@ pub trait Store {
 
     /// No call brings the store into another generation.
     ghost stays: { (before now : Self) (entries : List BookEntry) → notes entries before now → stamp now ≡ stamp before };
+
+    /// A generation that it has met is met for good: what is past stays past.
+    ghost rises: { (before now : Self) (entries : List BookEntry) → notes entries before now → met before ≤ met now };
 }

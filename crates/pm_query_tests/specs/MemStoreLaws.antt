@@ -1,5 +1,5 @@
 -- The laws of the store in memory.
-use Rattle.std.proofs.Common.{◌≡◌, List, [], ◌++◌, Option, None, Some, refl, sym, ◌∙◌, ap, append_assoc, append-nil}
+use Rattle.std.proofs.Common.{◌≡◌, ℕ, ◌≤◌, arith, List, [], ◌++◌, Option, None, Some, refl, sym, ◌∙◌, ap, append_assoc, append-nil}
 use Rattle.std.specs.Option.{option_map}
 use Rattle.pm_query.specs.declared.book.BookEntry.{BookEntry}
 use Rattle.pm_query_tests.specs.MemStore.{Goes, Moment}
@@ -25,3 +25,7 @@ goes_on first second before between now one two = record {
   notes = notes_both first second before.book between.book now.book one.notes two.notes;
   keeps = λ base holds. two.keeps base (one.keeps base holds);
 }
+
+-- one number
+pub same_number : (n : ℕ) → n ≤ n
+same_number n = omega arith

@@ -12,8 +12,6 @@ pub use tending::{Tended, tend};
 #[cfg(test)]
 mod answers;
 #[cfg(test)]
-mod full_tables;
-#[cfg(test)]
 mod listing;
 #[cfg(test)]
 mod stores;

@@ -110,7 +110,7 @@ impl<B: Chronicle<BookEntry>> MemStore<B> {
 impl<B: Chronicle<BookEntry>> Store for MemStore<B> {
     ghost use Rattle.std.proofs.Common.{Some, refl};
     ghost use Rattle.pm_query_tests.specs.MemStore.{Moment, Goes, Admits};
-    ghost use Rattle.pm_query_tests.specs.MemStoreLaws.{goes_nowhere, goes_on};
+    ghost use Rattle.pm_query_tests.specs.MemStoreLaws.{goes_nowhere, goes_on, same_number};
 
     type Pass = MemPass;
 
@@ -123,6 +123,8 @@ impl<B: Chronicle<BookEntry>> Store for MemStore<B> {
     ghost view = { λ pass. record { pid = pass.pid; generation = pass.generation; front = pass.front } };
 
     ghost stamp = { λ _. Some 1 };
+
+    ghost met = { λ _. 1 };
 
     fn enter(&mut self, pid: u32, generation: u32) -> Result<MemPass, StoreNo> {
         if generation != GENERATION {
@@ -254,6 +256,8 @@ impl<B: Chronicle<BookEntry>> Store for MemStore<B> {
         (record { book = B.entries now.book; rows = now.rows; count = now.count; redone = now.redone }) one two };
 
     ghost stays = { λ before now entries one. refl };
+
+    ghost rises = { λ before now entries one. same_number 1 };
 }
 
 impl<B: Chronicle<BookEntry>> MemStore<B> {

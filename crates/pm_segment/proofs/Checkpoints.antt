@@ -25,7 +25,7 @@ use Rattle.pm_query.specs.Calls.{due_bytes}
 use Rattle.pm_query.specs.Durable.{HoldsFrom, IsWithin, Keeps}
 use Rattle.pm_segment.specs.declared.live.Live.{Live}
 use Rattle.pm_segment.specs.Moment.{Moment}
-use Rattle.pm_segment.specs.MovesLaws.{time_still}
+use Rattle.pm_segment.specs.MovesLaws.{ahead_still, time_still}
 use Rattle.pm_segment.specs.Redos.{StandsAfresh}
 use Rattle.pm_segment.specs.Rests.{HasRows, Rests}
 use Rattle.pm_segment.specs.Moves.{IsShownAt, Moves, NotesEntries}
@@ -35,7 +35,7 @@ use Rattle.pm_segment.proofs.Books.{any_push, any_still, attended_still, or_fals
 use Rattle.pm_segment.proofs.Lengths.{base_size}
 use Rattle.pm_segment.proofs.Resting.{content_is}
 use Rattle.pm_segment.proofs.Runs.{goes_by, notes_another, same_standing, standing}
-use Rattle.pm_segment.proofs.Steps.{not_both, Attends, attends_in, counted_now, gone_read, gone_unread, held_alone, held_on, lengths_push, means_more, means_some, never_waits, no_fault_shown, nobody_moves, none_told, some_none, tells_none, waited_on, whole_number}
+use Rattle.pm_segment.proofs.Steps.{not_both, Attends, ahead_more, attends_in, began_on, counted_now, flushed_more, gone_read, gone_unread, held_alone, held_on, lengths_push, means_more, means_some, never_waits, no_fault_shown, nobody_moves, none_told, some_none, tells_none, waited_on, whole_number}
 
 or_true : (a : Bool) → a || true ≡ true
 or_true true = refl
@@ -58,6 +58,7 @@ pub record Checkpoints (before now : Moment) (live new : Live) : Type 0 where
   pub read_now : now.live ≡ Some new
   pub kept : new.kept ≡ live.kept
   pub limit : new.log.limit ≡ live.log.limit
+  pub first : new.epoch ≡ live.epoch
   pub count : new.log.count ≡ live.log.count
   pub rows : now.rows ≡ before.rows
   pub time : GoesOn before.ticks now.ticks before.images now.images
@@ -105,9 +106,9 @@ moved_held laws origin base before now live new book entry seen tells moves is a
 
 -- one was made
 pub checkpoints : Laws → (before now : Moment) (live new : Live) (pid : ℕ) (clean : Bool) → Checkpoints before now live new → new.log.since ≡ None → new.log.end + 1 ≡ bytes_of_rows before.rows
-    → new.closed ≡ live.closed || clean → Attends pid before.book
+    → new.closed ≡ live.closed || clean → new.log.epoch ≡ live.log.epoch + 1 → Attends pid before.book
     → NotesEntries (CheckpointEnded pid true clean ∷ []) before.book now.book → Moves (CheckpointEnded pid true clean ∷ []) before now
-checkpoints laws before now live new pid clean moves whole end closed inside notes = record {
+checkpoints laws before now live new pid clean moves whole end closed next inside notes = record {
   notes = notes;
   generation = moves.generation;
   attends = nobody_moves (entry ∷ []) before now moves.inside (λ who n. refl);
@@ -118,6 +119,9 @@ checkpoints laws before now live new pid clean moves whole end closed inside not
     each = no_fault_shown from now.faults entry tt;
   };
   unread = λ none. absurd (not_both now.live new none moves.read_now);
+  flushed = flushed_more before.live now.live live new moves.read moves.read_now (omega (arith, moves.count));
+  began = began_on before.live now.live live new moves.read moves.read_now moves.first;
+  ahead = ahead_more before.live now.live live new 1 moves.read moves.read_now moves.first (λ unbroken. (moves.unbroken, next));
   waits = never_waits (entry ∷ []) before now live moves.read notes moves.tells;
   goes_on = λ origin base told. gone_read (entry ∷ []) before now live origin base moves.read moves.generation notes moves.tells
       (λ book is gone. (new, goes base book is gone))
@@ -164,6 +168,9 @@ checkpoint_fails laws before now live new pid since moves broke closed fault ros
         each = no_fault_shown from now.faults entry risen;
       };
   unread = λ none. absurd (not_both now.live new none moves.read_now);
+  flushed = flushed_more before.live now.live live new moves.read moves.read_now (omega (arith, moves.count));
+  began = began_on before.live now.live live new moves.read moves.read_now moves.first;
+  ahead = ahead_more before.live now.live live new 0 moves.read moves.read_now moves.first (λ unbroken. absurd (some_none since (sym broke ∙ unbroken)));
   waits = never_waits (entry ∷ []) before now live moves.read notes moves.tells;
   goes_on = λ origin base told. gone_read (entry ∷ []) before now live origin base moves.read moves.generation notes moves.tells
       (λ book is gone. (new, goes base book is gone))
@@ -243,6 +250,9 @@ skips past present_whole at book_now pid clean unread inside notes =
       later = omega arith;
       counts = λ from counted. record { counted = counted; each = no_fault_shown from at.faults entry tt };
       unread = λ none. (none, inr refl);
+      flushed = λ front is. is;
+      began = λ first is. is;
+      ahead = λ many is. ahead_still (entry ∷ []) many at.live refl is;
       waits = λ origin told. inl (waited_on (entry ∷ []) at (with_skip book_now at) origin notes (λ none. none) (λ book is waited.
           waited_push origin (with_skip book_now at) book entry waited.unread waited.begun (attended_still at.inside book entry (λ who n. refl) waited.attended) waited.legal waited.fresh waited.unredone waited.none_here waited.no_ticks tt
           (λ base same. record { attached = attends_in pid at.book book is inside; made = sym (ap is_some waited.unredone) })

@@ -16,7 +16,6 @@ use Rattle.pm_disk.specs.Files.{Files}
 use Rattle.pm_rows.specs.Fold.{RowMap}
 use Rattle.pm_rows.specs.Limits.{max_file_bytes}
 use Rattle.pm_rows.specs.Standing.{Standing}
-use Rattle.pm_record.specs.StandsFor.{Content}
 use Rattle.pm_record.specs.StandsFor as record_specs
 use Rattle.pm_record.specs.Pair.{Means, MeansIn, MeansWhat}
 use Rattle.pm_record.specs.OnDisk.{FollowsWithin, GoesOn, Rests as LogRests}
@@ -46,7 +45,9 @@ use Rattle.pm_segment.specs.Stands.{Begins, HasBegun, HasGone, HasHeld, HasRenew
 use Rattle.pm_segment.proofs.Books.{any_still, attended_still, each_later, each_push, gone_push, renewed_push, tells_new, waited_push}
 use Rattle.pm_segment.proofs.Resting.{means_now, tells_nothing}
 use Rattle.pm_segment.proofs.Runs.{beginning_kept, beginning_number, cut_count, cut_number, goes_by, notes_cut, history_push, opens, same_standing, standing}
-use Rattle.pm_segment.proofs.Steps.{Attends, IsQuiet, attends_in, counted_now, gone_quiet, gone_unread, held_alone, held_quiet, lengths_push, means_some, no_fault_shown, no_files, nobody_moves, not_both, opening_on, same_live, some_none, still, tells_none, waited_on, with_book}
+use Rattle.pm_record.specs.Pair.{PairStandsFor}
+use Rattle.pm_segment.specs.Redos.{IsFoundIn}
+use Rattle.pm_segment.proofs.Steps.{Attends, IsQuiet, ahead_found, ahead_unread, attends_in, began_unread, counted_now, flushed_unread, gone_quiet, gone_unread, held_alone, held_quiet, lengths_push, means_some, no_fault_shown, no_files, nobody_moves, not_both, opening_on, same_live, some_none, still, tells_none, waited_on, with_book}
 
 -- the laws of books that a redo keeps: of ticks, and of what is acknowledged
 pub record Laws : Type 0 where
@@ -148,6 +149,9 @@ reads_nothing past present_whole before now reads notes same = record {
   later = reads.later;
   counts = λ from counted. record { counted = counts_unread from before.faults now.faults before.live now.live reads.later reads.unread_now counted; each = All-nil (IsShown from now.faults) };
   unread = λ none. (reads.unread, inr same);
+  flushed = flushed_unread before.live now.live reads.unread;
+  began = began_unread before.live now.live reads.unread;
+  ahead = ahead_unread [] before.live now.live reads.unread reads.unread_now refl;
   waits = λ origin told. inl (waited_on [] before now origin notes reads.tells (λ book is waited. subst (HasWaited origin now) (sym (append-nil book)) (waits origin book waited)) (opening_read before now origin reads) told);
   goes_on = λ origin base told. gone_unread [] before now origin base reads.unread reads.generation notes reads.tells
       (λ book is sure renewed held. inr (subst (HasRenewed base now) (sym (append-nil book)) (renews base book renewed)))
@@ -211,6 +215,9 @@ reads_fault past present_whole before now pid since reads rose small inside note
         each = no_fault_shown from now.faults entry (omega (arith, counted.later, rose));
       };
       unread = λ none. (reads.unread, inl rose);
+      flushed = flushed_unread before.live now.live reads.unread;
+      began = began_unread before.live now.live reads.unread;
+      ahead = ahead_unread (entry ∷ []) before.live now.live reads.unread reads.unread_now refl;
       waits = λ origin told. inl (waited_on (entry ∷ []) before now origin notes reads.tells (λ book is waited.
           let new = tells_new origin.faults before.faults now.faults (faults_of book) waited.counted.later waited.counted.each rose reads.later small in
           waited_push origin now book entry reads.unread_now (subst (λ (n : ℕ). 1 ≤ n) (sym reads.generation) waited.begun)
@@ -242,7 +249,7 @@ reads_fault past present_whole before now pid since reads rose small inside note
 pub redoes_again : PastStays → PresentIsWhole → (at : Moment) (live : Live) (book_now : Option (List BookEntry)) (pid : ℕ) → at.live ≡ Some live → Attends pid at.book
     → NotesEntries (Redone pid at.generation live.kept ∷ []) at.book book_now → Moves (Redone pid at.generation live.kept ∷ []) at (with_book book_now at)
 redoes_again past present_whole at live book_now pid read inside notes =
-    still (entry ∷ []) at live book_now read notes (λ who n. refl) (λ from counted. no_fault_shown from at.faults entry tt)
+    still (entry ∷ []) at live book_now read notes (λ who n. refl) (λ from counted. no_fault_shown from at.faults entry tt) refl
     (λ base book told is.
     gone_quiet base at live book_now at.inside book entry quiet
     (record {
@@ -272,6 +279,7 @@ pub record Redoes (before now : Moment) (found : Found) (new : Live) : Type 0 wh
   pub read_now : now.live ≡ Some new
   pub log : new.log ≡ resumed found max_file_bytes
   pub kept : new.kept ≡ found.count
+  pub first : new.epoch ≡ found.epoch
   pub closed : new.closed ≡ false
   pub rows : now.rows ≡ found.rows
   pub fits : bytes_of_rows found.rows ≤ found.end + 1
@@ -513,6 +521,9 @@ redoes_first laws before now found new pid redoes inside notes = record {
     each = no_fault_shown from now.faults entry tt;
   };
   unread = λ none. absurd (not_both now.live new none redoes.read_now);
+  flushed = flushed_unread before.live now.live redoes.unread;
+  began = began_unread before.live now.live redoes.unread;
+  ahead = ahead_found (entry ∷ []) before.live now.live new redoes.unread redoes.read_now (ap (λ (l : Log). l.epoch) redoes.log ∙ sym redoes.first) refl;
   waits = λ origin told. begins origin before.book refl told;
   goes_on = λ origin base told. gone_unread (entry ∷ []) before now origin base redoes.unread redoes.generation notes still_told
       (λ book is sure renewed held.
@@ -555,6 +566,16 @@ redoes_first laws before now found new pid redoes inside notes = record {
           goes = subst (λ (b : Option (List BookEntry)). IfSome b (λ list. IsSure now → HasBegun base now list) × IfSome b (λ list. IfSome now.files (λ seen. HasHeld origin base now list))) (sym noted)
               ((λ sure. inl (new, redone_gone origin before now found new book pid redoes is inside waited)), held origin book waited before.files now.files redoes.finds redoes.follows opening);
         })
+
+-- the log goes on with the files as they read
+pub goes_on_found : (seen now : Option Files) (found : Found) (limit : ℕ) (new : Live) (behind : Files → Type 0) → new.log ≡ resumed found limit → new.epoch ≡ found.epoch → TellsStill (FindsNow found behind) seen now → IfSome seen (IsFoundIn new)
+goes_on_found None now found limit new behind log first finds = tt
+goes_on_found (Some files) None found limit new behind log first finds = absurd finds
+goes_on_found (Some files) (Some files_now) found limit new behind log first finds = record {
+  content = finds.content;
+  pair = subst (λ (l : Log). PairStandsFor files l.file finds.content l.end) (sym log) finds.pair;
+  epoch_is = first ∙ finds.is.epoch;
+}
 
 -- the log that goes on with what was found rests on the disk
 pub rests_found : (seen now : Option Files) (found : Found) (limit : ℕ) (new : Live) (behind : Files → Type 0) → new.log ≡ resumed found limit → new.closed ≡ false → TellsStill (FindsNow found behind) seen now → ∥ Rests (Some new) found.rows now behind ∥₁

@@ -29,8 +29,10 @@ use Rattle.pm_query.specs.Durable.{HoldsFrom, Keeps}
 use Rattle.pm_segment.specs.declared.live.Live.{Live}
 use Rattle.pm_segment.specs.Moment.{Moment}
 use Rattle.pm_segment.specs.Moves.{BreakIsShown, IsCountedFrom, IsShown, IsShownAt, Moves, NotesEntries}
-use Rattle.pm_segment.specs.MovesLaws.{moves_none, notes_none, time_still}
+use Rattle.pm_segment.specs.Epochs.{BeganIn, IsAheadBy, epochs_in}
+use Rattle.pm_segment.specs.MovesLaws.{ahead_still, moves_none, notes_none, time_still}
 use Rattle.pm_segment.specs.Children.{IsAttendedBy, once, times_behind, times_in}
+use Rattle.pm_segment.specs.Passes.{IsFlushed}
 use Rattle.pm_segment.specs.Stands.{Begins, GoesFrom, HasBegun, HasGone, HasHeld, HasNoTick, HasRenewed, HasWaited, IsFaultBy, IsOpening, IsSure, MeansWithin, Origin, TellsBreak, WaitsFrom, most_bytes}
 use Rattle.pm_segment.proofs.Books.{IsNotGone, any_still, attended_push, attended_still, base-with_commit, closed_push, count-with_commit, each_later, each_push, faults_push, generation_push, gone_push, here_push, legal_push, most_grows, needs_push, redone_push, renewed_push, rows-with_commit, tells_new, tick_push, times_push, waited_push}
 use Rattle.pm_segment.proofs.Runs.{covers_commit, covers_number, goes_by, history_push, holds_in, holds_so, next_commit, notes_another, notes_answer, notes_release, of_rows, same_standing, standing}
@@ -189,12 +191,13 @@ nobody_moves entries before now same none pid = ap (times_in pid) same ∙ sym (
 pub still_in : (entries : List BookEntry) (at : Moment) (book_now : Option (List BookEntry)) (inside_now : List ℕ) → NotesEntries entries at.book book_now
     → ((pid : ℕ) → times_in pid inside_now ≡ times_behind entries pid (times_in pid at.inside))
     → ((from : ℕ) → IsCountedFrom from at.faults at.live → All (IsShown from at.faults) entries)
+    → epochs_in entries ≡ 0
     → ((origin : Origin) (book : List BookEntry) → at.book ≡ Some book → HasWaited origin at book → HasWaited origin (with_child book_now inside_now at) (book ++ entries))
     → ((base : Base) (live : Live) (book : List BookEntry) → at.book ≡ Some book → HasGone base at live book → HasGone base (with_child book_now inside_now at) live (book ++ entries))
     → ((base : Base) (book : List BookEntry) → at.book ≡ Some book → HasRenewed base at book → HasRenewed base (with_child book_now inside_now at) (book ++ entries))
     → ((origin : Origin) (base : Base) (book : List BookEntry) → HasBegun base at book → HasHeld origin base at book → HasHeld origin base (with_child book_now inside_now at) (book ++ entries))
     → Moves entries at (with_child book_now inside_now at)
-still_in entries at book_now inside_now notes attends shown waits goes renews holds = record {
+still_in entries at book_now inside_now notes attends shown no_epoch waits goes renews holds = record {
   notes = notes;
   generation = refl;
   attends = attends;
@@ -202,6 +205,9 @@ still_in entries at book_now inside_now notes attends shown waits goes renews ho
   later = omega arith;
   counts = λ from counted. record { counted = counted; each = shown from counted };
   unread = λ none. (none, inr refl);
+  flushed = λ front is. is;
+  began = λ first is. is;
+  ahead = λ many is. ahead_still entries many at.live no_epoch is;
   waits = λ origin told. inl (waited_on entries at now origin notes (λ none. none) (λ book is waited. waits origin book is waited) (λ book seen tells waited opening. opening) told);
   goes_on = λ origin base told. gone_on entries at now origin base notes (λ none. none) (λ sure. sure) (λ book is sure begun held. each base book is begun) (λ book seen tells begun held. holds origin base book begun held) told;
 }
@@ -217,10 +223,11 @@ still_in entries at book_now inside_now notes attends shown waits goes renews ho
 pub still : (entries : List BookEntry) (at : Moment) (live : Live) (book_now : Option (List BookEntry)) → at.live ≡ Some live → NotesEntries entries at.book book_now
     → ((pid n : ℕ) → times_behind entries pid n ≡ n)
     → ((from : ℕ) → IsCountedFrom from at.faults at.live → All (IsShown from at.faults) entries)
+    → epochs_in entries ≡ 0
     → ((base : Base) (book : List BookEntry) → at.book ≡ Some book → HasGone base at live book → HasGone base (with_book book_now at) live (book ++ entries))
     → ((origin : Origin) (base : Base) (book : List BookEntry) → HasGone base at live book → HasHeld origin base at book → HasHeld origin base (with_book book_now at) (book ++ entries))
     → Moves entries at (with_book book_now at)
-still entries at live book_now read notes none shown goes holds = record {
+still entries at live book_now read notes none shown no_epoch goes holds = record {
   notes = notes;
   generation = refl;
   attends = nobody_moves entries at (with_book book_now at) refl none;
@@ -228,6 +235,9 @@ still entries at live book_now read notes none shown goes holds = record {
   later = omega arith;
   counts = λ from counted. record { counted = counted; each = shown from counted };
   unread = λ none. (none, inr refl);
+  flushed = λ front is. is;
+  began = λ first is. is;
+  ahead = λ many is. ahead_still entries many at.live no_epoch is;
   waits = never_waits entries at (with_book book_now at) live read notes (λ none. none);
   goes_on = λ origin base told. gone_read entries at (with_book book_now at) live origin base read refl notes (λ none. none) (λ book is gone. (live, goes base book is gone)) (λ book seen tells gone held. holds origin base book gone held) told;
 }
@@ -365,7 +375,7 @@ once_more who pid inside = each (nat_eq who pid) (times_in who inside) ∙ sym (
 pub enters : PastStays → PresentIsWhole → (at : Moment) (book_now : Option (List BookEntry)) (pid : ℕ) → NotesEntries (Attached pid at.generation ∷ []) at.book book_now
     → Moves (Attached pid at.generation ∷ []) at (with_child book_now (at.inside ++ pid ∷ []) at)
 enters past present_whole at book_now pid notes =
-    still_in (entry ∷ []) at book_now (at.inside ++ pid ∷ []) notes (λ who. sym (once_more who pid at.inside)) (λ from counted. no_fault_shown from at.faults entry tt)
+    still_in (entry ∷ []) at book_now (at.inside ++ pid ∷ []) notes (λ who. sym (once_more who pid at.inside)) (λ from counted. no_fault_shown from at.faults entry tt) refl
     (λ origin book told is. waited_quiet origin at book_now (at.inside ++ pid ∷ []) book entry tt (attended book is.attended) (λ base. record { begun = is.begun; present = sym is.generation })
     (λ n. refl) refl (λ es. refl) refl refl (λ h. refl) (λ n. refl) (λ fs. refl) refl (λ n. refl) (λ start mark. tt) is)
     (λ base live book told is. gone_quiet base at live book_now (at.inside ++ pid ∷ []) book entry (quiet live) (record { begun = is.begun; present = sym is.generation }) (attended book is.attended) is)
@@ -391,7 +401,7 @@ pub leaves : PastStays → PresentIsWhole → (at : Moment) (book_now : Option (
     → ((who : ℕ) → times_in who inside_now ≡ cond (nat_eq who pid) (times_in who at.inside - 1) (times_in who at.inside))
     → NotesEntries (Detached pid ∷ []) at.book book_now → Moves (Detached pid ∷ []) at (with_child book_now inside_now at)
 leaves past present_whole at book_now inside_now pid inside once_less notes =
-    still_in (Detached pid ∷ []) at book_now inside_now notes once_less (λ from counted. no_fault_shown from at.faults (Detached pid) tt)
+    still_in (Detached pid ∷ []) at book_now inside_now notes once_less (λ from counted. no_fault_shown from at.faults (Detached pid) tt) refl
     (λ origin book told is. waited_quiet origin at book_now inside_now book (Detached pid) tt (attended book is.attended) (λ base. attends_in pid at.book book told inside)
     (λ n. refl) refl (λ es. refl) refl refl (λ h. refl) (λ n. refl) (λ fs. refl) refl (λ n. refl) (λ start mark. tt) is)
     (λ base live book told is. gone_quiet base at live book_now inside_now book (Detached pid) (quiet live) (attends_in pid at.book book told inside) (attended book is.attended) is)
@@ -416,7 +426,7 @@ pub releases : PastStays → PresentIsWhole → (at : Moment) (live : Live) (boo
     → IfSome at.book (λ list. Any (AnswersUpTo pid front) (present list)) → NotesEntries (Released pid front at.ticks ∷ []) at.book book_now → Moves (Released pid front at.ticks ∷ []) at (with_book book_now at)
 releases past present_whole at live book_now pid front read flushed inside answered notes =
     let entry : BookEntry = Released pid front at.ticks in
-    still (entry ∷ []) at live book_now read notes (λ who n. refl) (λ from counted. no_fault_shown from at.faults entry tt)
+    still (entry ∷ []) at live book_now read notes (λ who n. refl) (λ from counted. no_fault_shown from at.faults entry tt) refl
     (λ base book told is.
     gone_push base (with_book book_now at) live book entry (acknowledged (history_of base book) front) is.read is.legal is.generation
     (record {
@@ -468,7 +478,7 @@ pub reads : PastStays → PresentIsWhole → (at : Moment) (live : Live) (book_n
 reads past present_whole at live book_now pid script reply commit read unbroken inside reply_is commit_is nothing notes =
     let entry : BookEntry = Answered pid script reply commit live.log.count at.ticks in
     let bare : BookEntry = Answered pid script reply [] live.log.count at.ticks in
-    still (entry ∷ []) at live book_now read notes (λ who n. refl) (λ from counted. no_fault_shown from at.faults entry tt)
+    still (entry ∷ []) at live book_now read notes (λ who n. refl) (λ from counted. no_fault_shown from at.faults entry tt) refl
     (λ base book told is.
     let done : HasGone base (with_book book_now at) live (book ++ bare ∷ []) =
     gone_push base (with_book book_now at) live book bare (history_of base book) is.read is.legal is.generation
@@ -568,6 +578,41 @@ opening_on origin start before now i k begun within time opening = λ t le ge im
 abbrev pub with_need : Live → List Change → ℕ
 with_need live commit = live.log.end + 1 + log.need_of (commit ∷ [])
 
+-- what is flushed is so still where the log has no fewer commits
+pub flushed_more : (o o_now : Option Live) (live new : Live) → o ≡ Some live → o_now ≡ Some new → live.log.count ≤ new.log.count → (front : Option ℕ) → IsFlushed front o → IsFlushed front o_now
+flushed_more o o_now live new read read_now le None is = tt
+flushed_more o o_now live new read read_now le (Some front) is =
+    let was : front ≤ live.log.count = subst (IsFlushed (Some front)) read is in
+    subst (IsFlushed (Some front)) (sym read_now) (omega (arith, was, le))
+
+-- nothing is where the log wasn't read
+pub flushed_unread : (o o_now : Option Live) → o ≡ None → (front : Option ℕ) → IsFlushed front o → IsFlushed front o_now
+flushed_unread o o_now unread None is = tt
+flushed_unread o o_now unread (Some front) is = absurd (subst (IsFlushed (Some front)) unread is)
+
+-- the log that was read goes on in the generation
+pub began_on : (o o_now : Option Live) (live new : Live) → o ≡ Some live → o_now ≡ Some new → new.epoch ≡ live.epoch → (first : ℕ) → BeganIn first o → BeganIn first o_now
+began_on o o_now live new read read_now same first is = subst (BeganIn first) (sym read_now) (same ∙ subst (BeganIn first) read is)
+
+-- and comes so many epochs further, unless it breaks
+pub ahead_more : (o o_now : Option Live) (live new : Live) (more : ℕ) → o ≡ Some live → o_now ≡ Some new → new.epoch ≡ live.epoch
+    → (new.log.since ≡ None → (live.log.since ≡ None) × (new.log.epoch ≡ live.log.epoch + more)) → (many : ℕ) → IsAheadBy many o → IsAheadBy (many + more) o_now
+ahead_more o o_now live new more read read_now same step many is =
+    let was : IsAheadBy many (Some live) = subst (IsAheadBy many) read is in
+    subst (IsAheadBy (many + more)) (sym read_now) (λ whole. let made = step whole in omega (arith, was made.0, made.1, same))
+
+-- one that wasn't read is still unread, or found in its first epoch
+pub began_unread : (o o_now : Option Live) → o ≡ None → (first : ℕ) → BeganIn first o → BeganIn first o_now
+began_unread o o_now unread first is = absurd (subst (BeganIn first) unread is)
+
+pub ahead_unread : (entries : List BookEntry) (o o_now : Option Live) → o ≡ None → o_now ≡ None → epochs_in entries ≡ 0 → (many : ℕ) → IsAheadBy many o → IsAheadBy (many + epochs_in entries) o_now
+ahead_unread entries o o_now unread unread_now none many is = ahead_still entries many o_now none (subst (IsAheadBy many) (unread ∙ sym unread_now) is)
+
+pub ahead_found : (entries : List BookEntry) (o o_now : Option Live) (new : Live) → o ≡ None → o_now ≡ Some new → new.log.epoch ≡ new.epoch → epochs_in entries ≡ 0 → (many : ℕ) → IsAheadBy many o → IsAheadBy (many + epochs_in entries) o_now
+ahead_found entries o o_now new unread read_now found none many is =
+    let first : many ≡ 0 = subst (IsAheadBy many) unread is in
+    subst (IsAheadBy (many + epochs_in entries)) (sym read_now) (λ whole. omega (arith, first, none, found))
+
 -- all that an append says, for the history
 pub record Appends (before now : Moment) (live new : Live) (commit : List Change) : Type 0 where
   pub generation : now.generation ≡ before.generation
@@ -579,6 +624,8 @@ pub record Appends (before now : Moment) (live new : Live) (commit : List Change
   pub kept : new.kept ≡ live.kept
   pub closed : new.closed ≡ live.closed
   pub limit : new.log.limit ≡ live.log.limit
+  pub epoch : new.log.epoch ≡ live.log.epoch
+  pub first : new.epoch ≡ live.epoch
   pub rows : now.rows ≡ committed before.rows commit
   pub time : GoesOn before.ticks now.ticks before.images now.images
   pub later : before.faults ≤ now.faults
@@ -666,6 +713,9 @@ commits past present_whole before now live new pid script reply (change ∷ chan
     each = no_fault_shown from now.faults entry tt;
   };
   unread = λ none. absurd (not_both now.live new none appends.read_now);
+  flushed = flushed_more before.live now.live live new appends.read appends.read_now (omega (arith, count));
+  began = began_on before.live now.live live new appends.read appends.read_now appends.first;
+  ahead = ahead_more before.live now.live live new 0 appends.read appends.read_now appends.first (λ whole. (appends.unbroken, omega (arith, appends.epoch)));
   waits = never_waits (entry ∷ []) before now live appends.read notes appends.tells;
   goes_on = λ origin base told. gone_read (entry ∷ []) before now live origin base appends.read appends.generation notes appends.tells
       (λ book is gone. (new, goes base book is gone)) (λ book seen tells gone held. holds origin base book seen tells gone held) told;
@@ -737,6 +787,9 @@ loses past present_whole before now live new pid since script reply (change ∷ 
         each = All-push (IsShown from now.faults) (first ∷ []) second (no_fault_shown from now.faults first tt) risen;
       };
   unread = λ none. absurd (not_both now.live new none appends.read_now);
+  flushed = flushed_more before.live now.live live new appends.read appends.read_now (omega (arith, count));
+  began = began_on before.live now.live live new appends.read appends.read_now appends.first;
+  ahead = ahead_more before.live now.live live new 0 appends.read appends.read_now appends.first (λ whole. (appends.unbroken, omega (arith, appends.epoch)));
   waits = never_waits (first ∷ second ∷ []) before now live appends.read notes appends.tells;
   goes_on = λ origin base told. gone_read (first ∷ second ∷ []) before now live origin base appends.read appends.generation notes appends.tells
       (λ book is gone. (new, subst (HasGone base now new) (append_assoc book (first ∷ []) (second ∷ [])) (goes base book is gone)))
@@ -817,7 +870,7 @@ pub finds_broken : PastStays → PresentIsWhole → (at : Moment) (live : Live) 
     → NotesEntries (Broke pid since live.faults ∷ []) at.book book_now → Moves (Broke pid since live.faults ∷ []) at (with_book book_now at)
 finds_broken past present_whole at live book_now pid since read broke inside notes =
     let entry : BookEntry = Broke pid since live.faults in
-    still (entry ∷ []) at live book_now read notes (λ who n. refl) (λ from counted. no_fault_shown from at.faults entry (shown_of from at.faults at.live live since read broke counted.shown))
+    still (entry ∷ []) at live book_now read notes (λ who n. refl) (λ from counted. no_fault_shown from at.faults entry (shown_of from at.faults at.live live since read broke counted.shown)) refl
     (λ base book told is.
     let tells : TellsBreak (Some since) live.faults (faults_here book) = subst (λ (s : Option ℕ). TellsBreak s live.faults (faults_here book)) broke is.broken in
     gone_push base (with_book book_now at) live book entry (history_of base book) is.read is.legal is.generation
@@ -845,7 +898,7 @@ pub finds_full : PastStays → PresentIsWhole → (at : Moment) (live : Live) (b
     → NotesEntries (LogFull pid script need room ∷ []) at.book book_now → Moves (LogFull pid script need room ∷ []) at (with_book book_now at)
 finds_full past present_whole at live book_now pid need room script commit read unbroken inside commit_is need_is above cause notes =
     let entry : BookEntry = LogFull pid script need room in
-    still (entry ∷ []) at live book_now read notes (λ who n. refl) (λ from counted. no_fault_shown from at.faults entry tt)
+    still (entry ∷ []) at live book_now read notes (λ who n. refl) (λ from counted. no_fault_shown from at.faults entry tt) refl
     (λ base book told is.
     let because : ((count_of (history_of base book) ≡ 2 ^ 64 - 1) × (room ≡ 0)) ⊎ (max_file_bytes ≤ room + base.bytes + 1024 + needs_of book) = elim cause [
       | inl spent ↦ inl (sym (is.count_is unbroken) ∙ spent.0, spent.1)

@@ -1,7 +1,7 @@
 -- The answer of a script that was run.
-use Rattle.std.specs.Prelude.{◌≡◌}
+use Rattle.std.specs.Prelude.{◌≡◌, ◌≢◌, []}
 use Rattle.pm_rows.specs.Fold.{RowMap}
-use Rattle.pm_query.specs.Answer.{commit_of, items_of}
+use Rattle.pm_query.specs.Answer.{Writes, commit_of, items_of}
 use Rattle.pm_query.specs.Limits.{IsWithinCommitLimits, KeepsRowLimits, KeepsShortRows, ShowsShortValues}
 use Rattle.pm_segment.specs.declared.ran.Ran.{Ran}
 
@@ -10,6 +10,7 @@ pub record IsAnswerOn (rows : RowMap) (ran : Ran) : Type 0 where
   pub reply_is : ran.reply ≡ items_of rows ran.script
   pub noted_is : ran.noted ≡ ran.reply
   pub commit_is : ran.commit ≡ commit_of rows ran.script
+  pub writes : ran.commit ≢ [] → Writes ran.script
   pub commit_limits : IsWithinCommitLimits ran.commit
   pub row_limits : KeepsRowLimits rows ran.commit
   pub short_rows : KeepsShortRows rows ran.commit

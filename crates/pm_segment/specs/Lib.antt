@@ -1,5 +1,8 @@
 pub mod Answers
+pub mod Causes
 pub mod Children
+pub mod Epochs
+pub mod Fronts
 pub mod Moment
 pub mod Moves
 pub mod MovesLaws

@@ -8,7 +8,9 @@ use Rattle.pm_query.specs.declared.book.BookEntry.TheVariants.{Broke}
 use Rattle.pm_query.specs.Book.{Base}
 use Rattle.pm_segment.specs.declared.live.Live.{Live}
 use Rattle.pm_segment.specs.Children.{times_behind, times_in}
+use Rattle.pm_segment.specs.Epochs.{BeganIn, IsAheadBy, epochs_in}
 use Rattle.pm_segment.specs.Moment.{Moment}
+use Rattle.pm_segment.specs.Passes.{IsFlushed}
 use Rattle.pm_segment.specs.Stands.{Begins, GoesFrom, Origin, WaitsFrom}
 
 -- these entries were added, where the book tells
@@ -52,8 +54,9 @@ abbrev pub StaysUnread : (before now : Moment) → Type 0
 StaysUnread before now = now.live ≡ None → (before.live ≡ None) × (Rose before.faults now.faults ⊎ (now.files ≡ before.files))
 
 -- These entries were noted. What held from a beginning holds from it still, or the first redo has come; what a stop could
--- leave before is as it was. Each fault that was noted was counted, and each child is inside as often as the entries make
--- of how often it was, whether book and disk tell or not.
+-- leave before is as it was. Each fault that was noted was counted, each child is inside as often as the entries make of how
+-- often it was, what was flushed is so still, and the log has come one epoch further for each checkpoint that was made,
+-- whether book and disk tell or not.
 pub record Moves (entries : List BookEntry) (before now : Moment) : Type 0 where
   pub notes : NotesEntries entries before.book now.book
   pub generation : now.generation ≡ before.generation
@@ -61,6 +64,9 @@ pub record Moves (entries : List BookEntry) (before now : Moment) : Type 0 where
   pub time : GoesOn before.ticks now.ticks before.images now.images
   pub later : before.faults ≤ now.faults
   pub unread : StaysUnread before now
+  pub flushed : (front : Option ℕ) → IsFlushed front before.live → IsFlushed front now.live
+  pub began : (first : ℕ) → BeganIn first before.live → BeganIn first now.live
+  pub ahead : (many : ℕ) → IsAheadBy many before.live → IsAheadBy (many + epochs_in entries) now.live
   pub counts : (from : ℕ) → IsCountedFrom from before.faults before.live → CountsEntries from entries now.faults now.live
   pub waits : (origin : Origin) → WaitsFrom origin before → WaitsFrom origin now ⊎ Begins origin now
   pub goes_on : (origin : Origin) (base : Base) → GoesFrom origin base before → GoesFrom origin base now

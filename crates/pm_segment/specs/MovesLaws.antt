@@ -1,8 +1,8 @@
 -- The laws of what the calls of a store do.
-use Rattle.std.proofs.Common.{◌⊎◌, inl, inr, ℕ, ◌≤◌, List, [], ◌++◌, Option, None, Some, refl, sym, ◌∙◌, ap, arith, append_assoc, append-nil}
+use Rattle.std.proofs.Common.{◌≡◌, ◌⊎◌, inl, inr, ℕ, ◌+◌, ◌≤◌, List, [], ◌++◌, Option, None, Some, refl, sym, ◌∙◌, ap, subst, arith, append_assoc, append-nil}
 use Rattle.std.specs.Option.{option_map}
 use Rattle.std.proofs.lemmas.List.Elements.{All-nil, All-append, All-weaker}
-use Rattle.std.proofs.lemmas.List.Sums.{fold-append}
+use Rattle.std.proofs.lemmas.List.Sums.{fold-append, sum_by-append}
 use Rattle.pm_disk.specs.Cause.{Rose}
 use Rattle.pm_disk.specs.Files.{Files}
 use Rattle.pm_record.specs.OnDisk.{GoesOn}
@@ -10,6 +10,8 @@ use Rattle.pm_query.specs.declared.book.BookEntry.{BookEntry}
 use Rattle.pm_query.specs.declared.book.BookEntry.TheVariants.{Opened, Attached, Redone, Answered, Released, Detached, Gone, CheckpointEnded, Broke, LogFull}
 use Rattle.pm_query.specs.Book.{Base, times_after}
 use Rattle.pm_segment.specs.Children.{times_behind, times_in}
+use Rattle.pm_segment.specs.declared.live.Live.{Live}
+use Rattle.pm_segment.specs.Epochs.{IsAheadBy, begun_by, epochs_in}
 use Rattle.pm_segment.specs.Moment.{Moment}
 use Rattle.pm_segment.specs.Moves.{IsShown, CountsEntries, Moves, NotesEntries, StaysUnread}
 use Rattle.pm_segment.specs.Stands.{Begins, IsBaseOf, Origin, WaitsFrom}
@@ -67,6 +69,22 @@ unread_on before between now le ge one two = λ none.
       ],
     )
 
+-- a generation that stays hasn't fallen
+pub never_falls : (before now : ℕ) → now ≡ before → before ≤ now
+never_falls before now same = omega arith
+
+-- ---- epochs
+
+-- entries that begin no epoch
+pub ahead_still : (entries : List BookEntry) (many : ℕ) (o : Option Live) → epochs_in entries ≡ 0 → IsAheadBy many o → IsAheadBy (many + epochs_in entries) o
+ahead_still entries many o none is = let same : many ≡ many + epochs_in entries = omega (arith, none) in subst (λ (n : ℕ). IsAheadBy n o) same is
+
+-- some, and then some more
+ahead_both : (first second : List BookEntry) (many : ℕ) (o : Option Live) → IsAheadBy ((many + epochs_in first) + epochs_in second) o → IsAheadBy (many + epochs_in (first ++ second)) o
+ahead_both first second many o is =
+    let same : (many + epochs_in first) + epochs_in second ≡ many + epochs_in (first ++ second) = omega (arith, sum_by-append begun_by first second) in
+    subst (λ (n : ℕ). IsAheadBy n o) same is
+
 pub moves_none : (at : Moment) → Moves [] at at
 moves_none at = record {
   notes = notes_none at.book;
@@ -76,6 +94,9 @@ moves_none at = record {
   later = omega arith;
   counts = λ from counted. record { counted = counted; each = All-nil (IsShown from at.faults) };
   unread = λ none. (none, inr refl);
+  flushed = λ front is. is;
+  began = λ first is. is;
+  ahead = λ many is. ahead_still [] many at.live refl is;
   waits = λ origin stands. inl stands;
   goes_on = λ origin base stands. stands;
 }
@@ -88,6 +109,9 @@ moves_on first second before between now one two = record {
   time = time_on before.ticks between.ticks now.ticks before.images between.images now.images one.time two.time;
   later = omega (arith, one.later, two.later);
   unread = unread_on before between now one.later two.later one.unread two.unread;
+  flushed = λ front is. two.flushed front (one.flushed front is);
+  began = λ in_epoch is. two.began in_epoch (one.began in_epoch is);
+  ahead = λ many is. ahead_both first second many now.live (two.ahead (many + epochs_in first) (one.ahead many is));
   counts = λ from counted.
       let a : CountsEntries from first between.faults between.live = one.counts from counted in
       let b : CountsEntries from second now.faults now.live = two.counts from a.counted in

@@ -6,6 +6,7 @@ use Rattle.pm_query.specs.Calls.{PassView, User, user_of}
 use Rattle.pm_segment.specs.declared.live.Live.{Live}
 use Rattle.pm_segment.specs.declared.pass.Pass.{Pass}
 use Rattle.pm_segment.specs.Children.{times_in}
+use Rattle.pm_segment.specs.Fronts.{flushed_of}
 use Rattle.pm_segment.specs.Moment.{Moment}
 
 abbrev pub view_of : Pass → PassView
@@ -29,7 +30,7 @@ pub record IsInside (pid : ℕ) (front : Option ℕ) (book : List BookEntry) : T
 abbrev pub IsFlushed : Option ℕ → Option Live → Type 0
 IsFlushed None live = Unit {0}
 IsFlushed (Some front) None = ⊥
-IsFlushed (Some front) (Some live) = front ≤ live.log.count
+IsFlushed (Some front) (Some live) = front ≤ flushed_of live
 
 -- An `enter` answered the pass: it is of the present generation, and its child is inside.
 pub record Admits (pass : Pass) (at : Moment) : Type 0 where

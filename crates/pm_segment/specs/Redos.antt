@@ -11,9 +11,10 @@ use Rattle.pm_log.specs.declared.log.Log.{Log}
 use Rattle.pm_query.specs.declared.store.Checkpointed.{Checkpointed}
 use Rattle.pm_query.specs.declared.store.Checkpointed.TheVariants.{Done, Skipped, NotDue}
 use Rattle.pm_query.specs.declared.store.StoreNo.{StoreNo}
-use Rattle.pm_query.specs.declared.store.StoreNo.TheVariants.{Disk, Broken, Full, Redo}
+use Rattle.pm_query.specs.declared.store.StoreNo.TheVariants.{Disk, Broken, Full, NoMemory, Redo}
 use Rattle.pm_query.specs.Calls.{due_bytes}
 use Rattle.pm_redo.specs.Found.{IsReason}
+use Rattle.pm_segment.specs.Fronts.{flushed_of}
 use Rattle.pm_segment.specs.Moment.{Moment}
 use Rattle.pm_segment.specs.declared.live.Live.{Live}
 
@@ -76,6 +77,16 @@ LeavesFiles before now result = (fault : RedoFault) → result ≡ Err (Redo fau
 abbrev pub LeavesUnread : Option Live → Result ℕ StoreNo → Type 0
 LeavesUnread live result = (fault : RedoFault) → result ≡ Err (Redo fault) → fault ≢ reasons.NoMemory → live ≡ None
 
+-- These files stand for a content of the epoch that the generation's first redo found, and the log goes on at its end.
+pub record IsFoundIn (its : Live) (files : Files) : Type 0 where
+  pub content : Content
+  pub pair : PairStandsFor files its.log.file content its.log.end
+  pub epoch_is : its.epoch ≡ content.epoch
+
+-- so the first redo of a generation goes on with the files as they read
+abbrev pub GoesOnAsFound : (before now : Moment) → Type 0
+GoesOnAsFound before now = before.live ≡ None → (its : Live) → now.live ≡ Some its → IfSome before.files (IsFoundIn its)
+
 -- a redo that is refused so says nothing of the files: the disk has failed, or memory was short
 abbrev pub SaysNothing : RedoFault → Type 0
 SaysNothing reasons.Disk = Unit {0}
@@ -84,9 +95,10 @@ SaysNothing _ = ⊥
 
 -- what a flush answers: nothing is staged, so all that the log has is flushed
 abbrev pub FlushCause : Option Live → Result ℕ StoreNo → Type 0
-FlushCause live (Ok flushed) = (its : Live) × (live ≡ Some its) × (its.log.since ≡ None) × (flushed ≡ its.log.count)
+FlushCause live (Ok flushed) = (its : Live) × (live ≡ Some its) × (its.log.since ≡ None) × (flushed ≡ flushed_of its)
 FlushCause live (Err (Broken since)) = IsBroken live since
-FlushCause live (Err _) = Unit {0}
+FlushCause live (Err NoMemory) = Unit {0}
+FlushCause live (Err _) = ⊥
 
 -- The files stand for these rows after all commits, in this epoch: a base with nothing behind it, clean or not.
 pub record StandsAfresh (epoch : ℕ) (clean : Bool) (log : Log) (rows : RowMap) (files : Files) : Type 0 where

@@ -9,6 +9,7 @@ use Rattle.pm_query.specs.History.{count_of, rows_of}
 use Rattle.pm_query.specs.Book.{Base, IsLegal, faults_here, history_of, is_closed}
 use Rattle.pm_query.specs.Durable.{HoldsAcknowledged, IsDurable}
 use Rattle.pm_segment.specs.declared.live.Live.{Live}
+use Rattle.pm_segment.specs.Fronts.{whole_of}
 use Rattle.pm_segment.specs.Moment.{Moment}
 use Rattle.pm_segment.specs.Redos.{IsCleanAt, SaysNothing}
 use Rattle.pm_segment.specs.Stands.{Origin}
@@ -18,7 +19,7 @@ use Rattle.pm_segment.specs.Stands.{Origin}
 pub record IsReplay (base : Base) (at : Moment) (book : List BookEntry) : Type 0 where
   pub legal : IsLegal base book
   pub rows_are : (live : Live) → at.live ≡ Some live → at.rows ≡ rows_of (history_of base book)
-  pub count_is : (live : Live) → at.live ≡ Some live → live.log.since ≡ None → live.log.count ≡ count_of (history_of base book)
+  pub count_is : (live : Live) → at.live ≡ Some live → live.log.since ≡ None → whole_of live ≡ count_of (history_of base book)
 
 -- the disk's stops are those of a durable run since the store got it
 abbrev pub IsRun : Origin → Base → Moment → List BookEntry → Type 0

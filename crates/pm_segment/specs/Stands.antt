@@ -14,6 +14,7 @@ use Rattle.pm_query.specs.Book.{Base, IsLegal, faults_here, faults_of, generatio
 use Rattle.pm_query.specs.Durable.{HoldsFrom, IsWithin, Keeps, MeansAsOne}
 use Rattle.pm_segment.specs.declared.live.Live.{Live}
 use Rattle.pm_segment.specs.Children.{IsAttendedBy}
+use Rattle.pm_segment.specs.Fronts.{flushed_of, whole_of}
 use Rattle.pm_segment.specs.Moment.{Moment, Told}
 
 -- The disk as the store got it: the files as they read, and its counts of calls and of faults.
@@ -88,7 +89,7 @@ pub record HasGone (base : Base) (at : Moment) (live : Live) (book : List BookEn
   pub broken : TellsBreak live.log.since live.faults (faults_here book)
   pub known : (since : ℕ) → live.log.since ≡ Some since → live.faults ≤ at.faults
   pub rows_are : at.rows ≡ rows_of (history_of base book)
-  pub count_is : live.log.since ≡ None → live.log.count ≡ count_of (history_of base book)
+  pub count_is : live.log.since ≡ None → whole_of live ≡ count_of (history_of base book)
   pub base_is : (history_of base book).base ≡ standing_of base
   pub base_fits : bytes_of_rows base.rows ≤ base.bytes
   pub fits : live.log.since ≡ None → live.log.end + 1 ≤ most_bytes base book
@@ -133,7 +134,7 @@ pub record HasHeld (origin : Origin) (base : Base) (at : Moment) (book : List Bo
   pub begun : origin.tick ≤ start
   pub opening : IsOpening origin start at.images
   pub flushed : ℕ
-  pub flushed_is : (live : Live) → at.live ≡ Some live → flushed ≡ live.log.count
+  pub flushed_is : (live : Live) → at.live ≡ Some live → flushed ≡ flushed_of live
   pub keeps : Keeps Means base book start at.ticks at.ticks flushed at.images
   pub lengths : (image : Files) → at.images at.ticks image → HoldsFrom (MeansWithin (most_bytes base book)) flushed (history_of base book) image
 

@@ -22,7 +22,8 @@ impl<D: Disk, B: Chronicle<BookEntry>> Segment<D, B> {
     ghost use Rattle.pm_query.specs.declared.book.BookEntry.{BookEntry};
     ghost use Rattle.pm_query.specs.Calls.{with_front, RunNotes, ReachesNoLess};
     ghost use Rattle.pm_segment.specs.Answers.{IsAnswerOn};
-    ghost use Rattle.pm_segment.specs.Moment.{moment};
+    ghost use Rattle.pm_segment.specs.Causes.{MakesNoCall, RunCause};
+    ghost use Rattle.pm_segment.specs.Moment.{HasLogOf, moment};
     ghost use Rattle.pm_segment.specs.Moves.{Moves};
     ghost use Rattle.pm_segment.specs.Passes.{Admits, user_in, view_of};
 
@@ -41,6 +42,7 @@ impl<D: Disk, B: Chronicle<BookEntry>> Segment<D, B> {
         ensures reply { result.reply ≡ ran.reply }
         ensures fresh { ReachesNoLess (view_of pass.old) result.front }
         ensures view { view_of pass.new ≡ with_front result.front (view_of pass.old) }
+        ensures rest { HasLogOf self.old self.new }
     {
         history_laws();
         let tick = self.disk.ticks();
@@ -64,6 +66,8 @@ impl<D: Disk, B: Chronicle<BookEntry>> Segment<D, B> {
         ensures view { IfOk result (λ staged. view_of pass.new ≡ with_front staged.front
             (view_of pass.old)) }
         ensures refused { OnErr result (view_of pass.new ≡ view_of pass.old) }
+        ensures cause { RunCause (moment self.old) ran.script result }
+        ensures rest { MakesNoCall self.old.rows ran.script result → HasLogOf self.old self.new }
     {
         if live.closed {
             return Err(StoreNo::NoMemory);
@@ -87,6 +91,8 @@ impl<D: Disk, B: Chronicle<BookEntry>> Segment<D, B> {
             × Moves entries (moment self.old) (moment self.new)
             × RunNotes (user_in (moment self.old) pass) ran.script (Err result) entries }
         ensures admits { Admits pass (moment self.new) }
+        ensures cause { RunCause (moment self.old) ran.script (Err result) }
+        ensures rest { HasLogOf self.old self.new }
     {
         history_laws();
         let need = 5 + body_length(slice::from_ref(&ran.commit));
@@ -112,6 +118,8 @@ impl<D: Disk, B: Chronicle<BookEntry>> Segment<D, B> {
         ensures view { IfOk result (λ staged. view_of pass.new ≡ with_front staged.front
             (view_of pass.old)) }
         ensures refused { OnErr result (view_of pass.new ≡ view_of pass.old) }
+        ensures cause { RunCause (moment self.old) ran.script result }
+        ensures rest { MakesNoCall self.old.rows ran.script result → HasLogOf self.old self.new }
     {
         history_laws();
         let _typed = ran.commit.changes();

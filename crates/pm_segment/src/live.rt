@@ -8,6 +8,8 @@ pub struct Live {
     pub log: Log,
     /// How many commits the redo has kept.
     pub kept: u64,
+    /// The epoch in which the redo has found it.
+    pub epoch: u64,
     /// The disk's count of faults behind the one that broke the log, and 0 before.
     pub faults: u64,
     /// Whether a clean checkpoint was made. Then nothing more is committed.

@@ -3,7 +3,7 @@
 ghost use Rattle.std.specs.Prelude.{◌≡◌, IfOk};
 ghost use Rattle.pm_segment.specs.Answers.{IsAnswerOn};
 
-use pm_query::{Outcome, Reply, answer};
+use pm_query::{Outcome, Reply, answer, only_writes_commit};
 use pm_rows::{Commit, Rows};
 use pm_sql::Script;
 use std::alloc::{AllocError, Global};
@@ -24,6 +24,7 @@ impl Ran {
         ensures script { IfOk result (λ ran. ran.script ≡ script.now) }
         ensures answer { IfOk result (IsAnswerOn rows.now) }
     {
+        only_writes_commit();
         let Outcome { reply, commit } = answer(alloc, rows, script)?;
         let noted = reply.copy()?;
         Ok(Ran {

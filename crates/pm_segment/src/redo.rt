@@ -20,7 +20,7 @@ impl<D: Disk, B: Chronicle<BookEntry>> Segment<D, B> {
     ghost use Rattle.pm_segment.specs.Moment.{HasDiskOf, moment};
     ghost use Rattle.pm_segment.specs.Moves.{Moves};
     ghost use Rattle.pm_segment.specs.Passes.{Admits, user_in};
-    ghost use Rattle.pm_segment.specs.Redos.{CheckpointCause, FullAtLast, HasReason, IsRead, LeavesFiles, LeavesUnread, MadeAfresh, MakesCalls};
+    ghost use Rattle.pm_segment.specs.Redos.{CheckpointCause, FullAtLast, GoesOnAsFound, HasReason, IsRead, LeavesFiles, LeavesUnread, MadeAfresh, MakesCalls};
 
     // Reads the log for the first time in this generation.
     pub(crate) fn read_log(&mut self, pass: &Pass) -> Result<u64, StoreNo>
@@ -36,6 +36,7 @@ impl<D: Disk, B: Chronicle<BookEntry>> Segment<D, B> {
         ensures reason { HasReason (moment self.old).files result }
         ensures kept { LeavesFiles (moment self.old).files (moment self.new).files result }
         ensures unread { LeavesUnread (moment self.new).live result }
+        ensures found { GoesOnAsFound (moment self.old) (moment self.new) }
     {
         history_laws();
         limits_are_the_numbers();
@@ -44,9 +45,11 @@ impl<D: Disk, B: Chronicle<BookEntry>> Segment<D, B> {
         match recover(self.alloc, &mut self.disk) {
             Ok(found) => {
                 let kept = found.count;
+                let log = Log::resume(&found, MAX_FILE_BYTES);
                 self.live = Some(Live {
-                    log: Log::resume(&found, MAX_FILE_BYTES),
+                    log,
                     kept,
+                    epoch: found.epoch,
                     faults: 0,
                     closed: false,
                 });

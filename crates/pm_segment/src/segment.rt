@@ -139,15 +139,17 @@ impl<D: Disk, B: Chronicle<BookEntry>> Segment<D, B> {
 
 impl<D: Disk, B: Chronicle<BookEntry>> Store for Segment<D, B> {
     ghost use Rattle.std.proofs.Common.{Some, ap};
-    ghost use Rattle.std.specs.Prelude.{◌≡◌, List, IfOk, OnOk};
+    ghost use Rattle.std.specs.Prelude.{◌≡◌, ◌⊎◌, ◌∷◌, [], All, List, IfOk, OnOk, OnErr};
     ghost use Rattle.pm_query.specs.declared.book.BookEntry.{BookEntry};
     ghost use Rattle.pm_query.specs.declared.store.StoreNo.{StoreNo};
-    ghost use Rattle.pm_query.specs.Calls.{CheckpointNotes, EnterNotes, FlushNotes, LeaveNotes, RedoNotes, new_pass, newcomer};
+    ghost use Rattle.pm_query.specs.Calls.{CheckpointNotes, EnterNotes, FlushNotes, HasReached, IsPast, LeaveNotes, MetAnother, MetLater, ReachesNoLess, RedoNotes, RunNotes, SeenNotes, new_pass, newcomer, with_front};
+    ghost use Rattle.pm_query.specs.Limits.{HasShortValues};
+    ghost use Rattle.pm_segment.specs.Causes.{MakesNoCall, RunCause, SeenCause};
     ghost use Rattle.pm_segment.specs.Moment.{HasDiskOf, HasLogOf, moment};
     ghost use Rattle.pm_segment.specs.Moves.{Moves};
-    ghost use Rattle.pm_segment.specs.MovesLaws.{moves_none, moves_on};
+    ghost use Rattle.pm_segment.specs.MovesLaws.{moves_none, moves_on, never_falls};
     ghost use Rattle.pm_segment.specs.Passes.{Admits, user_in, view_of};
-    ghost use Rattle.pm_segment.specs.Redos.{CheckpointCause, FlushCause, FullAtLast, HasReason, IsRead, LeavesFiles, LeavesUnread, MadeAfresh, MakesCalls};
+    ghost use Rattle.pm_segment.specs.Redos.{CheckpointCause, FlushCause, FullAtLast, GoesOnAsFound, HasReason, IsRead, LeavesFiles, LeavesUnread, MadeAfresh, MakesCalls};
 
     type Pass = Pass;
 
@@ -159,12 +161,15 @@ impl<D: Disk, B: Chronicle<BookEntry>> Store for Segment<D, B> {
 
     ghost stamp = { λ store. Some (moment store).generation };
 
+    ghost met = { λ store. (moment store).generation };
+
     fn enter(&mut self, pid: u32, generation: u32) -> Result<Pass, StoreNo>
         ensures notes { (entries : List BookEntry) × Moves entries (moment self.old)
             (moment self.new) × EnterNotes (newcomer (Some (moment self.old).generation) pid
             generation) result entries }
         ensures admits { IfOk result (λ pass. Admits pass (moment self.new)) }
         ensures view { IfOk result (λ pass. view_of pass ≡ new_pass pid generation) }
+        ensures stale { MetAnother (moment self.new).generation generation result }
 
         ensures rest { HasLogOf self.old self.new }
     {
@@ -185,14 +190,30 @@ impl<D: Disk, B: Chronicle<BookEntry>> Store for Segment<D, B> {
         })
     }
 
-    fn run(&mut self, pass: &mut Pass, script: &Script) -> Result<Staged, StoreNo> {
+    fn run(&mut self, pass: &mut Pass, script: &Script) -> Result<Staged, StoreNo>
+        requires { Admits pass.old (moment self.old) }
+        ensures notes { (entries : List BookEntry)
+            × Moves entries (moment self.old) (moment self.new)
+            × RunNotes (user_in (moment self.old) pass.old) script.now result entries }
+        ensures admits { Admits pass.new (moment self.new) }
+        ensures fresh { IfOk result (λ staged. ReachesNoLess (view_of pass.old) staged.front) }
+        ensures view { IfOk result (λ staged. view_of pass.new ≡ with_front staged.front
+            (view_of pass.old)) }
+        ensures refused { OnErr result (view_of pass.new ≡ view_of pass.old) }
+        ensures short { IfOk result (λ staged. All HasShortValues staged.reply) }
+        ensures stale { MetLater (moment self.new).generation pass.old.generation result }
+
+        ensures cause { RunCause (moment self.old) script.now result }
+        ensures rest { MakesNoCall (moment self.old).rows script.now result
+            → HasLogOf self.old self.new }
+    {
         history_laws();
         let Some(live) = self.live else {
             return Err(StoreNo::NoMemory);
         };
         self.book.reserve(self.inside.entries_for(2))?;
-        if let Some(since) = live.log.since {
-            return Err(self.broken(pass, live, since));
+        if let Some(broke_at) = live.log.since {
+            return Err(self.broken(pass, live, broke_at));
         }
         let ran = Ran::of(self.alloc, &self.rows, script)?;
         if ran.commit.changes().is_empty() {
@@ -201,7 +222,19 @@ impl<D: Disk, B: Chronicle<BookEntry>> Store for Segment<D, B> {
         self.write(pass, live, ran)
     }
 
-    fn seen(&mut self, pass: &mut Pass, front: u64) -> Result<Seen, StoreNo> {
+    fn seen(&mut self, pass: &mut Pass, front: u64) -> Result<Seen, StoreNo>
+        requires admits { Admits pass.old (moment self.old) }
+        requires reached { HasReached (view_of pass.old) front }
+        ensures notes { (entries : List BookEntry)
+            × Moves entries (moment self.old) (moment self.new)
+            × SeenNotes (user_in (moment self.old) pass.old) front result entries }
+        ensures admits { Admits pass.new (moment self.new) }
+        ensures view { view_of pass.new ≡ view_of pass.old }
+        ensures stale { MetLater (moment self.new).generation pass.old.generation result }
+
+        ensures cause { SeenCause (moment self.old).live front result }
+        ensures rest { HasLogOf self.old self.new }
+    {
         history_laws();
         self.book.reserve(self.inside.entries_for(1))?;
         let Some(live) = self.live else {
@@ -231,6 +264,7 @@ impl<D: Disk, B: Chronicle<BookEntry>> Store for Segment<D, B> {
             × FlushNotes (user_in (moment self.old) pass.old) result entries }
         ensures admits { Admits pass.new (moment self.new) }
         ensures view { view_of pass.new ≡ view_of pass.old }
+        ensures stale { MetLater (moment self.new).generation pass.old.generation result }
 
         ensures cause { FlushCause (moment self.old).live result }
         ensures rest { HasLogOf self.old self.new }
@@ -253,12 +287,14 @@ impl<D: Disk, B: Chronicle<BookEntry>> Store for Segment<D, B> {
             × RedoNotes (user_in (moment self.old) pass.old) result entries }
         ensures admits { Admits pass.new (moment self.new) }
         ensures view { view_of pass.new ≡ view_of pass.old }
+        ensures stale { MetLater (moment self.new).generation pass.old.generation result }
 
         ensures read { OnOk result (IsRead (moment self.new).live) }
         ensures again { IsRead (moment self.old).live → HasDiskOf self.old self.new }
         ensures reason { HasReason (moment self.old).files result }
         ensures kept { LeavesFiles (moment self.old).files (moment self.new).files result }
         ensures unread { LeavesUnread (moment self.new).live result }
+        ensures found { GoesOnAsFound (moment self.old) (moment self.new) }
     {
         history_laws();
         if self.book.reserve(self.inside.entries_for(1)).is_err() {
@@ -285,6 +321,7 @@ impl<D: Disk, B: Chronicle<BookEntry>> Store for Segment<D, B> {
             × CheckpointNotes (user_in (moment self.old) pass.old) clean result entries }
         ensures admits { Admits pass.new (moment self.new) }
         ensures view { view_of pass.new ≡ view_of pass.old }
+        ensures stale { MetLater (moment self.new).generation pass.old.generation result }
 
         ensures cause { CheckpointCause (moment self.old).live clean result }
         ensures still { ¬ (MakesCalls result) → HasDiskOf self.old self.new }
@@ -318,6 +355,8 @@ impl<D: Disk, B: Chronicle<BookEntry>> Store for Segment<D, B> {
         ensures notes { (entries : List BookEntry)
             × Moves entries (moment self.old) (moment self.new)
             × LeaveNotes (user_in (moment self.old) pass) entries }
+        ensures stale { Moves (BookEntry.Detached pass.pid ∷ []) (moment self.old)
+            (moment self.new) ⊎ IsPast (moment self.new).generation pass.generation }
 
         ensures rest { HasLogOf self.old self.new }
     {
@@ -331,6 +370,8 @@ impl<D: Disk, B: Chronicle<BookEntry>> Store for Segment<D, B> {
     ghost in_turn = { λ before between now first second. moves_on first second (moment before) (moment between) (moment now) };
 
     ghost stays = { λ before now entries moves. ap (λ n. Some n) moves.generation };
+
+    ghost rises = { λ before now entries moves. never_falls (moment before).generation (moment now).generation moves.generation };
 }
 
 impl<D: Disk, B: Chronicle<BookEntry>> Segment<D, B> {

@@ -6,5 +6,5 @@ use Rattle.pm_query_tests.proofs.asking.ask.Goals as goal
 pub returns : goal.returns
 returns g c =
     let user = newcomer_is c.args.pid c.args.generation _ _ _ (g.met.S.Store.stays _ _ _ c.in_ok-pass.ensures.notes.1) c.in_ok-pass.ensures.view in
-    let visit = visits g.S.Store.notes _ _ _ (λ user entries. ReplyNotes user c.args.script.now c.released-answer.result entries) _ _ _ _ g.met.S.Store.in_turn user (c.released-answer.ensures.user ∙ user) c.in_ok-pass.ensures.notes c.released-answer.ensures.notes c.leave.ensures in
+    let visit = visits g.S.Store.notes _ _ _ (λ user entries. ReplyNotes user c.args.script.now c.released-answer.result entries) _ _ _ _ g.met.S.Store.in_turn user (c.released-answer.ensures.user ∙ user) c.in_ok-pass.ensures.notes c.released-answer.ensures.notes c.leave.ensures.notes in
     (visit.0, visit.1, visit_notes _ _ _ visit.0 visit.2)

@@ -1,4 +1,4 @@
-use Rattle.std.proofs.Common.{rules, ◌≡◌, ◌∙◌, inr, ◌+◌, List, [], ◌∷◌, Option, Some, refl, sym, ap, subst, arith, length}
+use Rattle.std.proofs.Common.{rules, ◌≡◌, ◌∙◌, inl, inr, ◌+◌, List, [], ◌∷◌, Option, Some, refl, sym, ap, subst, arith, length}
 use Rattle.std.specs.Prelude.{IfSome}
 use Rattle.pm_rows.specs.declared.commit.Change.{Change}
 use Rattle.pm_rows.specs.Fold.{RowMap, committed}
@@ -12,6 +12,8 @@ use Rattle.pm_query.specs.declared.book.BookEntry.TheVariants.{Answered, Broke, 
 use Rattle.pm_log.specs.declared.log.Log.{Log}
 use Rattle.pm_log.specs.declared.log.LogFault.{LogFault}
 use Rattle.pm_segment.specs.MovesLaws.{notes_both}
+use Rattle.pm_query.specs.Answer.{commit_of}
+use Rattle.pm_query.specs.Book.{need_of}
 use Rattle.pm_segment.specs.declared.live.Live.{Live}
 use Rattle.pm_segment.specs.Moment.{Moment, moment_of}
 use Rattle.pm_segment.specs.Moves.{NotesEntries}
@@ -43,7 +45,7 @@ invariant_of-self-in-Ok g c =
     let now = g.D.Disk.seen c.append.new.disk in
     let before = g.D.Disk.images c.args.self.now.disk (g.D.Disk.ticks c.args.self.now.disk) in
     let behind = g.D.Disk.images c.append.new.disk (g.D.Disk.ticks c.append.new.disk) in
-    let new : Live = record { log = c.append.new.self; kept = c.args.live.kept; faults = c.args.live.faults; closed = c.args.live.closed } in
+    let new : Live = record { log = c.append.new.self; kept = c.args.live.kept; epoch = c.args.live.epoch; faults = c.args.live.faults; closed = c.args.live.closed } in
     let is : c.apply.result ≡ committed rows commit = c.apply.ensures ∙ ap (λ p. p.after) c.in_ok-prepared.ensures.ok in
     let small = c.requires.number in
     let may = may_append rows c.args.live.log.count commit (batch_is commit c.requires.some c.requires.answer.commit_limits c.changes-typed.ensures.typed) c.args.self.now.limits (c.requires.answer.row_limits c.args.self.now.limits) small in
@@ -63,7 +65,7 @@ invariant_of-self-in-Err-Disk g c =
     let commit = c.args.ran.commit in
     let now = g.D.Disk.seen c.append.new.disk in
     let behind = g.D.Disk.images c.append.new.disk (g.D.Disk.ticks c.append.new.disk) in
-    let new : Live = record { log = c.append.new.self; kept = c.args.live.kept; faults = c.faults.result; closed = c.args.live.closed } in
+    let new : Live = record { log = c.append.new.self; kept = c.args.live.kept; epoch = c.args.live.epoch; faults = c.faults.result; closed = c.args.live.closed } in
     let is : c.apply-in-Err-Disk.result ≡ committed rows commit = c.apply-in-Err-Disk.ensures ∙ ap (λ p. p.after) c.in_ok-prepared.ensures.ok in
     let broke : c.append.new.self.since ≡ Some (g.D.Disk.ticks c.append.new.disk) = ap (λ (l : Log). l.since) (c.in-Err-Disk.ensures.disk (search rules)).0 in
     record {
@@ -87,7 +89,7 @@ returns-in-Ok-clause-notes g c =
     let files_now = g.D.Disk.seen c.append.new.disk in
     let i = g.D.Disk.images c.args.self.now.disk in
     let k = g.D.Disk.images c.append.new.disk in
-    let new : Live = record { log = c.append.new.self; kept = c.args.live.kept; faults = c.args.live.faults; closed = c.args.live.closed } in
+    let new : Live = record { log = c.append.new.self; kept = c.args.live.kept; epoch = c.args.live.epoch; faults = c.args.live.faults; closed = c.args.live.closed } in
     let is : c.apply.result ≡ committed rows commit = c.apply.ensures ∙ ap (λ p. p.after) c.in_ok-prepared.ensures.ok in
     let may = may_append rows c.args.live.log.count commit (batch_is commit c.requires.some c.requires.answer.commit_limits c.changes-typed.ensures.typed) c.args.self.now.limits (c.requires.answer.row_limits c.args.self.now.limits) c.requires.number in
     let rests = subst (λ (l : Option Live). ∥ Rests l rows seen (i tick) ∥₁) c.requires.live c.args.self.now.rests in
@@ -106,6 +108,8 @@ returns-in-Ok-clause-notes g c =
       kept = refl;
       closed = refl;
       limit = ap (λ (l : Log). l.limit) grown;
+      epoch = ap (λ (l : Log). l.epoch) grown;
+      first = refl;
       rows = is;
       time = c.append.ensures.time;
       later = c.append.ensures.cause.later;
@@ -149,7 +153,7 @@ returns-in-Err-Disk-clause-notes g c =
     let files_now = g.D.Disk.seen c.append.new.disk in
     let i = g.D.Disk.images c.args.self.now.disk in
     let k = g.D.Disk.images c.append.new.disk in
-    let new : Live = record { log = c.append.new.self; kept = c.args.live.kept; faults = c.faults.result; closed = c.args.live.closed } in
+    let new : Live = record { log = c.append.new.self; kept = c.args.live.kept; epoch = c.args.live.epoch; faults = c.faults.result; closed = c.args.live.closed } in
     let is : c.apply-in-Err-Disk.result ≡ committed rows commit = c.apply-in-Err-Disk.ensures ∙ ap (λ p. p.after) c.in_ok-prepared.ensures.ok in
     let may = may_append rows c.args.live.log.count commit (batch_is commit c.requires.some c.requires.answer.commit_limits c.changes-typed.ensures.typed) c.args.self.now.limits (c.requires.answer.row_limits c.args.self.now.limits) c.requires.number in
     let rests = subst (λ (l : Option Live). ∥ Rests l rows seen (i tick) ∥₁) c.requires.live c.args.self.now.rests in
@@ -166,6 +170,8 @@ returns-in-Err-Disk-clause-notes g c =
       kept = refl;
       closed = refl;
       limit = ap (λ (l : Log). l.limit) broken;
+      epoch = ap (λ (l : Log). l.epoch) broken;
+      first = refl;
       rows = is;
       time = c.append.ensures.time;
       later = c.append.ensures.cause.later;
@@ -181,16 +187,19 @@ returns-in-Err-Disk-clause-notes g c =
     (notes_both (first ∷ []) (second ∷ []) told (g.B.Chronicle.entries c.note_answer.new.book) (g.B.Chronicle.entries c.note_fault.new.book) one c.note_fault.ensures.entries) in (
       first ∷ second ∷ [],
       moves,
-      inr (record {
-        reply = ran.reply;
-        front = c.args.live.log.count + 1;
-        commit = commit;
-        answered = first ∷ [];
-        broke = second ∷ [];
-        answer = record { tick = tick; entries_are = refl };
-        fault = (then, faults, refl);
-        entries_are = refl;
-      }),
+      (
+        c.requires.answer.writes c.requires.some,
+        inr (record {
+          reply = ran.reply;
+          front = c.args.live.log.count + 1;
+          commit = commit;
+          answered = first ∷ [];
+          broke = second ∷ [];
+          answer = record { tick = tick; entries_are = refl };
+          fault = (then, faults, refl);
+          entries_are = refl;
+        }),
+      ),
     )
 
 pub returns-in-Err-Disk-clause-admits : goal.returns-in-Err-Disk-clause-admits
@@ -201,7 +210,7 @@ returns-in-Err-Disk-clause-admits g c =
     let mid = g.B.Chronicle.entries c.note_answer.new.book in
     let first : BookEntry = Answered pid ran.script ran.reply ran.commit (c.args.live.log.count + 1) c.ticks-tick.result in
     let second : BookEntry = Broke pid (g.D.Disk.ticks c.append.new.disk) (g.D.Disk.faults c.append.new.disk) in
-    let new : Live = record { log = c.append.new.self; kept = c.args.live.kept; faults = c.faults.result; closed = c.args.live.closed } in
+    let new : Live = record { log = c.append.new.self; kept = c.args.live.kept; epoch = c.args.live.epoch; faults = c.faults.result; closed = c.args.live.closed } in
     let count : new.log.count ≡ c.args.live.log.count = ap (λ (l : Log). l.count) (c.in-Err-Disk.ensures.disk (search rules)).0 in record {
       there = c.requires.admits.there;
       generation_is = c.requires.admits.generation_is;
@@ -226,7 +235,7 @@ returns-in-Err-Full-clause-notes g c =
       rw (same, is) (finds_full c.history_laws.ensures.past c.history_laws.ensures.present (moment_of told c.args.self.now) c.args.live (g.B.Chronicle.entries c.note_full.new.book) pid need room ran.script ran.commit
           c.requires.live c.requires.unbroken (attends c.args.pass.now (moment_of told c.args.self.now) c.requires.admits) c.requires.answer.commit_is needs full.3 (inr full.2)
           c.note_full.ensures.entries),
-      rw c.note_full.ensures.full refl,
+      rw c.note_full.ensures.full (c.requires.answer.writes c.requires.some, refl),
     )
 
 pub returns-in-Err-Full-clause-admits : goal.returns-in-Err-Full-clause-admits
@@ -238,3 +247,24 @@ returns-in-Err-Full-clause-admits g c =
       inside = inside_still c.args.pass.now.pid c.args.pass.now.front entry told (g.B.Chronicle.entries c.note_full.new.book) (record { present_is = λ es. refl; times = λ n. omega arith }) c.note_full.ensures.entries c.requires.admits.inside;
       flushed = c.requires.admits.flushed;
     }
+
+pub returns-in-Ok-clause-cause : goal.returns-in-Ok-clause-cause
+returns-in-Ok-clause-cause g c = record { its = c.args.live; read = c.requires.live; unbroken = c.requires.unbroken }
+
+pub returns-in-Ok-clause-rest : goal.returns-in-Ok-clause-rest
+returns-in-Ok-clause-rest g c = λ none. absurd (c.requires.some (c.requires.answer.commit_is ∙ none))
+
+pub returns-in-Err-Disk-clause-cause : goal.returns-in-Err-Disk-clause-cause
+returns-in-Err-Disk-clause-cause g c =
+    (record { its = c.args.live; read = c.requires.live; unbroken = c.requires.unbroken }, λ none. c.requires.some (c.requires.answer.commit_is ∙ none))
+
+pub returns-in-Err-Full-clause-cause : goal.returns-in-Err-Full-clause-cause
+returns-in-Err-Full-clause-cause g c =
+    let ran = c.args.ran in
+    let full = c.in-Err-Full.ensures.full c.in-Err-Full.need c.in-Err-Full.room (search rules) in
+    let needs : c.in-Err-Full.need ≡ need_of (commit_of c.args.self.now.rows ran.script) =
+    full.1 ∙ ap log.need_of c.from_ref.ensures.value ∙ need_is ran.commit c.requires.some ∙ ap need_of c.requires.answer.commit_is in
+    rw c.note_full.ensures.full (
+      record { its = c.args.live; read = c.requires.live; unbroken = c.requires.unbroken; need_is = needs; room_is = inl full.2 },
+      λ none. c.requires.some (c.requires.answer.commit_is ∙ none),
+    )

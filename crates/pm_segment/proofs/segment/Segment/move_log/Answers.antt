@@ -35,7 +35,7 @@ invariant_of-self g c =
     let now = g.D.Disk.seen c.checkpoint.new.disk in
     let before = g.D.Disk.images c.args.self.now.disk (g.D.Disk.ticks c.args.self.now.disk) in
     let behind = g.D.Disk.images c.checkpoint.new.disk (g.D.Disk.ticks c.checkpoint.new.disk) in
-    let new : Live = record { log = c.checkpoint.new.self; kept = c.args.live.kept; faults = c.args.live.faults; closed = c.args.live.closed || c.args.clean } in
+    let new : Live = record { log = c.checkpoint.new.self; kept = c.args.live.kept; epoch = c.args.live.epoch; faults = c.args.live.faults; closed = c.args.live.closed || c.args.clean } in
     let rests = subst (λ (l : Option Live). ∥ Rests l rows seen before ∥₁) c.requires.read c.args.self.now.rests in
     record {
       begun = c.args.self.now.begun;
@@ -56,7 +56,7 @@ returns-in-Ok-clause-notes g c =
     let files_now = g.D.Disk.seen c.checkpoint.new.disk in
     let i = g.D.Disk.images c.args.self.now.disk in
     let k = g.D.Disk.images c.checkpoint.new.disk in
-    let new : Live = record { log = c.checkpoint.new.self; kept = c.args.live.kept; faults = c.args.live.faults; closed = c.args.live.closed || c.args.clean } in
+    let new : Live = record { log = c.checkpoint.new.self; kept = c.args.live.kept; epoch = c.args.live.epoch; faults = c.args.live.faults; closed = c.args.live.closed || c.args.clean } in
     let entry : BookEntry = CheckpointEnded pid true c.args.clean in
     let rests = subst (λ (l : Option Live). ∥ Rests l rows seen (i tick) ∥₁) c.requires.read c.args.self.now.rests in
     let kept = c.in-Ok.ensures.kept in
@@ -70,6 +70,7 @@ returns-in-Ok-clause-notes g c =
       read_now = refl;
       kept = refl;
       limit = kept.3;
+      first = refl;
       count = kept.1;
       rows = refl;
       time = c.checkpoint.ensures.time;
@@ -78,7 +79,7 @@ returns-in-Ok-clause-notes g c =
       through = through_same seen c.args.live rows c.args.clean tick then i k rests c.requires.unbroken c.checkpoint.ensures.stops;
     } in (
       entry ∷ [],
-      checkpoints (record { past = c.history_laws.ensures.past; present = c.history_laws.ensures.present; within = c.rows_are_within_needs.ensures.numbers }) (moment_of told c.args.self.now) now c.args.live new pid c.args.clean moves kept.4 end refl (attends c.args.pass.now (moment_of told c.args.self.now) c.requires.admits)
+      checkpoints (record { past = c.history_laws.ensures.past; present = c.history_laws.ensures.present; within = c.rows_are_within_needs.ensures.numbers }) (moment_of told c.args.self.now) now c.args.live new pid c.args.clean moves kept.4 end refl (c.in-Ok.ensures.epoch.1 ∙ c.in-Ok.ensures.epoch.0) (attends c.args.pass.now (moment_of told c.args.self.now) c.requires.admits)
           (notes_by entry told told _ refl c.note.ensures.entries),
       refl,
     )
@@ -86,7 +87,7 @@ returns-in-Ok-clause-notes g c =
 pub returns-in-Ok-clause-admits : goal.returns-in-Ok-clause-admits
 returns-in-Ok-clause-admits g c =
     let told = g.B.Chronicle.entries c.args.self.now.book in
-    let new : Live = record { log = c.checkpoint.new.self; kept = c.args.live.kept; faults = c.args.live.faults; closed = c.args.live.closed || c.args.clean } in
+    let new : Live = record { log = c.checkpoint.new.self; kept = c.args.live.kept; epoch = c.args.live.epoch; faults = c.args.live.faults; closed = c.args.live.closed || c.args.clean } in
     let entry : BookEntry = CheckpointEnded c.args.pass.now.pid true c.args.clean in record {
       there = c.requires.admits.there;
       generation_is = c.requires.admits.generation_is;
@@ -102,7 +103,7 @@ returns-in-Ok-clause-afresh g c = λ epoch is.
     let now = g.D.Disk.seen c.checkpoint.new.disk in
     let before = g.D.Disk.images c.args.self.now.disk (g.D.Disk.ticks c.args.self.now.disk) in
     let behind = g.D.Disk.images c.checkpoint.new.disk (g.D.Disk.ticks c.checkpoint.new.disk) in
-    let new : Live = record { log = c.checkpoint.new.self; kept = c.args.live.kept; faults = c.args.live.faults; closed = c.args.live.closed || c.args.clean } in
+    let new : Live = record { log = c.checkpoint.new.self; kept = c.args.live.kept; epoch = c.args.live.epoch; faults = c.args.live.faults; closed = c.args.live.closed || c.args.clean } in
     let rests = subst (λ (l : Option Live). ∥ Rests l rows seen before ∥₁) c.requires.read c.args.self.now.rests in
     let same : c.in-Ok.epoch ≡ epoch = search (rules, is) in
     (new, refl, c.in-Ok.ensures.kept.4, c.in-Ok.ensures.epoch.1 ∙ same, stands_afresh seen now c.args.live new rows epoch c.args.clean before behind rests c.requires.unbroken c.in-Ok.ensures.lives (g.met.D.Disk.reads_as_left c.checkpoint.new.disk) (c.in-Ok.ensures.epoch.1 ∙ same))
@@ -119,7 +120,7 @@ returns-in-Err-Disk-clause-notes g c =
     let files_now = g.D.Disk.seen c.checkpoint.new.disk in
     let i = g.D.Disk.images c.args.self.now.disk in
     let k = g.D.Disk.images c.checkpoint.new.disk in
-    let new : Live = record { log = c.checkpoint.new.self; kept = c.args.live.kept; faults = c.faults.result; closed = c.args.live.closed } in
+    let new : Live = record { log = c.checkpoint.new.self; kept = c.args.live.kept; epoch = c.args.live.epoch; faults = c.faults.result; closed = c.args.live.closed } in
     let entry : BookEntry = Broke pid then faults in
     let rests = subst (λ (l : Option Live). ∥ Rests l rows seen (i tick) ∥₁) c.requires.read c.args.self.now.rests in
     let broken = (c.in-Err-Disk.ensures.disk (search rules)).0 in
@@ -132,6 +133,7 @@ returns-in-Err-Disk-clause-notes g c =
       read_now = refl;
       kept = refl;
       limit = ap (λ (l : Log). l.limit) broken;
+      first = refl;
       count = ap (λ (l : Log). l.count) broken;
       rows = refl;
       time = c.checkpoint.ensures.time;
@@ -149,7 +151,7 @@ returns-in-Err-Disk-clause-notes g c =
 pub returns-in-Err-Disk-clause-admits : goal.returns-in-Err-Disk-clause-admits
 returns-in-Err-Disk-clause-admits g c =
     let told = g.B.Chronicle.entries c.args.self.now.book in
-    let new : Live = record { log = c.checkpoint.new.self; kept = c.args.live.kept; faults = c.faults.result; closed = c.args.live.closed } in
+    let new : Live = record { log = c.checkpoint.new.self; kept = c.args.live.kept; epoch = c.args.live.epoch; faults = c.faults.result; closed = c.args.live.closed } in
     let entry : BookEntry = Broke c.args.pass.now.pid (g.D.Disk.ticks c.checkpoint.new.disk) (g.D.Disk.faults c.checkpoint.new.disk) in
     let count : new.log.count ≡ c.args.live.log.count = ap (λ (l : Log). l.count) (c.in-Err-Disk.ensures.disk (search rules)).0 in record {
       there = c.requires.admits.there;

@@ -6,9 +6,11 @@ use Rattle.pm_query.specs.declared.book.BookEntry.TheVariants.{Broke, Redone}
 use Rattle.pm_segment.specs.declared.live.Live.{Live}
 use Rattle.pm_segment.specs.Moment.{Moment, moment_of}
 use Rattle.pm_segment.proofs.Passing.{attends, inside_still, none_flushed}
-use Rattle.pm_segment.proofs.Redos.{Reads, Redoes, redo_notes_none, reads_fault, reads_nothing, redoes_first, rests_found}
+use Rattle.pm_segment.proofs.Redos.{Reads, Redoes, goes_on_found, redo_notes_none, reads_fault, reads_nothing, redoes_first, rests_found}
 use Rattle.pm_segment.proofs.Resting.{tells_nothing}
-use Rattle.pm_segment.proofs.Steps.{notes_by}
+use Rattle.std.specs.Prelude.{IfSome}
+use Rattle.pm_segment.specs.Redos.{IsFoundIn}
+use Rattle.pm_segment.proofs.Steps.{not_both, notes_by, same_live}
 use Rattle.pm_segment.specs.MovesLaws.{notes_none}
 use Rattle.pm_segment.specs.Passes.{view_of}
 use Rattle.pm_query.specs.Calls.{RedoNotes, user_of}
@@ -20,12 +22,12 @@ use Rattle.pm_segment.proofs.segment.Segment.read_log.Goals as goal
 
 pub invariant_of-self : goal.invariant_of-self
 invariant_of-self g c =
-    let new : Live = record { log = c.resume.result; kept = c.in-Ok.found.count; faults = 0; closed = false } in
+    let new : Live = record { log = c.resume-log.result; kept = c.in-Ok.found.count; epoch = c.in-Ok.found.epoch; faults = 0; closed = false } in
     record {
       begun = c.args.self.now.begun;
       short = λ k d lt. (c.in-Ok.ensures.rows k d lt).2;
       limits = c.in-Ok.ensures.limits;
-      rests = rests_found (g.D.Disk.seen c.args.self.now.disk) (g.D.Disk.seen c.recover.new.disk) c.in-Ok.found max_file_bytes new (g.D.Disk.images c.recover.new.disk (g.D.Disk.ticks c.recover.new.disk)) c.resume.ensures refl c.in-Ok.ensures.found;
+      rests = rests_found (g.D.Disk.seen c.args.self.now.disk) (g.D.Disk.seen c.recover.new.disk) c.in-Ok.found max_file_bytes new (g.D.Disk.images c.recover.new.disk (g.D.Disk.ticks c.recover.new.disk)) c.resume-log.ensures refl c.in-Ok.ensures.found;
       room = omega (arith, c.requires.room, c.note.ensures.room);
     }
 
@@ -33,7 +35,7 @@ pub returns-in-Ok-clause-notes : goal.returns-in-Ok-clause-notes
 returns-in-Ok-clause-notes g c =
     let told = g.B.Chronicle.entries c.args.self.now.book in
     let content = c.in-Ok.ensures.content in
-    let new : Live = record { log = c.resume.result; kept = c.in-Ok.found.count; faults = 0; closed = false } in
+    let new : Live = record { log = c.resume-log.result; kept = c.in-Ok.found.count; epoch = c.in-Ok.found.epoch; faults = 0; closed = false } in
     let entry : BookEntry = Redone c.args.pass.now.pid c.args.self.now.generation c.in-Ok.found.count in
     let now : Moment = record {
       book = g.B.Chronicle.entries c.note.new.self;
@@ -54,8 +56,9 @@ returns-in-Ok-clause-notes g c =
       unread = c.requires.unread;
       unskipped = c.requires.unskipped;
       read_now = refl;
-      log = c.resume.ensures;
+      log = c.resume-log.ensures;
       kept = refl;
+      first = refl;
       closed = refl;
       rows = refl;
       time = c.recover.ensures.time;
@@ -149,3 +152,17 @@ returns-in-Ok-clause-admits g c =
           (notes_by entry told told _ refl c.note.ensures.entries) c.requires.admits.inside;
       flushed = none_flushed c.args.pass.now.front c.args.self.now.live _ c.requires.unread c.requires.admits.flushed;
     }
+
+pub returns-in-Ok-clause-found : goal.returns-in-Ok-clause-found
+returns-in-Ok-clause-found g c = λ unread its is.
+    let seen = g.D.Disk.seen c.args.self.now.disk in
+    let behind = g.D.Disk.images c.recover.new.disk (g.D.Disk.ticks c.recover.new.disk) in
+    let new : Live = record { log = c.resume-log.result; kept = c.in-Ok.found.count; epoch = c.in-Ok.found.epoch; faults = 0; closed = false } in
+    subst (λ (l : Live). IfSome seen (IsFoundIn l)) (same_live (Some new) new its refl is)
+    (goes_on_found seen (g.D.Disk.seen c.recover.new.disk) c.in-Ok.found max_file_bytes new behind c.resume-log.ensures refl c.in-Ok.ensures.found)
+
+pub returns-then-eq-clause-found : goal.returns-then-eq-clause-found
+returns-then-eq-clause-found g c = λ unread its is. absurd (not_both c.args.self.now.live its unread is)
+
+pub returns-else-eq-clause-found : goal.returns-else-eq-clause-found
+returns-else-eq-clause-found g c = λ unread its is. absurd (not_both c.args.self.now.live its unread is)

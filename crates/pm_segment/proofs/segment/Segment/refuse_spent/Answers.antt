@@ -1,7 +1,9 @@
-use Rattle.std.proofs.Common.{◌≡◌, ◌∙◌, inl, ◌+◌, [], ◌∷◌, refl, ap, arith}
+use Rattle.std.proofs.Common.{◌≡◌, ◌∙◌, inl, inr, ◌+◌, [], ◌∷◌, refl, ap, arith}
 use Rattle.pm_rows.specs.LogSize as log
 use Rattle.pm_query.specs.declared.book.BookEntry.{BookEntry}
 use Rattle.pm_query.specs.declared.book.BookEntry.TheVariants.{LogFull}
+use Rattle.pm_query.specs.Answer.{commit_of}
+use Rattle.pm_query.specs.Book.{need_of}
 use Rattle.pm_segment.specs.Moment.{moment_of}
 use Rattle.pm_segment.proofs.Passing.{attends, inside_still}
 use Rattle.pm_segment.proofs.Resting.{need_is}
@@ -21,7 +23,7 @@ returns-clause-notes g c =
       finds_full c.history_laws.ensures.past c.history_laws.ensures.present (moment_of told c.args.self.now) c.args.live (g.B.Chronicle.entries c.note_full.new.book) pid need 0 ran.script ran.commit
           c.requires.live c.requires.unbroken (attends c.args.pass (moment_of told c.args.self.now) c.requires.admits) c.requires.answer.commit_is (batch ∙ need_is ran.commit c.requires.some)
           (omega arith) (inl (c.requires.spent, refl)) c.note_full.ensures.entries,
-      rw c.note_full.ensures.full refl,
+      rw c.note_full.ensures.full (c.requires.answer.writes c.requires.some, refl),
     )
 
 pub returns-clause-admits : goal.returns-clause-admits
@@ -33,3 +35,14 @@ returns-clause-admits g c =
       inside = inside_still c.args.pass.pid c.args.pass.front entry told (g.B.Chronicle.entries c.note_full.new.book) (record { present_is = λ es. refl; times = λ n. omega arith }) c.note_full.ensures.entries c.requires.admits.inside;
       flushed = c.requires.admits.flushed;
     }
+
+pub returns-clause-cause : goal.returns-clause-cause
+returns-clause-cause g c =
+    let ran = c.args.ran in
+    let long : c.body_length-need.result ≡ log.body_length (ran.commit ∷ []) = c.body_length-need.ensures.length ∙ ap log.body_length c.from_ref.ensures.value in
+    let batch : 5 + c.body_length-need.result ≡ log.need_of (ran.commit ∷ []) = omega (arith, long) in
+    let needs : 5 + c.body_length-need.result ≡ need_of (commit_of c.args.self.now.rows ran.script) = batch ∙ need_is ran.commit c.requires.some ∙ ap need_of c.requires.answer.commit_is in
+    rw c.note_full.ensures.full (
+      record { its = c.args.live; read = c.requires.live; unbroken = c.requires.unbroken; need_is = needs; room_is = inr (c.requires.spent, refl) },
+      λ none. c.requires.some (c.requires.answer.commit_is ∙ none),
+    )

@@ -15,3 +15,10 @@ returns-clause-notes g c =
           (attends c.args.pass (moment_of told c.args.self.now) c.requires) c.remove.ensures.times (notes_by entry told told _ refl c.note.ensures.entries),
       inl refl,
     )
+
+pub returns-clause-stale : goal.returns-clause-stale
+returns-clause-stale g c =
+    let entry : BookEntry = Detached c.args.pass.pid in
+    let told = g.B.Chronicle.entries c.args.self.now.book in
+    inl (leaves c.history_laws.ensures.past c.history_laws.ensures.present (moment_of told c.args.self.now) (g.B.Chronicle.entries c.note.new.self) c.remove.new.self c.args.pass.pid
+    (attends c.args.pass (moment_of told c.args.self.now) c.requires) c.remove.ensures.times (notes_by entry told told _ refl c.note.ensures.entries))

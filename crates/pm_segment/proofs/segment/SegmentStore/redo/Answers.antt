@@ -5,7 +5,7 @@ use Rattle.pm_query.specs.declared.book.BookEntry.TheVariants.{Redone}
 use Rattle.pm_segment.specs.Moment.{moment_of}
 use Rattle.pm_segment.proofs.Passing.{attends, inside_still}
 use Rattle.pm_segment.proofs.Redos.{redoes_again}
-use Rattle.pm_segment.proofs.Steps.{notes_by}
+use Rattle.pm_segment.proofs.Steps.{not_both, notes_by}
 use Rattle.pm_segment.proofs.segment.SegmentStore.redo.Goals as goal
 
 pub returns-in-Some-clause-notes : goal.returns-in-Some-clause-notes
@@ -28,3 +28,6 @@ returns-in-Some-clause-admits g c =
           (notes_by entry told _ _ c.reserve.ensures.entries c.note.ensures.entries) c.requires.inside;
       flushed = c.requires.flushed;
     }
+
+pub returns-in-Some-clause-found : goal.returns-in-Some-clause-found
+returns-in-Some-clause-found g c = λ unread its is. absurd (not_both c.args.self.now.live c.in-Some.live unread c.in-Some.is)
