@@ -1,12 +1,12 @@
 -- What follows where a supervisor at work stands.
-use Rattle.std.proofs.Common.{◌≡◌, ℕ, ◌+◌, ◌≤◌, Bool, true, false, List, [], ◌∷◌, ◌++◌, Some, None, refl, ap, sym, ◌∙◌, subst, arith, append_assoc}
+use Rattle.std.proofs.Common.{◌≡◌, ℕ, ◌≤◌, Bool, true, false, List, [], ◌∷◌, ◌++◌, Some, refl, ap, sym, ◌∙◌, subst, arith, append_assoc}
 use Rattle.std.specs.Prelude.{Option, is_some}
 use Rattle.pm_supervisor.specs.declared.Limits.{Limits}
 use Rattle.pm_supervisor.specs.Between.{is_child_step}
 use Rattle.pm_supervisor.specs.Steps.{SupervisorEvent, Trace, MayHappen, happened}
 use Rattle.pm_state.specs.declared.event.PmEvent.{PmEvent}
 use Rattle.pm_state.specs.declared.event.PmEvent.TheVariants as entry
-use Rattle.pm_state.specs.Journal.{Replay, Due, IsLegal, AreLegal, Follows, FollowsIn, MayCome, Do, acts_of_call, all_replayed, all_reported, dues, entries_of, entries_of_call, entry_of, replayed, replay_begun, without_first}
+use Rattle.pm_state.specs.Journal.{Replay, Due, IsLegal, AreLegal, FollowsIn, MayCome, Do, acts_of_call, all_replayed, all_reported, dues, entries_of, entries_of_call, entry_of, replayed, replay_begun, without_first}
 use Rattle.pm_state.specs.InStep.{IsInStep}
 use Rattle.pm_modes.specs.declared.Mode.{Mode}
 use Rattle.pm_state.specs.declared.action.Action.{Action}

@@ -1,14 +1,12 @@
 -- A call that is made, and the entries that stand before those of its acts.
-use Rattle.std.proofs.Common.{◌≡◌, ℕ, ◌+◌, ◌≤◌, Bool, true, false, ◌&&◌, ◌||◌, nat_eq, cond, List, [], ◌∷◌, ◌++◌, Some, None, refl, ap, sym, ◌∙◌, subst, arith, length, append-nil}
-use Rattle.std.specs.Prelude.{Option, IfSome, IsSomeAnd, is_some, is_none, ◌<◌, max}
+use Rattle.std.proofs.Common.{◌≡◌, ℕ, ◌+◌, ◌≤◌, Bool, true, false, ◌||◌, cond, List, [], ◌∷◌, ◌++◌, Some, None, refl, ap, sym, ◌∙◌, subst, arith, append-nil}
+use Rattle.std.specs.Prelude.{Option, IfSome, IsSomeAnd, is_some, is_none}
 use Rattle.pm_exit.specs.declared.child.Kind.{Kind}
-use Rattle.pm_exit.specs.declared.child.Status.{Status}
-use Rattle.pm_exit.specs.Ends.{is_exit_0}
 use Rattle.pm_modes.specs.declared.Mode.{Mode}
 use Rattle.pm_modes.specs.declared.Mode.TheVariants as mode
 use Rattle.pm_modes.specs.Strength.{strengthen_of}
 use Rattle.pm_supervisor.specs.declared.Limits.{Limits}
-use Rattle.pm_supervisor.specs.Children.{is_startup_child, child_of}
+use Rattle.pm_supervisor.specs.Children.{child_of}
 use Rattle.pm_supervisor.specs.Supervisor.{Shared}
 use Rattle.pm_supervisor.specs.Steps.{SupervisorEvent, Trace, IsRun, happened, all_happened, empty_trace}
 use Rattle.pm_state.specs.declared.action.Action.{Action}
@@ -17,10 +15,9 @@ use Rattle.pm_state.specs.declared.event.PmEvent.{PmEvent}
 use Rattle.pm_state.specs.declared.event.PmEvent.TheVariants as entry
 use Rattle.pm_state.specs.declared.machine.Machine.{Machine}
 use Rattle.pm_state.specs.Machine.{MachineEvent, Accepted, Exited, Asked, Ticked, Turned, step, IsReady, IsCounted}
-use Rattle.pm_state.specs.Shows.{Call, Accepts, Exits, Asks, Ticks, TakesTurn, IsFit, machine_after, events_in}
+use Rattle.pm_state.specs.Shows.{Call, Accepts, Asks, Ticks, TakesTurn, IsFit, machine_after, events_in}
 use Rattle.pm_state.specs.Starts.{Owes, has_end, is_report}
-use Rattle.pm_state.specs.Facts.{Facts}
-use Rattle.pm_state.specs.Journal.{Replay, Do, EndRedo, Due, AreLegal, all_replayed, replayed, replay_begun, dues, entry_of, entries_of, entries_of_call, all_reported, acts_of_call, redo_dues, settled, AsksSmart}
+use Rattle.pm_state.specs.Journal.{Replay, Do, EndRedo, AreLegal, all_replayed, replayed, replay_begun, dues, entry_of, entries_of, entries_of_call, all_reported, acts_of_call, settled, AsksSmart}
 use Rattle.pm_state.specs.InStep.{ServerState, IsInStep, IsTimely, KeepsStep, with_reports}
 use Rattle.pm_state.specs.Laws.{StaysInStep, TellsOfEachStart, WritesALegalJournal, KeepsItsFacts}
 use Rattle.pm_supervisor.specs.Laws.{TakesChildStepsBetween}

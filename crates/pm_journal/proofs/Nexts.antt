@@ -1,7 +1,6 @@
 -- The next act.
-use Rattle.std.proofs.Common.{◌≡◌, ℕ, ◌+◌, ◌≤◌, Bool, true, false, nat_eq, List, [], ◌∷◌, ◌++◌, Some, None, refl, ap, sym, ◌∙◌, subst, arith, length}
+use Rattle.std.proofs.Common.{◌≡◌, ◌+◌, true, false, List, [], ◌∷◌, Some, None, refl, ap, sym, ◌∙◌, subst, arith, length}
 use Rattle.std.specs.Prelude.{Option, Ok, Err, ◌<◌, is_some}
-use Rattle.std.specs.Option.{option_map}
 use Rattle.pm_supervisor.specs.declared.Limits.{Limits}
 use Rattle.pm_supervisor.specs.Steps.{Trace}
 use Rattle.pm_state.specs.declared.action.Action.{Action}
@@ -11,7 +10,7 @@ use Rattle.pm_state.specs.Starts.{Owes}
 use Rattle.pm_state.specs.Journal.{without_first}
 use Rattle.pm_state.specs.Laws.{TellsOfEachStart, WritesALegalJournal}
 use Rattle.pm_journal.specs.Doing.{HasNumbers, MayReport}
-use Rattle.pm_journal.specs.Standing.{Standing, Next, Adds, act_for, done, entry_for, first_due, is_spent, next_in, next_of}
+use Rattle.pm_journal.specs.Standing.{Standing, Adds, act_for, done, entry_for, first_due, is_spent, next_in, next_of}
 use Rattle.pm_journal.specs.Stands.{HasPids, IsSettled, Stands}
 use Rattle.pm_journal.proofs.Acting.{may-report, settled-next, stands-next}
 

@@ -1,5 +1,5 @@
 -- Once a shutdown was asked for, few children are still started.
-use Rattle.std.proofs.Common.{◌≡◌, ◌≢◌, ℕ, ◌+◌, ◌≤◌, Bool, true, false, ◌&&◌, ◌||◌, nat_eq, cond, List, [], ◌∷◌, ◌++◌, Some, None, refl, ap, sym, ◌∙◌, subst, arith, length}
+use Rattle.std.proofs.Common.{◌≡◌, ◌≢◌, ℕ, ◌+◌, ◌≤◌, Bool, true, false, ◌||◌, nat_eq, List, [], ◌∷◌, ◌++◌, Some, None, refl, ap, sym, ◌∙◌, arith, length}
 use Rattle.std.specs.Prelude.{Option, is_some, ◌<◌}
 use Rattle.std.proofs.lemmas.Bool.Decides.{nat_tests}
 use Rattle.pm_admit.specs.declared.Cac.{Cac}
@@ -8,23 +8,19 @@ use Rattle.pm_state.specs.Known.{Known}
 use Rattle.pm_state.specs.Machine.{accepted_as, IsCounted}
 use Rattle.pm_exit.specs.declared.child.Kind.{Kind}
 use Rattle.pm_exit.specs.declared.child.Kind.TheVariants as kind
-use Rattle.pm_exit.specs.declared.child.Status.{Status}
-use Rattle.pm_exit.specs.declared.child.Status.TheVariants as status
 use Rattle.pm_exit.specs.declared.child.Class.{Class}
 use Rattle.pm_exit.specs.declared.child.Class.TheVariants as class
-use Rattle.pm_exit.specs.Ends.{class_of, is_exit_0, is_exit_1}
+use Rattle.pm_exit.specs.Ends.{class_of}
 use Rattle.pm_modes.specs.declared.Mode.{Mode}
 use Rattle.pm_modes.specs.declared.Mode.TheVariants as mode
-use Rattle.pm_modes.specs.Strength.{is_immediate, strengthen_of}
-use Rattle.pm_admit.specs.declared.PmState.{PmState}
+use Rattle.pm_modes.specs.Strength.{strengthen_of}
 use Rattle.pm_admit.specs.declared.PmState.TheVariants as state
 use Rattle.pm_state.specs.declared.action.Action.{Action}
 use Rattle.pm_state.specs.declared.action.Action.TheVariants as act
-use Rattle.pm_state.specs.declared.machine.StartupStatus.TheVariants as startup
 use Rattle.pm_state.specs.declared.machine.Machine.{Machine}
-use Rattle.pm_state.specs.Transition.{Transition, transition}
+use Rattle.pm_state.specs.Transition.{Transition}
 use Rattle.pm_state.specs.Exits.{crash_rule, unless_normal, startup_exited, checkpointer_exited, exited_by, less_one, is_shutdown}
-use Rattle.pm_state.specs.Requests.{asked_with, asked_in, ticked_at}
+use Rattle.pm_state.specs.Requests.{asked_with, ticked_at}
 use Rattle.pm_state.specs.TurnRules.{start_recovery, restart_writer, end_smart, stop_backends, backends_gone, dead_ends_gone, children_gone, and_then, turned_of}
 use Rattle.pm_state.specs.Starts.{starts_in}
 use Rattle.pm_journal.specs.Standing.{Standing}

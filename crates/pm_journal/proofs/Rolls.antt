@@ -1,5 +1,5 @@
 -- The roll, and the supervisor's children.
-use Rattle.std.proofs.Common.{◌≡◌, ℕ, ◌+◌, ◌<◌, Bool, true, false, nat_eq, cond, List, [], ◌∷◌, ◌++◌, Some, None, refl, ap, sym, ◌≤◌, suc, length, take, drop, get_or, arith, zero}
+use Rattle.std.proofs.Common.{◌≡◌, ℕ, ◌+◌, ◌<◌, true, false, nat_eq, cond, List, [], ◌∷◌, ◌++◌, Some, None, refl, ap, sym, ◌≤◌, suc, length, take, drop, get_or, arith, zero}
 use Rattle.std.specs.Prelude.{position, not, nat_lt, is_some, IsSomeAnd}
 use Rattle.pm_exit.specs.declared.child.Kind.{Kind}
 use Rattle.pm_supervisor.specs.Children.{Child, child_of}

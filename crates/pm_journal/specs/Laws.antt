@@ -1,5 +1,5 @@
 -- The laws of a supervisor at work, one for each function of `laws.rt`, whose contract it is.
-use Rattle.std.specs.Prelude.{◌≡◌, ℕ, ◌≤◌, Bool, true, false, List, [], ◌∷◌, ◌++◌, Option, Some, unwrap_or}
+use Rattle.std.specs.Prelude.{◌≡◌, ℕ, ◌≤◌, Bool, true, false, List, [], ◌∷◌, ◌++◌, Option, Some, unwrap_or, is_some}
 use Rattle.pm_modes.specs.declared.Mode.{Mode}
 use Rattle.pm_supervisor.specs.declared.Limits.{Limits}
 use Rattle.pm_supervisor.specs.Between.{is_child_step}
@@ -12,7 +12,7 @@ use Rattle.pm_state.specs.Facts.{Holds}
 use Rattle.pm_journal.specs.Moments.{AreGiven}
 use Rattle.pm_journal.specs.declared.exit.ChildExit.{ChildExit}
 use Rattle.pm_journal.specs.Roll.{kind_in}
-use Rattle.pm_journal.specs.Standing.{Standing, IsAtRest, Making, MayAsk, MayTake, accepting, asking, done, entry_for, exiting, first_due, made, nothing_done, turning}
+use Rattle.pm_journal.specs.Standing.{Standing, IsAtRest, Making, MayAsk, MayTake, accepting, asking, done, entry_for, exiting, first_due, kill_entry, killed, made, nothing_done, ticking, turning}
 use Rattle.pm_journal.specs.Stands.{IsSettled, Stands, any_moment, behind, entries_due}
 
 pub record KeepsALegalJournal : Type 0 where
@@ -77,6 +77,14 @@ pub record GoesOnOverItsJournal : Type 0 where
   pub turns :
       (limits : Limits) (journal : List PmEvent) (s : Standing) (h : Trace) → Stands limits (Some journal) s h → IsAtRest s
       → s.owes_smart ≡ false → Stands limits (Some journal) (made turning s) (behind s.machine turning.call h)
+  -- time leaves no entry but those of its acts
+  pub ticks :
+      (limits : Limits) (journal : List PmEvent) (s : Standing) (h : Trace) (at : ℕ) → Stands limits (Some journal) s h → IsAtRest s
+      → s.owes_smart ≡ false → Stands limits (Some journal) (made (ticking at s) s) (behind s.machine (ticking at s).call h)
+  pub kills :
+      (limits : Limits) (journal : List PmEvent) (s : Standing) (h : Trace) (pid : ℕ) → Stands limits (Some journal) s h → IsAtRest s
+      → s.owes_smart ≡ false → is_some (kind_in pid s.children) ≡ true
+      → Stands limits (Some (journal ++ kill_entry pid ∷ [])) (killed pid s) h
   pub asks :
       (limits : Limits) (journal : List PmEvent) (s : Standing) (h : Trace) (mode : Mode) (at : ℕ) → Stands limits (Some journal) s h
       → IsAtRest s → MayAsk mode s

@@ -1,7 +1,6 @@
 -- Where a supervisor at work stands, and what its calls and acts leave.
-use Rattle.std.specs.Prelude.{◌≡◌, ℕ, ◌+◌, ◌<◌, max, Bool, true, false, ◌==◌, ◌&&◌, ◌||◌, if◌then◌else◌, List, [], ◌∷◌, ◌++◌, Option, Some, None, option_map, Result, Ok, Err, unwrap_or}
+use Rattle.std.specs.Prelude.{◌≡◌, ℕ, ◌+◌, ◌<◌, max, Bool, false, ◌==◌, ◌&&◌, ◌||◌, if◌then◌else◌, List, [], ◌∷◌, ◌++◌, Option, Some, None, option_map, Result, Ok, Err, unwrap_or}
 use Rattle.pm_exit.specs.declared.child.Kind.{Kind}
-use Rattle.pm_exit.specs.declared.child.Status.{Status}
 use Rattle.pm_exit.specs.Ends.{is_exit_0}
 use Rattle.pm_modes.specs.declared.Mode.{Mode}
 use Rattle.pm_modes.specs.declared.Mode.TheVariants as mode

@@ -38,8 +38,8 @@ pub fn notes_what_is_due()
     writes_a_legal_journal();
 }
 
-/// Where a supervisor at work stands over a given journal, each call and act leaves it over that journal and their entries, whether
-/// the journal is told or not.
+/// Where a supervisor at work stands over a given journal, each call, each tick and kill among them, and each act leaves it over
+/// that journal and their entries, whether the journal is told or not.
 pub fn goes_on_over_its_journal()
     ensures { GoesOnOverItsJournal }
 {

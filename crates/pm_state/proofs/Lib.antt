@@ -16,3 +16,7 @@ pub mod Promises
 pub mod Acts
 pub mod Reports
 pub mod InStep
+pub mod Entries
+pub mod Counting
+pub mod Restarts
+pub mod Admitting

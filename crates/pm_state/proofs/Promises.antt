@@ -1,6 +1,6 @@
 -- What a reader of the manual counts on.
-use Rattle.std.proofs.Common.{◌≡◌, ℕ, ◌+◌, ◌≤◌, Bool, true, false, ◌||◌, [], ◌∷◌, Some, arith}
-use Rattle.std.specs.Prelude.{is_some}
+use Rattle.std.proofs.Common.{◌≡◌, ℕ, ◌+◌, ◌≤◌, Bool, true, false, ◌||◌, [], ◌∷◌, Some, None, refl, arith}
+use Rattle.std.specs.Prelude.{Option, is_some}
 use Rattle.pm_exit.specs.declared.child.Status.{Status}
 use Rattle.pm_exit.specs.declared.child.Kind.{Kind}
 use Rattle.pm_exit.specs.declared.child.Kind.TheVariants as kind
@@ -9,7 +9,7 @@ use Rattle.pm_exit.specs.declared.child.Class.TheVariants as class
 use Rattle.pm_exit.specs.Ends.{class_of}
 use Rattle.pm_modes.specs.declared.Mode.{Mode}
 use Rattle.pm_modes.specs.declared.Mode.TheVariants as mode
-use Rattle.pm_modes.specs.Strength.{is_immediate}
+use Rattle.pm_modes.specs.Strength.{is_immediate, strengthen_of}
 use Rattle.pm_admit.specs.Admission.{is_run}
 use Rattle.pm_supervisor.specs.declared.Limits.{Limits}
 use Rattle.pm_supervisor.specs.Children.{is_startup_child}
@@ -18,11 +18,14 @@ use Rattle.pm_supervisor.specs.Steps.{is_normal}
 use Rattle.pm_state.specs.declared.action.Action.TheVariants as act
 use Rattle.pm_state.specs.declared.machine.Machine.{Machine}
 use Rattle.pm_state.specs.declared.machine.Exit.{Exit}
-use Rattle.pm_state.specs.Exits.{is_shutdown, unless_normal, checkpointer_exited, less_one, crash_rule, startup_exited}
-use Rattle.pm_state.specs.Machine.{Exited, Asked, Ticked, step}
-use Rattle.pm_state.specs.Requests.{ticked_at}
+use Rattle.pm_state.specs.Exits.{is_shutdown, exited_by, unless_normal, checkpointer_exited, less_one, crash_rule, startup_exited}
+use Rattle.pm_state.specs.Machine.{MachineEvent, Accepted, Started, Exited, Asked, Ticked, Turned, step}
+use Rattle.pm_state.specs.Requests.{asked_with, ticked_at}
+use Rattle.pm_state.specs.Transition.{Transition}
 use Rattle.pm_state.specs.Facts.{Facts, aborts_with_cause}
-use Rattle.pm_state.specs.Promises.{is_ready_act, is_release, has_act}
+use Rattle.pm_state.specs.Promises.{has_act, is_quit, is_ready_act, is_release, is_startup_crash, starts_before_ready}
+use Rattle.pm_state.proofs.Counting.{by-exit}
+use Rattle.pm_state.proofs.TurnPromises.{turned-orders}
 
 -- whoever is left is killed after five seconds
 
@@ -58,6 +61,52 @@ arms m pid kind.Writer status a now other bad = unless-arms (class_of kind.Write
 arms m pid kind.Worker status a now other bad = unless-arms (class_of kind.Worker (is_shutdown m.state) a status) (less_one kind.Worker m) _ bad
 arms m pid kind.Backend status a now other bad = unless-arms (class_of kind.Backend (is_shutdown m.state) a status) (less_one kind.Backend m) _ bad
 arms m pid kind.DeadEnd status a now other bad = unless-arms (class_of kind.DeadEnd (is_shutdown m.state) a status) (less_one kind.DeadEnd m) _ bad
+
+startup-crash-arms : (m : Machine) (exit : Exit) → is_startup_crash m exit.status ≡ true → is_some (startup_exited m exit).after.abort_at ≡ true
+unfolding startup_exited crash_rule
+startup-crash-arms m exit crash = grind arith
+
+-- that of a startup child too
+pub startup-arms : (m : Machine) (pid : ℕ) (status : Status) (a : Bool) (now : ℕ) → is_startup_crash m status ≡ true
+    → is_some (step m (Exited pid kind.Startup status a now)).after.abort_at ≡ true
+startup-arms m pid status a now crash = startup-crash-arms m (record { pid = pid; kind = kind.Startup; status = status; now = now }) crash
+
+-- and so does whatever tells all children to quit
+
+abbrev Arms : Transition → Type 0
+Arms o = has_act is_quit o.acts ≡ true → is_some o.after.abort_at ≡ true
+
+startup-quits : (m : Machine) (exit : Exit) → Arms (startup_exited m exit)
+unfolding startup_exited crash_rule
+startup-quits m exit quits = grind arith
+
+exit-quits : (k : Kind) (m : Machine) (exit : Exit) (a : Bool) → Arms (exited_by k m exit a)
+exit-quits k m exit a =
+    by-exit Arms k m exit a
+    (record {
+      startup = λ is. startup-quits m exit;
+      crash = λ quits. crash-arms (less_one k m) exit;
+      normal = λ quits. absurd cc;
+      written = λ quits. absurd cc;
+    })
+
+asked-quits : (m : Machine) (answer : Option Mode) (now : ℕ) → Arms (asked_with answer m now)
+asked-quits m None now quits = absurd cc
+asked-quits m (Some mode.Smart) now quits = grind arith
+asked-quits m (Some mode.Fast) now quits = grind arith
+asked-quits m (Some mode.Immediate) now quits = grind arith
+
+ticked-quits : (m : Machine) (since : Option ℕ) (now : ℕ) → has_act is_quit (ticked_at since m now).acts ≡ false
+ticked-quits m None now = refl
+ticked-quits m (Some since) now = grind arith
+
+pub quit-arms : (m : Machine) (event : MachineEvent) → has_act is_quit (step m event).acts ≡ true → is_some (step m event).after.abort_at ≡ true
+quit-arms m Accepted quits = absurd cc
+quit-arms m (Started k) quits = absurd cc
+quit-arms m (Exited pid k status a now) quits = exit-quits k m (record { pid = pid; kind = k; status = status; now = now }) a quits
+quit-arms m (Asked asked now) quits = asked-quits m (strengthen_of m.shutdown asked) now quits
+quit-arms m (Ticked now) quits = absurd (let none = ticked-quits m m.abort_at now in cc)
+quit-arms m Turned quits = absurd (let none = (turned-orders m).0 in cc)
 
 -- and so does an immediate request
 pub request-arms : (m : Machine) (now : ℕ) → is_immediate m.shutdown ≡ false → (step m (Asked mode.Immediate now)).after.abort_at ≡ Some now
@@ -123,3 +172,38 @@ request-keeps m asked now some = grind arith
 
 pub waits : (m : Machine) (since now : ℕ) → m.abort_at ≡ Some since → now + 1 ≤ since + 5000 → (step m (Ticked now)).acts ≡ []
 waits m since now is early = grind arith
+
+-- Ready comes before the starts that come with it
+
+abbrev Orders : Transition → Type 0
+Orders o = starts_before_ready o.acts ≡ false
+
+startup-orders : (m : Machine) (exit : Exit) → Orders (startup_exited m exit)
+unfolding startup_exited crash_rule
+startup-orders m exit = grind arith
+
+crash-orders : (m : Machine) (exit : Exit) → Orders (crash_rule m exit)
+unfolding crash_rule
+crash-orders m exit = grind arith
+
+exit-orders : (k : Kind) (m : Machine) (exit : Exit) (a : Bool) → Orders (exited_by k m exit a)
+exit-orders k m exit a =
+    by-exit Orders k m exit a (record { startup = λ is. startup-orders m exit; crash = crash-orders (less_one k m) exit; normal = refl; written = refl })
+
+asked-orders : (m : Machine) (answer : Option Mode) (now : ℕ) → Orders (asked_with answer m now)
+asked-orders m None now = refl
+asked-orders m (Some mode.Smart) now = grind arith
+asked-orders m (Some mode.Fast) now = grind arith
+asked-orders m (Some mode.Immediate) now = grind arith
+
+ticked-orders : (m : Machine) (since : Option ℕ) (now : ℕ) → Orders (ticked_at since m now)
+ticked-orders m None now = refl
+ticked-orders m (Some since) now = grind arith
+
+pub step-orders : (m : Machine) (event : MachineEvent) → starts_before_ready (step m event).acts ≡ false
+step-orders m Accepted = refl
+step-orders m (Started k) = refl
+step-orders m (Exited pid k status a now) = exit-orders k m (record { pid = pid; kind = k; status = status; now = now }) a
+step-orders m (Asked asked now) = asked-orders m (strengthen_of m.shutdown asked) now
+step-orders m (Ticked now) = ticked-orders m m.abort_at now
+step-orders m Turned = (turned-orders m).1

@@ -69,30 +69,49 @@ moved limits m s p checkpointer writer facts fits =
       checkpoints = fits.checkpoints;
     }
 
+-- a rule leaves the machine as it was, or leaves this one where its condition holds
+abbrev Does : Type 0 → Machine → Machine → Machine → Type 0
+Does when m left n = (n ≡ m) ⊎ (when × (n ≡ left))
+
+by-does : (limits : Limits) (m left n : Machine) (s : Supervisor) (when : Type 0) → Does when m left n → Facts limits m s
+    → (when → Facts limits left (record s { phase = phase_of left })) → Facts limits n (record s { phase = phase_of n })
+by-does limits m left n s when does facts then_ =
+    elim does as (λ _. Facts limits n (record s { phase = phase_of n })) [
+      | inl same ↦ stayed limits m n s same facts
+      | inr is ↦ rw is.1 (then_ is.0)
+    ]
+
+does-ended : (m left n : Machine) (when : Type 0) → Does when m left n → left.ended ≡ m.ended → n.ended ≡ m.ended
+does-ended m left n when does same =
+    elim does as (λ _. n.ended ≡ m.ended) [
+      | inl is ↦ rw is refl
+      | inr is ↦ rw is.1 same
+    ]
+
 -- a rule that moves, if it does anything
 abbrev Moves : (Machine → Type 0) → PmState → Machine → Machine → Type 0
-Moves when p m n = (n ≡ m) ⊎ (when m × (n ≡ moved_to p m.checkpointer_due m.writer_due m))
+Moves when p m n = Does (when m) m (moved_to p m.checkpointer_due m.writer_due m) n
 
 by-moves : (limits : Limits) (m n : Machine) (s : Supervisor) (when : Machine → Type 0) (p : PmState) → Moves when p m n → Facts limits m s
     → (when m → FitsIn (moved_to p m.checkpointer_due m.writer_due m) s) → Facts limits n (record s { phase = phase_of n })
 by-moves limits m n s when p moves facts fits =
-    elim moves as (λ _. Facts limits n (record s { phase = phase_of n })) [
-      | inl same ↦ stayed limits m n s same facts
-      | inr does ↦ rw does.1 (moved limits m s p m.checkpointer_due m.writer_due facts (fits does.0))
-    ]
+    by-does limits m (moved_to p m.checkpointer_due m.writer_due m) n s (when m) moves facts
+    (λ is. moved limits m s p m.checkpointer_due m.writer_due facts (fits is))
+
+moves-ended : (when : Machine → Type 0) (p : PmState) (m n : Machine) → Moves when p m n → n.ended ≡ m.ended
+moves-ended when p m n moves = does-ended m (moved_to p m.checkpointer_due m.writer_due m) n (when m) moves refl
 
 -- recovery starts
 
 abbrev IsInit : Machine → Type 0
 IsInit m = m.state ≡ state.Init
 
-start_recovery-does : (m : Machine) → ((start_recovery m).after ≡ m) ⊎ (IsInit m × ((start_recovery m).after ≡ startup_starts m))
+start_recovery-does : (m : Machine) → Does (IsInit m) m (startup_starts m) (start_recovery m).after
 unfolding start_recovery
 start_recovery-does m = grind arith
 
 pub start_recovery-ended : (m : Machine) → (start_recovery m).after.ended ≡ m.ended
-unfolding start_recovery
-start_recovery-ended m = grind arith
+start_recovery-ended m = does-ended m (startup_starts m) (start_recovery m).after (IsInit m) (start_recovery-does m) refl
 
 pub start_recovery-run : (limits : Limits) (m : Machine) (h : Trace) → m.ended ≡ false → Facts limits m h.now
     → IsRun limits h (move_of (phase_of m) (phase_of (start_recovery m).after))
@@ -132,24 +151,19 @@ started-facts limits m s is facts =
 pub start_recovery-facts : (limits : Limits) (m : Machine) (s : Supervisor) → Facts limits m s
     → Facts limits (start_recovery m).after (record s { phase = phase_of (start_recovery m).after })
 start_recovery-facts limits m s facts =
-    let n : Machine = (start_recovery m).after in
-    elim (start_recovery-does m) as (λ _. Facts limits n (record s { phase = phase_of n })) [
-      | inl same ↦ stayed limits m n s same facts
-      | inr does ↦ rw does.1 (started-facts limits m s does.0 facts)
-    ]
+    by-does limits m (startup_starts m) (start_recovery m).after s (IsInit m) (start_recovery-does m) facts (λ is. started-facts limits m s is facts)
 
 -- a writer is started again
 
 abbrev LacksWriter : Machine → Type 0
 LacksWriter m = (m.state ≡ state.Run) × (m.conns ≡ true) × (m.writer ≡ false)
 
-restart_writer-does : (m : Machine) → ((restart_writer m).after ≡ m) ⊎ (LacksWriter m × ((restart_writer m).after ≡ moved_to m.state m.checkpointer_due true m))
+restart_writer-does : (m : Machine) → Does (LacksWriter m) m (moved_to m.state m.checkpointer_due true m) (restart_writer m).after
 unfolding restart_writer
 restart_writer-does m = grind arith
 
 pub restart_writer-ended : (m : Machine) → (restart_writer m).after.ended ≡ m.ended
-unfolding restart_writer
-restart_writer-ended m = grind arith
+restart_writer-ended m = does-ended m (moved_to m.state m.checkpointer_due true m) (restart_writer m).after (LacksWriter m) (restart_writer-does m) refl
 
 writer-fits : (limits : Limits) (m : Machine) (s : Supervisor) → LacksWriter m → Facts limits m s
     → FitsIn (moved_to m.state m.checkpointer_due true m) s
@@ -159,11 +173,8 @@ writer-fits limits m s lacks facts =
 pub restart_writer-facts : (limits : Limits) (m : Machine) (s : Supervisor) → Facts limits m s
     → Facts limits (restart_writer m).after (record s { phase = phase_of (restart_writer m).after })
 restart_writer-facts limits m s facts =
-    let n : Machine = (restart_writer m).after in
-    elim (restart_writer-does m) as (λ _. Facts limits n (record s { phase = phase_of n })) [
-      | inl same ↦ stayed limits m n s same facts
-      | inr does ↦ rw does.1 (moved limits m s m.state m.checkpointer_due true facts (writer-fits limits m s does.0 facts))
-    ]
+    by-does limits m (moved_to m.state m.checkpointer_due true m) (restart_writer m).after s (LacksWriter m) (restart_writer-does m) facts
+    (λ is. moved limits m s m.state m.checkpointer_due true facts (writer-fits limits m s is facts))
 
 -- a smart shutdown goes on
 
@@ -175,8 +186,7 @@ unfolding end_smart
 end_smart-does m = grind arith
 
 pub end_smart-ended : (m : Machine) → (end_smart m).after.ended ≡ m.ended
-unfolding end_smart
-end_smart-ended m = grind arith
+end_smart-ended m = moves-ended IsDrained state.StopBackends m (end_smart m).after (end_smart-does m)
 
 pub end_smart-run : (limits : Limits) (m : Machine) (h : Trace) → m.ended ≡ false → Facts limits m h.now
     → IsRun limits h (move_of (phase_of m) (phase_of (end_smart m).after))
@@ -202,8 +212,7 @@ unfolding stop_backends
 stop_backends-does m = grind arith
 
 pub stop_backends-ended : (m : Machine) → (stop_backends m).after.ended ≡ m.ended
-unfolding stop_backends
-stop_backends-ended m = grind arith
+stop_backends-ended m = moves-ended IsStopping state.WaitBackends m (stop_backends m).after (stop_backends-does m)
 
 stopping-fits : (limits : Limits) (m : Machine) (s : Supervisor) → Facts limits m s → IsStopping m
     → FitsIn (moved_to state.WaitBackends m.checkpointer_due m.writer_due m) s
@@ -265,8 +274,7 @@ unfolding dead_ends_gone
 dead_ends_gone-does m = grind arith
 
 pub dead_ends_gone-ended : (m : Machine) → (dead_ends_gone m).after.ended ≡ m.ended
-unfolding dead_ends_gone
-dead_ends_gone-ended m = grind arith
+dead_ends_gone-ended m = moves-ended IsEmpty state.NoChildren m (dead_ends_gone m).after (dead_ends_gone-does m)
 
 pub dead_ends_gone-run : (limits : Limits) (m : Machine) (h : Trace) → m.ended ≡ false → Facts limits m h.now
     → IsRun limits h (move_of (phase_of m) (phase_of (dead_ends_gone m).after))

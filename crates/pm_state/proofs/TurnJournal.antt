@@ -23,18 +23,18 @@ use Rattle.pm_state.proofs.Journal.{is_kill, has_kill, dues-write, accept-writes
 
 -- a row
 
-report_of : Action → Machine → Machine
+pub report_of : Action → Machine → Machine
 report_of (act.Start k) m = started_as k m
 report_of _ m = m
 
 -- what the first act of a row is and leaves
-record IsFirst (gives : ℕ → Bool) (r : Replay) (o : Transition) (a : Action) (rest : List Action) (e : PmEvent) : Type 0 where
-  come : MayCome gives r e
-  cause : caused r.machine e ≡ o
-  due : dues_after r.machine e ≡ dues rest
-  report : reported e o.after ≡ report_of a o.after
+pub record IsFirst (gives : ℕ → Bool) (r : Replay) (o : Transition) (a : Action) (rest : List Action) (e : PmEvent) : Type 0 where
+  pub come : MayCome gives r e
+  pub cause : caused r.machine e ≡ o
+  pub due : dues_after r.machine e ≡ dues rest
+  pub report : reported e o.after ≡ report_of a o.after
 
-is-first : (gives : ℕ → Bool) (kept now : ℕ) (r : Replay) (a : Action) (rest : List Action) → is_kill (Do a) ≡ false
+pub is-first : (gives : ℕ → Bool) (kept now : ℕ) (r : Replay) (a : Action) (rest : List Action) → is_kill (Do a) ≡ false
     → (row_of r.machine).acts ≡ a ∷ rest → IsFirst gives r (row_of r.machine) a rest (entry_of kept now r.shown (Do a))
 unfolding report_of
 is-first gives kept now r (act.Start k) rest none is =

@@ -8,7 +8,7 @@ use Rattle.pm_state.specs.Transition.{Transition, transition}
 use Rattle.pm_state.specs.TurnRules.{start_recovery, restart_writer, backends_gone, dead_ends_gone, children_gone, turned_of}
 use Rattle.pm_admit.specs.Admission.{is_run}
 use Rattle.pm_state.specs.Exits.{is_shutdown}
-use Rattle.pm_state.specs.Promises.{Promises, has_act, is_ask_checkpoint, is_stop_backends, is_release}
+use Rattle.pm_state.specs.Promises.{Promises, has_act, is_ask_checkpoint, is_quit, is_stop_backends, is_release, starts_before_ready}
 use Rattle.pm_state.proofs.TurnCases.{late_of, with_terminate, TurnCases, by-turn, is_late, may_idle}
 
 late-checkpoint : (m : Machine) → is_shutdown m.state ≡ false
@@ -110,3 +110,38 @@ turn-promises =
 
 pub turned-promises : (m : Machine) → Promises m (turned_of m)
 turned-promises m = by-turn Promises turn-promises m
+
+-- a turn tells nobody to quit, and begins to serve nobody
+
+abbrev pub IsOrderly : Transition → Type 0
+IsOrderly o = (has_act is_quit o.acts ≡ false) × (starts_before_ready o.acts ≡ false)
+
+late-orders : (m : Machine) → IsOrderly (late_of m)
+unfolding late_of backends_gone dead_ends_gone children_gone
+late-orders m = grind arith
+
+terminate-orders : (m : Machine) → IsOrderly (with_terminate (late_of m))
+unfolding with_terminate
+terminate-orders m = late-orders m
+
+init-orders : (m : Machine) → IsOrderly (start_recovery (record m { state = state.Init }))
+unfolding start_recovery
+init-orders m = (refl, refl)
+
+writer-orders : (m : Machine) → IsOrderly (restart_writer (record m { state = state.Run; conns = true; writer = false }))
+unfolding restart_writer
+writer-orders m = (refl, refl)
+
+turn-orders : TurnCases (λ m o. IsOrderly o)
+turn-orders =
+    record {
+      begins = init-orders;
+      lacks_writer = writer-orders;
+      idle = λ m quiet. (refl, refl);
+      drained = λ m empty. terminate-orders (record m { state = state.WaitBackends; conns = false });
+      stopping = λ m. terminate-orders (record m { state = state.WaitBackends });
+      late = λ m is. late-orders m;
+    }
+
+pub turned-orders : (m : Machine) → IsOrderly (turned_of m)
+turned-orders m = by-turn (λ n o. IsOrderly o) turn-orders m

@@ -25,8 +25,9 @@ use Rattle.pm_state.specs.Starts.{Owes, has_end, is_report}
 use Rattle.pm_state.specs.Shows.{Call, TakesTurn, Shows, AreFit, IsFit, events_in, events_of_call, machine_after, machine_at_end}
 use Rattle.pm_state.specs.Facts.{Facts, Holds, NothingDue}
 use Rattle.pm_state.specs.Known.{Known}
-use Rattle.pm_state.specs.Promises.{Promises, is_ready_act, is_release, has_act}
-use Rattle.pm_state.specs.Journal.{Replay, Agrees, AreLegal, Follows, Writes, MayWrite, all_replayed, replayed, entries_of_call, machine_with_reports, replay_begun, settled}
+use Rattle.pm_state.specs.Promises.{Promises, has_act, is_quit, is_ready_act, is_release, is_startup_crash, starts_before_ready}
+use Rattle.pm_state.specs.Restarts.{Counts, RestartsInOrder}
+use Rattle.pm_state.specs.Journal.{Replay, Agrees, AreLegal, IsLegal, Follows, Writes, MayWrite, all_replayed, replayed, entries_of_call, machine_with_reports, replay_begun, settled}
 use Rattle.pm_state.specs.InStep.{ServerState, IsInStep, IsTimely, KeepsStep}
 
 -- whole lists of calls, each made where it may be
@@ -121,6 +122,17 @@ pub record StaysInStep : Type 0 where
       → Follows gives p.replay (entry.KillAsked pid)
       × IsInStep limits (record p { replay = replayed p.replay (entry.KillAsked pid) })
 
+-- restarts
+
+pub record RestartsSafely : Type 0 where
+  -- in a legal journal, whatever the clock
+  pub in_order :
+      (limits : Limits) (gives : ℕ → Bool) (journal : List PmEvent) → IsLegal limits gives journal → RestartsInOrder limits journal
+  -- at every entry the machine counts the children that the entries leave
+  pub counts :
+      (limits : Limits) (gives : ℕ → Bool) (journal : List PmEvent) → IsLegal limits gives journal
+      → Counts (all_replayed (replay_begun limits) journal).machine (all_replayed (replay_begun limits) journal).shown.children
+
 -- what a reader of the manual counts on
 
 pub record KeepsItsPromises : Type 0 where
@@ -129,6 +141,14 @@ pub record KeepsItsPromises : Type 0 where
       (m : Machine) (pid : ℕ) (kind : Kind) (status : Status) (was_active : Bool) (now : ℕ) → is_startup_child kind ≡ false
       → is_normal (class_of kind (is_shutdown m.state) was_active status) ≡ false
       → is_some (step m (Exited pid kind status was_active now)).after.abort_at ≡ true
+  -- so does the crash of a startup child
+  pub arms_at_startup :
+      (m : Machine) (pid : ℕ) (status : Status) (was_active : Bool) (now : ℕ) → is_startup_crash m status ≡ true
+      → is_some (step m (Exited pid Startup status was_active now)).after.abort_at ≡ true
+  -- whoever is told to end at once has that moment
+  pub arms_at_quit :
+      (m : Machine) (event : MachineEvent) → has_act is_quit (step m event).acts ≡ true
+      → is_some (step m event).after.abort_at ≡ true
   -- so does an immediate request
   pub request :
       (m : Machine) (now : ℕ) → is_immediate m.shutdown ≡ false → (step m (Asked Immediate now)).after.abort_at ≡ Some now
@@ -156,3 +176,5 @@ pub record KeepsItsPromises : Type 0 where
       (m : Machine) (pid : ℕ) (status : Status) (was_active : Bool) (now : ℕ) → is_run m.state ≡ false
       → is_run (step m (Exited pid Startup status was_active now)).after.state ≡ true
       → has_act is_ready_act (step m (Exited pid Startup status was_active now)).acts ≡ true
+  -- and Ready comes before the starts that come with it
+  pub ready_first : (m : Machine) (event : MachineEvent) → starts_before_ready (step m event).acts ≡ false

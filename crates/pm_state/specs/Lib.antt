@@ -1,6 +1,8 @@
 pub mod Transition
 pub mod Exits
 pub mod Requests
+pub mod Restarts
+pub mod WorkedRestarts
 pub mod TurnRules
 pub mod Machine
 pub mod Shows

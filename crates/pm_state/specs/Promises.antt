@@ -1,13 +1,15 @@
 -- What a reader of the manual counts on, beside the table. The manual: 19.5 "Shutting Down the Server", and 20.14 "Error
 -- Handling" for the restart after a crash.
-use Rattle.std.specs.Prelude.{◌≡◌, Bool, true, false, not, ◌||◌, List, [], ◌∷◌, is_some}
+use Rattle.std.specs.Prelude.{◌≡◌, Bool, true, false, not, ◌&&◌, ◌||◌, List, [], ◌∷◌, is_some}
+use Rattle.pm_exit.specs.declared.child.Status.{Status}
+use Rattle.pm_exit.specs.Ends.{is_exit_0, is_exit_1}
 use Rattle.pm_admit.specs.declared.PmState.{PmState}
 use Rattle.pm_admit.specs.declared.PmState.TheVariants as state
-use Rattle.pm_admit.specs.Admission.{is_run}
+use Rattle.pm_admit.specs.Admission.{is_run, is_startup}
 use Rattle.pm_state.specs.declared.action.Action.{Action}
 use Rattle.pm_state.specs.declared.action.Action.TheVariants as act
 use Rattle.pm_state.specs.declared.machine.Machine.{Machine}
-use Rattle.pm_state.specs.Exits.{is_shutdown}
+use Rattle.pm_state.specs.Exits.{is_running, is_shutdown}
 use Rattle.pm_state.specs.Transition.{Transition}
 
 abbrev pub is_ready_act : Action → Bool
@@ -24,6 +26,23 @@ is_release _ = false
 abbrev pub has_act : (Action → Bool) → List Action → Bool
 has_act test [] = false
 has_act test (a ∷ acts) = test a || has_act test acts
+
+-- every child is told to end at once
+abbrev pub is_quit : Action → Bool
+is_quit (act.Quit why) = true
+is_quit _ = false
+
+-- a child is started among the acts, and only then connections are served
+abbrev pub starts_before_ready : List Action → Bool
+starts_before_ready [] = false
+starts_before_ready (act.Ready ∷ acts) = false
+starts_before_ready (act.Start kind ∷ acts) = has_act is_ready_act acts
+starts_before_ready (_ ∷ acts) = starts_before_ready acts
+
+-- the end of the startup child is a crash: redo hasn't ended, it didn't give up for a shutdown, and it doesn't end the server
+abbrev pub is_startup_crash : Machine → Status → Bool
+is_startup_crash m status =
+    not (is_exit_0 status) && not (is_some m.shutdown && is_exit_1 status) && not (is_startup m.state && is_running m.startup)
 
 abbrev pub is_ask_checkpoint : Action → Bool
 is_ask_checkpoint act.AskCheckpoint = true

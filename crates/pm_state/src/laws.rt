@@ -1,6 +1,7 @@
 //! What holds of every list of calls. Each law is stated in `specs/Laws`, and carried by the function of its name.
 
-ghost use Rattle.pm_state.specs.Laws.{ShowsASupervisor, KeepsItsFacts, TellsOfEachStart, WritesALegalJournal, StaysInStep, KeepsItsPromises};
+ghost use Rattle.pm_state.specs.WorkedRestarts.{WorkedRestarts};
+ghost use Rattle.pm_state.specs.Laws.{ShowsASupervisor, KeepsItsFacts, TellsOfEachStart, WritesALegalJournal, StaysInStep, RestartsSafely, KeepsItsPromises};
 
 use pm_supervisor::{keeps_what_is_shared, stays_sound, stays_well, takes_child_steps_between};
 
@@ -47,10 +48,22 @@ pub fn stays_in_step()
     takes_child_steps_between();
 }
 
-/// What is told to end at once has five seconds: the moment is set by an abnormal exit and by an immediate request, stays
-/// until children are killed or none is left, and whoever is left five seconds after it is killed. Sessions that are to end
-/// are told to, and the last checkpoint is asked for where it is waited for. Connections are served behind a redo only
-/// after Ready.
+/// In any legal journal no connection is accepted as a session from an abnormal end of a child until redo has ended, a next
+/// generation begins only with no child left, and the server starts again after a crash, or ends for want of it, as the options
+/// say. At every entry the machine counts the children that are there.
+pub fn restarts_safely()
+    ensures { RestartsSafely }
+{}
+
+/// What the definitions of restarts refuse, and what they let pass, at four short journals.
+pub fn worked_restarts()
+    ensures { WorkedRestarts }
+{}
+
+/// What is told to end at once has five seconds: the moment is set by every Quit, by an abnormal exit, that of a startup child
+/// too, and by an immediate request, stays until children are killed or none is left, and whoever is left five seconds after it
+/// is killed. Sessions that are to end are told to, and the last checkpoint is asked for where it is waited for. Connections are
+/// served behind a redo only after Ready, which comes before the starts that come with it.
 pub fn keeps_its_promises()
     ensures { KeepsItsPromises }
 {}

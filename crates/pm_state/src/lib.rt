@@ -19,8 +19,8 @@ mod turn;
 pub use action::{Action, Actions, Line};
 pub use event::PmEvent;
 pub use laws::{
-    keeps_its_facts, keeps_its_promises, shows_a_supervisor, stays_in_step, tells_of_each_start,
-    writes_a_legal_journal,
+    keeps_its_facts, keeps_its_promises, restarts_safely, shows_a_supervisor, stays_in_step,
+    tells_of_each_start, worked_restarts, writes_a_legal_journal,
 };
 pub use pm_core::PmCore;
 pub use pm_supervisor::{Ending, Limits, Reason};

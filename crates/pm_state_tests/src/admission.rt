@@ -4,35 +4,31 @@ use crate::scene::*;
 use pm_admit::{Cac, PmState, View};
 use pm_scenario::Cause;
 use pm_state::{PmCore, PmEvent};
-use std::test::Fail;
 
-#[test]
-fn twice_the_connections_are_taken_and_four_refused(rt: HostRuntime) -> Result<(), Fail> {
-    let crowd = Scene {
-        happenings: &[
-            at!(3, Cause::Connection),
-            at!(4, Cause::Connection),
-            at!(5, Cause::Connection),
-            at!(6, Cause::Connection),
-            at!(7, Cause::Connection),
-            at!(8, Cause::Connection),
-        ],
-        entries: &[
-            accepted!(5, Cac::Ok),
-            accepted!(6, Cac::TooMany),
-            accepted!(7, Cac::TooMany),
-            accepted!(8, Cac::TooMany),
-            accepted!(9, Cac::TooMany),
-        ],
-    };
-    play(
-        &rt,
-        rt.alloc(),
-        limits(1, true),
-        "crowd",
-        &[START, REDO_ENDS, ONE_SESSION, crowd],
-    )
-}
+const CROWD: Scene = Scene {
+    happenings: &[
+        at!(3, Cause::Connection),
+        at!(4, Cause::Connection),
+        at!(5, Cause::Connection),
+        at!(6, Cause::Connection),
+        at!(7, Cause::Connection),
+        at!(8, Cause::Connection),
+    ],
+    entries: &[
+        accepted!(5, Cac::Ok),
+        accepted!(6, Cac::TooMany),
+        accepted!(7, Cac::TooMany),
+        accepted!(8, Cac::TooMany),
+        accepted!(9, Cac::TooMany),
+    ],
+};
+
+pub const RUNS: &[Run] = &[Run {
+    name: "twice the connections are taken, and four refused",
+    max_connections: 1,
+    restarts: true,
+    scenes: &[START, REDO_ENDS, ONE_SESSION, CROWD],
+}];
 
 #[test]
 fn a_new_machine_takes_no_connection(rt: HostRuntime) {

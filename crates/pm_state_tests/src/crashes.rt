@@ -5,7 +5,6 @@ use pm_admit::Cac;
 use pm_exit::Kind;
 use pm_scenario::Cause;
 use pm_state::{Line, PmEvent, Reason};
-use std::test::Fail;
 
 const KILL_AFTER_CRASH: Scene = Scene {
     happenings: &[
@@ -103,95 +102,88 @@ const FROM_THE_FIRST_MOMENT: Scene = Scene {
     ],
 };
 
-#[test]
-fn what_is_left_is_killed_once_at_5000_milliseconds(rt: HostRuntime) -> Result<(), Fail> {
-    let scenes = [START, FROM_THE_FIRST_MOMENT];
-    play(&rt, rt.alloc(), limits(1, true), "at 5,000", &scenes)
-}
+const WRITER_AGAIN: Scene = Scene {
+    happenings: &[exit!(3, 3, OK)],
+    entries: &[
+        exited!(3, 3, Kind::Writer, OK),
+        PmEvent::Started {
+            pid: 5,
+            kind: Kind::Writer,
+        },
+    ],
+};
 
-#[test]
-fn what_is_left_is_killed_and_a_later_crash_arms_it_again(rt: HostRuntime) -> Result<(), Fail> {
-    let scenes = [
-        START,
-        REDO_ENDS,
-        ONE_SESSION,
-        SESSION_CRASHES,
-        KILL_AFTER_CRASH,
-        ARMED_AGAIN,
-        NEXT_GENERATION,
-    ];
-    play(&rt, rt.alloc(), limits(1, true), "killed", &scenes)
-}
+// A checkpointer that ends before the last checkpoint is asked for has crashed.
+const EARLY_CHECKPOINTER: Scene = Scene {
+    happenings: &[exit!(3, 2, OK)],
+    entries: &[
+        exited!(3, 2, Kind::Checkpointer, OK),
+        tells_of!(2, Kind::Checkpointer, OK),
+        PmEvent::Said(Line::TerminatingOthers),
+        PmEvent::QuitSent(Reason::Crash),
+    ],
+};
 
-#[test]
-fn a_server_that_is_not_to_restart_ends(rt: HostRuntime) -> Result<(), Fail> {
-    let scenes = [
-        START,
-        REDO_ENDS,
-        ONE_SESSION,
-        SESSION_CRASHES,
-        OTHERS_QUIT,
-        RESTART_OFF,
-    ];
-    play(&rt, rt.alloc(), limits(1, false), "restart off", &scenes)
-}
+// Only a child that is there is killed, or has ended.
+const KILLED_ALONE: Scene = Scene {
+    happenings: &[
+        at!(3, Cause::Kill { pid: 4 }),
+        at!(4, Cause::Kill { pid: 99 }),
+        exit!(5, 99, OK),
+    ],
+    entries: &[PmEvent::KillAsked { pid: 4 }],
+};
 
-#[test]
-fn a_writer_that_ends_is_started_again(rt: HostRuntime) -> Result<(), Fail> {
-    let again = Scene {
-        happenings: &[exit!(3, 3, OK)],
-        entries: &[
-            exited!(3, 3, Kind::Writer, OK),
-            PmEvent::Started {
-                pid: 5,
-                kind: Kind::Writer,
-            },
+pub const RUNS: &[Run] = &[
+    Run {
+        name: "what is left is killed once, at 5,000",
+        max_connections: 1,
+        restarts: true,
+        scenes: &[START, FROM_THE_FIRST_MOMENT],
+    },
+    Run {
+        name: "what is left is killed, and a later crash arms it again",
+        max_connections: 1,
+        restarts: true,
+        scenes: &[
+            START,
+            REDO_ENDS,
+            ONE_SESSION,
+            SESSION_CRASHES,
+            KILL_AFTER_CRASH,
+            ARMED_AGAIN,
+            NEXT_GENERATION,
         ],
-    };
-    play(
-        &rt,
-        rt.alloc(),
-        limits(1, true),
-        "writer",
-        &[START, REDO_ENDS, ONE_SESSION, again],
-    )
-}
-
-#[test]
-fn a_checkpointer_that_ends_early_has_crashed(rt: HostRuntime) -> Result<(), Fail> {
-    let crashes = Scene {
-        happenings: &[exit!(3, 2, OK)],
-        entries: &[
-            exited!(3, 2, Kind::Checkpointer, OK),
-            tells_of!(2, Kind::Checkpointer, OK),
-            PmEvent::Said(Line::TerminatingOthers),
-            PmEvent::QuitSent(Reason::Crash),
+    },
+    Run {
+        name: "a server that isn't to restart ends",
+        max_connections: 1,
+        restarts: false,
+        scenes: &[
+            START,
+            REDO_ENDS,
+            ONE_SESSION,
+            SESSION_CRASHES,
+            OTHERS_QUIT,
+            RESTART_OFF,
         ],
-    };
-    play(
-        &rt,
-        rt.alloc(),
-        limits(1, true),
-        "checkpointer",
-        &[START, REDO_ENDS, crashes],
-    )
-}
-
-#[test]
-fn only_a_child_that_is_there_is_killed_or_has_ended(rt: HostRuntime) -> Result<(), Fail> {
-    let killed = Scene {
-        happenings: &[
-            at!(3, Cause::Kill { pid: 4 }),
-            at!(4, Cause::Kill { pid: 99 }),
-            exit!(5, 99, OK),
-        ],
-        entries: &[PmEvent::KillAsked { pid: 4 }],
-    };
-    play(
-        &rt,
-        rt.alloc(),
-        limits(1, true),
-        "kill",
-        &[START, REDO_ENDS, ONE_SESSION, killed],
-    )
-}
+    },
+    Run {
+        name: "a writer that ends is started again",
+        max_connections: 1,
+        restarts: true,
+        scenes: &[START, REDO_ENDS, ONE_SESSION, WRITER_AGAIN],
+    },
+    Run {
+        name: "a checkpointer that ends early",
+        max_connections: 1,
+        restarts: true,
+        scenes: &[START, REDO_ENDS, EARLY_CHECKPOINTER],
+    },
+    Run {
+        name: "one child is killed",
+        max_connections: 1,
+        restarts: true,
+        scenes: &[START, REDO_ENDS, ONE_SESSION, KILLED_ALONE],
+    },
+];

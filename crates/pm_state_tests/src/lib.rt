@@ -96,6 +96,8 @@ mod crashes;
 #[cfg(test)]
 mod lines;
 #[cfg(test)]
+mod runs;
+#[cfg(test)]
 mod scene;
 #[cfg(test)]
 mod shutdowns;

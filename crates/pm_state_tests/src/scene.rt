@@ -11,10 +11,20 @@ use std::alloc::Global;
 use std::process::Abort;
 use std::test::Fail;
 
+/// What happens, and what the journal has for it.
 #[derive(Clone, Copy)]
 pub struct Scene {
     pub happenings: &'static [Happening],
     pub entries: &'static [PmEvent],
+}
+
+/// Scenes one after the other, from the start of a server that serves so many connections.
+#[derive(Clone, Copy)]
+pub struct Run {
+    pub name: &'static str,
+    pub max_connections: u32,
+    pub restarts: bool,
+    pub scenes: &'static [Scene],
 }
 
 pub const OK: Status = Status::Code(0);

@@ -6,7 +6,26 @@ use pm_exit::Kind;
 use pm_modes::Mode;
 use pm_scenario::Cause;
 use pm_state::{Line, PmEvent};
-use std::test::Fail;
+
+// A shutdown after a crash is no clean one.
+macro_rules! after_crash {
+    ($name:expr, $request:expr) => {
+        Run {
+            name: $name,
+            max_connections: 1,
+            restarts: true,
+            scenes: &[
+                START,
+                REDO_ENDS,
+                ONE_SESSION,
+                SESSION_CRASHES,
+                $request,
+                OTHERS_QUIT,
+                ABNORMAL,
+            ],
+        }
+    };
+}
 
 const ABORTING: Scene = Scene {
     happenings: &[],
@@ -75,104 +94,94 @@ const LATE: Scene = Scene {
     entries: &[],
 };
 
-#[test]
-fn a_smart_shutdown_waits_for_the_last_session(rt: HostRuntime) -> Result<(), Fail> {
-    let scenes = [
-        START,
-        REDO_ENDS,
-        ONE_SESSION,
-        SMART,
-        WEAKER,
-        SESSION_ENDS,
-        TERMINATE,
-        WRITER_ENDS,
-        CHECKPOINT_ENDS,
-        REFUSED_ENDS,
-        DOWN,
-        LATE,
-    ];
-    play(&rt, rt.alloc(), limits(1, true), "smart", &scenes)
-}
+const STRONGER: Scene = Scene {
+    happenings: &[
+        at!(1_110, Cause::Request(Mode::Fast)),
+        at!(1_120, Cause::Request(Mode::Immediate)),
+        exit!(1_130, 4, QUIT),
+        exit!(1_140, 3, QUIT),
+        exit!(1_150, 2, QUIT),
+    ],
+    entries: &[
+        PmEvent::Asked {
+            mode: Mode::Fast,
+            at: 1_110,
+        },
+        PmEvent::Said(Line::Fast),
+        PmEvent::Said(Line::AbortingTransactions),
+        PmEvent::TerminateSent,
+        PmEvent::Asked {
+            mode: Mode::Immediate,
+            at: 1_120,
+        },
+        PmEvent::Said(Line::Immediate),
+        PmEvent::QuitSent(pm_state::Reason::Stop),
+        exited!(1_130, 4, Kind::Backend, QUIT),
+        exited!(1_140, 3, Kind::Writer, QUIT),
+        exited!(1_150, 2, Kind::Checkpointer, QUIT),
+    ],
+};
 
-#[test]
-fn a_fast_shutdown_ends_sessions_and_writes_a_checkpoint(rt: HostRuntime) -> Result<(), Fail> {
-    let scenes = [
-        START,
-        REDO_ENDS,
-        ONE_SESSION,
-        FAST,
-        ABORTING,
-        TERMINATE,
-        WEAKER,
-        SESSION_ENDS,
-        WRITER_ENDS,
-        CHECKPOINT_ENDS,
-        REFUSED_ENDS,
-        DOWN,
-    ];
-    play(&rt, rt.alloc(), limits(1, true), "fast", &scenes)
-}
-
-#[test]
-fn an_immediate_shutdown_kills_after_five_seconds(rt: HostRuntime) -> Result<(), Fail> {
-    let scenes = [
-        START,
-        REDO_ENDS,
-        ONE_SESSION,
-        IMMEDIATE,
-        WEAKER,
-        KILLED_AFTER_IMMEDIATE,
-        DOWN,
-    ];
-    play(&rt, rt.alloc(), limits(1, true), "immediate", &scenes)
-}
-
-#[test]
-fn a_stronger_request_takes_over(rt: HostRuntime) -> Result<(), Fail> {
-    let stronger = Scene {
-        happenings: &[
-            at!(1_110, Cause::Request(Mode::Fast)),
-            at!(1_120, Cause::Request(Mode::Immediate)),
-            exit!(1_130, 4, QUIT),
-            exit!(1_140, 3, QUIT),
-            exit!(1_150, 2, QUIT),
-        ],
-        entries: &[
-            PmEvent::Asked {
-                mode: Mode::Fast,
-                at: 1_110,
-            },
-            PmEvent::Said(Line::Fast),
-            PmEvent::Said(Line::AbortingTransactions),
-            PmEvent::TerminateSent,
-            PmEvent::Asked {
-                mode: Mode::Immediate,
-                at: 1_120,
-            },
-            PmEvent::Said(Line::Immediate),
-            PmEvent::QuitSent(pm_state::Reason::Stop),
-            exited!(1_130, 4, Kind::Backend, QUIT),
-            exited!(1_140, 3, Kind::Writer, QUIT),
-            exited!(1_150, 2, Kind::Checkpointer, QUIT),
-        ],
-    };
-    let scenes = [START, REDO_ENDS, ONE_SESSION, SMART, stronger, DOWN];
-    play(&rt, rt.alloc(), limits(1, true), "stronger", &scenes)
-}
-
-#[test]
-fn a_shutdown_after_a_crash_is_no_clean_one(rt: HostRuntime) -> Result<(), Fail> {
-    for (name, request) in [("smart", SMART), ("fast", FAST), ("immediate", IMMEDIATE)] {
-        let scenes = [
+pub const RUNS: &[Run] = &[
+    Run {
+        name: "a smart shutdown waits for the last session",
+        max_connections: 1,
+        restarts: true,
+        scenes: &[
             START,
             REDO_ENDS,
             ONE_SESSION,
-            SESSION_CRASHES,
-            request,
-            OTHERS_QUIT,
-            ABNORMAL,
-        ];
-        play(&rt, rt.alloc(), limits(1, true), name, &scenes)?;
-    }
-    Ok(())
-}
+            SMART,
+            WEAKER,
+            SESSION_ENDS,
+            TERMINATE,
+            WRITER_ENDS,
+            CHECKPOINT_ENDS,
+            REFUSED_ENDS,
+            DOWN,
+            LATE,
+        ],
+    },
+    Run {
+        name: "a fast shutdown ends sessions and writes a checkpoint",
+        max_connections: 1,
+        restarts: true,
+        scenes: &[
+            START,
+            REDO_ENDS,
+            ONE_SESSION,
+            FAST,
+            ABORTING,
+            TERMINATE,
+            WEAKER,
+            SESSION_ENDS,
+            WRITER_ENDS,
+            CHECKPOINT_ENDS,
+            REFUSED_ENDS,
+            DOWN,
+        ],
+    },
+    Run {
+        name: "an immediate shutdown kills after five seconds",
+        max_connections: 1,
+        restarts: true,
+        scenes: &[
+            START,
+            REDO_ENDS,
+            ONE_SESSION,
+            IMMEDIATE,
+            WEAKER,
+            KILLED_AFTER_IMMEDIATE,
+            DOWN,
+        ],
+    },
+    Run {
+        name: "a stronger request takes over",
+        max_connections: 1,
+        restarts: true,
+        scenes: &[START, REDO_ENDS, ONE_SESSION, SMART, STRONGER, DOWN],
+    },
+    after_crash!("a smart shutdown after a crash", SMART),
+    after_crash!("a fast shutdown after a crash", FAST),
+    after_crash!("an immediate shutdown after a crash", IMMEDIATE),
+];

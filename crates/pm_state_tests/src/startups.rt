@@ -3,9 +3,9 @@
 use crate::scene::*;
 use pm_admit::Cac;
 use pm_exit::Kind;
+use pm_modes::Mode;
 use pm_scenario::Cause;
 use pm_state::{Ending, Line, PmEvent, Reason};
-use std::test::Fail;
 
 const ENDS_0: Scene = Scene {
     happenings: &[exit!(1_300, 1, OK)],
@@ -96,33 +96,90 @@ const RESTART: Scene = Scene {
     ],
 };
 
-#[test]
-fn a_shutdown_needs_no_redo(rt: HostRuntime) -> Result<(), Fail> {
-    for (name, request) in [("smart", SMART), ("fast", FAST)] {
-        for end in [ENDS_0, ENDS_1] {
-            let scenes = [START, request, TERMINATE, end, LAST_CHECKPOINT, DOWN];
-            play(&rt, rt.alloc(), limits(1, true), name, &scenes)?;
+// A fast shutdown meets the startup child, which crashes: a child that refuses a connection and stays is killed five seconds
+// later.
+const REFUSED_STAYS: Scene = Scene {
+    happenings: &[
+        at!(2, Cause::Connection),
+        at!(3, Cause::Request(Mode::Fast)),
+        crash!(1_000, 1, KILLED),
+        at!(5_999, Cause::Time),
+        at!(6_000, Cause::Time),
+        crash!(6_001, 2, KILLED),
+    ],
+    entries: &[
+        PmEvent::Accepted {
+            pid: 2,
+            decision: Cac::Startup,
+        },
+        PmEvent::Asked {
+            mode: Mode::Fast,
+            at: 3,
+        },
+        PmEvent::Said(Line::Fast),
+        PmEvent::TerminateSent,
+        crashed!(1_000, 1, Kind::Startup, KILLED),
+        tells_of!(1, Kind::Startup, KILLED),
+        PmEvent::Said(Line::TerminatingOthers),
+        PmEvent::QuitSent(Reason::Crash),
+        PmEvent::KillSent { at: 6_000 },
+        crashed!(6_001, 2, Kind::DeadEnd, KILLED),
+    ],
+};
+
+// A shutdown needs no redo.
+macro_rules! without_redo {
+    ($name:expr, $request:expr, $end:expr) => {
+        Run {
+            name: $name,
+            max_connections: 1,
+            restarts: true,
+            scenes: &[START, $request, TERMINATE, $end, LAST_CHECKPOINT, DOWN],
         }
-    }
-    let scenes = [START, IMMEDIATE, ENDS_2, DOWN];
-    play(&rt, rt.alloc(), limits(1, true), "immediate", &scenes)
+    };
 }
 
-#[test]
-fn a_startup_child_that_fails_by_itself_ends_the_server(rt: HostRuntime) -> Result<(), Fail> {
-    play(&rt, rt.alloc(), limits(1, true), "fails", &[START, FAILS])
+// A startup child that was told to quit is only one more that has ended.
+macro_rules! told_to_quit {
+    ($name:expr, $end:expr) => {
+        Run {
+            name: $name,
+            max_connections: 1,
+            restarts: true,
+            scenes: &[START, REFUSED_CRASHES, $end, RESTART],
+        }
+    };
 }
 
-#[test]
-fn a_startup_child_that_crashes_in_a_shutdown_is_a_crash(rt: HostRuntime) -> Result<(), Fail> {
-    let scenes = [START, FAST, TERMINATE, CRASHES, ABNORMAL];
-    play(&rt, rt.alloc(), limits(1, true), "crashes", &scenes)
-}
-
-#[test]
-fn one_that_was_told_to_quit_is_only_one_more_that_has_ended(rt: HostRuntime) -> Result<(), Fail> {
-    let scenes = [START, REFUSED_CRASHES, ENDS_1, RESTART];
-    play(&rt, rt.alloc(), limits(1, true), "told to quit, 1", &scenes)?;
-    let scenes = [START, REFUSED_CRASHES, ENDS_2, RESTART];
-    play(&rt, rt.alloc(), limits(1, true), "told to quit, 2", &scenes)
-}
+pub const RUNS: &[Run] = &[
+    without_redo!("smart, redo ends", SMART, ENDS_0),
+    without_redo!("smart, redo gives up", SMART, ENDS_1),
+    without_redo!("fast, redo ends", FAST, ENDS_0),
+    without_redo!("fast, redo gives up", FAST, ENDS_1),
+    Run {
+        name: "immediate, redo is told to quit",
+        max_connections: 1,
+        restarts: true,
+        scenes: &[START, IMMEDIATE, ENDS_2, DOWN],
+    },
+    Run {
+        name: "a startup child that fails by itself ends the server",
+        max_connections: 1,
+        restarts: true,
+        scenes: &[START, FAILS],
+    },
+    Run {
+        name: "a startup child that crashes in a shutdown",
+        max_connections: 1,
+        restarts: true,
+        scenes: &[START, FAST, TERMINATE, CRASHES, ABNORMAL],
+    },
+    Run {
+        name: "what is left behind its crash is killed",
+        max_connections: 1,
+        restarts: true,
+        scenes: &[START, REFUSED_STAYS, ABNORMAL],
+    },
+    told_to_quit!("told to quit, 1", ENDS_1),
+    told_to_quit!("told to quit, 2", ENDS_2),
+];

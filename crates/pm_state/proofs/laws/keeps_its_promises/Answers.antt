@@ -1,4 +1,4 @@
-use Rattle.pm_state.proofs.Promises.{arms, request-arms, keeps-moment, exit-keeps, request-keeps, kills, waits, readies}
+use Rattle.pm_state.proofs.Promises.{arms, exit-keeps, keeps-moment, kills, quit-arms, readies, request-arms, request-keeps, startup-arms, step-orders, waits}
 use Rattle.pm_state.proofs.TurnPromises.{turned-promises}
 use Rattle.pm_state.proofs.laws.keeps_its_promises.Goals as goal
 
@@ -6,6 +6,8 @@ pub returns : goal.returns
 returns c =
     record {
       arms = arms;
+      arms_at_startup = startup-arms;
+      arms_at_quit = quit-arms;
       request = request-arms;
       kept_at_end_of_startup = keeps-moment;
       kept_at_exit = exit-keeps;
@@ -14,4 +16,5 @@ returns c =
       kills = kills;
       waits = waits;
       ready = readies;
+      ready_first = step-orders;
     }

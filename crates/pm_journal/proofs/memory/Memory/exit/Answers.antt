@@ -1,4 +1,4 @@
-use Rattle.std.proofs.Common.{◌≤◌, arith}
+use Rattle.std.proofs.Common.{arith}
 use Rattle.pm_state.specs.Machine.{Exited}
 use Rattle.pm_journal.proofs.memory.Memory.exit.Goals as goal
 

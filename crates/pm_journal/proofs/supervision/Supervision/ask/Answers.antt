@@ -1,4 +1,4 @@
-use Rattle.std.proofs.Common.{◌≡◌, ℕ, [], ◌∷◌, ◌++◌, ap, ◌∙◌}
+use Rattle.std.proofs.Common.{◌≡◌, [], ◌∷◌, ◌++◌, ap, ◌∙◌}
 use Rattle.std.specs.Option.{option_map}
 use Rattle.pm_state.specs.declared.event.PmEvent.TheVariants.{Asked}
 use Rattle.pm_state.specs.Shows.{Asks}

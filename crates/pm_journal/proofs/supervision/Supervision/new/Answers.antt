@@ -1,4 +1,3 @@
-use Rattle.std.proofs.Common.{refl, arith}
 use Rattle.pm_journal.proofs.Making.{stands-begun}
 use Rattle.pm_journal.proofs.supervision.Supervision.new.Goals as goal
 

@@ -1,4 +1,4 @@
-use Rattle.std.proofs.Common.{◌≤◌, ap, ◌∙◌, arith, length}
+use Rattle.std.proofs.Common.{ap, ◌∙◌, arith}
 use Rattle.pm_state.specs.Machine.{Turned}
 use Rattle.pm_state.specs.Shows.{TakesTurn}
 use Rattle.pm_journal.specs.Standing.{called, standing_of}
