@@ -1,2 +1,3 @@
+pub mod Attention
 pub mod Life
 pub mod Scripted

@@ -3,7 +3,9 @@
 
 mod life;
 mod scripted;
+mod standing;
 
 pub use life::{Cancelled, GateNo, Life, Signals};
 pub use pm_supervisor::Reason;
 pub use scripted::ScriptedLife;
+pub use standing::{Standing, listen};

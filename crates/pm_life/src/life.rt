@@ -1,6 +1,6 @@
 //! What a child's own life gives it: its pid, its signals, and its attachment at the gate.
 ghost use Rattle.std.specs.Prelude.{◌≡◌, ℕ, Option, Some, None, option_map, IfOk, IsTrue, OnErr};
-ghost use Rattle.pm_life.specs.Life.{Told, Child, asked_again, met_at_gate, attached_in, let_go};
+ghost use Rattle.pm_life.specs.Life.{Told, Child, IsUntried, HasNoCancel, asked_again, met_at_gate, asked_cancel, attached_in, let_go};
 
 use pm_supervisor::Reason;
 
@@ -49,10 +49,11 @@ pub trait Life {
         ensures told { told self.new ≡ option_map (asked_again result) (told self.old) }
         ensures child { child self.new ≡ child self.old };
 
-    /// Goes through the gate, and answers the generation that it is attached in.
+    /// Goes through the gate, once, and answers the generation that it is attached in.
     fn attach(&mut self) -> Result<u32, GateNo>
         requires free { (child self.old).attached ≡ None }
         requires may { ¬ (IsTrue (child self.old).is_dead_end) }
+        requires once { IsUntried (told self.old) }
         ensures ok { IfOk result (λ generation. child self.new ≡ attached_in generation
             (child self.old)) }
         ensures refused { OnErr result (child self.new ≡ child self.old) }
@@ -64,8 +65,9 @@ pub trait Life {
         ensures child { child self.new ≡ let_go (child self.old) }
         ensures told { told self.new ≡ told self.old };
 
-    /// Asks that the query of another child be cancelled.
+    /// Asks that the query of another child be cancelled. It is asked for once at most.
     fn cancel(&mut self, pid: u32, key: u32) -> Cancelled
-        ensures told { told self.new ≡ told self.old }
+        requires { HasNoCancel (told self.old) }
+        ensures told { told self.new ≡ option_map (asked_cancel pid key) (told self.old) }
         ensures child { child self.new ≡ child self.old };
 }

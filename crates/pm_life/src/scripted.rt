@@ -1,8 +1,17 @@
 //! A life that goes by a script, for tests and for a child that is alone.
-ghost use Rattle.std.specs.Prelude.{◌≤◌, length};
+ghost use Rattle.std.specs.Prelude.{◌≡◌, ◌≤◌, ◌<◌, length};
 
 use crate::life::{Cancelled, GateNo, Life, Signals};
 use std::alloc::Global;
+
+/// An answer to an ask for which no signal stands.
+const NO_SIGNALS: Signals = Signals {
+    kill: false,
+    quit: None,
+    terminate: false,
+    cancel: false,
+    checkpoint: false,
+};
 
 /// Gives the signals of its script, one answer an ask, and then none. The gate and the cancels always answer the same.
 #[derive(Drop)]
@@ -16,11 +25,13 @@ pub struct ScriptedLife {
     gate: Result<u32, GateNo>,
     met: Option<Result<u32, GateNo>>,
     cancelled: Cancelled,
+    asked_cancel: Option<(u32, u32)>,
     ghost in_range: { given ≤ length script.items },
+    ghost each_ask: { given < length script.items → asked ≡ given },
 }
 
 impl ScriptedLife {
-    ghost use Rattle.std.specs.Prelude.{◌≡◌, None, [], Ok, false};
+    ghost use Rattle.std.specs.Prelude.{None, [], Ok, false};
     ghost use Rattle.pm_life.specs.declared.life.Cancelled.TheVariants.{NoSuchPid};
     ghost use Rattle.pm_life.specs.Life.{nothing_told};
     ghost use Rattle.pm_life.specs.Scripted.{child_of_script, told_by_script};
@@ -49,6 +60,7 @@ impl ScriptedLife {
             gate,
             met: None,
             cancelled,
+            asked_cancel: None,
         }
     }
 
@@ -71,9 +83,29 @@ impl ScriptedLife {
     }
 }
 
-impl Life for ScriptedLife {
-    ghost use Rattle.std.specs.Prelude.{Some};
+impl ScriptedLife {
+    ghost use Rattle.std.specs.Option.{option_to_list};
     ghost use Rattle.pm_life.specs.Scripted.{child_of_script, told_by_script};
+
+    /// The generation that it is attached in, if it is.
+    pub fn attached(&self) -> Option<u32>
+        ensures { result ≡ (child_of_script self.now).attached }
+    {
+        self.attached
+    }
+
+    /// The pid and the key of the cancel that was asked for, if one was.
+    pub fn asked_cancel(&self) -> Option<(u32, u32)>
+        ensures { option_to_list result ≡ (told_by_script self.now).cancels }
+    {
+        self.asked_cancel
+    }
+}
+
+impl Life for ScriptedLife {
+    ghost use Rattle.std.specs.Prelude.{None, Some, IsTrue, IfOk, OnErr, option_map};
+    ghost use Rattle.pm_life.specs.Life.{HasNoCancel, asked_again, asked_cancel, attached_in, met_at_gate};
+    ghost use Rattle.pm_life.specs.Scripted.{GivesNext, child_of_script, told_by_script};
 
     ghost child = { child_of_script };
 
@@ -83,23 +115,31 @@ impl Life for ScriptedLife {
         self.pid
     }
 
-    fn signals(&mut self) -> Signals {
+    fn signals(&mut self) -> Signals
+        ensures told { Some (told_by_script self.new) ≡ option_map (asked_again result)
+            (Some (told_by_script self.old)) }
+        ensures child { child_of_script self.new ≡ child_of_script self.old }
+        ensures script { GivesNext self.old result self.new }
+    {
         self.asked = self.asked.saturating_add(1);
         if self.given == self.script.len() {
-            return Signals {
-                kill: false,
-                quit: None,
-                terminate: false,
-                cancel: false,
-                checkpoint: false,
-            };
+            return NO_SIGNALS;
         }
         let signals = self.script[self.given];
         self.given += 1;
         signals
     }
 
-    fn attach(&mut self) -> Result<u32, GateNo> {
+    fn attach(&mut self) -> Result<u32, GateNo>
+        requires free { (child_of_script self.old).attached ≡ None }
+        requires may { ¬ (IsTrue (child_of_script self.old).is_dead_end) }
+        ensures ok { IfOk result (λ generation. child_of_script self.new ≡ attached_in generation
+            (child_of_script self.old)) }
+        ensures refused { OnErr result (child_of_script self.new ≡ child_of_script self.old) }
+        ensures told { Some (told_by_script self.new) ≡ option_map (met_at_gate result)
+            (Some (told_by_script self.old)) }
+        ensures script { result ≡ self.old.gate }
+    {
         self.met = Some(self.gate);
         if let Ok(generation) = self.gate {
             self.attached = Some(generation);
@@ -111,7 +151,14 @@ impl Life for ScriptedLife {
         self.attached = None;
     }
 
-    fn cancel(&mut self, _pid: u32, _key: u32) -> Cancelled {
+    fn cancel(&mut self, pid: u32, key: u32) -> Cancelled
+        requires { HasNoCancel (Some (told_by_script self.old)) }
+        ensures told { Some (told_by_script self.new) ≡ option_map (asked_cancel pid key)
+            (Some (told_by_script self.old)) }
+        ensures child { child_of_script self.new ≡ child_of_script self.old }
+        ensures script { result ≡ self.old.cancelled }
+    {
+        self.asked_cancel = Some((pid, key));
         self.cancelled
     }
 }

@@ -11,12 +11,13 @@ use Rattle.pm_life.specs.Life.{Told, Signal, Kill, Quit, Terminate, was_told}
 use Rattle.std.proofs.lemmas.Grind.{flat_map-append}
 use Rattle.std.proofs.lemmas.List.Concat.{flat_map-cons}
 use Rattle.pm_wire.specs.Backend.{BackMessage, spelling}
-use Rattle.pm_session.specs.declared.attention.Standing.{Standing}
+use Rattle.pm_life.specs.declared.standing.Standing.{Standing}
 use Rattle.pm_session.specs.declared.ending.Cause.{Cause}
 use Rattle.pm_session.specs.declared.ending.Cause.TheVariants.{Terminated, Cancelling, LinkEnded, LinkFailed, TimedOut, PacketRefused, MessageRefused, DecisionRefused, GateRefused, ShortOfMemory, Panicked, ToldToTerminate, ToldToQuit, Killed, Overtaken}
 use Rattle.pm_session.specs.declared.ending.Stage.{Stage}
 use Rattle.pm_session.specs.Exchange.{LinkView, Passes, HasFailed, CutsOff, IsSentAll, Sends}
-use Rattle.pm_session.specs.Attention.{Attention, ends_by, ends_of, Stands, IsAttentive, Hears, was_given}
+use Rattle.pm_life.specs.Attention.{Attention, Stands, IsAttentive, Hears, was_given}
+use Rattle.pm_session.specs.Attention.{ends_by, ends_of}
 use Rattle.pm_session.specs.Sent.{bytes_of, last_of}
 use Rattle.pm_session.specs.Session.{Ending, Heeds, HeedsTold, LetsGo, last_messages, status_by, status_of}
 use Rattle.pm_session.specs.Conversation.{IsBreak, ShowsCause}

@@ -1,5 +1,5 @@
 -- Queries one behind the other, up to the end of a session.
-use Rattle.std.proofs.Common.{◌≡◌, ◌⊎◌, inl, inr, ℕ, zero, suc, ◌+◌, ◌<◌, ◌≤◌, List, [], ◌∷◌, ◌++◌, length, take, drop, Option, Some, Result, Ok, Err, IfErr, OnOk, refl, sym, ◌∙◌, ap, subst, arith, append_assoc, take-append-drop, length-append}
+use Rattle.std.proofs.Common.{◌≡◌, ◌⊎◌, inl, inr, ℕ, zero, suc, ◌+◌, ◌<◌, ◌≤◌, List, [], ◌∷◌, ◌++◌, length, take, drop, Option, None, Some, Result, Ok, Err, IfErr, OnOk, refl, sym, ◌∙◌, ap, subst, arith, append_assoc, take-append-drop, length-append}
 use Rattle.std.specs.List.{flat_map, Contains}
 use Rattle.std.proofs.lemmas.Grind.{flat_map-append}
 use Rattle.std.proofs.lemmas.List.{append-nil}
@@ -7,7 +7,7 @@ use Rattle.std.proofs.lemmas.List.Concat.{flat_map-cons}
 use Rattle.std.proofs.lemmas.List.Elements.{Contains-append_cases}
 use Rattle.pm_query.specs.declared.book.BookEntry.{BookEntry}
 use Rattle.pm_query.specs.Calls.{User}
-use Rattle.pm_life.specs.Life.{Signal, Kill, Quit, Terminate as ToTerminate, Cancel}
+use Rattle.pm_life.specs.Life.{Told, Signal, Kill, Quit, Terminate as ToTerminate, Cancel}
 use Rattle.pm_wire.specs.Outgoing.{Outgoing}
 use Rattle.pm_wire.specs.Backend.{BackMessage}
 use Rattle.pm_wire.specs.Frontend.{FrontMessage, Query, BadQuery, LongQuery, Terminate, Extended, Other, IsFront, IsUndecided, IsBadHeader, BeginsBadly}
@@ -15,13 +15,16 @@ use Rattle.pm_session.specs.declared.ending.MessageFault.{MessageFault}
 use Rattle.pm_session.specs.declared.ending.Cause.{Cause}
 use Rattle.pm_session.specs.declared.ending.Cause.TheVariants.{Terminated, Cancelling, LinkEnded, LinkFailed, TimedOut, PacketRefused, MessageRefused, DecisionRefused, GateRefused, ShortOfMemory, Panicked, ToldToTerminate, ToldToQuit, Killed, Overtaken}
 use Rattle.pm_session.specs.Exchange.{LinkView, Passes, CutsOff}
-use Rattle.pm_session.specs.Attention.{Attention, Hears, was_given}
+use Rattle.pm_life.specs.Attention.{Attention, Hears, IsAttentive, was_given}
 use Rattle.pm_session.specs.Sent.{Turn, bytes_of, turn_messages}
 use Rattle.pm_session.specs.Session.{TurnNotes, AllNotes, EndsAt, MayPassOver, IsCancelledTurn, pieces, query_bytes}
 use Rattle.pm_session.specs.Conversation.{Moment, moment, Conversed, ShowsCause, IsBreak}
 use Rattle.pm_session.specs.declared.release.Answer.{Answer}
 use Rattle.pm_session.specs.Turns.{Desk, desk, Says, EndNotes, AnswerNotes, turn_of, piece_of, IsSignal, IsHeeded, IsFit, Answered, BrokenOff, ReplyGoes, Refuses, MessageGoes, Comes, Conversing, Converses}
-use Rattle.pm_session.proofs.Attentions.{hears_none, hears_both, hears_fewer}
+use Rattle.pm_session.specs.Attention.{ends_of}
+use Rattle.pm_session.specs.Heeding.{AllRead}
+use Rattle.pm_session.proofs.Attentions.{hears_none, hears_both, hears_fewer, since_given, since_later}
+use Rattle.pm_session.proofs.Heeding.{heed_none, heed_then, turn_heeds}
 use Rattle.pm_session.proofs.Links.{passes_none, passes_both}
 use Rattle.pm_session.proofs.Said.{bytes_of-append, bytes_of-none}
 use Rattle.pm_session.proofs.Noted.{GoesInTurn}
@@ -74,6 +77,12 @@ input_then before came between more now texts more_texts one two =
 
 -- ---- queries one behind the other
 
+read_then : (pid : ℕ) (texts more_texts : List (List ℕ)) (turns more_turns : List Turn) (asked : List BookEntry) → AllNotes pid texts turns asked → AllRead texts turns → AllRead more_texts more_turns → AllRead (texts ++ more_texts) (turns ++ more_turns)
+read_then pid [] more_texts [] more_turns asked each one two = two
+read_then pid [] more_texts (turn ∷ turns) more_turns asked each one two = absurd each
+read_then pid (text ∷ texts) more_texts [] more_turns asked each one two = absurd each
+read_then pid (text ∷ texts) more_texts (turn ∷ turns) more_turns asked (first, others, is, front, means, rest) one two = (one.0, read_then pid texts more_texts turns more_turns others rest one.1 two)
+
 pub conversing_none : {S : Type 0} (notes : List BookEntry → S → S → Type 0) (user : User) (at : Moment S) → notes [] at.store at.store → Conversing notes user at at
 conversing_none notes user at rest = record {
   texts = [];
@@ -85,6 +94,8 @@ conversing_none notes user at rest = record {
   passes = subst (λ (l : List ℕ). Passes [] l at.link at.link) (sym bytes_of-none) (passes_none at.link);
   entries = rest;
   hears = hears_none at.child;
+  read = tt;
+  heeded = heed_none 0 at.child.told at.child.told (hears_none at.child).asked;
   cancelled = λ turn among is. absurd (nothing_among turn among);
 }
 
@@ -101,6 +112,8 @@ conversing_then notes user before between now in_turn one two = record {
       (passes_both one.came (bytes_of (pieces one.texts one.turns)) two.came (bytes_of (pieces two.texts two.turns)) before.link between.link now.link one.passes two.passes);
   entries = in_turn before.store between.store now.store one.asked two.asked one.entries two.entries;
   hears = hears_turns one.turns two.turns before.child between.child now.child one.hears two.hears;
+  read = read_then user.pid one.texts two.texts one.turns two.turns one.asked one.each one.read two.read;
+  heeded = heed_then one.turns two.turns before.child.told between.child.told now.child.told one.heeded two.heeded two.hears.gained;
   cancelled = cancelled_then (length two.turns) one.turns two.turns between.child now.child two.hears one.cancelled two.cancelled;
 }
 
@@ -135,6 +148,8 @@ conversed_then notes user cause before between now in_turn one two = record {
   entries = subst (λ (es : List BookEntry). notes es before.store now.store) (sym (append_assoc one.asked two.asked two.ended))
       (in_turn before.store between.store now.store one.asked (two.asked ++ two.ended) one.entries two.entries);
   hears = hears_turns one.turns two.turns before.child between.child now.child one.hears two.hears;
+  read = read_then user.pid one.texts two.texts one.turns two.turns one.asked one.each one.read two.read;
+  heeded = heed_then one.turns two.turns before.child.told between.child.told now.child.told one.heeded two.heeded two.hears.gained;
   cancelled = cancelled_then (length two.turns) one.turns two.turns between.child now.child two.hears one.cancelled two.cancelled;
 }
 
@@ -218,6 +233,8 @@ ends_here notes user cause last came times before now ends over input passes ent
   passes = passes;
   entries = entries;
   hears = hears_fewer 0 times before.child now.child (subst (λ (n : ℕ). Hears n before.child now.child) (none_more times) hears);
+  read = tt;
+  heeded = heed_none times before.child.told now.child.told hears.asked;
   cancelled = λ turn among is. absurd (nothing_among turn among);
 }
 
@@ -292,9 +309,9 @@ notes_end user text Overtaken entries front ends = (ends.0, (text, refl, front, 
 
 -- the queries whose answers were sent are one
 pub turn_taken : {S : Type 0} (notes : List BookEntry → S → S → Type 0) (user : User) (text spelled rest unread : List ℕ) (link_before link_now : LinkView) (store_before store_now : S) (child_before child_between child_now : Attention)
-    → unread ≡ spelled ++ rest → IsFront spelled (Query text) → Hears 1 child_before child_between → Answered notes user text [] (moment link_before [] store_before child_between) (moment link_now [] store_now child_now)
+    → unread ≡ spelled ++ rest → IsFront spelled (Query text) → Hears 1 child_before child_between → IsAttentive child_between → ends_of child_between.standing ≡ None → Answered notes user text [] (moment link_before [] store_before child_between) (moment link_now [] store_now child_now)
     → Conversing notes user (moment link_before unread store_before child_before) (moment link_now rest store_now child_now)
-turn_taken notes user text spelled rest unread link_before link_now store_before store_now child_before child_between child_now is front heard took = record {
+turn_taken notes user text spelled rest unread link_before link_now store_before store_now child_before child_between child_now is front heard attentive none took = record {
   texts = text ∷ [];
   turns = took.turn ∷ [];
   asked = took.noted;
@@ -304,15 +321,17 @@ turn_taken notes user text spelled rest unread link_before link_now store_before
   passes = subst (λ (l : List ℕ). Passes [] l link_before link_now) (sym (one_piece text took.turn ∙ took.whole ∙ append-nil took.went)) took.passes;
   entries = took.entries;
   hears = hears_both 1 0 child_before child_between child_now heard took.hears;
-  cancelled = λ turn among is_cancelled. one_cancelled took.turn turn child_now took.cancelled among is_cancelled;
+  read = (took.read, tt);
+  heeded = turn_heeds took.turn 0 child_before child_between child_now heard attentive none took.hears (λ e. took.cancelled (subst IsCancelledTurn (sym e) tt));
+  cancelled = λ turn among is_cancelled. one_cancelled took.turn turn child_now (λ is. since_given 0 Cancel child_between.told child_now.told took.hears.asked (took.cancelled is)) among is_cancelled;
 }
 
 -- a query was answered, and sending its answer was broken off
 pub turn_cut : {S : Type 0} (notes : List BookEntry → S → S → Type 0) (user : User) (cause : Cause) (text missing spelled rest unread : List ℕ) (link_before link_now : LinkView) (store_before store_now : S) (child_before child_between child_now : Attention)
-    → unread ≡ spelled ++ rest → IsFront spelled (Query text) → Hears 1 child_before child_between → CutsOff cause → IsBreak cause
+    → unread ≡ spelled ++ rest → IsFront spelled (Query text) → Hears 1 child_before child_between → IsAttentive child_between → ends_of child_between.standing ≡ None → CutsOff cause → IsBreak cause
     → Answered notes user text missing (moment link_before [] store_before child_between) (moment link_now [] store_now child_now)
     → Conversed notes user cause (moment link_before unread store_before child_before) (moment link_now rest store_now child_now)
-turn_cut notes user cause text missing spelled rest unread link_before link_now store_before store_now child_before child_between child_now is front heard cuts broken took = record {
+turn_cut notes user cause text missing spelled rest unread link_before link_now store_before store_now child_before child_between child_now is front heard attentive none cuts broken took = record {
   texts = text ∷ [];
   turns = took.turn ∷ [];
   last = [];
@@ -330,7 +349,9 @@ turn_cut notes user cause text missing spelled rest unread link_before link_now 
   passes = took.passes;
   entries = subst (λ (es : List BookEntry). notes es store_before store_now) (sym (append-nil took.noted)) took.entries;
   hears = hears_both 1 0 child_before child_between child_now heard took.hears;
-  cancelled = λ turn among is_cancelled. one_cancelled took.turn turn child_now took.cancelled among is_cancelled;
+  read = (took.read, tt);
+  heeded = turn_heeds took.turn 0 child_before child_between child_now heard attentive none took.hears (λ e. took.cancelled (subst IsCancelledTurn (sym e) tt));
+  cancelled = λ turn among is_cancelled. one_cancelled took.turn turn child_now (λ is. since_given 0 Cancel child_between.told child_now.told took.hears.asked (took.cancelled is)) among is_cancelled;
 }
 
 -- a query was broken off
@@ -355,6 +376,8 @@ turn_broken notes user cause text spelled rest unread link_before link_now store
   passes = off.passes;
   entries = off.entries;
   hears = hears_fewer 0 1 child_before child_now (hears_both 1 0 child_before child_between child_now heard off.hears);
+  read = tt;
+  heeded = heed_none 0 child_before.told child_now.told (hears_fewer 0 1 child_before child_now (hears_both 1 0 child_before child_between child_now heard off.hears)).asked;
   cancelled = λ turn among is_cancelled. absurd (nothing_among turn among);
 }
 
@@ -373,40 +396,40 @@ other_ends {S} notes user m cause spelled rest unread link_before link_now store
 
 -- a whole message was taken
 pub message_taken : {S : Type 0} (notes : List BookEntry → S → S → Type 0) (user : User) (m : FrontMessage) (result : Result (Unit {0}) Cause) (spelled rest unread : List ℕ) (link_before link_now : LinkView) (store_before store_now : S)
-    (child_before child_between child_now : Attention) → unread ≡ spelled ++ rest → IsFront spelled m → Hears 1 child_before child_between → notes [] store_before store_before
+    (child_before child_between child_now : Attention) → unread ≡ spelled ++ rest → IsFront spelled m → Hears 1 child_before child_between → IsAttentive child_between → ends_of child_between.standing ≡ None → notes [] store_before store_before
     → MessageGoes notes user m result (moment link_before [] store_before child_between) (moment link_now [] store_now child_now)
     → Converses notes user result (moment link_before unread store_before child_before) (moment link_now rest store_now child_now)
-message_taken notes user (Query text) (Ok done) spelled rest unread link_before link_now store_before store_now child_before child_between child_now is front heard rests took =
-    turn_taken notes user text spelled rest unread link_before link_now store_before store_now child_before child_between child_now is front heard took
-message_taken notes user (Query text) (Err cause) spelled rest unread link_before link_now store_before store_now child_before child_between child_now is front heard rests (inl cut) =
-    turn_cut notes user cause text cut.0 spelled rest unread link_before link_now store_before store_now child_before child_between child_now is front heard cut.1 cut.2 cut.3
-message_taken notes user (Query text) (Err cause) spelled rest unread link_before link_now store_before store_now child_before child_between child_now is front heard rests (inr off) =
+message_taken notes user (Query text) (Ok done) spelled rest unread link_before link_now store_before store_now child_before child_between child_now is front heard attentive none rests took =
+    turn_taken notes user text spelled rest unread link_before link_now store_before store_now child_before child_between child_now is front heard attentive none took
+message_taken notes user (Query text) (Err cause) spelled rest unread link_before link_now store_before store_now child_before child_between child_now is front heard attentive none rests (inl cut) =
+    turn_cut notes user cause text cut.0 spelled rest unread link_before link_now store_before store_now child_before child_between child_now is front heard attentive none cut.1 cut.2 cut.3
+message_taken notes user (Query text) (Err cause) spelled rest unread link_before link_now store_before store_now child_before child_between child_now is front heard attentive none rests (inr off) =
     turn_broken notes user cause text spelled rest unread link_before link_now store_before store_now child_before child_between child_now is front heard off
-message_taken notes user BadQuery (Ok done) spelled rest unread link_before link_now store_before store_now child_before child_between child_now is front heard rests goes = absurd goes
-message_taken notes user BadQuery (Err cause) spelled rest unread link_before link_now store_before store_now child_before child_between child_now is front heard rests goes =
+message_taken notes user BadQuery (Ok done) spelled rest unread link_before link_now store_before store_now child_before child_between child_now is front heard attentive none rests goes = absurd goes
+message_taken notes user BadQuery (Err cause) spelled rest unread link_before link_now store_before store_now child_before child_between child_now is front heard attentive none rests goes =
     other_ends notes user BadQuery cause spelled rest unread link_before link_now store_before store_now child_before child_between child_now is front heard rests goes
-message_taken notes user (LongQuery seen) (Ok done) spelled rest unread link_before link_now store_before store_now child_before child_between child_now is front heard rests goes = absurd goes
-message_taken notes user (LongQuery seen) (Err cause) spelled rest unread link_before link_now store_before store_now child_before child_between child_now is front heard rests goes =
+message_taken notes user (LongQuery seen) (Ok done) spelled rest unread link_before link_now store_before store_now child_before child_between child_now is front heard attentive none rests goes = absurd goes
+message_taken notes user (LongQuery seen) (Err cause) spelled rest unread link_before link_now store_before store_now child_before child_between child_now is front heard attentive none rests goes =
     other_ends notes user (LongQuery seen) cause spelled rest unread link_before link_now store_before store_now child_before child_between child_now is front heard rests goes
-message_taken notes user Terminate (Ok done) spelled rest unread link_before link_now store_before store_now child_before child_between child_now is front heard rests goes = absurd goes
-message_taken notes user Terminate (Err cause) spelled rest unread link_before link_now store_before store_now child_before child_between child_now is front heard rests goes =
+message_taken notes user Terminate (Ok done) spelled rest unread link_before link_now store_before store_now child_before child_between child_now is front heard attentive none rests goes = absurd goes
+message_taken notes user Terminate (Err cause) spelled rest unread link_before link_now store_before store_now child_before child_between child_now is front heard attentive none rests goes =
     other_ends notes user Terminate cause spelled rest unread link_before link_now store_before store_now child_before child_between child_now is front heard rests goes
-message_taken notes user (Extended kind) (Ok done) spelled rest unread link_before link_now store_before store_now child_before child_between child_now is front heard rests goes = absurd goes
-message_taken notes user (Extended kind) (Err cause) spelled rest unread link_before link_now store_before store_now child_before child_between child_now is front heard rests goes =
+message_taken notes user (Extended kind) (Ok done) spelled rest unread link_before link_now store_before store_now child_before child_between child_now is front heard attentive none rests goes = absurd goes
+message_taken notes user (Extended kind) (Err cause) spelled rest unread link_before link_now store_before store_now child_before child_between child_now is front heard attentive none rests goes =
     other_ends notes user (Extended kind) cause spelled rest unread link_before link_now store_before store_now child_before child_between child_now is front heard rests goes
-message_taken notes user (Other kind) (Ok done) spelled rest unread link_before link_now store_before store_now child_before child_between child_now is front heard rests goes = absurd goes
-message_taken notes user (Other kind) (Err cause) spelled rest unread link_before link_now store_before store_now child_before child_between child_now is front heard rests goes =
+message_taken notes user (Other kind) (Ok done) spelled rest unread link_before link_now store_before store_now child_before child_between child_now is front heard attentive none rests goes = absurd goes
+message_taken notes user (Other kind) (Err cause) spelled rest unread link_before link_now store_before store_now child_before child_between child_now is front heard attentive none rests goes =
     other_ends notes user (Other kind) cause spelled rest unread link_before link_now store_before store_now child_before child_between child_now is front heard rests goes
 
 -- ---- one query
 
-said_whole : (text : List ℕ) (answer : Answer) (child : Attention) (stood went missing : List ℕ) → stood ≡ [] → IsFit text answer child → stood ++ bytes_of (piece_of answer) ≡ went ++ missing → bytes_of (turn_messages text (turn_of answer)) ≡ went ++ missing
-said_whole text answer child stood went missing empty fit whole =
+said_whole : (text : List ℕ) (answer : Answer) (before now : Option Told) (stood went missing : List ℕ) → stood ≡ [] → IsFit text answer before now → stood ++ bytes_of (piece_of answer) ≡ went ++ missing → bytes_of (turn_messages text (turn_of answer)) ≡ went ++ missing
+said_whole text answer before now stood went missing empty fit whole =
     ap (λ (ms : List BackMessage). bytes_of ms) (sym fit.piece) ∙ ap (λ (l : List ℕ). l ++ bytes_of (piece_of answer)) (sym empty) ∙ whole
 
 -- its answer was sent, or a front of it
 pub replied : {S : Type 0} (notes : List BookEntry → S → S → Type 0) (user : User) (text : List ℕ) (answer : Answer) (result : Result (Unit {0}) Cause) (link_before link_now : LinkView) (store_before store_now : S) (child_before child_between child_now : Attention)
-    (outbox_before outbox_now : Outgoing) → outbox_before.bytes ≡ [] → (entries : List BookEntry) × notes entries store_before store_now × TurnNotes user.pid text (turn_of answer) entries → IsFit text answer child_between
+    (outbox_before outbox_now : Outgoing) → outbox_before.bytes ≡ [] → (entries : List BookEntry) × notes entries store_before store_now × TurnNotes user.pid text (turn_of answer) entries → IsFit text answer child_before.told child_between.told
     → Hears 0 child_before child_between → Says result (piece_of answer) (desk link_before outbox_before child_between) (desk link_now outbox_now child_now) → OnOk result (outbox_now.bytes ≡ [])
     → ReplyGoes notes user text result (moment link_before [] store_before child_before) (moment link_now [] store_now child_now)
 replied notes user text answer (Ok done) link_before link_now store_before store_now child_before child_between child_now outbox_before outbox_now empty (entries, noted, means) fit heard says emptied = record {
@@ -414,11 +437,12 @@ replied notes user text answer (Ok done) link_before link_now store_before store
   noted = entries;
   went = says.went;
   means = means;
-  whole = said_whole text answer child_between outbox_before.bytes says.went says.missing empty fit says.whole ∙ ap (λ (l : List ℕ). says.went ++ l) (says.left ∙ emptied);
+  whole = said_whole text answer child_before.told child_between.told outbox_before.bytes says.went says.missing empty fit says.whole ∙ ap (λ (l : List ℕ). says.went ++ l) (says.left ∙ emptied);
   passes = says.passes;
   entries = noted;
   hears = hears_both 0 0 child_before child_between child_now heard says.hears;
-  cancelled = λ is. says.hears.given Cancel (fit.cancelled is);
+  read = fit.read;
+  cancelled = λ is. since_later 0 Cancel child_before.told child_between.told child_now.told (fit.cancelled is) says.hears.asked says.hears.gained;
 }
 replied notes user text answer (Err cause) link_before link_now store_before store_now child_before child_between child_now outbox_before outbox_now empty (entries, noted, means) fit heard says emptied = inl (
   says.missing,
@@ -429,11 +453,12 @@ replied notes user text answer (Err cause) link_before link_now store_before sto
     noted = entries;
     went = says.went;
     means = means;
-    whole = said_whole text answer child_between outbox_before.bytes says.went says.missing empty fit says.whole;
+    whole = said_whole text answer child_before.told child_between.told outbox_before.bytes says.went says.missing empty fit says.whole;
     passes = says.passes;
     entries = noted;
     hears = hears_both 0 0 child_before child_between child_now heard says.hears;
-    cancelled = λ is. says.hears.given Cancel (fit.cancelled is);
+    read = fit.read;
+    cancelled = λ is. since_later 0 Cancel child_before.told child_between.told child_now.told (fit.cancelled is) says.hears.asked says.hears.gained;
   },
 )
 
@@ -445,5 +470,5 @@ unreplied notes user text cause link store_before store_now child_before child_n
     inr (record { noted = entries; ends = ends; passes = passes_none link; entries = noted; hears = heard })
 
 -- an answer that fits a text fits the same bytes
-pub fit_as : (text other : List ℕ) (answer : Answer) → text ≡ other → ((child : Attention) → IsFit text answer child) → (child : Attention) → IsFit other answer child
-fit_as text other answer same fits child = subst (λ (bytes : List ℕ). IsFit bytes answer child) same (fits child)
+pub fit_as : (text other : List ℕ) (answer : Answer) → text ≡ other → ((before now : Option Told) → IsFit text answer before now) → (before now : Option Told) → IsFit other answer before now
+fit_as text other answer same fits before now = subst (λ (bytes : List ℕ). IsFit bytes answer before now) same (fits before now)

@@ -14,11 +14,14 @@ use Rattle.pm_startup.specs.Phases.{step_of}
 use Rattle.pm_session.specs.declared.ending.Cause.{Cause}
 use Rattle.pm_session.specs.declared.ending.Cause.TheVariants.{Terminated, Cancelling, LinkEnded, LinkFailed, TimedOut, PacketRefused, MessageRefused, DecisionRefused, GateRefused, ShortOfMemory, Panicked, ToldToTerminate, ToldToQuit, Killed, Overtaken}
 use Rattle.pm_session.specs.Exchange.{LinkView, Passes, CutsOff, IsSentAll, Sends, Receives, ReceivesNothing}
-use Rattle.pm_session.specs.Attention.{Attention, Hears}
+use Rattle.std.specs.Option.{option_map}
+use Rattle.pm_life.specs.declared.standing.Standing.{Standing}
+use Rattle.pm_life.specs.Life.{Child, Told, asked_cancel}
+use Rattle.pm_life.specs.Attention.{Attention, attention, Hears, KeepsCancels}
 use Rattle.pm_session.specs.Session.{AskInTurn, IsStart, IsRefusedPacket, StopsAt, MayPassOver, first_phase}
 use Rattle.pm_session.specs.Conversation.{IsBreak, ShowsCause}
-use Rattle.pm_session.specs.Entry.{outside, Asked, GoesOn, Enters}
-use Rattle.pm_session.proofs.Attentions.{hears_none, hears_both, hears_fewer}
+use Rattle.pm_session.specs.Entry.{outside, Asked, GoesOn, AsksToCancel, Attends, Enters}
+use Rattle.pm_session.proofs.Attentions.{hears_none, hears_both, hears_fewer, asked_then, cancels_none}
 use Rattle.pm_session.proofs.Links.{passes_none, passes_both, passes_no_more}
 use Rattle.pm_session.proofs.Said.{shows_since}
 
@@ -114,10 +117,57 @@ asked_front : (requests : List (List ℕ)) (before came unread : List ℕ) (used
 asked_front requests before came unread used is =
     is ∙ ap (λ (l : List ℕ). all_of requests ++ l) (sym (take-append-drop used unread)) ∙ sym (append_assoc (all_of requests) (take used unread) (drop used unread))
 
+-- ---- heeding, up to a cancel
+
+attends_of : (before now : Attention) → Hears 0 before now → Attends before now
+attends_of before now hears = record { asked = hears.asked; child = hears.child; given = hears.given; stands = hears.stands }
+
+pub attends_none : (at : Attention) → Attends at at
+attends_none at = attends_of at at (hears_none at)
+
+attends_then : (a b c : Attention) → Attends a b → Attends b c → Attends a c
+attends_then a b c one two = record {
+  asked = asked_then 0 0 a.told b.told c.told one.asked two.asked;
+  child = two.child ∙ one.child;
+  given = λ signal given. two.given signal (one.given signal given);
+  stands = λ stands. two.stands (one.stands stands);
+}
+
+cancel_attends : (pid key : ℕ) (told : Option Told) (child : Child) (standing : Standing) → Attends (attention told child standing) (attention (option_map (asked_cancel pid key) told) child standing)
+cancel_attends pid key None child standing = attends_none (attention None child standing)
+cancel_attends pid key (Some told) child standing = record {
+  asked = (omega arith, refl);
+  child = refl;
+  given = λ signal given. given;
+  stands = λ stands. record { kill = stands.kill; quit = stands.quit; quits = stands.quits; terminate = stands.terminate; cancel = stands.cancel; checkpoint = stands.checkpoint };
+}
+
+-- a cancel that was asked for changes nothing else
+pub attends_cancel : (pid key : ℕ) (told told_now : Option Told) (child child_now : Child) (standing : Standing) → told_now ≡ option_map (asked_cancel pid key) told → child_now ≡ child → Attends (attention told child standing) (attention told_now child_now standing)
+attends_cancel pid key told told_now child child_now standing is same = rw (is, same) (cancel_attends pid key told child standing)
+
+breaks_asks : (cause : Cause) (last : List ℕ) (before now : Option Told) → IsBreak cause → KeepsCancels before now → AsksToCancel (Err cause) last before now
+breaks_asks Cancelling last before now breaks keeps = absurd breaks
+breaks_asks Terminated last before now breaks keeps = keeps
+breaks_asks LinkEnded last before now breaks keeps = keeps
+breaks_asks LinkFailed last before now breaks keeps = keeps
+breaks_asks TimedOut last before now breaks keeps = keeps
+breaks_asks (PacketRefused fault) last before now breaks keeps = keeps
+breaks_asks (MessageRefused fault) last before now breaks keeps = keeps
+breaks_asks DecisionRefused last before now breaks keeps = keeps
+breaks_asks (GateRefused refusal) last before now breaks keeps = keeps
+breaks_asks ShortOfMemory last before now breaks keeps = keeps
+breaks_asks Panicked last before now breaks keeps = keeps
+breaks_asks ToldToTerminate last before now breaks keeps = keeps
+breaks_asks (ToldToQuit reason) last before now breaks keeps = keeps
+breaks_asks Killed last before now breaks keeps = keeps
+breaks_asks Overtaken last before now breaks keeps = keeps
+
 -- the packet at the front decides
-pub enters_by : (result : Result (Unit {0}) Cause) (phase : Phase) (used : ℕ) (link0 link1 : LinkView) (unread0 unread1 unread2 : List ℕ) (at0 at1 : Attention) → Asked phase (outside link0 unread0 at0) (outside link1 unread1 at1)
-    → GoesOn result phase (take used unread1) (drop used unread1) [] (outside link0 unread0 at0) (outside link1 unread2 at1) → Enters result (outside link0 unread0 at0) (outside link1 unread2 at1)
-enters_by result phase used link0 link1 unread0 unread1 unread2 at0 at1 asked goes = record {
+pub enters_by : (result : Result (Unit {0}) Cause) (phase : Phase) (used : ℕ) (link0 link1 : LinkView) (unread0 unread1 unread2 : List ℕ) (at0 at1 at2 : Attention) → Asked phase (outside link0 unread0 at0) (outside link1 unread1 at1)
+    → GoesOn result phase (take used unread1) (drop used unread1) [] (outside link0 unread0 at0) (outside link1 unread2 at2) → Attends at1 at2 → AsksToCancel result (take used unread1) at1.told at2.told
+    → Enters result (outside link0 unread0 at0) (outside link1 unread2 at2)
+enters_by result phase used link0 link1 unread0 unread1 unread2 at0 at1 at2 asked goes attends cancels = record {
   requests = asked.requests;
   phase = phase;
   last = take used unread1;
@@ -130,7 +180,10 @@ enters_by result phase used link0 link1 unread0 unread1 unread2 at0 at1 asked go
   input = asked_front asked.requests unread0 asked.came unread1 used asked.input;
   output = sym (append-nil (answers_to asked.requests));
   passes = asked.passes;
+  heard = at1;
   hears = asked.hears;
+  attends = attends_then at0 at1 at2 (attends_of at0 at1 asked.hears) attends;
+  cancels = cancels;
 }
 
 stops_by : (phase : Phase) (cause : Cause) (last : List ℕ) → IsBreak cause → IsUndecided last → StopsAt phase cause last × MayPassOver cause []
@@ -168,7 +221,10 @@ enters_broken phase cause link0 link1 link2 unread0 unread1 unread2 at0 at1 at2 
       input = asked.input ∙ sym (append-nil (all_of asked.requests ++ unread1));
       output = sym (append-nil (answers_to asked.requests));
       passes = passes_no_more asked.came (answers_to asked.requests) link0 link1 link2 asked.passes receives.passes;
+      heard = at2;
       hears = hears_fewer 0 1 at0 at2 (hears_both 0 1 at0 at1 at2 asked.hears hears);
+      attends = attends_of at0 at2 (hears_fewer 0 1 at0 at2 (hears_both 0 1 at0 at1 at2 asked.hears hears));
+      cancels = breaks_asks cause unread1 at2.told at2.told shows.0 (cancels_none at2.told);
     }
 
 cut_stops : (phase : Phase) (cause : Cause) (beyond : List ℕ) → IsBreak cause → CutsOff cause → StopsAt phase cause [] × MayPassOver cause beyond
@@ -209,7 +265,10 @@ enters_cut phase next content cause used link0 link1 link2 unread0 unread1 unrea
           ∙ ap (λ (l : List ℕ). l ++ unread2) (sym (append-nil (all_of (asked.requests ++ packet ∷ []))));
       output = answers_more asked.requests packet ∙ ap (λ (l : List ℕ). answers_to asked.requests ++ l) sends.whole ∙ sym (append_assoc (answers_to asked.requests) sends.went sends.missing);
       passes = subst (λ (i : List ℕ). Passes i (answers_to asked.requests ++ sends.went) link0 link2) (append-nil asked.came) (passes_both asked.came (answers_to asked.requests) [] sends.went link0 link1 link2 asked.passes sends.passes);
+      heard = at2;
       hears = hears_both 0 0 at0 at1 at2 asked.hears hears;
+      attends = attends_of at0 at2 (hears_both 0 0 at0 at1 at2 asked.hears hears);
+      cancels = breaks_asks cause [] at2.told at2.told shows.0 (cancels_none at2.told);
     }
 
 -- memory was short before the first byte
@@ -227,5 +286,8 @@ enters_not link at = record {
   input = refl;
   output = refl;
   passes = passes_none link;
+  heard = at;
   hears = hears_none at;
+  attends = attends_none at;
+  cancels = cancels_none at.told;
 }

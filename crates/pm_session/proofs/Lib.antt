@@ -2,6 +2,7 @@ pub mod Attentions
 pub mod Closings
 pub mod Conversing
 pub mod Entries
+pub mod Heeding
 pub mod Links
 pub mod Noted
 pub mod Said

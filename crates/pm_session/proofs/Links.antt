@@ -8,7 +8,7 @@ use Rattle.std.proofs.lemmas.List.Elements.{Contains-append_left, Contains-appen
 use Rattle.pm_supervisor.specs.declared.Reason.{Reason}
 use Rattle.pm_life.specs.declared.life.Signals.{Signals}
 use Rattle.pm_life.specs.Life.{Child, Told, Signal, Kill, Quit, Terminate, Cancel, Checkpoint, nothing_told, one_if, quit_in, signals_in, asked_again, was_told}
-use Rattle.pm_session.specs.declared.attention.Standing.{Standing}
+use Rattle.pm_life.specs.declared.standing.Standing.{Standing}
 use Rattle.pm_session.specs.declared.ending.Cause.{Cause}
 use Rattle.pm_session.specs.declared.ending.Cause.TheVariants.{ToldToTerminate, ToldToQuit, Killed}
 use Rattle.pm_outside.specs.Traffic.{Traffic, GotWithin, after_read, after_write}
@@ -19,7 +19,8 @@ use Rattle.pm_outside.specs.declared.link.Put.TheVariants.{Count, Failed as PutF
 use Rattle.pm_disk.specs.Cause.{Rose, IsCounted}
 use Rattle.pm_session.specs.Exchange.{LinkView, link_view, Appended, came_in_of, went_out_of, HasEnded, Passes, HasFailed, Reads, Receives, ReceivesNothing, SentAllBut, Sends}
 use Rattle.pm_session.specs.Conversation.{ShowsCause, IsBreak}
-use Rattle.pm_session.specs.Attention.{Attention, attention, nothing_stands, with_signals, ends_by, ends_of, was_given, Stands, IsAttentive, HasAsked, Hears}
+use Rattle.pm_life.specs.Attention.{Attention, attention, nothing_stands, with_signals, was_given, Stands, IsAttentive, HasAsked, Hears}
+use Rattle.pm_session.specs.Attention.{ends_by, ends_of}
 
 -- ---- what passes
 

@@ -9,16 +9,18 @@ use Rattle.pm_query.specs.declared.book.BookEntry.TheVariants.{Released}
 use Rattle.pm_query.specs.declared.store.Staged.{Staged}
 use Rattle.pm_query.specs.declared.store.StoreNo.{StoreNo}
 use Rattle.pm_query.specs.declared.store.StoreNo.TheVariants as nos
-use Rattle.pm_query.specs.Calls.{User, PassView, user_of, with_front, NotesAnswer, NotesStaged, RunNotes, SeenNotes}
+use Rattle.pm_query.specs.Calls.{User, PassView, user_of, with_front, NotesAnswer, NotesStaged, RunNotes, SeenNotes, FlushNotes}
 use Rattle.pm_query.specs.Limits.{HasShortValues}
 use Rattle.pm_session.specs.declared.ending.Cause.{Cause}
 use Rattle.pm_session.specs.declared.ending.Cause.TheVariants.{Terminated, Cancelling, LinkEnded, LinkFailed, TimedOut, PacketRefused, MessageRefused, DecisionRefused, GateRefused, ShortOfMemory, Panicked, ToldToTerminate, ToldToQuit, Killed, Overtaken}
 use Rattle.pm_session.specs.declared.release.Answer.{Answer}
 use Rattle.pm_session.specs.declared.release.Answer.TheVariants as answers
 use Rattle.pm_session.specs.declared.release.Awaited.{Awaited}
-use Rattle.pm_session.specs.Attention.{Attention}
+use Rattle.pm_life.specs.Life.{Told, Cancel}
+use Rattle.pm_life.specs.Attention.{HasAsked}
+use Rattle.pm_session.proofs.Attentions.{since_earlier}
 use Rattle.pm_session.specs.Session.{IsUnreleased}
-use Rattle.pm_session.specs.Turns.{EndNotes, AnswerNotes, ScriptNotes, refusal_of, no_release, WaitNotes, ReleaseNotes, IsFit, IsSignal}
+use Rattle.pm_session.specs.Turns.{EndNotes, AnswerNotes, ScriptNotes, CanRefuseRun, refusal_of, no_release, CanEndWait, WaitNotes, ReleaseNotes, FitsScript, IsSignal, IsWaitEnd}
 
 -- ---- what was noted in turn, for any store
 
@@ -53,6 +55,48 @@ wait_refused user front (nos.Full need room) entries h = absurd h
 wait_refused user front (nos.Redo fault) entries h = absurd h
 wait_refused user front nos.NoMemory entries h = h
 
+pub seen_can : (user : User) (front : ℕ) (refusal : StoreNo) (entries : List BookEntry) → SeenNotes user front (Err refusal) entries → CanEndWait refusal
+seen_can user front (nos.Stale mine found) entries h = tt
+seen_can user front nos.Disk entries h = tt
+seen_can user front (nos.Broken since) entries h = tt
+seen_can user front (nos.Full need room) entries h = h
+seen_can user front (nos.Redo fault) entries h = h
+seen_can user front nos.NoMemory entries h = tt
+
+pub flush_can : (user : User) (refusal : StoreNo) (entries : List BookEntry) → FlushNotes user (Err refusal) entries → CanEndWait refusal
+flush_can user (nos.Stale mine found) entries h = tt
+flush_can user nos.Disk entries h = tt
+flush_can user (nos.Broken since) entries h = tt
+flush_can user (nos.Full need room) entries h = h
+flush_can user (nos.Redo fault) entries h = h
+flush_can user nos.NoMemory entries h = tt
+
+flush_refused : (user : User) (front : ℕ) (refusal : StoreNo) (entries : List BookEntry) → FlushNotes user (Err refusal) entries → WaitNotes user front (no_release refusal) entries
+flush_refused user front (nos.Stale mine found) entries h = h
+flush_refused user front nos.Disk entries h = h
+flush_refused user front (nos.Broken since) entries h = (since, h.0, h.1)
+flush_refused user front (nos.Full need room) entries h = absurd h
+flush_refused user front (nos.Redo fault) entries h = absurd h
+flush_refused user front nos.NoMemory entries h = h
+
+-- a signal ended the wait
+pub wait_stops : (user : User) (front : ℕ) (cause : Cause) → IsWaitEnd cause → WaitNotes user front (Err cause) []
+wait_stops user front Killed stops = refl
+wait_stops user front (ToldToQuit reason) stops = refl
+wait_stops user front Terminated stops = absurd stops
+wait_stops user front Cancelling stops = absurd stops
+wait_stops user front LinkEnded stops = absurd stops
+wait_stops user front LinkFailed stops = absurd stops
+wait_stops user front TimedOut stops = absurd stops
+wait_stops user front (PacketRefused fault) stops = absurd stops
+wait_stops user front (MessageRefused fault) stops = absurd stops
+wait_stops user front DecisionRefused stops = absurd stops
+wait_stops user front (GateRefused refusal) stops = absurd stops
+wait_stops user front ShortOfMemory stops = absurd stops
+wait_stops user front Panicked stops = absurd stops
+wait_stops user front ToldToTerminate stops = absurd stops
+wait_stops user front Overtaken stops = absurd stops
+
 -- a refused `seen` behind calls that noted nothing
 pub wait_ends : {S : Type 0} (notes : List BookEntry → S → S → Type 0) (who user : User) (front : ℕ) (refusal : StoreNo) (before between now : S) → GoesInTurn notes → who ≡ user → notes [] before between
     → (entries : List BookEntry) × notes entries between now × SeenNotes who front (Err refusal) entries
@@ -60,6 +104,14 @@ pub wait_ends : {S : Type 0} (notes : List BookEntry → S → S → Type 0) (wh
 wait_ends notes who user front refusal before between now in_turn e none call =
     behind_none notes (WaitNotes user front (no_release refusal)) before between now in_turn none
     (call.0, call.1, subst (λ (p : User). WaitNotes p front (no_release refusal) call.0) e (wait_refused who front refusal call.0 call.2))
+
+-- and a refused `flush`
+pub flush_ends : {S : Type 0} (notes : List BookEntry → S → S → Type 0) (who user : User) (front : ℕ) (refusal : StoreNo) (before between now : S) → GoesInTurn notes → who ≡ user → notes [] before between
+    → (entries : List BookEntry) × notes entries between now × FlushNotes who (Err refusal) entries
+    → (entries : List BookEntry) × notes entries before now × WaitNotes user front (no_release refusal) entries
+flush_ends notes who user front refusal before between now in_turn e none call =
+    behind_none notes (WaitNotes user front (no_release refusal)) before between now in_turn none
+    (call.0, call.1, subst (λ (p : User). WaitNotes p front (no_release refusal) call.0) e (flush_refused who front refusal call.0 call.2))
 
 -- an answered one
 pub wait_done : {S : Type 0} (notes : List BookEntry → S → S → Type 0) (who user : User) (front : ℕ) (before between now : S) → GoesInTurn notes → who ≡ user → notes [] before between
@@ -75,24 +127,32 @@ wait_done notes who user front before between now in_turn e none call =
 -- a refused `run`
 script_refused : (user : User) (script : List Stmt) (refusal : StoreNo) (entries : List BookEntry) → RunNotes user script (Err refusal) entries → ScriptNotes user script (refusal_of refusal) entries
 script_refused user script (nos.Stale mine found) entries means text query = (means.0, inl means.1)
-script_refused user script nos.Disk entries (inl fault) text query = ([], entries, inl refl, fault, refl)
-script_refused user script nos.Disk entries (inr lost) text query = (lost.answered, lost.broke, inr (script, lost.reply, lost.front, lost.commit, query, lost.answer), lost.fault, lost.entries_are)
+script_refused user script nos.Disk entries (writes, inl fault) text query = ([], entries, inl refl, fault, refl)
+script_refused user script nos.Disk entries (writes, inr lost) text query = (lost.answered, lost.broke, inr (script, lost.reply, lost.front, lost.commit, query, lost.answer), lost.fault, lost.entries_are)
 script_refused user script (nos.Broken since) entries means text query = ([], entries, inl refl, (since, means.0, means.1), refl)
-script_refused user script (nos.Full need room) entries means text query = (script, need, room, query, means)
+script_refused user script (nos.Full need room) entries means text query = (script, need, room, query, means.1)
 script_refused user script (nos.Redo fault) entries means text query = absurd means
 script_refused user script nos.NoMemory entries means text query = inl (inl means)
+
+pub run_can : (user : User) (script : List Stmt) (refusal : StoreNo) (entries : List BookEntry) → RunNotes user script (Err refusal) entries → CanRefuseRun refusal
+run_can user script (nos.Stale mine found) entries h = tt
+run_can user script nos.Disk entries h = tt
+run_can user script (nos.Broken since) entries h = tt
+run_can user script (nos.Full need room) entries h = tt
+run_can user script (nos.Redo fault) entries h = h
+run_can user script nos.NoMemory entries h = tt
 
 pub run_refused : {S : Type 0} (notes : List BookEntry → S → S → Type 0) (user : User) (script : List Stmt) (refusal : StoreNo) (before now : S)
     → (entries : List BookEntry) × notes entries before now × RunNotes user script (Err refusal) entries → (entries : List BookEntry) × notes entries before now × ScriptNotes user script (refusal_of refusal) entries
 run_refused notes user script refusal before now call = (call.0, call.1, script_refused user script refusal call.0 call.2)
 
-pub refused_fits : (refusal : StoreNo) (child : Attention) → IfOk (refusal_of refusal) (λ answer. (text : List ℕ) → IsFit text answer child)
-refused_fits (nos.Stale mine found) child = tt
-refused_fits nos.Disk child = tt
-refused_fits (nos.Broken since) child = tt
-refused_fits (nos.Full need room) child = λ text. record { sayable = tt; piece = refl; cancelled = λ is. absurd is }
-refused_fits (nos.Redo fault) child = tt
-refused_fits nos.NoMemory child = λ text. record { sayable = tt; piece = refl; cancelled = λ is. absurd is }
+pub refused_fits : (refusal : StoreNo) (script : List Stmt) (before now : Option Told) → IfOk (refusal_of refusal) (FitsScript script before now)
+refused_fits (nos.Stale mine found) script before now = tt
+refused_fits nos.Disk script before now = tt
+refused_fits (nos.Broken since) script before now = tt
+refused_fits (nos.Full need room) script before now = λ text utf8 query. record { sayable = tt; piece = refl; read = utf8; cancelled = λ is. absurd is }
+refused_fits (nos.Redo fault) script before now = tt
+refused_fits nos.NoMemory script before now = λ text utf8 query. record { sayable = tt; piece = refl; read = utf8; cancelled = λ is. absurd is }
 
 -- an answer that was staged, and behind it nothing
 unreleased : (pid : ℕ) (text : List ℕ) (script : List Stmt) (staged : Staged) (first second : List BookEntry) → IsQueryText text script → NotesStaged pid script staged first → second ≡ [] → IsUnreleased pid text (first ++ second)
@@ -139,16 +199,23 @@ ran notes who user script staged result before between now in_turn e (first, one
     (first ++ second, in_turn before between now first second one two, script_ran user script staged result first second run (subst (λ (p : User). ReleaseNotes p staged result second) e released))
 
 -- a released reply shows what the staged one does
-pub released_fits : (user : User) (staged : Staged) (result : Result Answer Cause) (entries : List BookEntry) (child : Attention) → ReleaseNotes user staged result entries → All HasShortValues staged.reply
-    → IfOk result (λ answer. (text : List ℕ) → IsFit text answer child)
-released_fits user staged (Ok (answers.Ran reply)) entries child released short =
-    λ text. record { sayable = subst (λ (items : List Item). All HasShortValues items) (sym released.0) short; piece = refl; cancelled = λ is. absurd is }
-released_fits user staged (Ok answers.Memory) entries child none short = λ text. record { sayable = tt; piece = refl; cancelled = λ is. absurd is }
-released_fits user staged (Ok (answers.Faulted fault message)) entries child never short = absurd never
-released_fits user staged (Ok answers.NotUtf8) entries child never short = absurd never
-released_fits user staged (Ok answers.Cancelled) entries child never short = absurd never
-released_fits user staged (Ok answers.LogIsFull) entries child never short = absurd never
-released_fits user staged (Err cause) entries child never short = tt
+pub released_fits : (user : User) (staged : Staged) (result : Result Answer Cause) (entries : List BookEntry) (script : List Stmt) (before now : Option Told) → ReleaseNotes user staged result entries → All HasShortValues staged.reply
+    → IfOk result (FitsScript script before now)
+released_fits user staged (Ok (answers.Ran reply)) entries script before now released short =
+    λ text utf8 query. record { sayable = subst (λ (items : List Item). All HasShortValues items) (sym released.0) short; piece = refl; read = utf8; cancelled = λ is. absurd is }
+released_fits user staged (Ok answers.Memory) entries script before now none short = λ text utf8 query. record { sayable = tt; piece = refl; read = utf8; cancelled = λ is. absurd is }
+released_fits user staged (Ok (answers.Faulted fault message)) entries script before now never short = absurd never
+released_fits user staged (Ok answers.NotUtf8) entries script before now never short = absurd never
+released_fits user staged (Ok answers.Cancelled) entries script before now never short = absurd never
+released_fits user staged (Ok answers.LogIsFull) entries script before now never short = absurd never
+released_fits user staged (Err cause) entries script before now never short = tt
+
+-- a fitting answer fits from an earlier moment on
+pub fits_earlier : (m : ℕ) (script : List Stmt) (result : Result Answer Cause) (a b c : Option Told) → HasAsked m a b → IfOk result (FitsScript script b c) → IfOk result (FitsScript script a c)
+fits_earlier m script (Err cause) a b c asked fits = tt
+fits_earlier m script (Ok answer) a b c asked fits = λ text utf8 query.
+    let fit = fits text utf8 query in
+    record { sayable = fit.sayable; piece = fit.piece; read = fit.read; cancelled = λ is. since_earlier m Cancel a b c asked (fit.cancelled is) }
 
 -- ---- a query
 

@@ -18,7 +18,7 @@ use Rattle.pm_wire.specs.Backend.{BackMessage, Pair, IsWritable, spelling}
 use Rattle.pm_session.specs.declared.ending.Cause.{Cause}
 use Rattle.pm_session.specs.declared.ending.Cause.TheVariants.{Terminated, Cancelling, LinkEnded, LinkFailed, TimedOut, PacketRefused, MessageRefused, DecisionRefused, GateRefused, ShortOfMemory, Panicked, ToldToTerminate, ToldToQuit, Killed, Overtaken}
 use Rattle.pm_session.specs.Exchange.{LinkView, Passes, Sends, HasEnded, HasFailed, CutsOff}
-use Rattle.pm_session.specs.Attention.{Attention, Hears, IsAttentive, was_given}
+use Rattle.pm_life.specs.Attention.{Attention, Hears, IsAttentive, was_given}
 use Rattle.pm_session.specs.Conversation.{ShowsCause, IsBreak}
 use Rattle.pm_session.specs.Sent.{bytes_of, item_messages}
 use Rattle.pm_session.specs.Turns.{Desk, desk, IsReady, IsLeft, Says}

@@ -5,9 +5,6 @@ use Rattle.std.specs.Option.{option_map}
 use Rattle.std.specs.List.{Contains}
 use Rattle.std.proofs.lemmas.List.{append-nil}
 use Rattle.std.proofs.lemmas.List.Elements.{Contains-append_right}
-use Rattle.std.proofs.lemmas.List.Elements.{Contains-append_right}
-use Rattle.std.proofs.lemmas.List.Elements.{Contains-append_right}
-use Rattle.std.proofs.lemmas.List.Elements.{Contains-append_right}
 use Rattle.pm_outside.specs.Traffic.{Traffic, no_traffic, IsFresh}
 use Rattle.pm_admit.specs.declared.Cac.{Cac}
 use Rattle.pm_admit.specs.declared.Cac.TheVariants as decisions
@@ -22,19 +19,23 @@ use Rattle.pm_query.specs.declared.book.BookEntry.TheVariants.{Attached}
 use Rattle.pm_query.specs.declared.store.StoreNo.{StoreNo}
 use Rattle.pm_query.specs.declared.store.StoreNo.TheVariants as nos
 use Rattle.pm_query.specs.Calls.{User, PassView, user_of, newcomer, new_pass, EnterNotes, LeaveNotes}
-use Rattle.pm_life.specs.Life.{Child, Told, Signal, Kill, Quit, Terminate as ToTerminate, Cancel, nothing_told, met_at_gate}
+use Rattle.pm_life.specs.Life.{Child, Told, Signal, Kill, Quit, Terminate as ToTerminate, Cancel, nothing_told, met_at_gate, asked_cancel, IsUntried, HasNoCancel}
 use Rattle.pm_life.specs.declared.life.GateNo.{GateNo}
+use Rattle.pm_startup.specs.Grammar.{cancel_request, Decides}
 use Rattle.pm_session.specs.declared.ending.Cause.{Cause}
 use Rattle.pm_session.specs.declared.ending.Cause.TheVariants.{Terminated, Cancelling, LinkEnded, LinkFailed, TimedOut, PacketRefused, MessageRefused, DecisionRefused, GateRefused, ShortOfMemory, Panicked, ToldToTerminate, ToldToQuit, Killed, Overtaken}
 use Rattle.pm_session.specs.declared.ending.Stage.{Stage}
 use Rattle.pm_session.specs.declared.ending.Stage.TheVariants.{Outside, Entering, Greeted}
 use Rattle.pm_session.specs.Exchange.{LinkView, link_view, Appended, came_in_of, went_out_of, HasEnded, Passes, HasFailed, CutsOff, IsSentAll, Sends}
-use Rattle.pm_session.specs.Attention.{Attention, attention, HasAsked, Hears, IsAttentive, ends_of, was_given}
+use Rattle.pm_life.specs.Attention.{Attention, attention, HasAsked, Hears, IsAttentive, KeepsCancels, was_given}
+use Rattle.pm_session.specs.Attention.{ends_of}
 use Rattle.pm_session.specs.Sent.{Turn, bytes_of, greeting, last_of}
-use Rattle.pm_session.specs.Session.{Ending, Heeds, HasAskedFor, CausedBy, IsCaused, HasEntered, IsAdmitted, IsText, IsTurnedAway, IsServed, IsSession, Span, between, HasPassed, AskInTurn, IsStart, StopsAt, EndsAt, StopsInside, AllNotes, MayPassOver, NotesOutside, Leaves, LetsGo, IsCancelledTurn, IsAttachedBehind, first_phase, pieces, query_bytes, last_messages, status_by, status_of, TurnsAway}
+use Rattle.pm_session.specs.Session.{Ending, Heeds, HasAskedFor, CausedBy, IsCaused, HasEntered, IsAdmitted, IsText, IsTurnedAway, IsServed, IsSession, Span, between, HasPassed, AskInTurn, IsStart, StopsAt, EndsAt, StopsInside, AllNotes, MayPassOver, NotesOutside, Leaves, LetsGo, IsCancelledTurn, IsAttachedAt, IsBehindStart, IsInside, StaysOut, AsksCancel, MakesCancels, HasCancelled, first_phase, pieces, query_bytes, last_messages, status_by, status_of, TurnsAway}
 use Rattle.pm_session.specs.Conversation.{Moment, moment, Conversed, ShowsCause, IsBreak}
-use Rattle.pm_session.specs.Entry.{outside, Enters, IsTold, EndsBy, Closes, Serves, IsTextBehind, IsTextInside, refusal_cause}
-use Rattle.pm_session.proofs.Attentions.{hears_none, hears_both, hears_fewer}
+use Rattle.pm_session.specs.Entry.{outside, Enters, AsksToCancel, IsTold, EndsBy, Closes, Serves, IsTextBehind, IsTextInside, CanRefuseEntry, refusal_cause}
+use Rattle.pm_session.specs.Heeding.{TurnsHeed, HeedInTurn, AllRead}
+use Rattle.pm_session.proofs.Attentions.{hears_none, hears_both, hears_fewer, cancels_then, cancels_still, HasCancels}
+use Rattle.pm_session.proofs.Heeding.{heed_none, heed_all, heed_later, heed_earlier}
 use Rattle.pm_session.proofs.Links.{passes_none, passes_both, passes_no_more}
 use Rattle.pm_session.proofs.Closings.{told_status, told_still, told_now}
 use Rattle.pm_session.proofs.Said.{bytes_of-none, bytes_of-append, shows_since}
@@ -132,6 +133,49 @@ asked_since turns (Some first) None third one two = absurd one
 asked_since turns (Some first) (Some second) None one two = absurd two
 asked_since turns (Some first) (Some second) (Some third) one two = omega (arith, one.0, two)
 
+-- ---- the gate, and signals
+
+none_heed : (told : Option Told) → IfSome told (λ t. TurnsHeed 0 [] t.asked t.given)
+none_heed None = tt
+none_heed (Some told) = omega arith
+
+untried_out : (cause : Cause) (told : Option Told) → IsUntried told → StaysOut Outside cause told
+untried_out cause None untried = tt
+untried_out cause (Some told) untried = inl untried
+
+-- a child outside that was never at the gate, one that the gate refused, and one inside
+pub out_untried : (stage : Stage) (cause : Cause) (told : Option Told) → stage ≡ Outside → IsUntried told → StaysOut stage cause told
+out_untried stage cause told is untried = subst (λ (s : Stage). StaysOut s cause told) (sym is) (untried_out cause told untried)
+
+pub out_refused : (stage : Stage) (refusal : GateNo) (told : Option Told) → stage ≡ Outside → IfSome told (λ t. t.met ≡ Some (Err refusal)) → StaysOut stage (GateRefused refusal) told
+out_refused stage refusal told is met = subst (λ (s : Stage). StaysOut s (GateRefused refusal) told) (sym is) (refused told met)
+  where
+    refused : (told : Option Told) → IfSome told (λ t. t.met ≡ Some (Err refusal)) → StaysOut Outside (GateRefused refusal) told
+    refused None met = tt
+    refused (Some told) met = inr (refusal, refl, met)
+
+pub out_inside : (stage : Stage) (cause : Cause) (told : Option Told) → IsInside stage → StaysOut stage cause told
+out_inside Outside cause told inside = absurd inside
+out_inside Entering cause told inside = tt
+out_inside Greeted cause told inside = tt
+
+pub inside_at : (stage inner : Stage) → stage ≡ inner → IsInside inner → IsInside stage
+inside_at stage inner is inside = subst IsInside (sym is) inside
+
+-- where the child is attached, by how far it had come
+pub attached_outside : (stage : Stage) (outside inside : Type 0) → stage ≡ Outside → outside → IsAttachedAt stage outside inside
+attached_outside stage outside inside is holds = subst (λ (s : Stage). IsAttachedAt s outside inside) (sym is) holds
+
+pub attached_inside : (stage : Stage) (outside inside : Type 0) → IsInside stage → inside → IsAttachedAt stage outside inside
+attached_inside Outside outside inside never holds = absurd never
+attached_inside Entering outside inside is holds = holds
+attached_inside Greeted outside inside is holds = holds
+
+behind_start : (stage : Stage) (packet : List ℕ) → IsStart packet → IsBehindStart stage packet
+behind_start Outside packet start = tt
+behind_start Entering packet start = start
+behind_start Greeted packet start = start
+
 -- ---- a session that ended before the greeting
 
 no_turn : (before : List Turn) (turn : Turn) (behind : List Turn) → [] ≡ before ++ turn ∷ behind → ⊥
@@ -164,9 +208,9 @@ turns_away user stage phase Overtaken last stops = absurd stops
 pub turned_away : {S : Type 0} (notes : List BookEntry → S → S → Type 0) (decision : Cac) (user : User) (key generation : ℕ) (gives : ℕ → Type 0) (cause : Cause) (ending : Ending) (link0 link2 : LinkView) (unread0 unread2 : List ℕ) (store0 store2 : S) (at0 at1 at2 : Attention) (noted : List BookEntry)
     → status_by cause ≢ statuses.Code 0 → ((phase : Phase) (packet : List ℕ) → IsStart packet → TurnsAway user ending.stage phase cause packet) → ((beyond : List ℕ) → MayPassOver cause beyond) → IsAdmitted ending.stage decision
     → NotesOutside user ending.stage ending.exit noted → notes noted store0 store2 → HasAskedFor [] at0.told at2.told → Closes decision cause ending (outside link0 [] at1) (outside link2 [] at2)
-    → ((limit : ℕ) → CausedBy cause decision link2.traffic (HasFailed link0 link2) at2.told limit gives) → HasEntered ending.stage generation at2.told
+    → ((limit : ℕ) → CausedBy cause decision link2.traffic (HasFailed link0 link2) at2.told limit gives) → HasEntered ending.stage generation at2.told → StaysOut ending.stage cause at2.told → KeepsCancels at0.told at2.told
     → Serves notes (IsTextBehind decision user key) decision generation gives ending (moment link0 unread0 store0 at0) (moment link2 unread2 store2 at2)
-turned_away notes decision user key generation gives cause ending link0 link2 unread0 unread2 store0 store2 at0 at1 at2 noted fails stops over admitted outside_notes entries asked closes caused gate =
+turned_away notes decision user key generation gives cause ending link0 link2 unread0 unread2 store0 store2 at0 at1 at2 noted fails stops over admitted outside_notes entries asked closes caused gate out keeps =
     let is : ending.cause ≡ cause = same_cause cause ending.cause at2 fails closes.ends in
     let at_end = λ (limit : ℕ). ends_caused cause ending.cause at2 decision link2.traffic (HasFailed link0 link2) limit gives closes.ends (caused limit) in
     record {
@@ -185,6 +229,7 @@ turned_away notes decision user key generation gives cause ending link0 link2 un
           admitted = admitted;
           asks = asks;
           stops = subst (λ (c : Cause). TurnsAway user ending.stage phase c packet) (sym is) (stops phase packet start);
+          start = behind_start ending.stage packet start;
           input = refl;
           passes_over = subst (λ (c : Cause). MayPassOver c (unread0 ++ [])) (sym is) (over (unread0 ++ []));
           output = refl;
@@ -197,10 +242,14 @@ turned_away notes decision user key generation gives cause ending link0 link2 un
       passes = closes.passes;
       entries = entries;
       asked = asked;
+      cancels = keeps;
+      unasked = λ e. fails (ap status_by (sym is ∙ e));
       caused = λ limit. record {
         cause = at_end limit;
         exit = exit_caused ending at2 decision link2.traffic (HasFailed link0 link2) limit gives closes.killed (at_end limit);
         gate = gate;
+        out = subst (λ (c : Cause). StaysOut ending.stage c at2.told) (sym is) out;
+        heeded = none_heed at2.told;
         cancelled = λ before turn behind e cancelled. absurd (no_turn before turn behind e);
       };
       heeds = closes.heeds;
@@ -254,14 +303,14 @@ at_entering decision user ending generation told is admitted met =
 
 -- it was told to end
 pub told_away : {S : Type 0} (notes : List BookEntry → S → S → Type 0) (decision : Cac) (user : User) (key generation : ℕ) (gives : ℕ → Type 0) (cause : Cause) (ending : Ending) (link0 link2 : LinkView) (unread0 : List ℕ) (store0 : S) (at0 at1 at2 : Attention)
-    → IsAttentive at1 → ends_of at1.standing ≡ Some cause → notes [] store0 store0 → EndsUngreeted decision user ending generation at2.told → Hears 1 at0 at1 → Closes decision cause ending (outside link0 [] at1) (outside link2 [] at2)
+    → IsAttentive at1 → ends_of at1.standing ≡ Some cause → notes [] store0 store0 → EndsUngreeted decision user ending generation at2.told → StaysOut ending.stage cause at2.told → Hears 1 at0 at1 → Closes decision cause ending (outside link0 [] at1) (outside link2 [] at2)
     → Serves notes (IsTextBehind decision user key) decision generation gives ending (moment link0 unread0 store0 at0) (moment link2 unread0 store0 at2)
-told_away notes decision user key generation gives cause ending link0 link2 unread0 store0 at0 at1 at2 attentive is rests stands hears closes =
+told_away notes decision user key generation gives cause ending link0 link2 unread0 store0 at0 at1 at2 attentive is rests stands out hears closes =
     let told : IsTold cause at1 = told_now at1 cause link0 attentive is in
     turned_away notes decision user key generation gives cause ending link0 link2 unread0 unread0 store0 store0 at0 at1 at2 []
     (told_status at1.standing.kill at1.standing.quit at1.standing.terminate cause is) (λ phase packet start. turns_away user ending.stage phase cause packet (told_start phase cause at1 packet told start)) (λ beyond. told_over cause at1 beyond told) stands.0 stands.1 rests
     (asked_for 2 [] at0.told at2.told (omega arith) (hears_both 1 1 at0 at1 at2 hears closes.hears).asked) closes
-    (λ limit. told_caused cause at2 decision link2.traffic (HasFailed link0 link2) limit gives (told_still cause at1 at2 1 closes.hears told)) stands.2
+    (λ limit. told_caused cause at2 decision link2.traffic (HasFailed link0 link2) limit gives (told_still cause at1 at2 1 closes.hears told)) stands.2 out (cancels_then at0.told at1.told at2.told hears.cancels closes.hears.cancels)
 
 -- ---- a session that was greeted
 
@@ -285,6 +334,8 @@ pub record Talked {S : Type 0} (notes : List BookEntry → S → S → Type 0) (
   pub passes : Passes came went before.link now.link
   pub entries : notes (asked ++ ended) before.store now.store
   pub hears : Hears (length turns) before.child now.child
+  pub read : AllRead texts turns
+  pub heeded : HeedInTurn turns before.child.told now.child.told
   pub cancelled : (turn : Turn) → Contains turns turn → IsCancelledTurn turn → was_given Cancel now.child.told
   pub shows : ShowsCause cause before.link now.link now.child
 
@@ -329,6 +380,8 @@ talked_cut notes user key cause link0 link1 unread store at0 at1 rests sends hea
       passes = sends.passes;
       entries = rests;
       hears = hears;
+      read = tt;
+      heeded = heed_none 0 at0.told at1.told hears.asked;
       cancelled = λ turn has. absurd (omega (arith, has.1));
       shows = shows.1;
     }
@@ -363,6 +416,8 @@ talked_on notes user key cause link0 link1 link2 unread0 unread2 store0 store2 a
   passes = passes_both [] sends.went talks.came talks.went link0 link1 link2 sends.passes talks.passes;
   entries = talks.entries;
   hears = hears_again (length talks.turns) at0 at1 at2 hears talks.hears;
+  read = talks.read;
+  heeded = heed_earlier 0 talks.turns at0.told at1.told at2.told hears.asked talks.heeded;
   cancelled = talks.cancelled;
   shows = shows_since cause link0 link1 link2 at2 sends.passes.later shows;
 }
@@ -507,6 +562,7 @@ served_inside notes decision user key gives cause ending link0 link1 link2 unrea
         output = refl;
         notes = refl;
         each = talked.each;
+        read = talked.read;
         ends = split.2;
         leaves = leaves;
       });
@@ -515,10 +571,14 @@ served_inside notes decision user key gives cause ending link0 link1 link2 unrea
       passes = subst (λ (i : List ℕ). Passes i (talked.went ++ closes.went) link0 link2) (append-nil talked.came) (passes_both talked.came talked.went [] closes.went link0 link1 link2 talked.passes closes.passes);
       entries = talked.entries;
       asked = asked_for (length talked.turns + 1) talked.turns at0.told at2.told (omega arith) hears.asked;
+      cancels = hears.cancels;
+      unasked = λ e. subst (λ (c : Cause). EndsAt user c split.0 talked.ended) e split.2;
       caused = λ limit. record {
         cause = at_end limit;
         exit = exit_caused ending at2 decision link2.traffic (HasFailed link0 link2) limit gives closes.killed (at_end limit);
         gate = subst (λ (s : Stage). HasEntered s user.generation at2.told) (sym stage) (met_still (length talked.turns + 1) (Ok user.generation) at0.told at2.told hears.asked met);
+        out = out_inside ending.stage ending.cause at2.told (inside_at ending.stage Greeted stage tt);
+        heeded = heed_all (length talked.turns + 1) talked.turns at0.told at2.told hears.asked (heed_later 1 talked.turns at0.told at1.told at2.told talked.heeded closes.hears.asked closes.hears.gained);
         cancelled = λ before turn behind e cancelled. closes.hears.given Cancel (talked.cancelled turn (turn_in talked.turns before turn behind e) cancelled);
       };
       heeds = closes.heeds;
@@ -545,9 +605,19 @@ served_left notes decision user key gives ending link0 link1 unread0 unread1 sto
   passes = serves.passes;
   entries = in_turn store0 store1 store3 (Attached user.pid user.generation ∷ []) (serves.noted ++ left) entered (in_turn store1 store2 store3 serves.noted left serves.entries leaving);
   asked = asked_since serves.turns at0.told at1.told at2.told (hears_fewer 0 1 at0 at1 hears).asked serves.asked;
+  cancels = cancels_then at0.told at1.told at2.told hears.cancels serves.cancels;
+  unasked = serves.unasked;
   caused = serves.caused;
   heeds = serves.heeds;
 }
+
+pub enter_can : (P : Type 0) (user : User) (refusal : StoreNo) (entries : List BookEntry) → EnterNotes {P = P} user (Err refusal) entries → CanRefuseEntry refusal
+enter_can P user (nos.Stale mine found) entries notes = tt
+enter_can P user nos.NoMemory entries notes = tt
+enter_can P user nos.Disk entries notes = notes
+enter_can P user (nos.Broken since) entries notes = notes
+enter_can P user (nos.Full need room) entries notes = notes
+enter_can P user (nos.Redo fault) entries notes = notes
 
 -- by what a session ends that the store doesn't let in
 pub refused_notes : (P : Type 0) (user : User) (refusal : StoreNo) (entries : List BookEntry) → EnterNotes {P = P} user (Err refusal) entries → entries ≡ []
@@ -599,9 +669,9 @@ user_is stamp0 stamp1 view pid child_pid generation new same stays =
 
 -- an earlier moment of the child, and a later one
 pub served_since : {S : Type 0} (notes : List BookEntry → S → S → Type 0) (Text : Ending → List Turn → List ℕ → List ℕ → List BookEntry → Type 0) (decision : Cac) (generation : ℕ) (gives : ℕ → Type 0) (ending : Ending) (link0 link1 : LinkView) (unread0 unread1 : List ℕ) (store0 store1 : S) (at0 at1 at2 at3 : Attention)
-    → ((turns : List Turn) → HasAskedFor turns at1.told at2.told → HasAskedFor turns at0.told at2.told) → at3.told ≡ at2.told
+    → ((turns : List Turn) → HasAskedFor turns at1.told at2.told → HasAskedFor turns at0.told at2.told) → KeepsCancels at0.told at1.told → at3.told ≡ at2.told
     → Serves notes Text decision generation gives ending (moment link0 unread0 store0 at1) (moment link1 unread1 store1 at2) → Serves notes Text decision generation gives ending (moment link0 unread0 store0 at0) (moment link1 unread1 store1 at3)
-served_since notes Text decision generation gives ending link0 link1 unread0 unread1 store0 store1 at0 at1 at2 at3 since same serves = record {
+served_since notes Text decision generation gives ending link0 link1 unread0 unread1 store0 store1 at0 at1 at2 at3 since keeps same serves = record {
   turns = serves.turns;
   came = serves.came;
   went = serves.went;
@@ -614,6 +684,8 @@ served_since notes Text decision generation gives ending link0 link1 unread0 unr
   passes = serves.passes;
   entries = serves.entries;
   asked = rw same (since serves.turns serves.asked);
+  cancels = rw same (cancels_then at0.told at1.told at2.told keeps serves.cancels);
+  unasked = serves.unasked;
   caused = λ limit. rw same (serves.caused limit);
   heeds = rw same serves.heeds;
 }
@@ -651,23 +723,6 @@ lets_go_by ToldToTerminate goes leaves stays is go stay = go is
 lets_go_by (ToldToQuit reason) goes leaves stays is go stay = stay is
 lets_go_by Killed goes leaves stays is go stay = stay is
 lets_go_by Overtaken goes leaves stays is go stay = stay is
-
-pub lets_go_anyway : (cause : Cause) (leaves : Type 0) → leaves → LetsGo cause leaves (Unit {0})
-lets_go_anyway Terminated leaves holds = holds
-lets_go_anyway Cancelling leaves holds = holds
-lets_go_anyway LinkEnded leaves holds = holds
-lets_go_anyway LinkFailed leaves holds = holds
-lets_go_anyway TimedOut leaves holds = holds
-lets_go_anyway (PacketRefused fault) leaves holds = holds
-lets_go_anyway (MessageRefused fault) leaves holds = holds
-lets_go_anyway DecisionRefused leaves holds = holds
-lets_go_anyway (GateRefused refusal) leaves holds = holds
-lets_go_anyway ShortOfMemory leaves holds = holds
-lets_go_anyway Panicked leaves holds = tt
-lets_go_anyway ToldToTerminate leaves holds = holds
-lets_go_anyway (ToldToQuit reason) leaves holds = tt
-lets_go_anyway Killed leaves holds = tt
-lets_go_anyway Overtaken leaves holds = tt
 
 -- ---- from the first byte on
 
@@ -746,6 +801,7 @@ stopped_session notes decision user key cause ending link0 link1 link2 unread1 s
           admitted = subst (λ (s : Stage). IsAdmitted s decision) (sym stage) tt;
           asks = enters.asks;
           stops = turns_away user ending.stage enters.phase ending.cause split.0 split.2;
+          start = subst (λ (s : Stage). IsBehindStart s split.0) (sym stage) tt;
           input = enters.input ∙ split_input (flat_map (λ p. p) enters.requests) enters.last enters.beyond split.0 split.1 split.3;
           passes_over = split.4;
           output = refl;
@@ -759,14 +815,16 @@ stopped_session notes decision user key cause ending link0 link1 link2 unread1 s
     }
 
 pub stopped_caused : (decision : Cac) (generation : ℕ) (cause : Cause) (ending : Ending) (link0 link1 link2 : LinkView) (unread1 : List ℕ) (at0 at1 at2 : Attention) → Enters (Err cause) (outside link0 [] at0) (outside link1 unread1 at1) → ending.stage ≡ Outside
-    → Closes decision cause ending (outside link1 [] at1) (outside link2 [] at2) → (limit : ℕ) (gives : ℕ → Type 0) → IsCaused ending [] generation decision link2.traffic (HasFailed link0 link2) at2.told limit gives
-stopped_caused decision generation cause ending link0 link1 link2 unread1 at0 at1 at2 enters stage closes limit gives =
+    → Closes decision cause ending (outside link1 [] at1) (outside link2 [] at2) → IsUntried at2.told → (limit : ℕ) (gives : ℕ → Type 0) → IsCaused ending [] generation decision link2.traffic (HasFailed link0 link2) at2.told limit gives
+stopped_caused decision generation cause ending link0 link1 link2 unread1 at0 at1 at2 enters stage closes untried limit gives =
     let at_end = ends_caused cause ending.cause at2 decision link2.traffic (HasFailed link0 link2) limit gives closes.ends
     (shown_caused cause link0 link1 link2 at1 at2 decision limit gives enters.goes_on.3 closes.passes.ended closes.passes.later closes.hears.given) in
     record {
       cause = at_end;
       exit = exit_caused ending at2 decision link2.traffic (HasFailed link0 link2) limit gives closes.killed at_end;
       gate = subst (λ (s : Stage). HasEntered s generation at2.told) (sym stage) tt;
+      out = out_untried ending.stage ending.cause at2.told stage untried;
+      heeded = none_heed at2.told;
       cancelled = λ before turn behind e cancelled. absurd (no_turn before turn behind e);
     }
 
@@ -820,6 +878,8 @@ caused_since ending turns generation decision traffic before now told limit give
   cause = caused_more ending.cause decision traffic before now told limit gives more caused.cause;
   exit = caused_more ending.exit decision traffic before now told limit gives more caused.exit;
   gate = caused.gate;
+  out = caused.out;
+  heeded = caused.heeded;
   cancelled = caused.cancelled;
 }
 
@@ -830,3 +890,71 @@ pub started_caused : (gives : ℕ → Type 0) (ending : Ending) (turns : List Tu
     → ((limit : ℕ) → IsCaused ending turns generation decision link2.traffic (HasFailed link1 link2) told limit gives) → (limit : ℕ) → IsCaused ending turns generation decision link2.traffic (HasFailed link0 link2) told limit gives
 started_caused gives ending turns generation decision link0 link1 link2 told later caused limit =
     caused_since ending turns generation decision link2.traffic (HasFailed link1 link2) (HasFailed link0 link2) told limit gives (failed_since link0 link1 link2 later) (caused limit)
+
+-- ---- cancels
+
+pub none_made : (cause : Cause) (link : Option Traffic) (told : Option Told) → HasNoCancel told → cause ≢ Cancelling → HasCancelled cause link told
+none_made cause link None none other = record { sent = tt; made = λ e. tt }
+none_made cause None (Some told) none other = record { sent = tt; made = λ e. absurd (other e) }
+none_made cause (Some traffic) (Some told) none other = record { sent = inl none; made = λ e. absurd (other e) }
+
+one_made : (ends : Cause) (pid key : ℕ) (came : List ℕ) (link : Option Traffic) (told : Option Told) → IfSome link (λ traffic. traffic.came_in ≡ came) → AsksCancel came pid key → HasCancels ((pid, key) ∷ []) told → HasCancelled ends link told
+one_made ends pid key came link None came_in asks is = record { sent = tt; made = λ e. tt }
+one_made ends pid key came None (Some told) came_in asks is = record { sent = tt; made = λ e none. let never : [] ≡ (pid, key) ∷ [] = sym none ∙ is in absurd cc }
+one_made ends pid key came (Some traffic) (Some told) came_in asks is = record {
+  sent = inr (pid, key, subst (λ (l : List ℕ). AsksCancel l pid key) (sym came_in) asks, is);
+  made = λ e none. let never : [] ≡ (pid, key) ∷ [] = sym none ∙ is in absurd cc;
+}
+
+made_one : (pid key : ℕ) (heard now : Option Told) → now ≡ option_map (asked_cancel pid key) heard → HasNoCancel heard → HasCancels ((pid, key) ∷ []) now
+made_one pid key None now is none = rw is tt
+made_one pid key (Some told) now is none = rw is (ap (λ (l : List (ℕ × ℕ)). l ++ (pid, key) ∷ []) none)
+
+asks_cases : (cause : Cause) (last : List ℕ) (before now : Option Told) → AsksToCancel (Err cause) last before now
+    → ((pid : ℕ) × (key : ℕ) × Decides last (Ok (cancel_request pid key)) × (now ≡ option_map (asked_cancel pid key) before)) ⊎ ((cause ≢ Cancelling) × KeepsCancels before now)
+asks_cases Cancelling last before now asks = inl asks
+asks_cases Terminated last before now asks = inr (λ e. absurd cc, asks)
+asks_cases LinkEnded last before now asks = inr (λ e. absurd cc, asks)
+asks_cases LinkFailed last before now asks = inr (λ e. absurd cc, asks)
+asks_cases TimedOut last before now asks = inr (λ e. absurd cc, asks)
+asks_cases (PacketRefused fault) last before now asks = inr (λ e. absurd cc, asks)
+asks_cases (MessageRefused fault) last before now asks = inr (λ e. absurd cc, asks)
+asks_cases DecisionRefused last before now asks = inr (λ e. absurd cc, asks)
+asks_cases (GateRefused refusal) last before now asks = inr (λ e. absurd cc, asks)
+asks_cases ShortOfMemory last before now asks = inr (λ e. absurd cc, asks)
+asks_cases Panicked last before now asks = inr (λ e. absurd cc, asks)
+asks_cases ToldToTerminate last before now asks = inr (λ e. absurd cc, asks)
+asks_cases (ToldToQuit reason) last before now asks = inr (λ e. absurd cc, asks)
+asks_cases Killed last before now asks = inr (λ e. absurd cc, asks)
+asks_cases Overtaken last before now asks = inr (λ e. absurd cc, asks)
+
+ends_not : (cause ends : Cause) (at : Attention) → cause ≢ Cancelling → EndsBy cause ends at → ends ≢ Cancelling
+ends_not cause ends at other (inl same) e = other (sym same ∙ e)
+ends_not cause ends at other (inr told) e = subst (λ (c : Cause). IsTold c at) e told.1
+
+-- what a session asked for that no packet started
+pub stopped_made : (decision : Cac) (cause : Cause) (ending : Ending) (link0 link1 link2 : LinkView) (unread1 : List ℕ) (at0 at1 at2 : Attention) → IsFresh link0.traffic → HasNoCancel at0.told → Enters (Err cause) (outside link0 [] at0) (outside link1 unread1 at1)
+    → Closes decision cause ending (outside link1 [] at1) (outside link2 [] at2) → HasCancelled ending.cause link2.traffic at2.told
+stopped_made decision cause ending link0 link1 link2 unread1 at0 at1 at2 fresh none enters closes =
+    let passes : Passes enters.came (enters.went ++ closes.went) link0 link2 =
+    subst (λ (i : List ℕ). Passes i (enters.went ++ closes.went) link0 link2) (append-nil enters.came) (passes_both enters.came enters.went [] closes.went link0 link1 link2 enters.passes closes.passes) in
+    let heard_none : HasNoCancel enters.heard.told = cancels_still 0 [] at0.told enters.heard.told enters.hears.asked enters.hears.cancels none in
+    elim (asks_cases cause enters.last enters.heard.told at1.told enters.cancels) [
+      | inl (pid, key, decides, is) ↦ one_made ending.cause pid key enters.came link2.traffic at2.told (came_so link0.traffic link2.traffic enters.came fresh passes.came_in)
+          (record { requests = enters.requests; phase = enters.phase; packet = enters.last; beyond = enters.beyond; asks = enters.asks; whole = decides; input = enters.input })
+          (cancels_still 1 ((pid, key) ∷ []) at1.told at2.told closes.hears.asked closes.hears.cancels (made_one pid key enters.heard.told at1.told is heard_none))
+      | inr (other, keeps) ↦ none_made ending.cause link2.traffic at2.told
+          (cancels_still 1 [] at1.told at2.told closes.hears.asked closes.hears.cancels
+          (cancels_still 0 [] at0.told at1.told enters.attends.asked (cancels_then at0.told enters.heard.told at1.told enters.hears.cancels keeps) none)) (ends_not cause ending.cause at2 other closes.ends)
+    ]
+
+pub no_cancel_kept : (before now : Option Told) → KeepsCancels before now → HasNoCancel before → HasNoCancel now
+no_cancel_kept None now keeps none = let e : now ≡ None = keeps in rw e tt
+no_cancel_kept (Some before) None keeps none = absurd keeps
+no_cancel_kept (Some before) (Some now) keeps none = keeps ∙ none
+
+-- and one that a packet started
+pub started_made : (ending : Ending) (link0 link1 link2 : LinkView) (unread1 : List ℕ) (at0 at1 at2 : Attention) (times : ℕ) → HasNoCancel at0.told → Enters (Ok tt) (outside link0 [] at0) (outside link1 unread1 at1) → (HasNoCancel at1.told → HasNoCancel at2.told)
+    → ending.cause ≢ Cancelling → HasCancelled ending.cause link2.traffic at2.told
+started_made ending link0 link1 link2 unread1 at0 at1 at2 times none enters still other =
+    none_made ending.cause link2.traffic at2.told (still (cancels_still 0 [] at0.told at1.told enters.attends.asked (cancels_then at0.told enters.heard.told at1.told enters.hears.cancels enters.cancels) none)) other

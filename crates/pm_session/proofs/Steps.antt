@@ -9,11 +9,12 @@ use Rattle.pm_session.specs.declared.ending.MessageFault.TheVariants.{BadLength}
 use Rattle.pm_session.specs.declared.ending.Cause.{Cause}
 use Rattle.pm_session.specs.declared.ending.Cause.TheVariants.{Terminated, Cancelling, LinkEnded, LinkFailed, TimedOut, PacketRefused, MessageRefused, DecisionRefused, GateRefused, ShortOfMemory, Panicked, ToldToTerminate, ToldToQuit, Killed, Overtaken}
 use Rattle.pm_session.specs.Exchange.{LinkView, Passes}
-use Rattle.pm_session.specs.Attention.{Attention, Hears}
+use Rattle.pm_life.specs.Attention.{Attention, Hears}
 use Rattle.pm_session.specs.Sent.{bytes_of}
 use Rattle.pm_session.specs.Session.{MayPassOver, pieces}
 use Rattle.pm_session.specs.Conversation.{Moment, moment, Conversed, IsBreak}
 use Rattle.pm_session.specs.Turns.{IsSignal, Comes, Conversing, Converses}
+use Rattle.pm_session.proofs.Heeding.{heed_none}
 use Rattle.pm_session.proofs.Attentions.{hears_both, hears_fewer}
 use Rattle.pm_session.proofs.Links.{passes_none}
 use Rattle.pm_session.proofs.Said.{bytes_of-none}
@@ -75,6 +76,8 @@ waited notes user wanted (Ok done) unread_before unread_now link_before link_now
   passes = subst (λ (l : List ℕ). Passes comes.came l link_before link_now) (sym bytes_of-none) comes.passes;
   entries = rests;
   hears = hears_fewer 0 1 child_before child_now (hears_both 1 0 child_before child_between child_now heard more_heard);
+  read = tt;
+  heeded = heed_none 0 child_before.told child_now.told (hears_fewer 0 1 child_before child_now (hears_both 1 0 child_before child_between child_now heard more_heard)).asked;
   cancelled = λ turn among is. absurd (nothing_among turn among);
 }
 waited notes user wanted (Err cause) unread_before unread_now link_before link_now store child_before child_between child_now rests heard more_heard comes undecided =

@@ -7,7 +7,8 @@ use Rattle.pm_life.specs.Life.{Kill, Quit, Terminate, Cancel}
 use Rattle.pm_session.specs.declared.ending.Cause.{Cause}
 use Rattle.pm_session.specs.declared.ending.Cause.TheVariants.{LinkEnded, LinkFailed, TimedOut, DecisionRefused, GateRefused, ToldToTerminate, ToldToQuit, Killed}
 use Rattle.pm_session.specs.Exchange.{LinkView, Passes, HasEnded, HasFailed, CutsOff}
-use Rattle.pm_session.specs.Attention.{Attention, Hears, was_given}
+use Rattle.pm_life.specs.Attention.{Attention, Hears, was_given}
+use Rattle.pm_session.specs.Heeding.{HeedInTurn, AllRead}
 use Rattle.pm_session.specs.Sent.{Turn, bytes_of}
 use Rattle.pm_session.specs.Session.{AllNotes, EndsAt, MayPassOver, IsCancelledTurn, pieces, query_bytes}
 
@@ -63,4 +64,6 @@ pub record Conversed {S : Type 0} (notes : List BookEntry → S → S → Type 0
   pub passes : Passes came went before.link now.link
   pub entries : notes (asked ++ ended) before.store now.store
   pub hears : Hears (length turns) before.child now.child
+  pub read : AllRead texts turns
+  pub heeded : HeedInTurn turns before.child.told now.child.told
   pub cancelled : (turn : Turn) → Contains turns turn → IsCancelledTurn turn → was_given Cancel now.child.told

@@ -1,27 +1,29 @@
 -- The start of a connection, up to its startup packet; and what is said last.
-use Rattle.std.specs.Prelude.{◌≡◌, ◌⊎◌, ℕ, ◌<◌, ◌≤◌, List, [], ◌∷◌, ◌++◌, length, take, map, Option, None, Some, Result, Ok, Err, IsTrue}
+use Rattle.std.specs.Prelude.{◌≡◌, ◌≢◌, ◌⊎◌, ℕ, ◌<◌, ◌≤◌, List, [], ◌∷◌, ◌++◌, length, take, map, Option, None, Some, Result, Ok, Err, IsTrue}
 use Rattle.std.specs.List.{flat_map}
+use Rattle.std.specs.Option.{option_map}
 use Rattle.pm_admit.specs.declared.Cac.{Cac}
 use Rattle.pm_exit.specs.declared.child.Status.TheVariants as statuses
 use Rattle.pm_startup.specs.declared.packet.StartFault.{StartFault}
 use Rattle.pm_startup.specs.declared.phase.Phase.{Phase}
 use Rattle.pm_startup.specs.declared.phase.Step.TheVariants.{SayNo}
-use Rattle.pm_startup.specs.Grammar.{Content, startup, cancel_request, FrontDecides, IsUndecided as IsNoPacketYet}
+use Rattle.pm_startup.specs.Grammar.{Content, startup, cancel_request, Decides, FrontDecides, IsUndecided as IsNoPacketYet}
 use Rattle.pm_startup.specs.Phases.{step_of}
 use Rattle.pm_query.specs.declared.book.BookEntry.{BookEntry}
 use Rattle.pm_query.specs.declared.book.BookEntry.TheVariants.{Attached}
 use Rattle.pm_query.specs.declared.store.StoreNo.{StoreNo}
 use Rattle.pm_query.specs.declared.store.StoreNo.TheVariants as nos
 use Rattle.pm_query.specs.Calls.{User}
-use Rattle.pm_life.specs.Life.{Kill, Quit, Terminate}
+use Rattle.pm_life.specs.Life.{Told, Signal, Kill, Quit, Terminate, asked_cancel}
 use Rattle.pm_session.specs.declared.ending.Cause.{Cause}
-use Rattle.pm_session.specs.declared.ending.Cause.TheVariants.{ToldToTerminate, ToldToQuit, Killed, Overtaken, ShortOfMemory}
+use Rattle.pm_session.specs.declared.ending.Cause.TheVariants.{Cancelling, ToldToTerminate, ToldToQuit, Killed, Overtaken, ShortOfMemory}
 use Rattle.pm_session.specs.declared.ending.Stage.{Stage}
 use Rattle.pm_session.specs.declared.startup.Ask.{Ask}
 use Rattle.pm_session.specs.declared.startup.Ask.TheVariants.{Nothing, Encryption, Start, Cancel, Refused}
 use Rattle.pm_session.specs.Exchange.{LinkView, Passes, HasFailed, CutsOff}
-use Rattle.pm_session.specs.declared.attention.Standing.{Standing}
-use Rattle.pm_session.specs.Attention.{Attention, Hears, was_given, ends_of}
+use Rattle.pm_life.specs.declared.standing.Standing.{Standing}
+use Rattle.pm_life.specs.Attention.{Attention, HasAsked, Hears, IsAttentive, KeepsCancels, was_given}
+use Rattle.pm_session.specs.Attention.{ends_of}
 use Rattle.pm_session.specs.Sent.{Turn, bytes_of}
 use Rattle.pm_session.specs.Session.{Ending, Heeds, HasAskedFor, IsCaused, IsText, IsStart, IsRefusedPacket, AskInTurn, StopsAt, MayPassOver, Leaves, first_phase, last_messages, status_by, status_of}
 use Rattle.pm_session.specs.Conversation.{Moment, moment, ShowsCause}
@@ -55,6 +57,18 @@ GoesOn (Ok done) phase last beyond missing before now = IsStart last × (beyond 
 GoesOn (Err cause) phase last beyond missing before now =
     StopsAt phase cause last × MayPassOver cause beyond × ((missing ≡ []) ⊎ CutsOff cause) × ShowsCause cause before.link now.link now.child
 
+-- What the child asked for a cancel: that of a whole packet by which the session ends, and none else.
+abbrev pub AsksToCancel : Result (Unit {0}) Cause → (last : List ℕ) → (before now : Option Told) → Type 0
+AsksToCancel (Err Cancelling) last before now = (pid : ℕ) × (key : ℕ) × Decides last (Ok (cancel_request pid key)) × (now ≡ option_map (asked_cancel pid key) before)
+AsksToCancel _ last before now = KeepsCancels before now
+
+-- Between two moments the child went on heeding what it was given, and was at the gate no more.
+pub record Attends (before now : Attention) : Type 0 where
+  pub asked : HasAsked 0 before.told now.told
+  pub child : now.child ≡ before.child
+  pub given : (signal : Signal) → was_given signal before.told → was_given signal now.told
+  pub stands : IsAttentive before → IsAttentive now
+
 -- The packets up to the one that starts the session, or up to its end; each request for encryption was answered, but for
 -- one whose answer was broken off.
 pub record Enters (result : Result (Unit {0}) Cause) (before now : Moment (Unit {0})) : Type 0 where
@@ -70,11 +84,20 @@ pub record Enters (result : Result (Unit {0}) Cause) (before now : Moment (Unit 
   pub input : before.unread ++ came ≡ flat_map (λ packet. packet) requests ++ last ++ beyond
   pub output : map (λ packet. 78) requests ≡ went ++ missing
   pub passes : Passes came went before.link now.link
-  pub hears : Hears 0 before.child now.child
+  pub heard : Attention
+  pub hears : Hears 0 before.child heard
+  pub attends : Attends before.child now.child
+  pub cancels : AsksToCancel result last heard.told now.child.told
 
 -- ---- the store
 
--- by what a session ends that the store doesn't let in, which it does for these two alone
+-- a child is kept out for these two alone
+abbrev pub CanRefuseEntry : StoreNo → Type 0
+CanRefuseEntry (nos.Stale mine found) = Unit {0}
+CanRefuseEntry nos.NoMemory = Unit {0}
+CanRefuseEntry _ = ⊥
+
+-- by what a session ends that the store doesn't let in
 abbrev pub refusal_cause : StoreNo → Cause
 refusal_cause (nos.Stale mine found) = Overtaken
 refusal_cause _ = ShortOfMemory
@@ -148,5 +171,7 @@ pub record Serves {S : Type 0} (notes : List BookEntry → S → S → Type 0) (
   pub passes : Passes came went before.link now.link
   pub entries : notes noted before.store now.store
   pub asked : HasAskedFor turns before.child.told now.child.told
+  pub cancels : KeepsCancels before.child.told now.child.told
+  pub unasked : ending.cause ≢ Cancelling
   pub caused : (limit : ℕ) → IsCaused ending turns generation decision now.link.traffic (HasFailed before.link now.link) now.child.told limit gives
   pub heeds : Heeds (status_of ending) now.child.told

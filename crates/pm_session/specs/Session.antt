@@ -36,7 +36,8 @@ use Rattle.pm_session.specs.declared.ending.Cause.TheVariants.{Terminated, Cance
 use Rattle.pm_session.specs.declared.ending.Stage.{Stage}
 use Rattle.pm_session.specs.declared.ending.Stage.TheVariants.{Outside, Entering, Greeted}
 use Rattle.pm_session.specs.Exchange.{CutsOff}
-use Rattle.pm_session.specs.Attention.{was_given}
+use Rattle.pm_life.specs.Attention.{was_given}
+use Rattle.pm_session.specs.Heeding.{TurnsHeed, AllRead}
 use Rattle.pm_session.specs.Sent.{Turn, Ran, Faulted, NotUtf8, Cancelled, LogIsFull, Memory, bytes_of, greeting, turn_messages, last_of}
 
 -- ---- endings
@@ -230,6 +231,11 @@ abbrev pub IsAdmitted : Stage → Cac → Type 0
 IsAdmitted Outside decision = Unit {0}
 IsAdmitted _ decision = decision ≡ decisions.Ok
 
+-- it goes to the gate behind a whole startup packet alone
+abbrev pub IsBehindStart : Stage → List ℕ → Type 0
+IsBehindStart Outside last = Unit {0}
+IsBehindStart _ last = IsStart last
+
 -- It ended before the greeting.
 pub record IsTurnedAway (decision : Cac) (user : User) (ending : Ending) (came_in : List ℕ) (whole : List ℕ) (noted : List BookEntry) : Type 0 where
   pub requests : List (List ℕ)
@@ -239,6 +245,7 @@ pub record IsTurnedAway (decision : Cac) (user : User) (ending : Ending) (came_i
   pub admitted : IsAdmitted ending.stage decision
   pub asks : AskInTurn first_phase requests phase
   pub stops : TurnsAway user ending.stage phase ending.cause last
+  pub start : IsBehindStart ending.stage last
   pub input : came_in ≡ flat_map (λ packet. packet) requests ++ last ++ beyond
   pub passes_over : MayPassOver ending.cause beyond
   pub output : whole ≡ map (λ packet. 78) requests ++ bytes_of (last_messages decision ending)
@@ -264,6 +271,7 @@ pub record IsServed (decision : Cac) (user : User) (key : ℕ) (turns : List Tur
   pub output : whole ≡ map (λ packet. 78) requests ++ bytes_of (greeting user.pid key ++ pieces texts turns ++ last_messages decision ending)
   pub notes : noted ≡ (Attached user.pid user.generation ∷ asked) ++ ended ++ left
   pub each : AllNotes user.pid texts turns asked
+  pub read : AllRead texts turns
   pub ends : EndsAt user ending.cause last ended
   pub leaves : Leaves user ending.exit left
 
@@ -321,6 +329,11 @@ abbrev pub HasEntered : Stage → ℕ → Option Told → Type 0
 HasEntered Outside generation told = Unit {0}
 HasEntered _ generation told = IfSome told (λ t. t.met ≡ Some (Ok generation))
 
+-- a child outside was at the gate only where that refused it
+abbrev pub StaysOut : Stage → Cause → Option Told → Type 0
+StaysOut Outside cause told = IfSome told (λ t. (t.met ≡ None) ⊎ ((refusal : GateNo) × (cause ≡ GateRefused refusal) × (t.met ≡ Some (Err refusal))))
+StaysOut _ cause told = Unit {0}
+
 abbrev pub IsCancelledTurn : Turn → Type 0
 IsCancelledTurn Cancelled = Unit {0}
 IsCancelledTurn _ = ⊥
@@ -329,6 +342,8 @@ pub record IsCaused (ending : Ending) (turns : List Turn) (generation : ℕ) (de
   pub cause : CausedBy ending.cause decision link link_failed told limit gives
   pub exit : CausedBy ending.exit decision link link_failed told limit gives
   pub gate : HasEntered ending.stage generation told
+  pub out : StaysOut ending.stage ending.cause told
+  pub heeded : IfSome told (λ t. TurnsHeed 0 turns t.asked t.given)
   pub cancelled : (before : List Turn) (turn : Turn) (behind : List Turn) → turns ≡ before ++ turn ∷ behind → IsCancelledTurn turn → was_given Cancel told
 
 -- it has asked for its signals once more at least than it has turns, or up to the last number
@@ -346,6 +361,38 @@ pub record HeedsTold (status : Status) (told : Told) : Type 0 where
 abbrev pub Heeds : Status → Option Told → Type 0
 Heeds status told = IfSome told (HeedsTold status)
 
--- it is attached at its end only where it doesn't exit of itself
-abbrev pub IsAttachedBehind : Ending → Child → Type 0
-IsAttachedBehind ending child = LetsGo ending.exit (child.attached ≡ None) (Unit {0})
+-- it went through the gate
+abbrev pub IsInside : Stage → Type 0
+IsInside Outside = ⊥
+IsInside _ = Unit {0}
+
+abbrev pub IsAttachedAt : Stage → (outside inside : Type 0) → Type 0
+IsAttachedAt Outside outside inside = outside
+IsAttachedAt _ outside inside = inside
+
+-- It is attached at its end only where it went through the gate and doesn't exit of itself, and then in the generation that
+-- the gate let it into.
+abbrev pub IsAttachedBehind : Ending → (generation : ℕ) → Child → Type 0
+IsAttachedBehind ending generation child =
+    IsAttachedAt ending.stage (child.attached ≡ None) (LetsGo ending.exit (child.attached ≡ None) (child.attached ≡ Some generation))
+
+-- ---- cancels
+
+-- behind requests for encryption that were all answered, a whole packet that asks for this cancel
+pub record AsksCancel (came_in : List ℕ) (pid key : ℕ) : Type 0 where
+  pub requests : List (List ℕ)
+  pub phase : Phase
+  pub packet : List ℕ
+  pub beyond : List ℕ
+  pub asks : AskInTurn first_phase requests phase
+  pub whole : Decides packet (Ok (cancel_request pid key))
+  pub input : came_in ≡ flat_map (λ p. p) requests ++ packet ++ beyond
+
+-- a child asks for the cancel that its client sent whole, or for none
+abbrev pub MakesCancels : (came_in : List ℕ) → List (ℕ × ℕ) → Type 0
+MakesCancels came_in cancels = (cancels ≡ []) ⊎ ((pid : ℕ) × (key : ℕ) × AsksCancel came_in pid key × (cancels ≡ (pid, key) ∷ []))
+
+-- one that ends by it has asked for it
+pub record HasCancelled (cause : Cause) (link : Option Traffic) (told : Option Told) : Type 0 where
+  pub sent : IfSome told (λ t. IfSome link (λ traffic. MakesCancels traffic.came_in t.cancels))
+  pub made : cause ≡ Cancelling → IfSome told (λ t. t.cancels ≢ [])

@@ -10,7 +10,8 @@ use Rattle.pm_query.specs.declared.store.StoreNo.{StoreNo}
 use Rattle.pm_query.specs.declared.store.StoreNo.TheVariants as nos
 use Rattle.pm_query.specs.Calls.{User, MayBeOver, NotesFault}
 use Rattle.pm_query.specs.Limits.{HasShortValues}
-use Rattle.pm_life.specs.Life.{Kill, Quit, Terminate, Cancel}
+use Rattle.std.specs.Str.{IsUtf8}
+use Rattle.pm_life.specs.Life.{Told, Kill, Quit, Terminate, Cancel}
 use Rattle.pm_wire.specs.declared.condition.Fixed.TheVariants as fixes
 use Rattle.pm_wire.specs.Pieces.{HasNoZero}
 use Rattle.pm_wire.specs.Outgoing.{Outgoing}
@@ -26,7 +27,8 @@ use Rattle.pm_session.specs.declared.release.Awaited.TheVariants as waits
 use Rattle.pm_session.specs.declared.query.Slept.{Slept}
 use Rattle.pm_session.specs.declared.query.Slept.TheVariants as sleeps
 use Rattle.pm_session.specs.Exchange.{LinkView, CutsOff, Passes}
-use Rattle.pm_session.specs.Attention.{Attention, Hears, IsAttentive, was_given}
+use Rattle.pm_life.specs.Attention.{Attention, Hears, GivenSince, IsAttentive, was_given}
+use Rattle.pm_session.specs.Heeding.{HeedInTurn, IsReadAs, AllRead}
 use Rattle.pm_session.specs.Sent.{Turn, Ran, Faulted, NotUtf8, Cancelled, LogIsFull, Memory, bytes_of, item_messages, fault_state, turn_messages}
 use Rattle.pm_session.specs.Session.{IsUnreleased, TurnNotes, AllNotes, EndsAt, MayPassOver, IsCancelledTurn, pieces, query_bytes}
 use Rattle.pm_session.specs.Conversation.{Moment, Conversed, ShowsCause, IsBreak}
@@ -88,11 +90,12 @@ IsSayable (answers.Ran reply) = All HasShortValues reply
 IsSayable (answers.Faulted fault message) = HasNoZero message × (length message ≤ 65573)
 IsSayable _ = Unit {0}
 
--- an answer says what its turn is to say, and one that was cancelled was told to be
-pub record IsFit (text : List ℕ) (answer : Answer) (child : Attention) : Type 0 where
+-- an answer says what its turn is to say, and one that was cancelled was told to be since its query was taken
+pub record IsFit (text : List ℕ) (answer : Answer) (before now : Option Told) : Type 0 where
   pub sayable : IsSayable answer
   pub piece : piece_of answer ≡ turn_messages text (turn_of answer)
-  pub cancelled : IsCancelledTurn (turn_of answer) → was_given Cancel child.told
+  pub read : IsReadAs text (turn_of answer)
+  pub cancelled : IsCancelledTurn (turn_of answer) → GivenSince Cancel before now
 
 -- ---- what is noted
 
@@ -111,9 +114,18 @@ abbrev pub AnswerNotes : User → List ℕ → Result Answer Cause → List Book
 AnswerNotes user text (Ok answer) entries = TurnNotes user.pid text (turn_of answer) entries
 AnswerNotes user text (Err cause) entries = EndNotes user text cause entries
 
+-- an answer fits any text that is UTF-8 and spells the script
+abbrev pub FitsScript : List Stmt → (before now : Option Told) → Answer → Type 0
+FitsScript script before now answer = (text : List ℕ) → IsUtf8 text → IsQueryText text script → IsFit text answer before now
+
 -- the same of any text that spells the script
 abbrev pub ScriptNotes : User → List Stmt → Result Answer Cause → List BookEntry → Type 0
 ScriptNotes user script result entries = (text : List ℕ) → IsQueryText text script → AnswerNotes user text result entries
+
+-- a run isn't refused by a redo
+abbrev pub CanRefuseRun : StoreNo → Type 0
+CanRefuseRun (nos.Redo fault) = ⊥
+CanRefuseRun _ = Unit {0}
 
 -- what a refused run comes to
 abbrev pub refusal_of : StoreNo → Result Answer Cause
@@ -124,14 +136,17 @@ refusal_of (nos.Full need room) = Ok answers.LogIsFull
 refusal_of (nos.Redo fault) = Err Panicked
 refusal_of nos.NoMemory = Ok answers.Memory
 
--- and what a release comes to that the store refuses
+-- and what a release or a flush comes to that the store refuses
 abbrev pub no_release : StoreNo → Result Awaited Cause
 no_release (nos.Stale mine found) = Err Overtaken
-no_release nos.Disk = Err Panicked
-no_release (nos.Broken since) = Err Panicked
-no_release (nos.Full need room) = Err Panicked
-no_release (nos.Redo fault) = Err Panicked
 no_release nos.NoMemory = Ok waits.NoMemory
+no_release _ = Err Panicked
+
+-- neither a release nor a flush is refused for want of room or by a redo
+abbrev pub CanEndWait : StoreNo → Type 0
+CanEndWait (nos.Full need room) = ⊥
+CanEndWait (nos.Redo fault) = ⊥
+CanEndWait _ = Unit {0}
 
 -- what is noted from staging on, until the log is flushed up to the front, or this ends the wait
 abbrev pub WaitNotes : User → (front : ℕ) → Result Awaited Cause → List BookEntry → Type 0
@@ -163,6 +178,12 @@ IsSignal (ToldToQuit reason) = Unit {0}
 IsSignal Killed = Unit {0}
 IsSignal _ = ⊥
 
+-- by a signal that ends a wait for the log
+abbrev pub IsWaitEnd : Cause → Type 0
+IsWaitEnd (ToldToQuit reason) = Unit {0}
+IsWaitEnd Killed = Unit {0}
+IsWaitEnd _ = ⊥
+
 -- the clock gave two moments so far apart, or it stands at its last
 pub record HasPassed (gives : ℕ → Type 0) (milliseconds : ℕ) : Type 0 where
   pub first : ℕ
@@ -172,10 +193,10 @@ pub record HasPassed (gives : ℕ → Type 0) (milliseconds : ℕ) : Type 0 wher
   pub apart : (first + milliseconds ≤ last) ⊎ (last ≡ 2 ^ 64 - 1)
 
 -- all of the time has passed, or a cancel or an end was given
-abbrev pub SleepGoes : (ℕ → Type 0) → (seconds : ℕ) → Result Slept Cause → Attention → Type 0
-SleepGoes gives seconds (Ok sleeps.Whole) child = HasPassed gives (1000 * seconds)
-SleepGoes gives seconds (Ok sleeps.Cancelled) child = was_given Cancel child.told
-SleepGoes gives seconds (Err cause) child = IsSignal cause × IsHeeded cause child
+abbrev pub SleepGoes : (ℕ → Type 0) → (seconds : ℕ) → Result Slept Cause → (before now : Attention) → Type 0
+SleepGoes gives seconds (Ok sleeps.Whole) before now = HasPassed gives (1000 * seconds)
+SleepGoes gives seconds (Ok sleeps.Cancelled) before now = GivenSince Cancel before.told now.told
+SleepGoes gives seconds (Err cause) before now = IsSignal cause × IsHeeded cause now
 
 -- ---- turns
 
@@ -189,7 +210,8 @@ pub record Answered {S : Type 0} (notes : List BookEntry → S → S → Type 0)
   pub passes : Passes [] went before.link now.link
   pub entries : notes noted before.store now.store
   pub hears : Hears 0 before.child now.child
-  pub cancelled : IsCancelledTurn turn → was_given Cancel now.child.told
+  pub read : IsReadAs text turn
+  pub cancelled : IsCancelledTurn turn → GivenSince Cancel before.child.told now.child.told
 
 -- it was not, and nothing was sent
 pub record BrokenOff {S : Type 0} (notes : List BookEntry → S → S → Type 0) (user : User) (text : List ℕ) (cause : Cause) (before now : Moment S) : Type 0 where
@@ -239,6 +261,8 @@ pub record Conversing {S : Type 0} (notes : List BookEntry → S → S → Type 
   pub passes : Passes came (bytes_of (pieces texts turns)) before.link now.link
   pub entries : notes asked before.store now.store
   pub hears : Hears (length turns) before.child now.child
+  pub read : AllRead texts turns
+  pub heeded : HeedInTurn turns before.child.told now.child.told
   pub cancelled : (turn : Turn) → Contains turns turn → IsCancelledTurn turn → was_given Cancel now.child.told
 
 -- Queries were answered, maybe none; or this ended the session behind them.

@@ -2,18 +2,19 @@
 ghost use Rattle.std.specs.Prelude.{◌≡◌, ◌⊎◌, ◌≤◌, [], ◌∷◌, MatchOption, IfSome, cond};
 ghost use Rattle.pm_wire.specs.Conditions.{fixed_message, told};
 ghost use Rattle.pm_wire.specs.Longest.{IsGiven};
-ghost use Rattle.pm_session.specs.Attention.{attention, ends_of, IsAttentive};
+ghost use Rattle.pm_life.specs.Attention.{attention, IsAttentive};
+ghost use Rattle.pm_session.specs.Attention.{ends_of};
 ghost use Rattle.pm_session.specs.Exchange.{link_view};
 ghost use Rattle.pm_session.specs.Sent.{bytes_of, from_attach, packet_refusal, message_refusal, decision_refusal, gate_refusal, last_of};
 ghost use Rattle.pm_session.specs.Session.{Ending};
 ghost use Rattle.pm_session.specs.Entry.{outside, SaysLast, Closes, IsLastCause};
 
-use crate::attention::{Standing, listen};
+use crate::attention::ends;
 use crate::ending::{Cause, MessageFault, Stage};
 use crate::line::send;
 use pm_admit::Cac;
 use pm_exit::Status;
-use pm_life::{GateNo, Life};
+use pm_life::{GateNo, Life, Standing, listen};
 use pm_outside::Link;
 use pm_startup::StartFault;
 use pm_supervisor::Reason;
@@ -70,7 +71,7 @@ pub fn close_short_of_memory<L: Link, F: Life>(
 fn last_cause(standing: Standing, cause: Cause) -> Cause
     ensures { IsLastCause standing cause result }
 {
-    match (cause.status(), standing.ends()) {
+    match (cause.status(), ends(standing)) {
         (Status::Code(0), Some(told)) => told,
         _ => cause,
     }

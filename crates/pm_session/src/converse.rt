@@ -1,20 +1,21 @@
 //! A greeted client's queries, in order, up to the session's end.
-ghost use Rattle.std.specs.Prelude.{◌≡◌, ◌≤◌, ◌<◌, ℕ, [], length, IfErr, OnOk, MatchResult};
+ghost use Rattle.std.specs.Prelude.{◌≡◌, ◌≤◌, ◌<◌, ℕ, [], length, None, IfErr, OnOk, MatchResult};
 ghost use Rattle.pm_query.specs.Calls.{user_of};
 ghost use Rattle.pm_wire.specs.Pieces.{HasNoZero};
 ghost use Rattle.pm_wire.specs.Frontend.{front_message, IsFront};
-ghost use Rattle.pm_session.specs.Attention.{attention, Hears, IsAttentive};
+ghost use Rattle.pm_life.specs.Attention.{attention, Hears, IsAttentive};
+ghost use Rattle.pm_session.specs.Attention.{ends_of};
 ghost use Rattle.pm_session.specs.Exchange.{link_view};
 ghost use Rattle.pm_session.specs.Conversation.{moment, Conversed, ShowsCause};
-ghost use Rattle.pm_session.specs.Turns.{Comes, Converses, MessageGoes, ReplyGoes, HasQueryText};
+ghost use Rattle.pm_session.specs.Turns.{Comes, Converses, MessageGoes, ReplyGoes, HasQueryText, IsHeeded, IsSignal};
 
-use crate::attention::{Standing, listen};
+use crate::attention::ends;
 use crate::ending::{Cause, MessageFault};
 use crate::inbox::Inbox;
 use crate::line::receive;
 use crate::query::answer_to;
 use crate::reply::say_answer;
-use pm_life::Life;
+use pm_life::{Life, Standing, listen};
 use pm_outside::{Clock, Link};
 use pm_query::Store;
 use pm_wire::{Front, Outbox, Take, WireFault};
@@ -96,10 +97,7 @@ fn step<R: Wait, L: Link, S: Store, C: Clock, F: Life>(
     ensures empty { OnOk result (outbox.new.bytes ≡ []) }
     ensures room { 66048 ≤ outbox.new.capacity }
 {
-    listen(life, standing);
-    if let Some(cause) = standing.ends() {
-        return Err(cause);
-    }
+    heed(life, standing)?;
     match Front::read(inbox.unread()) {
         Take::Short { wanted } => await_bytes(rt, clock, link, life, standing, inbox, wanted),
         Take::Bad(WireFault::BadForm { .. }) => unreachable!(),
@@ -114,6 +112,23 @@ fn step<R: Wait, L: Link, S: Store, C: Clock, F: Life>(
             inbox.pass(used);
             goes
         }
+    }
+}
+
+// Takes the child's signals, and tells by what the session has to end, if it has to.
+fn heed<F: Life>(life: &mut F, standing: &mut Standing) -> Result<(), Cause>
+    requires { IsAttentive (attention (F.told life.old) (F.child life.old) standing.old) }
+    ensures hears { Hears 1 (attention (F.told life.old) (F.child life.old) standing.old)
+        (attention (F.told life.new) (F.child life.new) standing.new) }
+    ensures attentive { IsAttentive (attention (F.told life.new) (F.child life.new)
+        standing.new) }
+    ensures goes { MatchResult result (λ _. ends_of standing.new ≡ None) (λ cause. IsSignal cause
+        × IsHeeded cause (attention (F.told life.new) (F.child life.new) standing.new)) }
+{
+    listen(life, standing);
+    match ends(*standing) {
+        Some(cause) => Err(cause),
+        None => Ok(()),
     }
 }
 

@@ -1,13 +1,13 @@
 //! Reading from the client and sending to it. Before each read and each write the child takes its signals.
 ghost use Rattle.std.specs.Prelude.{◌≡◌, ◌<◌, MatchResult, IsTrue, length};
-ghost use Rattle.pm_session.specs.Attention.{attention, Hears, IsAttentive};
+ghost use Rattle.pm_life.specs.Attention.{attention, Hears, IsAttentive};
 ghost use Rattle.pm_session.specs.Exchange.{link_view, Sends, Receives, ReceivesNothing};
 ghost use Rattle.pm_session.specs.Conversation.{ShowsCause, IsBreak};
 
-use crate::attention::{Standing, listen};
+use crate::attention::ends;
 use crate::ending::Cause;
 use crate::inbox::Inbox;
-use pm_life::Life;
+use pm_life::{Life, Standing, listen};
 use pm_outside::{Clock, Got, Link, Put};
 use std::sync::Wait;
 
@@ -38,7 +38,7 @@ pub fn receive<R: Wait, L: Link, C: Clock, F: Life>(
 {
     for _ in rt.forever() {
         listen(life, standing);
-        if let Some(cause) = standing.ends() {
+        if let Some(cause) = ends(*standing) {
             return Err(cause);
         }
         match inbox.read_from(link) {

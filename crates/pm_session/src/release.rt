@@ -2,13 +2,12 @@
 ghost use Rattle.std.specs.Prelude.{◌≡◌, List, IfErr};
 ghost use Rattle.pm_query.specs.declared.book.BookEntry.{BookEntry};
 ghost use Rattle.pm_query.specs.Calls.{user_of, HasReached};
-ghost use Rattle.pm_session.specs.Attention.{attention, Hears, IsAttentive};
-ghost use Rattle.pm_session.specs.Turns.{no_release, WaitNotes, ReleaseNotes, IsHeeded};
+ghost use Rattle.pm_life.specs.Attention.{attention, Hears, IsAttentive};
+ghost use Rattle.pm_session.specs.Turns.{no_release, CanEndWait, WaitNotes, ReleaseNotes, IsHeeded, IsWaitEnd};
 
-use crate::attention::{Standing, listen};
+use crate::attention::ends;
 use crate::ending::Cause;
-use pm_life::Life;
-use pm_outside::Clock;
+use pm_life::{Life, Standing, listen};
 use pm_query::{Reply, Seen, Staged, Store, StoreNo};
 use pm_rows::Text;
 use pm_sql::SqlFault;
@@ -58,10 +57,10 @@ pub(crate) enum Awaited {
     NoMemory,
 }
 
-/// Waits until the log is flushed up to what was staged. A Kill or a Quit ends the wait; other signals stand until later.
-pub(crate) fn release<R: Wait, S: Store, C: Clock, F: Life>(
+/// Waits until the log is flushed up to what was staged. The child takes its signals before it asks first, and again each
+/// time before it flushes the log itself. A Kill or a Quit ends the wait; other signals stand until later.
+pub(crate) fn release<R: Wait, S: Store, F: Life>(
     rt: &R,
-    clock: &C,
     life: &mut F,
     standing: &mut Standing,
     store: &mut S,
@@ -76,12 +75,12 @@ pub(crate) fn release<R: Wait, S: Store, C: Clock, F: Life>(
     ensures admits { S.admits store.new pass.new }
     ensures user { user_of (S.stamp store.new) (S.view pass.new) ≡ user_of (S.stamp store.old)
         (S.view pass.old) }
-    ensures hears { Hears 0 (attention (F.told life.old) (F.child life.old) standing.old)
+    ensures hears { Hears 1 (attention (F.told life.old) (F.child life.old) standing.old)
         (attention (F.told life.new) (F.child life.new) standing.new) }
     ensures heeded { IfErr result (λ cause. IsHeeded cause
         (attention (F.told life.new) (F.child life.new) standing.new)) }
 {
-    match await_flush(rt, clock, life, standing, store, pass, staged.front)? {
+    match await_flush(rt, life, standing, store, pass, staged.front)? {
         Awaited::Flushed => {
             let reply = staged.reply;
             Ok(Answer::Ran(Released { reply }))
@@ -91,9 +90,8 @@ pub(crate) fn release<R: Wait, S: Store, C: Clock, F: Life>(
 }
 
 // Waits until the log is flushed up to a front.
-fn await_flush<R: Wait, S: Store, C: Clock, F: Life>(
+fn await_flush<R: Wait, S: Store, F: Life>(
     rt: &R,
-    clock: &C,
     life: &mut F,
     standing: &mut Standing,
     store: &mut S,
@@ -108,40 +106,56 @@ fn await_flush<R: Wait, S: Store, C: Clock, F: Life>(
     ensures admits { S.admits store.new pass.new }
     ensures user { user_of (S.stamp store.new) (S.view pass.new) ≡ user_of (S.stamp store.old)
         (S.view pass.old) }
-    ensures hears { Hears 0 (attention (F.told life.old) (F.child life.old) standing.old)
+    ensures hears { Hears 1 (attention (F.told life.old) (F.child life.old) standing.old)
         (attention (F.told life.new) (F.child life.new) standing.new) }
     ensures heeded { IfErr result (λ cause. IsHeeded cause
         (attention (F.told life.new) (F.child life.new) standing.new)) }
 {
     for _ in rt.forever() {
+        heed(life, standing)?;
         match store.seen(pass, front) {
             Ok(Seen::Released) => return Ok(Awaited::Flushed),
             Ok(Seen::NotFlushed { .. }) => {}
             Err(no) => return no_release(no),
         }
-        listen(life, standing);
-        // A Terminate stands until the reply was sent.
-        let waiting = Standing {
-            terminate: false,
-            ..*standing
-        };
-        if let Some(cause) = waiting.ends() {
-            return Err(cause);
+        heed(life, standing)?;
+        if let Err(refusal) = store.flush(pass) {
+            return no_release(refusal);
         }
-        clock.pause();
     }
     unreachable!()
 }
 
-// What a refusal to release comes to.
+// Takes the child's signals. A Kill or a Quit ends the wait; a Terminate stands until the reply was sent.
+fn heed<F: Life>(life: &mut F, standing: &mut Standing) -> Result<(), Cause>
+    requires { IsAttentive (attention (F.told life.old) (F.child life.old) standing.old) }
+    ensures hears { Hears 1 (attention (F.told life.old) (F.child life.old) standing.old)
+        (attention (F.told life.new) (F.child life.new) standing.new) }
+    ensures attentive { IsAttentive (attention (F.told life.new) (F.child life.new)
+        standing.new) }
+    ensures stops { IfErr result (λ cause. IsWaitEnd cause
+        × IsHeeded cause (attention (F.told life.new) (F.child life.new) standing.new)) }
+{
+    listen(life, standing);
+    let waiting = Standing {
+        terminate: false,
+        ..*standing
+    };
+    match ends(waiting) {
+        Some(cause) => Err(cause),
+        None => Ok(()),
+    }
+}
+
+// What a refusal to release or to flush comes to.
 fn no_release(no: StoreNo) -> Result<Awaited, Cause>
+    requires { CanEndWait no }
     ensures { result ≡ no_release no }
 {
     match no {
         StoreNo::NoMemory => Ok(Awaited::NoMemory),
         StoreNo::Stale { .. } => Err(Cause::Overtaken),
-        StoreNo::Disk | StoreNo::Broken { .. } | StoreNo::Full { .. } | StoreNo::Redo(_) => {
-            Err(Cause::Panicked)
-        }
+        StoreNo::Disk | StoreNo::Broken { .. } => Err(Cause::Panicked),
+        StoreNo::Full { .. } | StoreNo::Redo(_) => unreachable!(),
     }
 }

@@ -9,17 +9,16 @@ ghost use Rattle.pm_wire.specs.Longest.{longest, longest_told, HasSizes, IsGiven
 ghost use Rattle.pm_wire.specs.declared.back.Tag.TheVariants as tags;
 ghost use Rattle.pm_query.specs.Limits.{HasShortValues, IsShortRow};
 ghost use Rattle.pm_query.specs.declared.item.Item.TheVariants as items;
-ghost use Rattle.pm_session.specs.Attention.{attention};
+ghost use Rattle.pm_life.specs.Attention.{attention};
 ghost use Rattle.pm_session.specs.Exchange.{link_view};
 ghost use Rattle.pm_session.specs.Sent.{item_messages, row_messages, fault_state};
 ghost use Rattle.pm_session.specs.Turns.{desk, IsReady, Says, IsSayable, piece_of};
 
-use crate::attention::Standing;
 use crate::ending::Cause;
 use crate::line::send;
 use crate::release::{Answer, Released};
 use itoa::Buffer;
-use pm_life::Life;
+use pm_life::{Life, Standing};
 use pm_outside::Link;
 use pm_query::Item;
 use pm_rows::Text;

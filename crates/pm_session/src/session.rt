@@ -5,15 +5,15 @@ ghost use Rattle.pm_wire.specs.Backend.{spelling, Param};
 ghost use Rattle.pm_disk.specs.Cause.{Rose};
 ghost use Rattle.pm_outside.specs.Traffic.{IsFresh};
 ghost use Rattle.pm_query.specs.Calls.{newcomer, user_of};
-ghost use Rattle.pm_life.specs.Life.{nothing_told};
+ghost use Rattle.pm_life.specs.Life.{nothing_told, IsUntried};
 ghost use Rattle.pm_session.specs.Sent.{Turn, bytes_of, greeting};
-ghost use Rattle.pm_session.specs.Session.{Ending, status_of, between, IsSession, IsCaused, HasAskedFor, Heeds, IsAttachedBehind};
-ghost use Rattle.pm_session.specs.Attention.{attention, nothing_stands, IsAttentive};
+ghost use Rattle.pm_session.specs.Session.{Ending, status_of, between, IsSession, IsCaused, HasAskedFor, Heeds, HasCancelled, IsAttachedBehind, IsInside};
+ghost use Rattle.pm_life.specs.Attention.{attention, nothing_stands, IsAttentive};
 ghost use Rattle.pm_session.specs.Exchange.{link_view};
 ghost use Rattle.pm_session.specs.Conversation.{moment};
-ghost use Rattle.pm_session.specs.Entry.{Serves, IsTextBehind, IsTextInside, refusal_cause};
+ghost use Rattle.pm_session.specs.Entry.{Serves, IsTextBehind, IsTextInside, CanRefuseEntry, refusal_cause};
 
-use crate::attention::{Standing, listen};
+use crate::attention::ends;
 use crate::close::{close, close_short_of_memory};
 use crate::converse::converse;
 use crate::ending::{Cause, Stage};
@@ -22,7 +22,7 @@ use crate::line::send;
 use crate::startup::startup;
 use pm_admit::Cac;
 use pm_exit::Status;
-use pm_life::Life;
+use pm_life::{Life, Standing, listen};
 use pm_outside::{Clock, Link};
 use pm_query::{Store, StoreNo};
 use pm_wire::{Back, Outbox, back_messages_have_a_longest};
@@ -82,7 +82,8 @@ pub fn serve<R: Wait, L: Link, S: Store, C: Clock, F: Life>(
         × IsCaused ending turns generation decision (L.traffic result.link)
         (Rose (L.faults link) (L.faults result.link)) (F.told life.new) conf.now.authentication_ms
         (C.gives clock.now) × HasAskedFor turns (F.told life.old) (F.told life.new)
-        × IsAttachedBehind ending (F.child life.new) }
+        × IsAttachedBehind ending generation (F.child life.new)
+        × HasCancelled ending.cause (L.traffic result.link) (F.told life.new) }
     // What it was given it has heeded.
     ensures heeds { Heeds result.status (F.told life.new) }
     ensures number { L.number result.link ≡ L.number link }
@@ -119,7 +120,9 @@ fn session<R: Wait, L: Link, S: Store, C: Clock, F: Life>(
         × ((limit : ℕ) → IsCaused ending turns generation decision (L.traffic link.new)
         (Rose (L.faults link.old) (L.faults link.new)) (F.told life.new) limit (C.gives clock.now))
         × HasAskedFor turns (F.told life.old) (F.told life.new)
-        × IsAttachedBehind ending (F.child life.new) × Heeds (status_of ending) (F.told life.new) }
+        × IsAttachedBehind ending generation (F.child life.new)
+        × HasCancelled ending.cause (L.traffic link.new) (F.told life.new)
+        × Heeds (status_of ending) (F.told life.new) }
     ensures number { L.number link.new ≡ L.number link.old }
     ensures link_faults { L.faults link.old ≤ L.faults link.new }
 {
@@ -172,11 +175,12 @@ fn admit<R: Wait, L: Link, S: Store, C: Clock, F: Life>(
 ) -> Cause
     requires free { (F.child life.old).attached ≡ None }
     requires may { decision ≡ Cac.Ok → ¬ (IsTrue (F.child life.old).is_dead_end) }
+    requires untried { IsUntried (F.told life.old) }
     requires attentive { IsAttentive (attention (F.told life.old) (F.child life.old) standing.old) }
     requires empty { outbox.old.bytes ≡ [] }
     requires room { 66048 ≤ outbox.old.capacity }
     ensures serves { (ending : Ending) × (generation : ℕ) × (ending.exit ≡ result)
-        × IsAttachedBehind ending (F.child life.new)
+        × IsAttachedBehind ending generation (F.child life.new)
         × Serves S.notes (IsTextBehind decision
         (newcomer (S.stamp store.old) (F.child life.old).pid generation) key) decision generation
         (C.gives clock.now) ending (moment
@@ -197,7 +201,7 @@ fn admit<R: Wait, L: Link, S: Store, C: Clock, F: Life>(
         );
     };
     listen(life, standing);
-    if let Some(cause) = standing.ends() {
+    if let Some(cause) = ends(*standing) {
         return close(
             link,
             life,
@@ -258,11 +262,12 @@ fn attached<R: Wait, L: Link, S: Store, C: Clock, F: Life>(
         (link_view (L.traffic link.old) (L.number link.old) (L.faults link.old)) inbox.old store.old
         (attention (F.told life.old) (F.child life.old) standing.old))
         (moment (link_view (L.traffic link.new) (L.number link.new) (L.faults link.new)) inbox.new
-        store.new (attention (F.told life.new) (F.child life.new) standing.new)) }
+        store.new (attention (F.told life.new) (F.child life.new) standing.new))
+        × IsInside ending.stage }
     ensures child { F.child life.new ≡ F.child life.old }
 {
     listen(life, standing);
-    if let Some(cause) = standing.ends() {
+    if let Some(cause) = ends(*standing) {
         return close(
             link,
             life,
@@ -300,15 +305,15 @@ fn attached<R: Wait, L: Link, S: Store, C: Clock, F: Life>(
 
 // By what a session ends that the store doesn't let in.
 fn refusal_cause(no: StoreNo) -> Cause
+    requires { CanRefuseEntry no }
     ensures { result ≡ refusal_cause no }
 {
     match no {
         StoreNo::Stale { .. } => Cause::Overtaken,
-        StoreNo::NoMemory
-        | StoreNo::Disk
-        | StoreNo::Broken { .. }
-        | StoreNo::Full { .. }
-        | StoreNo::Redo(_) => Cause::ShortOfMemory,
+        StoreNo::NoMemory => Cause::ShortOfMemory,
+        StoreNo::Disk | StoreNo::Broken { .. } | StoreNo::Full { .. } | StoreNo::Redo(_) => {
+            unreachable!()
+        }
     }
 }
 
@@ -342,7 +347,8 @@ fn entered<R: Wait, L: Link, S: Store, C: Clock, F: Life>(
         (moment (link_view (L.traffic link.old) (L.number link.old) (L.faults link.old)) inbox.old
         store.old (attention (F.told life.old) (F.child life.old) standing.old))
         (moment (link_view (L.traffic link.new) (L.number link.new) (L.faults link.new)) inbox.new
-        store.new (attention (F.told life.new) (F.child life.new) standing.new)) }
+        store.new (attention (F.told life.new) (F.child life.new) standing.new))
+        × IsInside ending.stage }
     ensures child { F.child life.new ≡ F.child life.old }
     ensures admits { S.admits store.new pass.new }
     ensures user { user_of (S.stamp store.new) (S.view pass.new) ≡ user_of (S.stamp store.old)

@@ -1,15 +1,15 @@
 //! The start of a connection: requests for encryption, each refused by `N`, up to the packet that starts the session.
 ghost use Rattle.std.specs.Prelude.{◌≡◌, ℕ, List, [], Ok};
 ghost use Rattle.pm_startup.specs.Grammar.{content_of, FrontDecides};
-ghost use Rattle.pm_session.specs.Attention.{attention, IsAttentive};
+ghost use Rattle.pm_life.specs.Life.{HasNoCancel};
+ghost use Rattle.pm_life.specs.Attention.{attention, IsAttentive};
 ghost use Rattle.pm_session.specs.Exchange.{link_view};
 ghost use Rattle.pm_session.specs.Entry.{AsksFor, Enters, outside};
 
-use crate::attention::Standing;
 use crate::ending::Cause;
 use crate::inbox::Inbox;
 use crate::line::{receive, send};
-use pm_life::Life;
+use pm_life::{Life, Standing};
 use pm_outside::{Clock, Link};
 use pm_startup::{Packet, Phase, Read, StartFault, Step, next, read};
 use std::sync::Wait;
@@ -43,6 +43,7 @@ pub fn startup<R: Wait, L: Link, C: Clock, F: Life>(
 ) -> Result<(), Cause>
     requires attentive { IsAttentive (attention (F.told life.old) (F.child life.old) standing.old) }
     requires empty { inbox.old ≡ [] }
+    requires none { HasNoCancel (F.told life.old) }
     ensures enters { Enters result (outside (link_view (L.traffic link.old) (L.number link.old)
         (L.faults link.old)) inbox.old (attention (F.told life.old) (F.child life.old)
         standing.old)) (outside (link_view (L.traffic link.new) (L.number link.new)

@@ -99,3 +99,17 @@ pub const EMPTY_ANSWER: &[u8] = b"I\0\0\0\x04Z\0\0\0\x05I";
 
 /// A query whose commit waits until it is flushed.
 pub const INSERT_SEVEN: &[u8] = b"Q\0\0\0\x27INSERT INTO kv VALUES (7, 'seven')\0";
+
+pub const INSERTED: &[u8] = b"C\0\0\0\x0fINSERT 0 1\0Z\0\0\0\x05I";
+
+/// A query that sleeps for a second, and its answer.
+pub const SLEEP: &[u8] = b"Q\0\0\0\x17SELECT pg_sleep(1)\0";
+
+pub const SLEPT: &[u8] =
+    b"T\0\0\0\x21\0\x01pg_sleep\0\0\0\0\0\0\0\0\0\0\x19\xff\xff\xff\xff\xff\xff\0\0\
+    D\0\0\0\x0a\0\x01\0\0\0\0\
+    C\0\0\0\x0dSELECT 1\0Z\0\0\0\x05I";
+
+/// The answer to a query that was cancelled.
+pub const CANCELED: &[u8] = b"E\0\0\0\x43SERROR\0VERROR\0C57014\0\
+    Mcanceling statement due to user request\0\0Z\0\0\0\x05I";

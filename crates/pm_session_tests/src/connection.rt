@@ -5,7 +5,7 @@ ghost use Rattle.pm_outside.specs.Traffic.{no_traffic};
 
 use pm_admit::Cac;
 use pm_exit::Status;
-use pm_life::{Cancelled, GateNo, ScriptedLife, Signals};
+use pm_life::{Cancelled, GateNo, Life, ScriptedLife, Signals};
 use pm_outside::{Chronicle, Clock, Kept, LinkScript, MemClock, MemLink};
 use pm_query::{BookEntry, Store};
 use pm_query_tests::{GENERATION, MemStore};
@@ -16,9 +16,9 @@ use std::sync::Wait;
 use std::test::Fail;
 use std::time;
 
-const PID: u32 = 4;
+pub const PID: u32 = 4;
 
-const KEY: u32 = 0xb819_d2bd;
+pub const KEY: u32 = 0xb819_d2bd;
 
 pub const NO_SIGNALS: Signals = Signals {
     kill: false,
@@ -77,13 +77,25 @@ fn link_of(alloc: Global, case: &Case, per_call: usize) -> Result<MemLink, Alloc
     Ok(MemLink::new(alloc, 1, script, None))
 }
 
-/// How a case ends on a link that moves at most so many bytes a call: its status, and all that goes out.
-pub fn served<R: Wait + Abort + time::Clock + Copy + Drop>(
+/// What a connection came to: how its child exited, all that went out, and what its life and its clock tell then.
+#[derive(Drop)]
+pub struct Outcome {
+    pub status: Status,
+    pub sent: Vec<u8>,
+    pub pid: u32,
+    pub attached: Option<u32>,
+    pub asked_cancel: Option<(u32, u32)>,
+    pub now: u64,
+}
+
+/// What a case comes to on a link that moves at most so many bytes a call, over this clock.
+pub fn serve_case<R: Wait, C: Clock>(
     rt: &R,
     alloc: Global,
     case: &Case,
     per_call: usize,
-) -> Result<(Status, Vec<u8>), Fail>
+    clock: &C,
+) -> Result<Outcome, Fail>
     requires { 0 < per_call }
 {
     let link = link_of(alloc, case, per_call)?;
@@ -91,7 +103,6 @@ pub fn served<R: Wait + Abort + time::Clock + Copy + Drop>(
     script.extend_from_slice(case.signals)?;
     let mut life = ScriptedLife::new(PID, false, script, case.gate, Cancelled::NoSuchPid);
     let mut store = MemStore::new(alloc, Kept::<BookEntry>::new(alloc));
-    let clock = MemClock::still(0, *rt);
     let conf = SessionConf {
         authentication_ms: 60_000,
     };
@@ -103,10 +114,30 @@ pub fn served<R: Wait + Abort + time::Clock + Copy + Drop>(
         KEY,
         &conf,
         &mut store,
-        &clock,
+        clock,
         &mut life,
     );
-    Ok((status, joined(alloc, &[link.sent()])?))
+    Ok(Outcome {
+        status,
+        sent: joined(alloc, &[link.sent()])?,
+        pid: life.pid(),
+        attached: life.attached(),
+        asked_cancel: life.asked_cancel(),
+        now: clock.now(),
+    })
+}
+
+/// How a case ends on a link that moves at most so many bytes a call: its status, and all that goes out.
+pub fn served<R: Wait + Abort + time::Clock + Copy + Drop>(
+    rt: &R,
+    alloc: Global,
+    case: &Case,
+    per_call: usize,
+) -> Result<(Status, Vec<u8>), Fail>
+    requires { 0 < per_call }
+{
+    let met = serve_case(rt, alloc, case, per_call, &MemClock::still(0, *rt))?;
+    Ok((met.status, met.sent))
 }
 
 /// Serves the connection, which must end so however its bytes are cut.

@@ -1,8 +1,10 @@
 // Sessions that are told to end.
 use crate::bytes::*;
-use crate::connection::{Case, NO_SIGNALS, PLAIN, check, joined, served};
+use crate::connection::{Case, KEY, NO_SIGNALS, PID, PLAIN, check, joined, serve_case, served};
 use pm_exit::Status;
 use pm_life::{Reason, Signals};
+use pm_outside::MemClock;
+use pm_query_tests::GENERATION;
 use std::alloc::{AllocError, Global};
 use std::process::Abort;
 use std::sync::Wait;
@@ -73,6 +75,7 @@ fn is_one_of(alloc: Global, sent: &[u8], wanted: &[&[&[u8]]]) -> Result<bool, Al
 fn check_each<R: Wait + Abort + time::Clock + Copy + Drop>(
     rt: &R,
     alloc: Global,
+    plain: &Case,
     signals: Signals,
     status: Status,
     wanted: &[&[&[u8]]],
@@ -82,11 +85,11 @@ fn check_each<R: Wait + Abort + time::Clock + Copy + Drop>(
         script.push(signals)?;
         let case = Case {
             signals: script.as_slice(),
-            ..QUERY
+            ..*plain
         };
         let (met, sent) = served(rt, alloc, &case, 4096)?;
         let told = met == status && is_one_of(alloc, sent.as_slice(), wanted)?;
-        let unasked = met == Status::Code(0) && is_one_of(alloc, sent.as_slice(), &[QUERY.sent])?;
+        let unasked = met == plain.status && is_one_of(alloc, sent.as_slice(), &[plain.sent])?;
         assert!(rt; told || unasked);
         script.truncate(script.len() - 1);
         script.push(NO_SIGNALS)?;
@@ -100,6 +103,7 @@ fn a_signal_counts_at_each_ask(rt: HostRuntime) -> Result<(), Fail> {
     check_each(
         &rt,
         alloc,
+        &QUERY,
         STOP,
         Status::Code(1),
         &[
@@ -112,6 +116,7 @@ fn a_signal_counts_at_each_ask(rt: HostRuntime) -> Result<(), Fail> {
     check_each(
         &rt,
         alloc,
+        &QUERY,
         QUIT,
         Status::Code(2),
         &[
@@ -124,28 +129,107 @@ fn a_signal_counts_at_each_ask(rt: HostRuntime) -> Result<(), Fail> {
     check_each(
         &rt,
         alloc,
+        &QUERY,
         KILL,
         Status::Signal(9),
         &[&[], &[GREETING], &[GREETING, EMPTY_ANSWER]],
     )
 }
 
+// A query whose commit its session flushes itself.
+const INSERT: Case<'static> = Case {
+    name: "an insert",
+    incoming: &[PACKET, INSERT_SEVEN, TERMINATE],
+    sent: &[GREETING, INSERTED],
+    ..PLAIN
+};
+
 #[test]
-fn a_commit_that_waits_is_quit(rt: HostRuntime) -> Result<(), Fail> {
+fn a_commit_is_flushed_by_its_session(rt: HostRuntime) -> Result<(), Fail> {
+    check(&rt, rt.alloc(), &INSERT)
+}
+
+#[test]
+fn a_commit_is_quit_at_each_ask(rt: HostRuntime) -> Result<(), Fail> {
+    check_each(
+        &rt,
+        rt.alloc(),
+        &INSERT,
+        QUIT,
+        Status::Code(2),
+        &[
+            &[],
+            &[CRASH_QUIT],
+            &[GREETING, CRASH_QUIT],
+            &[GREETING, INSERTED, CRASH_QUIT],
+        ],
+    )
+}
+
+const CANCEL_IT: Signals = Signals {
+    cancel: true,
+    ..NO_SIGNALS
+};
+
+// A cancel ends a query that sleeps, and none where it comes between queries.
+#[test]
+fn a_cancel_ends_the_query_in_progress(rt: HostRuntime) -> Result<(), Fail> {
     let alloc = rt.alloc();
     let mut script = Vec::new(alloc);
-    for _ in 0..40 {
+    let mut ended: u32 = 0;
+    for _ in 0..10 {
+        script.push(CANCEL_IT)?;
+        let case = Case {
+            name: "a cancel",
+            incoming: &[PACKET, SLEEP, TERMINATE],
+            signals: script.as_slice(),
+            ..PLAIN
+        };
+        let clock = MemClock::new(alloc, 0, rt)?;
+        let met = serve_case(&rt, alloc, &case, 4096, &clock)?;
+        assert_eq!(rt; met.status, Status::Code(0));
+        let cancelled = joined(alloc, &[GREETING, CANCELED])?;
+        let slept = joined(alloc, &[GREETING, SLEPT])?;
+        if met.sent == cancelled {
+            ended = ended.saturating_add(1);
+            assert!(rt; met.now < 1000);
+        } else {
+            assert_eq!(rt; met.sent.as_slice(), slept.as_slice());
+            assert!(rt; 1000 <= met.now);
+        }
+        script.truncate(script.len() - 1);
         script.push(NO_SIGNALS)?;
     }
-    script.push(QUIT)?;
-    let case = Case {
-        incoming: &[PACKET, INSERT_SEVEN],
-        signals: script.as_slice(),
-        ..PLAIN
-    };
-    let (status, sent) = served(&rt, alloc, &case, 4096)?;
-    assert_eq!(rt; status, Status::Code(2));
-    let wanted = joined(alloc, &[GREETING, CRASH_QUIT])?;
-    assert_eq!(rt; sent.as_slice(), wanted.as_slice());
+    // The sixth ask is the first of the query's sleep: before it are four up to the greeting and one for the message.
+    assert_eq!(rt; ended, 5);
+    Ok(())
+}
+
+// What the life tells behind its session.
+#[test]
+fn a_life_tells_what_its_session_did(rt: HostRuntime) -> Result<(), Fail> {
+    let cases: [(&[&[u8]], &[Signals], Option<u32>, Option<(u32, u32)>); 4] = [
+        (&[CANCEL], &[], None, Some((PID, KEY))),
+        (&[GSS, SSL, CANCEL], &[], None, Some((PID, KEY))),
+        (&[PACKET, EMPTY, TERMINATE], &[], None, None),
+        (
+            &[PACKET],
+            &[NO_SIGNALS, NO_SIGNALS, NO_SIGNALS, NO_SIGNALS, QUIT],
+            Some(GENERATION),
+            None,
+        ),
+    ];
+    for (incoming, signals, attached, asked_cancel) in cases {
+        let case = Case {
+            incoming,
+            signals,
+            ..PLAIN
+        };
+        let clock = MemClock::still(0, rt);
+        let met = serve_case(&rt, rt.alloc(), &case, 4096, &clock)?;
+        assert_eq!(rt; met.pid, PID);
+        assert_eq!(rt; met.attached, attached);
+        assert!(rt; met.asked_cancel == asked_cancel);
+    }
     Ok(())
 }

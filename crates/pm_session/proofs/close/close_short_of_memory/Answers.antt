@@ -9,4 +9,4 @@ use Rattle.pm_session.proofs.close.close_short_of_memory.Goals as goal
 
 pub returns : goal.returns
 returns g c =
-    closed c.args.decision Outside ShortOfMemory ShortOfMemory c.exit_by.result c.fixed.result.now _ _ _ _ _ c.requires c.listen.ensures (inl (refl, λ e. absurd cc)) (c.fixed.ensures ∙ sym (bytes_of-one (fixed_message FatalMemory))) c.say.ensures c.exit_by.ensures
+    closed c.args.decision Outside ShortOfMemory ShortOfMemory c.exit_by.result c.fixed.result.now _ _ _ _ _ c.requires c.listen.ensures.hears (inl (refl, λ e. absurd cc)) (c.fixed.ensures ∙ sym (bytes_of-one (fixed_message FatalMemory))) c.say.ensures c.exit_by.ensures

@@ -21,4 +21,4 @@ returns-then-is_empty g c = elim c.then-is_empty.branch [
 ]
 
 pub returns : goal.returns
-returns g c = said c.send.result c.args.words.now _ _ _ _ _ (something c.args.words.now (sym c.is_empty.ensures ∙ c.if-is_empty.false)) c.send.ensures.sends c.send.ensures.cause c.send.ensures.kill c.send.ensures.hears c.listen.ensures
+returns g c = said c.send.result c.args.words.now _ _ _ _ _ (something c.args.words.now (sym c.is_empty.ensures ∙ c.if-is_empty.false)) c.send.ensures.sends c.send.ensures.cause c.send.ensures.kill c.send.ensures.hears c.listen.ensures.hears

@@ -1,5 +1,5 @@
 use Rattle.std.proofs.Common.{◌≡◌, ◌++◌, ◌-◌, ℕ, List, [], length}
-use Rattle.pm_session.specs.Attention.{attention, Hears, IsAttentive}
+use Rattle.pm_life.specs.Attention.{attention, Hears, IsAttentive}
 use Rattle.pm_session.specs.Exchange.{link_view, Passes}
 use Rattle.pm_session.proofs.converse.await_bytes.Given as goal
 

@@ -1,6 +1,6 @@
 use Rattle.std.proofs.Common.{◌≡◌, ◌≤◌, []}
 use Rattle.pm_query.specs.Calls.{user_of}
-use Rattle.pm_session.specs.Attention.{attention, IsAttentive}
+use Rattle.pm_life.specs.Attention.{attention, IsAttentive}
 use Rattle.pm_session.specs.Exchange.{link_view}
 use Rattle.pm_session.specs.Conversation.{moment}
 use Rattle.pm_session.specs.Turns.{Conversing}

@@ -1,4 +1,4 @@
-use Rattle.pm_session.specs.Attention.{attention, Hears}
+use Rattle.pm_life.specs.Attention.{attention, Hears}
 use Rattle.pm_session.specs.Exchange.{link_view, ReceivesNothing}
 use Rattle.pm_session.proofs.line.receive.Given as goal
 

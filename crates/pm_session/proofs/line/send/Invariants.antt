@@ -1,5 +1,5 @@
 use Rattle.std.proofs.Common.{length}
-use Rattle.pm_session.specs.Attention.{attention, Hears}
+use Rattle.pm_life.specs.Attention.{attention, Hears}
 use Rattle.pm_session.specs.Exchange.{link_view, SentAllBut}
 use Rattle.pm_session.proofs.line.send.Given as goal
 

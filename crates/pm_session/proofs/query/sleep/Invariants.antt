@@ -1,4 +1,4 @@
-use Rattle.pm_session.specs.Attention.{attention, Hears, IsAttentive}
+use Rattle.pm_life.specs.Attention.{attention, Hears, IsAttentive}
 use Rattle.pm_session.proofs.query.sleep.Given as goal
 
 abbrev pub invariant-loop : goal.invariant-loop

@@ -1,6 +1,6 @@
 use Rattle.std.proofs.Common.{◌≡◌, []}
 use Rattle.pm_query.specs.Calls.{HasReached, user_of}
-use Rattle.pm_session.specs.Attention.{attention, Hears, IsAttentive}
+use Rattle.pm_life.specs.Attention.{attention, Hears, IsAttentive}
 use Rattle.pm_session.proofs.release.await_flush.Given as goal
 
 abbrev pub invariant-loop : goal.invariant-loop

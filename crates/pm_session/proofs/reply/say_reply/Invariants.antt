@@ -1,6 +1,6 @@
 use Rattle.std.proofs.Common.{take, Ok}
 use Rattle.std.specs.List.{flat_map}
-use Rattle.pm_session.specs.Attention.{attention}
+use Rattle.pm_life.specs.Attention.{attention}
 use Rattle.pm_session.specs.Exchange.{link_view}
 use Rattle.pm_session.specs.Sent.{item_messages}
 use Rattle.pm_session.specs.Turns.{desk, IsReady, Says}

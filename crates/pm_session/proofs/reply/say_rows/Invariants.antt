@@ -1,7 +1,7 @@
 use Rattle.std.proofs.Common.{◌∷◌, take, map, Ok}
 use Rattle.pm_wire.specs.Backend.{Fields, Pair}
 use Rattle.pm_wire.specs.declared.back.Shape.TheVariants as shapes
-use Rattle.pm_session.specs.Attention.{attention}
+use Rattle.pm_life.specs.Attention.{attention}
 use Rattle.pm_session.specs.Exchange.{link_view}
 use Rattle.pm_session.specs.Turns.{desk, IsReady, Says}
 use Rattle.pm_session.proofs.reply.say_rows.Given as goal

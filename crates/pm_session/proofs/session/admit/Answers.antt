@@ -1,16 +1,16 @@
-use Rattle.std.proofs.Common.{◌≡◌, ◌≢◌, ◌∙◌, ◌++◌, [], ℕ, List, Option, None, Ok, Err, true, false, ap, sym, subst, refl, arith}
+use Rattle.std.proofs.Common.{◌≡◌, ◌≢◌, ◌∙◌, ◌++◌, [], ℕ, List, Option, None, Some, Ok, Err, true, false, ap, sym, subst, refl, arith}
 use Rattle.pm_admit.specs.declared.Cac.TheVariants as decisions
 use Rattle.pm_query.specs.Calls.{User, newcomer}
 use Rattle.pm_life.specs.Life.{Child}
 use Rattle.pm_session.specs.declared.ending.Cause.{Cause}
 use Rattle.pm_session.specs.declared.ending.Cause.TheVariants.{DecisionRefused, GateRefused}
-use Rattle.pm_session.specs.Attention.{attention}
+use Rattle.pm_life.specs.Attention.{attention}
 use Rattle.pm_session.specs.Exchange.{link_view}
 use Rattle.pm_session.specs.Session.{LetsGo}
 use Rattle.pm_session.specs.Conversation.{moment}
 use Rattle.pm_session.specs.Entry.{Serves, IsTextBehind}
-use Rattle.pm_session.proofs.Attentions.{attentive_at_gate}
-use Rattle.pm_session.proofs.Sessions.{at_outside, told_away, turned_away, asked_for, asked_at_gate, met_now, met_still, served_since, lets_go_by, lets_go_anyway}
+use Rattle.pm_session.proofs.Attentions.{attentive_at_gate, cancels_at_gate, cancels_then, hears_both, untried_still}
+use Rattle.pm_session.proofs.Sessions.{at_outside, told_away, turned_away, asked_for, asked_at_gate, met_now, met_still, served_since, lets_go_by, attached_outside, attached_inside, out_untried, out_refused}
 use Rattle.pm_session.proofs.session.admit.Goals as goal
 
 pub returns-in_default : goal.returns-in_default
@@ -28,9 +28,10 @@ returns-in_default g c =
         closes.0,
         0,
         closes.2,
-        lets_go_anyway closes.0.exit _ (ap (λ (child : Child). child.attached) (closes.3.hears.child) ∙ c.requires.free),
+        attached_outside closes.0.stage _ _ closes.1 (ap (λ (child : Child). child.attached) (closes.3.hears.child) ∙ c.requires.free),
         turned_away g.S.Store.notes c.args.decision user c.args.key 0 gives DecisionRefused closes.0 l0 l2 c.args.inbox.now c.args.inbox.now c.args.store.now c.args.store.now at0 at0 at2 [] (λ e. absurd cc) (λ phase packet start. start) (λ beyond. tt) stands.0 stands.1
-            (g.met.S.Store.at_rest _) (asked_for 1 [] at0.told at2.told (omega arith) closes.3.hears.asked) closes.3 (λ limit. c.in_default.not-Ok) stands.2,
+            (g.met.S.Store.at_rest _) (asked_for 1 [] at0.told at2.told (omega arith) closes.3.hears.asked) closes.3 (λ limit. c.in_default.not-Ok) stands.2
+            (out_untried closes.0.stage DecisionRefused at2.told closes.1 (untried_still 1 at0.told at2.told closes.3.hears.asked c.requires.untried)) closes.3.hears.cancels,
       );
     }
 
@@ -50,16 +51,20 @@ returns-in-Some g c =
         closes.0,
         0,
         closes.2,
-        lets_go_anyway closes.0.exit _ (ap (λ (child : Child). child.attached) (closes.3.hears.child ∙ c.listen.ensures.child) ∙ c.requires.free),
-        told_away g.S.Store.notes c.args.decision user c.args.key 0 gives c.in-Some.cause closes.0 l0 l2 c.args.inbox.now c.args.store.now at0 at1 at2 (c.listen.ensures.stands c.requires.attentive) (sym c.ends.ensures ∙ c.in-Some.is) (g.met.S.Store.at_rest _) stands c.listen.ensures closes.3,
+        attached_outside closes.0.stage _ _ closes.1 (ap (λ (child : Child). child.attached) (closes.3.hears.child ∙ c.listen.ensures.hears.child) ∙ c.requires.free),
+        told_away g.S.Store.notes c.args.decision user c.args.key 0 gives c.in-Some.cause closes.0 l0 l2 c.args.inbox.now c.args.store.now at0 at1 at2 (c.listen.ensures.hears.stands c.requires.attentive) (sym c.ends.ensures ∙ c.in-Some.is) (g.met.S.Store.at_rest _) stands
+            (out_untried closes.0.stage c.in-Some.cause at2.told closes.1 (untried_still 2 at0.told at2.told (hears_both 1 1 at0 at1 at2 c.listen.ensures.hears closes.3.hears).asked c.requires.untried)) c.listen.ensures.hears closes.3,
       );
     }
 
+pub attach-requires-clause-once : goal.attach-requires-clause-once
+attach-requires-clause-once g c = untried_still 1 _ _ c.listen.ensures.hears.asked c.requires.untried
+
 pub attached-exit-requires-clause-attentive : goal.attached-exit-requires-clause-attentive
-attached-exit-requires-clause-attentive g c = attentive_at_gate (Ok c.in-Ok-attach.generation) (g.F.Life.told c.listen.new.life) _ (g.F.Life.child c.listen.new.life) (g.F.Life.child c.attach.new.self) c.listen.new.standing c.in-Ok-attach.ensures.told (c.listen.ensures.stands c.requires.attentive)
+attached-exit-requires-clause-attentive g c = attentive_at_gate (Ok c.in-Ok-attach.generation) (g.F.Life.told c.listen.new.life) _ (g.F.Life.child c.listen.new.life) (g.F.Life.child c.attach.new.self) c.listen.new.standing c.in-Ok-attach.ensures.told (c.listen.ensures.hears.stands c.requires.attentive)
 
 pub close-requires-in-Err-clause-attentive : goal.close-requires-in-Err-clause-attentive
-close-requires-in-Err-clause-attentive g c = attentive_at_gate (Err c.in-Err.refusal) (g.F.Life.told c.listen.new.life) _ (g.F.Life.child c.listen.new.life) (g.F.Life.child c.attach.new.self) c.listen.new.standing c.in-Err.ensures.told (c.listen.ensures.stands c.requires.attentive)
+close-requires-in-Err-clause-attentive g c = attentive_at_gate (Err c.in-Err.refusal) (g.F.Life.told c.listen.new.life) _ (g.F.Life.child c.listen.new.life) (g.F.Life.child c.attach.new.self) c.listen.new.standing c.in-Err.ensures.told (c.listen.ensures.hears.stands c.requires.attentive)
 
 pub returns-then-lets_go : goal.returns-then-lets_go
 returns-then-lets_go g c =
@@ -67,7 +72,7 @@ returns-then-lets_go g c =
     let gives = g.C.Clock.gives c.args.clock.now in
     let l0 = link_view (g.L.Link.traffic c.args.link.now) (g.L.Link.number c.args.link.now) (g.L.Link.faults c.args.link.now) in
     let at0 = attention (g.F.Life.told c.args.life.now) (g.F.Life.child c.args.life.now) c.args.standing.now in
-    let pid_is : (g.F.Life.child c.attach.new.self).pid ≡ (g.F.Life.child c.args.life.now).pid = ap (λ (child : Child). child.pid) (c.in-Ok-attach.ensures.ok) ∙ ap (λ (child : Child). child.pid) c.listen.ensures.child in
+    let pid_is : (g.F.Life.child c.attach.new.self).pid ≡ (g.F.Life.child c.args.life.now).pid = ap (λ (child : Child). child.pid) (c.in-Ok-attach.ensures.ok) ∙ ap (λ (child : Child). child.pid) c.listen.ensures.hears.child in
     let served = c.attached-exit.ensures.serves in
     let generation = c.in-Ok-attach.generation in
     let l2 = link_view (g.L.Link.traffic c.attached-exit.new.link) (g.L.Link.number c.attached-exit.new.link) (g.L.Link.faults c.attached-exit.new.link) in
@@ -82,8 +87,10 @@ returns-then-lets_go g c =
         served.0,
         generation,
         served.1,
-        lets_go_anyway served.0.exit _ (ap (λ (child : Child). child.attached) c.detach.ensures.child),
-        served_since g.S.Store.notes _ c.args.decision generation gives served.0 l0 l2 _ _ _ _ at0 at1 at2 _ (λ turns asked. asked_at_gate (Ok generation) turns at0.told (g.F.Life.told c.listen.new.life) at1.told at2.told c.listen.ensures.asked c.in-Ok-attach.ensures.told asked) c.detach.ensures.told serves,
+        attached_inside served.0.stage _ _ served.3
+            (subst (λ (exit : Cause). LetsGo exit ((g.F.Life.child c.detach.new.self).attached ≡ None) ((g.F.Life.child c.detach.new.self).attached ≡ Some generation)) (sym served.1)
+            (lets_go_by c.attached-exit.result c.lets_go.result _ _ c.lets_go.ensures (λ goes. ap (λ (child : Child). child.attached) c.detach.ensures.child) (λ stays. let e : true ≡ false = sym c.if-lets_go.true ∙ stays in absurd cc))),
+        served_since g.S.Store.notes _ c.args.decision generation gives served.0 l0 l2 _ _ _ _ at0 at1 at2 _ (λ turns asked. asked_at_gate (Ok generation) turns at0.told (g.F.Life.told c.listen.new.life) at1.told at2.told c.listen.ensures.hears.asked c.in-Ok-attach.ensures.told asked) (cancels_then at0.told (g.F.Life.told c.listen.new.life) at1.told c.listen.ensures.hears.cancels (cancels_at_gate (Ok generation) (g.F.Life.told c.listen.new.life) at1.told c.in-Ok-attach.ensures.told)) c.detach.ensures.told serves,
       );
     }
 
@@ -93,7 +100,7 @@ returns-else-lets_go g c =
     let gives = g.C.Clock.gives c.args.clock.now in
     let l0 = link_view (g.L.Link.traffic c.args.link.now) (g.L.Link.number c.args.link.now) (g.L.Link.faults c.args.link.now) in
     let at0 = attention (g.F.Life.told c.args.life.now) (g.F.Life.child c.args.life.now) c.args.standing.now in
-    let pid_is : (g.F.Life.child c.attach.new.self).pid ≡ (g.F.Life.child c.args.life.now).pid = ap (λ (child : Child). child.pid) (c.in-Ok-attach.ensures.ok) ∙ ap (λ (child : Child). child.pid) c.listen.ensures.child in
+    let pid_is : (g.F.Life.child c.attach.new.self).pid ≡ (g.F.Life.child c.args.life.now).pid = ap (λ (child : Child). child.pid) (c.in-Ok-attach.ensures.ok) ∙ ap (λ (child : Child). child.pid) c.listen.ensures.hears.child in
     let served = c.attached-exit.ensures.serves in
     let generation = c.in-Ok-attach.generation in
     let l2 = link_view (g.L.Link.traffic c.attached-exit.new.link) (g.L.Link.number c.attached-exit.new.link) (g.L.Link.faults c.attached-exit.new.link) in
@@ -108,9 +115,11 @@ returns-else-lets_go g c =
         served.0,
         generation,
         served.1,
-        subst (λ (exit : Cause). LetsGo exit ((g.F.Life.child c.attached-exit.new.life).attached ≡ None) (Unit {0})) (sym served.1)
-            (lets_go_by c.attached-exit.result c.lets_go.result _ _ c.lets_go.ensures (λ goes. let e : true ≡ false = sym goes ∙ c.if-lets_go.false in absurd cc) (λ stays. tt)),
-        served_since g.S.Store.notes _ c.args.decision generation gives served.0 l0 l2 _ _ _ _ at0 at1 at2 at2 (λ turns asked. asked_at_gate (Ok generation) turns at0.told (g.F.Life.told c.listen.new.life) at1.told at2.told c.listen.ensures.asked c.in-Ok-attach.ensures.told asked) refl serves,
+        attached_inside served.0.stage _ _ served.3
+            (subst (λ (exit : Cause). LetsGo exit ((g.F.Life.child c.attached-exit.new.life).attached ≡ None) ((g.F.Life.child c.attached-exit.new.life).attached ≡ Some generation)) (sym served.1)
+            (lets_go_by c.attached-exit.result c.lets_go.result _ _ c.lets_go.ensures (λ goes. let e : true ≡ false = sym goes ∙ c.if-lets_go.false in absurd cc)
+            (λ stays. ap (λ (child : Child). child.attached) (c.attached-exit.ensures.child ∙ c.in-Ok-attach.ensures.ok)))),
+        served_since g.S.Store.notes _ c.args.decision generation gives served.0 l0 l2 _ _ _ _ at0 at1 at2 at2 (λ turns asked. asked_at_gate (Ok generation) turns at0.told (g.F.Life.told c.listen.new.life) at1.told at2.told c.listen.ensures.hears.asked c.in-Ok-attach.ensures.told asked) (cancels_then at0.told (g.F.Life.told c.listen.new.life) at1.told c.listen.ensures.hears.cancels (cancels_at_gate (Ok generation) (g.F.Life.told c.listen.new.life) at1.told c.in-Ok-attach.ensures.told)) refl serves,
       );
     }
 
@@ -131,10 +140,11 @@ returns-in-Err g c =
         closes.0,
         0,
         closes.2,
-        lets_go_anyway closes.0.exit _ (ap (λ (child : Child). child.attached) (closes.3.hears.child ∙ c.in-Err.ensures.refused ∙ c.listen.ensures.child) ∙ c.requires.free),
+        attached_outside closes.0.stage _ _ closes.1 (ap (λ (child : Child). child.attached) (closes.3.hears.child ∙ c.in-Err.ensures.refused ∙ c.listen.ensures.hears.child) ∙ c.requires.free),
         turned_away g.S.Store.notes c.args.decision user c.args.key 0 gives (GateRefused c.in-Err.refusal) closes.0 l0 l2 c.args.inbox.now c.args.inbox.now c.args.store.now c.args.store.now at0 at1 at2 [] (λ e. absurd cc) (λ phase packet start. start) (λ beyond. tt) stands.0 stands.1
             (g.met.S.Store.at_rest _)
-            (asked_at_gate (Err c.in-Err.refusal) [] at0.told (g.F.Life.told c.listen.new.life) at1.told at2.told c.listen.ensures.asked c.in-Err.ensures.told (asked_for 1 [] at1.told at2.told (omega arith) closes.3.hears.asked)) closes.3
-            (λ limit. (c.in-Ok.is, met)) stands.2,
+            (asked_at_gate (Err c.in-Err.refusal) [] at0.told (g.F.Life.told c.listen.new.life) at1.told at2.told c.listen.ensures.hears.asked c.in-Err.ensures.told (asked_for 1 [] at1.told at2.told (omega arith) closes.3.hears.asked)) closes.3
+            (λ limit. (c.in-Ok.is, met)) stands.2 (out_refused closes.0.stage c.in-Err.refusal at2.told closes.1 met)
+            (cancels_then at0.told at1.told at2.told (cancels_then at0.told (g.F.Life.told c.listen.new.life) at1.told c.listen.ensures.hears.cancels (cancels_at_gate (Err c.in-Err.refusal) (g.F.Life.told c.listen.new.life) at1.told c.in-Err.ensures.told)) closes.3.hears.cancels),
       );
     }

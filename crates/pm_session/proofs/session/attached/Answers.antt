@@ -4,13 +4,14 @@ use Rattle.pm_query.specs.declared.book.BookEntry.TheVariants.{Attached}
 use Rattle.pm_query.specs.Calls.{User, user_of, newcomer, LeaveNotes}
 use Rattle.pm_life.specs.Life.{Child}
 use Rattle.pm_session.specs.declared.ending.Cause.{Cause}
-use Rattle.pm_session.specs.Attention.{attention}
+use Rattle.pm_session.specs.declared.ending.Stage.TheVariants.{Entering}
+use Rattle.pm_life.specs.Attention.{attention}
 use Rattle.pm_session.specs.Exchange.{link_view}
-use Rattle.pm_session.specs.Session.{Leaves}
+use Rattle.pm_session.specs.Session.{Leaves, IsInside}
 use Rattle.pm_session.specs.Conversation.{moment}
 use Rattle.pm_session.specs.Entry.{outside, Closes, Serves, IsTextInside, refusal_cause}
 use Rattle.pm_session.proofs.Attentions.{hears_both}
-use Rattle.pm_session.proofs.Sessions.{at_entering, told_away, turned_away, refused_notes, refusal_fails, refusal_stops, refusal_over, refusal_caused, met_still, asked_for, user_is, served_left, lets_go_by}
+use Rattle.pm_session.proofs.Sessions.{enter_can, at_entering, told_away, turned_away, refused_notes, refusal_fails, refusal_stops, refusal_over, refusal_caused, met_still, asked_for, user_is, served_left, lets_go_by, inside_at, out_inside}
 use Rattle.pm_session.proofs.session.attached.Goals as goal
 
 pub returns-in-Some-clause-serves : goal.returns-in-Some-clause-serves
@@ -23,13 +24,18 @@ returns-in-Some-clause-serves g c =
     let l2 = link_view (g.L.Link.traffic c.close.new.link) (g.L.Link.number c.close.new.link) (g.L.Link.faults c.close.new.link) in
     let at2 = attention (g.F.Life.told c.close.new.life) (g.F.Life.child c.close.new.life) c.close.new.standing in
     let closes = c.close.ensures.closes in
-    let hears = hears_both 1 1 at0 at1 at2 c.listen.ensures closes.3.hears in
+    let inside : IsInside closes.0.stage = inside_at closes.0.stage Entering closes.1 tt in
+    let hears = hears_both 1 1 at0 at1 at2 c.listen.ensures.hears closes.3.hears in
     let stands = at_entering c.args.decision user closes.0 c.args.generation at2.told closes.1 c.requires.admitted (met_still 2 (Ok c.args.generation) at0.told at2.told hears.asked c.requires.met) in (
       closes.0,
       closes.2,
-      told_away g.S.Store.notes c.args.decision user c.args.key c.args.generation gives c.in-Some.cause closes.0 l0 l2 c.args.inbox.now c.args.store.now at0 at1 at2 (c.listen.ensures.stands c.requires.attentive)
-          (sym c.ends.ensures ∙ c.in-Some.is) (g.met.S.Store.at_rest _) stands c.listen.ensures closes.3,
+      told_away g.S.Store.notes c.args.decision user c.args.key c.args.generation gives c.in-Some.cause closes.0 l0 l2 c.args.inbox.now c.args.store.now at0 at1 at2 (c.listen.ensures.hears.stands c.requires.attentive)
+          (sym c.ends.ensures ∙ c.in-Some.is) (g.met.S.Store.at_rest _) stands (out_inside closes.0.stage c.in-Some.cause at2.told inside) c.listen.ensures.hears closes.3,
+      inside,
     )
+
+pub refusal_cause-cause-requires : goal.refusal_cause-cause-requires
+refusal_cause-cause-requires g c = enter_can g.row.S-Pass.Denot (newcomer (g.S.Store.stamp c.args.store.now) c.pid-pid.result c.args.generation) c.in-Err.no c.in-Err.ensures.notes.0 c.in-Err.ensures.notes.2
 
 pub returns-in-Err-clause-serves : goal.returns-in-Err-clause-serves
 returns-in-Err-clause-serves g c =
@@ -41,7 +47,8 @@ returns-in-Err-clause-serves g c =
     let l2 = link_view (g.L.Link.traffic c.close-in-Err.new.link) (g.L.Link.number c.close-in-Err.new.link) (g.L.Link.faults c.close-in-Err.new.link) in
     let at2 = attention (g.F.Life.told c.close-in-Err.new.life) (g.F.Life.child c.close-in-Err.new.life) c.close-in-Err.new.standing in
     let closes = c.close-in-Err.ensures.closes in
-    let hears = hears_both 1 1 at0 at1 at2 c.listen.ensures closes.3.hears in
+    let inside : IsInside closes.0.stage = inside_at closes.0.stage Entering closes.1 tt in
+    let hears = hears_both 1 1 at0 at1 at2 c.listen.ensures.hears closes.3.hears in
     let stands = at_entering c.args.decision user closes.0 c.args.generation at2.told closes.1 c.requires.admitted (met_still 2 (Ok c.args.generation) at0.told at2.told hears.asked c.requires.met) in
     let rests : g.S.Store.notes [] c.args.store.now c.enter.new.self =
     subst (λ (entries : List BookEntry). g.S.Store.notes entries c.args.store.now c.enter.new.self) (refused_notes g.row.S-Pass.Denot (newcomer (g.S.Store.stamp c.args.store.now) c.pid-pid.result c.args.generation) c.in-Err.no _ c.in-Err.ensures.notes.2) c.in-Err.ensures.notes.1 in
@@ -51,7 +58,8 @@ returns-in-Err-clause-serves g c =
       closes.2,
       turned_away g.S.Store.notes c.args.decision user c.args.key c.args.generation gives (refusal_cause c.in-Err.no) closes.0 l0 l2 c.args.inbox.now c.args.inbox.now c.args.store.now c.enter.new.self at0 at1 at2 []
           (refusal_fails c.in-Err.no) (refusal_stops g.row.S-Pass.Denot user c.pid-pid.result c.in-Err.no _ closes.0.stage closes.1 c.in-Err.ensures.notes.2) (refusal_over c.in-Err.no) stands.0 stands.1 rests (asked_for 2 [] at0.told at2.told (omega arith) hears.asked) closed
-          (λ limit. refusal_caused c.in-Err.no c.args.decision _ _ _ limit gives) stands.2,
+          (λ limit. refusal_caused c.in-Err.no c.args.decision _ _ _ limit gives) stands.2 (out_inside closes.0.stage (refusal_cause c.in-Err.no) at2.told inside) hears.cancels,
+      inside,
     )
 
 pub returns-then-lets_go-clause-serves : goal.returns-then-lets_go-clause-serves
@@ -63,8 +71,8 @@ returns-then-lets_go-clause-serves g c =
     let at1 = attention (g.F.Life.told c.listen.new.life) (g.F.Life.child c.listen.new.life) c.listen.new.standing in
     let same : user_of (g.S.Store.stamp c.enter.new.self) (g.S.Store.view c.in-Ok.pass) ≡ user =
     user_is (g.S.Store.stamp c.args.store.now) (g.S.Store.stamp c.enter.new.self) (g.S.Store.view c.in-Ok.pass) c.pid-pid.result (g.F.Life.child c.args.life.now).pid c.args.generation c.in-Ok.ensures.view
-    (c.pid-pid.ensures ∙ ap (λ (child : Child). child.pid) c.listen.ensures.child) (g.met.S.Store.stays _ _ _ c.in-Ok.ensures.notes.1) in
-    let pid_is : c.pid-pid.result ≡ user.pid = c.pid-pid.ensures ∙ ap (λ (child : Child). child.pid) c.listen.ensures.child in
+    (c.pid-pid.ensures ∙ ap (λ (child : Child). child.pid) c.listen.ensures.hears.child) (g.met.S.Store.stays _ _ _ c.in-Ok.ensures.notes.1) in
+    let pid_is : c.pid-pid.result ≡ user.pid = c.pid-pid.ensures ∙ ap (λ (child : Child). child.pid) c.listen.ensures.hears.child in
     let entered : g.S.Store.notes (Attached user.pid user.generation ∷ []) c.args.store.now c.enter.new.self =
     subst (λ (entries : List BookEntry). g.S.Store.notes entries c.args.store.now c.enter.new.self) (c.in-Ok.ensures.notes.2 ∙ ap (λ (p : ℕ). Attached p c.args.generation ∷ []) pid_is) c.in-Ok.ensures.notes.1 in
     let served = c.entered-exit.ensures.serves in
@@ -73,14 +81,15 @@ returns-then-lets_go-clause-serves g c =
     let serves : Serves g.S.Store.notes (IsTextInside c.args.decision user c.args.key) c.args.decision user.generation gives served.0 (moment l0 c.args.inbox.now c.enter.new.self at1) (moment l2 c.entered-exit.new.inbox c.entered-exit.new.store at2) =
     subst (λ (u : User). Serves g.S.Store.notes (IsTextInside c.args.decision u c.args.key) c.args.decision u.generation gives served.0 (moment l0 c.args.inbox.now c.enter.new.self at1) (moment l2 c.entered-exit.new.inbox c.entered-exit.new.store at2))
     same served.2 in
-    let left = c.leave.ensures in
+    let left = c.leave.ensures.notes in
     let leaves : Leaves user served.0.exit left.0 =
     subst (λ (exit : Cause). Leaves user exit left.0) (sym served.1)
     (lets_go_by c.entered-exit.result c.lets_go.result _ _ c.lets_go.ensures (λ goes. subst (λ (u : User). LeaveNotes u left.0) (c.entered-exit.ensures.user ∙ same) left.2)
     (λ stays. let e : true ≡ false = sym c.if-lets_go.true ∙ stays in absurd cc)) in (
       served.0,
       served.1,
-      served_left g.S.Store.notes c.args.decision user c.args.key gives served.0 l0 l2 _ _ _ _ _ _ at0 at1 at2 left.0 g.met.S.Store.in_turn entered serves left.1 leaves c.listen.ensures,
+      served_left g.S.Store.notes c.args.decision user c.args.key gives served.0 l0 l2 _ _ _ _ _ _ at0 at1 at2 left.0 g.met.S.Store.in_turn entered serves left.1 leaves c.listen.ensures.hears,
+      served.3,
     )
 
 pub returns-else-lets_go-clause-serves : goal.returns-else-lets_go-clause-serves
@@ -92,8 +101,8 @@ returns-else-lets_go-clause-serves g c =
     let at1 = attention (g.F.Life.told c.listen.new.life) (g.F.Life.child c.listen.new.life) c.listen.new.standing in
     let same : user_of (g.S.Store.stamp c.enter.new.self) (g.S.Store.view c.in-Ok.pass) ≡ user =
     user_is (g.S.Store.stamp c.args.store.now) (g.S.Store.stamp c.enter.new.self) (g.S.Store.view c.in-Ok.pass) c.pid-pid.result (g.F.Life.child c.args.life.now).pid c.args.generation c.in-Ok.ensures.view
-    (c.pid-pid.ensures ∙ ap (λ (child : Child). child.pid) c.listen.ensures.child) (g.met.S.Store.stays _ _ _ c.in-Ok.ensures.notes.1) in
-    let pid_is : c.pid-pid.result ≡ user.pid = c.pid-pid.ensures ∙ ap (λ (child : Child). child.pid) c.listen.ensures.child in
+    (c.pid-pid.ensures ∙ ap (λ (child : Child). child.pid) c.listen.ensures.hears.child) (g.met.S.Store.stays _ _ _ c.in-Ok.ensures.notes.1) in
+    let pid_is : c.pid-pid.result ≡ user.pid = c.pid-pid.ensures ∙ ap (λ (child : Child). child.pid) c.listen.ensures.hears.child in
     let entered : g.S.Store.notes (Attached user.pid user.generation ∷ []) c.args.store.now c.enter.new.self =
     subst (λ (entries : List BookEntry). g.S.Store.notes entries c.args.store.now c.enter.new.self) (c.in-Ok.ensures.notes.2 ∙ ap (λ (p : ℕ). Attached p c.args.generation ∷ []) pid_is) c.in-Ok.ensures.notes.1 in
     let served = c.entered-exit.ensures.serves in
@@ -107,5 +116,6 @@ returns-else-lets_go-clause-serves g c =
     (lets_go_by c.entered-exit.result c.lets_go.result _ _ c.lets_go.ensures (λ goes. let e : true ≡ false = sym goes ∙ c.if-lets_go.false in absurd cc) (λ stays. refl)) in (
       served.0,
       served.1,
-      served_left g.S.Store.notes c.args.decision user c.args.key gives served.0 l0 l2 _ _ _ _ _ _ at0 at1 at2 [] g.met.S.Store.in_turn entered serves (g.met.S.Store.at_rest _) leaves c.listen.ensures,
+      served_left g.S.Store.notes c.args.decision user c.args.key gives served.0 l0 l2 _ _ _ _ _ _ at0 at1 at2 [] g.met.S.Store.in_turn entered serves (g.met.S.Store.at_rest _) leaves c.listen.ensures.hears,
+      served.3,
     )

@@ -1,10 +1,11 @@
 use Rattle.std.proofs.Common.{◌≡◌, ◌∙◌, ℕ, List, ap, sym, subst, Ok, Err}
 use Rattle.pm_query.specs.Calls.{User, user_of}
+use Rattle.pm_session.specs.declared.ending.Stage.TheVariants.{Greeted}
 use Rattle.pm_session.specs.Sent.{bytes_of, greeting}
-use Rattle.pm_session.specs.Attention.{attention}
+use Rattle.pm_life.specs.Attention.{attention}
 use Rattle.pm_session.specs.Exchange.{link_view, Sends}
 use Rattle.pm_session.specs.Conversation.{moment}
-use Rattle.pm_session.proofs.Sessions.{Talked, talked_on, talked_cut, served_inside}
+use Rattle.pm_session.proofs.Sessions.{Talked, talked_on, talked_cut, served_inside, inside_at}
 use Rattle.pm_session.proofs.session.entered.Goals as goal
 use Rattle.pm_session.proofs.session.entered.Goals.{in-Ok, in-Err}
 
@@ -28,4 +29,5 @@ returns-clause-serves g c =
       closes.0,
       closes.2,
       served_inside g.S.Store.notes c.args.decision user c.args.key (g.C.Clock.gives c.args.clock.now) c.match-send.cause closes.0 l0 l2 _ _ _ _ _ _ at2 _ c.requires.admitted c.requires.met talked closes.1 closes.3,
+      inside_at closes.0.stage Greeted closes.1 tt,
     )

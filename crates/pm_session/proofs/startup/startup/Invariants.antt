@@ -1,4 +1,4 @@
-use Rattle.pm_session.specs.Attention.{attention}
+use Rattle.pm_life.specs.Attention.{attention}
 use Rattle.pm_session.specs.Exchange.{link_view}
 use Rattle.pm_session.specs.Entry.{Asked, outside}
 use Rattle.pm_session.proofs.startup.startup.Given as goal

@@ -1,0 +1,8 @@
+use Rattle.pm_life.proofs.Taken.{listened, attentive_now}
+use Rattle.pm_life.proofs.standing.listen.Goals as goal
+
+pub returns-clause-hears : goal.returns-clause-hears
+returns-clause-hears g c = rw c.with.ensures (listened c.signals.result _ _ _ _ c.args.standing.now c.signals.ensures.told c.signals.ensures.child)
+
+pub returns-clause-attentive : goal.returns-clause-attentive
+returns-clause-attentive g c = rw (c.with.ensures, c.signals.ensures.told) (attentive_now c.signals.result (g.F.Life.told c.args.life.now) (g.F.Life.child c.args.life.now) (g.F.Life.child c.signals.new.self) c.args.standing.now c.requires)

@@ -1,0 +1,51 @@
+-- How a session heeds its signals from query to query, and what it reads a query as.
+use Rattle.std.specs.Prelude.{◌≡◌, ◌≤◌, ℕ, List, [], ◌∷◌, Option, None, Some}
+use Rattle.std.specs.List.{Contains}
+use Rattle.std.specs.Str.{IsUtf8}
+use Rattle.pm_sql.specs.declared.stmt.Stmt.{Stmt}
+use Rattle.pm_sql.specs.Statements.{IsQueryText}
+use Rattle.pm_life.specs.Life.{Told, Signal, Kill, Quit, Terminate, Cancel, Checkpoint, next_ask}
+use Rattle.pm_life.specs.Attention.{IsBy}
+use Rattle.pm_session.specs.Sent.{Turn, NotUtf8, Cancelled}
+
+-- ---- signals
+
+-- a signal behind which a session comes to its end
+abbrev pub IsEnding : Signal → Type 0
+IsEnding Kill = Unit {0}
+IsEnding (Quit reason) = Unit {0}
+IsEnding Terminate = Unit {0}
+IsEnding Cancel = ⊥
+IsEnding Checkpoint = ⊥
+
+-- A turn began behind one ask and was over behind another. Up to its beginning nothing was given that ends the session, and
+-- a cancelled one was given its cancel at an ask of its own.
+pub record TurnHeeds (turn : Turn) (from began over : ℕ) (given : List (ℕ × Signal)) : Type 0 where
+  pub later : next_ask from ≤ began
+  pub order : IsBy began over
+  pub unended : (ask : ℕ) (signal : Signal) → IsEnding signal → Contains given (ask, signal) → next_ask began ≤ ask
+  pub cancelled : turn ≡ Cancelled → (ask : ℕ) × Contains given (ask, Cancel) × (next_ask began ≤ ask) × IsBy ask over
+
+-- the turns one behind the other, each between asks of its own, of the signals that were given at these asks
+abbrev pub TurnsHeed : (from : ℕ) → List Turn → (to : ℕ) → List (ℕ × Signal) → Type 0
+TurnsHeed from [] to given = IsBy from to
+TurnsHeed from (turn ∷ turns) to given = (began : ℕ) × (over : ℕ) × TurnHeeds turn from began over given × TurnsHeed over turns to given
+
+-- the same between two moments of a child that tells
+abbrev pub HeedInTurn : List Turn → (before now : Option Told) → Type 0
+HeedInTurn turns None now = Unit {0}
+HeedInTurn turns (Some before) None = ⊥
+HeedInTurn turns (Some before) (Some now) = TurnsHeed before.asked turns now.asked now.given
+
+-- ---- texts
+
+-- Only bytes that are UTF-8 are looked at further, and only a script is cancelled.
+abbrev pub IsReadAs : List ℕ → Turn → Type 0
+IsReadAs text NotUtf8 = Unit {0}
+IsReadAs text Cancelled = IsUtf8 text × ((script : List Stmt) × IsQueryText text script)
+IsReadAs text _ = IsUtf8 text
+
+abbrev pub AllRead : List (List ℕ) → List Turn → Type 0
+AllRead [] turns = Unit {0}
+AllRead (text ∷ texts) [] = Unit {0}
+AllRead (text ∷ texts) (turn ∷ turns) = IsReadAs text turn × AllRead texts turns
