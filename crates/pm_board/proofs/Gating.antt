@@ -19,6 +19,8 @@ use Rattle.pm_supervisor.specs.Children.{Child, is_session, is_startup_child, is
 use Rattle.pm_supervisor.specs.Shared as shared
 use Rattle.pm_life.specs.declared.life.GateNo.{GateNo}
 use Rattle.pm_life.specs.declared.life.GateNo.TheVariants as gate_no
+use Rattle.pm_board.specs.Slots.{child_slots}
+use Rattle.pm_board.specs.declared.views.Letter as Letter
 use Rattle.pm_board.specs.declared.views.Offer.{Offer}
 use Rattle.pm_board.specs.declared.views.PastChild.{PastChild}
 use Rattle.pm_board.specs.declared.views.PostNotes.{PostNotes}
@@ -45,7 +47,7 @@ use Rattle.pm_board.proofs.Bits.{bit_small, packed_small}
 use Rattle.pm_board.proofs.Moves.{rebased, worker_step, word_step, word_turn, St}
 use Rattle.pm_board.proofs.Gates.{sum_zero, uncounted_by, gate_moves, once_still}
 use Rattle.pm_board.proofs.Counts.{sum_within, notice_small, place_is, up_to_more, none_lost, attached_within, count_moves, Reads, reads}
-use Rattle.pm_board.proofs.Latches.{at_last, noticed_now, quit_is_no_release, ready_is_no_release, reset_is_no_release, hears_met, cancels_stay, latch_here, latches_still, latches_turn}
+use Rattle.pm_board.proofs.Latches.{at_last, noticed_now, quit_is_no_release, ready_is_no_release, reset_is_no_release, hears_met, latch_here, latches_still, latches_turn}
 use Rattle.pm_board.proofs.Seats.{seats_step, seats_still}
 use Rattle.pm_board.proofs.Histories.{kept, same_history, quiet}
 use Rattle.pm_board.proofs.Passes.{is_false, lives, passes, shown_attached, quit_history, ready_history, reset_history}
@@ -93,82 +95,104 @@ shut_of : (b : Bool) (S S' : ℕ) (t o is_open : Bool) → S' ≡ S + bit t → 
 shut_of true S S' t o is_open grows same shut opens e closed = let no_ : true ≡ false = sym (opens e) ∙ (same ∙ closed) in absurd (cc)
 shut_of false S S' t o is_open grows same shut opens e closed = let z : S ≡ 0 = shut closed in let y : bit t ≡ 0 = ap bit e in omega arith
 
-module _ {J D : Type 0} (told : J → D) where
+module _ {J D : Type 0} (letter : Letter.Ghosts J D) where
   module _ (limit : ℕ) where
     -- what the gate's word tells whoever meets it
-    read : (s : St told) (r : Kept told limit s) → Reads (length s.homes) (get_or s.words (length s.homes) 0) (gate_of r.1) r.2
-    read s r = reads limit (length s.homes) (get_or s.words (length s.homes) 0) (gate_of r.1) r.2 r.4 (λ k l. (r.3.each_slot k l).does)
+    read : (s : St letter) (r : Kept letter limit s) → Reads (child_slots (length s.homes)) (get_or s.words (child_slots (length s.homes)) 0) (gate_of r.1) r.2
+    read s r = reads limit (child_slots (length s.homes)) (get_or s.words (child_slots (length s.homes)) 0) (gate_of r.1) r.2 r.4 (λ k l. (r.3.each_slot k l).does)
+
+    -- Whom the gate's word lets in, attaches in its own generation, and may do so in what the board shows
+    pub lets_in : (s : St letter) (r : Kept letter limit s) (id k : ℕ) (w : PostView D) (o : Offer D) (h : ℕ) → get_elem? s.views id ≡ some (Worker k w) → w.work ≡ Active o → is_dead_end o.kind ≡ false
+        → gate_answer o.kind w.notes.session_limit (get_or s.words (child_slots (length s.homes)) 0) ≡ Ok h → (h ≡ o.generation) × shared.Allows limit r.5.1 (shared.Attach o.pid)
+        × ((master : ℕ) (d : RosterView D) → get_elem? s.views master ≡ some (Postmaster d) → (d.noticed ≡ None) × (d.generation ≡ h) × (is_session o.kind ≡ true → d.is_open ≡ true))
+    lets_in s r id k w o h at does lives_ answer =
+        let word : ℕ = get_or s.words (child_slots (length s.homes)) 0 in let mine = owned letter limit s r.0 r.1 r.2 r.3 id k w at in let it = read s r in
+        let e = does_act (r.2 k).phase o (subst (Does (r.2 k).phase) does mine.1.does) in
+        let lim : w.notes.session_limit ≡ limit = (subst (InGeneration limit r.1.generation) mine.2 (r.4.current k)).limit_is in
+        let may = let_in (is_session o.kind) w.notes.session_limit word (notice_in word) h answer in
+        let now_is : o.generation ≡ r.1.generation = (placed_as letter limit _ _ _ _ (running o true) e (r.3.each_child k mine.0)).0 in
+        let N : ℕ = sum_below (child_slots (length s.homes)) (λ j. counted is_session r.1.generation (r.2 j).post) in
+        let met : sessions_in word ≡ N = it.sessions_found ∙ it.sessions_is in
+        let st = r.5 in let known = lives letter limit s r.0 r.1 r.2 r.3 st k mine.0 o true (Active o) e (ap (λ (z : PostView D). z.work) mine.2 ∙ does) in
+        let attached_few : attached_sessions st.1.children ≤ sum_below (child_slots (length s.homes)) (λ j. attached is_session (r.2 j).post.work) = shown_attached (child_slots (length s.homes)) r.1 r.2 st.1 st.3 (λ j l. (r.3.each_slot j l).does) in
+        let attached_in : sum_below (child_slots (length s.homes)) (λ j. attached is_session (r.2 j).post.work) ≤ N = sum_within (child_slots (length s.homes)) (λ j. attached is_session (r.2 j).post.work) (λ j. counted is_session r.1.generation (r.2 j).post)
+        (λ j. let z : attached is_session (r.2 j).post.work ≤ at_gate is_session (r.2 j).post.work = attached_within is_session (r.2 j).post.work in let l : ℕ = lost is_session r.1.generation (r.2 j).post.past in omega arith) in (
+          may.1 ∙ (it.generation_found ∙ sym now_is),
+          subst (λ z. IsSomeAnd z (shared.MayAttach limit st.1)) (sym known.0) (refl, lives_, st.3.noticed ∙ (sym it.notice_found ∙ may.0), λ is. let m = may.2 is in let room : sessions_in word < w.notes.session_limit = m.1 in (st.3.is_open ∙ (sym it.open_found ∙ m.0), omega arith)),
+          λ master d has. let same = (r.3.each_seat master (Postmaster d) has).1 in
+              (ap (λ (z : RosterView D). z.noticed) same ∙ (sym it.notice_found ∙ may.0), ap (λ (z : RosterView D). z.generation) same ∙ (sym it.generation_found ∙ sym may.1), λ is. ap (λ (z : RosterView D). z.is_open) same ∙ (sym it.open_found ∙ (may.2 is).0)),
+        )
 
     -- a worker marks its slot as active
     pub marks : (n id k : ℕ) (o : Offer D) (notes : PostNotes) (past : List (PastChild D)) (c : List (ℕ × Option J))
-        → Allows (Kept told limit) n id (Worker k (post_view notes past (Inactive o)), c) k (λ x. (x + 8) % 2 ^ 64) (Marks (step n k 8 0 none) (Worker k (post_view notes past (Inactive o)), c))
-    marks n id k o notes past c s r wide at _ = let w : PostView D = post_view notes past (Inactive o) in let w' : PostView D = post_view notes past (Active o) in let mine = owned told limit s r.0 r.1 r.2 r.3 id k w at in let word : ℕ = get_or s.words k 0 in
-        let past_is = ap (λ (z : PostView D). z.past) mine.2 in let e = does_run _ o mine.1.does in let ok = at_phase told limit _ _ _ _ _ e mine.1 in let shows : word ≡ child_word 2 o (Code 0) false = ok.shows in let low : o.pid < 2147483648 = ok.fits in
+        → Allows (Kept letter limit) n id (Worker k (post_view notes past (Inactive o)), c) k (λ x. (x + 8) % 2 ^ 64) (Marks (step n k 8 0 none) (Worker k (post_view notes past (Inactive o)), c))
+    marks n id k o notes past c s r wide at _ = let w : PostView D = post_view notes past (Inactive o) in let w' : PostView D = post_view notes past (Active o) in let mine = owned letter limit s r.0 r.1 r.2 r.3 id k w at in let word : ℕ = get_or s.words k 0 in
+        let past_is = ap (λ (z : PostView D). z.past) mine.2 in let e = does_run _ o mine.1.does in let ok = at_phase letter limit _ _ _ _ _ e mine.1 in let shows : word ≡ child_word 2 o (Code 0) false = ok.shows in let low : o.pid < 2147483648 = ok.fits in
         let room : child_word 2 o (Code 0) false + 65536 < 18446744073709551616 = packed_small _ (fits_for 2 o (Code 0) false (omega arith) low (omega arith)) in (
           Worker k w',
           keeps,
           tt,
-          kept told limit _ _ _ _ _ (worker_step told s id k k ((word + 8) % 2 ^ 64) s.homes mine.0 refl refl (λ _ _. refl) r.0 r.1 r.2 r.3 w w' (running o true) at
+          kept letter limit _ _ _ _ _ (worker_step letter s id k k ((word + 8) % 2 ^ 64) s.homes mine.0 refl refl (λ _ _. refl) r.0 r.1 r.2 r.3 w w' (running o true) at
               record { shows = grown word 8 (child_word 2 o (Code 0) true) (omega arith) (omega arith); fits = low; seen = ok.seen; does = (refl, refl); lists = ok.lists; there = ok.there; there_is = ok.there_is; mail = tt }
-              (placed_as told limit _ _ _ _ (running o false) e (r.3.each_child k mine.0))) refl
+              (placed_as letter limit _ _ _ _ (running o false) e (r.3.each_child k mine.0))) refl
               (gate_moves limit _ k _ s.words (gate_of r.1) r.2 _ w mine.0 mine.2 (uncounted_by _ _ _ _ _ _ _ refl refl refl) (once_still _ (r.2 k) (running o true) _ w' (sym past_is) (λ P z. subst (OfLiving P) e z) (r.4.once k)) r.4)
-              (quiet limit r.1 r.1 r.2 (length s.homes) k _ (running o false) (Inactive o) refl refl refl refl (λ _ z. z) mine.0 e (ap (λ (z : PostView D). z.work) mine.2) (sym (ap (λ (z : PostView D). z.notes.steps) mine.2)) (sym past_is) refl (λ _ z. z) r.5)
-              (let l = latch_here _ _ _ _ (r.2 k) (running o false) w e mine.2 (r.6.each k mine.0) in let near : k < length s.homes = mine.0 in latches_still _ k k _ s.words r.1 _ r.2 _ (omega arith, omega arith) (λ p. cancels_stay p (r.2 k).post w mine.2) refl refl refl refl record { armed = l.armed; fits = l.fits; standing = l.standing; cancel_is = l.cancel_is; now = l.now; past = l.past; unreleased = l.unreleased; named = l.named; keyed = l.keyed } r.6) (seats_step id k s.views r.1 r.2 _ _ _ at (r.3.each_seat id _ at) r.7),
+              (quiet limit r.1 r.1 r.2 (child_slots (length s.homes)) k _ (running o false) (Inactive o) refl refl refl refl (λ _ z. z) mine.0 e (ap (λ (z : PostView D). z.work) mine.2) (sym (ap (λ (z : PostView D). z.notes.steps) mine.2)) (sym past_is) refl (λ _ z. z) r.5)
+              (let l = latch_here _ _ _ _ _ (r.2 k) (running o false) w e mine.2 (r.6.each k mine.0) in let near : k < child_slots (length s.homes) = mine.0 in latches_still _ k k _ s.words r.1 _ r.2 _ (omega arith, omega arith) (ap (λ (z : PostView D). z.notes.cancels) (sym mine.2)) refl refl refl refl record { armed = l.armed; fits = l.fits; standing = l.standing; cancel_is = l.cancel_is; now = l.now; past = l.past; unreleased = l.unreleased; named = l.named; keyed = l.keyed; reaches = l.reaches; calls = l.calls } r.6) (seats_step id k s.views r.1 r.2 _ _ _ at (r.3.each_seat id _ at) r.7),
           λ o' is. let same : Inactive o ≡ Inactive o' = is in let oe : o ≡ o' = cc in λ i. (Worker k (post_view notes past (Active (oe i))), c),
         )
 
     -- and as no longer active
     pub unmarks : (n id k : ℕ) (o : Offer D) (notes : PostNotes) (past : List (PastChild D)) (c : List (ℕ × Option J))
-        → Allows (Kept told limit) n id (Worker k (post_view notes past (Active o)), c) k (λ x. (x + (2 ^ 64 - 8)) % 2 ^ 64) (Unmarks (step n k 8 0 none) (Worker k (post_view notes past (Active o)), c))
-    unmarks n id k o notes past c s r wide at full = let w : PostView D = post_view notes past (Active o) in let w' : PostView D = post_view notes past (Inactive o) in let mine = owned told limit s r.0 r.1 r.2 r.3 id k w at in let word : ℕ = get_or s.words k 0 in
-        let past_is = ap (λ (z : PostView D). z.past) mine.2 in let e = does_act _ o mine.1.does in let ok = at_phase told limit _ _ _ _ _ e mine.1 in let shows : word ≡ child_word 2 o (Code 0) true = ok.shows in (
+        → Allows (Kept letter limit) n id (Worker k (post_view notes past (Active o)), c) k (λ x. (x + (2 ^ 64 - 8)) % 2 ^ 64) (Unmarks (step n k 8 0 none) (Worker k (post_view notes past (Active o)), c))
+    unmarks n id k o notes past c s r wide at full = let w : PostView D = post_view notes past (Active o) in let w' : PostView D = post_view notes past (Inactive o) in let mine = owned letter limit s r.0 r.1 r.2 r.3 id k w at in let word : ℕ = get_or s.words k 0 in
+        let past_is = ap (λ (z : PostView D). z.past) mine.2 in let e = does_act _ o mine.1.does in let ok = at_phase letter limit _ _ _ _ _ e mine.1 in let shows : word ≡ child_word 2 o (Code 0) true = ok.shows in (
           Worker k w',
           keeps,
           tt,
-          kept told limit _ _ _ _ _ (worker_step told s id k k ((word + (2 ^ 64 - 8)) % 2 ^ 64) s.homes mine.0 refl refl (λ _ _. refl) r.0 r.1 r.2 r.3 w w' (running o false) at
+          kept letter limit _ _ _ _ _ (worker_step letter s id k k ((word + (2 ^ 64 - 8)) % 2 ^ 64) s.homes mine.0 refl refl (λ _ _. refl) r.0 r.1 r.2 r.3 w w' (running o false) at
               record { shows = less word 8 (child_word 2 o (Code 0) false) (omega arith) (omega arith) full; fits = ok.fits; seen = ok.seen; does = (refl, refl); lists = ok.lists; there = ok.there; there_is = ok.there_is; mail = tt }
-              (placed_as told limit _ _ _ _ (running o true) e (r.3.each_child k mine.0))) refl
+              (placed_as letter limit _ _ _ _ (running o true) e (r.3.each_child k mine.0))) refl
               (gate_moves limit _ k _ s.words (gate_of r.1) r.2 _ w mine.0 mine.2 (uncounted_by _ _ _ _ _ _ _ refl refl refl) (once_still _ (r.2 k) (running o false) _ w' (sym past_is) (λ P z. subst (OfLiving P) e z) (r.4.once k)) r.4)
-              (quiet limit r.1 r.1 r.2 (length s.homes) k _ (running o true) (Active o) refl refl refl refl (λ _ z. z) mine.0 e (ap (λ (z : PostView D). z.work) mine.2) (sym (ap (λ (z : PostView D). z.notes.steps) mine.2)) (sym past_is) refl (λ _ z. z) r.5)
-              (let l = latch_here _ _ _ _ (r.2 k) (running o true) w e mine.2 (r.6.each k mine.0) in let near : k < length s.homes = mine.0 in latches_still _ k k _ s.words r.1 _ r.2 _ (omega arith, omega arith) (λ p. cancels_stay p (r.2 k).post w mine.2) refl refl refl refl record { armed = l.armed; fits = l.fits; standing = l.standing; cancel_is = l.cancel_is; now = l.now; past = l.past; unreleased = l.unreleased; named = l.named; keyed = l.keyed } r.6) (seats_step id k s.views r.1 r.2 _ _ _ at (r.3.each_seat id _ at) r.7),
+              (quiet limit r.1 r.1 r.2 (child_slots (length s.homes)) k _ (running o true) (Active o) refl refl refl refl (λ _ z. z) mine.0 e (ap (λ (z : PostView D). z.work) mine.2) (sym (ap (λ (z : PostView D). z.notes.steps) mine.2)) (sym past_is) refl (λ _ z. z) r.5)
+              (let l = latch_here _ _ _ _ _ (r.2 k) (running o true) w e mine.2 (r.6.each k mine.0) in let near : k < child_slots (length s.homes) = mine.0 in latches_still _ k k _ s.words r.1 _ r.2 _ (omega arith, omega arith) (ap (λ (z : PostView D). z.notes.cancels) (sym mine.2)) refl refl refl refl record { armed = l.armed; fits = l.fits; standing = l.standing; cancel_is = l.cancel_is; now = l.now; past = l.past; unreleased = l.unreleased; named = l.named; keyed = l.keyed; reaches = l.reaches; calls = l.calls } r.6) (seats_step id k s.views r.1 r.2 _ _ _ at (r.3.each_seat id _ at) r.7),
           λ o' is. let same : Active o ≡ Active o' = is in let oe : o ≡ o' = cc in λ i. (Worker k (post_view notes past (Inactive (oe i))), c),
         )
 
     -- what a place at the gate adds to the counts
-    module _ (s : St told) (r : Kept told limit s) (id k : ℕ) (o : Offer D) (w w' : PostView D) (near : k < length s.homes) (is : (r.2 k).post ≡ w) (same : w'.past ≡ w.past) where
+    module _ (s : St letter) (r : Kept letter limit s) (id k : ℕ) (o : Offer D) (w w' : PostView D) (near : k < child_slots (length s.homes)) (is : (r.2 k).post ≡ w) (same : w'.past ≡ w.past) where
       abbrev cell : Cell D
       cell = record { phase = running o true; seat = id; post = w' }
 
       -- the sum of a count that moves by so much
-      moves : (F : PostView D → ℕ) → sum_below (length s.homes) (λ j. F (put r.2 k cell j).post) + F w ≡ sum_below (length s.homes) (λ j. F (r.2 j).post) + F w'
-      moves F = count_moves F r.2 (length s.homes) k cell w near is
+      moves : (F : PostView D → ℕ) → sum_below (child_slots (length s.homes)) (λ j. F (put r.2 k cell j).post) + F w ≡ sum_below (child_slots (length s.homes)) (λ j. F (r.2 j).post) + F w'
+      moves F = count_moves F r.2 (child_slots (length s.homes)) k cell w near is
 
-      counts : (test : Kind → Bool) (g : ℕ) (a : ℕ) → at_gate test w'.work ≡ at_gate test w.work + a → sum_below (length s.homes) (λ j. counted test g (put r.2 k cell j).post) ≡ sum_below (length s.homes) (λ j. counted test g (r.2 j).post) + a
+      counts : (test : Kind → Bool) (g : ℕ) (a : ℕ) → at_gate test w'.work ≡ at_gate test w.work + a → sum_below (child_slots (length s.homes)) (λ j. counted test g (put r.2 k cell j).post) ≡ sum_below (child_slots (length s.homes)) (λ j. counted test g (r.2 j).post) + a
       counts test g a e =
-          let h : sum_below (length s.homes) (λ j. counted test g (put r.2 k cell j).post) + counted test g w ≡ sum_below (length s.homes) (λ j. counted test g (r.2 j).post) + counted test g w' = moves (counted test g) in
+          let h : sum_below (child_slots (length s.homes)) (λ j. counted test g (put r.2 k cell j).post) + counted test g w ≡ sum_below (child_slots (length s.homes)) (λ j. counted test g (r.2 j).post) + counted test g w' = moves (counted test g) in
           let l : lost test g w'.past ≡ lost test g w.past = ap (lost test g) same in omega arith
 
-      stays : (test : Kind → Bool) (g : ℕ) (a : ℕ) → attached test w'.work ≡ attached test w.work + a → sum_below (length s.homes) (λ j. staying test g (put r.2 k cell j).post) ≡ sum_below (length s.homes) (λ j. staying test g (r.2 j).post) + a
+      stays : (test : Kind → Bool) (g : ℕ) (a : ℕ) → attached test w'.work ≡ attached test w.work + a → sum_below (child_slots (length s.homes)) (λ j. staying test g (put r.2 k cell j).post) ≡ sum_below (child_slots (length s.homes)) (λ j. staying test g (r.2 j).post) + a
       stays test g a e =
-          let h : sum_below (length s.homes) (λ j. staying test g (put r.2 k cell j).post) + staying test g w ≡ sum_below (length s.homes) (λ j. staying test g (r.2 j).post) + staying test g w' = moves (staying test g) in
+          let h : sum_below (child_slots (length s.homes)) (λ j. staying test g (put r.2 k cell j).post) + staying test g w ≡ sum_below (child_slots (length s.homes)) (λ j. staying test g (r.2 j).post) + staying test g w' = moves (staying test g) in
           let l : lost test g w'.past ≡ lost test g w.past = ap (lost test g) same in omega arith
 
       -- the same where it goes down
-      counts_less : (test : Kind → Bool) (g : ℕ) (a : ℕ) → at_gate test w.work ≡ at_gate test w'.work + a → sum_below (length s.homes) (λ j. counted test g (r.2 j).post) ≡ sum_below (length s.homes) (λ j. counted test g (put r.2 k cell j).post) + a
+      counts_less : (test : Kind → Bool) (g : ℕ) (a : ℕ) → at_gate test w.work ≡ at_gate test w'.work + a → sum_below (child_slots (length s.homes)) (λ j. counted test g (r.2 j).post) ≡ sum_below (child_slots (length s.homes)) (λ j. counted test g (put r.2 k cell j).post) + a
       counts_less test g a e =
-          let h : sum_below (length s.homes) (λ j. counted test g (put r.2 k cell j).post) + counted test g w ≡ sum_below (length s.homes) (λ j. counted test g (r.2 j).post) + counted test g w' = moves (counted test g) in
+          let h : sum_below (child_slots (length s.homes)) (λ j. counted test g (put r.2 k cell j).post) + counted test g w ≡ sum_below (child_slots (length s.homes)) (λ j. counted test g (r.2 j).post) + counted test g w' = moves (counted test g) in
           let l : lost test g w'.past ≡ lost test g w.past = ap (lost test g) same in omega arith
 
-      stays_less : (test : Kind → Bool) (g : ℕ) → attached test w'.work ≤ attached test w.work → sum_below (length s.homes) (λ j. staying test g (put r.2 k cell j).post) ≤ sum_below (length s.homes) (λ j. staying test g (r.2 j).post)
+      stays_less : (test : Kind → Bool) (g : ℕ) → attached test w'.work ≤ attached test w.work → sum_below (child_slots (length s.homes)) (λ j. staying test g (put r.2 k cell j).post) ≤ sum_below (child_slots (length s.homes)) (λ j. staying test g (r.2 j).post)
       stays_less test g e =
-          let h : sum_below (length s.homes) (λ j. staying test g (put r.2 k cell j).post) + staying test g w ≡ sum_below (length s.homes) (λ j. staying test g (r.2 j).post) + staying test g w' = moves (staying test g) in
+          let h : sum_below (child_slots (length s.homes)) (λ j. staying test g (put r.2 k cell j).post) + staying test g w ≡ sum_below (child_slots (length s.homes)) (λ j. staying test g (r.2 j).post) + staying test g w' = moves (staying test g) in
           let l : lost test g w'.past ≡ lost test g w.past = ap (lost test g) same in omega arith
 
       -- the gate's part of the rule, with this word
       gate_so : (word : ℕ) → (r.2 k).phase ≡ running o true → w'.notes.session_limit ≡ w.notes.session_limit → IsCurrent r.1.generation w'.work
-          → word ≡ gate_packed record { generation = r.1.generation; is_open = r.1.is_open; noticed = r.1.noticed; sessions = sum_below (length s.homes) (λ j. counted is_session r.1.generation (put r.2 k cell j).post); auxiliaries = sum_below (length s.homes) (λ j. counted is_auxiliary r.1.generation (put r.2 k cell j).post) }
-          → sum_below (length s.homes) (λ j. staying is_session r.1.generation (put r.2 k cell j).post) ≤ limit
-          → (r.1.is_open ≡ false → sum_below (length s.homes) (λ j. staying is_session r.1.generation (put r.2 k cell j).post) ≡ 0) → GateOk limit (length s.homes) word (gate_of r.1) (put r.2 k cell)
+          → word ≡ gate_packed record { generation = r.1.generation; is_open = r.1.is_open; noticed = r.1.noticed; sessions = sum_below (child_slots (length s.homes)) (λ j. counted is_session r.1.generation (put r.2 k cell j).post); auxiliaries = sum_below (child_slots (length s.homes)) (λ j. counted is_auxiliary r.1.generation (put r.2 k cell j).post) }
+          → sum_below (child_slots (length s.homes)) (λ j. staying is_session r.1.generation (put r.2 k cell j).post) ≤ limit
+          → (r.1.is_open ≡ false → sum_below (child_slots (length s.homes)) (λ j. staying is_session r.1.generation (put r.2 k cell j).post) ≡ 0) → GateOk limit (child_slots (length s.homes)) word (gate_of r.1) (put r.2 k cell)
       gate_so word e lim now shows few shut = let ok = r.4 in let was = subst (InGeneration limit r.1.generation) is (ok.current k) in record {
         shows = shows;
         few = few;
@@ -192,164 +216,165 @@ module _ {J D : Type 0} (told : J → D) where
     without_place x s a b q g t u e lt lu h = less x (t + 4096 * u) (s + (4096 * a + (16777216 * b + (33554432 * q + 134217728 * g)))) (omega arith) (omega arith) h
 
     -- the gate's part where the child of the slot k takes a place
-    takes_place : (s : St told) (r : Kept told limit s) (id k : ℕ) (o : Offer D) (w w' : PostView D) (near : k < length s.homes) (is : (r.2 k).post ≡ w) (same : w'.past ≡ w.past) → (r.2 k).phase ≡ running o true → is_dead_end o.kind ≡ false
+    takes_place : (s : St letter) (r : Kept letter limit s) (id k : ℕ) (o : Offer D) (w w' : PostView D) (near : k < child_slots (length s.homes)) (is : (r.2 k).post ≡ w) (same : w'.past ≡ w.past) → (r.2 k).phase ≡ running o true → is_dead_end o.kind ≡ false
         → w'.notes.session_limit ≡ w.notes.session_limit → ((test : Kind → Bool) → at_gate test w'.work ≡ at_gate test w.work + bit (test o.kind)) → IsCurrent r.1.generation w'.work
-        → sum_below (length s.homes) (λ j. staying is_session r.1.generation (put r.2 k (cell s r id k o w w' near is same) j).post) ≤ limit
-        → (r.1.is_open ≡ false → sum_below (length s.homes) (λ j. staying is_session r.1.generation (put r.2 k (cell s r id k o w w' near is same) j).post) ≡ 0)
-        → GateOk limit (length s.homes) ((get_or s.words (length s.homes) 0 + place_of (is_session o.kind)) % 2 ^ 64) (gate_of r.1) (put r.2 k (cell s r id k o w w' near is same))
+        → sum_below (child_slots (length s.homes)) (λ j. staying is_session r.1.generation (put r.2 k (cell s r id k o w w' near is same) j).post) ≤ limit
+        → (r.1.is_open ≡ false → sum_below (child_slots (length s.homes)) (λ j. staying is_session r.1.generation (put r.2 k (cell s r id k o w w' near is same) j).post) ≡ 0)
+        → GateOk limit (child_slots (length s.homes)) ((get_or s.words (child_slots (length s.homes)) 0 + place_of (is_session o.kind)) % 2 ^ 64) (gate_of r.1) (put r.2 k (cell s r id k o w w' near is same))
     takes_place s r id k o w w' near is same runs lives_ lim adds now few shut =
         let it = read s r in let g : ℕ = r.1.generation in let t : ℕ = bit (is_session o.kind) in let u : ℕ = bit (is_auxiliary o.kind) in
         let a = counts s r id k o w w' near is same is_session g t (adds is_session) in let b = counts s r id k o w w' near is same is_auxiliary g u (adds is_auxiliary) in
-        let S : ℕ = sum_below (length s.homes) (λ j. counted is_session g (put r.2 k (cell s r id k o w w' near is same) j).post) in
-        let A : ℕ = sum_below (length s.homes) (λ j. counted is_auxiliary g (put r.2 k (cell s r id k o w w' near is same) j).post) in
+        let S : ℕ = sum_below (child_slots (length s.homes)) (λ j. counted is_session g (put r.2 k (cell s r id k o w w' near is same) j).post) in
+        let A : ℕ = sum_below (child_slots (length s.homes)) (λ j. counted is_auxiliary g (put r.2 k (cell s r id k o w w' near is same) j).post) in
         let sa : it.sessions + t ≡ S = ap (λ (z : ℕ). z + t) it.sessions_is ∙ sym a in let sb : it.auxiliaries + u ≡ A = ap (λ (z : ℕ). z + u) it.auxiliaries_is ∙ sym b in
-        let word = ap (λ (z : ℕ). (get_or s.words (length s.homes) 0 + z) % 2 ^ 64) (place_is o.kind lives_)
-        ∙ with_place (get_or s.words (length s.homes) 0) it.sessions it.auxiliaries (bit r.1.is_open) (notice_bits r.1.noticed) g t u it.shows it.few_sessions it.few_auxiliaries (bit_small r.1.is_open) (notice_small r.1.noticed) r.4.fits (bit_small (is_session o.kind)) (bit_small (is_auxiliary o.kind)) in
-        gate_so s r id k o w w' near is same ((get_or s.words (length s.homes) 0 + place_of (is_session o.kind)) % 2 ^ 64) runs lim now
+        let word = ap (λ (z : ℕ). (get_or s.words (child_slots (length s.homes)) 0 + z) % 2 ^ 64) (place_is o.kind lives_)
+        ∙ with_place (get_or s.words (child_slots (length s.homes)) 0) it.sessions it.auxiliaries (bit r.1.is_open) (notice_bits r.1.noticed) g t u it.shows it.few_sessions it.few_auxiliaries (bit_small r.1.is_open) (notice_small r.1.noticed) r.4.fits (bit_small (is_session o.kind)) (bit_small (is_auxiliary o.kind)) in
+        gate_so s r id k o w w' near is same ((get_or s.words (child_slots (length s.homes)) 0 + place_of (is_session o.kind)) % 2 ^ 64) runs lim now
         (word ∙ (λ i. gate_packed record { generation = g; is_open = r.1.is_open; noticed = r.1.noticed; sessions = sa i; auxiliaries = sb i })) few shut
 
     -- and where it gives it back
-    gives_place : (s : St told) (r : Kept told limit s) (id k : ℕ) (o : Offer D) (w w' : PostView D) (near : k < length s.homes) (is : (r.2 k).post ≡ w) (same : w'.past ≡ w.past) → (r.2 k).phase ≡ running o true → is_dead_end o.kind ≡ false
+    gives_place : (s : St letter) (r : Kept letter limit s) (id k : ℕ) (o : Offer D) (w w' : PostView D) (near : k < child_slots (length s.homes)) (is : (r.2 k).post ≡ w) (same : w'.past ≡ w.past) → (r.2 k).phase ≡ running o true → is_dead_end o.kind ≡ false
         → w'.notes.session_limit ≡ w.notes.session_limit → ((test : Kind → Bool) → at_gate test w.work ≡ at_gate test w'.work + bit (test o.kind)) → attached is_session w'.work ≤ attached is_session w.work → IsCurrent r.1.generation w'.work
-        → get_or s.words (length s.homes) 0 < 18446744073709551616
-        → GateOk limit (length s.homes) ((get_or s.words (length s.homes) 0 + (2 ^ 64 - place_of (is_session o.kind))) % 2 ^ 64) (gate_of r.1) (put r.2 k (cell s r id k o w w' near is same))
+        → get_or s.words (child_slots (length s.homes)) 0 < 18446744073709551616
+        → GateOk limit (child_slots (length s.homes)) ((get_or s.words (child_slots (length s.homes)) 0 + (2 ^ 64 - place_of (is_session o.kind))) % 2 ^ 64) (gate_of r.1) (put r.2 k (cell s r id k o w w' near is same))
     gives_place s r id k o w w' near is same runs lives_ lim takes fewer now full =
         let it = read s r in let g : ℕ = r.1.generation in let t : ℕ = bit (is_session o.kind) in let u : ℕ = bit (is_auxiliary o.kind) in
         let a = counts_less s r id k o w w' near is same is_session g t (takes is_session) in let b = counts_less s r id k o w w' near is same is_auxiliary g u (takes is_auxiliary) in
-        let S : ℕ = sum_below (length s.homes) (λ j. counted is_session g (put r.2 k (cell s r id k o w w' near is same) j).post) in
-        let A : ℕ = sum_below (length s.homes) (λ j. counted is_auxiliary g (put r.2 k (cell s r id k o w w' near is same) j).post) in
+        let S : ℕ = sum_below (child_slots (length s.homes)) (λ j. counted is_session g (put r.2 k (cell s r id k o w w' near is same) j).post) in
+        let A : ℕ = sum_below (child_slots (length s.homes)) (λ j. counted is_auxiliary g (put r.2 k (cell s r id k o w w' near is same) j).post) in
         let sa : it.sessions ≡ S + t = it.sessions_is ∙ a in let sb : it.auxiliaries ≡ A + u = it.auxiliaries_is ∙ b in
         let R : ℕ = 16777216 * bit r.1.is_open + (33554432 * notice_bits r.1.noticed + 134217728 * g) in
-        let shows : get_or s.words (length s.homes) 0 ≡ S + t + (4096 * (A + u) + R) = it.shows ∙ (λ i. sa i + (4096 * sb i + R)) in
-        let word = ap (λ (z : ℕ). (get_or s.words (length s.homes) 0 + (2 ^ 64 - z)) % 2 ^ 64) (place_is o.kind lives_)
-        ∙ without_place (get_or s.words (length s.homes) 0) S A (bit r.1.is_open) (notice_bits r.1.noticed) g t u shows (bit_small (is_session o.kind)) (bit_small (is_auxiliary o.kind)) full in
-        let less_ : sum_below (length s.homes) (λ j. staying is_session g (put r.2 k (cell s r id k o w w' near is same) j).post) ≤ sum_below (length s.homes) (λ j. staying is_session g (r.2 j).post) = stays_less s r id k o w w' near is same is_session g fewer in
-        let few : sum_below (length s.homes) (λ j. staying is_session g (r.2 j).post) ≤ limit = r.4.few in
-        gate_so s r id k o w w' near is same ((get_or s.words (length s.homes) 0 + (2 ^ 64 - place_of (is_session o.kind))) % 2 ^ 64) runs lim now word (omega arith)
-        (λ shut. let z : sum_below (length s.homes) (λ j. staying is_session g (r.2 j).post) ≡ 0 = r.4.shut shut in omega arith)
+        let shows : get_or s.words (child_slots (length s.homes)) 0 ≡ S + t + (4096 * (A + u) + R) = it.shows ∙ (λ i. sa i + (4096 * sb i + R)) in
+        let word = ap (λ (z : ℕ). (get_or s.words (child_slots (length s.homes)) 0 + (2 ^ 64 - z)) % 2 ^ 64) (place_is o.kind lives_)
+        ∙ without_place (get_or s.words (child_slots (length s.homes)) 0) S A (bit r.1.is_open) (notice_bits r.1.noticed) g t u shows (bit_small (is_session o.kind)) (bit_small (is_auxiliary o.kind)) full in
+        let less_ : sum_below (child_slots (length s.homes)) (λ j. staying is_session g (put r.2 k (cell s r id k o w w' near is same) j).post) ≤ sum_below (child_slots (length s.homes)) (λ j. staying is_session g (r.2 j).post) = stays_less s r id k o w w' near is same is_session g fewer in
+        let few : sum_below (child_slots (length s.homes)) (λ j. staying is_session g (r.2 j).post) ≤ limit = r.4.few in
+        gate_so s r id k o w w' near is same ((get_or s.words (child_slots (length s.homes)) 0 + (2 ^ 64 - place_of (is_session o.kind))) % 2 ^ 64) runs lim now word (omega arith)
+        (λ shut. let z : sum_below (child_slots (length s.homes)) (λ j. staying is_session g (r.2 j).post) ≡ 0 = r.4.shut shut in omega arith)
 
     -- what a step at the gate owes
-    abbrev Goes : (s : St told) (id n : ℕ) (me : Seated J D) (f : ℕ → ℕ) (tells : ℕ → Seated J D → Type 0) → Type 0
-    Goes s id n me f tells = (v : View D) × (a : Act (Option J)) × Valid s.homes me.1 a × Kept told limit (stepped s n (f (get_or s.words n 0)) id me.1 v a) × tells (get_or s.words n 0) (v, carried_after me.1 a)
+    abbrev Goes : (s : St letter) (id n : ℕ) (me : Seated J D) (f : ℕ → ℕ) (tells : ℕ → Seated J D → Type 0) → Type 0
+    Goes s id n me f tells = (v : View D) × (a : Act (Option J)) × Valid s.homes me.1 a × Kept letter limit (stepped s n (f (get_or s.words n 0)) id me.1 v a) × tells (get_or s.words n 0) (v, carried_after me.1 a)
 
     -- a worker's child tries at the gate
-    tries_here : (s : St told) (r : Kept told limit s) (id k : ℕ) (o : Offer D) (notes : PostNotes) (past : List (PastChild D)) (c : List (ℕ × Option J)) → is_dead_end o.kind ≡ false → get_elem? s.views id ≡ some (Worker k (post_view notes past (Active o)))
-        → (b : Result ℕ GateNo) → gate_answer o.kind notes.session_limit (get_or s.words (length s.homes) 0) ≡ b
-        → Goes s id (length s.homes) (Worker k (post_view notes past (Active o)), c) (λ x. (x + place_of (is_session o.kind)) % 2 ^ 64) (Tries (step (length s.homes) (length s.homes) (place_of (is_session o.kind)) 0 none) (Worker k (post_view notes past (Active o)), c))
+    tries_here : (s : St letter) (r : Kept letter limit s) (id k : ℕ) (o : Offer D) (notes : PostNotes) (past : List (PastChild D)) (c : List (ℕ × Option J)) → is_dead_end o.kind ≡ false → get_elem? s.views id ≡ some (Worker k (post_view notes past (Active o)))
+        → (b : Result ℕ GateNo) → gate_answer o.kind notes.session_limit (get_or s.words (child_slots (length s.homes)) 0) ≡ b
+        → Goes s id (child_slots (length s.homes)) (Worker k (post_view notes past (Active o)), c) (λ x. (x + place_of (is_session o.kind)) % 2 ^ 64) (Tries (step (length s.homes) (child_slots (length s.homes)) (place_of (is_session o.kind)) 0 none) (Worker k (post_view notes past (Active o)), c))
     tries_here s r id k o notes past c lives_ at (Ok h) answer =
-        let w : PostView D = post_view notes past (Active o) in let word : ℕ = get_or s.words (length s.homes) 0 in let w' : PostView D = tried_by w o word (Ok h) in let mine = owned told limit s r.0 r.1 r.2 r.3 id k w at in
-        let it = read s r in let e = does_act _ o mine.1.does in let ok = at_phase told limit _ _ _ _ _ e mine.1 in let lim : notes.session_limit ≡ limit = (subst (InGeneration limit r.1.generation) mine.2 (r.4.current k)).limit_is in
+        let w : PostView D = post_view notes past (Active o) in let word : ℕ = get_or s.words (child_slots (length s.homes)) 0 in let w' : PostView D = tried_by w o word (Ok h) in let mine = owned letter limit s r.0 r.1 r.2 r.3 id k w at in
+        let it = read s r in let e = does_act _ o mine.1.does in let ok = at_phase letter limit _ _ _ _ _ e mine.1 in let lim : notes.session_limit ≡ limit = (subst (InGeneration limit r.1.generation) mine.2 (r.4.current k)).limit_is in
         let may = let_in (is_session o.kind) notes.session_limit word (notice_in word) h answer in
-        let S : ℕ = sum_below (length s.homes) (λ j. staying is_session r.1.generation (r.2 j).post) in let N : ℕ = sum_below (length s.homes) (λ j. counted is_session r.1.generation (r.2 j).post) in
-        let inside : S ≤ N = sum_within (length s.homes) (λ j. staying is_session r.1.generation (r.2 j).post) (λ j. counted is_session r.1.generation (r.2 j).post)
+        let now_is : o.generation ≡ r.1.generation = (placed_as letter limit _ _ _ _ (running o true) e (r.3.each_child k mine.0)).0 in
+        let S : ℕ = sum_below (child_slots (length s.homes)) (λ j. staying is_session r.1.generation (r.2 j).post) in let N : ℕ = sum_below (child_slots (length s.homes)) (λ j. counted is_session r.1.generation (r.2 j).post) in
+        let inside : S ≤ N = sum_within (child_slots (length s.homes)) (λ j. staying is_session r.1.generation (r.2 j).post) (λ j. counted is_session r.1.generation (r.2 j).post)
         (λ j. let z : attached is_session (r.2 j).post.work ≤ at_gate is_session (r.2 j).post.work = attached_within is_session (r.2 j).post.work in let l : ℕ = lost is_session r.1.generation (r.2 j).post.past in omega arith) in
         let met : sessions_in word ≡ N = it.sessions_found ∙ it.sessions_is in
-        let S' : ℕ = sum_below (length s.homes) (λ j. staying is_session r.1.generation (put r.2 k (cell s r id k o w w' mine.0 mine.2 refl) j).post) in
+        let S' : ℕ = sum_below (child_slots (length s.homes)) (λ j. staying is_session r.1.generation (put r.2 k (cell s r id k o w w' mine.0 mine.2 refl) j).post) in
         let grows : S' ≡ S + bit (is_session o.kind) = stays s r id k o w w' mine.0 mine.2 refl is_session r.1.generation (bit (is_session o.kind)) (plain (bit (is_session o.kind))) in
         let under : S ≤ limit = r.4.few in
         let few : (b : Bool) → is_session o.kind ≡ b → S' ≤ limit = (λ b. few_of b S S' N (sessions_in word) limit notes.session_limit (is_session o.kind) grows under inside met lim (λ is. (may.2 is).1)) in
         let shut : (b : Bool) → is_session o.kind ≡ b → r.1.is_open ≡ false → S' ≡ 0 = (λ b. shut_of b S S' (is_session o.kind) (open_in word) r.1.is_open grows it.open_found r.4.shut (λ is. (may.2 is).0)) in
-        let st = r.5 in let known = lives told limit s r.0 r.1 r.2 r.3 st k mine.0 o true (Active o) e (ap (λ (z : PostView D). z.work) mine.2) in
-        let attached_few : attached_sessions st.1.children ≤ sum_below (length s.homes) (λ j. attached is_session (r.2 j).post.work) = shown_attached (length s.homes) r.1 r.2 st.1 st.3 (λ j l. (r.3.each_slot j l).does) in
-        let attached_in : sum_below (length s.homes) (λ j. attached is_session (r.2 j).post.work) ≤ N = sum_within (length s.homes) (λ j. attached is_session (r.2 j).post.work) (λ j. counted is_session r.1.generation (r.2 j).post)
+        let st = r.5 in let known = lives letter limit s r.0 r.1 r.2 r.3 st k mine.0 o true (Active o) e (ap (λ (z : PostView D). z.work) mine.2) in
+        let attached_few : attached_sessions st.1.children ≤ sum_below (child_slots (length s.homes)) (λ j. attached is_session (r.2 j).post.work) = shown_attached (child_slots (length s.homes)) r.1 r.2 st.1 st.3 (λ j l. (r.3.each_slot j l).does) in
+        let attached_in : sum_below (child_slots (length s.homes)) (λ j. attached is_session (r.2 j).post.work) ≤ N = sum_within (child_slots (length s.homes)) (λ j. attached is_session (r.2 j).post.work) (λ j. counted is_session r.1.generation (r.2 j).post)
         (λ j. let z : attached is_session (r.2 j).post.work ≤ at_gate is_session (r.2 j).post.work = attached_within is_session (r.2 j).post.work in let l : ℕ = lost is_session r.1.generation (r.2 j).post.past in omega arith) in (
           Worker k w',
           keeps,
           tt,
-          kept told limit _ _ _ _ _ (word_step told s id k (length s.homes) ((word + place_of (is_session o.kind)) % 2 ^ 64) r.0 r.1 r.2 r.3 mine.0 (omega arith) w w' (running o true) at
+          kept letter limit _ _ _ _ _ (word_step letter s id k (child_slots (length s.homes)) ((word + place_of (is_session o.kind)) % 2 ^ 64) r.0 r.1 r.2 r.3 mine.0 (omega arith) w w' (running o true) at
               record { shows = ok.shows; fits = ok.fits; seen = ok.seen; does = (refl, refl); lists = ok.lists; there = ok.there; there_is = ok.there_is; mail = tt }
-              (placed_as told limit _ _ _ _ (running o true) e (r.3.each_child k mine.0))) refl
-              (subst (λ (z : ℕ). GateOk limit (length s.homes) z (gate_of r.1) (put r.2 k (cell s r id k o w w' mine.0 mine.2 refl))) (sym (get_or-set_same s.words (length s.homes) ((word + place_of (is_session o.kind)) % 2 ^ 64) 0 (let wide : length s.words ≡ 3 * length s.homes + 1 = r.3.wide in omega arith)))
+              (placed_as letter limit _ _ _ _ (running o true) e (r.3.each_child k mine.0))) refl
+              (subst (λ (z : ℕ). GateOk limit (child_slots (length s.homes)) z (gate_of r.1) (put r.2 k (cell s r id k o w w' mine.0 mine.2 refl))) (sym (get_or-set_same s.words (child_slots (length s.homes)) ((word + place_of (is_session o.kind)) % 2 ^ 64) 0 (let wide : length s.words ≡ 3 * child_slots (length s.homes) + 1 = r.3.wide in omega arith)))
               (takes_place s r id k o w w' mine.0 mine.2 refl e lives_ refl (λ test. plain (bit (test o.kind))) (may.1 ∙ it.generation_found, lives_) (few (is_session o.kind) refl) (shut (is_session o.kind) refl)))
-              (passes told limit s r.0 r.1 r.2 r.3 st k mine.0 o true (Active o) (cell s r id k o w w' mine.0 mine.2 refl) (shared.Attach o.pid) (post_step.Attach o.pid) e (ap (λ (z : PostView D). z.work) mine.2) refl refl
+              (passes letter limit s r.0 r.1 r.2 r.3 st k mine.0 o true (Active o) (cell s r id k o w w' mine.0 mine.2 refl) (shared.Attach o.pid) (post_step.Attach o.pid) e (ap (λ (z : PostView D). z.work) mine.2) refl refl
               (subst (λ z. IsSomeAnd z (shared.MayAttach limit st.1)) (sym known.0) (refl, lives_, st.3.noticed ∙ (sym it.notice_found ∙ may.0), λ is. let m = may.2 is in let room : sessions_in word < notes.session_limit = m.1 in (st.3.is_open ∙ (sym it.open_found ∙ m.0), omega arith)))
               refl refl refl refl (ap (λ z. z ++ post_step.Attach o.pid ∷ []) (sym (ap (λ (z : PostView D). z.notes.steps) mine.2))) (sym (ap (λ (z : PostView D). z.past) mine.2)))
-              (let l = latch_here _ _ _ _ (r.2 k) (running o true) w e mine.2 (r.6.each k mine.0) in let near : k < length s.homes = mine.0 in latches_still _ k (length s.homes) _ s.words r.1 _ r.2 _ (omega arith, omega arith) (λ p. cancels_stay p (r.2 k).post w mine.2) refl refl refl refl record { armed = l.armed; fits = l.fits; standing = l.standing; cancel_is = l.cancel_is; now = hears_met _ _ _ _ _ notes.now (Ok h) l.now (λ h' why is. absurd (cc)); past = l.past; unreleased = l.unreleased; named = l.named; keyed = l.keyed } r.6) (seats_step id k s.views r.1 r.2 _ _ _ at (r.3.each_seat id _ at) r.7),
+              (let l = latch_here _ _ _ _ _ (r.2 k) (running o true) w e mine.2 (r.6.each k mine.0) in let near : k < child_slots (length s.homes) = mine.0 in latches_still _ k (child_slots (length s.homes)) _ s.words r.1 _ r.2 _ (omega arith, omega arith) (ap (λ (z : PostView D). z.notes.cancels) (sym mine.2)) refl refl refl refl record { armed = l.armed; fits = l.fits; standing = l.standing; cancel_is = l.cancel_is; now = hears_met _ _ _ _ _ notes.now (Ok h) l.now (λ h' why is. absurd (cc)) (λ q is. let same : h ≡ q = cc in sym same ∙ (may.1 ∙ (it.generation_found ∙ sym now_is))); past = l.past; unreleased = l.unreleased; named = l.named; keyed = l.keyed; reaches = l.reaches; calls = l.calls } r.6) (seats_step id k s.views r.1 r.2 _ _ _ at (r.3.each_seat id _ at) r.7),
           λ o' does. let both : Active o ≡ Active o' = does in let oe : o ≡ o' = cc in
-              ((ap (λ (b : Result ℕ GateNo). (Worker k (tried_by w o word b), c)) (sym answer) ∙ (λ i. (Worker k (tried w (oe i) word), c))), subst (λ (z : ℕ). z < 4294967296) (sym it.generation_found) r.4.fits),
+              ((ap (λ (b : Result ℕ GateNo). (Worker k (tried_by w o word b), c)) (sym answer) ∙ (λ i. (Worker k (tried w (oe i) word), c))), subst (λ (z : ℕ). z < 4294967296) (sym it.generation_found) r.4.fits, it.generation_found ∙ (sym now_is ∙ ap (λ (z : Offer D). z.generation) oe)),
         )
     tries_here s r id k o notes past c lives_ at (Err refusal) answer =
-        let w : PostView D = post_view notes past (Active o) in let word : ℕ = get_or s.words (length s.homes) 0 in let w' : PostView D = tried_by w o word (Err refusal) in let mine = owned told limit s r.0 r.1 r.2 r.3 id k w at in
-        let it = read s r in let e = does_act _ o mine.1.does in let ok = at_phase told limit _ _ _ _ _ e mine.1 in
-        let S : ℕ = sum_below (length s.homes) (λ j. staying is_session r.1.generation (r.2 j).post) in let under : S ≤ limit = r.4.few in
-        let S' : ℕ = sum_below (length s.homes) (λ j. staying is_session r.1.generation (put r.2 k (cell s r id k o w w' mine.0 mine.2 refl) j).post) in
+        let w : PostView D = post_view notes past (Active o) in let word : ℕ = get_or s.words (child_slots (length s.homes)) 0 in let w' : PostView D = tried_by w o word (Err refusal) in let mine = owned letter limit s r.0 r.1 r.2 r.3 id k w at in
+        let it = read s r in let e = does_act _ o mine.1.does in let ok = at_phase letter limit _ _ _ _ _ e mine.1 in
+        let S : ℕ = sum_below (child_slots (length s.homes)) (λ j. staying is_session r.1.generation (r.2 j).post) in let under : S ≤ limit = r.4.few in
+        let S' : ℕ = sum_below (child_slots (length s.homes)) (λ j. staying is_session r.1.generation (put r.2 k (cell s r id k o w w' mine.0 mine.2 refl) j).post) in
         let grows : S' ≡ S + 0 = stays s r id k o w w' mine.0 mine.2 refl is_session r.1.generation 0 refl in
-        let now_is : o.generation ≡ r.1.generation = (placed_as told limit _ _ _ _ (running o true) e (r.3.each_child k mine.0)).0 in
+        let now_is : o.generation ≡ r.1.generation = (placed_as letter limit _ _ _ _ (running o true) e (r.3.each_child k mine.0)).0 in
         let told_notice : (h : ℕ) (why : Reason) → ◌≡◌ {A = Option (Result ℕ GateNo)} (Some (Err refusal)) (Some (Err (gate_no.Quit h why))) → NotReleased o.pid r.1.notes.steps → (h ≡ o.generation) × NoticedBefore r.1.notes.steps o.pid why o.generation =
         (λ h why is none. let same : refusal ≡ gate_no.Quit h why = same_refusal refusal (gate_no.Quit h why) is in let met = refused_by (is_session o.kind) notes.session_limit word (notice_in word) h why (answer ∙ ap Err same) in
         (met.1 ∙ (it.generation_found ∙ sym now_is), noticed_now r.1.notes.steps o.pid why o.generation (subst (λ (z : ℕ). Contains r.1.notes.steps (roster_step.Quit why z)) (sym now_is) (r.6.noticed why (sym it.notice_found ∙ met.0))) none)) in (
           Worker k w',
           keeps,
           tt,
-          kept told limit _ _ _ _ _ (word_step told s id k (length s.homes) ((word + place_of (is_session o.kind)) % 2 ^ 64) r.0 r.1 r.2 r.3 mine.0 (omega arith) w w' (running o true) at
+          kept letter limit _ _ _ _ _ (word_step letter s id k (child_slots (length s.homes)) ((word + place_of (is_session o.kind)) % 2 ^ 64) r.0 r.1 r.2 r.3 mine.0 (omega arith) w w' (running o true) at
               record { shows = ok.shows; fits = ok.fits; seen = ok.seen; does = (refl, refl); lists = ok.lists; there = ok.there; there_is = ok.there_is; mail = tt }
-              (placed_as told limit _ _ _ _ (running o true) e (r.3.each_child k mine.0))) refl
-              (subst (λ (z : ℕ). GateOk limit (length s.homes) z (gate_of r.1) (put r.2 k (cell s r id k o w w' mine.0 mine.2 refl))) (sym (get_or-set_same s.words (length s.homes) ((word + place_of (is_session o.kind)) % 2 ^ 64) 0 (let wide : length s.words ≡ 3 * length s.homes + 1 = r.3.wide in omega arith)))
+              (placed_as letter limit _ _ _ _ (running o true) e (r.3.each_child k mine.0))) refl
+              (subst (λ (z : ℕ). GateOk limit (child_slots (length s.homes)) z (gate_of r.1) (put r.2 k (cell s r id k o w w' mine.0 mine.2 refl))) (sym (get_or-set_same s.words (child_slots (length s.homes)) ((word + place_of (is_session o.kind)) % 2 ^ 64) 0 (let wide : length s.words ≡ 3 * child_slots (length s.homes) + 1 = r.3.wide in omega arith)))
               (takes_place s r id k o w w' mine.0 mine.2 refl e lives_ refl (λ test. plain (bit (test o.kind))) (it.generation_found, lives_) (omega arith) (λ shut. let z : S ≡ 0 = r.4.shut shut in omega arith)))
-              (quiet limit r.1 r.1 r.2 (length s.homes) k (cell s r id k o w w' mine.0 mine.2 refl) (running o true) (Active o) refl refl refl refl (λ _ z. z) mine.0 e (ap (λ (z : PostView D). z.work) mine.2) (sym (ap (λ (z : PostView D). z.notes.steps) mine.2)) (sym (ap (λ (z : PostView D). z.past) mine.2)) refl (λ _ z. z) r.5)
-              (let l = latch_here _ _ _ _ (r.2 k) (running o true) w e mine.2 (r.6.each k mine.0) in let near : k < length s.homes = mine.0 in latches_still _ k (length s.homes) _ s.words r.1 _ r.2 _ (omega arith, omega arith) (λ p. cancels_stay p (r.2 k).post w mine.2) refl refl refl refl record { armed = l.armed; fits = l.fits; standing = l.standing; cancel_is = l.cancel_is; now = hears_met _ _ _ _ _ notes.now (Err refusal) l.now (λ h' why is. told_notice h' why is l.unreleased); past = l.past; unreleased = l.unreleased; named = l.named; keyed = l.keyed } r.6) (seats_step id k s.views r.1 r.2 _ _ _ at (r.3.each_seat id _ at) r.7),
+              (quiet limit r.1 r.1 r.2 (child_slots (length s.homes)) k (cell s r id k o w w' mine.0 mine.2 refl) (running o true) (Active o) refl refl refl refl (λ _ z. z) mine.0 e (ap (λ (z : PostView D). z.work) mine.2) (sym (ap (λ (z : PostView D). z.notes.steps) mine.2)) (sym (ap (λ (z : PostView D). z.past) mine.2)) refl (λ _ z. z) r.5)
+              (let l = latch_here _ _ _ _ _ (r.2 k) (running o true) w e mine.2 (r.6.each k mine.0) in let near : k < child_slots (length s.homes) = mine.0 in latches_still _ k (child_slots (length s.homes)) _ s.words r.1 _ r.2 _ (omega arith, omega arith) (ap (λ (z : PostView D). z.notes.cancels) (sym mine.2)) refl refl refl refl record { armed = l.armed; fits = l.fits; standing = l.standing; cancel_is = l.cancel_is; now = hears_met _ _ _ _ _ notes.now (Err refusal) l.now (λ h' why is. told_notice h' why is l.unreleased) (λ q is. absurd (cc)); past = l.past; unreleased = l.unreleased; named = l.named; keyed = l.keyed; reaches = l.reaches; calls = l.calls } r.6) (seats_step id k s.views r.1 r.2 _ _ _ at (r.3.each_seat id _ at) r.7),
           λ o' does. let both : Active o ≡ Active o' = does in let oe : o ≡ o' = cc in
-              ((ap (λ (b : Result ℕ GateNo). (Worker k (tried_by w o word b), c)) (sym answer) ∙ (λ i. (Worker k (tried w (oe i) word), c))), subst (λ (z : ℕ). z < 4294967296) (sym it.generation_found) r.4.fits),
+              ((ap (λ (b : Result ℕ GateNo). (Worker k (tried_by w o word b), c)) (sym answer) ∙ (λ i. (Worker k (tried w (oe i) word), c))), subst (λ (z : ℕ). z < 4294967296) (sym it.generation_found) r.4.fits, it.generation_found ∙ (sym now_is ∙ ap (λ (z : Offer D). z.generation) oe)),
         )
 
     pub tries : (n id k : ℕ) (o : Offer D) (notes : PostNotes) (past : List (PastChild D)) (c : List (ℕ × Option J)) → is_dead_end o.kind ≡ false
-        → Allows (Kept told limit) n id (Worker k (post_view notes past (Active o)), c) n (λ x. (x + place_of (is_session o.kind)) % 2 ^ 64) (Tries (step n n (place_of (is_session o.kind)) 0 none) (Worker k (post_view notes past (Active o)), c))
+        → Allows (Kept letter limit) n id (Worker k (post_view notes past (Active o)), c) (child_slots n) (λ x. (x + place_of (is_session o.kind)) % 2 ^ 64) (Tries (step n (child_slots n) (place_of (is_session o.kind)) 0 none) (Worker k (post_view notes past (Active o)), c))
     tries n id k o notes past c lives_ s r wide at _ =
-        subst (λ (m : ℕ). Goes s id m (Worker k (post_view notes past (Active o)), c) (λ x. (x + place_of (is_session o.kind)) % 2 ^ 64) (Tries (step m m (place_of (is_session o.kind)) 0 none) (Worker k (post_view notes past (Active o)), c))) wide
-        (tries_here s r id k o notes past c lives_ at (gate_answer o.kind notes.session_limit (get_or s.words (length s.homes) 0)) refl)
+        subst (λ (m : ℕ). Goes s id (child_slots m) (Worker k (post_view notes past (Active o)), c) (λ x. (x + place_of (is_session o.kind)) % 2 ^ 64) (Tries (step m (child_slots m) (place_of (is_session o.kind)) 0 none) (Worker k (post_view notes past (Active o)), c))) wide
+        (tries_here s r id k o notes past c lives_ at (gate_answer o.kind notes.session_limit (get_or s.words (child_slots (length s.homes)) 0)) refl)
 
     -- a refused child gives its place back
-    back_here : (s : St told) (r : Kept told limit s) (id k : ℕ) (o : Offer D) (g : ℕ) (notes : PostNotes) (past : List (PastChild D)) (c : List (ℕ × Option J)) → get_elem? s.views id ≡ some (Worker k (post_view notes past (Refused o g))) → get_or s.words (length s.homes) 0 < 18446744073709551616
-        → Goes s id (length s.homes) (Worker k (post_view notes past (Refused o g)), c) (λ x. (x + (2 ^ 64 - place_of (is_session o.kind))) % 2 ^ 64) (BacksOut (step (length s.homes) (length s.homes) (place_of (is_session o.kind)) 0 none) (Worker k (post_view notes past (Refused o g)), c))
+    back_here : (s : St letter) (r : Kept letter limit s) (id k : ℕ) (o : Offer D) (g : ℕ) (notes : PostNotes) (past : List (PastChild D)) (c : List (ℕ × Option J)) → get_elem? s.views id ≡ some (Worker k (post_view notes past (Refused o g))) → get_or s.words (child_slots (length s.homes)) 0 < 18446744073709551616
+        → Goes s id (child_slots (length s.homes)) (Worker k (post_view notes past (Refused o g)), c) (λ x. (x + (2 ^ 64 - place_of (is_session o.kind))) % 2 ^ 64) (BacksOut (step (length s.homes) (child_slots (length s.homes)) (place_of (is_session o.kind)) 0 none) (Worker k (post_view notes past (Refused o g)), c))
     back_here s r id k o g notes past c at full =
-        let w : PostView D = post_view notes past (Refused o g) in let w' : PostView D = post_view notes past (Active o) in let word : ℕ = get_or s.words (length s.homes) 0 in let mine = owned told limit s r.0 r.1 r.2 r.3 id k w at in
-        let e = does_back _ o g mine.1.does in let ok = at_phase told limit _ _ _ _ _ e mine.1 in let lives_ = (subst (InGeneration limit r.1.generation) mine.2 (r.4.current k)).now.1 in (
+        let w : PostView D = post_view notes past (Refused o g) in let w' : PostView D = post_view notes past (Active o) in let word : ℕ = get_or s.words (child_slots (length s.homes)) 0 in let mine = owned letter limit s r.0 r.1 r.2 r.3 id k w at in
+        let e = does_back _ o g mine.1.does in let ok = at_phase letter limit _ _ _ _ _ e mine.1 in let lives_ = (subst (InGeneration limit r.1.generation) mine.2 (r.4.current k)).now.1 in (
           Worker k w',
           keeps,
           tt,
-          kept told limit _ _ _ _ _ (word_step told s id k (length s.homes) ((word + (2 ^ 64 - place_of (is_session o.kind))) % 2 ^ 64) r.0 r.1 r.2 r.3 mine.0 (omega arith) w w' (running o true) at
+          kept letter limit _ _ _ _ _ (word_step letter s id k (child_slots (length s.homes)) ((word + (2 ^ 64 - place_of (is_session o.kind))) % 2 ^ 64) r.0 r.1 r.2 r.3 mine.0 (omega arith) w w' (running o true) at
               record { shows = ok.shows; fits = ok.fits; seen = ok.seen; does = (refl, refl); lists = ok.lists; there = ok.there; there_is = ok.there_is; mail = tt }
-              (placed_as told limit _ _ _ _ (running o true) e (r.3.each_child k mine.0))) refl
-              (subst (λ (z : ℕ). GateOk limit (length s.homes) z (gate_of r.1) (put r.2 k (cell s r id k o w w' mine.0 mine.2 refl))) (sym (get_or-set_same s.words (length s.homes) ((word + (2 ^ 64 - place_of (is_session o.kind))) % 2 ^ 64) 0 (let wide : length s.words ≡ 3 * length s.homes + 1 = r.3.wide in omega arith)))
+              (placed_as letter limit _ _ _ _ (running o true) e (r.3.each_child k mine.0))) refl
+              (subst (λ (z : ℕ). GateOk limit (child_slots (length s.homes)) z (gate_of r.1) (put r.2 k (cell s r id k o w w' mine.0 mine.2 refl))) (sym (get_or-set_same s.words (child_slots (length s.homes)) ((word + (2 ^ 64 - place_of (is_session o.kind))) % 2 ^ 64) 0 (let wide : length s.words ≡ 3 * child_slots (length s.homes) + 1 = r.3.wide in omega arith)))
               (gives_place s r id k o w w' mine.0 mine.2 refl e lives_ refl (λ test. plain (bit (test o.kind))) (omega arith) tt full))
-              (quiet limit r.1 r.1 r.2 (length s.homes) k (cell s r id k o w w' mine.0 mine.2 refl) (running o true) (Refused o g) refl refl refl refl (λ _ z. z) mine.0 e (ap (λ (z : PostView D). z.work) mine.2) (sym (ap (λ (z : PostView D). z.notes.steps) mine.2)) (sym (ap (λ (z : PostView D). z.past) mine.2)) refl (λ _ z. z) r.5)
-              (let l = latch_here _ _ _ _ (r.2 k) (running o true) w e mine.2 (r.6.each k mine.0) in let near : k < length s.homes = mine.0 in latches_still _ k (length s.homes) _ s.words r.1 _ r.2 _ (omega arith, omega arith) (λ p. cancels_stay p (r.2 k).post w mine.2) refl refl refl refl record { armed = l.armed; fits = l.fits; standing = l.standing; cancel_is = l.cancel_is; now = l.now; past = l.past; unreleased = l.unreleased; named = l.named; keyed = l.keyed } r.6) (seats_step id k s.views r.1 r.2 _ _ _ at (r.3.each_seat id _ at) r.7),
+              (quiet limit r.1 r.1 r.2 (child_slots (length s.homes)) k (cell s r id k o w w' mine.0 mine.2 refl) (running o true) (Refused o g) refl refl refl refl (λ _ z. z) mine.0 e (ap (λ (z : PostView D). z.work) mine.2) (sym (ap (λ (z : PostView D). z.notes.steps) mine.2)) (sym (ap (λ (z : PostView D). z.past) mine.2)) refl (λ _ z. z) r.5)
+              (let l = latch_here _ _ _ _ _ (r.2 k) (running o true) w e mine.2 (r.6.each k mine.0) in let near : k < child_slots (length s.homes) = mine.0 in latches_still _ k (child_slots (length s.homes)) _ s.words r.1 _ r.2 _ (omega arith, omega arith) (ap (λ (z : PostView D). z.notes.cancels) (sym mine.2)) refl refl refl refl record { armed = l.armed; fits = l.fits; standing = l.standing; cancel_is = l.cancel_is; now = l.now; past = l.past; unreleased = l.unreleased; named = l.named; keyed = l.keyed; reaches = l.reaches; calls = l.calls } r.6) (seats_step id k s.views r.1 r.2 _ _ _ at (r.3.each_seat id _ at) r.7),
           λ o' g' does. let both : Refused o g ≡ Refused o' g' = does in let oe : o ≡ o' = cc in λ i. (Worker k (post_view notes past (Active (oe i))), c),
         )
 
     pub backs_out : (n id k : ℕ) (o : Offer D) (g : ℕ) (notes : PostNotes) (past : List (PastChild D)) (c : List (ℕ × Option J))
-        → Allows (Kept told limit) n id (Worker k (post_view notes past (Refused o g)), c) n (λ x. (x + (2 ^ 64 - place_of (is_session o.kind))) % 2 ^ 64) (BacksOut (step n n (place_of (is_session o.kind)) 0 none) (Worker k (post_view notes past (Refused o g)), c))
+        → Allows (Kept letter limit) n id (Worker k (post_view notes past (Refused o g)), c) (child_slots n) (λ x. (x + (2 ^ 64 - place_of (is_session o.kind))) % 2 ^ 64) (BacksOut (step n (child_slots n) (place_of (is_session o.kind)) 0 none) (Worker k (post_view notes past (Refused o g)), c))
     backs_out n id k o g notes past c s r wide at full =
-        subst (λ (m : ℕ). Goes s id m (Worker k (post_view notes past (Refused o g)), c) (λ x. (x + (2 ^ 64 - place_of (is_session o.kind))) % 2 ^ 64) (BacksOut (step m m (place_of (is_session o.kind)) 0 none) (Worker k (post_view notes past (Refused o g)), c))) wide
-        (back_here s r id k o g notes past c at (subst (λ (m : ℕ). get_or s.words m 0 < 18446744073709551616) (sym wide) full))
+        subst (λ (m : ℕ). Goes s id (child_slots m) (Worker k (post_view notes past (Refused o g)), c) (λ x. (x + (2 ^ 64 - place_of (is_session o.kind))) % 2 ^ 64) (BacksOut (step m (child_slots m) (place_of (is_session o.kind)) 0 none) (Worker k (post_view notes past (Refused o g)), c))) wide
+        (back_here s r id k o g notes past c at (subst (λ (m : ℕ). get_or s.words m 0 < 18446744073709551616) (ap child_slots (sym wide)) full))
 
     -- an attached child gives its place back
-    detach_here : (s : St told) (r : Kept told limit s) (id k : ℕ) (o : Offer D) (g : ℕ) (notes : PostNotes) (past : List (PastChild D)) (c : List (ℕ × Option J)) → get_elem? s.views id ≡ some (Worker k (post_view notes past (Attached o g))) → get_or s.words (length s.homes) 0 < 18446744073709551616
-        → Goes s id (length s.homes) (Worker k (post_view notes past (Attached o g)), c) (λ x. (x + (2 ^ 64 - place_of (is_session o.kind))) % 2 ^ 64) (Detaches (step (length s.homes) (length s.homes) (place_of (is_session o.kind)) 0 none) (Worker k (post_view notes past (Attached o g)), c))
+    detach_here : (s : St letter) (r : Kept letter limit s) (id k : ℕ) (o : Offer D) (g : ℕ) (notes : PostNotes) (past : List (PastChild D)) (c : List (ℕ × Option J)) → get_elem? s.views id ≡ some (Worker k (post_view notes past (Attached o g))) → get_or s.words (child_slots (length s.homes)) 0 < 18446744073709551616
+        → Goes s id (child_slots (length s.homes)) (Worker k (post_view notes past (Attached o g)), c) (λ x. (x + (2 ^ 64 - place_of (is_session o.kind))) % 2 ^ 64) (Detaches (step (length s.homes) (child_slots (length s.homes)) (place_of (is_session o.kind)) 0 none) (Worker k (post_view notes past (Attached o g)), c))
     detach_here s r id k o g notes past c at full =
-        let w : PostView D = post_view notes past (Attached o g) in let w' : PostView D = detached w o in let word : ℕ = get_or s.words (length s.homes) 0 in let mine = owned told limit s r.0 r.1 r.2 r.3 id k w at in
-        let e = does_stay _ o g mine.1.does in let ok = at_phase told limit _ _ _ _ _ e mine.1 in let lives_ = (subst (InGeneration limit r.1.generation) mine.2 (r.4.current k)).now.1 in
-        let known = lives told limit s r.0 r.1 r.2 r.3 r.5 k mine.0 o true (Attached o g) e (ap (λ (z : PostView D). z.work) mine.2) in (
+        let w : PostView D = post_view notes past (Attached o g) in let w' : PostView D = detached w o in let word : ℕ = get_or s.words (child_slots (length s.homes)) 0 in let mine = owned letter limit s r.0 r.1 r.2 r.3 id k w at in
+        let e = does_stay _ o g mine.1.does in let ok = at_phase letter limit _ _ _ _ _ e mine.1 in let lives_ = (subst (InGeneration limit r.1.generation) mine.2 (r.4.current k)).now.1 in
+        let known = lives letter limit s r.0 r.1 r.2 r.3 r.5 k mine.0 o true (Attached o g) e (ap (λ (z : PostView D). z.work) mine.2) in (
           Worker k w',
           keeps,
           tt,
-          kept told limit _ _ _ _ _ (word_step told s id k (length s.homes) ((word + (2 ^ 64 - place_of (is_session o.kind))) % 2 ^ 64) r.0 r.1 r.2 r.3 mine.0 (omega arith) w w' (running o true) at
+          kept letter limit _ _ _ _ _ (word_step letter s id k (child_slots (length s.homes)) ((word + (2 ^ 64 - place_of (is_session o.kind))) % 2 ^ 64) r.0 r.1 r.2 r.3 mine.0 (omega arith) w w' (running o true) at
               record { shows = ok.shows; fits = ok.fits; seen = ok.seen; does = (refl, refl); lists = ok.lists; there = ok.there; there_is = ok.there_is; mail = tt }
-              (placed_as told limit _ _ _ _ (running o true) e (r.3.each_child k mine.0))) refl
-              (subst (λ (z : ℕ). GateOk limit (length s.homes) z (gate_of r.1) (put r.2 k (cell s r id k o w w' mine.0 mine.2 refl))) (sym (get_or-set_same s.words (length s.homes) ((word + (2 ^ 64 - place_of (is_session o.kind))) % 2 ^ 64) 0 (let wide : length s.words ≡ 3 * length s.homes + 1 = r.3.wide in omega arith)))
+              (placed_as letter limit _ _ _ _ (running o true) e (r.3.each_child k mine.0))) refl
+              (subst (λ (z : ℕ). GateOk limit (child_slots (length s.homes)) z (gate_of r.1) (put r.2 k (cell s r id k o w w' mine.0 mine.2 refl))) (sym (get_or-set_same s.words (child_slots (length s.homes)) ((word + (2 ^ 64 - place_of (is_session o.kind))) % 2 ^ 64) 0 (let wide : length s.words ≡ 3 * child_slots (length s.homes) + 1 = r.3.wide in omega arith)))
               (gives_place s r id k o w w' mine.0 mine.2 refl e lives_ refl (λ test. plain (bit (test o.kind))) (omega arith) tt full))
-              (passes told limit s r.0 r.1 r.2 r.3 r.5 k mine.0 o false (Attached o g) (cell s r id k o w w' mine.0 mine.2 refl) (shared.Detach o.pid) (post_step.Detach o.pid) e (ap (λ (z : PostView D). z.work) mine.2) refl refl
+              (passes letter limit s r.0 r.1 r.2 r.3 r.5 k mine.0 o false (Attached o g) (cell s r id k o w w' mine.0 mine.2 refl) (shared.Detach o.pid) (post_step.Detach o.pid) e (ap (λ (z : PostView D). z.work) mine.2) refl refl
               (subst (λ z. IsSomeAnd z (λ (x : Child). x.attached ≡ true)) (sym known.0) refl)
               refl refl refl refl (ap (λ z. z ++ post_step.Detach o.pid ∷ []) (sym (ap (λ (z : PostView D). z.notes.steps) mine.2))) (sym (ap (λ (z : PostView D). z.past) mine.2)))
-              (let l = latch_here _ _ _ _ (r.2 k) (running o true) w e mine.2 (r.6.each k mine.0) in let near : k < length s.homes = mine.0 in latches_still _ k (length s.homes) _ s.words r.1 _ r.2 _ (omega arith, omega arith) (λ p. cancels_stay p (r.2 k).post w mine.2) refl refl refl refl record { armed = l.armed; fits = l.fits; standing = l.standing; cancel_is = l.cancel_is; now = l.now; past = l.past; unreleased = l.unreleased; named = l.named; keyed = l.keyed } r.6) (seats_step id k s.views r.1 r.2 _ _ _ at (r.3.each_seat id _ at) r.7),
+              (let l = latch_here _ _ _ _ _ (r.2 k) (running o true) w e mine.2 (r.6.each k mine.0) in let near : k < child_slots (length s.homes) = mine.0 in latches_still _ k (child_slots (length s.homes)) _ s.words r.1 _ r.2 _ (omega arith, omega arith) (ap (λ (z : PostView D). z.notes.cancels) (sym mine.2)) refl refl refl refl record { armed = l.armed; fits = l.fits; standing = l.standing; cancel_is = l.cancel_is; now = l.now; past = l.past; unreleased = l.unreleased; named = l.named; keyed = l.keyed; reaches = l.reaches; calls = l.calls } r.6) (seats_step id k s.views r.1 r.2 _ _ _ at (r.3.each_seat id _ at) r.7),
           λ o' g' does. let both : Attached o g ≡ Attached o' g' = does in let oe : o ≡ o' = cc in λ i. (Worker k (detached w (oe i)), c),
         )
 
     pub detaches : (n id k : ℕ) (o : Offer D) (g : ℕ) (notes : PostNotes) (past : List (PastChild D)) (c : List (ℕ × Option J))
-        → Allows (Kept told limit) n id (Worker k (post_view notes past (Attached o g)), c) n (λ x. (x + (2 ^ 64 - place_of (is_session o.kind))) % 2 ^ 64) (Detaches (step n n (place_of (is_session o.kind)) 0 none) (Worker k (post_view notes past (Attached o g)), c))
+        → Allows (Kept letter limit) n id (Worker k (post_view notes past (Attached o g)), c) (child_slots n) (λ x. (x + (2 ^ 64 - place_of (is_session o.kind))) % 2 ^ 64) (Detaches (step n (child_slots n) (place_of (is_session o.kind)) 0 none) (Worker k (post_view notes past (Attached o g)), c))
     detaches n id k o g notes past c s r wide at full =
-        subst (λ (m : ℕ). Goes s id m (Worker k (post_view notes past (Attached o g)), c) (λ x. (x + (2 ^ 64 - place_of (is_session o.kind))) % 2 ^ 64) (Detaches (step m m (place_of (is_session o.kind)) 0 none) (Worker k (post_view notes past (Attached o g)), c))) wide
-        (detach_here s r id k o g notes past c at (subst (λ (m : ℕ). get_or s.words m 0 < 18446744073709551616) (sym wide) full))
+        subst (λ (m : ℕ). Goes s id (child_slots m) (Worker k (post_view notes past (Attached o g)), c) (λ x. (x + (2 ^ 64 - place_of (is_session o.kind))) % 2 ^ 64) (Detaches (step m (child_slots m) (place_of (is_session o.kind)) 0 none) (Worker k (post_view notes past (Attached o g)), c))) wide
+        (detach_here s r id k o g notes past c at (subst (λ (m : ℕ). get_or s.words m 0 < 18446744073709551616) (ap child_slots (sym wide)) full))
 
 module _ {D : Type 0} where
   -- no slot is used where none is counted
@@ -424,35 +449,35 @@ ready_word None x s a g e ls la lg h = grown x 16777216 (s + (4096 * a + (167772
 ready_word (Some reason.Crash) x s a g e ls la lg h = less x 16777216 (s + (4096 * a + (16777216 * 1 + (33554432 * 0 + 134217728 * g)))) (omega arith) (omega arith) h
 ready_word (Some reason.Stop) x s a g e ls la lg h = less x 83886080 (s + (4096 * a + (16777216 * 1 + (33554432 * 0 + 134217728 * g)))) (omega arith) (omega arith) h
 
-module _ {J D : Type 0} (told : J → D) (limit : ℕ) where
+module _ {J D : Type 0} (letter : Letter.Ghosts J D) (limit : ℕ) where
   -- the supervisor gives notice
-  quit_here : (s : St told) (r : Kept told limit s) (id : ℕ) (d : RosterView D) (why : Reason) → MayQuit d.noticed why → get_elem? s.views id ≡ some (Postmaster d)
-      → Goes told limit s id (length s.homes) (Postmaster d, []) (λ x. (x + quit_step d.noticed why) % 2 ^ 64) (Quits (step (length s.homes) (length s.homes) (quit_step d.noticed why) 0 none) (Postmaster d, []))
+  quit_here : (s : St letter) (r : Kept letter limit s) (id : ℕ) (d : RosterView D) (why : Reason) → MayQuit d.noticed why → get_elem? s.views id ≡ some (Postmaster d)
+      → Goes letter limit s id (child_slots (length s.homes)) (Postmaster d, []) (λ x. (x + quit_step d.noticed why) % 2 ^ 64) (Quits (step (length s.homes) (child_slots (length s.homes)) (quit_step d.noticed why) 0 none) (Postmaster d, []))
   quit_here s r id d why may at =
-      let h = rebased told s r.0 id d r.1 r.2 r.3 at in let both = same_history told limit s r.0 id d r.1 r.2 r.3 at r.4 r.5 r.6 r.7 in let n : ℕ = length s.homes in let word : ℕ = get_or s.words n 0 in
+      let h = rebased letter s r.0 id d r.1 r.2 r.3 at in let both = same_history letter limit s r.0 id d r.1 r.2 r.3 at r.4 r.5 r.6 r.7 in let n : ℕ = child_slots (length s.homes) in let word : ℕ = get_or s.words n 0 in
       let it = reads limit n word (gate_of d) r.2 both.0 (λ k l. (h.each_slot k l).does) in let t : RosterStep = roster_step.Quit why d.generation in
       let shows = quit_word word it.sessions it.auxiliaries (bit d.is_open) (notice_bits d.noticed) (notice_bits (Some why)) d.generation it.shows it.few_sessions it.few_auxiliaries (bit_small d.is_open) (quit_up d.noticed why may) (notice_small (Some why)) both.0.fits
       ∙ (λ i. gate_packed record { generation = d.generation; is_open = d.is_open; noticed = Some why; sessions = it.sessions_is i; auxiliaries = it.auxiliaries_is i }) in (
         Postmaster (after_step d t),
         keeps,
         tt,
-        kept told limit _ _ _ _ _ (word_turn told s id (length s.homes) ((word + quit_step d.noticed why) % 2 ^ 64) d r.2 t (omega arith) h h.each_child) refl
-            (subst (λ (z : ℕ). GateOk limit n z (gate_of (after_step d t)) r.2) (sym (get_or-set_same s.words n ((word + quit_step d.noticed why) % 2 ^ 64) 0 (let wide : length s.words ≡ 3 * length s.homes + 1 = h.wide in omega arith)))
+        kept letter limit _ _ _ _ _ (word_turn letter s id (child_slots (length s.homes)) ((word + quit_step d.noticed why) % 2 ^ 64) d r.2 t (omega arith) h h.each_child) refl
+            (subst (λ (z : ℕ). GateOk limit n z (gate_of (after_step d t)) r.2) (sym (get_or-set_same s.words n ((word + quit_step d.noticed why) % 2 ^ 64) 0 (let wide : length s.words ≡ 3 * child_slots (length s.homes) + 1 = h.wide in omega arith)))
             record { shows = shows; few = both.0.few; shut = both.0.shut; small = both.0.small; first = both.0.first; fits = both.0.fits; current = both.0.current; once = both.0.once })
             (quit_history limit n d r.2 why both.1)
-            (latches_turn n n _ s.words d _ r.2 t (omega arith) refl refl (λ pid. quit_is_no_release pid d.generation why) (λ why' is. let it' : why ≡ why' = cc in subst (λ (z : Reason). Contains (d.notes.steps ++ t ∷ []) (roster_step.Quit z d.generation)) it' (at_last d.notes.steps t)) both.2) (seats_still id s.views d _ r.2 at refl refl both.3),
+            (latches_turn n n _ s.words d _ r.2 t (omega arith) refl refl (λ pid. quit_is_no_release pid d.generation why) (λ _ _. refl) (λ why' is. let it' : why ≡ why' = cc in subst (λ (z : Reason). Contains (d.notes.steps ++ t ∷ []) (roster_step.Quit z d.generation)) it' (at_last d.notes.steps t)) both.2) (seats_still id s.views d _ r.2 at refl refl both.3),
         λ why' may' same. ap (λ (z : Reason). (Postmaster (after_step d (roster_step.Quit z d.generation)), [])) (same_quit d.noticed why why' may may' same),
       )
 
-  pub quits : (n id : ℕ) (d : RosterView D) (why : Reason) → MayQuit d.noticed why → Allows (Kept told limit) n id (Postmaster d, []) n (λ x. (x + quit_step d.noticed why) % 2 ^ 64) (Quits (step n n (quit_step d.noticed why) 0 none) (Postmaster d, []))
+  pub quits : (n id : ℕ) (d : RosterView D) (why : Reason) → MayQuit d.noticed why → Allows (Kept letter limit) n id (Postmaster d, []) (child_slots n) (λ x. (x + quit_step d.noticed why) % 2 ^ 64) (Quits (step n (child_slots n) (quit_step d.noticed why) 0 none) (Postmaster d, []))
   quits n id d why may s r wide at _ =
-      subst (λ (m : ℕ). Goes told limit s id m (Postmaster d, []) (λ x. (x + quit_step d.noticed why) % 2 ^ 64) (Quits (step m m (quit_step d.noticed why) 0 none) (Postmaster d, []))) wide (quit_here s r id d why may at)
+      subst (λ (m : ℕ). Goes letter limit s id (child_slots m) (Postmaster d, []) (λ x. (x + quit_step d.noticed why) % 2 ^ 64) (Quits (step m (child_slots m) (quit_step d.noticed why) 0 none) (Postmaster d, []))) wide (quit_here s r id d why may at)
 
   -- the supervisor opens the gate
-  ready_here : (s : St told) (r : Kept told limit s) (id : ℕ) (d : RosterView D) → d.is_open ≡ false → ((o : Offer D) → (slot_at d 0).sight ≡ Assigned o → is_startup_child o.kind ≡ false) → get_elem? s.views id ≡ some (Postmaster d) → get_or s.words (length s.homes) 0 < 18446744073709551616
-      → Goes told limit s id (length s.homes) (Postmaster d, []) (λ x. (x + ready_step d.noticed) % 2 ^ 64) (Readies (step (length s.homes) (length s.homes) (ready_step d.noticed) 0 none) (Postmaster d, []))
+  ready_here : (s : St letter) (r : Kept letter limit s) (id : ℕ) (d : RosterView D) → d.is_open ≡ false → ((o : Offer D) → (slot_at d 0).sight ≡ Assigned o → is_startup_child o.kind ≡ false) → get_elem? s.views id ≡ some (Postmaster d) → get_or s.words (child_slots (length s.homes)) 0 < 18446744073709551616
+      → Goes letter limit s id (child_slots (length s.homes)) (Postmaster d, []) (λ x. (x + ready_step d.noticed) % 2 ^ 64) (Readies (step (length s.homes) (child_slots (length s.homes)) (ready_step d.noticed) 0 none) (Postmaster d, []))
   ready_here s r id d closed startups at full =
-      let h = rebased told s r.0 id d r.1 r.2 r.3 at in let both = same_history told limit s r.0 id d r.1 r.2 r.3 at r.4 r.5 r.6 r.7 in let n : ℕ = length s.homes in let word : ℕ = get_or s.words n 0 in
+      let h = rebased letter s r.0 id d r.1 r.2 r.3 at in let both = same_history letter limit s r.0 id d r.1 r.2 r.3 at r.4 r.5 r.6 r.7 in let n : ℕ = child_slots (length s.homes) in let word : ℕ = get_or s.words n 0 in
       let it = reads limit n word (gate_of d) r.2 both.0 (λ k l. (h.each_slot k l).does) in let t : RosterStep = roster_step.Ready d.generation in
       let was : word ≡ it.sessions + (4096 * it.auxiliaries + (16777216 * 0 + (33554432 * notice_bits d.noticed + 134217728 * d.generation))) = it.shows ∙ ap (λ (b : Bool). it.sessions + (4096 * it.auxiliaries + (16777216 * bit b + (33554432 * notice_bits d.noticed + 134217728 * d.generation)))) closed in
       let shows = ready_word d.noticed word it.sessions it.auxiliaries d.generation was it.few_sessions it.few_auxiliaries both.0.fits full
@@ -465,32 +490,32 @@ module _ {J D : Type 0} (told : J → D) (limit : ℕ) where
         Postmaster (after_step d t),
         keeps,
         tt,
-        kept told limit _ _ _ _ _ (word_turn told s id (length s.homes) ((word + ready_step d.noticed) % 2 ^ 64) d r.2 t (omega arith) h h.each_child) refl
-            (subst (λ (z : ℕ). GateOk limit n z (gate_of (after_step d t)) r.2) (sym (get_or-set_same s.words n ((word + ready_step d.noticed) % 2 ^ 64) 0 (let wide : length s.words ≡ 3 * length s.homes + 1 = h.wide in omega arith)))
+        kept letter limit _ _ _ _ _ (word_turn letter s id (child_slots (length s.homes)) ((word + ready_step d.noticed) % 2 ^ 64) d r.2 t (omega arith) h h.each_child) refl
+            (subst (λ (z : ℕ). GateOk limit n z (gate_of (after_step d t)) r.2) (sym (get_or-set_same s.words n ((word + ready_step d.noticed) % 2 ^ 64) 0 (let wide : length s.words ≡ 3 * child_slots (length s.homes) + 1 = h.wide in omega arith)))
             record { shows = shows; few = both.0.few; shut = (λ e. absurd (cc)); small = both.0.small; first = both.0.first; fits = both.0.fits; current = both.0.current; once = both.0.once })
             (ready_history limit n d r.2 both.1 closed (λ k l. (h.each_slot k l).does) (omega arith)
             (λ k o l is. no_startup k o l (subst (OfChild (IsPlaced n d.generation k)) is (h.each_child k l)) (subst (λ (z : Phase D). Seen z (slot_at d k).past (slot_at d k).sight) is (h.each_slot k l).seen))
             (λ k o a l is. no_startup k o l (subst (OfChild (IsPlaced n d.generation k)) is (h.each_child k l)) (subst (λ (z : Phase D). Seen z (slot_at d k).past (slot_at d k).sight) is (h.each_slot k l).seen)))
-            (latches_turn n n _ s.words d _ r.2 t (omega arith) refl refl (λ pid. ready_is_no_release pid d.generation) (λ why is. absurd (cc)) both.2) (seats_still id s.views d _ r.2 at refl refl both.3),
+            (latches_turn n n _ s.words d _ r.2 t (omega arith) refl refl (λ pid. ready_is_no_release pid d.generation) (λ _ _. refl) (λ why is. absurd (cc)) both.2) (seats_still id s.views d _ r.2 at refl refl both.3),
         refl,
       )
 
-  pub readies : (n id : ℕ) (d : RosterView D) → d.is_open ≡ false → ((o : Offer D) → (slot_at d 0).sight ≡ Assigned o → is_startup_child o.kind ≡ false) → Allows (Kept told limit) n id (Postmaster d, []) n (λ x. (x + ready_step d.noticed) % 2 ^ 64) (Readies (step n n (ready_step d.noticed) 0 none) (Postmaster d, []))
+  pub readies : (n id : ℕ) (d : RosterView D) → d.is_open ≡ false → ((o : Offer D) → (slot_at d 0).sight ≡ Assigned o → is_startup_child o.kind ≡ false) → Allows (Kept letter limit) n id (Postmaster d, []) (child_slots n) (λ x. (x + ready_step d.noticed) % 2 ^ 64) (Readies (step n (child_slots n) (ready_step d.noticed) 0 none) (Postmaster d, []))
   readies n id d closed startups s r wide at full =
-      subst (λ (m : ℕ). Goes told limit s id m (Postmaster d, []) (λ x. (x + ready_step d.noticed) % 2 ^ 64) (Readies (step m m (ready_step d.noticed) 0 none) (Postmaster d, []))) wide
-      (ready_here s r id d closed startups at (subst (λ (m : ℕ). get_or s.words m 0 < 18446744073709551616) (sym wide) full))
+      subst (λ (m : ℕ). Goes letter limit s id (child_slots m) (Postmaster d, []) (λ x. (x + ready_step d.noticed) % 2 ^ 64) (Readies (step m (child_slots m) (ready_step d.noticed) 0 none) (Postmaster d, []))) wide
+      (ready_here s r id d closed startups at (subst (λ (m : ℕ). get_or s.words m 0 < 18446744073709551616) (ap child_slots (sym wide)) full))
 
   -- where no slot is used, no worker does anything
-  pub all_idle : (s : St told) (m : ℕ) (d : RosterView D) (cells : ℕ → Cell D) → Holds told m d cells s → used_in d.slots ≡ 0 → (k : ℕ) → (cells k).post.work ≡ Idle
-  all_idle s m d cells h free k = dite (dec_le (k + 1) (length s.homes))
+  pub all_idle : (s : St letter) (m : ℕ) (d : RosterView D) (cells : ℕ → Cell D) → Holds letter m d cells s → used_in d.slots ≡ 0 → (k : ℕ) → (cells k).post.work ≡ Idle
+  all_idle s m d cells h free k = dite (dec_le (k + 1) (child_slots (length s.homes)))
       (λ l. let was = h.each_slot k (omega arith) in (is_idle (cells k).phase (slot_at d k).past (slot_at d k).sight (cells k).post.work (none_used d.slots free k) was.seen was.does).0)
-      (λ no. let dealt : d.dealt ≤ length s.homes = h.some_posts in ap (λ (w : PostView D). w.work) (h.new_posts k (omega arith)))
+      (λ no. let dealt : d.dealt ≤ child_slots (length s.homes) = h.some_posts in ap (λ (w : PostView D). w.work) (h.new_posts k (omega arith)))
 
   -- the supervisor begins a generation
-  reset_here : (s : St told) (r : Kept told limit s) (id : ℕ) (d : RosterView D) → used_in d.slots ≡ 0 → d.generation + 1 < 4294967296 → get_elem? s.views id ≡ some (Postmaster d)
-      → Goes told limit s id (length s.homes) (Postmaster d, []) (λ _. new_gate (d.generation + 1)) (λ _. Resets (step (length s.homes) (length s.homes) (new_gate (d.generation + 1)) 0 none) (Postmaster d, []) (new_gate (d.generation + 1)))
+  reset_here : (s : St letter) (r : Kept letter limit s) (id : ℕ) (d : RosterView D) → used_in d.slots ≡ 0 → d.generation + 1 < 4294967296 → get_elem? s.views id ≡ some (Postmaster d)
+      → Goes letter limit s id (child_slots (length s.homes)) (Postmaster d, []) (λ _. new_gate (d.generation + 1)) (λ _. Resets (step (length s.homes) (child_slots (length s.homes)) (new_gate (d.generation + 1)) 0 none) (Postmaster d, []) (new_gate (d.generation + 1)))
   reset_here s r id d free big at =
-      let h = rebased told s r.0 id d r.1 r.2 r.3 at in let both = same_history told limit s r.0 id d r.1 r.2 r.3 at r.4 r.5 r.6 r.7 in let n : ℕ = length s.homes in let g : ℕ = d.generation in let t : RosterStep = roster_step.Reset (g + 1) in
+      let h = rebased letter s r.0 id d r.1 r.2 r.3 at in let both = same_history letter limit s r.0 id d r.1 r.2 r.3 at r.4 r.5 r.6 r.7 in let n : ℕ = child_slots (length s.homes) in let g : ℕ = d.generation in let t : RosterStep = roster_step.Reset (g + 1) in
       let idle = all_idle s id d r.2 h free in
       let gone : (k : ℕ) → k < n → (living (r.2 k).phase ≡ 0) × ((P : Offer D → Type 0) → OfChild P (r.2 k).phase) =
       (λ k l. let was = h.each_slot k l in let it = is_idle (r.2 k).phase (slot_at d k).past (slot_at d k).sight (r.2 k).post.work (none_used d.slots free k) was.seen was.does in (it.1, it.2)) in
@@ -504,8 +529,8 @@ module _ {J D : Type 0} (told : J → D) (limit : ℕ) where
         Postmaster (after_step d t),
         keeps,
         tt,
-        kept told limit _ _ _ _ _ (word_turn told s id (length s.homes) (new_gate (g + 1)) d r.2 t (omega arith) h (λ k l. (gone k l).1 (IsPlaced n (g + 1) k))) refl
-            (subst (λ (z : ℕ). GateOk limit n z (gate_of (after_step d t)) r.2) (sym (get_or-set_same s.words n (new_gate (g + 1)) 0 (let wide : length s.words ≡ 3 * length s.homes + 1 = h.wide in omega arith)))
+        kept letter limit _ _ _ _ _ (word_turn letter s id (child_slots (length s.homes)) (new_gate (g + 1)) d r.2 t (omega arith) h (λ k l. (gone k l).1 (IsPlaced n (g + 1) k))) refl
+            (subst (λ (z : ℕ). GateOk limit n z (gate_of (after_step d t)) r.2) (sym (get_or-set_same s.words n (new_gate (g + 1)) 0 (let wide : length s.words ≡ 3 * child_slots (length s.homes) + 1 = h.wide in omega arith)))
             record {
               shows = shows;
               few = (omega arith);
@@ -517,10 +542,10 @@ module _ {J D : Type 0} (told : J → D) (limit : ℕ) where
               once = (λ k. record { at_most = (let z : lost is_auxiliary (g + 1) (r.2 k).post.past ≡ 0 = lost_none is_auxiliary k in omega arith); none_before = of_living (λ o. is_auxiliary o.kind ≡ true → lost is_auxiliary (g + 1) (r.2 k).post.past ≡ 0) (r.2 k).phase (λ _ _. lost_none is_auxiliary k) });
             })
             (reset_history limit n d r.2 (λ k l. (gone k l).0) both.1)
-            (latches_turn n n _ s.words d _ r.2 t (omega arith) refl refl (λ pid. reset_is_no_release pid (g + 1)) (λ why is. absurd (cc)) both.2) (seats_still id s.views d _ r.2 at refl refl both.3),
+            (latches_turn n n _ s.words d _ r.2 t (omega arith) refl refl (λ pid. reset_is_no_release pid (g + 1)) (λ _ _. refl) (λ why is. absurd (cc)) both.2) (seats_still id s.views d _ r.2 at refl refl both.3),
         refl,
       )
 
-  pub resets : (n id : ℕ) (d : RosterView D) → used_in d.slots ≡ 0 → d.generation + 1 < 4294967296 → Allows (Kept told limit) n id (Postmaster d, []) n (λ _. new_gate (d.generation + 1)) (λ _. Resets (step n n (new_gate (d.generation + 1)) 0 none) (Postmaster d, []) (new_gate (d.generation + 1)))
+  pub resets : (n id : ℕ) (d : RosterView D) → used_in d.slots ≡ 0 → d.generation + 1 < 4294967296 → Allows (Kept letter limit) n id (Postmaster d, []) (child_slots n) (λ _. new_gate (d.generation + 1)) (λ _. Resets (step n (child_slots n) (new_gate (d.generation + 1)) 0 none) (Postmaster d, []) (new_gate (d.generation + 1)))
   resets n id d free big s r wide at _ =
-      subst (λ (m : ℕ). Goes told limit s id m (Postmaster d, []) (λ _. new_gate (d.generation + 1)) (λ _. Resets (step m m (new_gate (d.generation + 1)) 0 none) (Postmaster d, []) (new_gate (d.generation + 1)))) wide (reset_here s r id d free big at)
+      subst (λ (m : ℕ). Goes letter limit s id (child_slots m) (Postmaster d, []) (λ _. new_gate (d.generation + 1)) (λ _. Resets (step m (child_slots m) (new_gate (d.generation + 1)) 0 none) (Postmaster d, []) (new_gate (d.generation + 1)))) wide (reset_here s r id d free big at)

@@ -14,6 +14,8 @@ use Rattle.pm_supervisor.specs.Children.{Child, child_of, without}
 use Rattle.pm_supervisor.specs.Supervisor.{Shared, first}
 use Rattle.pm_supervisor.specs.Shared.{SharedEvent, after_shared}
 use Rattle.pm_supervisor.specs.Shared as shared
+use Rattle.pm_board.specs.Slots.{child_slots}
+use Rattle.pm_board.specs.declared.views.Letter as Letter
 use Rattle.pm_board.specs.declared.views.Offer.{Offer}
 use Rattle.pm_board.specs.declared.views.PastChild.{PastChild}
 use Rattle.pm_board.specs.declared.views.Sight.{Sight}
@@ -25,9 +27,9 @@ use Rattle.pm_board.specs.declared.views.View.TheVariants.{Postmaster}
 use Rattle.pm_board.specs.Places.{slot_at}
 use Rattle.pm_board.specs.Gate.{Gate, GateOk, gate_after, gate_of_steps, first_gate, gate_of}
 use Rattle.pm_board.specs.Told.{after_step}
-use Rattle.pm_board.specs.Latches.{NotReleased, OfUnreleased, Latches}
+use Rattle.pm_board.specs.Latches.{NotReleased, NotSent, OfUnreleased, Latches}
 use Rattle.pm_board.specs.Seats.{Seats}
-use Rattle.pm_board.proofs.Latches.{release_is_other}
+use Rattle.pm_board.proofs.Latches.{release_is_other, sent_to_other}
 use Rattle.pm_board.specs.Rule.{Phase, unused, opened, offered, running, ended, collected, gathered, Seen, used_pid, Cell, Holds, put, at_put}
 use Rattle.pm_board.specs.declared.views.RosterStep.{RosterStep}
 use Rattle.pm_board.specs.declared.views.Signal.{Signal}
@@ -109,10 +111,10 @@ own_release log steps gate pid generation kind own = record {
 }
 
 -- and after a send
-own_send : (log : List Entry) (steps : List RosterStep) (gate : Gate) (pid generation : ℕ) (kind : Kind) (signal : Signal) → OwnSteps log steps gate → OwnSteps log (steps ++ Send pid kind signal generation ∷ []) gate
-own_send log steps gate pid generation kind signal own = record {
+own_send : (log : List Entry) (steps : List RosterStep) (gate : Gate) (slot pid generation : ℕ) (kind : Kind) (signal : Signal) → OwnSteps log steps gate → OwnSteps log (steps ++ Send slot pid kind signal generation ∷ []) gate
+own_send log steps gate slot pid generation kind signal own = record {
   made = own.made ∙ (sym (append-nil (events_of steps)) ∙ sym (flat_map-append event_of steps _));
-  leave = gate_more first_gate steps (Send pid kind signal generation) ∙ own.leave;
+  leave = gate_more first_gate steps (Send slot pid kind signal generation) ∙ own.leave;
 }
 
 -- after an event of a worker
@@ -244,19 +246,19 @@ module _ {D : Type 0} where
 
 module _ {D : Type 0} where
   -- a send is no event
-  pub send_history : (limit n : ℕ) (d : RosterView D) (cells : ℕ → Cell D) (pid g : ℕ) (kind : Kind) (signal : Signal) → History limit d cells n → History limit (after_step d (Send pid kind signal g)) cells n
-  send_history limit n d cells pid g kind signal st = let h = st.3 in (
+  pub send_history : (limit n : ℕ) (d : RosterView D) (cells : ℕ → Cell D) (slot pid g : ℕ) (kind : Kind) (signal : Signal) → History limit d cells n → History limit (after_step d (Send slot pid kind signal g)) cells n
+  send_history limit n d cells slot pid g kind signal st = let h = st.3 in (
     st.0,
     st.1,
     st.2,
     record { generation = h.generation; is_open = h.is_open; noticed = h.noticed; last_pid = h.last_pid; each = h.each; no_other = h.no_other; once = h.once },
-    own_send st.0 d.notes.steps (gate_of d) pid g kind signal st.4,
+    own_send st.0 d.notes.steps (gate_of d) slot pid g kind signal st.4,
     st.5,
   )
 
-module _ {J D : Type 0} (told : J → D) (limit : ℕ) where
+module _ {J D : Type 0} (letter : Letter.Ghosts J D) (limit : ℕ) where
   -- pids of living children differ
-  pub pids_apart : (s : State (Option J) (View D)) (m : ℕ) (d : RosterView D) (cells : ℕ → Cell D) → Holds told m d cells s → (k j : ℕ) → k < length s.homes → j < length s.homes → j ≢ k → 0 < living (cells k).phase → living (cells j).phase ≢ living (cells k).phase
+  pub pids_apart : (s : State (Option J) (View D)) (m : ℕ) (d : RosterView D) (cells : ℕ → Cell D) → Holds letter m d cells s → (k j : ℕ) → k < child_slots (length s.homes) → j < child_slots (length s.homes) → j ≢ k → 0 < living (cells k).phase → living (cells j).phase ≢ living (cells k).phase
   pids_apart s m d cells h k j lk lj ne pos e = let a = seen_pid (cells k).phase (slot_at d k).past (slot_at d k).sight (h.each_slot k lk).seen pos in
       let pos' : 0 < living (cells j).phase = omega arith in let b = seen_pid (cells j).phase (slot_at d j).past (slot_at d j).sight (h.each_slot j lj).seen pos' in
       ne (h.pids.differ j k (subst (λ (z : ℕ). 0 < z) b pos') (sym b ∙ (e ∙ a)))
@@ -277,59 +279,65 @@ module _ {J D : Type 0} (told : J → D) (limit : ℕ) where
   unreleased_pid Q gathered past x e f = tt
 
   -- the release of one child is that of no other
-  pub others_stay : (s : State (Option J) (View D)) (m : ℕ) (d : RosterView D) (cells : ℕ → Cell D) → Holds told m d cells s → (k j : ℕ) → j < length s.homes → j ≢ k → (pid g : ℕ) (kind : Kind) → 0 < pid → used_pid (slot_at d k).sight ≡ pid
+  pub others_stay : (s : State (Option J) (View D)) (m : ℕ) (d : RosterView D) (cells : ℕ → Cell D) → Holds letter m d cells s → (k j : ℕ) → j < child_slots (length s.homes) → j ≢ k → (pid g : ℕ) (kind : Kind) → 0 < pid → used_pid (slot_at d k).sight ≡ pid
       → OfUnreleased (λ o. NotReleased o.pid (Release pid kind g ∷ [])) (cells j).phase
   others_stay s m d cells h k j l ne pid g kind pos is = unreleased_pid (λ p. NotReleased p (Release pid kind g ∷ [])) (cells j).phase (slot_at d j).past (slot_at d j).sight (h.each_slot j l).seen
       (λ p at_p. release_is_other p pid g kind (λ same. ne (sym (h.pids.differ k j (subst (λ (z : ℕ). 0 < z) (sym is) pos) (is ∙ (sym same ∙ sym at_p))))))
 
-  pub kept : (s : State (Option J) (View D)) (n m : ℕ) (d : RosterView D) (cells : ℕ → Cell D) → Holds told m d cells s → length s.homes ≡ n
-      → GateOk limit n (get_or s.words n 0) (gate_of d) cells → History limit d cells n → Latches n s.words d cells → Seats s.views d cells → Kept told limit s
+  -- nor is a send to one child a send to another
+  pub others_unsent : (s : State (Option J) (View D)) (m : ℕ) (d : RosterView D) (cells : ℕ → Cell D) → Holds letter m d cells s → (k j : ℕ) → j < child_slots (length s.homes) → j ≢ k → (pid g : ℕ) (kind : Kind) (sig : Signal) → 0 < pid → used_pid (slot_at d k).sight ≡ pid
+      → OfUnreleased (λ o. NotSent o.pid (Send k pid kind sig g ∷ [])) (cells j).phase
+  others_unsent s m d cells h k j l ne pid g kind sig pos is = unreleased_pid (λ p. NotSent p (Send k pid kind sig g ∷ [])) (cells j).phase (slot_at d j).past (slot_at d j).sight (h.each_slot j l).seen
+      (λ p at_p. sent_to_other k p pid g kind sig (λ same. ne (sym (h.pids.differ k j (subst (λ (z : ℕ). 0 < z) (sym is) pos) (is ∙ (sym same ∙ sym at_p))))))
+
+  pub kept : (s : State (Option J) (View D)) (n m : ℕ) (d : RosterView D) (cells : ℕ → Cell D) → Holds letter m d cells s → child_slots (length s.homes) ≡ n
+      → GateOk limit n (get_or s.words n 0) (gate_of d) cells → History limit d cells n → Latches n s.words d cells → Seats s.views d cells → Kept letter limit s
   kept s n m d cells h e gate st la se = (m, d, cells, h, subst (λ (z : ℕ). GateOk limit z (get_or s.words z 0) (gate_of d) cells) (sym e) gate, subst (History limit d cells) (sym e) st, subst (λ (z : ℕ). Latches z s.words d cells) (sym e) la, se)
 
   -- the history, with what the supervisor's seat shows
-  pub same_history : (s : State (Option J) (View D)) (m id : ℕ) (d e : RosterView D) (cells : ℕ → Cell D) → Holds told m e cells s → get_elem? s.views id ≡ some (Postmaster d)
-      → GateOk limit (length s.homes) (get_or s.words (length s.homes) 0) (gate_of e) cells → History limit e cells (length s.homes) → Latches (length s.homes) s.words e cells → Seats s.views e cells
-      → GateOk limit (length s.homes) (get_or s.words (length s.homes) 0) (gate_of d) cells × History limit d cells (length s.homes) × Latches (length s.homes) s.words d cells × Seats s.views d cells
-  same_history s m id d e cells h at gate st la se = subst (λ (z : RosterView D). GateOk limit (length s.homes) (get_or s.words (length s.homes) 0) (gate_of z) cells × History limit z cells (length s.homes) × Latches (length s.homes) s.words z cells × Seats s.views z cells) (sym (h.each_seat id (Postmaster d) at).1) (gate, st, la, se)
+  pub same_history : (s : State (Option J) (View D)) (m id : ℕ) (d e : RosterView D) (cells : ℕ → Cell D) → Holds letter m e cells s → get_elem? s.views id ≡ some (Postmaster d)
+      → GateOk limit (child_slots (length s.homes)) (get_or s.words (child_slots (length s.homes)) 0) (gate_of e) cells → History limit e cells (child_slots (length s.homes)) → Latches (child_slots (length s.homes)) s.words e cells → Seats s.views e cells
+      → GateOk limit (child_slots (length s.homes)) (get_or s.words (child_slots (length s.homes)) 0) (gate_of d) cells × History limit d cells (child_slots (length s.homes)) × Latches (child_slots (length s.homes)) s.words d cells × Seats s.views d cells
+  same_history s m id d e cells h at gate st la se = subst (λ (z : RosterView D). GateOk limit (child_slots (length s.homes)) (get_or s.words (child_slots (length s.homes)) 0) (gate_of z) cells × History limit z cells (child_slots (length s.homes)) × Latches (child_slots (length s.homes)) s.words z cells × Seats s.views z cells) (sym (h.each_seat id (Postmaster d) at).1) (gate, st, la, se)
 
-  module _ (s : State (Option J) (View D)) (m : ℕ) (d d' : RosterView D) (cells : ℕ → Cell D) (h : Holds told m d cells s) (st : History limit d cells (length s.homes))
-      (eg : d'.generation ≡ d.generation) (eo : d'.is_open ≡ d.is_open) (en : d'.noticed ≡ d.noticed) (k : ℕ) (near : k < length s.homes) where
+  module _ (s : State (Option J) (View D)) (m : ℕ) (d d' : RosterView D) (cells : ℕ → Cell D) (h : Holds letter m d cells s) (st : History limit d cells (child_slots (length s.homes)))
+      (eg : d'.generation ≡ d.generation) (eo : d'.is_open ≡ d.is_open) (en : d'.noticed ≡ d.noticed) (k : ℕ) (near : k < child_slots (length s.homes)) where
     -- the child of the slot k, which had the phase ph and did w, leaves
     pub leaves : (o : Offer D) (a : Bool) (w : Work D) (c : Cell D) → (cells k).phase ≡ running o a → (cells k).post.work ≡ w → living c.phase ≡ 0 → 0 < o.pid → d'.notes ≡ d.notes
         → (y : PastChild D) → y.offer ≡ o → c.post.past ≡ (cells k).post.past ++ y ∷ [] → c.post.notes.steps ≡ (cells k).post.notes.steps ++ post_step.Exit o.pid o.kind ∷ []
-        → ((cs : List Child) → ShowsChild cs c.phase c.post.work) → History limit d' (put cells k c) (length s.homes)
+        → ((cs : List Child) → ShowsChild cs c.phase c.post.work) → History limit d' (put cells k c) (child_slots (length s.homes))
     leaves o a w c is does gone pos el y of_o past steps any = let p : ℕ = o.pid in let x : Shared = st.1 in let e : Entry = record { event = shared.Leave p o.kind; slot = k } in let here : living (cells k).phase ≡ p = ap living is in
         let known = subst (λ (z : Phase D × Work D). ShowsChild x.children z.0 z.1) {x = ((cells k).phase, (cells k).post.work)} {y = (running o a, w)} (λ i. (is i, does i)) (st.3.each k near) in (
           st.0 ++ e ∷ [],
           after_shared x e.event,
           goes_on st.0 x e st.2 (subst (λ (z : Option Child). IsSomeAnd z (λ c. c.kind ≡ o.kind)) (sym known) refl),
-          shows_moves x (after_shared x e.event) d d' cells (length s.homes) k p c st.3 near pos
+          shows_moves x (after_shared x e.event) d d' cells (child_slots (length s.homes)) k p c st.3 near pos
               record { generation = st.3.generation ∙ sym eg; is_open = st.3.is_open ∙ sym eo; noticed = st.3.noticed ∙ sym en; last_pid = st.3.last_pid ∙ ap (λ z. z.last_pid) (sym el) }
               (λ q ne. without_other p q x.children ne)
               (λ j l ne same. pids_apart s m d cells h k j near l ne (subst (λ (z : ℕ). 0 < z) (sym here) pos) (same ∙ sym here))
               (any _) (λ y some_. let no : None ≡ Some y = sym (st.3.once p) ∙ some_ in absurd (cc)) (λ q ne _ same. ne (sym same ∙ here))
               (λ q. once_left p q x.children st.3.once),
           subst (λ (z : List RosterStep × Gate). OwnSteps (st.0 ++ e ∷ []) z.0 z.1) (λ i. (ap (λ z. z.steps) (sym el) i, record { generation = sym eg i; is_open = sym eo i; noticed = sym en i })) (own_worker st.0 d.notes.steps (gate_of d) k e.event refl st.4),
-          λ j l. at_put cells k c (λ q z. q < length s.homes → OwnPart (st.0 ++ e ∷ []) q z.post) j
+          λ j l. at_put cells k c (λ q z. q < child_slots (length s.homes) → OwnPart (st.0 ++ e ∷ []) q z.post) j
               (λ l'. own_part st.0 k e.event (post_step.Exit p o.kind) (cells k).post c.post steps refl
               (ap (map pid_and_kind) past ∙ (map-append pid_and_kind (cells k).post.past (y ∷ []) ∙ ap (λ (z : Offer D). map pid_and_kind (cells k).post.past ++ (z.pid, z.kind) ∷ []) of_o)) (st.5 k l'))
               (λ ne l'. other_part st.0 j k e.event (cells j).post ne (st.5 j l')) l,
         )
 
     -- a new child joins, whose pid is above all earlier ones
-    pub joins : (o : Offer D) (c : Cell D) → (q : ℕ) → (cells k).phase ≡ opened q → c.phase ≡ offered o → o.generation ≡ d.generation → d.notes.last_pid < o.pid → d'.notes.last_pid ≡ o.pid → d'.notes.steps ≡ d.notes.steps ++ Assign o.pid o.kind o.generation ∷ [] → c.post ≡ (cells k).post
-        → History limit d' (put cells k c) (length s.homes)
+    pub joins : (o : Offer D) (c : Cell D) → (q : ℕ) → (cells k).phase ≡ opened q → c.phase ≡ offered o → o.generation ≡ d.generation → d.notes.last_pid < o.pid → d'.notes.last_pid ≡ o.pid → d'.notes.steps ≡ d.notes.steps ++ Assign k o.pid o.kind o.generation ∷ [] → c.post ≡ (cells k).post
+        → History limit d' (put cells k c) (child_slots (length s.homes))
     joins o c q is is' now new el steps same = let p : ℕ = o.pid in let x : Shared = st.1 in let e : Entry = record { event = shared.Join p o.kind; slot = k } in let here : living (cells k).phase ≡ 0 = ap living is in
         let last : x.last_pid ≡ d.notes.last_pid = st.3.last_pid in
         let child : Child = record { pid = p; kind = o.kind; generation = x.generation; attached = false } in
         let shown : child ≡ shown_child o false = (λ i. record { pid = p; kind = o.kind; generation = (st.3.generation ∙ sym now) i; attached = false }) in
-        let fresh : (j : ℕ) → j < length s.homes → living (cells j).phase ≢ p = (λ j l q. let b : used_pid (slot_at d j).sight ≤ d.notes.last_pid = h.pids.below j in
+        let fresh : (j : ℕ) → j < child_slots (length s.homes) → living (cells j).phase ≢ p = (λ j l q. let b : used_pid (slot_at d j).sight ≤ d.notes.last_pid = h.pids.below j in
         let r : living (cells j).phase ≡ used_pid (slot_at d j).sight = seen_pid (cells j).phase (slot_at d j).past (slot_at d j).sight (h.each_slot j l).seen (omega arith) in absurd (omega arith)) in
         let none : child_of p x.children ≡ None = absent p x.children (λ y some_. let was = st.3.no_other p y some_ in fresh was.0 was.1 was.2) in (
           st.0 ++ e ∷ [],
           after_shared x e.event,
           goes_on st.0 x e st.2 (omega arith),
-          shows_moves x (after_shared x e.event) d d' cells (length s.homes) k p c st.3 near (omega arith)
+          shows_moves x (after_shared x e.event) d d' cells (child_slots (length s.homes)) k p c st.3 near (omega arith)
               record { generation = st.3.generation ∙ sym eg; is_open = st.3.is_open ∙ sym eo; noticed = st.3.noticed ∙ sym en; last_pid = sym el }
               (λ q ne. child_miss q child x.children (λ z. ne (sym z)))
               (λ j l _. fresh j l)
@@ -337,8 +345,8 @@ module _ {J D : Type 0} (told : J → D) (limit : ℕ) where
               (λ _ _. ap living is')
               (λ q ne pos same. let z : 0 ≡ q = sym here ∙ same in absurd (omega arith))
               (λ q. once_joined q child x.children none (st.3.once q)),
-          subst (λ (z : List RosterStep × Gate). OwnSteps (st.0 ++ e ∷ []) z.0 z.1) (λ i. (sym steps i, record { generation = sym eg i; is_open = sym eo i; noticed = sym en i })) (own_step st.0 d.notes.steps (gate_of d) k e.event (Assign p o.kind o.generation) refl st.4),
-          λ j l. at_put cells k c (λ q z. q < length s.homes → OwnPart (st.0 ++ e ∷ []) q z.post) j
+          subst (λ (z : List RosterStep × Gate). OwnSteps (st.0 ++ e ∷ []) z.0 z.1) (λ i. (sym steps i, record { generation = sym eg i; is_open = sym eo i; noticed = sym en i })) (own_step st.0 d.notes.steps (gate_of d) k e.event (Assign k p o.kind o.generation) refl st.4),
+          λ j l. at_put cells k c (λ q z. q < child_slots (length s.homes) → OwnPart (st.0 ++ e ∷ []) q z.post) j
               (λ l'. no_part st.0 k k e.event (cells k).post c.post refl refl (ap (λ (z : PostView D). z.notes.steps) same) (ap (λ (z : PostView D). z.past) same) (st.5 k l'))
               (λ _ l'. no_part st.0 j k e.event (cells j).post (cells j).post refl refl refl refl (st.5 j l')) l,
         )

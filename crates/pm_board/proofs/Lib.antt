@@ -1,4 +1,5 @@
 pub mod Bits
+pub mod Children
 pub mod Moves
 pub mod Gates
 pub mod Counts

@@ -10,6 +10,8 @@ use Rattle.pm_supervisor.specs.declared.Reason.{Reason}
 use Rattle.pm_supervisor.specs.Children.{Child, is_session, is_startup_child, child_of, without, marked, one_if, count_of, attached_sessions}
 use Rattle.pm_supervisor.specs.Supervisor.{Shared}
 use Rattle.pm_supervisor.specs.Shared.{SharedEvent, Notice, Open, Reset, Allows, after_shared}
+use Rattle.pm_board.specs.Slots.{child_slots}
+use Rattle.pm_board.specs.declared.views.Letter as Letter
 use Rattle.pm_board.specs.declared.views.Offer.{Offer}
 use Rattle.pm_board.specs.declared.views.PostStep.{PostStep}
 use Rattle.pm_board.specs.declared.views.RosterStep.{RosterStep}
@@ -200,17 +202,17 @@ module _ {D : Type 0} where
       (none_at_all st.1.children (λ p c found. let at_k = h.no_other p c found in let z : living (cells at_k.0).phase ≡ 0 = dead at_k.0 at_k.1 in let here : living (cells at_k.0).phase ≡ p = at_k.2 in let pos : 0 < p = at_k.3 in absurd (omega arith))) refl refl refl
       record { generation = ap (λ (z : ℕ). z + 1) h.generation; is_open = refl; noticed = refl; last_pid = h.last_pid; each = h.each; no_other = h.no_other; once = h.once }
 
-module _ {J D : Type 0} (told : J → D) (limit : ℕ) where
+module _ {J D : Type 0} (letter : Letter.Ghosts J D) (limit : ℕ) where
   -- a child that runs has a pid
-  pub lives : (s : State (Option J) (View D)) (m : ℕ) (d : RosterView D) (cells : ℕ → Cell D) → Holds told m d cells s → (st : History limit d cells (length s.homes)) → (k : ℕ) → k < length s.homes → (o : Offer D) (a : Bool) (w : Work D) → (cells k).phase ≡ running o a → (cells k).post.work ≡ w
+  pub lives : (s : State (Option J) (View D)) (m : ℕ) (d : RosterView D) (cells : ℕ → Cell D) → Holds letter m d cells s → (st : History limit d cells (child_slots (length s.homes))) → (k : ℕ) → k < child_slots (length s.homes) → (o : Offer D) (a : Bool) (w : Work D) → (cells k).phase ≡ running o a → (cells k).post.work ≡ w
       → (child_of o.pid st.1.children ≡ Some (shown_child o (is_attached w))) × (0 < o.pid)
   lives s m d cells h st k near o a w is does = let known = subst (λ (z : Phase D × Work D). ShowsChild st.1.children z.0 z.1) {x = ((cells k).phase, (cells k).post.work)} {y = (running o a, w)} (λ i. (is i, does i)) (st.3.each k near) in (known, (st.3.no_other o.pid _ known).3)
 
   -- a child attaches or detaches
-  pub passes : (s : State (Option J) (View D)) (m : ℕ) (d : RosterView D) (cells : ℕ → Cell D) → Holds told m d cells s → (st : History limit d cells (length s.homes)) → (k : ℕ) → k < length s.homes → (o : Offer D) (b : Bool) (w : Work D) (c : Cell D) (e : SharedEvent) (p : PostStep)
+  pub passes : (s : State (Option J) (View D)) (m : ℕ) (d : RosterView D) (cells : ℕ → Cell D) → Holds letter m d cells s → (st : History limit d cells (child_slots (length s.homes))) → (k : ℕ) → k < child_slots (length s.homes) → (o : Offer D) (b : Bool) (w : Work D) (c : Cell D) (e : SharedEvent) (p : PostStep)
       → (cells k).phase ≡ running o true → (cells k).post.work ≡ w → c.phase ≡ running o true → is_attached c.post.work ≡ b
       → Allows limit st.1 e → after_shared st.1 e ≡ record st.1 { children = marked o.pid b st.1.children } → supervisor_event e ≡ [] → worker_event e ≡ worker_step p ∷ [] → leave_of e ≡ []
-      → c.post.notes.steps ≡ (cells k).post.notes.steps ++ p ∷ [] → c.post.past ≡ (cells k).post.past → History limit d (put cells k c) (length s.homes)
+      → c.post.notes.steps ≡ (cells k).post.notes.steps ++ p ∷ [] → c.post.past ≡ (cells k).post.past → History limit d (put cells k c) (child_slots (length s.homes))
   passes s m d cells h st k near o b w c e p is does is' now may after none event none' steps past =
       let x : Shared = st.1 in let q : ℕ = o.pid in let here : living (cells k).phase ≡ q = ap living is in
       let known = lives s m d cells h st k near o true w is does in let pos : 0 < q = known.1 in
@@ -218,15 +220,15 @@ module _ {J D : Type 0} (told : J → D) (limit : ℕ) where
         st.0 ++ record { event = e; slot = k } ∷ [],
         after_shared x e,
         goes_on st.0 x record { event = e; slot = k } st.2 may,
-        subst (λ (z : Shared). Shows z d (put cells k c) (length s.homes)) (sym after)
-            (shows_moves x (record x { children = marked q b x.children }) d d cells (length s.homes) k q c st.3 near pos
+        subst (λ (z : Shared). Shows z d (put cells k c) (child_slots (length s.homes))) (sym after)
+            (shows_moves x (record x { children = marked q b x.children }) d d cells (child_slots (length s.homes)) k q c st.3 near pos
             record { generation = st.3.generation; is_open = st.3.is_open; noticed = st.3.noticed; last_pid = st.3.last_pid }
             (λ r ne. marked_other q r b x.children ne)
-            (λ j l ne same. pids_apart told limit s m d cells h k j near l ne (subst (λ (z : ℕ). 0 < z) (sym here) pos) (same ∙ sym here))
+            (λ j l ne same. pids_apart letter limit s m d cells h k j near l ne (subst (λ (z : ℕ). 0 < z) (sym here) pos) (same ∙ sym here))
             (subst (λ (z : Phase D). ShowsChild (marked q b x.children) z c.post.work) (sym is') found)
             (λ _ _. ap living is') (λ r ne _ same. ne (sym same ∙ here)) (λ r. marked_once q r b x.children (st.3.once r))),
         own_worker st.0 d.notes.steps (gate_of d) k e none st.4,
-        λ j l. at_put cells k c (λ r z. r < length s.homes → OwnPart (st.0 ++ record { event = e; slot = k } ∷ []) r z.post) j
+        λ j l. at_put cells k c (λ r z. r < child_slots (length s.homes) → OwnPart (st.0 ++ record { event = e; slot = k } ∷ []) r z.post) j
             (λ l'. own_part st.0 k e p (cells k).post c.post steps event (ap (map pid_and_kind) past ∙ (sym (append-nil (map pid_and_kind (cells k).post.past)) ∙ ap (λ z. map pid_and_kind (cells k).post.past ++ z) (sym none'))) (st.5 k l'))
             (λ ne l'. other_part st.0 j k e (cells j).post ne (st.5 j l')) l,
       )

@@ -12,6 +12,8 @@ use Rattle.pm_exit.specs.declared.child.Kind.{Kind}
 use Rattle.pm_exit.specs.declared.child.Status.{Status}
 use Rattle.pm_supervisor.specs.declared.Reason.{Reason}
 use Rattle.pm_life.specs.declared.life.GateNo.{GateNo}
+use Rattle.pm_board.specs.Slots.{all_slots, child_slots}
+use Rattle.pm_board.specs.declared.views.Letter as Letter
 use Rattle.pm_board.specs.declared.views.Cancel.{Cancel}
 use Rattle.pm_board.specs.declared.views.Offer.{Offer}
 use Rattle.pm_board.specs.declared.views.PastChild.{PastChild}
@@ -29,6 +31,7 @@ use Rattle.pm_board.specs.declared.views.View.{View}
 use Rattle.pm_board.specs.declared.views.View.TheVariants.{Postmaster, Worker, Spent}
 use Rattle.pm_board.specs.Words.{exit_step, stage_in, active_in, kind_in, status_in, pid_in, status_number}
 use Rattle.pm_board.specs.Places.{slot_view, slot_at, is_auxiliary, lost, SlotServes, EndsWell, is_used, used_in}
+use Rattle.pm_board.specs.Children.{children_of}
 use Rattle.pm_board.specs.Words.{bit}
 use Rattle.pm_supervisor.specs.Children.{is_session, is_dead_end}
 use Rattle.pm_board.specs.Gate.{place_of, gate_answer}
@@ -39,6 +42,7 @@ use Rattle.pm_board.specs.History.{Kept}
 use Rattle.pm_board.specs.Told.{Seated, MayEnd, roster_of, post_of, post_view, with_notes, child_in, past_child, with_slot, with_sight, assigned_slot, running_slot, exited_slot, noted_assign, noted_release, noted_look, noted_exit, Arms, Sends, Takes, Heeds, LooksAtLatch, Cancels, Assigns, Loads, Starts, Ends, Looks, Releases, Clears, Compares, Marks, Unmarks, Tries, BacksOut, Detaches, Quits, Readies, Resets, tried, tried_by, MayQuit, quit_step, ready_step, new_gate, reposted, taken_in, dealt_more, next_post, newcomer}
 use Rattle.pm_board.specs.Models.{HoldsMail, MayOpen, MayReset, RunsKind, RunsPid, IsWholePost, IsWholeRoster, SlotBecame}
 use Rattle.pm_board.proofs.Bits.{pid_again, kind_read, status_read, active_again}
+use Rattle.pm_board.proofs.Children.{children_same}
 use Rattle.pm_board.proofs.Keeps as keep
 use Rattle.pm_board.proofs.Gating as gate
 use Rattle.pm_board.proofs.Latching as latch
@@ -105,108 +109,108 @@ module _ {D : Type 0} where
 abbrev pub new_words : ℕ → List ℕ
 new_words n = set (replicate (3 * n + 1) 0) n 134217728
 
-module _ {J D : Type 0} (told : J → D) (limit : ℕ) where
-  pub assigns_as : (n id k word : ℕ) (o : Offer D) (me : Seated J D) (d : RosterView D) (j : J) → me ≡ (Postmaster d, (k, Some j) ∷ []) → word ≡ offer_word o → k < n → (slot_at d k).sight ≡ Opened o.pid → d.notes.last_pid < o.pid → o.pid < 2147483648 → SlotServes n k o.kind → o.generation ≡ d.generation → o.given ≡ told j → (is_auxiliary o.kind ≡ true → lost is_auxiliary d.generation (slot_at d k).past ≡ 0)
-      → Allows (Kept told limit) n id me k (λ _. word) (λ _. Assigns told (step n k word 0 none) me word)
-  assigns_as n id k word o me d j is w near sight new low serves now gave alone = subst (λ (z : Seated J D × ℕ). Allows (Kept told limit) n id z.0 k (λ _. z.1) (λ _. Assigns told (step n k z.1 0 none) z.0 z.1)) (λ i. (sym is i, sym w i)) (keep.assigns told limit n id k o d j near sight new low serves now gave alone)
+module _ {J D : Type 0} (letter : Letter.Ghosts J D) (limit : ℕ) where
+  pub assigns_as : (n id k word : ℕ) (o : Offer D) (me : Seated J D) (d : RosterView D) (j : J) → me ≡ (Postmaster d, (k, Some j) ∷ []) → word ≡ offer_word o → k < child_slots n → (slot_at d k).sight ≡ Opened o.pid → d.notes.last_pid < o.pid → o.pid < 2147483648 → SlotServes (child_slots n) k o.kind → o.generation ≡ d.generation → o.given ≡ letter.told j → letter.fits j o.kind → (is_auxiliary o.kind ≡ true → lost is_auxiliary d.generation (slot_at d k).past ≡ 0)
+      → Allows (Kept letter limit) n id me k (λ _. word) (λ _. Assigns letter (step n k word 0 none) me word)
+  assigns_as n id k word o me d j is w near sight new low serves now gave fit alone = subst (λ (z : Seated J D × ℕ). Allows (Kept letter limit) n id z.0 k (λ _. z.1) (λ _. Assigns letter (step n k z.1 0 none) z.0 z.1)) (λ i. (sym is i, sym w i)) (keep.assigns letter limit n id k o d j near sight new low serves now gave fit alone)
 
-  pub clears_as : (n id k : ℕ) (t : Status) (a : Bool) (o : Offer D) (me : Seated J D) (d : RosterView D) → me ≡ (Postmaster d, (k, None) ∷ []) → k < n → (slot_at d k).sight ≡ Collected o t a → Allows (Kept told limit) n id me k (λ _. 0) (λ _. Clears (step n k 0 0 none) me 0)
-  clears_as n id k t a o me d is near sight = subst (λ (m : Seated J D). Allows (Kept told limit) n id m k (λ _. 0) (λ _. Clears (step n k 0 0 none) m 0)) (sym is) (keep.clears told limit n id k t a o d near sight)
+  pub clears_as : (n id k : ℕ) (t : Status) (a : Bool) (o : Offer D) (me : Seated J D) (d : RosterView D) → me ≡ (Postmaster d, (k, None) ∷ []) → k < child_slots n → (slot_at d k).sight ≡ Collected o t a → Allows (Kept letter limit) n id me k (λ _. 0) (λ _. Clears (step n k 0 0 none) me 0)
+  clears_as n id k t a o me d is near sight = subst (λ (m : Seated J D). Allows (Kept letter limit) n id m k (λ _. 0) (λ _. Clears (step n k 0 0 none) m 0)) (sym is) (keep.clears letter limit n id k t a o d near sight)
 
-  pub looks_as : (n id k : ℕ) (o : Offer D) (me : Seated J D) (d : RosterView D) → me ≡ (Postmaster d, []) → k < n → (slot_at d k).sight ≡ Assigned o → Allows (Kept told limit) n id me k (λ x. x) (Looks (step n k 0 0 none) me)
-  looks_as n id k o me d is near sight = subst (λ (m : Seated J D). Allows (Kept told limit) n id m k (λ x. x) (Looks (step n k 0 0 none) m)) (sym is) (keep.looks told limit n id k o d near sight)
+  pub looks_as : (n id k : ℕ) (o : Offer D) (me : Seated J D) (d : RosterView D) → me ≡ (Postmaster d, []) → k < child_slots n → (slot_at d k).sight ≡ Assigned o → Allows (Kept letter limit) n id me k (λ x. x) (Looks (step n k 0 0 none) me)
+  looks_as n id k o me d is near sight = subst (λ (m : Seated J D). Allows (Kept letter limit) n id m k (λ x. x) (Looks (step n k 0 0 none) m)) (sym is) (keep.looks letter limit n id k o d near sight)
 
-  pub releases_as : (n id k : ℕ) (t : Status) (a : Bool) (o : Offer D) (me : Seated J D) (d : RosterView D) → me ≡ (Postmaster d, []) → k < n → (slot_at d k).sight ≡ Exited o t a → Allows (Kept told limit) n id me k (λ x. (x + 1) % 2 ^ 64) (Releases told (step n k 1 0 none) me)
-  releases_as n id k t a o me d is near sight = subst (λ (m : Seated J D). Allows (Kept told limit) n id m k (λ x. (x + 1) % 2 ^ 64) (Releases told (step n k 1 0 none) m)) (sym is) (keep.releases told limit n id k t a o d near sight)
+  pub releases_as : (n id k : ℕ) (t : Status) (a : Bool) (o : Offer D) (me : Seated J D) (d : RosterView D) → me ≡ (Postmaster d, []) → k < child_slots n → (slot_at d k).sight ≡ Exited o t a → Allows (Kept letter limit) n id me k (λ x. (x + 1) % 2 ^ 64) (Releases letter (step n k 1 0 none) me)
+  releases_as n id k t a o me d is near sight = subst (λ (m : Seated J D). Allows (Kept letter limit) n id m k (λ x. (x + 1) % 2 ^ 64) (Releases letter (step n k 1 0 none) m)) (sym is) (keep.releases letter limit n id k t a o d near sight)
 
-  pub loads_as : (n id k : ℕ) (notes : PostNotes) (past : List (PastChild D)) (me : Seated J D) → me ≡ (Worker k (post_view notes past Idle), []) → Allows (Kept told limit) n id me k (λ x. x) (Loads (step n k 0 0 none) me)
-  loads_as n id k notes past me is = subst (λ (m : Seated J D). Allows (Kept told limit) n id m k (λ x. x) (Loads (step n k 0 0 none) m)) (sym is) (keep.loads told limit n id k notes past)
+  pub loads_as : (n id k : ℕ) (notes : PostNotes) (past : List (PastChild D)) (me : Seated J D) → me ≡ (Worker k (post_view notes past Idle), []) → Allows (Kept letter limit) n id me k (λ x. x) (Loads (step n k 0 0 none) me)
+  loads_as n id k notes past me is = subst (λ (m : Seated J D). Allows (Kept letter limit) n id m k (λ x. x) (Loads (step n k 0 0 none) m)) (sym is) (keep.loads letter limit n id k notes past)
 
-  pub starts_as : (n id k word : ℕ) (notes : PostNotes) (past : List (PastChild D)) (me : Seated J D) → me ≡ (Worker k (post_view notes past (Sees word)), []) → Allows (Kept told limit) n id me k (λ x. (x + 1) % 2 ^ 64) (Starts told (step n k 1 0 none) me)
-  starts_as n id k word notes past me is = subst (λ (m : Seated J D). Allows (Kept told limit) n id m k (λ x. (x + 1) % 2 ^ 64) (Starts told (step n k 1 0 none) m)) (sym is) (keep.starts told limit n id k word notes past)
+  pub starts_as : (n id k word : ℕ) (notes : PostNotes) (past : List (PastChild D)) (me : Seated J D) → me ≡ (Worker k (post_view notes past (Sees word)), []) → Allows (Kept letter limit) n id me k (λ x. (x + 1) % 2 ^ 64) (Starts letter (step n k 1 0 none) me)
+  starts_as n id k word notes past me is = subst (λ (m : Seated J D). Allows (Kept letter limit) n id m k (λ x. (x + 1) % 2 ^ 64) (Starts letter (step n k 1 0 none) m)) (sym is) (keep.starts letter limit n id k word notes past)
 
-  pub ends_as : (n id k add : ℕ) (t : Status) (a : Bool) (o : Offer D) (w : Work D) (notes : PostNotes) (past : List (PastChild D)) (j : J) (me : Seated J D) → me ≡ (Worker k (post_view notes past w), (k, Some j) ∷ []) → add ≡ exit_step t → status_number t < 256 → MayEnd w o a → EndsWell o.kind t a
-      → Allows (Kept told limit) n id me k (λ x. (x + add) % 2 ^ 64) (Ends told (step n k add 0 none) me)
-  ends_as n id k add t a o w notes past j me is e small may well = subst (λ (z : Seated J D × ℕ). Allows (Kept told limit) n id z.0 k (λ x. (x + z.1) % 2 ^ 64) (Ends told (step n k z.1 0 none) z.0)) (λ i. (sym is i, sym e i)) (keep.ends told limit n id k t a o w notes past j small may well)
+  pub ends_as : (n id k add : ℕ) (t : Status) (a : Bool) (o : Offer D) (w : Work D) (notes : PostNotes) (past : List (PastChild D)) (j : J) (me : Seated J D) → me ≡ (Worker k (post_view notes past w), (k, Some j) ∷ []) → add ≡ exit_step t → status_number t < 256 → MayEnd w o a → EndsWell o.kind t a → letter.comes_back j o.kind t a
+      → Allows (Kept letter limit) n id me k (λ x. (x + add) % 2 ^ 64) (Ends letter (step n k add 0 none) me)
+  ends_as n id k add t a o w notes past j me is e small may well back = subst (λ (z : Seated J D × ℕ). Allows (Kept letter limit) n id z.0 k (λ x. (x + z.1) % 2 ^ 64) (Ends letter (step n k z.1 0 none) z.0)) (λ i. (sym is i, sym e i)) (keep.ends letter limit n id k t a o w notes past j small may well back)
 
-  pub gathers_as : (id k other : ℕ) (me v : View D) (d : RosterView D) (w : PostView D) → me ≡ Postmaster d → v ≡ Worker k w → k < length d.slots → (slot_at d k).sight ≡ Unused → Joins (Kept told limit) id me other v (taken_in me v) Spent
-  gathers_as id k other me v d w is is' near sight = subst (λ (z : View D × View D). Joins (Kept told limit) id z.0 other z.1 (taken_in z.0 z.1) Spent) (λ i. (sym is i, sym is' i)) (keep.gathers told limit id k other d w near sight)
+  pub gathers_as : (id k other : ℕ) (me v : View D) (d : RosterView D) (w : PostView D) → me ≡ Postmaster d → v ≡ Worker k w → k < length d.slots → (slot_at d k).sight ≡ Unused → Joins (Kept letter limit) id me other v (taken_in me v) Spent
+  gathers_as id k other me v d w is is' near sight = subst (λ (z : View D × View D). Joins (Kept letter limit) id z.0 other z.1 (taken_in z.0 z.1) Spent) (λ i. (sym is i, sym is' i)) (keep.gathers letter limit id k other d w near sight)
 
-  pub compares_as : (n id k : ℕ) (me : Seated J D) (d : RosterView D) → me ≡ (Postmaster d, []) → k < n → Allows (Kept told limit) n id me k (λ x. x) (Compares (step n k 0 0 none) me)
-  compares_as n id k me d is near = subst (λ (m : Seated J D). Allows (Kept told limit) n id m k (λ x. x) (Compares (step n k 0 0 none) m)) (sym is) (keep.compares told limit n id k d near)
+  pub compares_as : (n id k : ℕ) (me : Seated J D) (d : RosterView D) → me ≡ (Postmaster d, []) → k < child_slots n → Allows (Kept letter limit) n id me k (λ x. x) (Compares (step n k 0 0 none) me)
+  compares_as n id k me d is near = subst (λ (m : Seated J D). Allows (Kept letter limit) n id m k (λ x. x) (Compares (step n k 0 0 none) m)) (sym is) (keep.compares letter limit n id k d near)
 
-  pub deals_as : (id : ℕ) (v : View D) (d : RosterView D) → v ≡ Postmaster d → d.dealt < length d.slots → Splits (Kept told limit) id v (dealt_more v) (next_post v)
-  deals_as id v d is less = subst (λ (z : View D). Splits (Kept told limit) id z (dealt_more z) (next_post z)) (sym is) (keep.deals told limit id d less)
+  pub deals_as : (id : ℕ) (v : View D) (d : RosterView D) → v ≡ Postmaster d → d.dealt < length d.slots → Splits (Kept letter limit) id v (dealt_more v) (next_post v)
+  deals_as id v d is less = subst (λ (z : View D). Splits (Kept letter limit) id z (dealt_more z) (next_post z)) (sym is) (keep.deals letter limit id d less)
 
-  pub begins_as : (n m l : ℕ) (words : List ℕ) → words ≡ new_words n → m ≡ n → l ≡ limit → n ≤ 407 → limit ≤ 200 → Kept told limit (opening words (replicate n None) (newcomer m l))
-  begins_as n m l words is same lim few most = subst (λ (z : ℕ × ℕ × List ℕ). Kept told limit (opening z.2 (replicate n None) (newcomer z.0 z.1))) (λ i. (sym same i, sym lim i, sym is i))
-      (keep.begins told limit n (new_words n) (length-set (replicate (3 * n + 1) 0) n 134217728 ∙ length-replicate (3 * n + 1) 0)
+  pub begins_as : (n m l : ℕ) (words : List ℕ) → words ≡ new_words n → m ≡ n → l ≡ limit → n ≤ 407 → limit ≤ 200 → Kept letter limit (opening words (replicate n None) (newcomer m l))
+  begins_as n m l words is same lim few most = subst (λ (z : ℕ × ℕ × List ℕ). Kept letter limit (opening z.2 (replicate n None) (newcomer z.0 z.1))) (λ i. (sym same i, sym lim i, sym is i))
+      (keep.begins letter limit n n (new_words n) (all_slots n) (length-set (replicate (3 * n + 1) 0) n 134217728 ∙ length-replicate (3 * n + 1) 0)
       (λ k ne. get_or-set_other (replicate (3 * n + 1) 0) n k 134217728 0 (λ e. ne e) ∙ keep.same_everywhere (3 * n + 1) k 0)
       (get_or-set_same (replicate (3 * n + 1) 0) n 134217728 0 (subst (λ (z : ℕ). n < z) (sym (length-replicate (3 * n + 1) 0)) (omega arith))) few most)
 
 -- the steps at the gate
 
-module _ {J D : Type 0} (told : J → D) (limit : ℕ) where
-  pub marks_as : (n id k : ℕ) (o : Offer D) (notes : PostNotes) (past : List (PastChild D)) (c : List (ℕ × Option J)) (me : Seated J D) → me ≡ (Worker k (post_view notes past (Inactive o)), c) → Allows (Kept told limit) n id me k (λ x. (x + 8) % 2 ^ 64) (Marks (step n k 8 0 none) me)
-  marks_as n id k o notes past c me is = subst (λ (m : Seated J D). Allows (Kept told limit) n id m k (λ x. (x + 8) % 2 ^ 64) (Marks (step n k 8 0 none) m)) (sym is) (gate.marks told limit n id k o notes past c)
+module _ {J D : Type 0} (letter : Letter.Ghosts J D) (limit : ℕ) where
+  pub marks_as : (n id k : ℕ) (o : Offer D) (notes : PostNotes) (past : List (PastChild D)) (c : List (ℕ × Option J)) (me : Seated J D) → me ≡ (Worker k (post_view notes past (Inactive o)), c) → Allows (Kept letter limit) n id me k (λ x. (x + 8) % 2 ^ 64) (Marks (step n k 8 0 none) me)
+  marks_as n id k o notes past c me is = subst (λ (m : Seated J D). Allows (Kept letter limit) n id m k (λ x. (x + 8) % 2 ^ 64) (Marks (step n k 8 0 none) m)) (sym is) (gate.marks letter limit n id k o notes past c)
 
-  pub unmarks_as : (n id k : ℕ) (o : Offer D) (notes : PostNotes) (past : List (PastChild D)) (c : List (ℕ × Option J)) (me : Seated J D) → me ≡ (Worker k (post_view notes past (Active o)), c) → Allows (Kept told limit) n id me k (λ x. (x + (2 ^ 64 - 8)) % 2 ^ 64) (Unmarks (step n k 8 0 none) me)
-  unmarks_as n id k o notes past c me is = subst (λ (m : Seated J D). Allows (Kept told limit) n id m k (λ x. (x + (2 ^ 64 - 8)) % 2 ^ 64) (Unmarks (step n k 8 0 none) m)) (sym is) (gate.unmarks told limit n id k o notes past c)
+  pub unmarks_as : (n id k : ℕ) (o : Offer D) (notes : PostNotes) (past : List (PastChild D)) (c : List (ℕ × Option J)) (me : Seated J D) → me ≡ (Worker k (post_view notes past (Active o)), c) → Allows (Kept letter limit) n id me k (λ x. (x + (2 ^ 64 - 8)) % 2 ^ 64) (Unmarks (step n k 8 0 none) me)
+  unmarks_as n id k o notes past c me is = subst (λ (m : Seated J D). Allows (Kept letter limit) n id m k (λ x. (x + (2 ^ 64 - 8)) % 2 ^ 64) (Unmarks (step n k 8 0 none) m)) (sym is) (gate.unmarks letter limit n id k o notes past c)
 
-  pub tries_as : (n i id k add : ℕ) (o : Offer D) (notes : PostNotes) (past : List (PastChild D)) (c : List (ℕ × Option J)) (me : Seated J D) → i ≡ n → add ≡ place_of (is_session o.kind) → is_dead_end o.kind ≡ false → me ≡ (Worker k (post_view notes past (Active o)), c)
-      → Allows (Kept told limit) n id me i (λ x. (x + add) % 2 ^ 64) (Tries (step n i add 0 none) me)
-  tries_as n i id k add o notes past c me there adds lives is = subst (λ (z : Seated J D × ℕ × ℕ). Allows (Kept told limit) n id z.0 z.1 (λ x. (x + z.2) % 2 ^ 64) (Tries (step n z.1 z.2 0 none) z.0)) (λ j. (sym is j, sym there j, sym adds j))
-      (gate.tries told limit n id k o notes past c lives)
+  pub tries_as : (n i id k add : ℕ) (o : Offer D) (notes : PostNotes) (past : List (PastChild D)) (c : List (ℕ × Option J)) (me : Seated J D) → i ≡ child_slots n → add ≡ place_of (is_session o.kind) → is_dead_end o.kind ≡ false → me ≡ (Worker k (post_view notes past (Active o)), c)
+      → Allows (Kept letter limit) n id me i (λ x. (x + add) % 2 ^ 64) (Tries (step n i add 0 none) me)
+  tries_as n i id k add o notes past c me there adds lives is = subst (λ (z : Seated J D × ℕ × ℕ). Allows (Kept letter limit) n id z.0 z.1 (λ x. (x + z.2) % 2 ^ 64) (Tries (step n z.1 z.2 0 none) z.0)) (λ j. (sym is j, sym there j, sym adds j))
+      (gate.tries letter limit n id k o notes past c lives)
 
-  pub backs_out_as : (n i id k takes g : ℕ) (o : Offer D) (notes : PostNotes) (past : List (PastChild D)) (c : List (ℕ × Option J)) (me : Seated J D) → i ≡ n → takes ≡ place_of (is_session o.kind) → me ≡ (Worker k (post_view notes past (Refused o g)), c)
-      → Allows (Kept told limit) n id me i (λ x. (x + (2 ^ 64 - takes)) % 2 ^ 64) (BacksOut (step n i takes 0 none) me)
-  backs_out_as n i id k takes g o notes past c me there takes_is is = subst (λ (z : Seated J D × ℕ × ℕ). Allows (Kept told limit) n id z.0 z.1 (λ x. (x + (2 ^ 64 - z.2)) % 2 ^ 64) (BacksOut (step n z.1 z.2 0 none) z.0)) (λ j. (sym is j, sym there j, sym takes_is j))
-      (gate.backs_out told limit n id k o g notes past c)
+  pub backs_out_as : (n i id k takes g : ℕ) (o : Offer D) (notes : PostNotes) (past : List (PastChild D)) (c : List (ℕ × Option J)) (me : Seated J D) → i ≡ child_slots n → takes ≡ place_of (is_session o.kind) → me ≡ (Worker k (post_view notes past (Refused o g)), c)
+      → Allows (Kept letter limit) n id me i (λ x. (x + (2 ^ 64 - takes)) % 2 ^ 64) (BacksOut (step n i takes 0 none) me)
+  backs_out_as n i id k takes g o notes past c me there takes_is is = subst (λ (z : Seated J D × ℕ × ℕ). Allows (Kept letter limit) n id z.0 z.1 (λ x. (x + (2 ^ 64 - z.2)) % 2 ^ 64) (BacksOut (step n z.1 z.2 0 none) z.0)) (λ j. (sym is j, sym there j, sym takes_is j))
+      (gate.backs_out letter limit n id k o g notes past c)
 
-  pub detaches_as : (n i id k takes g : ℕ) (o : Offer D) (notes : PostNotes) (past : List (PastChild D)) (c : List (ℕ × Option J)) (me : Seated J D) → i ≡ n → takes ≡ place_of (is_session o.kind) → me ≡ (Worker k (post_view notes past (Attached o g)), c)
-      → Allows (Kept told limit) n id me i (λ x. (x + (2 ^ 64 - takes)) % 2 ^ 64) (Detaches (step n i takes 0 none) me)
-  detaches_as n i id k takes g o notes past c me there takes_is is = subst (λ (z : Seated J D × ℕ × ℕ). Allows (Kept told limit) n id z.0 z.1 (λ x. (x + (2 ^ 64 - z.2)) % 2 ^ 64) (Detaches (step n z.1 z.2 0 none) z.0)) (λ j. (sym is j, sym there j, sym takes_is j))
-      (gate.detaches told limit n id k o g notes past c)
+  pub detaches_as : (n i id k takes g : ℕ) (o : Offer D) (notes : PostNotes) (past : List (PastChild D)) (c : List (ℕ × Option J)) (me : Seated J D) → i ≡ child_slots n → takes ≡ place_of (is_session o.kind) → me ≡ (Worker k (post_view notes past (Attached o g)), c)
+      → Allows (Kept letter limit) n id me i (λ x. (x + (2 ^ 64 - takes)) % 2 ^ 64) (Detaches (step n i takes 0 none) me)
+  detaches_as n i id k takes g o notes past c me there takes_is is = subst (λ (z : Seated J D × ℕ × ℕ). Allows (Kept letter limit) n id z.0 z.1 (λ x. (x + (2 ^ 64 - z.2)) % 2 ^ 64) (Detaches (step n z.1 z.2 0 none) z.0)) (λ j. (sym is j, sym there j, sym takes_is j))
+      (gate.detaches letter limit n id k o g notes past c)
 
-  pub quits_as : (n i id adds : ℕ) (d : RosterView D) (why : Reason) (me : Seated J D) → i ≡ n → adds ≡ quit_step d.noticed why → MayQuit d.noticed why → me ≡ (Postmaster d, []) → Allows (Kept told limit) n id me i (λ x. (x + adds) % 2 ^ 64) (Quits (step n i adds 0 none) me)
-  quits_as n i id adds d why me there adds_is may is = subst (λ (z : Seated J D × ℕ × ℕ). Allows (Kept told limit) n id z.0 z.1 (λ x. (x + z.2) % 2 ^ 64) (Quits (step n z.1 z.2 0 none) z.0)) (λ j. (sym is j, sym there j, sym adds_is j)) (gate.quits told limit n id d why may)
+  pub quits_as : (n i id adds : ℕ) (d : RosterView D) (why : Reason) (me : Seated J D) → i ≡ child_slots n → adds ≡ quit_step d.noticed why → MayQuit d.noticed why → me ≡ (Postmaster d, []) → Allows (Kept letter limit) n id me i (λ x. (x + adds) % 2 ^ 64) (Quits (step n i adds 0 none) me)
+  quits_as n i id adds d why me there adds_is may is = subst (λ (z : Seated J D × ℕ × ℕ). Allows (Kept letter limit) n id z.0 z.1 (λ x. (x + z.2) % 2 ^ 64) (Quits (step n z.1 z.2 0 none) z.0)) (λ j. (sym is j, sym there j, sym adds_is j)) (gate.quits letter limit n id d why may)
 
-  pub readies_as : (n i id adds : ℕ) (d : RosterView D) (me : Seated J D) → i ≡ n → adds ≡ ready_step d.noticed → MayOpen d → me ≡ (Postmaster d, []) → Allows (Kept told limit) n id me i (λ x. (x + adds) % 2 ^ 64) (Readies (step n i adds 0 none) me)
-  readies_as n i id adds d me there adds_is may is = subst (λ (z : Seated J D × ℕ × ℕ). Allows (Kept told limit) n id z.0 z.1 (λ x. (x + z.2) % 2 ^ 64) (Readies (step n z.1 z.2 0 none) z.0)) (λ j. (sym is j, sym there j, sym adds_is j)) (gate.readies told limit n id d may.0 may.1)
+  pub readies_as : (n i id adds : ℕ) (d : RosterView D) (me : Seated J D) → i ≡ child_slots n → adds ≡ ready_step d.noticed → MayOpen d → me ≡ (Postmaster d, []) → Allows (Kept letter limit) n id me i (λ x. (x + adds) % 2 ^ 64) (Readies (step n i adds 0 none) me)
+  readies_as n i id adds d me there adds_is may is = subst (λ (z : Seated J D × ℕ × ℕ). Allows (Kept letter limit) n id z.0 z.1 (λ x. (x + z.2) % 2 ^ 64) (Readies (step n z.1 z.2 0 none) z.0)) (λ j. (sym is j, sym there j, sym adds_is j)) (gate.readies letter limit n id d may.0 may.1)
 
-  pub resets_as : (n i id word : ℕ) (d : RosterView D) (me : Seated J D) → i ≡ n → word ≡ new_gate (d.generation + 1) → MayReset d → me ≡ (Postmaster d, []) → Allows (Kept told limit) n id me i (λ _. word) (λ _. Resets (step n i word 0 none) me word)
-  resets_as n i id word d me there word_is may is = subst (λ (z : Seated J D × ℕ × ℕ). Allows (Kept told limit) n id z.0 z.1 (λ _. z.2) (λ _. Resets (step n z.1 z.2 0 none) z.0 z.2)) (λ j. (sym is j, sym there j, sym word_is j))
-      (gate.resets told limit n id d may.0 (let l : d.generation < 4294967295 = may.1 in omega arith))
+  pub resets_as : (n i id word : ℕ) (d : RosterView D) (me : Seated J D) → i ≡ child_slots n → word ≡ new_gate (d.generation + 1) → MayReset d → me ≡ (Postmaster d, []) → Allows (Kept letter limit) n id me i (λ _. word) (λ _. Resets (step n i word 0 none) me word)
+  resets_as n i id word d me there word_is may is = subst (λ (z : Seated J D × ℕ × ℕ). Allows (Kept letter limit) n id z.0 z.1 (λ _. z.2) (λ _. Resets (step n z.1 z.2 0 none) z.0 z.2)) (λ j. (sym is j, sym there j, sym word_is j))
+      (gate.resets letter limit n id d may.0 (let l : d.generation < 4294967295 = may.1 in omega arith))
 
 -- the steps at latches and cancels
 
-module _ {J D : Type 0} (told : J → D) (limit : ℕ) where
-  pub arms_as : (n i id k word pid : ℕ) (d : RosterView D) (me : Seated J D) → i ≡ latch_place n k → word ≡ armed_word pid → me ≡ (Postmaster d, []) → k < n → pid < 2147483648 → (slot_at d k).sight ≡ Unused → Allows (Kept told limit) n id me i (λ _. word) (Arms (step n i word 0 none) me)
-  arms_as n i id k word pid d me there word_is is near low sight = subst (λ (z : Seated J D × ℕ × ℕ). Allows (Kept told limit) n id z.0 z.1 (λ _. z.2) (Arms (step n z.1 z.2 0 none) z.0)) (λ j. (sym is j, sym there j, sym word_is j))
-      (latch.arms told limit n id k pid d near low sight)
+module _ {J D : Type 0} (letter : Letter.Ghosts J D) (limit : ℕ) where
+  pub arms_as : (n i id k word pid : ℕ) (d : RosterView D) (me : Seated J D) → i ≡ latch_place (child_slots n) k → word ≡ armed_word pid → me ≡ (Postmaster d, []) → k < child_slots n → pid < 2147483648 → (slot_at d k).sight ≡ Unused → Allows (Kept letter limit) n id me i (λ _. word) (Arms (step n i word 0 none) me)
+  arms_as n i id k word pid d me there word_is is near low sight = subst (λ (z : Seated J D × ℕ × ℕ). Allows (Kept letter limit) n id z.0 z.1 (λ _. z.2) (Arms (step n z.1 z.2 0 none) z.0)) (λ j. (sym is j, sym there j, sym word_is j))
+      (latch.arms letter limit n id k pid d near low sight)
 
-  pub sends_as : (n i id k bits : ℕ) (d : RosterView D) (o : Offer D) (sig : Signal) (me : Seated J D) → i ≡ latch_place n k → bits ≡ 2 ^ signal_number sig → me ≡ (Postmaster d, []) → k < n → (slot_at d k).sight ≡ Assigned o → Allows (Kept told limit) n id me i (λ w. bit_or w bits) (Sends (step n i bits 0 none) me)
-  sends_as n i id k bits d o sig me there bits_are is near sight = subst (λ (z : Seated J D × ℕ × ℕ). Allows (Kept told limit) n id z.0 z.1 (λ w. bit_or w z.2) (Sends (step n z.1 z.2 0 none) z.0)) (λ j. (sym is j, sym there j, sym bits_are j))
-      (latch.sends told limit n id k d o sig near sight)
+  pub sends_as : (n i id k bits : ℕ) (d : RosterView D) (o : Offer D) (sig : Signal) (me : Seated J D) → i ≡ latch_place (child_slots n) k → bits ≡ 2 ^ signal_number sig → me ≡ (Postmaster d, []) → k < child_slots n → (slot_at d k).sight ≡ Assigned o → Allows (Kept letter limit) n id me i (λ w. bit_or w bits) (Sends (step n i bits 0 none) me)
+  sends_as n i id k bits d o sig me there bits_are is near sight = subst (λ (z : Seated J D × ℕ × ℕ). Allows (Kept letter limit) n id z.0 z.1 (λ w. bit_or w z.2) (Sends (step n z.1 z.2 0 none) z.0)) (λ j. (sym is j, sym there j, sym bits_are j))
+      (latch.sends letter limit n id k d o sig near sight)
 
-  pub takes_as : (n i id k : ℕ) (o : Offer D) (w : PostView D) (c : List (ℕ × Option J)) (me : Seated J D) → i ≡ latch_place n k → me ≡ (Worker k w, c) → child_in w.work ≡ Some o → Allows (Kept told limit) n id me i (λ x. bit_and x 18446744073709551584) (Takes (step n i 18446744073709551584 0 none) me)
-  takes_as n i id k o w c me there is runs = subst (λ (z : Seated J D × ℕ). Allows (Kept told limit) n id z.0 z.1 (λ x. bit_and x 18446744073709551584) (Takes (step n z.1 18446744073709551584 0 none) z.0)) (λ j. (sym is j, sym there j)) (latch.takes_signals told limit n id k o w c runs)
+  pub takes_as : (n i id k : ℕ) (o : Offer D) (w : PostView D) (c : List (ℕ × Option J)) (me : Seated J D) → i ≡ latch_place (child_slots n) k → me ≡ (Worker k w, c) → child_in w.work ≡ Some o → Allows (Kept letter limit) n id me i (λ x. bit_and x 18446744073709551584) (Takes (step n i 18446744073709551584 0 none) me)
+  takes_as n i id k o w c me there is runs = subst (λ (z : Seated J D × ℕ). Allows (Kept letter limit) n id z.0 z.1 (λ x. bit_and x 18446744073709551584) (Takes (step n z.1 18446744073709551584 0 none) z.0)) (λ j. (sym is j, sym there j)) (latch.takes_signals letter limit n id k o w c runs)
 
-  pub heeds_as : (n i id k pid : ℕ) (o : Offer D) (w : PostView D) (c : List (ℕ × Option J)) (me : Seated J D) → i ≡ cancel_place n k → pid ≡ o.pid → me ≡ (Worker k w, c) → child_in w.work ≡ Some o → Allows (Kept told limit) n id me i (λ x. either (eqb x pid) 0 x) (Heeds (step n i pid 0 none) me)
-  heeds_as n i id k pid o w c me there pid_is is runs = subst (λ (z : Seated J D × ℕ × ℕ). Allows (Kept told limit) n id z.0 z.1 (λ x. either (eqb x z.2) 0 x) (Heeds (step n z.1 z.2 0 none) z.0)) (λ j. (sym is j, sym there j, sym pid_is j)) (latch.heeds told limit n id k o w c runs)
+  pub heeds_as : (n i id k pid : ℕ) (o : Offer D) (w : PostView D) (c : List (ℕ × Option J)) (me : Seated J D) → i ≡ cancel_place (child_slots n) k → pid ≡ o.pid → me ≡ (Worker k w, c) → child_in w.work ≡ Some o → Allows (Kept letter limit) n id me i (λ x. either (eqb x pid) 0 x) (Heeds (step n i pid 0 none) me)
+  heeds_as n i id k pid o w c me there pid_is is runs = subst (λ (z : Seated J D × ℕ × ℕ). Allows (Kept letter limit) n id z.0 z.1 (λ x. either (eqb x z.2) 0 x) (Heeds (step n z.1 z.2 0 none) z.0)) (λ j. (sym is j, sym there j, sym pid_is j)) (latch.heeds letter limit n id k o w c runs)
 
-  pub peeks_as : (n i id k j : ℕ) (w : PostView D) (c : List (ℕ × Option J)) (me : Seated J D) → i ≡ latch_place n j → me ≡ (Worker k w, c) → j < n → Allows (Kept told limit) n id me i (λ x. x) (LooksAtLatch (step n i 0 0 none) me)
-  peeks_as n i id k j w c me there is near = subst (λ (z : Seated J D × ℕ). Allows (Kept told limit) n id z.0 z.1 (λ x. x) (LooksAtLatch (step n z.1 0 0 none) z.0)) (λ u. (sym is u, sym there u)) (latch.peeks told limit n id k j w c near)
+  pub peeks_as : (n i id k j : ℕ) (w : PostView D) (c : List (ℕ × Option J)) (me : Seated J D) → i ≡ latch_place (child_slots n) j → me ≡ (Worker k w, c) → j < child_slots n → Allows (Kept letter limit) n id me i (λ x. x) (LooksAtLatch (step n i 0 0 none) me)
+  peeks_as n i id k j w c me there is near = subst (λ (z : Seated J D × ℕ). Allows (Kept letter limit) n id z.0 z.1 (λ x. x) (LooksAtLatch (step n z.1 0 0 none) z.0)) (λ u. (sym is u, sym there u)) (latch.peeks letter limit n id k j w c near)
 
-  pub cancels_as : (n i id k pid : ℕ) (x : Cancel) (w : PostView D) (c : List (ℕ × Option J)) (me : Seated J D) → i ≡ cancel_place n x.slot → pid ≡ x.pid → me ≡ (Worker k w, c) → x.slot < n → x.key ≡ cancel_key x.seed x.pid → Allows (Kept told limit) n id me i (λ z. max z pid) (Cancels x (step n i pid 0 none) me)
-  cancels_as n i id k pid x w c me there pid_is is near key = subst (λ (z : Seated J D × ℕ × ℕ). Allows (Kept told limit) n id z.0 z.1 (λ y. max y z.2) (Cancels x (step n z.1 z.2 0 none) z.0)) (λ u. (sym is u, sym there u, sym pid_is u)) (latch.cancels told limit n id k x w c near key)
+  pub cancels_as : (n i id k pid : ℕ) (x : Cancel) (w : PostView D) (c : List (ℕ × Option J)) (me : Seated J D) → i ≡ cancel_place (child_slots n) x.slot → pid ≡ x.pid → me ≡ (Worker k w, c) → x.slot < child_slots n → x.key ≡ cancel_key x.seed x.pid → Allows (Kept letter limit) n id me i (λ z. max z pid) (Cancels x (step n i pid 0 none) me)
+  cancels_as n i id k pid x w c me there pid_is is near key = subst (λ (z : Seated J D × ℕ × ℕ). Allows (Kept letter limit) n id z.0 z.1 (λ y. max y z.2) (Cancels x (step n z.1 z.2 0 none) z.0)) (λ u. (sym is u, sym there u, sym pid_is u)) (latch.cancels letter limit n id k x w c near key)
 
 -- the index of the word of a latch, and of the cancels of a slot
-pub latch_in : (i n k : ℕ) (t t' : TableId) → n ≡ t.slots → i ≡ n + 1 + k → k < t.slots → t.words ≡ 3 * t.slots + 1 → t' ≡ t → (i < t'.words) × (i ≡ latch_place t'.slots k)
-latch_in i n k t t' is e near w f = let c : t'.words ≡ t.words = ap (λ z. z.words) f in let d : t'.slots ≡ t.slots = ap (λ z. z.slots) f in (omega arith, omega arith)
+pub latch_in : (i n k : ℕ) (t t' : TableId) → n ≡ t.slots → i ≡ n + 1 + k → k < child_slots t.slots → t.words ≡ 3 * child_slots t.slots + 1 → t' ≡ t → (i < t'.words) × (i ≡ latch_place (child_slots t'.slots) k)
+latch_in i n k t t' is e near w f = let c : t'.words ≡ t.words = ap (λ z. z.words) f in let d : t'.slots ≡ t.slots = ap (λ z. z.slots) f in let x : child_slots t.slots ≡ t.slots = all_slots t.slots in let y : child_slots t'.slots ≡ t'.slots = all_slots t'.slots in (omega arith, omega arith)
 
-pub cancels_in : (i n k : ℕ) (t t' : TableId) → n ≡ t.slots → i ≡ n + 1 + n + k → k < t.slots → t.words ≡ 3 * t.slots + 1 → t' ≡ t → (i < t'.words) × (i ≡ cancel_place t'.slots k)
-cancels_in i n k t t' is e near w f = let c : t'.words ≡ t.words = ap (λ z. z.words) f in let d : t'.slots ≡ t.slots = ap (λ z. z.slots) f in (omega arith, omega arith)
+pub cancels_in : (i n k : ℕ) (t t' : TableId) → n ≡ t.slots → i ≡ n + 1 + n + k → k < child_slots t.slots → t.words ≡ 3 * child_slots t.slots + 1 → t' ≡ t → (i < t'.words) × (i ≡ cancel_place (child_slots t'.slots) k)
+cancels_in i n k t t' is e near w f = let c : t'.words ≡ t.words = ap (λ z. z.words) f in let d : t'.slots ≡ t.slots = ap (λ z. z.slots) f in let x : child_slots t.slots ≡ t.slots = all_slots t.slots in let y : child_slots t'.slots ≡ t'.slots = all_slots t'.slots in (omega arith, omega arith)
 
 -- a worker's seat, as it is
 pub seat_as : {J D : Type 0} (k : ℕ) (me : Seated J D) → me.0 ≡ Worker k (post_of me.0) → me ≡ (Worker k (post_of me.0), me.1)
@@ -226,8 +230,8 @@ pid_is pid (Refused p g) o is runs = let it : p ≡ o = cc in runs ∙ ap (λ z.
 pid_is pid (Attached p g) o is runs = let it : p ≡ o = cc in runs ∙ ap (λ z. z.pid) it
 
 -- the index of the gate's word
-pub gate_in : (i : ℕ) (t t' : TableId) → i ≡ t.slots → t.words ≡ 3 * t.slots + 1 → t' ≡ t → (i < t'.words) × (i ≡ t'.slots)
-gate_in i t t' is w e = let c : t'.words ≡ t.words = ap (λ z. z.words) e in let d : t'.slots ≡ t.slots = ap (λ z. z.slots) e in (omega arith, omega arith)
+pub gate_in : (i : ℕ) (t t' : TableId) → i ≡ t.slots → t.words ≡ 3 * child_slots t.slots + 1 → t' ≡ t → (i < t'.words) × (i ≡ child_slots t'.slots)
+gate_in i t t' is w e = let c : t'.words ≡ t.words = ap (λ z. z.words) e in let d : t'.slots ≡ t.slots = ap (λ z. z.slots) e in let x : child_slots t.slots ≡ t.slots = all_slots t.slots in let y : child_slots t'.slots ≡ t'.slots = all_slots t'.slots in (omega arith, omega arith)
 
 -- a worker's seat after a step that leaves its mail slot
 pub reposted_as : {J D : Type 0} (k : ℕ) (me me' : Seated J D) (w : PostView D) (c : List (ℕ × Option J)) → me.0 ≡ Worker k (post_of me.0) → me.1 ≡ c → me' ≡ (reposted me.0 w, me.1) → me' ≡ (Worker k w, c)
@@ -238,24 +242,25 @@ pub turned_as : {J D : Type 0} (me me' : Seated J D) (d : RosterView D) → me �
 turned_as {J} {D} me me' d is did = did ∙ ap (λ (m : Seated J D). (Postmaster d, m.1)) is
 
 -- an index of a slot is one of a word
-pub in_words : (k : ℕ) (t t' : TableId) → k < t.slots → t.words ≡ 3 * t.slots + 1 → t' ≡ t → k < t'.words
+pub in_words : (k : ℕ) (t t' : TableId) → k < child_slots t.slots → t.words ≡ 3 * child_slots t.slots + 1 → t' ≡ t → k < t'.words
 in_words k t t' near w e = let c : t'.words ≡ t.words = ap (λ z. z.words) e in omega arith
 
-pub in_table : {D : Type 0} (k : ℕ) (d d' : RosterView D) (t t' : TableId) → d ≡ d' → length d.slots ≡ t.slots → t.words ≡ 3 * t.slots + 1 → t' ≡ t → k < length d'.slots → (k < t'.words) × (k < t'.slots)
-in_table k d d' t t' e l w f near = let a : length d.slots ≡ length d'.slots = ap (λ z. length z.slots) e in let b : t'.slots ≡ t.slots = ap (λ z. z.slots) f in let c : t'.words ≡ t.words = ap (λ z. z.words) f in (omega arith, omega arith)
+pub in_table : {D : Type 0} (k : ℕ) (d d' : RosterView D) (t t' : TableId) → d ≡ d' → length d.slots ≡ child_slots t.slots → t.words ≡ 3 * child_slots t.slots + 1 → t' ≡ t → k < length d'.slots → (k < t'.words) × (k < child_slots t'.slots)
+in_table k d d' t t' e l w f near = let a : length d.slots ≡ length d'.slots = ap (λ z. length z.slots) e in let b : child_slots t'.slots ≡ child_slots t.slots = ap (λ z. child_slots z.slots) f in let c : t'.words ≡ t.words = ap (λ z. z.words) f in (omega arith, omega arith)
 
 -- the roster is whole again
-pub sealed : {J D : Type 0} (b t t' : TableId) (u g : ℕ) (q : Option Reason) (me : Seated J D) (d : RosterView D) → b ≡ t → t' ≡ t → t.words ≡ 3 * t.slots + 1 → t.slots ≤ 407 → me ≡ (Postmaster d, []) → length d.slots ≡ t.slots → u ≡ used_in d.slots → g ≡ d.generation → q ≡ d.noticed
-    → IsWholeRoster b t' u g q me
-sealed {J} {D} b t t' u g q me d e f w few is l used now noticed = (
+pub sealed : {J D : Type 0} (b t t' : TableId) (u g : ℕ) (cs : List (Option (ℕ × Kind))) (q : Option Reason) (me : Seated J D) (d : RosterView D) → b ≡ t → t' ≡ t → t.words ≡ 3 * child_slots t.slots + 1 → t.slots ≤ 407 → me ≡ (Postmaster d, []) → length d.slots ≡ child_slots t.slots → u ≡ used_in d.slots → g ≡ d.generation → q ≡ d.noticed → cs ≡ children_of d.slots
+    → IsWholeRoster b t' u cs g q me
+sealed {J} {D} b t t' u g cs q me d e f w few is l used now noticed all = (
   e ∙ sym f,
   is ∙ (λ i. (Postmaster (roster_of (sym is i).0), [])),
-  ap (λ z. z.words) f ∙ (w ∙ ap (λ z. 3 * z.slots + 1) (sym f)),
-  ap (λ (z : Seated J D). length (roster_of z.0).slots) is ∙ (l ∙ ap (λ z. z.slots) (sym f)),
+  ap (λ z. z.words) f ∙ (w ∙ ap (λ z. 3 * child_slots z.slots + 1) (sym f)),
+  ap (λ (z : Seated J D). length (roster_of z.0).slots) is ∙ (l ∙ ap (λ z. child_slots z.slots) (sym f)),
   subst (λ (z : TableId). z.slots ≤ 407) (sym f) few,
   used ∙ ap (λ (z : Seated J D). used_in (roster_of z.0).slots) (sym is),
   now ∙ ap (λ (z : Seated J D). (roster_of z.0).generation) (sym is),
   noticed ∙ ap (λ (z : Seated J D). (roster_of z.0).noticed) (sym is),
+  all ∙ ap (λ (z : Seated J D). children_of (roster_of z.0).slots) (sym is),
 )
 
 module _ {J D : Type 0} where
@@ -263,13 +268,13 @@ module _ {J D : Type 0} where
   doing_at k me w c is does has = λ i. ((is ∙ (λ j. Worker k (post_view (post_of me.0).notes (post_of me.0).past (does j)))) i, has i)
 
   -- the post is whole again
-  pub post_sealed : (b t t' : TableId) (k limit : ℕ) (kind : Kind) (pid : ℕ) (me : Seated J D) (w : PostView D) (c : List (ℕ × Option J)) → b ≡ t → t' ≡ t → t.words ≡ 3 * t.slots + 1 → k < t.slots → me ≡ (Worker k w, c) → HoldsMail k w.work c → RunsKind kind w.work → limit ≡ w.notes.session_limit → RunsPid pid w.work → t.slots ≤ 407
+  pub post_sealed : (b t t' : TableId) (k limit : ℕ) (kind : Kind) (pid : ℕ) (me : Seated J D) (w : PostView D) (c : List (ℕ × Option J)) → b ≡ t → t' ≡ t → t.words ≡ 3 * child_slots t.slots + 1 → k < child_slots t.slots → me ≡ (Worker k w, c) → HoldsMail k w.work c → RunsKind kind w.work → limit ≡ w.notes.session_limit → RunsPid pid w.work → t.slots ≤ 407
       → IsWholePost b t' k kind pid limit me
   post_sealed b t t' k limit kind pid me w c e f ws l is has runs most named few = (
     e ∙ sym f,
     ap (λ (z : Seated J D). z.0) is ∙ ap (λ (z : Seated J D). Worker k (post_of z.0)) (sym is),
-    ap (λ z. z.words) f ∙ (ws ∙ ap (λ z. 3 * z.slots + 1) (sym f)),
-    subst (λ (z : TableId). k < z.slots) (sym f) l,
+    ap (λ z. z.words) f ∙ (ws ∙ ap (λ z. 3 * child_slots z.slots + 1) (sym f)),
+    subst (λ (z : TableId). k < child_slots z.slots) (sym f) l,
     subst (λ (z : Seated J D). HoldsMail k (post_of z.0).work z.1) (sym is) has,
     subst (λ (z : Seated J D). RunsKind kind (post_of z.0).work) (sym is) runs,
     most ∙ ap (λ (z : Seated J D). (post_of z.0).notes.session_limit) (sym is),
@@ -278,7 +283,7 @@ module _ {J D : Type 0} where
   )
 
   -- and after a try at the gate, whatever the answer
-  pub tried_sealed : (b t t' : TableId) (k limit : ℕ) (kind : Kind) (pid : ℕ) (me : Seated J D) (w : PostView D) (o : Offer D) (word : ℕ) (c : List (ℕ × Option J)) → b ≡ t → t' ≡ t → t.words ≡ 3 * t.slots + 1 → k < t.slots → me ≡ (Worker k (tried w o word), c) → c ≡ (k, None) ∷ [] → kind ≡ o.kind → limit ≡ w.notes.session_limit → pid ≡ o.pid → t.slots ≤ 407
+  pub tried_sealed : (b t t' : TableId) (k limit : ℕ) (kind : Kind) (pid : ℕ) (me : Seated J D) (w : PostView D) (o : Offer D) (word : ℕ) (c : List (ℕ × Option J)) → b ≡ t → t' ≡ t → t.words ≡ 3 * child_slots t.slots + 1 → k < child_slots t.slots → me ≡ (Worker k (tried w o word), c) → c ≡ (k, None) ∷ [] → kind ≡ o.kind → limit ≡ w.notes.session_limit → pid ≡ o.pid → t.slots ≤ 407
       → IsWholePost b t' k kind pid limit me
   tried_sealed b t t' k limit kind pid me w o word c e f ws l is has runs most named few = go (gate_answer o.kind w.notes.session_limit word) is
     where
@@ -319,30 +324,38 @@ module _ {J D : Type 0} where
       × (stage_in word ≢ 3 → me' ≡ (Postmaster (with_slot d k (running_slot (slot_at d k) o d.notes.last_connection) (noted_look d.notes word)), []))
   looked_as n k word me me' d o is sight did = subst (λ (m : Seated J D). Looks (step n k 0 0 none) m word me') is did o sight
 
-  pub looked_seal : (b t t' : TableId) (u g : ℕ) (q : Option Reason) (n k word : ℕ) (me me' : Seated J D) (d : RosterView D) (o : Offer D) → b ≡ t → t' ≡ t → t.words ≡ 3 * t.slots + 1 → t.slots ≤ 407 → me ≡ (Postmaster d, []) → length d.slots ≡ t.slots → k < length d.slots → u ≡ used_in d.slots → g ≡ d.generation → q ≡ d.noticed → (slot_at d k).sight ≡ Assigned o
-      → Looks (step n k 0 0 none) me word me' → IsWholeRoster b t' u g q me'
-  looked_seal b t t' u g q n k word me me' d o e f w few is l near used now noticed sight did = let h = looked_as n k word me me' d o is sight did in let notes : RosterNotes = noted_look d.notes word in
+  pub looked_seal : (b t t' : TableId) (u g : ℕ) (cs : List (Option (ℕ × Kind))) (q : Option Reason) (n k word : ℕ) (me me' : Seated J D) (d : RosterView D) (o : Offer D) → b ≡ t → t' ≡ t → t.words ≡ 3 * child_slots t.slots + 1 → t.slots ≤ 407 → me ≡ (Postmaster d, []) → length d.slots ≡ child_slots t.slots → k < length d.slots → u ≡ used_in d.slots → g ≡ d.generation → q ≡ d.noticed → cs ≡ children_of d.slots → (slot_at d k).sight ≡ Assigned o
+      → Looks (step n k 0 0 none) me word me' → IsWholeRoster b t' u cs g q me'
+  looked_seal b t t' u g cs q n k word me me' d o e f w few is l near used now noticed all sight did = let h = looked_as n k word me me' d o is sight did in let notes : RosterNotes = noted_look d.notes word in
       let x : SlotView D = exited_slot (slot_at d k) o (status_in word) (active_in word) in let y : SlotView D = running_slot (slot_at d k) o d.notes.last_connection in
       dite (ℕ_discrete (stage_in word) 3)
-      (λ three. sealed b t t' u g q me' (with_slot d k x notes) e f w few (h.0 three).0 (length-set d.slots k x ∙ l) (used ∙ sym (used_same d k x notes (Assigned o) near sight refl)) now noticed)
-      (λ no_. sealed b t t' u g q me' (with_slot d k y notes) e f w few (h.1 no_) (length-set d.slots k y ∙ l) (used ∙ sym (used_same d k y notes (Assigned o) near sight refl)) now noticed)
+      (λ three. sealed b t t' u g cs q me' (with_slot d k x notes) e f w few (h.0 three).0 (length-set d.slots k x ∙ l) (used ∙ sym (used_same d k x notes (Assigned o) near sight refl)) now noticed (children_same cs d k x notes (Assigned o) near sight refl all))
+      (λ no_. sealed b t t' u g cs q me' (with_slot d k y notes) e f w few (h.1 no_) (length-set d.slots k y ∙ l) (used ∙ sym (used_same d k y notes (Assigned o) near sight refl)) now noticed (children_same cs d k y notes (Assigned o) near sight refl all))
 
-module _ {J D : Type 0} (told : J → D) where
-  pub assigned_as : (n k word : ℕ) (o : Offer D) (me me' : Seated J D) (d : RosterView D) (j : J) → me ≡ (Postmaster (with_sight d k (Opened o.pid)), (k, Some j) ∷ []) → word ≡ offer_word o → k < length d.slots → o.generation ≡ d.generation → o.given ≡ told j → Assigns told (step n k word 0 none) me word me'
-      → me' ≡ (Postmaster (with_slot d k (assigned_slot (slot_at d k) o) (noted_assign d.notes o)), [])
+  -- a look leaves the children that the supervisor sees
+  pub looked_children : (n k word : ℕ) (me me' : Seated J D) (d : RosterView D) (o : Offer D) → me ≡ (Postmaster d, []) → k < length d.slots → (slot_at d k).sight ≡ Assigned o → Looks (step n k 0 0 none) me word me' → children_of (roster_of me'.0).slots ≡ children_of d.slots
+  looked_children n k word me me' d o is near sight did = let h = looked_as n k word me me' d o is sight did in let notes : RosterNotes = noted_look d.notes word in
+      let x : SlotView D = exited_slot (slot_at d k) o (status_in word) (active_in word) in let y : SlotView D = running_slot (slot_at d k) o d.notes.last_connection in
+      dite (ℕ_discrete (stage_in word) 3)
+      (λ three. ap (λ (m : Seated J D). children_of (roster_of m.0).slots) (h.0 three).0 ∙ sym (children_same (children_of d.slots) d k x notes (Assigned o) near sight refl refl))
+      (λ no_. ap (λ (m : Seated J D). children_of (roster_of m.0).slots) (h.1 no_) ∙ sym (children_same (children_of d.slots) d k y notes (Assigned o) near sight refl refl))
+
+module _ {J D : Type 0} (letter : Letter.Ghosts J D) where
+  pub assigned_as : (n k word : ℕ) (o : Offer D) (me me' : Seated J D) (d : RosterView D) (j : J) → me ≡ (Postmaster (with_sight d k (Opened o.pid)), (k, Some j) ∷ []) → word ≡ offer_word o → k < length d.slots → o.generation ≡ d.generation → o.given ≡ letter.told j → Assigns letter (step n k word 0 none) me word me'
+      → me' ≡ (Postmaster (with_slot d k (assigned_slot (slot_at d k) o) (noted_assign d.notes k o)), [])
   assigned_as n k word o me me' d j is w near now gave did =
-      subst (λ (m : Seated J D). Assigns told (step n k word 0 none) m word me') is did j o refl w now gave
-      ∙ (λ i. (Postmaster (with_slot (with_sight d k (Opened o.pid)) k (assigned_slot (slot_set d k (slot_view (slot_at d k).past (Opened o.pid)) d.notes near i) o) (noted_assign d.notes o)), []))
-      ∙ (λ i. (Postmaster (twice d k (slot_view (slot_at d k).past (Opened o.pid)) (assigned_slot (slot_at d k) o) d.notes (noted_assign d.notes o) i), []))
+      subst (λ (m : Seated J D). Assigns letter (step n k word 0 none) m word me') is did j o refl w now gave
+      ∙ (λ i. (Postmaster (with_slot (with_sight d k (Opened o.pid)) k (assigned_slot (slot_set d k (slot_view (slot_at d k).past (Opened o.pid)) d.notes near i) o) (noted_assign d.notes k o)), []))
+      ∙ (λ i. (Postmaster (twice d k (slot_view (slot_at d k).past (Opened o.pid)) (assigned_slot (slot_at d k) o) d.notes (noted_assign d.notes k o) i), []))
 
-  pub released_as : (n k word : ℕ) (t : Status) (a : Bool) (me me' : Seated J D) (d : RosterView D) (o : Offer D) → me ≡ (Postmaster d, []) → (slot_at d k).sight ≡ Exited o t a → Releases told (step n k 1 0 none) me word me'
+  pub released_as : (n k word : ℕ) (t : Status) (a : Bool) (me me' : Seated J D) (d : RosterView D) (o : Offer D) → me ≡ (Postmaster d, []) → (slot_at d k).sight ≡ Exited o t a → Releases letter (step n k 1 0 none) me word me'
       → (word ≡ child_word 3 o t a) × (o.pid < 2147483648) × (status_number t < 256)
-      × ((j : J) × (me' ≡ (Postmaster (with_slot d k (slot_view ((slot_at d k).past ++ past_child o t a (told j) ∷ []) (Collected o t a)) (noted_release d.notes o)), (k, Some j) ∷ [])))
-  released_as n k word t a me me' d o is sight did = subst (λ (m : Seated J D). Releases told (step n k 1 0 none) m word me') is did o t a sight
+      × ((j : J) × (me' ≡ (Postmaster (with_slot d k (slot_view ((slot_at d k).past ++ past_child o t a (letter.told j) ∷ []) (Collected o t a)) (noted_release d.notes o)), (k, Some j) ∷ [])) × letter.comes_back j o.kind t a)
+  released_as n k word t a me me' d o is sight did = subst (λ (m : Seated J D). Releases letter (step n k 1 0 none) m word me') is did o t a sight
 
-  pub ended_as : (n k word add : ℕ) (t : Status) (a : Bool) (me me' : Seated J D) (notes : PostNotes) (past : List (PastChild D)) (w : Work D) (o : Offer D) (j : J) → me ≡ (Worker k (post_view notes past w), (k, Some j) ∷ []) → add ≡ exit_step t → MayEnd w o a → Ends told (step n k add 0 none) me word me'
-      → me' ≡ (Worker k (post_view (noted_exit notes o) (past ++ past_child o t a (told j) ∷ []) Idle), [])
-  ended_as n k word add t a me me' notes past w o j is e may did = subst (λ (m : Seated J D). Ends told (step n k add 0 none) m word me') is did j o t a refl may e
+  pub ended_as : (n k word add : ℕ) (t : Status) (a : Bool) (me me' : Seated J D) (notes : PostNotes) (past : List (PastChild D)) (w : Work D) (o : Offer D) (j : J) → me ≡ (Worker k (post_view notes past w), (k, Some j) ∷ []) → add ≡ exit_step t → MayEnd w o a → Ends letter (step n k add 0 none) me word me'
+      → me' ≡ (Worker k (post_view (noted_exit notes o) (past ++ past_child o t a (letter.told j) ∷ []) Idle), [])
+  ended_as n k word add t a me me' notes past w o j is e may did = subst (λ (m : Seated J D). Ends letter (step n k add 0 none) m word me') is did j o t a refl may e
 
 module _ {D : Type 0} where
   -- the roster after a release

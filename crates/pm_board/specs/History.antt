@@ -6,6 +6,8 @@ use Rattle.pm_exit.specs.declared.child.Kind.{Kind}
 use Rattle.pm_supervisor.specs.Children.{Child, child_of, without}
 use Rattle.pm_supervisor.specs.Supervisor.{Shared, first}
 use Rattle.pm_supervisor.specs.Shared.{SharedEvent, Join, Attach, Touch, Detach, Leave, Notice, Open, Reset, Allows, after_shared}
+use Rattle.pm_board.specs.Slots.{child_slots}
+use Rattle.pm_board.specs.declared.views.Letter as Letter
 use Rattle.pm_board.specs.declared.views.Offer.{Offer}
 use Rattle.pm_board.specs.declared.views.PastChild.{PastChild}
 use Rattle.pm_board.specs.declared.views.RosterStep.{RosterStep}
@@ -79,12 +81,12 @@ left k log = flat_map (leave_in k) log
 
 -- the event that a step of the supervisor is, if it is one
 abbrev pub event_of : RosterStep → List SharedEvent
-event_of (step.Assign pid kind generation) = Join pid kind ∷ []
+event_of (step.Assign slot pid kind generation) = Join pid kind ∷ []
 event_of (step.Quit why generation) = Notice why ∷ []
 event_of (step.Ready generation) = Open ∷ []
 event_of (step.Reset generation) = Reset ∷ []
 event_of (step.Release pid kind generation) = []
-event_of (step.Send pid kind signal generation) = []
+event_of (step.Send slot pid kind signal generation) = []
 
 abbrev pub events_of : List RosterStep → List SharedEvent
 events_of steps = flat_map event_of steps
@@ -157,10 +159,10 @@ module _ {D : Type 0} where
   History limit d cells count =
       (log : List Entry) × (s : Shared) × Run limit log s × Shows s d cells count × OwnSteps log d.notes.steps (gate_of d) × OwnParts log cells count
 
-module _ {J D : Type 0} (told : J → D) (limit : ℕ) where
+module _ {J D : Type 0} (letter : Letter.Ghosts J D) (limit : ℕ) where
   -- what holds between any two steps, where so many sessions may be attached
   abbrev pub Kept : State (Option J) (View D) → Type 0
   Kept s =
-      (master : ℕ) × (d : RosterView D) × (cells : ℕ → Cell D) × Holds told master d cells s
-      × GateOk limit (length s.homes) (slice_index_or s.words (length s.homes) 0) (gate_of d) cells
-      × History limit d cells (length s.homes) × Latches (length s.homes) s.words d cells × Seats s.views d cells
+      (master : ℕ) × (d : RosterView D) × (cells : ℕ → Cell D) × Holds letter master d cells s
+      × GateOk limit (child_slots (length s.homes)) (slice_index_or s.words (child_slots (length s.homes)) 0) (gate_of d) cells
+      × History limit d cells (child_slots (length s.homes)) × Latches (child_slots (length s.homes)) s.words d cells × Seats s.views d cells

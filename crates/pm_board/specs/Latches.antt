@@ -1,5 +1,5 @@
 -- The rule of the latches: what stands for a child, and what it was given, was sent to it.
-use Rattle.std.specs.Prelude.{◌≡◌, ℕ, zero, suc, ◌+◌, ◌<◌, ◌≤◌, Bool, ◌==◌, ◌&&◌, List, [], ◌∷◌, ◌++◌, Some, Err, slice_index_or}
+use Rattle.std.specs.Prelude.{◌≡◌, ℕ, zero, suc, ◌+◌, ◌<◌, ◌≤◌, ◌⊎◌, Bool, true, ◌==◌, ◌&&◌, is_some, List, [], ◌∷◌, ◌++◌, Some, Ok, Err, slice_index_or}
 use Rattle.std.specs.Int.{bit_at}
 use Rattle.std.specs.List.{Contains, AllByRecursion}
 use Rattle.pm_exit.specs.declared.child.Kind.{Kind}
@@ -21,8 +21,8 @@ use Rattle.pm_board.specs.Rule.{Phase, unused, opened, offered, running, ended, 
 
 -- a step is a send of the signal of this number to this pid
 abbrev pub is_send : ℕ → ℕ → RosterStep → Bool
-is_send number pid (Send p kind signal generation) = (p == pid) && (signal_number signal == number)
-is_send number pid (Assign p kind generation) = Bool.false
+is_send number pid (Send slot p kind signal generation) = (p == pid) && (signal_number signal == number)
+is_send number pid (Assign slot p kind generation) = Bool.false
 is_send number pid (Release p kind generation) = Bool.false
 is_send number pid (Quit why generation) = Bool.false
 is_send number pid (Ready generation) = Bool.false
@@ -37,6 +37,25 @@ times_sent number pid (s ∷ ss) = bit (is_send number pid s) + times_sent numbe
 abbrev pub times_given : ℕ → List Signals → ℕ
 times_given number [] = 0
 times_given number (s ∷ ss) = bit (is_given number s) + times_given number ss
+
+-- no signal was sent to a child of this pid
+abbrev pub NotSent : ℕ → List RosterStep → Type 0
+NotSent pid steps = (number : ℕ) → times_sent number pid steps ≡ 0
+
+-- the signal of this number was told of in an answer. Where both notices stood, that of a stop tells of both
+abbrev pub is_heard : ℕ → Signals → Bool
+is_heard zero s = is_some s.quit
+is_heard (suc n) s = is_given (suc n) s
+
+-- and how many of these answers told of it
+abbrev pub times_heard : ℕ → List Signals → ℕ
+times_heard number [] = 0
+times_heard number (s ∷ ss) = bit (is_heard number s) + times_heard number ss
+
+-- what was sent to a child of this pid stands in its latch, until an answer told of it
+abbrev pub Reaches : List RosterStep → ℕ → ℕ → List Signals → Type 0
+Reaches steps latch pid given =
+    (number : ℕ) → number < 5 → 0 < times_sent number pid steps → 0 < bit_at latch number + times_heard number given
 
 -- no child of this pid was released
 abbrev pub NotReleased : ℕ → List RosterStep → Type 0
@@ -57,6 +76,11 @@ abbrev pub times_made : ℕ → List Cancel → ℕ
 times_made pid [] = 0
 times_made pid (x ∷ xs) = bit (x.pid == pid) + times_made pid xs
 
+-- and how many of them were made on this slot
+abbrev pub times_made_on : ℕ → ℕ → List Cancel → ℕ
+times_made_on k pid [] = 0
+times_made_on k pid (x ∷ xs) = bit ((x.slot == k) && (x.pid == pid)) + times_made_on k pid xs
+
 -- 1 where a slot's cancels hold this pid
 abbrev pub waiting : ℕ → ℕ → ℕ
 waiting zero pid = 0
@@ -68,6 +92,8 @@ pub record HeardRightly (steps : List RosterStep) (cancelled : ℕ → ℕ → T
   pub sent : (number : ℕ) → times_given number h.given ≤ times_sent number pid steps
   pub cancels : cancelled pid (times_told h.given + bit h.heeded)
   pub met : (g : ℕ) (why : Reason) → h.met ≡ Some (Err (gate_no.Quit g why)) → (g ≡ generation) × NoticedBefore steps pid why generation
+  -- and the generation that it let it into is its own
+  pub let_in : (g : ℕ) → h.met ≡ Some (Ok g) → g ≡ generation
 
 -- Of the child that runs: a signal that stands hasn't been given yet for one of the sends
 pub record HearsRightly (steps : List RosterStep) (cancelled : ℕ → ℕ → Type 0) (latch pid generation : ℕ) (h : Heard) : Type 0 where
@@ -116,6 +142,28 @@ module _ {D : Type 0} where
   OfUnreleased P (collected o status active) = Unit {0}
   OfUnreleased P gathered = Unit {0}
 
+  -- what was sent to the child that is offered stands, to the one that runs until it was told, and what a child leaves untold that
+  -- exits stands on behind it
+  abbrev pub ReachesIn : List RosterStep → ℕ → List Signals → Phase D → Type 0
+  ReachesIn steps latch given (offered o) = Reaches steps latch o.pid []
+  ReachesIn steps latch given (running o active) = Reaches steps latch o.pid given
+  ReachesIn steps latch given unused = Unit {0}
+  ReachesIn steps latch given (opened q) = Unit {0}
+  ReachesIn steps latch given (ended o status active back) = Reaches steps latch o.pid given
+  ReachesIn steps latch given (collected o status active) = Unit {0}
+  ReachesIn steps latch given gathered = Unit {0}
+
+  -- a cancel that was made on its slot for the child that is offered stands there, and one for the child that runs until a heed
+  -- found it. The word holds the greatest pid: that of a later child may stand in place of it
+  abbrev pub CallsIn : (ℕ → ℕ) → ℕ → Heard → Phase D → Type 0
+  CallsIn made cancel h (offered o) = 0 < made o.pid → o.pid ≤ cancel
+  CallsIn made cancel h (running o active) = 0 < made o.pid → (o.pid ≤ cancel) ⊎ (h.found ≡ true)
+  CallsIn made cancel h unused = Unit {0}
+  CallsIn made cancel h (opened q) = Unit {0}
+  CallsIn made cancel h (ended o status active back) = Unit {0}
+  CallsIn made cancel h (collected o status active) = Unit {0}
+  CallsIn made cancel h gathered = Unit {0}
+
   -- P holds of each child and what it heard, and there are as many of both
   abbrev pub EachHeard : (PastChild D → Heard → Type 0) → List (PastChild D) → List Heard → Type 0
   EachHeard P [] [] = Unit {0}
@@ -130,8 +178,12 @@ module _ {D : Type 0} where
   abbrev pub WereMade : ℕ → (ℕ → Cell D) → ℕ → ℕ → Type 0
   WereMade n cells pid times = times ≤ sum_below n (λ j. times_made pid (cells j).post.notes.cancels)
 
+  -- so many cancels were made on the slot k for this pid
+  abbrev pub made_on : ℕ → (ℕ → Cell D) → ℕ → ℕ → ℕ
+  made_on n cells k pid = sum_below n (λ j. times_made_on k pid (cells j).post.notes.cancels)
+
   -- the words of a slot's latch and cancels
-  pub record LatchOk (steps : List RosterStep) (cancelled : ℕ → ℕ → Type 0) (latch cancel : ℕ) (c : Cell D) : Type 0 where
+  pub record LatchOk (steps : List RosterStep) (cancelled : ℕ → ℕ → Type 0) (made : ℕ → ℕ) (latch cancel : ℕ) (c : Cell D) : Type 0 where
     pub armed : ArmedFor (latch_pid latch) c.phase
     pub fits : latch_pid latch < 2147483648
     -- a signal stands only where it was sent to that pid
@@ -143,9 +195,17 @@ module _ {D : Type 0} where
     pub named : OfUnreleased (λ o. 0 < o.pid) c.phase
     -- a cancel is made with the key of its pid, under the seed that its call was given
     pub keyed : AllByRecursion (λ x. x.key ≡ cancel_key x.seed x.pid) c.post.notes.cancels
+    pub reaches : ReachesIn steps latch c.post.notes.now.given c.phase
+    pub calls : CallsIn made cancel c.post.notes.now c.phase
 
-  pub record Latches (n : ℕ) (words : List ℕ) (d : RosterView D) (cells : ℕ → Cell D) : Type 0 where
-    pub each : (k : ℕ) → k < n → LatchOk d.notes.steps (WereMade n cells) (latch_at n words k) (cancel_at n words k) (cells k)
+  pub record LatchesOf (made : ℕ → ℕ → ℕ) (n : ℕ) (words : List ℕ) (d : RosterView D) (cells : ℕ → Cell D) : Type 0 where
+    pub each : (k : ℕ) → k < n → LatchOk d.notes.steps (WereMade n cells) (made k) (latch_at n words k) (cancel_at n words k) (cells k)
     -- the notice that stands was given in this generation
     pub noticed : (why : Reason) → d.noticed ≡ Some why → Contains d.notes.steps (Quit why d.generation)
     pub fresh : (pid : ℕ) → d.notes.last_pid < pid → NotReleased pid d.notes.steps
+    pub unsent : (pid : ℕ) → d.notes.last_pid < pid → NotSent pid d.notes.steps
+    -- nor does a cancel go by that was made for a pid before it is given
+    pub ahead : (k : ℕ) → k < n → (pid : ℕ) → d.notes.last_pid < pid → 0 < made k pid → pid ≤ cancel_at n words k
+
+  abbrev pub Latches : ℕ → List ℕ → RosterView D → (ℕ → Cell D) → Type 0
+  Latches n words d cells = LatchesOf (made_on n cells) n words d cells

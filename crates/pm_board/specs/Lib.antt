@@ -1,5 +1,7 @@
 pub mod Words
+pub mod Slots
 pub mod Places
+pub mod Children
 pub mod Gate
 pub mod Rule
 pub mod Latch

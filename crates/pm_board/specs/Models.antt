@@ -7,6 +7,8 @@ use Rattle.pm_supervisor.specs.declared.Reason.{Reason}
 use Rattle.pm_supervisor.specs.Children.{is_dead_end, is_startup_child}
 use Rattle.pm_life.specs.declared.life.GateNo.{GateNo}
 use Rattle.pm_life.specs.declared.life.Signals.{Signals}
+use Rattle.pm_board.specs.Slots.{child_slots}
+use Rattle.pm_board.specs.declared.views.Letter as Letter
 use Rattle.pm_board.specs.declared.views.Cancel.{Cancel}
 use Rattle.pm_board.specs.declared.views.Offer.{Offer}
 use Rattle.pm_board.specs.declared.views.RosterNotes.{RosterNotes}
@@ -27,15 +29,15 @@ use Rattle.pm_board.specs.declared.post.Started.{Started}
 use Rattle.pm_board.specs.declared.post.Started.TheVariants as started
 use Rattle.pm_board.specs.Words.{stage_in}
 use Rattle.pm_board.specs.Places.{slot_at, slot_view, used_in, EndsWell}
-use Rattle.pm_board.specs.Gate.{gate_answer}
+use Rattle.pm_board.specs.Children.{children_of}
+use Rattle.pm_board.specs.Gate.{gate_answer, generation_in}
 use Rattle.pm_board.specs.Latch.{latch_pid, signals_at}
 use Rattle.pm_board.specs.Rule.{child_word, offer_word, idle_post}
 use Rattle.pm_board.specs.Told.{Seated, MayEnd, roster_of, post_of, with_slot, with_post, assigned_slot, running_slot, exited_slot, released_slot, past_child, noted_assign, noted_release, noted_load, noted_start, noted_exit, noted_look, post_view, with_work, tried, detached, after_step, child_in, with_notes, noted_take, noted_heed, noted_latch_look, noted_cancel}
 
--- which board it is, the home that it was made with, and what the supervisor knows
-pub record RosterModel (D H : Type 0) : Type 0 where
+-- which board it is, and what the supervisor knows
+pub record RosterModel (D : Type 0) : Type 0 where
   pub table : TableId
-  pub home : H
   pub knows : RosterView D
 
 -- which board it is, which slot, and what the worker knows
@@ -73,18 +75,19 @@ RunsPid pid (Attached o g) = pid ≡ o.pid
 
 module _ {J D : Type 0} where
   -- The supervisor's seat is one of this board and holds no mail slot. It knows as many slots as the board has, and the
-  -- roster has at hand how many are used, the generation and the notice
-  abbrev pub IsWholeRoster : TableId → TableId → ℕ → ℕ → Option Reason → Seated J D → Type 0
-  IsWholeRoster board table used generation noticed me =
-      (board ≡ table) × (me ≡ (Postmaster (roster_of me.0), [])) × (table.words ≡ 3 * table.slots + 1)
-      × (length (roster_of me.0).slots ≡ table.slots) × (table.slots ≤ 407) × (used ≡ used_in (roster_of me.0).slots)
+  -- roster has at hand how many are used and by which children, the generation and the notice
+  abbrev pub IsWholeRoster : TableId → TableId → ℕ → List (Option (ℕ × Kind)) → ℕ → Option Reason → Seated J D → Type 0
+  IsWholeRoster board table used children generation noticed me =
+      (board ≡ table) × (me ≡ (Postmaster (roster_of me.0), [])) × (table.words ≡ 3 * child_slots table.slots + 1)
+      × (length (roster_of me.0).slots ≡ child_slots table.slots) × (table.slots ≤ 407) × (used ≡ used_in (roster_of me.0).slots)
       × (generation ≡ (roster_of me.0).generation) × (noticed ≡ (roster_of me.0).noticed)
+      × (children ≡ children_of (roster_of me.0).slots)
 
   -- A worker's seat is one of this board, of the slot k, and holds what its work needs. The post has at hand kind and pid of
   -- its child and the limit of sessions
   abbrev pub IsWholePost : TableId → TableId → ℕ → Kind → ℕ → ℕ → Seated J D → Type 0
   IsWholePost board table k kind pid limit me =
-      (board ≡ table) × (me.0 ≡ Worker k (post_of me.0)) × (table.words ≡ 3 * table.slots + 1) × (k < table.slots)
+      (board ≡ table) × (me.0 ≡ Worker k (post_of me.0)) × (table.words ≡ 3 * child_slots table.slots + 1) × (k < child_slots table.slots)
       × HoldsMail k (post_of me.0).work me.1 × RunsKind kind (post_of me.0).work × (limit ≡ (post_of me.0).notes.session_limit)
       × RunsPid pid (post_of me.0).work × (table.slots ≤ 407)
 
@@ -104,7 +107,7 @@ module _ {D : Type 0} where
       × ((k : ℕ) (p : PostModel D) → slice_get posts k ≡ Some p → p ≡ record { table = table; slot = k; knows = idle_post limit })
 
   -- the post of the slot k is made
-  abbrev pub HasDealt : {H : Type 0} → ℕ → PostModel D → RosterModel D H → RosterModel D H → Type 0
+  abbrev pub HasDealt : ℕ → PostModel D → RosterModel D → RosterModel D → Type 0
   HasDealt k post before after =
       (post ≡ record { table = before.table; slot = k; knows = idle_post before.knows.session_limit })
       × (after.knows ≡ with_post before.knows)
@@ -123,19 +126,20 @@ module _ {D : Type 0} where
       (stage_in word ≢ 3) × SlotBecame k (running_slot (slot_at before k) o before.notes.last_connection) (noted_look before.notes word) before after
   LookMet k o word (look.Exited status active) before after =
       (word ≡ child_word 3 o status active) × SlotBecame k (exited_slot (slot_at before k) o status active) (noted_look before.notes word) before after
+      × EndsWell o.kind status active
 
   -- a start met this word of its own slot: it offers a child exactly where the word is in stage 1
-  abbrev pub StartMet : {J : Type 0} → (J → D) → ℕ → Started J → PostView D → PostView D → Type 0
-  StartMet told word started.Idle before after = (stage_in word ≢ 1) × (after ≡ post_view (noted_load before.notes word) before.past Idle)
-  StartMet told word (started.Job pid kind job) before after =
-      (o : Offer D) × (word ≡ offer_word o) × (o.pid ≡ pid) × (o.kind ≡ kind) × (o.given ≡ told job)
-      × (after ≡ post_view (noted_start (noted_load before.notes word)) before.past (Inactive o))
+  abbrev pub StartMet : {J : Type 0} → Letter.Ghosts J D → ℕ → Started J → PostView D → PostView D → Type 0
+  StartMet letter word started.Idle before after = (stage_in word ≢ 1) × (after ≡ post_view (noted_load before.notes word) before.past Idle)
+  StartMet letter word (started.Job pid kind job) before after =
+      (o : Offer D) × (word ≡ offer_word o) × (o.pid ≡ pid) × (o.kind ≡ kind) × (o.given ≡ letter.told job)
+      × (after ≡ post_view (noted_start (noted_load before.notes word)) before.past (Inactive o)) × letter.fits job kind
 
   -- a child of this pid and kind was assigned to the slot k, with a mail that tells this
   abbrev pub HasAssigned : ℕ → ℕ → Kind → D → RosterView D → RosterView D → Type 0
   HasAssigned k pid kind given before after =
       (o : Offer D) × (o ≡ record { pid = pid; kind = kind; generation = before.generation; given = given })
-      × SlotBecame k (assigned_slot (slot_at before k) o) (noted_assign before.notes o) before after
+      × SlotBecame k (assigned_slot (slot_at before k) o) (noted_assign before.notes k o) before after
 
   -- a look at the slot k, by the word that it met
   abbrev pub HasLooked : ℕ → Look → RosterView D → RosterView D → Type 0
@@ -185,7 +189,7 @@ module _ {D : Type 0} where
   abbrev pub HasTried : Result ℕ GateNo → PostView D → PostView D → Type 0
   HasTried answer before after =
       (o : Offer D) → before.work ≡ Active o
-      → (word : ℕ) × (answer ≡ gate_answer o.kind before.notes.session_limit word) × (after ≡ tried before o word)
+      → (word : ℕ) × (answer ≡ gate_answer o.kind before.notes.session_limit word) × (after ≡ tried before o word) × (generation_in word ≡ o.generation)
 
   -- it has given its place at the gate back
   abbrev pub HasBackedOut : PostView D → PostView D → Type 0
@@ -213,7 +217,7 @@ module _ {D : Type 0} where
   -- this signal was sent to the child of the slot k
   abbrev pub HasSent : ℕ → Signal → RosterView D → RosterView D → Type 0
   HasSent k signal before after =
-      (o : Offer D) → (slot_at before k).sight ≡ Assigned o → HasStepped (Send o.pid o.kind signal o.generation) before after
+      (o : Offer D) → (slot_at before k).sight ≡ Assigned o → HasStepped (Send k o.pid o.kind signal o.generation) before after
 
   -- these signals stood in the word that a take met, beside the cancel that was heeded, or not
   abbrev pub HasTakenSignals : Signals → PostView D → PostView D → Type 0
@@ -235,14 +239,19 @@ module _ {D : Type 0} where
   abbrev pub HasCancelled : Cancel → PostView D → PostView D → Type 0
   HasCancelled x before after = after ≡ with_notes before (noted_cancel before.notes x)
 
-module _ {J D : Type 0} (told : J → D) where
+module _ {J D : Type 0} (letter : Letter.Ghosts J D) where
   -- a start, by the word that it met
   abbrev pub HasStarted : Started J → PostView D → PostView D → Type 0
-  HasStarted answer before after = (word : ℕ) × StartMet told word answer before after
+  HasStarted answer before after = (word : ℕ) × StartMet letter word answer before after
+
+  -- this mail may come back from the child that runs, which exits with this status
+  abbrev pub GivesBack : Work D → Status → J → Type 0
+  GivesBack work status job = (o : Offer D) (active : Bool) → MayEnd work o active → letter.comes_back job o.kind status active
 
   -- what was released is what the look at the slot k found, and it stands last among the children of the slot
   abbrev pub HasReleased : ℕ → Released J → RosterView D → RosterView D → Type 0
   HasReleased k released before after =
       (o : Offer D) (status : Status) (active : Bool) → (slot_at before k).sight ≡ Exited o status active
       → (released.pid ≡ o.pid) × (released.kind ≡ o.kind) × (released.status ≡ status) × (released.was_active ≡ active)
-      × SlotBecame k (released_slot (slot_at before k) (past_child o status active (told released.job))) (noted_release before.notes o) before after
+      × SlotBecame k (released_slot (slot_at before k) (past_child o status active (letter.told released.job))) (noted_release before.notes o) before after
+      × letter.comes_back released.job released.kind released.status released.was_active

@@ -8,6 +8,8 @@ use lib.ListN.{get_elem?}
 use Rattle.atomic_table.specs.Table.{State}
 use Rattle.pm_exit.specs.declared.child.Status.{Status}
 use Rattle.pm_exit.specs.declared.child.Status.TheVariants as status
+use Rattle.pm_board.specs.Slots.{child_slots}
+use Rattle.pm_board.specs.declared.views.Letter as Letter
 use Rattle.pm_board.specs.declared.views.Heard.{Heard}
 use Rattle.pm_board.specs.declared.views.Offer.{Offer}
 use Rattle.pm_board.specs.declared.views.PastChild.{PastChild}
@@ -43,7 +45,7 @@ pub record Cell (D : Type 0) : Type 0 where
 
 -- of a child that has just started
 abbrev pub no_signals : Heard
-no_signals = record { asked = 0; given = []; heeded = false; met = None }
+no_signals = record { asked = 0; given = []; heeded = false; found = false; met = None }
 
 abbrev pub no_notes : ℕ → PostNotes
 no_notes limit =
@@ -55,7 +57,6 @@ no_notes limit =
       now = no_signals;
       heard = [];
       cancels = [];
-      homes = [];
     }
 
 module _ {D : Type 0} where
@@ -195,12 +196,12 @@ module _ {C : Type 0} where
       go (yes e) = subst (λ (k : ℕ). F k c) (sym e) here
       go (no n) = other n
 
-module _ {J D : Type 0} (told : J → D) where
+module _ {J D : Type 0} (letter : Letter.Ghosts J D) where
   -- the mail slot of a slot that stands there
   abbrev pub Mail : Phase D → maybe.Option (Option J) → Type 0
   Mail unused h = h ≡ some None
-  Mail (offered o) h = (j : J) × (h ≡ some (Some j)) × (told j ≡ o.given)
-  Mail (ended o status active back) h = (j : J) × (h ≡ some (Some j)) × (told j ≡ back)
+  Mail (offered o) h = (j : J) × (h ≡ some (Some j)) × (letter.told j ≡ o.given) × letter.fits j o.kind
+  Mail (ended o status active back) h = (j : J) × (h ≡ some (Some j)) × (letter.told j ≡ back) × letter.comes_back j o.kind status active
   Mail (opened q) h = Unit {0}
   Mail (running o active) h = Unit {0}
   Mail (collected o status active) h = Unit {0}
@@ -219,11 +220,11 @@ module _ {J D : Type 0} (told : J → D) where
 
   pub record Holds (master : ℕ) (d : RosterView D) (cells : ℕ → Cell D) (s : State (Option J) (View D)) : Type 0 where
     -- a word for each slot, one for the gate, and one for each latch and for the cancels of each slot
-    pub wide : length s.words ≡ 3 * length s.homes + 1
-    pub many : length d.slots ≡ length s.homes
+    pub wide : length s.words ≡ 3 * child_slots (length s.homes) + 1
+    pub many : length d.slots ≡ child_slots (length s.homes)
     pub pids : PidsOk d
-    pub some_posts : d.dealt ≤ length s.homes
+    pub some_posts : d.dealt ≤ child_slots (length s.homes)
     pub new_posts : (k : ℕ) → d.dealt ≤ k → (cells k).post ≡ idle_post d.session_limit
-    pub each_slot : (k : ℕ) → k < length s.homes → SlotOk (slice_index_or s.words k 0) (get_elem? s.homes k) (slot_at d k) (cells k)
-    pub each_child : (k : ℕ) → k < length s.homes → OfChild (IsPlaced (length s.homes) d.generation k) (cells k).phase
+    pub each_slot : (k : ℕ) → k < child_slots (length s.homes) → SlotOk (slice_index_or s.words k 0) (get_elem? s.homes k) (slot_at d k) (cells k)
+    pub each_child : (k : ℕ) → k < child_slots (length s.homes) → OfChild (IsPlaced (child_slots (length s.homes)) d.generation k) (cells k).phase
     pub each_seat : (id : ℕ) (v : View D) → get_elem? s.views id ≡ some v → Agrees master d cells id v

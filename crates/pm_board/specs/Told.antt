@@ -1,7 +1,9 @@
 -- What each step tells the seat that makes it.
-use Rattle.std.specs.Prelude.{◌≡◌, ◌≢◌, ℕ, ◌+◌, ◌-◌, ◌*◌, ◌%◌, ◌^◌, ◌<◌, ◌==◌, min, Bool, true, false, if◌then◌else◌, List, [], ◌∷◌, ◌++◌, Option, Some, None, Result, Ok, Err, slice_set, replicate}
+use Rattle.std.specs.Prelude.{◌≡◌, ◌≢◌, ℕ, ◌+◌, ◌-◌, ◌*◌, ◌%◌, ◌^◌, ◌<◌, ◌==◌, min, Bool, true, false, ◌||◌, if◌then◌else◌, List, [], ◌∷◌, ◌++◌, Option, Some, None, Result, Ok, Err, slice_set, replicate}
 use Rattle.atomic_table.specs.Table.{Me, Step}
 use Rattle.pm_exit.specs.declared.child.Status.{Status}
+use Rattle.pm_board.specs.Slots.{child_slots}
+use Rattle.pm_board.specs.declared.views.Letter as Letter
 use Rattle.pm_board.specs.declared.views.Cancel.{Cancel}
 use Rattle.pm_board.specs.declared.views.Heard.{Heard}
 use Rattle.pm_board.specs.declared.views.Offer.{Offer}
@@ -33,7 +35,7 @@ use Rattle.pm_board.specs.Latch.{latch_place, latch_pid, signal_number, armed_wo
 use Rattle.pm_board.specs.Rule.{child_word, offer_word, no_signals, idle_post}
 
 abbrev pub no_roster_notes : RosterNotes
-no_roster_notes = record { last_pid = 0; last_connection = 0; steps = []; met = []; homes = [] }
+no_roster_notes = record { last_pid = 0; last_connection = 0; steps = []; met = [] }
 
 -- the roster's notes after a look that met this word
 abbrev pub noted_look : RosterNotes → ℕ → RosterNotes
@@ -54,13 +56,13 @@ module _ {D : Type 0} where
   abbrev pub with_sight : RosterView D → ℕ → Sight D → RosterView D
   with_sight d k s = with_slot d k (slot_view (slot_at d k).past s) d.notes
 
-  -- the notes of the roster after an assign and a release
-  abbrev pub noted_assign : RosterNotes → Offer D → RosterNotes
-  noted_assign notes o =
+  -- the notes of the roster after an assign to the slot k, and after a release
+  abbrev pub noted_assign : RosterNotes → ℕ → Offer D → RosterNotes
+  noted_assign notes k o =
       record notes {
         last_pid = o.pid;
         last_connection = if is_connection o.kind then o.pid else notes.last_connection;
-        steps = notes.steps ++ Assign o.pid o.kind o.generation ∷ [];
+        steps = notes.steps ++ Assign k o.pid o.kind o.generation ∷ [];
       }
 
   abbrev pub noted_release : RosterNotes → Offer D → RosterNotes
@@ -156,7 +158,7 @@ noted_take notes word =
     record notes { met = notes.met ++ word ∷ []; now = answered notes.now (signals_at word notes.now.heeded) }
 
 abbrev pub noted_heed : PostNotes → ℕ → ℕ → PostNotes
-noted_heed notes pid word = record notes { met = notes.met ++ word ∷ []; now = record notes.now { heeded = word == pid } }
+noted_heed notes pid word = record notes { met = notes.met ++ word ∷ []; now = record notes.now { heeded = word == pid; found = notes.now.found || (word == pid) } }
 
 -- after a look at the latch of the slot k, and a cancel
 abbrev pub noted_latch_look : PostNotes → ℕ → ℕ → PostNotes
@@ -244,7 +246,7 @@ module _ {J D : Type 0} where
   -- the supervisor has armed the latch of an unused slot, and has its mail slot
   abbrev pub Arms : Step (Option J) → Seated J D → ℕ → Seated J D → Type 0
   Arms st m found n =
-      (k pid : ℕ) → st.word ≡ latch_place st.slots k → st.first ≡ armed_word pid
+      (k pid : ℕ) → st.word ≡ latch_place (child_slots st.slots) k → st.first ≡ armed_word pid
       → n ≡ (Postmaster (with_sight (roster_of m.0) k (Opened pid)), (k, None) ∷ [])
 
   -- the worker sees an offer, or none
@@ -295,7 +297,7 @@ module _ {J D : Type 0} where
   abbrev pub Tries : Step (Option J) → Seated J D → ℕ → Seated J D → Type 0
   Tries st m found n =
       (o : Offer D) → (post_of m.0).work ≡ Active o
-      → (n ≡ (reposted m.0 (tried (post_of m.0) o found), m.1)) × (generation_in found < 4294967296)
+      → (n ≡ (reposted m.0 (tried (post_of m.0) o found), m.1)) × (generation_in found < 4294967296) × (generation_in found ≡ o.generation)
 
   -- it has given back its place, as one that was refused or as one that was attached
   abbrev pub BacksOut : Step (Option J) → Seated J D → ℕ → Seated J D → Type 0
@@ -321,8 +323,8 @@ module _ {J D : Type 0} where
   -- the supervisor has sent a signal to the child of a slot
   abbrev pub Sends : Step (Option J) → Seated J D → ℕ → Seated J D → Type 0
   Sends st m found n =
-      (k : ℕ) (o : Offer D) (signal : Signal) → st.word ≡ latch_place st.slots k → (slot_at (roster_of m.0) k).sight ≡ Assigned o
-      → st.first ≡ 2 ^ signal_number signal → n ≡ (Postmaster (after_step (roster_of m.0) (Send o.pid o.kind signal o.generation)), m.1)
+      (k : ℕ) (o : Offer D) (signal : Signal) → st.word ≡ latch_place (child_slots st.slots) k → (slot_at (roster_of m.0) k).sight ≡ Assigned o
+      → st.first ≡ 2 ^ signal_number signal → n ≡ (Postmaster (after_step (roster_of m.0) (Send k o.pid o.kind signal o.generation)), m.1)
 
   -- the worker has taken the signals that stood for its child, and heeded the cancels of this pid
   abbrev pub Takes : Step (Option J) → Seated J D → ℕ → Seated J D → Type 0
@@ -334,32 +336,33 @@ module _ {J D : Type 0} where
   -- it has looked at the latch of a slot
   abbrev pub LooksAtLatch : Step (Option J) → Seated J D → ℕ → Seated J D → Type 0
   LooksAtLatch st m found n =
-      (k : ℕ) → st.word ≡ latch_place st.slots k
+      (k : ℕ) → st.word ≡ latch_place (child_slots st.slots) k
       → (n ≡ (reposted m.0 (with_notes (post_of m.0) (noted_latch_look (post_of m.0).notes k found)), m.1)) × (latch_pid found < 2147483648)
 
   -- it has made this cancel
   abbrev pub Cancels : Cancel → Step (Option J) → Seated J D → ℕ → Seated J D → Type 0
   Cancels x st m found n = n ≡ (reposted m.0 (with_notes (post_of m.0) (noted_cancel (post_of m.0).notes x)), m.1)
 
-  module _ (told : J → D) where
+  module _ (letter : Letter.Ghosts J D) where
     -- the mail that the supervisor holds is offered, with the child that the word has
     abbrev pub Assigns : Step (Option J) → Seated J D → ℕ → Seated J D → Type 0
     Assigns st m found n =
-        (j : J) (o : Offer D) → m.1 ≡ (st.word, Some j) ∷ [] → st.first ≡ offer_word o → o.generation ≡ (roster_of m.0).generation → o.given ≡ told j
-        → n ≡ (Postmaster (with_slot (roster_of m.0) st.word (assigned_slot (slot_at (roster_of m.0) st.word) o) (noted_assign (roster_of m.0).notes o)), [])
+        (j : J) (o : Offer D) → m.1 ≡ (st.word, Some j) ∷ [] → st.first ≡ offer_word o → o.generation ≡ (roster_of m.0).generation → o.given ≡ letter.told j
+        → n ≡ (Postmaster (with_slot (roster_of m.0) st.word (assigned_slot (slot_at (roster_of m.0) st.word) o) (noted_assign (roster_of m.0).notes st.word o)), [])
 
     -- the worker has the mail
     abbrev pub Starts : Step (Option J) → Seated J D → ℕ → Seated J D → Type 0
     Starts st m found n =
         (word : ℕ) → (post_of m.0).work ≡ Sees word
-        → (o : Offer D) × (j : J) × (word ≡ offer_word o) × (o.pid < 2147483648) × (told j ≡ o.given)
+        → (o : Offer D) × (j : J) × (word ≡ offer_word o) × (o.pid < 2147483648) × (letter.told j ≡ o.given)
         × (n ≡ (Worker st.word (post_view (noted_start (post_of m.0).notes) (post_of m.0).past (Inactive o)), (st.word, Some j) ∷ []))
+        × letter.fits j o.kind
 
     -- the worker has ended its child, and given the mail back
     abbrev pub Ends : Step (Option J) → Seated J D → ℕ → Seated J D → Type 0
     Ends st m found n =
         (j : J) (o : Offer D) (status : Status) (active : Bool) → m.1 ≡ (st.word, Some j) ∷ [] → MayEnd (post_of m.0).work o active → st.first ≡ exit_step status
-        → n ≡ (Worker st.word (post_view (noted_exit (post_of m.0).notes o) ((post_of m.0).past ++ past_child o status active (told j) ∷ []) Idle), [])
+        → n ≡ (Worker st.word (post_view (noted_exit (post_of m.0).notes o) ((post_of m.0).past ++ past_child o status active (letter.told j) ∷ []) Idle), [])
 
     -- the supervisor has the mail of a child that had exited
     abbrev pub Releases : Step (Option J) → Seated J D → ℕ → Seated J D → Type 0
@@ -368,7 +371,7 @@ module _ {J D : Type 0} where
         → (found ≡ child_word 3 o status active) × (o.pid < 2147483648) × (status_number status < 256)
         × ((j : J) × (n ≡ (
           Postmaster (with_slot (roster_of m.0) st.word
-              (slot_view ((slot_at (roster_of m.0) st.word).past ++ past_child o status active (told j) ∷ []) (Collected o status active))
+              (slot_view ((slot_at (roster_of m.0) st.word).past ++ past_child o status active (letter.told j) ∷ []) (Collected o status active))
               (noted_release (roster_of m.0).notes o)),
           (st.word, Some j) ∷ [],
-        )))
+        )) × letter.comes_back j o.kind status active)

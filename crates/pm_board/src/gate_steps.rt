@@ -12,7 +12,7 @@ use crate::views::Letter;
 use pm_life::GateNo;
 use pm_supervisor::Reason;
 
-impl<J: Letter + Drop, H> Post<J, H> {
+impl<J: Letter + Drop> Post<J> {
     /// Marks the slot as active.
     pub fn mark(&mut self)
         requires { MayAttach self.old.knows.work }
@@ -82,12 +82,11 @@ impl<J: Letter + Drop, H> Post<J, H> {
     }
 }
 
-impl<J: Letter + Drop, H: Drop> Roster<J, H> {
+impl<J: Letter + Drop> Roster<J> {
     /// Gives notice: no child is let in any more.
     pub fn quit(&mut self, why: Reason)
         requires { MayQuit self.old.knows.noticed why }
         ensures table { self.new.table ≡ self.old.table }
-        ensures home { self.new.home ≡ self.old.home }
         ensures knows { HasStepped (Quit why self.old.knows.generation) self.old.knows
             self.new.knows }
     {
@@ -103,7 +102,6 @@ impl<J: Letter + Drop, H: Drop> Roster<J, H> {
     pub fn ready(&mut self)
         requires { MayOpen self.old.knows }
         ensures table { self.new.table ≡ self.old.table }
-        ensures home { self.new.home ≡ self.old.home }
         ensures knows { HasStepped (Ready self.old.knows.generation) self.old.knows self.new.knows }
     {
         let gate = self.words.slot_count();
@@ -118,7 +116,6 @@ impl<J: Letter + Drop, H: Drop> Roster<J, H> {
     pub fn reset(&mut self)
         requires { MayReset self.old.knows }
         ensures table { self.new.table ≡ self.old.table }
-        ensures home { self.new.home ≡ self.old.home }
         ensures knows { HasStepped (Reset (self.old.knows.generation + 1)) self.old.knows
             self.new.knows }
     {

@@ -1,6 +1,7 @@
 //! The steps at latches and cancels, one call each. The crate of the latches makes its calls of them, and nobody else uses them.
 ghost use Rattle.std.specs.Prelude.{◌≡◌, ◌<◌};
 ghost use Rattle.pm_keys.specs.CancelKey.{cancel_key};
+ghost use Rattle.pm_board.specs.Slots.{child_slots};
 ghost use Rattle.pm_board.specs.Places.{IsAssigned};
 ghost use Rattle.pm_board.specs.Models.{RunsChild, HasSent, HasTakenSignals, HasHeeded, HasLookedAtLatch, HasCancelled, cancel_of};
 
@@ -12,12 +13,11 @@ use crate::views::{Letter, Signal};
 use pm_life::Signals;
 use std::marker::Brand;
 
-impl<J: Letter + Drop, H: Drop> Roster<J, H> {
+impl<J: Letter + Drop> Roster<J> {
     /// Lets a signal stand for the child of a slot.
     pub fn send(&mut self, slot: u32, signal: Signal)
         requires { IsAssigned self.old.knows slot }
         ensures table { self.new.table ≡ self.old.table }
-        ensures home { self.new.home ≡ self.old.home }
         ensures knows { HasSent slot signal self.old.knows self.new.knows }
     {
         let latch = self.words.slot_count() + 1 + slot as usize;
@@ -27,10 +27,10 @@ impl<J: Letter + Drop, H: Drop> Roster<J, H> {
     }
 }
 
-impl<J: Letter + Drop, H> Post<J, H> {
+impl<J: Letter + Drop> Post<J> {
     /// How many slots the board has.
     pub fn slots(&self) -> u32
-        ensures { result ≡ self.now.table.slots }
+        ensures { result ≡ child_slots self.now.table.slots }
     {
         self.words.slot_count() as u32
     }
@@ -70,7 +70,7 @@ impl<J: Letter + Drop, H> Post<J, H> {
 
     /// The pid that the latch of a slot is armed for.
     pub fn look_at_latch(&mut self, slot: u32) -> u32
-        requires { slot < self.old.table.slots }
+        requires { slot < child_slots self.old.table.slots }
         ensures table { self.new.table ≡ self.old.table }
         ensures slot { self.new.slot ≡ self.old.slot }
         ensures met { HasLookedAtLatch slot result self.old.knows self.new.knows }
@@ -85,7 +85,7 @@ impl<J: Letter + Drop, H> Post<J, H> {
 
     /// Makes a cancel for a pid on the cancel word of a slot. The key has to be that of the pid under the seed.
     pub fn make_cancel(&mut self, slot: u32, seed: &[u8; 32], pid: u32, key: u32)
-        requires slot { slot < self.old.table.slots }
+        requires slot { slot < child_slots self.old.table.slots }
         requires key { key ≡ cancel_key seed.now pid }
         ensures table { self.new.table ≡ self.old.table }
         ensures slot { self.new.slot ≡ self.old.slot }
@@ -97,7 +97,7 @@ impl<J: Letter + Drop, H> Post<J, H> {
 
     // The cancel's step. Seed and key are for the proof alone.
     fn raise<C: Made>(&mut self, slot: u32, _seed: &[u8; 32], pid: u32, _key: u32)
-        requires place { (slot < self.old.table.slots) × (C.cancel.slot ≡ slot)
+        requires place { (slot < child_slots self.old.table.slots) × (C.cancel.slot ≡ slot)
             × (C.cancel.pid ≡ pid) }
         requires key { C.cancel.key ≡ cancel_key C.cancel.seed C.cancel.pid }
         ensures table { self.new.table ≡ self.old.table }

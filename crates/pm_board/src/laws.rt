@@ -1,6 +1,7 @@
 //! What holds of a board between any two steps. Each law is stated in `specs/Laws`, and carried by the function of its name.
 
-ghost use Rattle.pm_board.specs.Laws.{ResetFindsNobody, ShowsASoundState, HistoryIsOfTheSeats, HearsWhatWasSent};
+ghost use Rattle.pm_board.specs.Children.{CountsChildren};
+ghost use Rattle.pm_board.specs.Laws.{ResetFindsNobody, ShowsASoundState, HistoryIsOfTheSeats, HearsWhatWasSent, LetsInRightly};
 
 use crate::views::Letter;
 use pm_supervisor::keeps_what_is_shared;
@@ -8,13 +9,13 @@ use pm_supervisor::keeps_what_is_shared;
 /// Where the supervisor sees no slot with a child, no worker does anything. So a reset finds nobody attached, whatever the
 /// gate has counted.
 pub fn reset_finds_nobody<J: Letter>()
-    ensures { ResetFindsNobody J.told }
+    ensures { ResetFindsNobody J.Letter }
 {}
 
 /// What the board shows is sound: pids differ, every child is of the present generation, a session is attached only in a
 /// generation that has been open, and no more are than the limit.
 pub fn shows_a_sound_state<J: Letter>()
-    ensures { ShowsASoundState J.told }
+    ensures { ShowsASoundState J.Letter }
 {
     keeps_what_is_shared();
 }
@@ -22,12 +23,26 @@ pub fn shows_a_sound_state<J: Letter>()
 /// The events that led to what the board shows are the own steps of its seats: the supervisor's are what its view has noted,
 /// in order, and those on a slot what the view of its worker has.
 pub fn history_is_of_the_seats<J: Letter>()
-    ensures { HistoryIsOfTheSeats J.told }
+    ensures { HistoryIsOfTheSeats J.Letter }
 {}
 
 /// What a child heard was meant for it: each signal that it was given was sent to its pid, once for each time that it was given;
 /// a cancel that it heeded was made for its pid, with the key of that pid; and where the gate told it of a notice, the
 /// supervisor had given that notice in the child's generation, before the child's release.
+/// And what was meant for the child that runs is not lost: a signal that was sent to it stands in its latch until an answer told it,
+/// and a cancel made for it on its slot, or one for a later pid, stands in the word of the cancels until a heed found it.
 pub fn hears_what_was_sent<J: Letter>()
-    ensures { HearsWhatWasSent J.told }
+    ensures { HearsWhatWasSent J.Letter }
+{}
+
+/// At any moment, a child that the gate's word lets in attaches in its own generation, and may attach in the state that the board
+/// shows: no notice stands, and for a session the gate is open and there is room.
+pub fn lets_in_rightly<J: Letter>()
+    ensures { LetsInRightly J.Letter }
+{}
+
+/// Of the children that the supervisor sees, an assign counts one more of its kind and a release one fewer. Where there are fewer of
+/// such kinds than slots that only these have, one of those slots is free.
+pub fn counts_children()
+    ensures { CountsChildren }
 {}

@@ -19,12 +19,13 @@ mod roster;
 mod views;
 
 pub use laws::{
-    hears_what_was_sent, history_is_of_the_seats, reset_finds_nobody, shows_a_sound_state,
+    counts_children, hears_what_was_sent, history_is_of_the_seats, lets_in_rightly,
+    reset_finds_nobody, shows_a_sound_state,
 };
 pub use post::{Post, Started};
 pub use posts::Posts;
 pub use roster::{Board, Look, Released, Roster};
 pub use views::{
-    Cancel, Heard, Home, LatchLook, Letter, Offer, PastChild, PostNotes, PostStep, PostView,
-    RosterNotes, RosterStep, RosterView, Sight, Signal, SlotView, View, Work,
+    Cancel, Heard, LatchLook, Letter, Offer, PastChild, PostNotes, PostStep, PostView, RosterNotes,
+    RosterStep, RosterView, Sight, Signal, SlotView, View, Work,
 };

@@ -71,6 +71,11 @@ pub(crate) fn stage(word: u64) -> u64
     word % 8
 }
 
+/// The low 32 bits, by which a thread that waits for a change of the word tells it. The stage is among them.
+pub(crate) fn low_half(word: u64) -> u32 {
+    (word % 4_294_967_296) as u32
+}
+
 pub(crate) fn is_active(word: u64) -> bool
     ensures { result ≡ active_in word }
 {

@@ -22,7 +22,7 @@ impl<J: Letter> TableRule<Option<J>, View<J::Told>, Limits> for Slots<J> {
     ghost use Rattle.pm_board.specs.History.{Kept};
     ghost use Rattle.pm_board.specs.Told.{newcomer};
 
-    ghost holds = { λ k. Kept J.told k.sessions };
+    ghost holds = { λ k. Kept J.Letter k.sessions };
 
     ghost first = { λ k. newcomer k.slots k.sessions };
 }
@@ -212,7 +212,7 @@ pub(crate) struct Assigns<J> {
 impl<J: Letter> Play<Option<J>, View<J::Told>> for Assigns<J> {
     ghost use Rattle.pm_board.specs.Told as told;
 
-    ghost then = { told.Assigns J.told };
+    ghost then = { told.Assigns J.Letter };
 }
 
 pub(crate) struct Starts<J> {
@@ -222,7 +222,7 @@ pub(crate) struct Starts<J> {
 impl<J: Letter> Play<Option<J>, View<J::Told>> for Starts<J> {
     ghost use Rattle.pm_board.specs.Told as told;
 
-    ghost then = { told.Starts J.told };
+    ghost then = { told.Starts J.Letter };
 }
 
 pub(crate) struct Ends<J> {
@@ -232,7 +232,7 @@ pub(crate) struct Ends<J> {
 impl<J: Letter> Play<Option<J>, View<J::Told>> for Ends<J> {
     ghost use Rattle.pm_board.specs.Told as told;
 
-    ghost then = { told.Ends J.told };
+    ghost then = { told.Ends J.Letter };
 }
 
 pub(crate) struct Releases<J> {
@@ -242,5 +242,5 @@ pub(crate) struct Releases<J> {
 impl<J: Letter> Play<Option<J>, View<J::Told>> for Releases<J> {
     ghost use Rattle.pm_board.specs.Told as told;
 
-    ghost then = { told.Releases J.told };
+    ghost then = { told.Releases J.Letter };
 }

@@ -4,15 +4,15 @@ ghost use Rattle.std.specs.Arc.{arc_value};
 ghost use Rattle.pm_board.specs.declared.views.Work.TheVariants.{Idle};
 ghost use Rattle.pm_board.specs.Words.{status_number};
 ghost use Rattle.pm_board.specs.Told.{post_of};
-ghost use Rattle.pm_board.specs.Models.{PostModel, IsWholePost, MayExit, HasStarted, HasExited};
+ghost use Rattle.pm_board.specs.Models.{PostModel, IsWholePost, MayExit, GivesBack, HasStarted, HasExited};
 
-use crate::packing::{NEXT_STAGE, OFFERED, ended, kind, pid, stage};
+use crate::packing::{NEXT_STAGE, OFFERED, ended, kind, low_half, pid, stage};
 use crate::plays::{Ends, Loads, Starts, Words};
 use crate::views::{Letter, View};
 use atomic_table::Seat;
 use pm_exit::{Kind, Status};
-use std::marker::{Model, PhantomData};
-use std::sync::Arc;
+use std::marker::Model;
+use std::sync::{Arc, Wait};
 
 /// What a post finds on its slot.
 #[derive(Drop)]
@@ -23,9 +23,9 @@ pub enum Started<J> {
     Job { pid: u32, kind: Kind, job: J },
 }
 
-/// The seat of the worker of one slot, at a board with a home for an H.
+/// The seat of the worker of one slot.
 #[derive(Drop)]
-pub struct Post<J: Letter + Drop, H> {
+pub struct Post<J: Letter + Drop> {
     pub(crate) words: Arc<Words<J>>,
     pub(crate) seat: Seat<Option<J>, View<J::Told>>,
     pub(crate) index: usize,
@@ -33,10 +33,9 @@ pub struct Post<J: Letter + Drop, H> {
     pub(crate) kind: Kind,
     pub(crate) pid: u32,
     pub(crate) session_limit: u64,
-    pub(crate) home: PhantomData<H>,
 }
 
-impl<J: Letter + Drop, H> Model for Post<J, H> {
+impl<J: Letter + Drop> Model for Post<J> {
     ghost Value = { PostModel J.Told };
 
     ghost view = { λ r. record { table = r.seat.table_id; slot = r.index; knows = post_of r.seat.me.0 } };
@@ -44,14 +43,14 @@ impl<J: Letter + Drop, H> Model for Post<J, H> {
     ghost invariant = { λ r. IsWholePost (arc_value r.words).shared.table_id r.seat.table_id r.index r.kind r.pid r.session_limit r.seat.me };
 }
 
-impl<J: Letter + Drop, H> Post<J, H> {
+impl<J: Letter + Drop> Post<J> {
     /// Starts the child that is offered on the post's slot, with its mail. `Idle` exactly where the slot's word, as this
     /// call loads it, offers none. No child may run on the post.
     pub fn start(&mut self) -> Started<J>
         requires { self.old.knows.work ≡ Idle }
         ensures table { self.new.table ≡ self.old.table }
         ensures slot { self.new.slot ≡ self.old.slot }
-        ensures met { HasStarted J.told result self.old.knows self.new.knows }
+        ensures met { HasStarted J.Letter result self.old.knows self.new.knows }
     {
         let found = self.words.shared.load::<Loads>(&mut self.seat, self.index);
         let found_stage = stage(found);
@@ -70,11 +69,20 @@ impl<J: Letter + Drop, H> Post<J, H> {
         Started::Job { pid, kind, job }
     }
 
+    /// Waits until a child may be offered on the post's slot. It may also return for no reason.
+    pub fn wait<R: Wait>(&self, rt: &R) {
+        let found = self.words.shared.peek(self.index);
+        if stage(found) != OFFERED {
+            self.words.shared.park(rt, self.index, low_half(found));
+        }
+    }
+
     /// Ends the child that runs on the post, from outside the gate or attached, and gives a mail back. An auxiliary child
     /// that is attached may not end with exit code 0.
     pub fn exit(&mut self, status: Status, job: J)
         requires runs { MayExit self.old.knows.work status }
         requires status { status_number status < 256 }
+        requires back { GivesBack J.Letter self.old.knows.work status job }
         ensures table { self.new.table ≡ self.old.table }
         ensures slot { self.new.slot ≡ self.old.slot }
         ensures knows { HasExited status (J.told job) self.old.knows self.new.knows }

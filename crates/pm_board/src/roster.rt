@@ -1,9 +1,10 @@
 //! The supervisor's seat.
-ghost use Rattle.std.specs.Prelude.{◌≡◌, ◌<◌, ◌≤◌, IfOk, length};
+ghost use Rattle.std.specs.Prelude.{◌≡◌, ◌<◌, ◌≤◌, IfOk, None, Some, length, slice_set};
 ghost use Rattle.std.specs.Arc.{arc_value};
 ghost use Rattle.pm_board.specs.declared.views.Sight.TheVariants.{Unused};
 ghost use Rattle.pm_board.specs.declared.views.Work.TheVariants.{Idle};
 ghost use Rattle.pm_board.specs.Places.{slot_at, used_in, MayAssign, IsAssigned, HasEnded};
+ghost use Rattle.pm_board.specs.Children.{child_seen, children_of};
 ghost use Rattle.pm_board.specs.Heard.{HeardAsSent};
 ghost use Rattle.pm_board.specs.Told.{roster_of, new_roster};
 ghost use Rattle.pm_board.specs.Models.{RosterModel, IsWholeRoster, HasAssigned, HasLooked, HasReleased, HasGathered, HasDealt, AreNewPosts};
@@ -22,7 +23,7 @@ use pm_exit::{Kind, Status};
 use pm_supervisor::Reason;
 use std::alloc::{AllocError, Global};
 use std::collections::VecDeque;
-use std::marker::{Model, PhantomData};
+use std::marker::Model;
 use std::sync::Arc;
 
 /// What a look finds.
@@ -43,32 +44,35 @@ pub struct Released<J> {
     pub was_active: bool,
 }
 
-/// The supervisor's seat, which keeps the home.
+/// The supervisor's seat.
 #[derive(Drop)]
-pub struct Roster<J: Letter + Drop, H: Drop> {
+pub struct Roster<J: Letter + Drop> {
     pub(crate) words: Arc<Words<J>>,
     pub(crate) seat: Seat<Option<J>, View<J::Told>>,
     used: u32,
+    /// Pid and kind of the child of each slot.
+    children: Vec<Option<(u32, Kind)>>,
     pub(crate) generation: u32,
     pub(crate) noticed: Option<Reason>,
-    home: H,
 }
 
-impl<J: Letter + Drop, H: Drop> Model for Roster<J, H> {
-    ghost Value = { RosterModel J.Told H };
+impl<J: Letter + Drop> Model for Roster<J> {
+    ghost Value = { RosterModel J.Told };
 
-    ghost view = { λ r. record { table = r.seat.table_id; home = r.home; knows = roster_of r.seat.me.0 } };
+    ghost view = { λ r. record { table = r.seat.table_id; knows = roster_of r.seat.me.0 } };
 
-    ghost invariant = { λ r. IsWholeRoster (arc_value r.words).shared.table_id r.seat.table_id r.used r.generation r.noticed r.seat.me };
+    ghost invariant = { λ r. IsWholeRoster (arc_value r.words).shared.table_id r.seat.table_id r.used r.children.items r.generation r.noticed r.seat.me };
 }
 
-impl<J: Letter + Drop, H: Drop> Roster<J, H> {
+impl<J: Letter + Drop> Roster<J> {
     /// Assigns a child to an unused slot, whose latch is armed for it first, and hands its mail over.
     pub fn assign(&mut self, slot: u32, pid: u32, kind: Kind, job: J)
-        requires { MayAssign self.old.knows slot pid kind }
+        requires may { MayAssign self.old.knows slot pid kind }
+        requires fits { J.fits job kind }
         ensures table { self.new.table ≡ self.old.table }
-        ensures home { self.new.home ≡ self.old.home }
         ensures slot { HasAssigned slot pid kind (J.told job) self.old.knows self.new.knows }
+        ensures children { children_of self.new.knows.slots
+            ≡ slice_set (children_of self.old.knows.slots) slot (Some (pid, kind)) }
     {
         let index = slot as usize;
         let word = offered(pid, kind);
@@ -83,15 +87,17 @@ impl<J: Letter + Drop, H: Drop> Roster<J, H> {
         self.words
             .shared
             .store::<Assigns<J>>(&mut self.seat, index, word);
+        self.words.shared.wake_one(index);
         self.used += 1;
+        self.children[index] = Some((pid, kind));
     }
 
     /// Whether the child of a slot has exited: exactly where the slot's word, as this call loads it, is in that stage.
     pub fn look(&mut self, slot: u32) -> Look
         requires { IsAssigned self.old.knows slot }
         ensures table { self.new.table ≡ self.old.table }
-        ensures home { self.new.home ≡ self.old.home }
         ensures met { HasLooked slot result self.old.knows self.new.knows }
+        ensures children { children_of self.new.knows.slots ≡ children_of self.old.knows.slots }
     {
         let found = self
             .words
@@ -112,8 +118,9 @@ impl<J: Letter + Drop, H: Drop> Roster<J, H> {
     pub fn release(&mut self, slot: u32) -> Released<J>
         requires { HasEnded self.old.knows slot }
         ensures table { self.new.table ≡ self.old.table }
-        ensures home { self.new.home ≡ self.old.home }
-        ensures slot { HasReleased J.told slot result self.old.knows self.new.knows }
+        ensures slot { HasReleased J.Letter slot result self.old.knows self.new.knows }
+        ensures children { children_of self.new.knows.slots
+            ≡ slice_set (children_of self.old.knows.slots) slot None }
     {
         let index = slot as usize;
         let found = self
@@ -126,6 +133,7 @@ impl<J: Letter + Drop, H: Drop> Roster<J, H> {
             .shared
             .store::<Clears>(&mut self.seat, index, UNUSED);
         self.used -= 1;
+        self.children[index] = None;
         let pid = pid(found);
         let kind = kind(found);
         let status = status(found);
@@ -146,16 +154,24 @@ impl<J: Letter + Drop, H: Drop> Roster<J, H> {
         self.used
     }
 
+    /// Pid and kind of the child of a slot. None exactly where the supervisor sees no child there.
+    pub fn child(&self, slot: u32) -> Option<(u32, Kind)>
+        requires { slot < length self.now.knows.slots }
+        ensures { result ≡ child_seen (slot_at self.now.knows slot).sight }
+    {
+        self.children[slot as usize]
+    }
+
     /// Takes in a post of this board whose slot is unused and on which no child runs: its children are those that were
     /// released, and what they heard was sent to them.
-    pub fn gather(&mut self, post: Post<J, H>)
+    pub fn gather(&mut self, post: Post<J>)
         requires post { (post.table ≡ self.old.table) × (post.knows.work ≡ Idle) }
         requires slot { (slot_at self.old.knows post.slot).sight ≡ Unused }
         ensures table { self.new.table ≡ self.old.table }
-        ensures home { self.new.home ≡ self.old.home }
         ensures same { post.knows.past ≡ (slot_at self.old.knows post.slot).past }
         ensures slot { HasGathered post.slot post.knows self.old.knows self.new.knows }
         ensures heard { HeardAsSent self.new.knows }
+        ensures children { children_of self.new.knows.slots ≡ children_of self.old.knows.slots }
     {
         let Post {
             words: _,
@@ -164,18 +180,16 @@ impl<J: Letter + Drop, H: Drop> Roster<J, H> {
             kind: _,
             pid: _,
             session_limit: _,
-            home: _,
         } = post;
         self.words.shared.join_seat::<Gathers>(&mut self.seat, seat);
         self.words.shared.load::<Compares>(&mut self.seat, index);
     }
 
     // One more post. The roster is as before where there is no memory.
-    fn deal(&mut self, index: usize, session_limit: u64) -> Result<Post<J, H>, AllocError>
+    fn deal(&mut self, index: usize, session_limit: u64) -> Result<Post<J>, AllocError>
         requires index { (index ≡ self.old.knows.dealt) × (index < length self.old.knows.slots) }
         requires limit { session_limit ≡ self.old.knows.session_limit }
         ensures table { self.new.table ≡ self.old.table }
-        ensures home { self.new.home ≡ self.old.home }
         ensures post { IfOk result (λ p. HasDealt index p self.old self.new) }
     {
         let words = Arc::try_clone(&self.words)?;
@@ -187,7 +201,6 @@ impl<J: Letter + Drop, H: Drop> Roster<J, H> {
             kind: Kind::DeadEnd,
             pid: 0,
             session_limit,
-            home: PhantomData,
         })
     }
 }
@@ -196,17 +209,14 @@ impl<J: Letter + Drop, H: Drop> Roster<J, H> {
 pub struct Board;
 
 impl Board {
-    /// A board of so many slots, with a post for each, on which so many sessions may be attached. The roster keeps the
-    /// home.
-    pub fn new<J: Letter + Drop, H: Drop>(
+    /// A board of so many slots, with a post for each, on which so many sessions may be attached.
+    pub fn new<J: Letter + Drop>(
         alloc: Global,
         slots: u32,
         session_limit: u32,
-        home: H,
-    ) -> Result<(Roster<J, H>, Posts<J, H>), AllocError>
+    ) -> Result<(Roster<J>, Posts<J>), AllocError>
         requires { (0 < slots) × (slots ≤ 407) × (session_limit ≤ 200) }
         ensures roster { IfOk result (λ r. r.0.knows ≡ new_roster slots session_limit slots) }
-        ensures home { IfOk result (λ r. r.0.home ≡ home) }
         ensures posts { IfOk result (λ r. AreNewPosts slots session_limit r.0.table
             r.1.left.items) }
     {
@@ -222,9 +232,9 @@ impl Board {
             words: Arc::new(alloc, words)?,
             seat,
             used: 0,
+            children: vec![in alloc; None; count]?,
             generation: 1,
             noticed: None,
-            home,
         };
         let mut left = VecDeque::with_capacity(alloc, count)?;
         for index in 0..count {

@@ -1,13 +1,23 @@
 //! What the seats of a board know. No value of a view is made: views exist in proofs alone.
+ghost use Rattle.std.specs.Prelude.{Bool};
+ghost use Rattle.pm_exit.specs.declared.child.Kind.{Kind};
+ghost use Rattle.pm_exit.specs.declared.child.Status.{Status};
+
 use pm_exit::{Kind, Status};
 use pm_life::{GateNo, Reason, Signals};
 use std::collections::LinkedList;
 
-/// A mail, by its content as plain data.
+/// A mail, by its content as plain data, and the children that it is for.
 pub trait Letter {
     type Told;
 
     ghost told: { Self → Self.Told };
+
+    /// This mail may be given to a child of this kind.
+    ghost fits: { Self → Kind → Type 0 } = { λ _ _. Unit {0} };
+
+    /// This mail may come back from a child of this kind that exits with this status, and active or not.
+    ghost comes_back: { Self → Kind → Status → Bool → Type 0 } = { λ _ _ _ _. Unit {0} };
 }
 
 /// What the supervisor may send to a child.
@@ -21,15 +31,6 @@ pub enum Signal {
     Kill,
     /// Write a checkpoint.
     Checkpoint,
-}
-
-/// What workers share besides, one at a time.
-#[derive(Clone, Copy, Debug, PartialEq, Eq)]
-pub enum Home {
-    /// The rows, and what was done to them.
-    Segment,
-    /// The commit log, and its disk.
-    Log,
 }
 
 /// A child as it is assigned to a slot.
@@ -60,6 +61,8 @@ pub struct Heard {
     pub given: LinkedList<Signals>,
     /// It has heeded a cancel that no answer has told yet.
     pub heeded: bool,
+    /// A heed has found a cancel for it.
+    pub found: bool,
     /// What its last step at the gate met.
     pub met: Option<Result<u32, GateNo>>,
 }
@@ -82,6 +85,7 @@ pub struct LatchLook {
 /// A step that the supervisor made.
 pub enum RosterStep {
     Assign {
+        slot: u32,
         pid: u32,
         kind: Kind,
         generation: u32,
@@ -102,6 +106,7 @@ pub enum RosterStep {
         generation: u32,
     },
     Send {
+        slot: u32,
         pid: u32,
         kind: Kind,
         signal: Signal,
@@ -148,7 +153,6 @@ pub struct RosterNotes {
     pub steps: LinkedList<RosterStep>,
     /// The words that its looks met.
     pub met: LinkedList<u64>,
-    pub homes: LinkedList<Home>,
 }
 
 /// What the supervisor knows.
@@ -190,7 +194,6 @@ pub struct PostNotes {
     /// Of each child that has exited.
     pub heard: LinkedList<Heard>,
     pub cancels: LinkedList<Cancel>,
-    pub homes: LinkedList<Home>,
 }
 
 /// What a worker knows.

@@ -40,8 +40,8 @@ fn status_for(slot: u32) -> Status
 
 // One child of a new slot, and what it was released with. None where an answer is another than it was to be.
 fn serve_one(
-    roster: &mut Roster<Note, ()>,
-    post: &mut Post<Note, ()>,
+    roster: &mut Roster<Note>,
+    post: &mut Post<Note>,
     slots: u32,
     slot: u32,
 ) -> Option<Released<Note>>
@@ -69,12 +69,12 @@ fn serve_one(
 }
 
 // A new board of so many slots.
-fn new_board(alloc: Global, slots: u32) -> Result<(Roster<Note, ()>, Posts<Note, ()>), AllocError>
+fn new_board(alloc: Global, slots: u32) -> Result<(Roster<Note>, Posts<Note>), AllocError>
     requires { (0 < slots) × (slots ≤ 407) }
     ensures roster { IfOk result (λ made. IsFresh made.0.knows slots 0) }
     ensures posts { IfOk result (λ made. AreFrom 0 200 made.0.table made.1.left.items) }
 {
-    Board::new::<Note, ()>(alloc, slots, 200, ())
+    Board::new::<Note>(alloc, slots, 200)
 }
 
 // How many slots of a board gave back what was given.
@@ -150,7 +150,7 @@ fn quiet_kind(slots: u32, slot: u32) -> Kind
 }
 
 // Assigns a child to each of these slots.
-fn fill(roster: &mut Roster<Note, ()>, slots: u32, used: u32)
+fn fill(roster: &mut Roster<Note>, slots: u32, used: u32)
     requires fresh { IsFresh roster.old.knows slots 0 }
     requires used { (used ≤ slots) × (slots ≤ 407) × ((1 < used) → (used + 4 ≡ slots)) }
     ensures { IsBusyUpTo roster.new.knows slots used }
@@ -166,7 +166,7 @@ fn fill(roster: &mut Roster<Note, ()>, slots: u32, used: u32)
 }
 
 // How often a look found a child running, in so many rounds over all of these slots.
-fn look_over(roster: &mut Roster<Note, ()>, slots: u32, used: u32, rounds: u32) -> u64
+fn look_over(roster: &mut Roster<Note>, slots: u32, used: u32, rounds: u32) -> u64
     requires busy { IsBusyUpTo roster.old.knows slots used }
     requires used { used ≤ slots }
 {

@@ -1,4 +1,5 @@
-//! One slot through a thousand children: each release gives the pid, kind, status and mail that were given.
+//! One slot through a thousand children: each release gives the pid, kind, status and mail that were given, and each of the
+//! thousand waits of its worker is ended by an assign.
 ghost use Rattle.std.specs.Prelude.{◌≡◌, ◌<◌, ◌≤◌, ◌+◌, false, IfOk};
 ghost use Rattle.pm_board.specs.Words.{status_number};
 ghost use Rattle.pm_board.specs.Places.{is_auxiliary};
@@ -45,7 +46,7 @@ fn status_for(pid: u32) -> Status
 }
 
 // One child from its assign to its release.
-fn drive<R: Wait>(rt: &R, roster: &mut Roster<Note, ()>, index: u32) -> Released<Note>
+fn drive<R: Wait>(rt: &R, roster: &mut Roster<Note>, index: u32) -> Released<Note>
     requires free { IsFree roster.old.knows index }
     requires fits { index < 1000 }
     ensures { IsFree roster.new.knows (index + 1) }
@@ -63,7 +64,7 @@ fn drive<R: Wait>(rt: &R, roster: &mut Roster<Note, ()>, index: u32) -> Released
 }
 
 // All children, one after the other, and how many releases gave what was given.
-fn drive_all<R: Wait>(rt: &R, mut roster: Roster<Note, ()>) -> (u32, Roster<Note, ()>)
+fn drive_all<R: Wait>(rt: &R, mut roster: Roster<Note>) -> (u32, Roster<Note>)
     requires { IsFree roster.knows 0 }
 {
     let mut right = 0u32;
@@ -82,8 +83,8 @@ fn drive_all<R: Wait>(rt: &R, mut roster: Roster<Note, ()>) -> (u32, Roster<Note
     (right, roster)
 }
 
-// The worker of the slot: it ends each child at once, and gives the mail back with one more.
-fn work<R: Wait>(rt: &R, mut post: Post<Note, ()>) -> Post<Note, ()>
+// The worker of the slot: it waits for each child, ends it at once, and gives the mail back with one more.
+fn work<R: Wait>(rt: &R, mut post: Post<Note>) -> Post<Note>
     requires { post.knows.work ≡ Idle }
     ensures { result.knows.work ≡ Idle }
 {
@@ -92,8 +93,9 @@ fn work<R: Wait>(rt: &R, mut post: Post<Note, ()>) -> Post<Note, ()>
         if done == CHILDREN {
             break;
         }
+        post.wait(rt);
         match post.start() {
-            Started::Idle => thread::yield_now(),
+            Started::Idle => {}
             Started::Job { pid, kind: _, job } => {
                 post.exit(status_for(pid), Note(job.0.wrapping_add(1)));
                 done = done.saturating_add(1);
@@ -104,11 +106,11 @@ fn work<R: Wait>(rt: &R, mut post: Post<Note, ()>) -> Post<Note, ()>
 }
 
 // A new board of so many slots, and the post of the driven one.
-fn make_board(alloc: Global, slots: u32) -> Result<(Roster<Note, ()>, Post<Note, ()>), AllocError>
+fn make_board(alloc: Global, slots: u32) -> Result<(Roster<Note>, Post<Note>), AllocError>
     requires { (9 ≤ slots) × (slots ≤ 407) }
     ensures { IfOk result (λ made. IsFree made.0.knows 0 × (made.1.knows.work ≡ Idle)) }
 {
-    let (roster, mut posts) = Board::new::<Note, ()>(alloc, slots, 1, ())?;
+    let (roster, mut posts) = Board::new::<Note>(alloc, slots, 1)?;
     for _ in 0..SLOT {
         posts.take();
     }

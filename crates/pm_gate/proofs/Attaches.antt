@@ -1,21 +1,21 @@
 -- What a try at the gate leaves, told from before the slot was marked.
 use Rattle.std.proofs.Common.{◌≡◌, ℕ, sym, ap, ◌∙◌}
-use Rattle.std.specs.Prelude.{Result, Ok, Err}
+use Rattle.std.specs.Prelude.{Ok, Err}
 use Rattle.pm_life.specs.declared.life.GateNo.{GateNo}
 use Rattle.pm_board.specs.declared.views.Offer.{Offer}
 use Rattle.pm_board.specs.declared.views.Work.TheVariants.{Active}
 use Rattle.pm_board.specs.declared.views.PostView.{PostView}
-use Rattle.pm_board.specs.Gate.{gate_answer}
+use Rattle.pm_board.specs.Gate.{gate_answer, generation_in}
 use Rattle.pm_board.specs.Told.{with_work, tried_by}
 use Rattle.pm_board.specs.Models.{HasTried}
 
 module _ {D : Type 0} (w v u : PostView D) (o : Offer D) where
-  pub let_in : (g : ℕ) → v ≡ with_work w (Active o) → HasTried (Ok g) v u → (word : ℕ) × (Ok g ≡ gate_answer o.kind w.notes.session_limit word) × (u ≡ tried_by w o word (Ok g))
+  pub let_in : (g : ℕ) → v ≡ with_work w (Active o) → HasTried (Ok g) v u → (word : ℕ) × (Ok g ≡ gate_answer o.kind w.notes.session_limit word) × (u ≡ tried_by w o word (Ok g)) × (generation_in word ≡ o.generation)
   let_in g is met = let it = met o (ap (λ (z : PostView D). z.work) is) in let word : ℕ = it.0 in
       let answer : Ok g ≡ gate_answer o.kind w.notes.session_limit word = it.1 ∙ ap (λ (z : PostView D). gate_answer o.kind z.notes.session_limit word) is in
-      (word, answer, it.2 ∙ ap (λ (z : PostView D). tried_by z o word (gate_answer o.kind z.notes.session_limit word)) is ∙ ap (tried_by (with_work w (Active o)) o word) (sym answer))
+      (word, answer, it.2 ∙ ap (λ (z : PostView D). tried_by z o word (gate_answer o.kind z.notes.session_limit word)) is ∙ ap (tried_by (with_work w (Active o)) o word) (sym answer), it.3)
 
-  pub refused : (refusal : GateNo) → v ≡ with_work w (Active o) → HasTried (Err refusal) v u → (word : ℕ) × (Err refusal ≡ gate_answer o.kind w.notes.session_limit word) × (u ≡ tried_by w o word (Err refusal))
+  pub refused : (refusal : GateNo) → v ≡ with_work w (Active o) → HasTried (Err refusal) v u → (word : ℕ) × (Err refusal ≡ gate_answer o.kind w.notes.session_limit word) × (u ≡ tried_by w o word (Err refusal)) × (generation_in word ≡ o.generation)
   refused refusal is met = let it = met o (ap (λ (z : PostView D). z.work) is) in let word : ℕ = it.0 in
       let answer : Err refusal ≡ gate_answer o.kind w.notes.session_limit word = it.1 ∙ ap (λ (z : PostView D). gate_answer o.kind z.notes.session_limit word) is in
-      (word, answer, it.2 ∙ ap (λ (z : PostView D). tried_by z o word (gate_answer o.kind z.notes.session_limit word)) is ∙ ap (tried_by (with_work w (Active o)) o word) (sym answer))
+      (word, answer, it.2 ∙ ap (λ (z : PostView D). tried_by z o word (gate_answer o.kind z.notes.session_limit word)) is ∙ ap (tried_by (with_work w (Active o)) o word) (sym answer), it.3)

@@ -5,7 +5,7 @@ use Rattle.pm_board.specs.declared.views.Offer.{Offer}
 use Rattle.pm_board.specs.declared.views.Work.{Work}
 use Rattle.pm_board.specs.declared.views.Work.TheVariants.{Inactive, Attached}
 use Rattle.pm_board.specs.declared.views.PostView.{PostView}
-use Rattle.pm_board.specs.Gate.{gate_answer}
+use Rattle.pm_board.specs.Gate.{gate_answer, generation_in}
 use Rattle.pm_board.specs.Told.{with_work, tried_by, detached}
 use Rattle.pm_gate.specs.declared.tokens.Attached.{Attached as Attached_}
 
@@ -32,7 +32,7 @@ module _ {D : Type 0} where
   abbrev pub HasAttached : Result Attached_ GateNo → PostView D → PostView D → Type 0
   HasAttached answer before after =
       (o : Offer D) → before.work ≡ Inactive o
-      → (word : ℕ) × (answer_of answer ≡ gate_answer o.kind before.notes.session_limit word) × (after ≡ after_attach before o word (answer_of answer))
+      → (word : ℕ) × (answer_of answer ≡ gate_answer o.kind before.notes.session_limit word) × (after ≡ after_attach before o word (answer_of answer)) × (generation_in word ≡ o.generation)
 
   -- the child has let go
   abbrev pub HasLeft : ℕ → PostView D → PostView D → Type 0

@@ -18,7 +18,7 @@ pub use tokens::{Attached, Generation};
 /// Lets the child in that runs on the post, or says why not, by the gate's word as this call meets it: a notice comes first;
 /// a session is besides told that the gate isn't open, or that the limit of sessions is reached. A child that was refused
 /// leaves nothing behind: its place at the gate is given back, and its slot isn't active.
-pub fn attach<J: Letter + Drop, H>(post: &mut Post<J, H>) -> Result<Attached, GateNo>
+pub fn attach<J: Letter + Drop>(post: &mut Post<J>) -> Result<Attached, GateNo>
     requires { MayAttach post.old.knows.work }
     ensures table { post.new.table ≡ post.old.table }
     ensures slot { post.new.slot ≡ post.old.slot }
@@ -38,7 +38,7 @@ pub fn attach<J: Letter + Drop, H>(post: &mut Post<J, H>) -> Result<Attached, Ga
 }
 
 /// Lets go of what the child was attached to.
-pub fn detach<J: Letter + Drop, H>(post: &mut Post<J, H>, attached: Attached)
+pub fn detach<J: Letter + Drop>(post: &mut Post<J>, attached: Attached)
     requires { IsAttachedIn attached.generation post.old.knows.work }
     ensures table { post.new.table ≡ post.old.table }
     ensures slot { post.new.slot ≡ post.old.slot }
@@ -50,10 +50,9 @@ pub fn detach<J: Letter + Drop, H>(post: &mut Post<J, H>, attached: Attached)
 }
 
 /// Shuts the gate: until the next `ready` or `reset` nobody is let in.
-pub fn quit<J: Letter + Drop, H: Drop>(roster: &mut Roster<J, H>, reason: Reason)
+pub fn quit<J: Letter + Drop>(roster: &mut Roster<J>, reason: Reason)
     requires { MayQuit roster.old.knows.noticed reason }
     ensures table { roster.new.table ≡ roster.old.table }
-    ensures home { roster.new.home ≡ roster.old.home }
     ensures knows { HasStepped (Quit reason roster.old.knows.generation) roster.old.knows
         roster.new.knows }
 {
@@ -61,10 +60,9 @@ pub fn quit<J: Letter + Drop, H: Drop>(roster: &mut Roster<J, H>, reason: Reason
 }
 
 /// Opens the gate to sessions, once in a generation, and takes a notice back.
-pub fn ready<J: Letter + Drop, H: Drop>(roster: &mut Roster<J, H>)
+pub fn ready<J: Letter + Drop>(roster: &mut Roster<J>)
     requires { MayOpen roster.old.knows }
     ensures table { roster.new.table ≡ roster.old.table }
-    ensures home { roster.new.home ≡ roster.old.home }
     ensures knows { HasStepped (Ready roster.old.knows.generation) roster.old.knows
         roster.new.knows }
 {
@@ -73,10 +71,9 @@ pub fn ready<J: Letter + Drop, H: Drop>(roster: &mut Roster<J, H>)
 
 /// Begins the next generation, where no slot has a child. Whatever the gate has counted goes: children that died attached are
 /// counted until then.
-pub fn reset<J: Letter + Drop, H: Drop>(roster: &mut Roster<J, H>) -> Generation
+pub fn reset<J: Letter + Drop>(roster: &mut Roster<J>) -> Generation
     requires { MayReset roster.old.knows }
     ensures table { roster.new.table ≡ roster.old.table }
-    ensures home { roster.new.home ≡ roster.old.home }
     ensures knows { HasStepped (Reset (roster.old.knows.generation + 1)) roster.old.knows
         roster.new.knows }
     ensures number { result.number ≡ roster.old.knows.generation + 1 }
@@ -88,7 +85,7 @@ pub fn reset<J: Letter + Drop, H: Drop>(roster: &mut Roster<J, H>) -> Generation
 }
 
 /// The present generation.
-pub fn generation<J: Letter + Drop, H: Drop>(roster: &Roster<J, H>) -> u32
+pub fn generation<J: Letter + Drop>(roster: &Roster<J>) -> u32
     ensures { result ≡ roster.now.knows.generation }
 {
     roster.generation()

@@ -45,7 +45,7 @@ fn slot_for(kind: Kind) -> u32
     }
 }
 
-fn give_notice(roster: &mut Roster<Note, ()>, notice: Option<Reason>)
+fn give_notice(roster: &mut Roster<Note>, notice: Option<Reason>)
     requires untouched { IsUntouched roster.old.knows }
     requires gate { gate_of roster.old.knows ≡ shut_gate 1 }
     ensures untouched { IsUntouched roster.new.knows }
@@ -57,11 +57,7 @@ fn give_notice(roster: &mut Roster<Note, ()>, notice: Option<Reason>)
 }
 
 // One child from its assign to its release, with one try at the gate.
-fn serve_one(
-    roster: &mut Roster<Note, ()>,
-    post: &mut Post<Note, ()>,
-    child: Newcomer,
-) -> Option<Visit>
+fn serve_one(roster: &mut Roster<Note>, post: &mut Post<Note>, child: Newcomer) -> Option<Visit>
     requires may { MayAssign roster.old.knows child.slot child.pid child.kind }
     requires kind { is_dead_end child.kind ≡ false }
     requires post { post.old.knows.work ≡ Idle }

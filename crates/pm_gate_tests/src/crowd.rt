@@ -95,7 +95,7 @@ fn child_of(round: u32, place: u32) -> Newcomer
 }
 
 // Each worker gets a child.
-fn fill(roster: &mut Roster<Note, ()>, round: u32)
+fn fill(roster: &mut Roster<Note>, round: u32)
     requires round { round ≤ 1000 }
     requires between { IsBetween (round + 1) (round * 8) roster.old.knows }
     ensures children { HasChildren 3 11 (round * 8 + 8) roster.new.knows }
@@ -107,7 +107,7 @@ fn fill(roster: &mut Roster<Note, ()>, round: u32)
     }
 }
 
-fn open(roster: &mut Roster<Note, ()>, progress: &Progress)
+fn open(roster: &mut Roster<Note>, progress: &Progress)
     requires { MayOpen roster.old.knows }
     ensures { HasStepped (Ready roster.old.knows.generation) roster.old.knows roster.new.knows }
 {
@@ -117,7 +117,7 @@ fn open(roster: &mut Roster<Note, ()>, progress: &Progress)
     progress.has_opened(number);
 }
 
-fn shut(roster: &mut Roster<Note, ()>, progress: &Progress)
+fn shut(roster: &mut Roster<Note>, progress: &Progress)
     requires { roster.old.knows.noticed ≡ None }
     ensures { HasStepped (Quit Crash roster.old.knows.generation) roster.old.knows
         roster.new.knows }
@@ -135,7 +135,7 @@ fn let_work() {
 }
 
 // The child of this slot, once it has exited.
-fn reap_ended<R: Wait>(rt: &R, roster: &mut Roster<Note, ()>, slot: u32) -> Released<Note>
+fn reap_ended<R: Wait>(rt: &R, roster: &mut Roster<Note>, slot: u32) -> Released<Note>
     requires { IsAssigned roster.old.knows slot }
     ensures { HasReaped slot roster.old.knows roster.new.knows }
 {
@@ -163,7 +163,7 @@ fn is_right(released: &Released<Note>, round: u32, place: u32) -> bool
 }
 
 // All children of a generation.
-fn reap_all<R: Wait>(rt: &R, roster: &mut Roster<Note, ()>, round: u32) -> Tally
+fn reap_all<R: Wait>(rt: &R, roster: &mut Roster<Note>, round: u32) -> Tally
     requires round { round ≤ 1000 }
     requires children { HasChildren 3 11 (round * 8 + 8) roster.old.knows }
     ensures empty { IsEmpty (round * 8 + 8) roster.new.knows }
@@ -184,7 +184,7 @@ fn reap_all<R: Wait>(rt: &R, roster: &mut Roster<Note, ()>, round: u32) -> Tally
 // A generation from its first assign to the reset behind it.
 fn one_generation<R: Wait>(
     rt: &R,
-    roster: &mut Roster<Note, ()>,
+    roster: &mut Roster<Note>,
     round: u32,
     progress: &Progress,
 ) -> Tally
@@ -206,9 +206,9 @@ fn one_generation<R: Wait>(
 // All of them, and the one that no notice ends.
 fn all_generations<R: Wait>(
     rt: &R,
-    mut roster: Roster<Note, ()>,
+    mut roster: Roster<Note>,
     progress: &Progress,
-) -> (Tally, Roster<Note, ()>)
+) -> (Tally, Roster<Note>)
     requires { IsBetween 1 0 roster.knows }
     ensures { IsEmpty 8008 result.1.knows }
 {

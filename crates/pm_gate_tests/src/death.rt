@@ -72,11 +72,7 @@ fn end_of(released: &Released<Note>) -> End {
 }
 
 // Two children begin, and the gate opens.
-fn begin_both(
-    roster: &mut Roster<Note, ()>,
-    dying: &mut Post<Note, ()>,
-    leaving: &mut Post<Note, ()>,
-) -> bool
+fn begin_both(roster: &mut Roster<Note>, dying: &mut Post<Note>, leaving: &mut Post<Note>) -> bool
     requires board { IsUntouched roster.old.knows × (gate_of roster.old.knows ≡ shut_gate 1) }
     requires idle { (dying.old.knows.work ≡ Idle) × (leaving.old.knows.work ≡ Idle) }
     ensures board { IsTrue result → HasChildren 3 5 2 roster.new.knows }
@@ -96,9 +92,9 @@ fn begin_both(
 
 // The one dies attached, and the other leaves behind a notice.
 fn leave_both(
-    roster: &mut Roster<Note, ()>,
-    dying: &mut Post<Note, ()>,
-    leaving: &mut Post<Note, ()>,
+    roster: &mut Roster<Note>,
+    dying: &mut Post<Note>,
+    leaving: &mut Post<Note>,
 ) -> Option<Met>
     requires board { HasChildren 3 5 2 roster.old.knows }
     requires gate { gate_of roster.old.knows ≡ open_gate 1 }
@@ -126,7 +122,7 @@ fn leave_both(
 }
 
 // Both are released, and the next generation begins.
-fn release_both(roster: &mut Roster<Note, ()>) -> Option<((End, End), u32)>
+fn release_both(roster: &mut Roster<Note>) -> Option<((End, End), u32)>
     requires board { HasChildren 3 5 2 roster.old.knows }
     requires gate { roster.old.knows.generation ≡ 1 }
     ensures board { IfSome result (λ _. IsEmpty 2 roster.new.knows) }
@@ -138,11 +134,7 @@ fn release_both(roster: &mut Roster<Note, ()>) -> Option<((End, End), u32)>
     Some(((end_of(&first), end_of(&second)), next.number))
 }
 
-fn tell(
-    roster: &mut Roster<Note, ()>,
-    dying: &mut Post<Note, ()>,
-    other: &mut Post<Note, ()>,
-) -> Option<Story>
+fn tell(roster: &mut Roster<Note>, dying: &mut Post<Note>, other: &mut Post<Note>) -> Option<Story>
     requires board { IsUntouched roster.old.knows × (gate_of roster.old.knows ≡ shut_gate 1) }
     requires idle { (dying.old.knows.work ≡ Idle) × (other.old.knows.work ≡ Idle) }
 {

@@ -89,17 +89,17 @@ pub struct Newcomer {
 pub fn new_board(
     alloc: Global,
     session_limit: u32,
-) -> Result<(Roster<Note, ()>, Posts<Note, ()>), AllocError>
+) -> Result<(Roster<Note>, Posts<Note>), AllocError>
     requires { session_limit ≤ 200 }
     ensures roster { IfOk result (λ made. IsUntouched made.0.knows
         × (gate_of made.0.knows ≡ shut_gate 1)) }
     ensures posts { IfOk result (λ made. AllIdle made.1.left.items) }
 {
-    Board::new::<Note, ()>(alloc, SLOTS, session_limit, ())
+    Board::new::<Note>(alloc, SLOTS, session_limit)
 }
 
 /// The post behind so many that are left out.
-pub fn take_post(posts: &mut Posts<Note, ()>, skipped: u32) -> Option<Post<Note, ()>>
+pub fn take_post(posts: &mut Posts<Note>, skipped: u32) -> Option<Post<Note>>
     requires { AllIdle posts.old.left.items }
     ensures left { AllIdle posts.new.left.items }
     ensures idle { IfSome result (λ post. post.knows.work ≡ Idle) }
@@ -111,7 +111,7 @@ pub fn take_post(posts: &mut Posts<Note, ()>, skipped: u32) -> Option<Post<Note,
 }
 
 /// A child is assigned.
-pub fn offer(roster: &mut Roster<Note, ()>, child: Newcomer, note: Note)
+pub fn offer(roster: &mut Roster<Note>, child: Newcomer, note: Note)
     requires { MayAssign roster.old.knows child.slot child.pid child.kind }
     ensures { HasBegun child.slot child.pid roster.old.knows roster.new.knows }
 {
@@ -119,12 +119,7 @@ pub fn offer(roster: &mut Roster<Note, ()>, child: Newcomer, note: Note)
 }
 
 /// A child is assigned, and starts on the post. Whether it did.
-pub fn begin(
-    roster: &mut Roster<Note, ()>,
-    post: &mut Post<Note, ()>,
-    child: Newcomer,
-    note: Note,
-) -> bool
+pub fn begin(roster: &mut Roster<Note>, post: &mut Post<Note>, child: Newcomer, note: Note) -> bool
     requires may { MayAssign roster.old.knows child.slot child.pid child.kind }
     requires post { post.old.knows.work ≡ Idle }
     ensures roster { HasBegun child.slot child.pid roster.old.knows roster.new.knows }
@@ -138,7 +133,7 @@ pub fn begin(
 }
 
 /// A child goes to the gate, and out again where it was let in.
-pub fn try_once(post: &mut Post<Note, ()>) -> Result<u32, GateNo>
+pub fn try_once(post: &mut Post<Note>) -> Result<u32, GateNo>
     requires { MayAttach post.old.knows.work }
     ensures { post.new.knows.work ≡ post.old.knows.work }
 {
@@ -149,7 +144,7 @@ pub fn try_once(post: &mut Post<Note, ()>) -> Result<u32, GateNo>
 }
 
 /// The child that has exited on this slot. None where it runs.
-pub fn reap(roster: &mut Roster<Note, ()>, slot: u32) -> Option<Released<Note>>
+pub fn reap(roster: &mut Roster<Note>, slot: u32) -> Option<Released<Note>>
     requires { IsAssigned roster.old.knows slot }
     ensures { IfSome result (λ _. HasReaped slot roster.old.knows roster.new.knows) }
 {

@@ -19,12 +19,12 @@ pub const DEATH: Status = Status::Signal(9);
 /// A worker whose post has no child.
 #[derive(Drop)]
 pub struct Worker {
-    post: Post<Note, ()>,
+    post: Post<Note>,
     ghost at_rest: { post.knows.work ≡ Idle },
 }
 
 /// The workers of a new board, that of its first slot for sessions first.
-pub fn new_workers(alloc: Global, posts: &mut Posts<Note, ()>) -> Result<Vec<Worker>, AllocError>
+pub fn new_workers(alloc: Global, posts: &mut Posts<Note>) -> Result<Vec<Worker>, AllocError>
     requires { AllIdle posts.old.left.items }
 {
     let mut workers = Vec::new(alloc);
@@ -68,7 +68,7 @@ fn serves_session(kind: Kind) -> bool
 }
 
 // One child until its end.
-fn serve<R: Wait>(rt: &R, post: &mut Post<Note, ()>, mut note: Note, progress: &Progress)
+fn serve<R: Wait>(rt: &R, post: &mut Post<Note>, mut note: Note, progress: &Progress)
     requires { RunsSession post.old.knows.work }
     ensures { post.new.knows.work ≡ Idle }
 {
@@ -87,7 +87,7 @@ fn serve<R: Wait>(rt: &R, post: &mut Post<Note, ()>, mut note: Note, progress: &
 }
 
 // A child goes to the gate once. Its note, where it goes on.
-fn go_once(post: &mut Post<Note, ()>, mut note: Note, progress: &Progress) -> Option<Note>
+fn go_once(post: &mut Post<Note>, mut note: Note, progress: &Progress) -> Option<Note>
     requires { RunsSession post.old.knows.work }
     ensures stays { IfSome result (λ _. RunsSession post.new.knows.work) }
     ensures ends { IfNone result (post.new.knows.work ≡ Idle) }
@@ -112,7 +112,7 @@ fn go_once(post: &mut Post<Note, ()>, mut note: Note, progress: &Progress) -> Op
 
 // A child that is attached lets go again, or dies. Its note, where it goes on.
 fn stay(
-    post: &mut Post<Note, ()>,
+    post: &mut Post<Note>,
     attached: Attached,
     mut note: Note,
     progress: &Progress,
@@ -136,7 +136,7 @@ fn stay(
 
 /// How many children are let in at an open gate, one behind the other, and what the next one is told.
 pub fn places(
-    roster: &mut Roster<Note, ()>,
+    roster: &mut Roster<Note>,
     workers: Vec<Worker>,
     last_pid: u32,
 ) -> (u32, Option<GateNo>)

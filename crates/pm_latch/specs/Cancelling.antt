@@ -4,6 +4,7 @@ use Rattle.std.specs.List.{AllByRecursion}
 use Rattle.pm_keys.specs.CancelKey.{cancel_key}
 use Rattle.pm_life.specs.declared.life.Cancelled.{Cancelled}
 use Rattle.pm_life.specs.declared.life.Cancelled.TheVariants.{Sent, NoSuchPid, WrongKey}
+use Rattle.pm_board.specs.Slots.{child_slots}
 use Rattle.pm_board.specs.declared.views.LatchLook.{LatchLook}
 use Rattle.pm_board.specs.declared.views.PostNotes.{PostNotes}
 use Rattle.pm_board.specs.Latch.{latch_pid}
@@ -41,11 +42,11 @@ abbrev pub HasAsked : {D : Type 0} → Request → Cancelled → PostModel D →
 HasAsked r WrongKey before after = (¬ (HasKey r)) × (after.knows ≡ before.knows)
 HasAsked r NoSuchPid before after =
     HasKey r
-    × ((words : List ℕ) × (length words ≡ before.table.slots) × NoneFor r.pid words
+    × ((words : List ℕ) × (length words ≡ child_slots before.table.slots) × NoneFor r.pid words
     × (after.knows ≡ with_notes before.knows (noted_looks before.knows.notes words)))
 HasAsked r Sent before after =
     HasKey r
-    × ((words : List ℕ) × (word : ℕ) × (length words < before.table.slots) × NoneFor r.pid words × (latch_pid word ≡ r.pid)
+    × ((words : List ℕ) × (word : ℕ) × (length words < child_slots before.table.slots) × NoneFor r.pid words × (latch_pid word ≡ r.pid)
     × (after.knows
     ≡ with_notes before.knows
     (noted_cancel (noted_looks before.knows.notes (words ++ word ∷ [])) (cancel_of (length words) r.seed r.pid r.key))))

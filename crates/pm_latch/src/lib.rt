@@ -14,10 +14,9 @@ use pm_board::{Letter, Post, Roster};
 use pm_life::{Cancelled, Signals};
 
 /// Sends a signal to the child of a slot: it stands until the child takes its signals.
-pub fn send<J: Letter + Drop, H: Drop>(roster: &mut Roster<J, H>, slot: u32, signal: Signal)
+pub fn send<J: Letter + Drop>(roster: &mut Roster<J>, slot: u32, signal: Signal)
     requires { IsAssigned roster.old.knows slot }
     ensures table { roster.new.table ≡ roster.old.table }
-    ensures home { roster.new.home ≡ roster.old.home }
     ensures knows { HasSent slot signal roster.old.knows roster.new.knows }
 {
     roster.send(slot, signal);
@@ -26,7 +25,7 @@ pub fn send<J: Letter + Drop, H: Drop>(roster: &mut Roster<J, H>, slot: u32, sig
 /// Takes what was sent to the child that runs on the post: exactly the signals that stand, and a cancel exactly where the
 /// slot's cancel word holds the child's own pid, as this call meets both words. Afterwards none of it stands any more. Where
 /// both notices to quit stand, it is that of a stop.
-pub fn take<J: Letter + Drop, H>(post: &mut Post<J, H>) -> Signals
+pub fn take<J: Letter + Drop>(post: &mut Post<J>) -> Signals
     requires { RunsChild post.old.knows.work }
     ensures table { post.new.table ≡ post.old.table }
     ensures slot { post.new.slot ≡ post.old.slot }
@@ -40,8 +39,8 @@ pub fn take<J: Letter + Drop, H>(post: &mut Post<J, H>) -> Signals
 /// Asks that the query of the child with this pid be cancelled, and shows its key. `WrongKey` exactly where it isn't the key of
 /// that pid under the seed; pid 0 has none. `NoSuchPid` exactly where no latch, as this call meets it, is armed for the pid. Else
 /// `Sent`, and a cancel for the pid was made on the slot of such a latch.
-pub fn cancel<J: Letter + Drop, H>(
-    post: &mut Post<J, H>,
+pub fn cancel<J: Letter + Drop>(
+    post: &mut Post<J>,
     seed: &[u8; 32],
     pid: u32,
     key: u32,

@@ -14,16 +14,16 @@ pub const SLOTS: u32 = 9;
 /// A new board, with the posts of the slots 3 and 4.
 #[derive(Drop)]
 pub struct Made {
-    pub roster: Roster<Note, ()>,
-    pub third: Post<Note, ()>,
-    pub fourth: Post<Note, ()>,
+    pub roster: Roster<Note>,
+    pub third: Post<Note>,
+    pub fourth: Post<Note>,
 }
 
 pub fn make(alloc: Global) -> Result<Made, AllocError>
     ensures { IfOk result (λ made. IsNew made.roster.knows × (made.third.knows.work ≡ Idle)
         × (made.fourth.knows.work ≡ Idle)) }
 {
-    let (roster, mut posts) = Board::new::<Note, ()>(alloc, SLOTS, 2, ())?;
+    let (roster, mut posts) = Board::new::<Note>(alloc, SLOTS, 2)?;
     for _ in 0..3u32 {
         posts.take();
     }
@@ -38,7 +38,7 @@ pub fn make(alloc: Global) -> Result<Made, AllocError>
 }
 
 /// Assigns a child to a free slot.
-pub fn assign(roster: &mut Roster<Note, ()>, slot: u32, pid: u32)
+pub fn assign(roster: &mut Roster<Note>, slot: u32, pid: u32)
     requires { CanBegin roster.old.knows slot pid }
     ensures { HasBegun slot pid roster.old.knows roster.new.knows }
 {
@@ -46,7 +46,7 @@ pub fn assign(roster: &mut Roster<Note, ()>, slot: u32, pid: u32)
 }
 
 /// Starts the child that is offered, and answers its pid, or 0.
-pub fn start(post: &mut Post<Note, ()>) -> u32
+pub fn start(post: &mut Post<Note>) -> u32
     requires { post.old.knows.work ≡ Idle }
     ensures { 0 < result → IsRunning post.new.knows.work }
 {
@@ -57,7 +57,7 @@ pub fn start(post: &mut Post<Note, ()>) -> u32
 }
 
 /// Ends the child that runs.
-pub fn exit(post: &mut Post<Note, ()>)
+pub fn exit(post: &mut Post<Note>)
     requires { IsRunning post.old.knows.work }
     ensures { post.new.knows.work ≡ Idle }
 {
@@ -65,7 +65,7 @@ pub fn exit(post: &mut Post<Note, ()>)
 }
 
 /// Whether the child of a slot has exited. It is released then.
-pub fn reap(roster: &mut Roster<Note, ()>, slot: u32) -> bool
+pub fn reap(roster: &mut Roster<Note>, slot: u32) -> bool
     requires { IsBusy roster.old.knows slot }
     ensures busy { (result ≡ false) → HasStayed slot roster.old.knows roster.new.knows }
     ensures finished { (result ≡ true) → HasFinished slot roster.old.knows roster.new.knows }

@@ -21,7 +21,7 @@ pub const NONE: Signals = Signals {
 };
 
 // The child of slot 3.
-fn begin(roster: &mut Roster<Note, ()>, post: &mut Post<Note, ()>) -> bool
+fn begin(roster: &mut Roster<Note>, post: &mut Post<Note>) -> bool
     requires roster { IsNew roster.old.knows }
     requires post { post.old.knows.work ≡ Idle }
     ensures busy { IsBusy roster.new.knows 3 }
@@ -32,11 +32,7 @@ fn begin(roster: &mut Roster<Note, ()>, post: &mut Post<Note, ()>) -> bool
 }
 
 // What the child of slot 3 is given behind these sends, and behind none.
-fn give(
-    roster: &mut Roster<Note, ()>,
-    post: &mut Post<Note, ()>,
-    sent: &[Signal],
-) -> (Signals, Signals)
+fn give(roster: &mut Roster<Note>, post: &mut Post<Note>, sent: &[Signal]) -> (Signals, Signals)
     requires busy { IsBusy roster.old.knows 3 }
     requires runs { IsRunning post.old.knows.work }
     ensures busy { IsBusy roster.new.knows 3 }
@@ -50,10 +46,7 @@ fn give(
 }
 
 // The answers behind these sends, one row of them after the other.
-fn give_each(
-    roster: &mut Roster<Note, ()>,
-    post: &mut Post<Note, ()>,
-) -> Option<[(Signals, Signals); 5]>
+fn give_each(roster: &mut Roster<Note>, post: &mut Post<Note>) -> Option<[(Signals, Signals); 5]>
     requires roster { IsNew roster.old.knows }
     requires post { post.old.knows.work ≡ Idle }
 {

@@ -32,9 +32,9 @@ struct Answers {
 
 // Slot 3 has the child 9 and then the child 12, and the child of slot 4 sends the cancels.
 fn cancel_late(
-    roster: &mut Roster<Note, ()>,
-    third: &mut Post<Note, ()>,
-    fourth: &mut Post<Note, ()>,
+    roster: &mut Roster<Note>,
+    third: &mut Post<Note>,
+    fourth: &mut Post<Note>,
 ) -> Option<Answers>
     requires roster { IsNew roster.old.knows }
     requires posts { (third.old.knows.work ≡ Idle) × (fourth.old.knows.work ≡ Idle) }

@@ -52,7 +52,7 @@ fn is_meant(pid: u32, given: Signals) -> bool {
 }
 
 // Cancels the child of this pid, if it is to be cancelled.
-fn ask(post: &mut Post<Note, ()>, pid: u32)
+fn ask(post: &mut Post<Note>, pid: u32)
     ensures { post.new.knows.work ≡ post.old.knows.work }
 {
     if pid > 0 && is_cancelled(pid) {
@@ -61,7 +61,7 @@ fn ask(post: &mut Post<Note, ()>, pid: u32)
 }
 
 // The life of the child of this pid, and how often it was given what wasn't meant for it.
-fn live(post: &mut Post<Note, ()>, pid: u32) -> u32
+fn live(post: &mut Post<Note>, pid: u32) -> u32
     requires { IsRunning post.old.knows.work }
     ensures { IsRunning post.new.knows.work }
 {
@@ -78,7 +78,7 @@ fn live(post: &mut Post<Note, ()>, pid: u32) -> u32
 }
 
 // The worker of a slot, for so many children.
-fn work<R: Wait>(rt: &R, mut post: Post<Note, ()>, children: u32) -> u32
+fn work<R: Wait>(rt: &R, mut post: Post<Note>, children: u32) -> u32
     requires { post.knows.work ≡ Idle }
 {
     let mut wrong = 0u32;
@@ -100,7 +100,7 @@ fn work<R: Wait>(rt: &R, mut post: Post<Note, ()>, children: u32) -> u32
 }
 
 // Assigns a child to the free slot, sends to both children, and releases that of the busy slot.
-fn turn<R: Wait>(rt: &R, roster: &mut Roster<Note, ()>, free: u32, busy: u32, pid: u32)
+fn turn<R: Wait>(rt: &R, roster: &mut Roster<Note>, free: u32, busy: u32, pid: u32)
     requires turns { TakesTurns roster.old.knows free busy pid }
     requires fits { pid < 1000000 }
     ensures { TakesTurns roster.new.knows busy free (pid + 1) }
@@ -118,7 +118,7 @@ fn turn<R: Wait>(rt: &R, roster: &mut Roster<Note, ()>, free: u32, busy: u32, pi
 }
 
 // All children, one after the other.
-fn supervise<R: Wait>(rt: &R, mut roster: Roster<Note, ()>) -> u32
+fn supervise<R: Wait>(rt: &R, mut roster: Roster<Note>) -> u32
     requires { IsNew roster.knows }
 {
     assign(&mut roster, 4, 1);
@@ -134,11 +134,7 @@ fn supervise<R: Wait>(rt: &R, mut roster: Roster<Note, ()>) -> u32
 }
 
 // The workers of both slots.
-fn work_both<R: Threads + Wait + Sync>(
-    rt: &R,
-    third: Post<Note, ()>,
-    fourth: Post<Note, ()>,
-) -> (u32, u32)
+fn work_both<R: Threads + Wait + Sync>(rt: &R, third: Post<Note>, fourth: Post<Note>) -> (u32, u32)
     requires { (third.knows.work ≡ Idle) × (fourth.knows.work ≡ Idle) }
 {
     let half = CHILDREN / 2;

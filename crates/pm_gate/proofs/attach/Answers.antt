@@ -1,5 +1,5 @@
-use Rattle.std.proofs.Common.{refl, sym, ap, ◌∙◌}
-use Rattle.pm_board.specs.declared.views.Work.TheVariants.{Inactive, Active}
+use Rattle.std.proofs.Common.{sym, ap, ◌∙◌}
+use Rattle.pm_board.specs.declared.views.Work.TheVariants.{Inactive}
 use Rattle.pm_board.specs.Gate.{generation_in}
 use Rattle.pm_board.specs.Told.{with_work}
 use Rattle.pm_gate.proofs.Attaches as attaches
@@ -30,7 +30,7 @@ pub returns-in-Err-clause-met : goal.returns-in-Err-clause-met
 returns-in-Err-clause-met g c o does =
     let it = attaches.refused c.args.post.now.knows _ _ o _ (c.mark.ensures.knows o does) c.in-Err.ensures.met in
     let out = c.back_out.ensures.knows o (generation_in it.0) (ap (λ w. w.work) it.2) in
-    (it.0, it.1, c.unmark.ensures.knows o (ap (λ w. w.work) out) ∙ ap (λ w. with_work w (Inactive o)) out ∙ ap (λ w. with_work w (Inactive o)) it.2)
+    (it.0, it.1, c.unmark.ensures.knows o (ap (λ w. w.work) out) ∙ ap (λ w. with_work w (Inactive o)) out ∙ ap (λ w. with_work w (Inactive o)) it.2, it.3)
 
 pub returns-in-Err-clause-refused : goal.returns-in-Err-clause-refused
 returns-in-Err-clause-refused g c =

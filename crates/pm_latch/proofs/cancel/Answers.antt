@@ -1,4 +1,5 @@
 use Rattle.std.proofs.Common.{◌≡◌, ◌<◌, ◌+◌, ◌++◌, ◌∷◌, [], ℕ, List, length, arith, sym, ap, ◌∙◌}
+use Rattle.pm_board.specs.Slots.{child_slots}
 use Rattle.pm_board.specs.declared.views.PostView.{PostView}
 use Rattle.pm_board.specs.Told.{with_notes, noted_latch_look, noted_cancel}
 use Rattle.pm_latch.specs.Cancelling.{noted_looks}
@@ -12,7 +13,7 @@ returns-then-look_at_latch-pid-clause-met g c =
     let words : List ℕ = inv.4.0 in
     let long : length words ≡ c.loop-slot.slot = inv.4.1 in
     let below : c.loop-slot.slot < c.slots-slot-end.result = c.loop-slot-test.true in
-    let all : c.slots-slot-end.result ≡ c.args.post.now.table.slots = inv.2 in
+    let all : c.slots-slot-end.result ≡ child_slots c.args.post.now.table.slots = inv.2 in
     let made : ℕ → PostView g.row.J-Told.Denot → PostView g.row.J-Told.Denot = λ k w. with_notes w (noted_cancel w.notes record { slot = k; pid = c.args.pid; seed = c.args.seed.now; key = c.args.key }) in (
       inv.3,
       (

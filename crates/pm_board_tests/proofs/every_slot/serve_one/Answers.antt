@@ -4,8 +4,8 @@ use Rattle.pm_board.specs.Told.{MayEnd}
 use Rattle.pm_board_tests.proofs.EverySlots as slots
 use Rattle.pm_board_tests.proofs.every_slot.serve_one.Goals as goal
 
-pub assign-requires : goal.assign-requires
-assign-requires c = slots.may_assign _ _ _ _ c.requires.fresh c.requires.slot.0 c.requires.slot.1 c.kind_for.ensures
+pub assign-requires-clause-may : goal.assign-requires-clause-may
+assign-requires-clause-may c = slots.may_assign _ _ _ _ c.requires.fresh c.requires.slot.0 c.requires.slot.1 c.kind_for.ensures
 
 pub returns-in-Exited-clause-served : goal.returns-in-Exited-clause-served
 returns-in-Exited-clause-served c =

@@ -16,7 +16,7 @@ fetch_sub-requires g c =
     let has = subst (λ w. HoldsMail c.self.inside.index w c.self.inside.seat.me.1) does inv.4 in
     let runs = subst (RunsKind c.self.inside.kind) does inv.5 in
     let gate = steps.gate_in _ _ _ (c.slot_count-gate.ensures ∙ ap (λ z. z.slots) first) inv.2 t in
-    (sym t, gate.0, steps.backs_out_as g.J.Letter.told _ _ _ _ _ _ c.requires.1 c.requires.0 _ _ _ _ gate.1 (c.place-takes.ensures ∙ ap (λ k. place_of (is_session k)) runs) (steps.doing_at c.self.inside.index c.self.inside.seat.me _ _ inv.1 does has))
+    (sym t, gate.0, steps.backs_out_as g.J.Letter _ _ _ _ _ _ c.requires.1 c.requires.0 _ _ _ _ gate.1 (c.place-takes.ensures ∙ ap (λ k. place_of (is_session k)) runs) (steps.doing_at c.self.inside.index c.self.inside.seat.me _ _ inv.1 does has))
 
 pub invariant_of-self : goal.invariant_of-self
 invariant_of-self g c =

@@ -11,7 +11,7 @@ fetch_add-requires g c =
     let may = subst (λ v. MayEnd v.knows.work runs.0 runs.1) (sym c.self.view_is) runs.2 in
     let has = steps.holds_none _ _ _ _ _ inv.4 may in
     let is = steps.exchanged _ _ _ _ _ _ (steps.doing_at c.self.inside.index c.self.inside.seat.me _ _ inv.1 refl has) c.exchange.ensures.3 in
-    (c.exchange.ensures.0 ∙ sym t, steps.in_words _ _ _ inv.3 inv.2 t, steps.ends_as g.J.Letter.told _ _ _ _ _ c.args.status runs.1 runs.0 _ _ _ c.args.job _ is c.ended-step.ensures c.requires.status may runs.3)
+    (c.exchange.ensures.0 ∙ sym t, steps.in_words _ _ _ inv.3 inv.2 t, steps.ends_as g.J.Letter _ _ _ _ _ c.args.status runs.1 runs.0 _ _ _ c.args.job _ is c.ended-step.ensures c.requires.status may runs.3 (c.requires.back runs.0 runs.1 runs.2))
 
 pub invariant_of-self : goal.invariant_of-self
 invariant_of-self g c =
@@ -20,5 +20,5 @@ invariant_of-self g c =
     let may = subst (λ v. MayEnd v.knows.work runs.0 runs.1) (sym c.self.view_is) runs.2 in
     let has = steps.holds_none _ _ _ _ _ inv.4 may in
     let is = steps.exchanged _ _ _ _ _ _ (steps.doing_at c.self.inside.index c.self.inside.seat.me _ _ inv.1 refl has) c.exchange.ensures.3 in
-    let end = steps.ended_as g.J.Letter.told 0 _ 0 _ c.args.status runs.1 _ _ _ _ _ runs.0 c.args.job is c.ended-step.ensures may c.fetch_add.ensures.2 in
+    let end = steps.ended_as g.J.Letter 0 _ 0 _ c.args.status runs.1 _ _ _ _ _ runs.0 c.args.job is c.ended-step.ensures may c.fetch_add.ensures.2 in
     steps.post_sealed _ _ _ _ _ _ _ _ _ _ inv.0 (c.fetch_add.ensures.0 ∙ c.exchange.ensures.0) inv.2 inv.3 end refl tt inv.6 tt inv.8

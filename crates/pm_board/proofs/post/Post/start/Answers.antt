@@ -1,6 +1,7 @@
 use Rattle.std.proofs.Common.{ℕ, arith, sym, ap, ◌∙◌, subst}
 use Rattle.std.specs.Prelude.{false}
 use Rattle.pm_exit.specs.declared.child.Status.TheVariants.{Code}
+use Rattle.pm_exit.specs.declared.child.Kind.{Kind}
 use Rattle.pm_board.specs.declared.views.Work.TheVariants.{Inactive}
 use Rattle.pm_board.specs.Told.{post_of, post_view, noted_start, noted_load}
 use Rattle.pm_board.specs.Models.{HoldsMail}
@@ -13,14 +14,14 @@ load-found-requires g c =
     let t = ap (λ b. b.shared.table_id) c.deref.ensures ∙ inv.0 in
     let idle = ap (λ v. v.knows.work) c.self.view_is ∙ c.requires in
     let has = subst (λ w. HoldsMail c.self.inside.index w c.self.inside.seat.me.1) idle inv.4 in
-    (sym t, steps.in_words _ _ _ inv.3 inv.2 t, steps.loads_as g.J.Letter.told _ _ _ _ _ _ _ (steps.doing_at c.self.inside.index c.self.inside.seat.me _ _ inv.1 idle has))
+    (sym t, steps.in_words _ _ _ inv.3 inv.2 t, steps.loads_as g.J.Letter _ _ _ _ _ _ _ (steps.doing_at c.self.inside.index c.self.inside.seat.me _ _ inv.1 idle has))
 
 pub fetch_add-requires : goal.fetch_add-requires
 fetch_add-requires g c =
     let inv = c.self.invariant in
     let t = ap (λ b. b.shared.table_id) c.deref-2.ensures ∙ inv.0 in
     let saw = c.load-found.ensures.2.0 (sym c.stage-found_stage.ensures ∙ c.if-found_stage-ne-OFFERED.false) in
-    (c.load-found.ensures.0 ∙ sym t, steps.in_words _ _ _ inv.3 inv.2 t, steps.starts_as g.J.Letter.told _ _ _ _ _ _ _ _ saw)
+    (c.load-found.ensures.0 ∙ sym t, steps.in_words _ _ _ inv.3 inv.2 t, steps.starts_as g.J.Letter _ _ _ _ _ _ _ _ saw)
 
 pub exchange-mail-requires : goal.exchange-mail-requires
 exchange-mail-requires g c =
@@ -49,5 +50,7 @@ returns-clause-met g c =
         ap (λ m. post_of m.0) is
             ∙ ap (λ m. post_view (noted_start (post_of m.0).notes) (post_of m.0).past (Inactive o)) saw
             ∙ ap (λ v. post_view (noted_start (noted_load v.knows.notes word)) v.knows.past (Inactive o)) c.self.view_is,
+        subst (λ (z : g.row.J.Denot × Kind). g.J.Letter.fits z.0 z.1) {x = (got.1, o.kind)} {y = (c.unwrap-job.result, c.kind-kind.result)}
+            (λ i. (steps.some_is _ _ out i, (sym read.1 ∙ sym c.kind-kind.ensures) i)) got.6,
       ),
     )

@@ -10,4 +10,4 @@ fetch_and-found-requires g c =
     let t = ap (λ b. b.shared.table_id) c.deref-2.ensures ∙ inv.0 in
     let runs = ap (λ v. child_in v.knows.work) c.self.view_is ∙ c.requires.runs.1 in
     let place = steps.latch_in _ _ _ _ _ (c.slot_count.ensures ∙ ap (λ z. z.slots) first) refl inv.3 inv.2 t in
-    (sym t, place.0, steps.takes_as g.J.Letter.told _ _ _ _ _ c.requires.runs.0 _ _ _ place.1 (steps.seat_as _ _ inv.1) runs)
+    (sym t, place.0, steps.takes_as g.J.Letter _ _ _ _ _ c.requires.runs.0 _ _ _ place.1 (steps.seat_as _ _ inv.1) runs)

@@ -15,7 +15,7 @@ fetch_add-found-requires g c =
     let has = subst (λ w. HoldsMail c.self.inside.index w c.self.inside.seat.me.1) does inv.4 in
     let runs = subst (RunsKind c.self.inside.kind) does inv.5 in
     let gate = steps.gate_in _ _ _ (c.slot_count-gate.ensures ∙ ap (λ z. z.slots) first) inv.2 t in
-    (sym t, gate.0, steps.tries_as g.J.Letter.told _ _ _ _ _ _ c.requires.0 _ _ _ _ gate.1 (c.place-adds.ensures ∙ ap (λ k. place_of (is_session k)) runs) c.requires.2 (steps.doing_at c.self.inside.index c.self.inside.seat.me _ _ inv.1 does has))
+    (sym t, gate.0, steps.tries_as g.J.Letter _ _ _ _ _ _ c.requires.0 _ _ _ _ gate.1 (c.place-adds.ensures ∙ ap (λ k. place_of (is_session k)) runs) c.requires.2 (steps.doing_at c.self.inside.index c.self.inside.seat.me _ _ inv.1 does has))
 
 pub answer_at-requires : goal.answer_at-requires
 answer_at-requires g c =
@@ -42,4 +42,5 @@ returns-clause-met g c o does =
       c.fetch_add-found.result,
       answer,
       ap (λ m. post_of m.0) did ∙ ap (λ z. post_of (reposted z (tried (post_of c.self.inside.seat.me.0) o c.fetch_add-found.result))) inv.1 ∙ ap (λ v. tried v.knows o c.fetch_add-found.result) c.self.view_is,
+      (c.fetch_add-found.ensures.2 o mine).2,
     )

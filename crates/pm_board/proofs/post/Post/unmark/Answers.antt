@@ -11,7 +11,7 @@ fetch_sub-requires g c =
     let t = ap (λ b. b.shared.table_id) c.deref.ensures ∙ inv.0 in
     let does = ap (λ v. v.knows.work) c.self.view_is ∙ c.requires.1 in
     let has = subst (λ w. HoldsMail c.self.inside.index w c.self.inside.seat.me.1) does inv.4 in
-    (sym t, steps.in_words _ _ _ inv.3 inv.2 t, steps.unmarks_as g.J.Letter.told _ _ _ _ c.requires.0 _ _ _ _ (steps.doing_at c.self.inside.index c.self.inside.seat.me _ _ inv.1 does has))
+    (sym t, steps.in_words _ _ _ inv.3 inv.2 t, steps.unmarks_as g.J.Letter _ _ _ _ c.requires.0 _ _ _ _ (steps.doing_at c.self.inside.index c.self.inside.seat.me _ _ inv.1 does has))
 
 pub invariant_of-self : goal.invariant_of-self
 invariant_of-self g c =

@@ -1,17 +1,20 @@
 use Rattle.std.proofs.Common.{rules, ◌≡◌, ℕ, ◌+◌, ◌*◌, ◌≤◌, List, [], length, arith, refl, sym, ap, ◌∙◌, subst}
-use Rattle.std.specs.Prelude.{Some, slice_get}
+use Rattle.std.specs.Prelude.{None, Some, replicate, slice_get}
 use Rattle.std.proofs.lemmas.List.{length-replicate}
+use Rattle.pm_board.specs.Slots.{all_slots}
 use Rattle.pm_board.specs.declared.views.View.TheVariants.{Postmaster}
 use Rattle.pm_board.specs.declared.views.RosterView.{RosterView}
 use Rattle.pm_board.specs.Rule.{idle_post}
 use Rattle.pm_board.specs.Places.{used_in}
+use Rattle.pm_board.specs.Children.{children_of}
 use Rattle.pm_board.specs.Told.{roster_of, with_post}
 use Rattle.pm_board.specs.Models.{PostModel}
+use Rattle.pm_board.proofs.Children.{no_children, only_none}
 use Rattle.pm_board.proofs.Steps as steps
 use Rattle.pm_board.proofs.roster.Board.new.Goals as goal
 
 pub vacant-requires : goal.vacant-requires
-vacant-requires g c = steps.begins_as g.J.Letter.told c.from-2.result c.args.slots c.from.result c.from-2.result c.as_slice.result.now (search rules) (search rules) refl c.requires.1
+vacant-requires g c = steps.begins_as g.J.Letter c.from-2.result c.args.slots c.from.result c.from-2.result c.as_slice.result.now (search rules) (search rules) refl c.requires.1
     (let e : c.from-2.result ≡ c.args.session_limit = search rules in let l : c.args.session_limit ≤ 200 = c.requires.2 in omega arith)
 
 pub invariant_of-roster : goal.invariant_of-roster
@@ -25,12 +28,13 @@ invariant_of-roster g c =
     let count = ap (λ m. length (roster_of m.0).slots) w.4 ∙ length-replicate c.from.result _ ∙ same in (
       ap (λ b. b.shared.table_id) c.in_ok-new.ensures.ok ∙ sym w.2,
       w.4 ∙ (λ i. (Postmaster (roster_of (sym w.4 i).0), [])),
-      omega arith,
-      count ∙ sym slots,
+      words ∙ ap (λ (m : ℕ). 3 * m + 1) (sym (all_slots _ ∙ slots)),
+      count ∙ sym (all_slots _ ∙ slots),
       subst (λ (z : ℕ). z ≤ 407) (sym slots) c.requires.1,
       sym (ap (λ m. used_in (roster_of m.0).slots) w.4 ∙ steps.used_none _ c.from.result),
       sym (ap (λ m. (roster_of m.0).generation) w.4),
       sym (ap (λ m. (roster_of m.0).noticed) w.4),
+      c.in_ok-vec.ensures.items_if_clones_equal (only_none _ (λ _ is. is)) ∙ (ap (λ (m : ℕ). replicate m None) (sym same) ∙ (no_children _ c.from.result ∙ sym (ap (λ m. children_of (roster_of m.0).slots) w.4))),
     )
 
 pub loop-index-preserved : goal.loop-index-preserved
@@ -47,5 +51,4 @@ loop-index-preserved g c =
       below,
       λ k p e. steps.one_more F c.loop-index.left.items c.in_ok-post.post (made ∙ ap F (sym inv.1)) inv.3 k p (subst (λ (z : List (PostModel g.row.J-Told.Denot)). slice_get z k ≡ Some p) c.in_ok-push_back.ensures.items e)
           ∙ (λ j. record { table = sym c.deal.ensures.table j; slot = k; knows = idle_post c.args.session_limit }),
-      c.deal.ensures.home ∙ inv.4,
     )

@@ -15,7 +15,7 @@ fetch_add-requires g c =
     let t = ap (λ b. b.shared.table_id) c.deref-2.ensures ∙ inv.0 in
     let gate = steps.gate_in _ _ _ (c.slot_count-gate.ensures ∙ ap (λ z. z.slots) first) inv.2 t in
     let may = subst (λ z. MayQuit z.noticed c.args.why) (sym e) c.requires in
-    (sym t, gate.0, steps.quits_as g.J.Letter.told _ _ _ _ _ _ c.args.why _ gate.1 (c.quit_adds-adds.ensures ∙ ap (λ q. quit_step q c.args.why) inv.7) may inv.1)
+    (sym t, gate.0, steps.quits_as g.J.Letter _ _ _ _ _ _ c.args.why _ gate.1 (c.quit_adds-adds.ensures ∙ ap (λ q. quit_step q c.args.why) inv.7) may inv.1)
 
 pub invariant_of-self : goal.invariant_of-self
 invariant_of-self g c =
@@ -24,7 +24,7 @@ invariant_of-self g c =
     let may = subst (λ z. MayQuit z.noticed c.args.why) (sym e) c.requires in
     let did = c.fetch_add.ensures.2 c.args.why may (c.quit_adds-adds.ensures ∙ ap (λ q. quit_step q c.args.why) inv.7) in
     let is = steps.turned_as _ _ _ inv.1 did in
-    steps.sealed _ _ _ _ _ _ _ _ inv.0 c.fetch_add.ensures.0 inv.2 inv.4 is inv.3 inv.5 inv.6 refl
+    steps.sealed _ _ _ _ _ _ _ _ _ inv.0 c.fetch_add.ensures.0 inv.2 inv.4 is inv.3 inv.5 inv.6 refl inv.8
 
 pub returns-clause-knows : goal.returns-clause-knows
 returns-clause-knows g c =

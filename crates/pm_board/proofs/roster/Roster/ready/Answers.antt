@@ -13,7 +13,7 @@ fetch_add-requires g c =
     let t = ap (λ b. b.shared.table_id) c.deref-2.ensures ∙ inv.0 in
     let gate = steps.gate_in _ _ _ (c.slot_count-gate.ensures ∙ ap (λ z. z.slots) first) inv.2 t in
     let may = subst MayOpen (sym e) c.requires in
-    (sym t, gate.0, steps.readies_as g.J.Letter.told _ _ _ _ _ _ _ gate.1 (c.ready_adds-adds.ensures ∙ ap ready_step inv.7) may inv.1)
+    (sym t, gate.0, steps.readies_as g.J.Letter _ _ _ _ _ _ _ gate.1 (c.ready_adds-adds.ensures ∙ ap ready_step inv.7) may inv.1)
 
 pub invariant_of-self : goal.invariant_of-self
 invariant_of-self g c =
@@ -21,7 +21,7 @@ invariant_of-self g c =
     let e = ap (λ v. v.knows) c.self.view_is in
     let did = c.fetch_add.ensures.2 in
     let is = steps.turned_as _ _ _ inv.1 did in
-    steps.sealed _ _ _ _ _ _ _ _ inv.0 c.fetch_add.ensures.0 inv.2 inv.4 is inv.3 inv.5 inv.6 refl
+    steps.sealed _ _ _ _ _ _ _ _ _ inv.0 c.fetch_add.ensures.0 inv.2 inv.4 is inv.3 inv.5 inv.6 refl inv.8
 
 pub returns-clause-knows : goal.returns-clause-knows
 returns-clause-knows g c =

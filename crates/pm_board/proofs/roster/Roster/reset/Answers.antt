@@ -18,13 +18,13 @@ store-requires g c =
     let first = ap (λ b. b.shared.table_id) c.deref.ensures ∙ inv.0 in
     let t = ap (λ b. b.shared.table_id) c.deref-2.ensures ∙ inv.0 in
     let gate = steps.gate_in _ _ _ (c.slot_count-gate.ensures ∙ ap (λ z. z.slots) first) inv.2 t in
-    (sym t, gate.0, steps.resets_as g.J.Letter.told _ _ _ _ _ _ _ gate.1 (c.new_word.ensures ∙ ap (λ (n : ℕ). new_gate (n + 1)) inv.6) (subst MayReset (sym e) c.requires) inv.1)
+    (sym t, gate.0, steps.resets_as g.J.Letter _ _ _ _ _ _ _ gate.1 (c.new_word.ensures ∙ ap (λ (n : ℕ). new_gate (n + 1)) inv.6) (subst MayReset (sym e) c.requires) inv.1)
 
 pub invariant_of-self : goal.invariant_of-self
 invariant_of-self g c =
     let inv = c.self.invariant in
     let is = steps.turned_as _ _ _ inv.1 c.store.ensures.2 in
-    steps.sealed _ _ _ _ _ _ _ _ inv.0 c.store.ensures.0 inv.2 inv.4 is inv.3 inv.5 (ap (λ (n : ℕ). n + 1) inv.6) refl
+    steps.sealed _ _ _ _ _ _ _ _ _ inv.0 c.store.ensures.0 inv.2 inv.4 is inv.3 inv.5 (ap (λ (n : ℕ). n + 1) inv.6) refl inv.8
 
 pub returns-clause-knows : goal.returns-clause-knows
 returns-clause-knows g c = ap (λ m. roster_of m.0) c.store.ensures.2 ∙ ap (λ v. after_step v.knows (roster_step.Reset (v.knows.generation + 1))) c.self.view_is
