@@ -2,13 +2,14 @@
 use std::alloc::{AllocError, Global};
 use std::fs::{File, OpenOptions, TryLockError};
 use std::io;
+use std::os::fd::AsRawFd;
 use std::os::unix::fs::{FileExt, OpenOptionsExt};
 
 /// A log file is its owner's alone, as the files of PostgreSQL's data directory are.
 const OWNER_ALONE: u32 = 0o600;
 
-/// A file that is opened by the first call that finds or makes it, and stays open then. A file that isn't there reads
-/// as empty.
+/// A file that is opened by the first call that finds or makes it, and stays open then. It is settled before that call
+/// goes on: what is read is what the disk has. A file that isn't there reads as empty.
 #[derive(Drop)]
 pub struct LogFile {
     rt: HostRuntime,
@@ -16,8 +17,8 @@ pub struct LogFile {
     path: String,
     is_lock: bool,
     handle: Option<File>,
-    // A sync has failed. The system may have dropped what it couldn't write, and then a later sync succeeds and proves
-    // nothing of it.
+    // A sync has failed, or what settles the file. The system may have dropped what it couldn't write, and then a later
+    // sync succeeds and proves nothing of it.
     is_lost: bool,
 }
 
@@ -108,16 +109,30 @@ impl LogFile {
         }
     }
 
-    // Keeps the file open. Its folder is synced first, so that its name is as durable as its bytes: also where a
-    // program that was stopped had just made it.
+    // Keeps the file open, once it is settled.
     fn keep(&mut self, file: File) -> io::Result<()> {
         if self.is_lock {
             lock(&file)?;
         }
-        File::open(&self.rt, self.folder.as_str())?.sync_all()?;
+        let folder = File::open(&self.rt, self.folder.as_str())?;
+        let settled = settle(&file, &folder);
+        self.is_lost = settled.is_err();
+        settled?;
         self.handle = Some(file);
         Ok(())
     }
+}
+
+// Makes the file durable as it reads, and its name with it. The system may keep pages that a failed sync of an earlier
+// program couldn't write: they read as they were written, count as clean, and the disk doesn't have them. So what it
+// keeps of the file is dropped behind the sync, and what is read from then on comes from the disk.
+fn settle(file: &File, folder: &File) -> io::Result<()> {
+    file.sync_all()?;
+    let refused = libc::posix_fadvise(file.as_raw_fd(), 0, 0, libc::POSIX_FADV_DONTNEED);
+    if refused != 0 {
+        return Err(io::Error::from_raw_os_error(refused));
+    }
+    folder.sync_all()
 }
 
 // Locks the file up to its closing, unless another has locked it.

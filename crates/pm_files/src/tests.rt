@@ -1,18 +1,26 @@
-//! What no clause says: that the files are reached.
+//! What no clause says: that the files are reached, each by its own name, and one program alone has them. What takes a call
+//! that fails on request is looked at below the process (`.ci/files`).
 use crate::LogFiles;
 use pm_disk::{Disk, Which};
 use std::test::Fail;
 use std::{fs, process};
 
-#[test]
-fn files_keep_what_is_written_and_one_server_alone(rt: HostRuntime) -> Result<(), Fail> {
-    let alloc = rt.alloc();
+// A new folder for the test of this name.
+fn new_folder(rt: HostRuntime, name: &str) -> Result<String, Fail> {
     let temp = std::env::temp_dir(&rt)?;
     let temp = temp.as_str();
     let id = process::id(rt.process());
-    let folder = format!(in alloc; "{temp}/pm_files_test_{id}")?;
+    let folder = format!(in rt.alloc(); "{temp}/pm_files_{name}_{id}")?;
     fs::create_dir_all(&rt, folder.as_str())?;
-    let mut disk = LogFiles::of(rt, alloc, folder.as_str())?;
+    Ok(folder)
+}
+
+#[test]
+fn files_keep_what_is_written_each_by_its_name(rt: HostRuntime) -> Result<(), Fail> {
+    let alloc = rt.alloc();
+    let folder = new_folder(rt, "kept")?;
+    let folder = folder.as_str();
+    let mut disk = LogFiles::of(rt, alloc, folder)?;
     assert_eq!(rt; disk.len(Which::A)?, 0);
     disk.write(Which::B, 0, b"b")?;
     disk.write(Which::A, 0, b"commit")?;
@@ -24,12 +32,46 @@ fn files_keep_what_is_written_and_one_server_alone(rt: HostRuntime) -> Result<()
     assert_eq!(rt; back, *b"mpare");
     assert!(rt; disk.read(Which::A, 3, &mut back).is_err());
     assert_eq!(rt; (disk.ticks(), disk.faults()), (8, 1));
+    for (name, held) in [("a.log", "compare"), ("b.log", "b")] {
+        let path = format!(in alloc; "{folder}/{name}")?;
+        assert_eq!(rt; fs::read_to_string(&rt, path.as_str())?.as_str(), held);
+    }
+    fs::remove_dir_all(&rt, folder)?;
+    Ok(())
+}
 
+#[test]
+fn one_program_alone_has_the_files(rt: HostRuntime) -> Result<(), Fail> {
+    let alloc = rt.alloc();
+    let folder = new_folder(rt, "locked")?;
+    let mut first = LogFiles::of(rt, alloc, folder.as_str())?;
+    first.write(Which::A, 0, b"first")?;
     let mut second = LogFiles::of(rt, alloc, folder.as_str())?;
     assert!(rt; second.len(Which::A).is_err());
-    assert_eq!(rt; (second.len(Which::B)?, second.faults()), (1, 1));
-    drop(disk);
-    assert_eq!(rt; second.len(Which::A)?, 7);
+    assert!(rt; second.write(Which::A, 0, b"other").is_err());
+    assert_eq!(rt; (second.len(Which::B)?, second.faults()), (0, 2));
+    drop(first);
+    let mut back = [0; 5];
+    second.read(Which::A, 0, &mut back)?;
+    assert_eq!(rt; back, *b"first");
+    fs::remove_dir_all(&rt, folder.as_str())?;
+    Ok(())
+}
+
+#[test]
+fn what_is_there_and_cannot_be_opened_is_a_fault(rt: HostRuntime) -> Result<(), Fail> {
+    let alloc = rt.alloc();
+    let folder = new_folder(rt, "closed")?;
+    let path = format!(in alloc; "{}/b.log", folder.as_str())?;
+    fs::create_dir(&rt, path.as_str())?;
+    let mut disk = LogFiles::of(rt, alloc, folder.as_str())?;
+    assert!(rt; disk.len(Which::B).is_err());
+    assert!(rt; disk.read(Which::B, 0, &mut []).is_err());
+    assert!(rt; disk.write(Which::B, 0, b"b").is_err());
+    assert!(rt; disk.sync(Which::B).is_err());
+    assert_eq!(rt; disk.faults(), 4);
+    fs::remove_dir(&rt, path.as_str())?;
+    assert_eq!(rt; disk.len(Which::B)?, 0);
     fs::remove_dir_all(&rt, folder.as_str())?;
     Ok(())
 }
