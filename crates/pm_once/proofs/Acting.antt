@@ -16,9 +16,8 @@ use Rattle.pm_state.specs.Journal.{without_first}
 use Rattle.pm_chain.specs.Steps.{ChildRun, MayFollow, Notes, Renews, Runs, RunsOn, StandsByItself, Step}
 use Rattle.pm_journal.specs.Roll.{kind_in}
 use Rattle.pm_journal.specs.Standing.{Standing, act_for, done, entry_for, first_due, next_pid}
-use Rattle.pm_once.specs.Calls.{AuxiliariesBehind}
 use Rattle.pm_once.specs.Goes.{AreOurs, AsksAsDue, IsFree, accepted_in, asked_in, is_last_drawn}
-use Rattle.pm_once.specs.Auxiliaries.{AreThere, IsPresent}
+use Rattle.pm_once.specs.Auxiliaries.{AreThere, IsPresent, auxiliaries_after}
 use Rattle.pm_once.specs.declared.auxiliaries.Auxiliaries.{Auxiliaries}
 
 -- ---- which step may follow
@@ -136,7 +135,7 @@ same_auxiliaries s before now one two three there = record {
   writer = subst (λ (h : Option ℕ). IsPresent h kind.Writer s) (sym three) there.writer;
 }
 
-pub auxiliaries_acted : (a : Action) (s : Standing) (before now : Auxiliaries) → AuxiliariesBehind (act_for a s) before now → AreThere before s → AreThere now (done a s)
+pub auxiliaries_acted : (a : Action) (s : Standing) (before now : Auxiliaries) → now ≡ auxiliaries_after (act_for a s) before → AreThere before s → AreThere now (done a s)
 auxiliaries_acted (act.Start kind.Startup) s before now is there =
     subst (λ (h : Auxiliaries). AreThere h (done (act.Start kind.Startup) s)) (sym is) (record { startup = auxiliary_started kind.Startup s; checkpointer = tt; writer = tt })
 auxiliaries_acted (act.Start kind.Checkpointer) s before now is there =
@@ -150,14 +149,14 @@ auxiliaries_acted (act.Start kind.Writer) s before now is there =
 auxiliaries_acted (act.Start kind.Worker) s before now is there = subst (λ (h : Auxiliaries). AreThere h (done (act.Start kind.Worker) s)) (sym is) (all_kept (act.Start kind.Worker) s before there)
 auxiliaries_acted (act.Start kind.Backend) s before now is there = subst (λ (h : Auxiliaries). AreThere h (done (act.Start kind.Backend) s)) (sym is) (all_kept (act.Start kind.Backend) s before there)
 auxiliaries_acted (act.Start kind.DeadEnd) s before now is there = subst (λ (h : Auxiliaries). AreThere h (done (act.Start kind.DeadEnd) s)) (sym is) (all_kept (act.Start kind.DeadEnd) s before there)
-auxiliaries_acted (act.Quit why) s before now is there = same_auxiliaries (done (act.Quit why) s) before now is.startup is.checkpointer is.writer (all_kept (act.Quit why) s before there)
-auxiliaries_acted act.Terminate s before now is there = same_auxiliaries (done act.Terminate s) before now is.startup is.checkpointer is.writer (all_kept act.Terminate s before there)
-auxiliaries_acted act.KillAll s before now is there = same_auxiliaries (done act.KillAll s) before now is.startup is.checkpointer is.writer (all_kept act.KillAll s before there)
-auxiliaries_acted act.AskCheckpoint s before now is there = same_auxiliaries (done act.AskCheckpoint s) before now is.startup is.checkpointer is.writer (all_kept act.AskCheckpoint s before there)
-auxiliaries_acted act.Ready s before now is there = same_auxiliaries (done act.Ready s) before now is.startup is.checkpointer is.writer (all_kept act.Ready s before there)
-auxiliaries_acted act.Reset s before now is there = same_auxiliaries (done act.Reset s) before now is.startup is.checkpointer is.writer (all_kept act.Reset s before there)
-auxiliaries_acted (act.Say line) s before now is there = same_auxiliaries (done (act.Say line) s) before now is.startup is.checkpointer is.writer (all_kept (act.Say line) s before there)
-auxiliaries_acted (act.End how) s before now is there = same_auxiliaries (done (act.End how) s) before now is.startup is.checkpointer is.writer (all_kept (act.End how) s before there)
+auxiliaries_acted (act.Quit why) s before now is there = same_auxiliaries (done (act.Quit why) s) before now (ap (λ (h : Auxiliaries). h.startup) is) (ap (λ (h : Auxiliaries). h.checkpointer) is) (ap (λ (h : Auxiliaries). h.writer) is) (all_kept (act.Quit why) s before there)
+auxiliaries_acted act.Terminate s before now is there = same_auxiliaries (done act.Terminate s) before now (ap (λ (h : Auxiliaries). h.startup) is) (ap (λ (h : Auxiliaries). h.checkpointer) is) (ap (λ (h : Auxiliaries). h.writer) is) (all_kept act.Terminate s before there)
+auxiliaries_acted act.KillAll s before now is there = same_auxiliaries (done act.KillAll s) before now (ap (λ (h : Auxiliaries). h.startup) is) (ap (λ (h : Auxiliaries). h.checkpointer) is) (ap (λ (h : Auxiliaries). h.writer) is) (all_kept act.KillAll s before there)
+auxiliaries_acted act.AskCheckpoint s before now is there = same_auxiliaries (done act.AskCheckpoint s) before now (ap (λ (h : Auxiliaries). h.startup) is) (ap (λ (h : Auxiliaries). h.checkpointer) is) (ap (λ (h : Auxiliaries). h.writer) is) (all_kept act.AskCheckpoint s before there)
+auxiliaries_acted act.Ready s before now is there = same_auxiliaries (done act.Ready s) before now (ap (λ (h : Auxiliaries). h.startup) is) (ap (λ (h : Auxiliaries). h.checkpointer) is) (ap (λ (h : Auxiliaries). h.writer) is) (all_kept act.Ready s before there)
+auxiliaries_acted act.Reset s before now is there = same_auxiliaries (done act.Reset s) before now (ap (λ (h : Auxiliaries). h.startup) is) (ap (λ (h : Auxiliaries). h.checkpointer) is) (ap (λ (h : Auxiliaries). h.writer) is) (all_kept act.Reset s before there)
+auxiliaries_acted (act.Say line) s before now is there = same_auxiliaries (done (act.Say line) s) before now (ap (λ (h : Auxiliaries). h.startup) is) (ap (λ (h : Auxiliaries). h.checkpointer) is) (ap (λ (h : Auxiliaries). h.writer) is) (all_kept (act.Say line) s before there)
+auxiliaries_acted (act.End how) s before now is there = same_auxiliaries (done (act.End how) s) before now (ap (λ (h : Auxiliaries). h.startup) is) (ap (λ (h : Auxiliaries). h.checkpointer) is) (ap (λ (h : Auxiliaries). h.writer) is) (all_kept (act.End how) s before there)
 
 -- ---- requests
 
@@ -271,22 +270,22 @@ due_kept act.Reset s = refl
 due_kept (act.Say line) s = refl
 due_kept (act.End how) s = refl
 
-pub ours_tail : (limits : Limits) (a : Action) (rest : List Action) → AreOurs limits (a ∷ rest) → AreOurs limits rest
-ours_tail limits (act.Start k) rest ours = ours
-ours_tail limits (act.Quit why) rest ours = ours
-ours_tail limits act.Terminate rest ours = ours
-ours_tail limits act.KillAll rest ours = absurd ours
-ours_tail limits act.AskCheckpoint rest ours = ours
-ours_tail limits act.Ready rest ours = ours
-ours_tail limits act.Reset rest ours = ours
-ours_tail limits (act.Say line) rest ours = ours
-ours_tail limits (act.End endings.Clean) rest ours = ours
-ours_tail limits (act.End endings.AfterCrash) rest ours = ours
-ours_tail limits (act.End endings.StartupFailed) rest ours = ours
-ours_tail limits (act.End endings.RestartOff) rest ours = ours.1
+pub ours_tail : (limits : Limits) (asked : Bool) (a : Action) (rest : List Action) → AreOurs limits asked (a ∷ rest) → AreOurs limits asked rest
+ours_tail limits asked (act.Start k) rest ours = ours
+ours_tail limits asked (act.Quit why) rest ours = ours
+ours_tail limits asked act.Terminate rest ours = ours
+ours_tail limits asked act.KillAll rest ours = absurd ours
+ours_tail limits asked act.AskCheckpoint rest ours = ours
+ours_tail limits asked act.Ready rest ours = ours
+ours_tail limits asked act.Reset rest ours = ours.1
+ours_tail limits asked (act.Say line) rest ours = ours
+ours_tail limits asked (act.End endings.Clean) rest ours = ours
+ours_tail limits asked (act.End endings.AfterCrash) rest ours = ours
+ours_tail limits asked (act.End endings.StartupFailed) rest ours = ours
+ours_tail limits asked (act.End endings.RestartOff) rest ours = ours.2
 
-pub none_is_killed : (limits : Limits) (rest : List Action) → AreOurs limits (act.KillAll ∷ rest) → ⊥
-none_is_killed limits rest ours = ours
+pub none_is_killed : (limits : Limits) (asked : Bool) (rest : List Action) → AreOurs limits asked (act.KillAll ∷ rest) → ⊥
+none_is_killed limits asked rest ours = ours
 
 pub first_is : (acts : List Action) (a : Action) → first_due acts ≡ Some a → acts ≡ a ∷ without_first acts
 first_is [] a is = absurd cc

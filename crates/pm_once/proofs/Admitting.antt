@@ -18,9 +18,10 @@ use Rattle.pm_journal.specs.Laws.{GoesOnOverItsJournal, KeepsALegalJournal}
 use Rattle.pm_journal.specs.declared.supervision.Taken.{Taken}
 use Rattle.pm_journal.specs.Standing.{Adds, IsAtRest, MayTake, Standing, accepting, decision_on, later, made, next_pid}
 use Rattle.pm_journal.specs.Stands.{AtWork, IsSettled}
-use Rattle.pm_once.specs.Calls.{Admits, Asks, Finishes, HasRun}
+use Rattle.pm_once.specs.Calls.{Admits, Asks, ComesTo, Finishes, HasRun}
 use Rattle.pm_once.specs.Goes.{Goes, IsIdle, IsRunning, accepted_in, is_last_drawn, sessions_in}
-use Rattle.pm_once.specs.Auxiliaries.{AreThere, IsPresent}
+use Rattle.pm_once.specs.Auxiliaries.{AreThere, HasLess, IsPresent}
+use Rattle.pm_once.specs.declared.outcome.Outcome.{Outcome}
 use Rattle.pm_once.specs.declared.auxiliaries.Auxiliaries.{Auxiliaries}
 use Rattle.pm_journal.specs.Roll.{kind_in}
 use Rattle.pm_segment.specs.MovesLaws.{moves_none}
@@ -34,6 +35,8 @@ use Rattle.pm_once.proofs.Ending.{IsNoted, IsTaken, ran_on, taken}
 use Rattle.pm_once.proofs.Entries.{accepted_in-append}
 use Rattle.pm_once.proofs.Finishing.{is_drawn}
 use Rattle.pm_once.proofs.SessionRuns.{session_run}
+use Rattle.pm_once.proofs.SessionEnds.{session_sound}
+use Rattle.pm_once.proofs.Undisturbed.{still_less}
 use Rattle.pm_once.proofs.Going.{goes_none, goes_on, journal-append, sessions-append, stays_on}
 use Rattle.pm_once.proofs.Serving.{ends_on, one_numbered, open_on}
 use Rattle.pm_once.proofs.Knowing.{known_moved}
@@ -138,6 +141,7 @@ serves_session gives admitted c at result one three v0 v2 v4 v5 listens admits n
       idle = finishes.idle;
       deaf = λ was. absurd (both v0.listens listens was);
       at_end = λ is. absurd (both false is refl);
+      asked = λ is. absurd (both false is refl);
       drawn = λ drawn. drawn_later (admits.drawn drawn);
       why = λ is. elim all as (λ x. (v0.listens ≡ false) ⊎ ((false ≡ true) ⊎ (is_last_drawn v5.work.standing.last_pid ≡ true))) [ inl same ↦ inl (sym same ∙ is) | inr drawn ↦ inr (inr drawn.1) ];
     }
@@ -157,6 +161,7 @@ serves_short gives admitted c one v0 v2 v4 listens admits goes same standing =
       idle = tt;
       deaf = λ was. absurd (both v0.listens listens was);
       at_end = λ is. absurd (both false is refl);
+      asked = λ is. absurd (both false is refl);
       drawn = λ drawn. drawn_later (admits.drawn drawn);
       why = λ is. elim all as (λ x. (v0.listens ≡ false) ⊎ ((false ≡ true) ⊎ (is_last_drawn v4.work.standing.last_pid ≡ true))) [ inl same' ↦ inl (sym same' ∙ is) | inr drawn ↦ inr (inr drawn.1) ];
     }
@@ -208,6 +213,7 @@ nothing_short gives v w same = subst (λ (x : AtWork). Serves gives (Err NoMemor
   idle = tt;
   deaf = λ was. (was, refl, refl);
   at_end = λ is. absurd (both false is refl);
+  asked = λ is. absurd (both false is refl);
   drawn = λ drawn. drawn;
   why = λ is. inl is;
 })
@@ -225,6 +231,9 @@ session_ran key limit gives c pid before now served is generation there work for
   store = store;
   knows = λ from known. known_moved from c.noted before now forgotten store known;
   told = tt;
+  less = subst (λ (h : Auxiliaries). HasLess before.auxiliaries h) (sym auxiliaries) (still_less before.auxiliaries);
+  sound = λ from counted. session_sound key limit gives from c before now served store counted;
+  came = subst (λ (o : Option Outcome). ComesTo (run_of c) before.outcome o) (sym forgotten) tt;
   lost = lost;
   log = log;
   listens = listens;

@@ -1,5 +1,5 @@
 -- A child that serves no connection runs, and what is due behind its end is done.
-use Rattle.std.proofs.Common.{◌≡◌, ◌⊎◌, inl, inr, ℕ, List, [], ◌∷◌, ◌++◌, Option, None, Some, Result, Ok, Err, refl, sym, ◌∙◌, ap, subst, append-nil}
+use Rattle.std.proofs.Common.{◌≡◌, ◌⊎◌, inl, inr, ℕ, List, [], ◌∷◌, ◌++◌, Option, None, Some, Result, Ok, Err, refl, sym, ◌∙◌, ap, subst, arith, append-nil}
 use Rattle.std.specs.Prelude.{true}
 use Rattle.pm_exit.specs.declared.child.Kind.{Kind}
 use Rattle.pm_exit.specs.declared.child.Kind.TheVariants as kind
@@ -10,7 +10,8 @@ use Rattle.pm_journal.specs.Standing.{Standing, later}
 use Rattle.pm_journal.specs.Stands.{AtWork}
 use Rattle.pm_once.specs.Calls.{Finishes, HasAuxiliaryRun, IsOff, NotesNoExit}
 use Rattle.pm_once.specs.Goes.{Does, IsIdle, IsRunning, accepted_in, if_session, is_last_drawn}
-use Rattle.pm_once.specs.Auxiliaries.{AreThere, IsTakenOff, IsPresent}
+use Rattle.pm_once.specs.Auxiliaries.{AreThere, HasLess, IsTakenOff, IsPresent, heard_of}
+use Rattle.pm_once.specs.AuxiliaryRuns.{Heard, IsRunAs}
 use Rattle.pm_once.specs.View.{View}
 use Rattle.pm_once.specs.declared.end.ServerEnd.{ServerEnd}
 use Rattle.pm_once.specs.declared.end.ServerEnd.TheVariants.{NoMemory}
@@ -18,6 +19,7 @@ use Rattle.pm_once.specs.declared.auxiliaries.Auxiliaries.{Auxiliaries}
 use Rattle.pm_once.proofs.Ending.{IsNoted, ran_on}
 use Rattle.pm_once.proofs.Going.{does_then}
 use Rattle.pm_once.proofs.Running.{no_accepts}
+use Rattle.pm_once.proofs.Undisturbed.{disturbed_on, less_follows}
 
 -- ---- who is taken off
 
@@ -32,6 +34,31 @@ auxiliary_off_by pid k before now s (inr off) there = subst (λ (h : Auxiliaries
 
 pub auxiliary_off : (pid : ℕ) (k : Kind) (before now : Auxiliaries) → IsTakenOff pid k before now → (s : Standing) → AreThere before s → AreThere now s
 auxiliary_off pid k before now off s there = auxiliary_off_by pid k before now s off.is there
+
+-- what the others were told stays
+pub startup_less : (pid : ℕ) (before now : Auxiliaries) → (before.startup ≡ Some pid) × (now ≡ record before { startup = None }) → HasLess before now
+startup_less pid before now off = record { heard = ap heard_of off.1; startup = inl (ap (λ (h : Auxiliaries). h.startup) off.1) }
+
+-- fewer, and still fewer
+pub less_on : (one two three : Auxiliaries) → HasLess one two → HasLess two three → HasLess one three
+less_on one two three first second = record {
+  heard = second.heard ∙ first.heard;
+  startup = elim second.startup [ inl none ↦ inl none | inr same ↦ elim first.startup [ inl none ↦ inl (same ∙ none) | inr still ↦ inr (same ∙ still) ] ];
+}
+
+auxiliary_less_by : (pid : ℕ) (k : Kind) (before now : Auxiliaries)
+    → ((k ≡ kind.Checkpointer) × (before.checkpointer ≡ Some pid) × (now ≡ record before { checkpointer = None })) ⊎ ((k ≡ kind.Writer) × (before.writer ≡ Some pid) × (now ≡ record before { writer = None }))
+    → HasLess before now
+auxiliary_less_by pid k before now (inl off) = record { heard = ap heard_of off.2; startup = inr (ap (λ (h : Auxiliaries). h.startup) off.2) }
+auxiliary_less_by pid k before now (inr off) = record { heard = ap heard_of off.2; startup = inr (ap (λ (h : Auxiliaries). h.startup) off.2) }
+
+pub auxiliary_less : (pid : ℕ) (k : Kind) (before now : Auxiliaries) → IsTakenOff pid k before now → HasLess before now
+auxiliary_less pid k before now off = auxiliary_less_by pid k before now off.is
+
+-- only a session's child has an exit that may be a crash
+pub no_backend : (k : Kind) → (k ≡ kind.Checkpointer) ⊎ (k ≡ kind.Writer) → k ≡ kind.Backend → ⊥
+no_backend k (inl is) backend = cc
+no_backend k (inr is) backend = cc
 
 -- it is there
 pub startup_there : (pid : ℕ) (auxiliaries : Auxiliaries) (s : Standing) → auxiliaries.startup ≡ Some pid → AreThere auxiliaries s → IsPresent (Some pid) kind.Startup s
@@ -62,8 +89,8 @@ no_session k run (inl is) = ap (λ (x : Kind). if_session x run) is
 no_session k run (inr is) = ap (λ (x : Kind). if_session x run) is
 
 -- the server without it
-pub running_off : (before : View) (auxiliaries : Auxiliaries) → ((s : Standing) → AreThere before.auxiliaries s → AreThere auxiliaries s) → IsRunning before → IsRunning (record before { auxiliaries = auxiliaries })
-running_off before auxiliaries off running = (
+pub running_off : (before : View) (auxiliaries : Auxiliaries) → ((s : Standing) → AreThere before.auxiliaries s → AreThere auxiliaries s) → HasLess before.auxiliaries auxiliaries → IsRunning before → IsRunning (record before { auxiliaries = auxiliaries })
+running_off before auxiliaries off less running = (
   running.0,
   running.1,
   record {
@@ -77,12 +104,15 @@ running_off before auxiliaries off running = (
     asks = running.2.asks;
     acts = running.2.acts;
     ends = running.2.ends;
+    causes = record { told_so = less.heard ∙ running.2.causes.told_so; runs = running.2.causes.runs; refused = running.2.causes.refused };
+    disturbed = disturbed_on running.0.faults running.1 running.1 before (record before { auxiliaries = auxiliaries }) (record { later = omega arith; counts = λ counted. counted }) (λ is. is)
+        (less_follows before (record before { auxiliaries = auxiliaries }) refl less) running.2.disturbed;
   },
   record { free = running.3.free; same = running.3.same; inside = running.3.inside },
 )
 
-pub ran_without : (run : ChildRun) (before now : View) (auxiliaries : Auxiliaries) → ((s : Standing) → AreThere before.auxiliaries s → AreThere auxiliaries s) → HasAuxiliaryRun run (record before { auxiliaries = auxiliaries }) now → HasAuxiliaryRun run before now
-ran_without run before now auxiliaries off auxiliary = record {
+pub ran_without : (run : ChildRun) (before now : View) (auxiliaries : Auxiliaries) → ((s : Standing) → AreThere before.auxiliaries s → AreThere auxiliaries s) → HasLess before.auxiliaries auxiliaries → HasAuxiliaryRun run (record before { auxiliaries = auxiliaries }) now → HasAuxiliaryRun run before now
+ran_without run before now auxiliaries off less auxiliary = record {
   ran = record {
     is_run = auxiliary.ran.is_run;
     there = auxiliary.ran.there;
@@ -92,7 +122,10 @@ ran_without run before now auxiliaries off auxiliary = record {
     work = auxiliary.ran.work;
     store = auxiliary.ran.store;
     knows = λ from known. auxiliary.ran.knows from (record { counted = known.counted; come = known.come });
-    told = auxiliary.ran.told;
+    told = subst (λ (h : Heard). IsRunAs h run.kind run) less.heard auxiliary.ran.told;
+    less = less_on before.auxiliaries auxiliaries now.auxiliaries less auxiliary.ran.less;
+    sound = auxiliary.ran.sound;
+    came = auxiliary.ran.came;
     lost = auxiliary.ran.lost;
     log = auxiliary.ran.log;
     listens = auxiliary.ran.listens;

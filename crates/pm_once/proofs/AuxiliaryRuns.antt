@@ -1,5 +1,5 @@
 -- The runs of the children that serve no connection.
-use Rattle.std.proofs.Common.{◌≡◌, ◌⊎◌, inl, inr, ℕ, List, [], ◌∷◌, Option, None, Some, Result, Ok, Err, refl, sym, subst}
+use Rattle.std.proofs.Common.{◌≡◌, ◌⊎◌, inl, inr, ℕ, List, [], ◌∷◌, Option, None, Some, Result, Ok, Err, option_map, refl, sym, ap, subst}
 use Rattle.std.specs.Prelude.{true, false}
 use Rattle.pm_exit.specs.declared.child.Kind.{Kind}
 use Rattle.pm_exit.specs.declared.child.Kind.TheVariants as kind
@@ -10,11 +10,14 @@ use Rattle.pm_query.specs.declared.book.BookEntry.{BookEntry}
 use Rattle.pm_query.specs.declared.book.BookEntry.TheVariants.{Redone, CheckpointEnded, Broke}
 use Rattle.pm_chain.specs.Chain.{IsAmong, kept_of, redos_of}
 use Rattle.pm_chain.specs.Steps.{IsRunOf}
-use Rattle.pm_once.specs.AuxiliaryRuns.{CloseNotes, GoesThrough, IsRunAs, StartNotes, checkpointer_run, idle_run, startup_run}
+use Rattle.pm_once.specs.AuxiliaryRuns.{CloseNotes, GoesThrough, Heard, IsRunAs, StartNotes, checkpointer_run, idle_run, startup_or, startup_run}
+use Rattle.pm_once.specs.Calls.{ComesTo}
 use Rattle.pm_once.specs.declared.checkpointer.Closed.{Closed}
 use Rattle.pm_once.specs.declared.checkpointer.Closed.TheVariants.{Made, Crashed, Full, Short}
 use Rattle.pm_once.specs.declared.end.StartWhy.{StartWhy}
 use Rattle.pm_once.specs.declared.end.StartWhy.TheVariants.{Redo}
+use Rattle.pm_once.specs.declared.outcome.Outcome.{Outcome}
+use Rattle.pm_once.specs.declared.outcome.Outcome.TheVariants as outcomes
 
 went_through : (pid generation : ℕ) (why : Option StartWhy) (noted : List BookEntry) → GoesThrough pid generation noted → IsRunOf (startup_run pid generation (Err why) noted)
 went_through pid generation why noted is = record {
@@ -64,6 +67,20 @@ idle_is_run pid generation k status (inr is) =
     subst (λ (x : Kind). IsRunOf (idle_run pid generation x status)) (sym is) (record { use_of_store = inl (record { noted = refl; inactive = refl }); redo = refl })
 
 -- it was told to
-pub quit_is_told : (pid generation : ℕ) (k : Kind) → (k ≡ kind.Checkpointer) ⊎ (k ≡ kind.Writer) → IsRunAs k (idle_run pid generation k (Code 2))
-quit_is_told pid generation k (inl is) = subst (λ (x : Kind). IsRunAs x (idle_run pid generation x (Code 2))) (sym is) (inl refl)
-quit_is_told pid generation k (inr is) = subst (λ (x : Kind). IsRunAs x (idle_run pid generation x (Code 2))) (sym is) (inr refl)
+pub quit_is_told : (heard : Heard) (pid generation : ℕ) (k : Kind) → heard.quit ≡ true → (k ≡ kind.Checkpointer) ⊎ (k ≡ kind.Writer) → IsRunAs heard k (idle_run pid generation k (Code 2))
+quit_is_told heard pid generation k told (inl is) = subst (λ (x : Kind). IsRunAs heard x (idle_run pid generation x (Code 2))) (sym is) (inl (told, refl))
+quit_is_told heard pid generation k told (inr is) = subst (λ (x : Kind). IsRunAs heard x (idle_run pid generation x (Code 2))) (sym is) (inl (told, refl))
+
+-- and leaves the last outcome
+pub idle_comes : (pid generation : ℕ) (k : Kind) (status : Status) (before : Option Outcome) → (k ≡ kind.Checkpointer) ⊎ (k ≡ kind.Writer) → ComesTo (idle_run pid generation k status) before before
+idle_comes pid generation k status None is = tt
+idle_comes pid generation k status (Some (outcomes.Closed closed)) is = tt
+idle_comes pid generation k status (Some (outcomes.Refused why)) (inl is) = inr (refl, λ last. ap (λ (x : Kind). startup_or last x (idle_run pid generation k status)) is)
+idle_comes pid generation k status (Some (outcomes.Refused why)) (inr is) = inr (refl, λ last. ap (λ (x : Kind). startup_or last x (idle_run pid generation k status)) is)
+
+-- a startup child that wasn't to read the log says why
+pub refused_comes : (pid generation : ℕ) (why : Option StartWhy) (noted : List BookEntry) (before now : Option Outcome) → now ≡ option_map outcomes.Refused why → StartNotes pid generation (Err why) noted
+    → ComesTo (startup_run pid generation (Err why) noted) before now
+refused_comes pid generation None noted before now is notes = subst (λ (o : Option Outcome). ComesTo (startup_run pid generation (Err None) noted) before o) (sym is) tt
+refused_comes pid generation (Some why) noted before now is notes =
+    subst (λ (o : Option Outcome). ComesTo (startup_run pid generation (Err (Some why)) noted) before o) (sym is) (inl (notes, refl))

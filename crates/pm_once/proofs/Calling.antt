@@ -1,15 +1,16 @@
 -- The calls of the supervisor, and their entries.
 use Rattle.std.proofs.Common.{◌≡◌, ◌⊎◌, inl, inr, ℕ, ◌+◌, ◌<◌, ◌≤◌, List, [], ◌∷◌, ◌++◌, Option, None, Some, Ok, refl, sym, ◌∙◌, ap, subst, arith, append-nil, length-append}
-use Rattle.std.specs.Prelude.{Bool, true, false, max, nat_le, IfSome}
+use Rattle.std.specs.Prelude.{Bool, true, false, is_some, max, nat_le, IfSome}
 use Rattle.std.specs.List.{last_or}
 use Rattle.std.proofs.lemmas.Bool.Decides.{nat_tests}
-use Rattle.std.proofs.lemmas.List.Elements.{All-nil, All-cons, All-push}
+use Rattle.std.proofs.lemmas.List.Elements.{All-push}
 use Rattle.pm_exit.specs.declared.child.Kind.{Kind}
 use Rattle.pm_exit.specs.declared.child.Kind.TheVariants as kind
 use Rattle.pm_modes.specs.declared.Mode.{Mode}
 use Rattle.pm_modes.specs.declared.Mode.TheVariants.{Smart}
 use Rattle.pm_modes.specs.Strength.{strengthen_of}
 use Rattle.pm_state.specs.Requests.{asked_with}
+use Rattle.pm_state.specs.TurnRules.{turned_of}
 use Rattle.pm_supervisor.specs.Children.{one_if}
 use Rattle.pm_state.specs.declared.event.PmEvent.{PmEvent}
 use Rattle.pm_state.specs.declared.event.PmEvent.TheVariants as entry
@@ -25,13 +26,14 @@ use Rattle.pm_once.specs.Log.{HasSaid}
 use Rattle.pm_once.specs.declared.auxiliaries.Auxiliaries.{Auxiliaries}
 use Rattle.pm_once.specs.View.{View}
 use Rattle.pm_once.proofs.Acting.{notes_follow}
+use Rattle.pm_once.proofs.Causing.{caused_entry}
 use Rattle.pm_once.proofs.Entries.{asked_in-append}
 use Rattle.pm_once.proofs.Going.{adds_none, serves_nothing}
 use Rattle.pm_once.proofs.Nexts.{told_more}
-use Rattle.pm_once.proofs.Ours.{ask_says, says_ours, turn_ours}
+use Rattle.pm_once.proofs.Ours.{ask_says, says_ours, turn_rule}
+use Rattle.pm_once.proofs.Undisturbed.{asked_disturbed, asked_stands, goes_on_so, turned_disturbed}
 use Rattle.pm_once.proofs.Saying.{said_same}
 use Rattle.pm_once.proofs.Spans.{spans_none}
-use Rattle.pm_once.specs.AuxiliaryRuns.{IsToldRun}
 use Rattle.pm_once.proofs.OurEnds.{ends_append}
 use Rattle.pm_segment.specs.MovesLaws.{moves_none}
 
@@ -112,8 +114,10 @@ asked goes work gives at before w given rests due standing told =
               asks = subst (λ (t : Standing). AsksAsDue (asked_in (journal_of (earlier ++ Notes e ∷ []))) false t) (sym standing)
                   (subst (λ (l : List Mode). AsksAsDue l false (made (asking Smart at s) s)) (sym (ap asked_in (sym j) ∙ asked_in-append (journal_of earlier) (e ∷ [])))
                   (asks_more (asked_in (journal_of earlier)) before.listens s (made (asking Smart at s) s) due refl refl is.asks));
-              acts = subst (AreOurs outset.limits) (sym (ap (λ (t : Standing). t.due) standing)) (says_ours outset.limits (asked_with (strengthen_of s.machine.shutdown Smart) s.machine (later at s)).acts (ask_says s.machine (later at s)));
+              acts = subst (AreOurs outset.limits (is_some w.standing.machine.shutdown)) (sym (ap (λ (t : Standing). t.due) standing)) (says_ours outset.limits (is_some w.standing.machine.shutdown) (asked_with (strengthen_of s.machine.shutdown Smart) s.machine (later at s)).acts (ask_says s.machine (later at s)));
               ends = subst (AreOurEnds outset.limits) j (ends_append outset.limits (journal_of earlier) (e ∷ []) is.ends tt);
+              causes = caused_entry earlier e before.auxiliaries before.auxiliaries before.outcome before.outcome refl (inl refl) is.causes;
+              disturbed = asked_disturbed outset.faults earlier Smart (later at s) before (deaf before w) refl (ap (λ (t : Standing). is_some t.machine.shutdown) standing ∙ asked_stands s.machine (later at s)) is.disturbed;
             };
         journal = told;
         times = record {
@@ -121,7 +125,6 @@ asked goes work gives at before w given rests due standing told =
           last = subst (λ (t : Standing). (t.moment ≡ s.moment) ⊎ gives t.moment) (sym standing) (as_last gives s.moment (later at s) moment);
         };
         store = spans_none before.store;
-        runs = All-cons IsToldRun (Notes e) [] tt (All-nil IsToldRun);
         still = λ none. refl;
         unread = λ none. (moves_none before.store).unread;
         knows = λ from known. record { counted = known.counted; come = known.come };
@@ -147,6 +150,7 @@ turned goes work journal gives before w idle standing told =
         at = λ outset earlier is opened.
             let stood = work.turns outset.limits (journal_of earlier) s is.past is.stands idle.rests idle.unowed in
             let holds = journal.holds outset.limits (Some (journal_of earlier)) s is.past is.stands idle.rests.none_due in
+            let rule = turn_rule outset.limits (is_some s.machine.shutdown) s.machine (holds.facts.same_limits, refl) in
             subst (λ (l : List Step). IsAt outset l (record before { work = w })) (sym (append-nil earlier)) (record {
               past = behind s.machine turning.call is.past;
               stands = subst (λ (t : Standing). Stands outset.limits (Some (journal_of earlier)) t (behind s.machine turning.call is.past)) (sym standing) stood;
@@ -156,13 +160,16 @@ turned goes work journal gives before w idle standing told =
               said = is.said;
               auxiliaries = subst (λ (t : Standing). AreThere before.auxiliaries t) (sym standing) (auxiliaries_still before.auxiliaries s (made turning s) refl refl is.auxiliaries);
               asks = subst (λ (t : Standing). AsksAsDue (asked_in (journal_of earlier)) before.listens t) (sym standing) (record { smart = is.asks.smart; few = is.asks.few });
-              acts = subst (AreOurs outset.limits) (sym (ap (λ (t : Standing). t.due) standing)) (turn_ours outset.limits s.machine holds.facts.same_limits);
+              acts = subst (AreOurs outset.limits (is_some w.standing.machine.shutdown)) (sym (ap (λ (t : Standing). t.due) standing))
+                  (subst (λ (b : Bool). AreOurs outset.limits b (turned_of s.machine).acts) (sym (ap (λ (t : Standing). is_some t.machine.shutdown) standing ∙ ap is_some rule.shutdown_is)) rule.acts);
               ends = is.ends;
+              causes = is.causes;
+              disturbed = turned_disturbed outset.faults earlier before (record before { work = w }) refl refl (goes_on_so s outset.limits (journal_of earlier) is.past is.stands idle.rests)
+                  (ap (λ (t : Standing). t.machine) standing) (ap (λ (t : Standing). t.due) standing) rule.shutdown_is is.disturbed;
             });
         journal = subst (λ (t : Option (List PmEvent)). Adds [] before.work.told t) (sym told) (adds_none before.work.told);
         times = record { each = tt; last = inl (ap (λ (t : Standing). t.moment) standing) };
         store = spans_none before.store;
-        runs = All-nil IsToldRun;
         still = λ none. refl;
         unread = λ none. (moves_none before.store).unread;
         knows = λ from known. record { counted = known.counted; come = known.come };

@@ -1,6 +1,6 @@
 -- A child has run: its end is noted, or memory is short for that. And a connection is accepted.
 use Rattle.std.proofs.Common.{◌≡◌, ◌⊎◌, inl, ℕ, ◌+◌, ◌≤◌, List, [], ◌∷◌, ◌++◌, length, Option, None, Some, refl, sym, ◌∙◌, ap, subst, arith, append-nil, eq-eqb}
-use Rattle.std.specs.Prelude.{Bool, true, false, ◌==◌, if◌then◌else◌, IfSome, unwrap_or}
+use Rattle.std.specs.Prelude.{Bool, true, false, ◌==◌, if◌then◌else◌, is_some, IfSome, unwrap_or}
 use Rattle.std.specs.List.{last_or}
 use Rattle.std.proofs.lemmas.Bool.Decides.{nat_tests}
 use Rattle.pm_exit.specs.declared.child.Kind.{Kind}
@@ -13,6 +13,7 @@ use Rattle.pm_supervisor.specs.Steps.{kind_for}
 use Rattle.pm_state.specs.declared.event.PmEvent.{PmEvent}
 use Rattle.pm_state.specs.declared.event.PmEvent.TheVariants as entry
 use Rattle.pm_state.specs.Journal.{acts_of_call}
+use Rattle.pm_state.specs.Shows.{machine_after}
 use Rattle.pm_query.specs.declared.book.BookEntry.{BookEntry}
 use Rattle.pm_segment.specs.Children.{times_in}
 use Rattle.pm_segment.specs.Moves.{Moves}
@@ -24,23 +25,24 @@ use Rattle.pm_journal.specs.Roll.{kind_in, without}
 use Rattle.pm_journal.specs.declared.exit.ChildExit.{ChildExit}
 use Rattle.pm_journal.specs.Standing.{Adds, IsAtRest, MayTake, Standing, accepting, all_noted, called, decision_on, exit_call, exit_entry, exiting, later, made, next_pid, ends_redo}
 use Rattle.pm_journal.specs.Stands.{AtWork, IsSettled, Stands, behind}
-use Rattle.pm_once.specs.Calls.{HasRun, NotesExit, NotesNoExit, exit_of}
+use Rattle.pm_once.specs.Calls.{ComesTo, HasRun, NotesExit, NotesNoExit, exit_of}
 use Rattle.pm_once.specs.Goes.{AreOurEnds, AreOurs, AsksAsDue, Goes, IsFree, IsIdle, IsMoment, IsRunning, Spans, StaysOpen, asked_in, is_last_drawn}
-use Rattle.pm_once.specs.Auxiliaries.{AreThere, IsPresent}
+use Rattle.pm_once.specs.Auxiliaries.{AreThere, HasLess, IsPresent, heard_of}
+use Rattle.pm_once.specs.declared.outcome.Outcome.{Outcome}
 use Rattle.pm_once.specs.Log.{HasSaid, LogView}
 use Rattle.pm_once.specs.View.{View}
 use Rattle.pm_once.specs.declared.auxiliaries.Auxiliaries.{Auxiliaries}
 use Rattle.pm_once.proofs.Acting.{asks_drawn, notes_follow, run_follows, runs_on_follows}
 use Rattle.pm_once.proofs.Calling.{as_last, later_moment}
+use Rattle.pm_once.proofs.Causing.{caused_entry, caused_on, caused_run}
 use Rattle.pm_once.proofs.Entries.{asked_in-append}
 use Rattle.pm_once.proofs.Going.{adds_none}
 use Rattle.pm_once.proofs.Nexts.{told_more}
 use Rattle.pm_once.proofs.Ours.{exit_ours}
-use Rattle.pm_once.proofs.Running.{exit_entries, auxiliaries_without, lost_more, more_inside, no_asks, no_lines, run_inside, there_in}
+use Rattle.pm_once.proofs.Running.{exit_entries, auxiliaries_without, lost_more, more_inside, no_asks, no_lines, off_startup, run_inside, there_in}
 use Rattle.pm_once.proofs.Saying.{said_same}
 use Rattle.pm_once.proofs.Spans.{spans_moves, spans_none}
-use Rattle.pm_once.specs.AuxiliaryRuns.{IsToldRun}
-use Rattle.std.proofs.lemmas.List.Elements.{All-nil, All-cons}
+use Rattle.pm_once.proofs.Undisturbed.{GoesOnDisk, goes_on_so, ran_disturbed, ran_on_disturbed, taken_disturbed}
 use Rattle.pm_once.proofs.Knowing.{known_still}
 use Rattle.pm_once.proofs.OurEnds.{ends_append, exit_ends}
 
@@ -52,12 +54,13 @@ record HasExited (exit : ChildExit) (at : ℕ) (s t : Standing) : Type 0 where
   owes : t.owes_smart ≡ s.owes_smart
   moment : t.moment ≡ later at s
   due : t.due ≡ acts_of_call s.machine (exit_call exit (later at s))
+  machine : t.machine ≡ machine_after s.machine (exit_call exit (later at s))
   ended : t.ended ≡ s.ended
 
 exited_so : (b : Bool) (kept : ℕ) (exit : ChildExit) (at : ℕ) (s : Standing)
     → HasExited exit at s (all_noted (exit_entry exit (later at s) ∷ (if b then entry.RedoEnded s.generation kept ∷ [] else [])) (called (exit_call exit (later at s)) s))
-exited_so true kept exit at s = record { children = refl; last_pid = refl; generation = refl; owes = refl; moment = refl; due = refl; ended = refl }
-exited_so false kept exit at s = record { children = refl; last_pid = refl; generation = refl; owes = refl; moment = refl; due = refl; ended = refl }
+exited_so true kept exit at s = record { children = refl; last_pid = refl; generation = refl; owes = refl; moment = refl; due = refl; machine = refl; ended = refl }
+exited_so false kept exit at s = record { children = refl; last_pid = refl; generation = refl; owes = refl; moment = refl; due = refl; machine = refl; ended = refl }
 
 -- the end of a child is noted
 pub record IsNoted (gives : ℕ → Type 0) (run : ChildRun) (at : ℕ) (before now : View) : Type 0 where
@@ -86,9 +89,15 @@ times_of : (gives : ℕ → Type 0) (before at p : ℕ) (k : Kind) (st : Status)
 times_of gives before at p k st a None g moment = (moment, tt)
 times_of gives before at p k st a (Some n) g moment = (moment, (tt, tt))
 
+moved_on : (from : ℕ) (run : ChildRun) (before now : View) → Moves run.noted before.store now.store → GoesOnDisk from before now
+moved_on from run before now moves = record { later = moves.later; counts = λ counted. (moves.counts from counted).counted }
+
+came_on : (run : ChildRun) (before mid now : Option Outcome) → now ≡ mid → ComesTo run before mid → ComesTo run before now
+came_on run before mid now same came = subst (λ (o : Option Outcome). ComesTo run before o) (sym same) came
+
 pub ran_noted : StepsGoOn → GoesOnOverItsJournal → KeepsALegalJournal → (gives : ℕ → Type 0) (run : ChildRun) (at : ℕ) (before mid now : View) → IsRunning before → IsIdle before.work.standing
-    → HasRun run before mid → NotesExit gives (exit_of run) at mid now → IsNoted gives run at before now
-ran_noted goes work legal gives run at before mid now running idle ran noted =
+    → (run.kind ≡ kind.Startup → before.auxiliaries.startup ≡ None → ⊥) → HasRun run before mid → NotesExit gives (exit_of run) at mid now → IsNoted gives run at before now
+ran_noted goes work legal gives run at before mid now running idle had ran noted =
     let s = before.work.standing in
     let exit = exit_of run in
     let when : ℕ = later at s in
@@ -128,9 +137,18 @@ ran_noted goes work legal gives run at before mid now running idle ran noted =
                   (subst (λ (l : List Mode). AsksAsDue l before.listens (made (exiting exit at s) s))
                   (sym (ap asked_in (sym j) ∙ asked_in-append (journal_of earlier) (journal_by step) ∙ ap (λ (l : List Mode). asked_in (journal_of earlier) ++ l) (no_asks run.kept run.generation) ∙ append-nil (asked_in (journal_of earlier))))
                   (same_owes (asked_in (journal_of earlier)) before.listens s (made (exiting exit at s) s) left.last_pid left.owes is.asks)));
-              acts = subst (AreOurs outset.limits) (sym (ap (λ (t : Standing). t.due) standing ∙ left.due)) (exit_ours outset.limits run.kind s.machine _ run.was_active);
+              acts = subst (AreOurs outset.limits (is_some now.work.standing.machine.shutdown)) (sym (ap (λ (t : Standing). t.due) standing ∙ left.due)) (exit_ours outset.limits (is_some now.work.standing.machine.shutdown) run.kind s.machine _ run.was_active);
               ends = subst (AreOurEnds outset.limits) j (ends_append outset.limits (journal_of earlier) (journal_by step) is.ends
                   (exit_ends outset.limits run.pid run.kind run.status run.was_active when run.generation run.kept));
+              causes = caused_run earlier run when before.auxiliaries now.auxiliaries before.outcome now.outcome ran.told (ap heard_of noted.auxiliaries ∙ ran.less.heard) (came_on run before.outcome mid.outcome now.outcome noted.outcome ran.came) is.causes;
+              disturbed = ran_disturbed outset.faults earlier run when when before mid now (moved_on outset.faults run before now store) noted.store.moves.later (record {
+                told = ran.told;
+                less = ran.less;
+                had = had;
+                off = λ its. off_startup run.kind mid.auxiliaries ran.off (sym its);
+                sound = ran.sound outset.faults is.disturbed.counted;
+                goes_on = goes_on_so s outset.limits (journal_of earlier) is.past is.stands idle.rests;
+              }) noted.auxiliaries (ap (λ (t : Standing). t.machine) standing ∙ left.machine) (ap (λ (t : Standing). t.due) standing ∙ left.due) is.disturbed;
             };
         journal = subst (λ (l : List PmEvent). Adds l before.work.told now.work.told) (sym (append-nil (journal_by step))) told;
         times = record {
@@ -138,7 +156,6 @@ ran_noted goes work legal gives run at before mid now running idle ran noted =
           last = subst (λ (t : Standing). (t.moment ≡ s.moment) ⊎ gives t.moment) (sym standing) (subst (λ (n : ℕ). (n ≡ s.moment) ⊎ gives n) (sym left.moment) (as_last gives s.moment when moment));
         };
         store = subst (λ (l : List BookEntry). Spans l before.store now.store) (sym (append-nil run.noted)) (spans_moves run.noted before.store now.store store);
-        runs = All-cons IsToldRun step [] ran.told (All-nil IsToldRun);
         still = λ none. store.generation;
         unread = λ none. store.unread;
         knows = λ from known. known_still from mid now noted.outcome noted.store (ran.knows from known);
@@ -185,13 +202,15 @@ ran_on goes legal gives run before mid now running rests ran noted =
             auxiliaries = subst (λ (t : Standing). AreThere now.auxiliaries t) (sym standing) (subst (λ (h : Auxiliaries). AreThere h s) (sym noted.auxiliaries) (ran.auxiliaries s is.auxiliaries));
             asks = subst (λ (t : Standing). AsksAsDue (asked_in (journal_of (earlier ++ step ∷ []))) now.listens t) (sym standing)
                 (subst (λ (b : Bool). AsksAsDue (asked_in (journal_of (earlier ++ step ∷ []))) b s) (sym listens) (subst (λ (l : List PmEvent). AsksAsDue (asked_in l) before.listens s) j is.asks));
-            acts = subst (λ (t : Standing). AreOurs outset.limits t.due) (sym standing) is.acts;
+            acts = subst (λ (t : Standing). AreOurs outset.limits (is_some t.machine.shutdown) t.due) (sym standing) is.acts;
             ends = subst (AreOurEnds outset.limits) j is.ends;
+            causes = caused_on earlier run before.auxiliaries now.auxiliaries before.outcome now.outcome ran.told (ap heard_of noted.auxiliaries ∙ ran.less.heard) (came_on run before.outcome mid.outcome now.outcome noted.outcome ran.came) is.causes;
+            disturbed = ran_on_disturbed outset.faults earlier run before now (moved_on outset.faults run before now store) standing
+                (subst (λ (h : Auxiliaries). HasLess before.auxiliaries h) (sym noted.auxiliaries) ran.less) is.disturbed;
           };
       journal = subst (λ (t : Option (List PmEvent)). Adds [] before.work.told t) (sym told) (adds_none before.work.told);
       times = record { each = tt; last = inl (ap (λ (t : Standing). t.moment) standing) };
       store = subst (λ (l : List BookEntry). Spans l before.store now.store) (sym (append-nil run.noted)) (spans_moves run.noted before.store now.store store);
-      runs = All-cons IsToldRun step [] ran.told (All-nil IsToldRun);
       still = λ none. store.generation;
       unread = λ none. store.unread;
       knows = λ from known. known_still from mid now noted.outcome noted.store (ran.knows from known);
@@ -242,13 +261,14 @@ taken goes work gives before w rests settled may standing told =
               asks = subst (λ (t : Standing). AsksAsDue (asked_in (journal_of (earlier ++ Notes e ∷ []))) before.listens t) (sym standing)
                   (subst (λ (l : List Mode). AsksAsDue l before.listens (made (accepting s) s)) (sym (ap asked_in (sym j) ∙ asked_in-append (journal_of earlier) (e ∷ []) ∙ append-nil (asked_in (journal_of earlier))))
                   (asks_drawn (asked_in (journal_of earlier)) before.listens s (made (accepting s) s) refl refl is.asks));
-              acts = subst (λ (t : Standing). AreOurs outset.limits t.due) (sym standing) tt;
+              acts = subst (λ (t : Standing). AreOurs outset.limits (is_some t.machine.shutdown) t.due) (sym standing) tt;
               ends = subst (AreOurEnds outset.limits) j (ends_append outset.limits (journal_of earlier) (e ∷ []) is.ends tt);
+              causes = caused_entry earlier e before.auxiliaries before.auxiliaries before.outcome before.outcome refl (inl refl) is.causes;
+              disturbed = taken_disturbed outset.faults earlier (next_pid s) (decision_on s) before (record before { work = w }) refl refl (ap (λ (t : Standing). t.machine) standing) (ap (λ (t : Standing). t.due) standing) is.disturbed;
             };
         journal = told;
         times = record { each = (tt, tt); last = inl (ap (λ (t : Standing). t.moment) standing) };
         store = spans_none before.store;
-        runs = All-cons IsToldRun (Notes e) [] tt (All-nil IsToldRun);
         still = λ none. refl;
         unread = λ none. (moves_none before.store).unread;
         knows = λ from known. record { counted = known.counted; come = known.come };

@@ -21,8 +21,7 @@ use Rattle.pm_once.proofs.Nexts.{same_work}
 use Rattle.pm_once.proofs.Entries.{times_none}
 use Rattle.pm_once.proofs.Ours.{ask_says}
 use Rattle.pm_once.proofs.Spans.{spans_none}
-use Rattle.pm_once.specs.AuxiliaryRuns.{IsToldRun}
-use Rattle.std.proofs.lemmas.List.Elements.{All-nil}
+use Rattle.pm_once.proofs.Undisturbed.{disturbed_on, less_follows, still_less}
 use Rattle.pm_segment.specs.MovesLaws.{moves_none}
 
 never_err : {E : Type 0} (e : E) (r : Result (Unit {0}) E) → r ≡ Err e → IsOk r → ⊥
@@ -60,6 +59,7 @@ asks_ok goes work gives at before w result steps now given rests due standing to
       ] (fine says) acts.none_due acts.ended;
       drawn = λ drawn. acts.keeps.drawn (subst (λ (n : ℕ). is_last_drawn n ≡ true) (sym same_pid) drawn);
       deaf = acts.listens;
+      asked = inl (omega arith);
       short = elim result as (λ r. IsOk r → IfErr r (λ end. end ≡ NoMemory)) [ Ok done ↦ λ ok. tt | Err end ↦ λ ok. absurd (never_err end (Err end) refl ok) ] (fine says);
     }
 
@@ -84,11 +84,13 @@ asks_err gives before w rests standing told =
             asks = fewer_asks (asked_in (journal_of earlier)) before.listens before.work.standing is.asks;
             acts = is.acts;
             ends = is.ends;
+            causes = is.causes;
+            disturbed = disturbed_on outset.faults earlier earlier before (deaf before before.work) (record { later = omega arith; counts = λ counted. counted }) (λ off. off)
+                (less_follows before (deaf before before.work) refl (still_less before.auxiliaries)) is.disturbed;
           });
           journal = adds_none before.work.told;
           times = times_none gives before.work.standing.moment;
           store = spans_none before.store;
-          runs = All-nil IsToldRun;
           still = λ none. refl;
           unread = λ none. (moves_none before.store).unread;
           knows = λ from known. record { counted = known.counted; come = known.come };
@@ -104,6 +106,7 @@ asks_err gives before w rests standing told =
       drawn = λ drawn. drawn;
       deaf = refl;
       short = refl;
+      asked = inr refl;
     })
 
 -- ---- all that is due

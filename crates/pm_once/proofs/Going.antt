@@ -2,7 +2,6 @@
 use Rattle.std.proofs.Common.{◌≡◌, ℕ, List, [], ◌∷◌, ◌++◌, Option, None, Some, Result, Ok, Err, option_map, refl, sym, ◌∙◌, ap, subst, append_assoc, append-nil}
 use Rattle.std.specs.Prelude.{OnOk, IfErr}
 use Rattle.std.specs.List.{AllByRecursion}
-use Rattle.std.proofs.lemmas.List.Elements.{All-nil, All-append}
 use Rattle.std.proofs.lemmas.Grind.{flat_map-append}
 use Rattle.pm_state.specs.declared.event.PmEvent.{PmEvent}
 use Rattle.pm_query.specs.declared.book.BookEntry.{BookEntry}
@@ -10,7 +9,6 @@ use Rattle.pm_chain.specs.Steps.{ChildRun, Step, Notes, book_by, book_of, journa
 use Rattle.pm_journal.specs.Standing.{Adds}
 use Rattle.pm_journal.specs.declared.supervision.Taken.{Taken}
 use Rattle.pm_segment.specs.MovesLaws.{moves_none, unread_on}
-use Rattle.pm_once.specs.AuxiliaryRuns.{IsToldRun}
 use Rattle.pm_once.specs.Goes.{Does, EndsWith, Goes, IsAt, IsEndOf, IsNoRenewal, IsOpen, ServesNone, Spans, StaysOpen, Times, accepted_in, session_by, sessions_in}
 use Rattle.pm_once.specs.View.{View}
 use Rattle.pm_once.specs.declared.end.ServerEnd.{ServerEnd}
@@ -52,7 +50,6 @@ goes_none gives v = record {
   journal = adds_none v.work.told;
   times = times_none gives v.work.standing.moment;
   store = spans_none v.store;
-  runs = All-nil IsToldRun;
   still = λ none. refl;
   unread = λ none. (moves_none v.store).unread;
   knows = λ from known. known;
@@ -67,7 +64,6 @@ goes_on gives one two a b c first stays second = record {
   journal = subst (λ (j : List PmEvent). Adds j a.work.told c.work.told) (sym (journal-append one two)) (adds_both (journal_of one) (journal_of two) _ _ _ first.journal second.journal);
   times = subst (λ (j : List PmEvent). Times gives a.work.standing.moment j c.work.standing.moment) (sym (journal-append one two)) (times_on gives (journal_of one) (journal_of two) _ _ _ first.times second.times);
   store = subst (λ (l : List BookEntry). Spans l a.store c.store) (sym (book-append one two)) (spans_on (book_of one) (book_of two) a.store b.store c.store first.store second.store);
-  runs = All-append IsToldRun one two first.runs second.runs;
   still = λ none. let parts = each_part IsNoRenewal one two none in second.still parts.1 ∙ first.still parts.0;
   unread = λ none. let parts = each_part IsNoRenewal one two none in unread_on a.store b.store c.store first.store.later second.store.later (first.unread parts.0) (second.unread parts.1);
   knows = λ from known. second.knows from (first.knows from known);
@@ -82,7 +78,6 @@ goes_any gives steps a b goes = record {
   journal = goes.journal;
   times = times_any gives (journal_of steps) _ _ goes.times;
   store = goes.store;
-  runs = goes.runs;
   still = goes.still;
   unread = goes.unread;
   knows = goes.knows;

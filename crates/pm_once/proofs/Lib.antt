@@ -5,6 +5,7 @@ pub mod AuxiliaryNotes
 pub mod AuxiliaryRuns
 pub mod Alls
 pub mod Calling
+pub mod Causing
 pub mod Ending
 pub mod Entries
 pub mod Finishing
@@ -17,11 +18,13 @@ pub mod OurEnds
 pub mod Past
 pub mod Running
 pub mod Saying
-pub mod Sending
+pub mod SessionEnds
 pub mod SessionRuns
 pub mod Serving
 pub mod Sessions
 pub mod Spans
 pub mod Stories
 pub mod Turns
+pub mod Undisturbed
+pub mod Unredone
 pub mod Whole

@@ -1,9 +1,8 @@
 -- The next act that is due is done.
-use Rattle.std.proofs.Common.{◌≡◌, inl, inr, ℕ, ◌+◌, nat_eq, cond, List, [], ◌∷◌, ◌++◌, length, Option, None, Some, Result, Ok, Err, refl, sym, ◌∙◌, ap, subst, arith, append_assoc, append-nil}
-use Rattle.std.specs.Prelude.{◌&&◌, nat_lt, Bool, true, false, ◌||◌, map, IfSome, IfErr, OnOk}
+use Rattle.std.proofs.Common.{◌≡◌, ◌⊎◌, inl, inr, ℕ, ◌+◌, nat_eq, cond, List, [], ◌∷◌, ◌++◌, length, Option, None, Some, Result, Ok, Err, refl, sym, ◌∙◌, ap, subst, arith, append_assoc, append-nil}
+use Rattle.std.specs.Prelude.{◌&&◌, nat_lt, is_some, Bool, true, false, ◌||◌, map, IfSome, IfErr, OnOk}
 use Rattle.std.specs.List.{last_or}
 use Rattle.std.proofs.lemmas.Bool.Decides.{nat_tests}
-use Rattle.std.proofs.lemmas.List.Elements.{All-nil, All-cons}
 use Rattle.std.proofs.lemmas.List.Sums.{sum_by-cons}
 use Rattle.pm_state.specs.declared.action.Action.{Action}
 use Rattle.pm_state.specs.declared.action.Action.TheVariants as act
@@ -28,11 +27,10 @@ use Rattle.pm_journal.specs.declared.act.Act.TheVariants as given
 use Rattle.pm_journal.specs.declared.act.GenerationsSpent.{GenerationsSpent}
 use Rattle.pm_journal.specs.Standing.{Adds, Next, Standing, act_for, done, entry_for, first_due, is_spent, next_in, next_of}
 use Rattle.pm_journal.specs.Stands.{AtWork, IsSettled, Stands}
-use Rattle.pm_once.specs.Calls.{AreSays, DoesNext, AuxiliariesBehind, HasRenewed, Keeps, LogBehind, Performs, Stays, end_by, end_in, outcome}
-use Rattle.pm_once.specs.AuxiliaryRuns.{IsToldRun}
+use Rattle.pm_once.specs.Calls.{AreSays, DoesNext, HasRenewed, Keeps, LogBehind, Performs, Stays, end_by, end_in, outcome}
 use Rattle.pm_once.specs.Knows.{HasComeTo, Knows}
 use Rattle.pm_once.specs.Goes.{AreOurEnds, AreOurs, AsksAsDue, Does, Goes, IsAt, IsEndOf, IsFree, IsMoment, IsOpen, IsRunning, Outset, Spans, StaysOpen, asked_in, is_last_drawn}
-use Rattle.pm_once.specs.Auxiliaries.{AreThere, IsPresent}
+use Rattle.pm_once.specs.Auxiliaries.{AreThere, IsPresent, auxiliaries_after, heard_of}
 use Rattle.pm_once.specs.Log.{HasSaid}
 use Rattle.pm_once.specs.View.{View}
 use Rattle.pm_once.specs.declared.end.ServerEnd.{ServerEnd}
@@ -41,12 +39,14 @@ use Rattle.pm_once.specs.declared.checkpointer.Closed.TheVariants.{Made, Crashed
 use Rattle.pm_once.specs.declared.outcome.Outcome.{Outcome}
 use Rattle.pm_once.specs.declared.outcome.Outcome.TheVariants.{Closed, Refused}
 use Rattle.pm_once.proofs.Acting.{asks_acted, drawn_kept, due_kept, first_is, auxiliary_kept, auxiliaries_acted, not_accepted, not_asked, notes_follow, ours_tail, stands_by_itself, unowed_kept}
+use Rattle.pm_once.proofs.Causing.{acted_heard, caused_entry, caused_renewal}
 use Rattle.pm_once.proofs.Entries.{asked_in-append}
 use Rattle.pm_once.proofs.Going.{goes_none, stays_none, serves_nothing}
 use Rattle.pm_once.proofs.Knowing.{known_still}
 use Rattle.pm_once.proofs.OurEnds.{act_ends, ends_append}
 use Rattle.pm_once.proofs.Saying.{said_acted}
 use Rattle.pm_once.proofs.Spans.{spans_moves, spans_renewal}
+use Rattle.pm_once.proofs.Undisturbed.{GoesOnDisk, acted_disturbed, renewed_disturbed, shutdown_done}
 
 -- ---- what `next` answers
 
@@ -98,6 +98,7 @@ next_none s answer = none_in s.due s refl answer
 
 pub record IsSpentNext (s : Standing) (n : Next) : Type 0 where
   pub generation : s.generation ≡ 4294967295
+  pub reset : first_due s.due ≡ Some act.Reset
   pub after : n.after ≡ s
   pub entries : n.entries ≡ []
 
@@ -112,42 +113,58 @@ spent_at act.Reset s spent = grind (arith, nat_tests)
 spent_at (act.Say line) s spent = absurd cc
 spent_at (act.End how) s spent = absurd cc
 
-spent_in : (due : List Action) (s : Standing) (e : GenerationsSpent) → (next_in due s).answer ≡ Err e → IsSpentNext s (next_in due s)
-spent_in [] s e answer = absurd cc
-spent_in (a ∷ rest) s e answer =
+spent_first : (a : Action) (s : Standing) → is_spent a s ≡ true → a ≡ act.Reset
+spent_first (act.Start k) s spent = absurd cc
+spent_first (act.Quit why) s spent = absurd cc
+spent_first act.Terminate s spent = absurd cc
+spent_first act.KillAll s spent = absurd cc
+spent_first act.AskCheckpoint s spent = absurd cc
+spent_first act.Ready s spent = absurd cc
+spent_first act.Reset s spent = refl
+spent_first (act.Say line) s spent = absurd cc
+spent_first (act.End how) s spent = absurd cc
+
+spent_in : (due : List Action) (s : Standing) (e : GenerationsSpent) → s.due ≡ due → (next_in due s).answer ≡ Err e → IsSpentNext s (next_in due s)
+spent_in [] s e is answer = absurd cc
+spent_in (a ∷ rest) s e is answer =
     elim (is_spent a s) as (λ (b : Bool). is_spent a s ≡ b → (next_in (a ∷ rest) s).answer ≡ Err e → IsSpentNext s (next_in (a ∷ rest) s)) [
       | true ↦ λ spent answer'.
-          let is : next_in (a ∷ rest) s ≡ record { answer = Err (record {}); entries = []; after = s } = rw spent refl in
-          record { generation = spent_at a s spent; after = ap (λ (n : Next). n.after) is; entries = ap (λ (n : Next). n.entries) is }
+          let next_is : next_in (a ∷ rest) s ≡ record { answer = Err (record {}); entries = []; after = s } = rw spent refl in
+          record {
+            generation = spent_at a s spent;
+            reset = ap first_due is ∙ ap (λ (x : Action). Some x) (spent_first a s spent);
+            after = ap (λ (n : Next). n.after) next_is;
+            entries = ap (λ (n : Next). n.entries) next_is;
+          }
       | false ↦ λ unspent answer'. absurd (let x : (next_in (a ∷ rest) s).answer ≡ Ok (Some (act_for a s)) = rw unspent refl in cc)
     ] refl answer
 
 pub next_spent : (s : Standing) (e : GenerationsSpent) → (next_of s).answer ≡ Err e → IsSpentNext s (next_of s)
-next_spent s e answer = spent_in s.due s e answer
+next_spent s e answer = spent_in s.due s e refl answer
 
 -- ---- its entry
 
-no_moment : (limits : Limits) (a : Action) (s : Standing) (rest : List Action) (P : ℕ → Type 0) → AreOurs limits (a ∷ rest) → AreGiven P (entry_for a s ∷ [])
-no_moment limits (act.Start k) s rest P ours = (tt, tt)
-no_moment limits (act.Quit why) s rest P ours = (tt, tt)
-no_moment limits act.Terminate s rest P ours = (tt, tt)
-no_moment limits act.KillAll s rest P ours = absurd ours
-no_moment limits act.AskCheckpoint s rest P ours = (tt, tt)
-no_moment limits act.Ready s rest P ours = (tt, tt)
-no_moment limits act.Reset s rest P ours = (tt, tt)
-no_moment limits (act.Say line) s rest P ours = (tt, tt)
-no_moment limits (act.End how) s rest P ours = (tt, tt)
+no_moment : (limits : Limits) (asked : Bool) (a : Action) (s : Standing) (rest : List Action) (P : ℕ → Type 0) → AreOurs limits asked (a ∷ rest) → AreGiven P (entry_for a s ∷ [])
+no_moment limits asked (act.Start k) s rest P ours = (tt, tt)
+no_moment limits asked (act.Quit why) s rest P ours = (tt, tt)
+no_moment limits asked act.Terminate s rest P ours = (tt, tt)
+no_moment limits asked act.KillAll s rest P ours = absurd ours
+no_moment limits asked act.AskCheckpoint s rest P ours = (tt, tt)
+no_moment limits asked act.Ready s rest P ours = (tt, tt)
+no_moment limits asked act.Reset s rest P ours = (tt, tt)
+no_moment limits asked (act.Say line) s rest P ours = (tt, tt)
+no_moment limits asked (act.End how) s rest P ours = (tt, tt)
 
-moment_kept : (limits : Limits) (a : Action) (s : Standing) (rest : List Action) → AreOurs limits (a ∷ rest) → (done a s).moment ≡ s.moment
-moment_kept limits (act.Start k) s rest ours = refl
-moment_kept limits (act.Quit why) s rest ours = refl
-moment_kept limits act.Terminate s rest ours = refl
-moment_kept limits act.KillAll s rest ours = absurd ours
-moment_kept limits act.AskCheckpoint s rest ours = refl
-moment_kept limits act.Ready s rest ours = refl
-moment_kept limits act.Reset s rest ours = refl
-moment_kept limits (act.Say line) s rest ours = refl
-moment_kept limits (act.End how) s rest ours = refl
+moment_kept : (limits : Limits) (asked : Bool) (a : Action) (s : Standing) (rest : List Action) → AreOurs limits asked (a ∷ rest) → (done a s).moment ≡ s.moment
+moment_kept limits asked (act.Start k) s rest ours = refl
+moment_kept limits asked (act.Quit why) s rest ours = refl
+moment_kept limits asked act.Terminate s rest ours = refl
+moment_kept limits asked act.KillAll s rest ours = absurd ours
+moment_kept limits asked act.AskCheckpoint s rest ours = refl
+moment_kept limits asked act.Ready s rest ours = refl
+moment_kept limits asked act.Reset s rest ours = refl
+moment_kept limits asked (act.Say line) s rest ours = refl
+moment_kept limits asked (act.End how) s rest ours = refl
 
 pub told_more : (told now : Option (List PmEvent)) (journal more : List PmEvent) → IfSome told (λ es. es ≡ journal) → Adds more told now → IfSome now (λ es. es ≡ journal ++ more)
 told_more None now journal more is adds = subst (λ (t : Option (List PmEvent)). IfSome t (λ es. es ≡ journal ++ more)) (sym adds) tt
@@ -155,17 +172,19 @@ told_more (Some before) now journal more is adds = subst (λ (t : Option (List P
 
 -- the store goes on with no entry, and what is known of it stays
 pub record KeepsStore (before now : View) : Type 0 where
+  pub outcome : (now.outcome ≡ before.outcome) ⊎ (now.outcome ≡ None)
   pub lost : now.lost ≡ before.lost
   pub store : Moves [] before.store now.store
   pub knows : (from : ℕ) → Knows from before → Knows from now
 
 -- it is as it was
 pub same_store : (before now : View) → (now.outcome ≡ before.outcome) × (now.lost ≡ before.lost) × Stays before.store now.store → KeepsStore before now
-same_store before now same = record { lost = same.1; store = same.2.moves; knows = λ from known. known_still from before now same.0 same.2 known }
+same_store before now same = record { outcome = inl same.0; lost = same.1; store = same.2.moves; knows = λ from known. known_still from before now same.0 same.2 known }
 
 -- a renewal was refused
 pub kept_store : (before now : View) → (now.outcome ≡ None) × (now.lost ≡ before.lost) × Moves [] before.store now.store → KeepsStore before now
 kept_store before now kept = record {
+  outcome = inr kept.0;
   lost = kept.1;
   store = kept.2;
   knows = λ from known. record {
@@ -179,17 +198,22 @@ pub record IsActed (a : Action) (before now : View) : Type 0 where
   pub first : first_due before.work.standing.due ≡ Some a
   pub standing : now.work.standing ≡ done a before.work.standing
   pub told : Adds (entry_for a before.work.standing ∷ []) before.work.told now.work.told
-  pub auxiliaries : AuxiliariesBehind (act_for a before.work.standing) before.auxiliaries now.auxiliaries
+  pub auxiliaries : now.auxiliaries ≡ auxiliaries_after (act_for a before.work.standing) before.auxiliaries
   pub log : LogBehind (act_for a before.work.standing) before.log now.log
   pub listens : now.listens ≡ before.listens
 
+-- its disk has gone on
+moved_disk : (from : ℕ) (before now : View) → Moves [] before.store now.store → GoesOnDisk from before now
+moved_disk from before now moves = record { later = moves.later; counts = λ counted. (moves.counts from counted).counted }
+
 -- the steps behind the entry
-pub at_entry : StepsGoOn → GoesOnOverItsJournal → (a : Action) (before now : View) → IsActed a before now → now.lost ≡ before.lost
+pub at_entry : StepsGoOn → GoesOnOverItsJournal → (a : Action) (before now : View) → IsActed a before now → now.lost ≡ before.lost → (now.outcome ≡ before.outcome) ⊎ (now.outcome ≡ None) → ((from : ℕ) → GoesOnDisk from before now)
     → (outset : Outset) (earlier : List Step) → IsAt outset earlier before → IsOpen earlier before → IsAt outset (earlier ++ Notes (entry_for a before.work.standing) ∷ []) now
-at_entry goes work a before now acted lost outset earlier at opened =
+at_entry goes work a before now acted lost came disk outset earlier at opened =
     let s = before.work.standing in
     let e = entry_for a s in
     let j : journal_of earlier ++ e ∷ [] ≡ journal_of (earlier ++ Notes e ∷ []) = sym (goes.journal earlier (Notes e)) in
+    let ours : AreOurs outset.limits (is_some s.machine.shutdown) (a ∷ without_first s.due) = subst (AreOurs outset.limits (is_some s.machine.shutdown)) (first_is s.due a acted.first) at.acts in
     record {
       past = at.past;
       stands = subst (λ (t : Standing). Stands outset.limits (Some (journal_of (earlier ++ Notes e ∷ []))) t at.past) (sym acted.standing)
@@ -204,10 +228,13 @@ at_entry goes work a before now acted lost outset earlier at opened =
           (subst (λ (l : List _). AsksAsDue l before.listens (done a s))
           (sym (ap asked_in (sym j) ∙ asked_in-append (journal_of earlier) (e ∷ []) ∙ ap (λ l. asked_in (journal_of earlier) ++ l) (not_asked a s) ∙ append-nil (asked_in (journal_of earlier))))
           (asks_acted a s (asked_in (journal_of earlier)) before.listens at.asks)));
-      acts = subst (AreOurs outset.limits) (sym (ap (λ (t : Standing). t.due) acted.standing ∙ due_kept a s))
-          (ours_tail outset.limits a (without_first s.due) (subst (AreOurs outset.limits) (first_is s.due a acted.first) at.acts));
+      acts = subst (AreOurs outset.limits (is_some now.work.standing.machine.shutdown)) (sym (ap (λ (t : Standing). t.due) acted.standing ∙ due_kept a s))
+          (subst (λ (b : Bool). AreOurs outset.limits b (without_first s.due)) (sym (ap (λ (t : Standing). is_some t.machine.shutdown) acted.standing ∙ ap is_some (shutdown_done a s)))
+          (ours_tail outset.limits (is_some s.machine.shutdown) a (without_first s.due) ours));
       ends = subst (AreOurEnds outset.limits) j (ends_append outset.limits (journal_of earlier) (e ∷ []) at.ends
-          (act_ends outset.limits a s (without_first s.due) (subst (AreOurs outset.limits) (first_is s.due a acted.first) at.acts)));
+          (act_ends outset.limits (is_some s.machine.shutdown) a s (without_first s.due) ours));
+      causes = caused_entry earlier e before.auxiliaries now.auxiliaries before.outcome now.outcome (ap heard_of acted.auxiliaries ∙ acted_heard a s before.auxiliaries) came at.causes;
+      disturbed = acted_disturbed outset.limits outset.faults earlier a before now (disk outset.faults) acted.first acted.standing acted.auxiliaries ours at.disturbed;
     }
 
 -- ---- the whole
@@ -309,14 +336,14 @@ does_one goes work a result before now running acted kept settled on ends =
     let e = entry_for a s in
     let steps : List Step = Notes e ∷ [] in
     let rest = without_first s.due in
-    let ours : AreOurs running.0.limits (a ∷ rest) = subst (AreOurs running.0.limits) (first_is s.due a acted.first) running.2.acts in
-    let same_moment : now.work.standing.moment ≡ s.moment = ap (λ (t : Standing). t.moment) acted.standing ∙ moment_kept running.0.limits a s rest ours in
+    let asked = is_some s.machine.shutdown in
+    let ours : AreOurs running.0.limits asked (a ∷ rest) = subst (AreOurs running.0.limits asked) (first_is s.due a acted.first) running.2.acts in
+    let same_moment : now.work.standing.moment ≡ s.moment = ap (λ (t : Standing). t.moment) acted.standing ∙ moment_kept running.0.limits asked a s rest ours in
     let goes_so : Goes (λ at. ⊥) steps before now = record {
-      at = λ outset earlier at opened. at_entry goes work a before now acted kept.lost outset earlier at opened;
+      at = λ outset earlier at opened. at_entry goes work a before now acted kept.lost kept.outcome (λ from. moved_disk from before now kept.store) outset earlier at opened;
       journal = acted.told;
-      times = record { each = no_moment running.0.limits a s rest (IsMoment (λ at. ⊥) s.moment) ours; last = inl same_moment };
+      times = record { each = no_moment running.0.limits asked a s rest (IsMoment (λ at. ⊥) s.moment) ours; last = inl same_moment };
       store = spans_moves [] before.store now.store kept.store;
-      runs = All-cons IsToldRun (Notes e) [] tt (All-nil IsToldRun);
       still = λ none. kept.store.generation;
       unread = λ none. kept.store.unread;
       knows = kept.knows;
@@ -390,7 +417,7 @@ does_reset goes work before now others running acted empty renewed forgotten set
         goes = record {
           at = λ outset earlier at opened.
               let l = earlier ++ Notes e ∷ [] in
-              let m = at_entry goes work act.Reset before mid acted_mid refl outset earlier at opened in
+              let m = at_entry goes work act.Reset before mid acted_mid refl (inr forgotten) (λ from. record { later = omega arith; counts = λ counted. counted }) outset earlier at opened in
               let j : journal_of l ≡ journal_of (l ++ Renews g before.lost ∷ []) = sym (goes.journal l (Renews g before.lost) ∙ append-nil (journal_of l)) in
               subst (λ (x : List Step). IsAt outset x now) (append_assoc earlier (Notes e ∷ []) (Renews g before.lost ∷ [])) (record {
                 past = m.past;
@@ -404,11 +431,12 @@ does_reset goes work before now others running acted empty renewed forgotten set
                 asks = subst (λ (x : List PmEvent). AsksAsDue (asked_in x) now.listens now.work.standing) j m.asks;
                 acts = m.acts;
                 ends = subst (AreOurEnds outset.limits) j m.ends;
+                causes = caused_renewal l g before.lost now.auxiliaries now.outcome now.outcome (inl refl) m.causes;
+                disturbed = renewed_disturbed outset.faults l g before.lost mid now (record { later = renewed.later; counts = renewed.renews.counts outset.faults }) refl refl m.disturbed;
               });
           journal = acted.told;
           times = record { each = (tt, tt); last = inl (ap (λ (t : Standing). t.moment) acted.standing) };
           store = subst (λ (x : List BookEntry). Spans x before.store now.store) book_is (spans_renewal g before.lost others before.store now.store renewed);
-          runs = All-cons IsToldRun (Notes e) (Renews g before.lost ∷ []) tt (All-cons IsToldRun (Renews g before.lost) [] tt (All-nil IsToldRun));
           still = λ none. absurd none.1.0;
           unread = λ none. absurd none.1.0;
           knows = λ from known. record {
@@ -467,6 +495,7 @@ end_noted how before now same = ended_so how before.outcome (is_broken before.st
 -- the entry of the act leaves the store alone
 kept_of : {before : View} {w : AtWork} {now : View} → KeepsStore (record before { work = w }) now → KeepsStore before now
 kept_of kept = record {
+  outcome = kept.outcome;
   lost = kept.lost;
   store = kept.store;
   knows = λ from known. kept.knows from (record { counted = known.counted; come = known.come });

@@ -55,19 +55,19 @@ last_ends limits (entry.Ended endings.StartupFailed ∷ xs) ys all = last_ends l
 last_ends limits (entry.Ended endings.RestartOff ∷ xs) ys all = last_ends limits xs ys all.1
 
 -- that of an act
-pub act_ends : (limits : Limits) (a : Action) (s : Standing) (rest : List Action) → AreOurs limits (a ∷ rest) → AreOurEnds limits (entry_for a s ∷ [])
-act_ends limits (act.Start kind) s rest ours = tt
-act_ends limits (act.Quit why) s rest ours = tt
-act_ends limits act.Terminate s rest ours = tt
-act_ends limits act.KillAll s rest ours = tt
-act_ends limits act.AskCheckpoint s rest ours = tt
-act_ends limits act.Ready s rest ours = tt
-act_ends limits act.Reset s rest ours = tt
-act_ends limits (act.Say line) s rest ours = tt
-act_ends limits (act.End endings.Clean) s rest ours = tt
-act_ends limits (act.End endings.AfterCrash) s rest ours = tt
-act_ends limits (act.End endings.StartupFailed) s rest ours = tt
-act_ends limits (act.End endings.RestartOff) s rest ours = (ours.0, tt)
+pub act_ends : (limits : Limits) (asked : Bool) (a : Action) (s : Standing) (rest : List Action) → AreOurs limits asked (a ∷ rest) → AreOurEnds limits (entry_for a s ∷ [])
+act_ends limits asked (act.Start kind) s rest ours = tt
+act_ends limits asked (act.Quit why) s rest ours = tt
+act_ends limits asked act.Terminate s rest ours = tt
+act_ends limits asked act.KillAll s rest ours = tt
+act_ends limits asked act.AskCheckpoint s rest ours = tt
+act_ends limits asked act.Ready s rest ours = tt
+act_ends limits asked act.Reset s rest ours = tt
+act_ends limits asked (act.Say line) s rest ours = tt
+act_ends limits asked (act.End endings.Clean) s rest ours = tt
+act_ends limits asked (act.End endings.AfterCrash) s rest ours = tt
+act_ends limits asked (act.End endings.StartupFailed) s rest ours = tt
+act_ends limits asked (act.End endings.RestartOff) s rest ours = (ours.0, tt)
 
 -- the end of a child is none
 pub exit_ends : (limits : Limits) (pid : ℕ) (kind : Kind) (status : Status) (was_active : Bool) (at generation : ℕ) (kept : Option ℕ) → AreOurEnds limits (entry.Exited pid kind status was_active at ∷ redo_end generation kept)

@@ -152,7 +152,7 @@ auxiliary_without (Some p) k other pid s t off there children last is =
     different true e = absurd (not_none (off (some_kind k other (sym is.0 ∙ ap (λ (n : ℕ). kind_in n s.children) (same_number p pid e) ∙ there))))
     different false e = e
 
-off_startup : (k : Kind) (auxiliaries : Auxiliaries) → IsOff k auxiliaries → kind.Startup ≡ k → auxiliaries.startup ≡ None
+pub off_startup : (k : Kind) (auxiliaries : Auxiliaries) → IsOff k auxiliaries → kind.Startup ≡ k → auxiliaries.startup ≡ None
 off_startup k auxiliaries off is = subst (λ (x : Kind). IsOff x auxiliaries) (sym is) off
 
 off_checkpointer : (k : Kind) (auxiliaries : Auxiliaries) → IsOff k auxiliaries → kind.Checkpointer ≡ k → auxiliaries.checkpointer ≡ None

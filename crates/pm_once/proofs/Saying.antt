@@ -15,7 +15,7 @@ use Rattle.pm_once.specs.Calls.{LogBehind}
 use Rattle.pm_once.specs.Log.{HasPrinted, HasSaid, LogView, Says, log_line, log_of}
 use Rattle.pm_once.specs.Print.{IsPrinted}
 use Rattle.pm_once.proofs.Entries.{lines_of-append}
-use Rattle.pm_once.proofs.Sending.{cut_short, nothing_printed, printed_then, printed_whole}
+use Rattle.pm_once.specs.PrintLaws.{cut_short, nothing_printed, printed_then, printed_whole}
 
 rose_from : (first mid now : ℕ) → first ≤ mid → Rose mid now → Rose first now
 rose_from first mid now le rose = omega (arith, le, rose)

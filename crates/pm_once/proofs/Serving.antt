@@ -1,5 +1,5 @@
 -- A connection is served, and others behind it.
-use Rattle.std.proofs.Common.{◌≡◌, ◌⊎◌, inl, inr, ℕ, ◌+◌, List, [], ◌∷◌, ◌++◌, length, Option, None, Some, Result, Ok, Err, option_map, refl, sym, ◌∙◌, ap, subst, arith, append_assoc, append-nil, length-append}
+use Rattle.std.proofs.Common.{◌≡◌, ◌⊎◌, inl, inr, ℕ, ◌+◌, ◌≤◌, List, [], ◌∷◌, ◌++◌, length, Option, None, Some, Result, Ok, Err, option_map, refl, sym, ◌∙◌, ap, subst, arith, append_assoc, append-nil, length-append}
 use Rattle.std.specs.Prelude.{Bool, true, false, if◌then◌else◌, map, IfErr, IfSome, OnOk}
 use Rattle.std.proofs.lemmas.List.{length-map, map-append}
 use Rattle.std.proofs.lemmas.List.Elements.{All-nil, All-append}
@@ -15,12 +15,13 @@ use Rattle.pm_journal.specs.declared.exit.ChildExit.{ChildExit}
 use Rattle.pm_journal.specs.declared.supervision.Taken.{Taken}
 use Rattle.pm_journal.specs.Standing.{later}
 use Rattle.pm_once.specs.Calls.{Asks, Finishes, exit_of}
-use Rattle.pm_once.specs.Goes.{IsEndOf, IsIdle, ServesNone, StaysOpen, accepted_in, is_last_drawn, sessions_in}
+use Rattle.pm_once.specs.Goes.{IsEndOf, IsIdle, ServesNone, StaysOpen, accepted_in, asked_in, is_last_drawn, sessions_in}
 use Rattle.pm_once.specs.Serves.{AreNumbered, HasServed, IsServed, Serves, passed, taken_for}
 use Rattle.pm_once.specs.Service.{Connection, IsOfItself, IsServedAs, is_panic, is_signal, run_of, visit_of, with_connections, with_end}
 use Rattle.pm_once.specs.View.{View}
 use Rattle.pm_once.specs.declared.end.ServerEnd.{ServerEnd}
-use Rattle.pm_once.proofs.Entries.{accepted_in-append}
+use Rattle.pm_once.specs.declared.end.ServerEnd.TheVariants.{NoMemory}
+use Rattle.pm_once.proofs.Entries.{accepted_in-append, asked_in-append}
 use Rattle.pm_once.proofs.Going.{does_nothing, end_behind, goes_on, journal-append, sessions-append, stays_on}
 use Rattle.pm_once.proofs.Links.{both_changes, no_change}
 
@@ -75,6 +76,7 @@ finishes_serves gives result steps before now finishes = record {
   idle = finishes.idle;
   deaf = λ was. (elim finishes.deaf [ inl same ↦ same ∙ was | inr drawn ↦ drawn.0 ], refl, refl);
   at_end = λ is. absurd (never is);
+  asked = λ is. absurd (never is);
   drawn = finishes.drawn;
   why = λ is. elim finishes.deaf [ inl same ↦ inl (sym same ∙ is) | inr drawn ↦ inr (inr drawn.1) ];
 }
@@ -105,6 +107,7 @@ asks_serves gives result steps before now listens asks = record {
   idle = asks.idle;
   deaf = λ was. absurd (both before.listens listens was);
   at_end = λ is. asks.deaf;
+  asked = λ is. asks.asked;
   drawn = asks.drawn;
   why = λ is. inr (inl refl);
 }
@@ -135,6 +138,7 @@ serves_on gives result xs ys x y one two a b c first second = record {
       let s = second.deaf f.0 in
       (s.0, ap (λ (l : List Connection). l ++ ys) f.1 ∙ s.1, ap (λ (b' : Bool). if b' then true else y) f.2 ∙ s.2);
   at_end = ended_by x first.at_end;
+  asked = asked_by x first.asked;
   drawn = λ drawn. second.drawn (first.drawn drawn);
   why = λ is. why_by x (second.why is) first.at_end first.why;
 }
@@ -142,6 +146,17 @@ serves_on gives result xs ys x y one two a b c first second = record {
     ended_by : (x' : Bool) → (x' ≡ true → b.listens ≡ false) → (if x' then true else y) ≡ true → c.listens ≡ false
     ended_by true once is = (second.deaf (once refl)).0
     ended_by false once is = second.at_end is
+
+    more : length (asked_in (journal_of (one ++ two))) ≡ length (asked_in (journal_of one)) + length (asked_in (journal_of two))
+    more = ap length (ap asked_in (journal-append one two) ∙ asked_in-append (journal_of one) (journal_of two)) ∙ length-append (asked_in (journal_of one)) (asked_in (journal_of two))
+
+    short : (let r : Result (Unit {0}) ServerEnd = Ok tt in r ≡ Err NoMemory) → ⊥
+    short is = cc
+
+    asked_by : (x' : Bool) → (x' ≡ true → (1 ≤ length (asked_in (journal_of one))) ⊎ (let r : Result (Unit {0}) ServerEnd = Ok tt in r ≡ Err NoMemory))
+        → (if x' then true else y) ≡ true → (1 ≤ length (asked_in (journal_of (one ++ two)))) ⊎ (result ≡ Err NoMemory)
+    asked_by true once is = elim (once refl) [ inl some ↦ inl (omega (arith, some, more)) | inr never ↦ absurd (short never) ]
+    asked_by false once is = elim (second.asked is) [ inl some ↦ inl (omega (arith, some, more)) | inr never ↦ inr never ]
 
     why_by : (x' : Bool) → (b.listens ≡ false) ⊎ ((y ≡ true) ⊎ (is_last_drawn c.work.standing.last_pid ≡ true)) → (x' ≡ true → b.listens ≡ false)
         → (b.listens ≡ false → (a.listens ≡ false) ⊎ ((x' ≡ true) ⊎ (is_last_drawn b.work.standing.last_pid ≡ true)))

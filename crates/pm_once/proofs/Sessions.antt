@@ -1,17 +1,16 @@
 -- The session of a child to which nothing happens.
 use Rattle.std.proofs.Common.{◌≡◌, ◌⊎◌, inl, inr, ℕ, ◌≤◌, List, [], ◌∷◌, ◌++◌, length, All, Option, None, Some, Result, Ok, Err, refl, sym, ◌∙◌, ap, subst, arith, append_assoc}
 use Rattle.std.specs.Prelude.{Bool, true, false, cond}
-use Rattle.std.specs.List.{Contains}
 use Rattle.std.proofs.lemmas.List.Elements.{All-nil, All-cons}
 use Rattle.pm_outside.specs.Traffic.{Traffic, IsFresh}
 use Rattle.pm_admit.specs.declared.Cac.TheVariants as decisions
 use Rattle.pm_life.specs.declared.life.GateNo.{GateNo}
-use Rattle.pm_life.specs.Life.{Told, Signal, Kill, Quit, Terminate, Cancel}
+use Rattle.pm_life.specs.Life.{Child, Told, nothing_told, Signal, Kill, Quit, Terminate, Cancel, was_told}
 use Rattle.pm_query.specs.Calls.{newcomer}
 use Rattle.pm_query.specs.declared.book.BookEntry.{BookEntry}
 use Rattle.pm_session.specs.Exchange.{LinkView, HasFailed}
 use Rattle.pm_session.specs.Sent.{Turn}
-use Rattle.pm_session.specs.Session.{Ending, IsText, IsSession, IsCaused, CausedBy, HasEntered, IsCancelledTurn, NotesOutside, EndsAt, TurnsAway, between}
+use Rattle.pm_session.specs.Session.{Ending, HasAskedFor, HasCancelled, HeedsTold, IsAttachedAt, IsAttachedBehind, LetsGo, status_of, IsText, IsSession, IsCaused, CausedBy, HasEntered, IsCancelledTurn, NotesOutside, EndsAt, TurnsAway, between}
 use Rattle.pm_session.specs.declared.ending.Cause.{Cause}
 use Rattle.pm_session.specs.declared.ending.Cause.TheVariants.{Terminated, Cancelling, LinkEnded, LinkFailed, TimedOut, PacketRefused, MessageRefused, DecisionRefused, GateRefused, ShortOfMemory, Panicked, ToldToTerminate, ToldToQuit, Killed, Overtaken}
 use Rattle.pm_session.specs.declared.ending.Stage.{Stage}
@@ -32,8 +31,8 @@ never_refused home true refusal is = cc
 never_refused home false refusal is = cc
 
 -- no signal is among none
-never_given : (signal : Signal) (given : List Signal) → given ≡ [] → Contains given signal → ⊥
-never_given signal given none has = omega (arith, ap length none, has.1)
+never_given : (signal : Signal) (told : Told) → told.given ≡ [] → was_told signal told → ⊥
+never_given signal told none has = omega (arith, ap length none, has.1.1)
 
 -- ---- its generation
 
@@ -79,6 +78,7 @@ home_text home pid generation key turns ending came_in whole noted (inl outside)
     beyond = away.0.beyond;
     admitted = away.0.admitted;
     asks = away.0.asks;
+    start = away.0.start;
     stops = outside_stops (Some home) pid generation home ending.stage away.0.phase ending.cause away.0.last outside away.0.stops;
     input = away.0.input;
     passes_over = away.0.passes_over;
@@ -93,6 +93,12 @@ home_text home pid generation key turns ending came_in whole noted (inl outside)
 home_entered : (home : ℕ) (told : Told) (stage : Stage) (generation : ℕ) → IsHome home stage generation → HasEntered stage generation (Some told) → HasEntered stage home (Some told)
 home_entered home told stage generation (inl outside) entered = subst (λ (s : Stage). HasEntered s home (Some told)) (sym outside) tt
 home_entered home told stage generation (inr same) entered = subst (λ (g : ℕ). HasEntered stage g (Some told)) same entered
+
+home_attached : (ending : Ending) (home generation : ℕ) (child : Child) → IsHome home ending.stage generation → IsAttachedBehind ending generation child → IsAttachedBehind ending home child
+home_attached ending home generation child (inr same) attached = subst (λ (g : ℕ). IsAttachedBehind ending g child) same attached
+home_attached ending home generation child (inl outside) attached =
+    subst (λ (at : Stage). IsAttachedAt at (child.attached ≡ None) (LetsGo ending.exit (child.attached ≡ None) (child.attached ≡ Some home))) (sym outside)
+    (subst (λ (at : Stage). IsAttachedAt at (child.attached ≡ None) (LetsGo ending.exit (child.attached ≡ None) (child.attached ≡ Some generation))) outside attached)
 
 -- ---- by what it ends
 
@@ -116,16 +122,16 @@ of_itself home has told DecisionRefused link failed limit gives given met by ove
 of_itself home has told (GateRefused refusal) link failed limit gives given met by over = never_refused home has refusal (sym met ∙ by.1)
 of_itself home has told ShortOfMemory link failed limit gives given met by over = tt
 of_itself home has told Panicked link failed limit gives given met by over = tt
-of_itself home has told ToldToTerminate link failed limit gives given met by over = never_given Terminate told.given given by
-of_itself home has told (ToldToQuit reason) link failed limit gives given met by over = never_given (Quit reason) told.given given by
-of_itself home has told Killed link failed limit gives given met by over = never_given Kill told.given given by
+of_itself home has told ToldToTerminate link failed limit gives given met by over = never_given Terminate told given by
+of_itself home has told (ToldToQuit reason) link failed limit gives given met by over = never_given (Quit reason) told given by
+of_itself home has told Killed link failed limit gives given met by over = never_given Kill told given by
 of_itself home has told Overtaken link failed limit gives given met by over = over refl
 
 as_caused : (told : Told) (ending : Ending) (link : Option Traffic) (failed : Type 0) (limit : ℕ) (gives : ℕ → Type 0) → told.given ≡ []
     → CausedBy ending.exit decisions.Ok link failed (Some told) limit gives → (ending.exit ≡ ending.cause) ⊎ (ending.exit ≡ Killed) → ending.exit ≡ ending.cause
 as_caused told ending link failed limit gives given by (inl same) = same
 as_caused told ending link failed limit gives given by (inr killed) =
-    absurd (never_given Kill told.given given (subst (λ (cause : Cause). CausedBy cause decisions.Ok link failed (Some told) limit gives) killed by))
+    absurd (never_given Kill told given (subst (λ (cause : Cause). CausedBy cause decisions.Ok link failed (Some told) limit gives) killed by))
 
 -- ---- its turns
 
@@ -138,11 +144,12 @@ of_each P (x ∷ xs) front each =
 -- ---- the whole
 
 pub served_alone : {S : Type 0} (notes : List BookEntry → S → S → Type 0) (before now : S) (has : Bool) (told : Told) (home pid generation key limit : ℕ) (gives : ℕ → Type 0) (ending : Ending) (turns : List Turn) (given back : LinkView)
+    → HasAskedFor turns (Some nothing_told) (Some told) → HeedsTold (status_of ending) told → (child : Child) → IsAttachedBehind ending generation child → HasCancelled ending.cause back.traffic (Some told)
     → told.given ≡ [] → told.met ≡ its_gate home has → IsFresh given.traffic → back.number ≡ given.number → given.faults ≤ back.faults
     → IsSession notes decisions.Ok (newcomer (Some home) pid generation) key turns ending (HasFailed given back) (between back.traffic before now)
     → IsCaused ending turns generation decisions.Ok back.traffic (HasFailed given back) (Some told) limit gives
     → (noted : List BookEntry) × notes noted before now × IsServedAs key limit gives (record { pid = pid; generation = home; given = given; back = back; turns = turns; ending = ending; noted = noted })
-served_alone notes before now has told home pid generation key limit gives ending turns given back none met fresh same later session caused =
+served_alone notes before now has told home pid generation key limit gives ending turns given back asked heeded child attached cancels none met fresh same later session caused =
     let at = at_home home has told ending.stage generation met caused.gate in
     let text = home_text home pid generation key turns ending session.came_in session.whole session.noted at session.text in (
       session.noted,
@@ -154,11 +161,16 @@ served_alone notes before now has told home pid generation key limit gives endin
         later = later;
         session = record { came_in = session.came_in; whole = session.whole; noted = session.noted; text = text; passed = session.passed; entries = refl };
         ungiven = none;
-        caused = record { cause = caused.cause; exit = caused.exit; gate = home_entered home told ending.stage generation at caused.gate; cancelled = caused.cancelled };
+        asked = asked;
+        heeded = heeded;
+        child = child;
+        attached = home_attached ending home generation child at attached;
+        cancels = cancels;
+        caused = record { cause = caused.cause; exit = caused.exit; gate = home_entered home told ending.stage generation at caused.gate; out = caused.out; heeded = caused.heeded; cancelled = caused.cancelled };
         alone = record {
           cause = of_itself home has told ending.cause back.traffic (HasFailed given back) limit gives none met caused.cause (never_overtaken home pid key turns ending session.came_in session.whole session.noted text);
           exit = as_caused told ending back.traffic (HasFailed given back) limit gives none caused.exit ending.exits;
-          uncancelled = of_each (λ (turn : Turn). IsCancelledTurn turn → ⊥) turns [] (λ front turn behind is cancelled. never_given Cancel told.given none (caused.cancelled front turn behind is cancelled));
+          uncancelled = of_each (λ (turn : Turn). IsCancelledTurn turn → ⊥) turns [] (λ front turn behind is cancelled. never_given Cancel told none (caused.cancelled front turn behind is cancelled));
         };
       },
     )

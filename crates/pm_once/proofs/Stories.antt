@@ -1,6 +1,6 @@
 -- What a run leaves in its files, by what its store keeps.
 use Rattle.std.proofs.Common.{◌≡◌, ◌≢◌, ◌⊎◌, inl, inr, ℕ, ◌-◌, List, [], ◌∷◌, ◌++◌, Option, None, Some, refl, sym, ◌∙◌, ap, subst, arith}
-use Rattle.std.proofs.Math.Logic.{∥∥₁_map}
+use Rattle.std.proofs.Math.Logic.{∥∥₁_elim, ∥∥₁_map}
 use Rattle.std.specs.Option.{option_map}
 use Rattle.std.specs.Prelude.{All, IfSome, false, is_some, map, true}
 use Rattle.std.specs.List.{AllByRecursion}
@@ -11,6 +11,7 @@ use Rattle.pm_disk.specs.Cause.{Rose}
 use Rattle.pm_disk.specs.Files.{Files}
 use Rattle.pm_record.specs.OnDisk.{GoesOn}
 use Rattle.pm_record.specs.Pair.{Means}
+use Rattle.pm_record.specs.StandsFor.{StandsFor}
 use Rattle.pm_record.specs.declared.fault.RedoFault.{RedoFault}
 use Rattle.pm_record.specs.declared.fault.RedoFault.TheVariants as redo
 use Rattle.pm_redo.specs.Found.{IsReason}
@@ -24,14 +25,15 @@ use Rattle.pm_query.specs.declared.book.BookEntry.TheVariants.{Opened, Attached,
 use Rattle.pm_segment.specs.Moment.{Moment, Told}
 use Rattle.pm_segment.specs.Moves.{BreakIsShown, IsCountedFrom, NotesEntries, StaysUnread}
 use Rattle.pm_segment.specs.MovesLaws.{time_on}
-use Rattle.pm_segment.specs.Redos.{IsAtLastEpoch, IsCleanAt, SaysNothing, is_broken}
+use Rattle.pm_segment.specs.Redos.{IsAtLastEpoch, IsCleanAt, SaysNothing, StandsAfresh, is_broken}
+use Rattle.pm_segment.specs.Rests.{Rests}
 use Rattle.pm_segment.specs.Runs.{CanBeRead, IsRun}
 use Rattle.pm_segment.specs.Stands.{GoesFrom, HasBegun, HasGone, HasNoTick, HasWaited, IsOpening, IsSure as IsSureAt, Origin, WaitsFrom}
 use Rattle.pm_segment.specs.declared.live.Live.{Live}
 use Rattle.pm_chain.specs.Steps.{Step, Notes, Renews, Runs, RunsOn, book_of}
 use Rattle.pm_once.specs.Goes.{IsEndOf, IsNoRenewal, Spans}
 use Rattle.pm_once.specs.Knows.{HasComeTo, HasRefused, Knows}
-use Rattle.pm_once.specs.Once.{IsCausedBy, IsFailedBy, IsTraced}
+use Rattle.pm_once.specs.Once.{EndsWell, IsCausedBy, IsFailedBy, IsTraced}
 use Rattle.pm_once.specs.Outside.{DiskView, OutsideView}
 use Rattle.pm_once.specs.Story.{HasOneGeneration, IsClean, IsNoAnswer, IsNoOpening, IsStory, IsSure}
 use Rattle.pm_once.specs.View.{View}
@@ -43,6 +45,7 @@ use Rattle.pm_once.specs.declared.end.Why.TheVariants.{AfterCrash, StartupFailed
 use Rattle.pm_once.specs.declared.outcome.Outcome.{Outcome}
 use Rattle.pm_once.specs.declared.outcome.Outcome.TheVariants.{Closed}
 use Rattle.pm_once.proofs.Going.{each_part}
+use Rattle.pm_once.proofs.Unredone.{unredone}
 
 -- ---- where the book tells
 
@@ -138,6 +141,50 @@ clean_told : (base : Base) (at : Moment) (book : List BookEntry) (epoch : ℕ) (
 clean_told base at book epoch None is begun clean = subst (λ (x : Option Files). IfSome x (λ f. ∥ IsClean (history_of base book) f ∥₁)) (sym is) tt
 clean_told base at book epoch (Some f) is begun clean = clean_begun base at book epoch (begun (inr (f, is))) clean
 
+-- ---- and what a stop leaves of that
+
+-- the log rests on the disk, as the store keeps it
+abbrev pub RestsAt : Moment → Type 0
+RestsAt at = ∥ Rests at.live at.rows at.files (at.images at.ticks) ∥₁
+
+abbrev LeavesClean : Base → List BookEntry → Moment → Type 0
+LeavesClean base book at = IfSome at.files (λ _. (image : Files) → at.images at.ticks image → ∥ IsClean (history_of base book) image ∥₁)
+
+-- whatever a stop leaves has the log's bytes, and shuts the other file
+left_clean : (base : Base) (at : Moment) (book : List BookEntry) (epoch : ℕ) (files : Option Files) → at.files ≡ files → RestsAt at → (live : Live) → HasGone base at live book → IsCleanAt epoch at.live at.rows at.files → LeavesClean base book at
+left_clean base at book epoch None is rests live gone clean = subst (λ (x : Option Files). IfSome x (λ _. (image : Files) → at.images at.ticks image → ∥ IsClean (history_of base book) image ∥₁)) (sym is) tt
+left_clean base at book epoch (Some f) is rests live gone clean =
+    subst (λ (x : Option Files). IfSome x (λ _. (image : Files) → at.images at.ticks image → ∥ IsClean (history_of base book) image ∥₁)) (sym is) (λ image there.
+    let same : live ≡ clean.0 = same_live live clean.0 at.live gone.read clean.1 in
+    let unbroken : live.log.since ≡ None = ap (λ (l : Live). l.log.since) same ∙ clean.2 in
+    let afresh = subst (λ (x : Option Files). IfSome x (λ files. ∥ StandsAfresh epoch true clean.0.log at.rows files ∥₁)) is clean.4 in
+    let kept = subst (λ (x : Option Files). ∥ Rests (Some clean.0) at.rows x (at.images at.ticks) ∥₁) is (subst (λ (x : Option Live). ∥ Rests x at.rows at.files (at.images at.ticks) ∥₁) clean.1 rests) in
+    ∥∥₁_elim afresh (hlevel) (λ s. ∥∥₁_map kept (λ r.
+    let h = r clean.2 in
+    record {
+      file = clean.0.log.file;
+      content = s.content;
+      end = clean.0.log.end;
+      pair = record {
+        stands = subst (λ (bytes : List ℕ). StandsFor bytes s.content clean.0.log.end) (sym (h.lives.rests.durable image there)) s.stands;
+        beside = inl (h.lives.rests.beside image there);
+      };
+      is = s.is
+          ∙ ap (λ (r' : finite.FinMap _ _). record { rows = r'; count = clean.0.log.count }) gone.rows_are
+          ∙ ap (λ (n : ℕ). record { rows = rows_of (history_of base book); count = n }) (sym (ap (λ (l : Live). l.log.count) same) ∙ gone.count_is unbroken)
+          ∙ sym (whole_number (history_of base book));
+      clean = s.clean_is;
+      nothing_behind = s.no_batch;
+    })))
+
+left_begun : (base : Base) (at : Moment) (book : List BookEntry) (epoch : ℕ) → RestsAt at → HasBegun base at book → IsCleanAt epoch at.live at.rows at.files → LeavesClean base book at
+left_begun base at book epoch rests (inl gone) clean = left_clean base at book epoch at.files refl rests gone.0 gone.1 clean
+left_begun base at book epoch rests (inr renewed) clean = absurd (never_read at.live clean.0 clean.1 renewed.unread)
+
+left_told : (base : Base) (at : Moment) (book : List BookEntry) (epoch : ℕ) (files : Option Files) → at.files ≡ files → RestsAt at → (IsSureAt at → HasBegun base at book) → IsCleanAt epoch at.live at.rows at.files → LeavesClean base book at
+left_told base at book epoch None is rests begun clean = subst (λ (x : Option Files). IfSome x (λ _. (image : Files) → at.images at.ticks image → ∥ IsClean (history_of base book) image ∥₁)) (sym is) tt
+left_told base at book epoch (Some f) is rests begun clean = left_begun base at book epoch rests (begun (inr (f, is))) clean
+
 -- ---- the whole
 
 abbrev pub origin_of : DiskView → Origin
@@ -167,9 +214,9 @@ pub record HasRunSo (before : DiskView) (first : Moment) (steps : List Step) (no
   pub known : Knows before.faults now
 
 pub whole_story : (end : ServerEnd) (before : DiskView) (first : Moment) (steps : List Step) (now : View) (b0 : Option (List BookEntry)) → b0 ≡ Some [] → NotesEntries (Opened 1 ∷ []) b0 first.book
-    → WaitsFrom (origin_of before) first → HasRunSo before first steps now → IsEndOf end steps now → ((origin : Origin) (base : Base) → GoesFrom origin base now.store → Told now.store (IsRun origin base now.store))
+    → WaitsFrom (origin_of before) first → HasRunSo before first steps now → IsEndOf end steps now → RestsAt now.store → ((origin : Origin) (base : Base) → GoesFrom origin base now.store → Told now.store (IsRun origin base now.store))
     → IfSome now.store.book (IsStory end before (view_at now.store))
-whole_story end before first steps now b0 empty opened waits run ends law = each_told (IsStory end before (view_at now.store)) now.store.book (λ b is_book.
+whole_story end before first steps now b0 empty opened waits run ends rests law = each_told (IsStory end before (view_at now.store)) now.store.book (λ b is_book.
     let at = now.store in
     let book_is : b ≡ Opened 1 ∷ book_of steps = some_same b (Opened 1 ∷ book_of steps) (sym is_book ∙ all_noted (book_of steps) b0 first.book at.book empty opened run.spans.notes) in
     let time = time_on before.ticks first.ticks at.ticks before.images first.images at.images run.began run.spans.time in
@@ -183,10 +230,12 @@ whole_story end before first steps now b0 empty opened waits run ends law = each
             legal = λ sure. w.legal (record { rows = finite.empty; count = 0; bytes = 0; faults = before.faults }) refl;
             stops = inl (record {
               unanswered = no_answers b w.no_ticks;
+              unredone = unredone before.faults b w.no_ticks w.legal;
               keeps = where_told at.files (IsOpening (origin_of before) at.ticks at.images) _
                   (λ opens t from upto image there. ∥∥₁_map (opens t from upto image there) (λ e. (e.0, (time.past before.ticks (omega arith) e.0).0 e.1, e.2))) opening;
             });
             clean = λ is. let made = made_at end steps before.faults now ends run.known is in absurd (never_read at.live made.1.0 made.1.1 w.unread);
+            leaves_clean = λ is. let made = made_at end steps before.faults now ends run.known is in absurd (never_read at.live made.1.0 made.1.1 w.unread);
           }
       | inr begins ↦
           let begun = told_as at.book (λ book. IsSureAt at → HasBegun begins.base at book) b is_book begins.goes.0 in
@@ -207,6 +256,7 @@ whole_story end before first steps now b0 empty opened waits run ends law = each
               }) its_run;
             });
             clean = λ is. let made = made_at end steps before.faults now ends run.known is in clean_told begins.base at b made.0 at.files refl begun made.1;
+            leaves_clean = λ is. let made = made_at end steps before.faults now ends run.known is in left_told begins.base at b made.0 at.files refl rests begun made.1;
           }
     ])
 
@@ -265,13 +315,14 @@ told_is None P tells holds = absurd (tells refl)
 told_is (Some b) P tells holds = holds
 
 pub whole_cause : (end : ServerEnd) (before rest : OutsideView) (first : Moment) (steps : List Step) (now : View) → (before.book ≡ Some [] → WaitsFrom (origin_of before.disk) first) → HasRunSo before.disk first steps now → IsEndOf end steps now
+    → ((end ≡ Abnormal RestartOff) ⊎ (end ≡ Abnormal GenerationsSpent) → Rose before.disk.faults now.store.faults)
     → ((origin : Origin) (base : Base) → GoesFrom origin base now.store → Told now.store (λ book. CanBeRead now.store)) → IsCausedBy end steps before (record rest { disk = view_at now.store; book = now.store.book })
-whole_cause Clean before rest first steps now waits run ends law = tt
-whole_cause NoMemory before rest first steps now waits run ends law = tt
-whole_cause (Abnormal RestartOff) before rest first steps now waits run ends law = tt
-whole_cause (Abnormal GenerationsSpent) before rest first steps now waits run ends law = tt
-whole_cause (Abnormal AfterCrash) before rest first steps now waits run ends law = crash_caused before.disk.faults now run.known ends.1
-whole_cause (Abnormal (StartupFailed (Redo fault))) before rest first steps now waits run ends law = failed fault (subst (λ (o : Option Outcome). HasComeTo o before.disk.faults now.store) ends.1 run.known.come)
+whole_cause Clean before rest first steps now waits run ends rose law = tt
+whole_cause NoMemory before rest first steps now waits run ends rose law = tt
+whole_cause (Abnormal RestartOff) before rest first steps now waits run ends rose law = rose (inl refl)
+whole_cause (Abnormal GenerationsSpent) before rest first steps now waits run ends rose law = rose (inr refl)
+whole_cause (Abnormal AfterCrash) before rest first steps now waits run ends rose law = crash_caused before.disk.faults now run.known ends.1
+whole_cause (Abnormal (StartupFailed (Redo fault))) before rest first steps now waits run ends rose law = failed fault (subst (λ (o : Option Outcome). HasComeTo o before.disk.faults now.store) ends.1 run.known.come)
   where
     traced : (f : RedoFault) → (SaysNothing f → ⊥) → IfSome now.store.files (IsReason f) → now.store.live ≡ None → IsTraced steps before.book now.store.book → AreThose before.disk now.store
     traced f says reason none (inl once) = those_once before.disk first steps now run none once
@@ -283,6 +334,25 @@ whole_cause (Abnormal (StartupFailed (Redo fault))) before rest first steps now 
     failed redo.NoCluster has = (has.0, λ is. traced redo.NoCluster (λ says. says) has.0 has.1 is)
     failed (redo.BadFile file at) has = (has.0, λ is. traced (redo.BadFile file at) (λ says. says) has.0 has.1 is)
     failed (redo.SameEpoch epoch) has = (has.0, λ is. traced (redo.SameEpoch epoch) (λ says. says) has.0 has.1 is)
+
+-- where the disk hasn't failed
+pub ends_well : (end : ServerEnd) (steps : List Step) (before now : OutsideView) → IsCausedBy end steps before now → EndsWell end before.disk now.disk
+ends_well Clean steps before now cause = λ calm files is sound. inl refl
+ends_well NoMemory steps before now cause = λ calm files is sound. inr refl
+ends_well (Abnormal RestartOff) steps before now cause = λ calm files is sound. absurd (calm cause)
+ends_well (Abnormal GenerationsSpent) steps before now cause = λ calm files is sound. absurd (calm cause)
+ends_well (Abnormal AfterCrash) steps before now cause = λ calm files is sound. elim cause [
+  | inl rose ↦ absurd (calm rose)
+  | inr last ↦ absurd (sound.epoch (subst (λ (x : Option Files). IfSome x (λ f. ∥ IsAtLastEpoch f ∥₁)) is last))
+]
+ends_well (Abnormal (StartupFailed (Redo redo.Disk))) steps before now cause = λ calm files is sound. absurd (calm cause)
+ends_well (Abnormal (StartupFailed (Redo redo.NoMemory))) steps before now cause = λ calm files is sound. absurd cause
+ends_well (Abnormal (StartupFailed (Redo redo.NoCluster))) steps before now cause = λ calm files is sound.
+    absurd (sound.read redo.NoCluster (subst (λ (x : Option Files). IfSome x (IsReason redo.NoCluster)) is cause.0))
+ends_well (Abnormal (StartupFailed (Redo (redo.BadFile file at)))) steps before now cause = λ calm files is sound.
+    absurd (sound.read (redo.BadFile file at) (subst (λ (x : Option Files). IfSome x (IsReason (redo.BadFile file at))) is cause.0))
+ends_well (Abnormal (StartupFailed (Redo (redo.SameEpoch epoch)))) steps before now cause = λ calm files is sound.
+    absurd (sound.read (redo.SameEpoch epoch) (subst (λ (x : Option Files). IfSome x (IsReason (redo.SameEpoch epoch))) is cause.0))
 
 -- ---- nothing was done
 
@@ -302,7 +372,9 @@ story_nothing before book empty = each_told (IsStory NoMemory before before) boo
       legal = λ sure. record { entries = tt; renewals = tt };
       stops = inl (record {
         unanswered = tt;
+        unredone = tt;
         keeps = told_or_not before.files _ (λ t from upto image there. ∣ (image, subst (λ (n : ℕ). before.images n image) (omega (arith, from, upto)) there, λ s means. means) ∣₁);
       });
       clean = λ is. cc;
+      leaves_clean = λ is. cc;
     }))

@@ -1,9 +1,12 @@
 -- The children that serve no connection.
-use Rattle.std.specs.Prelude.{◌≡◌, ◌⊎◌, ℕ, ◌≤◌, false, Option, None, Some}
+use Rattle.std.specs.Prelude.{◌≡◌, ◌⊎◌, ℕ, ◌≤◌, true, false, Option, None, Some}
 use Rattle.pm_exit.specs.declared.child.Kind.{Kind}
 use Rattle.pm_exit.specs.declared.child.Kind.TheVariants.{Startup, Checkpointer, Writer}
+use Rattle.pm_journal.specs.declared.act.Act.{Act}
+use Rattle.pm_journal.specs.declared.act.Act.TheVariants as act
 use Rattle.pm_journal.specs.Roll.{kind_in}
 use Rattle.pm_journal.specs.Standing.{Standing}
+use Rattle.pm_once.specs.AuxiliaryRuns.{Heard}
 use Rattle.pm_once.specs.declared.auxiliaries.Duty.{Duty}
 use Rattle.pm_once.specs.declared.auxiliaries.Duty.TheVariants.{Redo, Checkpoint, Quit, Terminate}
 use Rattle.pm_once.specs.declared.auxiliaries.Auxiliaries.{Auxiliaries}
@@ -17,6 +20,23 @@ with_started pid Checkpointer auxiliaries = record auxiliaries { checkpointer = 
 with_started pid Writer auxiliaries = record auxiliaries { writer = Some pid }
 with_started pid _ auxiliaries = auxiliaries
 
+-- what they were told
+abbrev pub heard_of : Auxiliaries → Heard
+heard_of auxiliaries = record { quit = auxiliaries.is_quit; terminated = auxiliaries.is_terminated; asked = auxiliaries.is_asked }
+
+-- nothing more was told, and there is no other startup child
+pub record HasLess (before now : Auxiliaries) : Type 0 where
+  pub heard : heard_of now ≡ heard_of before
+  pub startup : (now.startup ≡ None) ⊎ (now.startup ≡ before.startup)
+
+-- those that an act leaves
+abbrev pub auxiliaries_after : Act → Auxiliaries → Auxiliaries
+auxiliaries_after (act.Start pid kind) auxiliaries = with_started pid kind auxiliaries
+auxiliaries_after (act.Quit why) auxiliaries = record auxiliaries { is_quit = true }
+auxiliaries_after act.Terminate auxiliaries = record auxiliaries { is_terminated = true }
+auxiliaries_after act.AskCheckpoint auxiliaries = record auxiliaries { is_asked = true }
+auxiliaries_after _ auxiliaries = auxiliaries
+
 -- the checkpointer or the writer was taken off
 pub record IsTakenOff (pid : ℕ) (kind : Kind) (before now : Auxiliaries) : Type 0 where
   pub is : ((kind ≡ Checkpointer) × (before.checkpointer ≡ Some pid) × (now ≡ record before { checkpointer = None }))
@@ -29,6 +49,21 @@ IsNextDuty (Some (Redo pid)) before now = (before.startup ≡ Some pid) × (now 
 IsNextDuty (Some (Checkpoint pid)) before now = IsTakenOff pid Checkpointer before now
 IsNextDuty (Some (Quit pid kind)) before now = IsTakenOff pid kind before now
 IsNextDuty (Some (Terminate pid)) before now = IsTakenOff pid Writer before now
+
+-- nobody has anything to do
+pub record HasNoDuty (auxiliaries : Auxiliaries) : Type 0 where
+  pub read : auxiliaries.startup ≡ None
+  pub quit : auxiliaries.is_quit ≡ true → (auxiliaries.checkpointer ≡ None) × (auxiliaries.writer ≡ None)
+  pub terminated : auxiliaries.is_quit ≡ false → auxiliaries.is_terminated ≡ true → auxiliaries.writer ≡ None
+  pub asked : auxiliaries.is_quit ≡ false → auxiliaries.is_asked ≡ true → auxiliaries.checkpointer ≡ None
+
+-- why it has to do this: by what it was told
+abbrev pub IsDue : Option Duty → Auxiliaries → Type 0
+IsDue None before = HasNoDuty before
+IsDue (Some (Redo pid)) before = Unit {0}
+IsDue (Some (Checkpoint pid)) before = (before.is_quit ≡ false) × (before.is_asked ≡ true)
+IsDue (Some (Quit pid kind)) before = before.is_quit ≡ true
+IsDue (Some (Terminate pid)) before = (before.is_quit ≡ false) × (before.is_terminated ≡ true)
 
 -- ---- a supervisor's children
 

@@ -1,9 +1,11 @@
 -- The runs of the children that serve no connection.
-use Rattle.std.specs.Prelude.{◌≡◌, ◌⊎◌, ℕ, Bool, true, false, List, [], ◌∷◌, Option, None, Some, Result, Ok, Err}
+use Rattle.std.specs.Prelude.{◌≡◌, ◌⊎◌, ℕ, Bool, true, false, List, [], ◌∷◌, fold, Option, None, Some, IsSomeAnd, Result, Ok, Err}
 use Rattle.pm_exit.specs.declared.child.Kind.{Kind}
 use Rattle.pm_exit.specs.declared.child.Kind.TheVariants as kinds
 use Rattle.pm_exit.specs.declared.child.Status.{Status}
 use Rattle.pm_exit.specs.declared.child.Status.TheVariants.{Code, Signal}
+use Rattle.pm_state.specs.declared.event.PmEvent.{PmEvent}
+use Rattle.pm_state.specs.declared.event.PmEvent.TheVariants as entry
 use Rattle.pm_record.specs.declared.fault.RedoFault.TheVariants as redo
 use Rattle.pm_query.specs.declared.book.BookEntry.{BookEntry}
 use Rattle.pm_query.specs.declared.book.BookEntry.TheVariants.{Attached, Redone, Detached, CheckpointEnded, Broke}
@@ -11,11 +13,36 @@ use Rattle.pm_query.specs.declared.store.Checkpointed.{Checkpointed}
 use Rattle.pm_query.specs.declared.store.Checkpointed.TheVariants as made
 use Rattle.pm_query.specs.declared.store.StoreNo.{StoreNo}
 use Rattle.pm_query.specs.declared.store.StoreNo.TheVariants as stores
-use Rattle.pm_chain.specs.Steps.{ChildRun, Runs, RunsOn, Step}
+use Rattle.pm_chain.specs.Steps.{ChildRun, Runs, RunsOn, Step, journal_by}
 use Rattle.pm_once.specs.declared.checkpointer.Closed.{Closed}
 use Rattle.pm_once.specs.declared.checkpointer.Closed.TheVariants.{Made, Crashed, Full, Short}
 use Rattle.pm_once.specs.declared.end.StartWhy.{StartWhy}
 use Rattle.pm_once.specs.declared.end.StartWhy.TheVariants.{Redo}
+
+-- ---- what they were told
+
+-- what the children of a generation that serve no connection were told
+pub record Heard : Type 0 where
+  -- all are to end at once
+  pub quit : Bool
+  -- the writer is to end
+  pub terminated : Bool
+  -- the checkpointer is to write the last checkpoint
+  pub asked : Bool
+
+abbrev pub nothing_heard : Heard
+nothing_heard = record { quit = false; terminated = false; asked = false }
+
+-- by an entry of the journal: a startup child begins a generation
+abbrev pub heard_after : Heard → PmEvent → Heard
+heard_after heard (entry.Started pid kinds.Startup) = nothing_heard
+heard_after heard (entry.QuitSent why) = record heard { quit = true }
+heard_after heard entry.TerminateSent = record heard { terminated = true }
+heard_after heard entry.CheckpointAsked = record heard { asked = true }
+heard_after heard _ = heard
+
+abbrev pub heard_in : List PmEvent → Heard
+heard_in journal = fold heard_after nothing_heard journal
 
 -- ---- a startup child
 
@@ -121,23 +148,57 @@ abbrev pub IsStartupRun : ChildRun → Type 0
 IsStartupRun run = (read : Result ℕ (Option StartWhy)) × StartNotes run.pid run.generation read run.noted
     × (run ≡ startup_run run.pid run.generation read run.noted)
 
--- it has written the last checkpoint, or was told to end at once
-abbrev pub IsCheckpointerRun : ChildRun → Type 0
-IsCheckpointerRun run = IsIdleRun (Code 2) run
-    ⊎ ((closed : Closed) × CloseNotes run.pid run.generation closed run.noted
+-- it was told to end at once, or was asked for the last checkpoint
+abbrev pub IsCheckpointerRun : Heard → ChildRun → Type 0
+IsCheckpointerRun heard run = ((heard.quit ≡ true) × IsIdleRun (Code 2) run)
+    ⊎ ((heard.quit ≡ false) × (heard.asked ≡ true) × (closed : Closed) × CloseNotes run.pid run.generation closed run.noted
     × (run ≡ checkpointer_run run.pid run.generation closed run.noted))
 
--- a run by the kind of its child: those of sessions are told by their connections, and there are no others
-abbrev pub IsRunAs : Kind → ChildRun → Type 0
-IsRunAs kinds.Startup run = IsStartupRun run
-IsRunAs kinds.Checkpointer run = IsCheckpointerRun run
-IsRunAs kinds.Writer run = IsIdleRun (Code 0) run ⊎ IsIdleRun (Code 2) run
-IsRunAs kinds.Backend run = Unit {0}
-IsRunAs kinds.Worker run = ⊥
-IsRunAs kinds.DeadEnd run = ⊥
+-- it was told to end, at once or not
+abbrev pub IsWriterRun : Heard → ChildRun → Type 0
+IsWriterRun heard run = ((heard.quit ≡ true) × IsIdleRun (Code 2) run)
+    ⊎ ((heard.quit ≡ false) × (heard.terminated ≡ true) × IsIdleRun (Code 0) run)
 
--- what an auxiliary child noted, and how it ended by that
-abbrev pub IsToldRun : Step → Type 0
-IsToldRun (Runs run at) = IsRunAs run.kind run
-IsToldRun (RunsOn run) = IsRunAs run.kind run
-IsToldRun _ = Unit {0}
+-- a run by the kind of its child: those of sessions are told by their connections, and there are no others
+abbrev pub IsRunAs : Heard → Kind → ChildRun → Type 0
+IsRunAs heard kinds.Startup run = IsStartupRun run
+IsRunAs heard kinds.Checkpointer run = IsCheckpointerRun heard run
+IsRunAs heard kinds.Writer run = IsWriterRun heard run
+IsRunAs heard kinds.Backend run = Unit {0}
+IsRunAs heard kinds.Worker run = ⊥
+IsRunAs heard kinds.DeadEnd run = ⊥
+
+-- why an auxiliary child ended by what it was told, what it noted, and how it ended by that
+abbrev pub IsToldRun : Heard → Step → Type 0
+IsToldRun heard (Runs run at) = IsRunAs heard run.kind run
+IsToldRun heard (RunsOn run) = IsRunAs heard run.kind run
+IsToldRun heard _ = Unit {0}
+
+-- each of them by what was told before it
+abbrev pub AreToldBehind : Heard → List Step → Type 0
+AreToldBehind heard [] = Unit {0}
+AreToldBehind heard (step ∷ steps) =
+    IsToldRun heard step × AreToldBehind (fold heard_after heard (journal_by step)) steps
+
+-- ---- the last startup child
+
+abbrev pub startup_or : Option ChildRun → Kind → ChildRun → Option ChildRun
+startup_or last kinds.Startup run = Some run
+startup_or last _ run = last
+
+abbrev pub startup_after : Option ChildRun → Step → Option ChildRun
+startup_after last (Runs run at) = startup_or last run.kind run
+startup_after last (RunsOn run) = startup_or last run.kind run
+startup_after last _ = last
+
+-- its run
+abbrev pub last_startup : List Step → Option ChildRun
+last_startup steps = fold startup_after None steps
+
+-- its redo was refused so, which for a fault of the disk is noted
+abbrev pub IsRefusedRun : StartWhy → ChildRun → Type 0
+IsRefusedRun why run = StartNotes run.pid run.generation (Err (Some why)) run.noted
+    × (run ≡ startup_run run.pid run.generation (Err (Some why)) run.noted)
+
+abbrev pub IsRefusedLast : StartWhy → List Step → Type 0
+IsRefusedLast why steps = IsSomeAnd (last_startup steps) (IsRefusedRun why)

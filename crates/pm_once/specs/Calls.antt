@@ -1,5 +1,5 @@
 -- What the parts of a server's calls do.
-use Rattle.std.specs.Prelude.{◌≡◌, ◌⊎◌, ℕ, ◌+◌, ◌≤◌, Bool, true, false, if◌then◌else◌, List, [], ◌∷◌, ◌++◌, length, map, Option, None, Some, Result, Ok, Err, IfErr, OnOk}
+use Rattle.std.specs.Prelude.{◌≡◌, ◌⊎◌, ℕ, ◌+◌, ◌≤◌, Bool, true, false, not, ◌&&◌, ◌||◌, if◌then◌else◌, List, [], ◌∷◌, ◌++◌, length, map, Option, None, Some, Result, Ok, Err, IfErr, OnOk}
 use Rattle.std.specs.declared.alloc.AllocError.{AllocError}
 use Rattle.pm_exit.specs.declared.child.Kind.{Kind}
 use Rattle.pm_exit.specs.declared.child.Kind.TheVariants as kinds
@@ -7,11 +7,13 @@ use Rattle.pm_supervisor.specs.declared.Ending.{Ending}
 use Rattle.pm_supervisor.specs.declared.Ending.TheVariants as endings
 use Rattle.pm_state.specs.declared.action.Action.{Action}
 use Rattle.pm_state.specs.declared.action.Action.TheVariants as acts
+use Rattle.pm_exit.specs.Ends.{is_exit_0, is_exit_1}
+use Rattle.pm_disk.specs.Cause.{Rose}
 use Rattle.pm_record.specs.OnDisk.{GoesOn}
 use Rattle.pm_query.specs.declared.book.BookEntry.TheVariants.{Gone, Opened}
 use Rattle.pm_segment.specs.Children.{AreOthers}
 use Rattle.pm_segment.specs.Moment.{Moment}
-use Rattle.pm_segment.specs.Moves.{Moves, Renews}
+use Rattle.pm_segment.specs.Moves.{IsCountedFrom, Moves, Renews}
 use Rattle.pm_segment.specs.Redos.{is_broken}
 use Rattle.pm_admit.specs.declared.Cac.TheVariants as decisions
 use Rattle.pm_chain.specs.Steps.{ChildRun, IsRunOf, Step, journal_of}
@@ -21,9 +23,9 @@ use Rattle.pm_journal.specs.declared.exit.ChildExit.{ChildExit}
 use Rattle.pm_journal.specs.Roll.{kind_in}
 use Rattle.pm_journal.specs.Standing.{Adds, IsAtRest, Standing, exiting, made}
 use Rattle.pm_journal.specs.Stands.{IsSettled}
-use Rattle.pm_once.specs.Goes.{Does, Goes, IsIdle, StaysOpen, accepted_in, if_session, is_last_drawn, sessions_in}
-use Rattle.pm_once.specs.Auxiliaries.{AreThere, IsPresent, with_started}
-use Rattle.pm_once.specs.AuxiliaryRuns.{IsRunAs}
+use Rattle.pm_once.specs.Goes.{Does, Goes, IsIdle, StaysOpen, accepted_in, asked_in, if_session, is_last_drawn, sessions_in}
+use Rattle.pm_once.specs.Auxiliaries.{AreThere, HasLess, IsPresent, auxiliaries_after, heard_of}
+use Rattle.pm_once.specs.AuxiliaryRuns.{IsRefusedRun, IsRunAs, startup_or}
 use Rattle.pm_once.specs.Knows.{Knows}
 use Rattle.pm_once.specs.Log.{LogView, Says, log_line}
 use Rattle.pm_once.specs.View.{View}
@@ -50,16 +52,6 @@ end_in ending outcome broken = NoMemory
 
 abbrev pub end_by : Ending → View → ServerEnd
 end_by ending v = end_in ending v.outcome (is_broken v.store.live)
-
--- the same children are there
-pub record SameAuxiliaries (before now : Auxiliaries) : Type 0 where
-  pub startup : now.startup ≡ before.startup
-  pub checkpointer : now.checkpointer ≡ before.checkpointer
-  pub writer : now.writer ≡ before.writer
-
-abbrev pub AuxiliariesBehind : Act → Auxiliaries → Auxiliaries → Type 0
-AuxiliariesBehind (act.Start pid kind) before now = now ≡ with_started pid kind before
-AuxiliariesBehind _ before now = SameAuxiliaries before now
 
 abbrev pub LogBehind : Act → LogView → LogView → Type 0
 LogBehind (act.Say line) before now = Says (log_line line) before now
@@ -111,7 +103,7 @@ RenewsStore generation result before now = RestBehind before now × StoreBehind 
 
 -- an act is done, all but its entry
 pub record Performs (a : Act) (result : Result (Unit {0}) ServerEnd) (before now : View) : Type 0 where
-  pub auxiliaries : AuxiliariesBehind a before.auxiliaries now.auxiliaries
+  pub auxiliaries : now.auxiliaries ≡ auxiliaries_after a before.auxiliaries
   pub log : LogBehind a before.log now.log
   pub store : StoreBehind a result before now
   pub ends : EndBehind a result before
@@ -171,6 +163,16 @@ IsOff kinds.Checkpointer auxiliaries = auxiliaries.checkpointer ≡ None
 IsOff kinds.Writer auxiliaries = auxiliaries.writer ≡ None
 IsOff _ auxiliaries = Unit {0}
 
+-- a session's child that hasn't crashed
+abbrev pub IsFineExit : ChildRun → Type 0
+IsFineExit run = ((is_exit_0 run.status || is_exit_1 run.status) && not run.was_active) ≡ true
+
+-- a startup child that is refused leaves why, and no other child does
+abbrev pub ComesTo : ChildRun → (before now : Option Outcome) → Type 0
+ComesTo run before (Some (Refused why)) =
+    IsRefusedRun why run ⊎ ((before ≡ Some (Refused why)) × ((last : Option ChildRun) → startup_or last run.kind run ≡ last))
+ComesTo run before _ = Unit {0}
+
 -- A child that is there has run, and its end isn't noted yet.
 pub record HasRun (run : ChildRun) (before now : View) : Type 0 where
   pub is_run : IsRunOf run
@@ -181,7 +183,10 @@ pub record HasRun (run : ChildRun) (before now : View) : Type 0 where
   pub work : now.work ≡ before.work
   pub store : Moves run.noted before.store now.store
   pub knows : (from : ℕ) → Knows from before → Knows from now
-  pub told : IsRunAs run.kind run
+  pub told : IsRunAs (heard_of before.auxiliaries) run.kind run
+  pub less : HasLess before.auxiliaries now.auxiliaries
+  pub sound : (from : ℕ) → IsCountedFrom from before.store.faults before.store.live → (run.kind ≡ kinds.Backend → IsFineExit run) ⊎ Rose from now.store.faults
+  pub came : ComesTo run before.outcome now.outcome
   pub lost : now.lost ≡ before.lost
   pub log : now.log ≡ before.log
   pub listens : now.listens ≡ before.listens
@@ -223,6 +228,7 @@ pub record Asks (gives : ℕ → Type 0) (result : Result (Unit {0}) ServerEnd) 
   pub drawn : is_last_drawn before.work.standing.last_pid ≡ true → is_last_drawn now.work.standing.last_pid ≡ true
   pub deaf : now.listens ≡ false
   pub short : IfErr result (λ end. end ≡ NoMemory)
+  pub asked : (1 ≤ length (asked_in (journal_of steps))) ⊎ (result ≡ Err NoMemory)
 
 -- a child that serves no connection has run
 pub record HasAuxiliaryRun (run : ChildRun) (before now : View) : Type 0 where

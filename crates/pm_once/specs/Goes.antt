@@ -1,5 +1,5 @@
 -- What a server's calls do from one moment to another, and what holds of it at every moment.
-use Rattle.std.specs.Prelude.{◌≡◌, ◌⊎◌, ℕ, ◌+◌, ◌<◌, ◌≤◌, nat_le, Bool, true, false, List, [], ◌∷◌, ◌++◌, length, All, Option, None, Some, Result, IfErr, IfSome, OnOk}
+use Rattle.std.specs.Prelude.{◌≡◌, ◌⊎◌, ℕ, ◌+◌, ◌<◌, ◌≤◌, nat_le, Bool, true, false, List, [], ◌∷◌, ◌++◌, length, All, Option, None, Some, is_some, Result, IfErr, IfSome, OnOk}
 use Rattle.std.specs.List.{AllByRecursion, flat_map, last_or}
 use Rattle.pm_exit.specs.declared.child.Kind.{Kind}
 use Rattle.pm_exit.specs.declared.child.Kind.TheVariants as kinds
@@ -24,14 +24,17 @@ use Rattle.pm_segment.specs.Stands.{Begins, GoesFrom, Origin, WaitsFrom}
 use Rattle.pm_chain.specs.Steps.{Step, Notes, Renews, Runs, RunsOn, ChildRun, AreSteps, book_of, journal_of, lost_in}
 use Rattle.pm_journal.specs.declared.supervision.Taken.{Taken}
 use Rattle.pm_journal.specs.Moments.{AreGiven}
-use Rattle.pm_journal.specs.Standing.{Adds, IsAtRest, Standing}
+use Rattle.pm_journal.specs.Standing.{Adds, IsAtRest, Standing, first_due}
 use Rattle.pm_journal.specs.Stands.{Stands}
-use Rattle.pm_once.specs.Auxiliaries.{AreThere}
-use Rattle.pm_once.specs.AuxiliaryRuns.{IsToldRun}
+use Rattle.pm_once.specs.Auxiliaries.{AreThere, heard_of}
+use Rattle.pm_once.specs.AuxiliaryRuns.{AreToldBehind, IsRefusedLast, heard_in, nothing_heard}
 use Rattle.pm_once.specs.Knows.{Knows}
 use Rattle.pm_once.specs.Log.{HasSaid, LogView}
+use Rattle.pm_once.specs.Undisturbed.{IsDisturbedAt}
 use Rattle.pm_once.specs.View.{View}
 use Rattle.pm_once.specs.declared.checkpointer.Closed.TheVariants.{Full, Made}
+use Rattle.pm_once.specs.declared.auxiliaries.Auxiliaries.{Auxiliaries}
+use Rattle.pm_once.specs.declared.outcome.Outcome.{Outcome}
 use Rattle.pm_once.specs.declared.outcome.Outcome.TheVariants.{Closed, Refused}
 use Rattle.pm_once.specs.declared.end.ServerEnd.{ServerEnd}
 use Rattle.pm_once.specs.declared.end.ServerEnd.TheVariants.{Clean, Abnormal, NoMemory}
@@ -78,13 +81,14 @@ pub record AsksAsDue (asked : List Mode) (listens : Bool) (s : Standing) : Type 
 
 -- ---- acts
 
--- Nobody is to be killed, since the server tells its machine no time; and a server ends for want of a restart where it isn't to
--- restart.
-abbrev pub AreOurs : Limits → List Action → Type 0
-AreOurs limits [] = Unit {0}
-AreOurs limits (act.KillAll ∷ acts) = ⊥
-AreOurs limits (act.End endings.RestartOff ∷ acts) = (limits.restart_after_crash ≡ false) × AreOurs limits acts
-AreOurs limits (_ ∷ acts) = AreOurs limits acts
+-- Nobody is to be killed, since the server tells its machine no time; a server ends for want of a restart where it isn't to
+-- restart, and begins another generation, only where nobody has asked it to shut down.
+abbrev pub AreOurs : Limits → Bool → List Action → Type 0
+AreOurs limits asked [] = Unit {0}
+AreOurs limits asked (act.KillAll ∷ acts) = ⊥
+AreOurs limits asked (act.End endings.RestartOff ∷ acts) = (limits.restart_after_crash ≡ false) × (asked ≡ false) × AreOurs limits asked acts
+AreOurs limits asked (act.Reset ∷ acts) = (asked ≡ false) × AreOurs limits asked acts
+AreOurs limits asked (_ ∷ acts) = AreOurs limits asked acts
 
 -- a server has ended for want of a restart only where it isn't to restart
 abbrev pub AreOurEnds : Limits → List PmEvent → Type 0
@@ -94,10 +98,23 @@ AreOurEnds limits (_ ∷ journal) = AreOurEnds limits journal
 
 -- ---- at every moment
 
--- how a server began: by what limits, and with what log
+-- how a server began: by what limits, with what log, and with what count of its disk's faults
 pub record Outset : Type 0 where
   pub limits : Limits
   pub log : LogView
+  pub faults : ℕ
+
+-- the last child that came to something was refused so
+abbrev pub IsRefusedSo : Option Outcome → List Step → Type 0
+IsRefusedSo (Some (Refused why)) steps = IsRefusedLast why steps
+IsRefusedSo _ steps = Unit {0}
+
+-- The children that serve no connection were told what the journal says, each ran by that, and what the last of them came to
+-- is what it answered.
+pub record AreCaused (steps : List Step) (auxiliaries : Auxiliaries) (outcome : Option Outcome) : Type 0 where
+  pub told_so : heard_of auxiliaries ≡ heard_in (journal_of steps)
+  pub runs : AreToldBehind nothing_heard steps
+  pub refused : IsRefusedSo outcome steps
 
 -- These are the steps so far.
 pub record IsAt (outset : Outset) (steps : List Step) (v : View) : Type 0 where
@@ -109,8 +126,10 @@ pub record IsAt (outset : Outset) (steps : List Step) (v : View) : Type 0 where
   pub said : HasSaid (journal_of steps) outset.log v.log
   pub auxiliaries : AreThere v.auxiliaries v.work.standing
   pub asks : AsksAsDue (asked_in (journal_of steps)) v.listens v.work.standing
-  pub acts : AreOurs outset.limits v.work.standing.due
+  pub acts : AreOurs outset.limits (is_some v.work.standing.machine.shutdown) v.work.standing.due
   pub ends : AreOurEnds outset.limits (journal_of steps)
+  pub causes : AreCaused steps v.auxiliaries v.outcome
+  pub disturbed : IsDisturbedAt outset.faults steps v
 
 -- any step may follow this one, but for a renewal
 abbrev pub IsFree : Option Step → Type 0
@@ -145,7 +164,6 @@ pub record Goes (gives : ℕ → Type 0) (steps : List Step) (before now : View)
   pub journal : Adds (journal_of steps) before.work.told now.work.told
   pub times : Times gives before.work.standing.moment (journal_of steps) now.work.standing.moment
   pub store : Spans (book_of steps) before.store now.store
-  pub runs : All IsToldRun steps
   -- without a renewal the store is in its generation
   pub still : AllByRecursion IsNoRenewal steps → now.store.generation ≡ before.store.generation
   pub unread : AllByRecursion IsNoRenewal steps → StaysUnread before.store now.store
@@ -169,7 +187,8 @@ IsEndOf (Abnormal AfterCrash) steps v =
 IsEndOf (Abnormal RestartOff) steps v = EndsWith (entry.Ended endings.RestartOff) steps
 IsEndOf (Abnormal (StartupFailed why)) steps v =
     EndsWith (entry.Ended endings.StartupFailed) steps × (v.outcome ≡ Some (Refused why))
-IsEndOf (Abnormal GenerationsSpent) steps v = v.work.standing.generation ≡ 4294967295
+IsEndOf (Abnormal GenerationsSpent) steps v =
+    (v.work.standing.generation ≡ 4294967295) × (first_due v.work.standing.due ≡ Some act.Reset)
 IsEndOf NoMemory steps v = Unit {0}
 
 -- ---- what is served

@@ -7,8 +7,10 @@ pub mod Log
 pub mod Once
 pub mod Outside
 pub mod Print
+pub mod PrintLaws
 pub mod Quiet
 pub mod Serves
 pub mod Service
 pub mod Story
+pub mod Undisturbed
 pub mod View

@@ -1,14 +1,15 @@
 -- What a server serves: connections, one after another.
-use Rattle.std.specs.Prelude.{◌≡◌, ◌⊎◌, ℕ, ◌+◌, Bool, true, false, if◌then◌else◌, List, [], ◌∷◌, length, map, All, Option, option_map, Result, IfErr, IfSome, OnOk}
+use Rattle.std.specs.Prelude.{◌≡◌, ◌⊎◌, ℕ, ◌+◌, ◌≤◌, Bool, true, false, if◌then◌else◌, List, [], ◌∷◌, length, map, All, Option, option_map, Result, Err, IfErr, IfSome, OnOk}
 use Rattle.pm_admit.specs.declared.Cac.TheVariants as decisions
 use Rattle.pm_keys.specs.CancelKey.{cancel_key}
 use Rattle.pm_outside.specs.Visits.{Visits}
 use Rattle.pm_chain.specs.Steps.{Step, journal_of}
 use Rattle.pm_journal.specs.declared.supervision.Taken.{Taken}
-use Rattle.pm_once.specs.Goes.{Goes, IsEndOf, IsIdle, StaysOpen, accepted_in, is_last_drawn, sessions_in}
+use Rattle.pm_once.specs.Goes.{Goes, IsEndOf, IsIdle, StaysOpen, accepted_in, asked_in, is_last_drawn, sessions_in}
 use Rattle.pm_once.specs.Service.{Connection, IsServedAs, run_of, with_connections, with_end}
 use Rattle.pm_once.specs.View.{View}
 use Rattle.pm_once.specs.declared.end.ServerEnd.{ServerEnd}
+use Rattle.pm_once.specs.declared.end.ServerEnd.TheVariants.{NoMemory}
 
 -- it was accepted, and not refused
 abbrev pub taken_for : Connection → Taken
@@ -45,5 +46,7 @@ pub record Serves (gives : ℕ → Type 0) (result : Result (Unit {0}) ServerEnd
   -- links are served only where they are asked for, and they are asked for until the port's end, or behind the last pid
   pub deaf : before.listens ≡ false → (now.listens ≡ false) × (connections ≡ []) × (ended ≡ false)
   pub at_end : ended ≡ true → now.listens ≡ false
+  -- behind the port's end a shutdown was asked for, unless memory was short
+  pub asked : ended ≡ true → (1 ≤ length (asked_in (journal_of steps))) ⊎ (result ≡ Err NoMemory)
   pub drawn : is_last_drawn before.work.standing.last_pid ≡ true → is_last_drawn now.work.standing.last_pid ≡ true
   pub why : now.listens ≡ false → (before.listens ≡ false) ⊎ ((ended ≡ true) ⊎ (is_last_drawn now.work.standing.last_pid ≡ true))

@@ -4,7 +4,7 @@ use Rattle.pm_admit.specs.declared.Cac.TheVariants as decisions
 use Rattle.pm_exit.specs.declared.child.Kind.TheVariants as kinds
 use Rattle.pm_exit.specs.declared.child.Status.{Status}
 use Rattle.pm_exit.specs.declared.child.Status.TheVariants as statuses
-use Rattle.pm_life.specs.Life.{Told}
+use Rattle.pm_life.specs.Life.{Child, Told, nothing_told}
 use Rattle.pm_outside.specs.Traffic.{IsFresh}
 use Rattle.pm_outside.specs.Visits.{Visit, Visits}
 use Rattle.pm_query.specs.Calls.{User, newcomer}
@@ -12,7 +12,7 @@ use Rattle.pm_query.specs.declared.book.BookEntry.{BookEntry}
 use Rattle.pm_segment.specs.Moves.{NotesEntries}
 use Rattle.pm_session.specs.Exchange.{LinkView, HasFailed}
 use Rattle.pm_session.specs.Sent.{Turn}
-use Rattle.pm_session.specs.Session.{Ending, IsSession, IsCaused, IsCancelledTurn, between, status_of}
+use Rattle.pm_session.specs.Session.{Ending, HasAskedFor, HasCancelled, HeedsTold, IsAttachedBehind, IsSession, IsCaused, IsCancelledTurn, between, status_of}
 use Rattle.pm_session.specs.declared.ending.Cause.{Cause}
 use Rattle.pm_session.specs.declared.ending.Cause.TheVariants.{DecisionRefused, GateRefused, Panicked, ToldToTerminate, ToldToQuit, Killed, Overtaken}
 use Rattle.pm_chain.specs.Steps.{ChildRun}
@@ -60,6 +60,12 @@ pub record IsServedAs (key limit : ℕ) (gives : ℕ → Type 0) (connection : C
   pub session : IsSession NotesEntries decisions.Ok (user_in connection) key connection.turns connection.ending
       (HasFailed connection.given connection.back) (between connection.back.traffic (Some []) (Some connection.noted))
   pub ungiven : told.given ≡ []
+  -- it asked for its signals at each turn, has heeded what it was given, and is attached only where it crashed
+  pub asked : HasAskedFor connection.turns (Some nothing_told) (Some told)
+  pub heeded : HeedsTold (status_of connection.ending) told
+  pub child : Child
+  pub attached : IsAttachedBehind connection.ending connection.generation child
+  pub cancels : HasCancelled connection.ending.cause connection.back.traffic (Some told)
   pub caused : IsCaused connection.ending connection.turns connection.generation decisions.Ok connection.back.traffic
       (HasFailed connection.given connection.back) (Some told) limit gives
   pub alone : IsAlone connection

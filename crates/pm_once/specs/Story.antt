@@ -10,7 +10,7 @@ use Rattle.pm_query.specs.History.{History, count_of, number}
 use Rattle.pm_query.specs.Book.{Base, IsLegal, history_of, standing_of as base_standing}
 use Rattle.pm_query.specs.Durable.{IsDurable, MeansAsOne}
 use Rattle.pm_query.specs.declared.book.BookEntry.{BookEntry}
-use Rattle.pm_query.specs.declared.book.BookEntry.TheVariants.{Answered, Opened, Released}
+use Rattle.pm_query.specs.declared.book.BookEntry.TheVariants.{Answered, Opened, Redone, Released}
 use Rattle.pm_once.specs.Outside.{DiskView}
 use Rattle.pm_once.specs.declared.end.ServerEnd.{ServerEnd}
 use Rattle.pm_once.specs.declared.end.ServerEnd.TheVariants.{Clean}
@@ -22,9 +22,15 @@ IsNoAnswer (Answered pid script reply commit front tick) = ⊥
 IsNoAnswer (Released pid front tick) = ⊥
 IsNoAnswer _ = Unit {0}
 
--- No query was answered. At every tick whatever a stop leaves means what a stop could have left at first, where the disk tells.
+abbrev pub IsNoRedo : BookEntry → Type 0
+IsNoRedo (Redone pid generation kept) = ⊥
+IsNoRedo _ = Unit {0}
+
+-- No redo has ended, and no query was answered. At every tick whatever a stop leaves means what a stop could have left at first,
+-- where the disk tells.
 pub record KeepsMeaning (book : List BookEntry) (before now : DiskView) : Type 0 where
   pub unanswered : AllByRecursion IsNoAnswer book
+  pub unredone : AllByRecursion IsNoRedo book
   pub keeps : IfSome now.files (λ _. (t : ℕ) → before.ticks ≤ t → t ≤ now.ticks
       → (image : Files) → now.images t image → MeansAsOne Means (before.images before.ticks) image)
 
@@ -63,10 +69,12 @@ abbrev pub IsSure : List BookEntry → Option Files → Type 0
 IsSure book files = HasOneGeneration book ⊎ ((its : Files) × (files ≡ Some its))
 
 -- What a run leaves that was handed an empty book: a book that is legal from a base, and files that at every tick hold its
--- history, or mean what they meant where nothing was answered. Behind a clean end they stand for all its commits.
+-- history from its first redo on, and before it mean what they meant. Behind a clean end they stand for all its commits, and so
+-- does whatever a stop leaves.
 pub record IsStory (end : ServerEnd) (before now : DiskView) (book : List BookEntry) : Type 0 where
   pub base : Base
   pub faults_are : base.faults ≡ before.faults
   pub legal : IsSure book now.files → IsLegal base book
   pub stops : KeepsMeaning book before now ⊎ HoldsHistory base book before now
   pub clean : end ≡ Clean → IfSome now.files (λ files. ∥ IsClean (history_of base book) files ∥₁)
+  pub leaves_clean : end ≡ Clean → IfSome now.files (λ _. (image : Files) → now.images now.ticks image → ∥ IsClean (history_of base book) image ∥₁)

@@ -1,7 +1,7 @@
 //! The children that serve no connection, and what they have to do.
 
-ghost use Rattle.std.specs.Prelude.{◌≡◌};
-ghost use Rattle.pm_once.specs.Auxiliaries.{IsNextDuty, nobody, with_started};
+ghost use Rattle.std.specs.Prelude.{◌≡◌, true, None};
+ghost use Rattle.pm_once.specs.Auxiliaries.{IsDue, IsNextDuty, nobody, with_started};
 
 use pm_exit::Kind;
 
@@ -64,7 +64,8 @@ impl Auxiliaries {
 
     /// Takes off the next child that has something to do, if there is one.
     pub fn next(&mut self) -> Option<Duty>
-        ensures { IsNextDuty result self.old self.new }
+        ensures taken { IsNextDuty result self.old self.new }
+        ensures due { IsDue result self.old }
     {
         if let Some(pid) = self.startup.take() {
             return Some(Duty::Redo { pid });
@@ -87,7 +88,10 @@ impl Auxiliaries {
 
     // Takes off the next child that is told to end at once.
     fn next_to_quit(&mut self) -> Option<Duty>
-        ensures { IsNextDuty result self.old self.new }
+        requires read { self.old.startup ≡ None }
+        requires quit { self.old.is_quit ≡ true }
+        ensures taken { IsNextDuty result self.old self.new }
+        ensures due { IsDue result self.old }
     {
         if let Some(pid) = self.checkpointer.take() {
             return Some(Duty::Quit {

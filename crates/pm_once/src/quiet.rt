@@ -23,6 +23,7 @@ pub struct Quiet<H: Home> {
     pub(crate) attached: Option<u32>,
     pub(crate) asked: u64,
     pub(crate) has_met: bool,
+    pub(crate) asked_cancel: Option<(u32, u32)>,
     pub(crate) of: PhantomData<H>,
     ghost at_home: { generation ≡ H.home },
 }

@@ -24,6 +24,7 @@ impl<H: Home> Quiet<H> {
             attached: None,
             asked: 0,
             has_met: false,
+            asked_cancel: None,
             of: PhantomData,
         }
     }
@@ -62,7 +63,8 @@ impl<H: Home> Life for Quiet<H> {
         self.attached = None;
     }
 
-    fn cancel(&mut self, _pid: u32, _key: u32) -> Cancelled {
+    fn cancel(&mut self, pid: u32, key: u32) -> Cancelled {
+        self.asked_cancel = Some((pid, key));
         Cancelled::NoSuchPid
     }
 }

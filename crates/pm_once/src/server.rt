@@ -149,7 +149,7 @@ impl<J: Chronicle<PmEvent>, O: Sink, D: Disk, B: Chronicle<BookEntry>> Server<J,
 }
 
 impl<J: Chronicle<PmEvent>, O: Sink, D: Disk, B: Chronicle<BookEntry>> Server<J, O, D, B> {
-    ghost use Rattle.std.specs.Prelude.{◌⊎◌, ℕ, Some, IfNone, IfSome, IsSome, OnErr, OnOk, true};
+    ghost use Rattle.std.specs.Prelude.{◌⊎◌, ◌≢◌, ℕ, Some, IfNone, IfSome, IsSome, OnErr, OnOk, true, false};
     ghost use Rattle.pm_exit.specs.declared.child.Kind.TheVariants.{Checkpointer, Startup};
     ghost use Rattle.pm_chain.specs.Steps.{ChildRun};
     ghost use Rattle.pm_journal.specs.Roll.{kind_in};
@@ -242,9 +242,12 @@ impl<J: Chronicle<PmEvent>, O: Sink, D: Disk, B: Chronicle<BookEntry>> Server<J,
         requires running { IsRunning (view_of (B.entries self.old.store.book) self.old) }
         requires there { kind_in pid (standing self.old.supervision).children ≡ Some Checkpointer }
         requires off { self.old.auxiliaries.checkpointer ≡ None }
-        ensures { (run : ChildRun) × (result ≡ exit_of run)
+        requires calm { self.old.auxiliaries.is_quit ≡ false }
+        requires asked { self.old.auxiliaries.is_asked ≡ true }
+        ensures run { (run : ChildRun) × (result ≡ exit_of run)
             × HasAuxiliaryRun run (view_of (B.entries self.old.store.book) self.old)
             (view_of (B.entries self.new.store.book) self.new) }
+        ensures kind { result.kind ≡ Checkpointer }
     {
         let closed = write_last(&mut self.store, pid);
         self.outcome = Some(Outcome::Closed(closed));
@@ -263,6 +266,8 @@ impl<J: Chronicle<PmEvent>, O: Sink, D: Disk, B: Chronicle<BookEntry>> Server<J,
         ensures runs { IfSome result (λ exit. (run : ChildRun) × (exit ≡ exit_of run)
             × HasAuxiliaryRun run (view_of (B.entries self.old.store.book) self.old)
             (view_of (B.entries self.new.store.book) self.new)) }
+        ensures had { IfSome result (λ exit. exit.kind ≡ Startup
+            → self.old.auxiliaries.startup ≢ None) }
         ensures none { IfNone result (self.new ≡ self.old) }
     {
         match self.auxiliaries.next() {

@@ -1,5 +1,5 @@
 use Rattle.std.proofs.Common.{◌<◌, ◌-◌, length, take, drop, ap, arith, length-drop}
-use Rattle.pm_once.proofs.Sending.{further, nothing_yet, rest_of}
+use Rattle.pm_once.specs.PrintLaws.{further, nothing_yet, rest_of}
 use Rattle.pm_once.proofs.printing.print.Goals as goal
 
 pub loop-rest-init : goal.loop-rest-init

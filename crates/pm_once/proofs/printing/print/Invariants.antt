@@ -1,5 +1,5 @@
 use Rattle.std.proofs.Common.{◌≤◌, length}
-use Rattle.pm_once.proofs.Sending.{IsUpTo}
+use Rattle.pm_once.specs.PrintLaws.{IsUpTo}
 use Rattle.pm_once.proofs.printing.print.Given as goal
 
 abbrev pub invariant-loop-rest : goal.invariant-loop-rest

@@ -3,7 +3,7 @@ use Rattle.std.specs.Prelude.{codes, decimal}
 use Rattle.pm_disk.specs.declared.disk.Which.{Which}
 use Rattle.pm_once.specs.Print.{file_letter, redo_line}
 use Rattle.pm_record.specs.declared.fault.RedoFault.TheVariants.{BadFile}
-use Rattle.pm_once.proofs.Sending.{cut_short, printed_as, printed_then, printed_whole}
+use Rattle.pm_once.specs.PrintLaws.{cut_short, printed_as, printed_then, printed_whole}
 use Rattle.pm_once.proofs.printing.print_damage.Goals as goal
 
 -- the line's end

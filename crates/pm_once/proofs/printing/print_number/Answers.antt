@@ -1,6 +1,6 @@
 use Rattle.std.proofs.Common.{◌∙◌}
 use Rattle.std.specs.Prelude.{decimal}
-use Rattle.pm_once.proofs.Sending.{printed_as}
+use Rattle.pm_once.specs.PrintLaws.{printed_as}
 use Rattle.pm_once.proofs.printing.print_number.Goals as goal
 
 pub returns-clause-said : goal.returns-clause-said

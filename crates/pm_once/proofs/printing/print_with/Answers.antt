@@ -1,6 +1,6 @@
 use Rattle.std.proofs.Common.{◌++◌}
 use Rattle.std.specs.Prelude.{codes, decimal}
-use Rattle.pm_once.proofs.Sending.{cut_short, printed_then, printed_whole}
+use Rattle.pm_once.specs.PrintLaws.{cut_short, printed_then, printed_whole}
 use Rattle.pm_once.proofs.printing.print_with.Goals as goal
 
 pub returns-in_err-print-clause-said : goal.returns-in_err-print-clause-said

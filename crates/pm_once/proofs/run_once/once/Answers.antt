@@ -1,20 +1,20 @@
-use Rattle.std.proofs.Common.{◌≡◌, List, [], None, refl, sym, ap, subst, ◌∙◌, inl}
+use Rattle.std.proofs.Common.{◌≡◌, ℕ, List, [], None, refl, sym, ap, subst, ◌∙◌, inl, inr}
 use Rattle.std.specs.Prelude.{Option, false, true, IfSome}
 use Rattle.std.proofs.lemmas.List.Elements.{All-nil}
+use Rattle.pm_disk.specs.Cause.{Rose}
 use Rattle.pm_state.specs.declared.event.PmEvent.{PmEvent}
 use Rattle.pm_journal.specs.Stands.{any_moment}
 use Rattle.pm_journal.specs.Supervision.{at_work}
 use Rattle.pm_segment.specs.Moment.{moment_of}
 use Rattle.pm_segment.specs.Moves.{IsShown}
 use Rattle.pm_segment.specs.MovesLaws.{time_still}
-use Rattle.pm_once.specs.AuxiliaryRuns.{IsToldRun}
 use Rattle.pm_once.specs.Log.{view_of as log_view_of}
 use Rattle.pm_once.specs.Outside.{OutsideView, outside_view}
 use Rattle.pm_once.specs.Once.{IsBook, IsJournal}
 use Rattle.pm_once.specs.View.{View, view_of}
-use Rattle.pm_once.proofs.Whole.{HasBegun, begins_idle, begins_running, nothing_asked, nothing_journal, logged_as, nothing_logged, whole_asked, whole_book_is, whole_end, whole_journal, whole_log}
+use Rattle.pm_once.proofs.Whole.{HasBegun, begins_idle, begins_running, nothing_asked, nothing_journal, logged_as, nothing_logged, whole_asked, whole_book_is, whole_end, whole_journal, whole_log, whole_rose, whole_runs}
 use Rattle.pm_once.proofs.Going.{serves_nothing}
-use Rattle.pm_once.proofs.Stories.{HasRunSo, story_nothing, unread_counts, view_at, whole_cause, whole_story}
+use Rattle.pm_once.proofs.Stories.{HasRunSo, ends_well, story_nothing, unread_counts, view_at, whole_cause, whole_story}
 use Rattle.pm_once.proofs.Serving.{nothing_served}
 use Rattle.pm_once.proofs.run_once.once.Goals as goal
 
@@ -28,6 +28,8 @@ run-end-requires g c =
       unbroken = c.new-log.ensures.unbroken;
       lost = c.new-2.ensures.items;
       auxiliaries = c.none.ensures;
+      outcome = refl;
+      unread = c.in-Ok.ensures.unread;
       listens = refl;
       generation = c.in-Ok.ensures.generation;
       inside = c.in-Ok.ensures.empty;
@@ -48,13 +50,14 @@ returns-in-Err-clause-run g c =
       chained = c.laws.ensures.chained limits any_moment [] tt (nothing_journal c.laws.ensures.steps limits gives (g.J.Chronicle.entries c.args.outside.journal)).are_steps;
       asked = nothing_asked limits;
       ends = tt;
-      runs = All-nil IsToldRun;
+      runs = tt;
       served = nothing_served c.args.outside.seed c.args.conf.now.session.authentication_ms gives [] (g.P.Port.visits c.args.outside.port) serves_nothing;
       logged = logged_as g.O.Sink.written g.O.Sink.faults _ _ _ _ _ c.new-log.ensures.sink c.into_sink.ensures
           (nothing_logged (log_view_of c.new-log.result) (log_view_of c.say_end.new.self) c.new-log.ensures.unbroken c.say_end.ensures);
       faults = All-nil (IsShown (g.D.Disk.faults c.args.outside.disk) (g.D.Disk.faults c.in-Err.disk));
       story = λ empty. rw refused.0 (story_nothing (outside_view c.args.outside).disk _ (refused.1 ∙ empty));
       cause = tt;
+      well = λ calm files is sound. inr refl;
     }
 
 pub returns-clause-run : goal.returns-clause-run
@@ -71,6 +74,8 @@ returns-clause-run g c =
       unbroken = c.new-log.ensures.unbroken;
       lost = c.new-2.ensures.items;
       auxiliaries = c.none.ensures;
+      outcome = refl;
+      unread = c.in-Ok.ensures.unread;
       listens = refl;
       generation = c.in-Ok.ensures.generation;
       inside = c.in-Ok.ensures.empty;
@@ -112,13 +117,18 @@ returns-clause-run g c =
       chained = let j = whole_journal laws.steps laws.work laws.journal limits gives end r.1 r.2 steps v now begun r.3 in laws.chained limits any_moment steps j.legal j.are_steps;
       asked = whole_asked laws.steps laws.work limits gives end r.1 r.2 steps v now begun r.3;
       ends = whole_end laws.steps laws.work limits gives end r.1 r.2 steps v now begun r.3;
-      runs = r.3.goes.runs;
+      runs = whole_runs laws.steps laws.work limits gives end r.1 r.2 steps v now begun r.3;
       served = r.4;
       logged = logged_as g.O.Sink.written g.O.Sink.faults _ _ _ _ _ c.new-log.ensures.sink c.into_sink-2.ensures
           (whole_log laws.steps laws.work limits gives end r.1 r.2 steps v now (log_view_of c.say_end-2.new.self) begun r.3 c.say_end-2.ensures);
       faults = rw c.into_parts-disk.ensures.0 (r.3.goes.store.counts (g.D.Disk.faults disk) counted).each;
       story = λ empty. rw (c.into_parts-disk.ensures.0, c.into_parts-disk.ensures.1)
-          (whole_story end before.disk v.store steps now before.book empty c.in-Ok.ensures.notes (c.in-Ok.ensures.waits empty) its_run r.3.ends c.keeps_its_run.ensures.run);
+          (whole_story end before.disk v.store steps now before.book empty c.in-Ok.ensures.notes (c.in-Ok.ensures.waits empty) its_run r.3.ends c.run-end.new.self.store.rests c.keeps_its_run.ensures.run);
       cause = rw (c.into_parts-disk.ensures.0, c.into_parts-disk.ensures.1)
-          (whole_cause end before left v.store steps now (λ empty. c.in-Ok.ensures.waits empty) its_run r.3.ends c.reads_its_files.ensures);
+          (whole_cause end before left v.store steps now (λ empty. c.in-Ok.ensures.waits empty) its_run r.3.ends
+          (λ is. subst (λ (n : ℕ). Rose n now.store.faults) its_run.faults (whole_rose laws.steps laws.work limits gives end r.1 r.2 steps v now begun r.3 is)) c.reads_its_files.ensures);
+      well = rw c.into_parts-disk.ensures.0
+          (ends_well end steps before (record left { disk = view_at now.store; book = now.store.book })
+          (whole_cause end before left v.store steps now (λ empty. c.in-Ok.ensures.waits empty) its_run r.3.ends
+          (λ is. subst (λ (n : ℕ). Rose n now.store.faults) its_run.faults (whole_rose laws.steps laws.work limits gives end r.1 r.2 steps v now begun r.3 is)) c.reads_its_files.ensures));
     }

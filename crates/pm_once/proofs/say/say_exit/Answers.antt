@@ -6,7 +6,7 @@ use Rattle.pm_state.specs.Text.{kind_text, status_text}
 use Rattle.pm_state.specs.declared.action.Line.TheVariants.{ChildExit}
 use Rattle.pm_once.specs.Log.{log_line}
 use Rattle.pm_once.specs.Print.{IsPrinted}
-use Rattle.pm_once.proofs.Sending.{nothing_yet, part_cut, part_last, part_more, printed_as}
+use Rattle.pm_once.specs.PrintLaws.{nothing_yet, part_cut, part_last, part_more, printed_as}
 use Rattle.pm_once.proofs.say.say_exit.Goals as goal
 
 abbrev feed : List ℕ

@@ -2,7 +2,7 @@ use Rattle.std.proofs.Common.{ℕ, ap, sym}
 use Rattle.std.specs.Prelude.{codes, decimal}
 use Rattle.pm_exit.specs.declared.child.Status.{Status}
 use Rattle.pm_state.specs.Text.{status_text}
-use Rattle.pm_once.proofs.Sending.{cut_short, printed_as, printed_then, printed_whole}
+use Rattle.pm_once.specs.PrintLaws.{cut_short, printed_as, printed_then, printed_whole}
 use Rattle.pm_once.proofs.say.say_status.Goals as goal
 
 pub returns-in_err-print-in-Code-clause-said : goal.returns-in_err-print-in-Code-clause-said

@@ -1,13 +1,14 @@
-use Rattle.std.proofs.Common.{Some, inr, refl}
+use Rattle.std.proofs.Common.{Some, inl, inr, refl}
 use Rattle.pm_once.specs.AuxiliaryRuns.{checkpointer_run}
 use Rattle.pm_once.specs.View.{View, view_of}
 use Rattle.pm_once.specs.declared.outcome.Outcome.TheVariants.{Closed}
 use Rattle.pm_once.proofs.AuxiliaryRuns.{checkpointer_is_run}
 use Rattle.pm_once.proofs.Knowing.{known_closed}
+use Rattle.pm_once.proofs.Undisturbed.{still_less}
 use Rattle.pm_once.proofs.server.Server.close.Goals as goal
 
-pub returns : goal.returns
-returns g c =
+pub returns-clause-run : goal.returns-clause-run
+returns-clause-run g c =
     let n = c.write_last-closed.ensures.notes in
     let home = c.args.self.now.store.generation in
     let closed = c.write_last-closed in
@@ -25,7 +26,10 @@ returns g c =
           work = refl;
           store = n.2;
           knows = λ from known. known_closed from c.args.pid home closed.result n.0 v now refl n.1 n.2 closed.ensures.clean closed.ensures.full known;
-          told = inr (closed.result, n.1, refl);
+          told = inr (c.requires.calm, c.requires.asked, closed.result, n.1, refl);
+          less = still_less c.args.self.now.auxiliaries;
+          sound = λ from counted. inl (λ is. cc);
+          came = tt;
           lost = refl;
           log = refl;
           listens = refl;

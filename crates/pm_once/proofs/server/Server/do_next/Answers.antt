@@ -91,7 +91,7 @@ returns-in-Err-clause-does g c =
     let s = standing_of c.args.self.now.supervision.memory in
     let spent = next_spent s (record {}) (sym c.in-Err.ensures.act) in
     let w = at_work c.next.new.self in
-    ([], waits v w (Err (Abnormal GenerationsSpent)) (c.in-Err.ensures.standing ∙ spent.after) (subst (λ (es : List PmEvent). Adds es v.work.told w.told) spent.entries c.in-Err.ensures.told) spent.generation (λ is. absurd (no_ok false _ _ refl is)) (λ is. no_ok true _ _ refl is))
+    ([], waits v w (Err (Abnormal GenerationsSpent)) (c.in-Err.ensures.standing ∙ spent.after) (subst (λ (es : List PmEvent). Adds es v.work.told w.told) spent.entries c.in-Err.ensures.told) (spent.generation, spent.reset) (λ is. absurd (no_ok false _ _ refl is)) (λ is. no_ok true _ _ refl is))
 
 pub returns-in-Err-clause-said : goal.returns-in-Err-clause-said
 returns-in-Err-clause-said g c = λ says.

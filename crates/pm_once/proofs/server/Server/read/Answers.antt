@@ -1,8 +1,9 @@
-use Rattle.std.proofs.Common.{Ok, Err, None, ◌∙◌, ap, refl}
+use Rattle.std.proofs.Common.{Ok, Err, None, ◌∙◌, ap, inl, refl}
 use Rattle.pm_once.specs.AuxiliaryRuns.{startup_run}
 use Rattle.pm_once.specs.View.{View, view_of}
-use Rattle.pm_once.proofs.AuxiliaryRuns.{startup_is_run}
+use Rattle.pm_once.proofs.AuxiliaryRuns.{refused_comes, startup_is_run}
 use Rattle.pm_once.proofs.Knowing.{known_moved, known_refused}
+use Rattle.pm_once.proofs.Undisturbed.{still_less}
 use Rattle.pm_once.proofs.server.Server.read.Goals as goal
 
 pub returns-in-Ok : goal.returns-in-Ok
@@ -24,6 +25,9 @@ returns-in-Ok g c =
           store = n.2;
           knows = λ from known. known_moved from n.0 v now refl n.2 known;
           told = (Ok c.in-Ok.kept, n.1, refl);
+          less = still_less c.args.self.now.auxiliaries;
+          sound = λ from counted. inl (λ is. cc);
+          came = tt;
           lost = refl;
           log = refl;
           listens = refl;
@@ -51,6 +55,9 @@ returns-in-Err g c =
           store = n.2;
           knows = λ from known. known_refused from c.args.pid home c.in-Err.why n.0 v now c.refused-self.ensures n.1 n.2 (λ fault is. c.read_log.ensures.reason fault (c.in-Err.is ∙ ap (λ w. Err w) is)) (λ fault is. c.read_log.ensures.unread fault (c.in-Err.is ∙ ap (λ w. Err w) is)) (λ fault is. c.read_log.ensures.shut fault (c.in-Err.is ∙ ap (λ w. Err w) is)) known;
           told = (Err c.in-Err.why, n.1, refl);
+          less = still_less c.args.self.now.auxiliaries;
+          sound = λ from counted. inl (λ is. cc);
+          came = refused_comes c.args.pid home c.in-Err.why n.0 v.outcome now.outcome c.refused-self.ensures n.1;
           lost = refl;
           log = refl;
           listens = refl;

@@ -4,8 +4,9 @@ use Rattle.pm_exit.specs.declared.child.Status.TheVariants.{Code}
 use Rattle.pm_segment.specs.MovesLaws.{moves_none}
 use Rattle.pm_once.specs.View.{View, view_of}
 use Rattle.pm_once.specs.AuxiliaryRuns.{idle_run}
-use Rattle.pm_once.proofs.AuxiliaryRuns.{idle_is_run, quit_is_told}
-use Rattle.pm_once.proofs.AuxiliaryEnds.{auxiliary_is_off, auxiliary_kind, auxiliary_off, auxiliary_there, no_session}
+use Rattle.pm_once.specs.Auxiliaries.{heard_of}
+use Rattle.pm_once.proofs.AuxiliaryRuns.{idle_comes, idle_is_run, quit_is_told}
+use Rattle.pm_once.proofs.AuxiliaryEnds.{auxiliary_less, auxiliary_is_off, auxiliary_kind, auxiliary_off, auxiliary_there, no_backend, no_session}
 use Rattle.pm_once.proofs.server.Server.run_next.Goals as goal
 
 pub returns-in-Some-Quit-clause-runs : goal.returns-in-Some-Quit-clause-runs
@@ -13,7 +14,8 @@ returns-in-Some-Quit-clause-runs g c =
     let v : View = view_of (g.B.Chronicle.entries c.args.self.now.store.book) c.args.self.now in
     let pid = c.in-Some-Quit.pid in
     let k = c.in-Some-Quit.kind in
-    let off = rw c.in-Some-Quit.field-0-is at c.in-Some-Quit.ensures in
+    let off = rw c.in-Some-Quit.field-0-is at c.in-Some-Quit.ensures.taken in
+    let due = rw c.in-Some-Quit.field-0-is at c.in-Some-Quit.ensures.due in
     let there = auxiliary_there pid k _ _ v.work.standing off c.requires.2.auxiliaries in (
       idle_run pid v.store.generation k (Code 2),
       c.exit.ensures,
@@ -27,7 +29,10 @@ returns-in-Some-Quit-clause-runs g c =
           work = refl;
           store = moves_none v.store;
           knows = λ from known. record { counted = known.counted; come = known.come };
-          told = quit_is_told pid v.store.generation k (auxiliary_kind pid k _ _ off);
+          told = quit_is_told (heard_of v.auxiliaries) pid v.store.generation k due (auxiliary_kind pid k _ _ off);
+          less = auxiliary_less pid k _ _ off;
+          sound = λ from counted. inl (λ is. absurd (no_backend k (auxiliary_kind pid k _ _ off) is));
+          came = idle_comes pid v.store.generation k (Code 2) v.outcome (auxiliary_kind pid k _ _ off);
           lost = refl;
           log = refl;
           listens = refl;
@@ -40,7 +45,8 @@ pub returns-in-Some-Terminate-clause-runs : goal.returns-in-Some-Terminate-claus
 returns-in-Some-Terminate-clause-runs g c =
     let v : View = view_of (g.B.Chronicle.entries c.args.self.now.store.book) c.args.self.now in
     let pid = c.in-Some-Terminate.pid in
-    let off = rw c.in-Some-Terminate.field-0-is at c.in-Some-Terminate.ensures in
+    let off = rw c.in-Some-Terminate.field-0-is at c.in-Some-Terminate.ensures.taken in
+    let due = rw c.in-Some-Terminate.field-0-is at c.in-Some-Terminate.ensures.due in
     let there = auxiliary_there pid Writer _ _ v.work.standing off c.requires.2.auxiliaries in (
       idle_run pid v.store.generation Writer (Code 0),
       c.exit-in-Some-Terminate.ensures,
@@ -54,7 +60,10 @@ returns-in-Some-Terminate-clause-runs g c =
           work = refl;
           store = moves_none v.store;
           knows = λ from known. record { counted = known.counted; come = known.come };
-          told = inl refl;
+          told = inr (due.0, due.1, refl);
+          less = auxiliary_less pid Writer _ _ off;
+          sound = λ from counted. inl (λ is. cc);
+          came = idle_comes pid v.store.generation Writer (Code 0) v.outcome (inr refl);
           lost = refl;
           log = refl;
           listens = refl;

@@ -1,13 +1,20 @@
-use Rattle.std.proofs.Common.{◌++◌, ◌∷◌, [], subst}
+use Rattle.std.proofs.Common.{◌++◌, ◌∷◌, [], ◌∙◌, sym, ap, subst}
 use Rattle.pm_chain.specs.Steps.{Runs, RunsOn}
 use Rattle.pm_journal.specs.Standing.{later}
 use Rattle.pm_journal.specs.declared.exit.ChildExit.{ChildExit}
+use Rattle.pm_journal.specs.Stands.{AtWork, HasPast}
 use Rattle.pm_once.specs.Calls.{NotesExit}
 use Rattle.pm_once.specs.View.{View, view_of}
 use Rattle.pm_once.proofs.AuxiliaryEnds.{ran_finishes, ran_short}
 use Rattle.pm_once.proofs.Alls.{running_on}
 use Rattle.pm_once.proofs.Ending.{ran_noted}
+use Rattle.pm_once.proofs.Past.{past_of}
 use Rattle.pm_once.proofs.server.Server.run_one.Goals as goal
+
+pub note_exit-requires-clause-stands : goal.note_exit-requires-clause-stands
+note_exit-requires-clause-stands g c =
+    let v : View = view_of (g.B.Chronicle.entries c.args.self.now.store.book) c.args.self.now in
+    subst (λ (w : AtWork). HasPast w) (sym c.in-Some.ensures.runs.2.ran.work) (past_of v c.requires.running)
 
 pub finish-requires-clause-running : goal.finish-requires-clause-running
 finish-requires-clause-running g c =
@@ -17,7 +24,7 @@ finish-requires-clause-running g c =
     let gives = g.C.Clock.gives c.args.clock.now in
     let auxiliary = c.in-Some.ensures.runs in
     let noted = c.in-Ok.ensures.noted in
-    let one = ran_noted c.laws.ensures.steps c.laws.ensures.work c.laws.ensures.journal gives auxiliary.0 noted.0 v mid now c.requires.running c.requires.idle auxiliary.2.ran
+    let one = ran_noted c.laws.ensures.steps c.laws.ensures.work c.laws.ensures.journal gives auxiliary.0 noted.0 v mid now c.requires.running c.requires.idle (λ is. c.in-Some.ensures.had (ap (λ (x : ChildExit). x.kind) auxiliary.1 ∙ is)) auxiliary.2.ran
     (subst (λ (x : ChildExit). NotesExit gives x noted.0 mid now) auxiliary.1 noted.1) in
     running_on gives (Runs auxiliary.0 (later noted.0 v.work.standing) ∷ []) v now c.requires.running one.goes one.stays
 
@@ -29,7 +36,7 @@ returns-in-Ok-clause-runs g c =
     let gives = g.C.Clock.gives c.args.clock.now in
     let auxiliary = c.in-Some.ensures.runs in
     let noted = c.in-Ok.ensures.noted in
-    let one = ran_noted c.laws.ensures.steps c.laws.ensures.work c.laws.ensures.journal gives auxiliary.0 noted.0 v mid now c.requires.running c.requires.idle auxiliary.2.ran
+    let one = ran_noted c.laws.ensures.steps c.laws.ensures.work c.laws.ensures.journal gives auxiliary.0 noted.0 v mid now c.requires.running c.requires.idle (λ is. c.in-Some.ensures.had (ap (λ (x : ChildExit). x.kind) auxiliary.1 ∙ is)) auxiliary.2.ran
     (subst (λ (x : ChildExit). NotesExit gives x noted.0 mid now) auxiliary.1 noted.1) in
     ((Runs auxiliary.0 (later noted.0 v.work.standing) ∷ []) ++ c.finish.ensures.0, ran_finishes gives auxiliary.0 noted.0 c.finish.result c.finish.ensures.0 v now _ one auxiliary.2.alone c.finish.ensures.1)
 

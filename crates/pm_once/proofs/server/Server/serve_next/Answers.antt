@@ -106,7 +106,7 @@ finish-requires-clause-running g c =
     ∙ session_exit key limit gives s.0 c.serve_link-status.result.status s.5 s.6 in
     let n = c.in-Ok-note_exit.ensures.noted in
     let idle = idle_of v2 c.admit-admitted.result.settled c.in-Ok-settled.is admits.rests admits.unowed in
-    let done = ran_noted c.laws.ensures.steps c.laws.ensures.work c.laws.ensures.journal gives (run_of s.0) n.0 v2 v3 v4 running2 idle ran (subst (λ (x : ChildExit). NotesExit gives x n.0 v3 v4) exits n.1) in
+    let done = ran_noted c.laws.ensures.steps c.laws.ensures.work c.laws.ensures.journal gives (run_of s.0) n.0 v2 v3 v4 running2 idle (λ is none. cc) ran (subst (λ (x : ChildExit). NotesExit gives x n.0 v3 v4) exits n.1) in
     running_on gives (Runs (run_of s.0) (later n.0 v2.work.standing) ∷ []) v2 v4 running2 done.goes done.stays
 
 pub returns-in-Ok-note_exit : goal.returns-in-Ok-note_exit
@@ -135,7 +135,7 @@ returns-in-Ok-note_exit g c =
     let v5 : View = view_of (g.B.Chronicle.entries c.finish.new.self.store.book) c.finish.new.self in
     let n = c.in-Ok-note_exit.ensures.noted in
     let idle = idle_of v2 c.admit-admitted.result.settled c.in-Ok-settled.is admits.rests admits.unowed in
-    let done = ran_noted c.laws.ensures.steps c.laws.ensures.work c.laws.ensures.journal gives (run_of s.0) n.0 v2 v3 v4 running2 idle ran (subst (λ (x : ChildExit). NotesExit gives x n.0 v3 v4) exits n.1) in
+    let done = ran_noted c.laws.ensures.steps c.laws.ensures.work c.laws.ensures.journal gives (run_of s.0) n.0 v2 v3 v4 running2 idle (λ is none. cc) ran (subst (λ (x : ChildExit). NotesExit gives x n.0 v3 v4) exits n.1) in
     let f = c.finish.ensures in (
       (one.0 ++ Runs (run_of s.0) (later n.0 v2.work.standing) ∷ []) ++ f.0,
       s.0 ∷ [],
