@@ -21,8 +21,9 @@ use crate::outside::Ended;
 use crate::status::Top;
 use pm_disk::Disk;
 use pm_log::InitNo;
-use pm_once::{Outside, once, print, print_redo};
+use pm_once::{Outside, print, print_redo};
 use pm_outside::{Chronicle, Clock, Port, Sink};
+use pm_promises::once_as_promised;
 use pm_query::BookEntry;
 use pm_rows::Text;
 use pm_state::PmEvent;
@@ -67,7 +68,7 @@ where
         → Rose (D.faults outside.disk) (D.faults result.outside.disk) }
     ensures out_fault { result.status ≡ Top.OutFault
         → Rose (O.faults outside.sink) (O.faults result.outside.sink) }
-    // `once`: a run of the server, by the options of the line.
+    // `once`: a run of the server, by the options of the line, with what a user counts on.
     ensures once { (dir : List ℕ) (conf : Conf) → IsLineWith words.now Command.Once dir conf
         → RunsOnce conf result.status (outside_view outside) (outside_view result.outside) }
     // `controldata`: what the files stand for is told, or why they stand for nothing. They stay so.
@@ -137,7 +138,7 @@ where
         (outside_view result.outside) }
     ensures rest { (result.outside.clock ≡ outside.clock) × (result.outside.seed ≡ outside.seed) }
 {
-    let pm_once::Ended { end, outside } = once(rt, alloc, conf, outside);
+    let pm_once::Ended { end, outside } = once_as_promised(rt, alloc, conf, outside);
     Ended {
         status: Top::from(end),
         outside,

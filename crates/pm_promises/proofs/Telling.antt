@@ -1,0 +1,26 @@
+-- A run whose book is told has its story.
+use Rattle.std.proofs.Common.{◌∷◌, inr, List, [], Option, subst}
+use Rattle.std.specs.Prelude.{IfSome}
+use Rattle.pm_query.specs.declared.book.BookEntry.{BookEntry}
+use Rattle.pm_query.specs.Book.{MayGoOn}
+use Rattle.pm_query.specs.declared.book.BookEntry.TheVariants.{Opened}
+use Rattle.pm_words.specs.declared.conf.Conf.{Conf}
+use Rattle.pm_once.specs.Once.{IsOnceRun}
+use Rattle.pm_once.specs.Outside.{OutsideView}
+use Rattle.pm_once.specs.Story.{IsStory}
+use Rattle.pm_once.specs.declared.end.ServerEnd.{ServerEnd}
+use Rattle.pm_promises.specs.Promises.{IsTold}
+use Rattle.pm_promises.specs.Restarts.{OpensEmpty}
+use Rattle.pm_promises.proofs.Histories.{going-append}
+
+pub its_story : (conf : Conf) (end : ServerEnd) (before now : OutsideView) → IsOnceRun conf end before now → (book : List BookEntry) → IsTold before now book
+    → IsStory end before.disk now.disk book
+its_story conf end before now run book told =
+    subst (λ (o : Option (List BookEntry)). IfSome o (IsStory end before.disk now.disk)) told.book_is (run.story told.empty)
+
+pub opens_empty : (conf : Conf) (end : ServerEnd) (before now : OutsideView) → IsOnceRun conf end before now → (book : List BookEntry) → IsTold before now book
+    → OpensEmpty book
+opens_empty conf end before now run book told front behind generation pid is =
+    let story : IsStory end before.disk now.disk book = its_story conf end before now run book told in
+    let legal = (story.legal (inr (told.files, told.files_are))).entries in
+    (going-append story.base [] front (Opened generation ∷ behind) (subst (MayGoOn story.base []) is legal)).1.0.empty pid

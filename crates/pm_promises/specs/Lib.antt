@@ -1,0 +1,6 @@
+pub mod Replies
+pub mod Stops
+pub mod Restarts
+pub mod Ends
+pub mod Promises
+pub mod Laws

@@ -1,0 +1,72 @@
+-- What a user counts on of any run of a server, by what it leaves: its journal, its book, its links and its files.
+use Rattle.std.specs.Prelude.{◌≡◌, ◌⊎◌, ℕ, List, [], map, Some, IfSome}
+use Rattle.std.specs.List.{AllByRecursion}
+use Rattle.pm_disk.specs.Cause.{Rose}
+use Rattle.pm_disk.specs.Files.{Files}
+use Rattle.pm_keys.specs.CancelKey.{cancel_key}
+use Rattle.pm_admit.specs.declared.Cac.TheVariants as decisions
+use Rattle.pm_supervisor.specs.declared.Limits.{Limits}
+use Rattle.pm_record.specs.Pair.{MeansIn}
+use Rattle.pm_state.specs.declared.event.PmEvent.{PmEvent}
+use Rattle.pm_state.specs.Restarts.{RestartsInOrder}
+use Rattle.pm_query.specs.declared.book.BookEntry.{BookEntry}
+use Rattle.pm_query.specs.Book.{Base, history_of, standing_of}
+use Rattle.pm_chain.specs.Steps.{journal_of}
+use Rattle.pm_words.specs.declared.conf.Conf.{Conf}
+use Rattle.pm_once.specs.Once.{IsOnceRun}
+use Rattle.pm_once.specs.Outside.{DiskView, OutsideView}
+use Rattle.pm_once.specs.Service.{Connection}
+use Rattle.pm_once.specs.Story.{IsNoAnswer}
+use Rattle.pm_once.specs.declared.end.ServerEnd.{ServerEnd}
+use Rattle.pm_promises.specs.Ends.{EndsClean}
+use Rattle.pm_promises.specs.Replies.{AnswersAreRight, Talk}
+use Rattle.pm_promises.specs.Restarts.{OpensEmpty}
+use Rattle.pm_promises.specs.Stops.{AcknowledgedStays, WholeOrNot}
+
+-- The base is what the files meant that were handed in, unless the disk has failed, or nothing was answered.
+abbrev pub IsBaseOf : Base → List BookEntry → (before now : DiskView) → Type 0
+IsBaseOf base book before now =
+    AllByRecursion IsNoAnswer book
+    ⊎ (Rose before.faults now.faults ⊎ IfSome before.files (λ files. MeansIn files (standing_of base) base.bytes))
+
+-- The five, of one history.
+pub record IsPromised (limits : Limits) (end : ServerEnd) (journal : List PmEvent) (base : Base) (book : List BookEntry) (talks : List Talk) (before now : DiskView) : Type 0 where
+  pub base_is : IsBaseOf base book before now
+  -- every reply that was sent is right
+  pub answers_are_right : AnswersAreRight (history_of base book) talks
+  -- what was acknowledged stays
+  pub acknowledged_stays : AcknowledgedStays base book before now
+  -- a commit is in the rows as a whole, or not at all
+  pub whole_or_not : WholeOrNot base book before now
+  -- from an abnormal exit until redo has ended no session is admitted, and a generation begins with nobody left
+  pub admits_none_until_redo : RestartsInOrder limits journal
+  pub opens_empty : OpensEmpty book
+  -- a clean end leaves files of all commits
+  pub ends_clean : EndsClean end journal (history_of base book) now
+
+-- ---- of a run of `once`
+
+-- a connection of `once` as its client saw it
+abbrev pub talk_of : List ℕ → Connection → Talk
+talk_of seed connection = record {
+  pid = connection.pid;
+  key = cancel_key seed connection.pid;
+  decision = decisions.Ok;
+  ending = connection.ending;
+  link = connection.back.traffic;
+}
+
+-- the book tells, from its first entry on, and the disk tells its files
+pub record IsTold (before now : OutsideView) (book : List BookEntry) : Type 0 where
+  pub empty : before.book ≡ Some []
+  pub book_is : now.book ≡ Some book
+  pub files : Files
+  pub files_are : now.disk.files ≡ Some files
+
+-- A run keeps all of them where book and disk tell. What the journal says needs neither.
+pub record IsPromisedRun (conf : Conf) (end : ServerEnd) (before now : OutsideView) : Type 0 where
+  pub run : IsOnceRun conf end before now
+  pub restarts : RestartsInOrder conf.limits (journal_of run.steps)
+  pub promised :
+      (book : List BookEntry) → IsTold before now book
+      → (base : Base) × IsPromised conf.limits end (journal_of run.steps) base book (map (talk_of before.seed) run.connections) before.disk now.disk

@@ -1,0 +1,41 @@
+//! A whole run of the server, with what a user counts on.
+
+ghost use Rattle.std.specs.Prelude.{◌≡◌, ◌≤◌, ◌+◌, [], IfSome};
+ghost use Rattle.pm_once.specs.Outside.{outside_view};
+ghost use Rattle.pm_promises.specs.Promises.{IsPromisedRun};
+
+use pm_disk::Disk;
+use pm_once::{Conf, Ended, Outside, once};
+use pm_outside::{Chronicle, Clock, Port, Sink};
+use pm_query::{BookEntry, acked_never_falls, acknowledged_stays};
+use pm_state::{PmEvent, restarts_safely};
+use std::alloc::Global;
+use std::sync::Wait;
+
+/// Runs the server of one connection at a time over the disk until it ends, as `pm_once` does. The journal that it is given
+/// has no entries.
+pub fn once_as_promised<R, P, O, D, C, J, B>(
+    rt: &R,
+    alloc: Global,
+    conf: &Conf,
+    outside: Outside<P, O, D, C, J, B>,
+) -> Ended<P, O, D, C, J, B>
+where
+    R: Wait,
+    P: Port,
+    O: Sink,
+    D: Disk,
+    C: Clock,
+    J: Chronicle<PmEvent>,
+    B: Chronicle<BookEntry>,
+    requires within { conf.now.limits.max_connections + conf.now.limits.max_worker_processes ≤ 200 }
+    requires empty { IfSome (J.entries outside.journal) (λ entries. entries ≡ []) }
+    ensures run { IsPromisedRun conf.now result.end (outside_view outside)
+        (outside_view result.outside) }
+    ensures rest { (result.outside.clock ≡ outside.clock) × (result.outside.seed ≡ outside.seed) }
+{
+    acknowledged_stays();
+    acked_never_falls();
+    restarts_safely();
+    once(rt, alloc, conf, outside)
+}
