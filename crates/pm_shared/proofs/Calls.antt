@@ -1,0 +1,460 @@
+-- What a token's calls owe as they give the store back, and what they come to.
+use Rattle.std.proofs.Common.{◌≡◌, ◌≢◌, ◌⊎◌, inl, inr, ℕ, ◌+◌, ◌-◌, ◌<◌, ◌≤◌, ◌==◌, ◌&&◌, Bool, true, false, cond, List, [], ◌∷◌, ◌++◌, length, Option, None, Some, refl, sym, ◌∙◌, ap, subst, arith, append-nil}
+use Rattle.std.specs.Prelude.{Result, Ok, Err, OnErr, IfOk, Any, nat_eq}
+use Rattle.std.proofs.lemmas.Bool.Decides.{nat_tests}
+use Rattle.std.proofs.lemmas.List.Quantifiers.{Any-push}
+use Rattle.atomic_table.specs.Seated.{TableId}
+use Rattle.pm_sql.specs.declared.stmt.Stmt.{Stmt}
+use Rattle.pm_query.specs.declared.book.BookEntry.{BookEntry}
+use Rattle.pm_query.specs.declared.book.BookEntry.TheVariants.{Answered, Attached, Detached}
+use Rattle.pm_query.specs.declared.store.Staged.{Staged}
+use Rattle.pm_query.specs.declared.store.StoreNo.{StoreNo}
+use Rattle.pm_query.specs.declared.store.StoreNo.TheVariants.{Stale, Disk, Broken, Full, Redo, NoMemory}
+use Rattle.pm_query.specs.Book.{AnswersUpTo, generation_of, present, times_attached}
+use Rattle.pm_query.specs.Calls.{PassView, EnterNotes, NotesFault, NotesLostAnswer, RunNotes, LeaveNotes, new_pass, newcomer, user_of, with_front}
+use Rattle.pm_segment.specs.declared.pass.Pass.{Pass}
+use Rattle.pm_segment.specs.declared.segment.Segment.{Segment}
+use Rattle.pm_segment.specs.Moment.{moment}
+use Rattle.pm_segment.specs.Moves.{Moves}
+use Rattle.pm_segment.specs.Passes.{Admits, HasAnswer, view_of}
+use Rattle.pm_shared.specs.declared.views.Noted.{Noted}
+use Rattle.pm_shared.specs.declared.views.Taken.{Taken}
+use Rattle.pm_shared.specs.declared.views.Hand.{Hand}
+use Rattle.pm_shared.specs.declared.views.View.{View}
+use Rattle.pm_shared.specs.declared.views.View.TheVariants.{Worker}
+use Rattle.pm_shared.specs.Behind.{Behind, Knows}
+use Rattle.pm_shared.specs.Grows.{Grew, NotesLeave, passes_entered}
+use Rattle.pm_shared.specs.Log.{AllOwn, entries_of, noted_from}
+use Rattle.pm_shared.specs.Passes.{Among, live, renewed_pass, without_pass}
+use Rattle.pm_shared.specs.Quiet.{AllQuiet}
+use Rattle.pm_shared.specs.Rule.{taken}
+use Rattle.pm_shared.specs.Told.{HandMay, IsNothing, MayGive, Seated, Tells, TokenModel, Turns, first_of, given_back, is_own_of, met_of, passes_of, resting, with_held, TellsHand}
+use Rattle.pm_shared.proofs.Logs.{among_live, among-snoc, among_up_to, known_at, known_less, known_on, known_snoc, live-less, live-snoc, same_test, up_to-less, up_to-snoc}
+use Rattle.pm_shared.proofs.Stores.{admits_known, answer_on, behind_moves, generation_on, knows_moves, present_on, quiet_own, quiet_times, times_on}
+
+-- ---- what the calls note
+
+quiet_by : (es fs : List BookEntry) → es ≡ fs → AllQuiet fs → AllQuiet es
+quiet_by es fs is q = subst AllQuiet (sym is) q
+
+fault_quiet : (pid : ℕ) (script : List Stmt) (es : List BookEntry) → NotesFault pid es ⊎ NotesLostAnswer pid script es → AllQuiet es
+fault_quiet pid script es (inl fault) = quiet_by es _ fault.2 (tt, tt)
+fault_quiet pid script es (inr lost) = quiet_by es _ (lost.entries_are ∙ (λ i. lost.answer.entries_are i ++ lost.fault.2 i)) (tt, (tt, tt))
+
+pub run_quiet : (v : PassView) (g : Option ℕ) (script : List Stmt) (r : Result Staged StoreNo) (es : List BookEntry) → RunNotes (user_of g v) script r es → AllQuiet es
+run_quiet v g script (Ok staged) es notes = quiet_by es _ notes.answer.entries_are (tt, tt)
+run_quiet v g script (Err (Stale mine found)) es notes = quiet_by es _ notes.1 tt
+run_quiet v g script (Err Disk) es notes = fault_quiet v.pid script es notes.1
+run_quiet v g script (Err (Broken since)) es notes = quiet_by es _ notes.1 (tt, tt)
+run_quiet v g script (Err (Full need room)) es notes = quiet_by es _ notes.1 (tt, tt)
+run_quiet v g script (Err (Redo fault)) es notes = absurd notes
+run_quiet v g script (Err NoMemory) es notes = quiet_by es _ notes tt
+
+-- so it is for who may meet another generation
+pub run_free : (v : PassView) (g : Option ℕ) (script : List Stmt) (r : Result Staged StoreNo) (es : List BookEntry) → RunNotes (user_of g v) script r es → RunNotes (user_of None v) script r es
+run_free v g script (Ok staged) es notes = notes
+run_free v g script (Err (Stale mine found)) es notes = (tt, notes.1)
+run_free v g script (Err Disk) es notes = notes
+run_free v g script (Err (Broken since)) es notes = notes
+run_free v g script (Err (Full need room)) es notes = notes
+run_free v g script (Err (Redo fault)) es notes = absurd notes
+run_free v g script (Err NoMemory) es notes = notes
+
+pub enter_free : (pid generation : ℕ) (g : Option ℕ) (r : Result Pass StoreNo) (es : List BookEntry) → EnterNotes (newcomer g pid generation) r es → EnterNotes (newcomer None pid generation) r es
+enter_free pid generation g (Ok pass) es notes = notes
+enter_free pid generation g (Err (Stale mine found)) es notes = (tt, notes.1)
+enter_free pid generation g (Err Disk) es notes = absurd notes
+enter_free pid generation g (Err (Broken since)) es notes = absurd notes
+enter_free pid generation g (Err (Full need room)) es notes = absurd notes
+enter_free pid generation g (Err (Redo fault)) es notes = absurd notes
+enter_free pid generation g (Err NoMemory) es notes = notes
+
+-- ---- passes
+
+cond_and : (b c : Bool) → c ≡ true → ◌≡◌ {A = ℕ} (cond (b && c) 1 0) (cond b 1 0)
+cond_and true c is = ap (λ z. cond {A = ℕ} z 1 0) is
+cond_and false c is = refl
+
+live_renewed : (q g : ℕ) (before now : Pass) (ps : List Pass) → before.generation ≡ g → now.pid ≡ before.pid → now.generation ≡ before.generation → Among before ps → live q g (renewed_pass before now ps) ≡ live q g ps
+live_renewed q g before now ps gen pid same in_ =
+    let some : 0 < live before.pid g ps = subst (λ z. 0 < live before.pid z ps) gen (among_live before ps in_) in
+    let less : live q g (without_pass before.pid g ps) + cond (before.pid == q) 1 0 ≡ live q g ps = live-less q before.pid g ps some in
+    let one : ◌≡◌ {A = ℕ} (cond ((now.pid == q) && (now.generation == g)) 1 0) (cond (before.pid == q) 1 0) =
+    cond_and (now.pid == q) (now.generation == g) (ap (λ z. z == g) (same ∙ gen) ∙ same_test g) ∙ ap (λ z. cond {A = ℕ} (z == q) 1 0) pid in
+    ap (λ z. live q g (without_pass before.pid z ps ++ now ∷ [])) gen ∙ live-snoc q g (without_pass before.pid g ps) now ∙ (λ i. live q g (without_pass before.pid g ps) + one i) ∙ less
+
+turns_quiet : (log es : List BookEntry) (before now : Pass) (ps : List Pass) → AllQuiet es → before.generation ≡ generation_of log → now.pid ≡ before.pid → now.generation ≡ before.generation → Among before ps → Turns log es ps (renewed_pass before now ps)
+turns_quiet log es before now ps quiet gen pid same in_ = record {
+  same = generation_on log es (quiet_own es quiet);
+  known = λ a. up_to-snoc (generation_of log) (without_pass before.pid before.generation ps) now (omega (arith, same, gen)) (up_to-less before.pid before.generation (generation_of log) ps a);
+  fair = λ p. λ i. (times_on log es p ∙ quiet_times p (times_attached log p) es quiet) i + sym (live_renewed p (generation_of log) before now ps gen pid same in_) i;
+}
+
+turns_none : (log : List BookEntry) (ps : List Pass) → Turns log [] ps ps
+turns_none log ps = record {
+  same = ap generation_of (append-nil log);
+  known = λ a. a;
+  fair = λ p. ap (λ l. times_attached l p + live p (generation_of log) ps) (append-nil log);
+}
+
+-- ---- a store is given back behind a call by which nobody comes or goes
+
+abbrev pub hand_holding : {S F : Type 0} → ℕ → F → List Noted → List Pass → Taken S → Hand S F
+hand_holding k first own ps t = record { number = k; first = first; own = own; passes = ps; met = generation_of t.log; held = Some t }
+
+pub may_quiet : {D B : Type 0} {g h : _} (told : List BookEntry → Type 0) (k : ℕ) (first : D) (own : List Noted) (ps : List Pass) (log : List BookEntry) (x x' : Segment D B g h) (before now : Pass) (es : List BookEntry)
+    → TellsHand Behind Knows first ps (taken log x) → told es → AllQuiet es → Moves es (moment x) (moment x') → Among before ps → before.generation ≡ (moment x).generation → now.pid ≡ before.pid → now.generation ≡ before.generation
+    → Knows (log ++ es) x' now → HandMay Behind Knows told (renewed_pass before now ps) (hand_holding k first own ps (taken log x)) x'
+may_quiet told k first own ps log x x' before now es tells is_told quiet moves in_ gen pid same knows =
+    let all_own = quiet_own es quiet in
+    let gen' : before.generation ≡ generation_of log = gen ∙ sym tells.0.generation in record {
+      was = taken log x;
+      added = es;
+      held = refl;
+      is_told = is_told;
+      own = all_own;
+      step = record {
+        turns = turns_quiet log es before now ps quiet gen' pid same in_;
+        stands = λ f is. behind_moves f log es x x' all_own moves is;
+        others = λ p e known. knows_moves log es x x' p all_own moves known;
+        mine = known_snoc (Knows (log ++ es) x') (generation_of log) (without_pass before.pid before.generation ps) now
+            (known_less (Knows (log ++ es) x') (generation_of log) before.pid before.generation ps
+            (known_on (Knows log x) (Knows (log ++ es) x') (generation_of log) ps (λ p e known. knows_moves log es x x' p all_own moves known) tells.1)) (λ e. knows);
+      };
+    }
+
+-- ---- what a token shows then
+
+abbrev pub token_of : (S F : Type 0) → TableId → ℕ → Seated S F → TokenModel F
+token_of S F t n me = record { table = t; number = n; first = first_of me.0; own = is_own_of me.0; passes = passes_of me.0; met = met_of me.0 }
+
+pub entries_noted : (n : ℕ) (es : List BookEntry) → entries_of (noted_from n es) ≡ es
+entries_noted n [] = refl
+entries_noted n (e ∷ es) = ap (λ l. e ∷ l) (entries_noted (n + 1) es)
+
+module _ {S F : Type 0} where
+  pub given_is : {met : ℕ} (k : ℕ) (first : F) (own : List Noted) (ps ps' : List Pass) (t : Taken S) (es : List BookEntry) (me me' me'' : Seated S F) (c c' : List (ℕ × Option S)) → me ≡ resting k first own ps met → me' ≡ (with_held me.0 (Some t), c)
+      → me'' ≡ (given_back me'.0 es ps', c') → me''.0 ≡ Worker record { number = k; first = first; own = own ++ noted_from (length t.log) es; passes = ps'; met = generation_of t.log; held = None }
+  given_is k first own ps ps' t es me me' me'' c c' is was now =
+      ap (λ (m : Seated S F). m.0) now ∙ ap (λ (m : Seated S F). given_back m.0 es ps') was ∙ ap (λ (m : Seated S F). given_back (with_held m.0 (Some t)) es ps') is
+
+  pub grew_by : {met met' : ℕ} (id id' : TableId) (k : ℕ) (first : F) (own : List Noted) (ps ps' : List Pass) (n : ℕ) (es : List BookEntry) (me me'' : Seated S F) (old : TokenModel F) → token_of S F id k me ≡ old → id' ≡ id → me ≡ resting k first own ps met
+      → me''.0 ≡ Worker record { number = k; first = first; own = own ++ noted_from n es; passes = ps'; met = met'; held = None } → met ≤ met' → Grew es old (token_of S F id' k me'')
+  grew_by {met} {met'} id id' k first own ps ps' n es me me'' old view_is same is now rises =
+      let old_is : old ≡ record { table = id; number = k; first = Some first; own = own; passes = ps; met = met } = sym view_is ∙ ap (λ (m : Seated S F). token_of S F id k m) is in record {
+        table = same ∙ sym (ap (λ (t : TokenModel F). t.table) old_is);
+        number = sym (ap (λ (t : TokenModel F). t.number) old_is);
+        first = ap first_of now ∙ sym (ap (λ (t : TokenModel F). t.first) old_is);
+        added = noted_from n es;
+        own = ap is_own_of now ∙ ap (λ l. l ++ noted_from n es) (sym (ap (λ (t : TokenModel F). t.own) old_is));
+        added_are = entries_noted n es;
+        met = omega (arith, rises, ap (λ (t : TokenModel F). t.met) old_is, ap met_of now);
+      }
+
+  pub passes_are : {met : ℕ} (k : ℕ) (first : F) (own : List Noted) (ps' : List Pass) (me'' : Seated S F) → me''.0 ≡ Worker record { number = k; first = first; own = own; passes = ps'; met = met; held = None } → passes_of me''.0 ≡ ps'
+  passes_are k first own ps' me'' now = ap passes_of now
+
+  pub met_is : {met : ℕ} (k : ℕ) (first : F) (own : List Noted) (ps' : List Pass) (me'' : Seated S F) → me''.0 ≡ Worker record { number = k; first = first; own = own; passes = ps'; met = met; held = None } → met_of me''.0 ≡ met
+  met_is k first own ps' me'' now = ap met_of now
+
+-- ---- at a seat that is known by equations
+-- what a token has met it meets again
+pub met_rises : {D B : Type 0} {g h : _} {met : ℕ} (k : ℕ) (first : D) (own : List Noted) (ps : List Pass) (log : List BookEntry) (x : Segment D B g h) (me : Seated (Segment D B g h) D)
+    → me ≡ resting k first own ps met → Tells Behind Knows me.0 (taken log x) → met ≤ generation_of log
+met_rises {D} {B} {g} {h} k first own ps log x me is tells = (subst (λ (m : Seated (Segment D B g h) D). Tells Behind Knows m.0 (taken log x)) is tells).1
+
+-- the generation that it meets is the store's, before a call and behind it
+pub met_there : {D B : Type 0} {g h : _} {met : ℕ} (k : ℕ) (first : D) (own : List Noted) (ps : List Pass) (log : List BookEntry) (x : Segment D B g h) (me : Seated (Segment D B g h) D)
+    → me ≡ resting k first own ps met → Tells Behind Knows me.0 (taken log x) → generation_of log ≡ (moment x).generation
+met_there {D} {B} {g} {h} k first own ps log x me is tells = (subst (λ (m : Seated (Segment D B g h) D). Tells Behind Knows m.0 (taken log x)) is tells).0.0.generation
+
+-- a pass of another generation than the one that is met is of an earlier one
+pub met_later : {D B : Type 0} {g h : _} {met : ℕ} (k : ℕ) (first : D) (own : List Noted) (ps : List Pass) (log : List BookEntry) (x : Segment D B g h) (me : Seated (Segment D B g h) D) (p : Pass)
+    → me ≡ resting k first own ps met → Tells Behind Knows me.0 (taken log x) → Among p ps → p.generation ≢ (moment x).generation → p.generation < generation_of log
+met_later {D} {B} {g} {h} k first own ps log x me p is tells in_ other =
+    let tells' = (subst (λ (m : Seated (Segment D B g h) D). Tells Behind Knows m.0 (taken log x)) is tells).0 in
+    let within = among_up_to (generation_of log) p ps tells'.3 in_ in
+    let same = tells'.0.generation in
+    omega (arith, within, same, other)
+
+-- who found the store in another generation is told it, and has met it
+pub stale_here : {D B : Type 0} {g h : _} {met : ℕ} (k : ℕ) (first : D) (own : List Noted) (ps ps' : List Pass) (log es : List BookEntry) (x : Segment D B g h) (me me' me'' : Seated (Segment D B g h) D)
+    (c c' : List (ℕ × Option (Segment D B g h))) (p : Pass) (found : ℕ) → me ≡ resting k first own ps met → me' ≡ (with_held me.0 (Some (taken log x)), c) → me'' ≡ (given_back me'.0 es ps', c')
+    → Tells Behind Knows me.0 (taken log x) → Among p ps → p.generation ≢ (moment x).generation → found ≡ (moment x).generation → (found ≡ met_of me''.0) × (p.generation < met_of me''.0)
+stale_here k first own ps ps' log es x me me' me'' c c' p found is was now tells in_ other found_is =
+    let met = met_is k first _ ps' me'' (given_is k first own ps ps' (taken log x) es me me' me'' c c' is was now) in
+    let there = met_there k first own ps log x me is tells in
+    (found_is ∙ sym there ∙ sym met, subst (λ (n : ℕ). p.generation < n) (sym met) (met_later k first own ps log x me p is tells in_ other))
+
+-- the generation that a token shows behind a call is the store's
+pub met_behind : {D B : Type 0} {g h : _} {met : ℕ} (k : ℕ) (first : D) (own : List Noted) (ps ps' : List Pass) (log es : List BookEntry) (x x' : Segment D B g h) (me me' me'' : Seated (Segment D B g h) D)
+    (c c' : List (ℕ × Option (Segment D B g h))) → me ≡ resting k first own ps met → me' ≡ (with_held me.0 (Some (taken log x)), c) → me'' ≡ (given_back me'.0 es ps', c')
+    → Tells Behind Knows me.0 (taken log x) → (moment x').generation ≡ (moment x).generation → (moment x').generation ≡ met_of me''.0
+met_behind k first own ps ps' log es x x' me me' me'' c c' is was now tells same =
+    same ∙ sym (met_there k first own ps log x me is tells) ∙ sym (met_is k first _ ps' me'' (given_is k first own ps ps' (taken log x) es me me' me'' c c' is was now))
+
+pub token_admits : {D B : Type 0} {g h : _} {met : ℕ} (k : ℕ) (first : D) (own : List Noted) (ps : List Pass) (log : List BookEntry) (x : Segment D B g h) (me : Seated (Segment D B g h) D) (p : Pass)
+    → me ≡ resting k first own ps met → Tells Behind Knows me.0 (taken log x) → Among p ps → p.generation ≡ (moment x).generation → Admits p (moment x)
+token_admits {D} {B} {g} {h} k first own ps log x me p is tells in_ gen =
+    let tells' = (subst (λ (m : Seated (Segment D B g h) D). Tells Behind Knows m.0 (taken log x)) is tells).0 in
+    let gen' : p.generation ≡ generation_of log = gen ∙ sym tells'.0.generation in
+    let some : 0 < live p.pid (generation_of log) ps = subst (λ z. 0 < live p.pid z ps) gen' (among_live p ps in_) in
+    let few = tells'.2 p.pid in
+    admits_known first log x p tells'.0 (known_at (Knows log x) (generation_of log) p ps tells'.1 in_ gen') gen (omega (arith, some, few))
+
+pub token_may_quiet : {D B : Type 0} {g h : _} {met : ℕ} (told : List BookEntry → Type 0) (k : ℕ) (first : D) (own : List Noted) (ps : List Pass) (log : List BookEntry) (x x' : Segment D B g h) (before now : Pass) (es : List BookEntry)
+    (me me' : Seated (Segment D B g h) D) (c : List (ℕ × Option (Segment D B g h))) → me ≡ resting k first own ps met → me' ≡ (with_held me.0 (Some (taken log x)), c) → Tells Behind Knows me.0 (taken log x)
+    → told es → AllQuiet es → Moves es (moment x) (moment x') → Among before ps → before.generation ≡ (moment x).generation → now.pid ≡ before.pid → now.generation ≡ before.generation → Knows (log ++ es) x' now
+    → MayGive Behind Knows told (renewed_pass before now (passes_of me'.0)) me'.0 x'
+token_may_quiet {D} {B} {g} {h} told k first own ps log x x' before now es me me' c is was tells is_told quiet moves in_ gen pid same knows =
+    let held : me'.0 ≡ Worker (hand_holding k first own ps (taken log x)) = ap (λ (m : Seated (Segment D B g h) D). m.0) was ∙ ap (λ (m : Seated (Segment D B g h) D). with_held m.0 (Some (taken log x))) is in
+    let tells' = (subst (λ (m : Seated (Segment D B g h) D). Tells Behind Knows m.0 (taken log x)) is tells).0 in
+    subst (λ (v : View (Segment D B g h) D). MayGive Behind Knows told (renewed_pass before now (passes_of v)) v x') (sym held) (may_quiet told k first own ps log x x' before now es tells' is_told quiet moves in_ gen pid same knows)
+
+may_none : {D B : Type 0} {g h : _} (k : ℕ) (first : D) (own : List Noted) (ps : List Pass) (log : List BookEntry) (x : Segment D B g h) → TellsHand Behind Knows first ps (taken log x)
+    → HandMay Behind Knows IsNothing ps (hand_holding k first own ps (taken log x)) x
+may_none k first own ps log x tells = record {
+  was = taken log x;
+  added = [];
+  held = refl;
+  is_told = refl;
+  own = tt;
+  step = record {
+    turns = turns_none log ps;
+    stands = λ f is. subst (λ l. Behind f l x) (sym (append-nil log)) is;
+    others = λ p e known. subst (λ l. Knows l x p) (sym (append-nil log)) known;
+    mine = known_on (Knows log x) (Knows (log ++ []) x) (generation_of log) ps (λ p e known. subst (λ l. Knows l x p) (sym (append-nil log)) known) tells.1;
+  };
+}
+
+pub token_may_none : {D B : Type 0} {g h : _} {met : ℕ} (k : ℕ) (first : D) (own : List Noted) (ps : List Pass) (log : List BookEntry) (x : Segment D B g h)
+    (me me' : Seated (Segment D B g h) D) (c : List (ℕ × Option (Segment D B g h))) → me ≡ resting k first own ps met → me' ≡ (with_held me.0 (Some (taken log x)), c) → Tells Behind Knows me.0 (taken log x)
+    → MayGive Behind Knows IsNothing (passes_of me'.0) me'.0 x
+token_may_none {D} {B} {g} {h} k first own ps log x me me' c is was tells =
+    let held : me'.0 ≡ Worker (hand_holding k first own ps (taken log x)) = ap (λ (m : Seated (Segment D B g h) D). m.0) was ∙ ap (λ (m : Seated (Segment D B g h) D). with_held m.0 (Some (taken log x))) is in
+    let tells' = (subst (λ (m : Seated (Segment D B g h) D). Tells Behind Knows m.0 (taken log x)) is tells).0 in
+    subst (λ (v : View (Segment D B g h) D). MayGive Behind Knows IsNothing (passes_of v) v x) (sym held) (may_none k first own ps log x tells')
+
+-- ---- a script that was run
+
+abbrev pub RunView : Result Staged StoreNo → Pass → Pass → Type 0
+RunView r before now = IfOk r (λ staged. view_of now ≡ with_front staged.front (view_of before)) × OnErr r (view_of now ≡ view_of before)
+
+pub run_pass : (r : Result Staged StoreNo) (before now : Pass) → RunView r before now → (now.pid ≡ before.pid) × (now.generation ≡ before.generation)
+run_pass (Ok staged) before now view = (ap (λ (v : PassView). v.pid) view.0, ap (λ (v : PassView). v.generation) view.0)
+run_pass (Err refusal) before now view = (ap (λ (v : PassView). v.pid) view.1, ap (λ (v : PassView). v.generation) view.1)
+
+pub run_answer : (r : Result Staged StoreNo) (g : Option ℕ) (script : List Stmt) (log es : List BookEntry) (before now : Pass) → RunNotes (user_of g (view_of before)) script r es → RunView r before now → HasAnswer before.pid before.front log
+    → HasAnswer now.pid now.front (log ++ es)
+run_answer (Ok staged) g script log es before now notes view has =
+    let own = quiet_own es (run_quiet (view_of before) g script (Ok staged) es notes) in
+    let entry : BookEntry = Answered before.pid script staged.reply notes.commit staged.front notes.answer.tick in
+    let all : present (log ++ es) ≡ present log ++ entry ∷ [] = present_on log es own ∙ ap (λ l. present log ++ l) notes.answer.entries_are in
+    subst (λ (v : PassView). HasAnswer v.pid v.front (log ++ es)) (sym view.0)
+    (subst (Any (AnswersUpTo before.pid staged.front)) (sym all) (Any-push (AnswersUpTo before.pid staged.front) (present log) entry (refl, omega arith)))
+run_answer (Err refusal) g script log es before now notes view has =
+    let own = quiet_own es (run_quiet (view_of before) g script (Err refusal) es notes) in
+    subst (λ (v : PassView). HasAnswer v.pid v.front (log ++ es)) (sym view.1) (answer_on before.pid before.front log es own has)
+
+pub token_knows_run : {D B : Type 0} {g h : _} {met : ℕ} (r : Result Staged StoreNo) (s : Option ℕ) (script : List Stmt) (k : ℕ) (first : D) (own : List Noted) (ps : List Pass) (log es : List BookEntry) (x x' : Segment D B g h) (me : Seated (Segment D B g h) D) (before now : Pass)
+    → me ≡ resting k first own ps met → Tells Behind Knows me.0 (taken log x) → Among before ps → before.generation ≡ (moment x).generation
+    → RunNotes (user_of s (view_of before)) script r es → RunView r before now → Admits now (moment x') → Knows (log ++ es) x' now
+token_knows_run {D} {B} {g} {h} r s script k first own ps log es x x' me before now is tells in_ gen notes view admits =
+    let tells' = (subst (λ (m : Seated (Segment D B g h) D). Tells Behind Knows m.0 (taken log x)) is tells).0 in
+    let gen' : before.generation ≡ generation_of log = gen ∙ sym tells'.0.generation in
+    let known = known_at (Knows log x) (generation_of log) before ps tells'.1 in_ gen' in
+    (run_answer r s script log es before now notes view known.0, admits.flushed)
+
+-- ---- an enter
+
+turn_one : (p pid n : ℕ) → cond (nat_eq p pid) (n + 1) n ≡ n + cond (pid == p) 1 0
+turn_one p pid n = each (nat_eq p pid) refl
+  where
+    each : (b : Bool) → nat_eq p pid ≡ b → cond b (n + 1) n ≡ n + cond (pid == p) 1 0
+    each true is = let e : pid ≡ p = grind (arith, nat_tests, is) in (λ i. n + cond {A = ℕ} (sym (ap (λ z. z == p) e ∙ same_test p) i) 1 0)
+    each false is = let e : (pid == p) ≡ false = grind (arith, nat_tests, is) in omega (arith, ap (λ z. cond {A = ℕ} z 1 0) e)
+
+turns_enter : (log : List BookEntry) (pass : Pass) (ps : List Pass) → pass.generation ≡ generation_of log → Turns log (Attached pass.pid pass.generation ∷ []) ps (ps ++ pass ∷ [])
+turns_enter log pass ps gen = record {
+  same = generation_on log (Attached pass.pid pass.generation ∷ []) (refl, tt);
+  known = λ a. up_to-snoc (generation_of log) ps pass (omega (arith, gen)) a;
+  fair = λ p.
+      let n : ℕ = times_attached log p in
+      let a : times_attached (log ++ Attached pass.pid pass.generation ∷ []) p ≡ n + cond (pass.pid == p) 1 0 = times_on log (Attached pass.pid pass.generation ∷ []) p ∙ turn_one p pass.pid n in
+      let b : live p (generation_of log) (ps ++ pass ∷ []) ≡ live p (generation_of log) ps + cond (pass.pid == p) 1 0 =
+      live-snoc p (generation_of log) ps pass ∙ ap (λ z. live p (generation_of log) ps + z) (cond_and (pass.pid == p) (pass.generation == generation_of log) (ap (λ z. z == generation_of log) gen ∙ same_test (generation_of log))) in
+      omega (arith, a, b);
+}
+
+may_enter : {D B : Type 0} {g h : _} (k : ℕ) (first : D) (own : List Noted) (ps : List Pass) (log : List BookEntry) (x x' : Segment D B g h) (r : Result Pass StoreNo) (pid generation : ℕ) (es : List BookEntry)
+    → TellsHand Behind Knows first ps (taken log x) → EnterNotes (newcomer (Some (moment x).generation) pid generation) r es → Moves es (moment x) (moment x')
+    → IfOk r (λ pass. Admits pass (moment x')) → IfOk r (λ pass. view_of pass ≡ new_pass pid generation)
+    → HandMay Behind Knows (EnterNotes (newcomer None pid generation) r) (passes_entered r ps) (hand_holding k first own ps (taken log x)) x'
+may_enter {D} {B} {g} {h} k first own ps log x x' (Ok pass) pid generation es tells notes moves admits view =
+    let es_is : es ≡ Attached pid generation ∷ [] = notes in
+    let p_is : pass.pid ≡ pid = ap (λ (v : PassView). v.pid) view in
+    let g_is : pass.generation ≡ generation = ap (λ (v : PassView). v.generation) view in
+    let f_is : pass.front ≡ None = ap (λ (v : PassView). v.front) view in
+    let gen : pass.generation ≡ generation_of log = admits.generation_is ∙ moves.generation ∙ sym tells.0.generation in
+    let all_own : AllOwn es = subst AllOwn (sym es_is) (refl, tt) in record {
+      was = taken log x;
+      added = es;
+      held = refl;
+      is_told = es_is;
+      own = all_own;
+      step = record {
+        turns = subst (λ (l : List BookEntry). Turns log l ps (ps ++ pass ∷ [])) ((λ i. Attached (p_is i) (g_is i) ∷ []) ∙ sym es_is) (turns_enter log pass ps gen);
+        stands = λ f is. behind_moves f log es x x' all_own moves is;
+        others = λ p e known. knows_moves log es x x' p all_own moves known;
+        mine = known_snoc (Knows (log ++ es) x') (generation_of log) ps pass
+            (known_on (Knows log x) (Knows (log ++ es) x') (generation_of log) ps (λ p e known. knows_moves log es x x' p all_own moves known) tells.1)
+            (λ e. (subst (λ (f : Option ℕ). HasAnswer pass.pid f (log ++ es)) (sym f_is) tt, admits.flushed));
+      };
+    }
+may_enter {D} {B} {g} {h} k first own ps log x x' (Err refusal) pid generation es tells notes moves admits view =
+    let es_is : es ≡ [] = nothing refusal es notes in
+    let moves' : Moves [] (moment x) (moment x') = subst (λ (l : List BookEntry). Moves l (moment x) (moment x')) es_is moves in record {
+      was = taken log x;
+      added = es;
+      held = refl;
+      is_told = enter_free pid generation (Some (moment x).generation) (Err refusal) es notes;
+      own = subst AllOwn (sym es_is) tt;
+      step = record {
+        turns = subst (λ (l : List BookEntry). Turns log l ps ps) (sym es_is) (turns_none log ps);
+        stands = λ f is. behind_moves f log es x x' (subst AllOwn (sym es_is) tt) moves is;
+        others = λ p e known. knows_moves log es x x' p (subst AllOwn (sym es_is) tt) moves known;
+        mine = known_on (Knows log x) (Knows (log ++ es) x') (generation_of log) ps (λ p e known. knows_moves log es x x' p (subst AllOwn (sym es_is) tt) moves known) tells.1;
+      };
+    }
+  where
+    nothing : (why : StoreNo) (es : List BookEntry) → EnterNotes {P = Pass} (newcomer (Some (moment x).generation) pid generation) (Err why) es → es ≡ []
+    nothing (Stale mine found) es notes = notes.1
+    nothing Disk es notes = absurd notes
+    nothing (Broken since) es notes = absurd notes
+    nothing (Full need room) es notes = absurd notes
+    nothing (Redo fault) es notes = absurd notes
+    nothing NoMemory es notes = notes
+
+pub token_may_enter : {D B : Type 0} {g h : _} {met : ℕ} (k : ℕ) (first : D) (own : List Noted) (ps : List Pass) (log : List BookEntry) (x x' : Segment D B g h) (r : Result Pass StoreNo) (pid generation : ℕ) (es : List BookEntry)
+    (me me' : Seated (Segment D B g h) D) (c : List (ℕ × Option (Segment D B g h))) → me ≡ resting k first own ps met → me' ≡ (with_held me.0 (Some (taken log x)), c) → Tells Behind Knows me.0 (taken log x)
+    → EnterNotes (newcomer (Some (moment x).generation) pid generation) r es → Moves es (moment x) (moment x')
+    → IfOk r (λ pass. Admits pass (moment x')) → IfOk r (λ pass. view_of pass ≡ new_pass pid generation)
+    → MayGive Behind Knows (EnterNotes (newcomer None pid generation) r) (passes_entered r (passes_of me'.0)) me'.0 x'
+token_may_enter {D} {B} {g} {h} k first own ps log x x' r pid generation es me me' c is was tells notes moves admits view =
+    let held : me'.0 ≡ Worker (hand_holding k first own ps (taken log x)) = ap (λ (m : Seated (Segment D B g h) D). m.0) was ∙ ap (λ (m : Seated (Segment D B g h) D). with_held m.0 (Some (taken log x))) is in
+    let tells' = (subst (λ (m : Seated (Segment D B g h) D). Tells Behind Knows m.0 (taken log x)) is tells).0 in
+    subst (λ (v : View (Segment D B g h) D). MayGive Behind Knows (EnterNotes (newcomer None pid generation) r) (passes_entered r (passes_of v)) v x') (sym held) (may_enter k first own ps log x x' r pid generation es tells' notes moves admits view)
+
+pub entered_among : (r : Result Pass StoreNo) (ps ps' : List Pass) → ps' ≡ passes_entered r ps → IfOk r (λ pass. Among pass ps')
+entered_among (Ok pass) ps ps' is = subst (Among pass) (sym is) (among-snoc pass ps)
+entered_among (Err refusal) ps ps' is = tt
+
+-- ---- a leave
+
+turn_less : (p pid n : ℕ) → (pid ≡ p → 1 ≤ n) → cond (nat_eq p pid) (n - 1) n + cond (pid == p) 1 0 ≡ n
+turn_less p pid n some = each (nat_eq p pid) refl
+  where
+    each : (b : Bool) → nat_eq p pid ≡ b → cond b (n - 1) n + cond (pid == p) 1 0 ≡ n
+    each true is =
+        let e : pid ≡ p = grind (arith, nat_tests, is) in
+        let le : 1 ≤ n = some e in
+        let one : ◌≡◌ {A = ℕ} (cond (pid == p) 1 0) 1 = ap (λ z. cond {A = ℕ} z 1 0) (ap (λ z. z == p) e ∙ same_test p) in omega (arith, le, one)
+    each false is = let e : (pid == p) ≡ false = grind (arith, nat_tests, is) in omega (arith, ap (λ z. cond {A = ℕ} z 1 0) e)
+
+turns_leave : (log : List BookEntry) (pass : Pass) (ps : List Pass) → pass.generation ≡ generation_of log → Among pass ps → 1 ≤ times_attached log pass.pid → Turns log (Detached pass.pid ∷ []) ps (without_pass pass.pid pass.generation ps)
+turns_leave log pass ps gen in_ there = record {
+  same = generation_on log (Detached pass.pid ∷ []) (refl, tt);
+  known = λ a. up_to-less pass.pid pass.generation (generation_of log) ps a;
+  fair = λ p.
+      let n : ℕ = times_attached log p in
+      let some : 0 < live pass.pid (generation_of log) ps = subst (λ z. 0 < live pass.pid z ps) gen (among_live pass ps in_) in
+      let a : times_attached (log ++ Detached pass.pid ∷ []) p + cond (pass.pid == p) 1 0 ≡ n =
+      ap (λ z. z + cond (pass.pid == p) 1 0) (times_on log (Detached pass.pid ∷ []) p) ∙ turn_less p pass.pid n (λ e. subst (λ z. 1 ≤ times_attached log z) e there) in
+      let b : live p (generation_of log) (without_pass pass.pid pass.generation ps) + cond (pass.pid == p) 1 0 ≡ live p (generation_of log) ps =
+      ap (λ z. live p (generation_of log) (without_pass pass.pid z ps) + cond (pass.pid == p) 1 0) gen ∙ live-less p pass.pid (generation_of log) ps some in
+      omega (arith, a, b);
+}
+
+may_leave : {D B : Type 0} {g h : _} (k : ℕ) (first : D) (own : List Noted) (ps : List Pass) (log : List BookEntry) (x x' : Segment D B g h) (pass : Pass) (es : List BookEntry)
+    → TellsHand Behind Knows first ps (taken log x) → Among pass ps → pass.generation ≡ (moment x).generation → LeaveNotes (user_of (Some (moment x).generation) (view_of pass)) es → Moves es (moment x) (moment x')
+    → HandMay Behind Knows (NotesLeave pass.pid true) (without_pass pass.pid pass.generation ps) (hand_holding k first own ps (taken log x)) x'
+may_leave k first own ps log x x' pass es tells in_ gen (inl es_is) moves =
+    let gen' : pass.generation ≡ generation_of log = gen ∙ sym tells.0.generation in
+    let some : 0 < live pass.pid (generation_of log) ps = subst (λ z. 0 < live pass.pid z ps) gen' (among_live pass ps in_) in
+    let few = tells.2 pass.pid in
+    let all_own : AllOwn es = subst AllOwn (sym es_is) (refl, tt) in record {
+      was = taken log x;
+      added = es;
+      held = refl;
+      is_told = es_is;
+      own = all_own;
+      step = record {
+        turns = subst (λ (l : List BookEntry). Turns log l ps (without_pass pass.pid pass.generation ps)) (sym es_is) (turns_leave log pass ps gen' in_ (omega (arith, some, few)));
+        stands = λ f is. behind_moves f log es x x' all_own moves is;
+        others = λ p e known. knows_moves log es x x' p all_own moves known;
+        mine = known_less (Knows (log ++ es) x') (generation_of log) pass.pid pass.generation ps (known_on (Knows log x) (Knows (log ++ es) x') (generation_of log) ps (λ p e known. knows_moves log es x x' p all_own moves known) tells.1);
+      };
+    }
+may_leave k first own ps log x x' pass es tells in_ gen (inr other) moves = absurd (other.0 gen)
+
+pub token_may_leave : {D B : Type 0} {g h : _} {met : ℕ} (k : ℕ) (first : D) (own : List Noted) (ps : List Pass) (log : List BookEntry) (x x' : Segment D B g h) (pass : Pass) (es : List BookEntry)
+    (me me' : Seated (Segment D B g h) D) (c : List (ℕ × Option (Segment D B g h))) → me ≡ resting k first own ps met → me' ≡ (with_held me.0 (Some (taken log x)), c) → Tells Behind Knows me.0 (taken log x)
+    → Among pass ps → pass.generation ≡ (moment x).generation → LeaveNotes (user_of (Some (moment x).generation) (view_of pass)) es → Moves es (moment x) (moment x')
+    → MayGive Behind Knows (NotesLeave pass.pid true) (without_pass pass.pid pass.generation (passes_of me'.0)) me'.0 x'
+token_may_leave {D} {B} {g} {h} k first own ps log x x' pass es me me' c is was tells in_ gen notes moves =
+    let held : me'.0 ≡ Worker (hand_holding k first own ps (taken log x)) = ap (λ (m : Seated (Segment D B g h) D). m.0) was ∙ ap (λ (m : Seated (Segment D B g h) D). with_held m.0 (Some (taken log x))) is in
+    let tells' = (subst (λ (m : Seated (Segment D B g h) D). Tells Behind Knows m.0 (taken log x)) is tells).0 in
+    subst (λ (v : View (Segment D B g h) D). MayGive Behind Knows (NotesLeave pass.pid true) (without_pass pass.pid pass.generation (passes_of v)) v x') (sym held) (may_leave k first own ps log x x' pass es tells' in_ gen notes moves)
+
+-- ---- a leave in another generation
+
+other_test : (a b : ℕ) → a ≢ b → (a == b) ≡ false
+other_test a b ne = grind (arith, nat_tests, ne)
+
+live_keeps : (q p h g : ℕ) (xs : List Pass) → h ≢ g → live q g (without_pass p h xs) ≡ live q g xs
+live_keeps q p h g [] ne = refl
+live_keeps q p h g (x ∷ xs) ne = split ((x.pid == p) && (x.generation == h)) refl (live_keeps q p h g xs ne)
+  where
+    second : (a b : Bool) → (a && b) ≡ true → b ≡ true
+    second true b e = e
+    second false b e = absurd (cc)
+
+    none : (a b : Bool) → b ≡ false → ◌≡◌ {A = ℕ} (cond (a && b) 1 0) 0
+    none true b e = ap (λ z. cond {A = ℕ} z 1 0) e
+    none false b e = refl
+
+    split : (b : Bool) → (x.pid == p) && (x.generation == h) ≡ b → live q g (without_pass p h xs) ≡ live q g xs → live q g (cond b xs (x ∷ without_pass p h xs)) ≡ live q g (x ∷ xs)
+    split true e rec =
+        let is : x.generation ≡ h = grind (arith, nat_tests, second (x.pid == p) (x.generation == h) e) in
+        let gone : ◌≡◌ {A = ℕ} (cond ((x.pid == q) && (x.generation == g)) 1 0) 0 = none (x.pid == q) (x.generation == g) (ap (λ z. z == g) is ∙ other_test h g ne) in
+        omega (arith, gone)
+    split false e rec = omega (arith, rec)
+
+may_stale : {D B : Type 0} {g h : _} (k : ℕ) (first : D) (own : List Noted) (ps : List Pass) (log : List BookEntry) (x : Segment D B g h) (pass : Pass) → TellsHand Behind Knows first ps (taken log x) → pass.generation ≢ (moment x).generation
+    → HandMay Behind Knows (NotesLeave pass.pid false) (without_pass pass.pid pass.generation ps) (hand_holding k first own ps (taken log x)) x
+may_stale k first own ps log x pass tells other =
+    let other' : pass.generation ≢ generation_of log = λ e. other (e ∙ tells.0.generation) in record {
+      was = taken log x;
+      added = [];
+      held = refl;
+      is_told = refl;
+      own = tt;
+      step = record {
+        turns = record {
+          same = ap generation_of (append-nil log);
+          known = λ a. up_to-less pass.pid pass.generation (generation_of log) ps a;
+          fair = λ p. λ i. times_attached (append-nil log i) p + sym (live_keeps p pass.pid pass.generation (generation_of log) ps other') i;
+        };
+        stands = λ f is. subst (λ l. Behind f l x) (sym (append-nil log)) is;
+        others = λ p e known. subst (λ l. Knows l x p) (sym (append-nil log)) known;
+        mine = known_less (Knows (log ++ []) x) (generation_of log) pass.pid pass.generation ps (known_on (Knows log x) (Knows (log ++ []) x) (generation_of log) ps (λ p e known. subst (λ l. Knows l x p) (sym (append-nil log)) known) tells.1);
+      };
+    }
+
+pub token_may_stale : {D B : Type 0} {g h : _} {met : ℕ} (k : ℕ) (first : D) (own : List Noted) (ps : List Pass) (log : List BookEntry) (x : Segment D B g h) (pass : Pass)
+    (me me' : Seated (Segment D B g h) D) (c : List (ℕ × Option (Segment D B g h))) → me ≡ resting k first own ps met → me' ≡ (with_held me.0 (Some (taken log x)), c) → Tells Behind Knows me.0 (taken log x) → pass.generation ≢ (moment x).generation
+    → MayGive Behind Knows (NotesLeave pass.pid false) (without_pass pass.pid pass.generation (passes_of me'.0)) me'.0 x
+token_may_stale {D} {B} {g} {h} k first own ps log x pass me me' c is was tells other =
+    let held : me'.0 ≡ Worker (hand_holding k first own ps (taken log x)) = ap (λ (m : Seated (Segment D B g h) D). m.0) was ∙ ap (λ (m : Seated (Segment D B g h) D). with_held m.0 (Some (taken log x))) is in
+    let tells' = (subst (λ (m : Seated (Segment D B g h) D). Tells Behind Knows m.0 (taken log x)) is tells).0 in
+    subst (λ (v : View (Segment D B g h) D). MayGive Behind Knows (NotesLeave pass.pid false) (without_pass pass.pid pass.generation (passes_of v)) v x) (sym held) (may_stale k first own ps log x pass tells' other)

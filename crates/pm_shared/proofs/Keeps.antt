@@ -1,0 +1,213 @@
+-- Each step keeps the rule.
+use Rattle.std.proofs.Common.{◌≡◌, ◌≢◌, ◌⊎◌, inl, inr, ⊎_elim, ℕ, zero, suc, ◌+◌, ◌<◌, ◌≤◌, ◌==◌, List, [], ◌∷◌, ◌++◌, length, get_or, sym, refl, ap, ◌∙◌, subst, arith, length-set, get_or-set_same}
+use mathlib.Core.Option.{none, some, some-ne-none, some-injective}
+use mathlib.Core.Option as maybe
+use native.Mathlib.Decide.{ℕ_discrete}
+use lib.ListN.{get_elem?}
+use lib.Seq.{set-get_or}
+use prog.Atomic.{either}
+use Rattle.std.specs.Prelude.{Option, Some, None, slice_get}
+use Rattle.atomic_table.specs.Table as table
+use Rattle.atomic_table.specs.Table.{State, step, keeps, takes, gives, stepped, opening, Allows, Joins, Splits}
+use Rattle.atomic_table.proofs.Lists.{at_set, set_again, exchanged}
+use Rattle.pm_query.specs.declared.book.BookEntry.{BookEntry}
+use Rattle.pm_query.specs.Book.{generation_of, times_attached}
+use Rattle.pm_segment.specs.declared.pass.Pass.{Pass}
+use Rattle.pm_shared.specs.declared.views.Taken.{Taken}
+use Rattle.pm_shared.specs.declared.views.View.{View}
+use Rattle.pm_shared.specs.declared.views.View.TheVariants.{Vacant, Founding, Master, Worker, Spent}
+use Rattle.pm_shared.specs.Log.{Line, book_of, AllBelow}
+use Rattle.pm_shared.specs.Passes.{live, AllUpTo, AllKnown}
+use Rattle.pm_shared.specs.Rule.{Cell, Where, home, out, sum_below, IsThere, HasTaken, Fits, AreCounted, Holds, IsHeld, Kept, taken}
+use Rattle.pm_shared.specs.Told.{number_of, with_held, Tells, Took, Turns, IsMine}
+use Rattle.pm_shared.proofs.Logs.{sum_put, member_below}
+
+abbrev pick : {P C : Type 0} → Dec P → C → C → C
+pick (yes _) a b = a
+pick (no _) a b = b
+
+pub put : (ℕ → Cell) → ℕ → Cell → ℕ → Cell
+put cells i c j = pick (ℕ_discrete j i) c (cells j)
+
+-- what holds of the new cell at i, and of each other cell, holds after
+pub at_put : (cells : ℕ → Cell) (i : ℕ) (c : Cell) (F : ℕ → Cell → Type 0) (j : ℕ) → F i c → (j ≢ i → F j (cells j)) → F j (put cells i c j)
+unfolding put
+at_put cells i c F j here other = go (ℕ_discrete j i)
+  where
+    go : (d : Dec (j ≡ i)) → F j (pick d c (cells j))
+    go (yes e) = subst (λ (k : ℕ). F k c) (sym e) here
+    go (no n) = other n
+
+pub put_here : (cells : ℕ → Cell) (i : ℕ) (c : Cell) → put cells i c i ≡ c
+put_here cells i c = at_put cells i c (λ j d. j ≡ i → d ≡ c) i (λ _. refl) (λ ne is. absurd (ne is)) refl
+
+pub put_else : (cells : ℕ → Cell) (i : ℕ) (c : Cell) (j : ℕ) → j ≢ i → put cells i c j ≡ cells j
+put_else cells i c j ne = at_put cells i c (λ k d. k ≢ i → d ≡ cells k) j (λ n. absurd (n refl)) (λ _ _. refl) ne
+
+pub at_below : {A : Type 0} (l : List A) (i : ℕ) (a : A) → get_elem? l i ≡ some a → i < length l
+at_below [] i a e = absurd (some-ne-none a (sym e))
+at_below (x ∷ xs) zero a e = omega arith
+at_below (x ∷ xs) (suc i) a e = let h = at_below xs i a e in omega arith
+
+pub some_at : {A : Type 0} (l : List A) (i : ℕ) → i < length l → (a : A) × (get_elem? l i ≡ some a)
+some_at [] i h = absurd (omega arith)
+some_at (x ∷ xs) zero h = (x, refl)
+some_at (x ∷ xs) (suc i) h = some_at xs i (omega arith)
+
+pub at_end : {A : Type 0} (l : List A) (a b : A) (j : ℕ) → get_elem? (l ++ a ∷ []) j ≡ some b → (get_elem? l j ≡ some b) ⊎ ((j ≡ length l) × (a ≡ b))
+at_end [] a b zero e = inr (refl, some-injective a b e)
+at_end [] a b (suc j) e = absurd (some-ne-none b (sym e))
+at_end (x ∷ xs) a b zero e = inl e
+at_end (x ∷ xs) a b (suc j) e = ⊎_elim (λ t. inl t) (λ (t : (j ≡ length xs) × (a ≡ b)). inr (ap suc t.0, t.1)) (at_end xs a b j e)
+
+some_is : {A : Type 0} (x y : A) → Some x ≡ Some y → x ≡ y
+some_is x y e = cc
+
+pub got_end : {A : Type 0} (l : List A) (a b : A) (k : ℕ) → slice_get (l ++ a ∷ []) k ≡ Some b → (slice_get l k ≡ Some b) ⊎ ((k ≡ length l) × (a ≡ b))
+got_end [] a b zero e = inr (refl, some_is a b e)
+got_end [] a b (suc k) e = absurd (cc)
+got_end (x ∷ xs) a b zero e = inl e
+got_end (x ∷ xs) a b (suc k) e = ⊎_elim (λ t. inl t) (λ (t : (k ≡ length xs) × (a ≡ b)). inr (ap suc t.0, t.1)) (got_end xs a b k e)
+
+pub got_below : {A : Type 0} (l : List A) (k : ℕ) (a : A) → slice_get l k ≡ Some a → k < length l
+got_below [] k a e = absurd (cc)
+got_below (x ∷ xs) zero a e = omega arith
+got_below (x ∷ xs) (suc k) a e = let h = got_below xs k a e in omega arith
+
+pub got_some : {A : Type 0} (l : List A) (k : ℕ) → k < length l → (a : A) × (slice_get l k ≡ Some a)
+got_some [] k h = absurd (omega arith)
+got_some (x ∷ xs) zero h = (x, refl)
+got_some (x ∷ xs) (suc k) h = got_some xs k (omega arith)
+
+pub one_view : {A : Type 0} (u v : A) (id : ℕ) → get_elem? (u ∷ []) id ≡ some v → u ≡ v
+one_view u v zero e = some-injective u v e
+one_view u v (suc id) e = absurd (some-ne-none v (sym e))
+
+abbrev pub St : (S F : Type 0) → Type 0
+St S F = State (Option S) (View S F)
+
+-- the passes are counted still
+pub counted_put : (dealt : ℕ) (cells : ℕ → Cell) (k : ℕ) (c : Cell) (book added : List BookEntry) → k < dealt → Turns book added (cells k).passes c.passes → AreCounted dealt cells book → AreCounted dealt (put cells k c) (book ++ added)
+counted_put dealt cells k c book added near turn a = record {
+  unborn = λ j le. at_put cells k c (λ q d. dealt ≤ q → d.passes ≡ []) j (λ le'. absurd (omega arith)) (λ _ le'. a.unborn j le') le;
+  known = λ j. subst (λ g. AllUpTo g (put cells k c j).passes) (sym turn.same) (at_put cells k c (λ q d. AllUpTo (generation_of book) d.passes) j (turn.known (a.known k)) (λ _. a.known j));
+  counted = λ p. subst (λ g. sum_below dealt (λ j. live p g (put cells k c j).passes) ≡ times_attached (book ++ added) p) (sym turn.same) (sums p);
+}
+  where
+    sums : (p : ℕ) → sum_below dealt (λ j. live p (generation_of book) (put cells k c j).passes) ≡ times_attached (book ++ added) p
+    sums p =
+        let g : ℕ = generation_of book in
+        let f : ℕ → ℕ = λ j. live p g (cells j).passes in let f' : ℕ → ℕ = λ j. live p g (put cells k c j).passes in
+        let e : sum_below dealt f' + f k ≡ sum_below dealt f + f' k = sum_put dealt k f f' near (λ j ne. ap (λ (d : Cell). live p g d.passes) (put_else cells k c j ne)) in
+        let here : f' k ≡ live p g c.passes = ap (λ (d : Cell). live p g d.passes) (put_here cells k c) in
+        let fk : f k ≡ live p g (cells k).passes = refl in
+        let fair = turn.fair p in
+        let was : sum_below dealt f ≡ times_attached book p = a.counted p in
+        let x : ℕ = sum_below dealt f' in let y : ℕ = sum_below dealt f in
+        let t : ℕ = times_attached book p in let t' : ℕ = times_attached (book ++ added) p in omega arith
+
+module _ {S F : Type 0} (Is : F → List BookEntry → S → Type 0) (Knows : List BookEntry → S → Pass → Type 0) where
+  -- a step that changes nothing
+  stays : (s : St S F) (id : ℕ) (v : View S F) → get_elem? s.views id ≡ some v → Kept Is Knows s → Kept Is Knows (stepped s 0 (get_or s.words 0 0) id [] v keeps)
+  stays s id v at h = subst (λ (z : List ℕ × List (View S F)). Kept Is Knows record { words = z.0; homes = s.homes; views = z.1 }) (λ i. (sym (set-get_or s.words 0 0) i, sym (set_again s.views id v at) i)) h
+
+  -- a seat with a number is of a table that has a store
+  pub held_at : (s : St S F) (id : ℕ) (v : View S F) → IsMine v → get_elem? s.views id ≡ some v → Kept Is Knows s → IsHeld Is Knows s
+  held_at s id v mine at (inr held) = held
+  held_at s id v mine at (inl (words, inl fresh)) = absurd (subst IsMine (sym (one_view Vacant v id (subst (λ (l : List (View S F)). get_elem? l id ≡ some v) fresh.1 at))) mine)
+  held_at s id v mine at (inl (words, inr fresh)) = absurd (subst IsMine (sym (one_view Founding v id (subst (λ (l : List (View S F)). get_elem? l id ≡ some v) fresh.1 at))) mine)
+
+  -- ---- take
+
+  pub at_home : (w : Where) (x : S) (word : ℕ) (slot : maybe.Option (maybe.Option (Option S))) → IsThere w x word slot → word ≡ 0 → w ≡ home
+  at_home home x word slot h z = refl
+  at_home (out seat n) x word slot h z = absurd (omega arith)
+
+  module _ (master dealt : ℕ) (first : F) (cells : ℕ → Cell) (log : List Line) (x : S) where
+    taken_else : (id n j m : ℕ) (held : Option (Taken S)) → j ≢ id → HasTaken home (taken (book_of log) x) j m held → HasTaken (out id n) (taken (book_of log) x) j m held
+    taken_else id n j m None ne f = ne
+    taken_else id n j m (Some b) ne f = absurd f
+
+    fits_else : (id n j : ℕ) (v : View S F) → j ≢ id → Fits home master dealt first cells log x j v → Fits (out id n) master dealt first cells log x j v
+    fits_else id n j Vacant ne f = absurd f
+    fits_else id n j Founding ne f = absurd f
+    fits_else id n j (Master d) ne f = record { seat = f.seat; dealt_is = f.dealt_is; first_is = f.first_is; few = f.few; generation = f.generation; own = f.own; joined = f.joined; held = taken_else id n j d.dealt d.held ne f.held }
+    fits_else id n j (Worker h) ne f = record { seat = f.seat; passes = f.passes; number = f.number; first_is = f.first_is; own = f.own; met = f.met; held = taken_else id n j h.number h.held ne f.held }
+    fits_else id n j Spent ne f = ne
+
+    fits_taken : (id : ℕ) (v : View S F) → IsMine v → Fits home master dealt first cells log x id v → Fits (out id (number_of v)) master dealt first cells log x id (with_held v (Some (taken (book_of log) x)))
+    fits_taken id Vacant mine f = absurd mine
+    fits_taken id Founding mine f = absurd mine
+    fits_taken id (Master d) mine f = record { seat = f.seat; dealt_is = f.dealt_is; first_is = f.first_is; few = f.few; generation = f.generation; own = f.own; joined = f.joined; held = (refl, refl, refl) }
+    fits_taken id (Worker h) mine f = record { seat = f.seat; passes = f.passes; number = f.number; first_is = f.first_is; own = f.own; met = omega arith; held = (refl, refl, refl) }
+    fits_taken id Spent mine f = absurd mine
+
+    tells : (w : Where) (s : St S F) (id : ℕ) (v : View S F) → Holds Is Knows w master dealt first cells log x s → Fits w master dealt first cells log x id v → Tells Is Knows v (taken (book_of log) x)
+    tells w s id Vacant h f = tt
+    tells w s id Founding h f = tt
+    tells w s id (Master d) h f = (
+      record { log = log; book_is = refl; below = subst (λ n. AllBelow n log) (sym f.dealt_is) h.owned; each_list = λ k l e. (f.joined k l e).1; own_list = f.own },
+      sym f.generation,
+      subst (λ z. Is z (book_of log) x) (sym f.first_is) h.stands,
+    )
+    tells w s id (Worker hand) h f = (
+      (
+        subst (λ z. Is z (book_of log) x) (sym f.first_is) h.stands,
+        subst (AllKnown (Knows (book_of log) x) (generation_of (book_of log))) f.passes (h.good hand.number),
+        λ p.
+            let g : ℕ = generation_of (book_of log) in
+            let a = member_below dealt hand.number (λ k. live p g (cells k).passes) f.number in
+            let b = h.passes.counted p in
+            let e : live p g (cells hand.number).passes ≡ live p g hand.passes = ap (live p g) f.passes in
+            let t : ℕ = times_attached (book_of log) p in
+            omega arith,
+        subst (AllUpTo (generation_of (book_of log))) f.passes (h.passes.known hand.number),
+      ),
+      f.met,
+    )
+    tells w s id Spent h f = tt
+
+    pub took_home : (s : St S F) (id n : ℕ) (v : View S F) → number_of v ≡ n → IsMine v → get_elem? s.views id ≡ some v → Holds Is Knows home master dealt first cells log x s
+        → (get_elem? s.homes 0 ≡ some (some (Some x)))
+        × Kept Is Knows (stepped s 0 (n + 1) id [] (with_held v (Some (taken (book_of log) x))) (takes 0 (Some x)))
+        × Tells Is Knows v (taken (book_of log) x)
+    took_home s id n v same mine at h =
+        let t : Taken S = taken (book_of log) x in
+        let near : id < length s.views = at_below s.views id v at in let one : length s.words ≡ 1 = h.one_word in
+        let f = h.each_seat id v at in (
+          h.there.1,
+          inr (
+            out id n,
+            master,
+            dealt,
+            first,
+            cells,
+            log,
+            x,
+            record {
+              one_word = length-set s.words 0 (n + 1) ∙ h.one_word;
+              one_slot = length-set s.homes 0 none ∙ h.one_slot;
+              there = get_or-set_same s.words 0 (n + 1) 0 (omega arith);
+              holder = subst (λ m. id < m) (sym (length-set s.views id (with_held v (Some t)))) near;
+              owned = h.owned;
+              passes = h.passes;
+              stands = h.stands;
+              good = h.good;
+              each_seat = λ j u e. ⊎_elim
+                  (λ (z : (j ≡ id) × (with_held v (Some t) ≡ u)). subst (λ (y : ℕ × View S F). Fits (out id n) master dealt first cells log x y.0 y.1) (λ i. (sym z.0 i, z.1 i)) (subst (λ m. Fits (out id m) master dealt first cells log x id (with_held v (Some t))) same (fits_taken id v mine f)))
+                  (λ (z : (j ≢ id) × (get_elem? s.views j ≡ some u)). fits_else id n j u z.0 (h.each_seat j u z.1)) (at_set s.views id j (with_held v (Some t)) u e);
+            },
+          ),
+          tells home s id v h f,
+        )
+
+  pub takes_it : (id n : ℕ) (v : View S F) → number_of v ≡ n → IsMine v → Allows (Kept Is Knows) 1 id (v, []) 0 (λ w. either (w == 0) (n + 1) w) (Took Is Knows (step 1 0 0 (n + 1) none) (v, []))
+  takes_it id n v same mine s kept wide at small =
+      let r = held_at s id v mine at kept in
+      exchanged (get_or s.words 0 0) 0 (n + 1)
+      (λ z. (w : View S F) × (a : table.Act (Option S)) × table.Valid s.homes [] a × Kept Is Knows (stepped s 0 z id [] w a) × Took Is Knows (step 1 0 0 (n + 1) none) (v, []) (get_or s.words 0 0) (w, table.carried_after [] a))
+      (λ zero_is.
+      let w_is = at_home r.0 r.6 _ _ r.7.there zero_is in
+      let t = took_home r.1 r.2 r.3 r.4 r.5 r.6 s id n v same mine at (subst (λ w. Holds Is Knows w r.1 r.2 r.3 r.4 r.5 r.6 s) w_is r.7) in
+      (with_held v (Some (taken (book_of r.5) r.6)), takes 0 (Some r.6), t.0, t.1, ((λ _. (taken (book_of r.5) r.6, refl, t.2)), (λ ne. absurd (ne zero_is)))))
+      (λ ne. (v, keeps, tt, stays s id v at kept, ((λ zero_is. absurd (ne zero_is)), (λ _. refl))))

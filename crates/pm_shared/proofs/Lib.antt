@@ -1,0 +1,12 @@
+pub mod Calls
+pub mod Closing
+pub mod Ending
+pub mod Ends
+pub mod Gives
+pub mod Keeps
+pub mod Logs
+pub mod Others
+pub mod Places
+pub mod Renewing
+pub mod Steps
+pub mod Stores

@@ -1,0 +1,209 @@
+-- From one generation to the next.
+use Rattle.std.proofs.Common.{◌≡◌, ◌⊎◌, inl, inr, ℕ, zero, suc, ◌+◌, ◌≤◌, ◌&&◌, Bool, true, false, cond, List, [], ◌∷◌, ◌++◌, All, map, length, Option, None, Some, refl, sym, ◌∙◌, ap, subst, arith, append-nil}
+use Rattle.std.specs.Prelude.{Result, Ok, Err, OnErr, OnOk, fold, nat_eq, nat_lt}
+use Rattle.std.proofs.lemmas.Bool.Decides.{nat_tests}
+use Rattle.std.proofs.lemmas.List.Elements.{All-nil, All-cons, All-append}
+use Rattle.std.proofs.lemmas.List.Sums.{fold-append, sum_by-append, sum_by-cons}
+use Rattle.std.specs.declared.alloc.AllocError.{AllocError}
+use Rattle.atomic_table.specs.Seated.{TableId}
+use Rattle.pm_query.specs.declared.book.BookEntry.{BookEntry}
+use Rattle.pm_query.specs.declared.book.BookEntry.TheVariants.{Gone, Opened}
+use Rattle.pm_query.specs.Book.{generation_after, generation_of, times_attached}
+use Rattle.pm_segment.specs.declared.segment.Segment.{Segment}
+use Rattle.pm_segment.specs.Children.{AreOthers, IsAttendedBy, once, times_behind, times_in}
+use Rattle.pm_segment.specs.Moment.{Moment, disk_of, moment}
+use Rattle.pm_segment.specs.Moves.{IsAsBefore, IsShown, Moves, Renews}
+use Rattle.pm_segment.specs.MovesLaws.{moves_none}
+use Rattle.pm_segment.specs.Stands.{Begins, IsBaseOf, Origin, WaitsFrom}
+use Rattle.pm_shared.specs.declared.views.Noted.{Noted}
+use Rattle.pm_shared.specs.declared.views.Desk.{Desk}
+use Rattle.pm_shared.specs.declared.views.Taken.{Taken}
+use Rattle.pm_shared.specs.declared.views.View.{View}
+use Rattle.pm_shared.specs.declared.views.View.TheVariants.{Master}
+use Rattle.pm_shared.specs.Behind.{Behind, Knows}
+use Rattle.pm_shared.specs.Log.{NoneOwn, noted_from}
+use Rattle.pm_shared.specs.Passes.{AllUpTo, live}
+use Rattle.pm_shared.specs.Renewed.{AreApart, RenewNotes, renewal}
+use Rattle.pm_shared.specs.Rule.{AreCounted, sum_below, taken}
+use Rattle.pm_shared.specs.Told.{DeskMay, HasRenewed, MayGive, Resets, Seated, SharedModel, Tells, desk_resting, first_of, generation_in, given_back, is_own_of, joined_of, with_held}
+use Rattle.pm_shared.proofs.Closing.{shown}
+use Rattle.pm_shared.proofs.Logs.{known_later, known_on, none_live, sum_zero, up_to_more}
+use Rattle.pm_shared.proofs.Stores.{behind_moves, knows_moves, times_on, told_on}
+
+-- ---- entries
+
+none_gone : (pids : List ℕ) (generation : ℕ) → NoneOwn (renewal pids generation)
+none_gone [] generation = (refl, tt)
+none_gone (pid ∷ pids) generation = (refl, none_gone pids generation)
+
+generation_renewed : (n : ℕ) (pids : List ℕ) (generation : ℕ) → fold generation_after n (renewal pids generation) ≡ n + 1
+generation_renewed n [] generation = refl
+generation_renewed n (pid ∷ pids) generation = generation_renewed n pids generation
+
+pub generation_behind : (log : List BookEntry) (pids : List ℕ) (generation : ℕ) → generation_of (log ++ renewal pids generation) ≡ generation_of log + 1
+generation_behind log pids generation = fold-append generation_after 0 log (renewal pids generation) ∙ generation_renewed (generation_of log) pids generation
+
+nobody_left : (p n : ℕ) (pids : List ℕ) (generation : ℕ) → (times_in p pids ≡ 0 → n ≡ 0) → times_behind (renewal pids generation) p n ≡ 0
+nobody_left p n [] generation none = none refl
+nobody_left p n (pid ∷ pids) generation none = nobody_left p (cond (nat_eq p pid) 0 n) pids generation (each (nat_eq p pid) refl)
+  where
+    each : (b : Bool) → nat_eq p pid ≡ b → times_in p pids ≡ 0 → cond b 0 n ≡ 0
+    each true is rest = refl
+    each false is rest =
+        let not_here : once p pid ≡ 0 = ap (λ (b : Bool). cond {A = ℕ} b 1 0) is in
+        none (omega (arith, not_here, rest, sum_by-cons (once p) pid pids))
+
+all_named : (i g o : ℕ) → o ≡ cond (nat_lt 0 i && nat_eq 0 g) 1 0 → g + o ≡ 0 → i ≡ 0
+all_named zero g o is none = refl
+all_named (suc i) zero o is none =
+    let some : nat_lt 0 (suc i) ≡ true = grind (arith, nat_tests) in
+    let one : o ≡ 1 = is ∙ ap (λ (b : Bool). cond {A = ℕ} (b && nat_eq 0 0) 1 0) some in
+    absurd (omega (arith, one, none))
+all_named (suc i) (suc g) o is none = absurd (omega (arith, none))
+
+nobody_behind : (log : List BookEntry) (inside gone others : List ℕ) (generation : ℕ) → AreOthers inside gone others → IsAttendedBy inside log → (p : ℕ) → times_attached (log ++ renewal (gone ++ others) generation) p ≡ 0
+nobody_behind log inside gone others generation are attended p =
+    times_on log (renewal (gone ++ others) generation) p
+    ∙ nobody_left p (times_attached log p) (gone ++ others) generation (λ none. attended p ∙ all_named (times_in p inside) (times_in p gone) (times_in p others) (are p) (sym (sum_by-append (once p) gone others) ∙ none))
+
+resets_behind : (log es : List BookEntry) → generation_of (log ++ es) ≡ generation_of log + 1 → ((p : ℕ) → times_attached (log ++ es) p ≡ 0) → Resets log es
+resets_behind log es g nobody dealt cells a = record {
+  unborn = a.unborn;
+  known = λ k. subst (λ z. AllUpTo z (cells k).passes) (sym g) (up_to_more (generation_of log) (cells k).passes (a.known k));
+  counted = λ p. subst (λ z. sum_below dealt (λ k. live p z (cells k).passes) ≡ 0) (sym g) (sum_zero dealt (λ k. live p (generation_of log + 1) (cells k).passes) (λ k. none_live p (generation_of log) (cells k).passes (a.known k))) ∙ sym (nobody p);
+}
+
+gone_shown : (from faults : ℕ) (pids : List ℕ) (generation : ℕ) → All (IsShown from faults) (renewal pids generation)
+gone_shown from faults [] generation = All-cons (IsShown from faults) (Opened generation) [] tt (All-nil (IsShown from faults))
+gone_shown from faults (pid ∷ pids) generation = All-cons (IsShown from faults) (Gone pid) (renewal pids generation) tt (gone_shown from faults pids generation)
+
+-- ---- the store
+
+pub behind_renewed : {D B : Type 0} {g h : _} (first : D) (log : List BookEntry) (x x' : Segment D B g h) (gone others : List ℕ) (generation : ℕ) → AreOthers (moment x).inside gone others
+    → Renews (renewal (gone ++ others) generation) (moment x) (moment x') → disk_of x' ≡ disk_of x → Behind first log x → Behind first (log ++ renewal (gone ++ others) generation) x'
+behind_renewed {g = g} first log x x' gone others generation are renews disk is = record {
+  told = told_on (moment x).book (moment x').book log (renewal (gone ++ others) generation) renews.notes is.told;
+  generation = generation_behind log (gone ++ others) generation ∙ ap (λ n. n + 1) is.generation ∙ sym renews.generation;
+  attended = λ p. nobody_behind log (moment x).inside gone others generation are is.attended p ∙ ap (times_in p) (sym renews.inside);
+  time = subst (λ d. Rattle.pm_record.specs.OnDisk.GoesOn (g.ticks first) (g.ticks d) (g.images first) (g.images d)) (sym disk) is.time;
+  counts = record {
+    counted = renews.counts (g.faults first) is.counts.counted;
+    each = subst (λ d. All (IsShown (g.faults first) (g.faults d)) (log ++ renewal (gone ++ others) generation)) (sym disk)
+        (All-append (IsShown (g.faults first) (moment x).faults) log (renewal (gone ++ others) generation) is.counts.each (gone_shown (g.faults first) (moment x).faults (gone ++ others) generation));
+  };
+  stands = stands is.stands;
+}
+  where
+    origin : Origin
+    origin = record { files = g.seen first; tick = g.ticks first; faults = g.faults first }
+
+    stands : WaitsFrom origin (moment x) ⊎ Begins origin (moment x) → WaitsFrom origin (moment x') ⊎ Begins origin (moment x')
+    stands (inl waits) = inl (renews.waits origin waits)
+    stands (inr begins) = inr (record {
+      base = begins.base;
+      faults = begins.faults;
+      found = subst (λ d. IsBaseOf origin begins.base (g.faults d)) (sym disk) begins.found;
+      goes = renews.goes_on origin begins.base begins.goes;
+    })
+
+pub moves_still : {D B : Type 0} {g h : _} (x x' : Segment D B g h) → IsAsBefore (moment x) (moment x') → disk_of x' ≡ disk_of x → Moves [] (moment x) (moment x')
+moves_still {g = g} x x' still disk = subst (λ (m : Moment). Moves [] (moment x) m) same (moves_none (moment x))
+  where
+    same : moment x ≡ moment x'
+    same = λ i. record {
+      book = sym still.book i;
+      generation = sym still.generation i;
+      inside = sym still.inside i;
+      rows = sym still.rows i;
+      live = sym still.live i;
+      skipped = sym still.skipped i;
+      files = g.seen (sym disk i);
+      images = g.images (sym disk i);
+      ticks = g.ticks (sym disk i);
+      faults = g.faults (sym disk i);
+    }
+
+at_most : (i g : Bool) → cond (i && g) 1 0 ≤ cond {A = ℕ} g 1 0
+at_most true g = omega arith
+at_most false true = omega arith
+at_most false false = omega arith
+
+apart : (inside gone others : List ℕ) → AreOthers inside gone others → AreApart gone others
+apart inside gone others are pid = subst (λ n. n ≤ cond (nat_eq 0 (times_in pid gone)) 1 0) (sym (are pid)) (at_most (nat_lt 0 (times_in pid inside)) (nat_eq 0 (times_in pid gone)))
+
+abbrev pub desk_holding : {S F : Type 0} → ℕ → F → ℕ → List Noted → List (List Noted) → Taken S → Desk S F
+desk_holding n first gen own joined t = record { dealt = n; first = first; generation = gen; own = own; joined = joined; held = Some t }
+
+module _ {D B : Type 0} {g h : _} (n : ℕ) (first : D) (gen : ℕ) (own : List Noted) (joined : List (List Noted)) (log : List BookEntry) (x x' : Segment D B g h) (gone : List ℕ) (generation : ℕ) where
+  abbrev pub Did : Result (Unit {0}) AllocError → Type 0
+  Did r =
+      OnOk r ((others : List ℕ) × AreOthers (moment x).inside gone others × Renews (map Gone (gone ++ others) ++ Opened generation ∷ []) (moment x) (moment x'))
+      × OnErr r (IsAsBefore (moment x) (moment x'))
+
+  desk_may : (r : Result (Unit {0}) AllocError) → Behind first log x → Did r → disk_of x' ≡ disk_of x → DeskMay Behind Knows (RenewNotes generation gone r) (desk_holding n first gen own joined (taken log x)) x'
+  desk_may (Ok done) is did disk =
+      let others : List ℕ = did.0.0 in let es : List BookEntry = renewal (gone ++ others) generation in
+      let next = generation_behind log (gone ++ others) generation in record {
+        was = taken log x;
+        added = es;
+        held = refl;
+        is_told = (others, refl, apart (moment x).inside gone others did.0.1);
+        none_own = none_gone (gone ++ others) generation;
+        step = record {
+          resets = resets_behind log es next (nobody_behind log (moment x).inside gone others generation did.0.1 is.attended);
+          later = omega (arith, next);
+          stands = λ f was. behind_renewed f log x x' gone others generation did.0.1 did.0.2 disk was;
+          passes = λ ps up known. subst (λ z. Rattle.pm_shared.specs.Passes.AllKnown (Knows (log ++ es) x') z ps) (sym next) (known_later (Knows (log ++ es) x') (generation_of log) ps up);
+        };
+      }
+  desk_may (Err short) is did disk =
+      let moves = moves_still x x' did.1 disk in record {
+        was = taken log x;
+        added = [];
+        held = refl;
+        is_told = refl;
+        none_own = tt;
+        step = record {
+          resets = λ dealt cells a. subst (AreCounted dealt cells) (sym (append-nil log)) a;
+          later = omega (arith, ap generation_of (append-nil log));
+          stands = λ f was. behind_moves f log [] x x' tt moves was;
+          passes = λ ps up known. subst (λ z. Rattle.pm_shared.specs.Passes.AllKnown (Knows (log ++ []) x') z ps) (sym (ap generation_of (append-nil log)))
+              (known_on (Knows log x) (Knows (log ++ []) x') (generation_of log) ps (λ p e k. knows_moves log [] x x' p tt moves k) known);
+        };
+      }
+
+  pub renew_may : (r : Result (Unit {0}) AllocError) (me me' : Seated (Segment D B g h) D) (c : List (ℕ × Option (Segment D B g h))) → me ≡ desk_resting n first gen own joined → me' ≡ (with_held me.0 (Some (taken log x)), c)
+      → Tells Behind Knows me.0 (taken log x) → Did r → disk_of x' ≡ disk_of x → MayGive Behind Knows (RenewNotes generation gone r) [] me'.0 x'
+  renew_may r me me' c is was tells did disk =
+      let held : me'.0 ≡ Master (desk_holding n first gen own joined (taken log x)) = ap (λ (m : Seated (Segment D B g h) D). m.0) was ∙ ap (λ (m : Seated (Segment D B g h) D). with_held m.0 (Some (taken log x))) is in
+      let tells' = subst (λ (m : Seated (Segment D B g h) D). Tells Behind Knows m.0 (taken log x)) is tells in
+      subst (λ (v : View (Segment D B g h) D). MayGive Behind Knows (RenewNotes generation gone r) [] v x') (sym held) (desk_may r tells'.2 did disk)
+
+pub renew_did : {S F : Type 0} (n : ℕ) (first : F) (gen : ℕ) (own : List Noted) (joined : List (List Noted)) (log es : List BookEntry) (x : S) (gone : List ℕ) (generation : ℕ) (r : Result (Unit {0}) AllocError)
+    (id id' : TableId) (me me' me'' : Seated S F) (c c' : List (ℕ × Option S)) (old : SharedModel F) → me ≡ desk_resting n first gen own joined → me' ≡ (with_held me.0 (Some (taken log x)), c) → me'' ≡ (given_back me'.0 es [], c')
+    → generation_of log ≡ gen → shown S F id n me ≡ old → id' ≡ id → generation ≡ old.generation + 1 → RenewNotes generation gone r es
+    → OnOk r ((others : List ℕ) × AreApart gone others × HasRenewed old generation (renewal (gone ++ others) generation) (shown S F id' n me''))
+renew_did n first gen own joined log es x gone generation (Err short) id id' me me' me'' c c' old is was now told view same next notes = tt
+renew_did {S} {F} n first gen own joined log es x gone generation (Ok done) id id' me me' me'' c c' old is was now told view same next notes =
+    let others : List ℕ = notes.0 in
+    let es_is : es ≡ renewal (gone ++ others) generation = notes.1 in
+    let old_is : old ≡ shown S F id n (desk_resting n first gen own joined) = sym view ∙ ap (shown S F id n) is in
+    let v : View S F = Master record { dealt = n; first = first; generation = generation_of (log ++ es); own = own ++ noted_from (length log) es; joined = joined; held = None } in
+    let now_is : me''.0 ≡ v =
+    ap (λ (m : Seated S F). m.0) now ∙ ap (λ (m : Seated S F). given_back m.0 es []) was ∙ ap (λ (m : Seated S F). given_back (with_held m.0 (Some (taken log x))) es []) is in
+    let gen_is : generation_of (log ++ es) ≡ generation =
+    ap (λ l. generation_of (log ++ l)) es_is ∙ generation_behind log (gone ++ others) generation ∙ ap (λ m. m + 1) (told ∙ sym (ap (λ (s : SharedModel F). s.generation) old_is)) ∙ sym next in (
+      others,
+      notes.2,
+      (
+        length log,
+        (λ i. record {
+          table = (same ∙ sym (ap (λ (s : SharedModel F). s.table) old_is)) i;
+          tokens = sym (ap (λ (s : SharedModel F). s.tokens) old_is) i;
+          first = (ap first_of now_is ∙ sym (ap (λ (s : SharedModel F). s.first) old_is)) i;
+          generation = (ap generation_in now_is ∙ gen_is) i;
+          own = (ap is_own_of now_is ∙ (λ j. sym (ap (λ (s : SharedModel F). s.own) old_is) j ++ noted_from (length log) (es_is j))) i;
+          joined = (ap joined_of now_is ∙ sym (ap (λ (s : SharedModel F). s.joined) old_is)) i;
+        }),
+      ),
+    )

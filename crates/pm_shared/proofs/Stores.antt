@@ -1,0 +1,164 @@
+-- What a store's calls make of what holds of it.
+use Rattle.std.proofs.Common.{◌≡◌, ◌⊎◌, inl, inr, ℕ, ◌≤◌, true, false, List, [], ◌∷◌, ◌++◌, Option, None, Some, refl, sym, ◌∙◌, ap, subst, arith, append_assoc, append-nil, length-append}
+use Rattle.std.specs.Prelude.{IfSome, Any, fold}
+use Rattle.std.proofs.lemmas.Grind.{common_steps}
+use Rattle.std.proofs.lemmas.List.Elements.{All-append, All-weaker}
+use Rattle.std.proofs.lemmas.List.Sums.{fold-append}
+use Rattle.pm_query.specs.declared.book.BookEntry.{BookEntry}
+use Rattle.pm_query.specs.declared.book.BookEntry.TheVariants.{Opened, Attached, Redone, Answered, Released, Detached, Gone, CheckpointEnded, Broke, LogFull}
+use Rattle.pm_query.specs.Book.{AnswersUpTo, Base, generation_after, generation_of, present, present_after, times_after, times_attached}
+use Rattle.pm_segment.specs.declared.pass.Pass.{Pass}
+use Rattle.pm_segment.specs.declared.segment.Segment.{Segment}
+use Rattle.pm_segment.specs.Children.{times_behind}
+use Rattle.pm_segment.specs.Moment.{Moment, moment}
+use Rattle.pm_segment.specs.Moves.{CountsEntries, IsShown, Moves, NotesEntries}
+use Rattle.pm_segment.specs.MovesLaws.{rose_later, shown_later, time_on}
+use Rattle.pm_segment.specs.Passes.{Admits, HasAnswer, IsInside}
+use Rattle.pm_segment.specs.Stands.{Begins, IsBaseOf, Origin, WaitsFrom}
+use Rattle.pm_shared.specs.Behind.{Behind, Knows}
+use Rattle.pm_shared.specs.Log.{is_own, AllOwn}
+use Rattle.pm_shared.specs.Quiet.{IsQuiet, AllQuiet}
+
+-- ---- entries
+
+pub quiet_own : (es : List BookEntry) → AllQuiet es → AllOwn es
+quiet_own [] q = tt
+quiet_own (e ∷ es) q = (own e q.0, quiet_own es q.1)
+  where
+    own : (e : BookEntry) → IsQuiet e → is_own e ≡ true
+    own (Opened generation) q = absurd q
+    own (Attached pid generation) q = absurd q
+    own (Detached pid) q = absurd q
+    own (Gone pid) q = absurd q
+    own (Redone pid generation kept) q = refl
+    own (Answered pid script reply commit front tick) q = refl
+    own (Released pid front tick) q = refl
+    own (CheckpointEnded pid done clean) q = refl
+    own (Broke pid since faults) q = refl
+    own (LogFull pid script need room) q = refl
+
+false_true : false ≡ true → ⊥
+false_true e = absurd (cc)
+
+own_generation : (n : ℕ) (e : BookEntry) → is_own e ≡ true → generation_after n e ≡ n
+own_generation n (Opened generation) o = absurd (false_true o)
+own_generation n (Gone pid) o = refl
+own_generation n (Attached pid generation) o = refl
+own_generation n (Detached pid) o = refl
+own_generation n (Redone pid generation kept) o = refl
+own_generation n (Answered pid script reply commit front tick) o = refl
+own_generation n (Released pid front tick) o = refl
+own_generation n (CheckpointEnded pid done clean) o = refl
+own_generation n (Broke pid since faults) o = refl
+own_generation n (LogFull pid script need room) o = refl
+
+own_generations : (n : ℕ) (es : List BookEntry) → AllOwn es → fold generation_after n es ≡ n
+own_generations n [] o = refl
+own_generations n (e ∷ es) o = ap (λ m. fold generation_after m es) (own_generation n e o.0) ∙ own_generations n es o.1
+
+pub generation_on : (log es : List BookEntry) → AllOwn es → generation_of (log ++ es) ≡ generation_of log
+generation_on log es o = fold-append generation_after 0 log es ∙ own_generations (generation_of log) es o
+
+own_present : (before : List BookEntry) (e : BookEntry) → is_own e ≡ true → present_after before e ≡ before ++ e ∷ []
+own_present before (Opened generation) o = absurd (false_true o)
+own_present before (Gone pid) o = refl
+own_present before (Attached pid generation) o = refl
+own_present before (Detached pid) o = refl
+own_present before (Redone pid generation kept) o = refl
+own_present before (Answered pid script reply commit front tick) o = refl
+own_present before (Released pid front tick) o = refl
+own_present before (CheckpointEnded pid done clean) o = refl
+own_present before (Broke pid since faults) o = refl
+own_present before (LogFull pid script need room) o = refl
+
+own_presents : (before es : List BookEntry) → AllOwn es → fold present_after before es ≡ before ++ es
+own_presents before [] o = sym (append-nil before)
+own_presents before (e ∷ es) o = ap (λ b. fold present_after b es) (own_present before e o.0) ∙ own_presents (before ++ e ∷ []) es o.1 ∙ append_assoc before (e ∷ []) es
+
+pub present_on : (log es : List BookEntry) → AllOwn es → present (log ++ es) ≡ present log ++ es
+present_on log es o = fold-append present_after [] log es ∙ own_presents (present log) es o
+
+pub times_on : (log es : List BookEntry) (pid : ℕ) → times_attached (log ++ es) pid ≡ times_behind es pid (times_attached log pid)
+times_on log es pid = fold-append (times_after pid) 0 log es
+
+quiet_time : (who n : ℕ) (e : BookEntry) → IsQuiet e → times_after who n e ≡ n
+quiet_time who n (Opened generation) q = absurd q
+quiet_time who n (Attached pid generation) q = absurd q
+quiet_time who n (Detached pid) q = absurd q
+quiet_time who n (Gone pid) q = absurd q
+quiet_time who n (Redone pid generation kept) q = refl
+quiet_time who n (Answered pid script reply commit front tick) q = refl
+quiet_time who n (Released pid front tick) q = refl
+quiet_time who n (CheckpointEnded pid done clean) q = refl
+quiet_time who n (Broke pid since faults) q = refl
+quiet_time who n (LogFull pid script need room) q = refl
+
+pub quiet_times : (who n : ℕ) (es : List BookEntry) → AllQuiet es → times_behind es who n ≡ n
+quiet_times who n [] q = refl
+quiet_times who n (e ∷ es) q = ap (λ m. times_behind es who m) (quiet_time who n e q.0) ∙ quiet_times who n es q.1
+
+-- ---- one moment and the next
+
+pub told_on : (before now : Option (List BookEntry)) (log es : List BookEntry) → NotesEntries es before now → IfSome before (λ book. book ≡ log) → IfSome now (λ book. book ≡ log ++ es)
+told_on None now log es notes told = subst (λ (o : Option (List BookEntry)). IfSome o (λ book. book ≡ log ++ es)) (sym notes) tt
+told_on (Some book) now log es notes told = subst (λ (o : Option (List BookEntry)). IfSome o (λ book. book ≡ log ++ es)) (sym notes) (ap (λ l. l ++ es) told)
+
+pub base_later : (origin : Origin) (base : Base) (before now : ℕ) → before ≤ now → IsBaseOf origin base before → IsBaseOf origin base now
+base_later origin base before now le (inl rose) = inl (rose_later origin.faults before now le rose)
+base_later origin base before now le (inr means) = inr means
+
+counts_on : (from : ℕ) (log es : List BookEntry) (at now : Moment) → at.faults ≤ now.faults → CountsEntries from log at.faults at.live → CountsEntries from es now.faults now.live → CountsEntries from (log ++ es) now.faults now.live
+counts_on from log es at now le a b = record {
+  counted = b.counted;
+  each = All-append (IsShown from now.faults) log es (All-weaker (IsShown from at.faults) (IsShown from now.faults) (shown_later from at.faults now.faults le) log a.each) b.each;
+}
+
+any_before : (P : BookEntry → Type 0) (entries : List BookEntry) (entry : BookEntry) → Any P entries → Any P (entries ++ entry ∷ [])
+any_before P entries entry any =
+    (any.0, any.1, omega (arith, any.2, length-append entries (entry ∷ [])), grind (arith, common_steps, any.2, any.3), any.4)
+
+any_more : (P : BookEntry → Type 0) (xs ys : List BookEntry) → Any P xs → Any P (xs ++ ys)
+any_more P xs [] any = subst (Any P) (sym (append-nil xs)) any
+any_more P xs (y ∷ ys) any = subst (Any P) (append_assoc xs (y ∷ []) ys) (any_more P (xs ++ y ∷ []) ys (any_before P xs y any))
+
+pub behind_moves : {D B : Type 0} {g h : _} (first : D) (log es : List BookEntry) (x x' : Segment D B g h) → AllOwn es → Moves es (moment x) (moment x') → Behind first log x → Behind first (log ++ es) x'
+behind_moves {g = g} first log es x x' own moves is = record {
+  told = told_on (moment x).book (moment x').book log es moves.notes is.told;
+  generation = generation_on log es own ∙ is.generation ∙ sym moves.generation;
+  attended = λ pid. times_on log es pid ∙ ap (times_behind es pid) (is.attended pid) ∙ sym (moves.attends pid);
+  time = time_on (g.ticks first) (moment x).ticks (moment x').ticks (g.images first) (moment x).images (moment x').images is.time moves.time;
+  counts = counts_on (g.faults first) log es (moment x) (moment x') moves.later is.counts (moves.counts (g.faults first) is.counts.counted);
+  stands = stands is.stands;
+}
+  where
+    origin : Origin
+    origin = record { files = g.seen first; tick = g.ticks first; faults = g.faults first }
+
+    stands : WaitsFrom origin (moment x) ⊎ Begins origin (moment x) → WaitsFrom origin (moment x') ⊎ Begins origin (moment x')
+    stands (inl waits) = moves.waits origin waits
+    stands (inr begins) = inr (record {
+      base = begins.base;
+      faults = begins.faults;
+      found = base_later origin begins.base (moment x).faults (moment x').faults moves.later begins.found;
+      goes = moves.goes_on origin begins.base begins.goes;
+    })
+
+pub answer_on : (pid : ℕ) (front : Option ℕ) (log es : List BookEntry) → AllOwn es → HasAnswer pid front log → HasAnswer pid front (log ++ es)
+answer_on pid None log es own has = tt
+answer_on pid (Some front) log es own has = subst (Any (AnswersUpTo pid front)) (sym (present_on log es own)) (any_more (AnswersUpTo pid front) (present log) es has)
+
+pub knows_moves : {D B : Type 0} {g h : _} (log es : List BookEntry) (x x' : Segment D B g h) (p : Pass) → AllOwn es → Moves es (moment x) (moment x') → Knows log x p → Knows (log ++ es) x' p
+knows_moves log es x x' p own moves knows = (answer_on p.pid p.front log es own knows.0, moves.flushed p.front knows.1)
+
+-- a pass that is known, of a child that is inside in this generation, is admitted
+pub admits_known : {D B : Type 0} {g h : _} (first : D) (log : List BookEntry) (x : Segment D B g h) (p : Pass) → Behind first log x → Knows log x p → p.generation ≡ (moment x).generation → 1 ≤ times_attached log p.pid → Admits p (moment x)
+admits_known first log x p is knows same there = record {
+  there = subst (λ n. 1 ≤ n) (is.attended p.pid) there;
+  generation_is = same;
+  inside = inside (moment x).book is.told;
+  flushed = knows.1;
+}
+  where
+    inside : (book : Option (List BookEntry)) → IfSome book (λ b. b ≡ log) → IfSome book (IsInside p.pid p.front)
+    inside None told = tt
+    inside (Some book) told = subst (IsInside p.pid p.front) (sym told) (record { attached = there; answered = knows.0 })

@@ -1,0 +1,19 @@
+use Rattle.std.proofs.Common.{◌∙◌, [], subst}
+use Rattle.pm_shared.specs.Behind.{Behind, Knows}
+use Rattle.pm_shared.specs.Rule.{taken}
+use Rattle.pm_shared.specs.Told.{Tells}
+use Rattle.pm_shared.proofs.Renewing.{Did, renew_did, renew_may}
+use Rattle.pm_shared.proofs.shared.Shared.renew.Goals as goal
+
+pub give_renewed-requires-clause-may : goal.give_renewed-requires-clause-may
+give_renewed-requires-clause-may g c =
+    let t = c.take-store.ensures.taken in
+    let did : Did c.self.inside.tokens c.self.invariant.2.0 0 [] [] t.0 c.take-store.result c.renew-result.new.self c.args.gone.now c.args.generation c.renew-result.result = (c.renew-result.ensures.renews, c.renew-result.ensures.refused) in
+    renew_may _ _ _ _ _ t.0 c.take-store.result c.renew-result.new.self c.args.gone.now c.args.generation c.renew-result.result _ _ _ c.self.invariant.2.1 t.1 t.2 did c.renew-result.ensures.disk
+
+pub returns-clause-ok : goal.returns-clause-ok
+returns-clause-ok g c =
+    let t = c.take-store.ensures.taken in
+    let given = c.give_renewed.ensures.given in
+    let tells = subst (λ m. Tells Behind Knows m.0 (taken t.0 c.take-store.result)) c.self.invariant.2.1 t.2 in
+    renew_did _ _ _ _ _ t.0 given.0 c.take-store.result c.args.gone.now c.args.generation c.renew-result.result _ _ _ _ c.give_renewed.new.seat.me _ _ _ c.self.invariant.2.1 t.1 given.2 tells.1 c.self.view_is (c.give_renewed.ensures.same ∙ c.take-store.ensures.same) c.requires given.1

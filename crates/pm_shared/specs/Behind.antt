@@ -1,0 +1,28 @@
+-- What holds of a store behind the entries so far.
+use Rattle.std.specs.Prelude.{◌≡◌, ◌⊎◌, List, IfSome}
+use Rattle.pm_record.specs.OnDisk.{GoesOn}
+use Rattle.pm_query.specs.declared.book.BookEntry.{BookEntry}
+use Rattle.pm_query.specs.Book.{generation_of}
+use Rattle.pm_segment.specs.declared.pass.Pass.{Pass}
+use Rattle.pm_segment.specs.declared.segment.Segment.{Segment}
+use Rattle.pm_segment.specs.Children.{IsAttendedBy}
+use Rattle.pm_segment.specs.Moment.{moment}
+use Rattle.pm_segment.specs.Moves.{CountsEntries}
+use Rattle.pm_segment.specs.Passes.{HasAnswer, IsFlushed}
+use Rattle.pm_segment.specs.Stands.{Begins, WaitsFrom}
+
+-- The store is behind these entries, from the disk as it got it. Where its book tells, the book is these entries. Children
+-- are inside as often as the entries attach them, each fault among them was counted, and what a stop could leave before is as
+-- it was. What held of the beginning holds still, or the first redo has come.
+pub record Behind {D B : Type 0} {g h : _} (first : D) (log : List BookEntry) (store : Segment D B g h) : Type 0 where
+  pub told : IfSome (moment store).book (λ book. book ≡ log)
+  pub generation : generation_of log ≡ (moment store).generation
+  pub attended : IsAttendedBy (moment store).inside log
+  pub time : GoesOn (g.ticks first) (moment store).ticks (g.images first) (moment store).images
+  pub counts : CountsEntries (g.faults first) log (moment store).faults (moment store).live
+  pub stands : WaitsFrom (record { files = g.seen first; tick = g.ticks first; faults = g.faults first }) (moment store)
+      ⊎ Begins (record { files = g.seen first; tick = g.ticks first; faults = g.faults first }) (moment store)
+
+-- the child of a pass was answered up to its front, in this generation, and that front is flushed
+abbrev pub Knows : {D B : Type 0} {g h : _} → List BookEntry → Segment D B g h → Pass → Type 0
+Knows log store pass = HasAnswer pass.pid pass.front log × IsFlushed pass.front (moment store).live

@@ -1,0 +1,11 @@
+pub mod Behind
+pub mod Ending
+pub mod Grows
+pub mod GrowsLaws
+pub mod Log
+pub mod Passes
+pub mod Places
+pub mod Quiet
+pub mod Renewed
+pub mod Rule
+pub mod Told

@@ -1,0 +1,108 @@
+-- The rule: where the store is, whose each of its entries is, and what the seats know of both.
+use Rattle.std.specs.Prelude.{◌≡◌, ◌≢◌, ◌⊎◌, ℕ, zero, suc, ◌+◌, ◌<◌, ◌≤◌, List, [], ◌∷◌, Option, Some, None, length, slice_get, slice_index_or}
+use mathlib.Core.Option.{some, none}
+use mathlib.Core.Option as maybe
+use lib.ListN.{get_elem?}
+use Rattle.atomic_table.specs.Table.{State}
+use Rattle.pm_query.specs.declared.book.BookEntry.{BookEntry}
+use Rattle.pm_query.specs.Book.{generation_of, times_attached}
+use Rattle.pm_segment.specs.declared.pass.Pass.{Pass}
+use Rattle.pm_shared.specs.declared.views.Noted.{Noted}
+use Rattle.pm_shared.specs.declared.views.Taken.{Taken}
+use Rattle.pm_shared.specs.declared.views.Hand.{Hand}
+use Rattle.pm_shared.specs.declared.views.Desk.{Desk}
+use Rattle.pm_shared.specs.declared.views.View.{View}
+use Rattle.pm_shared.specs.declared.views.View.TheVariants.{Vacant, Founding, Master, Worker, Spent}
+use Rattle.pm_shared.specs.Log.{Line, book_of, placed, placed_rest, AllBelow}
+use Rattle.pm_shared.specs.Passes.{live, AllUpTo, AllKnown}
+
+-- a token: its seat, or the shared side's once it is joined, and its passes
+pub record Cell : Type 0 where
+  pub seat : ℕ
+  pub passes : List Pass
+
+-- where the store is: at home, or out with a seat of this number
+pub data Where : Type 0 where
+  home : Where
+  out : ℕ → ℕ → Where
+
+abbrev pub sum_below : ℕ → (ℕ → ℕ) → ℕ
+sum_below zero f = 0
+sum_below (suc n) f = sum_below n f + f n
+
+abbrev pub IsSeat : Where → ℕ → Type 0
+IsSeat home n = Unit {0}
+IsSeat (out seat number) n = seat < n
+
+-- the passes of the present generation that were not left are the attached pids
+pub record AreCounted (dealt : ℕ) (cells : ℕ → Cell) (book : List BookEntry) : Type 0 where
+  pub unborn : (k : ℕ) → dealt ≤ k → (cells k).passes ≡ []
+  pub known : (k : ℕ) → AllUpTo (generation_of book) (cells k).passes
+  pub counted : (p : ℕ) → sum_below dealt (λ k. live p (generation_of book) (cells k).passes) ≡ times_attached book p
+
+module _ {S : Type 0} where
+  abbrev pub taken : List BookEntry → S → Taken S
+  taken book x = record { log = book; store = x }
+
+  abbrev pub IsThere : Where → S → ℕ → maybe.Option (maybe.Option (Option S)) → Type 0
+  IsThere home x word slot = (word ≡ 0) × (slot ≡ some (some (Some x)))
+  IsThere (out id number) x word slot = word ≡ number + 1
+
+  -- what a seat has of the store
+  abbrev pub HasTaken : Where → Taken S → ℕ → ℕ → Option (Taken S) → Type 0
+  HasTaken home t id number None = Unit {0}
+  HasTaken home t id number (Some b) = ⊥
+  HasTaken (out seat holder) t id number None = id ≢ seat
+  HasTaken (out seat holder) t id number (Some b) = (id ≡ seat) × (number ≡ holder) × (b ≡ t)
+
+module _ {S F : Type 0} where
+  pub record FitsHand (w : Where) (dealt : ℕ) (first : F) (cells : ℕ → Cell) (log : List Line) (x : S) (id : ℕ) (h : Hand S F) : Type 0 where
+    pub seat : (cells h.number).seat ≡ id
+    pub passes : (cells h.number).passes ≡ h.passes
+    pub number : h.number < dealt
+    pub first_is : h.first ≡ first
+    pub own : h.own ≡ placed h.number 0 log
+    pub met : h.met ≤ generation_of (book_of log)
+    pub held : HasTaken w (taken (book_of log) x) id h.number h.held
+
+  pub record FitsDesk (w : Where) (master dealt : ℕ) (first : F) (cells : ℕ → Cell) (log : List Line) (x : S) (id : ℕ) (d : Desk S F) : Type 0 where
+    pub seat : id ≡ master
+    pub dealt_is : d.dealt ≡ dealt
+    pub first_is : d.first ≡ first
+    pub few : length d.joined ≤ dealt
+    pub generation : d.generation ≡ generation_of (book_of log)
+    pub own : d.own ≡ placed_rest 0 log
+    pub joined : (k : ℕ) (l : List Noted) → slice_get d.joined k ≡ Some l → ((cells k).seat ≡ master) × (l ≡ placed k 0 log)
+    pub held : HasTaken w (taken (book_of log) x) id d.dealt d.held
+
+  abbrev pub Fits : Where → ℕ → ℕ → F → (ℕ → Cell) → List Line → S → ℕ → View S F → Type 0
+  Fits w master dealt first cells log x id Vacant = ⊥
+  Fits w master dealt first cells log x id Founding = ⊥
+  Fits w master dealt first cells log x id (Master d) = FitsDesk w master dealt first cells log x id d
+  Fits w master dealt first cells log x id (Worker h) = FitsHand w dealt first cells log x id h
+  Fits w master dealt first cells log x id Spent = HasTaken w (taken (book_of log) x) id 0 None
+
+  -- no store lies there yet
+  abbrev pub IsFresh : State (Option S) (View S F) → Type 0
+  IsFresh s =
+      (s.words ≡ 1 ∷ [])
+      × (((s.homes ≡ some None ∷ []) × (s.views ≡ Vacant ∷ [])) ⊎ ((s.homes ≡ none ∷ []) × (s.views ≡ Founding ∷ [])))
+
+-- what holds of a store that is behind these entries, as it was handed in first; and what of each pass of its generation
+module _ {S F : Type 0} (Is : F → List BookEntry → S → Type 0) (Knows : List BookEntry → S → Pass → Type 0) where
+  pub record Holds (w : Where) (master dealt : ℕ) (first : F) (cells : ℕ → Cell) (log : List Line) (x : S) (s : State (Option S) (View S F)) : Type 0 where
+    pub one_word : length s.words ≡ 1
+    pub one_slot : length s.homes ≡ 1
+    pub there : IsThere w x (slice_index_or s.words 0 0) (get_elem? s.homes 0)
+    pub holder : IsSeat w (length s.views)
+    pub owned : AllBelow dealt log
+    pub passes : AreCounted dealt cells (book_of log)
+    pub stands : Is first (book_of log) x
+    pub good : (k : ℕ) → AllKnown (Knows (book_of log) x) (generation_of (book_of log)) (cells k).passes
+    pub each_seat : (id : ℕ) (v : View S F) → get_elem? s.views id ≡ some v → Fits w master dealt first cells log x id v
+
+  abbrev pub IsHeld : State (Option S) (View S F) → Type 0
+  IsHeld s = (w : Where) × (master : ℕ) × (dealt : ℕ) × (first : F) × (cells : ℕ → Cell) × (log : List Line) × (x : S) × Holds w master dealt first cells log x s
+
+  abbrev pub Kept : State (Option S) (View S F) → Type 0
+  Kept s = IsFresh s ⊎ IsHeld s

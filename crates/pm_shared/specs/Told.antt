@@ -1,0 +1,275 @@
+-- What each step tells.
+use Rattle.std.specs.Prelude.{◌≡◌, ◌≢◌, ℕ, ◌+◌, ◌≤◌, List, [], ◌∷◌, ◌++◌, length, Option, Some, None, slice_get}
+use Rattle.atomic_table.specs.Table.{Me, Step}
+use Rattle.atomic_table.specs.Seated.{TableId}
+use Rattle.pm_query.specs.declared.book.BookEntry.{BookEntry}
+use Rattle.pm_query.specs.declared.book.BookEntry.TheVariants.{Opened}
+use Rattle.pm_query.specs.Book.{generation_of, times_attached}
+use Rattle.pm_segment.specs.declared.pass.Pass.{Pass}
+use Rattle.pm_shared.specs.declared.views.Noted.{Noted}
+use Rattle.pm_shared.specs.declared.views.Taken.{Taken}
+use Rattle.pm_shared.specs.declared.views.Hand.{Hand}
+use Rattle.pm_shared.specs.declared.views.Desk.{Desk}
+use Rattle.pm_shared.specs.declared.views.View.{View}
+use Rattle.pm_shared.specs.declared.views.View.TheVariants.{Vacant, Founding, Master, Worker, Spent}
+use Rattle.pm_shared.specs.Log.{noted, noted_from, AllOwn, NoneOwn, IsShuffle}
+use Rattle.pm_shared.specs.Passes.{live, AllUpTo, AllKnown}
+use Rattle.pm_shared.specs.Rule.{Cell, AreCounted}
+
+-- what a call's entries do to its passes and to who is attached
+pub record Turns (book added : List BookEntry) (ps ps' : List Pass) : Type 0 where
+  pub same : generation_of (book ++ added) ≡ generation_of book
+  pub known : AllUpTo (generation_of book) ps → AllUpTo (generation_of book) ps'
+  pub fair : (p : ℕ) → times_attached (book ++ added) p + live p (generation_of book) ps ≡ times_attached book p + live p (generation_of book) ps'
+
+-- what the shared side's entries do to the passes, whoever has them
+abbrev pub Resets : (book added : List BookEntry) → Type 0
+Resets book added = (dealt : ℕ) (cells : ℕ → Cell) → AreCounted dealt cells book → AreCounted dealt cells (book ++ added)
+
+-- no entry
+abbrev pub IsNothing : List BookEntry → Type 0
+IsNothing es = es ≡ []
+
+-- a table of one word and one slot
+abbrev pub IsSmall : TableId → Type 0
+IsSmall t = (t.words ≡ 1) × (t.slots ≡ 1)
+
+-- What a token's contracts see: its table, its number, the disk as the store got it, the entries that its calls noted, with
+-- their places, its passes, and the generation in which it found the store last.
+pub record TokenModel (F : Type 0) : Type 0 where
+  pub table : TableId
+  pub number : ℕ
+  pub first : Option F
+  pub own : List Noted
+  pub passes : List Pass
+  pub met : ℕ
+
+-- What those of the shared side see: its table, how many tokens there are, the disk as the store got it, the generation, the
+-- entries of its own calls, and the lists of the tokens that were joined.
+pub record SharedModel (F : Type 0) : Type 0 where
+  pub table : TableId
+  pub tokens : ℕ
+  pub first : Option F
+  pub generation : ℕ
+  pub own : List Noted
+  pub joined : List (List Noted)
+
+abbrev pub Seated : (S F : Type 0) → Type 0
+Seated S F = Me (Option S) (View S F)
+
+module _ {S : Type 0} where
+  abbrev pub log_in : Option (Taken S) → List BookEntry
+  log_in None = []
+  log_in (Some t) = t.log
+
+  -- the generation that is met by who takes the store
+  abbrev pub met_in : Option (Taken S) → ℕ → ℕ
+  met_in None met = met
+  met_in (Some t) met = generation_of t.log
+
+  abbrev pub store_in : List (ℕ × Option S) → Option S
+  store_in [] = None
+  store_in (x ∷ xs) = x.1
+
+module _ {S F : Type 0} where
+  abbrev pub number_of : View S F → ℕ
+  number_of Vacant = 0
+  number_of Founding = 0
+  number_of (Master d) = d.dealt
+  number_of (Worker h) = h.number
+  number_of Spent = 0
+
+  abbrev pub IsMine : View S F → Type 0
+  IsMine (Master d) = Unit {0}
+  IsMine (Worker h) = Unit {0}
+  IsMine _ = ⊥
+
+  abbrev pub with_held : View S F → Option (Taken S) → View S F
+  with_held (Master d) t = Master record { dealt = d.dealt; first = d.first; generation = d.generation; own = d.own; joined = d.joined; held = t }
+  with_held (Worker h) t = Worker record { number = h.number; first = h.first; own = h.own; passes = h.passes; met = met_in t h.met; held = t }
+  with_held v t = v
+
+  -- the view, once the store is given back with these entries behind those that were there, and these passes
+  abbrev pub given_back : View S F → List BookEntry → List Pass → View S F
+  given_back (Master d) es ps = Master record {
+    dealt = d.dealt;
+    first = d.first;
+    generation = generation_of (log_in d.held ++ es);
+    own = d.own ++ noted_from (length (log_in d.held)) es;
+    joined = d.joined;
+    held = None;
+  }
+  given_back (Worker h) es ps = Worker record { number = h.number; first = h.first; own = h.own ++ noted_from (length (log_in h.held)) es; passes = ps; met = h.met; held = None }
+  given_back v es ps = v
+
+  abbrev pub Gave : (List BookEntry → Type 0) → List Pass → Step (Option S) → Seated S F → ℕ → Seated S F → Type 0
+  Gave told ps st m found n = (es : List BookEntry) × told es × (n ≡ (given_back m.0 es ps, []))
+
+  -- a table's first steps
+  abbrev pub Opens : Step (Option S) → Seated S F → ℕ → Seated S F → Type 0
+  Opens st m found n = n ≡ (Founding, (0, None) ∷ [])
+
+  abbrev pub new_desk : F → Desk S F
+  new_desk first = record { dealt = 0; first = first; generation = 1; own = noted 0 (Opened 1) ∷ []; joined = []; held = None }
+
+  abbrev pub founded : (S → F) → Option S → View S F
+  founded first_of None = Vacant
+  founded first_of (Some x) = Master (new_desk (first_of x))
+
+  abbrev pub Founded : (S → F) → Step (Option S) → Seated S F → ℕ → Seated S F → Type 0
+  Founded first_of st m found n = n ≡ (founded first_of (store_in m.1), [])
+
+  -- one more token
+  abbrev pub new_hand : ℕ → F → Hand S F
+  new_hand k first = record { number = k; first = first; own = []; passes = []; met = 0; held = None }
+
+  abbrev pub dealt_more : View S F → View S F
+  dealt_more (Master d) = Master record { dealt = d.dealt + 1; first = d.first; generation = d.generation; own = d.own; joined = d.joined; held = d.held }
+  dealt_more v = v
+
+  abbrev pub next_hand : View S F → View S F
+  next_hand (Master d) = Worker (new_hand d.dealt d.first)
+  next_hand v = Spent
+
+  -- the shared side takes in what a token knows
+  abbrev pub taken_in : View S F → View S F → View S F
+  taken_in (Master d) (Worker h) = Master record { dealt = d.dealt; first = d.first; generation = d.generation; own = d.own; joined = d.joined ++ h.own ∷ []; held = d.held }
+  taken_in v w = v
+
+  -- ---- a seat between two calls: it holds nothing
+
+  abbrev pub resting : ℕ → F → List Noted → List Pass → ℕ → Seated S F
+  resting k first own passes met = (Worker record { number = k; first = first; own = own; passes = passes; met = met; held = None }, [])
+
+  abbrev pub desk_resting : ℕ → F → ℕ → List Noted → List (List Noted) → Seated S F
+  desk_resting n first g own joined = (Master record { dealt = n; first = first; generation = g; own = own; joined = joined; held = None }, [])
+
+  abbrev pub first_of : View S F → Option F
+  first_of (Master d) = Some d.first
+  first_of (Worker h) = Some h.first
+  first_of _ = None
+
+  abbrev pub is_own_of : View S F → List Noted
+  is_own_of (Master d) = d.own
+  is_own_of (Worker h) = h.own
+  is_own_of _ = []
+
+  abbrev pub passes_of : View S F → List Pass
+  passes_of (Worker h) = h.passes
+  passes_of _ = []
+
+  abbrev pub met_of : View S F → ℕ
+  met_of (Worker h) = h.met
+  met_of _ = 0
+
+  abbrev pub generation_in : View S F → ℕ
+  generation_in (Master d) = d.generation
+  generation_in _ = 0
+
+  abbrev pub joined_of : View S F → List (List Noted)
+  joined_of (Master d) = d.joined
+  joined_of _ = []
+
+module _ {S F : Type 0} (Is : F → List BookEntry → S → Type 0) (Knows : List BookEntry → S → Pass → Type 0) where
+  -- what the rule tells a token with these passes
+  abbrev pub TellsHand : F → List Pass → Taken S → Type 0
+  TellsHand first passes t =
+      Is first t.log t.store × AllKnown (Knows t.log t.store) (generation_of t.log) passes
+      × ((p : ℕ) → live p (generation_of t.log) passes ≤ times_attached t.log p)
+      × AllUpTo (generation_of t.log) passes
+
+  -- what the rule tells of the store, as it is taken
+  abbrev pub Tells : View S F → Taken S → Type 0
+  Tells (Master d) t = IsShuffle d.dealt d.joined d.own t.log × (generation_of t.log ≡ d.generation) × Is d.first t.log t.store
+  Tells (Worker h) t = TellsHand h.first h.passes t × (h.met ≤ generation_of t.log)
+  Tells _ t = Unit {0}
+
+  abbrev pub Took : Step (Option S) → Seated S F → ℕ → Seated S F → Type 0
+  Took st m found n =
+      (found ≡ 0 → (t : Taken S) × (n ≡ (with_held m.0 (Some t), (0, Some t.store) ∷ [])) × Tells m.0 t)
+      × (found ≢ 0 → n ≡ m)
+
+  abbrev pub TookAlone : Step (Option S) → Seated S F → ℕ → Seated S F → Type 0
+  TookAlone st m found n = (t : Taken S) × (n ≡ (with_held m.0 (Some t), (0, Some t.store) ∷ [])) × Tells m.0 t
+
+  -- what a token's call makes of the store that it took, and of its passes
+  pub record HandStep (was : Taken S) (added : List BookEntry) (ps ps' : List Pass) (x' : S) : Type 0 where
+    pub turns : Turns was.log added ps ps'
+    pub stands : (first : F) → Is first was.log was.store → Is first (was.log ++ added) x'
+    pub others : (p : Pass) → p.generation ≡ generation_of was.log → Knows was.log was.store p → Knows (was.log ++ added) x' p
+    pub mine : AllKnown (Knows (was.log ++ added) x') (generation_of was.log) ps'
+
+  -- A token may give back this store: it is the one that was taken, with entries behind it that a token may note.
+  pub record HandMay (told : List BookEntry → Type 0) (ps' : List Pass) (h : Hand S F) (x' : S) : Type 0 where
+    pub was : Taken S
+    pub added : List BookEntry
+    pub held : h.held ≡ Some was
+    pub is_told : told added
+    pub own : AllOwn added
+    pub step : HandStep was added h.passes ps' x'
+
+  -- what a call of the shared side makes of it, and of all passes
+  pub record DeskStep (was : Taken S) (added : List BookEntry) (x' : S) : Type 0 where
+    pub resets : Resets was.log added
+    pub later : generation_of was.log ≤ generation_of (was.log ++ added)
+    pub stands : (first : F) → Is first was.log was.store → Is first (was.log ++ added) x'
+    pub passes : (ps : List Pass) → AllUpTo (generation_of was.log) ps → AllKnown (Knows was.log was.store) (generation_of was.log) ps
+        → AllKnown (Knows (was.log ++ added) x') (generation_of (was.log ++ added)) ps
+
+  -- and so may the shared side
+  pub record DeskMay (told : List BookEntry → Type 0) (d : Desk S F) (x' : S) : Type 0 where
+    pub was : Taken S
+    pub added : List BookEntry
+    pub held : d.held ≡ Some was
+    pub is_told : told added
+    pub none_own : NoneOwn added
+    pub step : DeskStep was added x'
+
+  abbrev pub MayGive : (List BookEntry → Type 0) → List Pass → View S F → S → Type 0
+  MayGive told ps (Master d) x' = DeskMay told d x'
+  MayGive told ps (Worker h) x' = HandMay told ps h x'
+  MayGive told ps _ x' = ⊥
+
+-- ---- the shared side, and its tokens
+
+module _ {F : Type 0} where
+  -- with so many tokens, of which these lists are joined
+  abbrev pub shared_with : SharedModel F → ℕ → List (List Noted) → SharedModel F
+  shared_with s n joined = record { table = s.table; tokens = n; first = s.first; generation = s.generation; own = s.own; joined = joined }
+
+  -- it has noted these entries side by side, and is in this generation
+  abbrev pub HasRenewed : SharedModel F → ℕ → List BookEntry → SharedModel F → Type 0
+  HasRenewed s g es s' = (at : ℕ) × (s' ≡ record { table = s.table; tokens = s.tokens; first = s.first; generation = g; own = s.own ++ noted_from at es; joined = s.joined })
+
+  abbrev pub new_token : SharedModel F → TokenModel F
+  new_token s = record { table = s.table; number = s.tokens; first = s.first; own = []; passes = []; met = 0 }
+
+  -- all n tokens of this table, in the order of their numbers
+  abbrev pub AreTokens : TableId → ℕ → List (TokenModel F) → Type 0
+  AreTokens t n ts = (length ts ≡ n) × ((k : ℕ) (token : TokenModel F) → slice_get ts k ≡ Some token → (token.table ≡ t) × (token.number ≡ k))
+
+  -- it is in its first generation, with this disk, and has so many tokens
+  pub record IsNewShared (tokens : ℕ) (first : F) (s : SharedModel F) : Type 0 where
+    pub tokens_are : s.tokens ≡ tokens
+    pub first_is : s.first ≡ Some first
+    pub generation : s.generation ≡ 1
+    pub own : s.own ≡ noted 0 (Opened 1) ∷ []
+    pub none_joined : s.joined ≡ []
+
+  -- these are its tokens, which have noted nothing
+  pub record AreNewTokens (tokens : ℕ) (s : SharedModel F) (ts : List (TokenModel F)) : Type 0 where
+    pub all : AreTokens s.table tokens ts
+    pub each : (k : ℕ) (token : TokenModel F) → slice_get ts k ≡ Some token → (token.first ≡ s.first) × (token.own ≡ []) × (token.passes ≡ []) × (token.met ≡ 0)
+
+-- so many holds on this table
+abbrev pub AreShares : TableId → ℕ → List TableId → Type 0
+AreShares t n shares = (length shares ≡ n) × ((k : ℕ) (share : TableId) → slice_get shares k ≡ Some share → share ≡ t)
+
+-- a table without a store, and room for so many tokens
+pub record IsBlank {S F : Type 0} (table seat : TableId) (me : Seated S F) (shares : List TableId) (list : List (TokenModel F)) (capacity tokens : ℕ) : Type 0 where
+  pub same : table ≡ seat
+  pub small : IsSmall seat
+  pub vacant : me ≡ (Vacant, [])
+  pub shares_are : AreShares table tokens shares
+  pub none : list ≡ []
+  pub fits : tokens ≤ capacity

@@ -1,0 +1,151 @@
+//! A seat takes the store, and gives it back.
+//!
+//! The table's word is 0 while the store is at home, and else the holder's number and 1. Who finds it out looks again some
+//! times, and then sleeps on the word's low half; who gives the store back wakes one. A sleep begins only while the word is
+//! as it was looked at, so no wake is lost. Nothing of this is promised.
+ghost use Rattle.std.specs.Prelude.{◌≡◌, ◌++◌, [], ◌∷◌, None, Some, List};
+ghost use Rattle.pm_query.specs.declared.book.BookEntry.{BookEntry};
+ghost use Rattle.pm_shared.specs.Behind.{Behind, Knows};
+ghost use Rattle.pm_shared.specs.Rule.{taken};
+ghost use Rattle.pm_shared.specs.Told.{IsMine, IsNothing, IsSmall, MayGive, Tells, given_back, number_of, passes_of, with_held};
+
+use crate::deed::Deed;
+use crate::plays::{Gives, Guarded, Takes};
+use crate::views::View;
+use atomic_table::Seat;
+use pm_disk::Disk;
+use pm_outside::Chronicle;
+use pm_query::BookEntry;
+use pm_segment::{Pass, Segment};
+use std::alloc::AllocError;
+use std::hint::spin_loop;
+use std::marker::Brand;
+use std::sync::Wait;
+
+pub(crate) type Holder<D, B> = Seat<Option<Segment<D, B>>, View<Segment<D, B>, D>>;
+
+/// Takes the store, and waits until it has it.
+pub(crate) fn take<R: Wait, D: Disk, B: Chronicle<BookEntry>>(
+    rt: &R,
+    table: &Guarded<D, B>,
+    seat: &mut Holder<D, B>,
+    number: u32,
+) -> Segment<D, B>
+    requires table { (seat.old.table_id ≡ table.now.shared.table_id)
+        × IsSmall table.now.shared.table_id }
+    requires seat { (seat.old.me.1 ≡ []) × (number_of seat.old.me.0 ≡ number)
+        × IsMine seat.old.me.0 }
+    ensures same { seat.new.table_id ≡ seat.old.table_id }
+    ensures taken { (log : List BookEntry)
+        × (seat.new.me ≡ (with_held seat.old.me.0 (Some (taken log result)), (0, None) ∷ []))
+        × Tells Behind Knows seat.old.me.0 (taken log result) }
+{
+    for _ in rt.forever() {
+        let found = table
+            .shared
+            .compare_exchange::<Takes>(seat, 0, 0, u64::from(number) + 1);
+        if found == 0 {
+            let store = table.shared.exchange(seat, 0, None);
+            return store.unwrap();
+        }
+        wait(rt, table);
+    }
+    unreachable!()
+}
+
+/// How often the word is looked at before a caller sleeps: a script that reads is done meanwhile, a sync isn't.
+const LOOKS: u32 = 100;
+
+// Waits until the store may be at home again. It may also return before that.
+fn wait<R: Wait, D: Disk, B: Chronicle<BookEntry>>(rt: &R, table: &Guarded<D, B>)
+    requires { IsSmall table.now.shared.table_id }
+{
+    for _ in 0..LOOKS {
+        if table.shared.peek(0) == 0 {
+            return;
+        }
+        spin_loop();
+    }
+    let found = table.shared.peek(0);
+    if found != 0 {
+        table.shared.park(rt, 0, low_half(found));
+    }
+}
+
+// The half of a word that a sleep looks at.
+fn low_half(word: u64) -> u32 {
+    (word % (1 << 32)) as u32
+}
+
+/// Gives the store back behind a call. All but table, seat and store is for the proof alone.
+pub(crate) fn give<C: Deed, D: Disk, B: Chronicle<BookEntry>, A, T>(
+    table: &Guarded<D, B>,
+    seat: &mut Holder<D, B>,
+    store: Segment<D, B>,
+    _before: Pass,
+    _now: Pass,
+    _ask: &A,
+    _answer: &T,
+)
+    requires table { (seat.old.table_id ≡ table.now.shared.table_id)
+        × IsSmall table.now.shared.table_id }
+    requires seat { seat.old.me.1 ≡ (0, None) ∷ [] }
+    requires may { MayGive Behind Knows C.told C.passes seat.old.me.0 store }
+    ensures same { seat.new.table_id ≡ seat.old.table_id }
+    ensures given { (entries : List BookEntry) × C.told entries
+        × (seat.new.me ≡ (given_back seat.old.me.0 entries C.passes, [])) }
+{
+    match table.shared.exchange(seat, 0, Some(store)) {
+        None => {}
+        Some(_) => unreachable!(),
+    }
+    table.shared.swap::<Gives<C>>(seat, 0, 0);
+    table.shared.wake_one(0);
+}
+
+/// Gives the store back as it was taken.
+pub(crate) fn give_unchanged<D: Disk, B: Chronicle<BookEntry>>(
+    table: &Guarded<D, B>,
+    seat: &mut Holder<D, B>,
+    store: Segment<D, B>,
+)
+    requires table { (seat.old.table_id ≡ table.now.shared.table_id)
+        × IsSmall table.now.shared.table_id }
+    requires seat { seat.old.me.1 ≡ (0, None) ∷ [] }
+    requires may { MayGive Behind Knows IsNothing (passes_of seat.old.me.0) seat.old.me.0 store }
+    ensures same { seat.new.table_id ≡ seat.old.table_id }
+    ensures given { (entries : List BookEntry) × IsNothing entries
+        × (seat.new.me ≡ (given_back seat.old.me.0 entries (passes_of seat.old.me.0), [])) }
+{
+    let pass = Pass {
+        pid: 0,
+        generation: 0,
+        front: None,
+    };
+    give::<Brand, D, B, (), ()>(table, seat, store, pass, pass, &(), &());
+}
+
+/// Gives the store back behind a renewal. All but table, seat and store is for the proof alone.
+pub(crate) fn give_renewed<C: Deed, D: Disk, B: Chronicle<BookEntry>>(
+    table: &Guarded<D, B>,
+    seat: &mut Holder<D, B>,
+    store: Segment<D, B>,
+    _generation: u32,
+    _gone: &[u32],
+    _answer: &Result<(), AllocError>,
+)
+    requires table { (seat.old.table_id ≡ table.now.shared.table_id)
+        × IsSmall table.now.shared.table_id }
+    requires seat { seat.old.me.1 ≡ (0, None) ∷ [] }
+    requires may { MayGive Behind Knows C.told C.passes seat.old.me.0 store }
+    ensures same { seat.new.table_id ≡ seat.old.table_id }
+    ensures given { (entries : List BookEntry) × C.told entries
+        × (seat.new.me ≡ (given_back seat.old.me.0 entries C.passes, [])) }
+{
+    let pass = Pass {
+        pid: 0,
+        generation: 0,
+        front: None,
+    };
+    give::<C, D, B, (), ()>(table, seat, store, pass, pass, &(), &());
+}

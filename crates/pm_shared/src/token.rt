@@ -1,0 +1,267 @@
+//! One worker's side of the store.
+ghost use Rattle.std.specs.Prelude.{◌≡◌, ◌⊎◌, ◌∷◌, [], List, None, IfOk, OnErr, All};
+ghost use Rattle.std.specs.Arc.{arc_value};
+ghost use Rattle.pm_query.specs.declared.book.BookEntry.{BookEntry};
+ghost use Rattle.pm_query.specs.declared.book.BookEntry.TheVariants.{Detached};
+ghost use Rattle.pm_query.specs.Calls.{CheckpointNotes, EnterNotes, FlushNotes, HasReached, IsPast, LeaveNotes, MetAnother, MetLater, ReachesNoLess, RedoNotes, RunNotes, SeenNotes, new_pass, newcomer, user_of, with_front};
+ghost use Rattle.pm_query.specs.Limits.{HasShortValues};
+ghost use Rattle.pm_segment.specs.Passes.{view_of};
+ghost use Rattle.pm_shared.specs.Grows.{Grew};
+ghost use Rattle.pm_shared.specs.Passes.{Among, without_pass};
+ghost use Rattle.pm_shared.specs.Told.{IsSmall, TokenModel, first_of, is_own_of, met_of, passes_of, resting};
+
+use crate::holding::{Holder, give, give_unchanged, take};
+use crate::plays::Guarded;
+use pm_disk::Disk;
+use pm_outside::Chronicle;
+use pm_query::{BookEntry, Checkpointed, Seen, Staged, Store, StoreNo};
+use pm_segment::Pass;
+use pm_sql::Script;
+use std::marker::{Brand, Model};
+use std::sync::{Arc, Wait};
+
+/// A worker's seat. Between two calls it holds nothing of the store.
+#[derive(Drop)]
+pub struct Token<D: Disk + Drop, B: Chronicle<BookEntry> + Drop> {
+    pub(crate) table: Arc<Guarded<D, B>>,
+    pub(crate) seat: Holder<D, B>,
+    pub(crate) number: u32,
+}
+
+impl<D: Disk + Drop, B: Chronicle<BookEntry> + Drop> Model for Token<D, B> {
+    ghost Value = { TokenModel D };
+
+    ghost view = { λ t. record { table = t.seat.table_id; number = t.number; first = first_of t.seat.me.0; own = is_own_of t.seat.me.0; passes = passes_of t.seat.me.0; met = met_of t.seat.me.0 } };
+
+    ghost invariant = { λ t. ((arc_value t.table).shared.table_id ≡ t.seat.table_id) × IsSmall t.seat.table_id × ((first : D) × (t.seat.me ≡ resting t.number first (is_own_of t.seat.me.0) (passes_of t.seat.me.0) (met_of t.seat.me.0))) };
+}
+
+impl<D: Disk + Drop, B: Chronicle<BookEntry> + Drop> Token<D, B> {
+    /// Lets a child in.
+    pub fn enter<R: Wait>(&mut self, rt: &R, pid: u32, generation: u32) -> Result<Pass, StoreNo>
+        ensures notes { (entries : List BookEntry) × Grew entries self.old self.new
+            × EnterNotes (newcomer None pid generation) result entries }
+        ensures admits { IfOk result (λ pass. Among pass self.new.passes) }
+        ensures view { IfOk result (λ pass. view_of pass ≡ new_pass pid generation) }
+        ensures stale { MetAnother self.new.met generation result }
+    {
+        let mut store = take(rt, &self.table, &mut self.seat, self.number);
+        let result = store.enter(pid, generation);
+        let pass = Pass {
+            pid,
+            generation,
+            front: None,
+        };
+        give::<Brand, D, B, (), Result<Pass, StoreNo>>(
+            &self.table,
+            &mut self.seat,
+            store,
+            pass,
+            pass,
+            &(),
+            &result,
+        );
+        result
+    }
+
+    /// Runs a script.
+    pub fn run<R: Wait>(
+        &mut self,
+        rt: &R,
+        pass: &mut Pass,
+        script: &Script,
+    ) -> Result<Staged, StoreNo>
+        requires { Among pass.old self.old.passes }
+        ensures notes { (entries : List BookEntry) × Grew entries self.old self.new
+            × RunNotes (user_of None (view_of pass.old)) script.now result entries }
+        ensures admits { Among pass.new self.new.passes }
+        ensures fresh { IfOk result (λ staged. ReachesNoLess (view_of pass.old) staged.front) }
+        ensures view { IfOk result (λ staged. view_of pass.new ≡ with_front staged.front
+            (view_of pass.old)) }
+        ensures refused { OnErr result (view_of pass.new ≡ view_of pass.old) }
+        ensures short { IfOk result (λ staged. All HasShortValues staged.reply) }
+        ensures stale { MetLater self.new.met pass.old.generation result }
+    {
+        let mut store = take(rt, &self.table, &mut self.seat, self.number);
+        let current = store.generation();
+        let before = *pass;
+        if current != before.generation {
+            give_unchanged(&self.table, &mut self.seat, store);
+            return Err(StoreNo::Stale {
+                mine: before.generation,
+                found: current,
+            });
+        }
+        let result = store.run(pass, script);
+        give::<Brand, D, B, Script, Result<Staged, StoreNo>>(
+            &self.table,
+            &mut self.seat,
+            store,
+            before,
+            *pass,
+            script,
+            &result,
+        );
+        result
+    }
+
+    /// Whether the answers up to a front may be sent.
+    pub fn seen<R: Wait>(&mut self, rt: &R, pass: &mut Pass, front: u64) -> Result<Seen, StoreNo>
+        requires admits { Among pass.old self.old.passes }
+        requires reached { HasReached (view_of pass.old) front }
+        ensures notes { (entries : List BookEntry) × Grew entries self.old self.new
+            × SeenNotes (user_of None (view_of pass.old)) front result entries }
+        ensures admits { Among pass.new self.new.passes }
+        ensures view { view_of pass.new ≡ view_of pass.old }
+        ensures stale { MetLater self.new.met pass.old.generation result }
+    {
+        let mut store = take(rt, &self.table, &mut self.seat, self.number);
+        let found = store.generation();
+        let before = *pass;
+        if found != before.generation {
+            give_unchanged(&self.table, &mut self.seat, store);
+            return Err(StoreNo::Stale {
+                mine: before.generation,
+                found,
+            });
+        }
+        let result = store.seen(pass, front);
+        give::<Brand, D, B, u64, Result<Seen, StoreNo>>(
+            &self.table,
+            &mut self.seat,
+            store,
+            before,
+            *pass,
+            &front,
+            &result,
+        );
+        result
+    }
+
+    /// Answers up to where the log is flushed.
+    pub fn flush<R: Wait>(&mut self, rt: &R, pass: &mut Pass) -> Result<u64, StoreNo>
+        requires admits { Among pass.old self.old.passes }
+        ensures notes { (entries : List BookEntry) × Grew entries self.old self.new
+            × FlushNotes (user_of None (view_of pass.old)) result entries }
+        ensures admits { Among pass.new self.new.passes }
+        ensures view { view_of pass.new ≡ view_of pass.old }
+        ensures stale { MetLater self.new.met pass.old.generation result }
+    {
+        let mut store = take(rt, &self.table, &mut self.seat, self.number);
+        let found = store.generation();
+        let before = *pass;
+        if found != before.generation {
+            give_unchanged(&self.table, &mut self.seat, store);
+            return Err(StoreNo::Stale {
+                mine: before.generation,
+                found,
+            });
+        }
+        let result = store.flush(pass);
+        give::<Brand, D, B, (), Result<u64, StoreNo>>(
+            &self.table,
+            &mut self.seat,
+            store,
+            before,
+            *pass,
+            &(),
+            &result,
+        );
+        result
+    }
+
+    /// Reads the log.
+    pub fn redo<R: Wait>(&mut self, rt: &R, pass: &mut Pass) -> Result<u64, StoreNo>
+        requires admits { Among pass.old self.old.passes }
+        ensures notes { (entries : List BookEntry) × Grew entries self.old self.new
+            × RedoNotes (user_of None (view_of pass.old)) result entries }
+        ensures admits { Among pass.new self.new.passes }
+        ensures view { view_of pass.new ≡ view_of pass.old }
+        ensures stale { MetLater self.new.met pass.old.generation result }
+    {
+        let mut store = take(rt, &self.table, &mut self.seat, self.number);
+        let found = store.generation();
+        let before = *pass;
+        if found != before.generation {
+            give_unchanged(&self.table, &mut self.seat, store);
+            return Err(StoreNo::Stale {
+                mine: before.generation,
+                found,
+            });
+        }
+        let result = store.redo(pass);
+        give::<Brand, D, B, (), Result<u64, StoreNo>>(
+            &self.table,
+            &mut self.seat,
+            store,
+            before,
+            *pass,
+            &(),
+            &result,
+        );
+        result
+    }
+
+    /// Writes a checkpoint.
+    pub fn checkpoint<R: Wait>(
+        &mut self,
+        rt: &R,
+        pass: &mut Pass,
+        clean: bool,
+    ) -> Result<Checkpointed, StoreNo>
+        requires admits { Among pass.old self.old.passes }
+        ensures notes { (entries : List BookEntry) × Grew entries self.old self.new
+            × CheckpointNotes (user_of None (view_of pass.old)) clean result entries }
+        ensures admits { Among pass.new self.new.passes }
+        ensures view { view_of pass.new ≡ view_of pass.old }
+        ensures stale { MetLater self.new.met pass.old.generation result }
+    {
+        let mut store = take(rt, &self.table, &mut self.seat, self.number);
+        let found = store.generation();
+        let before = *pass;
+        if found != before.generation {
+            give_unchanged(&self.table, &mut self.seat, store);
+            return Err(StoreNo::Stale {
+                mine: before.generation,
+                found,
+            });
+        }
+        let result = store.checkpoint(pass, clean);
+        give::<Brand, D, B, bool, Result<Checkpointed, StoreNo>>(
+            &self.table,
+            &mut self.seat,
+            store,
+            before,
+            *pass,
+            &clean,
+            &result,
+        );
+        result
+    }
+
+    /// Lets a child go. Its pass is the token's no longer.
+    pub fn leave<R: Wait>(&mut self, rt: &R, pass: Pass)
+        requires { Among pass self.old.passes }
+        ensures notes { (entries : List BookEntry) × Grew entries self.old self.new
+            × LeaveNotes (user_of None (view_of pass)) entries }
+        ensures stale { Grew (Detached pass.pid ∷ []) self.old self.new
+            ⊎ IsPast self.new.met pass.generation }
+        ensures left { self.new.passes ≡ without_pass pass.pid pass.generation self.old.passes }
+    {
+        let mut store = take(rt, &self.table, &mut self.seat, self.number);
+        if store.generation() != pass.generation {
+            give::<Brand, D, B, bool, ()>(
+                &self.table,
+                &mut self.seat,
+                store,
+                pass,
+                pass,
+                &false,
+                &(),
+            );
+            return;
+        }
+        store.leave(pass);
+        give::<Brand, D, B, bool, ()>(&self.table, &mut self.seat, store, pass, pass, &true, &());
+    }
+}

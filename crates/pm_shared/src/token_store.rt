@@ -1,0 +1,72 @@
+//! A token with leave to wait, which is a store.
+ghost use Rattle.std.specs.Prelude.{None};
+ghost use Rattle.pm_segment.specs.Passes.{view_of};
+ghost use Rattle.pm_shared.specs.Grows.{Grew};
+ghost use Rattle.pm_shared.specs.GrowsLaws.{grew_none, grew_on};
+ghost use Rattle.pm_shared.specs.Passes.{Among};
+ghost use Rattle.std.proofs.Common.{refl};
+
+use crate::token::Token;
+use pm_disk::Disk;
+use pm_outside::Chronicle;
+use pm_query::{BookEntry, Checkpointed, Seen, Staged, Store, StoreNo};
+use pm_segment::Pass;
+use pm_sql::Script;
+use std::sync::Wait;
+
+/// A token, with the runtime that lets its calls wait.
+#[derive(Drop)]
+pub struct TokenStore<R: Wait + Drop, D: Disk + Drop, B: Chronicle<BookEntry> + Drop> {
+    pub rt: R,
+    pub token: Token<D, B>,
+}
+
+impl<R: Wait + Drop, D: Disk + Drop, B: Chronicle<BookEntry> + Drop> Store for TokenStore<R, D, B> {
+    type Pass = Pass;
+
+    ghost notes = { λ entries before now. Grew entries before.token now.token };
+
+    ghost admits = { λ store pass. Among pass store.token.passes };
+
+    ghost view = { view_of };
+
+    ghost stamp = { λ store. None };
+
+    ghost met = { λ store. store.token.met };
+
+    fn enter(&mut self, pid: u32, generation: u32) -> Result<Pass, StoreNo> {
+        self.token.enter(&self.rt, pid, generation)
+    }
+
+    fn run(&mut self, pass: &mut Pass, script: &Script) -> Result<Staged, StoreNo> {
+        self.token.run(&self.rt, pass, script)
+    }
+
+    fn seen(&mut self, pass: &mut Pass, front: u64) -> Result<Seen, StoreNo> {
+        self.token.seen(&self.rt, pass, front)
+    }
+
+    fn flush(&mut self, pass: &mut Pass) -> Result<u64, StoreNo> {
+        self.token.flush(&self.rt, pass)
+    }
+
+    fn redo(&mut self, pass: &mut Pass) -> Result<u64, StoreNo> {
+        self.token.redo(&self.rt, pass)
+    }
+
+    fn checkpoint(&mut self, pass: &mut Pass, clean: bool) -> Result<Checkpointed, StoreNo> {
+        self.token.checkpoint(&self.rt, pass, clean)
+    }
+
+    fn leave(&mut self, pass: Pass) {
+        self.token.leave(&self.rt, pass);
+    }
+
+    ghost at_rest = { λ store. grew_none store.token };
+
+    ghost in_turn = { λ before between now first second one two. grew_on first second before.token between.token now.token one two };
+
+    ghost stays = { λ before now entries grew. refl };
+
+    ghost rises = { λ before now entries grew. grew.met };
+}

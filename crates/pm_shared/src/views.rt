@@ -1,0 +1,49 @@
+//! What the seats of a shared store know. No value of these is made: views exist in proofs alone.
+use pm_query::BookEntry;
+use pm_segment::Pass;
+use std::collections::LinkedList;
+
+/// An entry, with its place in the log.
+pub struct Noted {
+    pub at: u64,
+    pub entry: BookEntry,
+}
+
+/// The store as a seat has taken it, and all entries so far.
+pub struct Taken<S> {
+    pub log: LinkedList<BookEntry>,
+    pub store: S,
+}
+
+/// What a token knows: its number, the disk as the store got it, the entries that its calls noted, its passes, the
+/// generation in which it found the store last (0 before its first call), and the store as it was taken.
+pub struct Hand<S, F> {
+    pub number: u32,
+    pub first: F,
+    pub own: LinkedList<Noted>,
+    pub passes: LinkedList<Pass>,
+    pub met: u32,
+    pub held: Option<Taken<S>>,
+}
+
+/// What the shared side knows: the next number, the disk as the store got it, the generation, the entries that its own
+/// calls noted, the lists of the tokens that were joined, and the store as it was taken.
+pub struct Desk<S, F> {
+    pub dealt: u32,
+    pub first: F,
+    pub generation: u32,
+    pub own: LinkedList<Noted>,
+    pub joined: LinkedList<LinkedList<Noted>>,
+    pub held: Option<Taken<S>>,
+}
+
+pub enum View<S, F> {
+    /// The shared side, before the table has a store.
+    Vacant,
+    /// The same, with the slot in its hand.
+    Founding,
+    Master(Desk<S, F>),
+    Worker(Hand<S, F>),
+    /// The seat was taken in by another.
+    Spent,
+}

@@ -1,0 +1,9 @@
+//! Tests of a store that threads share.
+#![tactic(auto)]
+
+#[cfg(test)]
+mod crowd;
+#[cfg(test)]
+mod session;
+#[cfg(test)]
+mod world;
