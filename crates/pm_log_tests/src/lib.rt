@@ -1,13 +1,9 @@
-//! Tests of the public calls of the log's crates, a module for each crate.
+//! Tests of the public calls of the log's crates: files as text, and a script of calls.
 #![tactic(auto)]
 
-#[cfg(test)]
-mod cluster;
-#[cfg(test)]
-mod damage;
 #[cfg(test)]
 mod files;
 #[cfg(test)]
 mod log;
 #[cfg(test)]
-mod redo;
+mod script;

@@ -5,12 +5,10 @@
 #[cfg(test)]
 mod conditions;
 #[cfg(test)]
-mod front;
+mod longest;
 #[cfg(test)]
 mod outbox;
 #[cfg(test)]
 mod read;
 #[cfg(test)]
 mod startup;
-#[cfg(test)]
-mod write;
