@@ -1,5 +1,5 @@
 -- Where a script waits for what others see.
-use Rattle.std.specs.Prelude.{◌≡◌, ◌⊎◌, ℕ, List, [], ◌∷◌}
+use Rattle.std.specs.Prelude.{◌≡◌, ◌⊎◌, ◌<◌, ℕ, List, [], ◌∷◌}
 use Rattle.pm_outside.specs.declared.holds.Hold.{Hold}
 use Rattle.pm_outside.specs.declared.holds.Holds.{Holds}
 
@@ -11,6 +11,11 @@ holds_left holds = holds.left.items
 abbrev pub first_place : List Hold → ℕ → ℕ
 first_place [] end = end
 first_place (hold ∷ holds) end = hold.at
+
+-- what stands at this place may be given
+abbrev pub IsFree : List Hold → ℕ → Type 0
+IsFree [] place = Unit {0}
+IsFree (hold ∷ holds) place = place < hold.at
 
 -- all stand, or the first has gone
 abbrev pub LetsGo : List Hold → List Hold → Type 0

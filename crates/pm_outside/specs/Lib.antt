@@ -1,7 +1,10 @@
 pub mod Calls
+pub mod Held
 pub mod Holds
 pub mod Kept
+pub mod Lines
 pub mod MemClock
+pub mod MemConsole
 pub mod MemLink
 pub mod MemPort
 pub mod MemSink

@@ -23,6 +23,8 @@ link_traffic link = record {
   went_out = sink_bytes link.outgoing;
   ended = link.ended;
   waits = link.waits;
+  failed = link.failed;
+  went_on = link.went_on;
 }
 
 -- where its writes go

@@ -1,8 +1,10 @@
 -- What a port in memory stands for, and what its calls do to it.
-use Rattle.std.specs.Prelude.{◌≡◌, ℕ, Bool, true, false, List, [], ◌∷◌, Some, map, replicate}
+use Rattle.std.specs.Prelude.{◌≡◌, ◌≢◌, ◌⊎◌, ◌<◌, ◌≤◌, ℕ, Bool, true, false, List, [], ◌∷◌, Some, map, replicate}
 use Rattle.pm_outside.specs.Calls.{Calls}
+use Rattle.pm_outside.specs.Holds.{IsFree, LetsGo, holds_left}
 use Rattle.pm_outside.specs.MemLink.{Begins, link_faults, link_number, link_traffic}
 use Rattle.pm_outside.specs.Visits.{Visit, Visits}
+use Rattle.pm_outside.specs.declared.holds.Holds.{Holds}
 use Rattle.pm_outside.specs.declared.link_script.LinkScript.{LinkScript}
 use Rattle.pm_outside.specs.declared.mem_link.MemLink.{MemLink}
 use Rattle.pm_outside.specs.declared.mem_port.MemPort.{MemPort}
@@ -12,6 +14,10 @@ use Rattle.pm_outside.specs.declared.port.Accepted.TheVariants.{Link, NotYet, En
 -- the scripts of the links that it will still give
 abbrev pub scripts_left : MemPort → List LinkScript
 scripts_left port = port.waiting.items
+
+-- its holds that are left, and how often it was asked at one
+abbrev pub port_holds : MemPort → Holds
+port_holds port = port.holds
 
 -- how many links it has given
 abbrev pub links_given : MemPort → ℕ
@@ -51,15 +57,33 @@ links_in NotYet = 0
 links_in End = 0
 links_in Failed = 0
 
--- the link of the first script that was left, or the end where none was; these are left now
-abbrev pub GivesNext : List LinkScript → Accepted MemLink → List LinkScript → Type 0
-GivesNext scripts (Link link) rest = (script : LinkScript) × (scripts ≡ script ∷ rest) × Begins script link
-GivesNext scripts NotYet rest = ⊥
-GivesNext scripts End rest = (scripts ≡ []) × (rest ≡ [])
-GivesNext scripts Failed rest = rest ≡ scripts
+-- its holds were looked at: none stands in front of the next link, or 10,000 asks were in vain, and then no script is left
+abbrev pub PassesHolds : MemPort → MemPort → Type 0
+PassesHolds old new =
+    ((scripts_left new ≡ scripts_left old) × LetsGo (holds_left (port_holds old)) (holds_left (port_holds new))
+    × IsFree (holds_left (port_holds new)) (links_given old))
+    ⊎ ((scripts_left new ≡ []) × (10000 ≤ (port_holds old).asks))
+
+-- The link of the first script that was left, where no hold stands in front of it; nobody yet at a hold; the end where no script was
+-- left, or where 10,000 asks were in vain.
+abbrev pub GivesNext : MemPort → Accepted MemLink → MemPort → Type 0
+GivesNext old (Link link) new = ((script : LinkScript) × (scripts_left old ≡ script ∷ scripts_left new) × Begins script link)
+    × LetsGo (holds_left (port_holds old)) (holds_left (port_holds new)) × IsFree (holds_left (port_holds new)) (links_given old)
+GivesNext old NotYet new = (scripts_left new ≡ scripts_left old) × (holds_left (port_holds new) ≢ []) × ((port_holds old).asks < 10000)
+GivesNext old End new = (scripts_left new ≡ []) × ((scripts_left old ≡ []) ⊎ (10000 ≤ (port_holds old).asks))
+GivesNext old Failed new = scripts_left new ≡ scripts_left old
 
 -- a link that comes back changes nothing else
 pub record ChangesBackOnly (old new : MemPort) : Type 0 where
   pub scripts : scripts_left new ≡ scripts_left old
+  pub holds : port_holds new ≡ port_holds old
   pub calls : accept_calls new ≡ accept_calls old
   pub given : links_given new ≡ links_given old
+
+-- a look at its holds changes nothing but them and the scripts
+pub record ChangesHoldsOnly (old new : MemPort) : Type 0 where
+  pub alloc : new.alloc ≡ old.alloc
+  pub given : new.given ≡ old.given
+  pub back : new.back ≡ old.back
+  pub ended : new.ended_behind ≡ old.ended_behind
+  pub calls : new.accepts ≡ old.accepts

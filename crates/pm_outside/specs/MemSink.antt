@@ -1,6 +1,7 @@
 -- What a sink in memory keeps, and what one write does to it.
-use Rattle.std.specs.Prelude.{◌≡◌, ℕ, Bool, true, false, List}
+use Rattle.std.specs.Prelude.{◌≡◌, ℕ, List}
 use Rattle.pm_outside.specs.Calls.{Calls, after_call}
+use Rattle.pm_outside.specs.Traffic.{is_put_failed}
 use Rattle.pm_outside.specs.declared.link.Put.{Put}
 use Rattle.pm_outside.specs.declared.link.Put.TheVariants.{Count, Failed}
 use Rattle.pm_outside.specs.declared.mem_sink.MemSink.{MemSink}
@@ -16,11 +17,6 @@ sink_limit sink = sink.per_call
 -- its writes so far, and those that fail
 abbrev pub sink_calls : MemSink → Calls
 sink_calls sink = sink.writes
-
--- whether a write failed
-abbrev pub is_put_failed : Put → Bool
-is_put_failed (Count count) = false
-is_put_failed Failed = true
 
 -- a write took so many bytes, or failed
 abbrev pub TakesOrFails : Put → ℕ → Type 0

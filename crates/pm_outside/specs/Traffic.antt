@@ -1,32 +1,47 @@
 -- What passes on a link, and what one read or one write adds to it.
-use Rattle.std.specs.Prelude.{◌≡◌, ℕ, ◌≤◌, Bool, true, false, List, [], ◌++◌, take, Option, None, Some}
+use Rattle.std.specs.Prelude.{◌≡◌, ℕ, ◌≤◌, Bool, true, false, ◌||◌, List, [], ◌++◌, take, Option, None, Some}
 use Rattle.pm_outside.specs.declared.link.Got.{Got}
 use Rattle.pm_outside.specs.declared.link.Got.TheVariants.{Bytes, NotYet, End, Failed}
 use Rattle.pm_outside.specs.declared.link.Put.{Put}
 use Rattle.pm_outside.specs.declared.link.Put.TheVariants.{Count, Failed as PutFailed}
 
--- all bytes that came in and went out, whether the end was given, and whether the last read found nothing yet
+-- all bytes that came in and went out, whether the end was given, whether the last read found nothing yet, whether a read or a
+-- write has failed, and whether a call was made behind a failed one, or a read behind the end
 pub record Traffic : Type 0 where
   pub came_in : List ℕ
   pub went_out : List ℕ
   pub ended : Bool
   pub waits : Bool
+  pub failed : Bool
+  pub went_on : Bool
 
 -- nothing has passed
 abbrev pub no_traffic : Traffic
-no_traffic = record { came_in = []; went_out = []; ended = false; waits = false }
+no_traffic = record { came_in = []; went_out = []; ended = false; waits = false; failed = false; went_on = false }
 
 -- nothing has passed, or the link doesn't tell
 abbrev pub IsFresh : Option Traffic → Type 0
 IsFresh None = Unit {0}
 IsFresh (Some t) = t ≡ no_traffic
 
+-- whether a write, and whether a read, has gone on once it is made
+abbrev pub goes_on_writing : Traffic → Bool
+goes_on_writing t = t.went_on || t.failed
+
+abbrev pub goes_on_reading : Traffic → Bool
+goes_on_reading t = goes_on_writing t || t.ended
+
 -- a read that answered so, with these bytes in its slice
 abbrev pub after_read : Traffic → Got → List ℕ → Traffic
-after_read t (Bytes count) into = record t { came_in = t.came_in ++ take count into; waits = false }
-after_read t NotYet into = record t { waits = true }
-after_read t End into = record t { ended = true; waits = false }
-after_read t Failed into = record t { waits = false }
+after_read t (Bytes count) into = record t { came_in = t.came_in ++ take count into; waits = false; went_on = goes_on_reading t }
+after_read t NotYet into = record t { waits = true; went_on = goes_on_reading t }
+after_read t End into = record t { ended = true; waits = false; went_on = goes_on_reading t }
+after_read t Failed into = record t { waits = false; failed = true; went_on = goes_on_reading t }
+
+-- whether a write failed
+abbrev pub is_put_failed : Put → Bool
+is_put_failed (Count count) = false
+is_put_failed PutFailed = true
 
 -- bytes behind those that stand, as many as a write took
 abbrev pub put_behind : List ℕ → Put → List ℕ → List ℕ
@@ -35,7 +50,11 @@ put_behind stands PutFailed from = stands
 
 -- a write that answered so
 abbrev pub after_write : Traffic → Put → List ℕ → Traffic
-after_write t put from = record t { went_out = put_behind t.went_out put from }
+after_write t put from = record t {
+  went_out = put_behind t.went_out put from;
+  failed = is_put_failed put || t.failed;
+  went_on = goes_on_writing t;
+}
 
 -- a read gives at least one byte, and no more than its slice holds
 abbrev pub GotWithin : Got → ℕ → Type 0

@@ -16,8 +16,11 @@ pub trait Clock {
     fn now(&self) -> u64
         ensures { gives self.now result };
 
-    /// Lets some time pass.
+    /// Lets some time pass. It may end at once where there was a ring since the pause before.
     fn pause(&self);
+
+    /// Ends the pauses on the other side: those of the clocks made from this one, or of the one that this was made from.
+    fn ring(&self);
 
     /// A clock for another thread, which gives the same moments.
     fn another(&self) -> Result<Self, AllocError>

@@ -1,19 +1,19 @@
 // Where a script waits for what others see.
 ghost use Rattle.std.specs.Prelude.{◌≡◌, ◌≢◌, ◌⊎◌, ◌+◌, ◌<◌, ◌≤◌, [], true, false, min};
-ghost use Rattle.pm_outside.specs.Holds.{LetsGo, first_place, holds_left};
+ghost use Rattle.pm_outside.specs.Holds.{IsFree, LetsGo, first_place, holds_left};
 
 use crate::scene::{Cue, Scene};
 use std::collections::VecDeque;
 
-/// From this place of a script's bytes on none is given before the cue has come.
+/// From this place of a link's bytes, or of a port's links, on none is given before the cue has come.
 #[derive(Clone, Copy, Debug, PartialEq, Eq)]
 pub struct Hold {
     pub at: usize,
     pub cue: Cue,
 }
 
-// How often a link answers that nothing stands there yet, and then it gives the end.
-const MOST_ASKS: u64 = 10_000;
+// How often a script is asked in vain, and then it goes no further.
+pub(crate) const MOST_ASKS: u64 = 10_000;
 
 /// The holds of a script, in the order of their places.
 #[derive(Drop)]
@@ -36,7 +36,7 @@ impl Holds {
         }
     }
 
-    /// Where its link notes what it was sent.
+    /// Where its object notes what it has seen.
     pub(crate) fn scene(&self) -> Option<&Scene> {
         self.scene.as_ref()
     }
@@ -51,6 +51,20 @@ impl Holds {
         match self.left.front() {
             Some(hold) => hold.at.min(end),
             None => end,
+        }
+    }
+
+    /// Lets the first hold go where its cue has come, and tells whether nothing may be given from this place on.
+    pub(crate) fn hold_back(&mut self, place: usize) -> bool
+        ensures lets_go { LetsGo (holds_left self.old) (holds_left self.new) }
+        ensures asks { self.old.asks ≡ self.new.asks }
+        ensures held { result ≡ true → holds_left self.new ≢ [] }
+        ensures free { result ≡ false → IsFree (holds_left self.new) place }
+    {
+        self.let_go();
+        match self.left.front() {
+            Some(hold) => hold.at <= place,
+            None => false,
         }
     }
 

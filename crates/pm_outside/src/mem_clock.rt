@@ -6,13 +6,25 @@ use std::sync::{Arc, Wait};
 use std::thread;
 use std::time::{self, Duration};
 
-/// Goes on by a millisecond with each pause of it or of a clock made from it, up to 2^64 - 1, or stands still. A pause
-/// sleeps for a tenth of a millisecond.
+/// Goes on by a millisecond with each pause, of it or of a clock made from it, or of it alone, up to 2^64 - 1. Or it
+/// stands still. A pause sleeps for a tenth of a millisecond.
 #[derive(Drop)]
 pub struct MemClock<R> {
     start: u64,
     passed: Option<Arc<AtomicU64, Global>>,
+    pauses: Pauses,
     rt: R,
+}
+
+// Which pauses let time pass.
+#[derive(Clone, Copy)]
+enum Pauses {
+    /// Those of this clock and of the clocks made from it.
+    OfAll,
+    /// Those of this clock alone.
+    OfThisOne,
+    /// None of these.
+    OfNone,
 }
 
 impl<R: Drop> MemClock<R> {
@@ -27,6 +39,21 @@ impl<R: Drop> MemClock<R> {
         Ok(MemClock {
             start,
             passed: Some(Arc::new(alloc, AtomicU64::new(0))?),
+            pauses: Pauses::OfAll,
+            rt,
+        })
+    }
+
+    /// The same, where the clocks made from it show its time and let none pass: so time doesn't run where many threads
+    /// pause.
+    pub fn leading(alloc: Global, start: u64, rt: R) -> Result<Self, AllocError>
+        ensures { IfOk result (λ clock. (moment : ℕ) → start ≤ moment → moment < 2 ^ 64
+            → IsMoment clock moment) }
+    {
+        Ok(MemClock {
+            start,
+            passed: Some(Arc::new(alloc, AtomicU64::new(0))?),
+            pauses: Pauses::OfThisOne,
             rt,
         })
     }
@@ -38,6 +65,7 @@ impl<R: Drop> MemClock<R> {
         MemClock {
             start,
             passed: None,
+            pauses: Pauses::OfNone,
             rt,
         }
     }
@@ -60,19 +88,27 @@ impl<R: Wait + time::Clock + Copy + Drop> Clock for MemClock<R> {
 
     fn pause(&self) {
         thread::sleep(&self.rt, Duration::from_micros(100));
-        if let Some(passed) = &self.passed {
+        if let (Some(passed), Pauses::OfAll | Pauses::OfThisOne) = (&self.passed, self.pauses) {
             let _ = passed.fetch_update(Ordering::SeqCst, Ordering::SeqCst, |ms| ms.checked_add(1));
         }
     }
+
+    // A pause is short, so that none has to be ended.
+    fn ring(&self) {}
 
     fn another(&self) -> Result<Self, AllocError> {
         let passed = match &self.passed {
             Some(passed) => Some(Arc::try_clone(passed)?),
             None => None,
         };
+        let pauses = match self.pauses {
+            Pauses::OfAll => Pauses::OfAll,
+            Pauses::OfThisOne | Pauses::OfNone => Pauses::OfNone,
+        };
         Ok(MemClock {
             start: self.start,
             passed,
+            pauses,
             rt: self.rt,
         })
     }

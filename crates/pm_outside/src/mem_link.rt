@@ -21,6 +21,8 @@ pub struct MemLink {
     per_call: usize,
     ended: bool,
     waits: bool,
+    failed: bool,
+    went_on: bool,
     holds: Holds,
     reads: FailingCalls,
     outgoing: MemSink,
@@ -30,8 +32,9 @@ pub struct MemLink {
 
 impl MemLink {
     ghost use Rattle.std.specs.Prelude.{◌≡◌};
-    ghost use Rattle.pm_outside.specs.MemLink.{Begins, link_number, link_sink};
+    ghost use Rattle.pm_outside.specs.MemLink.{Begins, link_number, link_sink, link_traffic};
     ghost use Rattle.pm_outside.specs.MemSink.{sink_bytes};
+    ghost use Rattle.pm_outside.specs.Traffic.{goes_on_reading};
 
     /// The link of this number and this script, on which nothing has passed yet. Without a scene no cue comes.
     pub fn new(alloc: Global, number: u64, script: LinkScript, scene: Option<Scene>) -> Self
@@ -45,6 +48,8 @@ impl MemLink {
             per_call: script.per_call,
             ended: false,
             waits: false,
+            failed: false,
+            went_on: false,
             holds: Holds::new(script.holds, scene),
             reads: FailingCalls::new(script.failing_reads),
             outgoing: MemSink::new(alloc, script.per_call, script.failing_writes),
@@ -56,6 +61,13 @@ impl MemLink {
         ensures { result ≡ link_number self.now }
     {
         self.number
+    }
+
+    // Whether a read would be made behind a failed call or behind the end.
+    fn goes_on(&self) -> bool
+        ensures { result ≡ goes_on_reading (link_traffic self.now) }
+    {
+        self.went_on || self.failed || self.ended
     }
 
     /// All bytes that went out, in order.
@@ -98,8 +110,10 @@ impl Link for MemLink {
         ensures counts { CountsRead self.old self.new result }
     {
         self.waits = false;
+        self.went_on = self.goes_on();
         if self.reads.begin() {
             self.reads.fail();
+            self.failed = true;
             return Got::Failed;
         }
         let place = self.holds.next(self.incoming.len());
@@ -138,7 +152,9 @@ impl Link for MemLink {
         ensures counts { CountsWrite (link_sink self.old) (link_sink self.new) result }
         ensures reads_stay { ChangesSinkOnly self.old self.new }
     {
+        self.went_on = self.went_on || self.failed;
         let put = self.outgoing.write(from);
+        self.failed = put == Put::Failed || self.failed;
         if let (Put::Count(count), Some(scene)) = (put, self.holds.scene()) {
             scene.note_sent(self.number, count);
         }

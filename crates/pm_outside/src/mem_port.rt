@@ -3,6 +3,7 @@ ghost use Rattle.std.specs.Prelude.{◌≤◌, length};
 ghost use Rattle.std.specs.Vec.{vec_capacity};
 
 use crate::failing_calls::FailingCalls;
+use crate::holds::{Hold, Holds};
 use crate::link_script::LinkScript;
 use crate::mem_link::MemLink;
 use crate::port::{Accepted, Port};
@@ -10,8 +11,10 @@ use crate::scene::Scene;
 use std::alloc::{AllocError, Global};
 use std::collections::VecDeque;
 
-/// Gives a link for each script, in their order, and then the end. The first link is number 1. It never answers that nobody waits. An accept fails
-/// where its number is listed, or where there is no memory to take the link back later.
+/// Gives a link for each script, in their order, and then the end. The first link is number 1. At a hold whose cue
+/// hasn't come, which has the number of links in front of it as its place, it answers that nobody waits, 10,000 times
+/// at most in all, and then gives the end in place of the links that are left. An accept fails where its number is
+/// listed, or where there is no memory to take the link back later.
 #[derive(Drop)]
 pub struct MemPort {
     alloc: Global,
@@ -20,15 +23,16 @@ pub struct MemPort {
     back: Vec<MemLink>,
     ended_behind: Option<usize>,
     accepts: FailingCalls,
-    scene: Option<Scene>,
+    holds: Holds,
     ghost came_from_here: { length back.items ≤ given },
     ghost room_for_all: { given ≤ vec_capacity back },
 }
 
 impl MemPort {
-    ghost use Rattle.std.specs.Prelude.{◌≡◌, []};
+    ghost use Rattle.std.specs.Prelude.{◌≡◌, ◌≢◌, ◌<◌, [], true, false};
     ghost use Rattle.pm_outside.specs.Calls.{no_calls};
-    ghost use Rattle.pm_outside.specs.MemPort.{scripts_left, links_given, links_back, accept_calls, port_visits};
+    ghost use Rattle.pm_outside.specs.Holds.{holds_left};
+    ghost use Rattle.pm_outside.specs.MemPort.{PassesHolds, ChangesHoldsOnly, scripts_left, port_holds, links_given, links_back, accept_calls, port_visits};
     ghost use Rattle.pm_outside.specs.Visits.{no_visits};
 
     /// A port for these links, on no scene. The accepts with these numbers, counted from 1, fail.
@@ -53,6 +57,23 @@ impl MemPort {
         ensures links { links_back result ≡ [] }
         ensures calls { accept_calls result ≡ no_calls failing.items }
     {
+        MemPort::held(alloc, scene, scripts, Vec::new(alloc), failing)
+    }
+
+    /// The same, where links or the end wait at these holds. Their places count links, and rise.
+    pub fn held(
+        alloc: Global,
+        scene: Option<Scene>,
+        scripts: Vec<LinkScript>,
+        holds: Vec<Hold>,
+        failing: Vec<u64>,
+    ) -> Self
+        ensures scripts { scripts_left result ≡ scripts.items }
+        ensures holds { holds_left (port_holds result) ≡ holds.items }
+        ensures visits { port_visits result ≡ no_visits }
+        ensures links { links_back result ≡ [] }
+        ensures calls { accept_calls result ≡ no_calls failing.items }
+    {
         MemPort {
             alloc,
             waiting: VecDeque::from(scripts),
@@ -60,13 +81,30 @@ impl MemPort {
             back: Vec::new(alloc),
             ended_behind: None,
             accepts: FailingCalls::new(failing),
-            scene,
+            holds: Holds::new(holds, scene),
         }
+    }
+
+    // Whether the next link, or the end, waits at a hold. One that was asked too often lets no link come any more.
+    fn is_held_back(&mut self) -> bool
+        ensures held { result ≡ true → (scripts_left self.new ≡ scripts_left self.old)
+            × (holds_left (port_holds self.new) ≢ []) × ((port_holds self.old).asks < 10000) }
+        ensures free { result ≡ false → PassesHolds self.old self.new }
+        ensures rest { ChangesHoldsOnly self.old self.new }
+    {
+        if !self.holds.hold_back(self.given) {
+            return false;
+        }
+        if self.holds.waits() {
+            return true;
+        }
+        self.waiting.clear();
+        false
     }
 
     // The scene for one link more.
     fn scene_for_link(&self) -> Result<Option<Scene>, AllocError> {
-        match &self.scene {
+        match self.holds.scene() {
             Some(scene) => Ok(Some(scene.another()?)),
             None => Ok(None),
         }
@@ -89,7 +127,7 @@ impl Port for MemPort {
     ghost use Rattle.pm_disk.specs.Cause.{IsCounted};
     ghost use Rattle.pm_outside.specs.Calls.{is_next_listed, after_call};
     ghost use Rattle.pm_outside.specs.MemLink.{link_faults, link_number, link_traffic};
-    ghost use Rattle.pm_outside.specs.MemPort.{scripts_left, links_given, links_back, accept_calls, port_visits, visit_of, links_in, is_accept_failed, GivesNext, ChangesBackOnly};
+    ghost use Rattle.pm_outside.specs.MemPort.{links_given, links_back, accept_calls, port_visits, visit_of, links_in, is_accept_failed, GivesNext, ChangesBackOnly};
     ghost use Rattle.pm_outside.specs.Traffic.{IsFresh};
     ghost use Rattle.pm_outside.specs.Visits.{after_accept, after_done, IfLink};
 
@@ -108,7 +146,7 @@ impl Port for MemPort {
         ensures cause { IsCounted (accept_calls self.old).failed (accept_calls self.new).failed
             (result ≡ Accepted.Failed) }
 
-        ensures next { GivesNext (scripts_left self.old) result (scripts_left self.new) }
+        ensures next { GivesNext self.old result self.new }
         ensures listed { IsTrue (is_next_listed (accept_calls self.old))
             → result ≡ Accepted.Failed }
         ensures counts { accept_calls self.new ≡ after_call (accept_calls self.old)
@@ -119,6 +157,9 @@ impl Port for MemPort {
         if self.accepts.begin() {
             self.accepts.fail();
             return Accepted::Failed;
+        }
+        if self.is_held_back() {
+            return Accepted::NotYet;
         }
         if self.waiting.is_empty() {
             self.ended_behind = Some(self.ended_behind.unwrap_or(self.given));

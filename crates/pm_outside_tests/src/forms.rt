@@ -2,8 +2,8 @@
 ghost use Rattle.std.specs.Prelude.{◌<◌};
 
 use pm_outside::{
-    Accepted, Chronicle, Clock, Cue, Forgotten, Got, Hold, Kept, Link, LinkScript, MemClock,
-    MemLink, MemPort, MemSink, Port, Put, Scene, Sink,
+    Accepted, Chronicle, Clock, Forgotten, Got, Kept, Link, LinkScript, MemClock, MemLink, MemPort,
+    MemSink, Port, Put, Sink,
 };
 use std::alloc::{AllocError, Global};
 use std::test::Fail;
@@ -13,7 +13,7 @@ const PACKET: [u8; 18] = [
     0, 0, 0, 18, 0, 3, 0, 0, 117, 115, 101, 114, 0, 97, 110, 110, 0, 0,
 ];
 
-fn script(
+pub(crate) fn script(
     alloc: Global,
     per_call: usize,
     failing_reads: &[u64],
@@ -177,64 +177,24 @@ fn a_clock_goes_on_with_each_pause(rt: HostRuntime) -> Result<(), Fail> {
 }
 
 #[test]
+fn a_leading_clock_goes_on_alone(rt: HostRuntime) -> Result<(), Fail> {
+    let clock = MemClock::leading(rt.alloc(), 5, rt)?;
+    let other = clock.another()?;
+    let third = other.another()?;
+    other.pause();
+    third.pause();
+    assert_eq!(rt; (clock.now(), third.now()), (5, 5));
+    clock.pause();
+    assert_eq!(rt; (clock.now(), other.now(), third.now()), (6, 6, 6));
+    Ok(())
+}
+
+#[test]
 fn a_still_clock_stands(rt: HostRuntime) -> Result<(), Fail> {
     let clock = MemClock::still(5, rt);
     let other = clock.another()?;
     other.pause();
     clock.pause();
     assert_eq!(rt; (clock.now(), other.now()), (5, 5));
-    Ok(())
-}
-
-// The second link's bytes from place 4 on wait until three bytes were sent on the first link.
-fn waiting_port(alloc: Global) -> Result<MemPort, AllocError> {
-    let mut second = script(alloc, 7, &[], &[])?;
-    let cue = Cue { link: 1, sent: 3 };
-    second.holds.push(Hold { at: 4, cue })?;
-    let mut scripts = Vec::new(alloc);
-    scripts.push(script(alloc, 7, &[], &[])?)?;
-    scripts.push(second)?;
-    let scene = Scene::new(alloc, 2)?;
-    Ok(MemPort::on(alloc, Some(scene), scripts, Vec::new(alloc)))
-}
-
-#[test]
-fn a_link_waits_for_what_another_was_sent(rt: HostRuntime) -> Result<(), Fail> {
-    let mut port = waiting_port(rt.alloc())?;
-    let Accepted::Link(mut first) = port.accept() else {
-        panic!(rt; "no first link");
-    };
-    let Accepted::Link(mut second) = port.accept() else {
-        panic!(rt; "no second link");
-    };
-    let mut into = [0; 10];
-    assert_eq!(rt; second.read(&mut into), Got::Bytes(4));
-    assert_eq!(rt; second.read(&mut into), Got::NotYet);
-    assert_eq!(rt; first.write(&[7, 8]), Put::Count(2));
-    assert_eq!(rt; second.read(&mut into), Got::NotYet);
-    assert_eq!(rt; first.write(&[9]), Put::Count(1));
-    assert_eq!(rt; second.read(&mut into), Got::Bytes(7));
-    assert_eq!(rt; second.read(&mut into), Got::Bytes(7));
-    assert_eq!(rt; second.read(&mut into), Got::End);
-    Ok(())
-}
-
-#[test]
-fn a_link_ends_that_waits_in_vain(rt: HostRuntime) -> Result<(), Fail> {
-    let mut port = waiting_port(rt.alloc())?;
-    let Accepted::Link(mut first) = port.accept() else {
-        panic!(rt; "no first link");
-    };
-    let Accepted::Link(mut second) = port.accept() else {
-        panic!(rt; "no second link");
-    };
-    let mut into = [0; 10];
-    assert_eq!(rt; second.read(&mut into), Got::Bytes(4));
-    for _ in 0..10_000 {
-        assert_eq!(rt; second.read(&mut into), Got::NotYet);
-    }
-    assert_eq!(rt; second.read(&mut into), Got::End);
-    assert_eq!(rt; first.write(&[7, 8, 9]), Put::Count(3));
-    assert_eq!(rt; second.read(&mut into), Got::End);
     Ok(())
 }

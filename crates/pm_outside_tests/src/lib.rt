@@ -5,3 +5,5 @@
 mod disks;
 #[cfg(test)]
 mod forms;
+#[cfg(test)]
+mod scenes;

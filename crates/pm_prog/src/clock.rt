@@ -43,6 +43,9 @@ impl<R: Wait + time::Clock + Copy + Drop> Clock for SystemClock<R> {
         thread::sleep(&self.rt, Duration::from_millis(PAUSE_MS));
     }
 
+    // Nobody else pauses while `once` serves its link.
+    fn ring(&self) {}
+
     fn another(&self) -> Result<Self, AllocError> {
         Ok(SystemClock {
             start: self.start,
