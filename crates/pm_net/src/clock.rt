@@ -1,0 +1,121 @@
+// The clock of a server, whose pauses end where there is something to do.
+ghost use Rattle.std.specs.Prelude.{⊤};
+
+use crate::bells::Bells;
+use mio::unix::SourceFd;
+use mio::{Events, Interest, Poll, Token};
+use pm_outside::Clock;
+use std::alloc::{AllocError, Global};
+use std::io;
+use std::net::Net;
+use std::os::fd::{AsRawFd, RawFd};
+use std::sync::atomic::{AtomicU64, Ordering};
+use std::sync::{Arc, Mutex, Wait};
+use std::time::{self, Duration, Instant};
+
+/// How long a pause of the supervisor's clock is at most, in milliseconds.
+const TICK_MS: u64 = 100;
+
+/// How long a pause of a child's clock is at most, in milliseconds.
+const PAUSE_MS: u64 = 10;
+
+const LISTENER: Token = Token(0);
+
+const DOOR: Token = Token(1);
+
+/// The time since a start, in milliseconds, by a clock of the system that never goes back. The supervisor's pauses end by
+/// a connection or at the door, and a ring of it calls the children. The pauses of a child's, made by `another`, end by a
+/// call, and a ring of it goes to the door.
+#[derive(Drop)]
+pub struct ServerClock<R> {
+    start: Instant,
+    bells: Arc<Bells, Global>,
+    side: Side,
+    rt: R,
+}
+
+// Whose clock it is.
+#[derive(Drop)]
+enum Side {
+    /// The supervisor's: a pause waits for a connection and at the door.
+    Supervisor(Mutex<Door>),
+    /// A child's: a pause waits for a call. So many were heard.
+    Child(AtomicU64),
+}
+
+#[derive(Drop)]
+struct Door {
+    poll: Poll,
+    events: Events,
+}
+
+impl<R: Wait + time::Clock + Copy + Drop> ServerClock<R> {
+    /// The clock of a supervisor, which starts now. Its pauses end where this descriptor, a listener's, has something new.
+    pub fn new<N: Net>(
+        rt: R,
+        net: &N,
+        alloc: Global,
+        bells: Arc<Bells, Global>,
+        listener: RawFd,
+    ) -> io::Result<Self> {
+        let start = Instant::now(&rt)?;
+        let poll = Poll::new(net)?;
+        poll.registry()
+            .register(&mut SourceFd(&listener), LISTENER, Interest::READABLE)?;
+        bells.door.register(poll.registry(), DOOR)?;
+        let events = Events::with_capacity(alloc, 2)?;
+        Ok(ServerClock {
+            start,
+            bells,
+            side: Side::Supervisor(Mutex::new(Door { poll, events })),
+            rt,
+        })
+    }
+}
+
+impl<R: Wait + time::Clock + Copy + Drop> Clock for ServerClock<R> {
+    type Runtime = R;
+
+    // It may give any moment.
+    ghost gives = { λ _ _. ⊤ };
+
+    fn now(&self) -> u64 {
+        match self.start.elapsed(&self.rt) {
+            Ok(passed) => u64::try_from(passed.as_millis()).unwrap_or(u64::MAX),
+            Err(_) => 0,
+        }
+    }
+
+    fn pause(&self) {
+        match &self.side {
+            Side::Supervisor(door) => {
+                let mut door = door.lock(&self.rt);
+                let Door { poll, events } = &mut *door;
+                let _ = poll.poll(events, Some(Duration::from_millis(TICK_MS)));
+            }
+            Side::Child(heard) => {
+                let calls = self.bells.calls();
+                if heard.swap(calls, Ordering::SeqCst) == calls {
+                    let limit = Duration::from_millis(PAUSE_MS);
+                    self.bells.wait_for_call(&self.rt, calls, limit);
+                }
+            }
+        }
+    }
+
+    fn ring(&self) {
+        match &self.side {
+            Side::Supervisor(_) => self.bells.call_all(),
+            Side::Child(_) => self.bells.door.ring(),
+        }
+    }
+
+    fn another(&self) -> Result<Self, AllocError> {
+        Ok(ServerClock {
+            start: self.start,
+            bells: Arc::try_clone(&self.bells)?,
+            side: Side::Child(AtomicU64::new(self.bells.calls())),
+            rt: self.rt,
+        })
+    }
+}

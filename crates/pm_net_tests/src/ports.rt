@@ -1,0 +1,40 @@
+// Which ports may be listened on.
+use crate::world::{linked, open};
+use pm_net::TcpPort;
+use pm_outside::{Accepted, Port};
+use std::sync::Arc;
+use std::test::Fail;
+
+#[test]
+fn a_port_in_use_is_told_with_its_reason(rt: HostRuntime) -> Result<(), Fail> {
+    let alloc = rt.alloc();
+    let (port, bells) = open(&rt, alloc)?;
+    let number = port.number()?;
+    match TcpPort::new(rt, alloc, Arc::try_clone(&bells)?, number) {
+        Ok(_) => panic!(rt; "two servers on port {number}"),
+        Err(fault) => {
+            let text = format!(in alloc; "{fault}")?;
+            let want = format!(in alloc;
+                "127.0.0.1:{number}: Address already in use (os error 98)"
+            )?;
+            assert_eq!(rt; text, want);
+        }
+    }
+    Ok(())
+}
+
+#[test]
+fn a_port_is_taken_again_behind_open_links(rt: HostRuntime) -> Result<(), Fail> {
+    let alloc = rt.alloc();
+    let (mut port, bells) = open(&rt, alloc)?;
+    let number = port.number()?;
+    let (link, _client) = linked(&rt, &mut port)?;
+    port.done(link); // this side closes first, so the connection lingers here
+    drop(port);
+    let Ok(mut port) = TcpPort::new(rt, alloc, bells, number) else {
+        panic!(rt; "port {number} isn't free");
+    };
+    assert!(rt; matches!(port.accept(), Accepted::NotYet));
+    linked(&rt, &mut port)?;
+    Ok(())
+}
