@@ -14,7 +14,7 @@ use Rattle.pm_state.specs.declared.event.PmEvent.{PmEvent}
 use Rattle.pm_state.specs.declared.event.PmEvent.TheVariants as entry
 use Rattle.pm_state.specs.declared.machine.Machine.{Machine}
 use Rattle.pm_state.specs.Machine.{started_as}
-use Rattle.pm_state.specs.Journal.{Replay, Do, AreLegal, Follows, without_first, asks_after, moment_after, all_replayed, replayed, replay_begun, dues, entry_of, entries_of, all_reported, shown_after, settled}
+use Rattle.pm_state.specs.Journal.{Replay, Do, AreLegal, Follows, without_first, asks_after, moment_after, all_replayed, replayed, replay_begun, dues, entry_of, entries_of, all_reported, last_pid, shown_after, settled}
 use Rattle.pm_state.specs.InStep.{IsInStep, ServerState}
 use Rattle.pm_state.specs.Starts.{Owes, has_end, starts_in}
 use Rattle.pm_state.specs.Laws.{TellsOfEachStart, WritesALegalJournal}
@@ -122,11 +122,11 @@ started-left kind.DeadEnd m = refl
 
 -- the pids
 
-not-last : (owed : Bool) (last : ℕ) → last < 2147480000 → owed || nat_eq (last + 1) 2147480000 ≡ false → last + 1 < 2147480000
+not-last : (owed : Bool) (last : ℕ) → last < last_pid → owed || nat_eq (last + 1) last_pid ≡ false → last + 1 < last_pid
 not-last true last below is = absurd cc
 not-last false last below is = grind (arith, nat_tests)
 
-last-drawn : (owed : Bool) (last : ℕ) → (owed ≡ true → 2147480000 ≤ last) → owed || nat_eq (last + 1) 2147480000 ≡ true → 2147480000 ≤ last + 1
+last-drawn : (owed : Bool) (last : ℕ) → (owed ≡ true → last_pid ≤ last) → owed || nat_eq (last + 1) last_pid ≡ true → last_pid ≤ last + 1
 last-drawn true last was is = omega (arith, was refl)
 last-drawn false last was is = grind (arith, nat_tests)
 
@@ -142,7 +142,7 @@ pids-start k rest s due pids =
     let then : starts_in any_kind (without_first s.due) ≡ starts_in any_kind rest = ap (λ d. starts_in any_kind (without_first d)) due in
     record {
       owed = λ owes. last-drawn s.owes_smart s.last_pid pids.owed owes;
-      not_asked = λ none owes. not-last s.owes_smart s.last_pid (pids.not_asked (ap is_some (sym shut) ∙ none) (not-owed s.owes_smart (nat_eq (s.last_pid + 1) 2147480000) owes)) owes;
+      not_asked = λ none owes. not-last s.owes_smart s.last_pid (pids.not_asked (ap is_some (sym shut) ∙ none) (not-owed s.owes_smart (nat_eq (s.last_pid + 1) last_pid) owes)) owes;
       few = λ none. omega (arith, pids.few (ap is_some (sym shut) ∙ none), now, then);
       asked = λ some. omega (arith, pids.asked (ap is_some (sym shut) ∙ some), now, then, left);
     }

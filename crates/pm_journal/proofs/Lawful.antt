@@ -17,7 +17,7 @@ use Rattle.pm_journal.specs.declared.exit.ChildExit.{ChildExit}
 use Rattle.pm_journal.specs.Laws.{KeepsALegalJournal, NotesWhatIsDue, replay_by, with_call, with_due}
 use Rattle.pm_journal.specs.Moments.{AreGiven, IsGiven}
 use Rattle.pm_journal.specs.Standing.{Standing, asking, called, done, ends_redo, entry_for, exit_call, exit_entry, exiting, first_due, later, made, noted}
-use Rattle.pm_journal.specs.Stands.{HasPids, Remembers, Stands, any_moment, entries_due}
+use Rattle.pm_journal.specs.Stands.{HasPids, Remembers, Stands, any_moment, entries_due, highest_pid}
 use Rattle.pm_journal.proofs.Acting.{entry-is, report-one}
 use Rattle.pm_journal.proofs.Making.{entries-kept, exit-entries, goes-on, noted-at, noted-due, redo_if, rests}
 use Rattle.pm_journal.proofs.Nexts.{first-some}
@@ -70,9 +70,9 @@ child-on steps limits told s h event was step may =
       pids = was.pids;
     }
 
-last-few : (s : Standing) → HasPids s → s.last_pid ≤ 2147480006
+last-few : (s : Standing) → HasPids s → s.last_pid ≤ highest_pid
 last-few s pids =
-    elim (is_some s.machine.shutdown) as (λ v. is_some s.machine.shutdown ≡ v → s.last_pid ≤ 2147480006) [
+    elim (is_some s.machine.shutdown) as (λ v. is_some s.machine.shutdown ≡ v → s.last_pid ≤ highest_pid) [
       | true ↦ λ is. omega (arith, pids.asked is)
       | false ↦ λ is. omega (arith, pids.few is)
     ]

@@ -1,5 +1,5 @@
 -- The next act.
-use Rattle.std.proofs.Common.{◌≡◌, ◌+◌, true, false, List, [], ◌∷◌, Some, None, refl, ap, sym, ◌∙◌, subst, arith, length}
+use Rattle.std.proofs.Common.{◌≡◌, ◌+◌, ◌-◌, ◌^◌, true, false, List, [], ◌∷◌, Some, None, refl, ap, sym, ◌∙◌, subst, arith, length}
 use Rattle.std.specs.Prelude.{Option, Ok, Err, ◌<◌, is_some}
 use Rattle.pm_supervisor.specs.declared.Limits.{Limits}
 use Rattle.pm_supervisor.specs.Steps.{Trace}
@@ -10,7 +10,7 @@ use Rattle.pm_state.specs.Starts.{Owes}
 use Rattle.pm_state.specs.Journal.{without_first}
 use Rattle.pm_state.specs.Laws.{TellsOfEachStart, WritesALegalJournal}
 use Rattle.pm_journal.specs.Doing.{HasNumbers, MayReport}
-use Rattle.pm_journal.specs.Standing.{Standing, Adds, act_for, done, entry_for, first_due, is_spent, next_in, next_of}
+use Rattle.pm_journal.specs.Standing.{Standing, Adds, act_for, done, entry_for, first_due, is_spent, last_generation, next_in, next_of}
 use Rattle.pm_journal.specs.Stands.{HasPids, IsSettled, Stands}
 use Rattle.pm_journal.proofs.Acting.{may-report, settled-next, stands-next}
 
@@ -36,16 +36,16 @@ pub next-done : (s : Standing) (a : Action) → first_due s.due ≡ Some a → i
     → next_of s ≡ record { answer = Ok (Some (act_for a s)); entries = entry_for a s ∷ []; after = done a s }
 next-done s a is unspent = ap (λ d. next_in d s) (first-some s.due a is) ∙ rw unspent refl
 
-below-all : (s : Standing) → HasPids s → s.last_pid < 4294967295
+below-all : (s : Standing) → HasPids s → s.last_pid < 2 ^ 32 - 1
 below-all s pids =
-    elim (is_some s.machine.shutdown) as (λ v. is_some s.machine.shutdown ≡ v → s.last_pid < 4294967295) [
+    elim (is_some s.machine.shutdown) as (λ v. is_some s.machine.shutdown ≡ v → s.last_pid < 2 ^ 32 - 1) [
       | true ↦ λ is. omega (arith, pids.asked is)
       | false ↦ λ is. omega (arith, pids.few is)
     ]
     refl
 
 -- its numbers
-pub has-numbers : (a : Action) (s : Standing) → first_due s.due ≡ Some a → HasPids s → (a ≡ act.Reset → s.generation < 4294967295) → HasNumbers a s
+pub has-numbers : (a : Action) (s : Standing) → first_due s.due ≡ Some a → HasPids s → (a ≡ act.Reset → s.generation < last_generation) → HasNumbers a s
 has-numbers (act.Start k) s is pids further =
     below-all s pids
 has-numbers (act.Quit why) s is pids further = tt

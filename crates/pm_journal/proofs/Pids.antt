@@ -22,9 +22,10 @@ use Rattle.pm_state.specs.Transition.{Transition}
 use Rattle.pm_state.specs.Exits.{crash_rule, unless_normal, startup_exited, checkpointer_exited, exited_by, less_one, is_shutdown}
 use Rattle.pm_state.specs.Requests.{asked_with, ticked_at}
 use Rattle.pm_state.specs.TurnRules.{start_recovery, restart_writer, end_smart, stop_backends, backends_gone, dead_ends_gone, children_gone, and_then, turned_of}
+use Rattle.pm_state.specs.Journal.{last_pid}
 use Rattle.pm_state.specs.Starts.{starts_in}
 use Rattle.pm_journal.specs.Standing.{Standing}
-use Rattle.pm_journal.specs.Stands.{HasPids, any_kind, starts_left}
+use Rattle.pm_journal.specs.Stands.{HasPids, any_kind, highest_pid, starts_left}
 
 crash-asked : (m : Machine) (exit : _) → is_some m.shutdown ≡ true → is_some (crash_rule m exit).after.shutdown ≡ true
 unfolding crash_rule
@@ -286,7 +287,7 @@ pub pids-called : (s t : Standing) → HasPids s → s.due ≡ [] → s.owes_sma
     → (is_some s.machine.shutdown ≡ true → starts_in any_kind t.due + starts_left t.machine ≤ starts_left s.machine) → HasPids t
 pids-called s t pids none unowed last owes few asked left =
     let starts = starts-few t.due in
-    let below : is_some s.machine.shutdown ≡ false → s.last_pid < 2147480000 = λ isnt. pids.not_asked isnt unowed in
+    let below : is_some s.machine.shutdown ≡ false → s.last_pid < last_pid = λ isnt. pids.not_asked isnt unowed in
     let was : is_some t.machine.shutdown ≡ false → is_some s.machine.shutdown ≡ false = λ isnt. not-before (is_some s.machine.shutdown) (is_some t.machine.shutdown) asked isnt in
     record {
       owed = rw (last, owes) pids.owed;
@@ -294,7 +295,7 @@ pids-called s t pids none unowed last owes few asked left =
       few = λ isnt. omega (arith, last, starts, few, below (was isnt));
       asked = λ some.
           elim (is_some s.machine.shutdown) as
-          (λ v. is_some s.machine.shutdown ≡ v → t.last_pid + (starts_in any_kind t.due + starts_left t.machine) ≤ 2147480006) [
+          (λ v. is_some s.machine.shutdown ≡ v → t.last_pid + (starts_in any_kind t.due + starts_left t.machine) ≤ highest_pid) [
             | true ↦ λ is. omega (arith, last, pids.asked is, left is)
             | false ↦ λ is. omega (arith, last, starts, few, below is, left-few t.machine)
           ]
@@ -311,7 +312,7 @@ pids-asked s t pids none last unowed some starts left =
       few = λ isnt. absurd (let both : true ≡ false = sym some ∙ isnt in cc);
       asked = λ again.
           elim (is_some s.machine.shutdown) as
-          (λ v. is_some s.machine.shutdown ≡ v → t.last_pid + (starts_in any_kind t.due + starts_left t.machine) ≤ 2147480006) [
+          (λ v. is_some s.machine.shutdown ≡ v → t.last_pid + (starts_in any_kind t.due + starts_left t.machine) ≤ highest_pid) [
             | true ↦ λ is. omega (arith, last, starts, pids.asked is, left is)
             | false ↦ λ is. omega (arith, last, starts, nothing, pids.few is, left-few t.machine)
           ]
@@ -324,22 +325,22 @@ accept-asked decision m = grind arith
 accept-left : (decision : Cac) (m : Machine) → starts_left (accepted_as decision m) ≡ starts_left m
 accept-left decision m = grind arith
 
-below-last : (last : ℕ) → last < 2147480000 → false || nat_eq (last + 1) 2147480000 ≡ false → last + 1 < 2147480000
+below-last : (last : ℕ) → last < last_pid → false || nat_eq (last + 1) last_pid ≡ false → last + 1 < last_pid
 below-last last below is = grind (arith, nat_tests)
 
-drawn-last : (last : ℕ) → false || nat_eq (last + 1) 2147480000 ≡ true → 2147480000 ≤ last + 1
+drawn-last : (last : ℕ) → false || nat_eq (last + 1) last_pid ≡ true → last_pid ≤ last + 1
 drawn-last last is = grind (arith, nat_tests)
 
-not-yet : (owed : Bool) (last : ℕ) → (owed ≡ true → 2147480000 ≤ last) → last < 2147480000 → owed ≡ false
+not-yet : (owed : Bool) (last : ℕ) → (owed ≡ true → last_pid ≤ last) → last < last_pid → owed ≡ false
 not-yet true last was below = absurd (omega (arith, was refl))
 not-yet false last was below = refl
 
 -- before the last pid no smart shutdown is owed
-pub unowed-before : (s : Standing) → HasPids s → s.last_pid < 2147480000 → s.owes_smart ≡ false
+pub unowed-before : (s : Standing) → HasPids s → s.last_pid < last_pid → s.owes_smart ≡ false
 unowed-before s pids below = not-yet s.owes_smart s.last_pid pids.owed below
 
-pub pids-accepted : (s t : Standing) (decision : Cac) → HasPids s → s.due ≡ [] → s.owes_smart ≡ false → s.last_pid < 2147480000
-    → t.last_pid ≡ s.last_pid + 1 → t.owes_smart ≡ (s.owes_smart || nat_eq (s.last_pid + 1) 2147480000) → t.due ≡ []
+pub pids-accepted : (s t : Standing) (decision : Cac) → HasPids s → s.due ≡ [] → s.owes_smart ≡ false → s.last_pid < last_pid
+    → t.last_pid ≡ s.last_pid + 1 → t.owes_smart ≡ (s.owes_smart || nat_eq (s.last_pid + 1) last_pid) → t.due ≡ []
     → t.machine ≡ accepted_as decision s.machine → HasPids t
 pids-accepted s t decision pids none unowed below last owed due machine =
     let nothing : starts_in any_kind s.due ≡ 0 = ap (starts_in any_kind) none in
@@ -347,8 +348,8 @@ pids-accepted s t decision pids none unowed below last owed due machine =
     let shut : is_some t.machine.shutdown ≡ is_some s.machine.shutdown = ap (λ m. is_some m.shutdown) machine ∙ ap is_some (accept-asked decision s.machine) in
     let left : starts_left t.machine ≡ starts_left s.machine = ap starts_left machine ∙ accept-left decision s.machine in
     record {
-      owed = λ owes. rw last (drawn-last s.last_pid (ap (λ b. b || nat_eq (s.last_pid + 1) 2147480000) (sym unowed) ∙ (sym owed ∙ owes)));
-      not_asked = λ isnt owes. rw last (below-last s.last_pid below (ap (λ b. b || nat_eq (s.last_pid + 1) 2147480000) (sym unowed) ∙ (sym owed ∙ owes)));
+      owed = λ owes. rw last (drawn-last s.last_pid (ap (λ b. b || nat_eq (s.last_pid + 1) last_pid) (sym unowed) ∙ (sym owed ∙ owes)));
+      not_asked = λ isnt owes. rw last (below-last s.last_pid below (ap (λ b. b || nat_eq (s.last_pid + 1) last_pid) (sym unowed) ∙ (sym owed ∙ owes)));
       few = λ isnt. omega (arith, last, none_due, below);
       asked = λ some. omega (arith, last, none_due, below, left, left-few s.machine);
     }

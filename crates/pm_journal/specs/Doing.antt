@@ -1,17 +1,17 @@
 -- What an act needs before it is done.
-use Rattle.std.specs.Prelude.{◌≡◌, ℕ, ◌<◌, false}
+use Rattle.std.specs.Prelude.{◌≡◌, ℕ, ◌<◌, ◌-◌, ◌^◌, false}
 use Rattle.pm_state.specs.declared.action.Action.{Action}
 use Rattle.pm_state.specs.declared.action.Action.TheVariants as action
 use Rattle.pm_state.specs.declared.event.PmEvent.{PmEvent}
 use Rattle.pm_state.specs.declared.event.PmEvent.TheVariants as entry
 use Rattle.pm_state.specs.declared.machine.Machine.{Machine}
 use Rattle.pm_state.specs.Machine.{IsDue}
-use Rattle.pm_journal.specs.Standing.{Standing}
+use Rattle.pm_journal.specs.Standing.{Standing, last_generation}
 
 -- there is a further pid, or a further generation, where the act draws one
 abbrev pub HasNumbers : Action → Standing → Type 0
-HasNumbers (action.Start kind) s = s.last_pid < 4294967295
-HasNumbers action.Reset s = s.generation < 4294967295
+HasNumbers (action.Start kind) s = s.last_pid < 2 ^ 32 - 1
+HasNumbers action.Reset s = s.generation < last_generation
 HasNumbers _ s = Unit {0}
 
 -- a start may be reported

@@ -13,7 +13,7 @@ use Rattle.pm_journal.specs.Moments.{AreGiven}
 use Rattle.pm_journal.specs.declared.exit.ChildExit.{ChildExit}
 use Rattle.pm_journal.specs.Roll.{kind_in}
 use Rattle.pm_journal.specs.Standing.{Standing, IsAtRest, Making, MayAsk, MayTake, accepting, asking, done, entry_for, exiting, first_due, kill_entry, killed, made, nothing_done, ticking, turning}
-use Rattle.pm_journal.specs.Stands.{IsSettled, Stands, any_moment, behind, entries_due}
+use Rattle.pm_journal.specs.Stands.{IsSettled, Stands, any_moment, behind, entries_due, highest_pid}
 
 pub record KeepsALegalJournal : Type 0 where
   -- at every moment, also while acts are due
@@ -38,7 +38,7 @@ pub record KeepsALegalJournal : Type 0 where
       → Stands limits told s h → is_child_step event ≡ true → MayHappen limits h event → Stands limits told s (happened h event)
   -- no pid is above this one
   pub pids :
-      (limits : Limits) (told : Option (List PmEvent)) (s : Standing) (h : Trace) → Stands limits told s h → s.last_pid ≤ 2147480006
+      (limits : Limits) (told : Option (List PmEvent)) (s : Standing) (h : Trace) → Stands limits told s h → s.last_pid ≤ highest_pid
 
 abbrev pub replay_by : Limits → List PmEvent → Replay
 replay_by limits journal = all_replayed (replay_begun limits) journal

@@ -238,8 +238,12 @@ pub record Next : Type 0 where
   pub entries : List PmEvent
   pub after : Standing
 
+-- behind this generation there is none
+abbrev pub last_generation : ℕ
+last_generation = 4294967295
+
 abbrev pub is_spent : Action → Standing → Bool
-is_spent action.Reset s = s.generation == 4294967295
+is_spent action.Reset s = s.generation == last_generation
 is_spent _ s = false
 
 abbrev pub next_in : List Action → Standing → Next
@@ -262,7 +266,7 @@ pub record IsAtRest (s : Standing) : Type 0 where
 -- a connection may be accepted: none once the last pid was drawn
 pub record MayTake (s : Standing) : Type 0 where
   pub machine : MayAccept s.machine
-  pub pids : s.last_pid < 2147480000
+  pub pids : s.last_pid < last_pid
 
 -- a shutdown may be asked for: a smart one alone, where one is owed
 abbrev pub MayAsk : Mode → Standing → Type 0

@@ -10,7 +10,7 @@ use Rattle.pm_state.specs.declared.event.PmEvent.{PmEvent}
 use Rattle.pm_state.specs.declared.machine.Machine.{Machine}
 use Rattle.pm_state.specs.Shows.{Call, events_of_call, events_in}
 use Rattle.pm_state.specs.Starts.{Owes, has_end, starts_in}
-use Rattle.pm_state.specs.Journal.{Replay, IsLegal, AreLegal, acts_of_call, all_replayed, all_reported, dues, entries_of, replay_begun, settled}
+use Rattle.pm_state.specs.Journal.{Replay, IsLegal, AreLegal, acts_of_call, all_replayed, all_reported, dues, entries_of, last_pid, replay_begun, settled}
 use Rattle.pm_state.specs.InStep.{IsInStep, reports_of}
 use Rattle.pm_journal.specs.Roll.{roll_of}
 use Rattle.pm_journal.specs.Standing.{Standing}
@@ -56,13 +56,17 @@ starts_left_in _ crashed = 0
 abbrev pub starts_left : Machine → ℕ
 starts_left m = starts_left_in m.state (m.fatal || is_immediate m.shutdown)
 
+-- no pid is above this one: behind the last pid a few children are still started
+abbrev pub highest_pid : ℕ
+highest_pid = last_pid + 6
+
 -- pids are left for all children that may still be started
 pub record HasPids (s : Standing) : Type 0 where
   -- a smart shutdown is owed only behind the last pid
-  pub owed : s.owes_smart ≡ true → 2147480000 ≤ s.last_pid
-  pub not_asked : is_some s.machine.shutdown ≡ false → s.owes_smart ≡ false → s.last_pid < 2147480000
-  pub few : is_some s.machine.shutdown ≡ false → s.last_pid + starts_in any_kind s.due ≤ 2147480004
-  pub asked : is_some s.machine.shutdown ≡ true → s.last_pid + (starts_in any_kind s.due + starts_left s.machine) ≤ 2147480006
+  pub owed : s.owes_smart ≡ true → last_pid ≤ s.last_pid
+  pub not_asked : is_some s.machine.shutdown ≡ false → s.owes_smart ≡ false → s.last_pid < last_pid
+  pub few : is_some s.machine.shutdown ≡ false → s.last_pid + starts_in any_kind s.due ≤ last_pid + 4
+  pub asked : is_some s.machine.shutdown ≡ true → s.last_pid + (starts_in any_kind s.due + starts_left s.machine) ≤ highest_pid
 
 -- this supervisor's past is a run from its start
 pub record HasRun (limits : Limits) (h : Trace) : Type 0 where

@@ -171,7 +171,7 @@ impl Memory {
     ghost use Rattle.pm_state.specs.declared.action.Action.TheVariants.{Reset};
     ghost use Rattle.pm_state.specs.Journal.{all_reported};
     ghost use Rattle.pm_state.specs.Starts.{has_end};
-    ghost use Rattle.pm_journal.specs.Standing.{standing_of, noted, enrolled, act_for, entry_for, is_spent, first_due, reported};
+    ghost use Rattle.pm_journal.specs.Standing.{standing_of, noted, enrolled, act_for, entry_for, is_spent, first_due, last_generation, reported};
     ghost use Rattle.pm_journal.specs.Doing.{HasNumbers, MayReport, room_for};
 
     // What an entry changes of what is remembered.
@@ -220,7 +220,7 @@ impl Memory {
     // The act begins the next generation, and there is none.
     pub(crate) fn is_spent(&self, action: Action) -> bool
         ensures spent { result ≡ is_spent action (standing_of self.now) }
-        ensures further { result ≡ false → action ≡ Reset → self.now.generation < 4294967295 }
+        ensures further { result ≡ false → action ≡ Reset → self.now.generation < last_generation }
     {
         matches!(action, Action::Reset) && self.generation == LAST_GENERATION
     }

@@ -9,6 +9,7 @@ use Rattle.std.specs.Str.{IsUtf8}
 use Rattle.pm_record.specs.Reading.{Read, ◌>>=◌, number_at, may_be}
 use Rattle.std.specs.FinMap as map
 use Rattle.pm_rows.specs.Fold.{RowMap}
+use Rattle.pm_rows.specs.Limits.{max_rows, max_value_bytes}
 use Rattle.pm_record.specs.Spelling.{row_bytes}
 use Rattle.pm_record.specs.Repeated.{items_at}
 use Rattle.pm_record.specs.Changes.{string_at}
@@ -24,9 +25,9 @@ Row = ℤ × List ℕ
 
 -- a row whose key stands at this place or behind it, with room for so many keys
 abbrev pub MayRow : ℕ → ℕ → ℤ × List ℕ → Type 0
-MayRow n from row = FitsSigned w64 row.0 × (from ≤ place row.0) × (place row.0 + n < 2 ^ 64) × IsUtf8 row.1 × (length row.1 ≤ 8192)
+MayRow n from row = FitsSigned w64 row.0 × (from ≤ place row.0) × (place row.0 + n < 2 ^ 64) × IsUtf8 row.1 × (length row.1 ≤ max_value_bytes)
 
-module _ (n from : ℕ) (room : from + n < 2 ^ 64) (few : n ≤ 100000) where
+module _ (n from : ℕ) (room : from + n < 2 ^ 64) (few : n ≤ max_rows) where
   abbrev MayWord : ℕ → Type 0
   MayWord word = MayBe 8 (2 ^ 64) (to_be_bytes w64) wide8 (key_ranges n from) word
 
@@ -69,7 +70,7 @@ module _ (n from : ℕ) (room : from + n < 2 ^ 64) (few : n ≤ 100000) where
   value_reads : Reading (Spelled (MayString any_text) string_bytes) (string_at any_text)
   value_reads = string_reads any_text (0, (inl (omega arith, omega arith), omega arith))
 
-  short_value : (value : List ℕ) → MayString any_text value → length value ≤ 8192
+  short_value : (value : List ℕ) → MayString any_text value → length value ≤ max_value_bytes
   short_value value may = omega (arith, may.0.0)
 
   pub row_some : (row : Row) × MayRow n from row
@@ -111,10 +112,10 @@ module _ (n from : ℕ) (room : from + n < 2 ^ 64) (few : n ≤ 100000) where
 -- ---- so many rows
 
 abbrev pub MayRowOf : ℕ → ℕ × RowMap → Row → Type 0
-MayRowOf n state row = MayRow n state.0 row × (n ≤ 100000)
+MayRowOf n state row = MayRow n state.0 row × (n ≤ max_rows)
 
 abbrev pub CanRows : ℕ → ℕ × RowMap → Type 0
-CanRows n state = (state.0 + n ≤ 2 ^ 64) × (n ≤ 100000)
+CanRows n state = (state.0 + n ≤ 2 ^ 64) × (n ≤ max_rows)
 
 abbrev pub MayRowCount : ℕ → Type 0
 MayRowCount n = MayBe 4 (2 ^ 32) (to_be_bytes w32) wide4 row_counts n

@@ -3,6 +3,7 @@ use Rattle.std.proofs.Common.{◌≡◌, ℕ, zero, suc, ◌+◌, ◌-◌, ◌^�
 use Rattle.std.specs.Prelude.{fold}
 use Rattle.std.specs.Int.{w32, to_be_bytes}
 use Rattle.pm_rows.specs.declared.commit.Change.{Change}
+use Rattle.pm_rows.specs.Limits.{max_commits}
 use Rattle.pm_record.specs.Reading.{Read, ◌>>=◌, number_at, may_be, checked}
 use Rattle.pm_record.specs.Repeated.{items_at}
 use Rattle.pm_record.specs.Spelling.{commit_bytes}
@@ -65,7 +66,7 @@ module _ (Rows : Type 0) (committed : Rows → List Change → Rows) (fits : Row
   abbrev pub BatchIs : ℕ → Rows → List (List Change) → List ℕ → Type 0
   BatchIs top rows = ThenIs (Longs top) (BodyIs top rows)
 
-  module _ (top : ℕ) (rows : Rows) (top_some : 1 ≤ top) (top_few : top ≤ 256) where
+  module _ (top : ℕ) (rows : Rows) (top_some : 1 ≤ top) (top_few : top ≤ max_commits) where
     abbrev body_in : ℕ → List ℕ → Read (List (List Change))
     body_in long bytes = number_at (may_be (commits_ranges top (long - 4))) 4 0 bytes >>= λ n. items_at commit_in made n.0 (long - 4, rows) n.1
 

@@ -12,6 +12,8 @@ use Rattle.pm_record.specs.Spelling.{change_bytes, commit_bytes, body_bytes}
 use Rattle.pm_record.specs.StandsFor.{IsChange, IsCommit}
 use Rattle.pm_record.specs.Changes.{least, most, change_at}
 use Rattle.std.proofs.lemmas.List.Elements.{All-from_recursion, recursion_from_All}
+use Rattle.pm_rows.specs.Limits.{max_changes, max_commits}
+use Rattle.pm_rows.specs.Longest.{max_change_bytes, max_commit_bytes}
 use Rattle.pm_record.specs.Bodies.{count_ranges, changes_ranges, commits_ranges, change_left, commit_left, commit_at, body_ranges}
 use Rattle.pm_record.specs.Reading.{number_at, may_be, IsWithin}
 use Rattle.pm_record.proofs.Readers.{Reading, Spelled}
@@ -65,11 +67,11 @@ module _ (low high least most top long : ℕ) (low_pos : 0 < low) (high_pos : 0 
 
 -- ---- changes
 
-change_size : (x : Change) → IsChange x → (length (change_bytes x) ≡ 9) ⊎ ((13 ≤ length (change_bytes x)) × (length (change_bytes x) ≤ 8205))
+change_size : (x : Change) → IsChange x → (length (change_bytes x) ≡ 9) ⊎ ((13 ≤ length (change_bytes x)) × (length (change_bytes x) ≤ max_change_bytes))
 change_size (Put key value) is = inr (omega arith, omega (arith, is.2))
 change_size (Del key) is = inl (omega arith)
 
-fills_more : (n c left size : ℕ) → (size ≡ 9) ⊎ ((13 ≤ size) × (size ≤ 8205)) → size ≤ left → Fills n c (left - size) → Fills (suc n) c left
+fills_more : (n c left size : ℕ) → (size ≡ 9) ⊎ ((13 ≤ size) × (size ≤ max_change_bytes)) → size ≤ left → Fills n c (left - size) → Fills (suc n) c left
 fills_more n c left size is fits rest = elim is [
   | inl a ↦ elim rest [ inl b ↦ inl (omega (arith, a, b, fits)) | inr b ↦ inr (omega (arith, a, b, fits), omega (arith, a, b, fits)) ]
   | inr a ↦ elim rest [ inl b ↦ inr (omega (arith, a, b, fits), omega (arith, a, b, fits)) | inr b ↦ inr (omega (arith, a, b, fits), omega (arith, a, b, fits)) ]
@@ -125,23 +127,23 @@ module _ (c left : ℕ) where
   abbrev MayCount : ℕ → Type 0
   MayCount n = MayBe 2 (2 ^ 16) (to_be_bytes w16) wide2 (changes_ranges c (left - 2)) n
 
-  count_may : (n : ℕ) → MayCount n → (1 ≤ n) × (n ≤ 1000) × Fills n c (left - 2)
+  count_may : (n : ℕ) → MayCount n → (1 ≤ n) × (n ≤ max_changes) × Fills n c (left - 2)
   count_may n may =
-      let t = counts_to 9 8205 (11 * c) (8205002 * c) 1000 (left - 2) (omega arith) (omega arith) n may.0 in
+      let t = counts_to 9 max_change_bytes (11 * c) (max_commit_bytes * c) max_changes (left - 2) (omega arith) (omega arith) n may.0 in
       (t.0, t.1, elim t.2 [ inl a ↦ inl (omega (arith, a)) | inr a ↦ inr (omega (arith, a), omega (arith, a)) ])
 
-  may_count : (n : ℕ) → 1 ≤ n → n ≤ 1000 → Fills n c (left - 2) → MayCount n
+  may_count : (n : ℕ) → 1 ≤ n → n ≤ max_changes → Fills n c (left - 2) → MayCount n
   may_count n some few is =
-      let t : Takes 9 8205 (11 * c) (8205002 * c) (left - 2) n = elim is [ inl a ↦ inl (omega (arith, a)) | inr a ↦ inr (omega (arith, a), omega (arith, a)) ] in
-      (counts_from 9 8205 (11 * c) (8205002 * c) 1000 (left - 2) (omega arith) (omega arith) n some few t, omega (arith, few))
+      let t : Takes 9 max_change_bytes (11 * c) (max_commit_bytes * c) (left - 2) n = elim is [ inl a ↦ inl (omega (arith, a)) | inr a ↦ inr (omega (arith, a), omega (arith, a)) ] in
+      (counts_from 9 max_change_bytes (11 * c) (max_commit_bytes * c) max_changes (left - 2) (omega arith) (omega arith) n some few t, omega (arith, few))
 
-  fills_commit : Fills 0 (suc c) left → (n : ℕ) × (1 ≤ n) × (n ≤ 1000) × Fills n c (left - 2)
+  fills_commit : Fills 0 (suc c) left → (n : ℕ) × (1 ≤ n) × (n ≤ max_changes) × Fills n c (left - 2)
   fills_commit is = elim is [
     | inl a ↦ (1, omega arith, omega arith, inl (omega (arith, a)))
-    | inr a ↦ elim (cases_lt (8205 + 8205002 * c) (left - 2)) [
+    | inr a ↦ elim (cases_lt (max_change_bytes + max_commit_bytes * c) (left - 2)) [
       | inr small ↦ (1, omega arith, omega arith, inr (omega (arith, a), omega (arith, small)))
       | inl large ↦
-          let n = (left - 2 - 8205002 * c + 8204) / 8205 in
+          let n = (left - 2 - max_commit_bytes * c + (max_change_bytes - 1)) / max_change_bytes in
           (n, omega (arith, large), omega (arith, a), inr (omega (arith, large), omega (arith, large)))
     ]
   ]
@@ -182,7 +184,7 @@ commit_some c left is = commit_some_with c left (omega (arith, is)) is
 
 -- ---- a body
 
-pub changes_long : (xs : List Change) → AllByRecursion IsChange xs → (length (flat_changes xs) ≡ 9 * length xs) ⊎ ((9 * length xs + 4 ≤ length (flat_changes xs)) × (length (flat_changes xs) ≤ 8205 * length xs))
+pub changes_long : (xs : List Change) → AllByRecursion IsChange xs → (length (flat_changes xs) ≡ 9 * length xs) ⊎ ((9 * length xs + 4 ≤ length (flat_changes xs)) × (length (flat_changes xs) ≤ max_change_bytes * length xs))
 changes_long [] all = inl (omega arith)
 changes_long (x ∷ xs) all =
     let size = long_cons x xs in
@@ -191,7 +193,7 @@ changes_long (x ∷ xs) all =
       | inr a ↦ elim (changes_long xs all.1) [ inl b ↦ inr (omega (arith, size, a, b), omega (arith, size, a, b)) | inr b ↦ inr (omega (arith, size, a, b), omega (arith, size, a, b)) ]
     ]
 
-pub commit_size : (commit : List Change) → IsCommit commit → (length (commit_bytes commit) ≡ 11) ⊎ ((15 ≤ length (commit_bytes commit)) × (length (commit_bytes commit) ≤ 8205002))
+pub commit_size : (commit : List Change) → IsCommit commit → (length (commit_bytes commit) ≡ 11) ⊎ ((15 ≤ length (commit_bytes commit)) × (length (commit_bytes commit) ≤ max_commit_bytes))
 commit_size commit is =
     let size = long_commit commit in
     let changes = recursion_from_All IsChange commit is.changes in
@@ -200,7 +202,7 @@ commit_size commit is =
       | inr more ↦ elim (changes_long commit changes) [ inl a ↦ inr (omega (arith, size, a, more), omega (arith, size, a, is.few)) | inr a ↦ inr (omega (arith, size, a, is.some), omega (arith, size, a, is.few)) ]
     ]
 
-commit_fills_more : (c left size : ℕ) → (size ≡ 11) ⊎ ((15 ≤ size) × (size ≤ 8205002)) → size ≤ left → Fills 0 c (left - size) → Fills 0 (suc c) left
+commit_fills_more : (c left size : ℕ) → (size ≡ 11) ⊎ ((15 ≤ size) × (size ≤ max_commit_bytes)) → size ≤ left → Fills 0 c (left - size) → Fills 0 (suc c) left
 commit_fills_more c left size is fits rest = elim is [
   | inl a ↦ elim rest [ inl b ↦ inl (omega (arith, a, b, fits)) | inr b ↦ inr (omega (arith, a, b, fits), omega (arith, a, b, fits)) ]
   | inr a ↦ elim rest [ inl b ↦ inr (omega (arith, a, b, fits), omega (arith, a, b, fits)) | inr b ↦ inr (omega (arith, a, b, fits), omega (arith, a, b, fits)) ]
@@ -246,7 +248,7 @@ long_body xs = omega arith
 
 -- so many bytes can be the body of at most so many commits
 abbrev pub CanBody : ℕ → ℕ → Type 0
-CanBody top long = (long ≡ 15) ⊎ ((19 ≤ long) × (long ≤ 4 + 8205002 * top))
+CanBody top long = (long ≡ 15) ⊎ ((19 ≤ long) × (long ≤ 4 + max_commit_bytes * top))
 
 module _ (top long : ℕ) where
   abbrev pub MayCommits : ℕ → Type 0
@@ -254,19 +256,19 @@ module _ (top long : ℕ) where
 
   pub commits_may : (n : ℕ) → MayCommits n → (1 ≤ n) × (n ≤ top) × Fills 0 n (long - 4)
   commits_may n may =
-      let t = counts_to 11 8205002 0 0 top (long - 4) (omega arith) (omega arith) n may.0 in
+      let t = counts_to 11 max_commit_bytes 0 0 top (long - 4) (omega arith) (omega arith) n may.0 in
       (t.0, t.1, elim t.2 [ inl a ↦ inl (omega (arith, a)) | inr a ↦ inr (omega (arith, a), omega (arith, a)) ])
 
-  pub may_commits : top ≤ 256 → (n : ℕ) → 1 ≤ n → n ≤ top → Fills 0 n (long - 4) → MayCommits n
+  pub may_commits : top ≤ max_commits → (n : ℕ) → 1 ≤ n → n ≤ top → Fills 0 n (long - 4) → MayCommits n
   may_commits top_few n some few is =
-      let t : Takes 11 8205002 0 0 (long - 4) n = elim is [ inl a ↦ inl (omega (arith, a)) | inr a ↦ inr (omega (arith, a), omega (arith, a)) ] in
-      (counts_from 11 8205002 0 0 top (long - 4) (omega arith) (omega arith) n some few t, omega (arith, few, top_few))
+      let t : Takes 11 max_commit_bytes 0 0 (long - 4) n = elim is [ inl a ↦ inl (omega (arith, a)) | inr a ↦ inr (omega (arith, a), omega (arith, a)) ] in
+      (counts_from 11 max_commit_bytes 0 0 top (long - 4) (omega arith) (omega arith) n some few t, omega (arith, few, top_few))
 
   pub body_count : 1 ≤ top → CanBody top long → (n : ℕ) × (1 ≤ n) × (n ≤ top) × Fills 0 n (long - 4)
   body_count top_some is = elim is [
     | inl a ↦ (1, omega arith, top_some, inl (omega (arith, a)))
     | inr a ↦
-        let n = (long - 4 + 8205001) / 8205002 in (
+        let n = (long - 4 + (max_commit_bytes - 1)) / max_commit_bytes in (
           n,
           omega (arith, a),
           omega (arith, a),
@@ -286,7 +288,7 @@ module _ (top : ℕ) where
   pub long_can : (n : ℕ) → MayLong n → CanBody top n
   long_can n may = elim may.0 [ inl a ↦ inl (omega (arith, a)) | inr a ↦ inr a ]
 
-  pub can_long : top ≤ 256 → (n : ℕ) → CanBody top n → MayLong n
+  pub can_long : top ≤ max_commits → (n : ℕ) → CanBody top n → MayLong n
   can_long top_few n is = elim is [
     | inl a ↦ (inl (omega (arith, a), omega (arith, a)), omega (arith, a))
     | inr a ↦ (inr a, omega (arith, a, top_few))

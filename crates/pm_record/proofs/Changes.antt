@@ -9,6 +9,8 @@ use Rattle.std.specs.Int.RustNames.{FitsSigned}
 use Rattle.std.specs.Str.{IsUtf8}
 use Rattle.pm_rows.specs.declared.commit.Change.{Change}
 use Rattle.pm_rows.specs.declared.commit.Change.TheVariants.{Put, Del}
+use Rattle.pm_rows.specs.Limits.{max_value_bytes}
+use Rattle.pm_rows.specs.Longest.{max_change_bytes}
 use Rattle.pm_record.proofs.Words.{Begins}
 use Rattle.pm_record.specs.Spelling.{change_bytes}
 use Rattle.pm_record.specs.StandsFor.{IsChange}
@@ -28,7 +30,7 @@ MayChange n c left change = IsChange change × (length (change_bytes change) ≤
 -- ---- room
 
 abbrev pub HasRoom : ℕ → ℕ → ℕ → Type 0
-HasRoom n c left = (13 + least n c ≤ left) × (left ≤ 8205 + most n c)
+HasRoom n c left = (13 + least n c ≤ left) × (left ≤ max_change_bytes + most n c)
 
 -- whether the second range of lengths has any
 abbrev lacks : ℕ → ℕ → ℕ → ℕ
@@ -41,7 +43,7 @@ lacks_is n c left = elim (cases_lt left (17 + least n c)) [
 ]
 
 -- a value's length is within the ranges just where the changes and commits behind it can take the rest
-count_to : (n c left count : ℕ) → HasRoom n c left → IsWithin (value_ranges n c left) count → (count ≤ 8192) × (13 + count ≤ left) × Fills n c (left - (13 + count))
+count_to : (n c left count : ℕ) → HasRoom n c left → IsWithin (value_ranges n c left) count → (count ≤ max_value_bytes) × (13 + count ≤ left) × Fills n c (left - (13 + count))
 count_to n c left count room is = elim is [
   | inl a ↦ (omega (arith, a, room), omega (arith, a, room), inl (omega (arith, a, room)))
   | inr a ↦ elim (lacks_is n c left) [
@@ -50,7 +52,7 @@ count_to n c left count room is = elim is [
   ]
 ]
 
-count_from : (n c left count : ℕ) → HasRoom n c left → count ≤ 8192 → 13 + count ≤ left → Fills n c (left - (13 + count)) → IsWithin (value_ranges n c left) count
+count_from : (n c left count : ℕ) → HasRoom n c left → count ≤ max_value_bytes → 13 + count ≤ left → Fills n c (left - (13 + count)) → IsWithin (value_ranges n c left) count
 count_from n c left count room short fits rest = elim rest [
   | inl a ↦ inl (omega (arith, a, fits), omega (arith, a, fits, short))
   | inr a ↦ elim (lacks_is n c left) [
@@ -59,16 +61,16 @@ count_from n c left count room short fits rest = elim rest [
   ]
 ]
 
-count_some : (n c left : ℕ) → HasRoom n c left → (count : ℕ) × (count ≤ 8192) × (13 + count ≤ left) × Fills n c (left - (13 + count))
-count_some n c left room = elim (cases_lt (8192 + 13 + least n c) left) [
+count_some : (n c left : ℕ) → HasRoom n c left → (count : ℕ) × (count ≤ max_value_bytes) × (13 + count ≤ left) × Fills n c (left - (13 + count))
+count_some n c left room = elim (cases_lt (max_value_bytes + 13 + least n c) left) [
   | inr small ↦ (left - (13 + least n c), omega (arith, small), omega (arith, room.0), inl (omega (arith, room.0)))
-  | inl large ↦ elim (cases_lt left (8192 + 13 + least n c + 4)) [
+  | inl large ↦ elim (cases_lt left (max_value_bytes + 13 + least n c + 4)) [
     | inl close ↦ (8188, omega arith, omega (arith, large), inr (omega (arith, large), omega (arith, room.1, large, close)))
-    | inr far ↦ (8192, omega arith, omega (arith, large), inr (omega (arith, far), omega (arith, room.1)))
+    | inr far ↦ (max_value_bytes, omega arith, omega (arith, large), inr (omega (arith, far), omega (arith, room.1)))
   ]
 ]
 
-room_from : (n c left count : ℕ) → count ≤ 8192 → 13 + count ≤ left → Fills n c (left - (13 + count)) → HasRoom n c left
+room_from : (n c left count : ℕ) → count ≤ max_value_bytes → 13 + count ≤ left → Fills n c (left - (13 + count)) → HasRoom n c left
 room_from n c left count short fits rest = elim rest [ inl a ↦ omega (arith, a, short, fits) | inr a ↦ omega (arith, a, short, fits) ]
 
 -- one more change
@@ -100,10 +102,10 @@ module _ (n c left : ℕ) where
   MayTag tag = (may_tag n c left tag ≡ true) × (tag < 256)
 
   tag_cases : (tag : ℕ) → may_tag n c left tag ≡ true → ((tag ≡ 1) × HasRoom n c left) ⊎ ((tag ≡ 2) × (9 ≤ left) × Fills n c (left - 9))
-  tag_cases tag e = elim (either (eqb tag 1 && (leb (13 + least n c) left && leb left (8205 + most n c))) (eqb tag 2 && (leb 9 left && fills n c (left - 9))) e) [
+  tag_cases tag e = elim (either (eqb tag 1 && (leb (13 + least n c) left && leb left (max_change_bytes + most n c))) (eqb tag 2 && (leb 9 left && fills n c (left - 9))) e) [
     | inl a ↦
-        let p = and_parts (eqb tag 1) (leb (13 + least n c) left && leb left (8205 + most n c)) a in
-        let q = and_parts (leb (13 + least n c) left) (leb left (8205 + most n c)) p.1 in
+        let p = and_parts (eqb tag 1) (leb (13 + least n c) left && leb left (max_change_bytes + most n c)) a in
+        let q = and_parts (leb (13 + least n c) left) (leb left (max_change_bytes + most n c)) p.1 in
         inl (eqb-true _ _ p.0, (leb-true _ _ q.0, leb-true _ _ q.1))
     | inr a ↦
         let p = and_parts (eqb tag 2) (leb 9 left && fills n c (left - 9)) a in
@@ -112,7 +114,7 @@ module _ (n c left : ℕ) where
   ]
 
   tag_put : HasRoom n c left → MayTag 1
-  tag_put room = (rw (le-leb (13 + least n c) left room.0, le-leb left (8205 + most n c) room.1) refl, omega arith)
+  tag_put room = (rw (le-leb (13 + least n c) left room.0, le-leb left (max_change_bytes + most n c) room.1) refl, omega arith)
 
   tag_del : 9 ≤ left → Fills n c (left - 9) → MayTag 2
   tag_del long is = (rw (le-leb 9 left long, fills_from n c (left - 9) is) refl, omega arith)
@@ -123,7 +125,7 @@ module _ (n c left : ℕ) where
   PutIs (Put key value) word = MayChange n c left (Put key value) × (word ≡ key_bytes key ++ string_bytes value)
   PutIs (Del key) word = ⊥
 
-  may_put : (key : ℤ) (value : List ℕ) → FitsSigned w64 key → IsUtf8 value → length value ≤ 8192 → 13 + length value ≤ left → Fills n c (left - (13 + length value)) → MayChange n c left (Put key value)
+  may_put : (key : ℤ) (value : List ℕ) → FitsSigned w64 key → IsUtf8 value → length value ≤ max_value_bytes → 13 + length value ≤ left → Fills n c (left - (13 + length value)) → MayChange n c left (Put key value)
   may_put key value fits text short long rest =
       let size : length (change_bytes (Put key value)) ≡ 13 + length value = omega arith in
       ((fits, text, short), rw size long, subst (λ (k : ℕ). Fills n c (left - k)) (sym size) rest)

@@ -5,7 +5,7 @@ use Rattle.std.specs.Int.{w32, to_be_bytes}
 use Rattle.std.proofs.lemmas.List.Concat.{flat_map-cons}
 use Rattle.pm_rows.specs.declared.commit.Change.{Change}
 use Rattle.pm_rows.specs.Fold.{RowMap, committed, folded}
-use Rattle.pm_rows.specs.Limits.{IsWithinRowLimits}
+use Rattle.pm_rows.specs.Limits.{IsWithinRowLimits, max_commits}
 use Rattle.pm_record.specs.Spelling.{commit_bytes, body_bytes, batch_bytes}
 use Rattle.pm_rows.specs.Standing.{Standing}
 use Rattle.pm_record.specs.StandsFor.{IsCommit, AreBatches}
@@ -168,7 +168,7 @@ batch_wait_to top rows bytes top_some within w = elim w [
       ]
 ]
 
-batch_wait_from : (top : ℕ) (rows : RowMap) (batch : Batch) (bytes : List ℕ) → top ≤ 256 → 1 ≤ length batch → length batch ≤ top → All IsCommit batch → WholeFirst rows batch bytes → IsFrontOf bytes (batch_bytes batch)
+batch_wait_from : (top : ℕ) (rows : RowMap) (batch : Batch) (bytes : List ℕ) → top ≤ max_commits → 1 ≤ length batch → length batch ≤ top → All IsCommit batch → WholeFirst rows batch bytes → IsFrontOf bytes (batch_bytes batch)
     → BatchWaits top rows bytes
 batch_wait_from top rows batch bytes top_few some few commits limits front =
     let long = length (body_bytes batch) in

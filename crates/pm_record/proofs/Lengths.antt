@@ -6,6 +6,7 @@ use Rattle.std.proofs.lemmas.List.Sums.{sum_by-cons}
 use Rattle.pm_rows.specs.declared.commit.Change.{Change}
 use Rattle.pm_rows.specs.declared.commit.Change.TheVariants.{Put, Del}
 use Rattle.pm_rows.specs.LogSize.{change_length, commit_length, body_length, need_of}
+use Rattle.pm_rows.specs.Longest.{max_change_bytes}
 use Rattle.pm_record.specs.Spelling.{change_bytes, commit_bytes, body_bytes, batch_bytes}
 use Rattle.pm_record.specs.StandsFor.{IsChange}
 
@@ -28,6 +29,6 @@ body_long batch = omega (arith, flat_long commit_bytes commit_length commit_long
 pub need_long : (batch : List (List Change)) → 1 + length (batch_bytes batch) ≡ need_of batch
 need_long batch = omega (arith, body_long batch)
 
-pub change_short : (change : Change) → IsChange change → length (change_bytes change) ≤ 8205
+pub change_short : (change : Change) → IsChange change → length (change_bytes change) ≤ max_change_bytes
 change_short (Put key value) is = omega (arith, is.2)
 change_short (Del key) is = omega arith

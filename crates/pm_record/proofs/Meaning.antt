@@ -9,7 +9,7 @@ use Rattle.std.proofs.lemmas.List.Concat.{flat_map-cons}
 use Rattle.std.proofs.lemmas.List.Elements.{All-from_recursion, recursion_from_All}
 use Rattle.pm_rows.specs.Fold.{RowMap, committed, folded}
 use Rattle.pm_rows.specs.Size.{size_of}
-use Rattle.pm_rows.specs.Limits.{IsWithinRowLimits}
+use Rattle.pm_rows.specs.Limits.{IsWithinRowLimits, max_commits, max_rows, max_rows_bytes}
 use Rattle.pm_record.specs.Spelling.{commit_bytes, body_bytes, batch_bytes}
 use Rattle.pm_rows.specs.Standing.{Standing}
 use Rattle.pm_record.specs.StandsFor.{IsCommit, IsBatch, AreBatches}
@@ -35,10 +35,10 @@ AreBatchesIn = of.AreBatchesIn RowMap committed is_within
 -- ---- limits on rows
 
 pub within_to : (rows : RowMap) → is_within rows ≡ true → IsWithinRowLimits rows
-within_to rows e = let p = and_parts (leb (map.len rows) 100000) (leb (size_of rows) 67108864) e in record { few = leb-true (map.len rows) 100000 p.0; small = leb-true (size_of rows) 67108864 p.1 }
+within_to rows e = let p = and_parts (leb (map.len rows) max_rows) (leb (size_of rows) max_rows_bytes) e in record { few = leb-true (map.len rows) max_rows p.0; small = leb-true (size_of rows) max_rows_bytes p.1 }
 
 pub within_from : (rows : RowMap) → IsWithinRowLimits rows → is_within rows ≡ true
-within_from rows w = rw (le-leb (map.len rows) 100000 w.few, le-leb (size_of rows) 67108864 w.small) refl
+within_from rows w = rw (le-leb (map.len rows) max_rows w.few, le-leb (size_of rows) max_rows_bytes w.small) refl
 
 -- the rows keep the limits behind each commit
 abbrev pub Kept : RowMap → Batch → Type 0
@@ -131,7 +131,7 @@ filling top batch some few commits =
     let may = commits_from (length (body_bytes batch) - 4) batch all (omega (arith, long_body batch)) in
     (batch_can top batch some few all, may.0, may.1)
 
-pub batch_from : (top : ℕ) (rows : RowMap) (batch : Batch) → top ≤ 256 → 1 ≤ length batch → length batch ≤ top → All IsCommit batch → Kept rows batch → IsBatchIn top rows batch (batch_bytes batch)
+pub batch_from : (top : ℕ) (rows : RowMap) (batch : Batch) → top ≤ max_commits → 1 ≤ length batch → length batch ≤ top → All IsCommit batch → Kept rows batch → IsBatchIn top rows batch (batch_bytes batch)
 batch_from top rows batch top_few some few commits kept =
     let long = length (body_bytes batch) in
     let f = filling top batch some few commits in (

@@ -12,6 +12,7 @@ use Rattle.std.specs.FinMap.{put, entries-insert, is_sorted, entries_sorted, sam
 use Rattle.std.specs.FinMap.Entries.{below_all, by_order}
 use Rattle.std.proofs.lemmas.List.Elements.{All-from_recursion, recursion_from_All}
 use Rattle.pm_rows.specs.Fold.{RowMap}
+use Rattle.pm_rows.specs.Limits.{max_rows}
 use Rattle.pm_record.specs.Spelling.{row_bytes, rows_bytes}
 use Rattle.pm_record.specs.StandsFor.{IsRow}
 use Rattle.pm_record.specs.Reading.{Read, ◌>>=◌, number_at, may_be}
@@ -72,7 +73,7 @@ rising_room : (from : ℕ) (rows : List Row) → from ≤ 2 ^ 64 → Rising from
 rising_room from [] le rise = omega (arith, le)
 rising_room from (row ∷ rows) le rise = let small = place_small row.0 in let rest = rising_room (place row.0 + 1) rows (omega (arith, small)) rise.2 in omega (arith, rest, rise.0)
 
-rising_all : (from : ℕ) (rows : List Row) → Rising from rows → AllByRecursion IsRow rows → length rows ≤ 100000 → (state : ℕ × RowMap) → state.0 ≤ from → state.0 ≤ 2 ^ 64 → AllRows (length rows) state rows
+rising_all : (from : ℕ) (rows : List Row) → Rising from rows → AllByRecursion IsRow rows → length rows ≤ max_rows → (state : ℕ × RowMap) → state.0 ≤ from → state.0 ≤ 2 ^ 64 → AllRows (length rows) state rows
 rising_all from [] rise rows few state le fits = (omega (arith, fits), omega arith)
 rising_all from (row ∷ rest) rise rows few state le fits =
     let small = place_small row.0 in
@@ -164,7 +165,7 @@ entries_of rows sorted =
 -- ---- the rows of a base
 
 abbrev pub MayRowMap : RowMap → Type 0
-MayRowMap rows = All IsRow (map.entries rows) × (map.len rows ≤ 100000)
+MayRowMap rows = All IsRow (map.entries rows) × (map.len rows ≤ max_rows)
 
 list_to : (rows : List Row) (word : List ℕ) → Spelled MayRows (counted_bytes (to_be_bytes w32) row_bytes) rows word → Spelled MayRowMap rows_bytes (map_of rows) word
 list_to rows word is =
@@ -179,7 +180,7 @@ list_from : (rows : RowMap) (word : List ℕ) → Spelled MayRowMap rows_bytes r
 list_from rows word is =
     let list = map.entries rows in
     let long : map.len rows ≡ length list = len-entries rows in
-    let few : length list ≤ 100000 = omega (arith, long, is.0.1) in
+    let few : length list ≤ max_rows = omega (arith, long, is.0.1) in
     let all = recursion_from_All IsRow list is.0.0 in
     let rise = in_order list (entries_sorted rows) all in (
       list,

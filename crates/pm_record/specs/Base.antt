@@ -3,6 +3,7 @@ use Rattle.std.specs.Prelude.{ℕ, ◌+◌, ◌-◌, ◌%◌, min, nat_lt, nat_e
 use Rattle.std.specs.Int.{w64, cast_signed, cast_unsigned}
 use Rattle.std.specs.FinMap as map
 use Rattle.pm_rows.specs.Fold.{RowMap}
+use Rattle.pm_rows.specs.Limits.{max_rows, max_value_bytes}
 use Rattle.pm_record.specs.declared.number.Ranges.{Ranges}
 use Rattle.pm_record.specs.declared.base.Base.{Base}
 use Rattle.pm_record.specs.Reading.{Read, ◌>>=◌, number_at, may_be}
@@ -26,7 +27,7 @@ key_ranges n from = record {
 }
 
 abbrev pub any_text : Ranges
-any_text = record { low = 0; high = 8192; low2 = 1; high2 = 0 }
+any_text = record { low = 0; high = max_value_bytes; low2 = 1; high2 = 0 }
 
 abbrev pub row_at : ℕ → ℕ → List ℕ → Read (ℤ × List ℕ)
 row_at n from bytes = do
@@ -42,7 +43,7 @@ abbrev pub row_step : ℕ → ℕ × RowMap → List ℕ → Read (ℕ × RowMap
 row_step n state bytes = stepped added state (row_at n state.0 bytes)
 
 abbrev pub row_counts : Ranges
-row_counts = record { low = 0; high = 100000; low2 = 1; high2 = 0 }
+row_counts = record { low = 0; high = max_rows; low2 = 1; high2 = 0 }
 
 abbrev pub rows_at : List ℕ → Read RowMap
 rows_at bytes = do

@@ -1,6 +1,8 @@
 -- How the body of a batch is read: as many commits of as many changes as fill it exactly.
 use Rattle.std.specs.Prelude.{ℕ, ◌+◌, ◌-◌, ◌*◌, ◌/◌, min, max, List, length}
 use Rattle.pm_rows.specs.declared.commit.Change.{Change}
+use Rattle.pm_rows.specs.Limits.{max_changes}
+use Rattle.pm_rows.specs.Longest.{max_change_bytes, max_commit_bytes}
 use Rattle.pm_record.specs.declared.number.Ranges.{Ranges}
 use Rattle.pm_record.specs.Spelling.{change_bytes, commit_bytes}
 use Rattle.pm_record.specs.Reading.{Read, ◌>>=◌, number_at, may_be}
@@ -18,10 +20,10 @@ count_ranges low high least most top long = record {
 }
 
 abbrev pub changes_ranges : ℕ → ℕ → Ranges
-changes_ranges c long = count_ranges 9 8205 (11 * c) (8205002 * c) 1000 long
+changes_ranges c long = count_ranges 9 max_change_bytes (11 * c) (max_commit_bytes * c) max_changes long
 
 abbrev pub commits_ranges : ℕ → ℕ → Ranges
-commits_ranges top long = count_ranges 11 8205002 0 0 top long
+commits_ranges top long = count_ranges 11 max_commit_bytes 0 0 top long
 
 abbrev pub change_left : ℕ → Change → ℕ
 change_left left change = left - length (change_bytes change)
@@ -37,4 +39,4 @@ commit_left left commit = left - length (commit_bytes commit)
 
 -- lengths of a body of at most so many commits
 abbrev pub body_ranges : ℕ → Ranges
-body_ranges top = record { low = 15; high = 15; low2 = 19; high2 = 4 + 8205002 * top }
+body_ranges top = record { low = 15; high = 15; low2 = 19; high2 = 4 + max_commit_bytes * top }

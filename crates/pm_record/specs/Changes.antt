@@ -3,6 +3,8 @@ use Rattle.std.specs.Prelude.{ℕ, ◌+◌, ◌-◌, ◌*◌, ◌==◌, ◌&&◌
 use Rattle.std.specs.Int.{w64, cast_signed}
 use Rattle.pm_rows.specs.declared.commit.Change.{Change}
 use Rattle.pm_rows.specs.declared.commit.Change.TheVariants.{Put, Del}
+use Rattle.pm_rows.specs.Limits.{max_value_bytes}
+use Rattle.pm_rows.specs.Longest.{max_change_bytes, max_commit_bytes}
 use Rattle.pm_utf8.specs.Utf8.{boundary}
 use Rattle.pm_record.specs.declared.number.Ranges.{Ranges}
 use Rattle.pm_record.specs.Reading.{Read, ◌>>=◌, byte_at, number_at, may_be, text_at}
@@ -14,7 +16,7 @@ abbrev pub least : ℕ → ℕ → ℕ
 least n c = 9 * n + 11 * c
 
 abbrev pub most : ℕ → ℕ → ℕ
-most n c = 8205 * n + 8205002 * c
+most n c = max_change_bytes * n + max_commit_bytes * c
 
 -- whether they can take exactly so many: deletions alone take the least, and a put takes at least four more
 abbrev pub fills : ℕ → ℕ → ℕ → Bool
@@ -36,14 +38,14 @@ string_at ranges bytes = number_at (may_be ranges) 4 0 bytes >>= λ count. text_
 abbrev pub value_ranges : ℕ → ℕ → ℕ → Ranges
 value_ranges n c left = record {
   low = left - (13 + least n c);
-  high = min (left - (13 + least n c)) 8192;
+  high = min (left - (13 + least n c)) max_value_bytes;
   low2 = max (left - (13 + most n c)) (if nat_lt left (17 + least n c) then 1 else 0);
-  high2 = min (left - (17 + least n c)) 8192;
+  high2 = min (left - (17 + least n c)) max_value_bytes;
 }
 
 abbrev pub may_tag : ℕ → ℕ → ℕ → ℕ → Bool
 may_tag n c left tag =
-    (tag == 1 && (nat_le (13 + least n c) left && nat_le left (8205 + most n c))) || (tag == 2 && (nat_le 9 left && fills n c (left - 9)))
+    (tag == 1 && (nat_le (13 + least n c) left && nat_le left (max_change_bytes + most n c))) || (tag == 2 && (nat_le 9 left && fills n c (left - 9)))
 
 abbrev pub put_at : Ranges → List ℕ → Read Change
 put_at ranges bytes = do

@@ -4,6 +4,7 @@ use Rattle.std.specs.FinMap as map
 use Rattle.pm_rows.specs.declared.commit.Change.{Change}
 use Rattle.pm_rows.specs.Fold.{RowMap, committed}
 use Rattle.pm_rows.specs.Size.{size_of}
+use Rattle.pm_rows.specs.Limits.{max_commits, max_rows, max_rows_bytes}
 use Rattle.pm_disk.specs.declared.disk.Which.{Which}
 use Rattle.pm_record.specs.declared.base.Base.{Base}
 use Rattle.pm_record.specs.declared.batch.Progress.{Progress}
@@ -16,7 +17,7 @@ use Rattle.pm_record.specs.Base.{base_at}
 
 -- whether rows are few and small enough
 abbrev pub is_within : RowMap → Bool
-is_within rows = nat_le (map.len rows) 100000 && nat_le (size_of rows) 67108864
+is_within rows = nat_le (map.len rows) max_rows && nat_le (size_of rows) max_rows_bytes
 
 -- ---- commits, made in the rows
 
@@ -48,7 +49,7 @@ abbrev pub room_for : ℕ → ℕ
 room_for count = 18446744073709551615 - count
 
 abbrev pub top_for : ℕ → ℕ
-top_for count = min (room_for count) 256
+top_for count = min (room_for count) max_commits
 
 abbrev pub batch_step : State → List ℕ → Read State
 batch_step state bytes = do

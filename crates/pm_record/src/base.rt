@@ -2,13 +2,14 @@
 
 ghost use Rattle.std.specs.Prelude.{◌≡◌, ◌≤◌, ◌<◌, ◌^◌, FitsSigned, IfOk};
 ghost use Rattle.std.specs.Int.{w64};
+ghost use Rattle.pm_rows.specs.Limits.{max_rows};
 ghost use Rattle.pm_record.specs.Reading.{Gives};
 ghost use Rattle.pm_record.specs.Base.{base_at, key_ranges, place, row_at, rows_at};
 
 use crate::fault::Unread;
 use crate::number::{Ranges, read_number};
 use crate::text::{ANY, read_string};
-use pm_rows::{Rows, Text};
+use pm_rows::{MAX_ROWS, MAX_VALUE_BYTES, Rows, Text};
 use std::alloc::Global;
 
 /// The base of a file.
@@ -39,7 +40,7 @@ const BIT: Ranges = Ranges {
 // How many rows a base may have.
 const COUNTS: Ranges = Ranges {
     low: 0,
-    high: 100_000,
+    high: MAX_ROWS as u64,
     low2: 1,
     high2: 0,
 };
@@ -47,7 +48,7 @@ const COUNTS: Ranges = Ranges {
 // How many bytes a value may have.
 const LENGTHS: Ranges = Ranges {
     low: 0,
-    high: 8192,
+    high: MAX_VALUE_BYTES as u64,
     low2: 1,
     high2: 0,
 };
@@ -61,7 +62,7 @@ fn place(key: i64) -> u64
 
 // Words of keys from this place on, with room for so many behind.
 fn key_ranges(n: u64, from: u64) -> Ranges
-    requires { n ≤ 100000 }
+    requires { n ≤ max_rows }
     ensures { result ≡ key_ranges n from }
 {
     Ranges {
@@ -74,7 +75,7 @@ fn key_ranges(n: u64, from: u64) -> Ranges
 
 // A row whose key stands at this place or behind it, with room for so many keys.
 fn read_row(alloc: Global, n: u64, from: u64, bytes: &[u8]) -> Result<(i64, Text, &[u8]), Unread>
-    requires { n ≤ 100000 }
+    requires { n ≤ max_rows }
     ensures read { Gives (λ x. ((x.0, x.1), x.2.now)) result (row_at n from bytes.now) }
     ensures fits { IfOk result (λ x. FitsSigned w64 x.0) }
 {

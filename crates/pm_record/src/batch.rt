@@ -1,6 +1,7 @@
 //! The batches of a file, made in its rows as they are read.
 
 ghost use Rattle.std.specs.Prelude.{◌≡◌, ◌-◌, ◌==◌, ◌||◌, ◌≤◌, ◌<◌, ◌^◌, nat_lt, IfOk};
+ghost use Rattle.pm_rows.specs.Limits.{max_commits};
 ghost use Rattle.pm_record.specs.Reading.{Gives, byte_at};
 ghost use Rattle.pm_record.specs.Bodies.{body_ranges, commits_ranges};
 ghost use Rattle.pm_record.specs.File.{told, batch_step, batches_at, commit_step, is_within, room_for, rows_behind, top_for};
@@ -8,7 +9,7 @@ ghost use Rattle.pm_record.specs.File.{told, batch_step, batches_at, commit_step
 use crate::commit::{count_ranges, read_commit};
 use crate::fault::Unread;
 use crate::number::{Ranges, first_of, read_number};
-use pm_rows::{MAX_COMMITS, MAX_ROWS, MAX_ROWS_BYTES, Rows};
+use pm_rows::{MAX_COMMIT_BYTES, MAX_COMMITS, MAX_ROWS, MAX_ROWS_BYTES, Rows};
 use std::alloc::Global;
 
 /// What a file stands for so far: its rows, the number of commits since `initdb`, and that of its batches.
@@ -34,7 +35,7 @@ fn commit_into(
     mut rows: Rows,
     bytes: &[u8],
 ) -> Result<(u64, Rows, &[u8]), Unread>
-    requires { (c ≤ 256) × (left < 2 ^ 32) }
+    requires { (c ≤ max_commits) × (left < 2 ^ 32) }
     ensures read { Gives (λ x. ((x.0, x.1), x.2.now)) result
         (commit_step c (left, rows) bytes.now) }
     ensures less { IfOk result (λ x. x.0 ≤ left) }
@@ -57,7 +58,7 @@ fn commits_into(
     rows: Rows,
     bytes: &[u8],
 ) -> Result<(Rows, &[u8]), Unread>
-    requires { (count ≤ 256) × (start < 2 ^ 32) }
+    requires { (count ≤ max_commits) × (start < 2 ^ 32) }
     ensures { Gives (λ x. (x.0, x.1.now)) result (rows_behind count (start, rows) bytes.now) }
 {
     let mut rows = rows;
@@ -80,14 +81,14 @@ fn top_for(count: u64) -> u64
 }
 
 fn body_ranges(top: u64) -> Ranges
-    requires { top ≤ 256 }
+    requires { top ≤ max_commits }
     ensures { result ≡ body_ranges top }
 {
     Ranges {
         low: 15,
         high: 15,
         low2: 19,
-        high2: 4 + 8_205_002 * top,
+        high2: 4 + MAX_COMMIT_BYTES * top,
     }
 }
 
@@ -95,7 +96,7 @@ fn commits_ranges(top: u64, long: u64) -> Ranges
     requires { long < 2 ^ 32 }
     ensures { result ≡ commits_ranges top long }
 {
-    count_ranges(11, 8_205_002, 0, 0, top, long)
+    count_ranges(11, MAX_COMMIT_BYTES, 0, 0, top, long)
 }
 
 // A batch behind its gate.

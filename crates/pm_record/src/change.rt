@@ -1,6 +1,7 @@
 //! A change, where so many changes and commits stand behind it in a body.
 
 ghost use Rattle.std.specs.Prelude.{◌≡◌, ◌≤◌, length};
+ghost use Rattle.pm_rows.specs.Limits.{max_changes, max_commits};
 ghost use Rattle.pm_record.specs.Spelling.{change_bytes};
 ghost use Rattle.pm_record.specs.Reading.{Gives};
 ghost use Rattle.pm_record.specs.Changes.{change_at, fills, least, may_tag, most, value_ranges};
@@ -8,39 +9,39 @@ ghost use Rattle.pm_record.specs.Changes.{change_at, fills, least, may_tag, most
 use crate::fault::Unread;
 use crate::number::{Ranges, first_of};
 use crate::text::{read_key, read_string};
-use pm_rows::Change;
+use pm_rows::{Change, MAX_CHANGE_BYTES, MAX_COMMIT_BYTES, MAX_VALUE_BYTES};
 use std::alloc::Global;
 
 fn value_ranges(n: u64, c: u64, left: u64) -> Ranges
-    requires { (n ≤ 1000) × (c ≤ 256) }
+    requires { (n ≤ max_changes) × (c ≤ max_commits) }
     ensures { result ≡ value_ranges n c left }
 {
     let least = 9 * n + 11 * c;
-    let most = 8205 * n + 8_205_002 * c;
+    let most = MAX_CHANGE_BYTES * n + MAX_COMMIT_BYTES * c;
     let lacks = if left < 17 + least { 1 } else { 0 };
     Ranges {
         low: left.saturating_sub(13 + least),
-        high: left.saturating_sub(13 + least).min(8192),
+        high: left.saturating_sub(13 + least).min(MAX_VALUE_BYTES as u64),
         low2: left.saturating_sub(13 + most).max(lacks),
-        high2: left.saturating_sub(17 + least).min(8192),
+        high2: left.saturating_sub(17 + least).min(MAX_VALUE_BYTES as u64),
     }
 }
 
 fn fills(n: u64, c: u64, left: u64) -> bool
-    requires { (n ≤ 1000) × (c ≤ 256) }
+    requires { (n ≤ max_changes) × (c ≤ max_commits) }
     ensures { result ≡ fills n c left }
 {
     let least = 9 * n + 11 * c;
-    left == least || least + 4 <= left && left <= 8205 * n + 8_205_002 * c
+    left == least || least + 4 <= left && left <= MAX_CHANGE_BYTES * n + MAX_COMMIT_BYTES * c
 }
 
 fn may_tag(n: u64, c: u64, left: u64, tag: u8) -> bool
-    requires { (n ≤ 1000) × (c ≤ 256) }
+    requires { (n ≤ max_changes) × (c ≤ max_commits) }
     ensures { result ≡ may_tag n c left tag }
 {
     let least = 9 * n + 11 * c;
-    let most = 8205 * n + 8_205_002 * c;
-    tag == 1 && (13 + least <= left && left <= 8205 + most)
+    let most = MAX_CHANGE_BYTES * n + MAX_COMMIT_BYTES * c;
+    tag == 1 && (13 + least <= left && left <= MAX_CHANGE_BYTES + most)
         || tag == 2 && (9 <= left && fills(n, c, left - 9))
 }
 
@@ -63,7 +64,7 @@ pub fn read_change(
     left: u64,
     bytes: &[u8],
 ) -> Result<(Change, &[u8]), Unread>
-    requires { (n ≤ 1000) × (c ≤ 256) }
+    requires { (n ≤ max_changes) × (c ≤ max_commits) }
     ensures { Gives (λ x. (x.0, x.1.now)) result (change_at n c left bytes.now) }
 {
     let Some((tag, rest)) = first_of(bytes) else {

@@ -1,6 +1,7 @@
 //! The changes of a commit, where so many commits stand behind it in a body.
 
 ghost use Rattle.std.specs.Prelude.{◌≡◌, ◌≤◌, ◌<◌, ◌^◌, IfOk, fold};
+ghost use Rattle.pm_rows.specs.Limits.{max_changes, max_commits};
 ghost use Rattle.pm_record.specs.Reading.{Gives};
 ghost use Rattle.pm_record.specs.Changes.{change_at};
 ghost use Rattle.pm_record.specs.Repeated.{items_at};
@@ -9,7 +10,7 @@ ghost use Rattle.pm_record.specs.Bodies.{change_left, changes_ranges, commit_at,
 use crate::change::{read_change, size};
 use crate::fault::Unread;
 use crate::number::{Ranges, read_number};
-use pm_rows::{Change, Commit};
+use pm_rows::{Change, Commit, MAX_CHANGE_BYTES, MAX_CHANGES, MAX_COMMIT_BYTES};
 use std::alloc::Global;
 
 /// Numbers of items, at most `top`, that can take exactly `long` bytes with what stands behind them. Each takes from
@@ -28,10 +29,11 @@ pub fn count_ranges(low: u64, high: u64, least: u64, most: u64, top: u64, long: 
 }
 
 fn changes_ranges(c: u64, long: u64) -> Ranges
-    requires { (c ≤ 256) × (long < 2 ^ 32) }
+    requires { (c ≤ max_commits) × (long < 2 ^ 32) }
     ensures { result ≡ changes_ranges c long }
 {
-    count_ranges(9, 8205, 11 * c, 8_205_002 * c, 1000, long)
+    let most = MAX_COMMIT_BYTES * c;
+    count_ranges(9, MAX_CHANGE_BYTES, 11 * c, most, MAX_CHANGES as u64, long)
 }
 
 // How many bytes are left behind a change.
@@ -49,7 +51,7 @@ fn read_changes(
     start: u64,
     bytes: &[u8],
 ) -> Result<(Commit, u64, &[u8]), Unread>
-    requires { (count ≤ 1000) × (c ≤ 256) }
+    requires { (count ≤ max_changes) × (c ≤ max_commits) }
     ensures read { Gives (λ x. (x.0, x.2.now)) result
         (items_at (λ n. change_at n c) change_left count start bytes.now) }
     ensures left { IfOk result (λ x. x.1 ≡ fold change_left start x.0) }
@@ -74,7 +76,7 @@ pub fn read_commit(
     left: u64,
     bytes: &[u8],
 ) -> Result<(Commit, u64, &[u8]), Unread>
-    requires { (c ≤ 256) × (left < 2 ^ 32) }
+    requires { (c ≤ max_commits) × (left < 2 ^ 32) }
     ensures read { Gives (λ x. (x.0, x.2.now)) result (commit_at c left bytes.now) }
     ensures left { IfOk result (λ x. x.1 ≡ commit_left left x.0) }
 {

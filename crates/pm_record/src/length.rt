@@ -3,6 +3,7 @@
 ghost use Rattle.std.specs.Prelude.{◌≡◌, ◌+◌, ◌*◌, ◌≤◌, ◌<◌, ◌^◌, ℕ, List, length};
 ghost use Rattle.pm_rows.specs.declared.commit.Change.{Change};
 ghost use Rattle.pm_rows.specs.LogSize.{change_length, commit_length, body_length, need_of};
+ghost use Rattle.pm_rows.specs.Longest.{max_body_bytes, max_commit_bytes};
 ghost use Rattle.pm_record.specs.Spelling.{change_bytes, commit_bytes, body_bytes, batch_bytes};
 ghost use Rattle.pm_record.specs.StandsFor.{IsBatch, IsCommit};
 
@@ -12,7 +13,7 @@ use pm_rows::Commit;
 fn commit_length(commit: &Commit) -> u64
     requires { IsCommit commit.now }
     ensures length { result ≡ commit_length commit.now }
-    ensures small { result ≤ 8205002 }
+    ensures small { result ≤ max_commit_bytes }
 {
     let mut length: u64 = 2;
     for change in commit.changes() {
@@ -25,7 +26,7 @@ fn commit_length(commit: &Commit) -> u64
 pub fn body_length(batch: &[Commit]) -> u64
     requires { IsBatch batch.now }
     ensures length { result ≡ body_length batch.now }
-    ensures small { result ≤ 2100480516 }
+    ensures small { result ≤ max_body_bytes }
 {
     let mut length: u64 = 4;
     for commit in batch {

@@ -1,6 +1,7 @@
 pub mod Fold
 pub mod Limits
 pub mod LogSize
+pub mod Longest
 pub mod NetChanges
 pub mod Pending
 pub mod RowsIter

@@ -14,8 +14,8 @@ mod text;
 pub use apply::Prepared;
 pub use commit::{Change, Commit};
 pub use limits::{
-    MAX_CHANGES, MAX_COMMITS, MAX_FILE_BYTES, MAX_ROWS, MAX_ROWS_BYTES, MAX_VALUE_BYTES,
-    limits_are_the_numbers,
+    MAX_CHANGE_BYTES, MAX_CHANGES, MAX_COMMIT_BYTES, MAX_COMMITS, MAX_FILE_BYTES, MAX_ROWS,
+    MAX_ROWS_BYTES, MAX_VALUE_BYTES, limits_are_the_numbers,
 };
 pub use rows::Rows;
 pub use rows_iter::RowsIter;

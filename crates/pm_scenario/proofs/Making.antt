@@ -15,7 +15,7 @@ use Rattle.pm_state.specs.Machine.{MayAccept, accepts_in}
 use Rattle.pm_modes.specs.declared.Mode.{Mode}
 use Rattle.pm_modes.specs.declared.Mode.TheVariants as modes
 use Rattle.pm_state.specs.Shows.{Call, Accepts, Exits, Asks, Ticks, TakesTurn, machine_after}
-use Rattle.pm_state.specs.Journal.{Replay, acts_of_call, all_replayed, all_reported, dues, entries_of, entries_of_call, machine_with_reports, replay_begun}
+use Rattle.pm_state.specs.Journal.{Replay, acts_of_call, all_replayed, all_reported, dues, entries_of, entries_of_call, last_pid, machine_with_reports, replay_begun}
 use Rattle.pm_state.specs.Laws.{WritesALegalJournal}
 use Rattle.pm_state.specs.Starts.{has_end}
 use Rattle.pm_supervisor.specs.Between.{detached}
@@ -58,7 +58,7 @@ at-rest limits s v serving goes = record { none_due = serving.none_due; goes_on 
 pub later-is : (at : ℕ) (s : Standing) → s.moment ≤ at → later at s ≡ at
 later-is at s below = omega arith
 
-not-owed : (owed : Bool) (last : ℕ) → (owed ≡ true → 2147480000 ≤ last) → last + 5 ≤ 2000000000 → owed ≡ false
+not-owed : (owed : Bool) (last : ℕ) → (owed ≡ true → last_pid ≤ last) → last + 5 ≤ 2000000000 → owed ≡ false
 not-owed true last was few = absurd (omega (arith, was refl))
 not-owed false last was few = refl
 

@@ -5,6 +5,7 @@ pub mod Message
 pub mod Query
 pub mod Reading
 pub mod Faults
+pub mod Split
 pub mod Statements
 pub mod Token
 pub mod Tokens

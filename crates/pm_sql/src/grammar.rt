@@ -5,6 +5,7 @@ ghost use Rattle.pm_rows.specs.Limits.{max_value_bytes};
 ghost use Rattle.pm_sql.specs.Tokens.{digits_len, digits_value, behind_mark, behind_word, skipped, string_in};
 ghost use Rattle.pm_sql.specs.Limits.{is_writing, HasShortValue};
 ghost use Rattle.pm_sql.specs.Reading.{Gives};
+ghost use Rattle.pm_sql.specs.Split.{IsSplit};
 ghost use Rattle.pm_sql.specs.Grammar.{name_at, digits_at, behind_digits, sign_of, fits_bigint, signed, int_at, seconds_at, string_at, key_condition_at, columns_in, insert_at, update_at, delete_at, from_at, condition_in, order_in, rows_at, pairs_at, count_at, sleep_at, select_at};
 
 use crate::fault::{Kind, Stop};
@@ -35,32 +36,45 @@ fn name_at(input: &str) -> Result<&str, Stop>
     Ok(rest)
 }
 
+// A text that begins with digits: the whole, the digits, and what stands behind them.
+#[derive(Clone, Copy)]
+struct Digits<'a> {
+    here: &'a str,
+    digits: &'a str,
+    behind: &'a str,
+}
+
 // Digits, where they begin.
 #[tactic(auto, unfolding(crate::specs::Grammar::digits_at))]
-fn digits_at(input: &str) -> Result<&str, Stop>
-    ensures { Gives (λ here. here.now) result (digits_at input.now) }
+fn digits_at(input: &str) -> Result<Digits<'_>, Stop>
+    ensures read { Gives (λ found. found.here.now) result (digits_at input.now) }
+    ensures split { IfOk result IsSplit }
 {
     let here = skipped(input);
-    let (digits, _) = split_digits(here);
+    let (digits, behind) = split_digits(here);
     if digits.is_empty() {
         return Err(Stop::at(Kind::Syntax, here));
     }
-    Ok(here)
+    Ok(Digits {
+        here,
+        digits,
+        behind,
+    })
 }
 
 // What stands behind digits: their number has to be in range, and no word follows at once.
 #[tactic(auto, unfolding(crate::specs::Grammar::behind_digits))]
-fn behind_digits(here: &str, is_in_range: bool) -> Result<&str, Stop>
-    ensures { Gives (λ rest. rest.now) result (behind_digits is_in_range here.now) }
+fn behind_digits(found: Digits<'_>, is_in_range: bool) -> Result<&str, Stop>
+    requires { IsSplit found }
+    ensures { Gives (λ rest. rest.now) result (behind_digits is_in_range found.entry.here.now) }
 {
     if !is_in_range {
-        return Err(Stop::at(Kind::Range, here));
+        return Err(Stop::at(Kind::Range, found.here));
     }
-    let (_, rest) = split_digits(here);
-    if starts_with_letter(rest) {
-        return Err(Stop::at(Kind::Syntax, rest));
+    if starts_with_letter(found.behind) {
+        return Err(Stop::at(Kind::Syntax, found.behind));
     }
-    Ok(rest)
+    Ok(found.behind)
 }
 
 // A sign, where one stands: whether it is `-`, and what stands behind it.
@@ -93,11 +107,10 @@ fn int_at(input: &str) -> Result<(i64, &str), Stop>
     ensures { Gives (λ found. (found.0, found.1.now)) result (int_at input.now) }
 {
     let (is_negative, rest) = sign_of(skipped(input));
-    let here = digits_at(rest)?;
-    let (digits, _) = split_digits(here);
-    match signed(is_negative, magnitude(digits)) {
-        Some(value) => Ok((value, behind_digits(here, true)?)),
-        None => Err(Stop::at(Kind::Range, here)),
+    let found = digits_at(rest)?;
+    match signed(is_negative, magnitude(found.digits)) {
+        Some(value) => Ok((value, behind_digits(found, true)?)),
+        None => Err(Stop::at(Kind::Range, found.here)),
     }
 }
 
@@ -106,14 +119,13 @@ fn int_at(input: &str) -> Result<(i64, &str), Stop>
 fn seconds_at(input: &str) -> Result<(u32, &str), Stop>
     ensures { Gives (λ found. (found.0, found.1.now)) result (seconds_at input.now) }
 {
-    let here = digits_at(input)?;
-    let (digits, _) = split_digits(here);
-    match u32::try_from(magnitude(digits)) {
+    let found = digits_at(input)?;
+    match u32::try_from(magnitude(found.digits)) {
         Ok(seconds) => {
-            let rest = behind_digits(here, seconds <= MAX_SLEEP_SECONDS)?;
+            let rest = behind_digits(found, seconds <= MAX_SLEEP_SECONDS)?;
             Ok((seconds, rest))
         }
-        Err(_) => Err(Stop::at(Kind::Range, here)),
+        Err(_) => Err(Stop::at(Kind::Range, found.here)),
     }
 }
 

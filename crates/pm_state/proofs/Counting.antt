@@ -20,7 +20,7 @@ use Rattle.pm_state.specs.declared.machine.Exit.{Exit}
 use Rattle.pm_state.specs.Exits.{is_shutdown, is_running, crash_rule, startup_exited, checkpointer_exited, unless_normal, exited_by, less_one, without_startup, waiting_state, signalled_state, redo_ended}
 use Rattle.pm_state.specs.Facts.{NothingDue}
 use Rattle.pm_state.specs.Machine.{MayAccept, IsDue, accepted_as, begun, started_as}
-use Rattle.pm_state.specs.Requests.{asked_with, ticked_at}
+use Rattle.pm_state.specs.Requests.{asked_with, patience, ticked_at}
 use Rattle.pm_state.specs.Restarts.{Counts}
 use Rattle.pm_state.specs.Transition.{Transition, transition}
 use Rattle.pm_state.specs.TurnRules.{is_not_running, are_backends_gone, start_recovery, restart_writer, end_smart, stop_backends, backends_gone, dead_ends_gone, children_gone}
@@ -177,7 +177,7 @@ asked-tied m answer now cs none tied = grind arith
 told-tied : (since : Option ℕ) (m : Machine) (now : ℕ) (cs : List Child) → Tied m cs → Tied (ticked_at since m now).after cs
 told-tied None m now cs tied = tied
 told-tied (Some since) m now cs tied =
-    by-test (λ o. Tied o.after cs) (nat_le (since + 5000) now && (m.fatal || is_immediate m.shutdown)) _ _ (λ is. tied) (λ is. tied)
+    by-test (λ o. Tied o.after cs) (nat_le (since + patience) now && (m.fatal || is_immediate m.shutdown)) _ _ (λ is. tied) (λ is. tied)
 
 pub ticked-tied : (m : Machine) (now : ℕ) (cs : List Child) → Tied m cs → Tied (ticked_at m.abort_at m now).after cs
 ticked-tied m now cs tied = told-tied m.abort_at m now cs tied

@@ -20,7 +20,7 @@ use Rattle.pm_state.specs.declared.machine.Machine.{Machine}
 use Rattle.pm_state.specs.declared.machine.Exit.{Exit}
 use Rattle.pm_state.specs.Exits.{is_shutdown, exited_by, unless_normal, checkpointer_exited, less_one, crash_rule, startup_exited}
 use Rattle.pm_state.specs.Machine.{MachineEvent, Accepted, Started, Exited, Asked, Ticked, Turned, step}
-use Rattle.pm_state.specs.Requests.{asked_with, ticked_at}
+use Rattle.pm_state.specs.Requests.{asked_with, patience, ticked_at}
 use Rattle.pm_state.specs.Transition.{Transition}
 use Rattle.pm_state.specs.Facts.{Facts, aborts_with_cause}
 use Rattle.pm_state.specs.Promises.{has_act, is_quit, is_ready_act, is_release, is_startup_crash, starts_before_ready}
@@ -29,11 +29,11 @@ use Rattle.pm_state.proofs.TurnPromises.{turned-orders}
 
 -- whoever is left is killed after five seconds
 
-kills-after : (m : Machine) (since now : ℕ) → aborts_with_cause m ≡ true → m.abort_at ≡ Some since → since + 5000 ≤ now
+kills-after : (m : Machine) (since now : ℕ) → aborts_with_cause m ≡ true → m.abort_at ≡ Some since → since + patience ≤ now
     → (ticked_at m.abort_at m now).acts ≡ act.KillAll ∷ []
 kills-after m since now cause is late = grind arith
 
-pub kills : (limits : Limits) (m : Machine) (s : Supervisor) (since now : ℕ) → Facts limits m s → m.abort_at ≡ Some since → since + 5000 ≤ now
+pub kills : (limits : Limits) (m : Machine) (s : Supervisor) (since now : ℕ) → Facts limits m s → m.abort_at ≡ Some since → since + patience ≤ now
     → (step m (Ticked now)).acts ≡ act.KillAll ∷ []
 kills limits m s since now facts is late = kills-after m since now facts.aborts is late
 
@@ -170,7 +170,7 @@ exit-keeps m pid kind.DeadEnd status a since now other is =
 pub request-keeps : (m : Machine) (asked : Mode) (now : ℕ) → is_some m.abort_at ≡ true → is_some (step m (Asked asked now)).after.abort_at ≡ true
 request-keeps m asked now some = grind arith
 
-pub waits : (m : Machine) (since now : ℕ) → m.abort_at ≡ Some since → now + 1 ≤ since + 5000 → (step m (Ticked now)).acts ≡ []
+pub waits : (m : Machine) (since now : ℕ) → m.abort_at ≡ Some since → now + 1 ≤ since + patience → (step m (Ticked now)).acts ≡ []
 waits m since now is early = grind arith
 
 -- Ready comes before the starts that come with it

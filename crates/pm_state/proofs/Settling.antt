@@ -20,7 +20,7 @@ use Rattle.pm_state.specs.Exits.{is_shutdown, exited_by, unless_normal, less_one
 use Rattle.pm_state.specs.Machine.{IsCounted}
 use Rattle.pm_state.specs.Transition.{transition}
 use Rattle.pm_state.specs.declared.action.Action.TheVariants as act
-use Rattle.pm_state.specs.Requests.{asked_with, asked_in, ticked_at}
+use Rattle.pm_state.specs.Requests.{asked_with, asked_in, patience, ticked_at}
 use Rattle.pm_state.specs.TurnRules.{backends_gone, dead_ends_gone}
 use Rattle.pm_state.specs.Journal.{settled}
 
@@ -274,11 +274,11 @@ settled-told m =
     told-settled (settled m) None ∙ (ap {A = Machine} (λ n. record n { abort_at = None }) (settled-settled m) ∙ sym (told-settled m None))
 
 abbrev is_late : ℕ → ℕ → Machine → Bool
-is_late since now m = nat_le (since + 5000) now && (m.fatal || is_immediate m.shutdown)
+is_late since now m = nat_le (since + patience) now && (m.fatal || is_immediate m.shutdown)
 
 same_late : (m : Machine) (since now : ℕ) → is_late since now (settled m) ≡ is_late since now m
-same_late m since now = ap (λ b. nat_le (since + 5000) now && (b || is_immediate (settled m).shutdown)) (settled-fatal m)
-    ∙ ap (λ o. nat_le (since + 5000) now && (m.fatal || is_immediate o)) (settled-shutdown m)
+same_late m since now = ap (λ b. nat_le (since + patience) now && (b || is_immediate (settled m).shutdown)) (settled-fatal m)
+    ∙ ap (λ o. nat_le (since + patience) now && (m.fatal || is_immediate o)) (settled-shutdown m)
 
 told-if : (b : Bool) (m : Machine)
     → settled (if b then transition (act.KillAll ∷ []) (record (settled m) { abort_at = None }) else transition [] (settled m)).after

@@ -21,6 +21,7 @@ use Rattle.pm_state.specs.declared.event.PmEvent.{PmEvent}
 use Rattle.pm_state.specs.declared.event.PmEvent.TheVariants as entry
 use Rattle.pm_state.specs.declared.machine.Machine.{Machine}
 use Rattle.pm_state.specs.Exits.{is_shutdown}
+use Rattle.pm_state.specs.Requests.{patience}
 use Rattle.pm_state.specs.Starts.{Owes, has_end, is_report}
 use Rattle.pm_state.specs.Shows.{Call, TakesTurn, Shows, AreFit, IsFit, events_in, events_of_call, machine_after, machine_at_end}
 use Rattle.pm_state.specs.Facts.{Facts, Holds, NothingDue}
@@ -167,10 +168,10 @@ pub record KeepsItsPromises : Type 0 where
   -- whoever is left five seconds after it is killed
   pub kills :
       (limits : Limits) (m : Machine) (s : Supervisor) (since now : ℕ) → Facts limits m s → m.abort_at ≡ Some since
-      → since + 5000 ≤ now → (step m (Ticked now)).acts ≡ KillAll ∷ []
+      → since + patience ≤ now → (step m (Ticked now)).acts ≡ KillAll ∷ []
   -- and nobody before
   pub waits :
-      (m : Machine) (since now : ℕ) → m.abort_at ≡ Some since → now + 1 ≤ since + 5000 → (step m (Ticked now)).acts ≡ []
+      (m : Machine) (since now : ℕ) → m.abort_at ≡ Some since → now + 1 ≤ since + patience → (step m (Ticked now)).acts ≡ []
   -- sessions are admitted behind a redo only after Ready
   pub ready :
       (m : Machine) (pid : ℕ) (status : Status) (was_active : Bool) (now : ℕ) → is_run m.state ≡ false

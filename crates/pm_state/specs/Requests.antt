@@ -31,10 +31,14 @@ abbrev pub asked_with : Option Mode → Machine → ℕ → Transition
 asked_with None m now = transition [] m
 asked_with (Some mode) m now = asked_in mode m.state (record m { shutdown = Some mode }) now
 
--- five seconds after every child was told to end at once, what is left is killed
+-- how long children that were told to end at once may take, in milliseconds
+abbrev pub patience : ℕ
+patience = 5000
+
+-- where that is over, what is left is killed
 abbrev pub ticked_at : Option ℕ → Machine → ℕ → Transition
 ticked_at None m now = transition [] m
 ticked_at (Some since) m now =
-    if nat_le (since + 5000) now && (m.fatal || is_immediate m.shutdown)
+    if nat_le (since + patience) now && (m.fatal || is_immediate m.shutdown)
     then transition (act.KillAll ∷ []) (record m { abort_at = None })
     else transition [] m
