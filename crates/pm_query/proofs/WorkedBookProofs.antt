@@ -5,6 +5,7 @@ use Rattle.std.specs.Ordering.{int_cmp}
 use Rattle.std.specs.FinMap.{empty, get, insert, get-empty, len-empty}
 use Rattle.std.proofs.lemmas.List.Elements.{All-nil, All-cons}
 use Rattle.std.proofs.lemmas.Bool.Decides.{nat_tests}
+use Rattle.pm_rows.specs.Limits.{max_rows, max_value_bytes}
 use Rattle.pm_rows.specs.Size.{row_size, size_of}
 use Rattle.pm_query.specs.declared.effect.Effect.{Effect}
 use Rattle.std.specs.Option.{option_to_list}
@@ -21,10 +22,10 @@ use Rattle.pm_query.proofs.Sizes.{size-insert, size_of-empty}
 use Rattle.pm_query.proofs.Books.{AnswersWithin, answer_within}
 
 -- the first row is inserted
-first_row : (key : ℤ) (value : List ℕ) → length value ≤ 8192 → insertion empty key value ≡ makes items.Insert (Put key value)
+first_row : (key : ℤ) (value : List ℕ) → length value ≤ max_value_bytes → insertion empty key value ≡ makes items.Insert (Put key value)
 first_row key value short =
     let there : is_some (get empty key) ≡ false = ap (is_some {T = List ℕ}) (get-empty int_cmp key) in
-    let room : is_full empty ≡ false = ap (nat_le 100000) (len-empty int_cmp (List ℕ)) in
+    let room : is_full empty ≡ false = ap (nat_le max_rows) (len-empty int_cmp (List ℕ)) in
     let size : size_of (insert empty key value) ≡ row_size value = omega (arith, size-insert empty key value, ap size_at (get-empty int_cmp key), size_of-empty) in
     let small : is_too_large (insert empty key value) ≡ false = grind (arith, nat_tests, size, short) in
     rw (there, room, small) refl

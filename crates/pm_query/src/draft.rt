@@ -1,5 +1,5 @@
 //! The rows as a script's statements so far leave them.
-ghost use Rattle.std.specs.Prelude.{◌≡◌, ◌+◌, ◌≤◌, ◌++◌, ◌↔◌, IsTrue, IfOk, OnOk};
+ghost use Rattle.std.specs.Prelude.{◌≡◌, ◌+◌, ◌≤◌, ◌++◌, ◌↔◌, [], IsTrue, IfOk, OnOk};
 ghost use Rattle.std.specs.FinMap as map;
 ghost use Rattle.std.specs.Option.{option_copied};
 ghost use Rattle.pm_rows.specs.Fold.{changed};
@@ -11,7 +11,7 @@ ghost use Rattle.std.specs.FinMap.Entries.{is_sorted};
 ghost use Rattle.pm_query.specs.Merge.{laid};
 ghost use Rattle.pm_query.specs.Answer.{row_at};
 
-use crate::pairs::Pairs;
+use crate::pairs::{Listing, Pairs};
 use pm_rows::{Change, MAX_ROWS_BYTES, Rows, RowsIter, Text};
 use std::alloc::{AllocError, Global};
 use std::cmp::Ordering;
@@ -19,13 +19,14 @@ use std::collections::{BTreeMap, btree_map};
 use std::marker::Model;
 
 /// The table, and over it what was changed so far: a value for each key that was put, and none for each that was deleted.
-/// Contracts see it as the rows that both make.
+/// Contracts see it as the rows that both make. The list of all rows is kept, where it was made since the last change.
 #[derive(Drop)]
 pub(crate) struct Draft<'a> {
     table: &'a Rows,
     changes: BTreeMap<i64, Option<Text>>,
     count: usize,
     size: u128,
+    listed: Option<Pairs>,
 }
 
 impl<'a> Model for Draft<'a> {
@@ -42,7 +43,7 @@ impl<'a> Model for Draft<'a> {
 
     ghost view = { λ draft. laid_over draft.table.now draft.changes.entries };
 
-    ghost invariant = { λ draft. IsDraft draft.table.now draft.changes draft.count draft.size };
+    ghost invariant = { λ draft. IsDraft draft.table.now draft.changes draft.count draft.size draft.listed };
 }
 
 impl<'a> Draft<'a> {
@@ -59,6 +60,7 @@ impl<'a> Draft<'a> {
             changes: BTreeMap::new(alloc),
             count: table.len(),
             size: u128::from(size),
+            listed: None,
         })
     }
 
@@ -110,6 +112,7 @@ impl<'a> Draft<'a> {
         self.changes.insert(key, value)?;
         self.count = count;
         self.size = size;
+        self.listed = None;
         Ok(())
     }
 
@@ -122,11 +125,25 @@ impl<'a> Draft<'a> {
         (self.count - rows, self.size - bytes)
     }
 
-    /// All rows, by rising key.
-    pub(crate) fn pairs(&self, alloc: Global) -> Result<Pairs, AllocError>
+    /// All rows, by rising key. They are listed once for as long as nothing is changed, and all answers share that list.
+    pub(crate) fn pairs(&mut self, alloc: Global) -> Result<Pairs, AllocError>
+        ensures pairs { IfOk result (λ pairs. pairs ≡ map.entries self.old) }
+        ensures unchanged { self.new ≡ self.old }
+    {
+        if let Some(pairs) = &self.listed {
+            return pairs.copy();
+        }
+        let pairs = self.list(alloc)?;
+        self.listed = Some(pairs.copy()?);
+        Ok(pairs)
+    }
+
+    // Lists all rows, by rising key.
+    fn list(&self, alloc: Global) -> Result<Pairs, AllocError>
         ensures { IfOk result (λ pairs. pairs ≡ map.entries self.now) }
     {
-        merged(alloc, self.table.iter(), self.changes.iter())
+        let listing = Listing::with_room(alloc, self.count)?;
+        merged(listing, self.table.iter(), self.changes.iter())
     }
 }
 
@@ -141,42 +158,42 @@ fn row_of(value: Option<&Text>) -> (usize, u128)
     }
 }
 
-// The rows and the changes over them, both by rising key, as one list.
+// The rows and the changes over them, both by rising key, as one list behind none.
 fn merged<'a>(
-    alloc: Global,
+    mut listing: Listing,
     mut rows: RowsIter<'a>,
     mut changes: btree_map::Iter<'a, i64, Option<Text>>,
 ) -> Result<Pairs, AllocError>
     requires rows { IsTrue (is_sorted int_cmp rows) }
     requires changes { IsTrue (is_sorted int_cmp changes) }
+    requires empty { listing ≡ [] }
     ensures { IfOk result (λ pairs. pairs ≡ laid rows.entry changes.entry) }
 {
-    let mut pairs = Pairs::new(alloc);
     let mut row = rows.next();
     let mut change = changes.next();
     loop {
         match (row, change) {
-            (None, None) => return Ok(pairs),
+            (None, None) => return listing.shared(),
             (Some(next), None) => {
-                pairs.push(next)?;
+                listing.push(next)?;
                 row = rows.next();
             }
             (None, Some(next)) => {
-                push_change(&mut pairs, next)?;
+                push_change(&mut listing, next)?;
                 change = changes.next();
             }
             (Some(next), Some(next_change)) => match next.0.cmp(next_change.0) {
                 Ordering::Less => {
-                    pairs.push(next)?;
+                    listing.push(next)?;
                     row = rows.next();
                 }
                 Ordering::Equal => {
-                    push_change(&mut pairs, next_change)?;
+                    push_change(&mut listing, next_change)?;
                     row = rows.next();
                     change = changes.next();
                 }
                 Ordering::Greater => {
-                    push_change(&mut pairs, next_change)?;
+                    push_change(&mut listing, next_change)?;
                     change = changes.next();
                 }
             },
@@ -185,12 +202,13 @@ fn merged<'a>(
 }
 
 // Adds the row of a changed key that has a value.
-fn push_change(pairs: &mut Pairs, change: (&i64, &Option<Text>)) -> Result<(), AllocError>
-    ensures { OnOk result (pairs.new ≡ pairs.old ++ row_at change.entry.0.now change.entry.1.now) }
+fn push_change(listing: &mut Listing, change: (&i64, &Option<Text>)) -> Result<(), AllocError>
+    ensures { OnOk result (listing.new ≡ listing.old ++ row_at change.entry.0.now
+        change.entry.1.now) }
 {
     let (key, value) = change;
     match value {
-        Some(value) => pairs.push((*key, value)),
+        Some(value) => listing.push((*key, value)),
         None => Ok(()),
     }
 }

@@ -5,7 +5,7 @@ ghost use Rattle.pm_query.specs.Answer.{answers, makes, insertion, replacement, 
 
 use crate::draft::Draft;
 use crate::item::Item;
-use crate::pairs::Pairs;
+use crate::pairs::{Listing, Pairs};
 use pm_rows::{Change, MAX_ROWS, Text};
 use pm_sql::Stmt;
 use std::alloc::{AllocError, Global};
@@ -35,8 +35,13 @@ impl Effect {
 }
 
 /// What a statement does on the rows of a draft.
-pub(crate) fn effect_of(alloc: Global, draft: &Draft<'_>, stmt: &Stmt) -> Result<Effect, AllocError>
-    ensures { IfOk result (λ effect. effect ≡ effect_of draft.now stmt.now) }
+pub(crate) fn effect_of(
+    alloc: Global,
+    draft: &mut Draft<'_>,
+    stmt: &Stmt,
+) -> Result<Effect, AllocError>
+    ensures effect { IfOk result (λ effect. effect ≡ effect_of draft.old stmt.now) }
+    ensures unchanged { draft.new ≡ draft.old }
 {
     match stmt {
         Stmt::Insert { key, value } => insertion(draft, *key, value),
@@ -97,9 +102,9 @@ fn deletion(draft: &Draft<'_>, key: i64) -> Effect
 fn row_at(alloc: Global, draft: &Draft<'_>, key: i64) -> Result<Pairs, AllocError>
     ensures { IfOk result (λ pairs. pairs ≡ row_at key (map.get draft.now key)) }
 {
-    let mut pairs = Pairs::new(alloc);
+    let mut listing = Listing::with_room(alloc, 1)?;
     if let Some(value) = draft.get(key) {
-        pairs.push((key, value))?;
+        listing.push((key, value))?;
     }
-    Ok(pairs)
+    listing.shared()
 }

@@ -95,7 +95,7 @@ impl<'a> Run<'a> {
         if self.failed {
             return Ok(());
         }
-        let Effect { item, change } = effect_of(self.alloc, &self.draft, stmt)?;
+        let Effect { item, change } = effect_of(self.alloc, &mut self.draft, stmt)?;
         if let Some(change) = change {
             self.draft.make(&change)?;
             self.commit.push(change)?;

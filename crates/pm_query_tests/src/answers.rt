@@ -22,6 +22,8 @@ then UPDATE kv SET v = 'none' WHERE k = 6; SELECT k, v FROM kv WHERE k = 6; SELE
 then DELETE FROM kv WHERE k = 5; INSERT INTO kv VALUES (5, 'five'); UPDATE kv SET v = 'fünf' WHERE k = 5; SELECT * FROM kv WHERE k = 5 => delete 1; insert; update 1; rows 5=fünf; | -5 5=five 5=fünf
 then INSERT INTO kv VALUES (-1, 'x'); INSERT INTO kv VALUES (6, 'y'); DELETE FROM kv WHERE k = 9223372036854775807; DELETE FROM kv WHERE k = 0; SELECT * FROM kv; SELECT count(*) FROM kv => insert; insert; delete 1; delete 0; rows -9223372036854775808=least -1=x 5=fünf 6=y; count 4; | -1=x 6=y -9223372036854775807
 then SELECT pg_sleep(60); DELETE FROM kv WHERE k = 6; DELETE FROM kv WHERE k = 6; SELECT * FROM kv WHERE k = 6 => slept; delete 1; delete 0; rows; | -6
+# two statements share a list, and one behind a change has its own
+on SELECT * FROM kv; INSERT INTO kv VALUES (0, 'z'); SELECT * FROM kv; SELECT * FROM kv => rows -9223372036854775808=least -1=x 5=fünf; insert; rows -9223372036854775808=least -1=x 0=z 5=fünf; rows -9223372036854775808=least -1=x 0=z 5=fünf; | 0=z
 # a reply of many rows
 rows 1000 3 => size 15000
 on SELECT * FROM kv; DELETE FROM kv WHERE k = 500; SELECT * FROM kv; DELETE FROM kv WHERE k = 500; SELECT * FROM kv => rows 0..999=xxx; delete 1; rows 0..499=xxx 501..999=xxx; delete 0; rows 0..499=xxx 501..999=xxx; | -500";

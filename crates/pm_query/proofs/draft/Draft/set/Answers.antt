@@ -21,6 +21,7 @@ invariant_of-self-2 c =
       ordered = c.insert.ensures.ordered;
       counted = omega (arith, count, c.others-rows.ensures.rows, ap (λ k. rows_at (map.get c.args.self.now k)) same, c.row_of-rows_added.ensures.rows ∙ ap rows_at c.as_ref.ensures.value, ap len now, len-left_at c.args.self.now c.args.key c.args.value);
       sized = omega (arith, size, c.others-rows.ensures.bytes, ap (λ k. size_at (map.get c.args.self.now k)) same, c.row_of-rows_added.ensures.bytes ∙ ap size_at c.as_ref.ensures.value, ap size_of now, size-left_at c.args.self.now c.args.key c.args.value);
+      listed_is = tt;
     }
 
 pub returns : goal.returns

@@ -3,7 +3,7 @@ use Rattle.std.specs.Str.{IsUtf8}
 use Rattle.std.proofs.lemmas.Int.{to_z-of_z}
 use Rattle.std.proofs.lemmas.List.Elements.{All-push}
 use Rattle.pm_rows.specs.Typed.{IsTypedRow}
-use Rattle.pm_query.proofs.pairs.Pairs.push.Goals as goal
+use Rattle.pm_query.proofs.pairs.Listing.push.Goals as goal
 
 pub invariant_of-self : goal.invariant_of-self
 invariant_of-self c = subst (All IsTypedRow) (sym c.in_err-push.ensures.items) c.self.invariant

@@ -4,12 +4,13 @@ use Rattle.std.specs.FinMap as map
 use Rattle.std.specs.FinMap.{is_sorted, entries_sorted}
 use Rattle.pm_query.specs.Merge.{laid}
 use Rattle.pm_query.proofs.Shown.{true_of, rises, entries-laid_over}
-use Rattle.pm_query.proofs.draft.Draft.pairs.Goals as goal
+use Rattle.pm_query.proofs.draft.Draft.list.Goals as goal
 
 pub merged-requires : goal.merged-requires
 merged-requires c = record {
   rows = ap (is_sorted int_cmp) c.iter.ensures.rest ∙ true_of _ (entries_sorted c.self.inside.table.now);
   changes = ap (is_sorted int_cmp) c.iter-2.ensures.rest ∙ rises c.self.inside.changes.entries c.self.invariant.ordered;
+  empty = c.in_ok-listing.ensures;
 }
 
 pub returns : goal.returns
