@@ -17,6 +17,8 @@ use Rattle.pm_segment.specs.declared.live.Live.{Live}
 use Rattle.pm_segment.specs.Moment.{Moment}
 use Rattle.pm_segment.specs.Children.{IsAttendedBy, times_in}
 use Rattle.pm_segment.specs.Stands.{HasGone, HasNoTick, HasRenewed, HasWaited, IsFaultBy, Origin, TellsBreak, bytes_of_rows, most_bytes}
+use Rattle.pm_segment.specs.Unread.{has_break, has_redo, is_redo}
+use Rattle.pm_segment.specs.UnreadLaws.{break_before, redo_neither}
 use Rattle.pm_segment.proofs.Runs.{history_push}
 
 -- ---- legal books
@@ -189,24 +191,43 @@ gone_push base at live book entry history read legal generation tallies broken k
       counted = record { later = later; each = subst (All (IsFaultBy at.faults)) (sym (faults_push book entry)) tallies.each };
     }
 
+-- what keeps no number is no redo
+keeps_none : (entry : BookEntry) → kept_after None entry ≡ None → is_redo entry ≡ false
+keeps_none (Opened generation) none = refl
+keeps_none (Attached pid generation) none = refl
+keeps_none (Redone pid generation kept) none = absurd (cc)
+keeps_none (Answered pid script reply commit front tick) none = refl
+keeps_none (Released pid front tick) none = refl
+keeps_none (Detached pid) none = refl
+keeps_none (Gone pid) none = refl
+keeps_none (CheckpointEnded pid done clean) none = refl
+keeps_none (Broke pid since count) none = refl
+keeps_none (LogFull pid script need room) none = refl
+
+-- a fault stays noted
+pub breaks_push : (book more : List BookEntry) (Else : Type 0) → (has_break book ≡ true) ⊎ Else → (has_break (book ++ more) ≡ true) ⊎ Else
+breaks_push book more Else (inl breaks) = inl (break_before book more breaks)
+breaks_push book more Else (inr other) = inr other
+
 -- before the first redo
 pub waited_push : (origin : Origin) (at : Moment) (book : List BookEntry) (entry : BookEntry) → at.live ≡ None → 1 ≤ at.generation → IsAttendedBy at.inside (book ++ entry ∷ [])
     → ((base : Base) → base.faults ≡ origin.faults → IsLegal base book)
-    → ((base : Base) → history_of base book ≡ beginning (standing_of base)) → kept_by_redo book ≡ None → faults_here book ≡ None → All HasNoTick book
+    → ((base : Base) → history_of base book ≡ beginning (standing_of base)) → has_redo book ≡ false → kept_by_redo book ≡ None → faults_here book ≡ None → All HasNoTick book
     → IsNotGone entry → ((base : Base) → base.faults ≡ origin.faults → MayFollow base book entry)
     → ((base : Base) → history_after None (beginning (standing_of base)) entry ≡ beginning (standing_of base))
     → generation_after (generation_of book) entry ≡ at.generation → kept_after None entry ≡ None → fault_here None entry ≡ None
     → list_any ends_checkpoint (present_after (present book) entry) ≡ at.skipped → list_any ends_cleanly (present_after (present book) entry) ≡ false
     → HasNoTick entry → tick_after (last_tick book) entry ≡ 0 → need_after (needs_of book) entry ≡ 0 → origin.faults ≤ at.faults → All (IsFaultBy at.faults) (faults_after (faults_of book) entry)
-    → origin.tick ≤ at.ticks → Rose origin.faults at.faults ⊎ (at.files ≡ origin.files)
+    → origin.tick ≤ at.ticks → (has_break (book ++ entry ∷ []) ≡ true) ⊎ (at.files ≡ origin.files)
     → HasWaited origin at (book ++ entry ∷ [])
-waited_push origin at book entry unread begun attended legal fresh unredone here no_ticks not may history generation kept none checkpoint clean no_tick no_time no_need later each reached reads = record {
+waited_push origin at book entry unread begun attended legal fresh no_redo unredone here no_ticks not may history generation kept none checkpoint clean no_tick no_time no_need later each reached reads = record {
   unread = unread;
   legal = λ base same. legal_push base book entry not (legal base same) (may base same);
   fresh = λ base. history_push base book entry ∙ ap (λ (r : Option ℕ). history_after r (history_of base book) entry) unredone ∙ ap (λ (h : History). history_after None h entry) (fresh base) ∙ history base;
   begun = begun;
   generation = generation_push book entry ∙ generation;
   attended = attended;
+  no_redo = redo_neither book (entry ∷ []) no_redo (ap (λ (b : Bool). b || false) (keeps_none entry kept));
   unredone = redone_push book entry ∙ ap (λ (r : Option ℕ). kept_after r entry) unredone ∙ kept;
   none_here = here_push book entry ∙ ap (λ (f : Option (List (ℕ × ℕ))). fault_here f entry) here ∙ none;
   skipped = checkpoint_push book entry ∙ checkpoint;

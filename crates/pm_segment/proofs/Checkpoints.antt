@@ -25,13 +25,13 @@ use Rattle.pm_query.specs.Calls.{due_bytes}
 use Rattle.pm_query.specs.Durable.{HoldsFrom, IsWithin, Keeps}
 use Rattle.pm_segment.specs.declared.live.Live.{Live}
 use Rattle.pm_segment.specs.Moment.{Moment}
-use Rattle.pm_segment.specs.MovesLaws.{ahead_still, time_still}
+use Rattle.pm_segment.specs.MovesLaws.{ahead_still, time_still, unread_never, unread_still}
 use Rattle.pm_segment.specs.Redos.{StandsAfresh}
 use Rattle.pm_segment.specs.Rests.{HasRows, Rests}
 use Rattle.pm_segment.specs.Moves.{IsShownAt, Moves, NotesEntries}
 use Rattle.pm_segment.specs.Children.{IsAttendedBy}
 use Rattle.pm_segment.specs.Stands.{HasGone, HasHeld, MeansWithin, Origin, TellsBreak, bytes_of_rows, most_bytes}
-use Rattle.pm_segment.proofs.Books.{any_push, any_still, attended_still, or_false, each_later, each_push, gone_push, renewed_push, tells_new, waited_push}
+use Rattle.pm_segment.proofs.Books.{any_push, any_still, attended_still, breaks_push, or_false, each_later, each_push, gone_push, renewed_push, tells_new, waited_push}
 use Rattle.pm_segment.proofs.Lengths.{base_size}
 use Rattle.pm_segment.proofs.Resting.{content_is}
 use Rattle.pm_segment.proofs.Runs.{goes_by, notes_another, same_standing, standing}
@@ -118,7 +118,7 @@ checkpoints laws before now live new pid clean moves whole end closed next insid
     counted = counted_now from before.faults now.faults 0 before.live now.live new moves.later moves.read_now (subst (IsShownAt from now.faults) (sym whole) tt) counted;
     each = no_fault_shown from now.faults entry tt;
   };
-  unread = λ none. absurd (not_both now.live new none moves.read_now);
+  unread = unread_never (entry ∷ []) before now live new moves.read moves.read_now;
   flushed = flushed_more before.live now.live live new moves.read moves.read_now (omega (arith, moves.count));
   began = began_on before.live now.live live new moves.read moves.read_now moves.first;
   ahead = ahead_more before.live now.live live new 1 moves.read moves.read_now moves.first (λ unbroken. (moves.unbroken, next));
@@ -167,7 +167,7 @@ checkpoint_fails laws before now live new pid since moves broke closed fault ros
         counted = counted_now from before.faults now.faults 0 before.live now.live new moves.later moves.read_now (subst (IsShownAt from now.faults) (sym broke) risen) counted;
         each = no_fault_shown from now.faults entry risen;
       };
-  unread = λ none. absurd (not_both now.live new none moves.read_now);
+  unread = unread_never (entry ∷ []) before now live new moves.read moves.read_now;
   flushed = flushed_more before.live now.live live new moves.read moves.read_now (omega (arith, moves.count));
   began = began_on before.live now.live live new moves.read moves.read_now moves.first;
   ahead = ahead_more before.live now.live live new 0 moves.read moves.read_now moves.first (λ unbroken. absurd (some_none since (sym broke ∙ unbroken)));
@@ -249,16 +249,17 @@ skips past present_whole at book_now pid clean unread inside notes =
       time = time_still at.ticks at.images;
       later = omega arith;
       counts = λ from counted. record { counted = counted; each = no_fault_shown from at.faults entry tt };
-      unread = λ none. (none, inr refl);
+      unread = unread_still (entry ∷ []) at (with_skip book_now at) refl refl refl;
       flushed = λ front is. is;
       began = λ first is. is;
       ahead = λ many is. ahead_still (entry ∷ []) many at.live refl is;
       waits = λ origin told. inl (waited_on (entry ∷ []) at (with_skip book_now at) origin notes (λ none. none) (λ book is waited.
-          waited_push origin (with_skip book_now at) book entry waited.unread waited.begun (attended_still at.inside book entry (λ who n. refl) waited.attended) waited.legal waited.fresh waited.unredone waited.none_here waited.no_ticks tt
+          waited_push origin (with_skip book_now at) book entry waited.unread waited.begun (attended_still at.inside book entry (λ who n. refl) waited.attended) waited.legal waited.fresh waited.no_redo waited.unredone waited.none_here waited.no_ticks tt
           (λ base same. record { attached = attends_in pid at.book book is inside; made = sym (ap is_some waited.unredone) })
           (λ base. refl) waited.generation refl refl
           (any_push ends_checkpoint (present book) entry at.skipped true waited.skipped refl ∙ or_true at.skipped) (any_still ends_cleanly (present book) entry false waited.unclosed refl)
-          (λ start mark. tt) waited.no_time waited.no_needs waited.counted.later waited.counted.each waited.reached waited.reads) (λ book seen tells waited opening. opening) told);
+          (λ start mark. tt) waited.no_time waited.no_needs waited.counted.later waited.counted.each waited.reached
+          (breaks_push book (entry ∷ []) (at.files ≡ origin.files) waited.reads)) (λ book seen tells waited opening. opening) told);
       goes_on = λ origin base told. gone_unread (entry ∷ []) at (with_skip book_now at) origin base unread refl notes (λ none. none)
           (λ book is sure renewed held. inr (renewed_push base at (with_skip book_now at) book entry renewed.unread refl (attended_still at.inside book entry (λ who n. refl) renewed.attended) tt
           (record { attached = attends_in pid at.book book is inside; made = sym (ap is_some renewed.unredone) }) (λ n. refl) refl refl

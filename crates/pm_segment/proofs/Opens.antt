@@ -22,6 +22,7 @@ begins at unread unskipped first empty = record {
   begun = omega (arith, first);
   generation = sym first;
   attended = λ pid. ap (times_in pid) (sym empty);
+  no_redo = refl;
   unredone = refl;
   none_here = refl;
   skipped = sym unskipped;

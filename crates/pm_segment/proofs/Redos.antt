@@ -1,6 +1,6 @@
 -- What a redo keeps.
-use Rattle.std.proofs.Common.{◌≡◌, ◌≢◌, false, ◌⊎◌, inl, inr, ℕ, ℤ, length, get_or, ◌+◌, ◌-◌, ◌^◌, ◌<◌, ◌≤◌, List, [], ◌∷◌, ◌++◌, All, Option, None, Some, refl, sym, ◌∙◌, ap, subst, arith, append-nil, true≢false}
-use Rattle.std.specs.Prelude.{IfSome}
+use Rattle.std.proofs.Common.{◌≡◌, ◌≢◌, true, false, ◌||◌, ◌⊎◌, inl, inr, ℕ, ℤ, length, get_or, ◌+◌, ◌-◌, ◌^◌, ◌<◌, ◌≤◌, List, [], ◌∷◌, ◌++◌, All, Option, None, Some, refl, sym, ◌∙◌, ap, subst, arith, append-nil, true≢false}
+use Rattle.std.specs.Prelude.{IfSome, is_some}
 use Rattle.std.specs.Option.{option_map}
 use Rattle.std.specs.Cmp.{int_cmp_total}
 use Rattle.std.specs.FinMap.{get, same_map, int_cmp-IsAntisymmetric}
@@ -33,7 +33,9 @@ use Rattle.pm_query.specs.Durable.{HoldsFrom, IsWithin}
 use Rattle.pm_segment.specs.declared.live.Live.{Live}
 use Rattle.pm_segment.specs.Moment.{Moment}
 use Rattle.pm_segment.specs.Moves.{BreakIsShown, IsCountedFrom, IsShown, IsShownAt, Moves, NotesEntries}
-use Rattle.pm_segment.specs.MovesLaws.{rose_later}
+use Rattle.pm_segment.specs.MovesLaws.{unread_still}
+use Rattle.pm_segment.specs.Unread.{has_break, has_redo}
+use Rattle.pm_segment.specs.UnreadLaws.{break_behind, breaks_early}
 use Rattle.pm_segment.specs.Rests.{HasRows, Rests}
 use Rattle.pm_query.specs.Calls.{RedoNotes, User}
 use Rattle.pm_record.specs.declared.fault.RedoFault.{RedoFault}
@@ -42,7 +44,7 @@ use Rattle.pm_query.specs.declared.store.StoreNo.TheVariants.{Redo}
 use Rattle.std.specs.Prelude.{Err}
 use Rattle.pm_segment.specs.Children.{IsAttendedBy}
 use Rattle.pm_segment.specs.Stands.{Begins, HasBegun, HasGone, HasHeld, HasRenewed, HasWaited, IsBaseOf, IsOpening, IsSure, MeansWithin, Origin, WaitsFrom, bytes_of_rows, most_bytes}
-use Rattle.pm_segment.proofs.Books.{any_still, attended_still, each_later, each_push, gone_push, renewed_push, tells_new, waited_push}
+use Rattle.pm_segment.proofs.Books.{any_still, attended_still, each_later, each_push, gone_push, or_false, renewed_push, tells_new, waited_push}
 use Rattle.pm_segment.proofs.Resting.{means_now, tells_nothing}
 use Rattle.pm_segment.proofs.Runs.{beginning_kept, beginning_number, cut_count, cut_number, goes_by, notes_cut, history_push, opens, same_standing, standing}
 use Rattle.pm_record.specs.Pair.{PairStandsFor}
@@ -148,7 +150,7 @@ reads_nothing past present_whole before now reads notes same = record {
   time = reads.time;
   later = reads.later;
   counts = λ from counted. record { counted = counts_unread from before.faults now.faults before.live now.live reads.later reads.unread_now counted; each = All-nil (IsShown from now.faults) };
-  unread = λ none. (reads.unread, inr same);
+  unread = unread_still [] before now refl (ap is_some (reads.unread_now ∙ sym reads.unread)) same;
   flushed = flushed_unread before.live now.live reads.unread;
   began = began_unread before.live now.live reads.unread;
   ahead = ahead_unread [] before.live now.live reads.unread reads.unread_now refl;
@@ -159,9 +161,9 @@ reads_nothing past present_whole before now reads notes same = record {
       (held_follows past present_whole origin base before now book reads.unread_now reads.time (follows_in before now seen tells reads) held)) told;
 }
   where
-    reads_still : (origin : Origin) (faults faults_now : ℕ) (files files_now : Option Files) → faults ≤ faults_now → files_now ≡ files → Rose origin.faults faults ⊎ (files ≡ origin.files) → Rose origin.faults faults_now ⊎ (files_now ≡ origin.files)
-    reads_still origin faults faults_now files files_now le same (inl rose) = inl (rose_later origin.faults faults faults_now le rose)
-    reads_still origin faults faults_now files files_now le same (inr reads) = inr (same ∙ reads)
+    reads_still : (book : List BookEntry) (files files_now first : Option Files) → files_now ≡ files → (has_break book ≡ true) ⊎ (files ≡ first) → (has_break book ≡ true) ⊎ (files_now ≡ first)
+    reads_still book files files_now first same (inl breaks) = inl breaks
+    reads_still book files files_now first same (inr was) = inr (same ∙ was)
 
     waits : (origin : Origin) (book : List BookEntry) → HasWaited origin before book → HasWaited origin now book
     waits origin book waited = record {
@@ -171,6 +173,7 @@ reads_nothing past present_whole before now reads notes same = record {
       begun = subst (λ (n : ℕ). 1 ≤ n) (sym reads.generation) waited.begun;
       generation = waited.generation ∙ sym reads.generation;
       attended = subst (λ (l : List ℕ). IsAttendedBy l book) (sym reads.inside) waited.attended;
+      no_redo = waited.no_redo;
       unredone = waited.unredone;
       none_here = waited.none_here;
       skipped = waited.skipped ∙ sym reads.skipped;
@@ -180,7 +183,7 @@ reads_nothing past present_whole before now reads notes same = record {
       no_needs = waited.no_needs;
       counted = record { later = omega (arith, waited.counted.later, reads.later); each = each_later before.faults now.faults (faults_of book) reads.later waited.counted.each };
       reached = omega (arith, waited.reached, reads.time.later);
-      reads = reads_still origin before.faults now.faults before.files now.files reads.later same waited.reads;
+      reads = reads_still book before.files now.files origin.files same waited.reads;
     }
 
     renews : (base : Base) (book : List BookEntry) → HasRenewed base before book → HasRenewed base now book
@@ -214,14 +217,14 @@ reads_fault past present_whole before now pid since reads rose small inside note
         counted = counts_unread from before.faults now.faults before.live now.live reads.later reads.unread_now counted;
         each = no_fault_shown from now.faults entry (omega (arith, counted.later, rose));
       };
-      unread = λ none. (reads.unread, inl rose);
+      unread = record { read = ap is_some (reads.unread_now ∙ sym reads.unread) ∙ sym (or_false (is_some before.live)); files = λ none. inl refl };
       flushed = flushed_unread before.live now.live reads.unread;
       began = began_unread before.live now.live reads.unread;
       ahead = ahead_unread (entry ∷ []) before.live now.live reads.unread reads.unread_now refl;
       waits = λ origin told. inl (waited_on (entry ∷ []) before now origin notes reads.tells (λ book is waited.
           let new = tells_new origin.faults before.faults now.faults (faults_of book) waited.counted.later waited.counted.each rose reads.later small in
           waited_push origin now book entry reads.unread_now (subst (λ (n : ℕ). 1 ≤ n) (sym reads.generation) waited.begun)
-          (subst (λ (l : List ℕ). IsAttendedBy l (book ++ entry ∷ [])) (sym reads.inside) (attended_still before.inside book entry (λ who n. refl) waited.attended)) waited.legal waited.fresh waited.unredone waited.none_here waited.no_ticks tt
+          (subst (λ (l : List ℕ). IsAttendedBy l (book ++ entry ∷ [])) (sym reads.inside) (attended_still before.inside book entry (λ who n. refl) waited.attended)) waited.legal waited.fresh waited.no_redo waited.unredone waited.none_here waited.no_ticks tt
           (λ base same. record {
             attached = attends_in pid before.book book is inside;
             fault = subst (λ (f : Option (List (ℕ × ℕ))). TellsFault base book f since now.faults) (sym waited.none_here)
@@ -230,7 +233,7 @@ reads_fault past present_whole before now pid since reads rose small inside note
           (λ base. refl) (waited.generation ∙ sym reads.generation) refl refl
           (any_still ends_checkpoint (present book) entry now.skipped (waited.skipped ∙ sym reads.skipped) refl) (any_still ends_cleanly (present book) entry false waited.unclosed refl)
           (λ start mark. tt) waited.no_time waited.no_needs (omega (arith, waited.counted.later, reads.later)) (each_push before.faults now.faults since (faults_of book) reads.later waited.counted.each)
-          (omega (arith, waited.reached, reads.time.later)) (inl (omega (arith, waited.counted.later, rose)))) (opening_read before now origin reads) told);
+          (omega (arith, waited.reached, reads.time.later)) (inl (break_behind book (entry ∷ []) refl))) (opening_read before now origin reads) told);
       goes_on = λ origin base told. gone_unread (entry ∷ []) before now origin base reads.unread reads.generation notes reads.tells
           (λ book is sure renewed held.
           let new = tells_new base.faults before.faults now.faults (faults_of book) renewed.counted.later renewed.counted.each rose reads.later small in
@@ -366,10 +369,10 @@ redone_held origin before now found new book pid files files_now redoes follows 
     }
 
 -- the files that were read at first mean it, where they are told
-base_read : (origin : Origin) (before_faults now_faults : ℕ) (before now : Option Files) (found : Found) (images : Files → Type 0) → before_faults ≤ now_faults
-    → TellsStill (FindsNow found images) before now → Rose origin.faults before_faults ⊎ (before ≡ origin.files) → IsBaseOf origin (base_found found origin.faults) now_faults
-base_read origin before_faults now_faults before now found images le finds (inl rose) = inl (rose_later origin.faults before_faults now_faults le rose)
-base_read origin before_faults now_faults before now found images le finds (inr reads) =
+base_read : (origin : Origin) (base_faults : ℕ) (book more : List BookEntry) (before now : Option Files) (found : Found) (images : Files → Type 0) → has_redo book ≡ false
+    → TellsStill (FindsNow found images) before now → (has_break book ≡ true) ⊎ (before ≡ origin.files) → IsBaseOf origin (base_found found base_faults) (book ++ more)
+base_read origin base_faults book more before now found images none finds (inl breaks) = inl (breaks_early book more none breaks)
+base_read origin base_faults book more before now found images none finds (inr reads) =
     inr (subst (λ (f : Option Files). IfSome f (λ its. MeansIn its (standing found.rows found.count) (found.end + 1))) reads (means before now finds))
   where
     means : (files files_now : Option Files) → TellsStill (FindsNow found images) files files_now → IfSome files (λ its. MeansIn its (standing found.rows found.count) (found.end + 1))
@@ -520,7 +523,7 @@ redoes_first laws before now found new pid redoes inside notes = record {
     counted = counted_now from before.faults now.faults 0 before.live now.live new redoes.later redoes.read_now (subst (IsShownAt from now.faults) (sym (ap (λ (l : Log). l.since) redoes.log)) tt) counted;
     each = no_fault_shown from now.faults entry tt;
   };
-  unread = λ none. absurd (not_both now.live new none redoes.read_now);
+  unread = record { read = ap is_some redoes.read_now ∙ sym (ap (λ (l : Option Live). is_some l || true) redoes.unread); files = λ none. absurd (not_both now.live new none redoes.read_now) };
   flushed = flushed_unread before.live now.live redoes.unread;
   began = began_unread before.live now.live redoes.unread;
   ahead = ahead_found (entry ∷ []) before.live now.live new redoes.unread redoes.read_now (ap (λ (l : Log). l.epoch) redoes.log ∙ sym redoes.first) refl;
@@ -562,7 +565,8 @@ redoes_first laws before now found new pid redoes inside notes = record {
         inr (record {
           base = base;
           faults = refl;
-          found = base_read origin before.faults now.faults before.files now.files found (now.images now.ticks) redoes.later redoes.finds waited.reads;
+          found = subst (λ (b : Option (List BookEntry)). IfSome b (IsBaseOf origin base)) (sym noted)
+              (base_read origin origin.faults book (entry ∷ []) before.files now.files found (now.images now.ticks) waited.no_redo redoes.finds waited.reads);
           goes = subst (λ (b : Option (List BookEntry)). IfSome b (λ list. IsSure now → HasBegun base now list) × IfSome b (λ list. IfSome now.files (λ seen. HasHeld origin base now list))) (sym noted)
               ((λ sure. inl (new, redone_gone origin before now found new book pid redoes is inside waited)), held origin book waited before.files now.files redoes.finds redoes.follows opening);
         })

@@ -15,7 +15,9 @@ use Rattle.pm_segment.specs.Children.{AreOthers, IsAttendedBy, once, times_in}
 use Rattle.pm_segment.specs.Moment.{Moment}
 use Rattle.pm_segment.specs.Moves.{NotesEntries, Renews}
 use Rattle.pm_segment.specs.Stands.{CountsFaults, HasBegun, HasHeld, HasNoTick, HasRenewed, HasWaited, IsFaultBy, IsSure, Origin, bytes_of_rows}
-use Rattle.pm_segment.proofs.Books.{checkpoint_push, closed_push, faults_push, generation_push, goes_on, here_push, needs_push, redone_push, tick_push, times_push}
+use Rattle.pm_segment.specs.Unread.{has_redo}
+use Rattle.pm_segment.specs.UnreadLaws.{redo_neither}
+use Rattle.pm_segment.proofs.Books.{breaks_push, checkpoint_push, closed_push, faults_push, generation_push, goes_on, here_push, needs_push, redone_push, tick_push, times_push}
 use Rattle.pm_segment.proofs.Runs.{history_push}
 use Rattle.pm_segment.proofs.Steps.{gone_on, held_alone, not_both, waited_on}
 
@@ -190,6 +192,10 @@ no_ticks : (pids : List ℕ) (generation : ℕ) → All HasNoTick (renewal pids 
 no_ticks [] generation = All-push HasNoTick [] (Opened generation) (All-nil HasNoTick) (λ start mark. tt)
 no_ticks (pid ∷ pids) generation = All-append HasNoTick (Gone pid ∷ []) (renewal pids generation) (All-push HasNoTick [] (Gone pid) (All-nil HasNoTick) (λ start mark. tt)) (no_ticks pids generation)
 
+no_redo : (pids : List ℕ) (generation : ℕ) → has_redo (renewal pids generation) ≡ false
+no_redo [] generation = refl
+no_redo (pid ∷ pids) generation = no_redo pids generation
+
 -- ---- the store goes on
 
 -- the moment behind a renewal
@@ -241,6 +247,7 @@ module _ (past : PastStays) (present_whole : PresentIsWhole) (at : Moment) (book
         begun = omega (arith, next);
         generation = behind.generation_is;
         attended = attended_now book is.attended;
+        no_redo = redo_neither book (renewal pids generation) is.no_redo (no_redo pids generation);
         unredone = behind.unredone;
         none_here = behind.none_here;
         skipped = behind.unchecked;
@@ -250,7 +257,7 @@ module _ (past : PastStays) (present_whole : PresentIsWhole) (at : Moment) (book
         no_needs = behind.needs ∙ is.no_needs;
         counted = record { later = is.counted.later; each = subst (All (IsFaultBy at.faults)) (sym behind.faults) is.counted.each };
         reached = is.reached;
-        reads = is.reads;
+        reads = breaks_push book (renewal pids generation) (at.files ≡ origin.files) is.reads;
       }
 
   renewed : (base : Base) (book : List BookEntry) → IsLegal base book → 1 ≤ at.generation → generation_of book ≡ at.generation → IsAttendedBy at.inside book → (history_of base book).base ≡ standing_of base

@@ -30,11 +30,12 @@ use Rattle.pm_segment.specs.declared.live.Live.{Live}
 use Rattle.pm_segment.specs.Moment.{Moment}
 use Rattle.pm_segment.specs.Moves.{BreakIsShown, IsCountedFrom, IsShown, IsShownAt, Moves, NotesEntries}
 use Rattle.pm_segment.specs.Epochs.{BeganIn, IsAheadBy, epochs_in}
-use Rattle.pm_segment.specs.MovesLaws.{ahead_still, moves_none, notes_none, time_still}
+use Rattle.pm_segment.specs.MovesLaws.{ahead_still, moves_none, notes_none, time_still, unread_never, unread_still}
+use Rattle.pm_segment.specs.Unread.{has_redo}
 use Rattle.pm_segment.specs.Children.{IsAttendedBy, once, times_behind, times_in}
 use Rattle.pm_segment.specs.Passes.{IsFlushed}
 use Rattle.pm_segment.specs.Stands.{Begins, GoesFrom, HasBegun, HasGone, HasHeld, HasNoTick, HasRenewed, HasWaited, IsFaultBy, IsOpening, IsSure, MeansWithin, Origin, TellsBreak, WaitsFrom, most_bytes}
-use Rattle.pm_segment.proofs.Books.{IsNotGone, any_still, attended_push, attended_still, base-with_commit, closed_push, count-with_commit, each_later, each_push, faults_push, generation_push, gone_push, here_push, legal_push, most_grows, needs_push, redone_push, renewed_push, rows-with_commit, tells_new, tick_push, times_push, waited_push}
+use Rattle.pm_segment.proofs.Books.{IsNotGone, any_still, attended_push, attended_still, base-with_commit, breaks_push, closed_push, count-with_commit, each_later, each_push, faults_push, generation_push, gone_push, here_push, legal_push, most_grows, needs_push, redone_push, renewed_push, rows-with_commit, tells_new, tick_push, times_push, waited_push}
 use Rattle.pm_segment.proofs.Runs.{covers_commit, covers_number, goes_by, history_push, holds_in, holds_so, next_commit, notes_another, notes_answer, notes_release, of_rows, same_standing, standing}
 
 -- the moment with another book, and other children inside
@@ -191,20 +192,20 @@ nobody_moves entries before now same none pid = ap (times_in pid) same ∙ sym (
 pub still_in : (entries : List BookEntry) (at : Moment) (book_now : Option (List BookEntry)) (inside_now : List ℕ) → NotesEntries entries at.book book_now
     → ((pid : ℕ) → times_in pid inside_now ≡ times_behind entries pid (times_in pid at.inside))
     → ((from : ℕ) → IsCountedFrom from at.faults at.live → All (IsShown from at.faults) entries)
-    → epochs_in entries ≡ 0
+    → epochs_in entries ≡ 0 → has_redo entries ≡ false
     → ((origin : Origin) (book : List BookEntry) → at.book ≡ Some book → HasWaited origin at book → HasWaited origin (with_child book_now inside_now at) (book ++ entries))
     → ((base : Base) (live : Live) (book : List BookEntry) → at.book ≡ Some book → HasGone base at live book → HasGone base (with_child book_now inside_now at) live (book ++ entries))
     → ((base : Base) (book : List BookEntry) → at.book ≡ Some book → HasRenewed base at book → HasRenewed base (with_child book_now inside_now at) (book ++ entries))
     → ((origin : Origin) (base : Base) (book : List BookEntry) → HasBegun base at book → HasHeld origin base at book → HasHeld origin base (with_child book_now inside_now at) (book ++ entries))
     → Moves entries at (with_child book_now inside_now at)
-still_in entries at book_now inside_now notes attends shown no_epoch waits goes renews holds = record {
+still_in entries at book_now inside_now notes attends shown no_epoch no_redo waits goes renews holds = record {
   notes = notes;
   generation = refl;
   attends = attends;
   time = time_still at.ticks at.images;
   later = omega arith;
   counts = λ from counted. record { counted = counted; each = shown from counted };
-  unread = λ none. (none, inr refl);
+  unread = unread_still entries at now no_redo refl refl;
   flushed = λ front is. is;
   began = λ first is. is;
   ahead = λ many is. ahead_still entries many at.live no_epoch is;
@@ -234,7 +235,7 @@ still entries at live book_now read notes none shown no_epoch goes holds = recor
   time = time_still at.ticks at.images;
   later = omega arith;
   counts = λ from counted. record { counted = counted; each = shown from counted };
-  unread = λ none. (none, inr refl);
+  unread = unread_never entries at (with_book book_now at) live live read read;
   flushed = λ front is. is;
   began = λ first is. is;
   ahead = λ many is. ahead_still entries many at.live no_epoch is;
@@ -333,12 +334,12 @@ pub waited_quiet : (origin : Origin) (at : Moment) (book_now : Option (List Book
     → ((h : History) → history_after None h entry ≡ h) → ((n : ℕ) → tick_after n entry ≡ n) → ((fs : List (ℕ × ℕ)) → faults_after fs entry ≡ fs) → fault_here None entry ≡ None
     → ((n : ℕ) → need_after n entry ≡ n) → HasNoTick entry → HasWaited origin at book → HasWaited origin (with_child book_now inside_now at) (book ++ entry ∷ [])
 waited_quiet origin at book_now inside_now book entry not attended may generation kept present_is unclean no_end history tick faults here need no_tick is =
-    waited_push origin (with_child book_now inside_now at) book entry is.unread is.begun attended is.legal is.fresh is.unredone is.none_here is.no_ticks not (λ base same. may base)
+    waited_push origin (with_child book_now inside_now at) book entry is.unread is.begun attended is.legal is.fresh is.no_redo is.unredone is.none_here is.no_ticks not (λ base same. may base)
     (λ base. history (beginning (standing_of base))) (generation (generation_of book) ∙ is.generation) kept here
     (ap (list_any ends_checkpoint) (present_is (present book)) ∙ any_still ends_checkpoint (present book) entry at.skipped is.skipped no_end)
     (ap (list_any ends_cleanly) (present_is (present book)) ∙ any_still ends_cleanly (present book) entry false is.unclosed unclean)
     no_tick (tick (last_tick book) ∙ is.no_time) (need (needs_of book) ∙ is.no_needs) is.counted.later
-    (subst (All (IsFaultBy at.faults)) (sym (faults (faults_of book))) is.counted.each) is.reached is.reads
+    (subst (All (IsFaultBy at.faults)) (sym (faults (faults_of book))) is.counted.each) is.reached (breaks_push book (entry ∷ []) (at.files ≡ origin.files) is.reads)
 
 pub renewed_quiet : (base : Base) (at : Moment) (book_now : Option (List BookEntry)) (inside_now : List ℕ) (book : List BookEntry) (entry : BookEntry)
     → IsNotGone entry → IsAttendedBy inside_now (book ++ entry ∷ []) → MayFollow base book entry → ((n : ℕ) → generation_after n entry ≡ n) → kept_after None entry ≡ None
@@ -375,7 +376,7 @@ once_more who pid inside = each (nat_eq who pid) (times_in who inside) ∙ sym (
 pub enters : PastStays → PresentIsWhole → (at : Moment) (book_now : Option (List BookEntry)) (pid : ℕ) → NotesEntries (Attached pid at.generation ∷ []) at.book book_now
     → Moves (Attached pid at.generation ∷ []) at (with_child book_now (at.inside ++ pid ∷ []) at)
 enters past present_whole at book_now pid notes =
-    still_in (entry ∷ []) at book_now (at.inside ++ pid ∷ []) notes (λ who. sym (once_more who pid at.inside)) (λ from counted. no_fault_shown from at.faults entry tt) refl
+    still_in (entry ∷ []) at book_now (at.inside ++ pid ∷ []) notes (λ who. sym (once_more who pid at.inside)) (λ from counted. no_fault_shown from at.faults entry tt) refl refl
     (λ origin book told is. waited_quiet origin at book_now (at.inside ++ pid ∷ []) book entry tt (attended book is.attended) (λ base. record { begun = is.begun; present = sym is.generation })
     (λ n. refl) refl (λ es. refl) refl refl (λ h. refl) (λ n. refl) (λ fs. refl) refl (λ n. refl) (λ start mark. tt) is)
     (λ base live book told is. gone_quiet base at live book_now (at.inside ++ pid ∷ []) book entry (quiet live) (record { begun = is.begun; present = sym is.generation }) (attended book is.attended) is)
@@ -401,7 +402,7 @@ pub leaves : PastStays → PresentIsWhole → (at : Moment) (book_now : Option (
     → ((who : ℕ) → times_in who inside_now ≡ cond (nat_eq who pid) (times_in who at.inside - 1) (times_in who at.inside))
     → NotesEntries (Detached pid ∷ []) at.book book_now → Moves (Detached pid ∷ []) at (with_child book_now inside_now at)
 leaves past present_whole at book_now inside_now pid inside once_less notes =
-    still_in (Detached pid ∷ []) at book_now inside_now notes once_less (λ from counted. no_fault_shown from at.faults (Detached pid) tt) refl
+    still_in (Detached pid ∷ []) at book_now inside_now notes once_less (λ from counted. no_fault_shown from at.faults (Detached pid) tt) refl refl
     (λ origin book told is. waited_quiet origin at book_now inside_now book (Detached pid) tt (attended book is.attended) (λ base. attends_in pid at.book book told inside)
     (λ n. refl) refl (λ es. refl) refl refl (λ h. refl) (λ n. refl) (λ fs. refl) refl (λ n. refl) (λ start mark. tt) is)
     (λ base live book told is. gone_quiet base at live book_now inside_now book (Detached pid) (quiet live) (attends_in pid at.book book told inside) (attended book is.attended) is)
@@ -712,7 +713,7 @@ commits past present_whole before now live new pid script reply (change ∷ chan
     counted = counted_now from before.faults now.faults 0 before.live now.live new appends.later appends.read_now (subst (IsShownAt from now.faults) (sym whole) tt) counted;
     each = no_fault_shown from now.faults entry tt;
   };
-  unread = λ none. absurd (not_both now.live new none appends.read_now);
+  unread = unread_never (entry ∷ []) before now live new appends.read appends.read_now;
   flushed = flushed_more before.live now.live live new appends.read appends.read_now (omega (arith, count));
   began = began_on before.live now.live live new appends.read appends.read_now appends.first;
   ahead = ahead_more before.live now.live live new 0 appends.read appends.read_now appends.first (λ whole. (appends.unbroken, omega (arith, appends.epoch)));
@@ -786,7 +787,7 @@ loses past present_whole before now live new pid since script reply (change ∷ 
         counted = counted_now from before.faults now.faults 0 before.live now.live new appends.later appends.read_now (subst (IsShownAt from now.faults) (sym broke) risen) counted;
         each = All-push (IsShown from now.faults) (first ∷ []) second (no_fault_shown from now.faults first tt) risen;
       };
-  unread = λ none. absurd (not_both now.live new none appends.read_now);
+  unread = unread_never (first ∷ second ∷ []) before now live new appends.read appends.read_now;
   flushed = flushed_more before.live now.live live new appends.read appends.read_now (omega (arith, count));
   began = began_on before.live now.live live new appends.read appends.read_now appends.first;
   ahead = ahead_more before.live now.live live new 0 appends.read appends.read_now appends.first (λ whole. (appends.unbroken, omega (arith, appends.epoch)));

@@ -11,3 +11,5 @@ pub mod Redos
 pub mod Rests
 pub mod Runs
 pub mod Stands
+pub mod Unread
+pub mod UnreadLaws

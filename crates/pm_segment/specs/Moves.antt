@@ -1,5 +1,5 @@
 -- What the calls of a store do from one moment to another.
-use Rattle.std.specs.Prelude.{◌≡◌, ◌⊎◌, ℕ, ◌+◌, ◌≤◌, false, List, [], ◌++◌, All, Option, None, Some, option_map}
+use Rattle.std.specs.Prelude.{◌≡◌, ◌⊎◌, ℕ, ◌+◌, ◌≤◌, ◌||◌, true, false, List, [], ◌++◌, All, Option, None, Some, is_some, option_map}
 use Rattle.std.specs.FinMap.{empty}
 use Rattle.pm_disk.specs.Cause.{Rose}
 use Rattle.pm_record.specs.OnDisk.{GoesOn}
@@ -12,6 +12,7 @@ use Rattle.pm_segment.specs.Epochs.{BeganIn, IsAheadBy, epochs_in}
 use Rattle.pm_segment.specs.Moment.{Moment}
 use Rattle.pm_segment.specs.Passes.{IsFlushed}
 use Rattle.pm_segment.specs.Stands.{Begins, GoesFrom, Origin, WaitsFrom}
+use Rattle.pm_segment.specs.Unread.{has_break, has_redo}
 
 -- these entries were added, where the book tells
 abbrev pub NotesEntries : List BookEntry → Option (List BookEntry) → Option (List BookEntry) → Type 0
@@ -49,9 +50,11 @@ pub record CountsEntries (from : ℕ) (entries : List BookEntry) (faults : ℕ) 
   pub counted : IsCountedFrom from faults live
   pub each : All (IsShown from faults) entries
 
--- While the log isn't read the files read as they did, unless the disk has failed.
-abbrev pub StaysUnread : (before now : Moment) → Type 0
-StaysUnread before now = now.live ≡ None → (before.live ≡ None) × (Rose before.faults now.faults ⊎ (now.files ≡ before.files))
+-- The log is read where it was, or where a redo is among these entries. While it isn't, the files read as they did, unless a
+-- fault of the disk is among them.
+pub record StaysUnread (entries : List BookEntry) (before now : Moment) : Type 0 where
+  pub read : is_some now.live ≡ (is_some before.live || has_redo entries)
+  pub files : now.live ≡ None → (has_break entries ≡ true) ⊎ (now.files ≡ before.files)
 
 -- These entries were noted. What held from a beginning holds from it still, or the first redo has come; what a stop could
 -- leave before is as it was. Each fault that was noted was counted, each child is inside as often as the entries make of how
@@ -63,7 +66,7 @@ pub record Moves (entries : List BookEntry) (before now : Moment) : Type 0 where
   pub attends : (pid : ℕ) → times_in pid now.inside ≡ times_behind entries pid (times_in pid before.inside)
   pub time : GoesOn before.ticks now.ticks before.images now.images
   pub later : before.faults ≤ now.faults
-  pub unread : StaysUnread before now
+  pub unread : StaysUnread entries before now
   pub flushed : (front : Option ℕ) → IsFlushed front before.live → IsFlushed front now.live
   pub began : (first : ℕ) → BeganIn first before.live → BeganIn first now.live
   pub ahead : (many : ℕ) → IsAheadBy many before.live → IsAheadBy (many + epochs_in entries) now.live

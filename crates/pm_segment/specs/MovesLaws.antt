@@ -1,7 +1,9 @@
 -- The laws of what the calls of a store do.
-use Rattle.std.proofs.Common.{◌≡◌, ◌⊎◌, inl, inr, ℕ, ◌+◌, ◌≤◌, List, [], ◌++◌, Option, None, Some, refl, sym, ◌∙◌, ap, subst, arith, append_assoc, append-nil}
+use Rattle.std.proofs.Common.{◌≡◌, ◌⊎◌, inl, inr, Bool, true, false, ℕ, ◌+◌, ◌≤◌, All, List, [], ◌∷◌, ◌++◌, Option, None, Some, refl, sym, ◌∙◌, ap, subst, arith, append_assoc, append-nil}
+use Rattle.std.specs.Prelude.{IfSome, is_some, ◌||◌}
 use Rattle.std.specs.Option.{option_map}
-use Rattle.std.proofs.lemmas.List.Elements.{All-nil, All-append, All-weaker}
+use Rattle.std.proofs.lemmas.List.Elements.{All-nil, All-append, All-head, All-tail, All-weaker}
+use Rattle.std.proofs.lemmas.List.Folds.{list_any-append}
 use Rattle.std.proofs.lemmas.List.Sums.{fold-append, sum_by-append}
 use Rattle.pm_disk.specs.Cause.{Rose}
 use Rattle.pm_disk.specs.Files.{Files}
@@ -14,7 +16,9 @@ use Rattle.pm_segment.specs.declared.live.Live.{Live}
 use Rattle.pm_segment.specs.Epochs.{IsAheadBy, begun_by, epochs_in}
 use Rattle.pm_segment.specs.Moment.{Moment}
 use Rattle.pm_segment.specs.Moves.{IsShown, CountsEntries, Moves, NotesEntries, StaysUnread}
-use Rattle.pm_segment.specs.Stands.{Begins, IsBaseOf, Origin, WaitsFrom}
+use Rattle.pm_segment.specs.Stands.{Begins, GoesFrom, IsBaseOf, Origin, WaitsFrom}
+use Rattle.pm_segment.specs.Unread.{has_break, has_redo, is_redo}
+use Rattle.pm_segment.specs.UnreadLaws.{break_before, break_behind, breaks_on}
 
 pub rose_later : (from before now : ℕ) → before ≤ now → Rose from before → Rose from now
 rose_later from before now le rose = omega (arith, le, rose)
@@ -54,20 +58,86 @@ time_on before between now i j k one two = record {
       (λ there. first.0 (second.0 there), λ there. second.1 (first.1 there));
 }
 
-base_later : (origin : Origin) (base : Base) (before now : ℕ) → before ≤ now → IsBaseOf origin base before → IsBaseOf origin base now
-base_later origin base before now le (inl rose) = inl (rose_later origin.faults before now le rose)
-base_later origin base before now le (inr means) = inr means
+-- a base of a book is one of the book with more behind it
+pub base_on : (origin : Origin) (base : Base) (book more : List BookEntry) → IsBaseOf origin base book → IsBaseOf origin base (book ++ more)
+base_on origin base book more (inl breaks) = inl (breaks_on book more breaks)
+base_on origin base book more (inr means) = inr means
 
-pub unread_on : (before between now : Moment) → before.faults ≤ between.faults → between.faults ≤ now.faults → StaysUnread before between → StaysUnread between now → StaysUnread before now
-unread_on before between now le ge one two = λ none.
-    let second = two none in
-    let first = one second.0 in (
-      first.0,
-      elim second.1 [
-        | inl rose ↦ inl (omega (arith, le, rose))
-        | inr same ↦ elim first.1 [ inl rose ↦ inl (rose_later before.faults between.faults now.faults ge rose) | inr was ↦ inr (same ∙ was) ]
-      ],
-    )
+base_noted : (origin : Origin) (base : Base) (entries : List BookEntry) (before now : Option (List BookEntry)) → NotesEntries entries before now → IfSome before (IsBaseOf origin base) → IfSome now (IsBaseOf origin base)
+base_noted origin base entries None now notes found = subst (λ (b : Option (List BookEntry)). IfSome b (IsBaseOf origin base)) (sym notes) tt
+base_noted origin base entries (Some book) now notes found = subst (λ (b : Option (List BookEntry)). IfSome b (IsBaseOf origin base)) (sym notes) (base_on origin base book entries found)
+
+-- what has come behind its first redo stays so
+pub begins_on : (origin : Origin) (entries : List BookEntry) (before now : Moment) → NotesEntries entries before.book now.book → ((base : Base) → GoesFrom origin base before → GoesFrom origin base now) → Begins origin before → Begins origin now
+begins_on origin entries before now notes goes_on begins = record {
+  base = begins.base;
+  faults = begins.faults;
+  found = base_noted origin begins.base entries before.book now.book notes begins.found;
+  goes = goes_on begins.base begins.goes;
+}
+
+-- a fault that was noted has risen the count
+pub break_shown : (from faults : ℕ) (entries : List BookEntry) → All (IsShown from faults) entries → has_break entries ≡ true → Rose from faults
+break_shown from faults [] shown some = absurd (cc)
+break_shown from faults (Broke pid since count ∷ entries) shown some = All-head (IsShown from faults) (Broke pid since count) entries shown
+break_shown from faults (Opened generation ∷ entries) shown some = break_shown from faults entries (All-tail (IsShown from faults) (Opened generation) entries shown) some
+break_shown from faults (Attached pid generation ∷ entries) shown some = break_shown from faults entries (All-tail (IsShown from faults) (Attached pid generation) entries shown) some
+break_shown from faults (Redone pid generation kept ∷ entries) shown some = break_shown from faults entries (All-tail (IsShown from faults) (Redone pid generation kept) entries shown) some
+break_shown from faults (Answered pid script reply commit front tick ∷ entries) shown some =
+    break_shown from faults entries (All-tail (IsShown from faults) (Answered pid script reply commit front tick) entries shown) some
+break_shown from faults (Released pid front tick ∷ entries) shown some = break_shown from faults entries (All-tail (IsShown from faults) (Released pid front tick) entries shown) some
+break_shown from faults (Detached pid ∷ entries) shown some = break_shown from faults entries (All-tail (IsShown from faults) (Detached pid) entries shown) some
+break_shown from faults (Gone pid ∷ entries) shown some = break_shown from faults entries (All-tail (IsShown from faults) (Gone pid) entries shown) some
+break_shown from faults (CheckpointEnded pid done clean ∷ entries) shown some =
+    break_shown from faults entries (All-tail (IsShown from faults) (CheckpointEnded pid done clean) entries shown) some
+break_shown from faults (LogFull pid script need room ∷ entries) shown some = break_shown from faults entries (All-tail (IsShown from faults) (LogFull pid script need room) entries shown) some
+
+-- ---- while the log isn't read
+
+or_still : (b : Bool) → b ≡ (b || false)
+or_still true = refl
+or_still false = refl
+
+or_assoc : (a b c : Bool) → ((a || b) || c) ≡ (a || (b || c))
+or_assoc true b c = refl
+or_assoc false b c = refl
+
+unread_first : (live : Option Live) (b : Bool) → (is_some live || b) ≡ false → live ≡ None
+unread_first None b is = refl
+unread_first (Some its) b is = absurd (cc)
+
+-- who hasn't read it now hadn't before
+pub unread_before : (entries : List BookEntry) (before now : Moment) → StaysUnread entries before now → now.live ≡ None → before.live ≡ None
+unread_before entries before now stays none = unread_first before.live (has_redo entries) (sym stays.read ∙ ap is_some none)
+
+-- who hadn't read it still hasn't, without a redo
+pub unread_now : (entries : List BookEntry) (before now : Moment) → StaysUnread entries before now → before.live ≡ None → has_redo entries ≡ false → now.live ≡ None
+unread_now entries before now stays unread none =
+    unread_first now.live false (sym (or_still (is_some now.live)) ∙ stays.read ∙ ap (λ (l : Option Live). is_some l || has_redo entries) unread ∙ none)
+
+-- the disk is as it was, and so is whether the log is read
+pub unread_still : (entries : List BookEntry) (before now : Moment) → has_redo entries ≡ false → is_some now.live ≡ is_some before.live → now.files ≡ before.files → StaysUnread entries before now
+unread_still entries before now none same files = record {
+  read = same ∙ or_still (is_some before.live) ∙ ap (λ (b : Bool). is_some before.live || b) (sym none);
+  files = λ unread. inr files;
+}
+
+-- it was read, and is
+pub unread_never : (entries : List BookEntry) (before now : Moment) (live new : Live) → before.live ≡ Some live → now.live ≡ Some new → StaysUnread entries before now
+unread_never entries before now live new read read_now = record {
+  read = ap is_some read_now ∙ sym (ap (λ (l : Option Live). is_some l || has_redo entries) read);
+  files = λ none. absurd (cc);
+}
+
+pub unread_on : (first second : List BookEntry) (before between now : Moment) → StaysUnread first before between → StaysUnread second between now → StaysUnread (first ++ second) before now
+unread_on first second before between now one two = record {
+  read = two.read ∙ ap (λ (b : Bool). b || has_redo second) one.read ∙ or_assoc (is_some before.live) (has_redo first) (has_redo second)
+      ∙ ap (λ (b : Bool). is_some before.live || b) (sym (list_any-append is_redo first second));
+  files = λ none. elim (two.files none) [
+    | inl breaks ↦ inl (break_behind first second breaks)
+    | inr same ↦ elim (one.files (unread_before second between now two none)) [ inl breaks ↦ inl (break_before first second breaks) | inr was ↦ inr (same ∙ was) ]
+  ];
+}
 
 -- a generation that stays hasn't fallen
 pub never_falls : (before now : ℕ) → now ≡ before → before ≤ now
@@ -93,7 +163,7 @@ moves_none at = record {
   time = time_still at.ticks at.images;
   later = omega arith;
   counts = λ from counted. record { counted = counted; each = All-nil (IsShown from at.faults) };
-  unread = λ none. (none, inr refl);
+  unread = unread_still [] at at refl refl refl;
   flushed = λ front is. is;
   began = λ first is. is;
   ahead = λ many is. ahead_still [] many at.live refl is;
@@ -108,7 +178,7 @@ moves_on first second before between now one two = record {
   attends = λ pid. two.attends pid ∙ ap (times_behind second pid) (one.attends pid) ∙ sym (fold-append (times_after pid) (times_in pid before.inside) first second);
   time = time_on before.ticks between.ticks now.ticks before.images between.images now.images one.time two.time;
   later = omega (arith, one.later, two.later);
-  unread = unread_on before between now one.later two.later one.unread two.unread;
+  unread = unread_on first second before between now one.unread two.unread;
   flushed = λ front is. two.flushed front (one.flushed front is);
   began = λ in_epoch is. two.began in_epoch (one.began in_epoch is);
   ahead = λ many is. ahead_both first second many now.live (two.ahead (many + epochs_in first) (one.ahead many is));
@@ -122,9 +192,4 @@ moves_on first second before between now one two = record {
   where
     behind : (origin : Origin) → WaitsFrom origin between ⊎ Begins origin between → WaitsFrom origin now ⊎ Begins origin now
     behind origin (inl waits) = two.waits origin waits
-    behind origin (inr begins) = inr (record {
-      base = begins.base;
-      faults = begins.faults;
-      found = base_later origin begins.base between.faults now.faults two.later begins.found;
-      goes = two.goes_on origin begins.base begins.goes;
-    })
+    behind origin (inr begins) = inr (begins_on origin second between now two.notes (two.goes_on origin) begins)

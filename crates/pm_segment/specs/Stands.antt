@@ -1,7 +1,6 @@
 -- What a store keeps of its book and its disk, from the moment at which it got them.
-use Rattle.std.specs.Prelude.{◌≡◌, ◌⊎◌, ℕ, ◌+◌, ◌≤◌, false, List, [], ◌∷◌, All, Option, None, Some, IfSome}
+use Rattle.std.specs.Prelude.{◌≡◌, ◌⊎◌, ℕ, ◌+◌, ◌≤◌, true, false, List, [], ◌∷◌, All, Option, None, Some, IfSome}
 use Rattle.std.specs.List.{Contains}
-use Rattle.pm_disk.specs.Cause.{Rose}
 use Rattle.pm_disk.specs.Files.{Files}
 use Rattle.pm_rows.specs.Fold.{RowMap}
 use Rattle.pm_rows.specs.Limits.{max_file_bytes}
@@ -16,6 +15,7 @@ use Rattle.pm_segment.specs.declared.live.Live.{Live}
 use Rattle.pm_segment.specs.Children.{IsAttendedBy}
 use Rattle.pm_segment.specs.Fronts.{flushed_of, whole_of}
 use Rattle.pm_segment.specs.Moment.{Moment, Told}
+use Rattle.pm_segment.specs.Unread.{breaks_unread, has_break, has_redo}
 
 -- The disk as the store got it: the files as they read, and its counts of calls and of faults.
 pub record Origin : Type 0 where
@@ -42,7 +42,8 @@ pub record CountsFaults (first now : ℕ) (book : List BookEntry) : Type 0 where
 abbrev pub HasNoTick : BookEntry → Type 0
 HasNoTick entry = (start mark : ℕ) → IsWithin start mark entry
 
--- Nothing is in the history yet, from whatever base, and the files read as they did unless the disk has failed.
+-- Nothing is in the history yet, from whatever base: no redo has ended. The files read as they did, unless a fault of the disk
+-- was noted.
 pub record HasWaited (origin : Origin) (at : Moment) (book : List BookEntry) : Type 0 where
   pub unread : at.live ≡ None
   pub legal : (base : Base) → base.faults ≡ origin.faults → IsLegal base book
@@ -50,6 +51,7 @@ pub record HasWaited (origin : Origin) (at : Moment) (book : List BookEntry) : T
   pub begun : 1 ≤ at.generation
   pub generation : generation_of book ≡ at.generation
   pub attended : IsAttendedBy at.inside book
+  pub no_redo : has_redo book ≡ false
   pub unredone : kept_by_redo book ≡ None
   pub none_here : faults_here book ≡ None
   pub skipped : has_checkpoint book ≡ at.skipped
@@ -59,7 +61,7 @@ pub record HasWaited (origin : Origin) (at : Moment) (book : List BookEntry) : T
   pub no_needs : needs_of book ≡ 0
   pub counted : CountsFaults origin.faults at.faults book
   pub reached : origin.tick ≤ at.ticks
-  pub reads : Rose origin.faults at.faults ⊎ (at.files ≡ origin.files)
+  pub reads : (has_break book ≡ true) ⊎ (at.files ≡ origin.files)
 
 -- ---- behind it
 
@@ -149,13 +151,15 @@ WaitsFrom origin at = IfSome at.book (HasWaited origin at) × Told at (λ book. 
 abbrev pub GoesFrom : Origin → Base → Moment → Type 0
 GoesFrom origin base at = IfSome at.book (λ book. IsSure at → HasBegun base at book) × Told at (HasHeld origin base at)
 
--- the files that the store got mean the base, where they are told, unless the disk has failed since
-abbrev pub IsBaseOf : Origin → Base → ℕ → Type 0
-IsBaseOf origin base faults = Rose origin.faults faults ⊎ IfSome origin.files (λ files. MeansIn files (standing_of base) base.bytes)
+-- the files that the store got mean the base, where they are told, unless a fault of the disk stands in the book before its
+-- first redo
+abbrev pub IsBaseOf : Origin → Base → List BookEntry → Type 0
+IsBaseOf origin base book =
+    (breaks_unread book ≡ true) ⊎ IfSome origin.files (λ files. MeansIn files (standing_of base) base.bytes)
 
 -- it has come behind its first redo
 pub record Begins (origin : Origin) (at : Moment) : Type 0 where
   pub base : Base
   pub faults : base.faults ≡ origin.faults
-  pub found : IsBaseOf origin base at.faults
+  pub found : IfSome at.book (IsBaseOf origin base)
   pub goes : GoesFrom origin base at

@@ -1,6 +1,6 @@
 -- What a token's calls owe as they give the store back, and what they come to.
 use Rattle.std.proofs.Common.{◌≡◌, ◌≢◌, ◌⊎◌, inl, inr, ℕ, ◌+◌, ◌-◌, ◌<◌, ◌≤◌, ◌==◌, ◌&&◌, Bool, true, false, cond, List, [], ◌∷◌, ◌++◌, length, Option, None, Some, refl, sym, ◌∙◌, ap, subst, arith, append-nil}
-use Rattle.std.specs.Prelude.{Result, Ok, Err, OnErr, IfOk, Any, nat_eq}
+use Rattle.std.specs.Prelude.{Result, Ok, Err, OnErr, IfOk, IfSome, Any, nat_eq}
 use Rattle.std.proofs.lemmas.Bool.Decides.{nat_tests}
 use Rattle.std.proofs.lemmas.List.Quantifiers.{Any-push}
 use Rattle.atomic_table.specs.Seated.{TableId}
@@ -16,7 +16,11 @@ use Rattle.pm_segment.specs.declared.pass.Pass.{Pass}
 use Rattle.pm_segment.specs.declared.segment.Segment.{Segment}
 use Rattle.pm_segment.specs.Moment.{moment}
 use Rattle.pm_segment.specs.Moves.{Moves}
+use Rattle.pm_disk.specs.Files.{Files}
 use Rattle.pm_segment.specs.Passes.{Admits, HasAnswer, view_of}
+use Rattle.pm_segment.specs.Redos.{HasReason}
+use Rattle.pm_segment.specs.Unread.{has_break}
+use Rattle.pm_shared.specs.Reasons.{HasFirstReason}
 use Rattle.pm_shared.specs.declared.views.Noted.{Noted}
 use Rattle.pm_shared.specs.declared.views.Taken.{Taken}
 use Rattle.pm_shared.specs.declared.views.Hand.{Hand}
@@ -24,11 +28,11 @@ use Rattle.pm_shared.specs.declared.views.View.{View}
 use Rattle.pm_shared.specs.declared.views.View.TheVariants.{Worker}
 use Rattle.pm_shared.specs.Behind.{Behind, Knows}
 use Rattle.pm_shared.specs.Grows.{Grew, NotesLeave, passes_entered}
-use Rattle.pm_shared.specs.Log.{AllOwn, entries_of, noted_from}
+use Rattle.pm_shared.specs.Log.{AllOwn, Continues, entries_of, noted_from}
 use Rattle.pm_shared.specs.Passes.{Among, live, renewed_pass, without_pass}
 use Rattle.pm_shared.specs.Quiet.{AllQuiet}
 use Rattle.pm_shared.specs.Rule.{taken}
-use Rattle.pm_shared.specs.Told.{HandMay, IsNothing, MayGive, Seated, Tells, TokenModel, Turns, first_of, given_back, is_own_of, met_of, passes_of, resting, with_held, TellsHand}
+use Rattle.pm_shared.specs.Told.{HandMay, IsNothing, MayGive, Seated, Tells, TokenModel, TookFor, Turns, first_of, given_back, is_own_of, passes_of, past_of, resting, with_held, TellsHand}
 use Rattle.pm_shared.proofs.Logs.{among_live, among-snoc, among_up_to, known_at, known_less, known_on, known_snoc, live-less, live-snoc, same_test, up_to-less, up_to-snoc}
 use Rattle.pm_shared.proofs.Stores.{admits_known, answer_on, behind_moves, generation_on, knows_moves, present_on, quiet_own, quiet_times, times_on}
 
@@ -100,7 +104,7 @@ turns_none log ps = record {
 -- ---- a store is given back behind a call by which nobody comes or goes
 
 abbrev pub hand_holding : {S F : Type 0} → ℕ → F → List Noted → List Pass → Taken S → Hand S F
-hand_holding k first own ps t = record { number = k; first = first; own = own; passes = ps; met = generation_of t.log; held = Some t }
+hand_holding k first own ps t = record { number = k; first = first; own = own; passes = ps; past = t.log; held = Some t }
 
 pub may_quiet : {D B : Type 0} {g h : _} (told : List BookEntry → Type 0) (k : ℕ) (first : D) (own : List Noted) (ps : List Pass) (log : List BookEntry) (x x' : Segment D B g h) (before now : Pass) (es : List BookEntry)
     → TellsHand Behind Knows first ps (taken log x) → told es → AllQuiet es → Moves es (moment x) (moment x') → Among before ps → before.generation ≡ (moment x).generation → now.pid ≡ before.pid → now.generation ≡ before.generation
@@ -126,51 +130,58 @@ may_quiet told k first own ps log x x' before now es tells is_told quiet moves i
 -- ---- what a token shows then
 
 abbrev pub token_of : (S F : Type 0) → TableId → ℕ → Seated S F → TokenModel F
-token_of S F t n me = record { table = t; number = n; first = first_of me.0; own = is_own_of me.0; passes = passes_of me.0; met = met_of me.0 }
+token_of S F t n me = record { table = t; number = n; first = first_of me.0; own = is_own_of me.0; passes = passes_of me.0; past = past_of me.0 }
 
 pub entries_noted : (n : ℕ) (es : List BookEntry) → entries_of (noted_from n es) ≡ es
 entries_noted n [] = refl
 entries_noted n (e ∷ es) = ap (λ l. e ∷ l) (entries_noted (n + 1) es)
 
 module _ {S F : Type 0} where
-  pub given_is : {met : ℕ} (k : ℕ) (first : F) (own : List Noted) (ps ps' : List Pass) (t : Taken S) (es : List BookEntry) (me me' me'' : Seated S F) (c c' : List (ℕ × Option S)) → me ≡ resting k first own ps met → me' ≡ (with_held me.0 (Some t), c)
-      → me'' ≡ (given_back me'.0 es ps', c') → me''.0 ≡ Worker record { number = k; first = first; own = own ++ noted_from (length t.log) es; passes = ps'; met = generation_of t.log; held = None }
+  pub given_is : {past : List BookEntry} (k : ℕ) (first : F) (own : List Noted) (ps ps' : List Pass) (t : Taken S) (es : List BookEntry) (me me' me'' : Seated S F) (c c' : List (ℕ × Option S)) → me ≡ resting k first own ps past → me' ≡ (with_held me.0 (Some t), c)
+      → me'' ≡ (given_back me'.0 es ps', c') → me''.0 ≡ Worker record { number = k; first = first; own = own ++ noted_from (length t.log) es; passes = ps'; past = t.log; held = None }
   given_is k first own ps ps' t es me me' me'' c c' is was now =
       ap (λ (m : Seated S F). m.0) now ∙ ap (λ (m : Seated S F). given_back m.0 es ps') was ∙ ap (λ (m : Seated S F). given_back (with_held m.0 (Some t)) es ps') is
 
-  pub grew_by : {met met' : ℕ} (id id' : TableId) (k : ℕ) (first : F) (own : List Noted) (ps ps' : List Pass) (n : ℕ) (es : List BookEntry) (me me'' : Seated S F) (old : TokenModel F) → token_of S F id k me ≡ old → id' ≡ id → me ≡ resting k first own ps met
-      → me''.0 ≡ Worker record { number = k; first = first; own = own ++ noted_from n es; passes = ps'; met = met'; held = None } → met ≤ met' → Grew es old (token_of S F id' k me'')
-  grew_by {met} {met'} id id' k first own ps ps' n es me me'' old view_is same is now rises =
-      let old_is : old ≡ record { table = id; number = k; first = Some first; own = own; passes = ps; met = met } = sym view_is ∙ ap (λ (m : Seated S F). token_of S F id k m) is in record {
+  pub grew_by : {past past' : List BookEntry} (id id' : TableId) (k : ℕ) (first : F) (own : List Noted) (ps ps' : List Pass) (n : ℕ) (es : List BookEntry) (me me'' : Seated S F) (old : TokenModel F) → token_of S F id k me ≡ old → id' ≡ id → me ≡ resting k first own ps past
+      → me''.0 ≡ Worker record { number = k; first = first; own = own ++ noted_from n es; passes = ps'; past = past'; held = None } → Continues past past' → Grew es old (token_of S F id' k me'')
+  grew_by {past} {past'} id id' k first own ps ps' n es me me'' old view_is same is now rises =
+      let old_is : old ≡ record { table = id; number = k; first = Some first; own = own; passes = ps; past = past } = sym view_is ∙ ap (λ (m : Seated S F). token_of S F id k m) is in record {
         table = same ∙ sym (ap (λ (t : TokenModel F). t.table) old_is);
         number = sym (ap (λ (t : TokenModel F). t.number) old_is);
         first = ap first_of now ∙ sym (ap (λ (t : TokenModel F). t.first) old_is);
         added = noted_from n es;
         own = ap is_own_of now ∙ ap (λ l. l ++ noted_from n es) (sym (ap (λ (t : TokenModel F). t.own) old_is));
         added_are = entries_noted n es;
-        met = omega (arith, rises, ap (λ (t : TokenModel F). t.met) old_is, ap met_of now);
+        past = subst (λ l. Continues l (past_of me''.0)) (sym (ap (λ (t : TokenModel F). t.past) old_is)) (subst (Continues past) (sym (ap past_of now)) rises);
       }
 
-  pub passes_are : {met : ℕ} (k : ℕ) (first : F) (own : List Noted) (ps' : List Pass) (me'' : Seated S F) → me''.0 ≡ Worker record { number = k; first = first; own = own; passes = ps'; met = met; held = None } → passes_of me''.0 ≡ ps'
+  pub passes_are : {past : List BookEntry} (k : ℕ) (first : F) (own : List Noted) (ps' : List Pass) (me'' : Seated S F) → me''.0 ≡ Worker record { number = k; first = first; own = own; passes = ps'; past = past; held = None } → passes_of me''.0 ≡ ps'
   passes_are k first own ps' me'' now = ap passes_of now
 
-  pub met_is : {met : ℕ} (k : ℕ) (first : F) (own : List Noted) (ps' : List Pass) (me'' : Seated S F) → me''.0 ≡ Worker record { number = k; first = first; own = own; passes = ps'; met = met; held = None } → met_of me''.0 ≡ met
-  met_is k first own ps' me'' now = ap met_of now
+  -- a store that was given back as it was taken
+  pub gave_unchanged : {past : List BookEntry} (k : ℕ) (first : F) (own : List Noted) (ps : List Pass) (t : Taken S) (es : List BookEntry) (me me' me'' : Seated S F) (c : List (ℕ × Option S)) → me ≡ resting k first own ps past → me' ≡ (with_held me.0 (Some t), c)
+      → es ≡ [] → me'' ≡ (given_back me'.0 es (passes_of me'.0), []) → me'' ≡ (given_back (with_held me.0 (Some t)) [] (passes_of me.0), [])
+  gave_unchanged k first own ps t es me me' me'' c is was none now =
+      let same : passes_of (with_held me.0 (Some t)) ≡ passes_of me.0 = ap (λ (m : Seated S F). passes_of (with_held m.0 (Some t))) is ∙ sym (ap (λ (m : Seated S F). passes_of m.0) is) in
+      now ∙ (λ i. (given_back me'.0 (none i) (passes_of me'.0), [])) ∙ ap (λ (m : Seated S F). (given_back m.0 [] (passes_of m.0), [])) was ∙ (λ i. (given_back (with_held me.0 (Some t)) [] (same i), []))
+
+  pub past_is : {past : List BookEntry} (k : ℕ) (first : F) (own : List Noted) (ps' : List Pass) (me'' : Seated S F) → me''.0 ≡ Worker record { number = k; first = first; own = own; passes = ps'; past = past; held = None } → past_of me''.0 ≡ past
+  past_is k first own ps' me'' now = ap past_of now
 
 -- ---- at a seat that is known by equations
--- what a token has met it meets again
-pub met_rises : {D B : Type 0} {g h : _} {met : ℕ} (k : ℕ) (first : D) (own : List Noted) (ps : List Pass) (log : List BookEntry) (x : Segment D B g h) (me : Seated (Segment D B g h) D)
-    → me ≡ resting k first own ps met → Tells Behind Knows me.0 (taken log x) → met ≤ generation_of log
-met_rises {D} {B} {g} {h} k first own ps log x me is tells = (subst (λ (m : Seated (Segment D B g h) D). Tells Behind Knows m.0 (taken log x)) is tells).1
+-- what a token finds begins with what it found
+pub past_goes_on : {D B : Type 0} {g h : _} {past : List BookEntry} (k : ℕ) (first : D) (own : List Noted) (ps : List Pass) (log : List BookEntry) (x : Segment D B g h) (me : Seated (Segment D B g h) D)
+    → me ≡ resting k first own ps past → Tells Behind Knows me.0 (taken log x) → Continues past log
+past_goes_on {D} {B} {g} {h} k first own ps log x me is tells = (subst (λ (m : Seated (Segment D B g h) D). Tells Behind Knows m.0 (taken log x)) is tells).1
 
 -- the generation that it meets is the store's, before a call and behind it
-pub met_there : {D B : Type 0} {g h : _} {met : ℕ} (k : ℕ) (first : D) (own : List Noted) (ps : List Pass) (log : List BookEntry) (x : Segment D B g h) (me : Seated (Segment D B g h) D)
-    → me ≡ resting k first own ps met → Tells Behind Knows me.0 (taken log x) → generation_of log ≡ (moment x).generation
+pub met_there : {D B : Type 0} {g h : _} {past : List BookEntry} (k : ℕ) (first : D) (own : List Noted) (ps : List Pass) (log : List BookEntry) (x : Segment D B g h) (me : Seated (Segment D B g h) D)
+    → me ≡ resting k first own ps past → Tells Behind Knows me.0 (taken log x) → generation_of log ≡ (moment x).generation
 met_there {D} {B} {g} {h} k first own ps log x me is tells = (subst (λ (m : Seated (Segment D B g h) D). Tells Behind Knows m.0 (taken log x)) is tells).0.0.generation
 
 -- a pass of another generation than the one that is met is of an earlier one
-pub met_later : {D B : Type 0} {g h : _} {met : ℕ} (k : ℕ) (first : D) (own : List Noted) (ps : List Pass) (log : List BookEntry) (x : Segment D B g h) (me : Seated (Segment D B g h) D) (p : Pass)
-    → me ≡ resting k first own ps met → Tells Behind Knows me.0 (taken log x) → Among p ps → p.generation ≢ (moment x).generation → p.generation < generation_of log
+pub met_later : {D B : Type 0} {g h : _} {past : List BookEntry} (k : ℕ) (first : D) (own : List Noted) (ps : List Pass) (log : List BookEntry) (x : Segment D B g h) (me : Seated (Segment D B g h) D) (p : Pass)
+    → me ≡ resting k first own ps past → Tells Behind Knows me.0 (taken log x) → Among p ps → p.generation ≢ (moment x).generation → p.generation < generation_of log
 met_later {D} {B} {g} {h} k first own ps log x me p is tells in_ other =
     let tells' = (subst (λ (m : Seated (Segment D B g h) D). Tells Behind Knows m.0 (taken log x)) is tells).0 in
     let within = among_up_to (generation_of log) p ps tells'.3 in_ in
@@ -178,23 +189,97 @@ met_later {D} {B} {g} {h} k first own ps log x me p is tells in_ other =
     omega (arith, within, same, other)
 
 -- who found the store in another generation is told it, and has met it
-pub stale_here : {D B : Type 0} {g h : _} {met : ℕ} (k : ℕ) (first : D) (own : List Noted) (ps ps' : List Pass) (log es : List BookEntry) (x : Segment D B g h) (me me' me'' : Seated (Segment D B g h) D)
-    (c c' : List (ℕ × Option (Segment D B g h))) (p : Pass) (found : ℕ) → me ≡ resting k first own ps met → me' ≡ (with_held me.0 (Some (taken log x)), c) → me'' ≡ (given_back me'.0 es ps', c')
-    → Tells Behind Knows me.0 (taken log x) → Among p ps → p.generation ≢ (moment x).generation → found ≡ (moment x).generation → (found ≡ met_of me''.0) × (p.generation < met_of me''.0)
+pub stale_here : {D B : Type 0} {g h : _} {past : List BookEntry} (k : ℕ) (first : D) (own : List Noted) (ps ps' : List Pass) (log es : List BookEntry) (x : Segment D B g h) (me me' me'' : Seated (Segment D B g h) D)
+    (c c' : List (ℕ × Option (Segment D B g h))) (p : Pass) (found : ℕ) → me ≡ resting k first own ps past → me' ≡ (with_held me.0 (Some (taken log x)), c) → me'' ≡ (given_back me'.0 es ps', c')
+    → Tells Behind Knows me.0 (taken log x) → Among p ps → p.generation ≢ (moment x).generation → found ≡ (moment x).generation → (found ≡ generation_of (past_of me''.0)) × (p.generation < generation_of (past_of me''.0))
 stale_here k first own ps ps' log es x me me' me'' c c' p found is was now tells in_ other found_is =
-    let met = met_is k first _ ps' me'' (given_is k first own ps ps' (taken log x) es me me' me'' c c' is was now) in
+    let met = ap generation_of (past_is k first _ ps' me'' (given_is k first own ps ps' (taken log x) es me me' me'' c c' is was now)) in
     let there = met_there k first own ps log x me is tells in
     (found_is ∙ sym there ∙ sym met, subst (λ (n : ℕ). p.generation < n) (sym met) (met_later k first own ps log x me p is tells in_ other))
 
 -- the generation that a token shows behind a call is the store's
-pub met_behind : {D B : Type 0} {g h : _} {met : ℕ} (k : ℕ) (first : D) (own : List Noted) (ps ps' : List Pass) (log es : List BookEntry) (x x' : Segment D B g h) (me me' me'' : Seated (Segment D B g h) D)
-    (c c' : List (ℕ × Option (Segment D B g h))) → me ≡ resting k first own ps met → me' ≡ (with_held me.0 (Some (taken log x)), c) → me'' ≡ (given_back me'.0 es ps', c')
-    → Tells Behind Knows me.0 (taken log x) → (moment x').generation ≡ (moment x).generation → (moment x').generation ≡ met_of me''.0
+pub met_behind : {D B : Type 0} {g h : _} {past : List BookEntry} (k : ℕ) (first : D) (own : List Noted) (ps ps' : List Pass) (log es : List BookEntry) (x x' : Segment D B g h) (me me' me'' : Seated (Segment D B g h) D)
+    (c c' : List (ℕ × Option (Segment D B g h))) → me ≡ resting k first own ps past → me' ≡ (with_held me.0 (Some (taken log x)), c) → me'' ≡ (given_back me'.0 es ps', c')
+    → Tells Behind Knows me.0 (taken log x) → (moment x').generation ≡ (moment x).generation → (moment x').generation ≡ generation_of (past_of me''.0)
 met_behind k first own ps ps' log es x x' me me' me'' c c' is was now tells same =
-    same ∙ sym (met_there k first own ps log x me is tells) ∙ sym (met_is k first _ ps' me'' (given_is k first own ps ps' (taken log x) es me me' me'' c c' is was now))
+    same ∙ sym (met_there k first own ps log x me is tells) ∙ sym (ap generation_of (past_is k first _ ps' me'' (given_is k first own ps ps' (taken log x) es me me' me'' c c' is was now)))
 
-pub token_admits : {D B : Type 0} {g h : _} {met : ℕ} (k : ℕ) (first : D) (own : List Noted) (ps : List Pass) (log : List BookEntry) (x : Segment D B g h) (me : Seated (Segment D B g h) D) (p : Pass)
-    → me ≡ resting k first own ps met → Tells Behind Knows me.0 (taken log x) → Among p ps → p.generation ≡ (moment x).generation → Admits p (moment x)
+-- a call with a stale pass notes nothing, and leaves the token's passes
+pub record IsStale {F : Type 0} (pass : Pass) (refusal : StoreNo) (old now : TokenModel F) : Type 0 where
+  pub grew : Grew [] old now
+  pub passes : now.passes ≡ old.passes
+  pub refusal_is : refusal ≡ Stale pass.generation (generation_of now.past)
+  pub later : pass.generation < generation_of now.past
+
+pub stale_told : {D B : Type 0} {g h : _} {past : List BookEntry} (k : ℕ) (first : D) (own : List Noted) (ps : List Pass) (id id' : TableId) (me me' : Seated (Segment D B g h) D) (old : TokenModel D) (pass : Pass) (refusal : StoreNo)
+    → token_of (Segment D B g h) D id k me ≡ old → id' ≡ id → me ≡ resting k first own ps past → Among pass ps → TookFor Behind Knows (λ x. (moment x).generation) pass me (Err refusal) me' → IsStale pass refusal old (token_of (Segment D B g h) D id' k me')
+stale_told {D} {B} {g} {h} {past} k first own ps id id' me me' old pass refusal view same is in_ (log, x, was, tells, other, refused) =
+    let held : Seated (Segment D B g h) D = (with_held me.0 (Some (taken log x)), (0, None) ∷ []) in
+    let given = given_is k first own ps (passes_of me.0) (taken log x) [] me held me' ((0, None) ∷ []) [] is refl was in
+    let past_now : past_of me'.0 ≡ log = past_is k first (own ++ noted_from (length log) []) (passes_of me.0) me' given in
+    record {
+      grew = grew_by id id' k first own ps (passes_of me.0) (length log) [] me me' old view same is given (past_goes_on k first own ps log x me is tells);
+      passes = passes_are k first (own ++ noted_from (length log) []) (passes_of me.0) me' given ∙ ap (λ (t : TokenModel D). t.passes) view;
+      refusal_is = refused ∙ ap (λ n. Stale pass.generation n) (sym (met_there k first own ps log x me is tells) ∙ ap generation_of (sym past_now));
+      later = subst (λ l. pass.generation < generation_of l) (sym past_now) (met_later k first own ps log x me pass is tells in_ other);
+    }
+
+-- what a token shows behind a call that renews its pass
+pub record IsCalled {F : Type 0} (es log : List BookEntry) (pass : Pass) (generation : ℕ) (old now : TokenModel F) : Type 0 where
+  pub grew : Grew es old now
+  pub among : Among pass now.passes
+  pub met : generation ≡ generation_of now.past
+  pub past : now.past ≡ log
+
+pub called : {D B : Type 0} {g h : _} {past : List BookEntry} (k : ℕ) (first : D) (own : List Noted) (ps : List Pass) (log es : List BookEntry) (x x' : Segment D B g h) (id id' : TableId) (me me' me'' : Seated (Segment D B g h) D)
+    (c c' : List (ℕ × Option (Segment D B g h))) (before now : Pass) (old : TokenModel D) → token_of (Segment D B g h) D id k me ≡ old → id' ≡ id → me ≡ resting k first own ps past → me' ≡ (with_held me.0 (Some (taken log x)), c)
+    → me'' ≡ (given_back me'.0 es (renewed_pass before now (passes_of me'.0)), c') → Tells Behind Knows me.0 (taken log x) → (moment x').generation ≡ (moment x).generation
+    → IsCalled es log now (moment x').generation old (token_of (Segment D B g h) D id' k me'')
+called {D} {B} {g} {h} k first own ps log es x x' id id' me me' me'' c c' before now old view same is was then tells still =
+    let ps' = renewed_pass before now (passes_of me'.0) in
+    let given = given_is k first own ps ps' (taken log x) es me me' me'' c c' is was then in
+    record {
+      grew = grew_by id id' k first own ps ps' (length log) es me me'' old view same is given (past_goes_on k first own ps log x me is tells);
+      among = subst (Among now) (sym (passes_are k first (own ++ noted_from (length log) es) ps' me'' given)) (among-snoc now (without_pass before.pid before.generation (passes_of me'.0)));
+      met = met_behind k first own ps ps' log es x x' me me' me'' c c' is was then tells still;
+      past = past_is k first (own ++ noted_from (length log) es) ps' me'' given;
+    }
+
+-- the seat rests again
+pub rests_again : {S F : Type 0} {past : List BookEntry} (k : ℕ) (first : F) (own : List Noted) (ps ps' : List Pass) (t : Taken S) (es : List BookEntry) (me me' me'' : Seated S F) (c : List (ℕ × Option S)) → me ≡ resting k first own ps past → me' ≡ (with_held me.0 (Some t), c)
+    → me'' ≡ (given_back me'.0 es ps', []) → me'' ≡ resting k first (is_own_of me''.0) (passes_of me''.0) (past_of me''.0)
+rests_again {S} {F} k first own ps ps' t es me me' me'' c is was now =
+    let rests : me'' ≡ resting k first (own ++ noted_from (length t.log) es) ps' t.log =
+    now ∙ ap (λ (m : Seated S F). (given_back m.0 es ps', [])) was ∙ ap (λ (m : Seated S F). (given_back (with_held m.0 (Some t)) es ps', [])) is in
+    rests ∙ ap (λ (m : Seated S F). resting k first (is_own_of m.0) (passes_of m.0) (past_of m.0)) (sym rests)
+
+-- ---- why a redo is refused
+
+first_reason : {D B : Type 0} {g h : _} (first : D) (log : List BookEntry) (x : Segment D B g h) (result : Result ℕ StoreNo) → Behind first log x → HasReason (moment x).files result → HasFirstReason log (g.seen first) result
+first_reason {g = g} first log x result behind reason = λ whole none. elim (behind.unread none).1 as (λ _. HasReason (g.seen first) result) [
+  | inl breaks ↦ absurd (never_both (has_break log) breaks whole)
+  | inr same ↦ subst (λ f. HasReason f result) same reason
+]
+  where
+    never_both : (b : Bool) → b ≡ true → b ≡ false → ⊥
+    never_both b one two = cc
+
+pub redo_reason : {D B : Type 0} {g h : _} {past : List BookEntry} (k : ℕ) (first : D) (own : List Noted) (ps : List Pass) (log : List BookEntry) (x : Segment D B g h) (id : TableId) (me : Seated (Segment D B g h) D) (old : TokenModel D) (first_now : Option D) (past_now : List BookEntry)
+    (result : Result ℕ StoreNo) → token_of (Segment D B g h) D id k me ≡ old → me ≡ resting k first own ps past → Tells Behind Knows me.0 (taken log x) → HasReason (moment x).files result → first_now ≡ old.first → past_now ≡ log
+    → IfSome first_now (λ f. HasFirstReason past_now (g.seen f) result)
+redo_reason {D} {B} {g} {h} k first own ps log x id me old first_now past_now result view is tells reason same past_is =
+    let tells' = (subst (λ (m : Seated (Segment D B g h) D). Tells Behind Knows m.0 (taken log x)) is tells).0 in
+    let first_is : first_now ≡ Some first = same ∙ ap (λ (t : TokenModel D). t.first) (sym view) ∙ ap (λ (m : Seated (Segment D B g h) D). first_of m.0) is in
+    subst (λ (o : Option D). IfSome o (λ f. HasFirstReason past_now (g.seen f) result)) (sym first_is)
+    (subst (λ l. HasFirstReason l (g.seen first) result) (sym past_is) (first_reason first log x result tells'.0 reason))
+
+-- a stale pass was refused by no redo
+pub stale_reason : {D : Type 0} (seen : D → Option Files) (o : Option D) (past : List BookEntry) (mine found : ℕ) (refusal : StoreNo) → refusal ≡ Stale mine found → IfSome o (λ f. HasFirstReason past (seen f) (Err refusal))
+stale_reason seen None past mine found refusal is = tt
+stale_reason seen (Some f) past mine found refusal is = λ whole none fault redo. absurd (cc)
+
+pub token_admits : {D B : Type 0} {g h : _} {past : List BookEntry} (k : ℕ) (first : D) (own : List Noted) (ps : List Pass) (log : List BookEntry) (x : Segment D B g h) (me : Seated (Segment D B g h) D) (p : Pass)
+    → me ≡ resting k first own ps past → Tells Behind Knows me.0 (taken log x) → Among p ps → p.generation ≡ (moment x).generation → Admits p (moment x)
 token_admits {D} {B} {g} {h} k first own ps log x me p is tells in_ gen =
     let tells' = (subst (λ (m : Seated (Segment D B g h) D). Tells Behind Knows m.0 (taken log x)) is tells).0 in
     let gen' : p.generation ≡ generation_of log = gen ∙ sym tells'.0.generation in
@@ -202,8 +287,8 @@ token_admits {D} {B} {g} {h} k first own ps log x me p is tells in_ gen =
     let few = tells'.2 p.pid in
     admits_known first log x p tells'.0 (known_at (Knows log x) (generation_of log) p ps tells'.1 in_ gen') gen (omega (arith, some, few))
 
-pub token_may_quiet : {D B : Type 0} {g h : _} {met : ℕ} (told : List BookEntry → Type 0) (k : ℕ) (first : D) (own : List Noted) (ps : List Pass) (log : List BookEntry) (x x' : Segment D B g h) (before now : Pass) (es : List BookEntry)
-    (me me' : Seated (Segment D B g h) D) (c : List (ℕ × Option (Segment D B g h))) → me ≡ resting k first own ps met → me' ≡ (with_held me.0 (Some (taken log x)), c) → Tells Behind Knows me.0 (taken log x)
+pub token_may_quiet : {D B : Type 0} {g h : _} {past : List BookEntry} (told : List BookEntry → Type 0) (k : ℕ) (first : D) (own : List Noted) (ps : List Pass) (log : List BookEntry) (x x' : Segment D B g h) (before now : Pass) (es : List BookEntry)
+    (me me' : Seated (Segment D B g h) D) (c : List (ℕ × Option (Segment D B g h))) → me ≡ resting k first own ps past → me' ≡ (with_held me.0 (Some (taken log x)), c) → Tells Behind Knows me.0 (taken log x)
     → told es → AllQuiet es → Moves es (moment x) (moment x') → Among before ps → before.generation ≡ (moment x).generation → now.pid ≡ before.pid → now.generation ≡ before.generation → Knows (log ++ es) x' now
     → MayGive Behind Knows told (renewed_pass before now (passes_of me'.0)) me'.0 x'
 token_may_quiet {D} {B} {g} {h} told k first own ps log x x' before now es me me' c is was tells is_told quiet moves in_ gen pid same knows =
@@ -227,8 +312,8 @@ may_none k first own ps log x tells = record {
   };
 }
 
-pub token_may_none : {D B : Type 0} {g h : _} {met : ℕ} (k : ℕ) (first : D) (own : List Noted) (ps : List Pass) (log : List BookEntry) (x : Segment D B g h)
-    (me me' : Seated (Segment D B g h) D) (c : List (ℕ × Option (Segment D B g h))) → me ≡ resting k first own ps met → me' ≡ (with_held me.0 (Some (taken log x)), c) → Tells Behind Knows me.0 (taken log x)
+pub token_may_none : {D B : Type 0} {g h : _} {past : List BookEntry} (k : ℕ) (first : D) (own : List Noted) (ps : List Pass) (log : List BookEntry) (x : Segment D B g h)
+    (me me' : Seated (Segment D B g h) D) (c : List (ℕ × Option (Segment D B g h))) → me ≡ resting k first own ps past → me' ≡ (with_held me.0 (Some (taken log x)), c) → Tells Behind Knows me.0 (taken log x)
     → MayGive Behind Knows IsNothing (passes_of me'.0) me'.0 x
 token_may_none {D} {B} {g} {h} k first own ps log x me me' c is was tells =
     let held : me'.0 ≡ Worker (hand_holding k first own ps (taken log x)) = ap (λ (m : Seated (Segment D B g h) D). m.0) was ∙ ap (λ (m : Seated (Segment D B g h) D). with_held m.0 (Some (taken log x))) is in
@@ -256,8 +341,8 @@ run_answer (Err refusal) g script log es before now notes view has =
     let own = quiet_own es (run_quiet (view_of before) g script (Err refusal) es notes) in
     subst (λ (v : PassView). HasAnswer v.pid v.front (log ++ es)) (sym view.1) (answer_on before.pid before.front log es own has)
 
-pub token_knows_run : {D B : Type 0} {g h : _} {met : ℕ} (r : Result Staged StoreNo) (s : Option ℕ) (script : List Stmt) (k : ℕ) (first : D) (own : List Noted) (ps : List Pass) (log es : List BookEntry) (x x' : Segment D B g h) (me : Seated (Segment D B g h) D) (before now : Pass)
-    → me ≡ resting k first own ps met → Tells Behind Knows me.0 (taken log x) → Among before ps → before.generation ≡ (moment x).generation
+pub token_knows_run : {D B : Type 0} {g h : _} {past : List BookEntry} (r : Result Staged StoreNo) (s : Option ℕ) (script : List Stmt) (k : ℕ) (first : D) (own : List Noted) (ps : List Pass) (log es : List BookEntry) (x x' : Segment D B g h) (me : Seated (Segment D B g h) D) (before now : Pass)
+    → me ≡ resting k first own ps past → Tells Behind Knows me.0 (taken log x) → Among before ps → before.generation ≡ (moment x).generation
     → RunNotes (user_of s (view_of before)) script r es → RunView r before now → Admits now (moment x') → Knows (log ++ es) x' now
 token_knows_run {D} {B} {g} {h} r s script k first own ps log es x x' me before now is tells in_ gen notes view admits =
     let tells' = (subst (λ (m : Seated (Segment D B g h) D). Tells Behind Knows m.0 (taken log x)) is tells).0 in
@@ -335,8 +420,8 @@ may_enter {D} {B} {g} {h} k first own ps log x x' (Err refusal) pid generation e
     nothing (Redo fault) es notes = absurd notes
     nothing NoMemory es notes = notes
 
-pub token_may_enter : {D B : Type 0} {g h : _} {met : ℕ} (k : ℕ) (first : D) (own : List Noted) (ps : List Pass) (log : List BookEntry) (x x' : Segment D B g h) (r : Result Pass StoreNo) (pid generation : ℕ) (es : List BookEntry)
-    (me me' : Seated (Segment D B g h) D) (c : List (ℕ × Option (Segment D B g h))) → me ≡ resting k first own ps met → me' ≡ (with_held me.0 (Some (taken log x)), c) → Tells Behind Knows me.0 (taken log x)
+pub token_may_enter : {D B : Type 0} {g h : _} {past : List BookEntry} (k : ℕ) (first : D) (own : List Noted) (ps : List Pass) (log : List BookEntry) (x x' : Segment D B g h) (r : Result Pass StoreNo) (pid generation : ℕ) (es : List BookEntry)
+    (me me' : Seated (Segment D B g h) D) (c : List (ℕ × Option (Segment D B g h))) → me ≡ resting k first own ps past → me' ≡ (with_held me.0 (Some (taken log x)), c) → Tells Behind Knows me.0 (taken log x)
     → EnterNotes (newcomer (Some (moment x).generation) pid generation) r es → Moves es (moment x) (moment x')
     → IfOk r (λ pass. Admits pass (moment x')) → IfOk r (λ pass. view_of pass ≡ new_pass pid generation)
     → MayGive Behind Knows (EnterNotes (newcomer None pid generation) r) (passes_entered r (passes_of me'.0)) me'.0 x'
@@ -397,8 +482,8 @@ may_leave k first own ps log x x' pass es tells in_ gen (inl es_is) moves =
     }
 may_leave k first own ps log x x' pass es tells in_ gen (inr other) moves = absurd (other.0 gen)
 
-pub token_may_leave : {D B : Type 0} {g h : _} {met : ℕ} (k : ℕ) (first : D) (own : List Noted) (ps : List Pass) (log : List BookEntry) (x x' : Segment D B g h) (pass : Pass) (es : List BookEntry)
-    (me me' : Seated (Segment D B g h) D) (c : List (ℕ × Option (Segment D B g h))) → me ≡ resting k first own ps met → me' ≡ (with_held me.0 (Some (taken log x)), c) → Tells Behind Knows me.0 (taken log x)
+pub token_may_leave : {D B : Type 0} {g h : _} {past : List BookEntry} (k : ℕ) (first : D) (own : List Noted) (ps : List Pass) (log : List BookEntry) (x x' : Segment D B g h) (pass : Pass) (es : List BookEntry)
+    (me me' : Seated (Segment D B g h) D) (c : List (ℕ × Option (Segment D B g h))) → me ≡ resting k first own ps past → me' ≡ (with_held me.0 (Some (taken log x)), c) → Tells Behind Knows me.0 (taken log x)
     → Among pass ps → pass.generation ≡ (moment x).generation → LeaveNotes (user_of (Some (moment x).generation) (view_of pass)) es → Moves es (moment x) (moment x')
     → MayGive Behind Knows (NotesLeave pass.pid true) (without_pass pass.pid pass.generation (passes_of me'.0)) me'.0 x'
 token_may_leave {D} {B} {g} {h} k first own ps log x x' pass es me me' c is was tells in_ gen notes moves =
@@ -451,8 +536,8 @@ may_stale k first own ps log x pass tells other =
       };
     }
 
-pub token_may_stale : {D B : Type 0} {g h : _} {met : ℕ} (k : ℕ) (first : D) (own : List Noted) (ps : List Pass) (log : List BookEntry) (x : Segment D B g h) (pass : Pass)
-    (me me' : Seated (Segment D B g h) D) (c : List (ℕ × Option (Segment D B g h))) → me ≡ resting k first own ps met → me' ≡ (with_held me.0 (Some (taken log x)), c) → Tells Behind Knows me.0 (taken log x) → pass.generation ≢ (moment x).generation
+pub token_may_stale : {D B : Type 0} {g h : _} {past : List BookEntry} (k : ℕ) (first : D) (own : List Noted) (ps : List Pass) (log : List BookEntry) (x : Segment D B g h) (pass : Pass)
+    (me me' : Seated (Segment D B g h) D) (c : List (ℕ × Option (Segment D B g h))) → me ≡ resting k first own ps past → me' ≡ (with_held me.0 (Some (taken log x)), c) → Tells Behind Knows me.0 (taken log x) → pass.generation ≢ (moment x).generation
     → MayGive Behind Knows (NotesLeave pass.pid false) (without_pass pass.pid pass.generation (passes_of me'.0)) me'.0 x
 token_may_stale {D} {B} {g} {h} k first own ps log x pass me me' c is was tells other =
     let held : me'.0 ≡ Worker (hand_holding k first own ps (taken log x)) = ap (λ (m : Seated (Segment D B g h) D). m.0) was ∙ ap (λ (m : Seated (Segment D B g h) D). with_held m.0 (Some (taken log x))) is in

@@ -4,13 +4,18 @@ use Rattle.std.specs.Prelude.{Some, IfSome, slice_get}
 use Rattle.atomic_table.specs.Seated.{TableId}
 use Rattle.pm_query.specs.declared.book.BookEntry.{BookEntry}
 use Rattle.pm_segment.specs.declared.pass.Pass.{Pass}
+use Rattle.pm_shared.specs.declared.views.Joined.{Joined}
 use Rattle.pm_shared.specs.declared.views.Noted.{Noted}
 use Rattle.pm_shared.specs.declared.views.Taken.{Taken}
 use Rattle.pm_shared.specs.Log.{IsShuffle}
 use Rattle.pm_shared.specs.Places.{EachOnce}
-use Rattle.pm_shared.specs.Told.{AreNewTokens, AreShares, AreTokens, new_token, shared_with, Seated, SharedModel, TokenModel, Tells, desk_resting, first_of, generation_in, is_own_of, joined_of}
+use Rattle.pm_shared.specs.Told.{AllContinue, AreNewTokens, AreShares, AreTokens, owns, pasts, new_token, shared_with, Seated, SharedModel, TokenModel, Tells, desk_resting, first_of, generation_in, is_own_of, joined_of}
 use Rattle.pm_shared.proofs.Keeps.{got_end}
 use Rattle.pm_shared.proofs.Places.{each_once}
+
+pub map-length : {A C : Type 0} (f : A → C) (xs : List A) → length (map f xs) ≡ length xs
+map-length f [] = refl
+map-length f (x ∷ xs) = let h = map-length f xs in omega (arith, h)
 
 -- what a shared side shows
 abbrev pub shown : (S F : Type 0) → TableId → ℕ → Seated S F → SharedModel F
@@ -18,15 +23,16 @@ shown S F t n me = record { table = t; tokens = n; first = first_of me.0; genera
 
 module _ {S F : Type 0} (Is : F → List BookEntry → S → Type 0) (Knows : List BookEntry → S → Pass → Type 0) where
   abbrev pub Closes : S → SharedModel F → Type 0
-  Closes x s = IfSome s.first (λ first. (log : List BookEntry) × Is first log x × IsShuffle s.tokens s.joined s.own log × EachOnce s.joined s.own log)
+  Closes x s = IfSome s.first (λ first. (log : List BookEntry) × Is first log x × IsShuffle s.tokens (owns s.joined) s.own log × EachOnce (owns s.joined) s.own log
+      × AllContinue (pasts s.joined) log)
 
-  pub closes : (id : TableId) (n g : ℕ) (first : F) (own : List Noted) (joined : List (List Noted)) (me : Seated S F) (t : Taken S) (x : S) (s : SharedModel F)
+  pub closes : (id : TableId) (n g : ℕ) (first : F) (own : List Noted) (joined : List Joined) (me : Seated S F) (t : Taken S) (x : S) (s : SharedModel F)
       → me ≡ desk_resting n first g own joined → Tells Is Knows me.0 t → t.store ≡ x → shown S F id n me ≡ s → length s.joined ≡ s.tokens → Closes x s
   closes id n g first own joined me t x s is tells store_is view_is all =
       let tells' = subst (λ (m : Seated S F). Tells Is Knows m.0 t) is tells in
       let shown_is : shown S F id n (desk_resting n first g own joined) ≡ s = ap (λ (m : Seated S F). shown S F id n m) (sym is) ∙ view_is in
-      let all' : length joined ≡ n = ap (λ (y : SharedModel F). length y.joined) shown_is ∙ all ∙ sym (ap (λ (y : SharedModel F). y.tokens) shown_is) in
-      subst (Closes x) shown_is (t.log, subst (λ y. Is first t.log y) store_is tells'.2, tells'.0, each_once n joined own t.log all' tells'.0)
+      let all' : length (owns joined) ≡ n = map-length (λ (his : Joined). his.own) joined ∙ ap (λ (y : SharedModel F). length y.joined) shown_is ∙ all ∙ sym (ap (λ (y : SharedModel F). y.tokens) shown_is) in
+      subst (Closes x) shown_is (t.log, subst (λ y. Is first t.log y) store_is tells'.3, tells'.0, each_once n (owns joined) own t.log all' tells'.0, tells'.1)
 
 -- ---- tokens, one after the other
 
@@ -36,10 +42,6 @@ some_same x y e = cc
 pub got_at : {A : Type 0} (xs ys : List A) (a : A) → slice_get (xs ++ a ∷ ys) (length xs) ≡ Some a
 got_at [] ys a = refl
 got_at (x ∷ xs) ys a = got_at xs ys a
-
-pub map-length : {A C : Type 0} (f : A → C) (xs : List A) → length (map f xs) ≡ length xs
-map-length f [] = refl
-map-length f (x ∷ xs) = let h = map-length f xs in omega (arith, h)
 
 -- the next of all tokens
 pub next_token : {F : Type 0} (t : TableId) (n : ℕ) (all before rest : List (TokenModel F)) (token : TokenModel F) → AreTokens t n all → before ++ token ∷ rest ≡ all → (token.table ≡ t) × (token.number ≡ length before)
@@ -68,7 +70,7 @@ dealt n s s' ts token tokens are new grown = record {
     (λ k t e. ⊎_elim (λ (h : slice_get ts k ≡ Some t). let a = are.all.1 k t h in (a.0 ∙ table_is, a.1)) (λ (h : (k ≡ length ts) × (token ≡ t)). (ap (λ y. y.table) (sym h.1 ∙ new) ∙ table_is, ap (λ y. y.number) (sym h.1 ∙ new) ∙ tokens ∙ sym are.all.0 ∙ sym h.0)) (got_end ts token t k e)),
   );
   each = λ k t e. ⊎_elim (λ (h : slice_get ts k ≡ Some t). let a = are.each k t h in (a.0 ∙ first_is, a.1, a.2, a.3))
-      (λ (h : (k ≡ length ts) × (token ≡ t)). (ap (λ y. y.first) (sym h.1 ∙ new) ∙ first_is, ap (λ y. y.own) (sym h.1 ∙ new), ap (λ y. y.passes) (sym h.1 ∙ new), ap (λ y. y.met) (sym h.1 ∙ new))) (got_end ts token t k e);
+      (λ (h : (k ≡ length ts) × (token ≡ t)). (ap (λ y. y.first) (sym h.1 ∙ new) ∙ first_is, ap (λ y. y.own) (sym h.1 ∙ new), ap (λ y. y.passes) (sym h.1 ∙ new), ap (λ y. y.past) (sym h.1 ∙ new))) (got_end ts token t k e);
 }
   where
     table_is : s.table ≡ s'.table

@@ -23,12 +23,12 @@ running origin base at None files is faults replay run = tt
 running origin base at (Some book) None is faults replay run = tt
 running origin base at (Some book) (Some files) is faults replay run = inr (base, faults, (replay (inr (files, is))).legal, run)
 
-pub ends : {D B : Type 0} {g h : _} (R Q : D → List BookEntry → Type 0) (first : Option D) (store : Segment D B g h) (disk : D) (book : B) → IfSome first (λ f. (log : List BookEntry) × Behind f log store × R f log × Q f log)
+pub ends : {D B : Type 0} {g h : _} (R Q S : D → List BookEntry → Type 0) (first : Option D) (store : Segment D B g h) (disk : D) (book : B) → IfSome first (λ f. (log : List BookEntry) × Behind f log store × R f log × Q f log × S f log)
     → ((origin : Origin) (base : Base) → GoesFrom origin base (moment store) → IfSome (moment store).book (λ b. IsSure (moment store) → IsReplay base (moment store) b))
     → ((origin : Origin) (base : Base) → GoesFrom origin base (moment store) → Told (moment store) (IsRun origin base (moment store)))
     → disk ≡ disk_of store → book ≡ book_of store → IfSome first (λ f. EndsSafely (g.seen f) (g.ticks f) (g.faults f) (h.entries book) (g.seen disk) (g.ticks disk) (g.images disk))
-ends R Q None store disk book is replay run disk_is book_is = tt
-ends {g = g} {h = h} R Q (Some first) store disk book is replay run disk_is book_is = (λ (there : EndsSafely (g.seen first) (g.ticks first) (g.faults first) (moment store).book (moment store).files (moment store).ticks (moment store).images).
+ends R Q S None store disk book is replay run disk_is book_is = tt
+ends {g = g} {h = h} R Q S (Some first) store disk book is replay run disk_is book_is = (λ (there : EndsSafely (g.seen first) (g.ticks first) (g.faults first) (moment store).book (moment store).files (moment store).ticks (moment store).images).
     subst (λ b. EndsSafely (g.seen first) (g.ticks first) (g.faults first) (h.entries b) (g.seen disk) (g.ticks disk) (g.images disk)) (sym book_is)
     (subst (λ d. EndsSafely (g.seen first) (g.ticks first) (g.faults first) (moment store).book (g.seen d) (g.ticks d) (g.images d)) (sym disk_is) there)) (each is.1.stands)
   where

@@ -12,12 +12,13 @@ use Rattle.pm_query.specs.declared.book.BookEntry.{BookEntry}
 use Rattle.pm_query.specs.declared.book.BookEntry.TheVariants.{Opened}
 use Rattle.pm_query.specs.Book.{generation_of}
 use Rattle.pm_segment.specs.declared.pass.Pass.{Pass}
+use Rattle.pm_shared.specs.declared.views.Joined.{Joined}
 use Rattle.pm_shared.specs.declared.views.Taken.{Taken}
 use Rattle.pm_shared.specs.declared.views.Hand.{Hand}
 use Rattle.pm_shared.specs.declared.views.Desk.{Desk}
 use Rattle.pm_shared.specs.declared.views.View.{View}
 use Rattle.pm_shared.specs.declared.views.View.TheVariants.{Vacant, Founding, Master, Worker, Spent}
-use Rattle.pm_shared.specs.Log.{Line, book_of, lines, placed, AllBelow}
+use Rattle.pm_shared.specs.Log.{Continues, Line, book_of, lines, placed, AllBelow}
 use Rattle.pm_shared.specs.Passes.{live, AllUpTo, AllKnown}
 use Rattle.pm_shared.specs.Rule.{Cell, Where, home, out, sum_below, HasTaken, IsSeat, FitsDesk, Fits, AreCounted, Holds, Kept, taken}
 use Rattle.pm_shared.specs.Told.{with_held, Opens, Founded, new_desk, new_hand, dealt_more, next_hand, taken_in, TookAlone}
@@ -77,7 +78,7 @@ module _ {S F : Type 0} (Is : F → List BookEntry → S → Type 0) (Knows : Li
                 few = omega arith;
                 generation = f.generation;
                 own = f.own;
-                joined = λ i l g. let q = f.joined i l g in let lt = got_below d.joined i l g in (ap (λ (y : Cell). y.seat) (put_else cells k c i (λ is. absurd (omega arith))) ∙ q.0, q.1);
+                joined = λ i l g. let q = f.joined i l g in let lt = got_below d.joined i l g in (ap (λ (y : Cell). y.seat) (put_else cells k c i (λ is. absurd (omega arith))) ∙ q.0, q.1, q.2);
                 held = free_still w (taken (book_of log) x) id k (k + 1) d.held free f.held;
               })
               (λ (u : (j ≢ id) × (get_elem? s.views j ≡ some v)). others w master first cells log x k c (sym (f.seat)) j v u.0 (fits j v u.1)) (at_set s.views id j (Master d') v t))
@@ -87,7 +88,7 @@ module _ {S F : Type 0} (Is : F → List BookEntry → S → Type 0) (Knows : Li
                 number = omega arith;
                 first_is = f.first_is;
                 own = sym (placed-new k 0 log below);
-                met = omega arith;
+                past = (book_of log, refl);
                 held = newest w (taken (book_of log) x) p k h.holder;
               })
               (at_end (set s.views id (Master d')) (Worker hand) v j e);
@@ -118,7 +119,7 @@ module _ {S F : Type 0} (Is : F → List BookEntry → S → Type 0) (Knows : Li
         number = omega arith;
         first_is = g.first_is;
         own = g.own;
-        met = g.met;
+        past = g.past;
         held = g.held;
       }
       others w master first cells log x k c is j Spent ne g = g
@@ -129,7 +130,8 @@ module _ {S F : Type 0} (Is : F → List BookEntry → S → Type 0) (Knows : Li
   gathers id other d h free next s kept at apart there =
       let r = held_at Is Knows s id (Master d) tt at kept in
       let hold = r.7 in let w : Where = r.0 in let master : ℕ = r.1 in let dealt : ℕ = r.2 in let first : F = r.3 in let cells : ℕ → Cell = r.4 in let log : List Line = r.5 in let x : S = r.6 in
-      let d' : Desk S F = record { dealt = d.dealt; first = d.first; generation = d.generation; own = d.own; joined = d.joined ++ h.own ∷ []; held = d.held } in
+      let his : Joined = record { own = h.own; past = h.past } in
+      let d' : Desk S F = record { dealt = d.dealt; first = d.first; generation = d.generation; own = d.own; joined = d.joined ++ his ∷ []; held = d.held } in
       let mine : get_elem? s.views other ≡ some (Worker h) = ⊎_elim (λ (t : (other ≡ id) × (Master d' ≡ Worker h)). absurd (apart t.0)) (λ (t : (other ≢ id) × (get_elem? s.views other ≡ some (Worker h))). t.1) (at_set s.views id other (Master d') (Worker h) there) in
       let f = hold.each_seat id (Master d) at in let g = hold.each_seat other (Worker h) mine in
       let k : ℕ = h.number in let c : Cell = record { seat = id; passes = (cells k).passes } in let cells' : ℕ → Cell = put cells k c in
@@ -167,13 +169,13 @@ module _ {S F : Type 0} (Is : F → List BookEntry → S → Type 0) (Knows : Li
                 seat = f.seat;
                 dealt_is = f.dealt_is;
                 first_is = f.first_is;
-                few = let e = length-append d.joined (h.own ∷ []) in omega (arith, e, lt, k_is);
+                few = let e = length-append d.joined (his ∷ []) in omega (arith, e, lt, k_is);
                 generation = f.generation;
                 own = f.own;
                 joined = λ i l e. ⊎_elim
-                    (λ (y : slice_get d.joined i ≡ Some l). let q = f.joined i l y in let b = got_below d.joined i l y in (ap (λ (z : Cell). z.seat) (put_else cells k c i (λ is. absurd (omega arith))) ∙ q.0, q.1))
-                    (λ (y : (i ≡ length d.joined) × (h.own ≡ l)). let i_is : i ≡ k = y.0 ∙ sym k_is in (ap (λ z. (cells' z).seat) i_is ∙ ap (λ (z : Cell). z.seat) (put_here cells k c) ∙ f.seat, sym y.1 ∙ g.own ∙ ap (λ z. placed z 0 log) (sym i_is)))
-                    (got_end d.joined h.own l i e);
+                    (λ (y : slice_get d.joined i ≡ Some l). let q = f.joined i l y in let b = got_below d.joined i l y in (ap (λ (z : Cell). z.seat) (put_else cells k c i (λ is. absurd (omega arith))) ∙ q.0, q.1, q.2))
+                    (λ (y : (i ≡ length d.joined) × (his ≡ l)). let i_is : i ≡ k = y.0 ∙ sym k_is in (ap (λ z. (cells' z).seat) i_is ∙ ap (λ (z : Cell). z.seat) (put_here cells k c) ∙ f.seat, ap (λ (z : Joined). z.own) (sym y.1) ∙ g.own ∙ ap (λ z. placed z 0 log) (sym i_is), subst (λ (z : Joined). Continues z.past (book_of log)) y.1 g.past))
+                    (got_end d.joined his l i e);
                 held = f.held;
               })
               (λ (u : (j ≢ id) × (get_elem? s.views j ≡ some v)). others w master dealt first cells log x k c (sym f.seat) g.seat j v u.0 t.0 (hold.each_seat j v u.1)) (at_set s.views id j (Master d') v t.1)) (at_set (set s.views id (Master d')) other j Spent v e);
@@ -196,7 +198,7 @@ module _ {S F : Type 0} (Is : F → List BookEntry → S → Type 0) (Knows : Li
         number = f.number;
         first_is = f.first_is;
         own = f.own;
-        met = f.met;
+        past = f.past;
         held = f.held;
       }
       others w master dealt first cells log x k c is seat j Spent ne ne' f = f

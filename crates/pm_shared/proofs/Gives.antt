@@ -1,5 +1,5 @@
 -- The store is given back, and the rule is kept.
-use Rattle.std.proofs.Common.{◌≡◌, ◌≢◌, inr, ⊎_elim, ℕ, ◌+◌, ◌≤◌, List, [], ◌∷◌, ◌++◌, length, sym, ap, ◌∙◌, subst, arith, length-set, get_or-set_same, append-nil}
+use Rattle.std.proofs.Common.{◌≡◌, ◌≢◌, inr, ⊎_elim, ℕ, ◌+◌, List, [], ◌∷◌, ◌++◌, length, sym, ap, ◌∙◌, subst, arith, length-set, get_or-set_same, append-nil}
 use mathlib.Core.Option.{none, some}
 use lib.ListN.{get_elem?}
 use Rattle.std.specs.Prelude.{Option, Some, None}
@@ -18,7 +18,7 @@ use Rattle.pm_shared.specs.Passes.{AllKnown}
 use Rattle.pm_shared.specs.Rule.{Cell, Where, home, out, HasTaken, Fits, AreCounted, Holds, Kept, taken}
 use Rattle.pm_shared.specs.Told.{Gave, log_in, Turns, HandStep, HandMay, DeskStep, DeskMay}
 use Rattle.pm_shared.proofs.Keeps.{put, at_put, put_here, put_else, counted_put, St, held_at}
-use Rattle.pm_shared.proofs.Logs.{rest-append, rest-own, rest-none, placed-append, placed-own, placed-other, placed-none, below-append, below-lines, below-none, book-append, book-lines, book-length, known_on}
+use Rattle.pm_shared.proofs.Logs.{continues_lines, rest-append, rest-own, rest-none, placed-append, placed-own, placed-other, placed-none, below-append, below-lines, below-none, book-append, book-lines, book-length, known_on}
 
 module _ {S F : Type 0} (Is : F → List BookEntry → S → Type 0) (Knows : List BookEntry → S → Pass → Type 0) where
   is_out : (w : Where) (t b : Taken S) (id n : ℕ) → HasTaken w t id n (Some b) → w ≡ out id n
@@ -44,7 +44,7 @@ module _ {S F : Type 0} (Is : F → List BookEntry → S → Type 0) (Knows : Li
       own = f.own ∙ sym (rest-append 0 log (lines k es) ∙ ap (λ z. placed_rest 0 log ++ z) (rest-own k (0 + length log) es all_own) ∙ append-nil (placed_rest 0 log));
       joined = λ i l e.
           let h = f.joined i l e in let other : i ≢ k = λ same. ne (f.seat ∙ sym h.0 ∙ ap (λ q. (cells q).seat) same ∙ is) in
-          (ap (λ (q : Cell). q.seat) (put_else cells k c i other) ∙ h.0, h.1 ∙ sym (placed-append i 0 log (lines k es) ∙ ap (λ z. placed i 0 log ++ z) (placed-other i k (0 + length log) es other) ∙ append-nil (placed i 0 log)));
+          (ap (λ (q : Cell). q.seat) (put_else cells k c i other) ∙ h.0, h.1 ∙ sym (placed-append i 0 log (lines k es) ∙ ap (λ z. placed i 0 log ++ z) (placed-other i k (0 + length log) es other) ∙ append-nil (placed i 0 log)), continues_lines l.past log k es h.2);
       held = back_else (taken (book_of log) x) (taken (book_of (log ++ lines k es)) x') id n j d.dealt d.held ne f.held;
     }
     fits_grown id n k c es x' j (Worker h) is all_own same_generation ne f = let other : h.number ≢ k = λ same. ne (sym f.seat ∙ ap (λ q. (cells q).seat) same ∙ is) in record {
@@ -53,19 +53,19 @@ module _ {S F : Type 0} (Is : F → List BookEntry → S → Type 0) (Knows : Li
       number = f.number;
       first_is = f.first_is;
       own = f.own ∙ sym (placed-append h.number 0 log (lines k es) ∙ ap (λ z. placed h.number 0 log ++ z) (placed-other h.number k (0 + length log) es other) ∙ append-nil (placed h.number 0 log));
-      met = subst (λ (m : ℕ). h.met ≤ m) (sym same_generation) f.met;
+      past = continues_lines h.past log k es f.past;
       held = back_else (taken (book_of log) x) (taken (book_of (log ++ lines k es)) x') id n j h.number h.held ne f.held;
     }
     fits_grown id n k c es x' j Spent is all_own same_generation ne f = tt
 
     pub gave_hand : (s : St S F) (id n : ℕ) (h : Hand S F) (added : List BookEntry) (ps : List Pass) (x' : S) → AllOwn added → HandStep Is Knows (taken (book_of log) x) added h.passes ps x'
         → get_elem? s.views id ≡ some (Worker h) → (w : Where) → Holds Is Knows w master dealt first cells log x s → w ≡ out id n
-        → Kept Is Knows (stepped s 0 0 id ((0, Some x') ∷ []) (Worker record { number = h.number; first = h.first; own = h.own ++ noted_from (length (book_of log)) added; passes = ps; met = h.met; held = None }) gives)
+        → Kept Is Knows (stepped s 0 0 id ((0, Some x') ∷ []) (Worker record { number = h.number; first = h.first; own = h.own ++ noted_from (length (book_of log)) added; passes = ps; past = h.past; held = None }) gives)
     gave_hand s id n h added ps x' own may at w hold w_is =
         let f = hold.each_seat id (Worker h) at in
         let k : ℕ = h.number in
         let c : Cell = record { seat = id; passes = ps } in let log' : List Line = log ++ lines k added in
-        let h' : Hand S F = record { number = k; first = h.first; own = h.own ++ noted_from (length (book_of log)) added; passes = ps; met = h.met; held = None } in
+        let h' : Hand S F = record { number = k; first = h.first; own = h.own ++ noted_from (length (book_of log)) added; passes = ps; past = h.past; held = None } in
         let book' : book_of log ++ added ≡ book_of log' = sym (book-append log (lines k added) ∙ ap (λ z. book_of log ++ z) (book-lines k added)) in
         let one : length s.words ≡ 1 = hold.one_word in let one' : length s.homes ≡ 1 = hold.one_slot in
         let same_generation : generation_of (book_of log') ≡ generation_of (book_of log) = ap generation_of (sym book') ∙ may.turns.same in
@@ -97,7 +97,7 @@ module _ {S F : Type 0} (Is : F → List BookEntry → S → Type 0) (Knows : Li
                   number = f.number;
                   first_is = f.first_is;
                   own = (λ i. f.own i ++ noted_from (start i) added) ∙ ap (λ z. placed k 0 log ++ z) (sym (placed-own k (0 + length log) added own)) ∙ sym (placed-append k 0 log (lines k added));
-                  met = subst (λ (m : ℕ). h.met ≤ m) (sym same_generation) f.met;
+                  past = continues_lines h.past log k added f.past;
                   held = tt;
                 })
                 (λ (t : (j ≢ id) × (get_elem? s.views j ≡ some u)). fits_grown id n k c added x' j u f.seat own same_generation t.0 (subst (λ w. Fits w master dealt first cells log x j u) w_is (hold.each_seat j u t.1))) (at_set s.views id j (Worker h') u e);
@@ -109,20 +109,20 @@ module _ {S F : Type 0} (Is : F → List BookEntry → S → Type 0) (Knows : Li
     same_place : (i : ℕ) (es : List BookEntry) → NoneOwn es → placed i 0 log ≡ placed i 0 (log ++ lines 0 es)
     same_place i es none_own = sym (placed-append i 0 log (lines 0 es) ∙ ap (λ z. placed i 0 log ++ z) (placed-none i 0 (0 + length log) es none_own) ∙ append-nil (placed i 0 log))
 
-    fits_kept : (id n : ℕ) (es : List BookEntry) (x' : S) → NoneOwn es → generation_of (book_of log) ≤ generation_of (book_of (log ++ lines 0 es)) → id ≡ master → (j : ℕ) (v : View S F) → j ≢ id → Fits (out id n) master dealt first cells log x j v → Fits home master dealt first cells (log ++ lines 0 es) x' j v
-    fits_kept id n es x' none_own later mine j Vacant ne f = absurd f
-    fits_kept id n es x' none_own later mine j Founding ne f = absurd f
-    fits_kept id n es x' none_own later mine j (Master d) ne f = absurd (ne (f.seat ∙ sym mine))
-    fits_kept id n es x' none_own later mine j (Worker h) ne f = record {
+    fits_kept : (id n : ℕ) (es : List BookEntry) (x' : S) → NoneOwn es → id ≡ master → (j : ℕ) (v : View S F) → j ≢ id → Fits (out id n) master dealt first cells log x j v → Fits home master dealt first cells (log ++ lines 0 es) x' j v
+    fits_kept id n es x' none_own mine j Vacant ne f = absurd f
+    fits_kept id n es x' none_own mine j Founding ne f = absurd f
+    fits_kept id n es x' none_own mine j (Master d) ne f = absurd (ne (f.seat ∙ sym mine))
+    fits_kept id n es x' none_own mine j (Worker h) ne f = record {
       seat = f.seat;
       passes = f.passes;
       number = f.number;
       first_is = f.first_is;
       own = f.own ∙ same_place h.number es none_own;
-      met = omega (arith, f.met, later);
+      past = continues_lines h.past log 0 es f.past;
       held = back_else (taken (book_of log) x) (taken (book_of (log ++ lines 0 es)) x') id n j h.number h.held ne f.held;
     }
-    fits_kept id n es x' none_own later mine j Spent ne f = tt
+    fits_kept id n es x' none_own mine j Spent ne f = tt
 
     pub gave_desk : (s : St S F) (id n : ℕ) (d : Desk S F) (added : List BookEntry) (x' : S) → NoneOwn added → DeskStep Is Knows (taken (book_of log) x) added x'
         → get_elem? s.views id ≡ some (Master d) → (w : Where) → Holds Is Knows w master dealt first cells log x s → w ≡ out id n
@@ -160,10 +160,10 @@ module _ {S F : Type 0} (Is : F → List BookEntry → S → Type 0) (Knows : Li
                   few = f.few;
                   generation = ap generation_of book';
                   own = (λ i. f.own i ++ noted_from (start i) added) ∙ ap (λ z. placed_rest 0 log ++ z) (sym (rest-none 0 (0 + length log) added none_own)) ∙ sym (rest-append 0 log (lines 0 added));
-                  joined = λ i l e. let h = f.joined i l e in (h.0, h.1 ∙ same_place i added none_own);
+                  joined = λ i l e. let h = f.joined i l e in (h.0, h.1 ∙ same_place i added none_own, continues_lines l.past log 0 added h.2);
                   held = tt;
                 })
-                (λ (t : (j ≢ id) × (get_elem? s.views j ≡ some u)). fits_kept id n added x' none_own (subst (λ (z : List BookEntry). generation_of (book_of log) ≤ generation_of z) book' may.later) f.seat j u t.0 (subst (λ w. Fits w master dealt first cells log x j u) w_is (hold.each_seat j u t.1))) (at_set s.views id j (Master d') u e);
+                (λ (t : (j ≢ id) × (get_elem? s.views j ≡ some u)). fits_kept id n added x' none_own f.seat j u t.0 (subst (λ w. Fits w master dealt first cells log x j u) w_is (hold.each_seat j u t.1))) (at_set s.views id j (Master d') u e);
           },
         )
 
@@ -178,11 +178,11 @@ module _ {S F : Type 0} (Is : F → List BookEntry → S → Type 0) (Knows : Li
       let was_is : may.was ≡ t = (subst (λ w. HasTaken w t id h.number (Some may.was)) w_is has).2 in
       let n : ℕ = length (book_of r.5) in
       let log_is : book_of r.5 ≡ log_in h.held = ap (λ (y : Taken S). y.log) (sym was_is) ∙ ap log_in (sym may.held) in (
-        Worker record { number = h.number; first = h.first; own = h.own ++ noted_from n may.added; passes = ps; met = h.met; held = None },
+        Worker record { number = h.number; first = h.first; own = h.own ++ noted_from n may.added; passes = ps; past = h.past; held = None },
         gives,
         tt,
         gave_hand r.1 r.2 r.3 r.4 r.5 r.6 s id h.number h may.added ps x' may.own (subst (λ y. HandStep Is Knows y may.added h.passes ps x') was_is may.step) at r.0 hold w_is,
-        (may.added, may.is_told, (λ i. (Worker record { number = h.number; first = h.first; own = h.own ++ noted_from (length (log_is i)) may.added; passes = ps; met = h.met; held = None }, []))),
+        (may.added, may.is_told, (λ i. (Worker record { number = h.number; first = h.first; own = h.own ++ noted_from (length (log_is i)) may.added; passes = ps; past = h.past; held = None }, []))),
       )
 
   pub gives_desk : (told : List BookEntry → Type 0) (ps : List Pass) (id : ℕ) (d : Desk S F) (x' : S) → DeskMay Is Knows told d x'

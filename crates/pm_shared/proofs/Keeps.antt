@@ -1,5 +1,5 @@
 -- Each step keeps the rule.
-use Rattle.std.proofs.Common.{◌≡◌, ◌≢◌, ◌⊎◌, inl, inr, ⊎_elim, ℕ, zero, suc, ◌+◌, ◌<◌, ◌≤◌, ◌==◌, List, [], ◌∷◌, ◌++◌, length, get_or, sym, refl, ap, ◌∙◌, subst, arith, length-set, get_or-set_same}
+use Rattle.std.proofs.Common.{◌≡◌, ◌≢◌, ◌⊎◌, inl, inr, ⊎_elim, ℕ, zero, suc, ◌+◌, ◌<◌, ◌≤◌, ◌==◌, List, [], ◌∷◌, ◌++◌, length, get_or, sym, refl, ap, ◌∙◌, subst, arith, append-nil, length-set, get_or-set_same}
 use mathlib.Core.Option.{none, some, some-ne-none, some-injective}
 use mathlib.Core.Option as maybe
 use native.Mathlib.Decide.{ℕ_discrete}
@@ -20,7 +20,7 @@ use Rattle.pm_shared.specs.Log.{Line, book_of, AllBelow}
 use Rattle.pm_shared.specs.Passes.{live, AllUpTo, AllKnown}
 use Rattle.pm_shared.specs.Rule.{Cell, Where, home, out, sum_below, IsThere, HasTaken, Fits, AreCounted, Holds, IsHeld, Kept, taken}
 use Rattle.pm_shared.specs.Told.{number_of, with_held, Tells, Took, Turns, IsMine}
-use Rattle.pm_shared.proofs.Logs.{sum_put, member_below}
+use Rattle.pm_shared.proofs.Logs.{all_continue, owned_at, sum_put, member_below}
 
 abbrev pick : {P C : Type 0} → Dec P → C → C → C
 pick (yes _) a b = a
@@ -132,21 +132,22 @@ module _ {S F : Type 0} (Is : F → List BookEntry → S → Type 0) (Knows : Li
     fits_else id n j Vacant ne f = absurd f
     fits_else id n j Founding ne f = absurd f
     fits_else id n j (Master d) ne f = record { seat = f.seat; dealt_is = f.dealt_is; first_is = f.first_is; few = f.few; generation = f.generation; own = f.own; joined = f.joined; held = taken_else id n j d.dealt d.held ne f.held }
-    fits_else id n j (Worker h) ne f = record { seat = f.seat; passes = f.passes; number = f.number; first_is = f.first_is; own = f.own; met = f.met; held = taken_else id n j h.number h.held ne f.held }
+    fits_else id n j (Worker h) ne f = record { seat = f.seat; passes = f.passes; number = f.number; first_is = f.first_is; own = f.own; past = f.past; held = taken_else id n j h.number h.held ne f.held }
     fits_else id n j Spent ne f = ne
 
     fits_taken : (id : ℕ) (v : View S F) → IsMine v → Fits home master dealt first cells log x id v → Fits (out id (number_of v)) master dealt first cells log x id (with_held v (Some (taken (book_of log) x)))
     fits_taken id Vacant mine f = absurd mine
     fits_taken id Founding mine f = absurd mine
     fits_taken id (Master d) mine f = record { seat = f.seat; dealt_is = f.dealt_is; first_is = f.first_is; few = f.few; generation = f.generation; own = f.own; joined = f.joined; held = (refl, refl, refl) }
-    fits_taken id (Worker h) mine f = record { seat = f.seat; passes = f.passes; number = f.number; first_is = f.first_is; own = f.own; met = omega arith; held = (refl, refl, refl) }
+    fits_taken id (Worker h) mine f = record { seat = f.seat; passes = f.passes; number = f.number; first_is = f.first_is; own = f.own; past = ([], sym (append-nil (book_of log))); held = (refl, refl, refl) }
     fits_taken id Spent mine f = absurd mine
 
     tells : (w : Where) (s : St S F) (id : ℕ) (v : View S F) → Holds Is Knows w master dealt first cells log x s → Fits w master dealt first cells log x id v → Tells Is Knows v (taken (book_of log) x)
     tells w s id Vacant h f = tt
     tells w s id Founding h f = tt
     tells w s id (Master d) h f = (
-      record { log = log; book_is = refl; below = subst (λ n. AllBelow n log) (sym f.dealt_is) h.owned; each_list = λ k l e. (f.joined k l e).1; own_list = f.own },
+      record { log = log; book_is = refl; below = subst (λ n. AllBelow n log) (sym f.dealt_is) h.owned; each_list = λ k l e. let his = owned_at d.joined k l e in sym his.2 ∙ (f.joined k his.0 his.1).1; own_list = f.own },
+      all_continue d.joined (book_of log) (λ k his e. (f.joined k his e).2),
       sym f.generation,
       subst (λ z. Is z (book_of log) x) (sym f.first_is) h.stands,
     )
@@ -163,7 +164,7 @@ module _ {S F : Type 0} (Is : F → List BookEntry → S → Type 0) (Knows : Li
             omega arith,
         subst (AllUpTo (generation_of (book_of log))) f.passes (h.passes.known hand.number),
       ),
-      f.met,
+      f.past,
     )
     tells w s id Spent h f = tt
 

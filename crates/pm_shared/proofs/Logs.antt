@@ -1,13 +1,17 @@
 -- Lists of lines, of passes, and sums.
-use Rattle.std.proofs.Common.{◌≡◌, ◌≢◌, inl, inr, ℕ, zero, suc, ◌+◌, ◌<◌, ◌≤◌, ◌==◌, ◌&&◌, Bool, true, false, cond, List, [], ◌∷◌, ◌++◌, length, sym, refl, ap, ◌∙◌, subst, arith, ne_eqb, eq-eqb}
+use Rattle.std.proofs.Common.{◌≡◌, ◌≢◌, inl, inr, ℕ, zero, suc, ◌+◌, ◌<◌, ◌≤◌, ◌==◌, ◌&&◌, Bool, true, false, cond, List, [], ◌∷◌, ◌++◌, length, sym, refl, ap, ◌∙◌, subst, arith, append_assoc, ne_eqb, eq-eqb}
+use Rattle.std.specs.Prelude.{Some, slice_get}
 use Rattle.std.proofs.lemmas.Bool.Decides.{nat_tests}
 use mathlib.Core.Logic.{dite}
 use native.Mathlib.Decide.{ℕ_discrete}
 use Rattle.pm_query.specs.declared.book.BookEntry.{BookEntry}
 use Rattle.pm_segment.specs.declared.pass.Pass.{Pass}
-use Rattle.pm_shared.specs.Log.{Line, is_own, AllOwn, NoneOwn, book_of, lines, noted, noted_from, placed, placed_rest, AllBelow}
+use Rattle.pm_shared.specs.Log.{Line, is_own, AllOwn, NoneOwn, book_of, lines, noted, noted_from, placed, placed_rest, AllBelow, Continues}
 use Rattle.pm_shared.specs.Passes.{Among, live, without_pass, AllUpTo, AllKnown}
 use Rattle.pm_shared.specs.Rule.{sum_below}
+use Rattle.pm_shared.specs.Told.{AllContinue, owns, pasts}
+use Rattle.pm_shared.specs.declared.views.Joined.{Joined}
+use Rattle.pm_shared.specs.declared.views.Noted.{Noted}
 
 abbrev one : Bool → ℕ
 one b = cond b 1 0
@@ -96,6 +100,24 @@ book-lines k (e ∷ es) = ap (λ l. e ∷ l) (book-lines k es)
 pub book-length : (xs : List Line) → length (book_of xs) ≡ length xs
 book-length [] = refl
 book-length (x ∷ xs) = let h : length (book_of xs) ≡ length xs = book-length xs in omega arith
+
+-- ---- what goes on
+
+pub continues_on : (past log es : List BookEntry) → Continues past log → Continues past (log ++ es)
+continues_on past log es on = (on.0 ++ es, ap (λ l. l ++ es) on.1 ∙ append_assoc past on.0 es)
+
+pub continues_lines : (past : List BookEntry) (log : List Line) (k : ℕ) (es : List BookEntry) → Continues past (book_of log) → Continues past (book_of (log ++ lines k es))
+continues_lines past log k es on = subst (Continues past) (sym (book-append log (lines k es) ∙ ap (λ z. book_of log ++ z) (book-lines k es))) (continues_on past (book_of log) es on)
+
+-- what each joined token noted, and that the log goes on from what it found
+pub owned_at : (joined : List Joined) (k : ℕ) (l : List Noted) → slice_get (owns joined) k ≡ Some l → (his : Joined) × (slice_get joined k ≡ Some his) × (his.own ≡ l)
+owned_at [] k l e = absurd (cc)
+owned_at (his ∷ joined) zero l e = (his, refl, cc)
+owned_at (his ∷ joined) (suc k) l e = owned_at joined k l e
+
+pub all_continue : (joined : List Joined) (log : List BookEntry) → ((k : ℕ) (his : Joined) → slice_get joined k ≡ Some his → Continues his.past log) → AllContinue (pasts joined) log
+all_continue [] log each = tt
+all_continue (his ∷ joined) log each = (each 0 his refl, all_continue joined log (λ k other e. each (suc k) other e))
 
 -- ---- sums
 

@@ -114,8 +114,8 @@ checkpoint_free v g clean (Err (Redo fault)) es n = absurd n
 checkpoint_free v g clean (Err NoMemory) es n = n
 
 -- a pass that is as it was is known still
-pub token_knows_same : {D B : Type 0} {g h : _} {met : ℕ} (k : ℕ) (first : D) (own : List Noted) (ps : List Pass) (log es : List BookEntry) (x x' : Segment D B g h) (me : Seated (Segment D B g h) D) (before now : Pass)
-    → me ≡ resting k first own ps met → Tells Behind Knows me.0 (taken log x) → Among before ps → before.generation ≡ (moment x).generation → AllQuiet es → view_of now ≡ view_of before → Admits now (moment x') → Knows (log ++ es) x' now
+pub token_knows_same : {D B : Type 0} {g h : _} {past : List BookEntry} (k : ℕ) (first : D) (own : List Noted) (ps : List Pass) (log es : List BookEntry) (x x' : Segment D B g h) (me : Seated (Segment D B g h) D) (before now : Pass)
+    → me ≡ resting k first own ps past → Tells Behind Knows me.0 (taken log x) → Among before ps → before.generation ≡ (moment x).generation → AllQuiet es → view_of now ≡ view_of before → Admits now (moment x') → Knows (log ++ es) x' now
 token_knows_same {D} {B} {g} {h} k first own ps log es x x' me before now is tells in_ gen quiet view admits =
     let tells' = (subst (λ (m : Seated (Segment D B g h) D). Tells Behind Knows m.0 (taken log x)) is tells).0 in
     let gen' : before.generation ≡ generation_of log = gen ∙ sym tells'.0.generation in

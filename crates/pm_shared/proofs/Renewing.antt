@@ -13,8 +13,11 @@ use Rattle.pm_segment.specs.declared.segment.Segment.{Segment}
 use Rattle.pm_segment.specs.Children.{AreOthers, IsAttendedBy, once, times_behind, times_in}
 use Rattle.pm_segment.specs.Moment.{Moment, disk_of, moment}
 use Rattle.pm_segment.specs.Moves.{IsAsBefore, IsShown, Moves, Renews}
-use Rattle.pm_segment.specs.MovesLaws.{moves_none}
-use Rattle.pm_segment.specs.Stands.{Begins, IsBaseOf, Origin, WaitsFrom}
+use Rattle.pm_segment.specs.MovesLaws.{begins_on, moves_none}
+use Rattle.pm_segment.specs.Stands.{Begins, Origin, WaitsFrom}
+use Rattle.pm_segment.specs.Unread.{has_break}
+use Rattle.pm_segment.specs.UnreadLaws.{break_before, redo_parts}
+use Rattle.pm_shared.specs.declared.views.Joined.{Joined}
 use Rattle.pm_shared.specs.declared.views.Noted.{Noted}
 use Rattle.pm_shared.specs.declared.views.Desk.{Desk}
 use Rattle.pm_shared.specs.declared.views.Taken.{Taken}
@@ -91,20 +94,22 @@ behind_renewed {g = g} first log x x' gone others generation are renews disk is 
     each = subst (λ d. All (IsShown (g.faults first) (g.faults d)) (log ++ renewal (gone ++ others) generation)) (sym disk)
         (All-append (IsShown (g.faults first) (moment x).faults) log (renewal (gone ++ others) generation) is.counts.each (gone_shown (g.faults first) (moment x).faults (gone ++ others) generation));
   };
+  unread = λ none.
+      let was = is.unread (redo_parts log (renewal (gone ++ others) generation) none).0 in
+      (renews.unread, subst (λ d. (has_break (log ++ renewal (gone ++ others) generation) ≡ true) ⊎ (g.seen d ≡ g.seen first)) (sym disk) (still was.1));
   stands = stands is.stands;
 }
   where
+    still : (has_break log ≡ true) ⊎ ((moment x).files ≡ g.seen first) → (has_break (log ++ renewal (gone ++ others) generation) ≡ true) ⊎ ((moment x).files ≡ g.seen first)
+    still (inl breaks) = inl (break_before log (renewal (gone ++ others) generation) breaks)
+    still (inr same) = inr same
+
     origin : Origin
     origin = record { files = g.seen first; tick = g.ticks first; faults = g.faults first }
 
     stands : WaitsFrom origin (moment x) ⊎ Begins origin (moment x) → WaitsFrom origin (moment x') ⊎ Begins origin (moment x')
     stands (inl waits) = inl (renews.waits origin waits)
-    stands (inr begins) = inr (record {
-      base = begins.base;
-      faults = begins.faults;
-      found = subst (λ d. IsBaseOf origin begins.base (g.faults d)) (sym disk) begins.found;
-      goes = renews.goes_on origin begins.base begins.goes;
-    })
+    stands (inr begins) = inr (begins_on origin (renewal (gone ++ others) generation) (moment x) (moment x') renews.notes (renews.goes_on origin) begins)
 
 pub moves_still : {D B : Type 0} {g h : _} (x x' : Segment D B g h) → IsAsBefore (moment x) (moment x') → disk_of x' ≡ disk_of x → Moves [] (moment x) (moment x')
 moves_still {g = g} x x' still disk = subst (λ (m : Moment). Moves [] (moment x) m) same (moves_none (moment x))
@@ -131,10 +136,10 @@ at_most false false = omega arith
 apart : (inside gone others : List ℕ) → AreOthers inside gone others → AreApart gone others
 apart inside gone others are pid = subst (λ n. n ≤ cond (nat_eq 0 (times_in pid gone)) 1 0) (sym (are pid)) (at_most (nat_lt 0 (times_in pid inside)) (nat_eq 0 (times_in pid gone)))
 
-abbrev pub desk_holding : {S F : Type 0} → ℕ → F → ℕ → List Noted → List (List Noted) → Taken S → Desk S F
+abbrev pub desk_holding : {S F : Type 0} → ℕ → F → ℕ → List Noted → List Joined → Taken S → Desk S F
 desk_holding n first gen own joined t = record { dealt = n; first = first; generation = gen; own = own; joined = joined; held = Some t }
 
-module _ {D B : Type 0} {g h : _} (n : ℕ) (first : D) (gen : ℕ) (own : List Noted) (joined : List (List Noted)) (log : List BookEntry) (x x' : Segment D B g h) (gone : List ℕ) (generation : ℕ) where
+module _ {D B : Type 0} {g h : _} (n : ℕ) (first : D) (gen : ℕ) (own : List Noted) (joined : List Joined) (log : List BookEntry) (x x' : Segment D B g h) (gone : List ℕ) (generation : ℕ) where
   abbrev pub Did : Result (Unit {0}) AllocError → Type 0
   Did r =
       OnOk r ((others : List ℕ) × AreOthers (moment x).inside gone others × Renews (map Gone (gone ++ others) ++ Opened generation ∷ []) (moment x) (moment x'))
@@ -151,7 +156,6 @@ module _ {D B : Type 0} {g h : _} (n : ℕ) (first : D) (gen : ℕ) (own : List 
         none_own = none_gone (gone ++ others) generation;
         step = record {
           resets = resets_behind log es next (nobody_behind log (moment x).inside gone others generation did.0.1 is.attended);
-          later = omega (arith, next);
           stands = λ f was. behind_renewed f log x x' gone others generation did.0.1 did.0.2 disk was;
           passes = λ ps up known. subst (λ z. Rattle.pm_shared.specs.Passes.AllKnown (Knows (log ++ es) x') z ps) (sym next) (known_later (Knows (log ++ es) x') (generation_of log) ps up);
         };
@@ -165,7 +169,6 @@ module _ {D B : Type 0} {g h : _} (n : ℕ) (first : D) (gen : ℕ) (own : List 
         none_own = tt;
         step = record {
           resets = λ dealt cells a. subst (AreCounted dealt cells) (sym (append-nil log)) a;
-          later = omega (arith, ap generation_of (append-nil log));
           stands = λ f was. behind_moves f log [] x x' tt moves was;
           passes = λ ps up known. subst (λ z. Rattle.pm_shared.specs.Passes.AllKnown (Knows (log ++ []) x') z ps) (sym (ap generation_of (append-nil log)))
               (known_on (Knows log x) (Knows (log ++ []) x') (generation_of log) ps (λ p e k. knows_moves log [] x x' p tt moves k) known);
@@ -177,9 +180,9 @@ module _ {D B : Type 0} {g h : _} (n : ℕ) (first : D) (gen : ℕ) (own : List 
   renew_may r me me' c is was tells did disk =
       let held : me'.0 ≡ Master (desk_holding n first gen own joined (taken log x)) = ap (λ (m : Seated (Segment D B g h) D). m.0) was ∙ ap (λ (m : Seated (Segment D B g h) D). with_held m.0 (Some (taken log x))) is in
       let tells' = subst (λ (m : Seated (Segment D B g h) D). Tells Behind Knows m.0 (taken log x)) is tells in
-      subst (λ (v : View (Segment D B g h) D). MayGive Behind Knows (RenewNotes generation gone r) [] v x') (sym held) (desk_may r tells'.2 did disk)
+      subst (λ (v : View (Segment D B g h) D). MayGive Behind Knows (RenewNotes generation gone r) [] v x') (sym held) (desk_may r tells'.3 did disk)
 
-pub renew_did : {S F : Type 0} (n : ℕ) (first : F) (gen : ℕ) (own : List Noted) (joined : List (List Noted)) (log es : List BookEntry) (x : S) (gone : List ℕ) (generation : ℕ) (r : Result (Unit {0}) AllocError)
+pub renew_did : {S F : Type 0} (n : ℕ) (first : F) (gen : ℕ) (own : List Noted) (joined : List Joined) (log es : List BookEntry) (x : S) (gone : List ℕ) (generation : ℕ) (r : Result (Unit {0}) AllocError)
     (id id' : TableId) (me me' me'' : Seated S F) (c c' : List (ℕ × Option S)) (old : SharedModel F) → me ≡ desk_resting n first gen own joined → me' ≡ (with_held me.0 (Some (taken log x)), c) → me'' ≡ (given_back me'.0 es [], c')
     → generation_of log ≡ gen → shown S F id n me ≡ old → id' ≡ id → generation ≡ old.generation + 1 → RenewNotes generation gone r es
     → OnOk r ((others : List ℕ) × AreApart gone others × HasRenewed old generation (renewal (gone ++ others) generation) (shown S F id' n me''))

@@ -8,6 +8,7 @@ use Rattle.pm_query.specs.declared.book.BookEntry.{BookEntry}
 use Rattle.pm_query.specs.declared.book.BookEntry.TheVariants.{Opened}
 use Rattle.pm_segment.specs.declared.pass.Pass.{Pass}
 use Rattle.pm_shared.specs.declared.views.Noted.{Noted}
+use Rattle.pm_shared.specs.declared.views.Joined.{Joined}
 use Rattle.pm_shared.specs.declared.views.Taken.{Taken}
 use Rattle.pm_shared.specs.declared.views.View.{View}
 use Rattle.pm_shared.specs.declared.views.View.TheVariants.{Vacant, Founding, Master, Worker, Spent}
@@ -49,17 +50,17 @@ module _ {S F : Type 0} (Is : F → List BookEntry → S → Type 0) (Knows : Li
   founds_as handed slots id me x one is stands =
       subst (λ (z : ℕ × Seated S F). Allows (Kept Is Knows) z.0 id z.1 0 (λ _. 0) (Founded handed (step z.0 0 0 0 none) z.1)) (λ i. (sym one i, sym is i)) (founds Is Knows handed id x stands)
 
-  pub deals_as : (id n g : ℕ) (first : F) (own : List Noted) (joined : List (List Noted)) (me : Seated S F) → me ≡ desk_resting n first g own joined → Splits (Kept Is Knows) id me.0 (dealt_more me.0) (next_hand me.0)
+  pub deals_as : (id n g : ℕ) (first : F) (own : List Noted) (joined : List Joined) (me : Seated S F) → me ≡ desk_resting n first g own joined → Splits (Kept Is Knows) id me.0 (dealt_more me.0) (next_hand me.0)
   deals_as id n g first own joined me is =
       subst (λ (m : Seated S F). Splits (Kept Is Knows) id m.0 (dealt_more m.0) (next_hand m.0)) (sym is) (deals Is Knows id record { dealt = n; first = first; generation = g; own = own; joined = joined; held = None } refl)
 
-  pub gathers_as : {m : ℕ} (id other n g k : ℕ) (first his : F) (own mine : List Noted) (joined : List (List Noted)) (ps : List Pass) (me him : Seated S F) → me ≡ desk_resting n first g own joined → him ≡ resting k his mine ps m → k ≡ length joined
+  pub gathers_as : {m : List BookEntry} (id other n g k : ℕ) (first his : F) (own mine : List Noted) (joined : List Joined) (ps : List Pass) (me him : Seated S F) → me ≡ desk_resting n first g own joined → him ≡ resting k his mine ps m → k ≡ length joined
       → Joins (Kept Is Knows) id me.0 other him.0 (taken_in me.0 him.0) Spent
   gathers_as {m} id other n g k first his own mine joined ps me him is is' next =
       subst (λ (m : Seated S F × Seated S F). Joins (Kept Is Knows) id m.0.0 other m.1.0 (taken_in m.0.0 m.1.0) Spent) (λ i. (sym is i, sym is' i))
-      (gathers Is Knows id other record { dealt = n; first = first; generation = g; own = own; joined = joined; held = None } record { number = k; first = his; own = mine; passes = ps; met = m; held = None } refl next)
+      (gathers Is Knows id other record { dealt = n; first = first; generation = g; own = own; joined = joined; held = None } record { number = k; first = his; own = mine; passes = ps; past = m; held = None } refl next)
 
-  pub alone_as : (slots id n g to : ℕ) (first : F) (own : List Noted) (joined : List (List Noted)) (me : Seated S F) → slots ≡ 1 → me ≡ desk_resting n first g own joined → length joined ≡ n → to ≡ n + 1
+  pub alone_as : (slots id n g to : ℕ) (first : F) (own : List Noted) (joined : List Joined) (me : Seated S F) → slots ≡ 1 → me ≡ desk_resting n first g own joined → length joined ≡ n → to ≡ n + 1
       → Allows (Kept Is Knows) slots id me 0 (λ w. either (w == 0) to w) (TookAlone Is Knows (step slots 0 0 to none) me)
   alone_as slots id n g to first own joined me one is all to_is =
       subst (λ (z : ℕ × Seated S F × ℕ). Allows (Kept Is Knows) z.0 id z.1 0 (λ w. either (w == 0) z.2 w) (TookAlone Is Knows (step z.0 0 0 z.2 none) z.1)) (λ i. (sym one i, sym is i, sym to_is i))

@@ -6,15 +6,17 @@ use Rattle.std.proofs.lemmas.List.Elements.{All-append, All-weaker}
 use Rattle.std.proofs.lemmas.List.Sums.{fold-append}
 use Rattle.pm_query.specs.declared.book.BookEntry.{BookEntry}
 use Rattle.pm_query.specs.declared.book.BookEntry.TheVariants.{Opened, Attached, Redone, Answered, Released, Detached, Gone, CheckpointEnded, Broke, LogFull}
-use Rattle.pm_query.specs.Book.{AnswersUpTo, Base, generation_after, generation_of, present, present_after, times_after, times_attached}
+use Rattle.pm_query.specs.Book.{AnswersUpTo, generation_after, generation_of, present, present_after, times_after, times_attached}
 use Rattle.pm_segment.specs.declared.pass.Pass.{Pass}
 use Rattle.pm_segment.specs.declared.segment.Segment.{Segment}
 use Rattle.pm_segment.specs.Children.{times_behind}
 use Rattle.pm_segment.specs.Moment.{Moment, moment}
 use Rattle.pm_segment.specs.Moves.{CountsEntries, IsShown, Moves, NotesEntries}
-use Rattle.pm_segment.specs.MovesLaws.{rose_later, shown_later, time_on}
+use Rattle.pm_segment.specs.MovesLaws.{begins_on, shown_later, time_on, unread_now}
 use Rattle.pm_segment.specs.Passes.{Admits, HasAnswer, IsInside}
-use Rattle.pm_segment.specs.Stands.{Begins, IsBaseOf, Origin, WaitsFrom}
+use Rattle.pm_segment.specs.Stands.{Begins, Origin, WaitsFrom}
+use Rattle.pm_segment.specs.Unread.{has_break}
+use Rattle.pm_segment.specs.UnreadLaws.{break_before, break_behind, redo_parts}
 use Rattle.pm_shared.specs.Behind.{Behind, Knows}
 use Rattle.pm_shared.specs.Log.{is_own, AllOwn}
 use Rattle.pm_shared.specs.Quiet.{IsQuiet, AllQuiet}
@@ -103,10 +105,6 @@ pub told_on : (before now : Option (List BookEntry)) (log es : List BookEntry) �
 told_on None now log es notes told = subst (λ (o : Option (List BookEntry)). IfSome o (λ book. book ≡ log ++ es)) (sym notes) tt
 told_on (Some book) now log es notes told = subst (λ (o : Option (List BookEntry)). IfSome o (λ book. book ≡ log ++ es)) (sym notes) (ap (λ l. l ++ es) told)
 
-pub base_later : (origin : Origin) (base : Base) (before now : ℕ) → before ≤ now → IsBaseOf origin base before → IsBaseOf origin base now
-base_later origin base before now le (inl rose) = inl (rose_later origin.faults before now le rose)
-base_later origin base before now le (inr means) = inr means
-
 counts_on : (from : ℕ) (log es : List BookEntry) (at now : Moment) → at.faults ≤ now.faults → CountsEntries from log at.faults at.live → CountsEntries from es now.faults now.live → CountsEntries from (log ++ es) now.faults now.live
 counts_on from log es at now le a b = record {
   counted = b.counted;
@@ -128,20 +126,25 @@ behind_moves {g = g} first log es x x' own moves is = record {
   attended = λ pid. times_on log es pid ∙ ap (times_behind es pid) (is.attended pid) ∙ sym (moves.attends pid);
   time = time_on (g.ticks first) (moment x).ticks (moment x').ticks (g.images first) (moment x).images (moment x').images is.time moves.time;
   counts = counts_on (g.faults first) log es (moment x) (moment x') moves.later is.counts (moves.counts (g.faults first) is.counts.counted);
+  unread = λ none.
+      let parts = redo_parts log es none in
+      let was = is.unread parts.0 in
+      let unread = unread_now es (moment x) (moment x') moves.unread was.0 parts.1 in
+      (unread, still (moves.unread.files unread) was.1);
   stands = stands is.stands;
 }
   where
+    still : (has_break es ≡ true) ⊎ ((moment x').files ≡ (moment x).files) → (has_break log ≡ true) ⊎ ((moment x).files ≡ g.seen first) → (has_break (log ++ es) ≡ true) ⊎ ((moment x').files ≡ g.seen first)
+    still (inl breaks) was = inl (break_behind log es breaks)
+    still (inr same) (inl breaks) = inl (break_before log es breaks)
+    still (inr same) (inr was) = inr (same ∙ was)
+
     origin : Origin
     origin = record { files = g.seen first; tick = g.ticks first; faults = g.faults first }
 
     stands : WaitsFrom origin (moment x) ⊎ Begins origin (moment x) → WaitsFrom origin (moment x') ⊎ Begins origin (moment x')
     stands (inl waits) = moves.waits origin waits
-    stands (inr begins) = inr (record {
-      base = begins.base;
-      faults = begins.faults;
-      found = base_later origin begins.base (moment x).faults (moment x').faults moves.later begins.found;
-      goes = moves.goes_on origin begins.base begins.goes;
-    })
+    stands (inr begins) = inr (begins_on origin es (moment x) (moment x') moves.notes (moves.goes_on origin) begins)
 
 pub answer_on : (pid : ℕ) (front : Option ℕ) (log es : List BookEntry) → AllOwn es → HasAnswer pid front log → HasAnswer pid front (log ++ es)
 answer_on pid None log es own has = tt

@@ -1,5 +1,5 @@
 -- What holds of a store behind the entries so far.
-use Rattle.std.specs.Prelude.{◌≡◌, ◌⊎◌, List, IfSome}
+use Rattle.std.specs.Prelude.{◌≡◌, ◌⊎◌, true, false, List, None, IfSome}
 use Rattle.pm_record.specs.OnDisk.{GoesOn}
 use Rattle.pm_query.specs.declared.book.BookEntry.{BookEntry}
 use Rattle.pm_query.specs.Book.{generation_of}
@@ -10,16 +10,19 @@ use Rattle.pm_segment.specs.Moment.{moment}
 use Rattle.pm_segment.specs.Moves.{CountsEntries}
 use Rattle.pm_segment.specs.Passes.{HasAnswer, IsFlushed}
 use Rattle.pm_segment.specs.Stands.{Begins, WaitsFrom}
+use Rattle.pm_segment.specs.Unread.{has_break, has_redo}
 
 -- The store is behind these entries, from the disk as it got it. Where its book tells, the book is these entries. Children
 -- are inside as often as the entries attach them, each fault among them was counted, and what a stop could leave before is as
--- it was. What held of the beginning holds still, or the first redo has come.
+-- it was. Before the first redo the files read as the store got them, unless a fault is among the entries. What held of the
+-- beginning holds still, or that redo has come.
 pub record Behind {D B : Type 0} {g h : _} (first : D) (log : List BookEntry) (store : Segment D B g h) : Type 0 where
   pub told : IfSome (moment store).book (λ book. book ≡ log)
   pub generation : generation_of log ≡ (moment store).generation
   pub attended : IsAttendedBy (moment store).inside log
   pub time : GoesOn (g.ticks first) (moment store).ticks (g.images first) (moment store).images
   pub counts : CountsEntries (g.faults first) log (moment store).faults (moment store).live
+  pub unread : has_redo log ≡ false → ((moment store).live ≡ None) × ((has_break log ≡ true) ⊎ ((moment store).files ≡ g.seen first))
   pub stands : WaitsFrom (record { files = g.seen first; tick = g.ticks first; faults = g.faults first }) (moment store)
       ⊎ Begins (record { files = g.seen first; tick = g.ticks first; faults = g.faults first }) (moment store)
 

@@ -1,14 +1,14 @@
 -- What a token's calls make of its list.
-use Rattle.std.specs.Prelude.{◌≡◌, ◌≤◌, ℕ, Bool, true, false, List, [], ◌∷◌, ◌++◌, Result, Ok, Err}
+use Rattle.std.specs.Prelude.{◌≡◌, ℕ, Bool, true, false, List, [], ◌∷◌, ◌++◌, Result, Ok, Err}
 use Rattle.pm_query.specs.declared.book.BookEntry.{BookEntry}
 use Rattle.pm_query.specs.declared.book.BookEntry.TheVariants.{Detached}
 use Rattle.pm_query.specs.declared.store.StoreNo.{StoreNo}
 use Rattle.pm_segment.specs.declared.pass.Pass.{Pass}
 use Rattle.pm_shared.specs.declared.views.Noted.{Noted}
-use Rattle.pm_shared.specs.Log.{entries_of}
+use Rattle.pm_shared.specs.Log.{Continues, entries_of}
 use Rattle.pm_shared.specs.Told.{TokenModel}
 
--- The token is the same one, its list got exactly these entries, at its end, and it has met no earlier generation.
+-- The token is the same one, its list got exactly these entries, at its end, and what it finds begins with what it found.
 pub record Grew {F : Type 0} (entries : List BookEntry) (before now : TokenModel F) : Type 0 where
   pub table : now.table ≡ before.table
   pub number : now.number ≡ before.number
@@ -16,7 +16,7 @@ pub record Grew {F : Type 0} (entries : List BookEntry) (before now : TokenModel
   pub added : List Noted
   pub own : now.own ≡ before.own ++ added
   pub added_are : entries_of added ≡ entries
-  pub met : before.met ≤ now.met
+  pub past : Continues before.past now.past
 
 -- the passes behind an enter
 abbrev pub passes_entered : Result Pass StoreNo → List Pass → List Pass

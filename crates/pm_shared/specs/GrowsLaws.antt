@@ -1,8 +1,12 @@
 -- The laws of a token as a store.
-use Rattle.std.proofs.Common.{arith, List, [], ◌∷◌, ◌++◌, ◌≡◌, refl, sym, ap, ◌∙◌, append-nil, append_assoc}
+use Rattle.std.proofs.Common.{ℕ, ◌≤◌, arith, List, [], ◌∷◌, ◌++◌, ◌≡◌, refl, sym, ap, ◌∙◌, subst, append-nil, append_assoc}
+use Rattle.std.specs.Prelude.{fold}
+use Rattle.std.proofs.lemmas.List.Sums.{fold-append}
 use Rattle.pm_query.specs.declared.book.BookEntry.{BookEntry}
+use Rattle.pm_query.specs.declared.book.BookEntry.TheVariants.{Opened, Attached, Redone, Answered, Released, Detached, Gone, CheckpointEnded, Broke, LogFull}
+use Rattle.pm_query.specs.Book.{generation_after, generation_of}
 use Rattle.pm_shared.specs.declared.views.Noted.{Noted}
-use Rattle.pm_shared.specs.Log.{entries_of}
+use Rattle.pm_shared.specs.Log.{Continues, entries_of}
 use Rattle.pm_shared.specs.Told.{TokenModel}
 use Rattle.pm_shared.specs.Grows.{Grew}
 
@@ -11,7 +15,7 @@ entries-append [] ys = refl
 entries-append (x ∷ xs) ys = ap (λ l. x.entry ∷ l) (entries-append xs ys)
 
 pub grew_none : {F : Type 0} (t : TokenModel F) → Grew [] t t
-grew_none t = record { table = refl; number = refl; first = refl; added = []; own = sym (append-nil t.own); added_are = refl; met = omega arith }
+grew_none t = record { table = refl; number = refl; first = refl; added = []; own = sym (append-nil t.own); added_are = refl; past = ([], sym (append-nil t.past)) }
 
 pub grew_on : {F : Type 0} (first second : List BookEntry) (a b c : TokenModel F) → Grew first a b → Grew second b c → Grew (first ++ second) a c
 grew_on first second a b c x y = record {
@@ -21,5 +25,28 @@ grew_on first second a b c x y = record {
   added = x.added ++ y.added;
   own = y.own ∙ ap (λ l. l ++ y.added) x.own ∙ append_assoc a.own x.added y.added;
   added_are = entries-append x.added y.added ∙ (λ i. x.added_are i ++ y.added_are i);
-  met = omega (arith, x.met, y.met);
+  past = (x.past.0 ++ y.past.0, y.past.1 ∙ ap (λ l. l ++ y.past.0) x.past.1 ∙ append_assoc a.past x.past.0 y.past.0);
 }
+
+-- ---- generations
+
+one_rises : (n : ℕ) (e : BookEntry) → n ≤ generation_after n e
+one_rises n (Opened generation) = omega arith
+one_rises n (Attached pid generation) = omega arith
+one_rises n (Redone pid generation kept) = omega arith
+one_rises n (Answered pid script reply commit front tick) = omega arith
+one_rises n (Released pid front tick) = omega arith
+one_rises n (Detached pid) = omega arith
+one_rises n (Gone pid) = omega arith
+one_rises n (CheckpointEnded pid done clean) = omega arith
+one_rises n (Broke pid since faults) = omega arith
+one_rises n (LogFull pid script need room) = omega arith
+
+all_rise : (n : ℕ) (es : List BookEntry) → n ≤ fold generation_after n es
+all_rise n [] = omega arith
+all_rise n (e ∷ es) = omega (arith, one_rises n e, all_rise (generation_after n e) es)
+
+-- what goes on is in no earlier generation
+pub generation_rises : (past log : List BookEntry) → Continues past log → generation_of past ≤ generation_of log
+generation_rises past log on =
+    subst (λ l. generation_of past ≤ generation_of l) (sym on.1) (omega (arith, fold-append generation_after 0 past on.0, all_rise (generation_of past) on.0))

@@ -6,6 +6,7 @@ pub mod Log
 pub mod Passes
 pub mod Places
 pub mod Quiet
+pub mod Reasons
 pub mod Renewed
 pub mod Rule
 pub mod Told

@@ -7,13 +7,13 @@ use Rattle.atomic_table.specs.Table.{State}
 use Rattle.pm_query.specs.declared.book.BookEntry.{BookEntry}
 use Rattle.pm_query.specs.Book.{generation_of, times_attached}
 use Rattle.pm_segment.specs.declared.pass.Pass.{Pass}
-use Rattle.pm_shared.specs.declared.views.Noted.{Noted}
+use Rattle.pm_shared.specs.declared.views.Joined.{Joined}
 use Rattle.pm_shared.specs.declared.views.Taken.{Taken}
 use Rattle.pm_shared.specs.declared.views.Hand.{Hand}
 use Rattle.pm_shared.specs.declared.views.Desk.{Desk}
 use Rattle.pm_shared.specs.declared.views.View.{View}
 use Rattle.pm_shared.specs.declared.views.View.TheVariants.{Vacant, Founding, Master, Worker, Spent}
-use Rattle.pm_shared.specs.Log.{Line, book_of, placed, placed_rest, AllBelow}
+use Rattle.pm_shared.specs.Log.{Line, book_of, placed, placed_rest, AllBelow, Continues}
 use Rattle.pm_shared.specs.Passes.{live, AllUpTo, AllKnown}
 
 -- a token: its seat, or the shared side's once it is joined, and its passes
@@ -62,7 +62,7 @@ module _ {S F : Type 0} where
     pub number : h.number < dealt
     pub first_is : h.first ≡ first
     pub own : h.own ≡ placed h.number 0 log
-    pub met : h.met ≤ generation_of (book_of log)
+    pub past : Continues h.past (book_of log)
     pub held : HasTaken w (taken (book_of log) x) id h.number h.held
 
   pub record FitsDesk (w : Where) (master dealt : ℕ) (first : F) (cells : ℕ → Cell) (log : List Line) (x : S) (id : ℕ) (d : Desk S F) : Type 0 where
@@ -72,7 +72,7 @@ module _ {S F : Type 0} where
     pub few : length d.joined ≤ dealt
     pub generation : d.generation ≡ generation_of (book_of log)
     pub own : d.own ≡ placed_rest 0 log
-    pub joined : (k : ℕ) (l : List Noted) → slice_get d.joined k ≡ Some l → ((cells k).seat ≡ master) × (l ≡ placed k 0 log)
+    pub joined : (k : ℕ) (his : Joined) → slice_get d.joined k ≡ Some his → ((cells k).seat ≡ master) × (his.own ≡ placed k 0 log) × Continues his.past (book_of log)
     pub held : HasTaken w (taken (book_of log) x) id d.dealt d.held
 
   abbrev pub Fits : Where → ℕ → ℕ → F → (ℕ → Cell) → List Line → S → ℕ → View S F → Type 0

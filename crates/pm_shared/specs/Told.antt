@@ -1,5 +1,5 @@
 -- What each step tells.
-use Rattle.std.specs.Prelude.{◌≡◌, ◌≢◌, ℕ, ◌+◌, ◌≤◌, List, [], ◌∷◌, ◌++◌, length, Option, Some, None, slice_get}
+use Rattle.std.specs.Prelude.{◌≡◌, ◌≢◌, ℕ, ◌+◌, ◌≤◌, List, [], ◌∷◌, ◌++◌, length, map, Option, Some, None, Result, Ok, Err, slice_get}
 use Rattle.atomic_table.specs.Table.{Me, Step}
 use Rattle.atomic_table.specs.Seated.{TableId}
 use Rattle.pm_query.specs.declared.book.BookEntry.{BookEntry}
@@ -7,14 +7,17 @@ use Rattle.pm_query.specs.declared.book.BookEntry.TheVariants.{Opened}
 use Rattle.pm_query.specs.Book.{generation_of, times_attached}
 use Rattle.pm_segment.specs.declared.pass.Pass.{Pass}
 use Rattle.pm_shared.specs.declared.views.Noted.{Noted}
+use Rattle.pm_shared.specs.declared.views.Joined.{Joined}
 use Rattle.pm_shared.specs.declared.views.Taken.{Taken}
 use Rattle.pm_shared.specs.declared.views.Hand.{Hand}
 use Rattle.pm_shared.specs.declared.views.Desk.{Desk}
 use Rattle.pm_shared.specs.declared.views.View.{View}
 use Rattle.pm_shared.specs.declared.views.View.TheVariants.{Vacant, Founding, Master, Worker, Spent}
-use Rattle.pm_shared.specs.Log.{noted, noted_from, AllOwn, NoneOwn, IsShuffle}
+use Rattle.pm_shared.specs.Log.{noted, noted_from, AllOwn, Continues, NoneOwn, IsShuffle}
 use Rattle.pm_shared.specs.Passes.{live, AllUpTo, AllKnown}
-use Rattle.pm_shared.specs.Rule.{Cell, AreCounted}
+use Rattle.pm_query.specs.declared.store.StoreNo.{StoreNo}
+use Rattle.pm_query.specs.declared.store.StoreNo.TheVariants.{Stale}
+use Rattle.pm_shared.specs.Rule.{Cell, AreCounted, taken}
 
 -- what a call's entries do to its passes and to who is attached
 pub record Turns (book added : List BookEntry) (ps ps' : List Pass) : Type 0 where
@@ -35,24 +38,36 @@ abbrev pub IsSmall : TableId → Type 0
 IsSmall t = (t.words ≡ 1) × (t.slots ≡ 1)
 
 -- What a token's contracts see: its table, its number, the disk as the store got it, the entries that its calls noted, with
--- their places, its passes, and the generation in which it found the store last.
+-- their places, its passes, and all entries that it found as it took the store last.
 pub record TokenModel (F : Type 0) : Type 0 where
   pub table : TableId
   pub number : ℕ
   pub first : Option F
   pub own : List Noted
   pub passes : List Pass
-  pub met : ℕ
+  pub past : List BookEntry
 
 -- What those of the shared side see: its table, how many tokens there are, the disk as the store got it, the generation, the
--- entries of its own calls, and the lists of the tokens that were joined.
+-- entries of its own calls, and what the tokens knew that were joined.
 pub record SharedModel (F : Type 0) : Type 0 where
   pub table : TableId
   pub tokens : ℕ
   pub first : Option F
   pub generation : ℕ
   pub own : List Noted
-  pub joined : List (List Noted)
+  pub joined : List Joined
+
+-- what the calls of each joined token noted, and what each found last
+abbrev pub owns : List Joined → List (List Noted)
+owns joined = map (λ (his : Joined). his.own) joined
+
+abbrev pub pasts : List Joined → List (List BookEntry)
+pasts joined = map (λ (his : Joined). his.past) joined
+
+-- all entries so far begin with each of these
+abbrev pub AllContinue : List (List BookEntry) → List BookEntry → Type 0
+AllContinue [] log = Unit {0}
+AllContinue (past ∷ others) log = Continues past log × AllContinue others log
 
 abbrev pub Seated : (S F : Type 0) → Type 0
 Seated S F = Me (Option S) (View S F)
@@ -62,10 +77,10 @@ module _ {S : Type 0} where
   log_in None = []
   log_in (Some t) = t.log
 
-  -- the generation that is met by who takes the store
-  abbrev pub met_in : Option (Taken S) → ℕ → ℕ
-  met_in None met = met
-  met_in (Some t) met = generation_of t.log
+  -- what is found by who takes the store
+  abbrev pub past_in : Option (Taken S) → List BookEntry → List BookEntry
+  past_in None past = past
+  past_in (Some t) past = t.log
 
   abbrev pub store_in : List (ℕ × Option S) → Option S
   store_in [] = None
@@ -86,7 +101,7 @@ module _ {S F : Type 0} where
 
   abbrev pub with_held : View S F → Option (Taken S) → View S F
   with_held (Master d) t = Master record { dealt = d.dealt; first = d.first; generation = d.generation; own = d.own; joined = d.joined; held = t }
-  with_held (Worker h) t = Worker record { number = h.number; first = h.first; own = h.own; passes = h.passes; met = met_in t h.met; held = t }
+  with_held (Worker h) t = Worker record { number = h.number; first = h.first; own = h.own; passes = h.passes; past = past_in t h.past; held = t }
   with_held v t = v
 
   -- the view, once the store is given back with these entries behind those that were there, and these passes
@@ -99,7 +114,7 @@ module _ {S F : Type 0} where
     joined = d.joined;
     held = None;
   }
-  given_back (Worker h) es ps = Worker record { number = h.number; first = h.first; own = h.own ++ noted_from (length (log_in h.held)) es; passes = ps; met = h.met; held = None }
+  given_back (Worker h) es ps = Worker record { number = h.number; first = h.first; own = h.own ++ noted_from (length (log_in h.held)) es; passes = ps; past = h.past; held = None }
   given_back v es ps = v
 
   abbrev pub Gave : (List BookEntry → Type 0) → List Pass → Step (Option S) → Seated S F → ℕ → Seated S F → Type 0
@@ -121,7 +136,7 @@ module _ {S F : Type 0} where
 
   -- one more token
   abbrev pub new_hand : ℕ → F → Hand S F
-  new_hand k first = record { number = k; first = first; own = []; passes = []; met = 0; held = None }
+  new_hand k first = record { number = k; first = first; own = []; passes = []; past = []; held = None }
 
   abbrev pub dealt_more : View S F → View S F
   dealt_more (Master d) = Master record { dealt = d.dealt + 1; first = d.first; generation = d.generation; own = d.own; joined = d.joined; held = d.held }
@@ -133,15 +148,15 @@ module _ {S F : Type 0} where
 
   -- the shared side takes in what a token knows
   abbrev pub taken_in : View S F → View S F → View S F
-  taken_in (Master d) (Worker h) = Master record { dealt = d.dealt; first = d.first; generation = d.generation; own = d.own; joined = d.joined ++ h.own ∷ []; held = d.held }
+  taken_in (Master d) (Worker h) = Master record { dealt = d.dealt; first = d.first; generation = d.generation; own = d.own; joined = d.joined ++ record { own = h.own; past = h.past } ∷ []; held = d.held }
   taken_in v w = v
 
   -- ---- a seat between two calls: it holds nothing
 
-  abbrev pub resting : ℕ → F → List Noted → List Pass → ℕ → Seated S F
-  resting k first own passes met = (Worker record { number = k; first = first; own = own; passes = passes; met = met; held = None }, [])
+  abbrev pub resting : ℕ → F → List Noted → List Pass → List BookEntry → Seated S F
+  resting k first own passes past = (Worker record { number = k; first = first; own = own; passes = passes; past = past; held = None }, [])
 
-  abbrev pub desk_resting : ℕ → F → ℕ → List Noted → List (List Noted) → Seated S F
+  abbrev pub desk_resting : ℕ → F → ℕ → List Noted → List Joined → Seated S F
   desk_resting n first g own joined = (Master record { dealt = n; first = first; generation = g; own = own; joined = joined; held = None }, [])
 
   abbrev pub first_of : View S F → Option F
@@ -158,15 +173,15 @@ module _ {S F : Type 0} where
   passes_of (Worker h) = h.passes
   passes_of _ = []
 
-  abbrev pub met_of : View S F → ℕ
-  met_of (Worker h) = h.met
-  met_of _ = 0
+  abbrev pub past_of : View S F → List BookEntry
+  past_of (Worker h) = h.past
+  past_of _ = []
 
   abbrev pub generation_in : View S F → ℕ
   generation_in (Master d) = d.generation
   generation_in _ = 0
 
-  abbrev pub joined_of : View S F → List (List Noted)
+  abbrev pub joined_of : View S F → List Joined
   joined_of (Master d) = d.joined
   joined_of _ = []
 
@@ -180,14 +195,23 @@ module _ {S F : Type 0} (Is : F → List BookEntry → S → Type 0) (Knows : Li
 
   -- what the rule tells of the store, as it is taken
   abbrev pub Tells : View S F → Taken S → Type 0
-  Tells (Master d) t = IsShuffle d.dealt d.joined d.own t.log × (generation_of t.log ≡ d.generation) × Is d.first t.log t.store
-  Tells (Worker h) t = TellsHand h.first h.passes t × (h.met ≤ generation_of t.log)
+  Tells (Master d) t = IsShuffle d.dealt (owns d.joined) d.own t.log × AllContinue (pasts d.joined) t.log × (generation_of t.log ≡ d.generation) × Is d.first t.log t.store
+  Tells (Worker h) t = TellsHand h.first h.passes t × Continues h.past t.log
   Tells _ t = Unit {0}
 
   abbrev pub Took : Step (Option S) → Seated S F → ℕ → Seated S F → Type 0
   Took st m found n =
       (found ≡ 0 → (t : Taken S) × (n ≡ (with_held m.0 (Some t), (0, Some t.store) ∷ [])) × Tells m.0 t)
       × (found ≢ 0 → n ≡ m)
+
+  -- Who comes with a pass of the generation that is met has the store. Else the pass is stale, and the store was given back.
+  abbrev pub TookFor : (S → ℕ) → Pass → Seated S F → Result S StoreNo → Seated S F → Type 0
+  TookFor generation pass m (Ok x) n =
+      (log : List BookEntry) × (n ≡ (with_held m.0 (Some (taken log x)), (0, None) ∷ [])) × Tells m.0 (taken log x)
+      × (pass.generation ≡ generation x)
+  TookFor generation pass m (Err refusal) n =
+      (log : List BookEntry) × (x : S) × (n ≡ (given_back (with_held m.0 (Some (taken log x))) [] (passes_of m.0), [])) × Tells m.0 (taken log x)
+      × (pass.generation ≢ generation x) × (refusal ≡ Stale pass.generation (generation x))
 
   abbrev pub TookAlone : Step (Option S) → Seated S F → ℕ → Seated S F → Type 0
   TookAlone st m found n = (t : Taken S) × (n ≡ (with_held m.0 (Some t), (0, Some t.store) ∷ [])) × Tells m.0 t
@@ -211,7 +235,6 @@ module _ {S F : Type 0} (Is : F → List BookEntry → S → Type 0) (Knows : Li
   -- what a call of the shared side makes of it, and of all passes
   pub record DeskStep (was : Taken S) (added : List BookEntry) (x' : S) : Type 0 where
     pub resets : Resets was.log added
-    pub later : generation_of was.log ≤ generation_of (was.log ++ added)
     pub stands : (first : F) → Is first was.log was.store → Is first (was.log ++ added) x'
     pub passes : (ps : List Pass) → AllUpTo (generation_of was.log) ps → AllKnown (Knows was.log was.store) (generation_of was.log) ps
         → AllKnown (Knows (was.log ++ added) x') (generation_of (was.log ++ added)) ps
@@ -234,7 +257,7 @@ module _ {S F : Type 0} (Is : F → List BookEntry → S → Type 0) (Knows : Li
 
 module _ {F : Type 0} where
   -- with so many tokens, of which these lists are joined
-  abbrev pub shared_with : SharedModel F → ℕ → List (List Noted) → SharedModel F
+  abbrev pub shared_with : SharedModel F → ℕ → List Joined → SharedModel F
   shared_with s n joined = record { table = s.table; tokens = n; first = s.first; generation = s.generation; own = s.own; joined = joined }
 
   -- it has noted these entries side by side, and is in this generation
@@ -242,7 +265,11 @@ module _ {F : Type 0} where
   HasRenewed s g es s' = (at : ℕ) × (s' ≡ record { table = s.table; tokens = s.tokens; first = s.first; generation = g; own = s.own ++ noted_from at es; joined = s.joined })
 
   abbrev pub new_token : SharedModel F → TokenModel F
-  new_token s = record { table = s.table; number = s.tokens; first = s.first; own = []; passes = []; met = 0 }
+  new_token s = record { table = s.table; number = s.tokens; first = s.first; own = []; passes = []; past = [] }
+
+  -- what these tokens know
+  abbrev pub known_by : List (TokenModel F) → List Joined
+  known_by tokens = map (λ (t : TokenModel F). record { own = t.own; past = t.past }) tokens
 
   -- all n tokens of this table, in the order of their numbers
   abbrev pub AreTokens : TableId → ℕ → List (TokenModel F) → Type 0
@@ -259,7 +286,7 @@ module _ {F : Type 0} where
   -- these are its tokens, which have noted nothing
   pub record AreNewTokens (tokens : ℕ) (s : SharedModel F) (ts : List (TokenModel F)) : Type 0 where
     pub all : AreTokens s.table tokens ts
-    pub each : (k : ℕ) (token : TokenModel F) → slice_get ts k ≡ Some token → (token.first ≡ s.first) × (token.own ≡ []) × (token.passes ≡ []) × (token.met ≡ 0)
+    pub each : (k : ℕ) (token : TokenModel F) → slice_get ts k ≡ Some token → (token.first ≡ s.first) × (token.own ≡ []) × (token.passes ≡ []) × (token.past ≡ [])
 
 -- so many holds on this table
 abbrev pub AreShares : TableId → ℕ → List TableId → Type 0

@@ -5,9 +5,10 @@
 //! as it was looked at, so no wake is lost. Nothing of this is promised.
 ghost use Rattle.std.specs.Prelude.{◌≡◌, ◌++◌, [], ◌∷◌, None, Some, List};
 ghost use Rattle.pm_query.specs.declared.book.BookEntry.{BookEntry};
+ghost use Rattle.pm_segment.specs.Moment.{moment};
 ghost use Rattle.pm_shared.specs.Behind.{Behind, Knows};
 ghost use Rattle.pm_shared.specs.Rule.{taken};
-ghost use Rattle.pm_shared.specs.Told.{IsMine, IsNothing, IsSmall, MayGive, Tells, given_back, number_of, passes_of, with_held};
+ghost use Rattle.pm_shared.specs.Told.{IsMine, IsNothing, IsSmall, MayGive, Tells, TookFor, given_back, is_own_of, number_of, passes_of, past_of, resting, with_held};
 
 use crate::deed::Deed;
 use crate::plays::{Gives, Guarded, Takes};
@@ -15,7 +16,7 @@ use crate::views::View;
 use atomic_table::Seat;
 use pm_disk::Disk;
 use pm_outside::Chronicle;
-use pm_query::BookEntry;
+use pm_query::{BookEntry, StoreNo};
 use pm_segment::{Pass, Segment};
 use std::alloc::AllocError;
 use std::hint::spin_loop;
@@ -51,6 +52,34 @@ pub(crate) fn take<R: Wait, D: Disk, B: Chronicle<BookEntry>>(
         wait(rt, table);
     }
     unreachable!()
+}
+
+/// Takes the store for a pass, where it is of the generation that is met. Else the pass is stale, and the store is given back.
+pub(crate) fn take_for<R: Wait, D: Disk, B: Chronicle<BookEntry>>(
+    rt: &R,
+    table: &Guarded<D, B>,
+    seat: &mut Holder<D, B>,
+    number: u32,
+    pass: &Pass,
+) -> Result<Segment<D, B>, StoreNo>
+    requires table { (seat.old.table_id ≡ table.now.shared.table_id)
+        × IsSmall table.now.shared.table_id }
+    requires seat { (first : D) × (seat.old.me ≡ resting number first (is_own_of seat.old.me.0)
+        (passes_of seat.old.me.0) (past_of seat.old.me.0)) }
+    ensures same { seat.new.table_id ≡ seat.old.table_id }
+    ensures taken { TookFor Behind Knows (λ store. (moment store).generation) pass.now
+        seat.old.me result seat.new.me }
+{
+    let store = take(rt, table, seat, number);
+    let found = store.generation();
+    if found != pass.generation {
+        give_unchanged(table, seat, store);
+        return Err(StoreNo::Stale {
+            mine: pass.generation,
+            found,
+        });
+    }
+    Ok(store)
 }
 
 /// How often the word is looked at before a caller sleeps: a script that reads is done meanwhile, a sync isn't.

@@ -11,7 +11,7 @@ ghost use Rattle.pm_shared.specs.Log.{IsShuffle, noted};
 ghost use Rattle.pm_shared.specs.Places.{EachOnce};
 ghost use Rattle.pm_shared.specs.Renewed.{AreApart};
 ghost use Rattle.pm_shared.specs.declared.views.View.TheVariants.{Vacant};
-ghost use Rattle.pm_shared.specs.Told.{AreNewTokens, AreShares, AreTokens, HasRenewed, IsBlank, IsNewShared, IsSmall, SharedModel, TokenModel, desk_resting, first_of, generation_in, is_own_of, joined_of, new_token, shared_with};
+ghost use Rattle.pm_shared.specs.Told.{AllContinue, AreNewTokens, AreShares, AreTokens, HasRenewed, IsBlank, IsNewShared, IsSmall, SharedModel, TokenModel, desk_resting, first_of, generation_in, is_own_of, joined_of, known_by, new_token, owns, pasts, shared_with};
 
 use crate::holding::{Holder, give_renewed, take};
 use crate::plays::{Deals, Founds, Gathers, Guarded, Opening, TakesAlone};
@@ -293,7 +293,7 @@ impl<D: Disk + Drop, B: Chronicle<BookEntry> + Drop> Shared<D, B> {
     fn join(&mut self, token: Token<D, B>)
         requires { (token.table ≡ self.old.table) × (token.number ≡ length self.old.joined) }
         ensures { self.new ≡ shared_with self.old self.old.tokens
-            (self.old.joined ++ token.own ∷ []) }
+            (self.old.joined ++ record { own = token.own; past = token.past } ∷ []) }
     {
         let Token {
             table: _,
@@ -303,14 +303,15 @@ impl<D: Disk + Drop, B: Chronicle<BookEntry> + Drop> Shared<D, B> {
         self.table.shared.join_seat::<Gathers>(&mut self.seat, seat);
     }
 
-    /// The store, once all tokens are back. It takes no memory and doesn't wait.
+    /// The store, once all tokens are back, behind all entries. It takes no memory and doesn't wait.
     pub fn into_store(mut self, tokens: Tokens<D, B>) -> Segment<D, B>
         requires all { AreTokens self.table self.tokens tokens }
         requires none { self.joined ≡ [] }
         ensures behind { IfSome self.first (λ first. (log : List BookEntry)
             × Behind first log result
-            × IsShuffle self.tokens (map (λ (t : TokenModel D). t.own) tokens) self.own log
-            × EachOnce (map (λ (t : TokenModel D). t.own) tokens) self.own log) }
+            × IsShuffle self.tokens (owns (known_by tokens)) self.own log
+            × EachOnce (owns (known_by tokens)) self.own log
+            × AllContinue (pasts (known_by tokens)) log) }
     {
         let Tokens { list } = tokens;
         for token in list {
@@ -338,7 +339,8 @@ impl<D: Disk + Drop, B: Chronicle<BookEntry> + Drop> Shared<D, B> {
     fn take_alone(self) -> Segment<D, B>
         requires { length self.joined ≡ self.tokens }
         ensures { IfSome self.first (λ first. (log : List BookEntry) × Behind first log result
-            × IsShuffle self.tokens self.joined self.own log × EachOnce self.joined self.own log) }
+            × IsShuffle self.tokens (owns self.joined) self.own log
+            × EachOnce (owns self.joined) self.own log × AllContinue (pasts self.joined) log) }
     {
         let Shared {
             table,

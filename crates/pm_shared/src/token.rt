@@ -1,16 +1,18 @@
 //! One worker's side of the store.
-ghost use Rattle.std.specs.Prelude.{◌≡◌, ◌⊎◌, ◌∷◌, [], List, None, IfOk, OnErr, All};
+ghost use Rattle.std.specs.Prelude.{◌≡◌, ◌⊎◌, ◌∷◌, [], List, None, IfOk, IfSome, OnErr, All};
 ghost use Rattle.std.specs.Arc.{arc_value};
 ghost use Rattle.pm_query.specs.declared.book.BookEntry.{BookEntry};
 ghost use Rattle.pm_query.specs.declared.book.BookEntry.TheVariants.{Detached};
+ghost use Rattle.pm_query.specs.Book.{generation_of};
 ghost use Rattle.pm_query.specs.Calls.{CheckpointNotes, EnterNotes, FlushNotes, HasReached, IsPast, LeaveNotes, MetAnother, MetLater, ReachesNoLess, RedoNotes, RunNotes, SeenNotes, new_pass, newcomer, user_of, with_front};
 ghost use Rattle.pm_query.specs.Limits.{HasShortValues};
 ghost use Rattle.pm_segment.specs.Passes.{view_of};
 ghost use Rattle.pm_shared.specs.Grows.{Grew};
 ghost use Rattle.pm_shared.specs.Passes.{Among, without_pass};
-ghost use Rattle.pm_shared.specs.Told.{IsSmall, TokenModel, first_of, is_own_of, met_of, passes_of, resting};
+ghost use Rattle.pm_shared.specs.Reasons.{HasFirstReason};
+ghost use Rattle.pm_shared.specs.Told.{IsSmall, TokenModel, first_of, is_own_of, passes_of, past_of, resting};
 
-use crate::holding::{Holder, give, give_unchanged, take};
+use crate::holding::{Holder, give, take, take_for};
 use crate::plays::Guarded;
 use pm_disk::Disk;
 use pm_outside::Chronicle;
@@ -31,9 +33,9 @@ pub struct Token<D: Disk + Drop, B: Chronicle<BookEntry> + Drop> {
 impl<D: Disk + Drop, B: Chronicle<BookEntry> + Drop> Model for Token<D, B> {
     ghost Value = { TokenModel D };
 
-    ghost view = { λ t. record { table = t.seat.table_id; number = t.number; first = first_of t.seat.me.0; own = is_own_of t.seat.me.0; passes = passes_of t.seat.me.0; met = met_of t.seat.me.0 } };
+    ghost view = { λ t. record { table = t.seat.table_id; number = t.number; first = first_of t.seat.me.0; own = is_own_of t.seat.me.0; passes = passes_of t.seat.me.0; past = past_of t.seat.me.0 } };
 
-    ghost invariant = { λ t. ((arc_value t.table).shared.table_id ≡ t.seat.table_id) × IsSmall t.seat.table_id × ((first : D) × (t.seat.me ≡ resting t.number first (is_own_of t.seat.me.0) (passes_of t.seat.me.0) (met_of t.seat.me.0))) };
+    ghost invariant = { λ t. ((arc_value t.table).shared.table_id ≡ t.seat.table_id) × IsSmall t.seat.table_id × ((first : D) × (t.seat.me ≡ resting t.number first (is_own_of t.seat.me.0) (passes_of t.seat.me.0) (past_of t.seat.me.0))) };
 }
 
 impl<D: Disk + Drop, B: Chronicle<BookEntry> + Drop> Token<D, B> {
@@ -43,7 +45,7 @@ impl<D: Disk + Drop, B: Chronicle<BookEntry> + Drop> Token<D, B> {
             × EnterNotes (newcomer None pid generation) result entries }
         ensures admits { IfOk result (λ pass. Among pass self.new.passes) }
         ensures view { IfOk result (λ pass. view_of pass ≡ new_pass pid generation) }
-        ensures stale { MetAnother self.new.met generation result }
+        ensures stale { MetAnother (generation_of self.new.past) generation result }
     {
         let mut store = take(rt, &self.table, &mut self.seat, self.number);
         let result = store.enter(pid, generation);
@@ -80,18 +82,10 @@ impl<D: Disk + Drop, B: Chronicle<BookEntry> + Drop> Token<D, B> {
             (view_of pass.old)) }
         ensures refused { OnErr result (view_of pass.new ≡ view_of pass.old) }
         ensures short { IfOk result (λ staged. All HasShortValues staged.reply) }
-        ensures stale { MetLater self.new.met pass.old.generation result }
+        ensures stale { MetLater (generation_of self.new.past) pass.old.generation result }
     {
-        let mut store = take(rt, &self.table, &mut self.seat, self.number);
-        let current = store.generation();
         let before = *pass;
-        if current != before.generation {
-            give_unchanged(&self.table, &mut self.seat, store);
-            return Err(StoreNo::Stale {
-                mine: before.generation,
-                found: current,
-            });
-        }
+        let mut store = take_for(rt, &self.table, &mut self.seat, self.number, &before)?;
         let result = store.run(pass, script);
         give::<Brand, D, B, Script, Result<Staged, StoreNo>>(
             &self.table,
@@ -113,18 +107,10 @@ impl<D: Disk + Drop, B: Chronicle<BookEntry> + Drop> Token<D, B> {
             × SeenNotes (user_of None (view_of pass.old)) front result entries }
         ensures admits { Among pass.new self.new.passes }
         ensures view { view_of pass.new ≡ view_of pass.old }
-        ensures stale { MetLater self.new.met pass.old.generation result }
+        ensures stale { MetLater (generation_of self.new.past) pass.old.generation result }
     {
-        let mut store = take(rt, &self.table, &mut self.seat, self.number);
-        let found = store.generation();
         let before = *pass;
-        if found != before.generation {
-            give_unchanged(&self.table, &mut self.seat, store);
-            return Err(StoreNo::Stale {
-                mine: before.generation,
-                found,
-            });
-        }
+        let mut store = take_for(rt, &self.table, &mut self.seat, self.number, &before)?;
         let result = store.seen(pass, front);
         give::<Brand, D, B, u64, Result<Seen, StoreNo>>(
             &self.table,
@@ -145,18 +131,10 @@ impl<D: Disk + Drop, B: Chronicle<BookEntry> + Drop> Token<D, B> {
             × FlushNotes (user_of None (view_of pass.old)) result entries }
         ensures admits { Among pass.new self.new.passes }
         ensures view { view_of pass.new ≡ view_of pass.old }
-        ensures stale { MetLater self.new.met pass.old.generation result }
+        ensures stale { MetLater (generation_of self.new.past) pass.old.generation result }
     {
-        let mut store = take(rt, &self.table, &mut self.seat, self.number);
-        let found = store.generation();
         let before = *pass;
-        if found != before.generation {
-            give_unchanged(&self.table, &mut self.seat, store);
-            return Err(StoreNo::Stale {
-                mine: before.generation,
-                found,
-            });
-        }
+        let mut store = take_for(rt, &self.table, &mut self.seat, self.number, &before)?;
         let result = store.flush(pass);
         give::<Brand, D, B, (), Result<u64, StoreNo>>(
             &self.table,
@@ -177,18 +155,12 @@ impl<D: Disk + Drop, B: Chronicle<BookEntry> + Drop> Token<D, B> {
             × RedoNotes (user_of None (view_of pass.old)) result entries }
         ensures admits { Among pass.new self.new.passes }
         ensures view { view_of pass.new ≡ view_of pass.old }
-        ensures stale { MetLater self.new.met pass.old.generation result }
+        ensures stale { MetLater (generation_of self.new.past) pass.old.generation result }
+        ensures reason { IfSome self.new.first (λ first.
+            HasFirstReason self.new.past (D.seen first) result) }
     {
-        let mut store = take(rt, &self.table, &mut self.seat, self.number);
-        let found = store.generation();
         let before = *pass;
-        if found != before.generation {
-            give_unchanged(&self.table, &mut self.seat, store);
-            return Err(StoreNo::Stale {
-                mine: before.generation,
-                found,
-            });
-        }
+        let mut store = take_for(rt, &self.table, &mut self.seat, self.number, &before)?;
         let result = store.redo(pass);
         give::<Brand, D, B, (), Result<u64, StoreNo>>(
             &self.table,
@@ -214,18 +186,10 @@ impl<D: Disk + Drop, B: Chronicle<BookEntry> + Drop> Token<D, B> {
             × CheckpointNotes (user_of None (view_of pass.old)) clean result entries }
         ensures admits { Among pass.new self.new.passes }
         ensures view { view_of pass.new ≡ view_of pass.old }
-        ensures stale { MetLater self.new.met pass.old.generation result }
+        ensures stale { MetLater (generation_of self.new.past) pass.old.generation result }
     {
-        let mut store = take(rt, &self.table, &mut self.seat, self.number);
-        let found = store.generation();
         let before = *pass;
-        if found != before.generation {
-            give_unchanged(&self.table, &mut self.seat, store);
-            return Err(StoreNo::Stale {
-                mine: before.generation,
-                found,
-            });
-        }
+        let mut store = take_for(rt, &self.table, &mut self.seat, self.number, &before)?;
         let result = store.checkpoint(pass, clean);
         give::<Brand, D, B, bool, Result<Checkpointed, StoreNo>>(
             &self.table,
@@ -245,7 +209,7 @@ impl<D: Disk + Drop, B: Chronicle<BookEntry> + Drop> Token<D, B> {
         ensures notes { (entries : List BookEntry) × Grew entries self.old self.new
             × LeaveNotes (user_of None (view_of pass)) entries }
         ensures stale { Grew (Detached pass.pid ∷ []) self.old self.new
-            ⊎ IsPast self.new.met pass.generation }
+            ⊎ IsPast (generation_of self.new.past) pass.generation }
         ensures left { self.new.passes ≡ without_pass pass.pid pass.generation self.old.passes }
     {
         let mut store = take(rt, &self.table, &mut self.seat, self.number);

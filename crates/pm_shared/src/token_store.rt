@@ -2,7 +2,8 @@
 ghost use Rattle.std.specs.Prelude.{None};
 ghost use Rattle.pm_segment.specs.Passes.{view_of};
 ghost use Rattle.pm_shared.specs.Grows.{Grew};
-ghost use Rattle.pm_shared.specs.GrowsLaws.{grew_none, grew_on};
+ghost use Rattle.pm_shared.specs.GrowsLaws.{generation_rises, grew_none, grew_on};
+ghost use Rattle.pm_query.specs.Book.{generation_of};
 ghost use Rattle.pm_shared.specs.Passes.{Among};
 ghost use Rattle.std.proofs.Common.{refl};
 
@@ -32,7 +33,7 @@ impl<R: Wait + Drop, D: Disk + Drop, B: Chronicle<BookEntry> + Drop> Store for T
 
     ghost stamp = { λ store. None };
 
-    ghost met = { λ store. store.token.met };
+    ghost met = { λ store. generation_of store.token.past };
 
     fn enter(&mut self, pid: u32, generation: u32) -> Result<Pass, StoreNo> {
         self.token.enter(&self.rt, pid, generation)
@@ -68,5 +69,5 @@ impl<R: Wait + Drop, D: Disk + Drop, B: Chronicle<BookEntry> + Drop> Store for T
 
     ghost stays = { λ before now entries grew. refl };
 
-    ghost rises = { λ before now entries grew. grew.met };
+    ghost rises = { λ before now entries grew. generation_rises before.token.past now.token.past grew.past };
 }

@@ -15,25 +15,31 @@ pub struct Taken<S> {
     pub store: S,
 }
 
-/// What a token knows: its number, the disk as the store got it, the entries that its calls noted, its passes, the
-/// generation in which it found the store last (0 before its first call), and the store as it was taken.
+/// What a token knows: its number, the disk as the store got it, the entries that its calls noted, its passes, all entries
+/// that it found as it took the store last (none before its first call), and the store as it was taken.
 pub struct Hand<S, F> {
     pub number: u32,
     pub first: F,
     pub own: LinkedList<Noted>,
     pub passes: LinkedList<Pass>,
-    pub met: u32,
+    pub past: LinkedList<BookEntry>,
     pub held: Option<Taken<S>>,
 }
 
+/// What a token knew as it was joined: the entries that its calls noted, and all that it found last.
+pub struct Joined {
+    pub own: LinkedList<Noted>,
+    pub past: LinkedList<BookEntry>,
+}
+
 /// What the shared side knows: the next number, the disk as the store got it, the generation, the entries that its own
-/// calls noted, the lists of the tokens that were joined, and the store as it was taken.
+/// calls noted, what the tokens knew that were joined, and the store as it was taken.
 pub struct Desk<S, F> {
     pub dealt: u32,
     pub first: F,
     pub generation: u32,
     pub own: LinkedList<Noted>,
-    pub joined: LinkedList<LinkedList<Noted>>,
+    pub joined: LinkedList<Joined>,
     pub held: Option<Taken<S>>,
 }
 

@@ -7,7 +7,7 @@ use crate::world::{Seat, cluster};
 use pm_admit::Cac;
 use pm_life::{Cancelled, ScriptedLife};
 use pm_outside::{Kept, LinkScript, MemClock, MemLink};
-use pm_session::{Done, SessionConf, serve};
+use pm_session::{Admission, Means, SessionConf, serve};
 use pm_shared::{Shared, TokenStore};
 use std::alloc::{AllocError, Global};
 use std::process::Abort;
@@ -49,23 +49,23 @@ fn talk<R: Wait + Abort + time::Clock + Copy + Drop>(
     let mut pass = token.enter(&rt, 1, 1)?;
     let _read = token.redo(&rt, &mut pass);
     token.leave(&rt, pass);
-    let mut life = ScriptedLife::new(2, false, Vec::new(alloc), Ok(1), Cancelled::NoSuchPid);
+    let life = ScriptedLife::new(2, false, Vec::new(alloc), Ok(1), Cancelled::NoSuchPid);
     let mut store = TokenStore { rt, token };
     let conf = SessionConf {
         authentication_ms: 60_000,
     };
-    let Done { status: _, link } = serve(
-        &rt,
+    let means = Means {
+        rt: &rt,
         alloc,
-        link_of(alloc, INCOMING)?,
-        Cac::Ok,
-        0,
-        &conf,
-        &mut store,
-        &MemClock::still(0, rt),
-        &mut life,
-    );
-    Ok(link)
+        clock: &MemClock::still(0, rt),
+    };
+    let admission = Admission {
+        decision: Cac::Ok,
+        key: 0,
+    };
+    let link = link_of(alloc, INCOMING)?;
+    let served = serve(&means, link, life, admission, &conf, &mut store);
+    Ok(served.link)
 }
 
 #[test]

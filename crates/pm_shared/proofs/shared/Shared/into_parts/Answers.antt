@@ -1,11 +1,11 @@
-use Rattle.std.proofs.Common.{map}
 use Rattle.pm_shared.specs.Log.{IsShuffle}
 use Rattle.pm_shared.specs.Places.{EachOnce}
-use Rattle.pm_shared.specs.Told.{TokenModel}
+use Rattle.pm_shared.specs.Told.{AllContinue, known_by, owns, pasts}
 use Rattle.pm_shared.proofs.Ending.{ends}
 use Rattle.pm_shared.proofs.shared.Shared.into_parts.Goals as goal
 
 pub returns : goal.returns
 returns g c =
-    ends (λ first log. IsShuffle c.args.self.tokens (map (λ (t : TokenModel g.row.D.Denot). t.own) c.args.tokens) c.args.self.own log) (λ first log. EachOnce (map (λ (t : TokenModel g.row.D.Denot). t.own) c.args.tokens) c.args.self.own log)
+    ends (λ first log. IsShuffle c.args.self.tokens (owns (known_by c.args.tokens)) c.args.self.own log) (λ first log. EachOnce (owns (known_by c.args.tokens)) c.args.self.own log)
+    (λ first log. AllContinue (pasts (known_by c.args.tokens)) log)
     c.args.self.first c.into_store-store.result c.into_parts.result.0 c.into_parts.result.1 c.into_store-store.ensures.behind c.keeps_its_run.ensures.replay c.keeps_its_run.ensures.run c.into_parts.ensures.0 c.into_parts.ensures.1

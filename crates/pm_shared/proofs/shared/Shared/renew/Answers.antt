@@ -16,4 +16,4 @@ returns-clause-ok g c =
     let t = c.take-store.ensures.taken in
     let given = c.give_renewed.ensures.given in
     let tells = subst (λ m. Tells Behind Knows m.0 (taken t.0 c.take-store.result)) c.self.invariant.2.1 t.2 in
-    renew_did _ _ _ _ _ t.0 given.0 c.take-store.result c.args.gone.now c.args.generation c.renew-result.result _ _ _ _ c.give_renewed.new.seat.me _ _ _ c.self.invariant.2.1 t.1 given.2 tells.1 c.self.view_is (c.give_renewed.ensures.same ∙ c.take-store.ensures.same) c.requires given.1
+    renew_did _ _ _ _ _ t.0 given.0 c.take-store.result c.args.gone.now c.args.generation c.renew-result.result _ _ _ _ c.give_renewed.new.seat.me _ _ _ c.self.invariant.2.1 t.1 given.2 tells.2 c.self.view_is (c.give_renewed.ensures.same ∙ c.take-store.ensures.same) c.requires given.1

@@ -1,6 +1,6 @@
 use Rattle.std.proofs.Common.{◌∙◌, subst}
 use Rattle.pm_query.specs.Calls.{MetAnother}
-use Rattle.pm_shared.proofs.Calls.{entered_among, given_is, grew_by, met_behind, met_rises, passes_are, token_may_enter}
+use Rattle.pm_shared.proofs.Calls.{entered_among, given_is, grew_by, met_behind, past_goes_on, passes_are, token_may_enter}
 use Rattle.pm_shared.proofs.token.Token.enter.Goals as goal
 
 pub give-requires-clause-may : goal.give-requires-clause-may
@@ -13,7 +13,7 @@ pub returns-clause-notes : goal.returns-clause-notes
 returns-clause-notes g c =
     let t = c.take-store.ensures.taken in
     let given = c.give.ensures.given in
-    (given.0, grew_by _ _ _ _ _ _ _ _ given.0 _ c.give.new.seat.me _ c.self.view_is (c.give.ensures.same ∙ c.take-store.ensures.same) c.self.invariant.2.1 (given_is _ _ _ _ _ _ given.0 _ _ _ _ _ c.self.invariant.2.1 t.1 given.2) (met_rises _ _ _ _ t.0 c.take-store.result _ c.self.invariant.2.1 t.2), given.1)
+    (given.0, grew_by _ _ _ _ _ _ _ _ given.0 _ c.give.new.seat.me _ c.self.view_is (c.give.ensures.same ∙ c.take-store.ensures.same) c.self.invariant.2.1 (given_is _ _ _ _ _ _ given.0 _ _ _ _ _ c.self.invariant.2.1 t.1 given.2) (past_goes_on _ _ _ _ t.0 c.take-store.result _ c.self.invariant.2.1 t.2), given.1)
 
 pub returns-clause-admits : goal.returns-clause-admits
 returns-clause-admits g c =

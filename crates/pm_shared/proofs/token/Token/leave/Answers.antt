@@ -1,6 +1,6 @@
 use Rattle.std.proofs.Common.{inl, inr, sym, ap, ◌∙◌, ◌∷◌, [], subst}
 use Rattle.pm_shared.specs.Passes.{Among, without_pass}
-use Rattle.pm_shared.proofs.Calls.{given_is, grew_by, met_rises, stale_here, token_admits, token_may_leave, token_may_stale}
+use Rattle.pm_shared.proofs.Calls.{given_is, grew_by, past_goes_on, stale_here, token_admits, token_may_leave, token_may_stale}
 use Rattle.pm_query.specs.declared.book.BookEntry.TheVariants.{Detached}
 use Rattle.pm_shared.specs.Told.{given_back, passes_of}
 use Rattle.pm_shared.proofs.token.Token.leave.Goals as goal
@@ -26,7 +26,7 @@ pub returns-then-generation-pass-clause-notes : goal.returns-then-generation-pas
 returns-then-generation-pass-clause-notes g c =
     let t = c.take-store.ensures.taken in
     let given = c.give.ensures.given in
-    (given.0, grew_by _ _ _ _ _ _ _ _ given.0 _ c.give.new.seat.me _ c.self.view_is (c.give.ensures.same ∙ c.take-store.ensures.same) c.self.invariant.2.1 (given_is _ _ _ _ _ _ given.0 _ _ _ _ _ c.self.invariant.2.1 t.1 given.2) (met_rises _ _ _ _ t.0 c.take-store.result _ c.self.invariant.2.1 t.2), inr (tt, given.1))
+    (given.0, grew_by _ _ _ _ _ _ _ _ given.0 _ c.give.new.seat.me _ c.self.view_is (c.give.ensures.same ∙ c.take-store.ensures.same) c.self.invariant.2.1 (given_is _ _ _ _ _ _ given.0 _ _ _ _ _ c.self.invariant.2.1 t.1 given.2) (past_goes_on _ _ _ _ t.0 c.take-store.result _ c.self.invariant.2.1 t.2), inr (tt, given.1))
 
 pub returns-then-generation-pass-clause-stale : goal.returns-then-generation-pass-clause-stale
 returns-then-generation-pass-clause-stale g c =
@@ -40,11 +40,11 @@ pub returns-clause-notes : goal.returns-clause-notes
 returns-clause-notes g c =
     let t = c.take-store.ensures.taken in
     let given = c.give-2.ensures.given in
-    (given.0, grew_by _ _ _ _ _ _ _ _ given.0 _ c.give-2.new.seat.me _ c.self.view_is (c.give-2.ensures.same ∙ c.take-store.ensures.same) c.self.invariant.2.1 (given_is _ _ _ _ _ _ given.0 _ _ _ _ _ c.self.invariant.2.1 t.1 given.2) (met_rises _ _ _ _ t.0 c.take-store.result _ c.self.invariant.2.1 t.2), inl given.1)
+    (given.0, grew_by _ _ _ _ _ _ _ _ given.0 _ c.give-2.new.seat.me _ c.self.view_is (c.give-2.ensures.same ∙ c.take-store.ensures.same) c.self.invariant.2.1 (given_is _ _ _ _ _ _ given.0 _ _ _ _ _ c.self.invariant.2.1 t.1 given.2) (past_goes_on _ _ _ _ t.0 c.take-store.result _ c.self.invariant.2.1 t.2), inl given.1)
 
 pub returns-clause-stale : goal.returns-clause-stale
 returns-clause-stale g c =
     let t = c.take-store.ensures.taken in
     let given = c.give-2.ensures.given in
     inl (grew_by _ _ _ _ _ _ _ _ (Detached c.args.pass.pid ∷ []) _ c.give-2.new.seat.me _ c.self.view_is (c.give-2.ensures.same ∙ c.take-store.ensures.same) c.self.invariant.2.1
-    (given_is _ _ _ _ _ _ (Detached c.args.pass.pid ∷ []) _ _ _ _ _ c.self.invariant.2.1 t.1 (given.2 ∙ ap (λ es. (given_back c.take-store.new.seat.me.0 es (without_pass c.args.pass.pid c.args.pass.generation (passes_of c.take-store.new.seat.me.0)), [])) given.1)) (met_rises _ _ _ _ t.0 c.take-store.result _ c.self.invariant.2.1 t.2))
+    (given_is _ _ _ _ _ _ (Detached c.args.pass.pid ∷ []) _ _ _ _ _ c.self.invariant.2.1 t.1 (given.2 ∙ ap (λ es. (given_back c.take-store.new.seat.me.0 es (without_pass c.args.pass.pid c.args.pass.generation (passes_of c.take-store.new.seat.me.0)), [])) given.1)) (past_goes_on _ _ _ _ t.0 c.take-store.result _ c.self.invariant.2.1 t.2))

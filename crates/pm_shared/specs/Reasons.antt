@@ -1,0 +1,12 @@
+-- Why a redo is refused through a token.
+use Rattle.std.specs.Prelude.{◌≡◌, ℕ, false, List, Option, Result}
+use Rattle.pm_disk.specs.Files.{Files}
+use Rattle.pm_query.specs.declared.book.BookEntry.{BookEntry}
+use Rattle.pm_query.specs.declared.store.StoreNo.{StoreNo}
+use Rattle.pm_segment.specs.Redos.{HasReason}
+use Rattle.pm_segment.specs.Unread.{has_break, has_redo}
+
+-- Where no fault of the disk was noted before it, and no redo has ended, a refusal tells why the files can't be read that the
+-- store was handed.
+abbrev pub HasFirstReason : (past : List BookEntry) → Option Files → Result ℕ StoreNo → Type 0
+HasFirstReason past first result = has_break past ≡ false → has_redo past ≡ false → HasReason first result
