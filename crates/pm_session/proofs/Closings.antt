@@ -1,9 +1,10 @@
 -- How a session comes to its end: what is said last, and as what the child exits.
-use Rattle.std.proofs.Common.{◌≡◌, ◌≢◌, ◌⊎◌, inl, inr, ℕ, ◌+◌, ◌≤◌, ◌<◌, Bool, true, false, cond, IsTrue, List, [], ◌∷◌, ◌++◌, length, map, take, get_or, Option, None, Some, Result, Ok, Err, MatchResult, refl, sym, ◌∙◌, ap, subst, arith, append_assoc}
+use Rattle.std.proofs.Common.{◌≡◌, ◌≢◌, ◌⊎◌, inl, inr, ℕ, ◌+◌, ◌≤◌, ◌<◌, Bool, true, false, cond, IsTrue, List, [], ◌∷◌, ◌++◌, length, map, take, get_or, Option, None, Some, IfSome, Result, Ok, Err, MatchResult, refl, sym, ◌∙◌, ap, subst, arith, append_assoc}
 use Rattle.std.specs.List.{flat_map}
 use Rattle.std.proofs.lemmas.List.{append-nil, map-append, take_more}
 use Rattle.pm_supervisor.specs.declared.Reason.{Reason}
 use Rattle.pm_admit.specs.declared.Cac.{Cac}
+use Rattle.pm_outside.specs.Traffic.{Traffic}
 use Rattle.pm_exit.specs.declared.child.Status.{Status}
 use Rattle.pm_exit.specs.declared.child.Status.TheVariants as statuses
 use Rattle.pm_startup.specs.declared.packet.StartFault.TheVariants as packets
@@ -15,12 +16,12 @@ use Rattle.pm_life.specs.declared.standing.Standing.{Standing}
 use Rattle.pm_session.specs.declared.ending.Cause.{Cause}
 use Rattle.pm_session.specs.declared.ending.Cause.TheVariants.{Terminated, Cancelling, LinkEnded, LinkFailed, TimedOut, PacketRefused, MessageRefused, DecisionRefused, GateRefused, ShortOfMemory, Panicked, ToldToTerminate, ToldToQuit, Killed, Overtaken}
 use Rattle.pm_session.specs.declared.ending.Stage.{Stage}
-use Rattle.pm_session.specs.Exchange.{LinkView, Passes, HasFailed, CutsOff, IsSentAll, Sends}
+use Rattle.pm_session.specs.Exchange.{LinkView, Passes, HasFailed, CutsOff, Holds, IsSound, IsLeftFor, IsSentAll, Sends}
 use Rattle.pm_life.specs.Attention.{Attention, Stands, IsAttentive, Hears, was_given}
 use Rattle.pm_session.specs.Attention.{ends_by, ends_of}
 use Rattle.pm_session.specs.Sent.{bytes_of, last_of}
-use Rattle.pm_session.specs.Session.{Ending, Heeds, HeedsTold, LetsGo, last_messages, status_by, status_of}
-use Rattle.pm_session.specs.Conversation.{IsBreak, ShowsCause}
+use Rattle.pm_session.specs.Session.{Ending, EndsSoundly, Heeds, HeedsTold, LetsGo, last_messages, status_by, status_of}
+use Rattle.pm_session.specs.Conversation.{Moment, IsBreak, ShowsCause}
 use Rattle.pm_session.specs.Entry.{outside, SaysLast, IsLastCause, IsTold, EndsBy, Closes}
 use Rattle.pm_session.proofs.Attentions.{hears_none, hears_both, hears_fewer, told_cause}
 use Rattle.pm_session.proofs.Links.{passes_none}
@@ -138,6 +139,11 @@ told_now at cause link attentive is = let shows = told_cause at cause link link 
 
 -- ---- the end
 
+-- no signal counts before a want of memory
+pub short_last : (standing : Standing) (ends : Cause) → IsLastCause standing ShortOfMemory ends → ends ≡ ShortOfMemory
+short_last standing ends (inl h) = h.0
+short_last standing ends (inr h) = let e : statuses.Code 1 ≡ statuses.Code 0 = h.0 in absurd cc
+
 exits_as : (kill : Bool) (cause : Cause) → (cond kill Killed cause ≡ cause) ⊎ (cond kill Killed cause ≡ Killed)
 exits_as true cause = inr refl
 exits_as false cause = inl refl
@@ -166,11 +172,83 @@ ends_so cause ends link before now attentive hears (inr h) =
     let shows = told_cause before ends link link attentive h.1 in
     inr (h.0, told_still ends before now 0 hears (told_by before.standing.kill before.standing.quit before.standing.terminate ends link before h.1 shows.1))
 
-pub closed : (decision : Cac) (stage : Stage) (cause ends exit : Cause) (words : List ℕ) (link_before link_now : LinkView) (before between now : Attention) → IsAttentive before → Hears 1 before between → IsLastCause between.standing cause ends
+-- ---- a sound link
+
+left_off : (cause : Cause) (traffic : Option Traffic) → IsLeftFor cause traffic → IfSome traffic (λ t. t.went_on ≡ false)
+left_off cause None left = tt
+left_off cause (Some t) left = left.0
+
+sound_off : (ended : Bool) (traffic : Option Traffic) → IsSound ended traffic → IfSome traffic (λ t. t.went_on ≡ false)
+sound_off ended None sound = tt
+sound_off ended (Some t) sound = sound.1
+
+sent_off : (result : Result (Unit {0}) Cause) (ended : Bool) (link_before link_now : LinkView) → Holds ended result link_before link_now → IsSound ended link_before.traffic → IfSome link_now.traffic (λ t. t.went_on ≡ false)
+sent_off (Ok done) ended link_before link_now holds sound = sound_off ended link_now.traffic (holds sound)
+sent_off (Err cause) ended link_before link_now holds sound = left_off cause link_now.traffic (holds sound)
+
+-- by another cause than a fault of the link, a link that was left is sound
+left_sound : (cause : Cause) (t : Traffic) → IsLeftFor cause (Some t) → cause ≢ LinkFailed → IsSound t.ended (Some t)
+left_sound cause t left other = (not_failed t.failed left.1, left.0, refl)
+  where
+    not_failed : (failed : Bool) → (failed ≡ true → cause ≡ LinkFailed) → failed ≡ false
+    not_failed true why = absurd (other (why refl))
+    not_failed false why = refl
+
+killed_status : (kill : Bool) (ends : Cause) → status_by ends ≢ statuses.Code 0 → status_by (cond kill Killed ends) ≢ statuses.Code 0
+killed_status true ends fails e = cc
+killed_status false ends fails e = fails e
+
+-- by what it ended, where the cause was a fault of the link
+last_failed : (standing : Standing) (cause ends : Cause) → IsLastCause standing cause ends → cause ≡ LinkFailed → status_by ends ≢ statuses.Code 0
+last_failed standing cause ends (inl same) failed zero =
+    let e : statuses.Code 1 ≡ statuses.Code 0 = sym (ap status_by (same.0 ∙ failed)) ∙ zero in absurd cc
+last_failed standing cause ends (inr told) failed zero =
+    let e : statuses.Code 1 ≡ statuses.Code 0 = sym (ap status_by failed) ∙ told.0 in absurd cc
+
+other_fails : (decision : Cac) (stage : Stage) (standing : Standing) (cause ends : Cause) (byte : ℕ) (words : List ℕ) → IsLastCause standing cause ends → byte ∷ words ≡ bytes_of (last_of decision stage ends) → (cause ≢ LinkFailed) × (status_by ends ≢ statuses.Code 0)
+other_fails decision stage standing cause ends byte words last is = (silent, fails)
+  where
+    nothing : bytes_of (last_of decision stage ends) ≡ [] → ⊥
+    nothing none = let e : byte ∷ words ≡ [] = is ∙ none in absurd cc
+
+    fails : status_by ends ≢ statuses.Code 0
+    fails zero = nothing (ap (λ (ms : List BackMessage). bytes_of ms) (says_nothing decision stage ends zero) ∙ bytes_of-none)
+
+    silent : cause ≢ LinkFailed
+    silent failed = elim last [
+      | inl same ↦ nothing (ap (λ (c : Cause). bytes_of (last_of decision stage c)) (same.0 ∙ failed) ∙ bytes_of-none)
+      | inr told ↦ let e : statuses.Code 1 ≡ statuses.Code 0 = sym (ap status_by failed) ∙ told.0 in absurd cc
+    ]
+
+-- the last words were said on a link that was left for this cause
+ends_by_words : (decision : Cac) (stage : Stage) (cause ends : Cause) (words : List ℕ) (link_before link_now : LinkView) (traffic : Option Traffic) (before now : Attention) (kill : Bool) → link_before.traffic ≡ traffic → IsLastCause before.standing cause ends
+    → words ≡ bytes_of (last_of decision stage ends) → SaysLast words (outside link_before [] before) (outside link_now [] now) → IsLeftFor cause traffic → EndsSoundly (status_by (cond kill Killed ends)) link_now.traffic
+ends_by_words decision stage cause ends [] link_before link_now traffic before now kill at last is says left =
+    let same : link_now.traffic ≡ traffic = ap (λ (m : Moment (Unit {0})). m.link.traffic) (says.silent refl) ∙ at in
+    subst (EndsSoundly (status_by (cond kill Killed ends))) (sym same) (left_soundly traffic left)
+  where
+    left_soundly : (traffic : Option Traffic) → IsLeftFor cause traffic → EndsSoundly (status_by (cond kill Killed ends)) traffic
+    left_soundly None left = tt
+    left_soundly (Some t) left = (left.0, λ failed. killed_status kill ends (last_failed before.standing cause ends last (left.1 failed)))
+ends_by_words decision stage cause ends (byte ∷ words) link_before link_now None before now kill at last is says left =
+    let other = other_fails decision stage before.standing cause ends byte words last is in
+    off_soundly link_now.traffic (says.sound false (subst (IsSound false) (sym at) tt)) other.1
+  where
+    off_soundly : (traffic : Option Traffic) → IfSome traffic (λ t. t.went_on ≡ false) → status_by ends ≢ statuses.Code 0 → EndsSoundly (status_by (cond kill Killed ends)) traffic
+    off_soundly None off fails = tt
+    off_soundly (Some t) off fails = (off, λ failed. killed_status kill ends fails)
+ends_by_words decision stage cause ends (byte ∷ words) link_before link_now (Some t) before now kill at last is says left =
+    let other = other_fails decision stage before.standing cause ends byte words last is in
+    off_soundly link_now.traffic (says.sound t.ended (subst (IsSound t.ended) (sym at) (left_sound cause t left other.0))) other.1
+  where
+    off_soundly : (traffic : Option Traffic) → IfSome traffic (λ t. t.went_on ≡ false) → status_by ends ≢ statuses.Code 0 → EndsSoundly (status_by (cond kill Killed ends)) traffic
+    off_soundly None off fails = tt
+    off_soundly (Some t) off fails = (off, λ failed. killed_status kill ends fails)
+
+pub closed : (decision : Cac) (stage : Stage) (cause ends exit : Cause) (words : List ℕ) (link_before link_now : LinkView) (before between now : Attention) → IsAttentive between → Hears 1 before between → IsLastCause between.standing cause ends
     → words ≡ bytes_of (last_of decision stage ends) → SaysLast words (outside link_before [] between) (outside link_now [] now) → exit ≡ cond now.standing.kill Killed ends
     → (ending : Ending) × (ending.stage ≡ stage) × (ending.exit ≡ exit) × Closes decision cause ending (outside link_before [] before) (outside link_now [] now)
-closed decision stage cause ends exit words link_before link_now before between now attentive listened heeded is says exit_is =
-    let there : IsAttentive between = listened.stands attentive in
+closed decision stage cause ends exit words link_before link_now before between now there listened heeded is says exit_is =
     let here : IsAttentive now = says.hears.stands there in
     let kill = now.standing.kill in (
       record { cause = ends; stage = stage; exit = cond kill Killed ends; exits = exits_as kill ends },
@@ -185,7 +263,8 @@ closed decision stage cause ends exit words link_before link_now before between 
         cut = cut_by kill ends (HasFailed link_before link_now) says.missing says.cut;
         passes = says.passes;
         hears = hears_both 1 0 before between now listened says.hears;
-        heeds = heeds_if now.told now ends refl here (heeded_none decision stage cause ends words between now heeded is says.silent);
+        heeds = heeds_if now.told now ends refl here (heeded_none decision stage cause ends words between now heeded is (λ e. ap (λ (at : Moment (Unit {0})). at.child) (says.silent e)));
+        sound = λ left. ends_by_words decision stage cause ends words link_before link_now link_before.traffic between now kill refl heeded is says left;
       },
     )
 
@@ -200,6 +279,7 @@ says_none words link at why = record {
   passes = passes_none link;
   hears = hears_none at;
   silent = λ e. refl;
+  sound = λ ended sound. sound_off ended link.traffic sound;
 }
 
 cut_of : (cause : Cause) (kill : Bool) (link_before link_now : LinkView) (at : Attention) → CutsOff cause → IsBreak cause × ShowsCause cause link_before link_now at → (cause ≡ Killed → IsTrue kill) → IsTrue kill ⊎ HasFailed link_before link_now
@@ -225,9 +305,9 @@ sent_cut (Ok done) missing kill link_before link_now at all shows killed = inl a
 sent_cut (Err cause) missing kill link_before link_now at all shows killed = inr (cut_of cause kill link_before link_now at all shows (λ e. killed (ap (λ (c : Cause). Err c) e)))
 
 pub said : (result : Result (Unit {0}) Cause) (words : List ℕ) (link_before link_now : LinkView) (before between now : Attention) → words ≢ [] → Sends result words link_before link_now
-    → MatchResult result (λ _. Unit {0}) (λ cause. IsBreak cause × ShowsCause cause link_before link_now between) → (result ≡ Err Killed → IsTrue between.standing.kill) → Hears 0 before between → Hears 1 between now
+    → MatchResult result (λ _. Unit {0}) (λ cause. IsBreak cause × ShowsCause cause link_before link_now between) → (result ≡ Err Killed → IsTrue between.standing.kill) → Hears 0 before between → Hears 1 between now → ((ended : Bool) → Holds ended result link_before link_now)
     → SaysLast words (outside link_before [] before) (outside link_now [] now)
-said result words link_before link_now before between now some sends shows killed sending listened = record {
+said result words link_before link_now before between now some sends shows killed sending listened holds = record {
   went = sends.went;
   missing = sends.missing;
   whole = sends.whole;
@@ -235,4 +315,5 @@ said result words link_before link_now before between now some sends shows kille
   passes = sends.passes;
   hears = hears_fewer 0 1 before now (hears_both 0 1 before between now sending listened);
   silent = λ e. absurd (some e);
+  sound = λ ended sound. sent_off result ended link_before link_now (holds ended) sound;
 }

@@ -1,11 +1,14 @@
 -- Queries one behind the other, up to the end of a session.
-use Rattle.std.proofs.Common.{◌≡◌, ◌⊎◌, inl, inr, ℕ, zero, suc, ◌+◌, ◌<◌, ◌≤◌, List, [], ◌∷◌, ◌++◌, length, take, drop, Option, None, Some, Result, Ok, Err, IfErr, OnOk, refl, sym, ◌∙◌, ap, subst, arith, append_assoc, take-append-drop, length-append}
+use Rattle.std.proofs.Common.{◌≡◌, ◌⊎◌, inl, inr, ℕ, zero, suc, ◌+◌, ◌*◌, ◌<◌, ◌≤◌, List, [], ◌∷◌, ◌++◌, length, take, drop, Option, None, Some, Result, Ok, Err, IfOk, IfErr, OnOk, refl, sym, ◌∙◌, ap, subst, arith, append_assoc, take-append-drop, length-append}
 use Rattle.std.specs.List.{flat_map, Contains}
 use Rattle.std.proofs.lemmas.Grind.{flat_map-append}
 use Rattle.std.proofs.lemmas.List.{append-nil}
 use Rattle.std.proofs.lemmas.List.Concat.{flat_map-cons}
 use Rattle.std.proofs.lemmas.List.Elements.{Contains-append_cases}
+use Rattle.pm_sql.specs.declared.stmt.Stmt.{Stmt}
+use Rattle.pm_sql.specs.Statements.{IsQueryText}
 use Rattle.pm_query.specs.declared.book.BookEntry.{BookEntry}
+use Rattle.pm_query.specs.declared.book.BookEntry.TheVariants.{Released}
 use Rattle.pm_query.specs.Calls.{User}
 use Rattle.pm_life.specs.Life.{Told, Signal, Kill, Quit, Terminate as ToTerminate, Cancel}
 use Rattle.pm_wire.specs.Outgoing.{Outgoing}
@@ -16,8 +19,8 @@ use Rattle.pm_session.specs.declared.ending.Cause.{Cause}
 use Rattle.pm_session.specs.declared.ending.Cause.TheVariants.{Terminated, Cancelling, LinkEnded, LinkFailed, TimedOut, PacketRefused, MessageRefused, DecisionRefused, GateRefused, ShortOfMemory, Panicked, ToldToTerminate, ToldToQuit, Killed, Overtaken}
 use Rattle.pm_session.specs.Exchange.{LinkView, Passes, CutsOff}
 use Rattle.pm_life.specs.Attention.{Attention, Hears, IsAttentive, was_given}
-use Rattle.pm_session.specs.Sent.{Turn, bytes_of, turn_messages}
-use Rattle.pm_session.specs.Session.{TurnNotes, AllNotes, EndsAt, MayPassOver, IsCancelledTurn, pieces, query_bytes}
+use Rattle.pm_session.specs.Sent.{Turn, Ran, Faulted, NotUtf8, Cancelled, LogIsFull, Memory, bytes_of, turn_messages}
+use Rattle.pm_session.specs.Session.{TurnNotes, AllNotes, AllSleep, Sleeps, HasSleptFor, HasWaited, seconds_slept, EndsAt, MayPassOver, IsCancelledTurn, pieces, query_bytes}
 use Rattle.pm_session.specs.Conversation.{Moment, moment, Conversed, ShowsCause, IsBreak}
 use Rattle.pm_session.specs.declared.release.Answer.{Answer}
 use Rattle.pm_session.specs.Turns.{Desk, desk, Says, EndNotes, AnswerNotes, turn_of, piece_of, IsSignal, IsHeeded, IsFit, Answered, BrokenOff, ReplyGoes, Refuses, MessageGoes, Comes, Conversing, Converses}
@@ -49,6 +52,52 @@ pieces_then pid (text ∷ texts) more_texts (turn ∷ turns) more_turns asked (f
     ∙ ap (λ (l : List ℕ). bytes_of (turn_messages text turn) ++ l) (pieces_then pid texts more_texts turns more_turns others rest)
     ∙ sym (append_assoc (bytes_of (turn_messages text turn)) (bytes_of (pieces texts turns)) (bytes_of (pieces more_texts more_turns)))
     ∙ ap (λ (l : List ℕ). l ++ bytes_of (pieces more_texts more_turns)) (sym (bytes_of-append (turn_messages text turn) (pieces texts turns)))
+
+sleep_then : (gives : ℕ → Type 0) (texts more_texts : List (List ℕ)) (turns more_turns : List Turn) → AllSleep gives texts turns → AllSleep gives more_texts more_turns → AllSleep gives (texts ++ more_texts) (turns ++ more_turns)
+sleep_then gives [] more_texts [] more_turns each next = next
+sleep_then gives [] more_texts (turn ∷ turns) more_turns each next = absurd each
+sleep_then gives (text ∷ texts) more_texts [] more_turns each next = absurd each
+sleep_then gives (text ∷ texts) more_texts (turn ∷ turns) more_turns (front, slept, rest) next = (front, slept, sleep_then gives texts more_texts turns more_turns rest next)
+
+-- a query for which nothing was noted hasn't run
+pub sleeps_unnoted : (gives : ℕ → Type 0) (pid : ℕ) (text : List ℕ) (turn : Turn) → TurnNotes pid text turn [] → Sleeps gives text turn
+sleeps_unnoted gives pid text (Ran reply) notes = absurd (none_released notes.answered pid notes.front notes.tick notes.entries_are)
+  where
+    none_released : (entries : List BookEntry) (pid front tick : ℕ) → [] ≡ entries ++ Released pid front tick ∷ [] → ⊥
+    none_released [] pid front tick e = cc
+    none_released (entry ∷ entries) pid front tick e = cc
+sleeps_unnoted gives pid text (Faulted fault) notes = tt
+sleeps_unnoted gives pid text NotUtf8 notes = tt
+sleeps_unnoted gives pid text Cancelled notes = tt
+sleeps_unnoted gives pid text LogIsFull notes = absurd cc
+sleeps_unnoted gives pid text Memory notes = tt
+
+-- a script that slept is that of the text
+pub sleeps_spelled : (gives : ℕ → Type 0) (text : List ℕ) (script : List Stmt) (turn : Turn) → IsQueryText text script → HasSleptFor gives turn script → Sleeps gives text turn
+sleeps_spelled gives text script (Ran reply) query slept = (script, query, slept)
+sleeps_spelled gives text script LogIsFull query slept = (script, query, slept)
+sleeps_spelled gives text script (Faulted fault) query slept = tt
+sleeps_spelled gives text script NotUtf8 query slept = tt
+sleeps_spelled gives text script Cancelled query slept = tt
+sleeps_spelled gives text script Memory query slept = tt
+
+-- once all of the time has passed, whatever its turn
+pub slept_for : (gives : ℕ → Type 0) (turn : Turn) (script : List Stmt) → HasWaited gives (1000 * seconds_slept script) → HasSleptFor gives turn script
+slept_for gives (Ran reply) script waited = waited
+slept_for gives LogIsFull script waited = waited
+slept_for gives (Faulted fault) script waited = tt
+slept_for gives NotUtf8 script waited = tt
+slept_for gives Cancelled script waited = tt
+slept_for gives Memory script waited = tt
+
+pub all_slept : (gives : ℕ → Type 0) (script : List Stmt) (result : Result Answer Cause) → HasWaited gives (1000 * seconds_slept script) → IfOk result (λ answer. HasSleptFor gives (turn_of answer) script)
+all_slept gives script (Ok answer) waited = slept_for gives (turn_of answer) script waited
+all_slept gives script (Err cause) waited = tt
+
+pub all_spelled : (gives : ℕ → Type 0) (text other : List ℕ) (script : List Stmt) (result : Result Answer Cause) → text ≡ other → IsQueryText text script → IfOk result (λ answer. HasSleptFor gives (turn_of answer) script)
+    → IfOk result (λ answer. Sleeps gives other (turn_of answer))
+all_spelled gives text other script (Ok answer) same query slept = subst (λ (bytes : List ℕ). Sleeps gives bytes (turn_of answer)) same (sleeps_spelled gives text script (turn_of answer) query slept)
+all_spelled gives text other script (Err cause) same query slept = tt
 
 pub nothing_among : (turn : Turn) → Contains [] turn → ⊥
 nothing_among turn (k, lt, is) = omega (arith, lt)
@@ -83,8 +132,8 @@ read_then pid [] more_texts (turn ∷ turns) more_turns asked each one two = abs
 read_then pid (text ∷ texts) more_texts [] more_turns asked each one two = absurd each
 read_then pid (text ∷ texts) more_texts (turn ∷ turns) more_turns asked (first, others, is, front, means, rest) one two = (one.0, read_then pid texts more_texts turns more_turns others rest one.1 two)
 
-pub conversing_none : {S : Type 0} (notes : List BookEntry → S → S → Type 0) (user : User) (at : Moment S) → notes [] at.store at.store → Conversing notes user at at
-conversing_none notes user at rest = record {
+pub conversing_none : {S : Type 0} (notes : List BookEntry → S → S → Type 0) (gives : ℕ → Type 0) (user : User) (at : Moment S) → notes [] at.store at.store → Conversing notes gives user at at
+conversing_none notes gives user at rest = record {
   texts = [];
   turns = [];
   asked = [];
@@ -95,13 +144,14 @@ conversing_none notes user at rest = record {
   entries = rest;
   hears = hears_none at.child;
   read = tt;
+  slept = tt;
   heeded = heed_none 0 at.child.told at.child.told (hears_none at.child).asked;
   cancelled = λ turn among is. absurd (nothing_among turn among);
 }
 
-pub conversing_then : {S : Type 0} (notes : List BookEntry → S → S → Type 0) (user : User) (before between now : Moment S) → GoesInTurn notes → Conversing notes user before between → Conversing notes user between now
-    → Conversing notes user before now
-conversing_then notes user before between now in_turn one two = record {
+pub conversing_then : {S : Type 0} (notes : List BookEntry → S → S → Type 0) (gives : ℕ → Type 0) (user : User) (before between now : Moment S) → GoesInTurn notes → Conversing notes gives user before between → Conversing notes gives user between now
+    → Conversing notes gives user before now
+conversing_then notes gives user before between now in_turn one two = record {
   texts = one.texts ++ two.texts;
   turns = one.turns ++ two.turns;
   asked = one.asked ++ two.asked;
@@ -113,21 +163,22 @@ conversing_then notes user before between now in_turn one two = record {
   entries = in_turn before.store between.store now.store one.asked two.asked one.entries two.entries;
   hears = hears_turns one.turns two.turns before.child between.child now.child one.hears two.hears;
   read = read_then user.pid one.texts two.texts one.turns two.turns one.asked one.each one.read two.read;
+  slept = sleep_then gives one.texts two.texts one.turns two.turns one.slept two.slept;
   heeded = heed_then one.turns two.turns before.child.told between.child.told now.child.told one.heeded two.heeded two.hears.gained;
   cancelled = cancelled_then (length two.turns) one.turns two.turns between.child now.child two.hears one.cancelled two.cancelled;
 }
 
 -- the same of one child, told by its pass at another time
-pub conversing_as : {S : Type 0} (notes : List BookEntry → S → S → Type 0) (who user : User) (before now : Moment S) → who ≡ user → Conversing notes who before now → Conversing notes user before now
-conversing_as notes who user before now same one = subst (λ (child : User). Conversing notes child before now) same one
+pub conversing_as : {S : Type 0} (notes : List BookEntry → S → S → Type 0) (gives : ℕ → Type 0) (who user : User) (before now : Moment S) → who ≡ user → Conversing notes gives who before now → Conversing notes gives user before now
+conversing_as notes gives who user before now same one = subst (λ (child : User). Conversing notes gives child before now) same one
 
-pub conversed_as : {S : Type 0} (notes : List BookEntry → S → S → Type 0) (who user : User) (cause : Cause) (before now : Moment S) → who ≡ user → Conversed notes who cause before now → Conversed notes user cause before now
-conversed_as notes who user cause before now same one = subst (λ (child : User). Conversed notes child cause before now) same one
+pub conversed_as : {S : Type 0} (notes : List BookEntry → S → S → Type 0) (gives : ℕ → Type 0) (who user : User) (cause : Cause) (before now : Moment S) → who ≡ user → Conversed notes gives who cause before now → Conversed notes gives user cause before now
+conversed_as notes gives who user cause before now same one = subst (λ (child : User). Conversed notes gives child cause before now) same one
 
 -- and then the end
-pub conversed_then : {S : Type 0} (notes : List BookEntry → S → S → Type 0) (user : User) (cause : Cause) (before between now : Moment S) → GoesInTurn notes → Conversing notes user before between → Conversed notes user cause between now
-    → Conversed notes user cause before now
-conversed_then notes user cause before between now in_turn one two = record {
+pub conversed_then : {S : Type 0} (notes : List BookEntry → S → S → Type 0) (gives : ℕ → Type 0) (user : User) (cause : Cause) (before between now : Moment S) → GoesInTurn notes → Conversing notes gives user before between → Conversed notes gives user cause between now
+    → Conversed notes gives user cause before now
+conversed_then notes gives user cause before between now in_turn one two = record {
   texts = one.texts ++ two.texts;
   turns = one.turns ++ two.turns;
   last = two.last;
@@ -149,6 +200,7 @@ conversed_then notes user cause before between now in_turn one two = record {
       (in_turn before.store between.store now.store one.asked (two.asked ++ two.ended) one.entries two.entries);
   hears = hears_turns one.turns two.turns before.child between.child now.child one.hears two.hears;
   read = read_then user.pid one.texts two.texts one.turns two.turns one.asked one.each one.read two.read;
+  slept = sleep_then gives one.texts two.texts one.turns two.turns one.slept two.slept;
   heeded = heed_then one.turns two.turns before.child.told between.child.told now.child.told one.heeded two.heeded two.hears.gained;
   cancelled = cancelled_then (length two.turns) one.turns two.turns between.child now.child two.hears one.cancelled two.cancelled;
 }
@@ -213,9 +265,9 @@ none_more : (times : ℕ) → times ≡ 0 + times
 none_more times = omega arith
 
 -- a session ends here, and no query was in progress
-pub ends_here : {S : Type 0} (notes : List BookEntry → S → S → Type 0) (user : User) (cause : Cause) (last came : List ℕ) (times : ℕ) (before now : Moment S) → EndsAt user cause last [] → MayPassOver cause now.unread
-    → before.unread ++ came ≡ last ++ now.unread → Passes came [] before.link now.link → notes [] before.store now.store → Hears times before.child now.child → Conversed notes user cause before now
-ends_here notes user cause last came times before now ends over input passes entries hears = record {
+pub ends_here : {S : Type 0} (notes : List BookEntry → S → S → Type 0) (gives : ℕ → Type 0) (user : User) (cause : Cause) (last came : List ℕ) (times : ℕ) (before now : Moment S) → EndsAt user cause last [] → MayPassOver cause now.unread
+    → before.unread ++ came ≡ last ++ now.unread → Passes came [] before.link now.link → notes [] before.store now.store → Hears times before.child now.child → Conversed notes gives user cause before now
+ends_here notes gives user cause last came times before now ends over input passes entries hears = record {
   texts = [];
   turns = [];
   last = last;
@@ -234,6 +286,7 @@ ends_here notes user cause last came times before now ends over input passes ent
   entries = entries;
   hears = hears_fewer 0 times before.child now.child (subst (λ (n : ℕ). Hears n before.child now.child) (none_more times) hears);
   read = tt;
+  slept = tt;
   heeded = heed_none times before.child.told now.child.told hears.asked;
   cancelled = λ turn among is. absurd (nothing_among turn among);
 }
@@ -308,10 +361,10 @@ notes_end user text Overtaken entries front ends = (ends.0, (text, refl, front, 
 -- ---- a turn
 
 -- the queries whose answers were sent are one
-pub turn_taken : {S : Type 0} (notes : List BookEntry → S → S → Type 0) (user : User) (text spelled rest unread : List ℕ) (link_before link_now : LinkView) (store_before store_now : S) (child_before child_between child_now : Attention)
-    → unread ≡ spelled ++ rest → IsFront spelled (Query text) → Hears 1 child_before child_between → IsAttentive child_between → ends_of child_between.standing ≡ None → Answered notes user text [] (moment link_before [] store_before child_between) (moment link_now [] store_now child_now)
-    → Conversing notes user (moment link_before unread store_before child_before) (moment link_now rest store_now child_now)
-turn_taken notes user text spelled rest unread link_before link_now store_before store_now child_before child_between child_now is front heard attentive none took = record {
+pub turn_taken : {S : Type 0} (notes : List BookEntry → S → S → Type 0) (gives : ℕ → Type 0) (user : User) (text spelled rest unread : List ℕ) (link_before link_now : LinkView) (store_before store_now : S) (child_before child_between child_now : Attention)
+    → unread ≡ spelled ++ rest → IsFront spelled (Query text) → Hears 1 child_before child_between → IsAttentive child_between → ends_of child_between.standing ≡ None → Answered notes gives user text [] (moment link_before [] store_before child_between) (moment link_now [] store_now child_now)
+    → Conversing notes gives user (moment link_before unread store_before child_before) (moment link_now rest store_now child_now)
+turn_taken notes gives user text spelled rest unread link_before link_now store_before store_now child_before child_between child_now is front heard attentive none took = record {
   texts = text ∷ [];
   turns = took.turn ∷ [];
   asked = took.noted;
@@ -322,16 +375,17 @@ turn_taken notes user text spelled rest unread link_before link_now store_before
   entries = took.entries;
   hears = hears_both 1 0 child_before child_between child_now heard took.hears;
   read = (took.read, tt);
+  slept = ((refl, front.1, front.2), took.slept, tt);
   heeded = turn_heeds took.turn 0 child_before child_between child_now heard attentive none took.hears (λ e. took.cancelled (subst IsCancelledTurn (sym e) tt));
   cancelled = λ turn among is_cancelled. one_cancelled took.turn turn child_now (λ is. since_given 0 Cancel child_between.told child_now.told took.hears.asked (took.cancelled is)) among is_cancelled;
 }
 
 -- a query was answered, and sending its answer was broken off
-pub turn_cut : {S : Type 0} (notes : List BookEntry → S → S → Type 0) (user : User) (cause : Cause) (text missing spelled rest unread : List ℕ) (link_before link_now : LinkView) (store_before store_now : S) (child_before child_between child_now : Attention)
+pub turn_cut : {S : Type 0} (notes : List BookEntry → S → S → Type 0) (gives : ℕ → Type 0) (user : User) (cause : Cause) (text missing spelled rest unread : List ℕ) (link_before link_now : LinkView) (store_before store_now : S) (child_before child_between child_now : Attention)
     → unread ≡ spelled ++ rest → IsFront spelled (Query text) → Hears 1 child_before child_between → IsAttentive child_between → ends_of child_between.standing ≡ None → CutsOff cause → IsBreak cause
-    → Answered notes user text missing (moment link_before [] store_before child_between) (moment link_now [] store_now child_now)
-    → Conversed notes user cause (moment link_before unread store_before child_before) (moment link_now rest store_now child_now)
-turn_cut notes user cause text missing spelled rest unread link_before link_now store_before store_now child_before child_between child_now is front heard attentive none cuts broken took = record {
+    → Answered notes gives user text missing (moment link_before [] store_before child_between) (moment link_now [] store_now child_now)
+    → Conversed notes gives user cause (moment link_before unread store_before child_before) (moment link_now rest store_now child_now)
+turn_cut notes gives user cause text missing spelled rest unread link_before link_now store_before store_now child_before child_between child_now is front heard attentive none cuts broken took = record {
   texts = text ∷ [];
   turns = took.turn ∷ [];
   last = [];
@@ -350,15 +404,16 @@ turn_cut notes user cause text missing spelled rest unread link_before link_now 
   entries = subst (λ (es : List BookEntry). notes es store_before store_now) (sym (append-nil took.noted)) took.entries;
   hears = hears_both 1 0 child_before child_between child_now heard took.hears;
   read = (took.read, tt);
+  slept = ((refl, front.1, front.2), took.slept, tt);
   heeded = turn_heeds took.turn 0 child_before child_between child_now heard attentive none took.hears (λ e. took.cancelled (subst IsCancelledTurn (sym e) tt));
   cancelled = λ turn among is_cancelled. one_cancelled took.turn turn child_now (λ is. since_given 0 Cancel child_between.told child_now.told took.hears.asked (took.cancelled is)) among is_cancelled;
 }
 
 -- a query was broken off
-pub turn_broken : {S : Type 0} (notes : List BookEntry → S → S → Type 0) (user : User) (cause : Cause) (text spelled rest unread : List ℕ) (link_before link_now : LinkView) (store_before store_now : S) (child_before child_between child_now : Attention)
+pub turn_broken : {S : Type 0} (notes : List BookEntry → S → S → Type 0) (gives : ℕ → Type 0) (user : User) (cause : Cause) (text spelled rest unread : List ℕ) (link_before link_now : LinkView) (store_before store_now : S) (child_before child_between child_now : Attention)
     → unread ≡ spelled ++ rest → IsFront spelled (Query text) → Hears 1 child_before child_between → BrokenOff notes user text cause (moment link_before [] store_before child_between) (moment link_now [] store_now child_now)
-    → Conversed notes user cause (moment link_before unread store_before child_before) (moment link_now rest store_now child_now)
-turn_broken notes user cause text spelled rest unread link_before link_now store_before store_now child_before child_between child_now is front heard off = record {
+    → Conversed notes gives user cause (moment link_before unread store_before child_before) (moment link_now rest store_now child_now)
+turn_broken notes gives user cause text spelled rest unread link_before link_now store_before store_now child_before child_between child_now is front heard off = record {
   texts = [];
   turns = [];
   last = query_bytes text;
@@ -377,49 +432,50 @@ turn_broken notes user cause text spelled rest unread link_before link_now store
   entries = off.entries;
   hears = hears_fewer 0 1 child_before child_now (hears_both 1 0 child_before child_between child_now heard off.hears);
   read = tt;
+  slept = tt;
   heeded = heed_none 0 child_before.told child_now.told (hears_fewer 0 1 child_before child_now (hears_both 1 0 child_before child_between child_now heard off.hears)).asked;
   cancelled = λ turn among is_cancelled. absurd (nothing_among turn among);
 }
 
 -- a message other than a query
-other_ends : {S : Type 0} (notes : List BookEntry → S → S → Type 0) (user : User) (m : FrontMessage) (cause : Cause) (spelled rest unread : List ℕ) (link_before link_now : LinkView) (store_before store_now : S) (child_before child_between child_now : Attention)
+other_ends : {S : Type 0} (notes : List BookEntry → S → S → Type 0) (gives : ℕ → Type 0) (user : User) (m : FrontMessage) (cause : Cause) (spelled rest unread : List ℕ) (link_before link_now : LinkView) (store_before store_now : S) (child_before child_between child_now : Attention)
     → unread ≡ spelled ++ rest → IsFront spelled m → Hears 1 child_before child_between → notes [] store_before store_before → Refuses user m cause (moment link_before [] store_before child_between) (moment link_now [] store_now child_now)
-    → Conversed notes user cause (moment link_before unread store_before child_before) (moment link_now rest store_now child_now)
-other_ends {S} notes user m cause spelled rest unread link_before link_now store_before store_now child_before child_between child_now is front heard rests refuses =
+    → Conversed notes gives user cause (moment link_before unread store_before child_before) (moment link_now rest store_now child_now)
+other_ends {S} notes gives user m cause spelled rest unread link_before link_now store_before store_now child_before child_between child_now is front heard rests refuses =
     let link : link_now ≡ link_before = ap (λ (at : Moment S). at.link) refuses.still in
     let store : store_now ≡ store_before = ap (λ (at : Moment S). at.store) refuses.still in
     let child : child_now ≡ child_between = ap (λ (at : Moment S). at.child) refuses.still in
-    ends_here notes user cause spelled [] 1 (moment link_before unread store_before child_before) (moment link_now rest store_now child_now) (refuses.ends spelled front) (refuses.passes_over rest) (append-nil unread ∙ is)
+    ends_here notes gives user cause spelled [] 1 (moment link_before unread store_before child_before) (moment link_now rest store_now child_now) (refuses.ends spelled front) (refuses.passes_over rest) (append-nil unread ∙ is)
     (subst (λ (l : LinkView). Passes [] [] link_before l) (sym link) (passes_none link_before))
     (subst (λ (s : S). notes [] store_before s) (sym store) rests)
     (subst (λ (c : Attention). Hears 1 child_before c) (sym child) heard)
 
 -- a whole message was taken
-pub message_taken : {S : Type 0} (notes : List BookEntry → S → S → Type 0) (user : User) (m : FrontMessage) (result : Result (Unit {0}) Cause) (spelled rest unread : List ℕ) (link_before link_now : LinkView) (store_before store_now : S)
+pub message_taken : {S : Type 0} (notes : List BookEntry → S → S → Type 0) (gives : ℕ → Type 0) (user : User) (m : FrontMessage) (result : Result (Unit {0}) Cause) (spelled rest unread : List ℕ) (link_before link_now : LinkView) (store_before store_now : S)
     (child_before child_between child_now : Attention) → unread ≡ spelled ++ rest → IsFront spelled m → Hears 1 child_before child_between → IsAttentive child_between → ends_of child_between.standing ≡ None → notes [] store_before store_before
-    → MessageGoes notes user m result (moment link_before [] store_before child_between) (moment link_now [] store_now child_now)
-    → Converses notes user result (moment link_before unread store_before child_before) (moment link_now rest store_now child_now)
-message_taken notes user (Query text) (Ok done) spelled rest unread link_before link_now store_before store_now child_before child_between child_now is front heard attentive none rests took =
-    turn_taken notes user text spelled rest unread link_before link_now store_before store_now child_before child_between child_now is front heard attentive none took
-message_taken notes user (Query text) (Err cause) spelled rest unread link_before link_now store_before store_now child_before child_between child_now is front heard attentive none rests (inl cut) =
-    turn_cut notes user cause text cut.0 spelled rest unread link_before link_now store_before store_now child_before child_between child_now is front heard attentive none cut.1 cut.2 cut.3
-message_taken notes user (Query text) (Err cause) spelled rest unread link_before link_now store_before store_now child_before child_between child_now is front heard attentive none rests (inr off) =
-    turn_broken notes user cause text spelled rest unread link_before link_now store_before store_now child_before child_between child_now is front heard off
-message_taken notes user BadQuery (Ok done) spelled rest unread link_before link_now store_before store_now child_before child_between child_now is front heard attentive none rests goes = absurd goes
-message_taken notes user BadQuery (Err cause) spelled rest unread link_before link_now store_before store_now child_before child_between child_now is front heard attentive none rests goes =
-    other_ends notes user BadQuery cause spelled rest unread link_before link_now store_before store_now child_before child_between child_now is front heard rests goes
-message_taken notes user (LongQuery seen) (Ok done) spelled rest unread link_before link_now store_before store_now child_before child_between child_now is front heard attentive none rests goes = absurd goes
-message_taken notes user (LongQuery seen) (Err cause) spelled rest unread link_before link_now store_before store_now child_before child_between child_now is front heard attentive none rests goes =
-    other_ends notes user (LongQuery seen) cause spelled rest unread link_before link_now store_before store_now child_before child_between child_now is front heard rests goes
-message_taken notes user Terminate (Ok done) spelled rest unread link_before link_now store_before store_now child_before child_between child_now is front heard attentive none rests goes = absurd goes
-message_taken notes user Terminate (Err cause) spelled rest unread link_before link_now store_before store_now child_before child_between child_now is front heard attentive none rests goes =
-    other_ends notes user Terminate cause spelled rest unread link_before link_now store_before store_now child_before child_between child_now is front heard rests goes
-message_taken notes user (Extended kind) (Ok done) spelled rest unread link_before link_now store_before store_now child_before child_between child_now is front heard attentive none rests goes = absurd goes
-message_taken notes user (Extended kind) (Err cause) spelled rest unread link_before link_now store_before store_now child_before child_between child_now is front heard attentive none rests goes =
-    other_ends notes user (Extended kind) cause spelled rest unread link_before link_now store_before store_now child_before child_between child_now is front heard rests goes
-message_taken notes user (Other kind) (Ok done) spelled rest unread link_before link_now store_before store_now child_before child_between child_now is front heard attentive none rests goes = absurd goes
-message_taken notes user (Other kind) (Err cause) spelled rest unread link_before link_now store_before store_now child_before child_between child_now is front heard attentive none rests goes =
-    other_ends notes user (Other kind) cause spelled rest unread link_before link_now store_before store_now child_before child_between child_now is front heard rests goes
+    → MessageGoes notes gives user m result (moment link_before [] store_before child_between) (moment link_now [] store_now child_now)
+    → Converses notes gives user result (moment link_before unread store_before child_before) (moment link_now rest store_now child_now)
+message_taken notes gives user (Query text) (Ok done) spelled rest unread link_before link_now store_before store_now child_before child_between child_now is front heard attentive none rests took =
+    turn_taken notes gives user text spelled rest unread link_before link_now store_before store_now child_before child_between child_now is front heard attentive none took
+message_taken notes gives user (Query text) (Err cause) spelled rest unread link_before link_now store_before store_now child_before child_between child_now is front heard attentive none rests (inl cut) =
+    turn_cut notes gives user cause text cut.0 spelled rest unread link_before link_now store_before store_now child_before child_between child_now is front heard attentive none cut.1 cut.2 cut.3
+message_taken notes gives user (Query text) (Err cause) spelled rest unread link_before link_now store_before store_now child_before child_between child_now is front heard attentive none rests (inr off) =
+    turn_broken notes gives user cause text spelled rest unread link_before link_now store_before store_now child_before child_between child_now is front heard off
+message_taken notes gives user BadQuery (Ok done) spelled rest unread link_before link_now store_before store_now child_before child_between child_now is front heard attentive none rests goes = absurd goes
+message_taken notes gives user BadQuery (Err cause) spelled rest unread link_before link_now store_before store_now child_before child_between child_now is front heard attentive none rests goes =
+    other_ends notes gives user BadQuery cause spelled rest unread link_before link_now store_before store_now child_before child_between child_now is front heard rests goes
+message_taken notes gives user (LongQuery seen) (Ok done) spelled rest unread link_before link_now store_before store_now child_before child_between child_now is front heard attentive none rests goes = absurd goes
+message_taken notes gives user (LongQuery seen) (Err cause) spelled rest unread link_before link_now store_before store_now child_before child_between child_now is front heard attentive none rests goes =
+    other_ends notes gives user (LongQuery seen) cause spelled rest unread link_before link_now store_before store_now child_before child_between child_now is front heard rests goes
+message_taken notes gives user Terminate (Ok done) spelled rest unread link_before link_now store_before store_now child_before child_between child_now is front heard attentive none rests goes = absurd goes
+message_taken notes gives user Terminate (Err cause) spelled rest unread link_before link_now store_before store_now child_before child_between child_now is front heard attentive none rests goes =
+    other_ends notes gives user Terminate cause spelled rest unread link_before link_now store_before store_now child_before child_between child_now is front heard rests goes
+message_taken notes gives user (Extended kind) (Ok done) spelled rest unread link_before link_now store_before store_now child_before child_between child_now is front heard attentive none rests goes = absurd goes
+message_taken notes gives user (Extended kind) (Err cause) spelled rest unread link_before link_now store_before store_now child_before child_between child_now is front heard attentive none rests goes =
+    other_ends notes gives user (Extended kind) cause spelled rest unread link_before link_now store_before store_now child_before child_between child_now is front heard rests goes
+message_taken notes gives user (Other kind) (Ok done) spelled rest unread link_before link_now store_before store_now child_before child_between child_now is front heard attentive none rests goes = absurd goes
+message_taken notes gives user (Other kind) (Err cause) spelled rest unread link_before link_now store_before store_now child_before child_between child_now is front heard attentive none rests goes =
+    other_ends notes gives user (Other kind) cause spelled rest unread link_before link_now store_before store_now child_before child_between child_now is front heard rests goes
 
 -- ---- one query
 
@@ -428,11 +484,11 @@ said_whole text answer before now stood went missing empty fit whole =
     ap (λ (ms : List BackMessage). bytes_of ms) (sym fit.piece) ∙ ap (λ (l : List ℕ). l ++ bytes_of (piece_of answer)) (sym empty) ∙ whole
 
 -- its answer was sent, or a front of it
-pub replied : {S : Type 0} (notes : List BookEntry → S → S → Type 0) (user : User) (text : List ℕ) (answer : Answer) (result : Result (Unit {0}) Cause) (link_before link_now : LinkView) (store_before store_now : S) (child_before child_between child_now : Attention)
-    (outbox_before outbox_now : Outgoing) → outbox_before.bytes ≡ [] → (entries : List BookEntry) × notes entries store_before store_now × TurnNotes user.pid text (turn_of answer) entries → IsFit text answer child_before.told child_between.told
+pub replied : {S : Type 0} (notes : List BookEntry → S → S → Type 0) (gives : ℕ → Type 0) (user : User) (text : List ℕ) (answer : Answer) (result : Result (Unit {0}) Cause) (link_before link_now : LinkView) (store_before store_now : S) (child_before child_between child_now : Attention)
+    (outbox_before outbox_now : Outgoing) → outbox_before.bytes ≡ [] → (entries : List BookEntry) × notes entries store_before store_now × TurnNotes user.pid text (turn_of answer) entries → IsFit text answer child_before.told child_between.told → Sleeps gives text (turn_of answer)
     → Hears 0 child_before child_between → Says result (piece_of answer) (desk link_before outbox_before child_between) (desk link_now outbox_now child_now) → OnOk result (outbox_now.bytes ≡ [])
-    → ReplyGoes notes user text result (moment link_before [] store_before child_before) (moment link_now [] store_now child_now)
-replied notes user text answer (Ok done) link_before link_now store_before store_now child_before child_between child_now outbox_before outbox_now empty (entries, noted, means) fit heard says emptied = record {
+    → ReplyGoes notes gives user text result (moment link_before [] store_before child_before) (moment link_now [] store_now child_now)
+replied notes gives user text answer (Ok done) link_before link_now store_before store_now child_before child_between child_now outbox_before outbox_now empty (entries, noted, means) fit slept heard says emptied = record {
   turn = turn_of answer;
   noted = entries;
   went = says.went;
@@ -442,9 +498,10 @@ replied notes user text answer (Ok done) link_before link_now store_before store
   entries = noted;
   hears = hears_both 0 0 child_before child_between child_now heard says.hears;
   read = fit.read;
+  slept = slept;
   cancelled = λ is. since_later 0 Cancel child_before.told child_between.told child_now.told (fit.cancelled is) says.hears.asked says.hears.gained;
 }
-replied notes user text answer (Err cause) link_before link_now store_before store_now child_before child_between child_now outbox_before outbox_now empty (entries, noted, means) fit heard says emptied = inl (
+replied notes gives user text answer (Err cause) link_before link_now store_before store_now child_before child_between child_now outbox_before outbox_now empty (entries, noted, means) fit slept heard says emptied = inl (
   says.missing,
   says.left.0,
   says.left.1,
@@ -458,15 +515,16 @@ replied notes user text answer (Err cause) link_before link_now store_before sto
     entries = noted;
     hears = hears_both 0 0 child_before child_between child_now heard says.hears;
     read = fit.read;
+    slept = slept;
     cancelled = λ is. since_later 0 Cancel child_before.told child_between.told child_now.told (fit.cancelled is) says.hears.asked says.hears.gained;
   },
 )
 
 -- it has none
-pub unreplied : {S : Type 0} (notes : List BookEntry → S → S → Type 0) (user : User) (text : List ℕ) (cause : Cause) (link : LinkView) (store_before store_now : S) (child_before child_now : Attention)
+pub unreplied : {S : Type 0} (notes : List BookEntry → S → S → Type 0) (gives : ℕ → Type 0) (user : User) (text : List ℕ) (cause : Cause) (link : LinkView) (store_before store_now : S) (child_before child_now : Attention)
     → (entries : List BookEntry) × notes entries store_before store_now × EndNotes user text cause entries → Hears 0 child_before child_now
-    → ReplyGoes notes user text (Err cause) (moment link [] store_before child_before) (moment link [] store_now child_now)
-unreplied notes user text cause link store_before store_now child_before child_now (entries, noted, ends) heard =
+    → ReplyGoes notes gives user text (Err cause) (moment link [] store_before child_before) (moment link [] store_now child_now)
+unreplied notes gives user text cause link store_before store_now child_before child_now (entries, noted, ends) heard =
     inr (record { noted = entries; ends = ends; passes = passes_none link; entries = noted; hears = heard })
 
 -- an answer that fits a text fits the same bytes

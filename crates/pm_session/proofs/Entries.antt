@@ -13,7 +13,7 @@ use Rattle.pm_startup.specs.Grammar.{Content, int32, packet, startup, ssl_reques
 use Rattle.pm_startup.specs.Phases.{step_of}
 use Rattle.pm_session.specs.declared.ending.Cause.{Cause}
 use Rattle.pm_session.specs.declared.ending.Cause.TheVariants.{Terminated, Cancelling, LinkEnded, LinkFailed, TimedOut, PacketRefused, MessageRefused, DecisionRefused, GateRefused, ShortOfMemory, Panicked, ToldToTerminate, ToldToQuit, Killed, Overtaken}
-use Rattle.pm_session.specs.Exchange.{LinkView, Passes, CutsOff, IsSentAll, Sends, Receives, ReceivesNothing}
+use Rattle.pm_session.specs.Exchange.{LinkView, Passes, CutsOff, Holds, IsSentAll, Sends, Receives, ReceivesNothing}
 use Rattle.std.specs.Option.{option_map}
 use Rattle.pm_life.specs.declared.standing.Standing.{Standing}
 use Rattle.pm_life.specs.Life.{Child, Told, asked_cancel}
@@ -22,7 +22,7 @@ use Rattle.pm_session.specs.Session.{AskInTurn, IsStart, IsRefusedPacket, StopsA
 use Rattle.pm_session.specs.Conversation.{IsBreak, ShowsCause}
 use Rattle.pm_session.specs.Entry.{outside, Asked, GoesOn, AsksToCancel, Attends, Enters}
 use Rattle.pm_session.proofs.Attentions.{hears_none, hears_both, hears_fewer, asked_then, cancels_none}
-use Rattle.pm_session.proofs.Links.{passes_none, passes_both, passes_no_more}
+use Rattle.pm_session.proofs.Links.{passes_none, passes_both, passes_no_more, holds_then, holds_still, sound_left}
 use Rattle.pm_session.proofs.Said.{shows_since}
 
 -- ---- what a step means
@@ -75,18 +75,19 @@ all_of-push : (packets : List (List ℕ)) (packet : List ℕ) → all_of (packet
 all_of-push packets packet = flat_map-append (λ p. p) packets (packet ∷ []) ∙ ap (λ (l : List ℕ). all_of packets ++ l) (flat_map-cons (λ p. p) packet [] ∙ append-nil packet)
 
 pub asked_none : (link : LinkView) (unread : List ℕ) (at : Attention) → Asked first_phase (outside link unread at) (outside link unread at)
-asked_none link unread at = record { requests = []; came = []; asks = refl; input = append-nil unread; passes = passes_none link; hears = hears_none at }
+asked_none link unread at = record { requests = []; came = []; asks = refl; input = append-nil unread; passes = passes_none link; hears = hears_none at; holds = λ sound. sound }
 
 -- bytes came in
-pub asked_received : (phase : Phase) (link0 link1 link2 : LinkView) (unread0 unread1 unread2 : List ℕ) (at0 at1 at2 : Attention) → Asked phase (outside link0 unread0 at0) (outside link1 unread1 at1) → Receives unread1 unread2 link1 link2 → Hears 1 at1 at2
+pub asked_received : (phase : Phase) (link0 link1 link2 : LinkView) (unread0 unread1 unread2 : List ℕ) (at0 at1 at2 : Attention) → Asked phase (outside link0 unread0 at0) (outside link1 unread1 at1) → Receives unread1 unread2 link1 link2 → Hears 1 at1 at2 → Holds false (Ok tt) link1 link2
     → Asked phase (outside link0 unread0 at0) (outside link2 unread2 at2)
-asked_received phase link0 link1 link2 unread0 unread1 unread2 at0 at1 at2 asked receives hears = record {
+asked_received phase link0 link1 link2 unread0 unread1 unread2 at0 at1 at2 asked receives hears holds = record {
   requests = asked.requests;
   came = asked.came ++ receives.came;
   asks = asked.asks;
   input = sym (append_assoc unread0 asked.came receives.came) ∙ ap (λ (l : List ℕ). l ++ receives.came) asked.input ∙ append_assoc (all_of asked.requests) unread1 receives.came ∙ ap (λ (l : List ℕ). all_of asked.requests ++ l) (sym receives.unread);
   passes = subst (λ (w : List ℕ). Passes (asked.came ++ receives.came) w link0 link2) (append-nil (answers_to asked.requests)) (passes_both asked.came (answers_to asked.requests) receives.came [] link0 link1 link2 asked.passes receives.passes);
   hears = hears_fewer 0 1 at0 at2 (hears_both 0 1 at0 at1 at2 asked.hears hears);
+  holds = λ sound. holds (asked.holds sound);
 }
 
 -- the front of what is unread is one more request
@@ -100,8 +101,8 @@ answers_more requests packet = map-append (λ p. 78) requests (packet ∷ [])
 
 -- one more request was answered
 pub asked_more : (phase next : Phase) (content : Content) (used : ℕ) (link0 link1 link2 : LinkView) (unread0 unread1 unread2 : List ℕ) (at0 at1 at2 : Attention) → Asked phase (outside link0 unread0 at0) (outside link1 unread1 at1)
-    → FrontDecides unread1 used (Ok content) → step_of phase content ≡ steps.SayNo next → unread2 ≡ drop used unread1 → Passes [] (78 ∷ []) link1 link2 → Hears 0 at1 at2 → Asked next (outside link0 unread0 at0) (outside link2 unread2 at2)
-asked_more phase next content used link0 link1 link2 unread0 unread1 unread2 at0 at1 at2 asked front says rest passes hears = record {
+    → FrontDecides unread1 used (Ok content) → step_of phase content ≡ steps.SayNo next → unread2 ≡ drop used unread1 → Passes [] (78 ∷ []) link1 link2 → Hears 0 at1 at2 → Holds false (Ok tt) link1 link2 → Asked next (outside link0 unread0 at0) (outside link2 unread2 at2)
+asked_more phase next content used link0 link1 link2 unread0 unread1 unread2 at0 at1 at2 asked front says rest passes hears holds = record {
   requests = asked.requests ++ take used unread1 ∷ [];
   came = asked.came;
   asks = AskInTurn-push first_phase phase next asked.requests (take used unread1) content asked.asks front.decides says;
@@ -109,6 +110,7 @@ asked_more phase next content used link0 link1 link2 unread0 unread1 unread2 at0
   passes = subst (λ (w : List ℕ). Passes asked.came w link0 link2) (sym (answers_more asked.requests (take used unread1)))
       (subst (λ (i : List ℕ). Passes i (answers_to asked.requests ++ 78 ∷ []) link0 link2) (append-nil asked.came) (passes_both asked.came (answers_to asked.requests) [] (78 ∷ []) link0 link1 link2 asked.passes passes));
   hears = hears_both 0 0 at0 at1 at2 asked.hears hears;
+  holds = λ sound. holds (asked.holds sound);
 }
 
 -- ---- the end of it
@@ -143,8 +145,13 @@ cancel_attends pid key (Some told) child standing = record {
 }
 
 -- a cancel that was asked for changes nothing else
-pub attends_cancel : (pid key : ℕ) (told told_now : Option Told) (child child_now : Child) (standing : Standing) → told_now ≡ option_map (asked_cancel pid key) told → child_now ≡ child → Attends (attention told child standing) (attention told_now child_now standing)
-attends_cancel pid key told told_now child child_now standing is same = rw (is, same) (cancel_attends pid key told child standing)
+pub attends_cancel : (pid key : ℕ) (before now : Attention) → now.told ≡ option_map (asked_cancel pid key) before.told → now.child ≡ before.child → now.standing ≡ before.standing → Attends before now
+attends_cancel pid key before now is same stands =
+    attends_as (attention (option_map (asked_cancel pid key) before.told) before.child before.standing) before now is same stands (cancel_attends pid key before.told before.child before.standing)
+  where
+    attends_as : (at before now : Attention) → now.told ≡ at.told → now.child ≡ at.child → now.standing ≡ at.standing → Attends before at → Attends before now
+    attends_as at before now is same stands attends =
+        subst (λ (a : Attention). Attends before a) (sym (ap (λ (t : Option Told). attention t now.child now.standing) is ∙ ap (λ (c : Child). attention at.told c now.standing) same ∙ ap (λ (s : Standing). attention at.told at.child s) stands)) attends
 
 breaks_asks : (cause : Cause) (last : List ℕ) (before now : Option Told) → IsBreak cause → KeepsCancels before now → AsksToCancel (Err cause) last before now
 breaks_asks Cancelling last before now breaks keeps = absurd breaks
@@ -184,6 +191,7 @@ enters_by result phase used link0 link1 unread0 unread1 unread2 at0 at1 at2 aske
   hears = asked.hears;
   attends = attends_then at0 at1 at2 (attends_of at0 at1 asked.hears) attends;
   cancels = cancels;
+  holds = holds_then false result link0 link1 link1 asked.holds (holds_still false result link1);
 }
 
 stops_by : (phase : Phase) (cause : Cause) (last : List ℕ) → IsBreak cause → IsUndecided last → StopsAt phase cause last × MayPassOver cause []
@@ -205,8 +213,8 @@ stops_by phase Overtaken last breaks none = absurd breaks
 
 -- no more came
 pub enters_broken : (phase : Phase) (cause : Cause) (link0 link1 link2 : LinkView) (unread0 unread1 unread2 : List ℕ) (at0 at1 at2 : Attention) → Asked phase (outside link0 unread0 at0) (outside link1 unread1 at1) → IsUndecided unread1
-    → ReceivesNothing unread1 unread2 link1 link2 → Hears 1 at1 at2 → IsBreak cause × ShowsCause cause link1 link2 at2 → Enters (Err cause) (outside link0 unread0 at0) (outside link2 unread2 at2)
-enters_broken phase cause link0 link1 link2 unread0 unread1 unread2 at0 at1 at2 asked none receives hears shows =
+    → ReceivesNothing unread1 unread2 link1 link2 → Hears 1 at1 at2 → IsBreak cause × ShowsCause cause link1 link2 at2 → Holds false (Err cause) link1 link2 → Enters (Err cause) (outside link0 unread0 at0) (outside link2 unread2 at2)
+enters_broken phase cause link0 link1 link2 unread0 unread1 unread2 at0 at1 at2 asked none receives hears shows holds =
     let stops = stops_by phase cause unread1 shows.0 none in
     record {
       requests = asked.requests;
@@ -225,6 +233,7 @@ enters_broken phase cause link0 link1 link2 unread0 unread1 unread2 at0 at1 at2 
       hears = hears_fewer 0 1 at0 at2 (hears_both 0 1 at0 at1 at2 asked.hears hears);
       attends = attends_of at0 at2 (hears_fewer 0 1 at0 at2 (hears_both 0 1 at0 at1 at2 asked.hears hears));
       cancels = breaks_asks cause unread1 at2.told at2.told shows.0 (cancels_none at2.told);
+      holds = λ sound. holds (asked.holds sound);
     }
 
 cut_stops : (phase : Phase) (cause : Cause) (beyond : List ℕ) → IsBreak cause → CutsOff cause → StopsAt phase cause [] × MayPassOver cause beyond
@@ -246,9 +255,9 @@ cut_stops phase Overtaken beyond breaks cuts = absurd breaks
 
 -- an answer to a request was broken off
 pub enters_cut : (phase next : Phase) (content : Content) (cause : Cause) (used : ℕ) (link0 link1 link2 : LinkView) (unread0 unread1 unread2 : List ℕ) (at0 at1 at2 : Attention) → Asked phase (outside link0 unread0 at0) (outside link1 unread1 at1)
-    → FrontDecides unread1 used (Ok content) → step_of phase content ≡ steps.SayNo next → unread2 ≡ drop used unread1 → Sends (Err cause) (78 ∷ []) link1 link2 → Hears 0 at1 at2 → IsBreak cause × ShowsCause cause link1 link2 at2
+    → FrontDecides unread1 used (Ok content) → step_of phase content ≡ steps.SayNo next → unread2 ≡ drop used unread1 → Sends (Err cause) (78 ∷ []) link1 link2 → Hears 0 at1 at2 → IsBreak cause × ShowsCause cause link1 link2 at2 → Holds false (Err cause) link1 link2
     → Enters (Err cause) (outside link0 unread0 at0) (outside link2 unread2 at2)
-enters_cut phase next content cause used link0 link1 link2 unread0 unread1 unread2 at0 at1 at2 asked front says rest sends hears shows =
+enters_cut phase next content cause used link0 link1 link2 unread0 unread1 unread2 at0 at1 at2 asked front says rest sends hears shows holds =
     let packet = take used unread1 in
     let stops = cut_stops next cause unread2 shows.0 sends.all in
     record {
@@ -269,6 +278,7 @@ enters_cut phase next content cause used link0 link1 link2 unread0 unread1 unrea
       hears = hears_both 0 0 at0 at1 at2 asked.hears hears;
       attends = attends_of at0 at2 (hears_both 0 0 at0 at1 at2 asked.hears hears);
       cancels = breaks_asks cause [] at2.told at2.told shows.0 (cancels_none at2.told);
+      holds = λ sound. holds (asked.holds sound);
     }
 
 -- memory was short before the first byte
@@ -290,4 +300,5 @@ enters_not link at = record {
   hears = hears_none at;
   attends = attends_none at;
   cancels = cancels_none at.told;
+  holds = λ sound. sound_left false ShortOfMemory link.traffic sound;
 }

@@ -1,5 +1,6 @@
 pub mod Attentions
 pub mod Closings
+pub mod Complete
 pub mod Conversing
 pub mod Entries
 pub mod Heeding

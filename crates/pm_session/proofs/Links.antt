@@ -10,14 +10,14 @@ use Rattle.pm_life.specs.declared.life.Signals.{Signals}
 use Rattle.pm_life.specs.Life.{Child, Told, Signal, Kill, Quit, Terminate, Cancel, Checkpoint, nothing_told, one_if, quit_in, signals_in, asked_again, was_told}
 use Rattle.pm_life.specs.declared.standing.Standing.{Standing}
 use Rattle.pm_session.specs.declared.ending.Cause.{Cause}
-use Rattle.pm_session.specs.declared.ending.Cause.TheVariants.{ToldToTerminate, ToldToQuit, Killed}
-use Rattle.pm_outside.specs.Traffic.{Traffic, GotWithin, after_read, after_write}
+use Rattle.pm_session.specs.declared.ending.Cause.TheVariants.{LinkFailed, ToldToTerminate, ToldToQuit, Killed}
+use Rattle.pm_outside.specs.Traffic.{Traffic, IsFresh, GotWithin, after_read, after_write}
 use Rattle.pm_outside.specs.declared.link.Got.{Got}
 use Rattle.pm_outside.specs.declared.link.Got.TheVariants.{Bytes, NotYet, End, Failed}
 use Rattle.pm_outside.specs.declared.link.Put.{Put}
 use Rattle.pm_outside.specs.declared.link.Put.TheVariants.{Count, Failed as PutFailed}
 use Rattle.pm_disk.specs.Cause.{Rose, IsCounted}
-use Rattle.pm_session.specs.Exchange.{LinkView, link_view, Appended, came_in_of, went_out_of, HasEnded, Passes, HasFailed, Reads, Receives, ReceivesNothing, SentAllBut, Sends}
+use Rattle.pm_session.specs.Exchange.{LinkView, link_view, Appended, came_in_of, went_out_of, HasEnded, Passes, HasFailed, Holds, HoldsReading, IsSound, IsLeftFor, Reads, Receives, ReceivesNothing, SentAllBut, Sends}
 use Rattle.pm_session.specs.Conversation.{ShowsCause, IsBreak}
 use Rattle.pm_life.specs.Attention.{Attention, attention, nothing_stands, with_signals, was_given, Stands, IsAttentive, HasAsked, Hears}
 use Rattle.pm_session.specs.Attention.{ends_by, ends_of}
@@ -184,3 +184,56 @@ stands_behind start have count size xs ys post rest order within fits room =
     let front : start ≤ length (take have xs) = omega (arith, length-take-le have xs within, order) in
     ap (λ (l : List ℕ). drop start l) (take-take (have + count) size ((take have xs ++ (ys ++ post)) ++ rest) room ∙ ap (λ (l : List ℕ). take (have + count) l) together ∙ take_filled have count xs ys (post ++ rest) within fits)
     ∙ drop-append-le start (take have xs) (take count ys) front
+
+-- ---- sound links
+
+true_false : true ≡ false → ⊥
+true_false e = cc
+
+neither : (a b : Bool) → a ≡ false → b ≡ false → (a || b) ≡ false
+neither a b one two = rw (one, two) refl
+
+pub fresh_sound : (traffic : Option Traffic) → IsFresh traffic → IsSound false traffic
+fresh_sound None fresh = tt
+fresh_sound (Some t) fresh = rw fresh (refl, refl, refl)
+
+-- a link that is sound is left for any cause
+pub sound_left : (ended : Bool) (cause : Cause) (traffic : Option Traffic) → IsSound ended traffic → IsLeftFor cause traffic
+sound_left ended cause None sound = tt
+sound_left ended cause (Some t) sound = (sound.1, λ failed. absurd (true_false (sym failed ∙ sound.0)))
+
+pub holds_then : (ended : Bool) (result : Result (Unit {0}) Cause) (a b c : LinkView) → (IsSound ended a.traffic → IsSound ended b.traffic) → Holds ended result b c → Holds ended result a c
+holds_then ended (Ok done) a b c one two = λ sound. two (one sound)
+holds_then ended (Err cause) a b c one two = λ sound. two (one sound)
+
+-- where no call is made
+pub holds_still : (ended : Bool) (result : Result (Unit {0}) Cause) (at : LinkView) → Holds ended result at at
+holds_still ended (Ok done) at = λ sound. sound
+holds_still ended (Err cause) at = λ sound. sound_left ended cause at.traffic sound
+
+pub wrote_sound : (ended : Bool) (before now : Option Traffic) (count : ℕ) (from : List ℕ) → now ≡ option_map (λ t. after_write t (Count count) from) before → IsSound ended before → IsSound ended now
+wrote_sound ended None now count from is sound = subst (IsSound ended) (sym is) tt
+wrote_sound ended (Some t) now count from is sound = subst (IsSound ended) (sym is) (sound.0, neither t.went_on t.failed sound.1 sound.0, sound.2)
+
+pub write_left : (ended : Bool) (before now : Option Traffic) (from : List ℕ) → now ≡ option_map (λ t. after_write t PutFailed from) before → IsSound ended before → IsLeftFor LinkFailed now
+write_left ended None now from is sound = subst (IsLeftFor LinkFailed) (sym is) tt
+write_left ended (Some t) now from is sound = subst (IsLeftFor LinkFailed) (sym is) (neither t.went_on t.failed sound.1 sound.0, λ failed. refl)
+
+read_on : (t : Traffic) → IsSound false (Some t) → ((t.went_on || t.failed) || t.ended) ≡ false
+read_on t sound = neither (t.went_on || t.failed) t.ended (neither t.went_on t.failed sound.1 sound.0) sound.2
+
+pub read_holds : (result : Got) (into : List ℕ) (before now : LinkView) → now.traffic ≡ option_map (λ t. after_read t result into) before.traffic → HoldsReading result before now
+read_holds result into before now is = read_by result before now before.traffic refl is
+  where
+    told_by : (before : LinkView) (t : Traffic) → before.traffic ≡ Some t → IsSound false before.traffic → IsSound false (Some t)
+    told_by before t at sound = subst (IsSound false) at sound
+
+    read_by : (result : Got) (before now : LinkView) (first : Option Traffic) → before.traffic ≡ first → now.traffic ≡ option_map (λ t. after_read t result into) first → HoldsReading result before now
+    read_by (Bytes count) before now None at is = λ sound. subst (IsSound false) (sym is) tt
+    read_by (Bytes count) before now (Some t) at is = λ sound. let s = told_by before t at sound in subst (IsSound false) (sym is) (s.0, read_on t s, s.2)
+    read_by NotYet before now None at is = λ sound. subst (IsSound false) (sym is) tt
+    read_by NotYet before now (Some t) at is = λ sound. let s = told_by before t at sound in subst (IsSound false) (sym is) (s.0, read_on t s, s.2)
+    read_by End before now None at is = λ sound. subst (IsSound true) (sym is) tt
+    read_by End before now (Some t) at is = λ sound. let s = told_by before t at sound in subst (IsSound true) (sym is) (s.0, read_on t s, refl)
+    read_by Failed before now None at is = λ sound. subst (IsLeftFor LinkFailed) (sym is) tt
+    read_by Failed before now (Some t) at is = λ sound. let s = told_by before t at sound in subst (IsLeftFor LinkFailed) (sym is) (read_on t s, λ failed. refl)

@@ -1,5 +1,5 @@
 -- Messages that are said one behind the other.
-use Rattle.std.proofs.Common.{◌≡◌, ℕ, ℤ, ◌+◌, ◌^◌, FitsSigned, w64, ◌≤◌, List, [], ◌∷◌, ◌++◌, length, take, drop, suc, map, get_or, Result, Ok, Err, IfErr, MatchResult, refl, sym, ◌∙◌, ap, subst, arith, append_assoc, ◌<◌, take-append-drop, drop-cons}
+use Rattle.std.proofs.Common.{◌≡◌, ℕ, ℤ, ◌+◌, ◌^◌, FitsSigned, w64, ◌≤◌, List, [], ◌∷◌, ◌++◌, length, take, drop, suc, map, get_or, Result, Ok, Err, IfErr, MatchResult, refl, sym, ◌∙◌, ap, subst, arith, append_assoc, ◌<◌, take-append-drop, drop-cons, false}
 use Rattle.std.specs.List.{flat_map}
 use Rattle.std.proofs.lemmas.Grind.{flat_map-append}
 use Rattle.std.proofs.lemmas.List.{append-nil, map-append, take_more}
@@ -17,13 +17,13 @@ use Rattle.pm_wire.specs.Short.{short_pair}
 use Rattle.pm_wire.specs.Backend.{BackMessage, Pair, IsWritable, spelling}
 use Rattle.pm_session.specs.declared.ending.Cause.{Cause}
 use Rattle.pm_session.specs.declared.ending.Cause.TheVariants.{Terminated, Cancelling, LinkEnded, LinkFailed, TimedOut, PacketRefused, MessageRefused, DecisionRefused, GateRefused, ShortOfMemory, Panicked, ToldToTerminate, ToldToQuit, Killed, Overtaken}
-use Rattle.pm_session.specs.Exchange.{LinkView, Passes, Sends, HasEnded, HasFailed, CutsOff}
-use Rattle.pm_life.specs.Attention.{Attention, Hears, IsAttentive, was_given}
+use Rattle.pm_session.specs.Exchange.{LinkView, Passes, Sends, HasEnded, HasFailed, CutsOff, Holds}
+use Rattle.pm_life.specs.Attention.{Attention, Hears, was_given}
 use Rattle.pm_session.specs.Conversation.{ShowsCause, IsBreak}
 use Rattle.pm_session.specs.Sent.{bytes_of, item_messages}
-use Rattle.pm_session.specs.Turns.{Desk, desk, IsReady, IsLeft, Says}
+use Rattle.pm_session.specs.Turns.{Desk, desk, IsLeft, Says}
 use Rattle.pm_session.proofs.Attentions.{hears_none, hears_both}
-use Rattle.pm_session.proofs.Links.{passes_none, passes_both}
+use Rattle.pm_session.proofs.Links.{passes_none, passes_both, holds_then}
 
 -- ---- bytes of messages
 
@@ -80,6 +80,7 @@ says_none at = record {
   room = omega arith;
   hears = hears_none at.child;
   shows = tt;
+  holds = λ sound. sound;
 }
 
 -- more, behind what was said
@@ -97,6 +98,7 @@ says_then result first second before between now one two = record {
   room = omega (arith, one.room, two.room);
   hears = hears_both 0 0 before.child between.child now.child one.hears two.hears;
   shows = if_shows_since result before.link between.link now.link now.child one.passes.later two.shows;
+  holds = holds_then false result before.link between.link now.link one.holds two.holds;
 }
 
 -- sending was broken off, and what was to be said behind it is missing too
@@ -112,6 +114,7 @@ says_cut cause first second before now one = record {
   room = one.room;
   hears = one.hears;
   shows = one.shows;
+  holds = one.holds;
 }
 
 -- what was said so far, broken off in the next messages of more
@@ -129,12 +132,13 @@ says_put m link child before now is room = record {
   room = room;
   hears = hears_none child;
   shows = tt;
+  holds = λ sound. sound;
 }
 
 -- what stood in the outbox was sent, and the outbox is empty
 pub says_sent : (bytes : List ℕ) (link_before link_now : LinkView) (child_before child_now : Attention) (before now : Outgoing) → bytes ≡ before.bytes → Sends (Ok tt) bytes link_before link_now → Hears 0 child_before child_now
-    → now.bytes ≡ [] → now.capacity ≡ before.capacity → Says (Ok tt) [] (desk link_before before child_before) (desk link_now now child_now)
-says_sent bytes link_before link_now child_before child_now before now is sends hears empty same = record {
+    → now.bytes ≡ [] → now.capacity ≡ before.capacity → Holds false (Ok tt) link_before link_now → Says (Ok tt) [] (desk link_before before child_before) (desk link_now now child_now)
+says_sent bytes link_before link_now child_before child_now before now is sends hears empty same holds = record {
   went = sends.went;
   missing = [];
   whole = ap (λ (l : List ℕ). before.bytes ++ l) bytes_of-none ∙ append-nil before.bytes ∙ sym is ∙ sends.whole ∙ ap (λ (l : List ℕ). sends.went ++ l) sends.all;
@@ -143,12 +147,13 @@ says_sent bytes link_before link_now child_before child_now before now is sends 
   room = omega (arith, same);
   hears = hears;
   shows = tt;
+  holds = holds;
 }
 
 -- or a front of it was
 pub says_broken : (cause : Cause) (bytes : List ℕ) (link_before link_now : LinkView) (child_before child_now : Attention) (outbox : Outgoing) → bytes ≡ outbox.bytes → Sends (Err cause) bytes link_before link_now → Hears 0 child_before child_now
-    → IsBreak cause × ShowsCause cause link_before link_now child_now → Says (Err cause) [] (desk link_before outbox child_before) (desk link_now outbox child_now)
-says_broken cause bytes link_before link_now child_before child_now outbox is sends hears why = record {
+    → IsBreak cause × ShowsCause cause link_before link_now child_now → Holds false (Err cause) link_before link_now → Says (Err cause) [] (desk link_before outbox child_before) (desk link_now outbox child_now)
+says_broken cause bytes link_before link_now child_before child_now outbox is sends hears why holds = record {
   went = sends.went;
   missing = sends.missing;
   whole = ap (λ (l : List ℕ). outbox.bytes ++ l) bytes_of-none ∙ append-nil outbox.bytes ∙ sym is ∙ sends.whole;
@@ -157,11 +162,8 @@ says_broken cause bytes link_before link_now child_before child_now outbox is se
   room = omega arith;
   hears = hears;
   shows = why.1;
+  holds = holds;
 }
-
--- the desk is ready behind what was said too
-pub still_ready : (result : Result (Unit {0}) Cause) (messages : List BackMessage) (before now : Desk) → Says result messages before now → IsReady before → IsReady now
-still_ready result messages before now says ready = (says.hears.stands ready.0, omega (arith, says.room, ready.1))
 
 -- ---- messages of a list
 

@@ -26,21 +26,22 @@ use Rattle.pm_session.specs.declared.ending.Cause.{Cause}
 use Rattle.pm_session.specs.declared.ending.Cause.TheVariants.{Terminated, Cancelling, LinkEnded, LinkFailed, TimedOut, PacketRefused, MessageRefused, DecisionRefused, GateRefused, ShortOfMemory, Panicked, ToldToTerminate, ToldToQuit, Killed, Overtaken}
 use Rattle.pm_session.specs.declared.ending.Stage.{Stage}
 use Rattle.pm_session.specs.declared.ending.Stage.TheVariants.{Outside, Entering, Greeted}
-use Rattle.pm_session.specs.Exchange.{LinkView, link_view, Appended, came_in_of, went_out_of, HasEnded, Passes, HasFailed, CutsOff, IsSentAll, Sends}
+use Rattle.pm_session.specs.Exchange.{LinkView, link_view, Appended, came_in_of, went_out_of, HasEnded, Passes, HasFailed, CutsOff, IsSentAll, Sends, Holds, IsSound, IsLeftFor}
 use Rattle.pm_life.specs.Attention.{Attention, attention, HasAsked, Hears, IsAttentive, KeepsCancels, was_given}
 use Rattle.pm_session.specs.Attention.{ends_of}
 use Rattle.pm_session.specs.Sent.{Turn, bytes_of, greeting, last_of}
-use Rattle.pm_session.specs.Session.{Ending, Heeds, HasAskedFor, CausedBy, IsCaused, HasEntered, IsAdmitted, IsText, IsTurnedAway, IsServed, IsSession, Span, between, HasPassed, AskInTurn, IsStart, StopsAt, EndsAt, StopsInside, AllNotes, MayPassOver, NotesOutside, Leaves, LetsGo, IsCancelledTurn, IsAttachedAt, IsBehindStart, IsInside, StaysOut, AsksCancel, MakesCancels, HasCancelled, first_phase, pieces, query_bytes, last_messages, status_by, status_of, TurnsAway}
+use Rattle.pm_session.specs.Session.{Ending, Heeds, HasAskedFor, CausedBy, IsCaused, HasEntered, IsAdmitted, IsText, IsTurnedAway, IsServed, IsSession, Span, between, HasPassed, AskInTurn, IsStart, StopsAt, EndsAt, StopsInside, AllNotes, AllSleep, HasSlept, MayPassOver, NotesOutside, Leaves, LetsGo, IsCancelledTurn, IsAttachedAt, IsBehindStart, IsInside, StaysOut, AsksCancel, MakesCancels, HasCancelled, first_phase, pieces, query_bytes, last_messages, status_by, status_of, TurnsAway, IsAttachedBehind}
 use Rattle.pm_session.specs.Conversation.{Moment, moment, Conversed, ShowsCause, IsBreak}
-use Rattle.pm_session.specs.Entry.{outside, Enters, AsksToCancel, IsTold, EndsBy, Closes, Serves, IsTextBehind, IsTextInside, CanRefuseEntry, refusal_cause}
+use Rattle.pm_session.specs.declared.session.Admission.{Admission}
+use Rattle.pm_session.specs.Entry.{ClosesBy, Connected, outside, Enters, AsksToCancel, IsTold, EndsBy, Closes, Serves, IsTextBehind, IsTextInside, CanRefuseEntry, refusal_cause}
 use Rattle.pm_session.specs.Heeding.{TurnsHeed, HeedInTurn, AllRead}
-use Rattle.pm_session.proofs.Attentions.{hears_none, hears_both, hears_fewer, cancels_then, cancels_still, HasCancels}
+use Rattle.pm_session.proofs.Attentions.{untried_still, new_untried, new_no_cancel, hears_none, hears_both, hears_fewer, cancels_then, cancels_still, HasCancels}
 use Rattle.pm_session.proofs.Heeding.{heed_none, heed_all, heed_later, heed_earlier}
-use Rattle.pm_session.proofs.Links.{passes_none, passes_both, passes_no_more}
+use Rattle.pm_session.proofs.Links.{passes_none, passes_both, passes_no_more, sound_left, fresh_sound}
 use Rattle.pm_session.proofs.Closings.{told_status, told_still, told_now}
 use Rattle.pm_session.proofs.Said.{bytes_of-none, bytes_of-append, shows_since}
 use Rattle.pm_session.proofs.Conversing.{nothing_yet}
-use Rattle.pm_session.proofs.Entries.{no_packet_yet}
+use Rattle.pm_session.proofs.Entries.{enters_not, no_packet_yet}
 
 -- ---- two texts, one behind the other
 
@@ -244,13 +245,19 @@ turned_away notes decision user key generation gives cause ending link0 link2 un
       asked = asked;
       cancels = keeps;
       unasked = λ e. fails (ap status_by (sym is ∙ e));
-      caused = λ limit. record {
+      texts = [];
+      beyond = unread0 ++ [];
+      queries = refl;
+      slept = tt;
+      caused = λ limit sound slept. record {
         cause = at_end limit;
         exit = exit_caused ending at2 decision link2.traffic (HasFailed link0 link2) limit gives closes.killed (at_end limit);
         gate = gate;
         out = subst (λ (c : Cause). StaysOut ending.stage c at2.told) (sym is) out;
         heeded = none_heed at2.told;
         cancelled = λ before turn behind e cancelled. absurd (no_turn before turn behind e);
+        sound = closes.sound (sound_left false cause link0.traffic sound);
+        slept = slept;
       };
       heeds = closes.heeds;
     }
@@ -315,7 +322,7 @@ told_away notes decision user key generation gives cause ending link0 link2 unre
 -- ---- a session that was greeted
 
 -- What passed behind the greeting's beginning, but for the last words.
-pub record Talked {S : Type 0} (notes : List BookEntry → S → S → Type 0) (user : User) (key : ℕ) (cause : Cause) (before now : Moment S) : Type 0 where
+pub record Talked {S : Type 0} (notes : List BookEntry → S → S → Type 0) (gives : ℕ → Type 0) (user : User) (key : ℕ) (cause : Cause) (before now : Moment S) : Type 0 where
   pub texts : List (List ℕ)
   pub turns : List Turn
   pub last : List ℕ
@@ -338,6 +345,8 @@ pub record Talked {S : Type 0} (notes : List BookEntry → S → S → Type 0) (
   pub heeded : HeedInTurn turns before.child.told now.child.told
   pub cancelled : (turn : Turn) → Contains turns turn → IsCancelledTurn turn → was_given Cancel now.child.told
   pub shows : ShowsCause cause before.link now.link now.child
+  pub slept : AllSleep gives texts turns
+  pub holds : IsSound false before.link.traffic → IsLeftFor cause now.link.traffic
 
 cut_ends : (user : User) (cause : Cause) (beyond : List ℕ) → IsBreak cause → CutsOff cause → EndsAt user cause [] [] × MayPassOver cause beyond
 cut_ends user Terminated beyond breaks cuts = absurd cuts
@@ -357,9 +366,9 @@ cut_ends user Killed beyond breaks cuts = (inl (nothing_yet, refl), tt)
 cut_ends user Overtaken beyond breaks cuts = absurd breaks
 
 -- the greeting was broken off
-pub talked_cut : {S : Type 0} (notes : List BookEntry → S → S → Type 0) (user : User) (key : ℕ) (cause : Cause) (link0 link1 : LinkView) (unread : List ℕ) (store : S) (at0 at1 : Attention) → notes [] store store
-    → Sends (Err cause) (bytes_of (greeting user.pid key)) link0 link1 → Hears 0 at0 at1 → IsBreak cause × ShowsCause cause link0 link1 at1 → Talked notes user key cause (moment link0 unread store at0) (moment link1 unread store at1)
-talked_cut notes user key cause link0 link1 unread store at0 at1 rests sends hears shows =
+pub talked_cut : {S : Type 0} (notes : List BookEntry → S → S → Type 0) (gives : ℕ → Type 0) (user : User) (key : ℕ) (cause : Cause) (link0 link1 : LinkView) (unread : List ℕ) (store : S) (at0 at1 : Attention) → notes [] store store
+    → Sends (Err cause) (bytes_of (greeting user.pid key)) link0 link1 → Hears 0 at0 at1 → IsBreak cause × ShowsCause cause link0 link1 at1 → Holds false (Err cause) link0 link1 → Talked notes gives user key cause (moment link0 unread store at0) (moment link1 unread store at1)
+talked_cut notes gives user key cause link0 link1 unread store at0 at1 rests sends hears shows holds =
     let ends = cut_ends user cause unread shows.0 sends.all in
     record {
       texts = [];
@@ -381,9 +390,11 @@ talked_cut notes user key cause link0 link1 unread store at0 at1 rests sends hea
       entries = rests;
       hears = hears;
       read = tt;
+      slept = tt;
       heeded = heed_none 0 at0.told at1.told hears.asked;
       cancelled = λ turn has. absurd (omega (arith, has.1));
       shows = shows.1;
+      holds = holds;
     }
 
 greeting_sent : (greet said went missing went_on missing_on : List ℕ) → greet ≡ went ++ missing → missing ≡ [] → said ≡ went_on ++ missing_on → greet ++ said ≡ (went ++ went_on) ++ missing_on
@@ -394,10 +405,10 @@ hears_again : (m : ℕ) (a b c : Attention) → Hears 0 a b → Hears m b c → 
 hears_again m a b c one two = let same : 0 + m ≡ m = omega arith in subst (λ (n : ℕ). Hears n a c) same (hears_both 0 m a b c one two)
 
 -- it was sent, and the queries were answered
-pub talked_on : {S : Type 0} (notes : List BookEntry → S → S → Type 0) (user : User) (key : ℕ) (cause : Cause) (link0 link1 link2 : LinkView) (unread0 unread2 : List ℕ) (store0 store2 : S) (at0 at1 at2 : Attention)
-    → Sends (Ok tt) (bytes_of (greeting user.pid key)) link0 link1 → Hears 0 at0 at1 → Conversed notes user cause (moment link1 unread0 store0 at1) (moment link2 unread2 store2 at2) → ShowsCause cause link1 link2 at2
-    → Talked notes user key cause (moment link0 unread0 store0 at0) (moment link2 unread2 store2 at2)
-talked_on notes user key cause link0 link1 link2 unread0 unread2 store0 store2 at0 at1 at2 sends hears talks shows = record {
+pub talked_on : {S : Type 0} (notes : List BookEntry → S → S → Type 0) (gives : ℕ → Type 0) (user : User) (key : ℕ) (cause : Cause) (link0 link1 link2 : LinkView) (unread0 unread2 : List ℕ) (store0 store2 : S) (at0 at1 at2 : Attention)
+    → Sends (Ok tt) (bytes_of (greeting user.pid key)) link0 link1 → Hears 0 at0 at1 → Conversed notes gives user cause (moment link1 unread0 store0 at1) (moment link2 unread2 store2 at2) → ShowsCause cause link1 link2 at2 → Holds false (Ok tt) link0 link1 → (IsSound false link1.traffic → IsLeftFor cause link2.traffic)
+    → Talked notes gives user key cause (moment link0 unread0 store0 at0) (moment link2 unread2 store2 at2)
+talked_on notes gives user key cause link0 link1 link2 unread0 unread2 store0 store2 at0 at1 at2 sends hears talks shows greeted holds = record {
   texts = talks.texts;
   turns = talks.turns;
   last = talks.last;
@@ -417,6 +428,8 @@ talked_on notes user key cause link0 link1 link2 unread0 unread2 store0 store2 a
   entries = talks.entries;
   hears = hears_again (length talks.turns) at0 at1 at2 hears talks.hears;
   read = talks.read;
+  slept = talks.slept;
+  holds = λ sound. holds (greeted sound);
   heeded = heed_earlier 0 talks.turns at0.told at1.told at2.told hears.asked talks.heeded;
   cancelled = talks.cancelled;
   shows = shows_since cause link0 link1 link2 at2 sends.passes.later shows;
@@ -524,7 +537,7 @@ served_input front all queries last beyond last_now beyond_now is split =
     ap (λ (l : List ℕ). front ++ l) (is ∙ split_input queries last beyond last_now beyond_now split ∙ append_assoc queries last_now beyond_now) ∙ sym (append_assoc front queries (last_now ++ beyond_now)) ∙ sym (append_assoc (front ++ queries) last_now beyond_now)
 
 pub served_inside : {S : Type 0} (notes : List BookEntry → S → S → Type 0) (decision : Cac) (user : User) (key : ℕ) (gives : ℕ → Type 0) (cause : Cause) (ending : Ending) (link0 link1 link2 : LinkView) (unread0 unread1 : List ℕ) (store0 store1 : S) (at0 at1 at2 : Attention)
-    → decision ≡ decisions.Ok → IfSome at0.told (λ t. t.met ≡ Some (Ok user.generation)) → Talked notes user key cause (moment link0 unread0 store0 at0) (moment link1 unread1 store1 at1)
+    → decision ≡ decisions.Ok → IfSome at0.told (λ t. t.met ≡ Some (Ok user.generation)) → Talked notes gives user key cause (moment link0 unread0 store0 at0) (moment link1 unread1 store1 at1)
     → ending.stage ≡ Greeted → Closes decision cause ending (outside link1 [] at1) (outside link2 [] at2)
     → Serves notes (IsTextInside decision user key) decision user.generation gives ending (moment link0 unread0 store0 at0) (moment link2 unread1 store1 at2)
 served_inside notes decision user key gives cause ending link0 link1 link2 unread0 unread1 store0 store1 at0 at1 at2 admitted met talked stage closes =
@@ -573,13 +586,19 @@ served_inside notes decision user key gives cause ending link0 link1 link2 unrea
       asked = asked_for (length talked.turns + 1) talked.turns at0.told at2.told (omega arith) hears.asked;
       cancels = hears.cancels;
       unasked = λ e. subst (λ (c : Cause). EndsAt user c split.0 talked.ended) e split.2;
-      caused = λ limit. record {
+      texts = talked.texts;
+      beyond = talked.last ++ talked.beyond;
+      queries = talked.input ∙ append_assoc (flat_map query_bytes talked.texts) talked.last talked.beyond;
+      slept = talked.slept;
+      caused = λ limit sound slept. record {
         cause = at_end limit;
         exit = exit_caused ending at2 decision link2.traffic (HasFailed link0 link2) limit gives closes.killed (at_end limit);
         gate = subst (λ (s : Stage). HasEntered s user.generation at2.told) (sym stage) (met_still (length talked.turns + 1) (Ok user.generation) at0.told at2.told hears.asked met);
         out = out_inside ending.stage ending.cause at2.told (inside_at ending.stage Greeted stage tt);
         heeded = heed_all (length talked.turns + 1) talked.turns at0.told at2.told hears.asked (heed_later 1 talked.turns at0.told at1.told at2.told talked.heeded closes.hears.asked closes.hears.gained);
         cancelled = λ before turn behind e cancelled. closes.hears.given Cancel (talked.cancelled turn (turn_in talked.turns before turn behind e) cancelled);
+        sound = closes.sound (talked.holds sound);
+        slept = slept;
       };
       heeds = closes.heeds;
     }
@@ -607,6 +626,10 @@ served_left notes decision user key gives ending link0 link1 unread0 unread1 sto
   asked = asked_since serves.turns at0.told at1.told at2.told (hears_fewer 0 1 at0 at1 hears).asked serves.asked;
   cancels = cancels_then at0.told at1.told at2.told hears.cancels serves.cancels;
   unasked = serves.unasked;
+  texts = serves.texts;
+  beyond = serves.beyond;
+  queries = serves.queries;
+  slept = serves.slept;
   caused = serves.caused;
   heeds = serves.heeds;
 }
@@ -686,7 +709,11 @@ served_since notes Text decision generation gives ending link0 link1 unread0 unr
   asked = rw same (since serves.turns serves.asked);
   cancels = rw same (cancels_then at0.told at1.told at2.told keeps serves.cancels);
   unasked = serves.unasked;
-  caused = λ limit. rw same (serves.caused limit);
+  texts = serves.texts;
+  beyond = serves.beyond;
+  queries = serves.queries;
+  slept = serves.slept;
+  caused = λ limit sound slept. rw same (serves.caused limit sound slept);
   heeds = rw same serves.heeds;
 }
 
@@ -814,9 +841,33 @@ stopped_session notes decision user key cause ending link0 link1 link2 unread1 s
       entries = rests;
     }
 
-pub stopped_caused : (decision : Cac) (generation : ℕ) (cause : Cause) (ending : Ending) (link0 link1 link2 : LinkView) (unread1 : List ℕ) (at0 at1 at2 : Attention) → Enters (Err cause) (outside link0 [] at0) (outside link1 unread1 at1) → ending.stage ≡ Outside
+none_slept : (gives : ℕ → Type 0) (traffic : Option Traffic) → IfSome traffic (λ t. HasSlept gives [] t.came_in)
+none_slept gives None = tt
+none_slept gives (Some t) = tt
+
+-- what came in behind the startup packet tells the sleeps of all that came in
+came_slept : (gives : ℕ → Type 0) (requests : List (List ℕ)) (phase : Phase) (packet came : List ℕ) (turns : List Turn) (texts : List (List ℕ)) (beyond : List ℕ) → AskInTurn first_phase requests phase → IsStart packet
+    → AllSleep gives texts turns → came ≡ flat_map query_bytes texts ++ beyond → HasSlept gives turns (flat_map (λ p. p) requests ++ packet ++ came)
+came_slept gives requests phase packet came [] texts beyond asks start slept queries = tt
+came_slept gives requests phase packet came (turn ∷ turns) texts beyond asks start slept queries = record {
+  requests = requests;
+  phase = phase;
+  packet = packet;
+  texts = texts;
+  beyond = beyond;
+  asks = asks;
+  start = start;
+  slept = slept;
+  input = ap (λ (l : List ℕ). (flat_map (λ p. p) requests ++ packet) ++ l) queries ∙ sym (append_assoc (flat_map (λ p. p) requests ++ packet) (flat_map query_bytes texts) beyond);
+}
+
+slept_at : (gives : ℕ → Type 0) (turns : List Turn) (came_in : List ℕ) (traffic : Option Traffic) → IfSome traffic (λ t. t.came_in ≡ came_in) → HasSlept gives turns came_in → IfSome traffic (λ t. HasSlept gives turns t.came_in)
+slept_at gives turns came_in None is slept = tt
+slept_at gives turns came_in (Some t) is slept = subst (HasSlept gives turns) (sym is) slept
+
+pub stopped_caused : (decision : Cac) (generation : ℕ) (cause : Cause) (ending : Ending) (link0 link1 link2 : LinkView) (unread1 : List ℕ) (at0 at1 at2 : Attention) → IsFresh link0.traffic → Enters (Err cause) (outside link0 [] at0) (outside link1 unread1 at1) → ending.stage ≡ Outside
     → Closes decision cause ending (outside link1 [] at1) (outside link2 [] at2) → IsUntried at2.told → (limit : ℕ) (gives : ℕ → Type 0) → IsCaused ending [] generation decision link2.traffic (HasFailed link0 link2) at2.told limit gives
-stopped_caused decision generation cause ending link0 link1 link2 unread1 at0 at1 at2 enters stage closes untried limit gives =
+stopped_caused decision generation cause ending link0 link1 link2 unread1 at0 at1 at2 fresh enters stage closes untried limit gives =
     let at_end = ends_caused cause ending.cause at2 decision link2.traffic (HasFailed link0 link2) limit gives closes.ends
     (shown_caused cause link0 link1 link2 at1 at2 decision limit gives enters.goes_on.3 closes.passes.ended closes.passes.later closes.hears.given) in
     record {
@@ -826,6 +877,8 @@ stopped_caused decision generation cause ending link0 link1 link2 unread1 at0 at
       out = out_untried ending.stage ending.cause at2.told stage untried;
       heeded = none_heed at2.told;
       cancelled = λ before turn behind e cancelled. absurd (no_turn before turn behind e);
+      sound = closes.sound (enters.holds (fresh_sound link0.traffic fresh));
+      slept = none_slept gives link2.traffic;
     }
 
 cut_or : (exit : Cause) (missing : List ℕ) (link1 link2 : LinkView) → (missing ≡ []) ⊎ (⊥ ⊎ (CutsOff exit ⊎ HasFailed link1 link2)) → (missing ≡ []) ⊎ (CutsOff exit ⊎ (CutsOff exit ⊎ HasFailed link1 link2))
@@ -855,6 +908,15 @@ started_session notes decision user key generation gives ending link0 link1 link
       entries = serves.entries;
     }
 
+pub started_slept : {S : Type 0} (notes : List BookEntry → S → S → Type 0) (decision : Cac) (user : User) (key generation : ℕ) (gives : ℕ → Type 0) (ending : Ending) (link0 link1 link2 : LinkView) (unread1 unread2 : List ℕ) (store1 store2 : S) (at0 at1 at2 : Attention) → IsFresh link0.traffic
+    → Enters (Ok tt) (outside link0 [] at0) (outside link1 unread1 at1) → (serves : Serves notes (IsTextBehind decision user key) decision generation gives ending (moment link1 unread1 store1 at1) (moment link2 unread2 store2 at2))
+    → IfSome link2.traffic (λ t. HasSlept gives serves.turns t.came_in)
+unfolding started_session
+started_slept notes decision user key generation gives ending link0 link1 link2 unread1 unread2 store1 store2 at0 at1 at2 fresh enters serves =
+    let session = started_session notes decision user key generation gives ending link0 link1 link2 unread1 unread2 store1 store2 at0 at1 at2 fresh enters serves in
+    slept_at gives serves.turns session.came_in link2.traffic session.passed.read
+    (came_slept gives enters.requests enters.phase enters.last (unread1 ++ serves.came) serves.turns serves.texts serves.beyond enters.asks enters.goes_on.0 serves.slept serves.queries)
+
 caused_more : (cause : Cause) (decision : Cac) (traffic : Option Traffic) (before now : Type 0) (told : Option Told) (limit : ℕ) (gives : ℕ → Type 0) → (before → now) → CausedBy cause decision traffic before told limit gives → CausedBy cause decision traffic now told limit gives
 caused_more Terminated decision traffic before now told limit gives more caused = caused
 caused_more Cancelling decision traffic before now told limit gives more caused = caused
@@ -881,15 +943,17 @@ caused_since ending turns generation decision traffic before now told limit give
   out = caused.out;
   heeded = caused.heeded;
   cancelled = caused.cancelled;
+  sound = caused.sound;
+  slept = caused.slept;
 }
 
 pub failed_since : (first second third : LinkView) → first.faults ≤ second.faults → HasFailed second third → HasFailed first third
 failed_since first second third later failed = omega (arith, later, failed)
 
-pub started_caused : (gives : ℕ → Type 0) (ending : Ending) (turns : List Turn) (generation : ℕ) (decision : Cac) (link0 link1 link2 : LinkView) (told : Option Told) → link0.faults ≤ link1.faults
-    → ((limit : ℕ) → IsCaused ending turns generation decision link2.traffic (HasFailed link1 link2) told limit gives) → (limit : ℕ) → IsCaused ending turns generation decision link2.traffic (HasFailed link0 link2) told limit gives
-started_caused gives ending turns generation decision link0 link1 link2 told later caused limit =
-    caused_since ending turns generation decision link2.traffic (HasFailed link1 link2) (HasFailed link0 link2) told limit gives (failed_since link0 link1 link2 later) (caused limit)
+pub started_caused : (gives : ℕ → Type 0) (ending : Ending) (turns : List Turn) (generation : ℕ) (decision : Cac) (link0 link1 link2 : LinkView) (told : Option Told) (limit : ℕ) → link0.faults ≤ link1.faults
+    → IsCaused ending turns generation decision link2.traffic (HasFailed link1 link2) told limit gives → IsCaused ending turns generation decision link2.traffic (HasFailed link0 link2) told limit gives
+started_caused gives ending turns generation decision link0 link1 link2 told limit later caused =
+    caused_since ending turns generation decision link2.traffic (HasFailed link1 link2) (HasFailed link0 link2) told limit gives (failed_since link0 link1 link2 later) caused
 
 -- ---- cancels
 
@@ -958,3 +1022,46 @@ pub started_made : (ending : Ending) (link0 link1 link2 : LinkView) (unread1 : L
     → ending.cause ≢ Cancelling → HasCancelled ending.cause link2.traffic at2.told
 started_made ending link0 link1 link2 unread1 at0 at1 at2 times none enters still other =
     none_made ending.cause link2.traffic at2.told (still (cancels_still 0 [] at0.told at1.told enters.attends.asked (cancels_then at0.told enters.heard.told at1.told enters.hears.cancels enters.cancels) none)) other
+
+-- ---- the whole, as its caller sees it
+
+-- memory was short before the first byte
+pub connected_not : {S : Type 0} (notes : List BookEntry → S → S → Type 0) (stamp : Option ℕ) (admission : Admission) (gives : ℕ → Type 0) (exit : Cause) (link0 link1 : LinkView) (store : S) (at0 at1 : Attention) → notes [] store store
+    → IsFresh link0.traffic → at0.child.attached ≡ None → IfSome at0.told (λ t. t ≡ nothing_told) → ClosesBy admission.decision Outside ShortOfMemory exit (outside link0 [] at0) (outside link1 [] at1)
+    → Connected notes stamp admission gives exit (moment link0 [] store at0) (moment link1 [] store at1)
+connected_not notes stamp admission gives exit link0 link1 store at0 at1 rests fresh free untold (ending, stage, exits, closes) = (
+  ending,
+  [],
+  0,
+  exits,
+  stopped_session notes admission.decision (newcomer stamp at0.child.pid 0) admission.key ShortOfMemory ending link0 link0 link1 [] store at0 at0 at1 rests fresh (enters_not link0 at0) stage closes,
+  λ limit. stopped_caused admission.decision 0 ShortOfMemory ending link0 link0 link1 [] at0 at0 at1 fresh (enters_not link0 at0) stage closes (untried_still 1 at0.told at1.told closes.hears.asked (new_untried at0.told untold)) limit gives,
+  asked_for 1 [] at0.told at1.told (omega arith) closes.hears.asked,
+  attached_outside ending.stage (at1.child.attached ≡ None) (LetsGo ending.exit (at1.child.attached ≡ None) (at1.child.attached ≡ Some 0)) stage (ap (λ (child : Child). child.attached) closes.hears.child ∙ free),
+  stopped_made admission.decision ShortOfMemory ending link0 link0 link1 [] at0 at0 at1 fresh (new_no_cancel at0.told untold) (enters_not link0 at0) closes,
+  closes.heeds,
+)
+
+-- What a link and a life were given and give back.
+pub record Handed (link0 link1 given back : LinkView) (at0 at1 : Attention) (told0 told1 : Option Told) (child0 child1 : Child) : Type 0 where
+  pub link_given : link0 ≡ given
+  pub link_back : link1 ≡ back
+  pub told_given : at0.told ≡ told0
+  pub told_back : told1 ≡ at1.told
+  pub child_given : at0.child ≡ child0
+  pub child_back : child1 ≡ at1.child
+
+pub connected_as : {S : Type 0} (notes : List BookEntry → S → S → Type 0) (stamp : Option ℕ) (admission : Admission) (gives : ℕ → Type 0) (exit : Cause) (status : Status) (limit : ℕ) (link0 link1 given back : LinkView) (unread0 unread1 : List ℕ) (store0 store1 : S) (at0 at1 : Attention)
+    (told0 told1 : Option Told) (child0 child1 : Child) → Handed link0 link1 given back at0 at1 told0 told1 child0 child1 → status ≡ status_by exit → Connected notes stamp admission gives exit (moment link0 unread0 store0 at0) (moment link1 unread1 store1 at1)
+    → (ending : Ending) × (turns : List Turn) × (generation : ℕ) × (status ≡ status_of ending)
+    × IsSession notes admission.decision (newcomer stamp child0.pid generation) admission.key turns ending (HasFailed given back) (between back.traffic store0 store1)
+    × IsCaused ending turns generation admission.decision back.traffic (HasFailed given back) told1 limit gives × HasAskedFor turns told0 told1
+    × IsAttachedBehind ending generation child1 × HasCancelled ending.cause back.traffic told1
+connected_as notes stamp admission gives exit status limit link0 link1 given back unread0 unread1 store0 store1 at0 at1 told0 told1 child0 child1 handed is s =
+    rw (← handed.link_given, ← handed.link_back, ← handed.told_given, handed.told_back, ← handed.child_given, handed.child_back) (s.0, s.1, s.2, is ∙ ap status_by (sym s.3), s.4, s.5 limit, s.6, s.7, s.8)
+
+pub connected_heeds : {S : Type 0} (notes : List BookEntry → S → S → Type 0) (stamp : Option ℕ) (admission : Admission) (gives : ℕ → Type 0) (exit : Cause) (status : Status) (before now : Moment S) (told : Option Told) → status ≡ status_by exit → told ≡ now.child.told
+    → Connected notes stamp admission gives exit before now → Heeds status told
+connected_heeds notes stamp admission gives exit status before now told is same s =
+    let status_is : status ≡ status_of s.0 = is ∙ ap status_by (sym s.3) in
+    rw (status_is, same) s.9

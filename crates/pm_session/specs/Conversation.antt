@@ -10,7 +10,7 @@ use Rattle.pm_session.specs.Exchange.{LinkView, Passes, HasEnded, HasFailed, Cut
 use Rattle.pm_life.specs.Attention.{Attention, Hears, was_given}
 use Rattle.pm_session.specs.Heeding.{HeedInTurn, AllRead}
 use Rattle.pm_session.specs.Sent.{Turn, bytes_of}
-use Rattle.pm_session.specs.Session.{AllNotes, EndsAt, MayPassOver, IsCancelledTurn, pieces, query_bytes}
+use Rattle.pm_session.specs.Session.{AllNotes, AllSleep, EndsAt, MayPassOver, IsCancelledTurn, pieces, query_bytes}
 
 -- the link, the bytes that came in and weren't looked at yet, the store, and the child
 pub record Moment (S : Type 0) : Type 0 where
@@ -46,7 +46,7 @@ IsBreak _ = ⊥
 
 -- A greeted client's queries were answered in order, each with its turn, up to the end: all that was sent for them, or a
 -- front of it where the end cuts off.
-pub record Conversed {S : Type 0} (notes : List BookEntry → S → S → Type 0) (user : User) (cause : Cause) (before now : Moment S) : Type 0 where
+pub record Conversed {S : Type 0} (notes : List BookEntry → S → S → Type 0) (gives : ℕ → Type 0) (user : User) (cause : Cause) (before now : Moment S) : Type 0 where
   pub texts : List (List ℕ)
   pub turns : List Turn
   pub last : List ℕ
@@ -65,5 +65,6 @@ pub record Conversed {S : Type 0} (notes : List BookEntry → S → S → Type 0
   pub entries : notes (asked ++ ended) before.store now.store
   pub hears : Hears (length turns) before.child now.child
   pub read : AllRead texts turns
+  pub slept : AllSleep gives texts turns
   pub heeded : HeedInTurn turns before.child.told now.child.told
   pub cancelled : (turn : Turn) → Contains turns turn → IsCancelledTurn turn → was_given Cancel now.child.told

@@ -1,8 +1,9 @@
 -- The start of a connection, up to its startup packet; and what is said last.
-use Rattle.std.specs.Prelude.{◌≡◌, ◌≢◌, ◌⊎◌, ℕ, ◌<◌, ◌≤◌, List, [], ◌∷◌, ◌++◌, length, take, map, Option, None, Some, Result, Ok, Err, IsTrue}
+use Rattle.std.specs.Prelude.{◌≡◌, ◌≢◌, ◌⊎◌, ℕ, ◌<◌, ◌≤◌, List, [], ◌∷◌, ◌++◌, length, take, map, Bool, true, false, Option, None, Some, IfSome, Result, Ok, Err, IsTrue}
 use Rattle.std.specs.List.{flat_map}
 use Rattle.std.specs.Option.{option_map}
 use Rattle.pm_admit.specs.declared.Cac.{Cac}
+use Rattle.pm_admit.specs.declared.Cac.TheVariants as decisions
 use Rattle.pm_exit.specs.declared.child.Status.TheVariants as statuses
 use Rattle.pm_startup.specs.declared.packet.StartFault.{StartFault}
 use Rattle.pm_startup.specs.declared.phase.Phase.{Phase}
@@ -13,19 +14,20 @@ use Rattle.pm_query.specs.declared.book.BookEntry.{BookEntry}
 use Rattle.pm_query.specs.declared.book.BookEntry.TheVariants.{Attached}
 use Rattle.pm_query.specs.declared.store.StoreNo.{StoreNo}
 use Rattle.pm_query.specs.declared.store.StoreNo.TheVariants as nos
-use Rattle.pm_query.specs.Calls.{User}
+use Rattle.pm_query.specs.Calls.{User, PassView, newcomer, user_of}
 use Rattle.pm_life.specs.Life.{Told, Signal, Kill, Quit, Terminate, asked_cancel}
 use Rattle.pm_session.specs.declared.ending.Cause.{Cause}
 use Rattle.pm_session.specs.declared.ending.Cause.TheVariants.{Cancelling, ToldToTerminate, ToldToQuit, Killed, Overtaken, ShortOfMemory}
 use Rattle.pm_session.specs.declared.ending.Stage.{Stage}
+use Rattle.pm_session.specs.declared.session.Admission.{Admission}
 use Rattle.pm_session.specs.declared.startup.Ask.{Ask}
 use Rattle.pm_session.specs.declared.startup.Ask.TheVariants.{Nothing, Encryption, Start, Cancel, Refused}
-use Rattle.pm_session.specs.Exchange.{LinkView, Passes, HasFailed, CutsOff}
+use Rattle.pm_session.specs.Exchange.{LinkView, Passes, HasFailed, CutsOff, Holds, IsLeftFor, IsSound}
 use Rattle.pm_life.specs.declared.standing.Standing.{Standing}
 use Rattle.pm_life.specs.Attention.{Attention, HasAsked, Hears, IsAttentive, KeepsCancels, was_given}
 use Rattle.pm_session.specs.Attention.{ends_of}
 use Rattle.pm_session.specs.Sent.{Turn, bytes_of}
-use Rattle.pm_session.specs.Session.{Ending, Heeds, HasAskedFor, IsCaused, IsText, IsStart, IsRefusedPacket, AskInTurn, StopsAt, MayPassOver, Leaves, first_phase, last_messages, status_by, status_of}
+use Rattle.pm_session.specs.Session.{Ending, Heeds, HasAskedFor, IsCaused, IsSession, IsAttachedBehind, HasCancelled, IsInside, AllSleep, HasSlept, EndsSoundly, between, query_bytes, IsText, IsStart, IsRefusedPacket, AskInTurn, StopsAt, MayPassOver, Leaves, first_phase, last_messages, status_by, status_of}
 use Rattle.pm_session.specs.Conversation.{Moment, moment, ShowsCause}
 
 -- a moment at which no store is used
@@ -50,6 +52,7 @@ pub record Asked (phase : Phase) (before now : Moment (Unit {0})) : Type 0 where
   pub input : before.unread ++ came ≡ flat_map (λ packet. packet) requests ++ now.unread
   pub passes : Passes came (map (λ packet. 78) requests) before.link now.link
   pub hears : Hears 0 before.child now.child
+  pub holds : IsSound false before.link.traffic → IsSound false now.link.traffic
 
 -- behind the requests this packet starts the session, or it goes no further
 abbrev pub GoesOn : Result (Unit {0}) Cause → Phase → (last beyond missing : List ℕ) → (before now : Moment (Unit {0})) → Type 0
@@ -88,6 +91,7 @@ pub record Enters (result : Result (Unit {0}) Cause) (before now : Moment (Unit 
   pub hears : Hears 0 before.child heard
   pub attends : Attends before.child now.child
   pub cancels : AsksToCancel result last heard.told now.child.told
+  pub holds : Holds false result before.link now.link
 
 -- ---- the store
 
@@ -112,7 +116,8 @@ pub record SaysLast (words : List ℕ) (before now : Moment (Unit {0})) : Type 0
   pub cut : (missing ≡ []) ⊎ (IsTrue now.child.standing.kill ⊎ HasFailed before.link now.link)
   pub passes : Passes [] went before.link now.link
   pub hears : Hears 0 before.child now.child
-  pub silent : words ≡ [] → now.child ≡ before.child
+  pub silent : words ≡ [] → now ≡ before
+  pub sound : (ended : Bool) → IsSound ended before.link.traffic → IfSome now.link.traffic (λ t. t.went_on ≡ false)
 
 -- By what a session ends in place of a cause, where this stands: by what was told, where the child would exit as if nothing
 -- had happened.
@@ -142,6 +147,11 @@ pub record Closes (decision : Cac) (cause : Cause) (ending : Ending) (before now
   pub passes : Passes [] went before.link now.link
   pub hears : Hears 1 before.child now.child
   pub heeds : Heeds (status_of ending) now.child.told
+  pub sound : IsLeftFor cause before.link.traffic → EndsSoundly (status_of ending) now.link.traffic
+
+-- by what the child exits that came to its end at this stage for this cause
+abbrev pub ClosesBy : Cac → Stage → Cause → (exit : Cause) → (before now : Moment (Unit {0})) → Type 0
+ClosesBy decision stage cause exit before now = (ending : Ending) × (ending.stage ≡ stage) × (ending.exit ≡ exit) × Closes decision cause ending before now
 
 -- ---- behind the startup packet
 
@@ -157,7 +167,7 @@ IsTextInside decision user key ending turns came whole noted =
     (left : List BookEntry) → Leaves user ending.exit left → IsTextBehind decision user key ending turns came whole (Attached user.pid user.generation ∷ noted ++ left)
 
 -- What passed up to a session's end, what was noted, and why it ended, whatever its limit of time is; its text is of this
--- kind.
+-- kind. Its queries have slept, one for each turn.
 pub record Serves {S : Type 0} (notes : List BookEntry → S → S → Type 0) (Text : Ending → List Turn → (came whole : List ℕ) → List BookEntry → Type 0) (decision : Cac) (generation : ℕ) (gives : ℕ → Type 0) (ending : Ending) (before now : Moment S) : Type 0 where
   pub turns : List Turn
   pub came : List ℕ
@@ -173,5 +183,41 @@ pub record Serves {S : Type 0} (notes : List BookEntry → S → S → Type 0) (
   pub asked : HasAskedFor turns before.child.told now.child.told
   pub cancels : KeepsCancels before.child.told now.child.told
   pub unasked : ending.cause ≢ Cancelling
-  pub caused : (limit : ℕ) → IsCaused ending turns generation decision now.link.traffic (HasFailed before.link now.link) now.child.told limit gives
+  pub texts : List (List ℕ)
+  pub beyond : List ℕ
+  pub queries : before.unread ++ came ≡ flat_map query_bytes texts ++ beyond
+  pub slept : AllSleep gives texts turns
+  pub caused : (limit : ℕ) → IsSound false before.link.traffic → IfSome now.link.traffic (λ traffic. HasSlept gives turns traffic.came_in)
+      → IsCaused ending turns generation decision now.link.traffic (HasFailed before.link now.link) now.child.told limit gives
   pub heeds : Heeds (status_of ending) now.child.told
+
+-- ---- from each stage on, up to a child's exit by this cause
+
+-- in the store, by this pass
+abbrev pub Inside : {S : Type 0} → (notes : List BookEntry → S → S → Type 0) → (stamp : Option ℕ) → PassView → (key : ℕ) → (gives : ℕ → Type 0) → (exit : Cause) → (before now : Moment S) → Type 0
+Inside notes stamp view key gives exit before now =
+    (ending : Ending) × (ending.exit ≡ exit) × Serves notes (IsTextInside decisions.Ok (user_of stamp view) key) decisions.Ok view.generation gives ending before now × IsInside ending.stage
+
+-- through the gate, in this generation
+abbrev pub Entered : {S : Type 0} → (notes : List BookEntry → S → S → Type 0) → (stamp : Option ℕ) → (key generation : ℕ) → (gives : ℕ → Type 0) → (exit : Cause) → (before now : Moment S) → Type 0
+Entered notes stamp key generation gives exit before now =
+    (ending : Ending) × (ending.exit ≡ exit)
+    × Serves notes (IsTextBehind decisions.Ok (newcomer stamp before.child.child.pid generation) key) decisions.Ok generation gives ending before now
+    × IsInside ending.stage
+
+-- behind the startup packet
+abbrev pub Admitted : {S : Type 0} → (notes : List BookEntry → S → S → Type 0) → (stamp : Option ℕ) → Admission → (gives : ℕ → Type 0) → (exit : Cause) → (before now : Moment S) → Type 0
+Admitted notes stamp admission gives exit before now =
+    (ending : Ending) × (generation : ℕ) × (ending.exit ≡ exit) × IsAttachedBehind ending generation now.child.child
+    × Serves notes (IsTextBehind admission.decision (newcomer stamp before.child.child.pid generation) admission.key) admission.decision generation gives ending before now
+
+-- from its first byte
+abbrev pub Connected : {S : Type 0} → (notes : List BookEntry → S → S → Type 0) → (stamp : Option ℕ) → Admission → (gives : ℕ → Type 0) → (exit : Cause) → (before now : Moment S) → Type 0
+Connected notes stamp admission gives exit before now =
+    (ending : Ending) × (turns : List Turn) × (generation : ℕ) × (ending.exit ≡ exit)
+    × IsSession notes admission.decision (newcomer stamp before.child.child.pid generation) admission.key turns ending (HasFailed before.link now.link) (between now.link.traffic before.store now.store)
+    × ((limit : ℕ) → IsCaused ending turns generation admission.decision now.link.traffic (HasFailed before.link now.link) now.child.told limit gives)
+    × HasAskedFor turns before.child.told now.child.told
+    × IsAttachedBehind ending generation now.child.child
+    × HasCancelled ending.cause now.link.traffic now.child.told
+    × Heeds (status_of ending) now.child.told

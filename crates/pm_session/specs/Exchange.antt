@@ -1,5 +1,5 @@
 -- What passes on a link between two moments.
-use Rattle.std.specs.Prelude.{◌≡◌, ◌≢◌, ◌≤◌, ℕ, true, List, [], ◌++◌, Option, None, Some, Result, Ok, Err, option_map}
+use Rattle.std.specs.Prelude.{◌≡◌, ◌≢◌, ◌≤◌, ℕ, Bool, true, false, List, [], ◌++◌, Option, None, Some, IfSome, Result, Ok, Err, option_map}
 use Rattle.pm_disk.specs.Cause.{Rose}
 use Rattle.pm_outside.specs.Traffic.{Traffic}
 use Rattle.pm_outside.specs.declared.link.Got.{Got}
@@ -43,6 +43,19 @@ pub record Passes (came went : List ℕ) (before now : LinkView) : Type 0 where
 abbrev pub HasFailed : (before now : LinkView) → Type 0
 HasFailed before now = Rose before.faults now.faults
 
+-- no call of the link has failed, none was made that must not be, and its end was given or not
+abbrev pub IsSound : (ended : Bool) → Option Traffic → Type 0
+IsSound ended traffic = IfSome traffic (λ t. (t.failed ≡ false) × (t.went_on ≡ false) × (t.ended ≡ ended))
+
+-- no call was made that must not be, and one has failed only where this is why nothing follows
+abbrev pub IsLeftFor : Cause → Option Traffic → Type 0
+IsLeftFor cause traffic = IfSome traffic (λ t. (t.went_on ≡ false) × (t.failed ≡ true → cause ≡ LinkFailed))
+
+-- a sound link goes on being sound, or nothing follows
+abbrev pub Holds : (ended : Bool) → Result (Unit {0}) Cause → (before now : LinkView) → Type 0
+Holds ended (Ok done) before now = IsSound ended before.traffic → IsSound ended now.traffic
+Holds ended (Err cause) before now = IsSound ended before.traffic → IsLeftFor cause now.traffic
+
 -- an ending that may leave what is sent unfinished
 abbrev pub CutsOff : Cause → Type 0
 CutsOff LinkFailed = Unit {0}
@@ -79,6 +92,13 @@ pub record Receives (unread_before unread_now : List ℕ) (before now : LinkView
 pub record ReceivesNothing (unread_before unread_now : List ℕ) (before now : LinkView) : Type 0 where
   pub unread : unread_now ≡ unread_before
   pub passes : Passes [] [] before now
+
+-- the same of one read
+abbrev pub HoldsReading : Got → (before now : LinkView) → Type 0
+HoldsReading (Bytes count) before now = IsSound false before.traffic → IsSound false now.traffic
+HoldsReading NotYet before now = IsSound false before.traffic → IsSound false now.traffic
+HoldsReading End before now = IsSound false before.traffic → IsSound true now.traffic
+HoldsReading Failed before now = IsSound false before.traffic → IsLeftFor LinkFailed now.traffic
 
 -- one read took bytes, or didn't, and why
 abbrev pub Reads : Got → (unread_before unread_now : List ℕ) → (before now : LinkView) → Type 0

@@ -1,8 +1,10 @@
 pub mod Sent
 pub mod Exchange
+pub mod Line
 pub mod Attention
 pub mod Heeding
 pub mod Session
 pub mod Conversation
 pub mod Turns
 pub mod Entry
+pub mod Complete

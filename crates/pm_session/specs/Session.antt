@@ -1,5 +1,5 @@
 -- A whole session: what its client is sent for what it sent, what the child notes, how it ends, and why.
-use Rattle.std.specs.Prelude.{◌≡◌, ◌≢◌, ◌⊎◌, ℕ, ◌+◌, ◌-◌, ◌^◌, ◌≤◌, min, Bool, true, false, List, [], ◌∷◌, ◌++◌, length, map, codes, Option, None, Some, Result, Ok, Err, IfSome, IsTrue}
+use Rattle.std.specs.Prelude.{◌≡◌, ◌≢◌, ◌⊎◌, ℕ, ◌+◌, ◌-◌, ◌*◌, ◌^◌, ◌≤◌, min, Bool, true, false, List, [], ◌∷◌, ◌++◌, length, map, codes, Option, None, Some, Result, Ok, Err, IfSome, IsTrue}
 use Rattle.std.specs.List.{flat_map}
 use Rattle.std.specs.Str.{IsUtf8}
 use Rattle.pm_outside.specs.Traffic.{Traffic}
@@ -17,6 +17,7 @@ use Rattle.pm_sql.specs.declared.stmt.Stmt.{Stmt}
 use Rattle.pm_sql.specs.declared.query.SqlFault.{SqlFault}
 use Rattle.pm_sql.specs.declared.query.SqlFault.TheVariants as texts
 use Rattle.pm_sql.specs.Statements.{IsQueryText}
+use Rattle.pm_sql.specs.Limits.{sleep_seconds}
 use Rattle.pm_sql.specs.Faults.{IsFaultOf}
 use Rattle.pm_rows.specs.declared.commit.Change.{Change}
 use Rattle.pm_query.specs.declared.item.Item.{Item}
@@ -313,6 +314,57 @@ pub record IsApart (gives : ℕ → Type 0) (limit : ℕ) : Type 0 where
   pub second : gives later
   pub apart : earlier + limit ≤ later
 
+-- the clock gave two moments so far apart, or it stands at its last
+pub record HasWaited (gives : ℕ → Type 0) (milliseconds : ℕ) : Type 0 where
+  pub first : ℕ
+  pub last : ℕ
+  pub from : gives first
+  pub to : gives last
+  pub apart : (first + milliseconds ≤ last) ⊎ (last ≡ 2 ^ 64 - 1)
+
+-- the seconds that statements sleep, as a number of 64 bits
+abbrev pub seconds_slept : List Stmt → ℕ
+seconds_slept script = min (sleep_seconds script) (2 ^ 64 - 1)
+
+-- for a script that was run, all its seconds have passed
+abbrev pub HasSleptFor : (ℕ → Type 0) → Turn → List Stmt → Type 0
+HasSleptFor gives (Ran reply) script = HasWaited gives (1000 * seconds_slept script)
+HasSleptFor gives LogIsFull script = HasWaited gives (1000 * seconds_slept script)
+HasSleptFor gives turn script = Unit {0}
+
+-- the same of the text that spells it
+abbrev pub Sleeps : (ℕ → Type 0) → List ℕ → Turn → Type 0
+Sleeps gives text (Ran reply) = (script : List Stmt) × IsQueryText text script × HasSleptFor gives (Ran reply) script
+Sleeps gives text LogIsFull = (script : List Stmt) × IsQueryText text script × HasSleptFor gives LogIsFull script
+Sleeps gives text turn = Unit {0}
+
+-- each query has slept, as far as it was run
+abbrev pub AllSleep : (ℕ → Type 0) → List (List ℕ) → List Turn → Type 0
+AllSleep gives [] [] = Unit {0}
+AllSleep gives (text ∷ texts) (turn ∷ turns) = IsFront (query_bytes text) (Query text) × Sleeps gives text turn × AllSleep gives texts turns
+AllSleep gives [] (turn ∷ turns) = ⊥
+AllSleep gives (text ∷ texts) [] = ⊥
+
+-- So have the queries behind the startup packet, one for each turn.
+pub record QueriesSlept (gives : ℕ → Type 0) (turns : List Turn) (came_in : List ℕ) : Type 0 where
+  pub requests : List (List ℕ)
+  pub phase : Phase
+  pub packet : List ℕ
+  pub texts : List (List ℕ)
+  pub beyond : List ℕ
+  pub asks : AskInTurn first_phase requests phase
+  pub start : IsStart packet
+  pub slept : AllSleep gives texts turns
+  pub input : came_in ≡ flat_map (λ p. p) requests ++ packet ++ flat_map query_bytes texts ++ beyond
+
+abbrev pub HasSlept : (ℕ → Type 0) → List Turn → List ℕ → Type 0
+HasSlept gives [] came_in = Unit {0}
+HasSlept gives (turn ∷ turns) came_in = QueriesSlept gives (turn ∷ turns) came_in
+
+-- no call was made behind one that failed, nor a read behind the end, and behind a fault the exit isn't 0
+abbrev pub EndsSoundly : Status → Option Traffic → Type 0
+EndsSoundly status link = IfSome link (λ traffic. (traffic.went_on ≡ false) × (traffic.failed ≡ true → status ≢ statuses.Code 0))
+
 abbrev pub CausedBy : Cause → Cac → Option Traffic → (link_failed : Type 0) → Option Told → ℕ → (ℕ → Type 0) → Type 0
 CausedBy LinkEnded decision link link_failed told limit gives = IfSome link (λ traffic. traffic.ended ≡ true)
 CausedBy LinkFailed decision link link_failed told limit gives = link_failed
@@ -344,6 +396,8 @@ pub record IsCaused (ending : Ending) (turns : List Turn) (generation : ℕ) (de
   pub gate : HasEntered ending.stage generation told
   pub out : StaysOut ending.stage ending.cause told
   pub heeded : IfSome told (λ t. TurnsHeed 0 turns t.asked t.given)
+  pub sound : EndsSoundly (status_of ending) link
+  pub slept : IfSome link (λ traffic. HasSlept gives turns traffic.came_in)
   pub cancelled : (before : List Turn) (turn : Turn) (behind : List Turn) → turns ≡ before ++ turn ∷ behind → IsCancelledTurn turn → was_given Cancel told
 
 -- it has asked for its signals once more at least than it has turns, or up to the last number

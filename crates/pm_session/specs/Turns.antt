@@ -1,5 +1,5 @@
 -- A query step by step: what is answered and noted for it, what its client is sent, and what waiting for it can give.
-use Rattle.std.specs.Prelude.{◌≡◌, ◌≢◌, ◌⊎◌, ◌≤◌, ◌<◌, ◌+◌, ◌*◌, ◌^◌, ◌-◌, ◌++◌, ℕ, List, [], ◌∷◌, length, All, Contains, Option, None, Some, Result, Ok, Err, IfErr, MatchResult}
+use Rattle.std.specs.Prelude.{◌≡◌, ◌≢◌, ◌⊎◌, ◌≤◌, ◌<◌, ◌+◌, ◌*◌, ◌^◌, ◌-◌, ◌++◌, ℕ, List, [], ◌∷◌, length, All, Contains, Option, None, Some, Result, Ok, Err, IfErr, MatchResult, false}
 use Rattle.std.specs.List.{flat_map}
 use Rattle.pm_sql.specs.declared.stmt.Stmt.{Stmt}
 use Rattle.pm_sql.specs.Statements.{IsQueryText}
@@ -26,12 +26,12 @@ use Rattle.pm_session.specs.declared.release.Awaited.{Awaited}
 use Rattle.pm_session.specs.declared.release.Awaited.TheVariants as waits
 use Rattle.pm_session.specs.declared.query.Slept.{Slept}
 use Rattle.pm_session.specs.declared.query.Slept.TheVariants as sleeps
-use Rattle.pm_session.specs.Exchange.{LinkView, CutsOff, Passes}
-use Rattle.pm_life.specs.Attention.{Attention, Hears, GivenSince, IsAttentive, was_given}
+use Rattle.pm_session.specs.Exchange.{LinkView, CutsOff, Passes, Holds}
+use Rattle.pm_life.specs.Attention.{Attention, Hears, GivenSince, was_given}
 use Rattle.pm_session.specs.Heeding.{HeedInTurn, IsReadAs, AllRead}
 use Rattle.pm_session.specs.Sent.{Turn, Ran, Faulted, NotUtf8, Cancelled, LogIsFull, Memory, bytes_of, item_messages, fault_state, turn_messages}
-use Rattle.pm_session.specs.Session.{IsUnreleased, TurnNotes, AllNotes, EndsAt, MayPassOver, IsCancelledTurn, pieces, query_bytes}
-use Rattle.pm_session.specs.Conversation.{Moment, Conversed, ShowsCause, IsBreak}
+use Rattle.pm_session.specs.Session.{IsUnreleased, TurnNotes, AllNotes, EndsAt, MayPassOver, IsCancelledTurn, HasWaited, Sleeps, AllSleep, pieces, query_bytes}
+use Rattle.pm_session.specs.Conversation.{Moment, moment, Conversed, ShowsCause, IsBreak}
 
 -- ---- what a client is sent
 
@@ -44,9 +44,9 @@ pub record Desk : Type 0 where
 abbrev pub desk : LinkView → Outgoing → Attention → Desk
 desk link outbox child = record { link = link; outbox = outbox; child = child }
 
--- the outbox has room for any message that is said, once it is empty
-abbrev pub IsReady : Desk → Type 0
-IsReady at = IsAttentive at.child × (66048 ≤ at.outbox.capacity)
+-- a moment at a desk, with what wasn't looked at yet and the store
+abbrev pub at_desk : {S : Type 0} → Desk → List ℕ → S → Moment S
+at_desk at unread store = moment at.link unread store at.child
 
 -- what didn't go out stands in the outbox, or sending was broken off
 abbrev pub IsLeft : Result (Unit {0}) Cause → (missing stands : List ℕ) → Type 0
@@ -63,6 +63,7 @@ pub record Says (result : Result (Unit {0}) Cause) (messages : List BackMessage)
   pub room : before.outbox.capacity ≤ now.outbox.capacity
   pub hears : Hears 0 before.child now.child
   pub shows : IfErr result (λ cause. ShowsCause cause before.link now.link now.child)
+  pub holds : Holds false result before.link now.link
 
 -- ---- answers
 
@@ -184,24 +185,16 @@ IsWaitEnd (ToldToQuit reason) = Unit {0}
 IsWaitEnd Killed = Unit {0}
 IsWaitEnd _ = ⊥
 
--- the clock gave two moments so far apart, or it stands at its last
-pub record HasPassed (gives : ℕ → Type 0) (milliseconds : ℕ) : Type 0 where
-  pub first : ℕ
-  pub last : ℕ
-  pub from : gives first
-  pub to : gives last
-  pub apart : (first + milliseconds ≤ last) ⊎ (last ≡ 2 ^ 64 - 1)
-
 -- all of the time has passed, or a cancel or an end was given
 abbrev pub SleepGoes : (ℕ → Type 0) → (seconds : ℕ) → Result Slept Cause → (before now : Attention) → Type 0
-SleepGoes gives seconds (Ok sleeps.Whole) before now = HasPassed gives (1000 * seconds)
+SleepGoes gives seconds (Ok sleeps.Whole) before now = HasWaited gives (1000 * seconds)
 SleepGoes gives seconds (Ok sleeps.Cancelled) before now = GivenSince Cancel before.told now.told
 SleepGoes gives seconds (Err cause) before now = IsSignal cause × IsHeeded cause now
 
 -- ---- turns
 
 -- a query was answered, and of its piece these bytes didn't go out
-pub record Answered {S : Type 0} (notes : List BookEntry → S → S → Type 0) (user : User) (text missing : List ℕ) (before now : Moment S) : Type 0 where
+pub record Answered {S : Type 0} (notes : List BookEntry → S → S → Type 0) (gives : ℕ → Type 0) (user : User) (text missing : List ℕ) (before now : Moment S) : Type 0 where
   pub turn : Turn
   pub noted : List BookEntry
   pub went : List ℕ
@@ -211,6 +204,7 @@ pub record Answered {S : Type 0} (notes : List BookEntry → S → S → Type 0)
   pub entries : notes noted before.store now.store
   pub hears : Hears 0 before.child now.child
   pub read : IsReadAs text turn
+  pub slept : Sleeps gives text turn
   pub cancelled : IsCancelledTurn turn → GivenSince Cancel before.child.told now.child.told
 
 -- it was not, and nothing was sent
@@ -222,10 +216,10 @@ pub record BrokenOff {S : Type 0} (notes : List BookEntry → S → S → Type 0
   pub hears : Hears 0 before.child now.child
 
 -- a query was answered; or it was not, or sending its answer was broken off, and this ends the session
-abbrev pub ReplyGoes : {S : Type 0} → (notes : List BookEntry → S → S → Type 0) → User → (text : List ℕ) → Result (Unit {0}) Cause → (before now : Moment S) → Type 0
-ReplyGoes notes user text (Ok done) before now = Answered notes user text [] before now
-ReplyGoes notes user text (Err cause) before now =
-    ((missing : List ℕ) × CutsOff cause × IsBreak cause × Answered notes user text missing before now) ⊎ BrokenOff notes user text cause before now
+abbrev pub ReplyGoes : {S : Type 0} → (notes : List BookEntry → S → S → Type 0) → (gives : ℕ → Type 0) → User → (text : List ℕ) → Result (Unit {0}) Cause → (before now : Moment S) → Type 0
+ReplyGoes notes gives user text (Ok done) before now = Answered notes gives user text [] before now
+ReplyGoes notes gives user text (Err cause) before now =
+    ((missing : List ℕ) × CutsOff cause × IsBreak cause × Answered notes gives user text missing before now) ⊎ BrokenOff notes user text cause before now
 
 -- a query's text is no longer than is read, and holds no zero byte
 abbrev pub HasQueryText : FrontMessage → Type 0
@@ -238,10 +232,10 @@ pub record Refuses {S : Type 0} (user : User) (message : FrontMessage) (cause : 
   pub passes_over : (beyond : List ℕ) → MayPassOver cause beyond
   pub still : now ≡ before
 
-abbrev pub MessageGoes : {S : Type 0} → (notes : List BookEntry → S → S → Type 0) → User → FrontMessage → Result (Unit {0}) Cause → (before now : Moment S) → Type 0
-MessageGoes notes user (IsQuery text) result before now = ReplyGoes notes user text result before now
-MessageGoes notes user message (Ok done) before now = ⊥
-MessageGoes notes user message (Err cause) before now = Refuses user message cause before now
+abbrev pub MessageGoes : {S : Type 0} → (notes : List BookEntry → S → S → Type 0) → (gives : ℕ → Type 0) → User → FrontMessage → Result (Unit {0}) Cause → (before now : Moment S) → Type 0
+MessageGoes notes gives user (IsQuery text) result before now = ReplyGoes notes gives user text result before now
+MessageGoes notes gives user message (Ok done) before now = ⊥
+MessageGoes notes gives user message (Err cause) before now = Refuses user message cause before now
 
 -- Bytes came in behind those that weren't looked at yet. Where the wait for so many of them was broken off, all are passed
 -- over.
@@ -251,7 +245,7 @@ pub record Comes (wanted : ℕ) (result : Result (Unit {0}) Cause) (unread_befor
   pub unread : MatchResult result (λ done. unread_now ≡ unread_before ++ came) (λ cause. (unread_now ≡ []) × (length (unread_before ++ came) < wanted) × IsBreak cause)
 
 -- Queries were answered in order, and all their answers were sent.
-pub record Conversing {S : Type 0} (notes : List BookEntry → S → S → Type 0) (user : User) (before now : Moment S) : Type 0 where
+pub record Conversing {S : Type 0} (notes : List BookEntry → S → S → Type 0) (gives : ℕ → Type 0) (user : User) (before now : Moment S) : Type 0 where
   pub texts : List (List ℕ)
   pub turns : List Turn
   pub asked : List BookEntry
@@ -262,10 +256,11 @@ pub record Conversing {S : Type 0} (notes : List BookEntry → S → S → Type 
   pub entries : notes asked before.store now.store
   pub hears : Hears (length turns) before.child now.child
   pub read : AllRead texts turns
+  pub slept : AllSleep gives texts turns
   pub heeded : HeedInTurn turns before.child.told now.child.told
   pub cancelled : (turn : Turn) → Contains turns turn → IsCancelledTurn turn → was_given Cancel now.child.told
 
 -- Queries were answered, maybe none; or this ended the session behind them.
-abbrev pub Converses : {S : Type 0} → (notes : List BookEntry → S → S → Type 0) → User → Result (Unit {0}) Cause → (before now : Moment S) → Type 0
-Converses notes user (Ok done) before now = Conversing notes user before now
-Converses notes user (Err cause) before now = Conversed notes user cause before now
+abbrev pub Converses : {S : Type 0} → (notes : List BookEntry → S → S → Type 0) → (gives : ℕ → Type 0) → User → Result (Unit {0}) Cause → (before now : Moment S) → Type 0
+Converses notes gives user (Ok done) before now = Conversing notes gives user before now
+Converses notes gives user (Err cause) before now = Conversed notes gives user cause before now

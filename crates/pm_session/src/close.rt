@@ -2,108 +2,91 @@
 ghost use Rattle.std.specs.Prelude.{◌≡◌, ◌⊎◌, ◌≤◌, [], ◌∷◌, MatchOption, IfSome, cond};
 ghost use Rattle.pm_wire.specs.Conditions.{fixed_message, told};
 ghost use Rattle.pm_wire.specs.Longest.{IsGiven};
-ghost use Rattle.pm_life.specs.Attention.{attention, IsAttentive};
-ghost use Rattle.pm_session.specs.Attention.{ends_of};
-ghost use Rattle.pm_session.specs.Exchange.{link_view};
+ghost use Rattle.pm_life.specs.Attention.{Hears, IsAttentive};
 ghost use Rattle.pm_session.specs.Sent.{bytes_of, from_attach, packet_refusal, message_refusal, decision_refusal, gate_refusal, last_of};
-ghost use Rattle.pm_session.specs.Session.{Ending};
-ghost use Rattle.pm_session.specs.Entry.{outside, SaysLast, Closes, IsLastCause};
+ghost use Rattle.pm_session.specs.Entry.{outside, SaysLast, ClosesBy, IsLastCause};
 
-use crate::attention::ends;
+use crate::desk::Desk;
 use crate::ending::{Cause, MessageFault, Stage};
-use crate::line::send;
+use crate::line::Line;
 use pm_admit::Cac;
 use pm_exit::Status;
-use pm_life::{GateNo, Life, Standing, listen};
+use pm_life::{GateNo, Life};
 use pm_outside::Link;
 use pm_startup::StartFault;
 use pm_supervisor::Reason;
 use pm_wire::{Back, Condition, Fixed, Outbox, conditions_can_be_told, fixed};
 
-/// Brings a session to its end for this cause, and answers by what the child exits. What is said last is put into the
-/// outbox. A fault of the link is passed over here, and a signal counts before a client's own end.
-pub fn close<L: Link, F: Life>(
-    link: &mut L,
-    life: &mut F,
-    standing: &mut Standing,
-    outbox: &mut Outbox,
-    decision: Cac,
-    stage: Stage,
-    cause: Cause,
-) -> Cause
-    requires attentive { IsAttentive (attention (F.told life.old) (F.child life.old) standing.old) }
-    requires room { 66048 ≤ outbox.old.capacity }
-    ensures closes { (ending : Ending) × (ending.stage ≡ stage) × (ending.exit ≡ result)
-        × Closes decision cause ending (outside
-        (link_view (L.traffic link.old) (L.number link.old) (L.faults link.old)) []
-        (attention (F.told life.old) (F.child life.old) standing.old))
-        (outside (link_view (L.traffic link.new) (L.number link.new) (L.faults link.new)) []
-        (attention (F.told life.new) (F.child life.new) standing.new)) }
-{
-    listen(life, standing);
-    let cause = last_cause(*standing, cause);
-    put_last(outbox, decision, stage, cause);
-    say(link, life, standing, outbox.as_slice());
-    exit_by(*standing, cause)
-}
-
-/// Brings a session to its end that found no memory for its buffers.
-pub fn close_short_of_memory<L: Link, F: Life>(
-    link: &mut L,
-    life: &mut F,
-    standing: &mut Standing,
-    decision: Cac,
-) -> Cause
-    requires { IsAttentive (attention (F.told life.old) (F.child life.old) standing.old) }
-    ensures { (ending : Ending) × (ending.stage ≡ Stage.Outside) × (ending.exit ≡ result)
-        × Closes decision Cause.ShortOfMemory ending
-        (outside (link_view (L.traffic link.old) (L.number link.old) (L.faults link.old)) []
-        (attention (F.told life.old) (F.child life.old) standing.old))
-        (outside (link_view (L.traffic link.new) (L.number link.new) (L.faults link.new)) []
-        (attention (F.told life.new) (F.child life.new) standing.new)) }
-{
-    listen(life, standing);
-    say(link, life, standing, fixed(Fixed::FatalMemory));
-    exit_by(*standing, Cause::ShortOfMemory)
-}
-
-// By what a session ends where this stands: a signal counts where the child would exit as if nothing had happened.
-fn last_cause(standing: Standing, cause: Cause) -> Cause
-    ensures { IsLastCause standing cause result }
-{
-    match (cause.status(), ends(standing)) {
-        (Status::Code(0), Some(told)) => told,
-        _ => cause,
+impl<L: Link, F: Life> Desk<L, F> {
+    /// Brings a session to its end for this cause, and answers by what the child exits. A fault of the link is passed over
+    /// here, and a signal counts before a client's own end.
+    pub(crate) fn close(&mut self, decision: Cac, stage: Stage, cause: Cause) -> Cause
+        ensures closes { ClosesBy decision stage cause result
+            (outside self.old.link [] self.old.child) (outside self.new.link [] self.new.child) }
+    {
+        let cause = self.line.last_cause(cause);
+        put_last(&mut self.outbox, decision, stage, cause);
+        self.line.say_last(self.outbox.as_slice());
+        self.line.exit_by(cause)
     }
 }
 
-// By what the child exits where the session ended by this cause.
-fn exit_by(standing: Standing, cause: Cause) -> Cause
-    ensures { result ≡ cond standing.kill Cause.Killed cause }
-{
-    if standing.kill { Cause::Killed } else { cause }
-}
-
-// Says the last words. A Kill breaks them off, a fault of the link is passed over, and behind them the child takes its
-// signals once more.
-fn say<L: Link, F: Life>(link: &mut L, life: &mut F, standing: &mut Standing, words: &[u8])
-    requires { IsAttentive (attention (F.told life.old) (F.child life.old) standing.old) }
-    ensures { SaysLast words.now (outside (link_view (L.traffic link.old) (L.number link.old)
-        (L.faults link.old)) [] (attention (F.told life.old) (F.child life.old) standing.old))
-        (outside (link_view (L.traffic link.new) (L.number link.new) (L.faults link.new)) []
-        (attention (F.told life.new) (F.child life.new) standing.new)) }
-{
-    if words.is_empty() || standing.kill {
-        return;
+impl<L: Link, F: Life> Line<L, F> {
+    /// Brings a session to its end that found no memory for its buffers.
+    pub(crate) fn close_short_of_memory(&mut self, decision: Cac) -> Cause
+        ensures closes { ClosesBy decision Stage.Outside Cause.ShortOfMemory result
+            (outside self.old.link [] self.old.child) (outside self.new.link [] self.new.child) }
+    {
+        let cause = self.last_cause(Cause::ShortOfMemory);
+        self.say_last(fixed(Fixed::FatalMemory));
+        self.exit_by(cause)
     }
-    let _ = send(link, life, standing, words);
-    listen(life, standing);
+
+    // Takes the child's signals, and tells by what the session ends: a signal counts where the child would exit as if
+    // nothing had happened.
+    fn last_cause(&mut self, cause: Cause) -> Cause
+        ensures link { self.new.link ≡ self.old.link }
+        ensures hears { Hears 1 self.old.child self.new.child }
+        ensures attentive { IsAttentive self.new.child }
+        ensures last { IsLastCause self.new.child.standing cause result }
+    {
+        self.ear.listen();
+        match (cause.status(), self.ear.ends()) {
+            (Status::Code(0), Some(told)) => told,
+            _ => cause,
+        }
+    }
+
+    // Says the last words. A Kill breaks them off, a fault of the link is passed over, and behind them the child takes its
+    // signals once more.
+    fn say_last(&mut self, words: &[u8])
+        ensures { SaysLast words.now (outside self.old.link [] self.old.child)
+            (outside self.new.link [] self.new.child) }
+    {
+        if words.is_empty() || self.ear.is_killed() {
+            return;
+        }
+        let _ = self.send(words);
+        self.ear.listen();
+    }
+
+    // By what the child exits where the session ended by this cause.
+    fn exit_by(&self, cause: Cause) -> Cause
+        ensures { result ≡ cond self.now.child.standing.kill Cause.Killed cause }
+    {
+        if self.ear.is_killed() {
+            Cause::Killed
+        } else {
+            cause
+        }
+    }
 }
 
 // Puts what is said last into the outbox, alone.
 fn put_last(outbox: &mut Outbox, decision: Cac, stage: Stage, cause: Cause)
     requires { 66048 ≤ outbox.old.capacity }
-    ensures { outbox.new.bytes ≡ bytes_of (last_of decision stage cause) }
+    ensures bytes { outbox.new.bytes ≡ bytes_of (last_of decision stage cause) }
+    ensures room { outbox.old.capacity ≤ outbox.new.capacity }
 {
     outbox.clear();
     if let Some(condition) = last_condition(decision, stage, cause) {

@@ -1,6 +1,6 @@
 //! The bytes that came in and weren't looked at yet, in room that was taken ahead.
 ghost use Rattle.std.specs.Prelude.{◌≡◌, ◌+◌, ◌<◌, ◌≤◌, [], IfOk, drop, take, length};
-ghost use Rattle.pm_session.specs.Exchange.{link_view, Reads};
+ghost use Rattle.pm_session.specs.Exchange.{link_view, HoldsReading, Reads};
 
 use pm_outside::{Got, Link};
 use std::alloc::{AllocError, Global};
@@ -59,7 +59,10 @@ impl Inbox {
     /// Reads bytes that came in, behind those that stand.
     pub fn read_from<L: Link>(&mut self, link: &mut L) -> Got
         requires { length self.old < 66048 }
-        ensures { Reads result self.old self.new
+        ensures reads { Reads result self.old self.new
+            (link_view (L.traffic link.old) (L.number link.old) (L.faults link.old))
+            (link_view (L.traffic link.new) (L.number link.new) (L.faults link.new)) }
+        ensures holds { HoldsReading result
             (link_view (L.traffic link.old) (L.number link.old) (L.faults link.old))
             (link_view (L.traffic link.new) (L.number link.new) (L.faults link.new)) }
     {

@@ -5,17 +5,21 @@
 //! are the definitions of `specs/Session` and `specs/Sent`.
 #![tactic(auto)]
 
-mod attention;
 mod close;
 mod converse;
+mod desk;
+mod ear;
 mod ending;
 mod inbox;
+mod laws;
 mod line;
+mod means;
 mod query;
 mod release;
-mod reply;
 mod session;
 mod startup;
 
 pub use ending::{Cause, MessageFault, Stage};
-pub use session::{Done, SessionConf, serve};
+pub use laws::each_query_is_answered;
+pub use means::Means;
+pub use session::{Admission, Done, SessionConf, serve};

@@ -1,86 +1,173 @@
 //! Reading from the client and sending to it. Before each read and each write the child takes its signals.
-ghost use Rattle.std.specs.Prelude.{◌≡◌, ◌<◌, MatchResult, IsTrue, length};
-ghost use Rattle.pm_life.specs.Attention.{attention, Hears, IsAttentive};
-ghost use Rattle.pm_session.specs.Exchange.{link_view, Sends, Receives, ReceivesNothing};
+ghost use Rattle.std.specs.Prelude.{◌≡◌, ◌<◌, ◌≤◌, ℕ, Bool, false, None, Some, IfErr, MatchResult, IsTrue, length, option_map};
+ghost use Rattle.pm_life.specs.Life.{HasNoCancel, IsUntried, asked_cancel, let_go};
+ghost use Rattle.pm_life.specs.Attention.{Hears, IsAttentive};
+ghost use Rattle.pm_session.specs.Attention.{ends_of};
+ghost use Rattle.pm_session.specs.Exchange.{link_view, Holds, Sends, Receives, ReceivesNothing};
 ghost use Rattle.pm_session.specs.Conversation.{ShowsCause, IsBreak};
+ghost use Rattle.pm_session.specs.Line.{MeetsGate};
+ghost use Rattle.pm_session.specs.Turns.{Comes, IsHeeded, IsSignal};
 
-use crate::attention::ends;
+use crate::ear::Ear;
 use crate::ending::Cause;
 use crate::inbox::Inbox;
-use pm_life::{Life, Standing, listen};
+use crate::means::Means;
+use pm_life::{GateNo, Life};
 use pm_outside::{Clock, Got, Link, Put};
+use std::marker::Model;
 use std::sync::Wait;
 
-/// Waits for bytes, and takes those that came, one or more. A signal that ends the session is heeded before each read.
-pub fn receive<R: Wait, L: Link, C: Clock, F: Life>(
-    rt: &R,
-    clock: &C,
-    link: &mut L,
-    life: &mut F,
-    standing: &mut Standing,
-    inbox: &mut Inbox,
-) -> Result<(), Cause>
-    requires attentive { IsAttentive (attention (F.told life.old) (F.child life.old) standing.old) }
-    requires room { length inbox.old < 66048 }
-    ensures came { MatchResult result (λ _. Receives inbox.old inbox.new
-        (link_view (L.traffic link.old) (L.number link.old) (L.faults link.old))
-        (link_view (L.traffic link.new) (L.number link.new) (L.faults link.new)))
-        (λ _. ReceivesNothing inbox.old inbox.new
-        (link_view (L.traffic link.old) (L.number link.old) (L.faults link.old))
-        (link_view (L.traffic link.new) (L.number link.new) (L.faults link.new))) }
-    ensures hears { Hears 1 (attention (F.told life.old) (F.child life.old) standing.old)
-        (attention (F.told life.new) (F.child life.new) standing.new) }
-    ensures cause { MatchResult result (λ _. Unit {0})
-        (λ cause. IsBreak cause × ShowsCause cause
-        (link_view (L.traffic link.old) (L.number link.old) (L.faults link.old))
-        (link_view (L.traffic link.new) (L.number link.new) (L.faults link.new))
-        (attention (F.told life.new) (F.child life.new) standing.new)) }
-{
-    for _ in rt.forever() {
-        listen(life, standing);
-        if let Some(cause) = ends(*standing) {
-            return Err(cause);
-        }
-        match inbox.read_from(link) {
-            Got::Bytes(_) => return Ok(()),
-            Got::NotYet => clock.pause(),
-            Got::End => return Err(Cause::LinkEnded),
-            Got::Failed => return Err(Cause::LinkFailed),
-        }
-    }
-    unreachable!()
+/// The link to the client, and what the child hears.
+pub struct Line<L: Link, F: Life> {
+    pub(crate) link: L,
+    pub(crate) ear: Ear<F>,
 }
 
-/// Sends all the bytes. A Kill breaks it off; any other signal stands until later.
-pub fn send<L: Link, F: Life>(
-    link: &mut L,
-    life: &mut F,
-    standing: &mut Standing,
-    bytes: &[u8],
-) -> Result<(), Cause>
-    requires { IsAttentive (attention (F.told life.old) (F.child life.old) standing.old) }
-    ensures sends { Sends result bytes.now (link_view (L.traffic link.old) (L.number link.old)
-        (L.faults link.old)) (link_view (L.traffic link.new) (L.number link.new)
-        (L.faults link.new)) }
-    ensures hears { Hears 0 (attention (F.told life.old) (F.child life.old) standing.old)
-        (attention (F.told life.new) (F.child life.new) standing.new) }
-    ensures cause { MatchResult result (λ _. Unit {0})
-        (λ cause. IsBreak cause × ShowsCause cause
-        (link_view (L.traffic link.old) (L.number link.old) (L.faults link.old))
-        (link_view (L.traffic link.new) (L.number link.new) (L.faults link.new))
-        (attention (F.told life.new) (F.child life.new) standing.new)) }
-    ensures kill { result ≡ Err Cause.Killed → IsTrue standing.new.kill }
-{
-    let mut rest = bytes;
-    while !rest.is_empty() {
-        listen(life, standing);
-        if standing.kill {
-            return Err(Cause::Killed);
-        }
-        match link.write(rest) {
-            Put::Count(count) => rest = &rest[count..],
-            Put::Failed => return Err(Cause::LinkFailed),
-        }
+impl<L: Link, F: Life> Model for Line<L, F> {
+    ghost use Rattle.pm_session.specs.Exchange.{link_view};
+    ghost use Rattle.pm_session.specs.Line.{LineView};
+
+    ghost Value = { LineView };
+
+    ghost view = { λ l. record { link = link_view (L.traffic l.link) (L.number l.link) (L.faults l.link); child = l.ear } };
+}
+
+impl<L: Link, F: Life> Line<L, F> {
+    pub fn new(link: L, ear: Ear<F>) -> Line<L, F>
+        ensures link { result.link ≡ link_view (L.traffic link) (L.number link) (L.faults link) }
+        ensures child { result.child ≡ ear }
+    {
+        Line { link, ear }
     }
-    Ok(())
+
+    /// Sends all the bytes. A Kill breaks it off; any other signal stands until later.
+    pub fn send(&mut self, bytes: &[u8]) -> Result<(), Cause>
+        ensures sends { Sends result bytes.now self.old.link self.new.link }
+        ensures hears { Hears 0 self.old.child self.new.child }
+        ensures cause { MatchResult result (λ _. Unit {0}) (λ cause. IsBreak cause
+            × ShowsCause cause self.old.link self.new.link self.new.child) }
+        ensures kill { result ≡ Err Cause.Killed → IsTrue self.new.child.standing.kill }
+        ensures holds { (ended : Bool) → Holds ended result self.old.link self.new.link }
+    {
+        let mut rest = bytes;
+        while !rest.is_empty() {
+            self.ear.listen();
+            if self.ear.is_killed() {
+                return Err(Cause::Killed);
+            }
+            match self.link.write(rest) {
+                Put::Count(count) => rest = &rest[count..],
+                Put::Failed => return Err(Cause::LinkFailed),
+            }
+        }
+        Ok(())
+    }
+
+    /// Waits for bytes, and takes those that came, one or more. A signal that ends the session is heeded before each read.
+    pub fn receive<R: Wait, C: Clock>(
+        &mut self,
+        means: &Means<'_, R, C>,
+        inbox: &mut Inbox,
+    ) -> Result<(), Cause>
+        requires room { length inbox.old < 66048 }
+        ensures came { MatchResult result
+            (λ _. Receives inbox.old inbox.new self.old.link self.new.link)
+            (λ _. ReceivesNothing inbox.old inbox.new self.old.link self.new.link) }
+        ensures hears { Hears 1 self.old.child self.new.child }
+        ensures cause { MatchResult result (λ _. Unit {0}) (λ cause. IsBreak cause
+            × ShowsCause cause self.old.link self.new.link self.new.child) }
+        ensures holds { Holds false result self.old.link self.new.link }
+    {
+        for _ in means.rt.forever() {
+            self.ear.listen();
+            if let Some(cause) = self.ear.ends() {
+                return Err(cause);
+            }
+            match inbox.read_from(&mut self.link) {
+                Got::Bytes(_) => return Ok(()),
+                Got::NotYet => means.clock.pause(),
+                Got::End => return Err(Cause::LinkEnded),
+                Got::Failed => return Err(Cause::LinkFailed),
+            }
+        }
+        unreachable!()
+    }
+
+    /// Waits until so many bytes are there. Where that is broken off, those that are there are passed over.
+    pub fn await_bytes<R: Wait, C: Clock>(
+        &mut self,
+        means: &Means<'_, R, C>,
+        inbox: &mut Inbox,
+        wanted: usize,
+    ) -> Result<(), Cause>
+        requires room { wanted ≤ 66048 }
+        ensures comes { Comes wanted result inbox.old inbox.new self.old.link self.new.link }
+        ensures hears { Hears 0 self.old.child self.new.child }
+        ensures cause { IfErr result (λ cause. ShowsCause cause self.old.link self.new.link
+            self.new.child) }
+        ensures holds { Holds false result self.old.link self.new.link }
+    {
+        while inbox.unread().len() < wanted {
+            if let Err(cause) = self.receive(means, inbox) {
+                let count = inbox.unread().len();
+                inbox.pass(count);
+                return Err(cause);
+            }
+        }
+        Ok(())
+    }
+}
+
+// What the child hears, with no word on the link.
+impl<L: Link, F: Life> Line<L, F> {
+    /// As [`Ear::pid`].
+    pub fn pid(&self) -> u32
+        ensures { result ≡ self.now.child.child.pid }
+    {
+        self.ear.pid()
+    }
+
+    /// As [`Ear::heed`].
+    pub fn heed(&mut self) -> Result<(), Cause>
+        ensures link { self.new.link ≡ self.old.link }
+        ensures hears { Hears 1 self.old.child self.new.child }
+        ensures attentive { IsAttentive self.new.child }
+        ensures ends { MatchResult result (λ _. ends_of self.new.child.standing ≡ None)
+            (λ cause. ends_of self.new.child.standing ≡ Some cause) }
+        ensures stops { IfErr result (λ cause. IsSignal cause × IsHeeded cause self.new.child) }
+    {
+        self.ear.heed()
+    }
+
+    /// As [`Ear::attach`].
+    pub fn attach(&mut self) -> Result<u32, GateNo>
+        requires free { self.old.child.child.attached ≡ None }
+        requires may { ¬ (IsTrue self.old.child.child.is_dead_end) }
+        requires once { IsUntried self.old.child.told }
+        ensures link { self.new.link ≡ self.old.link }
+        ensures meets { MeetsGate result self.old.child self.new.child }
+    {
+        self.ear.attach()
+    }
+
+    /// As [`Ear::cancel`].
+    pub fn cancel(&mut self, pid: u32, key: u32)
+        requires { HasNoCancel self.old.child.told }
+        ensures link { self.new.link ≡ self.old.link }
+        ensures told { self.new.child.told ≡ option_map (asked_cancel pid key) self.old.child.told }
+        ensures child { self.new.child.child ≡ self.old.child.child }
+        ensures standing { self.new.child.standing ≡ self.old.child.standing }
+    {
+        self.ear.cancel(pid, key);
+    }
+
+    /// As [`Ear::detach`].
+    pub fn detach(&mut self)
+        requires { (generation : ℕ) × (self.old.child.child.attached ≡ Some generation) }
+        ensures link { self.new.link ≡ self.old.link }
+        ensures child { self.new.child.child ≡ let_go self.old.child.child }
+        ensures told { self.new.child.told ≡ self.old.child.told }
+    {
+        self.ear.detach();
+    }
 }

@@ -4,16 +4,18 @@ ghost use Rattle.pm_sql.specs.Faults.{IsFaultOf};
 ghost use Rattle.pm_query.specs.declared.book.BookEntry.{BookEntry};
 ghost use Rattle.pm_query.specs.Calls.{user_of};
 ghost use Rattle.pm_wire.specs.Pieces.{HasNoZero};
-ghost use Rattle.pm_life.specs.Attention.{attention, Hears, IsAttentive};
+ghost use Rattle.pm_life.specs.Attention.{Hears};
 ghost use Rattle.pm_life.specs.Life.{Told};
-ghost use Rattle.pm_session.specs.Session.{TurnNotes};
+ghost use Rattle.pm_session.specs.Session.{HasSleptFor, Sleeps, TurnNotes};
 ghost use Rattle.pm_session.specs.Turns.{AnswerNotes, ScriptNotes, CanRefuseRun, refusal_of, turn_of, IsFit, FitsScript, IsHeeded, SleepGoes};
 
-use crate::attention::ends;
+use crate::ear::Ear;
 use crate::ending::Cause;
-use crate::release::{Answer, release};
-use pm_life::{Life, Standing, listen};
-use pm_outside::Clock;
+use crate::line::Line;
+use crate::means::Means;
+use crate::release::Answer;
+use pm_life::Life;
+use pm_outside::{Clock, Link};
 use pm_query::{Store, StoreNo};
 use pm_sql::{Script, SqlFault, fault_text, parse};
 use std::alloc::Global;
@@ -26,40 +28,142 @@ pub(crate) enum Slept {
     Cancelled,
 }
 
-/// Answers a query. A cancel and a Terminate are heeded until its run, a Kill and a Quit until its release.
-pub(crate) fn answer_to<R: Wait, S: Store, C: Clock, F: Life>(
-    rt: &R,
-    alloc: Global,
-    clock: &C,
-    life: &mut F,
-    standing: &mut Standing,
-    store: &mut S,
-    pass: &mut S::Pass,
-    text: &[u8],
-) -> Result<Answer, Cause>
-    requires admits { S.admits store.old pass.old }
-    requires attentive { IsAttentive (attention (F.told life.old) (F.child life.old) standing.old) }
-    requires text { HasNoZero text.now × (length text.now ≤ 65536) }
-    ensures notes { (entries : List BookEntry) × S.notes entries store.old store.new
-        × AnswerNotes (user_of (S.stamp store.old) (S.view pass.old)) text.now result entries }
-    ensures fit { IfOk result (λ answer. IsFit text.now answer (F.told life.old)
-        (F.told life.new)) }
-    ensures admits { S.admits store.new pass.new }
-    ensures user { user_of (S.stamp store.new) (S.view pass.new) ≡ user_of (S.stamp store.old)
-        (S.view pass.old) }
-    ensures hears { Hears 0 (attention (F.told life.old) (F.child life.old) standing.old)
-        (attention (F.told life.new) (F.child life.new) standing.new) }
-    ensures heeded { IfErr result (λ cause. IsHeeded cause
-        (attention (F.told life.new) (F.child life.new) standing.new)) }
-{
-    // A cancel that was taken before this query isn't for it.
-    standing.cancel = false;
-    let Ok(text) = str::from_utf8(text) else {
-        return Ok(Answer::NotUtf8);
-    };
-    match parse(alloc, text) {
-        Ok(script) => script_answer(rt, clock, life, standing, store, pass, &script),
-        Err(fault) => Ok(faulted(alloc, text, fault)),
+impl<L: Link, F: Life> Line<L, F> {
+    /// As [`Ear::answer_to`], with no word on the link.
+    pub(crate) fn answer_to<R: Wait, S: Store, C: Clock>(
+        &mut self,
+        means: &Means<'_, R, C>,
+        store: &mut S,
+        pass: &mut S::Pass,
+        text: &[u8],
+    ) -> Result<Answer, Cause>
+        requires admits { S.admits store.old pass.old }
+        requires text { HasNoZero text.now × (length text.now ≤ 65536) }
+        ensures notes { (entries : List BookEntry) × S.notes entries store.old store.new
+            × AnswerNotes (user_of (S.stamp store.old) (S.view pass.old)) text.now result entries }
+        ensures fit { IfOk result (λ answer. IsFit text.now answer self.old.child.told
+            self.new.child.told) }
+        ensures slept { IfOk result (λ answer. Sleeps (C.gives means.now.clock.now) text.now
+            (turn_of answer)) }
+        ensures admits { S.admits store.new pass.new }
+        ensures user { user_of (S.stamp store.new) (S.view pass.new) ≡ user_of (S.stamp store.old)
+            (S.view pass.old) }
+        ensures link { self.new.link ≡ self.old.link }
+        ensures hears { Hears 0 self.old.child self.new.child }
+        ensures heeded { IfErr result (λ cause. IsHeeded cause self.new.child) }
+    {
+        self.ear.answer_to(means, store, pass, text)
+    }
+}
+
+impl<F: Life> Ear<F> {
+    /// Answers a query. A cancel and a Terminate are heeded until its run, a Kill and a Quit until its release.
+    pub(crate) fn answer_to<R: Wait, S: Store, C: Clock>(
+        &mut self,
+        means: &Means<'_, R, C>,
+        store: &mut S,
+        pass: &mut S::Pass,
+        text: &[u8],
+    ) -> Result<Answer, Cause>
+        requires admits { S.admits store.old pass.old }
+        requires text { HasNoZero text.now × (length text.now ≤ 65536) }
+        ensures notes { (entries : List BookEntry) × S.notes entries store.old store.new
+            × AnswerNotes (user_of (S.stamp store.old) (S.view pass.old)) text.now result entries }
+        ensures fit { IfOk result (λ answer. IsFit text.now answer self.old.told self.new.told) }
+        ensures slept { IfOk result (λ answer. Sleeps (C.gives means.now.clock.now) text.now
+            (turn_of answer)) }
+        ensures admits { S.admits store.new pass.new }
+        ensures user { user_of (S.stamp store.new) (S.view pass.new) ≡ user_of (S.stamp store.old)
+            (S.view pass.old) }
+        ensures hears { Hears 0 self.old self.new }
+        ensures heeded { IfErr result (λ cause. IsHeeded cause self.new) }
+    {
+        self.drop_cancel();
+        let Ok(text) = str::from_utf8(text) else {
+            return Ok(Answer::NotUtf8);
+        };
+        match parse(means.alloc, text) {
+            Ok(script) => self.script_answer(means, store, pass, &script),
+            Err(fault) => Ok(faulted(means.alloc, text, fault)),
+        }
+    }
+
+    // The answer to a script.
+    fn script_answer<R: Wait, S: Store, C: Clock>(
+        &mut self,
+        means: &Means<'_, R, C>,
+        store: &mut S,
+        pass: &mut S::Pass,
+        script: &Script,
+    ) -> Result<Answer, Cause>
+        requires admits { S.admits store.old pass.old }
+        requires idle { self.old.standing.cancel ≡ false }
+        ensures notes { (entries : List BookEntry) × S.notes entries store.old store.new
+            × ScriptNotes (user_of (S.stamp store.old) (S.view pass.old)) script.now result entries }
+        ensures fit { IfOk result (FitsScript script.now self.old.told self.new.told) }
+        ensures slept { IfOk result (λ answer. HasSleptFor (C.gives means.now.clock.now)
+            (turn_of answer) script.now) }
+        ensures admits { S.admits store.new pass.new }
+        ensures user { user_of (S.stamp store.new) (S.view pass.new) ≡ user_of (S.stamp store.old)
+            (S.view pass.old) }
+        ensures hears { Hears 0 self.old self.new }
+        ensures heeded { IfErr result (λ cause. IsHeeded cause self.new) }
+    {
+        match self.sleep(means, script.sleep_seconds())? {
+            Slept::Cancelled => Ok(Answer::Cancelled),
+            Slept::Whole => self.run(means, store, pass, script),
+        }
+    }
+
+    // Sleeps so many seconds. It asks for signals once at least: nothing of the query is noted yet.
+    fn sleep<R: Wait, C: Clock>(
+        &mut self,
+        means: &Means<'_, R, C>,
+        seconds: u64,
+    ) -> Result<Slept, Cause>
+        requires idle { self.old.standing.cancel ≡ false }
+        ensures goes { SleepGoes (C.gives means.now.clock.now) seconds result self.old self.new }
+        ensures hears { Hears 1 self.old self.new }
+    {
+        let end = means
+            .clock
+            .now()
+            .saturating_add(seconds.saturating_mul(1000));
+        for _ in means.rt.forever() {
+            self.heed()?;
+            if self.is_cancelled() {
+                return Ok(Slept::Cancelled);
+            }
+            if end <= means.clock.now() {
+                return Ok(Slept::Whole);
+            }
+            means.clock.pause();
+        }
+        unreachable!()
+    }
+
+    // Runs a script, and waits for the release of its reply.
+    fn run<R: Wait, S: Store, C: Clock>(
+        &mut self,
+        means: &Means<'_, R, C>,
+        store: &mut S,
+        pass: &mut S::Pass,
+        script: &Script,
+    ) -> Result<Answer, Cause>
+        requires admits { S.admits store.old pass.old }
+        ensures notes { (entries : List BookEntry) × S.notes entries store.old store.new
+            × ScriptNotes (user_of (S.stamp store.old) (S.view pass.old)) script.now result entries }
+        ensures fit { IfOk result (FitsScript script.now self.old.told self.new.told) }
+        ensures admits { S.admits store.new pass.new }
+        ensures user { user_of (S.stamp store.new) (S.view pass.new) ≡ user_of (S.stamp store.old)
+            (S.view pass.old) }
+        ensures hears { Hears 0 self.old self.new }
+        ensures heeded { IfErr result (λ cause. IsHeeded cause self.new) }
+    {
+        match store.run(pass, script) {
+            Ok(staged) => self.release(means, store, pass, staged),
+            Err(no) => refusal_of(no),
+        }
     }
 }
 
@@ -76,97 +180,6 @@ fn faulted(alloc: Global, text: &str, fault: SqlFault) -> Answer
     match fault_text(alloc, text, &fault) {
         Ok(message) => Answer::Faulted { fault, message },
         Err(_) => Answer::Memory,
-    }
-}
-
-// The answer to a script.
-fn script_answer<R: Wait, S: Store, C: Clock, F: Life>(
-    rt: &R,
-    clock: &C,
-    life: &mut F,
-    standing: &mut Standing,
-    store: &mut S,
-    pass: &mut S::Pass,
-    script: &Script,
-) -> Result<Answer, Cause>
-    requires admits { S.admits store.old pass.old }
-    requires attentive { IsAttentive (attention (F.told life.old) (F.child life.old) standing.old) }
-    requires idle { standing.old.cancel ≡ false }
-    ensures notes { (entries : List BookEntry) × S.notes entries store.old store.new
-        × ScriptNotes (user_of (S.stamp store.old) (S.view pass.old)) script.now result entries }
-    ensures fit { IfOk result (FitsScript script.now (F.told life.old) (F.told life.new)) }
-    ensures admits { S.admits store.new pass.new }
-    ensures user { user_of (S.stamp store.new) (S.view pass.new) ≡ user_of (S.stamp store.old)
-        (S.view pass.old) }
-    ensures hears { Hears 0 (attention (F.told life.old) (F.child life.old) standing.old)
-        (attention (F.told life.new) (F.child life.new) standing.new) }
-    ensures heeded { IfErr result (λ cause. IsHeeded cause
-        (attention (F.told life.new) (F.child life.new) standing.new)) }
-{
-    match sleep(rt, clock, life, standing, script.sleep_seconds())? {
-        Slept::Cancelled => Ok(Answer::Cancelled),
-        Slept::Whole => run(rt, life, standing, store, pass, script),
-    }
-}
-
-// Sleeps so many seconds. It asks for signals once at least: nothing of the query is noted yet.
-fn sleep<R: Wait, C: Clock, F: Life>(
-    rt: &R,
-    clock: &C,
-    life: &mut F,
-    standing: &mut Standing,
-    seconds: u64,
-) -> Result<Slept, Cause>
-    requires attentive { IsAttentive (attention (F.told life.old) (F.child life.old) standing.old) }
-    requires idle { standing.old.cancel ≡ false }
-    ensures goes { SleepGoes (C.gives clock.now) seconds result
-        (attention (F.told life.old) (F.child life.old) standing.old)
-        (attention (F.told life.new) (F.child life.new) standing.new) }
-    ensures hears { Hears 1 (attention (F.told life.old) (F.child life.old) standing.old)
-        (attention (F.told life.new) (F.child life.new) standing.new) }
-{
-    let end = clock.now().saturating_add(seconds.saturating_mul(1000));
-    for _ in rt.forever() {
-        listen(life, standing);
-        if let Some(cause) = ends(*standing) {
-            return Err(cause);
-        }
-        if standing.cancel {
-            return Ok(Slept::Cancelled);
-        }
-        if end <= clock.now() {
-            return Ok(Slept::Whole);
-        }
-        clock.pause();
-    }
-    unreachable!()
-}
-
-// Runs a script, and waits for the release of its reply.
-fn run<R: Wait, S: Store, F: Life>(
-    rt: &R,
-    life: &mut F,
-    standing: &mut Standing,
-    store: &mut S,
-    pass: &mut S::Pass,
-    script: &Script,
-) -> Result<Answer, Cause>
-    requires admits { S.admits store.old pass.old }
-    requires attentive { IsAttentive (attention (F.told life.old) (F.child life.old) standing.old) }
-    ensures notes { (entries : List BookEntry) × S.notes entries store.old store.new
-        × ScriptNotes (user_of (S.stamp store.old) (S.view pass.old)) script.now result entries }
-    ensures fit { IfOk result (FitsScript script.now (F.told life.old) (F.told life.new)) }
-    ensures admits { S.admits store.new pass.new }
-    ensures user { user_of (S.stamp store.new) (S.view pass.new) ≡ user_of (S.stamp store.old)
-        (S.view pass.old) }
-    ensures hears { Hears 0 (attention (F.told life.old) (F.child life.old) standing.old)
-        (attention (F.told life.new) (F.child life.new) standing.new) }
-    ensures heeded { IfErr result (λ cause. IsHeeded cause
-        (attention (F.told life.new) (F.child life.new) standing.new)) }
-{
-    match store.run(pass, script) {
-        Ok(staged) => release(rt, life, standing, store, pass, staged),
-        Err(no) => refusal_of(no),
     }
 }
 

@@ -2,19 +2,22 @@
 ghost use Rattle.std.specs.Prelude.{◌≡◌, List, IfErr};
 ghost use Rattle.pm_query.specs.declared.book.BookEntry.{BookEntry};
 ghost use Rattle.pm_query.specs.Calls.{user_of, HasReached};
-ghost use Rattle.pm_life.specs.Attention.{attention, Hears, IsAttentive};
-ghost use Rattle.pm_session.specs.Turns.{no_release, CanEndWait, WaitNotes, ReleaseNotes, IsHeeded, IsWaitEnd};
+ghost use Rattle.pm_life.specs.Attention.{Hears};
+ghost use Rattle.pm_session.specs.Turns.{no_release, CanEndWait, WaitNotes, ReleaseNotes, IsHeeded};
 
-use crate::attention::ends;
+use crate::ear::Ear;
 use crate::ending::Cause;
-use pm_life::{Life, Standing, listen};
+use crate::means::Means;
+use pm_life::Life;
+use pm_outside::Clock;
 use pm_query::{Reply, Seen, Staged, Store, StoreNo};
 use pm_rows::Text;
 use pm_sql::SqlFault;
 use std::marker::Model;
 use std::sync::Wait;
 
-/// A reply that may be sent: the log is flushed up to its front. Only [`release`] makes one. Contracts see it as the reply.
+/// A reply that may be sent: the log is flushed up to its front. Only [`Ear::release`] makes one. Contracts see it as the
+/// reply.
 #[derive(Debug, Drop)]
 pub(crate) struct Released {
     reply: Reply,
@@ -57,93 +60,66 @@ pub(crate) enum Awaited {
     NoMemory,
 }
 
-/// Waits until the log is flushed up to what was staged. The child takes its signals before it asks first, and again each
-/// time before it flushes the log itself. A Kill or a Quit ends the wait; other signals stand until later.
-pub(crate) fn release<R: Wait, S: Store, F: Life>(
-    rt: &R,
-    life: &mut F,
-    standing: &mut Standing,
-    store: &mut S,
-    pass: &mut S::Pass,
-    staged: Staged,
-) -> Result<Answer, Cause>
-    requires admits { S.admits store.old pass.old }
-    requires reached { HasReached (S.view pass.old) staged.front }
-    requires attentive { IsAttentive (attention (F.told life.old) (F.child life.old) standing.old) }
-    ensures notes { (entries : List BookEntry) × S.notes entries store.old store.new
-        × ReleaseNotes (user_of (S.stamp store.old) (S.view pass.old)) staged result entries }
-    ensures admits { S.admits store.new pass.new }
-    ensures user { user_of (S.stamp store.new) (S.view pass.new) ≡ user_of (S.stamp store.old)
-        (S.view pass.old) }
-    ensures hears { Hears 1 (attention (F.told life.old) (F.child life.old) standing.old)
-        (attention (F.told life.new) (F.child life.new) standing.new) }
-    ensures heeded { IfErr result (λ cause. IsHeeded cause
-        (attention (F.told life.new) (F.child life.new) standing.new)) }
-{
-    match await_flush(rt, life, standing, store, pass, staged.front)? {
-        Awaited::Flushed => {
-            let reply = staged.reply;
-            Ok(Answer::Ran(Released { reply }))
-        }
-        Awaited::NoMemory => Ok(Answer::Memory),
-    }
-}
-
-// Waits until the log is flushed up to a front.
-fn await_flush<R: Wait, S: Store, F: Life>(
-    rt: &R,
-    life: &mut F,
-    standing: &mut Standing,
-    store: &mut S,
-    pass: &mut S::Pass,
-    front: u64,
-) -> Result<Awaited, Cause>
-    requires admits { S.admits store.old pass.old }
-    requires reached { HasReached (S.view pass.old) front }
-    requires attentive { IsAttentive (attention (F.told life.old) (F.child life.old) standing.old) }
-    ensures notes { (entries : List BookEntry) × S.notes entries store.old store.new
-        × WaitNotes (user_of (S.stamp store.old) (S.view pass.old)) front result entries }
-    ensures admits { S.admits store.new pass.new }
-    ensures user { user_of (S.stamp store.new) (S.view pass.new) ≡ user_of (S.stamp store.old)
-        (S.view pass.old) }
-    ensures hears { Hears 1 (attention (F.told life.old) (F.child life.old) standing.old)
-        (attention (F.told life.new) (F.child life.new) standing.new) }
-    ensures heeded { IfErr result (λ cause. IsHeeded cause
-        (attention (F.told life.new) (F.child life.new) standing.new)) }
-{
-    for _ in rt.forever() {
-        heed(life, standing)?;
-        match store.seen(pass, front) {
-            Ok(Seen::Released) => return Ok(Awaited::Flushed),
-            Ok(Seen::NotFlushed { .. }) => {}
-            Err(no) => return no_release(no),
-        }
-        heed(life, standing)?;
-        if let Err(refusal) = store.flush(pass) {
-            return no_release(refusal);
+impl<F: Life> Ear<F> {
+    /// Waits until the log is flushed up to what was staged. The child takes its signals before it asks first, and again
+    /// each time before it flushes the log itself. A Kill or a Quit ends the wait; other signals stand until later.
+    pub(crate) fn release<R: Wait, S: Store, C: Clock>(
+        &mut self,
+        means: &Means<'_, R, C>,
+        store: &mut S,
+        pass: &mut S::Pass,
+        staged: Staged,
+    ) -> Result<Answer, Cause>
+        requires admits { S.admits store.old pass.old }
+        requires reached { HasReached (S.view pass.old) staged.front }
+        ensures notes { (entries : List BookEntry) × S.notes entries store.old store.new
+            × ReleaseNotes (user_of (S.stamp store.old) (S.view pass.old)) staged result entries }
+        ensures admits { S.admits store.new pass.new }
+        ensures user { user_of (S.stamp store.new) (S.view pass.new) ≡ user_of (S.stamp store.old)
+            (S.view pass.old) }
+        ensures hears { Hears 1 self.old self.new }
+        ensures heeded { IfErr result (λ cause. IsHeeded cause self.new) }
+    {
+        match self.await_flush(means, store, pass, staged.front)? {
+            Awaited::Flushed => {
+                let reply = staged.reply;
+                Ok(Answer::Ran(Released { reply }))
+            }
+            Awaited::NoMemory => Ok(Answer::Memory),
         }
     }
-    unreachable!()
-}
 
-// Takes the child's signals. A Kill or a Quit ends the wait; a Terminate stands until the reply was sent.
-fn heed<F: Life>(life: &mut F, standing: &mut Standing) -> Result<(), Cause>
-    requires { IsAttentive (attention (F.told life.old) (F.child life.old) standing.old) }
-    ensures hears { Hears 1 (attention (F.told life.old) (F.child life.old) standing.old)
-        (attention (F.told life.new) (F.child life.new) standing.new) }
-    ensures attentive { IsAttentive (attention (F.told life.new) (F.child life.new)
-        standing.new) }
-    ensures stops { IfErr result (λ cause. IsWaitEnd cause
-        × IsHeeded cause (attention (F.told life.new) (F.child life.new) standing.new)) }
-{
-    listen(life, standing);
-    let waiting = Standing {
-        terminate: false,
-        ..*standing
-    };
-    match ends(waiting) {
-        Some(cause) => Err(cause),
-        None => Ok(()),
+    // Waits until the log is flushed up to a front.
+    fn await_flush<R: Wait, S: Store, C: Clock>(
+        &mut self,
+        means: &Means<'_, R, C>,
+        store: &mut S,
+        pass: &mut S::Pass,
+        front: u64,
+    ) -> Result<Awaited, Cause>
+        requires admits { S.admits store.old pass.old }
+        requires reached { HasReached (S.view pass.old) front }
+        ensures notes { (entries : List BookEntry) × S.notes entries store.old store.new
+            × WaitNotes (user_of (S.stamp store.old) (S.view pass.old)) front result entries }
+        ensures admits { S.admits store.new pass.new }
+        ensures user { user_of (S.stamp store.new) (S.view pass.new) ≡ user_of (S.stamp store.old)
+            (S.view pass.old) }
+        ensures hears { Hears 1 self.old self.new }
+        ensures heeded { IfErr result (λ cause. IsHeeded cause self.new) }
+    {
+        for _ in means.rt.forever() {
+            self.heed_waiting()?;
+            match store.seen(pass, front) {
+                Ok(Seen::Released) => return Ok(Awaited::Flushed),
+                Ok(Seen::NotFlushed { .. }) => {}
+                Err(no) => return no_release(no),
+            }
+            self.heed_waiting()?;
+            if let Err(refusal) = store.flush(pass) {
+                return no_release(refusal);
+            }
+        }
+        unreachable!()
     }
 }
 

@@ -1,32 +1,32 @@
 //! One connection from its first byte to its end.
-ghost use Rattle.std.specs.Prelude.{◌≡◌, ◌≤◌, ◌+◌, ◌++◌, ℕ, List, [], length, None, Some, Ok, IfSome, IsTrue};
+ghost use Rattle.std.specs.Prelude.{◌≡◌, ◌≤◌, ◌+◌, ◌++◌, ℕ, false, List, [], length, None, Some, Ok, OnOk, IfOk, IfSome, MatchResult, IsTrue};
 ghost use Rattle.pm_wire.specs.Pieces.{HasNoZero};
 ghost use Rattle.pm_wire.specs.Backend.{spelling, Param};
 ghost use Rattle.pm_disk.specs.Cause.{Rose};
 ghost use Rattle.pm_outside.specs.Traffic.{IsFresh};
 ghost use Rattle.pm_query.specs.Calls.{newcomer, user_of};
 ghost use Rattle.pm_life.specs.Life.{nothing_told, IsUntried};
+ghost use Rattle.pm_life.specs.Attention.{Hears};
+ghost use Rattle.pm_session.specs.Exchange.{link_view, Holds, Sends};
+ghost use Rattle.pm_session.specs.Conversation.{IsBreak, ShowsCause};
 ghost use Rattle.pm_session.specs.Sent.{Turn, bytes_of, greeting};
-ghost use Rattle.pm_session.specs.Session.{Ending, status_of, between, IsSession, IsCaused, HasAskedFor, Heeds, HasCancelled, IsAttachedBehind, IsInside};
-ghost use Rattle.pm_life.specs.Attention.{attention, nothing_stands, IsAttentive};
-ghost use Rattle.pm_session.specs.Exchange.{link_view};
-ghost use Rattle.pm_session.specs.Conversation.{moment};
-ghost use Rattle.pm_session.specs.Entry.{Serves, IsTextBehind, IsTextInside, CanRefuseEntry, refusal_cause};
+ghost use Rattle.pm_session.specs.Session.{Ending, status_by, status_of, between, IsSession, IsCaused, HasAskedFor, Heeds, HasCancelled, IsAttachedBehind};
+ghost use Rattle.pm_session.specs.Entry.{Admitted, Connected, Entered, Inside, CanRefuseEntry, refusal_cause};
+ghost use Rattle.pm_session.specs.Turns.{at_desk};
 
-use crate::attention::ends;
-use crate::close::{close, close_short_of_memory};
-use crate::converse::converse;
+use crate::desk::Desk;
+use crate::ear::Ear;
 use crate::ending::{Cause, Stage};
 use crate::inbox::Inbox;
-use crate::line::send;
-use crate::startup::startup;
+use crate::line::Line;
+use crate::means::Means;
 use pm_admit::Cac;
 use pm_exit::Status;
-use pm_life::{Life, Standing, listen};
+use pm_life::Life;
 use pm_outside::{Clock, Link};
 use pm_query::{Store, StoreNo};
 use pm_wire::{Back, Outbox, back_messages_have_a_longest};
-use std::alloc::Global;
+use std::alloc::{AllocError, Global};
 use std::sync::Wait;
 
 /// How many bytes a part of an answer has at most: the longest message, which says a token of the client's query, and some more.
@@ -49,258 +49,227 @@ pub struct SessionConf {
     pub authentication_ms: u64,
 }
 
-/// How a connection's child exits, and its link.
+/// What the supervisor has decided of a connection, and the key by which its queries can be cancelled.
+#[derive(Clone, Copy, Debug, PartialEq, Eq)]
+pub struct Admission {
+    pub decision: Cac,
+    pub key: u32,
+}
+
+/// How a connection's child exits, and its link and its life, given back.
 #[derive(Debug)]
-pub struct Done<L> {
+pub struct Done<L, F> {
     pub status: Status,
     pub link: L,
+    pub life: F,
 }
 
 /// Serves one connection to its end.
 pub fn serve<R: Wait, L: Link, S: Store, C: Clock, F: Life>(
-    rt: &R,
-    alloc: Global,
+    means: &Means<'_, R, C>,
     link: L,
-    decision: Cac,
-    key: u32,
+    life: F,
+    admission: Admission,
     conf: &SessionConf,
     store: &mut S,
-    clock: &C,
-    life: &mut F,
-) -> Done<L>
+) -> Done<L, F>
     requires fresh { IsFresh (L.traffic link) }
-    requires free { (F.child life.old).attached ≡ None }
-    requires may { decision ≡ Cac.Ok → ¬ (IsTrue (F.child life.old).is_dead_end) }
-    requires untold { IfSome (F.told life.old) (λ told. told ≡ nothing_told) }
+    requires free { (F.child life).attached ≡ None }
+    requires may { admission.decision ≡ Cac.Ok → ¬ (IsTrue (F.child life).is_dead_end) }
+    requires untold { IfSome (F.told life) (λ told. told ≡ nothing_told) }
     // What came in, what went out and what this child noted are those of one session; its ending has its causes and its
     // status.
     ensures session { (ending : Ending) × (turns : List Turn) × (generation : ℕ)
         × (result.status ≡ status_of ending)
-        × IsSession S.notes decision (newcomer (S.stamp store.old) (F.child life.old).pid
-        generation) key turns ending (Rose (L.faults link) (L.faults result.link))
+        × IsSession S.notes admission.decision (newcomer (S.stamp store.old) (F.child life).pid
+        generation) admission.key turns ending (Rose (L.faults link) (L.faults result.link))
         (between (L.traffic result.link) store.old store.new)
-        × IsCaused ending turns generation decision (L.traffic result.link)
-        (Rose (L.faults link) (L.faults result.link)) (F.told life.new) conf.now.authentication_ms
-        (C.gives clock.now) × HasAskedFor turns (F.told life.old) (F.told life.new)
-        × IsAttachedBehind ending generation (F.child life.new)
-        × HasCancelled ending.cause (L.traffic result.link) (F.told life.new) }
+        × IsCaused ending turns generation admission.decision (L.traffic result.link)
+        (Rose (L.faults link) (L.faults result.link)) (F.told result.life)
+        conf.now.authentication_ms (C.gives means.now.clock.now)
+        × HasAskedFor turns (F.told life) (F.told result.life)
+        × IsAttachedBehind ending generation (F.child result.life)
+        × HasCancelled ending.cause (L.traffic result.link) (F.told result.life) }
     // What it was given it has heeded.
-    ensures heeds { Heeds result.status (F.told life.new) }
+    ensures heeds { Heeds result.status (F.told result.life) }
     ensures number { L.number result.link ≡ L.number link }
     ensures link_faults { L.faults link ≤ L.faults result.link }
 {
-    let mut link = link;
-    let exit = session(rt, alloc, clock, &mut link, life, decision, key, store);
-    Done {
-        status: exit.status(),
-        link,
+    let mut line = Line::new(link, Ear::new(life));
+    let Ok((mut inbox, outbox)) = buffers(means.alloc) else {
+        let exit = line.close_short_of_memory(admission.decision);
+        return line.done(exit);
+    };
+    let mut desk = Desk::new(line, outbox);
+    let exit = desk.session(means, &mut inbox, admission, store);
+    desk.into_line().done(exit)
+}
+
+// Room for what comes in and for what is said.
+fn buffers(alloc: Global) -> Result<(Inbox, Outbox), AllocError>
+    ensures { IfOk result (λ both. (both.0 ≡ []) × (both.1.bytes ≡ []) × (66048 ≤ both.1.capacity)) }
+{
+    let inbox = Inbox::new(alloc)?;
+    let outbox = Outbox::with_capacity(alloc, OUTBOX_BYTES)?;
+    Ok((inbox, outbox))
+}
+
+impl<L: Link, F: Life> Line<L, F> {
+    // The link and the life, given back, and how the child exits.
+    fn done(self, exit: Cause) -> Done<L, F>
+        ensures status { result.status ≡ status_by exit }
+        ensures link { self.link ≡ link_view (L.traffic result.link) (L.number result.link)
+            (L.faults result.link) }
+        ensures told { F.told result.life ≡ self.child.told }
+        ensures child { F.child result.life ≡ self.child.child }
+    {
+        let Line { link, ear } = self;
+        Done {
+            status: exit.status(),
+            link,
+            life: ear.into_life(),
+        }
     }
 }
 
-// The same for a link that is lent, by what the child exits.
-fn session<R: Wait, L: Link, S: Store, C: Clock, F: Life>(
-    rt: &R,
-    alloc: Global,
-    clock: &C,
-    link: &mut L,
-    life: &mut F,
-    decision: Cac,
-    key: u32,
-    store: &mut S,
-) -> Cause
-    requires fresh { IsFresh (L.traffic link.old) }
-    requires free { (F.child life.old).attached ≡ None }
-    requires may { decision ≡ Cac.Ok → ¬ (IsTrue (F.child life.old).is_dead_end) }
-    requires untold { IfSome (F.told life.old) (λ told. told ≡ nothing_told) }
-    ensures session { (ending : Ending) × (turns : List Turn) × (generation : ℕ)
-        × (ending.exit ≡ result) × IsSession S.notes decision
-        (newcomer (S.stamp store.old) (F.child life.old).pid generation) key turns ending
-        (Rose (L.faults link.old) (L.faults link.new))
-        (between (L.traffic link.new) store.old store.new)
-        × ((limit : ℕ) → IsCaused ending turns generation decision (L.traffic link.new)
-        (Rose (L.faults link.old) (L.faults link.new)) (F.told life.new) limit (C.gives clock.now))
-        × HasAskedFor turns (F.told life.old) (F.told life.new)
-        × IsAttachedBehind ending generation (F.child life.new)
-        × HasCancelled ending.cause (L.traffic link.new) (F.told life.new)
-        × Heeds (status_of ending) (F.told life.new) }
-    ensures number { L.number link.new ≡ L.number link.old }
-    ensures link_faults { L.faults link.old ≤ L.faults link.new }
-{
-    let mut standing = Standing::none();
-    let Ok(mut inbox) = Inbox::new(alloc) else {
-        return close_short_of_memory(link, life, &mut standing, decision);
-    };
-    let Ok(mut outbox) = Outbox::with_capacity(alloc, OUTBOX_BYTES) else {
-        return close_short_of_memory(link, life, &mut standing, decision);
-    };
-    match startup(rt, clock, link, life, &mut standing, &mut inbox) {
-        Ok(()) => admit(
-            rt,
-            alloc,
-            clock,
-            link,
-            life,
-            &mut standing,
-            &mut inbox,
-            &mut outbox,
-            decision,
-            key,
-            store,
-        ),
-        Err(cause) => close(
-            link,
-            life,
-            &mut standing,
-            &mut outbox,
-            decision,
-            Stage::Outside,
-            cause,
-        ),
+impl<L: Link, F: Life> Desk<L, F> {
+    // From its first byte on, by what the child exits.
+    fn session<R: Wait, S: Store, C: Clock>(
+        &mut self,
+        means: &Means<'_, R, C>,
+        inbox: &mut Inbox,
+        admission: Admission,
+        store: &mut S,
+    ) -> Cause
+        requires fresh { IsFresh self.old.link.traffic }
+        requires free { self.old.child.child.attached ≡ None }
+        requires may { admission.decision ≡ Cac.Ok → ¬ (IsTrue self.old.child.child.is_dead_end) }
+        requires untold { IfSome self.old.child.told (λ told. told ≡ nothing_told) }
+        requires unread { inbox.old ≡ [] }
+        requires empty { self.old.outbox.bytes ≡ [] }
+        ensures session { Connected S.notes (S.stamp store.old) admission
+            (C.gives means.now.clock.now) result (at_desk self.old inbox.old store.old)
+            (at_desk self.new inbox.new store.new) }
+        ensures number { self.new.link.number ≡ self.old.link.number }
+        ensures link_faults { self.old.link.faults ≤ self.new.link.faults }
+    {
+        match self.line.startup(means, inbox) {
+            Ok(()) => self.admit(means, inbox, admission, store),
+            Err(cause) => self.close(admission.decision, Stage::Outside, cause),
+        }
     }
-}
 
-// Behind the startup packet: the decision, and the gate.
-fn admit<R: Wait, L: Link, S: Store, C: Clock, F: Life>(
-    rt: &R,
-    alloc: Global,
-    clock: &C,
-    link: &mut L,
-    life: &mut F,
-    standing: &mut Standing,
-    inbox: &mut Inbox,
-    outbox: &mut Outbox,
-    decision: Cac,
-    key: u32,
-    store: &mut S,
-) -> Cause
-    requires free { (F.child life.old).attached ≡ None }
-    requires may { decision ≡ Cac.Ok → ¬ (IsTrue (F.child life.old).is_dead_end) }
-    requires untried { IsUntried (F.told life.old) }
-    requires attentive { IsAttentive (attention (F.told life.old) (F.child life.old) standing.old) }
-    requires empty { outbox.old.bytes ≡ [] }
-    requires room { 66048 ≤ outbox.old.capacity }
-    ensures serves { (ending : Ending) × (generation : ℕ) × (ending.exit ≡ result)
-        × IsAttachedBehind ending generation (F.child life.new)
-        × Serves S.notes (IsTextBehind decision
-        (newcomer (S.stamp store.old) (F.child life.old).pid generation) key) decision generation
-        (C.gives clock.now) ending (moment
-        (link_view (L.traffic link.old) (L.number link.old) (L.faults link.old)) inbox.old store.old
-        (attention (F.told life.old) (F.child life.old) standing.old))
-        (moment (link_view (L.traffic link.new) (L.number link.new) (L.faults link.new)) inbox.new
-        store.new (attention (F.told life.new) (F.child life.new) standing.new)) }
-{
-    let Cac::Ok = decision else {
-        return close(
-            link,
-            life,
-            standing,
-            outbox,
-            decision,
-            Stage::Outside,
-            Cause::DecisionRefused,
-        );
-    };
-    listen(life, standing);
-    if let Some(cause) = ends(*standing) {
-        return close(
-            link,
-            life,
-            standing,
-            outbox,
-            decision,
-            Stage::Outside,
-            cause,
-        );
-    }
-    match life.attach() {
-        Ok(generation) => {
-            let exit = attached(
-                rt, alloc, clock, link, life, standing, inbox, outbox, decision, key, store,
-                generation,
-            );
-            if exit.lets_go() {
-                life.detach();
+    // Behind the startup packet: the decision, and the gate.
+    fn admit<R: Wait, S: Store, C: Clock>(
+        &mut self,
+        means: &Means<'_, R, C>,
+        inbox: &mut Inbox,
+        admission: Admission,
+        store: &mut S,
+    ) -> Cause
+        requires free { self.old.child.child.attached ≡ None }
+        requires may { admission.decision ≡ Cac.Ok → ¬ (IsTrue self.old.child.child.is_dead_end) }
+        requires untried { IsUntried self.old.child.told }
+        requires empty { self.old.outbox.bytes ≡ [] }
+        ensures serves { Admitted S.notes (S.stamp store.old) admission
+            (C.gives means.now.clock.now) result (at_desk self.old inbox.old store.old)
+            (at_desk self.new inbox.new store.new) }
+    {
+        let Cac::Ok = admission.decision else {
+            return self.close(admission.decision, Stage::Outside, Cause::DecisionRefused);
+        };
+        if let Err(cause) = self.line.heed() {
+            return self.close(Cac::Ok, Stage::Outside, cause);
+        }
+        match self.line.attach() {
+            Ok(generation) => {
+                let exit = self.attached(means, inbox, admission.key, store, generation);
+                if exit.lets_go() {
+                    self.line.detach();
+                }
+                exit
             }
-            exit
+            Err(refusal) => self.close(Cac::Ok, Stage::Outside, Cause::GateRefused(refusal)),
         }
-        Err(refusal) => close(
-            link,
-            life,
-            standing,
-            outbox,
-            decision,
-            Stage::Outside,
-            Cause::GateRefused(refusal),
-        ),
     }
-}
 
-// Through the gate: the store.
-fn attached<R: Wait, L: Link, S: Store, C: Clock, F: Life>(
-    rt: &R,
-    alloc: Global,
-    clock: &C,
-    link: &mut L,
-    life: &mut F,
-    standing: &mut Standing,
-    inbox: &mut Inbox,
-    outbox: &mut Outbox,
-    decision: Cac,
-    key: u32,
-    store: &mut S,
-    generation: u32,
-) -> Cause
-    requires admitted { decision ≡ Cac.Ok }
-    requires met { IfSome (F.told life.old) (λ told. told.met ≡ Some (Ok generation)) }
-    requires attentive { IsAttentive (attention (F.told life.old) (F.child life.old) standing.old) }
-    requires empty { outbox.old.bytes ≡ [] }
-    requires room { 66048 ≤ outbox.old.capacity }
-    ensures serves { (ending : Ending) × (ending.exit ≡ result)
-        × Serves S.notes (IsTextBehind decision
-        (newcomer (S.stamp store.old) (F.child life.old).pid generation) key) decision generation
-        (C.gives clock.now) ending (moment
-        (link_view (L.traffic link.old) (L.number link.old) (L.faults link.old)) inbox.old store.old
-        (attention (F.told life.old) (F.child life.old) standing.old))
-        (moment (link_view (L.traffic link.new) (L.number link.new) (L.faults link.new)) inbox.new
-        store.new (attention (F.told life.new) (F.child life.new) standing.new))
-        × IsInside ending.stage }
-    ensures child { F.child life.new ≡ F.child life.old }
-{
-    listen(life, standing);
-    if let Some(cause) = ends(*standing) {
-        return close(
-            link,
-            life,
-            standing,
-            outbox,
-            decision,
-            Stage::Entering,
-            cause,
-        );
-    }
-    let pid = life.pid();
-    let mut pass = match store.enter(pid, generation) {
-        Ok(pass) => pass,
-        Err(no) => {
-            let cause = refusal_cause(no);
-            return close(
-                link,
-                life,
-                standing,
-                outbox,
-                decision,
-                Stage::Entering,
-                cause,
-            );
+    // Through the gate: the store.
+    fn attached<R: Wait, S: Store, C: Clock>(
+        &mut self,
+        means: &Means<'_, R, C>,
+        inbox: &mut Inbox,
+        key: u32,
+        store: &mut S,
+        generation: u32,
+    ) -> Cause
+        requires met { IfSome self.old.child.told (λ told. told.met ≡ Some (Ok generation)) }
+        requires empty { self.old.outbox.bytes ≡ [] }
+        ensures serves { Entered S.notes (S.stamp store.old) key generation
+            (C.gives means.now.clock.now) result (at_desk self.old inbox.old store.old)
+            (at_desk self.new inbox.new store.new) }
+        ensures child { self.new.child.child ≡ self.old.child.child }
+    {
+        if let Err(cause) = self.line.heed() {
+            return self.close(Cac::Ok, Stage::Entering, cause);
         }
-    };
-    let exit = entered(
-        rt, alloc, clock, link, life, standing, inbox, outbox, decision, key, store, pid, &mut pass,
-    );
-    if exit.lets_go() {
-        store.leave(pass);
+        let mut pass = match store.enter(self.line.pid(), generation) {
+            Ok(pass) => pass,
+            Err(no) => {
+                return self.close(Cac::Ok, Stage::Entering, refusal_cause(no));
+            }
+        };
+        let exit = self.entered(means, inbox, key, store, &mut pass);
+        if exit.lets_go() {
+            store.leave(pass);
+        }
+        exit
     }
-    exit
+
+    // In the store: the greeting, the queries, and the last words.
+    fn entered<R: Wait, S: Store, C: Clock>(
+        &mut self,
+        means: &Means<'_, R, C>,
+        inbox: &mut Inbox,
+        key: u32,
+        store: &mut S,
+        pass: &mut S::Pass,
+    ) -> Cause
+        requires admits { S.admits store.old pass.old }
+        requires pid { self.old.child.child.pid ≡ (S.view pass.old).pid }
+        requires met { IfSome self.old.child.told (λ told. told.met ≡ Some
+            (Ok (S.view pass.old).generation)) }
+        requires empty { self.old.outbox.bytes ≡ [] }
+        ensures serves { Inside S.notes (S.stamp store.old) (S.view pass.old) key
+            (C.gives means.now.clock.now) result (at_desk self.old inbox.old store.old)
+            (at_desk self.new inbox.new store.new) }
+        ensures child { self.new.child.child ≡ self.old.child.child }
+        ensures admits { S.admits store.new pass.new }
+        ensures user { user_of (S.stamp store.new) (S.view pass.new) ≡ user_of (S.stamp store.old)
+            (S.view pass.old) }
+    {
+        let cause = match self.greet(key) {
+            Ok(()) => self.converse(means, inbox, store, pass),
+            Err(cause) => cause,
+        };
+        self.close(Cac::Ok, Stage::Greeted, cause)
+    }
+
+    // Sends the greeting.
+    fn greet(&mut self, key: u32) -> Result<(), Cause>
+        requires empty { self.old.outbox.bytes ≡ [] }
+        ensures sends { Sends result (bytes_of (greeting self.old.child.child.pid key))
+            self.old.link self.new.link }
+        ensures hears { Hears 0 self.old.child self.new.child }
+        ensures cause { MatchResult result (λ _. Unit {0}) (λ cause. IsBreak cause
+            × ShowsCause cause self.old.link self.new.link self.new.child) }
+        ensures holds { Holds false result self.old.link self.new.link }
+        ensures empty { OnOk result (self.new.outbox.bytes ≡ []) }
+    {
+        put_greeting(&mut self.outbox, self.line.pid(), key);
+        self.line.send(self.outbox.as_slice())?;
+        self.outbox.clear();
+        Ok(())
+    }
 }
 
 // By what a session ends that the store doesn't let in.
@@ -317,66 +286,8 @@ fn refusal_cause(no: StoreNo) -> Cause
     }
 }
 
-// In the store: the greeting, the queries, and the last words.
-fn entered<R: Wait, L: Link, S: Store, C: Clock, F: Life>(
-    rt: &R,
-    alloc: Global,
-    clock: &C,
-    link: &mut L,
-    life: &mut F,
-    standing: &mut Standing,
-    inbox: &mut Inbox,
-    outbox: &mut Outbox,
-    decision: Cac,
-    key: u32,
-    store: &mut S,
-    pid: u32,
-    pass: &mut S::Pass,
-) -> Cause
-    requires admitted { decision ≡ Cac.Ok }
-    requires admits { S.admits store.old pass.old }
-    requires pid { pid ≡ (S.view pass.old).pid }
-    requires met { IfSome (F.told life.old) (λ told. told.met ≡ Some
-        (Ok (S.view pass.old).generation)) }
-    requires attentive { IsAttentive (attention (F.told life.old) (F.child life.old) standing.old) }
-    requires empty { outbox.old.bytes ≡ [] }
-    requires room { 66048 ≤ outbox.old.capacity }
-    ensures serves { (ending : Ending) × (ending.exit ≡ result)
-        × Serves S.notes (IsTextInside decision (user_of (S.stamp store.old) (S.view pass.old)) key)
-        decision (S.view pass.old).generation (C.gives clock.now) ending
-        (moment (link_view (L.traffic link.old) (L.number link.old) (L.faults link.old)) inbox.old
-        store.old (attention (F.told life.old) (F.child life.old) standing.old))
-        (moment (link_view (L.traffic link.new) (L.number link.new) (L.faults link.new)) inbox.new
-        store.new (attention (F.told life.new) (F.child life.new) standing.new))
-        × IsInside ending.stage }
-    ensures child { F.child life.new ≡ F.child life.old }
-    ensures admits { S.admits store.new pass.new }
-    ensures user { user_of (S.stamp store.new) (S.view pass.new) ≡ user_of (S.stamp store.old)
-        (S.view pass.old) }
-{
-    greet(outbox, pid, key);
-    let cause = match send(link, life, standing, outbox.as_slice()) {
-        Ok(()) => {
-            outbox.clear();
-            converse(
-                rt, alloc, clock, link, life, standing, inbox, outbox, store, pass,
-            )
-        }
-        Err(cause) => cause,
-    };
-    close(
-        link,
-        life,
-        standing,
-        outbox,
-        decision,
-        Stage::Greeted,
-        cause,
-    )
-}
-
 // Puts the greeting into the outbox: AuthenticationOk, the settings, the cancel key and ReadyForQuery.
-fn greet(outbox: &mut Outbox, pid: u32, key: u32)
+fn put_greeting(outbox: &mut Outbox, pid: u32, key: u32)
     requires empty { outbox.old.bytes ≡ [] }
     requires room { 66048 ≤ outbox.old.capacity }
     ensures bytes { outbox.new.bytes ≡ bytes_of (greeting pid key) }

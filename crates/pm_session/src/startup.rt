@@ -2,14 +2,13 @@
 ghost use Rattle.std.specs.Prelude.{◌≡◌, ℕ, List, [], Ok};
 ghost use Rattle.pm_startup.specs.Grammar.{content_of, FrontDecides};
 ghost use Rattle.pm_life.specs.Life.{HasNoCancel};
-ghost use Rattle.pm_life.specs.Attention.{attention, IsAttentive};
-ghost use Rattle.pm_session.specs.Exchange.{link_view};
 ghost use Rattle.pm_session.specs.Entry.{AsksFor, Enters, outside};
 
 use crate::ending::Cause;
 use crate::inbox::Inbox;
-use crate::line::{receive, send};
-use pm_life::{Life, Standing};
+use crate::line::Line;
+use crate::means::Means;
+use pm_life::Life;
 use pm_outside::{Clock, Link};
 use pm_startup::{Packet, Phase, Read, StartFault, Step, next, read};
 use std::sync::Wait;
@@ -32,48 +31,43 @@ enum Ask {
     Refused(StartFault),
 }
 
-/// Reads packets until one starts the session. Any other end of it is an error.
-pub fn startup<R: Wait, L: Link, C: Clock, F: Life>(
-    rt: &R,
-    clock: &C,
-    link: &mut L,
-    life: &mut F,
-    standing: &mut Standing,
-    inbox: &mut Inbox,
-) -> Result<(), Cause>
-    requires attentive { IsAttentive (attention (F.told life.old) (F.child life.old) standing.old) }
-    requires empty { inbox.old ≡ [] }
-    requires none { HasNoCancel (F.told life.old) }
-    ensures enters { Enters result (outside (link_view (L.traffic link.old) (L.number link.old)
-        (L.faults link.old)) inbox.old (attention (F.told life.old) (F.child life.old)
-        standing.old)) (outside (link_view (L.traffic link.new) (L.number link.new)
-        (L.faults link.new)) inbox.new (attention (F.told life.new) (F.child life.new)
-        standing.new)) }
-{
-    let mut phase = Phase {
-        ssl_used: false,
-        gss_used: false,
-    };
-    for _ in rt.forever() {
-        match asked_by(phase, inbox.unread()) {
-            Ask::Nothing => receive(rt, clock, link, life, standing, inbox)?,
-            Ask::Encryption { behind, used } => {
-                inbox.pass(used);
-                phase = behind;
-                send(link, life, standing, NO_ENCRYPTION)?;
+impl<L: Link, F: Life> Line<L, F> {
+    /// Reads packets until one starts the session. Any other end of it is an error.
+    pub(crate) fn startup<R: Wait, C: Clock>(
+        &mut self,
+        means: &Means<'_, R, C>,
+        inbox: &mut Inbox,
+    ) -> Result<(), Cause>
+        requires empty { inbox.old ≡ [] }
+        requires none { HasNoCancel self.old.child.told }
+        ensures enters { Enters result (outside self.old.link inbox.old self.old.child)
+            (outside self.new.link inbox.new self.new.child) }
+    {
+        let mut phase = Phase {
+            ssl_used: false,
+            gss_used: false,
+        };
+        for _ in means.rt.forever() {
+            match asked_by(phase, inbox.unread()) {
+                Ask::Nothing => self.receive(means, inbox)?,
+                Ask::Encryption { behind, used } => {
+                    inbox.pass(used);
+                    phase = behind;
+                    self.send(NO_ENCRYPTION)?;
+                }
+                Ask::Start { used } => {
+                    inbox.pass(used);
+                    return Ok(());
+                }
+                Ask::Cancel { pid, key } => {
+                    self.cancel(pid, key);
+                    return Err(Cause::Cancelling);
+                }
+                Ask::Refused(fault) => return Err(Cause::PacketRefused(fault)),
             }
-            Ask::Start { used } => {
-                inbox.pass(used);
-                return Ok(());
-            }
-            Ask::Cancel { pid, key } => {
-                life.cancel(pid, key);
-                return Err(Cause::Cancelling);
-            }
-            Ask::Refused(fault) => return Err(Cause::PacketRefused(fault)),
         }
+        unreachable!()
     }
-    unreachable!()
 }
 
 // What the bytes ask for in this phase.

@@ -9,7 +9,7 @@ use pm_life::{Cancelled, GateNo, Life, ScriptedLife, Signals};
 use pm_outside::{Chronicle, Clock, Kept, LinkScript, MemClock, MemLink};
 use pm_query::{BookEntry, Store};
 use pm_query_tests::{GENERATION, MemStore};
-use pm_session::{Done, SessionConf, serve};
+use pm_session::{Admission, Done, Means, SessionConf, serve};
 use std::alloc::{AllocError, Global};
 use std::process::Abort;
 use std::sync::Wait;
@@ -101,22 +101,17 @@ pub fn serve_case<R: Wait, C: Clock>(
     let link = link_of(alloc, case, per_call)?;
     let mut script = Vec::new(alloc);
     script.extend_from_slice(case.signals)?;
-    let mut life = ScriptedLife::new(PID, false, script, case.gate, Cancelled::NoSuchPid);
+    let life = ScriptedLife::new(PID, false, script, case.gate, Cancelled::NoSuchPid);
     let mut store = MemStore::new(alloc, Kept::<BookEntry>::new(alloc));
     let conf = SessionConf {
         authentication_ms: 60_000,
     };
-    let Done { status, link } = serve(
-        rt,
-        alloc,
-        link,
-        case.decision,
-        KEY,
-        &conf,
-        &mut store,
-        clock,
-        &mut life,
-    );
+    let means = Means { rt, alloc, clock };
+    let admission = Admission {
+        decision: case.decision,
+        key: KEY,
+    };
+    let Done { status, link, life } = serve(&means, link, life, admission, &conf, &mut store);
     Ok(Outcome {
         status,
         sent: joined(alloc, &[link.sent()])?,

@@ -7,8 +7,8 @@ use Rattle.pm_session.proofs.inbox.Inbox.read_from.Goals as goal
 take_front : (n : ℕ) (xs ys : List ℕ) → n ≡ length xs → take n (xs ++ ys) ≡ xs
 take_front n xs ys is = ap (λ (m : ℕ). take m (xs ++ ys)) is ∙ take-append_seam xs ys
 
-pub returns-in-Bytes : goal.returns-in-Bytes
-returns-in-Bytes g c =
+pub returns-in-Bytes-clause-reads : goal.returns-in-Bytes-clause-reads
+returns-in-Bytes-clause-reads g c =
     let start = c.room_behind-start.result.0 in
     let end = c.room_behind-start.result.1 in
     let whole = c.deref_mut-2.result.now in

@@ -1,0 +1,49 @@
+use Rattle.std.proofs.Common.{◌≡◌, ◌∙◌, ◌++◌, ◌<◌, ℕ, List, length, take, drop, ap, arith, refl, subst, sym, take-append-drop}
+use Rattle.pm_wire.specs.Frontend.{front_message, IsFront, IsUndecided, BeginsBadly}
+use Rattle.pm_wire.specs.declared.take.Take.TheVariants.{Bad}
+use Rattle.pm_wire.specs.declared.take.WireFault.{WireFault}
+use Rattle.std.proofs.lemmas.Result.{err_from_is_err_and}
+use Rattle.pm_session.proofs.Conversing.{message_taken}
+use Rattle.pm_session.proofs.Steps.{stops_here, waited, wanted_fits, bad_length, length_refused}
+use Rattle.pm_session.proofs.desk.Desk.step.Goals as goal
+
+pub returns-in_err-heed-clause-talks : goal.returns-in_err-heed-clause-talks
+returns-in_err-heed-clause-talks g c =
+    let p = err_from_is_err_and c.from_residual.result c.from_residual.ensures.1 in
+    rw (p.1, p.2, ← c.self.view_is, c.heed.ensures.link) (stops_here g.S.Store.notes (g.C.Clock.gives c.args.means.now.clock.now) _ c.in_err-heed.field-0.0 _ _ _ _ _ c.in_err-heed.ensures.stops.0 (g.met.S.Store.at_rest _) c.heed.ensures.hears)
+
+pub returns-in_err-heed-clause-cause : goal.returns-in_err-heed-clause-cause
+returns-in_err-heed-clause-cause g c =
+    let p = err_from_is_err_and c.from_residual.result c.from_residual.ensures.1 in
+    rw (p.1, p.2) (c.in_err-heed.ensures.stops.1 _ _)
+
+pub await_bytes-requires : goal.await_bytes-requires
+await_bytes-requires g c = record { room = wanted_fits c.unread.result.now c.in-Short.wanted ((c.in-Short.ensures.short c.in-Short.wanted).0 refl) }
+
+pub returns-in-Short-clause-talks : goal.returns-in-Short-clause-talks
+returns-in-Short-clause-talks g c =
+    let undecided = subst (λ (l : List ℕ). (more : List ℕ) → length (l ++ more) < c.in-Short.wanted → IsUndecided (l ++ more)) c.unread.ensures (λ more few. c.in-Short.ensures.least c.in-Short.wanted more refl few) in
+    let comes = rw c.heed.ensures.link at c.await_bytes.ensures.comes in
+    rw (← c.self.view_is) (waited g.S.Store.notes (g.C.Clock.gives c.args.means.now.clock.now) _ c.in-Short.wanted c.await_bytes.result _ _ _ _ _ _ _ _ (g.met.S.Store.at_rest _) c.heed.ensures.hears c.await_bytes.ensures.hears comes undecided)
+
+pub pass-requires : goal.pass-requires
+pass-requires g c =
+    let begins : BeginsBadly c.unread.result.now c.in-Bad-BadLength.seen =
+    (c.read.ensures.bad_length c.in-Bad-BadLength.seen).0 (c.in-Bad-BadLength.is ∙ ap (λ (fault : WireFault). Bad fault) c.in-Bad-BadLength.field-0-is) in
+    let here = subst (λ (l : List ℕ). BeginsBadly l c.in-Bad-BadLength.seen) c.unread.ensures begins in
+    bad_length c.args.inbox.now c.in-Bad-BadLength.seen here
+
+pub returns-in-Bad-BadLength-clause-talks : goal.returns-in-Bad-BadLength-clause-talks
+returns-in-Bad-BadLength-clause-talks g c =
+    let begins : BeginsBadly c.unread.result.now c.in-Bad-BadLength.seen =
+    (c.read.ensures.bad_length c.in-Bad-BadLength.seen).0 (c.in-Bad-BadLength.is ∙ ap (λ (fault : WireFault). Bad fault) c.in-Bad-BadLength.field-0-is) in
+    let here = subst (λ (l : List ℕ). BeginsBadly l c.in-Bad-BadLength.seen) c.unread.ensures begins in
+    rw (c.in-Bad-BadLength.seen-is, c.pass.ensures, ← c.self.view_is, c.heed.ensures.link) (length_refused g.S.Store.notes (g.C.Clock.gives c.args.means.now.clock.now) _ c.in-Bad-BadLength.seen c.args.inbox.now _ _ _ _ (g.met.S.Store.at_rest _) c.heed.ensures.hears here)
+
+pub returns-in-Whole-clause-talks : goal.returns-in-Whole-clause-talks
+returns-in-Whole-clause-talks g c =
+    let front : IsFront (take c.in-Whole.used c.args.inbox.now) (front_message c.in-Whole.value) =
+    subst (λ (l : List ℕ). IsFront (take c.in-Whole.used l) (front_message c.in-Whole.value)) c.unread.ensures c.in-Whole.ensures.whole.1 in
+    let goes = rw c.heed.ensures.link at c.take_message-goes.ensures.goes in
+    rw (c.pass-in-Whole.ensures, ← c.self.view_is) (message_taken g.S.Store.notes (g.C.Clock.gives c.args.means.now.clock.now) _ (front_message c.in-Whole.value) c.take_message-goes.result (take c.in-Whole.used c.args.inbox.now) (drop c.in-Whole.used c.args.inbox.now) c.args.inbox.now _ _ _ _ _ _ _
+    (sym (take-append-drop c.in-Whole.used c.args.inbox.now)) front c.heed.ensures.hears c.heed.ensures.attentive c.in_ok-heed.ensures.ends (g.met.S.Store.at_rest _) goes)

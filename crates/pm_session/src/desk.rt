@@ -1,0 +1,262 @@
+//! What a client is sent for a query. What is said stands in the outbox until that is full, or the query's piece is at its
+//! end. Where sending is broken off, a front of it went out.
+ghost use Rattle.std.specs.Prelude.{◌≡◌, ◌≤◌, ◌<◌, ◌^◌, ◌++◌, ◌∷◌, [], All, length, map, flat_map, decimal, None, OnOk};
+ghost use Rattle.pm_wire.specs.Outgoing.{room};
+ghost use Rattle.pm_wire.specs.Pieces.{HasNoZero};
+ghost use Rattle.pm_wire.specs.Backend.{back_message, spelling, IsWritable, Fields, Pair, One, Complete, Ready};
+ghost use Rattle.pm_wire.specs.Conditions.{told, error, fixed_message};
+ghost use Rattle.pm_wire.specs.Longest.{longest, longest_told, HasSizes, IsGiven};
+ghost use Rattle.pm_wire.specs.declared.back.Tag.TheVariants as tags;
+ghost use Rattle.pm_query.specs.Limits.{HasShortValues, IsShortRow};
+ghost use Rattle.pm_query.specs.declared.item.Item.TheVariants as items;
+ghost use Rattle.pm_session.specs.Sent.{item_messages, row_messages, fault_state};
+ghost use Rattle.pm_session.specs.Turns.{Says, IsSayable, piece_of};
+
+use crate::ending::Cause;
+use crate::line::Line;
+use crate::release::{Answer, Released};
+use itoa::Buffer;
+use pm_life::Life;
+use pm_outside::Link;
+use pm_query::Item;
+use pm_rows::Text;
+use pm_sql::SqlFault;
+use pm_wire::{
+    Back, Condition, Fixed, Outbox, Report, Severity, Shape, SqlState, StatementFault, Tag,
+    back_messages_have_a_longest, conditions_can_be_told,
+};
+use std::marker::Model;
+
+/// The bytes of the longest message that holds neither a value nor a text of the client's.
+const SHORT_MESSAGE: usize = 140;
+
+/// The bytes of the longest row.
+const ROW_MESSAGE: usize = 8_227;
+
+/// The bytes of the longest message: it says a token of the client's query.
+const LONGEST_MESSAGE: usize = 65_606;
+
+/// The line, and what is to be sent on it. It has room for any message that is said.
+pub struct Desk<L: Link, F: Life> {
+    pub(crate) line: Line<L, F>,
+    pub(crate) outbox: Outbox,
+}
+
+impl<L: Link, F: Life> Model for Desk<L, F> {
+    ghost use Rattle.std.specs.Prelude.{◌≤◌};
+    ghost use Rattle.pm_session.specs.Turns.{Desk as DeskView};
+
+    ghost Value = { DeskView };
+
+    ghost view = { λ d. record { link = d.line.link; outbox = d.outbox; child = d.line.child } };
+
+    ghost invariant = { λ d. 66048 ≤ d.outbox.capacity };
+}
+
+impl<L: Link, F: Life> Desk<L, F> {
+    pub(crate) fn new(line: Line<L, F>, outbox: Outbox) -> Desk<L, F>
+        requires room { 66048 ≤ outbox.capacity }
+        ensures link { result.link ≡ line.link }
+        ensures child { result.child ≡ line.child }
+        ensures outbox { result.outbox ≡ outbox }
+    {
+        Desk { line, outbox }
+    }
+
+    /// The line, given back.
+    pub(crate) fn into_line(self) -> Line<L, F>
+        ensures link { result.link ≡ self.link }
+        ensures child { result.child ≡ self.child }
+    {
+        let Desk { line, outbox: _ } = self;
+        line
+    }
+
+    /// Says an answer, and sends all of it.
+    pub(crate) fn say_answer(&mut self, answer: &Answer) -> Result<(), Cause>
+        requires sayable { IsSayable answer.now }
+        ensures says { Says result (piece_of answer.now) self.old self.new }
+        ensures empty { OnOk result (self.new.outbox.bytes ≡ []) }
+    {
+        self.say_piece(answer)?;
+        self.flush()
+    }
+
+    // Sends what stands in the outbox.
+    fn flush(&mut self) -> Result<(), Cause>
+        ensures says { Says result [] self.old self.new }
+        ensures empty { OnOk result (self.new.outbox.bytes ≡ []) }
+    {
+        self.line.send(self.outbox.as_slice())?;
+        self.outbox.clear();
+        Ok(())
+    }
+
+    // Says an answer.
+    fn say_piece(&mut self, answer: &Answer) -> Result<(), Cause>
+        requires sayable { IsSayable answer.now }
+        ensures says { Says result (piece_of answer.now) self.old self.new }
+    {
+        match answer {
+            Answer::Ran(released) => self.say_reply(released),
+            Answer::Faulted { fault, message } => self.say_fault(*fault, message.as_str()),
+            Answer::NotUtf8 => self.say_refusal(Fixed::NotUtf8),
+            Answer::Cancelled => self.say_refusal(Fixed::Canceled),
+            Answer::LogIsFull => self.say_refusal(Fixed::LogFull),
+            Answer::Memory => self.say_refusal(Fixed::ErrorMemory),
+        }
+    }
+
+    // The messages of each item in order, and then ReadyForQuery. No reply of a script is said but here.
+    fn say_reply(&mut self, released: &Released) -> Result<(), Cause>
+        requires short { All HasShortValues released.now }
+        ensures says { Says result (flat_map item_messages released.now ++ Ready ∷ []) self.old
+            self.new }
+    {
+        for item in released.reply().items() {
+            self.say_item(item)?;
+        }
+        self.say_plain(Back::Ready)
+    }
+
+    // Says why a text is no script.
+    fn say_fault(&mut self, fault: SqlFault, message: &str) -> Result<(), Cause>
+        requires text { HasNoZero message.now × (length message.now ≤ 65573) }
+        ensures says { Says result (error (fault_state fault) message.now None ∷ Ready ∷ []) self.old self.new }
+    {
+        let report = Report {
+            severity: Severity::Error,
+            code: fault_state(fault).code(),
+            text: message,
+            detail: None,
+        };
+        back_messages_have_a_longest();
+        self.say(Back::Fault(report), LONGEST_MESSAGE)?;
+        self.say_plain(Back::Ready)
+    }
+
+    // Says why a query has no reply.
+    fn say_refusal(&mut self, fixed: Fixed) -> Result<(), Cause>
+        ensures says { Says result (fixed_message fixed ∷ Ready ∷ []) self.old self.new }
+    {
+        self.say_told(Condition::Fixed(fixed))?;
+        self.say_plain(Back::Ready)
+    }
+
+    // Says what one statement answered.
+    fn say_item(&mut self, item: &Item) -> Result<(), Cause>
+        requires short { HasShortValues item.now }
+        ensures says { Says result (item_messages item.now) self.old self.new }
+    {
+        match item {
+            Item::Empty => self.say_plain(Back::Empty),
+            Item::Insert => self.say_plain(Back::Complete(Tag::Insert(1))),
+            Item::Update(count) => self.say_plain(Back::Complete(Tag::Update(*count))),
+            Item::Delete(count) => self.say_plain(Back::Complete(Tag::Delete(*count))),
+            Item::Rows(pairs) => self.say_rows(pairs.pairs()),
+            Item::Count(count) => self.say_count(*count),
+            Item::Slept => self.say_one(Shape::Sleep, ""),
+            Item::Duplicate { key } => self.say_told(Condition::Duplicate { key: *key }),
+            Item::TableFull => self.say_told(Condition::Fixed(Fixed::TableFull)),
+            Item::RowsTooLarge => self.say_told(Condition::Fixed(Fixed::RowsTooLarge)),
+        }
+    }
+
+    // Says rows: their columns, each row, and their number.
+    fn say_rows(&mut self, rows: &[(i64, Text)]) -> Result<(), Cause>
+        requires short { All IsShortRow rows.now }
+        ensures says { Says result (row_messages rows.now) self.old self.new }
+    {
+        self.say_plain(Back::Fields(Shape::Pair))?;
+        for (key, value) in rows {
+            self.say_row(*key, value.as_str())?;
+        }
+        self.say_plain(Back::Complete(Tag::Select(rows.len() as u64)))
+    }
+
+    // Says one row.
+    fn say_row(&mut self, key: i64, value: &str) -> Result<(), Cause>
+        requires short { length value.now ≤ 8192 }
+        ensures says { Says result (Pair key value.now ∷ []) self.old self.new }
+    {
+        back_messages_have_a_longest();
+        self.say(Back::Pair { key, value }, ROW_MESSAGE)
+    }
+
+    // Says how many rows there are.
+    fn say_count(&mut self, count: u64) -> Result<(), Cause>
+        ensures says { Says result (item_messages (items.Count count)) self.old self.new }
+    {
+        let mut digits = Buffer::new();
+        self.say_one(Shape::Count, digits.format(count))
+    }
+
+    // Says a row of one column.
+    fn say_one(&mut self, shape: Shape, text: &str) -> Result<(), Cause>
+        requires short { length text.now ≤ 40 }
+        ensures says { Says result (Fields shape ∷ One text.now ∷ Complete (tags.Select 1) ∷ []) self.old self.new }
+    {
+        self.say_plain(Back::Fields(shape))?;
+        self.say_plain(Back::One { text })?;
+        self.say_plain(Back::Complete(Tag::Select(1)))
+    }
+
+    // Says an error of the table.
+    fn say_told(&mut self, condition: Condition) -> Result<(), Cause>
+        requires given { IsGiven condition }
+        requires short { longest_told condition ≤ 140 }
+        ensures says { Says result (told condition.entry ∷ []) self.old self.new }
+    {
+        conditions_can_be_told();
+        self.say(Back::Told(condition), SHORT_MESSAGE)
+    }
+
+    // Says a short message.
+    fn say_plain(&mut self, message: Back) -> Result<(), Cause>
+        requires writable { IsWritable (back_message message) }
+        requires sizes { HasSizes (back_message message) }
+        requires short { longest (back_message message) ≤ 140 }
+        ensures says { Says result (back_message message.entry ∷ []) self.old self.new }
+    {
+        back_messages_have_a_longest();
+        self.say(message, SHORT_MESSAGE)
+    }
+
+    // Says a message of at most so many bytes.
+    fn say(&mut self, message: Back, most: usize) -> Result<(), Cause>
+        requires writable { IsWritable (back_message message) }
+        requires most { length (spelling (back_message message)) ≤ most }
+        requires fits { most ≤ 66048 }
+        ensures says { Says result (back_message message.entry ∷ []) self.old self.new }
+    {
+        self.make_room(most)?;
+        message.put(&mut self.outbox);
+        Ok(())
+    }
+
+    // Has room for so many bytes in the outbox: where they are more than it has, what stands there is sent first.
+    fn make_room(&mut self, most: usize) -> Result<(), Cause>
+        requires fits { most ≤ 66048 }
+        ensures says { Says result [] self.old self.new }
+        ensures room { OnOk result (most ≤ room self.new.outbox) }
+    {
+        if most <= self.outbox.room() {
+            return Ok(());
+        }
+        self.flush()
+    }
+}
+
+// The code of a text's fault.
+fn fault_state(fault: SqlFault) -> SqlState
+    ensures { result ≡ fault_state fault }
+{
+    match fault {
+        SqlFault::Syntax { .. } => StatementFault::Syntax.state(),
+        SqlFault::Table { .. } => StatementFault::NoTable.state(),
+        SqlFault::Range { .. } => StatementFault::NumberRange.state(),
+        SqlFault::TooLong { .. } => StatementFault::LongValue.state(),
+        SqlFault::TooMany { .. } => StatementFault::ManyStatements.state(),
+        SqlFault::NoMemory => SqlState::OutOfMemory,
+    }
+}
