@@ -5,7 +5,6 @@ use Rattle.std.proofs.lemmas.Bool.Decides.{nat_tests}
 use Rattle.pm_exit.specs.declared.child.Kind.{Kind}
 use Rattle.pm_exit.specs.declared.child.Kind.TheVariants as kind
 use Rattle.pm_modes.specs.declared.Mode.{Mode}
-use Rattle.pm_supervisor.specs.declared.Limits.{Limits}
 use Rattle.pm_supervisor.specs.declared.Ending.TheVariants as endings
 use Rattle.pm_supervisor.specs.Children.{one_if}
 use Rattle.pm_state.specs.declared.action.Action.{Action}
@@ -16,7 +15,8 @@ use Rattle.pm_state.specs.Journal.{without_first}
 use Rattle.pm_chain.specs.Steps.{ChildRun, MayFollow, Notes, Renews, Runs, RunsOn, StandsByItself, Step}
 use Rattle.pm_journal.specs.Roll.{kind_in}
 use Rattle.pm_journal.specs.Standing.{Standing, act_for, done, entry_for, first_due, next_pid}
-use Rattle.pm_once.specs.Goes.{AreOurs, AsksAsDue, IsFree, accepted_in, asked_in, is_last_drawn}
+use Rattle.pm_once.specs.Goes.{AreOurs, AsksAsDue, IsFree, is_last_drawn}
+use Rattle.pm_server.specs.Journal.{accepted_in, asked_in}
 use Rattle.pm_once.specs.Auxiliaries.{AreThere, IsPresent, auxiliaries_after}
 use Rattle.pm_once.specs.declared.auxiliaries.Auxiliaries.{Auxiliaries}
 
@@ -270,22 +270,22 @@ due_kept act.Reset s = refl
 due_kept (act.Say line) s = refl
 due_kept (act.End how) s = refl
 
-pub ours_tail : (limits : Limits) (asked : Bool) (a : Action) (rest : List Action) → AreOurs limits asked (a ∷ rest) → AreOurs limits asked rest
-ours_tail limits asked (act.Start k) rest ours = ours
-ours_tail limits asked (act.Quit why) rest ours = ours
-ours_tail limits asked act.Terminate rest ours = ours
-ours_tail limits asked act.KillAll rest ours = absurd ours
-ours_tail limits asked act.AskCheckpoint rest ours = ours
-ours_tail limits asked act.Ready rest ours = ours
-ours_tail limits asked act.Reset rest ours = ours.1
-ours_tail limits asked (act.Say line) rest ours = ours
-ours_tail limits asked (act.End endings.Clean) rest ours = ours
-ours_tail limits asked (act.End endings.AfterCrash) rest ours = ours
-ours_tail limits asked (act.End endings.StartupFailed) rest ours = ours
-ours_tail limits asked (act.End endings.RestartOff) rest ours = ours.2
+pub ours_tail : (asked : Bool) (a : Action) (rest : List Action) → AreOurs asked (a ∷ rest) → AreOurs asked rest
+ours_tail asked (act.Start k) rest ours = ours
+ours_tail asked (act.Quit why) rest ours = ours
+ours_tail asked act.Terminate rest ours = ours
+ours_tail asked act.KillAll rest ours = absurd ours
+ours_tail asked act.AskCheckpoint rest ours = ours
+ours_tail asked act.Ready rest ours = ours
+ours_tail asked act.Reset rest ours = ours.1
+ours_tail asked (act.Say line) rest ours = ours
+ours_tail asked (act.End endings.Clean) rest ours = ours
+ours_tail asked (act.End endings.AfterCrash) rest ours = ours
+ours_tail asked (act.End endings.StartupFailed) rest ours = ours
+ours_tail asked (act.End endings.RestartOff) rest ours = ours.1
 
-pub none_is_killed : (limits : Limits) (asked : Bool) (rest : List Action) → AreOurs limits asked (act.KillAll ∷ rest) → ⊥
-none_is_killed limits asked rest ours = ours
+pub none_is_killed : (asked : Bool) (rest : List Action) → AreOurs asked (act.KillAll ∷ rest) → ⊥
+none_is_killed asked rest ours = ours
 
 pub first_is : (acts : List Action) (a : Action) → first_due acts ≡ Some a → acts ≡ a ∷ without_first acts
 first_is [] a is = absurd cc

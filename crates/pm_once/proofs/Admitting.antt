@@ -19,7 +19,8 @@ use Rattle.pm_journal.specs.declared.supervision.Taken.{Taken}
 use Rattle.pm_journal.specs.Standing.{Adds, IsAtRest, MayTake, Standing, accepting, decision_on, later, made, next_pid}
 use Rattle.pm_journal.specs.Stands.{AtWork, IsSettled}
 use Rattle.pm_once.specs.Calls.{Admits, Asks, ComesTo, Finishes, HasRun}
-use Rattle.pm_once.specs.Goes.{Goes, IsIdle, IsRunning, accepted_in, is_last_drawn, sessions_in}
+use Rattle.pm_once.specs.Goes.{Goes, IsIdle, IsRunning, is_last_drawn, sessions_in}
+use Rattle.pm_server.specs.Journal.{accepted_in}
 use Rattle.pm_once.specs.Auxiliaries.{AreThere, HasLess, IsPresent}
 use Rattle.pm_once.specs.declared.outcome.Outcome.{Outcome}
 use Rattle.pm_once.specs.declared.auxiliaries.Auxiliaries.{Auxiliaries}
@@ -29,10 +30,10 @@ use Rattle.pm_once.specs.Serves.{HasServed, IsServed, Serves}
 use Rattle.pm_once.specs.Service.{Connection, IsServedAs, run_of, with_connections}
 use Rattle.pm_once.specs.View.{View}
 use Rattle.pm_once.specs.declared.admitted.Admitted.{Admitted}
-use Rattle.pm_once.specs.declared.end.ServerEnd.{ServerEnd}
-use Rattle.pm_once.specs.declared.end.ServerEnd.TheVariants.{NoMemory}
+use Rattle.pm_server.specs.declared.end.ServerEnd.{ServerEnd}
+use Rattle.pm_server.specs.declared.end.ServerEnd.TheVariants.{NoMemory}
 use Rattle.pm_once.proofs.Ending.{IsNoted, IsTaken, ran_on, taken}
-use Rattle.pm_once.proofs.Entries.{accepted_in-append}
+use Rattle.pm_server.specs.JournalLaws.{accepted_in-append}
 use Rattle.pm_once.proofs.Finishing.{is_drawn}
 use Rattle.pm_once.proofs.SessionRuns.{session_run}
 use Rattle.pm_once.proofs.SessionEnds.{session_sound}

@@ -6,7 +6,7 @@ use Rattle.pm_journal.specs.Standing.{Standing}
 use Rattle.pm_once.specs.Calls.{Acts, ActsSoFar, DoesNext, Keeps}
 use Rattle.pm_once.specs.Goes.{Goes, IsRunning, StaysOpen}
 use Rattle.pm_once.specs.View.{View}
-use Rattle.pm_once.specs.declared.end.ServerEnd.{ServerEnd}
+use Rattle.pm_server.specs.declared.end.ServerEnd.{ServerEnd}
 use Rattle.pm_once.proofs.Going.{does_nothing, does_then}
 
 pub running_on : (gives : ℕ → Type 0) (steps : List Step) (a b : View) → IsRunning a → Goes gives steps a b → StaysOpen steps a b → IsRunning b

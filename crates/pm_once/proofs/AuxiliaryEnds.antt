@@ -9,17 +9,18 @@ use Rattle.pm_journal.specs.Laws.{KeepsALegalJournal}
 use Rattle.pm_journal.specs.Standing.{Standing, later}
 use Rattle.pm_journal.specs.Stands.{AtWork}
 use Rattle.pm_once.specs.Calls.{Finishes, HasAuxiliaryRun, IsOff, NotesNoExit}
-use Rattle.pm_once.specs.Goes.{Does, IsIdle, IsRunning, accepted_in, if_session, is_last_drawn}
+use Rattle.pm_once.specs.Goes.{Does, IsIdle, IsRunning, if_session, is_last_drawn}
+use Rattle.pm_server.specs.Journal.{accepted_in}
 use Rattle.pm_once.specs.Auxiliaries.{AreThere, HasLess, IsTakenOff, IsPresent, heard_of}
 use Rattle.pm_once.specs.AuxiliaryRuns.{Heard, IsRunAs}
 use Rattle.pm_once.specs.View.{View}
-use Rattle.pm_once.specs.declared.end.ServerEnd.{ServerEnd}
-use Rattle.pm_once.specs.declared.end.ServerEnd.TheVariants.{NoMemory}
+use Rattle.pm_server.specs.declared.end.ServerEnd.{ServerEnd}
+use Rattle.pm_server.specs.declared.end.ServerEnd.TheVariants.{NoMemory}
 use Rattle.pm_once.specs.declared.auxiliaries.Auxiliaries.{Auxiliaries}
 use Rattle.pm_once.proofs.Ending.{IsNoted, ran_on}
 use Rattle.pm_once.proofs.Going.{does_then}
 use Rattle.pm_once.proofs.Running.{no_accepts}
-use Rattle.pm_once.proofs.Undisturbed.{disturbed_on, less_follows}
+use Rattle.pm_once.proofs.Undisturbed.{disturbed_on, less_follows, no_more}
 
 -- ---- who is taken off
 
@@ -103,9 +104,8 @@ running_off before auxiliaries off less running = (
     auxiliaries = off before.work.standing running.2.auxiliaries;
     asks = running.2.asks;
     acts = running.2.acts;
-    ends = running.2.ends;
     causes = record { told_so = less.heard ∙ running.2.causes.told_so; runs = running.2.causes.runs; refused = running.2.causes.refused };
-    disturbed = disturbed_on running.0.faults running.1 running.1 before (record before { auxiliaries = auxiliaries }) (record { later = omega arith; counts = λ counted. counted }) (λ is. is)
+    disturbed = disturbed_on running.0.faults running.1 running.1 before (record before { auxiliaries = auxiliaries }) (record { later = omega arith; counts = λ counted. counted }) (no_more running.1)
         (less_follows before (record before { auxiliaries = auxiliaries }) refl less) running.2.disturbed;
   },
   record { free = running.3.free; same = running.3.same; inside = running.3.inside },

@@ -14,8 +14,8 @@ use Rattle.pm_once.specs.AuxiliaryRuns.{CloseNotes, GoesThrough, Heard, IsRunAs,
 use Rattle.pm_once.specs.Calls.{ComesTo}
 use Rattle.pm_once.specs.declared.checkpointer.Closed.{Closed}
 use Rattle.pm_once.specs.declared.checkpointer.Closed.TheVariants.{Made, Crashed, Full, Short}
-use Rattle.pm_once.specs.declared.end.StartWhy.{StartWhy}
-use Rattle.pm_once.specs.declared.end.StartWhy.TheVariants.{Redo}
+use Rattle.pm_server.specs.declared.end.StartWhy.{StartWhy}
+use Rattle.pm_server.specs.declared.end.StartWhy.TheVariants.{Redo}
 use Rattle.pm_once.specs.declared.outcome.Outcome.{Outcome}
 use Rattle.pm_once.specs.declared.outcome.Outcome.TheVariants as outcomes
 

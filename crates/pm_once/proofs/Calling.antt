@@ -16,25 +16,25 @@ use Rattle.pm_state.specs.declared.event.PmEvent.{PmEvent}
 use Rattle.pm_state.specs.declared.event.PmEvent.TheVariants as entry
 use Rattle.pm_chain.specs.Laws.{StepsGoOn}
 use Rattle.pm_chain.specs.Steps.{Step, Notes, journal_of}
-use Rattle.pm_journal.specs.Laws.{GoesOnOverItsJournal, KeepsALegalJournal}
+use Rattle.pm_journal.specs.Laws.{GoesOnOverItsJournal}
 use Rattle.pm_journal.specs.Roll.{kind_in}
 use Rattle.pm_journal.specs.Standing.{Adds, IsAtRest, Standing, asking, later, made, turning}
 use Rattle.pm_journal.specs.Stands.{AtWork, Stands, behind}
-use Rattle.pm_once.specs.Goes.{AreOurEnds, AreOurs, AsksAsDue, Does, IsAt, IsFree, IsIdle, IsMoment, IsOpen, asked_in, is_last_drawn}
+use Rattle.pm_once.specs.Goes.{AreOurs, AsksAsDue, Does, IsAt, IsFree, IsIdle, IsOpen, is_last_drawn}
+use Rattle.pm_server.specs.Journal.{IsMoment, asked_in}
 use Rattle.pm_once.specs.Auxiliaries.{AreThere, IsPresent}
-use Rattle.pm_once.specs.Log.{HasSaid}
+use Rattle.pm_lines.specs.Log.{HasSaid}
 use Rattle.pm_once.specs.declared.auxiliaries.Auxiliaries.{Auxiliaries}
 use Rattle.pm_once.specs.View.{View}
 use Rattle.pm_once.proofs.Acting.{notes_follow}
 use Rattle.pm_once.proofs.Causing.{caused_entry}
-use Rattle.pm_once.proofs.Entries.{asked_in-append}
-use Rattle.pm_once.proofs.Going.{adds_none, serves_nothing}
+use Rattle.pm_server.specs.JournalLaws.{asked_in-append, adds_none}
+use Rattle.pm_once.proofs.Going.{serves_nothing}
 use Rattle.pm_once.proofs.Nexts.{told_more}
 use Rattle.pm_once.proofs.Ours.{ask_says, says_ours, turn_rule}
 use Rattle.pm_once.proofs.Undisturbed.{asked_disturbed, asked_stands, goes_on_so, turned_disturbed}
-use Rattle.pm_once.proofs.Saying.{said_same}
-use Rattle.pm_once.proofs.Spans.{spans_none}
-use Rattle.pm_once.proofs.OurEnds.{ends_append}
+use Rattle.pm_lines.specs.LogLaws.{said_same}
+use Rattle.pm_server.specs.SpansLaws.{spans_none}
 use Rattle.pm_segment.specs.MovesLaws.{moves_none}
 
 -- ---- moments
@@ -114,8 +114,7 @@ asked goes work gives at before w given rests due standing told =
               asks = subst (λ (t : Standing). AsksAsDue (asked_in (journal_of (earlier ++ Notes e ∷ []))) false t) (sym standing)
                   (subst (λ (l : List Mode). AsksAsDue l false (made (asking Smart at s) s)) (sym (ap asked_in (sym j) ∙ asked_in-append (journal_of earlier) (e ∷ [])))
                   (asks_more (asked_in (journal_of earlier)) before.listens s (made (asking Smart at s) s) due refl refl is.asks));
-              acts = subst (AreOurs outset.limits (is_some w.standing.machine.shutdown)) (sym (ap (λ (t : Standing). t.due) standing)) (says_ours outset.limits (is_some w.standing.machine.shutdown) (asked_with (strengthen_of s.machine.shutdown Smart) s.machine (later at s)).acts (ask_says s.machine (later at s)));
-              ends = subst (AreOurEnds outset.limits) j (ends_append outset.limits (journal_of earlier) (e ∷ []) is.ends tt);
+              acts = subst (AreOurs (is_some w.standing.machine.shutdown)) (sym (ap (λ (t : Standing). t.due) standing)) (says_ours (is_some w.standing.machine.shutdown) (asked_with (strengthen_of s.machine.shutdown Smart) s.machine (later at s)).acts (ask_says s.machine (later at s)));
               causes = caused_entry earlier e before.auxiliaries before.auxiliaries before.outcome before.outcome refl (inl refl) is.causes;
               disturbed = asked_disturbed outset.faults earlier Smart (later at s) before (deaf before w) refl (ap (λ (t : Standing). is_some t.machine.shutdown) standing ∙ asked_stands s.machine (later at s)) is.disturbed;
             };
@@ -140,17 +139,16 @@ asked goes work gives at before w given rests due standing told =
 
 -- ---- a turn
 
-pub turned : StepsGoOn → GoesOnOverItsJournal → KeepsALegalJournal → (gives : ℕ → Type 0) (before : View) (w : AtWork) → IsIdle before.work.standing
+pub turned : GoesOnOverItsJournal → (gives : ℕ → Type 0) (before : View) (w : AtWork) → IsIdle before.work.standing
     → w.standing ≡ made turning before.work.standing → w.told ≡ before.work.told
     → Does gives (Ok tt) [] before (record before { work = w })
-turned goes work journal gives before w idle standing told =
+turned work gives before w idle standing told =
     let s = before.work.standing in
     record {
       goes = record {
         at = λ outset earlier is opened.
             let stood = work.turns outset.limits (journal_of earlier) s is.past is.stands idle.rests idle.unowed in
-            let holds = journal.holds outset.limits (Some (journal_of earlier)) s is.past is.stands idle.rests.none_due in
-            let rule = turn_rule outset.limits (is_some s.machine.shutdown) s.machine (holds.facts.same_limits, refl) in
+            let rule = turn_rule (is_some s.machine.shutdown) s.machine refl in
             subst (λ (l : List Step). IsAt outset l (record before { work = w })) (sym (append-nil earlier)) (record {
               past = behind s.machine turning.call is.past;
               stands = subst (λ (t : Standing). Stands outset.limits (Some (journal_of earlier)) t (behind s.machine turning.call is.past)) (sym standing) stood;
@@ -160,9 +158,8 @@ turned goes work journal gives before w idle standing told =
               said = is.said;
               auxiliaries = subst (λ (t : Standing). AreThere before.auxiliaries t) (sym standing) (auxiliaries_still before.auxiliaries s (made turning s) refl refl is.auxiliaries);
               asks = subst (λ (t : Standing). AsksAsDue (asked_in (journal_of earlier)) before.listens t) (sym standing) (record { smart = is.asks.smart; few = is.asks.few });
-              acts = subst (AreOurs outset.limits (is_some w.standing.machine.shutdown)) (sym (ap (λ (t : Standing). t.due) standing))
-                  (subst (λ (b : Bool). AreOurs outset.limits b (turned_of s.machine).acts) (sym (ap (λ (t : Standing). is_some t.machine.shutdown) standing ∙ ap is_some rule.shutdown_is)) rule.acts);
-              ends = is.ends;
+              acts = subst (AreOurs (is_some w.standing.machine.shutdown)) (sym (ap (λ (t : Standing). t.due) standing))
+                  (subst (λ (b : Bool). AreOurs b (turned_of s.machine).acts) (sym (ap (λ (t : Standing). is_some t.machine.shutdown) standing ∙ ap is_some rule.shutdown_is)) rule.acts);
               causes = is.causes;
               disturbed = turned_disturbed outset.faults earlier before (record before { work = w }) refl refl (goes_on_so s outset.limits (journal_of earlier) is.past is.stands idle.rests)
                   (ap (λ (t : Standing). t.machine) standing) (ap (λ (t : Standing). t.due) standing) rule.shutdown_is is.disturbed;

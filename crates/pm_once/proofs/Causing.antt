@@ -13,7 +13,7 @@ use Rattle.pm_once.specs.AuxiliaryRuns.{AreToldBehind, Heard, IsRefusedRun, IsRu
 use Rattle.pm_once.specs.Calls.{ComesTo}
 use Rattle.pm_once.specs.Goes.{AreCaused, IsRefusedSo}
 use Rattle.pm_once.specs.declared.auxiliaries.Auxiliaries.{Auxiliaries}
-use Rattle.pm_once.specs.declared.end.StartWhy.{StartWhy}
+use Rattle.pm_server.specs.declared.end.StartWhy.{StartWhy}
 use Rattle.pm_once.specs.declared.outcome.Outcome.{Outcome}
 use Rattle.pm_once.specs.declared.outcome.Outcome.TheVariants.{Closed, Refused}
 use Rattle.pm_once.proofs.Going.{journal-append}

@@ -16,7 +16,7 @@ use Rattle.pm_state.specs.Journal.{acts_of_call}
 use Rattle.pm_state.specs.Shows.{machine_after}
 use Rattle.pm_query.specs.declared.book.BookEntry.{BookEntry}
 use Rattle.pm_segment.specs.Children.{times_in}
-use Rattle.pm_segment.specs.Moves.{Moves}
+use Rattle.pm_segment.specs.Moves.{Moves, StaysUnread}
 use Rattle.pm_segment.specs.MovesLaws.{moves_none, moves_on}
 use Rattle.pm_chain.specs.Laws.{StepsGoOn}
 use Rattle.pm_chain.specs.Steps.{ChildRun, Notes, Step, Runs, RunsOn, redo_end, journal_by, journal_of}
@@ -26,25 +26,25 @@ use Rattle.pm_journal.specs.declared.exit.ChildExit.{ChildExit}
 use Rattle.pm_journal.specs.Standing.{Adds, IsAtRest, MayTake, Standing, accepting, all_noted, called, decision_on, exit_call, exit_entry, exiting, later, made, next_pid, ends_redo}
 use Rattle.pm_journal.specs.Stands.{AtWork, IsSettled, Stands, behind}
 use Rattle.pm_once.specs.Calls.{ComesTo, HasRun, NotesExit, NotesNoExit, exit_of}
-use Rattle.pm_once.specs.Goes.{AreOurEnds, AreOurs, AsksAsDue, Goes, IsFree, IsIdle, IsMoment, IsRunning, Spans, StaysOpen, asked_in, is_last_drawn}
+use Rattle.pm_once.specs.Goes.{AreOurs, AsksAsDue, Goes, IsFree, IsIdle, IsRunning, StaysOpen, is_last_drawn}
+use Rattle.pm_server.specs.Journal.{IsMoment, asked_in}
+use Rattle.pm_server.specs.Spans.{Spans}
 use Rattle.pm_once.specs.Auxiliaries.{AreThere, HasLess, IsPresent, heard_of}
 use Rattle.pm_once.specs.declared.outcome.Outcome.{Outcome}
-use Rattle.pm_once.specs.Log.{HasSaid, LogView}
+use Rattle.pm_lines.specs.Log.{HasSaid, LogView}
 use Rattle.pm_once.specs.View.{View}
 use Rattle.pm_once.specs.declared.auxiliaries.Auxiliaries.{Auxiliaries}
 use Rattle.pm_once.proofs.Acting.{asks_drawn, notes_follow, run_follows, runs_on_follows}
 use Rattle.pm_once.proofs.Calling.{as_last, later_moment}
 use Rattle.pm_once.proofs.Causing.{caused_entry, caused_on, caused_run}
-use Rattle.pm_once.proofs.Entries.{asked_in-append}
-use Rattle.pm_once.proofs.Going.{adds_none}
+use Rattle.pm_server.specs.JournalLaws.{asked_in-append, adds_none}
 use Rattle.pm_once.proofs.Nexts.{told_more}
 use Rattle.pm_once.proofs.Ours.{exit_ours}
 use Rattle.pm_once.proofs.Running.{exit_entries, auxiliaries_without, lost_more, more_inside, no_asks, no_lines, off_startup, run_inside, there_in}
-use Rattle.pm_once.proofs.Saying.{said_same}
-use Rattle.pm_once.proofs.Spans.{spans_moves, spans_none}
+use Rattle.pm_lines.specs.LogLaws.{said_same}
+use Rattle.pm_server.specs.SpansLaws.{spans_moves, spans_none}
 use Rattle.pm_once.proofs.Undisturbed.{GoesOnDisk, goes_on_so, ran_disturbed, ran_on_disturbed, taken_disturbed}
 use Rattle.pm_once.proofs.Knowing.{known_still}
-use Rattle.pm_once.proofs.OurEnds.{ends_append, exit_ends}
 
 -- what the end of a child leaves
 record HasExited (exit : ChildExit) (at : ℕ) (s t : Standing) : Type 0 where
@@ -137,9 +137,7 @@ ran_noted goes work legal gives run at before mid now running idle had ran noted
                   (subst (λ (l : List Mode). AsksAsDue l before.listens (made (exiting exit at s) s))
                   (sym (ap asked_in (sym j) ∙ asked_in-append (journal_of earlier) (journal_by step) ∙ ap (λ (l : List Mode). asked_in (journal_of earlier) ++ l) (no_asks run.kept run.generation) ∙ append-nil (asked_in (journal_of earlier))))
                   (same_owes (asked_in (journal_of earlier)) before.listens s (made (exiting exit at s) s) left.last_pid left.owes is.asks)));
-              acts = subst (AreOurs outset.limits (is_some now.work.standing.machine.shutdown)) (sym (ap (λ (t : Standing). t.due) standing ∙ left.due)) (exit_ours outset.limits (is_some now.work.standing.machine.shutdown) run.kind s.machine _ run.was_active);
-              ends = subst (AreOurEnds outset.limits) j (ends_append outset.limits (journal_of earlier) (journal_by step) is.ends
-                  (exit_ends outset.limits run.pid run.kind run.status run.was_active when run.generation run.kept));
+              acts = subst (AreOurs (is_some now.work.standing.machine.shutdown)) (sym (ap (λ (t : Standing). t.due) standing ∙ left.due)) (exit_ours (is_some now.work.standing.machine.shutdown) run.kind s.machine _ run.was_active);
               causes = caused_run earlier run when before.auxiliaries now.auxiliaries before.outcome now.outcome ran.told (ap heard_of noted.auxiliaries ∙ ran.less.heard) (came_on run before.outcome mid.outcome now.outcome noted.outcome ran.came) is.causes;
               disturbed = ran_disturbed outset.faults earlier run when when before mid now (moved_on outset.faults run before now store) noted.store.moves.later (record {
                 told = ran.told;
@@ -157,7 +155,7 @@ ran_noted goes work legal gives run at before mid now running idle had ran noted
         };
         store = subst (λ (l : List BookEntry). Spans l before.store now.store) (sym (append-nil run.noted)) (spans_moves run.noted before.store now.store store);
         still = λ none. store.generation;
-        unread = λ none. store.unread;
+        unread = λ none. subst (λ (l : List BookEntry). StaysUnread l before.store now.store) (sym (append-nil run.noted)) store.unread;
         knows = λ from known. known_still from mid now noted.outcome noted.store (ran.knows from known);
       };
       stays = λ earlier opened. record {
@@ -202,8 +200,7 @@ ran_on goes legal gives run before mid now running rests ran noted =
             auxiliaries = subst (λ (t : Standing). AreThere now.auxiliaries t) (sym standing) (subst (λ (h : Auxiliaries). AreThere h s) (sym noted.auxiliaries) (ran.auxiliaries s is.auxiliaries));
             asks = subst (λ (t : Standing). AsksAsDue (asked_in (journal_of (earlier ++ step ∷ []))) now.listens t) (sym standing)
                 (subst (λ (b : Bool). AsksAsDue (asked_in (journal_of (earlier ++ step ∷ []))) b s) (sym listens) (subst (λ (l : List PmEvent). AsksAsDue (asked_in l) before.listens s) j is.asks));
-            acts = subst (λ (t : Standing). AreOurs outset.limits (is_some t.machine.shutdown) t.due) (sym standing) is.acts;
-            ends = subst (AreOurEnds outset.limits) j is.ends;
+            acts = subst (λ (t : Standing). AreOurs (is_some t.machine.shutdown) t.due) (sym standing) is.acts;
             causes = caused_on earlier run before.auxiliaries now.auxiliaries before.outcome now.outcome ran.told (ap heard_of noted.auxiliaries ∙ ran.less.heard) (came_on run before.outcome mid.outcome now.outcome noted.outcome ran.came) is.causes;
             disturbed = ran_on_disturbed outset.faults earlier run before now (moved_on outset.faults run before now store) standing
                 (subst (λ (h : Auxiliaries). HasLess before.auxiliaries h) (sym noted.auxiliaries) ran.less) is.disturbed;
@@ -212,7 +209,7 @@ ran_on goes legal gives run before mid now running rests ran noted =
       times = record { each = tt; last = inl (ap (λ (t : Standing). t.moment) standing) };
       store = subst (λ (l : List BookEntry). Spans l before.store now.store) (sym (append-nil run.noted)) (spans_moves run.noted before.store now.store store);
       still = λ none. store.generation;
-      unread = λ none. store.unread;
+      unread = λ none. subst (λ (l : List BookEntry). StaysUnread l before.store now.store) (sym (append-nil run.noted)) store.unread;
       knows = λ from known. known_still from mid now noted.outcome noted.store (ran.knows from known);
     }
 
@@ -261,8 +258,7 @@ taken goes work gives before w rests settled may standing told =
               asks = subst (λ (t : Standing). AsksAsDue (asked_in (journal_of (earlier ++ Notes e ∷ []))) before.listens t) (sym standing)
                   (subst (λ (l : List Mode). AsksAsDue l before.listens (made (accepting s) s)) (sym (ap asked_in (sym j) ∙ asked_in-append (journal_of earlier) (e ∷ []) ∙ append-nil (asked_in (journal_of earlier))))
                   (asks_drawn (asked_in (journal_of earlier)) before.listens s (made (accepting s) s) refl refl is.asks));
-              acts = subst (λ (t : Standing). AreOurs outset.limits (is_some t.machine.shutdown) t.due) (sym standing) tt;
-              ends = subst (AreOurEnds outset.limits) j (ends_append outset.limits (journal_of earlier) (e ∷ []) is.ends tt);
+              acts = subst (λ (t : Standing). AreOurs (is_some t.machine.shutdown) t.due) (sym standing) tt;
               causes = caused_entry earlier e before.auxiliaries before.auxiliaries before.outcome before.outcome refl (inl refl) is.causes;
               disturbed = taken_disturbed outset.faults earlier (next_pid s) (decision_on s) before (record before { work = w }) refl refl (ap (λ (t : Standing). t.machine) standing) (ap (λ (t : Standing). t.due) standing) is.disturbed;
             };

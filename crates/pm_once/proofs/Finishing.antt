@@ -11,17 +11,18 @@ use Rattle.pm_journal.specs.Laws.{GoesOnOverItsJournal}
 use Rattle.pm_journal.specs.Standing.{Adds, IsAtRest, Standing, asking, later, made}
 use Rattle.pm_journal.specs.Stands.{AtWork}
 use Rattle.pm_once.specs.Calls.{Acts, AreSays, Asks, Finishes}
-use Rattle.pm_once.specs.Goes.{AsksAsDue, IsAt, IsIdle, IsOpen, IsRunning, StaysOpen, asked_in, is_last_drawn}
+use Rattle.pm_once.specs.Goes.{AsksAsDue, IsAt, IsIdle, IsOpen, IsRunning, StaysOpen, is_last_drawn}
+use Rattle.pm_server.specs.Journal.{asked_in}
 use Rattle.pm_once.specs.View.{View}
-use Rattle.pm_once.specs.declared.end.ServerEnd.{ServerEnd}
-use Rattle.pm_once.specs.declared.end.ServerEnd.TheVariants.{NoMemory}
+use Rattle.pm_server.specs.declared.end.ServerEnd.{ServerEnd}
+use Rattle.pm_server.specs.declared.end.ServerEnd.TheVariants.{NoMemory}
 use Rattle.pm_once.proofs.Calling.{asked, deaf, auxiliary_still}
-use Rattle.pm_once.proofs.Going.{adds_none, does_any, does_then, serves_nothing}
+use Rattle.pm_server.specs.JournalLaws.{adds_none, times_none}
+use Rattle.pm_once.proofs.Going.{does_any, does_then, serves_nothing}
 use Rattle.pm_once.proofs.Nexts.{same_work}
-use Rattle.pm_once.proofs.Entries.{times_none}
 use Rattle.pm_once.proofs.Ours.{ask_says}
-use Rattle.pm_once.proofs.Spans.{spans_none}
-use Rattle.pm_once.proofs.Undisturbed.{disturbed_on, less_follows, still_less}
+use Rattle.pm_server.specs.SpansLaws.{spans_none}
+use Rattle.pm_once.proofs.Undisturbed.{disturbed_on, less_follows, no_more, still_less}
 use Rattle.pm_segment.specs.MovesLaws.{moves_none}
 
 never_err : {E : Type 0} (e : E) (r : Result (Unit {0}) E) → r ≡ Err e → IsOk r → ⊥
@@ -83,9 +84,8 @@ asks_err gives before w rests standing told =
             auxiliaries = is.auxiliaries;
             asks = fewer_asks (asked_in (journal_of earlier)) before.listens before.work.standing is.asks;
             acts = is.acts;
-            ends = is.ends;
             causes = is.causes;
-            disturbed = disturbed_on outset.faults earlier earlier before (deaf before before.work) (record { later = omega arith; counts = λ counted. counted }) (λ off. off)
+            disturbed = disturbed_on outset.faults earlier earlier before (deaf before before.work) (record { later = omega arith; counts = λ counted. counted }) (no_more earlier)
                 (less_follows before (deaf before before.work) refl (still_less before.auxiliaries)) is.disturbed;
           });
           journal = adds_none before.work.told;

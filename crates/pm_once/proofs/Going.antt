@@ -1,5 +1,5 @@
 -- Steps of a server, some behind others.
-use Rattle.std.proofs.Common.{◌≡◌, ℕ, List, [], ◌∷◌, ◌++◌, Option, None, Some, Result, Ok, Err, option_map, refl, sym, ◌∙◌, ap, subst, append_assoc, append-nil}
+use Rattle.std.proofs.Common.{◌≡◌, ℕ, List, [], ◌∷◌, ◌++◌, Result, Ok, Err, refl, sym, ◌∙◌, ap, subst, append_assoc, append-nil}
 use Rattle.std.specs.Prelude.{OnOk, IfErr}
 use Rattle.std.specs.List.{AllByRecursion}
 use Rattle.std.proofs.lemmas.Grind.{flat_map-append}
@@ -8,14 +8,17 @@ use Rattle.pm_query.specs.declared.book.BookEntry.{BookEntry}
 use Rattle.pm_chain.specs.Steps.{ChildRun, Step, Notes, book_by, book_of, journal_by, journal_of}
 use Rattle.pm_journal.specs.Standing.{Adds}
 use Rattle.pm_journal.specs.declared.supervision.Taken.{Taken}
+use Rattle.pm_segment.specs.Moves.{StaysUnread}
 use Rattle.pm_segment.specs.MovesLaws.{moves_none, unread_on}
-use Rattle.pm_once.specs.Goes.{Does, EndsWith, Goes, IsAt, IsEndOf, IsNoRenewal, IsOpen, ServesNone, Spans, StaysOpen, Times, accepted_in, session_by, sessions_in}
+use Rattle.pm_once.specs.Goes.{Does, EndsWith, Goes, IsAt, IsEndOf, IsNoRenewal, IsOpen, ServesNone, StaysOpen, session_by, sessions_in}
+use Rattle.pm_server.specs.Spans.{Spans}
+use Rattle.pm_server.specs.Journal.{Times, accepted_in}
 use Rattle.pm_once.specs.View.{View}
-use Rattle.pm_once.specs.declared.end.ServerEnd.{ServerEnd}
-use Rattle.pm_once.specs.declared.end.ServerEnd.TheVariants.{Clean, Abnormal, NoMemory}
-use Rattle.pm_once.specs.declared.end.Why.TheVariants.{AfterCrash, StartupFailed, RestartOff, GenerationsSpent}
-use Rattle.pm_once.proofs.Entries.{accepted_in-append, times_any, times_none, times_on}
-use Rattle.pm_once.proofs.Spans.{spans_none, spans_on}
+use Rattle.pm_server.specs.declared.end.ServerEnd.{ServerEnd}
+use Rattle.pm_server.specs.declared.end.ServerEnd.TheVariants.{Clean, Abnormal, NoMemory}
+use Rattle.pm_server.specs.declared.end.Why.TheVariants.{AfterCrash, StartupFailed, RestartOff, GenerationsSpent}
+use Rattle.pm_server.specs.JournalLaws.{accepted_in-append, adds_both, adds_none, times_any, times_none, times_on}
+use Rattle.pm_server.specs.SpansLaws.{spans_none, spans_on}
 
 pub journal-append : (one two : List Step) → journal_of (one ++ two) ≡ journal_of one ++ journal_of two
 journal-append one two = flat_map-append journal_by one two
@@ -25,17 +28,6 @@ book-append one two = flat_map-append book_by one two
 
 pub sessions-append : (one two : List Step) → sessions_in (one ++ two) ≡ sessions_in one ++ sessions_in two
 sessions-append one two = flat_map-append session_by one two
-
--- ---- journals
-
-pub adds_none : (told : Option (List PmEvent)) → Adds [] told told
-adds_none None = refl
-adds_none (Some journal) = ap (λ (j : List PmEvent). Some j) (sym (append-nil journal))
-
-pub adds_both : (one two : List PmEvent) (before between now : Option (List PmEvent)) → Adds one before between → Adds two between now → Adds (one ++ two) before now
-adds_both one two None between now first second = second ∙ ap (option_map (λ (j : List PmEvent). j ++ two)) first
-adds_both one two (Some journal) between now first second =
-    second ∙ ap (option_map (λ (j : List PmEvent). j ++ two)) first ∙ ap (λ (j : List PmEvent). Some j) (append_assoc journal one two)
 
 -- ---- steps
 
@@ -65,7 +57,7 @@ goes_on gives one two a b c first stays second = record {
   times = subst (λ (j : List PmEvent). Times gives a.work.standing.moment j c.work.standing.moment) (sym (journal-append one two)) (times_on gives (journal_of one) (journal_of two) _ _ _ first.times second.times);
   store = subst (λ (l : List BookEntry). Spans l a.store c.store) (sym (book-append one two)) (spans_on (book_of one) (book_of two) a.store b.store c.store first.store second.store);
   still = λ none. let parts = each_part IsNoRenewal one two none in second.still parts.1 ∙ first.still parts.0;
-  unread = λ none. let parts = each_part IsNoRenewal one two none in unread_on a.store b.store c.store first.store.later second.store.later (first.unread parts.0) (second.unread parts.1);
+  unread = λ none. let parts = each_part IsNoRenewal one two none in subst (λ (l : List BookEntry). StaysUnread l a.store c.store) (sym (book-append one two)) (unread_on (book_of one) (book_of two) a.store b.store c.store (first.unread parts.0) (second.unread parts.1));
   knows = λ from known. second.knows from (first.knows from known);
 }
 

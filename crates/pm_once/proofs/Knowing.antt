@@ -15,12 +15,13 @@ use Rattle.pm_segment.specs.Redos.{IsAtLastEpoch, IsCleanAt}
 use Rattle.pm_segment.specs.declared.live.Live.{Live}
 use Rattle.pm_once.specs.AuxiliaryRuns.{CloseNotes, StartNotes}
 use Rattle.pm_once.specs.Calls.{Stays}
-use Rattle.pm_once.specs.Knows.{HasComeTo, HasRefused, Knows}
+use Rattle.pm_once.specs.Knows.{HasComeTo, Knows}
+use Rattle.pm_server.specs.Ends.{HasRefused}
 use Rattle.pm_once.specs.View.{View}
 use Rattle.pm_once.specs.declared.checkpointer.Closed.{Closed as Its}
 use Rattle.pm_once.specs.declared.checkpointer.Closed.TheVariants.{Made, Crashed, Full, Short}
-use Rattle.pm_once.specs.declared.end.StartWhy.{StartWhy}
-use Rattle.pm_once.specs.declared.end.StartWhy.TheVariants.{Redo}
+use Rattle.pm_server.specs.declared.end.StartWhy.{StartWhy}
+use Rattle.pm_server.specs.declared.end.StartWhy.TheVariants.{Redo}
 use Rattle.pm_once.specs.declared.outcome.Outcome.{Outcome}
 use Rattle.pm_once.specs.declared.outcome.Outcome.TheVariants.{Closed, Refused}
 

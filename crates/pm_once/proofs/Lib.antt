@@ -7,14 +7,12 @@ pub mod Alls
 pub mod Calling
 pub mod Causing
 pub mod Ending
-pub mod Entries
 pub mod Finishing
 pub mod Going
 pub mod Knowing
 pub mod Links
 pub mod Nexts
 pub mod Ours
-pub mod OurEnds
 pub mod Past
 pub mod Running
 pub mod Saying
@@ -22,9 +20,9 @@ pub mod SessionEnds
 pub mod SessionRuns
 pub mod Serving
 pub mod Sessions
-pub mod Spans
-pub mod Stories
 pub mod Turns
 pub mod Undisturbed
-pub mod Unredone
+pub mod Unharmed
 pub mod Whole
+pub mod Known
+pub mod Openings

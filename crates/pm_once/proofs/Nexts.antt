@@ -12,7 +12,6 @@ use Rattle.pm_state.specs.declared.event.PmEvent.TheVariants as entry
 use Rattle.pm_state.specs.Journal.{without_first}
 use Rattle.pm_supervisor.specs.declared.Ending.{Ending}
 use Rattle.pm_supervisor.specs.declared.Ending.TheVariants as endings
-use Rattle.pm_supervisor.specs.declared.Limits.{Limits}
 use Rattle.pm_query.specs.declared.book.BookEntry.{BookEntry}
 use Rattle.pm_query.specs.declared.book.BookEntry.TheVariants.{Gone, Opened}
 use Rattle.pm_segment.specs.Children.{AreOthers, once, times_in}
@@ -27,25 +26,26 @@ use Rattle.pm_journal.specs.declared.act.Act.TheVariants as given
 use Rattle.pm_journal.specs.declared.act.GenerationsSpent.{GenerationsSpent}
 use Rattle.pm_journal.specs.Standing.{Adds, Next, Standing, act_for, done, entry_for, first_due, is_spent, next_in, next_of}
 use Rattle.pm_journal.specs.Stands.{AtWork, IsSettled, Stands}
-use Rattle.pm_once.specs.Calls.{AreSays, DoesNext, HasRenewed, Keeps, LogBehind, Performs, Stays, end_by, end_in, outcome}
+use Rattle.pm_once.specs.Calls.{AreSays, DoesNext, Keeps, LogBehind, Performs, Stays, end_by, end_in, outcome}
+use Rattle.pm_server.specs.Spans.{HasRenewed, Spans}
 use Rattle.pm_once.specs.Knows.{HasComeTo, Knows}
-use Rattle.pm_once.specs.Goes.{AreOurEnds, AreOurs, AsksAsDue, Does, Goes, IsAt, IsEndOf, IsFree, IsMoment, IsOpen, IsRunning, Outset, Spans, StaysOpen, asked_in, is_last_drawn}
+use Rattle.pm_once.specs.Goes.{AreOurs, AsksAsDue, Does, Goes, IsAt, IsEndOf, IsFree, IsOpen, IsRunning, Outset, StaysOpen, is_last_drawn}
+use Rattle.pm_server.specs.Journal.{IsMoment, asked_in}
 use Rattle.pm_once.specs.Auxiliaries.{AreThere, IsPresent, auxiliaries_after, heard_of}
-use Rattle.pm_once.specs.Log.{HasSaid}
+use Rattle.pm_lines.specs.Log.{HasSaid}
 use Rattle.pm_once.specs.View.{View}
-use Rattle.pm_once.specs.declared.end.ServerEnd.{ServerEnd}
-use Rattle.pm_once.specs.declared.end.ServerEnd.TheVariants.{NoMemory}
+use Rattle.pm_server.specs.declared.end.ServerEnd.{ServerEnd}
+use Rattle.pm_server.specs.declared.end.ServerEnd.TheVariants.{NoMemory}
 use Rattle.pm_once.specs.declared.checkpointer.Closed.TheVariants.{Made, Crashed, Full, Short}
 use Rattle.pm_once.specs.declared.outcome.Outcome.{Outcome}
 use Rattle.pm_once.specs.declared.outcome.Outcome.TheVariants.{Closed, Refused}
 use Rattle.pm_once.proofs.Acting.{asks_acted, drawn_kept, due_kept, first_is, auxiliary_kept, auxiliaries_acted, not_accepted, not_asked, notes_follow, ours_tail, stands_by_itself, unowed_kept}
 use Rattle.pm_once.proofs.Causing.{acted_heard, caused_entry, caused_renewal}
-use Rattle.pm_once.proofs.Entries.{asked_in-append}
+use Rattle.pm_server.specs.JournalLaws.{asked_in-append}
 use Rattle.pm_once.proofs.Going.{goes_none, stays_none, serves_nothing}
 use Rattle.pm_once.proofs.Knowing.{known_still}
-use Rattle.pm_once.proofs.OurEnds.{act_ends, ends_append}
 use Rattle.pm_once.proofs.Saying.{said_acted}
-use Rattle.pm_once.proofs.Spans.{spans_moves, spans_renewal}
+use Rattle.pm_server.specs.SpansLaws.{spans_moves, spans_renewal}
 use Rattle.pm_once.proofs.Undisturbed.{GoesOnDisk, acted_disturbed, renewed_disturbed, shutdown_done}
 
 -- ---- what `next` answers
@@ -144,27 +144,27 @@ next_spent s e answer = spent_in s.due s e refl answer
 
 -- ---- its entry
 
-no_moment : (limits : Limits) (asked : Bool) (a : Action) (s : Standing) (rest : List Action) (P : ℕ → Type 0) → AreOurs limits asked (a ∷ rest) → AreGiven P (entry_for a s ∷ [])
-no_moment limits asked (act.Start k) s rest P ours = (tt, tt)
-no_moment limits asked (act.Quit why) s rest P ours = (tt, tt)
-no_moment limits asked act.Terminate s rest P ours = (tt, tt)
-no_moment limits asked act.KillAll s rest P ours = absurd ours
-no_moment limits asked act.AskCheckpoint s rest P ours = (tt, tt)
-no_moment limits asked act.Ready s rest P ours = (tt, tt)
-no_moment limits asked act.Reset s rest P ours = (tt, tt)
-no_moment limits asked (act.Say line) s rest P ours = (tt, tt)
-no_moment limits asked (act.End how) s rest P ours = (tt, tt)
+no_moment : (asked : Bool) (a : Action) (s : Standing) (rest : List Action) (P : ℕ → Type 0) → AreOurs asked (a ∷ rest) → AreGiven P (entry_for a s ∷ [])
+no_moment asked (act.Start k) s rest P ours = (tt, tt)
+no_moment asked (act.Quit why) s rest P ours = (tt, tt)
+no_moment asked act.Terminate s rest P ours = (tt, tt)
+no_moment asked act.KillAll s rest P ours = absurd ours
+no_moment asked act.AskCheckpoint s rest P ours = (tt, tt)
+no_moment asked act.Ready s rest P ours = (tt, tt)
+no_moment asked act.Reset s rest P ours = (tt, tt)
+no_moment asked (act.Say line) s rest P ours = (tt, tt)
+no_moment asked (act.End how) s rest P ours = (tt, tt)
 
-moment_kept : (limits : Limits) (asked : Bool) (a : Action) (s : Standing) (rest : List Action) → AreOurs limits asked (a ∷ rest) → (done a s).moment ≡ s.moment
-moment_kept limits asked (act.Start k) s rest ours = refl
-moment_kept limits asked (act.Quit why) s rest ours = refl
-moment_kept limits asked act.Terminate s rest ours = refl
-moment_kept limits asked act.KillAll s rest ours = absurd ours
-moment_kept limits asked act.AskCheckpoint s rest ours = refl
-moment_kept limits asked act.Ready s rest ours = refl
-moment_kept limits asked act.Reset s rest ours = refl
-moment_kept limits asked (act.Say line) s rest ours = refl
-moment_kept limits asked (act.End how) s rest ours = refl
+moment_kept : (asked : Bool) (a : Action) (s : Standing) (rest : List Action) → AreOurs asked (a ∷ rest) → (done a s).moment ≡ s.moment
+moment_kept asked (act.Start k) s rest ours = refl
+moment_kept asked (act.Quit why) s rest ours = refl
+moment_kept asked act.Terminate s rest ours = refl
+moment_kept asked act.KillAll s rest ours = absurd ours
+moment_kept asked act.AskCheckpoint s rest ours = refl
+moment_kept asked act.Ready s rest ours = refl
+moment_kept asked act.Reset s rest ours = refl
+moment_kept asked (act.Say line) s rest ours = refl
+moment_kept asked (act.End how) s rest ours = refl
 
 pub told_more : (told now : Option (List PmEvent)) (journal more : List PmEvent) → IfSome told (λ es. es ≡ journal) → Adds more told now → IfSome now (λ es. es ≡ journal ++ more)
 told_more None now journal more is adds = subst (λ (t : Option (List PmEvent)). IfSome t (λ es. es ≡ journal ++ more)) (sym adds) tt
@@ -213,7 +213,7 @@ at_entry goes work a before now acted lost came disk outset earlier at opened =
     let s = before.work.standing in
     let e = entry_for a s in
     let j : journal_of earlier ++ e ∷ [] ≡ journal_of (earlier ++ Notes e ∷ []) = sym (goes.journal earlier (Notes e)) in
-    let ours : AreOurs outset.limits (is_some s.machine.shutdown) (a ∷ without_first s.due) = subst (AreOurs outset.limits (is_some s.machine.shutdown)) (first_is s.due a acted.first) at.acts in
+    let ours : AreOurs (is_some s.machine.shutdown) (a ∷ without_first s.due) = subst (AreOurs (is_some s.machine.shutdown)) (first_is s.due a acted.first) at.acts in
     record {
       past = at.past;
       stands = subst (λ (t : Standing). Stands outset.limits (Some (journal_of (earlier ++ Notes e ∷ []))) t at.past) (sym acted.standing)
@@ -228,13 +228,11 @@ at_entry goes work a before now acted lost came disk outset earlier at opened =
           (subst (λ (l : List _). AsksAsDue l before.listens (done a s))
           (sym (ap asked_in (sym j) ∙ asked_in-append (journal_of earlier) (e ∷ []) ∙ ap (λ l. asked_in (journal_of earlier) ++ l) (not_asked a s) ∙ append-nil (asked_in (journal_of earlier))))
           (asks_acted a s (asked_in (journal_of earlier)) before.listens at.asks)));
-      acts = subst (AreOurs outset.limits (is_some now.work.standing.machine.shutdown)) (sym (ap (λ (t : Standing). t.due) acted.standing ∙ due_kept a s))
-          (subst (λ (b : Bool). AreOurs outset.limits b (without_first s.due)) (sym (ap (λ (t : Standing). is_some t.machine.shutdown) acted.standing ∙ ap is_some (shutdown_done a s)))
-          (ours_tail outset.limits (is_some s.machine.shutdown) a (without_first s.due) ours));
-      ends = subst (AreOurEnds outset.limits) j (ends_append outset.limits (journal_of earlier) (e ∷ []) at.ends
-          (act_ends outset.limits (is_some s.machine.shutdown) a s (without_first s.due) ours));
+      acts = subst (AreOurs (is_some now.work.standing.machine.shutdown)) (sym (ap (λ (t : Standing). t.due) acted.standing ∙ due_kept a s))
+          (subst (λ (b : Bool). AreOurs b (without_first s.due)) (sym (ap (λ (t : Standing). is_some t.machine.shutdown) acted.standing ∙ ap is_some (shutdown_done a s)))
+          (ours_tail (is_some s.machine.shutdown) a (without_first s.due) ours));
       causes = caused_entry earlier e before.auxiliaries now.auxiliaries before.outcome now.outcome (ap heard_of acted.auxiliaries ∙ acted_heard a s before.auxiliaries) came at.causes;
-      disturbed = acted_disturbed outset.limits outset.faults earlier a before now (disk outset.faults) acted.first acted.standing acted.auxiliaries ours at.disturbed;
+      disturbed = acted_disturbed outset.faults earlier a before now (disk outset.faults) acted.first acted.standing acted.auxiliaries ours at.disturbed;
     }
 
 -- ---- the whole
@@ -337,12 +335,12 @@ does_one goes work a result before now running acted kept settled on ends =
     let steps : List Step = Notes e ∷ [] in
     let rest = without_first s.due in
     let asked = is_some s.machine.shutdown in
-    let ours : AreOurs running.0.limits asked (a ∷ rest) = subst (AreOurs running.0.limits asked) (first_is s.due a acted.first) running.2.acts in
-    let same_moment : now.work.standing.moment ≡ s.moment = ap (λ (t : Standing). t.moment) acted.standing ∙ moment_kept running.0.limits asked a s rest ours in
+    let ours : AreOurs asked (a ∷ rest) = subst (AreOurs asked) (first_is s.due a acted.first) running.2.acts in
+    let same_moment : now.work.standing.moment ≡ s.moment = ap (λ (t : Standing). t.moment) acted.standing ∙ moment_kept asked a s rest ours in
     let goes_so : Goes (λ at. ⊥) steps before now = record {
       at = λ outset earlier at opened. at_entry goes work a before now acted kept.lost kept.outcome (λ from. moved_disk from before now kept.store) outset earlier at opened;
       journal = acted.told;
-      times = record { each = no_moment running.0.limits asked a s rest (IsMoment (λ at. ⊥) s.moment) ours; last = inl same_moment };
+      times = record { each = no_moment asked a s rest (IsMoment (λ at. ⊥) s.moment) ours; last = inl same_moment };
       store = spans_moves [] before.store now.store kept.store;
       still = λ none. kept.store.generation;
       unread = λ none. kept.store.unread;
@@ -430,7 +428,6 @@ does_reset goes work before now others running acted empty renewed forgotten set
                 auxiliaries = m.auxiliaries;
                 asks = subst (λ (x : List PmEvent). AsksAsDue (asked_in x) now.listens now.work.standing) j m.asks;
                 acts = m.acts;
-                ends = subst (AreOurEnds outset.limits) j m.ends;
                 causes = caused_renewal l g before.lost now.auxiliaries now.outcome now.outcome (inl refl) m.causes;
                 disturbed = renewed_disturbed outset.faults l g before.lost mid now (record { later = renewed.later; counts = renewed.renews.counts outset.faults }) refl refl m.disturbed;
               });

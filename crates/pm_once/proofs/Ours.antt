@@ -13,7 +13,6 @@ use Rattle.pm_admit.specs.Admission.{is_startup}
 use Rattle.pm_admit.specs.declared.PmState.{PmState}
 use Rattle.pm_admit.specs.declared.PmState.TheVariants as state
 use Rattle.pm_supervisor.specs.declared.Ending.TheVariants as endings
-use Rattle.pm_supervisor.specs.declared.Limits.{Limits}
 use Rattle.pm_state.specs.declared.action.Action.{Action}
 use Rattle.pm_state.specs.declared.action.Action.TheVariants as act
 use Rattle.pm_state.specs.declared.machine.Machine.{Machine}
@@ -45,208 +44,202 @@ says_by (Some Immediate) m now = tt
 pub ask_says : (m : Machine) (now : ℕ) → AreSays (asked_with (strengthen_of m.shutdown Smart) m now).acts
 ask_says m now = says_by m.shutdown m now
 
-pub says_ours : (limits : Limits) (asked : Bool) (acts : List Action) → AreSays acts → AreOurs limits asked acts
-says_ours limits asked [] says = tt
-says_ours limits asked (act.Start k ∷ acts) says = absurd says
-says_ours limits asked (act.Quit why ∷ acts) says = absurd says
-says_ours limits asked (act.Terminate ∷ acts) says = absurd says
-says_ours limits asked (act.KillAll ∷ acts) says = absurd says
-says_ours limits asked (act.AskCheckpoint ∷ acts) says = absurd says
-says_ours limits asked (act.Ready ∷ acts) says = absurd says
-says_ours limits asked (act.Reset ∷ acts) says = absurd says
-says_ours limits asked (act.Say line ∷ acts) says = says_ours limits asked acts says
-says_ours limits asked (act.End how ∷ acts) says = absurd says
+pub says_ours : (asked : Bool) (acts : List Action) → AreSays acts → AreOurs asked acts
+says_ours asked [] says = tt
+says_ours asked (act.Start k ∷ acts) says = absurd says
+says_ours asked (act.Quit why ∷ acts) says = absurd says
+says_ours asked (act.Terminate ∷ acts) says = absurd says
+says_ours asked (act.KillAll ∷ acts) says = absurd says
+says_ours asked (act.AskCheckpoint ∷ acts) says = absurd says
+says_ours asked (act.Ready ∷ acts) says = absurd says
+says_ours asked (act.Reset ∷ acts) says = absurd says
+says_ours asked (act.Say line ∷ acts) says = says_ours asked acts says
+says_ours asked (act.End how ∷ acts) says = absurd says
 
 -- ---- the end of a child
 
 -- either list, by a test
-by_test : (limits : Limits) (asked : Bool) (b : Bool) (xs ys : List Action) → AreOurs limits asked xs → AreOurs limits asked ys → AreOurs limits asked (if b then xs else ys)
-by_test limits asked true xs ys one two = one
-by_test limits asked false xs ys one two = two
+by_test : (asked : Bool) (b : Bool) (xs ys : List Action) → AreOurs asked xs → AreOurs asked ys → AreOurs asked (if b then xs else ys)
+by_test asked true xs ys one two = one
+by_test asked false xs ys one two = two
 
-crash_ours : (limits : Limits) (asked : Bool) (m : Machine) (exit : _) → AreOurs limits asked (crash_rule m exit).acts
+crash_ours : (asked : Bool) (m : Machine) (exit : _) → AreOurs asked (crash_rule m exit).acts
 unfolding crash_rule
-crash_ours limits asked m exit = by_test limits asked (not m.fatal && not (is_immediate m.shutdown)) _ _ tt tt
+crash_ours asked m exit = by_test asked (not m.fatal && not (is_immediate m.shutdown)) _ _ tt tt
 
 -- either transition, by a test
-by_case : (limits : Limits) (asked : Bool) (b : Bool) (one two : Transition) → AreOurs limits asked one.acts → AreOurs limits asked two.acts → AreOurs limits asked (if b then one else two).acts
-by_case limits asked true one two first second = first
-by_case limits asked false one two first second = second
+by_case : (asked : Bool) (b : Bool) (one two : Transition) → AreOurs asked one.acts → AreOurs asked two.acts → AreOurs asked (if b then one else two).acts
+by_case asked true one two first second = first
+by_case asked false one two first second = second
 
-startup_ours : (limits : Limits) (asked : Bool) (m : Machine) (exit : _) → AreOurs limits asked (startup_exited m exit).acts
+startup_ours : (asked : Bool) (m : Machine) (exit : _) → AreOurs asked (startup_exited m exit).acts
 unfolding startup_exited
-startup_ours limits asked m exit =
-    by_case limits asked (is_some m.shutdown && (is_exit_0 exit.status || is_exit_1 exit.status)) _ _ tt
-    (by_case limits asked (is_exit_0 exit.status) _ _ tt
-    (by_case limits asked (is_startup m.state && is_running m.startup) _ _ tt (crash_ours limits asked (without_startup m (signalled_state m.state)) exit)))
+startup_ours asked m exit =
+    by_case asked (is_some m.shutdown && (is_exit_0 exit.status || is_exit_1 exit.status)) _ _ tt
+    (by_case asked (is_exit_0 exit.status) _ _ tt
+    (by_case asked (is_startup m.state && is_running m.startup) _ _ tt (crash_ours asked (without_startup m (signalled_state m.state)) exit)))
 
-normal_ours : (limits : Limits) (asked : Bool) (c : Class) (m : Machine) (exit : _) → AreOurs limits asked (unless_normal c m exit).acts
-normal_ours limits asked class.Normal m exit = tt
-normal_ours limits asked class.Crash m exit = crash_ours limits asked m exit
-normal_ours limits asked class.StartupFailed m exit = crash_ours limits asked m exit
+normal_ours : (asked : Bool) (c : Class) (m : Machine) (exit : _) → AreOurs asked (unless_normal c m exit).acts
+normal_ours asked class.Normal m exit = tt
+normal_ours asked class.Crash m exit = crash_ours asked m exit
+normal_ours asked class.StartupFailed m exit = crash_ours asked m exit
 
-checkpointer_ours : (limits : Limits) (asked : Bool) (c : Class) (m : Machine) (exit : _) → AreOurs limits asked (checkpointer_exited c m exit).acts
-checkpointer_ours limits asked class.Normal m exit = tt
-checkpointer_ours limits asked class.Crash m exit = crash_ours limits asked m exit
-checkpointer_ours limits asked class.StartupFailed m exit = crash_ours limits asked m exit
+checkpointer_ours : (asked : Bool) (c : Class) (m : Machine) (exit : _) → AreOurs asked (checkpointer_exited c m exit).acts
+checkpointer_ours asked class.Normal m exit = tt
+checkpointer_ours asked class.Crash m exit = crash_ours asked m exit
+checkpointer_ours asked class.StartupFailed m exit = crash_ours asked m exit
 
-pub exit_ours : (limits : Limits) (asked : Bool) (k : Kind) (m : Machine) (exit : _) (active : Bool) → AreOurs limits asked (exited_by k m exit active).acts
-exit_ours limits asked kind.Startup m exit active = startup_ours limits asked m exit
-exit_ours limits asked kind.Checkpointer m exit active = checkpointer_ours limits asked (class_of kind.Checkpointer (is_shutdown m.state) active exit.status) (less_one kind.Checkpointer m) exit
-exit_ours limits asked kind.Writer m exit active = normal_ours limits asked (class_of kind.Writer (is_shutdown m.state) active exit.status) (less_one kind.Writer m) exit
-exit_ours limits asked kind.Worker m exit active = normal_ours limits asked (class_of kind.Worker (is_shutdown m.state) active exit.status) (less_one kind.Worker m) exit
-exit_ours limits asked kind.Backend m exit active = normal_ours limits asked (class_of kind.Backend (is_shutdown m.state) active exit.status) (less_one kind.Backend m) exit
-exit_ours limits asked kind.DeadEnd m exit active = normal_ours limits asked (class_of kind.DeadEnd (is_shutdown m.state) active exit.status) (less_one kind.DeadEnd m) exit
+pub exit_ours : (asked : Bool) (k : Kind) (m : Machine) (exit : _) (active : Bool) → AreOurs asked (exited_by k m exit active).acts
+exit_ours asked kind.Startup m exit active = startup_ours asked m exit
+exit_ours asked kind.Checkpointer m exit active = checkpointer_ours asked (class_of kind.Checkpointer (is_shutdown m.state) active exit.status) (less_one kind.Checkpointer m) exit
+exit_ours asked kind.Writer m exit active = normal_ours asked (class_of kind.Writer (is_shutdown m.state) active exit.status) (less_one kind.Writer m) exit
+exit_ours asked kind.Worker m exit active = normal_ours asked (class_of kind.Worker (is_shutdown m.state) active exit.status) (less_one kind.Worker m) exit
+exit_ours asked kind.Backend m exit active = normal_ours asked (class_of kind.Backend (is_shutdown m.state) active exit.status) (less_one kind.Backend m) exit
+exit_ours asked kind.DeadEnd m exit active = normal_ours asked (class_of kind.DeadEnd (is_shutdown m.state) active exit.status) (less_one kind.DeadEnd m) exit
 
 -- ---- a turn
 
-both_ours : (limits : Limits) (asked : Bool) (xs ys : List Action) → AreOurs limits asked xs → AreOurs limits asked ys → AreOurs limits asked (xs ++ ys)
-both_ours limits asked [] ys one two = two
-both_ours limits asked (act.Start k ∷ xs) ys one two = both_ours limits asked xs ys one two
-both_ours limits asked (act.Quit why ∷ xs) ys one two = both_ours limits asked xs ys one two
-both_ours limits asked (act.Terminate ∷ xs) ys one two = both_ours limits asked xs ys one two
-both_ours limits asked (act.KillAll ∷ xs) ys one two = absurd one
-both_ours limits asked (act.AskCheckpoint ∷ xs) ys one two = both_ours limits asked xs ys one two
-both_ours limits asked (act.Ready ∷ xs) ys one two = both_ours limits asked xs ys one two
-both_ours limits asked (act.Reset ∷ xs) ys one two = (one.0, both_ours limits asked xs ys one.1 two)
-both_ours limits asked (act.Say line ∷ xs) ys one two = both_ours limits asked xs ys one two
-both_ours limits asked (act.End endings.Clean ∷ xs) ys one two = both_ours limits asked xs ys one two
-both_ours limits asked (act.End endings.AfterCrash ∷ xs) ys one two = both_ours limits asked xs ys one two
-both_ours limits asked (act.End endings.StartupFailed ∷ xs) ys one two = both_ours limits asked xs ys one two
-both_ours limits asked (act.End endings.RestartOff ∷ xs) ys one two = (one.0, one.1, both_ours limits asked xs ys one.2 two)
+both_ours : (asked : Bool) (xs ys : List Action) → AreOurs asked xs → AreOurs asked ys → AreOurs asked (xs ++ ys)
+both_ours asked [] ys one two = two
+both_ours asked (act.Start k ∷ xs) ys one two = both_ours asked xs ys one two
+both_ours asked (act.Quit why ∷ xs) ys one two = both_ours asked xs ys one two
+both_ours asked (act.Terminate ∷ xs) ys one two = both_ours asked xs ys one two
+both_ours asked (act.KillAll ∷ xs) ys one two = absurd one
+both_ours asked (act.AskCheckpoint ∷ xs) ys one two = both_ours asked xs ys one two
+both_ours asked (act.Ready ∷ xs) ys one two = both_ours asked xs ys one two
+both_ours asked (act.Reset ∷ xs) ys one two = (one.0, both_ours asked xs ys one.1 two)
+both_ours asked (act.Say line ∷ xs) ys one two = both_ours asked xs ys one two
+both_ours asked (act.End endings.Clean ∷ xs) ys one two = both_ours asked xs ys one two
+both_ours asked (act.End endings.AfterCrash ∷ xs) ys one two = both_ours asked xs ys one two
+both_ours asked (act.End endings.StartupFailed ∷ xs) ys one two = both_ours asked xs ys one two
+both_ours asked (act.End endings.RestartOff ∷ xs) ys one two = (one.0, both_ours asked xs ys one.1 two)
 
--- a machine of these limits, asked to shut down or not
-abbrev pub IsOf : Limits → Bool → Machine → Type 0
-IsOf limits asked m = (m.limits ≡ limits) × (is_some m.shutdown ≡ asked)
+-- a machine that was asked to shut down, or not
+abbrev pub IsOf : Bool → Machine → Type 0
+IsOf asked m = is_some m.shutdown ≡ asked
 
--- a rule of a turn, with the limits of its machine
-pub record IsRule (limits : Limits) (asked : Bool) (m : Machine) (t : Transition) : Type 0 where
-  pub acts : AreOurs limits asked t.acts
-  pub limits_are : t.after.limits ≡ m.limits
+-- a rule of a turn, and the request that its machine goes on with
+pub record IsRule (asked : Bool) (m : Machine) (t : Transition) : Type 0 where
+  pub acts : AreOurs asked t.acts
   pub shutdown_is : t.after.shutdown ≡ m.shutdown
 
-rule_by : (limits : Limits) (asked : Bool) (m : Machine) (b : Bool) (one two : Transition) → (b ≡ true → IsRule limits asked m one) → (b ≡ false → IsRule limits asked m two) → IsRule limits asked m (if b then one else two)
-rule_by limits asked m true one two first second = first refl
-rule_by limits asked m false one two first second = second refl
+rule_by : (asked : Bool) (m : Machine) (b : Bool) (one two : Transition) → (b ≡ true → IsRule asked m one) → (b ≡ false → IsRule asked m two) → IsRule asked m (if b then one else two)
+rule_by asked m true one two first second = first refl
+rule_by asked m false one two first second = second refl
 
-start_recovery_case : (limits : Limits) (asked : Bool) (st : PmState) (m : Machine) → IsOf limits asked m → IsRule limits asked m (start_recovery_in st m)
-start_recovery_case limits asked state.Init m same = record { acts = tt; limits_are = refl; shutdown_is = refl }
-start_recovery_case limits asked state.Startup m same = record { acts = tt; limits_are = refl; shutdown_is = refl }
-start_recovery_case limits asked state.Run m same = record { acts = tt; limits_are = refl; shutdown_is = refl }
-start_recovery_case limits asked state.StopBackends m same = record { acts = tt; limits_are = refl; shutdown_is = refl }
-start_recovery_case limits asked state.WaitBackends m same = record { acts = tt; limits_are = refl; shutdown_is = refl }
-start_recovery_case limits asked state.Shutdown m same = record { acts = tt; limits_are = refl; shutdown_is = refl }
-start_recovery_case limits asked state.WaitDeadEnd m same = record { acts = tt; limits_are = refl; shutdown_is = refl }
-start_recovery_case limits asked state.NoChildren m same = record { acts = tt; limits_are = refl; shutdown_is = refl }
+start_recovery_case : (asked : Bool) (st : PmState) (m : Machine) → IsOf asked m → IsRule asked m (start_recovery_in st m)
+start_recovery_case asked state.Init m same = record { acts = tt; shutdown_is = refl }
+start_recovery_case asked state.Startup m same = record { acts = tt; shutdown_is = refl }
+start_recovery_case asked state.Run m same = record { acts = tt; shutdown_is = refl }
+start_recovery_case asked state.StopBackends m same = record { acts = tt; shutdown_is = refl }
+start_recovery_case asked state.WaitBackends m same = record { acts = tt; shutdown_is = refl }
+start_recovery_case asked state.Shutdown m same = record { acts = tt; shutdown_is = refl }
+start_recovery_case asked state.WaitDeadEnd m same = record { acts = tt; shutdown_is = refl }
+start_recovery_case asked state.NoChildren m same = record { acts = tt; shutdown_is = refl }
 
-pub start_recovery_rule : (limits : Limits) (asked : Bool) (m : Machine) → IsOf limits asked m → IsRule limits asked m (start_recovery m)
+pub start_recovery_rule : (asked : Bool) (m : Machine) → IsOf asked m → IsRule asked m (start_recovery m)
 unfolding start_recovery
-start_recovery_rule limits asked m same = start_recovery_case limits asked m.state m same
+start_recovery_rule asked m same = start_recovery_case asked m.state m same
 
-restart_writer_case : (limits : Limits) (asked : Bool) (st : PmState) (m : Machine) → IsOf limits asked m → IsRule limits asked m (restart_writer_in st m)
-restart_writer_case limits asked state.Init m same = record { acts = tt; limits_are = refl; shutdown_is = refl }
-restart_writer_case limits asked state.Startup m same = record { acts = tt; limits_are = refl; shutdown_is = refl }
-restart_writer_case limits asked state.Run m same = rule_by limits asked m (m.conns && not m.writer) _ _ (λ is. record { acts = tt; limits_are = refl; shutdown_is = refl }) (λ is. record { acts = tt; limits_are = refl; shutdown_is = refl })
-restart_writer_case limits asked state.StopBackends m same = record { acts = tt; limits_are = refl; shutdown_is = refl }
-restart_writer_case limits asked state.WaitBackends m same = record { acts = tt; limits_are = refl; shutdown_is = refl }
-restart_writer_case limits asked state.Shutdown m same = record { acts = tt; limits_are = refl; shutdown_is = refl }
-restart_writer_case limits asked state.WaitDeadEnd m same = record { acts = tt; limits_are = refl; shutdown_is = refl }
-restart_writer_case limits asked state.NoChildren m same = record { acts = tt; limits_are = refl; shutdown_is = refl }
+restart_writer_case : (asked : Bool) (st : PmState) (m : Machine) → IsOf asked m → IsRule asked m (restart_writer_in st m)
+restart_writer_case asked state.Init m same = record { acts = tt; shutdown_is = refl }
+restart_writer_case asked state.Startup m same = record { acts = tt; shutdown_is = refl }
+restart_writer_case asked state.Run m same = rule_by asked m (m.conns && not m.writer) _ _ (λ is. record { acts = tt; shutdown_is = refl }) (λ is. record { acts = tt; shutdown_is = refl })
+restart_writer_case asked state.StopBackends m same = record { acts = tt; shutdown_is = refl }
+restart_writer_case asked state.WaitBackends m same = record { acts = tt; shutdown_is = refl }
+restart_writer_case asked state.Shutdown m same = record { acts = tt; shutdown_is = refl }
+restart_writer_case asked state.WaitDeadEnd m same = record { acts = tt; shutdown_is = refl }
+restart_writer_case asked state.NoChildren m same = record { acts = tt; shutdown_is = refl }
 
-pub restart_writer_rule : (limits : Limits) (asked : Bool) (m : Machine) → IsOf limits asked m → IsRule limits asked m (restart_writer m)
+pub restart_writer_rule : (asked : Bool) (m : Machine) → IsOf asked m → IsRule asked m (restart_writer m)
 unfolding restart_writer
-restart_writer_rule limits asked m same = restart_writer_case limits asked m.state m same
+restart_writer_rule asked m same = restart_writer_case asked m.state m same
 
-end_smart_case : (limits : Limits) (asked : Bool) (st : PmState) (m : Machine) → IsOf limits asked m → IsRule limits asked m (end_smart_in st m)
-end_smart_case limits asked state.Init m same = record { acts = tt; limits_are = refl; shutdown_is = refl }
-end_smart_case limits asked state.Startup m same = record { acts = tt; limits_are = refl; shutdown_is = refl }
-end_smart_case limits asked state.Run m same = rule_by limits asked m (not m.conns && (m.children == 0)) _ _ (λ is. record { acts = tt; limits_are = refl; shutdown_is = refl }) (λ is. record { acts = tt; limits_are = refl; shutdown_is = refl })
-end_smart_case limits asked state.StopBackends m same = record { acts = tt; limits_are = refl; shutdown_is = refl }
-end_smart_case limits asked state.WaitBackends m same = record { acts = tt; limits_are = refl; shutdown_is = refl }
-end_smart_case limits asked state.Shutdown m same = record { acts = tt; limits_are = refl; shutdown_is = refl }
-end_smart_case limits asked state.WaitDeadEnd m same = record { acts = tt; limits_are = refl; shutdown_is = refl }
-end_smart_case limits asked state.NoChildren m same = record { acts = tt; limits_are = refl; shutdown_is = refl }
+end_smart_case : (asked : Bool) (st : PmState) (m : Machine) → IsOf asked m → IsRule asked m (end_smart_in st m)
+end_smart_case asked state.Init m same = record { acts = tt; shutdown_is = refl }
+end_smart_case asked state.Startup m same = record { acts = tt; shutdown_is = refl }
+end_smart_case asked state.Run m same = rule_by asked m (not m.conns && (m.children == 0)) _ _ (λ is. record { acts = tt; shutdown_is = refl }) (λ is. record { acts = tt; shutdown_is = refl })
+end_smart_case asked state.StopBackends m same = record { acts = tt; shutdown_is = refl }
+end_smart_case asked state.WaitBackends m same = record { acts = tt; shutdown_is = refl }
+end_smart_case asked state.Shutdown m same = record { acts = tt; shutdown_is = refl }
+end_smart_case asked state.WaitDeadEnd m same = record { acts = tt; shutdown_is = refl }
+end_smart_case asked state.NoChildren m same = record { acts = tt; shutdown_is = refl }
 
-pub end_smart_rule : (limits : Limits) (asked : Bool) (m : Machine) → IsOf limits asked m → IsRule limits asked m (end_smart m)
+pub end_smart_rule : (asked : Bool) (m : Machine) → IsOf asked m → IsRule asked m (end_smart m)
 unfolding end_smart
-end_smart_rule limits asked m same = end_smart_case limits asked m.state m same
+end_smart_rule asked m same = end_smart_case asked m.state m same
 
-stop_backends_case : (limits : Limits) (asked : Bool) (st : PmState) (m : Machine) → IsOf limits asked m → IsRule limits asked m (stop_backends_in st m)
-stop_backends_case limits asked state.Init m same = record { acts = tt; limits_are = refl; shutdown_is = refl }
-stop_backends_case limits asked state.Startup m same = record { acts = tt; limits_are = refl; shutdown_is = refl }
-stop_backends_case limits asked state.Run m same = record { acts = tt; limits_are = refl; shutdown_is = refl }
-stop_backends_case limits asked state.StopBackends m same = record { acts = tt; limits_are = refl; shutdown_is = refl }
-stop_backends_case limits asked state.WaitBackends m same = record { acts = tt; limits_are = refl; shutdown_is = refl }
-stop_backends_case limits asked state.Shutdown m same = record { acts = tt; limits_are = refl; shutdown_is = refl }
-stop_backends_case limits asked state.WaitDeadEnd m same = record { acts = tt; limits_are = refl; shutdown_is = refl }
-stop_backends_case limits asked state.NoChildren m same = record { acts = tt; limits_are = refl; shutdown_is = refl }
+stop_backends_case : (asked : Bool) (st : PmState) (m : Machine) → IsOf asked m → IsRule asked m (stop_backends_in st m)
+stop_backends_case asked state.Init m same = record { acts = tt; shutdown_is = refl }
+stop_backends_case asked state.Startup m same = record { acts = tt; shutdown_is = refl }
+stop_backends_case asked state.Run m same = record { acts = tt; shutdown_is = refl }
+stop_backends_case asked state.StopBackends m same = record { acts = tt; shutdown_is = refl }
+stop_backends_case asked state.WaitBackends m same = record { acts = tt; shutdown_is = refl }
+stop_backends_case asked state.Shutdown m same = record { acts = tt; shutdown_is = refl }
+stop_backends_case asked state.WaitDeadEnd m same = record { acts = tt; shutdown_is = refl }
+stop_backends_case asked state.NoChildren m same = record { acts = tt; shutdown_is = refl }
 
-pub stop_backends_rule : (limits : Limits) (asked : Bool) (m : Machine) → IsOf limits asked m → IsRule limits asked m (stop_backends m)
+pub stop_backends_rule : (asked : Bool) (m : Machine) → IsOf asked m → IsRule asked m (stop_backends m)
 unfolding stop_backends
-stop_backends_rule limits asked m same = stop_backends_case limits asked m.state m same
+stop_backends_rule asked m same = stop_backends_case asked m.state m same
 
-backends_gone_case : (limits : Limits) (asked : Bool) (st : PmState) (m : Machine) → IsOf limits asked m → IsRule limits asked m (backends_gone_in st m)
-backends_gone_case limits asked state.Init m same = record { acts = tt; limits_are = refl; shutdown_is = refl }
-backends_gone_case limits asked state.Startup m same = record { acts = tt; limits_are = refl; shutdown_is = refl }
-backends_gone_case limits asked state.Run m same = record { acts = tt; limits_are = refl; shutdown_is = refl }
-backends_gone_case limits asked state.StopBackends m same = record { acts = tt; limits_are = refl; shutdown_is = refl }
-backends_gone_case limits asked state.WaitBackends m same = rule_by limits asked m (not (are_backends_gone m)) _ _ (λ is. record { acts = tt; limits_are = refl; shutdown_is = refl }) (λ is. rule_by limits asked m (m.fatal || is_immediate m.shutdown) _ _ (λ other. rule_by limits asked m (m.checkpointer) _ _ (λ is. record { acts = tt; limits_are = refl; shutdown_is = refl }) (λ is. record { acts = tt; limits_are = refl; shutdown_is = refl })) (λ other. rule_by limits asked m (m.checkpointer) _ _ (λ is. record { acts = tt; limits_are = refl; shutdown_is = refl }) (λ is. record { acts = tt; limits_are = refl; shutdown_is = refl })))
-backends_gone_case limits asked state.Shutdown m same = record { acts = tt; limits_are = refl; shutdown_is = refl }
-backends_gone_case limits asked state.WaitDeadEnd m same = record { acts = tt; limits_are = refl; shutdown_is = refl }
-backends_gone_case limits asked state.NoChildren m same = record { acts = tt; limits_are = refl; shutdown_is = refl }
+backends_gone_case : (asked : Bool) (st : PmState) (m : Machine) → IsOf asked m → IsRule asked m (backends_gone_in st m)
+backends_gone_case asked state.Init m same = record { acts = tt; shutdown_is = refl }
+backends_gone_case asked state.Startup m same = record { acts = tt; shutdown_is = refl }
+backends_gone_case asked state.Run m same = record { acts = tt; shutdown_is = refl }
+backends_gone_case asked state.StopBackends m same = record { acts = tt; shutdown_is = refl }
+backends_gone_case asked state.WaitBackends m same = rule_by asked m (not (are_backends_gone m)) _ _ (λ is. record { acts = tt; shutdown_is = refl }) (λ is. rule_by asked m (m.fatal || is_immediate m.shutdown) _ _ (λ other. rule_by asked m (m.checkpointer) _ _ (λ is. record { acts = tt; shutdown_is = refl }) (λ is. record { acts = tt; shutdown_is = refl })) (λ other. rule_by asked m (m.checkpointer) _ _ (λ is. record { acts = tt; shutdown_is = refl }) (λ is. record { acts = tt; shutdown_is = refl })))
+backends_gone_case asked state.Shutdown m same = record { acts = tt; shutdown_is = refl }
+backends_gone_case asked state.WaitDeadEnd m same = record { acts = tt; shutdown_is = refl }
+backends_gone_case asked state.NoChildren m same = record { acts = tt; shutdown_is = refl }
 
-pub backends_gone_rule : (limits : Limits) (asked : Bool) (m : Machine) → IsOf limits asked m → IsRule limits asked m (backends_gone m)
+pub backends_gone_rule : (asked : Bool) (m : Machine) → IsOf asked m → IsRule asked m (backends_gone m)
 unfolding backends_gone
-backends_gone_rule limits asked m same = backends_gone_case limits asked m.state m same
+backends_gone_rule asked m same = backends_gone_case asked m.state m same
 
-dead_ends_gone_case : (limits : Limits) (asked : Bool) (st : PmState) (m : Machine) → IsOf limits asked m → IsRule limits asked m (dead_ends_gone_in st m)
-dead_ends_gone_case limits asked state.Init m same = record { acts = tt; limits_are = refl; shutdown_is = refl }
-dead_ends_gone_case limits asked state.Startup m same = record { acts = tt; limits_are = refl; shutdown_is = refl }
-dead_ends_gone_case limits asked state.Run m same = record { acts = tt; limits_are = refl; shutdown_is = refl }
-dead_ends_gone_case limits asked state.StopBackends m same = record { acts = tt; limits_are = refl; shutdown_is = refl }
-dead_ends_gone_case limits asked state.WaitBackends m same = record { acts = tt; limits_are = refl; shutdown_is = refl }
-dead_ends_gone_case limits asked state.Shutdown m same = record { acts = tt; limits_are = refl; shutdown_is = refl }
-dead_ends_gone_case limits asked state.WaitDeadEnd m same = rule_by limits asked m (are_backends_gone m && not m.checkpointer && (m.dead_ends == 0)) _ _ (λ is. record { acts = tt; limits_are = refl; shutdown_is = refl }) (λ is. record { acts = tt; limits_are = refl; shutdown_is = refl })
-dead_ends_gone_case limits asked state.NoChildren m same = record { acts = tt; limits_are = refl; shutdown_is = refl }
+dead_ends_gone_case : (asked : Bool) (st : PmState) (m : Machine) → IsOf asked m → IsRule asked m (dead_ends_gone_in st m)
+dead_ends_gone_case asked state.Init m same = record { acts = tt; shutdown_is = refl }
+dead_ends_gone_case asked state.Startup m same = record { acts = tt; shutdown_is = refl }
+dead_ends_gone_case asked state.Run m same = record { acts = tt; shutdown_is = refl }
+dead_ends_gone_case asked state.StopBackends m same = record { acts = tt; shutdown_is = refl }
+dead_ends_gone_case asked state.WaitBackends m same = record { acts = tt; shutdown_is = refl }
+dead_ends_gone_case asked state.Shutdown m same = record { acts = tt; shutdown_is = refl }
+dead_ends_gone_case asked state.WaitDeadEnd m same = rule_by asked m (are_backends_gone m && not m.checkpointer && (m.dead_ends == 0)) _ _ (λ is. record { acts = tt; shutdown_is = refl }) (λ is. record { acts = tt; shutdown_is = refl })
+dead_ends_gone_case asked state.NoChildren m same = record { acts = tt; shutdown_is = refl }
 
-pub dead_ends_gone_rule : (limits : Limits) (asked : Bool) (m : Machine) → IsOf limits asked m → IsRule limits asked m (dead_ends_gone m)
+pub dead_ends_gone_rule : (asked : Bool) (m : Machine) → IsOf asked m → IsRule asked m (dead_ends_gone m)
 unfolding dead_ends_gone
-dead_ends_gone_rule limits asked m same = dead_ends_gone_case limits asked m.state m same
+dead_ends_gone_rule asked m same = dead_ends_gone_case asked m.state m same
 
-is_off : (b : Bool) → not b ≡ true → b ≡ false
-is_off true off = cc
-is_off false off = refl
+children_gone_case : (asked : Bool) (st : PmState) (m : Machine) → IsOf asked m → IsRule asked m (children_gone_in st m)
+children_gone_case asked state.Init m same = record { acts = tt; shutdown_is = refl }
+children_gone_case asked state.Startup m same = record { acts = tt; shutdown_is = refl }
+children_gone_case asked state.Run m same = record { acts = tt; shutdown_is = refl }
+children_gone_case asked state.StopBackends m same = record { acts = tt; shutdown_is = refl }
+children_gone_case asked state.WaitBackends m same = record { acts = tt; shutdown_is = refl }
+children_gone_case asked state.Shutdown m same = record { acts = tt; shutdown_is = refl }
+children_gone_case asked state.WaitDeadEnd m same = record { acts = tt; shutdown_is = refl }
+children_gone_case asked state.NoChildren m same = rule_by asked m (is_some m.shutdown && m.fatal) _ _ (λ is. record { acts = tt; shutdown_is = refl }) (λ is. rule_by asked m (is_some m.shutdown) _ _ (λ is. record { acts = tt; shutdown_is = refl }) (λ other. rule_by asked m (not m.limits.restart_after_crash) _ _ (λ off. record { acts = (sym same ∙ other, tt); shutdown_is = refl }) (λ is. record { acts = (sym same ∙ other, tt); shutdown_is = refl })))
 
-children_gone_case : (limits : Limits) (asked : Bool) (st : PmState) (m : Machine) → IsOf limits asked m → IsRule limits asked m (children_gone_in st m)
-children_gone_case limits asked state.Init m same = record { acts = tt; limits_are = refl; shutdown_is = refl }
-children_gone_case limits asked state.Startup m same = record { acts = tt; limits_are = refl; shutdown_is = refl }
-children_gone_case limits asked state.Run m same = record { acts = tt; limits_are = refl; shutdown_is = refl }
-children_gone_case limits asked state.StopBackends m same = record { acts = tt; limits_are = refl; shutdown_is = refl }
-children_gone_case limits asked state.WaitBackends m same = record { acts = tt; limits_are = refl; shutdown_is = refl }
-children_gone_case limits asked state.Shutdown m same = record { acts = tt; limits_are = refl; shutdown_is = refl }
-children_gone_case limits asked state.WaitDeadEnd m same = record { acts = tt; limits_are = refl; shutdown_is = refl }
-children_gone_case limits asked state.NoChildren m same = rule_by limits asked m (is_some m.shutdown && m.fatal) _ _ (λ is. record { acts = tt; limits_are = refl; shutdown_is = refl }) (λ is. rule_by limits asked m (is_some m.shutdown) _ _ (λ is. record { acts = tt; limits_are = refl; shutdown_is = refl }) (λ other. rule_by limits asked m (not m.limits.restart_after_crash) _ _ (λ off. record { acts = (ap (λ (l : Limits). l.restart_after_crash) (sym same.0) ∙ is_off m.limits.restart_after_crash off, sym same.1 ∙ other, tt); limits_are = refl; shutdown_is = refl }) (λ is. record { acts = (sym same.1 ∙ other, tt); limits_are = refl; shutdown_is = refl })))
-
-pub children_gone_rule : (limits : Limits) (asked : Bool) (m : Machine) → IsOf limits asked m → IsRule limits asked m (children_gone m)
+pub children_gone_rule : (asked : Bool) (m : Machine) → IsOf asked m → IsRule asked m (children_gone m)
 unfolding children_gone
-children_gone_rule limits asked m same = children_gone_case limits asked m.state m same
+children_gone_rule asked m same = children_gone_case asked m.state m same
 
-then_rule : (limits : Limits) (asked : Bool) (m : Machine) (t : Transition) (rule : Machine → Transition) → IsOf limits asked m → IsRule limits asked m t → ((n : Machine) → IsOf limits asked n → IsRule limits asked n (rule n)) → IsRule limits asked m (and_then t rule)
-then_rule limits asked m t rule same one next =
-    let two = next t.after (one.limits_are ∙ same.0, ap is_some one.shutdown_is ∙ same.1) in
+then_rule : (asked : Bool) (m : Machine) (t : Transition) (rule : Machine → Transition) → IsOf asked m → IsRule asked m t → ((n : Machine) → IsOf asked n → IsRule asked n (rule n)) → IsRule asked m (and_then t rule)
+then_rule asked m t rule same one next =
+    let two = next t.after (ap is_some one.shutdown_is ∙ same) in
     record {
-      acts = both_ours limits asked t.acts (rule t.after).acts one.acts two.acts;
-      limits_are = two.limits_are ∙ one.limits_are;
+      acts = both_ours asked t.acts (rule t.after).acts one.acts two.acts;
       shutdown_is = two.shutdown_is ∙ one.shutdown_is;
     }
 
-pub turn_rule : (limits : Limits) (asked : Bool) (m : Machine) → IsOf limits asked m → IsRule limits asked m (turned_of m)
+pub turn_rule : (asked : Bool) (m : Machine) → IsOf asked m → IsRule asked m (turned_of m)
 unfolding turned_of
-turn_rule limits asked m same =
-    (then_rule limits asked m _ children_gone same
-    (then_rule limits asked m _ dead_ends_gone same
-    (then_rule limits asked m _ backends_gone same
-    (then_rule limits asked m _ stop_backends same
-    (then_rule limits asked m _ end_smart same
-    (then_rule limits asked m _ restart_writer same (start_recovery_rule limits asked m same)
-    (restart_writer_rule limits asked)) (end_smart_rule limits asked)) (stop_backends_rule limits asked)) (backends_gone_rule limits asked)) (dead_ends_gone_rule limits asked)) (children_gone_rule limits asked))
+turn_rule asked m same =
+    (then_rule asked m _ children_gone same
+    (then_rule asked m _ dead_ends_gone same
+    (then_rule asked m _ backends_gone same
+    (then_rule asked m _ stop_backends same
+    (then_rule asked m _ end_smart same
+    (then_rule asked m _ restart_writer same (start_recovery_rule asked m same)
+    (restart_writer_rule asked)) (end_smart_rule asked)) (stop_backends_rule asked)) (backends_gone_rule asked)) (dead_ends_gone_rule asked)) (children_gone_rule asked))

@@ -24,7 +24,7 @@ use Rattle.pm_journal.specs.declared.roll.Enrolled.{Enrolled}
 use Rattle.pm_journal.specs.Standing.{Standing, exiting, later, redo_entries}
 use Rattle.pm_journal.specs.Stands.{Remembers, Stands}
 use Rattle.pm_once.specs.Calls.{IsOff, exit_of}
-use Rattle.pm_once.specs.Goes.{accepted_in, asked_in}
+use Rattle.pm_server.specs.Journal.{accepted_in, asked_in}
 use Rattle.pm_once.specs.Auxiliaries.{AreThere, IsPresent}
 use Rattle.pm_once.specs.declared.auxiliaries.Auxiliaries.{Auxiliaries}
 

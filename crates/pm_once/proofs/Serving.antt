@@ -15,13 +15,14 @@ use Rattle.pm_journal.specs.declared.exit.ChildExit.{ChildExit}
 use Rattle.pm_journal.specs.declared.supervision.Taken.{Taken}
 use Rattle.pm_journal.specs.Standing.{later}
 use Rattle.pm_once.specs.Calls.{Asks, Finishes, exit_of}
-use Rattle.pm_once.specs.Goes.{IsEndOf, IsIdle, ServesNone, StaysOpen, accepted_in, asked_in, is_last_drawn, sessions_in}
+use Rattle.pm_once.specs.Goes.{IsEndOf, IsIdle, ServesNone, StaysOpen, is_last_drawn, sessions_in}
+use Rattle.pm_server.specs.Journal.{accepted_in, asked_in}
 use Rattle.pm_once.specs.Serves.{AreNumbered, HasServed, IsServed, Serves, passed, taken_for}
 use Rattle.pm_once.specs.Service.{Connection, IsOfItself, IsServedAs, is_panic, is_signal, run_of, visit_of, with_connections, with_end}
 use Rattle.pm_once.specs.View.{View}
-use Rattle.pm_once.specs.declared.end.ServerEnd.{ServerEnd}
-use Rattle.pm_once.specs.declared.end.ServerEnd.TheVariants.{NoMemory}
-use Rattle.pm_once.proofs.Entries.{accepted_in-append, asked_in-append}
+use Rattle.pm_server.specs.declared.end.ServerEnd.{ServerEnd}
+use Rattle.pm_server.specs.declared.end.ServerEnd.TheVariants.{NoMemory}
+use Rattle.pm_server.specs.JournalLaws.{accepted_in-append, asked_in-append}
 use Rattle.pm_once.proofs.Going.{does_nothing, end_behind, goes_on, journal-append, sessions-append, stays_on}
 use Rattle.pm_once.proofs.Links.{both_changes, no_change}
 

@@ -13,7 +13,7 @@ use Rattle.pm_session.specs.Session.{EndsAt, IsText, TurnsAway, status_by}
 use Rattle.pm_session.specs.declared.ending.Cause.{Cause}
 use Rattle.pm_session.specs.declared.ending.Cause.TheVariants.{Terminated, Cancelling, LinkEnded, LinkFailed, TimedOut, PacketRefused, MessageRefused, DecisionRefused, GateRefused, ShortOfMemory, Panicked, ToldToTerminate, ToldToQuit, Killed, Overtaken}
 use Rattle.pm_startup.specs.declared.packet.StartFault.TheVariants as packets
-use Rattle.pm_once.specs.Calls.{IsFineExit}
+use Rattle.pm_once.specs.Undisturbed.{IsFineExit}
 use Rattle.pm_once.specs.Service.{Connection, IsOfItself, IsServedAs, is_panic, run_of, user_in}
 use Rattle.pm_once.specs.View.{View}
 

@@ -166,7 +166,16 @@ served_alone notes before now has told home pid generation key limit gives endin
         child = child;
         attached = home_attached ending home generation child at attached;
         cancels = cancels;
-        caused = record { cause = caused.cause; exit = caused.exit; gate = home_entered home told ending.stage generation at caused.gate; out = caused.out; heeded = caused.heeded; cancelled = caused.cancelled };
+        caused = record {
+          cause = caused.cause;
+          exit = caused.exit;
+          gate = home_entered home told ending.stage generation at caused.gate;
+          out = caused.out;
+          heeded = caused.heeded;
+          sound = caused.sound;
+          slept = caused.slept;
+          cancelled = caused.cancelled;
+        };
         alone = record {
           cause = of_itself home has told ending.cause back.traffic (HasFailed given back) limit gives none met caused.cause (never_overtaken home pid key turns ending session.came_in session.whole session.noted text);
           exit = as_caused told ending back.traffic (HasFailed given back) limit gives none caused.exit ending.exits;

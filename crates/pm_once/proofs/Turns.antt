@@ -2,9 +2,8 @@
 use Rattle.std.proofs.Common.{◌≡◌, inl, inr, ℕ, List, [], ◌++◌, Option, Result, Ok, Err, refl, sym, ◌∙◌, ap, subst}
 use Rattle.std.specs.Prelude.{Bool, true, false, OnOk}
 use Rattle.pm_outside.specs.Visits.{Visits}
-use Rattle.pm_chain.specs.Laws.{StepsGoOn}
 use Rattle.pm_chain.specs.Steps.{Step}
-use Rattle.pm_journal.specs.Laws.{GoesOnOverItsJournal, KeepsALegalJournal}
+use Rattle.pm_journal.specs.Laws.{GoesOnOverItsJournal}
 use Rattle.pm_journal.specs.Standing.{IsAtRest, Standing, made, turning}
 use Rattle.pm_journal.specs.Stands.{AtWork, IsSettled}
 use Rattle.pm_once.specs.Calls.{Acts, Asks, Finishes, Turns}
@@ -12,8 +11,8 @@ use Rattle.pm_once.specs.Goes.{IsIdle, IsRunning, is_last_drawn}
 use Rattle.pm_once.specs.Serves.{HasServed, Serves}
 use Rattle.pm_once.specs.Service.{Connection}
 use Rattle.pm_once.specs.View.{View}
-use Rattle.pm_once.specs.declared.end.ServerEnd.{ServerEnd}
-use Rattle.pm_once.specs.declared.end.ServerEnd.TheVariants.{NoMemory}
+use Rattle.pm_server.specs.declared.end.ServerEnd.{ServerEnd}
+use Rattle.pm_server.specs.declared.end.ServerEnd.TheVariants.{NoMemory}
 use Rattle.pm_once.proofs.Alls.{running_on}
 use Rattle.pm_once.proofs.Calling.{turned}
 use Rattle.pm_once.proofs.Finishing.{is_drawn}
@@ -21,15 +20,15 @@ use Rattle.pm_once.proofs.Going.{does_any, does_then, goes_none, serves_nothing}
 use Rattle.pm_once.proofs.Nexts.{same_work}
 use Rattle.pm_once.proofs.Serving.{finishes_serves, nothing_served, served_on, serves_on}
 
-pub turn_running : StepsGoOn → GoesOnOverItsJournal → KeepsALegalJournal → (before : View) (w : AtWork) → IsRunning before → IsIdle before.work.standing → w.standing ≡ made turning before.work.standing → w.told ≡ before.work.told → IsRunning (record before { work = w })
-turn_running goes work legal before w running idle standing told =
-    let one = turned goes work legal (λ at. ⊥) before w idle standing told in
+pub turn_running : GoesOnOverItsJournal → (before : View) (w : AtWork) → IsRunning before → IsIdle before.work.standing → w.standing ≡ made turning before.work.standing → w.told ≡ before.work.told → IsRunning (record before { work = w })
+turn_running work before w running idle standing told =
+    let one = turned work (λ at. ⊥) before w idle standing told in
     running_on (λ at. ⊥) [] before (record before { work = w }) running one.goes one.stays
 
-pub turns_ok : StepsGoOn → GoesOnOverItsJournal → KeepsALegalJournal → (before : View) (w : AtWork) (result : Result (Unit {0}) ServerEnd) (steps : List Step) (now : View) → IsIdle before.work.standing
+pub turns_ok : GoesOnOverItsJournal → (before : View) (w : AtWork) (result : Result (Unit {0}) ServerEnd) (steps : List Step) (now : View) → IsIdle before.work.standing
     → w.standing ≡ made turning before.work.standing → w.told ≡ before.work.told → IsSettled w.standing → Acts result steps (record before { work = w }) now → Turns result steps before now
-turns_ok goes work legal before w result steps now idle standing told settled acts =
-    let one = turned goes work legal (λ at. ⊥) before w idle standing told in
+turns_ok work before w result steps now idle standing told settled acts =
+    let one = turned work (λ at. ⊥) before w idle standing told in
     record {
       does = does_then (λ at. ⊥) result [] steps before (record before { work = w }) now one acts.does;
       rests = elim result as (λ r. OnOk r (now.work.standing.due ≡ []) → OnOk r (now.work.standing.ended ≡ w.standing.ended) → OnOk r (IsAtRest now.work.standing)) [

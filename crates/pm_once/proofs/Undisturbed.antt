@@ -1,7 +1,7 @@
 -- A server that nothing has disturbed stays so, call by call and act by act.
 use Rattle.std.proofs.Common.{◌≡◌, ◌⊎◌, inl, inr, ℕ, ◌≤◌, List, [], ◌∷◌, ◌++◌, Option, None, Some, Result, Ok, Err, refl, sym, ◌∙◌, ap, subst, arith}
 use Rattle.std.specs.Prelude.{Bool, true, false, ◌&&◌, ◌||◌, if◌then◌else◌, is_some}
-use Rattle.std.specs.List.{list_any}
+use Rattle.std.specs.List.{AllByRecursion, list_any}
 use Rattle.std.proofs.lemmas.List.Folds.{list_any-append}
 use Rattle.pm_disk.specs.Cause.{Rose}
 use Rattle.pm_exit.specs.declared.child.Class.{Class}
@@ -44,10 +44,9 @@ use Rattle.pm_segment.specs.Moves.{IsCountedFrom}
 use Rattle.pm_segment.specs.MovesLaws.{rose_later}
 use Rattle.pm_once.specs.Auxiliaries.{HasLess, auxiliaries_after, heard_of}
 use Rattle.pm_once.specs.AuxiliaryRuns.{Heard, IsCheckpointerRun, IsRunAs, IsWriterRun, nothing_heard, start_status}
-use Rattle.pm_once.specs.declared.end.StartWhy.{StartWhy}
-use Rattle.pm_once.specs.Calls.{IsFineExit}
+use Rattle.pm_server.specs.declared.end.StartWhy.{StartWhy}
 use Rattle.pm_once.specs.Goes.{AreOurs}
-use Rattle.pm_once.specs.Undisturbed.{AreCalm, IsCalm, IsDisturbedAt, IsDisturbedSo, IsUp, ends_unrestarted}
+use Rattle.pm_once.specs.Undisturbed.{AreCalm, HasFineSession, IsCalm, IsDisturbedAt, IsDisturbedSo, IsFineExit, IsUp, is_behind_crash}
 use Rattle.pm_once.specs.View.{View}
 use Rattle.pm_once.specs.declared.auxiliaries.Auxiliaries.{Auxiliaries}
 use Rattle.pm_once.proofs.Acting.{due_kept, first_is}
@@ -371,18 +370,33 @@ pub record GoesOnDisk (from : ℕ) (before now : View) : Type 0 where
   pub later : before.store.faults ≤ now.store.faults
   pub counts : IsCountedFrom from before.store.faults before.store.live → IsCountedFrom from now.store.faults now.store.live
 
--- no end for want of a restart was noted
-abbrev HasNotEnded : List Step → List Step → Type 0
-HasNotEnded before now = list_any ends_unrestarted (journal_of now) ≡ true → list_any ends_unrestarted (journal_of before) ≡ true
+-- nothing that a crash leads to was noted, and no session's child has crashed
+pub record HasNotCrashed (before now : List Step) : Type 0 where
+  pub restarts : list_any is_behind_crash (journal_of now) ≡ true → list_any is_behind_crash (journal_of before) ≡ true
+  pub sessions : AllByRecursion HasFineSession before → AllByRecursion HasFineSession now
+
+pub no_more : (steps : List Step) → HasNotCrashed steps steps
+no_more steps = record { restarts = λ was. was; sessions = λ was. was }
+
+all_more : (steps : List Step) (step : Step) → HasFineSession step → AllByRecursion HasFineSession steps → AllByRecursion HasFineSession (steps ++ step ∷ [])
+all_more [] step fine all = (fine, tt)
+all_more (first ∷ steps) step fine all = (all.0, all_more steps step fine all.1)
+
+sessions_on : (from before now : ℕ) (earlier steps : List Step) → before ≤ now → (AllByRecursion HasFineSession earlier → AllByRecursion HasFineSession steps) → AllByRecursion HasFineSession earlier ⊎ Rose from before → AllByRecursion HasFineSession steps ⊎ Rose from now
+sessions_on from before now earlier steps later more (inl all) = inl (more all)
+sessions_on from before now earlier steps later more (inr rose) = inr (rose_later from before now later rose)
 
 or_none : (b : Bool) → (b || false) ≡ b
 or_none true = refl
 or_none false = refl
 
-one_more : (earlier : List Step) (step : Step) → list_any ends_unrestarted (journal_of (step ∷ [])) ≡ false → HasNotEnded earlier (earlier ++ step ∷ [])
-one_more earlier step none is =
-    sym (or_none (list_any ends_unrestarted (journal_of earlier))) ∙ ap (λ (b : Bool). list_any ends_unrestarted (journal_of earlier) || b) (sym none)
-    ∙ sym (list_any-append ends_unrestarted (journal_of earlier) (journal_of (step ∷ []))) ∙ ap (list_any ends_unrestarted) (sym (journal-append earlier (step ∷ []))) ∙ is
+later_one : (earlier : List Step) (step : Step) → list_any is_behind_crash (journal_of (step ∷ [])) ≡ false → list_any is_behind_crash (journal_of (earlier ++ step ∷ [])) ≡ true → list_any is_behind_crash (journal_of earlier) ≡ true
+later_one earlier step none is =
+    sym (or_none (list_any is_behind_crash (journal_of earlier))) ∙ ap (λ (b : Bool). list_any is_behind_crash (journal_of earlier) || b) (sym none)
+    ∙ sym (list_any-append is_behind_crash (journal_of earlier) (journal_of (step ∷ []))) ∙ ap (list_any is_behind_crash) (sym (journal-append earlier (step ∷ []))) ∙ is
+
+one_more : (earlier : List Step) (step : Step) → list_any is_behind_crash (journal_of (step ∷ [])) ≡ false → HasFineSession step → HasNotCrashed earlier (earlier ++ step ∷ [])
+one_more earlier step none fine = record { restarts = later_one earlier step none; sessions = all_more earlier step fine }
 
 -- by its machine, and what its acts and auxiliary children are
 pub record Follows (before now : View) : Type 0 where
@@ -394,11 +408,12 @@ disturbed_so from before now later follows (inl rose) = inl (rose_later from bef
 disturbed_so from before now later follows (inr (inl asked)) = inr (inl (follows.asked asked))
 disturbed_so from before now later follows (inr (inr calm)) = inr (inr (follows.calm calm))
 
-pub disturbed_on : (from : ℕ) (earlier : List Step) (steps : List Step) (before now : View) → GoesOnDisk from before now → HasNotEnded earlier steps → Follows before now → IsDisturbedAt from earlier before → IsDisturbedAt from steps now
+pub disturbed_on : (from : ℕ) (earlier : List Step) (steps : List Step) (before now : View) → GoesOnDisk from before now → HasNotCrashed earlier steps → Follows before now → IsDisturbedAt from earlier before → IsDisturbedAt from steps now
 disturbed_on from earlier steps before now disk none follows is = record {
   counted = disk.counts is.counted;
   stage = disturbed_so from before now disk.later follows is.stage;
-  restarts = λ ended. rose_later from before.store.faults now.store.faults disk.later (is.restarts (none ended));
+  restarts = λ ended. rose_later from before.store.faults now.store.faults disk.later (is.restarts (none.restarts ended));
+  sessions = sessions_on from before.store.faults now.store.faults earlier steps disk.later none.sessions is.sessions;
 }
 
 -- fewer auxiliary children, and the supervisor is where it was
@@ -421,56 +436,59 @@ same_disk from before now same = record {
   counts = λ counted. subst (λ (m : Moment). IsCountedFrom from m.faults m.live) (sym same) counted;
 }
 
--- a server that isn't to restart ends where a fault was counted
-unrestarted : (limits : Limits) (from : ℕ) (a : Action) (v : View) → AreOurs limits (is_some v.work.standing.machine.shutdown) (a ∷ without_first v.work.standing.due)
-    → (IsCalm v.work.standing v.auxiliaries → AreCalm v.work.standing.machine.state (a ∷ without_first v.work.standing.due)) → IsDisturbedSo from v → ends_unrestarted (entry_for a v.work.standing) ≡ true → Rose from v.store.faults
-unrestarted limits from (act.Start k) v ours calm stage is = absurd cc
-unrestarted limits from (act.Quit why) v ours calm stage is = absurd cc
-unrestarted limits from act.Terminate v ours calm stage is = absurd cc
-unrestarted limits from act.KillAll v ours calm stage is = absurd cc
-unrestarted limits from act.AskCheckpoint v ours calm stage is = absurd cc
-unrestarted limits from act.Ready v ours calm stage is = absurd cc
-unrestarted limits from act.Reset v ours calm stage is = absurd cc
-unrestarted limits from (act.Say l) v ours calm stage is = absurd cc
-unrestarted limits from (act.End endings.Clean) v ours calm stage is = absurd cc
-unrestarted limits from (act.End endings.AfterCrash) v ours calm stage is = absurd cc
-unrestarted limits from (act.End endings.StartupFailed) v ours calm stage is = absurd cc
-unrestarted limits from (act.End endings.RestartOff) v ours calm (inl rose) is = rose
-unrestarted limits from (act.End endings.RestartOff) v ours calm (inr (inl asked)) is = absurd (never _ asked ours.1)
-unrestarted limits from (act.End endings.RestartOff) v ours calm (inr (inr quiet)) is = absurd (calm quiet)
+-- a server goes through a crash, or ends in it, where a fault was counted
+unrestarted : (from : ℕ) (a : Action) (v : View) → AreOurs (is_some v.work.standing.machine.shutdown) (a ∷ without_first v.work.standing.due)
+    → (IsCalm v.work.standing v.auxiliaries → AreCalm v.work.standing.machine.state (a ∷ without_first v.work.standing.due)) → IsDisturbedSo from v → is_behind_crash (entry_for a v.work.standing) ≡ true → Rose from v.store.faults
+unrestarted from (act.Start k) v ours calm stage is = absurd cc
+unrestarted from (act.Quit why) v ours calm stage is = absurd cc
+unrestarted from act.Terminate v ours calm stage is = absurd cc
+unrestarted from act.KillAll v ours calm stage is = absurd cc
+unrestarted from act.AskCheckpoint v ours calm stage is = absurd cc
+unrestarted from act.Ready v ours calm stage is = absurd cc
+unrestarted from act.Reset v ours calm (inl rose) is = rose
+unrestarted from act.Reset v ours calm (inr (inl asked)) is = absurd (never _ asked ours.0)
+unrestarted from act.Reset v ours calm (inr (inr quiet)) is = absurd (calm quiet)
+unrestarted from (act.Say l) v ours calm stage is = absurd cc
+unrestarted from (act.End endings.Clean) v ours calm stage is = absurd cc
+unrestarted from (act.End endings.AfterCrash) v ours calm stage is = absurd cc
+unrestarted from (act.End endings.StartupFailed) v ours calm stage is = absurd cc
+unrestarted from (act.End endings.RestartOff) v ours calm (inl rose) is = rose
+unrestarted from (act.End endings.RestartOff) v ours calm (inr (inl asked)) is = absurd (never _ asked ours.0)
+unrestarted from (act.End endings.RestartOff) v ours calm (inr (inr quiet)) is = absurd (calm quiet)
 
 -- behind an act and its entry
-pub acted_disturbed : (limits : Limits) (from : ℕ) (earlier : List Step) (a : Action) (before now : View) → GoesOnDisk from before now → first_due before.work.standing.due ≡ Some a
+pub acted_disturbed : (from : ℕ) (earlier : List Step) (a : Action) (before now : View) → GoesOnDisk from before now → first_due before.work.standing.due ≡ Some a
     → now.work.standing ≡ done a before.work.standing → now.auxiliaries ≡ auxiliaries_after (act_for a before.work.standing) before.auxiliaries
-    → AreOurs limits (is_some before.work.standing.machine.shutdown) (a ∷ without_first before.work.standing.due)
+    → AreOurs (is_some before.work.standing.machine.shutdown) (a ∷ without_first before.work.standing.due)
     → IsDisturbedAt from earlier before → IsDisturbedAt from (earlier ++ Notes (entry_for a before.work.standing) ∷ []) now
-acted_disturbed limits from earlier a before now disk first standing auxiliaries ours is = record {
+acted_disturbed from earlier a before now disk first standing auxiliaries ours is = record {
   counted = disk.counts is.counted;
   stage = disturbed_so from before now disk.later (record {
     asked = λ asked. ap (λ (t : Standing). is_some t.machine.shutdown) standing ∙ ap is_some (shutdown_done a before.work.standing) ∙ asked;
     calm = λ calm. subst (λ (t : Standing). IsCalm t now.auxiliaries) (sym standing) (subst (λ (h : Auxiliaries). IsCalm (done a before.work.standing) h) (sym auxiliaries) (acted_calm a before.work.standing before.auxiliaries first calm));
   }) is.stage;
-  restarts = λ ended. rose_later from before.store.faults now.store.faults disk.later (restarted (list_any ends_unrestarted (journal_of earlier)) refl (sym more ∙ ended));
+  restarts = λ ended. rose_later from before.store.faults now.store.faults disk.later (restarted (list_any is_behind_crash (journal_of earlier)) refl (sym more ∙ ended));
+  sessions = sessions_on from before.store.faults now.store.faults earlier (earlier ++ Notes (entry_for a before.work.standing) ∷ []) disk.later (all_more earlier (Notes (entry_for a before.work.standing)) tt) is.sessions;
 }
   where
-    more : list_any ends_unrestarted (journal_of (earlier ++ Notes (entry_for a before.work.standing) ∷ [])) ≡ (list_any ends_unrestarted (journal_of earlier) || (ends_unrestarted (entry_for a before.work.standing) || false))
-    more = ap (list_any ends_unrestarted) (journal-append earlier (Notes (entry_for a before.work.standing) ∷ [])) ∙ list_any-append ends_unrestarted (journal_of earlier) (entry_for a before.work.standing ∷ [])
+    more : list_any is_behind_crash (journal_of (earlier ++ Notes (entry_for a before.work.standing) ∷ [])) ≡ (list_any is_behind_crash (journal_of earlier) || (is_behind_crash (entry_for a before.work.standing) || false))
+    more = ap (list_any is_behind_crash) (journal-append earlier (Notes (entry_for a before.work.standing) ∷ [])) ∙ list_any-append is_behind_crash (journal_of earlier) (entry_for a before.work.standing ∷ [])
 
     calm_first : IsCalm before.work.standing before.auxiliaries → AreCalm before.work.standing.machine.state (a ∷ without_first before.work.standing.due)
     calm_first calm = subst (λ (l : List Action). AreCalm before.work.standing.machine.state l) (first_is before.work.standing.due a first) calm.acts
 
-    restarted : (was : Bool) → list_any ends_unrestarted (journal_of earlier) ≡ was → (list_any ends_unrestarted (journal_of earlier) || (ends_unrestarted (entry_for a before.work.standing) || false)) ≡ true → Rose from before.store.faults
+    restarted : (was : Bool) → list_any is_behind_crash (journal_of earlier) ≡ was → (list_any is_behind_crash (journal_of earlier) || (is_behind_crash (entry_for a before.work.standing) || false)) ≡ true → Rose from before.store.faults
     restarted true was ended = is.restarts was
     restarted false was ended =
-        unrestarted limits from a before ours calm_first is.stage
-        (sym (or_none (ends_unrestarted (entry_for a before.work.standing))) ∙ sym (ap (λ (b : Bool). b || (ends_unrestarted (entry_for a before.work.standing) || false)) was) ∙ ended)
+        unrestarted from a before ours calm_first is.stage
+        (sym (or_none (is_behind_crash (entry_for a before.work.standing))) ∙ sym (ap (λ (b : Bool). b || (is_behind_crash (entry_for a before.work.standing) || false)) was) ∙ ended)
 
 -- ---- the end of a child
 
-ended_run : (run : ChildRun) (at : ℕ) → list_any ends_unrestarted (journal_of (Runs run at ∷ [])) ≡ false
+ended_run : (run : ChildRun) (at : ℕ) → list_any is_behind_crash (journal_of (Runs run at ∷ [])) ≡ false
 ended_run run at = by_kept run.kept
   where
-    by_kept : (kept : Option ℕ) → list_any ends_unrestarted ((entry.Exited run.pid run.kind run.status run.was_active at ∷ redo_end run.generation kept) ++ []) ≡ false
+    by_kept : (kept : Option ℕ) → list_any is_behind_crash ((entry.Exited run.pid run.kind run.status run.was_active at ∷ redo_end run.generation kept) ++ []) ≡ false
     by_kept None = refl
     by_kept (Some kept) = refl
 
@@ -490,9 +508,14 @@ pub ran_disturbed : (from : ℕ) (earlier : List Step) (run : ChildRun) (at now_
 ran_disturbed from earlier run at now_at before mid now disk later ended same machine due is = record {
   counted = disk.counts is.counted;
   stage = by_stage is.stage;
-  restarts = λ off. rose_later from before.store.faults now.store.faults disk.later (is.restarts (one_more earlier (Runs run at) (ended_run run at) off));
+  restarts = λ off. rose_later from before.store.faults now.store.faults disk.later (is.restarts (later_one earlier (Runs run at) (ended_run run at) off));
+  sessions = by_session ended.sound is.sessions;
 }
   where
+    by_session : (run.kind ≡ kind.Backend → IsFineExit run) ⊎ Rose from mid.store.faults → AllByRecursion HasFineSession earlier ⊎ Rose from before.store.faults → AllByRecursion HasFineSession (earlier ++ Runs run at ∷ []) ⊎ Rose from now.store.faults
+    by_session (inl fine) all = sessions_on from before.store.faults now.store.faults earlier (earlier ++ Runs run at ∷ []) disk.later (all_more earlier (Runs run at) fine) all
+    by_session (inr rose) all = inr (rose_later from mid.store.faults now.store.faults later rose)
+
     quietly : (run.kind ≡ kind.Backend → IsFineExit run) → IsCalm before.work.standing before.auxiliaries → IsCalm now.work.standing now.auxiliaries
     quietly fine calm =
         let t = exited_quiet before.work.standing.machine run now_at before.auxiliaries mid.auxiliaries (quiet_of before.work.standing before.auxiliaries calm) ended.goes_on ended.told fine ended.had ended.off ended.less in
@@ -511,13 +534,13 @@ ran_disturbed from earlier run at now_at before mid now disk later ended same ma
 -- its end isn't noted
 pub ran_on_disturbed : (from : ℕ) (earlier : List Step) (run : ChildRun) (before now : View) → GoesOnDisk from before now → now.work.standing ≡ before.work.standing → HasLess before.auxiliaries now.auxiliaries
     → IsDisturbedAt from earlier before → IsDisturbedAt from (earlier ++ RunsOn run ∷ []) now
-ran_on_disturbed from earlier run before now disk same less is = disturbed_on from earlier (earlier ++ RunsOn run ∷ []) before now disk (one_more earlier (RunsOn run) refl) (less_follows before now same less) is
+ran_on_disturbed from earlier run before now disk same less is = disturbed_on from earlier (earlier ++ RunsOn run ∷ []) before now disk (one_more earlier (RunsOn run) refl tt) (less_follows before now same less) is
 
 -- a renewal
 pub renewed_disturbed : (from : ℕ) (earlier : List Step) (generation : ℕ) (gone : List ℕ) (before now : View) → GoesOnDisk from before now → now.work.standing ≡ before.work.standing → now.auxiliaries ≡ before.auxiliaries
     → IsDisturbedAt from earlier before → IsDisturbedAt from (earlier ++ Renews generation gone ∷ []) now
 renewed_disturbed from earlier generation gone before now disk same others is =
-    disturbed_on from earlier (earlier ++ Renews generation gone ∷ []) before now disk (one_more earlier (Renews generation gone) refl)
+    disturbed_on from earlier (earlier ++ Renews generation gone ∷ []) before now disk (one_more earlier (Renews generation gone) refl tt)
     (less_follows before now same (subst (λ (h : Auxiliaries). HasLess before.auxiliaries h) (sym others) (still_less before.auxiliaries))) is
 
 -- ---- a call of the supervisor
@@ -526,7 +549,7 @@ renewed_disturbed from earlier generation gone before now disk same others is =
 pub taken_disturbed : (from : ℕ) (earlier : List Step) (pid : ℕ) (d : Cac) (before now : View) → now.store ≡ before.store → now.auxiliaries ≡ before.auxiliaries → now.work.standing.machine ≡ accepted_as d before.work.standing.machine → now.work.standing.due ≡ []
     → IsDisturbedAt from earlier before → IsDisturbedAt from (earlier ++ Notes (entry.Accepted pid d) ∷ []) now
 taken_disturbed from earlier pid d before now store others machine due is =
-    disturbed_on from earlier (earlier ++ Notes (entry.Accepted pid d) ∷ []) before now (same_disk from before now store) (one_more earlier (Notes (entry.Accepted pid d)) refl) (record {
+    disturbed_on from earlier (earlier ++ Notes (entry.Accepted pid d) ∷ []) before now (same_disk from before now store) (one_more earlier (Notes (entry.Accepted pid d)) refl tt) (record {
       asked = λ asked. ap (λ (m : Machine). is_some m.shutdown) machine ∙ ap is_some (accepted_same d before.work.standing.machine) ∙ asked;
       calm = λ calm. calm_of now.work.standing now.auxiliaries
           (subst (λ (m : Machine). IsQuiet m now.auxiliaries) (sym machine) (subst (λ (h : Auxiliaries). IsQuiet (accepted_as d before.work.standing.machine) h) (sym others) (accepted_quiet d before.work.standing.machine before.auxiliaries (quiet_of before.work.standing before.auxiliaries calm))))
@@ -539,7 +562,8 @@ pub asked_disturbed : (from : ℕ) (earlier : List Step) (mode : Mode) (at : ℕ
 asked_disturbed from earlier mode at before now store asked is = record {
   counted = (same_disk from before now store).counts is.counted;
   stage = inr (inl asked);
-  restarts = λ off. rose_later from before.store.faults now.store.faults (same_disk from before now store).later (is.restarts (one_more earlier (Notes (entry.Asked mode at)) refl off));
+  restarts = λ off. rose_later from before.store.faults now.store.faults (same_disk from before now store).later (is.restarts (later_one earlier (Notes (entry.Asked mode at)) refl off));
+  sessions = sessions_on from before.store.faults now.store.faults earlier (earlier ++ Notes (entry.Asked mode at) ∷ []) (same_disk from before now store).later (all_more earlier (Notes (entry.Asked mode at)) tt) is.sessions;
 }
 
 -- a turn
@@ -547,7 +571,7 @@ pub turned_disturbed : (from : ℕ) (earlier : List Step) (before now : View) �
     → now.work.standing.machine ≡ (turned_of before.work.standing.machine).after → now.work.standing.due ≡ (turned_of before.work.standing.machine).acts → (turned_of before.work.standing.machine).after.shutdown ≡ before.work.standing.machine.shutdown
     → IsDisturbedAt from earlier before → IsDisturbedAt from earlier now
 turned_disturbed from earlier before now store others goes_on machine due keeps is =
-    disturbed_on from earlier earlier before now (same_disk from before now store) (λ off. off) (record {
+    disturbed_on from earlier earlier before now (same_disk from before now store) (no_more earlier) (record {
       asked = λ asked. ap (λ (m : Machine). is_some m.shutdown) machine ∙ ap is_some keeps ∙ asked;
       calm = λ calm.
           let t = turned_quiet before.work.standing.machine before.auxiliaries (quiet_of before.work.standing before.auxiliaries calm) goes_on in
@@ -559,8 +583,8 @@ turned_disturbed from earlier before now store others goes_on machine due keeps 
 -- ---- why it ended
 
 -- in the reset of a generation that has no number
-pub spent_disturbed : (limits : Limits) (from : ℕ) (v : View) → first_due v.work.standing.due ≡ Some act.Reset → AreOurs limits (is_some v.work.standing.machine.shutdown) v.work.standing.due → IsDisturbedSo from v → Rose from v.store.faults
-spent_disturbed limits from v first ours (inl rose) = rose
-spent_disturbed limits from v first ours (inr (inl asked)) =
-    absurd (never _ asked (subst (AreOurs limits (is_some v.work.standing.machine.shutdown)) (first_is v.work.standing.due act.Reset first) ours).0)
-spent_disturbed limits from v first ours (inr (inr calm)) = absurd (subst (λ (l : List Action). AreCalm v.work.standing.machine.state l) (first_is v.work.standing.due act.Reset first) calm.acts)
+pub spent_disturbed : (from : ℕ) (v : View) → first_due v.work.standing.due ≡ Some act.Reset → AreOurs (is_some v.work.standing.machine.shutdown) v.work.standing.due → IsDisturbedSo from v → Rose from v.store.faults
+spent_disturbed from v first ours (inl rose) = rose
+spent_disturbed from v first ours (inr (inl asked)) =
+    absurd (never _ asked (subst (AreOurs (is_some v.work.standing.machine.shutdown)) (first_is v.work.standing.due act.Reset first) ours).0)
+spent_disturbed from v first ours (inr (inr calm)) = absurd (subst (λ (l : List Action). AreCalm v.work.standing.machine.state l) (first_is v.work.standing.due act.Reset first) calm.acts)

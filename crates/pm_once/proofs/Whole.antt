@@ -1,7 +1,7 @@
 -- A whole run.
 use Rattle.std.proofs.Common.{◌≡◌, ◌⊎◌, inl, inr, ℕ, ◌+◌, ◌≤◌, List, [], ◌∷◌, ◌++◌, length, Option, None, Some, Result, Err, refl, sym, ◌∙◌, ap, subst, arith}
 use Rattle.std.specs.Prelude.{Bool, true, false, ◌||◌, is_some, IfSome}
-use Rattle.std.specs.List.{list_any}
+use Rattle.std.specs.List.{AllByRecursion, last_or, list_any}
 use Rattle.std.proofs.lemmas.List.Folds.{list_any-append}
 use Rattle.pm_disk.specs.Cause.{Rose}
 use Rattle.std.proofs.lemmas.List.Elements.{All-nil}
@@ -14,6 +14,8 @@ use Rattle.pm_state.specs.declared.event.PmEvent.{PmEvent}
 use Rattle.pm_state.specs.declared.event.PmEvent.TheVariants as entry
 use Rattle.pm_supervisor.specs.declared.Ending.TheVariants as endings
 use Rattle.pm_state.specs.Journal.{AreLegal, Follows, all_replayed, dues, entries_of, replay_begun, without_first}
+use Rattle.pm_state.specs.Laws.{RestartsSafely}
+use Rattle.pm_state.specs.Restarts.{AreAsSet}
 use Rattle.pm_state.specs.declared.action.Action.{Action}
 use Rattle.pm_state.specs.declared.action.Action.TheVariants as act
 use Rattle.pm_query.specs.declared.book.BookEntry.{BookEntry}
@@ -23,31 +25,31 @@ use Rattle.pm_segment.specs.Moves.{BreakIsShown, NotesEntries}
 use Rattle.pm_segment.specs.declared.live.Live.{Live}
 use Rattle.pm_segment.specs.MovesLaws.{notes_both}
 use Rattle.pm_chain.specs.Laws.{StepsGoOn}
-use Rattle.pm_chain.specs.Steps.{Notes, Step, book_of, journal_of, replay_of}
+use Rattle.pm_chain.specs.Steps.{AreSteps, AreStepsBehind, MayFollow, MayStep, Notes, Renews, Runs, RunsOn, Step, book_of, journal_by, journal_of, replay_of, whole_book}
 use Rattle.pm_journal.specs.Laws.{GoesOnOverItsJournal, KeepsALegalJournal}
 use Rattle.pm_journal.specs.Standing.{Standing, first_due, nothing_done}
 use Rattle.pm_journal.specs.Stands.{Remembers, Stands, any_moment}
-use Rattle.pm_once.specs.Goes.{AreCaused, AreOurEnds, AreOurs, AsksAsDue, EndsWith, IsAt, IsEndOf, IsIdle, IsMoment, IsOpen, IsRefusedSo, IsRunning, Outset, asked_in, is_last_drawn}
+use Rattle.pm_once.specs.Goes.{AreCaused, AreOurs, AsksAsDue, EndsWith, IsAt, IsEndOf, IsIdle, IsNoRenewal, IsOpen, IsRefusedSo, IsRunning, Outset, is_last_drawn}
+use Rattle.pm_server.specs.Journal.{IsMoment, asked_in, IsJournal}
 use Rattle.pm_once.specs.Auxiliaries.{AreThere, nobody}
-use Rattle.pm_once.specs.Log.{HasLogged, LogView, Says, log_of}
-use Rattle.pm_once.specs.Once.{IsAsked, IsBook, IsJournal, IsOnceEnd, end_line, is_spent_of_pids}
+use Rattle.pm_lines.specs.Log.{HasLogged, LogView, Says, log_of, opened}
+use Rattle.pm_lines.specs.LogLaws.{logged_by, printed_more, said_first}
+use Rattle.pm_once.specs.Once.{IsAsked, IsOnceEnd, is_spent_of_pids}
+use Rattle.pm_server.specs.Ends.{IsBook, end_line}
 use Rattle.pm_once.specs.Serves.{Serves}
 use Rattle.pm_once.specs.Service.{Connection}
-use Rattle.pm_once.specs.Undisturbed.{IsCalm, ends_unrestarted}
+use Rattle.pm_once.specs.Undisturbed.{HasFineSession, IsCalm, is_behind_crash}
 use Rattle.pm_once.specs.View.{View}
-use Rattle.pm_once.specs.declared.end.ServerEnd.{ServerEnd}
-use Rattle.pm_once.specs.declared.end.ServerEnd.TheVariants.{Clean, Abnormal, NoMemory}
-use Rattle.pm_once.specs.declared.end.Why.TheVariants.{AfterCrash, StartupFailed, RestartOff, GenerationsSpent}
+use Rattle.pm_server.specs.declared.end.ServerEnd.{ServerEnd}
+use Rattle.pm_server.specs.declared.end.ServerEnd.TheVariants.{Clean, Abnormal, NoMemory}
+use Rattle.pm_server.specs.declared.end.Why.TheVariants.{AfterCrash, StartupFailed, RestartOff, GenerationsSpent}
 use Rattle.pm_once.specs.AuxiliaryRuns.{AreToldBehind, nothing_heard}
 use Rattle.pm_once.specs.declared.auxiliaries.Auxiliaries.{Auxiliaries}
 use Rattle.pm_once.specs.declared.outcome.Outcome.{Outcome}
 use Rattle.pm_once.proofs.Acting.{first_is}
-use Rattle.pm_once.proofs.Entries.{all_weaker}
-use Rattle.pm_once.proofs.Going.{adds_none, journal-append}
-use Rattle.pm_once.proofs.OurEnds.{last_ends}
-use Rattle.pm_once.proofs.Saying.{printed_more, said_first}
+use Rattle.pm_server.specs.JournalLaws.{all_weaker, adds_none}
+use Rattle.pm_once.proofs.Going.{journal-append}
 use Rattle.pm_once.proofs.Undisturbed.{spent_disturbed}
-use Rattle.pm_once.specs.PrintLaws.{printed_weaker}
 
 -- a server before it does anything
 pub record HasBegun (limits : Limits) (v : View) : Type 0 where
@@ -75,8 +77,7 @@ begins_at goes work limits v begun = record {
   said = said_first v.log begun.unbroken;
   auxiliaries = subst (λ (h : Auxiliaries). AreThere h v.work.standing) (sym begun.auxiliaries) (record { startup = tt; checkpointer = tt; writer = tt });
   asks = subst (λ (s : Standing). AsksAsDue [] v.listens s) (sym begun.standing) (record { smart = All-nil (λ (m : Mode). m ≡ Smart); few = omega (arith, one_at_most v.listens) });
-  acts = subst (λ (s : Standing). AreOurs limits (is_some s.machine.shutdown) s.due) (sym begun.standing) tt;
-  ends = tt;
+  acts = subst (λ (s : Standing). AreOurs (is_some s.machine.shutdown) s.due) (sym begun.standing) tt;
   causes = subst (λ (h : Auxiliaries). AreCaused [] h v.outcome) (sym begun.auxiliaries)
       (subst (λ (o : Option Outcome). AreCaused [] nobody o) (sym begun.outcome) (record { told_so = refl; runs = tt; refused = tt }));
   disturbed = record {
@@ -84,6 +85,7 @@ begins_at goes work limits v begun = record {
     stage = inr (inr (subst (λ (s : Standing). IsCalm s v.auxiliaries) (sym begun.standing) (subst (λ (h : Auxiliaries). IsCalm (nothing_done limits) h) (sym begun.auxiliaries)
         (record { unasked = refl; stage = inr tt; acts = tt; unheard = refl; startup = inl refl }))));
     restarts = λ is. cc;
+    sessions = inl tt;
   };
 }
   where
@@ -117,15 +119,16 @@ remembered : (limits : Limits) (journal : List PmEvent) (s : Standing) (h : _) �
 remembered limits journal s h stands = subst (λ (j : List PmEvent). Remembers s (all_replayed (replay_begun limits) j)) (sym stands.told_is) stands.remembers
 
 pub whole_journal : StepsGoOn → GoesOnOverItsJournal → KeepsALegalJournal → (limits : Limits) (gives : ℕ → Type 0) (end : ServerEnd) (cs : List Connection) (ended : Bool) (steps : List Step) (v now : View) → HasBegun limits v
-    → Serves gives (Err end) cs ended steps v now → IsJournal limits gives steps v.work.told now.work.told
+    → Serves gives (Err end) cs ended steps v now → IsJournal limits gives (journal_of steps) v.work.told now.work.told × AreSteps limits steps
 whole_journal goes work legal limits gives end cs ended steps v now begun serves =
-    let at : IsAt (outset_of limits v) steps now = serves.goes.at (outset_of limits v) [] (begins_at goes work limits v begun) (begins_open limits v begun) in
-    record {
-      noted = serves.goes.journal;
-      legal = legal.legal limits (journal_of steps) now.work.standing at.past at.stands;
-      given = all_weaker (IsMoment gives v.work.standing.moment) gives (never_zero gives v.work.standing.moment (ap (λ (s : Standing). s.moment) begun.standing)) (journal_of steps) serves.goes.times.each;
-      are_steps = at.are_steps;
-    }
+    let at : IsAt (outset_of limits v) steps now = serves.goes.at (outset_of limits v) [] (begins_at goes work limits v begun) (begins_open limits v begun) in (
+      record {
+        noted = serves.goes.journal;
+        legal = legal.legal limits (journal_of steps) now.work.standing at.past at.stands;
+        given = all_weaker (IsMoment gives v.work.standing.moment) gives (never_zero gives v.work.standing.moment (ap (λ (s : Standing). s.moment) begun.standing)) (journal_of steps) serves.goes.times.each;
+      },
+      at.are_steps,
+    )
 
 pub whole_asked : StepsGoOn → GoesOnOverItsJournal → (limits : Limits) (gives : ℕ → Type 0) (end : ServerEnd) (cs : List Connection) (ended : Bool) (steps : List Step) (v now : View) → HasBegun limits v
     → Serves gives (Err end) cs ended steps v now → IsAsked limits end ended steps
@@ -160,11 +163,16 @@ whole_asked goes work limits gives end cs ended steps v now begun serves =
       | inr (inr drawn) ↦ inr (inr (subst (λ (n : ℕ). is_last_drawn n ≡ true) same drawn))
     ]
 
+-- the last of them
+last_set : (limits : Limits) (xs ys : List PmEvent) → AreAsSet limits (xs ++ ys) → AreAsSet limits ys
+last_set limits [] ys all = all
+last_set limits (x ∷ xs) ys all = last_set limits xs ys all.1
+
 -- a server that isn't to restart
-told_off : (limits : Limits) (steps : List Step) → AreOurEnds limits (journal_of steps) → EndsWith (entry.Ended endings.RestartOff) steps → limits.restart_after_crash ≡ false
-told_off limits steps ours ends =
-    (last_ends limits (journal_of ends.0) (entry.Ended endings.RestartOff ∷ [])
-    (subst (λ (l : List PmEvent). AreOurEnds limits l) (ap journal_of ends.1 ∙ journal-append ends.0 (Notes (entry.Ended endings.RestartOff) ∷ [])) ours)).0
+told_off : (limits : Limits) (steps : List Step) → AreAsSet limits (journal_of steps) → EndsWith (entry.Ended endings.RestartOff) steps → limits.restart_after_crash ≡ false
+told_off limits steps set ends =
+    (last_set limits (journal_of ends.0) (entry.Ended endings.RestartOff ∷ [])
+    (subst (AreAsSet limits) (ap journal_of ends.1 ∙ journal-append ends.0 (Notes (entry.Ended endings.RestartOff) ∷ [])) set)).0
 
 -- the next entry would be the reset of a generation that has no number
 spent_next : (limits : Limits) (journal : List PmEvent) (s : Standing) (h : _) → Stands limits (Some journal) s h → s.generation ≡ 4294967295 → first_due s.due ≡ Some act.Reset
@@ -178,25 +186,26 @@ spent_next limits journal s h stands last first =
     subst (λ (l : List PmEvent). Follows any_moment (all_replayed (replay_begun limits) l) (entry.Reset 4294967296)) (sym stands.told_is) follows
 
 ended_by : (limits : Limits) (end : ServerEnd) (steps : List Step) (now : View) → now.work.standing.generation ≡ (replay_of limits steps).shown.generation
-    → (now.work.standing.generation ≡ 4294967295 → first_due now.work.standing.due ≡ Some act.Reset → Follows any_moment (replay_of limits steps) (entry.Reset 4294967296)) → AreOurEnds limits (journal_of steps) → IsRefusedSo now.outcome steps → IsEndOf end steps now → IsOnceEnd limits end steps
-ended_by limits Clean steps now same next ours refused ends = ends.0
-ended_by limits (Abnormal AfterCrash) steps now same next ours refused ends = ends.0
-ended_by limits (Abnormal RestartOff) steps now same next ours refused ends = (ends, told_off limits steps ours ends)
-ended_by limits (Abnormal (StartupFailed why)) steps now same next ours refused ends = (ends.0, subst (λ (o : Option Outcome). IsRefusedSo o steps) ends.1 refused)
-ended_by limits (Abnormal GenerationsSpent) steps now same next ours refused ends = (sym same ∙ ends.0, next ends.0 ends.1)
-ended_by limits NoMemory steps now same next ours refused ends = tt
+    → (now.work.standing.generation ≡ 4294967295 → first_due now.work.standing.due ≡ Some act.Reset → Follows any_moment (replay_of limits steps) (entry.Reset 4294967296)) → AreAsSet limits (journal_of steps) → IsRefusedSo now.outcome steps → IsEndOf end steps now → IsOnceEnd limits end steps
+ended_by limits Clean steps now same next set refused ends = ends.0
+ended_by limits (Abnormal AfterCrash) steps now same next set refused ends = ends.0
+ended_by limits (Abnormal RestartOff) steps now same next set refused ends = (ends, told_off limits steps set ends)
+ended_by limits (Abnormal (StartupFailed why)) steps now same next set refused ends = (ends.0, subst (λ (o : Option Outcome). IsRefusedSo o steps) ends.1 refused)
+ended_by limits (Abnormal GenerationsSpent) steps now same next set refused ends = (sym same ∙ ends.0, next ends.0 ends.1)
+ended_by limits NoMemory steps now same next set refused ends = tt
 
-pub whole_end : StepsGoOn → GoesOnOverItsJournal → (limits : Limits) (gives : ℕ → Type 0) (end : ServerEnd) (cs : List Connection) (ended : Bool) (steps : List Step) (v now : View) → HasBegun limits v
+pub whole_end : StepsGoOn → GoesOnOverItsJournal → KeepsALegalJournal → RestartsSafely → (limits : Limits) (gives : ℕ → Type 0) (end : ServerEnd) (cs : List Connection) (ended : Bool) (steps : List Step) (v now : View) → HasBegun limits v
     → Serves gives (Err end) cs ended steps v now → IsOnceEnd limits end steps
-whole_end goes work limits gives end cs ended steps v now begun serves =
+whole_end goes work legal safely limits gives end cs ended steps v now begun serves =
     let at : IsAt (outset_of limits v) steps now = serves.goes.at (outset_of limits v) [] (begins_at goes work limits v begun) (begins_open limits v begun) in
-    ended_by limits end steps now (remembered limits (journal_of steps) now.work.standing at.past at.stands).generation (spent_next limits (journal_of steps) now.work.standing at.past at.stands) at.ends at.causes.refused serves.ends
+    ended_by limits end steps now (remembered limits (journal_of steps) now.work.standing at.past at.stands).generation (spent_next limits (journal_of steps) now.work.standing at.past at.stands)
+    (safely.in_order limits any_moment (journal_of steps) (legal.legal limits (journal_of steps) now.work.standing at.past at.stands)).as_set at.causes.refused serves.ends
 
 -- it stopped for want of a restart, or of a generation, only where a fault of the disk was counted
-unrestarted_any : (steps : List Step) → EndsWith (entry.Ended endings.RestartOff) steps → list_any ends_unrestarted (journal_of steps) ≡ true
+unrestarted_any : (steps : List Step) → EndsWith (entry.Ended endings.RestartOff) steps → list_any is_behind_crash (journal_of steps) ≡ true
 unrestarted_any steps ends =
-    ap (λ (l : List Step). list_any ends_unrestarted (journal_of l)) ends.1 ∙ ap (list_any ends_unrestarted) (journal-append ends.0 (Notes (entry.Ended endings.RestartOff) ∷ []))
-    ∙ list_any-append ends_unrestarted (journal_of ends.0) (entry.Ended endings.RestartOff ∷ []) ∙ or_true (list_any ends_unrestarted (journal_of ends.0))
+    ap (λ (l : List Step). list_any is_behind_crash (journal_of l)) ends.1 ∙ ap (list_any is_behind_crash) (journal-append ends.0 (Notes (entry.Ended endings.RestartOff) ∷ []))
+    ∙ list_any-append is_behind_crash (journal_of ends.0) (entry.Ended endings.RestartOff ∷ []) ∙ or_true (list_any is_behind_crash (journal_of ends.0))
   where
     or_true : (b : Bool) → (b || true) ≡ true
     or_true true = refl
@@ -208,8 +217,81 @@ whole_rose goes work limits gives end cs ended steps v now begun serves why =
     let at : IsAt (outset_of limits v) steps now = serves.goes.at (outset_of limits v) [] (begins_at goes work limits v begun) (begins_open limits v begun) in
     elim why [
       | inl off ↦ at.disturbed.restarts (unrestarted_any steps (subst (λ (e : ServerEnd). IsEndOf e steps now) off serves.ends))
-      | inr spent ↦ spent_disturbed limits v.store.faults now (subst (λ (e : ServerEnd). IsEndOf e steps now) spent serves.ends).1 at.acts at.disturbed.stage
+      | inr spent ↦ spent_disturbed v.store.faults now (subst (λ (e : ServerEnd). IsEndOf e steps now) spent serves.ends).1 at.acts at.disturbed.stage
     ]
+
+never_both : (b : Bool) → b ≡ true → b ≡ false → ⊥
+never_both b one two = cc
+
+-- a renewal stands behind the reset of its generation
+resets : (e : PmEvent) (generation : ℕ) (gone : List ℕ) → MayFollow (Some (Notes e)) (Renews generation gone) → is_behind_crash e ≡ true
+resets (entry.Started pid kind) generation gone may = absurd may
+resets (entry.Accepted pid decision) generation gone may = absurd may
+resets (entry.Exited pid kind status was_active at) generation gone may = absurd may
+resets (entry.Asked mode at) generation gone may = absurd may
+resets (entry.KillAsked pid) generation gone may = absurd may
+resets (entry.QuitSent why) generation gone may = absurd may
+resets entry.TerminateSent generation gone may = absurd may
+resets (entry.KillSent at) generation gone may = absurd may
+resets entry.CheckpointAsked generation gone may = absurd may
+resets (entry.RedoEnded own kept) generation gone may = absurd may
+resets (entry.Ready own) generation gone may = absurd may
+resets (entry.Reset next) generation gone may = refl
+resets (entry.Said line) generation gone may = absurd may
+resets (entry.Ended ending) generation gone may = absurd may
+
+renewed_behind : (last : Option Step) (generation : ℕ) (gone : List ℕ) → MayFollow last (Renews generation gone) → (e : PmEvent) × (last ≡ Some (Notes e)) × (is_behind_crash e ≡ true)
+renewed_behind None generation gone may = absurd may
+renewed_behind (Some (Notes e)) generation gone may = (e, refl, resets e generation gone may)
+renewed_behind (Some (Runs run at)) generation gone may = absurd may
+renewed_behind (Some (RunsOn run)) generation gone may = absurd may
+renewed_behind (Some (Renews next pids)) generation gone may = absurd may
+
+-- what this step is behind, if it is an entry, is no crash
+abbrev IsCalmStep : Option Step → Type 0
+IsCalmStep last = (e : PmEvent) → last ≡ Some (Notes e) → is_behind_crash e ≡ false
+
+no_renewals : StepsGoOn → (limits : Limits) (before steps : List Step) → AreStepsBehind limits before steps → IsCalmStep (last_or None before) → list_any is_behind_crash (journal_of steps) ≡ false → AllByRecursion IsNoRenewal steps
+no_renewals goes limits before [] are calm none = tt
+no_renewals goes limits before (step ∷ steps) are calm none =
+    let parts = none_of (list_any is_behind_crash (journal_by step)) (list_any is_behind_crash (journal_of steps)) (sym (list_any-append is_behind_crash (journal_by step) (journal_of steps)) ∙ none) in
+    (first step are.0 parts.0, no_renewals goes limits (before ++ step ∷ []) steps are.1 (λ e is. calm_now step parts.0 e (some_step (sym (goes.last before step) ∙ is))) parts.1)
+  where
+    none_of : (a b : Bool) → (a || b) ≡ false → (a ≡ false) × (b ≡ false)
+    none_of true b is = absurd (cc)
+    none_of false b is = (refl, is)
+
+    some_step : {x y : Step} → Some x ≡ Some y → x ≡ y
+    some_step is = cc
+
+    first : (s : Step) → MayStep limits before s → list_any is_behind_crash (journal_by s) ≡ false → IsNoRenewal s
+    first (Notes e) may none = tt
+    first (Runs run at) may none = tt
+    first (RunsOn run) may none = tt
+    first (Renews generation gone) may none =
+        let behind = renewed_behind (last_or None before) generation gone may.follows in
+        absurd (never_both (is_behind_crash behind.0) behind.2 (calm behind.0 behind.1))
+
+    calm_now : (s : Step) → list_any is_behind_crash (journal_by s) ≡ false → (e : PmEvent) → s ≡ Notes e → is_behind_crash e ≡ false
+    calm_now s none e is = (none_of (is_behind_crash e) false (subst (λ (x : Step). list_any is_behind_crash (journal_by x) ≡ false) is none)).0
+
+-- it was opened once, or a fault of the disk was counted
+pub whole_once : StepsGoOn → GoesOnOverItsJournal → (limits : Limits) (gives : ℕ → Type 0) (end : ServerEnd) (cs : List Connection) (ended : Bool) (steps : List Step) (v now : View) → HasBegun limits v
+    → Serves gives (Err end) cs ended steps v now → AllByRecursion IsNoRenewal steps ⊎ Rose v.store.faults now.store.faults
+whole_once goes work limits gives end cs ended steps v now begun serves =
+    let at : IsAt (outset_of limits v) steps now = serves.goes.at (outset_of limits v) [] (begins_at goes work limits v begun) (begins_open limits v begun) in
+    by_test at (list_any is_behind_crash (journal_of steps)) refl
+  where
+    by_test : IsAt (outset_of limits v) steps now → (crashed : Bool) → list_any is_behind_crash (journal_of steps) ≡ crashed → AllByRecursion IsNoRenewal steps ⊎ Rose v.store.faults now.store.faults
+    by_test at true is = inr (at.disturbed.restarts is)
+    by_test at false is = inl (no_renewals goes limits [] steps at.are_steps (λ e none. absurd (cc)) is)
+
+-- each session's child has ended well, or a fault of the disk was counted
+pub whole_sessions : StepsGoOn → GoesOnOverItsJournal → (limits : Limits) (gives : ℕ → Type 0) (end : ServerEnd) (cs : List Connection) (ended : Bool) (steps : List Step) (v now : View) → HasBegun limits v
+    → Serves gives (Err end) cs ended steps v now → AllByRecursion HasFineSession steps ⊎ Rose v.store.faults now.store.faults
+whole_sessions goes work limits gives end cs ended steps v now begun serves =
+    let at : IsAt (outset_of limits v) steps now = serves.goes.at (outset_of limits v) [] (begins_at goes work limits v begun) (begins_open limits v begun) in
+    at.disturbed.sessions
 
 -- each child ran by what it was told
 pub whole_runs : StepsGoOn → GoesOnOverItsJournal → (limits : Limits) (gives : ℕ → Type 0) (end : ServerEnd) (cs : List Connection) (ended : Bool) (steps : List Step) (v now : View) → HasBegun limits v
@@ -223,35 +305,34 @@ pub whole_log : StepsGoOn → GoesOnOverItsJournal → (limits : Limits) (gives 
     → Serves gives (Err end) cs ended steps v now → Says (end_line end) now.log last → HasLogged (log_of (journal_of steps) ++ end_line end) v.log.written last.written v.log.faults last.faults
 whole_log goes work limits gives end cs ended steps v now last begun serves says =
     let at : IsAt (outset_of limits v) steps now = serves.goes.at (outset_of limits v) [] (begins_at goes work limits v begun) (begins_open limits v begun) in
-    let printed = printed_more (log_of (journal_of steps)) (end_line end) v.log now.log last at.said says in
-    record { printed = printed_weaker _ _ _ _ _ printed.rose printed.printed; later = printed.later }
+    logged_by (log_of (journal_of steps) ++ end_line end) v.log last (printed_more (log_of (journal_of steps)) (end_line end) v.log now.log last at.said says)
 
-book_by_end : (end : ServerEnd) (steps : List Step) (before now : Option (List BookEntry)) → NotesEntries (Opened 1 ∷ book_of steps) before now → IsBook end steps before now
+book_by_end : (end : ServerEnd) (steps : List Step) (before now : Option (List BookEntry)) → NotesEntries (Opened 1 ∷ book_of steps) before now → IsBook (steps ≡ []) end (whole_book steps) before now
 book_by_end NoMemory steps before now notes = inr notes
 book_by_end Clean steps before now notes = notes
 book_by_end (Abnormal why) steps before now notes = notes
 
 pub whole_book_is : (gives : ℕ → Type 0) (end : ServerEnd) (cs : List Connection) (ended : Bool) (steps : List Step) (v now : View) (before : Option (List BookEntry)) → NotesEntries (Opened 1 ∷ []) before v.store.book
-    → Serves gives (Err end) cs ended steps v now → IsBook end steps before now.store.book
+    → Serves gives (Err end) cs ended steps v now → IsBook (steps ≡ []) end (whole_book steps) before now.store.book
 whole_book_is gives end cs ended steps v now before opened serves =
     book_by_end end steps before now.store.book (notes_both (Opened 1 ∷ []) (book_of steps) before v.store.book now.store.book opened serves.goes.store.notes)
 
 -- ---- where the store couldn't be made
 
-pub nothing_journal : StepsGoOn → (limits : Limits) (gives : ℕ → Type 0) (told : Option (List PmEvent)) → IsJournal limits gives [] told told
-nothing_journal goes limits gives told = record { noted = adds_none told; legal = tt; given = tt; are_steps = goes.begins limits }
+pub nothing_journal : (limits : Limits) (gives : ℕ → Type 0) (told : Option (List PmEvent)) → IsJournal limits gives [] told told
+nothing_journal limits gives told = record { noted = adds_none told; legal = tt; given = tt }
 
 pub nothing_asked : (limits : Limits) → IsAsked limits NoMemory false []
 nothing_asked limits = record { smart = All-nil (λ (m : Mode). m ≡ Smart); few = omega arith; cause = inl refl; heeded = λ is. inr refl }
 
 pub nothing_logged : (first last : LogView) → first.is_cut ≡ false → Says (end_line NoMemory) first last → HasLogged (end_line NoMemory) first.written last.written first.faults last.faults
 nothing_logged first last unbroken says =
-    let printed = printed_more [] (end_line NoMemory) first first last (said_first first unbroken) says in
-    record { printed = printed_weaker _ _ _ _ _ printed.rose printed.printed; later = printed.later }
+    logged_by (end_line NoMemory) first last (printed_more [] (end_line NoMemory) first first last (said_first first unbroken) says)
 
--- of a sink that is another's
-pub logged_as : {S : Type 0} (written : S → Option (List ℕ)) (faults : S → ℕ) (text : List ℕ) (first before last now : S) → first ≡ before → now ≡ last
-    → HasLogged text (written first) (written last) (faults first) (faults last) → HasLogged text (written before) (written now) (faults before) (faults now)
-logged_as written faults text first before last now one two logged =
-    subst (λ (s : _). HasLogged text (written s) (written now) (faults s) (faults now)) one
-    (subst (λ (s : _). HasLogged text (written first) (written s) (faults first) (faults s)) (sym two) logged)
+-- between the sink that a log was opened for, and the one that it has left
+pub logged_as : (text : List ℕ) (first last : LogView) (before now : Option (List ℕ)) (faults_before faults_now : ℕ) → first ≡ opened before faults_before → now ≡ last.written → faults_now ≡ last.faults
+    → HasLogged text first.written last.written first.faults last.faults → HasLogged text before now faults_before faults_now
+logged_as text first last before now faults_before faults_now at_first written faults logged =
+    subst (λ (l : LogView). HasLogged text l.written now l.faults faults_now) at_first
+    (subst (λ (w : Option (List ℕ)). HasLogged text first.written w first.faults faults_now) (sym written)
+    (subst (λ (n : ℕ). HasLogged text first.written last.written first.faults n) (sym faults) logged))

@@ -16,8 +16,8 @@ use Rattle.pm_query.specs.declared.store.StoreNo.TheVariants as stores
 use Rattle.pm_chain.specs.Steps.{ChildRun, Runs, RunsOn, Step, journal_by}
 use Rattle.pm_once.specs.declared.checkpointer.Closed.{Closed}
 use Rattle.pm_once.specs.declared.checkpointer.Closed.TheVariants.{Made, Crashed, Full, Short}
-use Rattle.pm_once.specs.declared.end.StartWhy.{StartWhy}
-use Rattle.pm_once.specs.declared.end.StartWhy.TheVariants.{Redo}
+use Rattle.pm_server.specs.declared.end.StartWhy.{StartWhy}
+use Rattle.pm_server.specs.declared.end.StartWhy.TheVariants.{Redo}
 
 -- ---- what they were told
 

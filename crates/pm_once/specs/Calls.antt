@@ -1,5 +1,5 @@
 -- What the parts of a server's calls do.
-use Rattle.std.specs.Prelude.{◌≡◌, ◌⊎◌, ℕ, ◌+◌, ◌≤◌, Bool, true, false, not, ◌&&◌, ◌||◌, if◌then◌else◌, List, [], ◌∷◌, ◌++◌, length, map, Option, None, Some, Result, Ok, Err, IfErr, OnOk}
+use Rattle.std.specs.Prelude.{◌≡◌, ◌⊎◌, ℕ, ◌+◌, ◌≤◌, Bool, true, false, if◌then◌else◌, List, [], ◌∷◌, ◌++◌, length, Option, None, Some, Result, Ok, Err, IfErr, OnOk}
 use Rattle.std.specs.declared.alloc.AllocError.{AllocError}
 use Rattle.pm_exit.specs.declared.child.Kind.{Kind}
 use Rattle.pm_exit.specs.declared.child.Kind.TheVariants as kinds
@@ -7,13 +7,9 @@ use Rattle.pm_supervisor.specs.declared.Ending.{Ending}
 use Rattle.pm_supervisor.specs.declared.Ending.TheVariants as endings
 use Rattle.pm_state.specs.declared.action.Action.{Action}
 use Rattle.pm_state.specs.declared.action.Action.TheVariants as acts
-use Rattle.pm_exit.specs.Ends.{is_exit_0, is_exit_1}
 use Rattle.pm_disk.specs.Cause.{Rose}
-use Rattle.pm_record.specs.OnDisk.{GoesOn}
-use Rattle.pm_query.specs.declared.book.BookEntry.TheVariants.{Gone, Opened}
-use Rattle.pm_segment.specs.Children.{AreOthers}
 use Rattle.pm_segment.specs.Moment.{Moment}
-use Rattle.pm_segment.specs.Moves.{IsCountedFrom, Moves, Renews}
+use Rattle.pm_segment.specs.Moves.{IsCountedFrom, Moves}
 use Rattle.pm_segment.specs.Redos.{is_broken}
 use Rattle.pm_admit.specs.declared.Cac.TheVariants as decisions
 use Rattle.pm_chain.specs.Steps.{ChildRun, IsRunOf, Step, journal_of}
@@ -23,15 +19,18 @@ use Rattle.pm_journal.specs.declared.exit.ChildExit.{ChildExit}
 use Rattle.pm_journal.specs.Roll.{kind_in}
 use Rattle.pm_journal.specs.Standing.{Adds, IsAtRest, Standing, exiting, made}
 use Rattle.pm_journal.specs.Stands.{IsSettled}
-use Rattle.pm_once.specs.Goes.{Does, Goes, IsIdle, StaysOpen, accepted_in, asked_in, if_session, is_last_drawn, sessions_in}
+use Rattle.pm_once.specs.Goes.{Does, Goes, IsIdle, StaysOpen, if_session, is_last_drawn, sessions_in}
+use Rattle.pm_server.specs.Journal.{accepted_in, asked_in}
 use Rattle.pm_once.specs.Auxiliaries.{AreThere, HasLess, IsPresent, auxiliaries_after, heard_of}
 use Rattle.pm_once.specs.AuxiliaryRuns.{IsRefusedRun, IsRunAs, startup_or}
 use Rattle.pm_once.specs.Knows.{Knows}
-use Rattle.pm_once.specs.Log.{LogView, Says, log_line}
+use Rattle.pm_once.specs.Undisturbed.{IsFineExit}
+use Rattle.pm_lines.specs.Log.{LogView, Says, log_line}
+use Rattle.pm_server.specs.Spans.{HasRenewed}
 use Rattle.pm_once.specs.View.{View}
-use Rattle.pm_once.specs.declared.end.ServerEnd.{ServerEnd}
-use Rattle.pm_once.specs.declared.end.ServerEnd.TheVariants.{Clean, Abnormal, NoMemory}
-use Rattle.pm_once.specs.declared.end.Why.TheVariants.{AfterCrash, RestartOff, StartupFailed}
+use Rattle.pm_server.specs.declared.end.ServerEnd.{ServerEnd}
+use Rattle.pm_server.specs.declared.end.ServerEnd.TheVariants.{Clean, Abnormal, NoMemory}
+use Rattle.pm_server.specs.declared.end.Why.TheVariants.{AfterCrash, RestartOff, StartupFailed}
 use Rattle.pm_once.specs.declared.outcome.Outcome.{Outcome}
 use Rattle.pm_once.specs.declared.outcome.Outcome.TheVariants.{Closed, Refused}
 use Rattle.pm_once.specs.declared.checkpointer.Closed.TheVariants.{Full, Made}
@@ -56,13 +55,6 @@ end_by ending v = end_in ending v.outcome (is_broken v.store.live)
 abbrev pub LogBehind : Act → LogView → LogView → Type 0
 LogBehind (act.Say line) before now = Says (log_line line) before now
 LogBehind _ before now = now ≡ before
-
--- The store begins its next generation: the children that ended inside are gone, and whoever else is inside.
-pub record HasRenewed (generation : ℕ) (lost others : List ℕ) (before now : Moment) : Type 0 where
-  pub others_are : AreOthers before.inside lost others
-  pub renews : Renews (map Gone (lost ++ others) ++ Opened generation ∷ []) before now
-  pub time : GoesOn before.ticks now.ticks before.images now.images
-  pub later : before.faults ≤ now.faults
 
 -- nobody has used the store
 pub record Stays (before now : Moment) : Type 0 where
@@ -162,10 +154,6 @@ IsOff kinds.Startup auxiliaries = auxiliaries.startup ≡ None
 IsOff kinds.Checkpointer auxiliaries = auxiliaries.checkpointer ≡ None
 IsOff kinds.Writer auxiliaries = auxiliaries.writer ≡ None
 IsOff _ auxiliaries = Unit {0}
-
--- a session's child that hasn't crashed
-abbrev pub IsFineExit : ChildRun → Type 0
-IsFineExit run = ((is_exit_0 run.status || is_exit_1 run.status) && not run.was_active) ≡ true
 
 -- a startup child that is refused leaves why, and no other child does
 abbrev pub ComesTo : ChildRun → (before now : Option Outcome) → Type 0

@@ -1,5 +1,5 @@
 -- What a server's calls do from one moment to another, and what holds of it at every moment.
-use Rattle.std.specs.Prelude.{◌≡◌, ◌⊎◌, ℕ, ◌+◌, ◌<◌, ◌≤◌, nat_le, Bool, true, false, List, [], ◌∷◌, ◌++◌, length, All, Option, None, Some, is_some, Result, IfErr, IfSome, OnOk}
+use Rattle.std.specs.Prelude.{◌≡◌, ◌⊎◌, ℕ, ◌+◌, ◌≤◌, nat_le, Bool, true, false, List, [], ◌∷◌, ◌++◌, length, All, Option, None, Some, is_some, Result, IfErr, IfSome, OnOk}
 use Rattle.std.specs.List.{AllByRecursion, flat_map, last_or}
 use Rattle.pm_exit.specs.declared.child.Kind.{Kind}
 use Rattle.pm_exit.specs.declared.child.Kind.TheVariants as kinds
@@ -13,62 +13,29 @@ use Rattle.pm_state.specs.declared.action.Action.{Action}
 use Rattle.pm_state.specs.declared.action.Action.TheVariants as act
 use Rattle.pm_state.specs.declared.event.PmEvent.{PmEvent}
 use Rattle.pm_state.specs.declared.event.PmEvent.TheVariants as entry
-use Rattle.pm_record.specs.OnDisk.{GoesOn}
-use Rattle.pm_query.specs.declared.book.BookEntry.{BookEntry}
-use Rattle.pm_query.specs.Book.{Base}
 use Rattle.pm_segment.specs.Children.{times_in}
-use Rattle.pm_segment.specs.Moment.{Moment}
-use Rattle.pm_segment.specs.Moves.{CountsEntries, IsCountedFrom, NotesEntries, StaysUnread}
+use Rattle.pm_segment.specs.Moves.{StaysUnread}
 use Rattle.pm_segment.specs.Redos.{is_broken}
-use Rattle.pm_segment.specs.Stands.{Begins, GoesFrom, Origin, WaitsFrom}
 use Rattle.pm_chain.specs.Steps.{Step, Notes, Renews, Runs, RunsOn, ChildRun, AreSteps, book_of, journal_of, lost_in}
-use Rattle.pm_journal.specs.declared.supervision.Taken.{Taken}
-use Rattle.pm_journal.specs.Moments.{AreGiven}
 use Rattle.pm_journal.specs.Standing.{Adds, IsAtRest, Standing, first_due}
 use Rattle.pm_journal.specs.Stands.{Stands}
+use Rattle.pm_server.specs.Journal.{Times, accepted_in, asked_in}
+use Rattle.pm_server.specs.Spans.{Spans}
 use Rattle.pm_once.specs.Auxiliaries.{AreThere, heard_of}
 use Rattle.pm_once.specs.AuxiliaryRuns.{AreToldBehind, IsRefusedLast, heard_in, nothing_heard}
 use Rattle.pm_once.specs.Knows.{Knows}
-use Rattle.pm_once.specs.Log.{HasSaid, LogView}
+use Rattle.pm_lines.specs.Log.{HasSaid, LogView}
 use Rattle.pm_once.specs.Undisturbed.{IsDisturbedAt}
 use Rattle.pm_once.specs.View.{View}
 use Rattle.pm_once.specs.declared.checkpointer.Closed.TheVariants.{Full, Made}
 use Rattle.pm_once.specs.declared.auxiliaries.Auxiliaries.{Auxiliaries}
 use Rattle.pm_once.specs.declared.outcome.Outcome.{Outcome}
 use Rattle.pm_once.specs.declared.outcome.Outcome.TheVariants.{Closed, Refused}
-use Rattle.pm_once.specs.declared.end.ServerEnd.{ServerEnd}
-use Rattle.pm_once.specs.declared.end.ServerEnd.TheVariants.{Clean, Abnormal, NoMemory}
-use Rattle.pm_once.specs.declared.end.Why.TheVariants.{AfterCrash, StartupFailed, RestartOff, GenerationsSpent}
-
--- ---- a store, in one generation or through several
-
--- These entries were noted. What held from a beginning holds from it still, or the first redo has come; what a stop could
--- leave before is as it was, and each fault that was noted was counted.
-pub record Spans (entries : List BookEntry) (before now : Moment) : Type 0 where
-  pub notes : NotesEntries entries before.book now.book
-  pub time : GoesOn before.ticks now.ticks before.images now.images
-  pub later : before.faults ≤ now.faults
-  pub counts : (from : ℕ) → IsCountedFrom from before.faults before.live → CountsEntries from entries now.faults now.live
-  pub waits : (origin : Origin) → WaitsFrom origin before → WaitsFrom origin now ⊎ Begins origin now
-  pub goes_on : (origin : Origin) (base : Base) → GoesFrom origin base before → GoesFrom origin base now
-
--- ---- moments
-
--- the clock gives this one, or it is the last one before, which isn't the first of all
-abbrev pub IsMoment : (ℕ → Type 0) → ℕ → ℕ → Type 0
-IsMoment gives before at = gives at ⊎ ((at ≡ before) × (0 < before))
-
--- so it is with those of these entries, and with the last one now
-pub record Times (gives : ℕ → Type 0) (before : ℕ) (entries : List PmEvent) (now : ℕ) : Type 0 where
-  pub each : AreGiven (IsMoment gives before) entries
-  pub last : (now ≡ before) ⊎ gives now
+use Rattle.pm_server.specs.declared.end.ServerEnd.{ServerEnd}
+use Rattle.pm_server.specs.declared.end.ServerEnd.TheVariants.{Clean, Abnormal, NoMemory}
+use Rattle.pm_server.specs.declared.end.Why.TheVariants.{AfterCrash, StartupFailed, RestartOff, GenerationsSpent}
 
 -- ---- requests
-
-abbrev pub asked_in : List PmEvent → List Mode
-asked_in [] = []
-asked_in (entry.Asked mode at ∷ journal) = mode ∷ asked_in journal
-asked_in (_ ∷ journal) = asked_in journal
 
 -- the last pid was drawn
 abbrev pub is_last_drawn : ℕ → Bool
@@ -81,20 +48,14 @@ pub record AsksAsDue (asked : List Mode) (listens : Bool) (s : Standing) : Type 
 
 -- ---- acts
 
--- Nobody is to be killed, since the server tells its machine no time; a server ends for want of a restart where it isn't to
--- restart, and begins another generation, only where nobody has asked it to shut down.
-abbrev pub AreOurs : Limits → Bool → List Action → Type 0
-AreOurs limits asked [] = Unit {0}
-AreOurs limits asked (act.KillAll ∷ acts) = ⊥
-AreOurs limits asked (act.End endings.RestartOff ∷ acts) = (limits.restart_after_crash ≡ false) × (asked ≡ false) × AreOurs limits asked acts
-AreOurs limits asked (act.Reset ∷ acts) = (asked ≡ false) × AreOurs limits asked acts
-AreOurs limits asked (_ ∷ acts) = AreOurs limits asked acts
-
--- a server has ended for want of a restart only where it isn't to restart
-abbrev pub AreOurEnds : Limits → List PmEvent → Type 0
-AreOurEnds limits [] = Unit {0}
-AreOurEnds limits (entry.Ended endings.RestartOff ∷ journal) = (limits.restart_after_crash ≡ false) × AreOurEnds limits journal
-AreOurEnds limits (_ ∷ journal) = AreOurEnds limits journal
+-- Nobody is to be killed, since the server tells its machine no time; a server ends for want of a restart, and begins another
+-- generation, only where nobody has asked it to shut down.
+abbrev pub AreOurs : Bool → List Action → Type 0
+AreOurs asked [] = Unit {0}
+AreOurs asked (act.KillAll ∷ acts) = ⊥
+AreOurs asked (act.End endings.RestartOff ∷ acts) = (asked ≡ false) × AreOurs asked acts
+AreOurs asked (act.Reset ∷ acts) = (asked ≡ false) × AreOurs asked acts
+AreOurs asked (_ ∷ acts) = AreOurs asked acts
 
 -- ---- at every moment
 
@@ -126,8 +87,7 @@ pub record IsAt (outset : Outset) (steps : List Step) (v : View) : Type 0 where
   pub said : HasSaid (journal_of steps) outset.log v.log
   pub auxiliaries : AreThere v.auxiliaries v.work.standing
   pub asks : AsksAsDue (asked_in (journal_of steps)) v.listens v.work.standing
-  pub acts : AreOurs outset.limits (is_some v.work.standing.machine.shutdown) v.work.standing.due
-  pub ends : AreOurEnds outset.limits (journal_of steps)
+  pub acts : AreOurs (is_some v.work.standing.machine.shutdown) v.work.standing.due
   pub causes : AreCaused steps v.auxiliaries v.outcome
   pub disturbed : IsDisturbedAt outset.faults steps v
 
@@ -166,7 +126,7 @@ pub record Goes (gives : ℕ → Type 0) (steps : List Step) (before now : View)
   pub store : Spans (book_of steps) before.store now.store
   -- without a renewal the store is in its generation
   pub still : AllByRecursion IsNoRenewal steps → now.store.generation ≡ before.store.generation
-  pub unread : AllByRecursion IsNoRenewal steps → StaysUnread before.store now.store
+  pub unread : AllByRecursion IsNoRenewal steps → StaysUnread (book_of steps) before.store now.store
   pub knows : (from : ℕ) → Knows from before → Knows from now
 
 -- it can go on behind them
@@ -192,11 +152,6 @@ IsEndOf (Abnormal GenerationsSpent) steps v =
 IsEndOf NoMemory steps v = Unit {0}
 
 -- ---- what is served
-
-abbrev pub accepted_in : List PmEvent → List Taken
-accepted_in [] = []
-accepted_in (entry.Accepted pid decision ∷ journal) = record { pid = pid; decision = decision } ∷ accepted_in journal
-accepted_in (_ ∷ journal) = accepted_in journal
 
 abbrev pub if_session : Kind → ChildRun → List ChildRun
 if_session kinds.Backend run = run ∷ []

@@ -1,23 +1,15 @@
 -- What a server remembers of its store, and what holds of the store then.
-use Rattle.std.specs.Prelude.{◌≡◌, ℕ, Option, None, Some, IfSome}
+use Rattle.std.specs.Prelude.{ℕ, Option, None, Some, IfSome}
 use Rattle.pm_disk.specs.Cause.{Rose}
-use Rattle.pm_record.specs.declared.fault.RedoFault.{RedoFault}
-use Rattle.pm_record.specs.declared.fault.RedoFault.TheVariants as redo
-use Rattle.pm_redo.specs.Found.{IsReason}
 use Rattle.pm_segment.specs.Moment.{Moment}
 use Rattle.pm_segment.specs.Moves.{IsCountedFrom}
 use Rattle.pm_segment.specs.Redos.{IsAtLastEpoch, IsCleanAt}
+use Rattle.pm_server.specs.Ends.{HasRefused}
 use Rattle.pm_once.specs.View.{View}
 use Rattle.pm_once.specs.declared.checkpointer.Closed.TheVariants.{Made, Crashed, Full, Short}
-use Rattle.pm_once.specs.declared.end.StartWhy.TheVariants.{Redo}
+use Rattle.pm_server.specs.declared.end.StartWhy.TheVariants.{Redo}
 use Rattle.pm_once.specs.declared.outcome.Outcome.{Outcome}
 use Rattle.pm_once.specs.declared.outcome.Outcome.TheVariants.{Refused, Closed}
-
--- a redo was refused so, of the files as they are, and the log isn't read
-abbrev pub HasRefused : RedoFault → (from : ℕ) → Moment → Type 0
-HasRefused redo.Disk from at = Rose from at.faults
-HasRefused redo.NoMemory from at = ⊥
-HasRefused fault from at = IfSome at.files (IsReason fault) × (at.live ≡ None)
 
 -- the last auxiliary child that used the store came to this, and nobody has used it since
 abbrev pub HasComeTo : Option Outcome → (from : ℕ) → Moment → Type 0

@@ -3,14 +3,11 @@ pub mod AuxiliaryRuns
 pub mod Calls
 pub mod Goes
 pub mod Knows
-pub mod Log
+pub mod Laws
 pub mod Once
 pub mod Outside
-pub mod Print
-pub mod PrintLaws
 pub mod Quiet
 pub mod Serves
 pub mod Service
-pub mod Story
 pub mod Undisturbed
 pub mod View

@@ -1,17 +1,10 @@
 -- What is told of the things that a server works on, at one moment.
 use Rattle.std.specs.Prelude.{ℕ, List, Option}
-use Rattle.pm_disk.specs.Files.{Files}
 use Rattle.pm_outside.specs.Visits.{Visits}
 use Rattle.pm_state.specs.declared.event.PmEvent.{PmEvent}
 use Rattle.pm_query.specs.declared.book.BookEntry.{BookEntry}
+use Rattle.pm_server.specs.Views.{DiskView, StoreView}
 use Rattle.pm_once.specs.declared.outside.Outside.{Outside}
-
--- a disk: the files as they read, what a stop may leave after so many calls, and its counts of calls and faults
-pub record DiskView : Type 1 where
-  pub files : Option Files
-  pub images : ℕ → Files → Type 0
-  pub ticks : ℕ
-  pub faults : ℕ
 
 -- The links of the port, what was written to the sink and how often it failed, the disk, the moments that the clock gives, and
 -- the entries of journal and book. The seed is that of the keys of sessions.
@@ -24,6 +17,10 @@ pub record OutsideView : Type 1 where
   pub journal : Option (List PmEvent)
   pub book : Option (List BookEntry)
   pub seed : List ℕ
+
+-- of these, the store
+abbrev pub store_view : OutsideView → StoreView
+store_view outside = record { disk = outside.disk; book = outside.book }
 
 abbrev pub outside_view : {P O D C J B L R : Type 0} {p : _} {l : _} {o : _} {d : _} {c : _} {j : _} {b : _}
     → Outside P O D C J B L R p l o d c j b → OutsideView

@@ -5,11 +5,12 @@ use Rattle.pm_keys.specs.CancelKey.{cancel_key}
 use Rattle.pm_outside.specs.Visits.{Visits}
 use Rattle.pm_chain.specs.Steps.{Step, journal_of}
 use Rattle.pm_journal.specs.declared.supervision.Taken.{Taken}
-use Rattle.pm_once.specs.Goes.{Goes, IsEndOf, IsIdle, StaysOpen, accepted_in, asked_in, is_last_drawn, sessions_in}
+use Rattle.pm_once.specs.Goes.{Goes, IsEndOf, IsIdle, StaysOpen, is_last_drawn, sessions_in}
+use Rattle.pm_server.specs.Journal.{accepted_in, asked_in}
 use Rattle.pm_once.specs.Service.{Connection, IsServedAs, run_of, with_connections, with_end}
 use Rattle.pm_once.specs.View.{View}
-use Rattle.pm_once.specs.declared.end.ServerEnd.{ServerEnd}
-use Rattle.pm_once.specs.declared.end.ServerEnd.TheVariants.{NoMemory}
+use Rattle.pm_server.specs.declared.end.ServerEnd.{ServerEnd}
+use Rattle.pm_server.specs.declared.end.ServerEnd.TheVariants.{NoMemory}
 
 -- it was accepted, and not refused
 abbrev pub taken_for : Connection → Taken

@@ -1,8 +1,9 @@
 -- A server that nothing has disturbed: no fault of its disk was counted, and nobody has asked it to shut down.
-use Rattle.std.specs.Prelude.{◌≡◌, ◌⊎◌, ℕ, Bool, true, false, List, [], ◌∷◌, None, is_some}
-use Rattle.std.specs.List.{list_any}
+use Rattle.std.specs.Prelude.{◌≡◌, ◌⊎◌, ℕ, Bool, true, false, not, ◌&&◌, ◌||◌, List, [], ◌∷◌, None, is_some}
+use Rattle.std.specs.List.{AllByRecursion, list_any}
 use Rattle.pm_disk.specs.Cause.{Rose}
 use Rattle.pm_exit.specs.declared.child.Kind.TheVariants as kinds
+use Rattle.pm_exit.specs.Ends.{is_exit_0, is_exit_1}
 use Rattle.pm_admit.specs.declared.PmState.{PmState}
 use Rattle.pm_admit.specs.declared.PmState.TheVariants as state
 use Rattle.pm_supervisor.specs.declared.Ending.TheVariants as endings
@@ -12,7 +13,7 @@ use Rattle.pm_state.specs.declared.event.PmEvent.{PmEvent}
 use Rattle.pm_state.specs.declared.event.PmEvent.TheVariants as entry
 use Rattle.pm_state.specs.declared.machine.StartupStatus.{StartupStatus}
 use Rattle.pm_state.specs.declared.machine.StartupStatus.TheVariants.{Running}
-use Rattle.pm_chain.specs.Steps.{Step, journal_of}
+use Rattle.pm_chain.specs.Steps.{ChildRun, Runs, Step, journal_of}
 use Rattle.pm_journal.specs.Standing.{Standing}
 use Rattle.pm_segment.specs.Moves.{IsCountedFrom}
 use Rattle.pm_once.specs.Auxiliaries.{heard_of}
@@ -50,13 +51,25 @@ abbrev pub IsDisturbedSo : (from : ℕ) → View → Type 0
 IsDisturbedSo from v =
     Rose from v.store.faults ⊎ ((is_some v.work.standing.machine.shutdown ≡ true) ⊎ IsCalm v.work.standing v.auxiliaries)
 
-abbrev pub ends_unrestarted : PmEvent → Bool
-ends_unrestarted (entry.Ended endings.RestartOff) = true
-ends_unrestarted _ = false
+-- what a crash leads to: the next generation, or an end for want of a restart
+abbrev pub is_behind_crash : PmEvent → Bool
+is_behind_crash (entry.Reset generation) = true
+is_behind_crash (entry.Ended endings.RestartOff) = true
+is_behind_crash _ = false
 
--- So it is where the disk's count of faults was this one at first. It has ended for want of a restart only where a fault was
--- counted.
+-- the child ended by itself, outside the store, with code 0 or 1
+abbrev pub IsFineExit : ChildRun → Type 0
+IsFineExit run = ((is_exit_0 run.status || is_exit_1 run.status) && not run.was_active) ≡ true
+
+-- so a session's child does
+abbrev pub HasFineSession : Step → Type 0
+HasFineSession (Runs run at) = run.kind ≡ kinds.Backend → IsFineExit run
+HasFineSession _ = Unit {0}
+
+-- So it is where the disk's count of faults was this one at first. It has come to what a crash leads to, or a session's child
+-- has crashed, only where a fault was counted.
 pub record IsDisturbedAt (from : ℕ) (steps : List Step) (v : View) : Type 0 where
   pub counted : IsCountedFrom from v.store.faults v.store.live
   pub stage : IsDisturbedSo from v
-  pub restarts : list_any ends_unrestarted (journal_of steps) ≡ true → Rose from v.store.faults
+  pub restarts : list_any is_behind_crash (journal_of steps) ≡ true → Rose from v.store.faults
+  pub sessions : AllByRecursion HasFineSession steps ⊎ Rose from v.store.faults

@@ -2,9 +2,8 @@
 use Rattle.std.specs.Prelude.{ℕ, Bool, List, Option}
 use Rattle.pm_journal.specs.Stands.{AtWork}
 use Rattle.pm_journal.specs.Supervision.{at_work}
-use Rattle.pm_query.specs.declared.book.BookEntry.{BookEntry}
-use Rattle.pm_segment.specs.Moment.{Moment, moment_of}
-use Rattle.pm_once.specs.Log.{LogView, view_of as log_view_of}
+use Rattle.pm_segment.specs.Moment.{Moment, moment}
+use Rattle.pm_lines.specs.Log.{LogView, view_of as log_view_of}
 use Rattle.pm_once.specs.declared.auxiliaries.Auxiliaries.{Auxiliaries}
 use Rattle.pm_once.specs.declared.outcome.Outcome.{Outcome}
 use Rattle.pm_once.specs.declared.server.Server.{Server}
@@ -20,11 +19,11 @@ pub record View : Type 1 where
   pub outcome : Option Outcome
   pub listens : Bool
 
--- the view of a server whose book tells this
-abbrev pub view_of : {J O D B : Type 0} {j : _} {o : _} {d : _} {b : _} → Option (List BookEntry) → Server J O D B j o d b → View
-view_of book server = record {
+-- a server as it is now
+abbrev pub view_of : {J O D B : Type 0} {j : _} {o : _} {d : _} {b : _} → Server J O D B j o d b → View
+view_of server = record {
   work = at_work server.supervision;
-  store = moment_of book server.store;
+  store = moment server.store;
   log = log_view_of server.log;
   lost = server.lost.items;
   auxiliaries = server.auxiliaries;

@@ -1,6 +1,6 @@
 //! A connection that was taken.
 
-use crate::end::ServerEnd;
+use pm_server::ServerEnd;
 
 /// A connection that was taken, before its session.
 #[derive(Clone, Copy, Debug, PartialEq, Eq)]

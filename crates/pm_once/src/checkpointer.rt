@@ -2,7 +2,7 @@
 
 ghost use Rattle.std.specs.Prelude.{◌≡◌, ℕ, List, IfSome};
 ghost use Rattle.pm_query.specs.declared.book.BookEntry.{BookEntry};
-ghost use Rattle.pm_segment.specs.Moment.{moment_of};
+ghost use Rattle.pm_segment.specs.Moment.{moment};
 ghost use Rattle.pm_segment.specs.Moves.{Moves};
 ghost use Rattle.pm_segment.specs.Redos.{IsAtLastEpoch, IsCleanAt};
 ghost use Rattle.pm_once.specs.AuxiliaryRuns.{CloseNotes, closed_as, is_crashed, status_of_closed};
@@ -51,8 +51,7 @@ impl Closed {
 /// Writes the last checkpoint, as the child with this pid.
 pub fn write_last<D: Disk, B: Chronicle<BookEntry>>(store: &mut Sole<D, B>, pid: u32) -> Closed
     ensures notes { (noted : List BookEntry) × CloseNotes pid store.old.generation result noted
-        × Moves noted (moment_of (B.entries store.old.book) store.old)
-        (moment_of (B.entries store.new.book) store.new) }
+        × Moves noted (moment store.old) (moment store.new) }
     ensures clean { result ≡ Closed.Made → (epoch : ℕ)
         × IsCleanAt epoch store.new.live store.new.rows (D.seen store.new.disk) }
     ensures full { result ≡ Closed.Full → IfSome (D.seen store.new.disk)

@@ -2,9 +2,12 @@
 
 ghost use Rattle.pm_chain.specs.Laws.{StepsAreChained, StepsGoOn};
 ghost use Rattle.pm_journal.specs.Laws.{GoesOnOverItsJournal, KeepsALegalJournal};
+ghost use Rattle.pm_once.specs.Laws.{OpensOnce};
+ghost use Rattle.pm_state.specs.Laws.{RestartsSafely};
 
 use pm_chain::{steps_are_chained, steps_go_on};
 use pm_journal::{goes_on_over_its_journal, keeps_a_legal_journal};
+use pm_state::restarts_safely;
 
 // The supervisor at work, its journal, and the steps of journal and book.
 pub(crate) fn laws()
@@ -12,9 +15,16 @@ pub(crate) fn laws()
     ensures chained { StepsAreChained }
     ensures work { GoesOnOverItsJournal }
     ensures journal { KeepsALegalJournal }
+    ensures restarts { RestartsSafely }
 {
     steps_go_on();
     steps_are_chained();
     goes_on_over_its_journal();
     keeps_a_legal_journal();
+    restarts_safely();
 }
+
+/// A server whose store was never renewed opened it once: its book has one generation.
+pub fn opens_once()
+    ensures { OpensOnce }
+{}

@@ -8,23 +8,17 @@
 mod admitted;
 mod auxiliaries;
 mod checkpointer;
-mod end;
 mod laws;
-mod log;
 mod outcome;
 mod outside;
-mod printing;
 mod quiet;
 mod quiet_life;
 mod rounds;
 mod run_once;
-mod say;
 mod server;
 mod session;
 mod startup;
 
-pub use end::{ServerEnd, StartWhy, Why};
+pub use laws::opens_once;
 pub use outside::{Ended, Outside};
-pub use pm_words::Conf;
-pub use printing::{SinkFailed, file_letter, print, print_redo, print_with};
 pub use run_once::once;

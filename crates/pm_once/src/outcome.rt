@@ -1,7 +1,7 @@
 //! What an auxiliary child came to.
 
 use crate::checkpointer::Closed;
-use crate::end::StartWhy;
+use pm_server::StartWhy;
 
 /// What an auxiliary child came to that used the store.
 #[derive(Clone, Copy, Debug, PartialEq, Eq)]

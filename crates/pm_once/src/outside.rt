@@ -2,10 +2,10 @@
 
 ghost use Rattle.std.specs.Prelude.{◌≡◌, ℕ};
 
-use crate::end::ServerEnd;
 use pm_disk::Disk;
 use pm_outside::{Chronicle, Clock, Port, Sink};
 use pm_query::BookEntry;
+use pm_server::ServerEnd;
 use pm_state::PmEvent;
 
 /// What a server works on, and gives back at its end.

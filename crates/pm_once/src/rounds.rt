@@ -3,13 +3,13 @@
 ghost use Rattle.std.specs.Prelude.{◌≡◌, List};
 ghost use Rattle.pm_chain.specs.Steps.{Step};
 
-use crate::end::ServerEnd;
 use crate::laws::laws;
 use crate::server::Server;
 use pm_admit::Cac;
 use pm_disk::Disk;
 use pm_outside::{Chronicle, Clock, Port, Sink};
 use pm_query::BookEntry;
+use pm_server::ServerEnd;
 use pm_session::SessionConf;
 use pm_state::PmEvent;
 use std::alloc::Global;
@@ -27,11 +27,9 @@ impl<J: Chronicle<PmEvent>, O: Sink, D: Disk, B: Chronicle<BookEntry>> Server<J,
 
     // Lets the machine do what it does by itself, and does the acts of that.
     fn turn(&mut self) -> Result<(), ServerEnd>
-        requires running { IsRunning (view_of (B.entries self.old.store.book) self.old) }
+        requires running { IsRunning (view_of self.old) }
         requires idle { IsIdle (standing self.old.supervision) }
-        ensures { (steps : List Step) × Turns result steps
-            (view_of (B.entries self.old.store.book) self.old)
-            (view_of (B.entries self.new.store.book) self.new) }
+        ensures { (steps : List Step) × Turns result steps (view_of self.old) (view_of self.new) }
     {
         laws();
         match self.supervision.turn() {
@@ -50,13 +48,12 @@ impl<J: Chronicle<PmEvent>, O: Sink, D: Disk, B: Chronicle<BookEntry>> Server<J,
         seed: &[u8; 32],
         conf: &SessionConf,
     ) -> Result<(), ServerEnd>
-        requires running { IsRunning (view_of (B.entries self.old.store.book) self.old) }
+        requires running { IsRunning (view_of self.old) }
         requires idle { IsIdle (standing self.old.supervision) }
         requires settled { IsSettled (standing self.old.supervision) }
         ensures { (steps : List Step) × (connections : List Connection) × (ended : Bool)
-            × Serves (C.gives clock.now) result connections ended steps
-            (view_of (B.entries self.old.store.book) self.old)
-            (view_of (B.entries self.new.store.book) self.new)
+            × Serves (C.gives clock.now) result connections ended steps (view_of self.old)
+            (view_of self.new)
             × HasServed seed.now conf.now.authentication_ms (C.gives clock.now) connections ended
             steps (P.visits port.old) (P.visits port.new) }
     {
@@ -76,13 +73,12 @@ impl<J: Chronicle<PmEvent>, O: Sink, D: Disk, B: Chronicle<BookEntry>> Server<J,
         seed: &[u8; 32],
         conf: &SessionConf,
     ) -> Result<(), ServerEnd>
-        requires running { IsRunning (view_of (B.entries self.old.store.book) self.old) }
+        requires running { IsRunning (view_of self.old) }
         requires idle { IsIdle (standing self.old.supervision) }
         requires settled { IsSettled (standing self.old.supervision) }
         ensures { (steps : List Step) × (connections : List Connection) × (ended : Bool)
-            × Serves (C.gives clock.now) result connections ended steps
-            (view_of (B.entries self.old.store.book) self.old)
-            (view_of (B.entries self.new.store.book) self.new)
+            × Serves (C.gives clock.now) result connections ended steps (view_of self.old)
+            (view_of self.new)
             × HasServed seed.now conf.now.authentication_ms (C.gives clock.now) connections ended
             steps (P.visits port.old) (P.visits port.new) }
     {
@@ -105,12 +101,11 @@ impl<J: Chronicle<PmEvent>, O: Sink, D: Disk, B: Chronicle<BookEntry>> Server<J,
         seed: &[u8; 32],
         conf: &SessionConf,
     ) -> Result<(), ServerEnd>
-        requires running { IsRunning (view_of (B.entries self.old.store.book) self.old) }
+        requires running { IsRunning (view_of self.old) }
         requires idle { IsIdle (standing self.old.supervision) }
         ensures { (steps : List Step) × (connections : List Connection) × (ended : Bool)
-            × Serves (C.gives clock.now) result connections ended steps
-            (view_of (B.entries self.old.store.book) self.old)
-            (view_of (B.entries self.new.store.book) self.new)
+            × Serves (C.gives clock.now) result connections ended steps (view_of self.old)
+            (view_of self.new)
             × HasServed seed.now conf.now.authentication_ms (C.gives clock.now) connections ended
             steps (P.visits port.old) (P.visits port.new) }
     {
@@ -134,12 +129,11 @@ impl<J: Chronicle<PmEvent>, O: Sink, D: Disk, B: Chronicle<BookEntry>> Server<J,
         seed: &[u8; 32],
         conf: &SessionConf,
     ) -> ServerEnd
-        requires running { IsRunning (view_of (B.entries self.old.store.book) self.old) }
+        requires running { IsRunning (view_of self.old) }
         requires idle { IsIdle (standing self.old.supervision) }
         ensures { (steps : List Step) × (connections : List Connection) × (ended : Bool)
-            × Serves (C.gives clock.now) (Err result) connections ended steps
-            (view_of (B.entries self.old.store.book) self.old)
-            (view_of (B.entries self.new.store.book) self.new)
+            × Serves (C.gives clock.now) (Err result) connections ended steps (view_of self.old)
+            (view_of self.new)
             × HasServed seed.now conf.now.authentication_ms (C.gives clock.now) connections ended
             steps (P.visits port.old) (P.visits port.new) }
     {

@@ -5,18 +5,17 @@ ghost use Rattle.pm_once.specs.Once.{IsOnceRun};
 ghost use Rattle.pm_once.specs.Outside.{outside_view};
 
 use crate::auxiliaries::Auxiliaries;
-use crate::end::ServerEnd;
 use crate::laws::laws;
-use crate::log::Log;
 use crate::outside::{Ended, Outside};
 use crate::server::Server;
 use pm_disk::Disk;
 use pm_journal::Supervision;
+use pm_lines::Log;
 use pm_outside::{Chronicle, Clock, Port, Sink};
 use pm_query::BookEntry;
 use pm_segment::Sole;
+use pm_server::{Conf, ServerEnd, say_end};
 use pm_state::PmEvent;
-use pm_words::Conf;
 use std::alloc::Global;
 use std::sync::Wait;
 
@@ -57,7 +56,7 @@ where
     let store = match Sole::new(alloc, disk, book) {
         Ok(store) => store,
         Err((disk, book)) => {
-            log.say_end(ServerEnd::NoMemory);
+            say_end(&mut log, ServerEnd::NoMemory);
             let outside = Outside {
                 port,
                 sink: log.into_sink(),
@@ -91,7 +90,7 @@ where
         mut log,
         ..
     } = server;
-    log.say_end(end);
+    say_end(&mut log, end);
     let (disk, book) = store.into_parts();
     let outside = Outside {
         port,

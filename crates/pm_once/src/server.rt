@@ -8,20 +8,20 @@ ghost use Rattle.pm_once.specs.declared.outcome.Outcome.{Outcome};
 use crate::admitted::Admitted;
 use crate::auxiliaries::{Auxiliaries, Duty};
 use crate::checkpointer::{Closed, write_last};
-use crate::end::{ServerEnd, StartWhy, Why};
 use crate::laws::laws;
-use crate::log::Log;
 use crate::outcome::Outcome;
-use crate::session::{next_link, serve_link};
+use crate::session::{Served, next_link, serve_link};
 use crate::startup::read_log;
 use pm_disk::Disk;
 use pm_exit::{Kind, Status};
 use pm_journal::{Act, ChildExit, GenerationsSpent, Supervision, Taken};
+use pm_lines::Log;
 use pm_modes::Mode;
 use pm_outside::{Chronicle, Clock, Port, Sink};
 use pm_query::BookEntry;
 use pm_segment::Sole;
-use pm_session::{Done, SessionConf};
+use pm_server::{ServerEnd, StartWhy, Why};
+use pm_session::SessionConf;
 use pm_state::PmEvent;
 use pm_supervisor::Ending;
 use std::alloc::{AllocError, Global};
@@ -54,7 +54,7 @@ impl<J: Chronicle<PmEvent>, O: Sink, D: Disk, B: Chronicle<BookEntry>> Server<J,
     // How the server ends where its machine does: by what the last auxiliary child came to, or since its log is broken.
     // Behind such an end there is nothing else but want of memory.
     fn end_of(&self, ending: Ending) -> ServerEnd
-        ensures { result ≡ end_by ending (view_of (B.entries self.now.store.book) self.now) }
+        ensures { result ≡ end_by ending (view_of self.now) }
     {
         match (ending, self.outcome) {
             (Ending::Clean, Some(Outcome::Closed(Closed::Made))) => ServerEnd::Clean,
@@ -75,9 +75,7 @@ impl<J: Chronicle<PmEvent>, O: Sink, D: Disk, B: Chronicle<BookEntry>> Server<J,
     // The store begins its next generation.
     fn renew(&mut self, generation: u32) -> Result<(), AllocError>
         requires { generation ≡ self.old.store.generation + 1 }
-        ensures renews { RenewsStore generation result
-            (view_of (B.entries self.old.store.book) self.old)
-            (view_of (B.entries self.new.store.book) self.new) }
+        ensures renews { RenewsStore generation result (view_of self.old) (view_of self.new) }
         ensures supervision { self.new.supervision ≡ self.old.supervision }
     {
         self.outcome = None;
@@ -90,8 +88,7 @@ impl<J: Chronicle<PmEvent>, O: Sink, D: Disk, B: Chronicle<BookEntry>> Server<J,
     fn perform(&mut self, act: Act) -> Result<(), ServerEnd>
         requires { (generation : ℕ) → act ≡ Reset generation
             → generation ≡ self.old.store.generation + 1 }
-        ensures performs { Performs act result (view_of (B.entries self.old.store.book) self.old)
-            (view_of (B.entries self.new.store.book) self.new) }
+        ensures performs { Performs act result (view_of self.old) (view_of self.new) }
         ensures supervision { self.new.supervision ≡ self.old.supervision }
         ensures said { (line : Line) → act ≡ Say line → self.new.store ≡ self.old.store }
     {
@@ -110,10 +107,9 @@ impl<J: Chronicle<PmEvent>, O: Sink, D: Disk, B: Chronicle<BookEntry>> Server<J,
 
     // Does the next act that is due, if there is one.
     fn do_next(&mut self) -> Result<bool, ServerEnd>
-        requires { IsRunning (view_of (B.entries self.old.store.book) self.old) }
-        ensures does { (steps : List Step) × DoesNext result steps
-            (view_of (B.entries self.old.store.book) self.old)
-            (view_of (B.entries self.new.store.book) self.new) }
+        requires { IsRunning (view_of self.old) }
+        ensures does { (steps : List Step) × DoesNext result steps (view_of self.old)
+            (view_of self.new) }
         ensures said { AreSays (standing self.old.supervision).due → IsOk result
             × (self.new.store ≡ self.old.store) }
     {
@@ -130,10 +126,9 @@ impl<J: Chronicle<PmEvent>, O: Sink, D: Disk, B: Chronicle<BookEntry>> Server<J,
 
     // Does all acts that are due, in their order.
     pub(crate) fn act_all(&mut self) -> Result<(), ServerEnd>
-        requires { IsRunning (view_of (B.entries self.old.store.book) self.old) }
-        ensures does { (steps : List Step) × Acts result steps
-            (view_of (B.entries self.old.store.book) self.old)
-            (view_of (B.entries self.new.store.book) self.new) }
+        requires { IsRunning (view_of self.old) }
+        ensures does { (steps : List Step) × Acts result steps (view_of self.old)
+            (view_of self.new) }
         ensures said { AreSays (standing self.old.supervision).due → IsOk result
             × (self.new.store ≡ self.old.store) }
     {
@@ -162,13 +157,12 @@ impl<J: Chronicle<PmEvent>, O: Sink, D: Disk, B: Chronicle<BookEntry>> Server<J,
 
     // Asks for a smart shutdown, and does the acts of that. No further link is asked for.
     pub(crate) fn ask_smart<C: Clock>(&mut self, clock: &C) -> Result<(), ServerEnd>
-        requires running { IsRunning (view_of (B.entries self.old.store.book) self.old) }
+        requires running { IsRunning (view_of self.old) }
         requires rests { IsAtRest (standing self.old.supervision) }
         requires due { (self.old.listens ≡ true) ⊎ ((standing
             self.old.supervision).owes_smart ≡ true) }
         ensures asks { (steps : List Step) × Asks (C.gives clock.now) result steps
-            (view_of (B.entries self.old.store.book) self.old)
-            (view_of (B.entries self.new.store.book) self.new) }
+            (view_of self.old) (view_of self.new) }
         ensures store { self.new.store ≡ self.old.store }
     {
         laws();
@@ -181,11 +175,10 @@ impl<J: Chronicle<PmEvent>, O: Sink, D: Disk, B: Chronicle<BookEntry>> Server<J,
 
     // Does all acts that are due, and asks for the shutdown that is owed behind the last pid.
     fn finish<C: Clock>(&mut self, clock: &C) -> Result<(), ServerEnd>
-        requires running { IsRunning (view_of (B.entries self.old.store.book) self.old) }
+        requires running { IsRunning (view_of self.old) }
         requires goes_on { (standing self.old.supervision).ended ≡ false }
-        ensures { (steps : List Step) × Finishes (C.gives clock.now) result steps
-            (view_of (B.entries self.old.store.book) self.old)
-            (view_of (B.entries self.new.store.book) self.new) }
+        ensures { (steps : List Step) × Finishes (C.gives clock.now) result steps (view_of self.old)
+            (view_of self.new) }
     {
         match self.act_all() {
             Ok(()) => {}
@@ -205,10 +198,8 @@ impl<J: Chronicle<PmEvent>, O: Sink, D: Disk, B: Chronicle<BookEntry>> Server<J,
             exit.kind }
         requires kept { ends_redo exit ≡ true → IsSome exit.kept }
         ensures noted { OnOk result ((at : ℕ) × NotesExit (C.gives clock.now) exit at
-            (view_of (B.entries self.old.store.book) self.old)
-            (view_of (B.entries self.new.store.book) self.new)) }
-        ensures refused { OnErr result (NotesNoExit (view_of (B.entries self.old.store.book)
-            self.old) (view_of (B.entries self.new.store.book) self.new)) }
+            (view_of self.old) (view_of self.new)) }
+        ensures refused { OnErr result (NotesNoExit (view_of self.old) (view_of self.new)) }
     {
         self.lost.reserve(1)?;
         self.supervision.exited(exit, clock.now())?;
@@ -220,12 +211,11 @@ impl<J: Chronicle<PmEvent>, O: Sink, D: Disk, B: Chronicle<BookEntry>> Server<J,
 
     // The startup child reads the log.
     fn read(&mut self, pid: u32) -> ChildExit
-        requires running { IsRunning (view_of (B.entries self.old.store.book) self.old) }
+        requires running { IsRunning (view_of self.old) }
         requires there { kind_in pid (standing self.old.supervision).children ≡ Some Startup }
         requires off { self.old.auxiliaries.startup ≡ None }
         ensures { (run : ChildRun) × (result ≡ exit_of run)
-            × HasAuxiliaryRun run (view_of (B.entries self.old.store.book) self.old)
-            (view_of (B.entries self.new.store.book) self.new) }
+            × HasAuxiliaryRun run (view_of self.old) (view_of self.new) }
     {
         self.outcome = None;
         match read_log(&mut self.store, pid) {
@@ -239,14 +229,13 @@ impl<J: Chronicle<PmEvent>, O: Sink, D: Disk, B: Chronicle<BookEntry>> Server<J,
 
     // The checkpointer writes the last checkpoint.
     fn close(&mut self, pid: u32) -> ChildExit
-        requires running { IsRunning (view_of (B.entries self.old.store.book) self.old) }
+        requires running { IsRunning (view_of self.old) }
         requires there { kind_in pid (standing self.old.supervision).children ≡ Some Checkpointer }
         requires off { self.old.auxiliaries.checkpointer ≡ None }
         requires calm { self.old.auxiliaries.is_quit ≡ false }
         requires asked { self.old.auxiliaries.is_asked ≡ true }
         ensures run { (run : ChildRun) × (result ≡ exit_of run)
-            × HasAuxiliaryRun run (view_of (B.entries self.old.store.book) self.old)
-            (view_of (B.entries self.new.store.book) self.new) }
+            × HasAuxiliaryRun run (view_of self.old) (view_of self.new) }
         ensures kind { result.kind ≡ Checkpointer }
     {
         let closed = write_last(&mut self.store, pid);
@@ -262,10 +251,9 @@ impl<J: Chronicle<PmEvent>, O: Sink, D: Disk, B: Chronicle<BookEntry>> Server<J,
 
     // Lets the next child run that has something to do, if there is one.
     fn run_next(&mut self) -> Option<ChildExit>
-        requires { IsRunning (view_of (B.entries self.old.store.book) self.old) }
+        requires { IsRunning (view_of self.old) }
         ensures runs { IfSome result (λ exit. (run : ChildRun) × (exit ≡ exit_of run)
-            × HasAuxiliaryRun run (view_of (B.entries self.old.store.book) self.old)
-            (view_of (B.entries self.new.store.book) self.new)) }
+            × HasAuxiliaryRun run (view_of self.old) (view_of self.new)) }
         ensures had { IfSome result (λ exit. exit.kind ≡ Startup
             → self.old.auxiliaries.startup ≢ None) }
         ensures none { IfNone result (self.new ≡ self.old) }
@@ -281,12 +269,10 @@ impl<J: Chronicle<PmEvent>, O: Sink, D: Disk, B: Chronicle<BookEntry>> Server<J,
 
     // Lets the next child run that has something to do, if there is one, and does what is due behind its end.
     pub(crate) fn run_one<C: Clock>(&mut self, clock: &C) -> Option<Result<(), ServerEnd>>
-        requires running { IsRunning (view_of (B.entries self.old.store.book) self.old) }
+        requires running { IsRunning (view_of self.old) }
         requires idle { IsIdle (standing self.old.supervision) }
         ensures runs { IfSome result (λ end. (steps : List Step)
-            × Finishes (C.gives clock.now) end steps
-            (view_of (B.entries self.old.store.book) self.old)
-            (view_of (B.entries self.new.store.book) self.new)) }
+            × Finishes (C.gives clock.now) end steps (view_of self.old) (view_of self.new)) }
         ensures none { IfNone result (self.new ≡ self.old) }
     {
         laws();
@@ -315,15 +301,14 @@ impl<J: Chronicle<PmEvent>, O: Sink, D: Disk, B: Chronicle<BookEntry>> Server<J,
 
     // Takes the next connection, and asks for the shutdown that is owed where its pid is the last.
     fn admit<C: Clock>(&mut self, clock: &C) -> Admitted
-        requires running { IsRunning (view_of (B.entries self.old.store.book) self.old) }
+        requires running { IsRunning (view_of self.old) }
         requires idle { IsIdle (standing self.old.supervision) }
         requires settled { IsSettled (standing self.old.supervision) }
         requires may { MayTake (standing self.old.supervision) }
         requires served { decision_on (standing self.old.supervision) ≡ Cac.Ok }
         requires room { HasRoom 1 self.old.supervision }
         ensures admits { (steps : List Step) × Admits (C.gives clock.now) result steps
-            (view_of (B.entries self.old.store.book) self.old)
-            (view_of (B.entries self.new.store.book) self.new) }
+            (view_of self.old) (view_of self.new) }
         ensures store { self.new.store ≡ self.old.store }
     {
         laws();
@@ -348,16 +333,15 @@ impl<J: Chronicle<PmEvent>, O: Sink, D: Disk, B: Chronicle<BookEntry>> Server<J,
         seed: &[u8; 32],
         conf: &SessionConf,
     ) -> Result<(), ServerEnd>
-        requires running { IsRunning (view_of (B.entries self.old.store.book) self.old) }
+        requires running { IsRunning (view_of self.old) }
         requires idle { IsIdle (standing self.old.supervision) }
         requires settled { IsSettled (standing self.old.supervision) }
         requires may { MayTake (standing self.old.supervision) }
         requires served { decision_on (standing self.old.supervision) ≡ Cac.Ok }
         requires listens { self.old.listens ≡ true }
         ensures { (steps : List Step) × (connections : List Connection) × (ended : Bool)
-            × Serves (C.gives clock.now) result connections ended steps
-            (view_of (B.entries self.old.store.book) self.old)
-            (view_of (B.entries self.new.store.book) self.new)
+            × Serves (C.gives clock.now) result connections ended steps (view_of self.old)
+            (view_of self.new)
             × HasServed seed.now conf.now.authentication_ms (C.gives clock.now) connections ended
             steps (P.visits port.old) (P.visits port.new) }
     {
@@ -371,7 +355,7 @@ impl<J: Chronicle<PmEvent>, O: Sink, D: Disk, B: Chronicle<BookEntry>> Server<J,
         };
         let admitted = self.admit(clock);
         self.outcome = None;
-        let Done { status, link } = serve_link(
+        let Served { status, link } = serve_link(
             rt,
             alloc,
             link,

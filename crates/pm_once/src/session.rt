@@ -3,7 +3,7 @@
 ghost use Rattle.std.specs.Prelude.{◌≡◌, ◌+◌, ◌<◌, ◌≤◌, length, option_map, IfNone, IfSome};
 ghost use Rattle.pm_keys.specs.CancelKey.{cancel_key};
 ghost use Rattle.pm_outside.specs.Traffic.{IsFresh};
-ghost use Rattle.pm_segment.specs.Moment.{moment_of};
+ghost use Rattle.pm_segment.specs.Moment.{moment};
 ghost use Rattle.pm_segment.specs.Moves.{Moves};
 ghost use Rattle.pm_session.specs.Exchange.{link_view};
 ghost use Rattle.pm_session.specs.Session.{status_of};
@@ -12,10 +12,11 @@ ghost use Rattle.pm_once.specs.Service.{Connection, IsServedAs, with_end, with_l
 use crate::quiet::{Home, Quiet};
 use pm_admit::Cac;
 use pm_disk::Disk;
+use pm_exit::Status;
 use pm_outside::{Accepted, Chronicle, Clock, Link, Port};
 use pm_query::BookEntry;
 use pm_segment::Sole;
-use pm_session::{Done, SessionConf, serve};
+use pm_session::{Admission, Done, Means, SessionConf, serve};
 use std::alloc::Global;
 use std::marker::Brand;
 use std::sync::Wait;
@@ -41,6 +42,13 @@ pub fn next_link<R: Wait, P: Port>(rt: &R, port: &mut P) -> Option<P::Link>
     unreachable!()
 }
 
+/// How a connection's child exits, and its link.
+#[derive(Debug)]
+pub struct Served<L> {
+    pub status: Status,
+    pub link: L,
+}
+
 /// Serves one link to its end, as the child with this pid, in the store's generation.
 pub fn serve_link<R, L, D, C, B>(
     rt: &R,
@@ -51,7 +59,7 @@ pub fn serve_link<R, L, D, C, B>(
     seed: &[u8; 32],
     conf: &SessionConf,
     store: &mut Sole<D, B>,
-) -> Done<L>
+) -> Served<L>
 where
     R: Wait,
     L: Link,
@@ -66,8 +74,7 @@ where
         × (connection.back ≡ link_view (L.traffic result.link) (L.number result.link)
         (L.faults result.link)) × (result.status ≡ status_of connection.ending)
         × IsServedAs (cancel_key seed.now pid) conf.now.authentication_ms (C.gives clock.now)
-        connection × Moves connection.noted (moment_of (B.entries store.old.book) store.old)
-        (moment_of (B.entries store.new.book) store.new) }
+        connection × Moves connection.noted (moment store.old) (moment store.new) }
 {
     serve_at_home::<Brand, R, L, D, C, B>(rt, alloc, link, pid, clock, seed, conf, store)
 }
@@ -82,7 +89,7 @@ fn serve_at_home<H, R, L, D, C, B>(
     seed: &[u8; 32],
     conf: &SessionConf,
     store: &mut Sole<D, B>,
-) -> Done<L>
+) -> Served<L>
 where
     H: Home,
     R: Wait,
@@ -99,10 +106,19 @@ where
         × (connection.back ≡ link_view (L.traffic result.link) (L.number result.link)
         (L.faults result.link)) × (result.status ≡ status_of connection.ending)
         × IsServedAs (cancel_key seed.now pid) conf.now.authentication_ms (C.gives clock.now)
-        connection × Moves connection.noted (moment_of (B.entries store.old.book) store.old)
-        (moment_of (B.entries store.new.book) store.new) }
+        connection × Moves connection.noted (moment store.old) (moment store.new) }
 {
-    let mut life: Quiet<H> = Quiet::new(pid, store.generation());
+    let life: Quiet<H> = Quiet::new(pid, store.generation());
     let key = pm_keys::key(seed, pid);
-    serve(rt, alloc, link, Cac::Ok, key, conf, store, clock, &mut life)
+    let admission = Admission {
+        decision: Cac::Ok,
+        key,
+    };
+    let means = Means { rt, alloc, clock };
+    let Done {
+        status,
+        link,
+        life: _,
+    } = serve(&means, link, life, admission, conf, store);
+    Served { status, link }
 }

@@ -4,16 +4,16 @@ ghost use Rattle.std.specs.Prelude.{◌≡◌, ◌≢◌, List, IfSome, Some, Er
 ghost use Rattle.pm_query.specs.declared.book.BookEntry.{BookEntry};
 ghost use Rattle.pm_record.specs.declared.fault.RedoFault.{RedoFault};
 ghost use Rattle.pm_redo.specs.Found.{IsReason};
-ghost use Rattle.pm_segment.specs.Moment.{moment_of};
+ghost use Rattle.pm_segment.specs.Moment.{moment};
 ghost use Rattle.pm_segment.specs.Moves.{Moves};
 ghost use Rattle.pm_once.specs.AuxiliaryRuns.{StartNotes, refused_start};
 
-use crate::end::StartWhy;
 use pm_disk::Disk;
 use pm_outside::Chronicle;
 use pm_query::{BookEntry, Store, StoreNo};
 use pm_record::RedoFault;
 use pm_segment::Sole;
+use pm_server::StartWhy;
 
 /// Reads the log, as the child with this pid, and answers how many commits stand; or why it wasn't to be read, which is none
 /// where memory was short.
@@ -22,8 +22,7 @@ pub fn read_log<D: Disk, B: Chronicle<BookEntry>>(
     pid: u32,
 ) -> Result<u64, Option<StartWhy>>
     ensures notes { (noted : List BookEntry) × StartNotes pid store.old.generation result noted
-        × Moves noted (moment_of (B.entries store.old.book) store.old)
-        (moment_of (B.entries store.new.book) store.new) }
+        × Moves noted (moment store.old) (moment store.new) }
     ensures reason { (fault : RedoFault) → result ≡ Err (Some (StartWhy.Redo fault))
         → IfSome (D.seen store.old.disk) (λ files. IsReason fault files) }
     ensures unread { (fault : RedoFault) → result ≡ Err (Some (StartWhy.Redo fault))

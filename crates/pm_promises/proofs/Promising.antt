@@ -9,17 +9,18 @@ use Rattle.pm_chain.specs.Steps.{journal_of}
 use Rattle.pm_journal.specs.Stands.{any_moment}
 use Rattle.pm_state.specs.Laws.{RestartsSafely}
 use Rattle.pm_state.specs.Restarts.{RestartsInOrder}
-use Rattle.pm_words.specs.declared.conf.Conf.{Conf}
+use Rattle.pm_server.specs.declared.conf.Conf.{Conf}
 use Rattle.pm_once.specs.Once.{IsOnceRun}
-use Rattle.pm_once.specs.Outside.{DiskView, OutsideView}
-use Rattle.pm_once.specs.Story.{HoldsHistory, IsClean, IsStory, KeepsMeaning}
-use Rattle.pm_once.specs.declared.end.ServerEnd.{ServerEnd}
+use Rattle.pm_server.specs.Views.{DiskView}
+use Rattle.pm_once.specs.Outside.{OutsideView}
+use Rattle.pm_server.specs.Story.{HoldsHistory, IsClean, IsStory, KeepsMeaning}
+use Rattle.pm_server.specs.declared.end.ServerEnd.{ServerEnd}
 use Rattle.pm_promises.specs.Promises.{IsBaseOf, IsPromised, IsPromisedRun, IsTold, talk_of}
 use Rattle.pm_promises.proofs.Replying.{once_answers_right}
 use Rattle.pm_promises.proofs.Stopping.{once_keeps}
 use Rattle.pm_promises.proofs.Telling.{its_story, opens_empty}
 
-base_is : (base : Base) (book : List BookEntry) (before now : DiskView) → KeepsMeaning book before now ⊎ HoldsHistory base book before now → IsBaseOf base book before now
+base_is : (base : Base) (book : List BookEntry) (before now : DiskView) → KeepsMeaning book before now ⊎ HoldsHistory base book before now → IsBaseOf base book before
 base_is base book before now (inl keeps) = inl keeps.unanswered
 base_is base book before now (inr holds) = inr holds.base_is
 

@@ -18,16 +18,17 @@ use Rattle.pm_query.specs.BookLaws.{AckedNeverFalls, AcknowledgedStays}
 use Rattle.pm_query.specs.History.{History, acknowledged, count_of, number, rows_of, with_commit}
 use Rattle.pm_query.specs.Book.{Base, IsLegal, MayAnswer, history_of}
 use Rattle.pm_keys.specs.CancelKey.{cancel_key}
-use Rattle.pm_words.specs.declared.conf.Conf.{Conf}
+use Rattle.pm_server.specs.declared.conf.Conf.{Conf}
 use Rattle.pm_session.specs.Sent.{Turn, Ran, Faulted, NotUtf8, Cancelled, LogIsFull, Memory}
 use Rattle.pm_session.specs.Session.{AllNotes, HasPassed, IsReleased, IsServed, IsText, IsUnreleased, TurnNotes}
 use Rattle.pm_chain.specs.Steps.{Step, whole_book}
-use Rattle.pm_once.specs.Once.{IsBook, IsOnceRun}
+use Rattle.pm_server.specs.Ends.{IsBook}
+use Rattle.pm_once.specs.Once.{IsOnceRun}
 use Rattle.pm_once.specs.Outside.{OutsideView}
 use Rattle.pm_once.specs.Serves.{IsServed as IsServedLink}
 use Rattle.pm_once.specs.Service.{Connection, run_of, user_in}
-use Rattle.pm_once.specs.declared.end.ServerEnd.{ServerEnd}
-use Rattle.pm_once.specs.declared.end.ServerEnd.TheVariants as ends
+use Rattle.pm_server.specs.declared.end.ServerEnd.{ServerEnd}
+use Rattle.pm_server.specs.declared.end.ServerEnd.TheVariants as ends
 use Rattle.pm_promises.specs.Replies.{AnswersAreRight, AreRight, IsAnswered, IsRight, IsTurnedOff, with_changes}
 use Rattle.pm_promises.specs.Promises.{talk_of}
 use Rattle.pm_promises.proofs.Blocks.{AreBlocksIn, IsBlockIn, blocks_are}
@@ -255,7 +256,7 @@ talks_right stays never base book seed limit gives (c ∷ cs) legal each blocks 
 
 -- ---- the run
 
-book_is : (end : ServerEnd) (steps : List Step) (book : List BookEntry) → IsBook end steps (Some []) (Some book) → (book ≡ whole_book steps) ⊎ (steps ≡ [])
+book_is : (end : ServerEnd) (steps : List Step) (book : List BookEntry) → IsBook (steps ≡ []) end (whole_book steps) (Some []) (Some book) → (book ≡ whole_book steps) ⊎ (steps ≡ [])
 book_is ends.Clean steps book is = inl (ap (λ (o : Option (List BookEntry)). unwrap_or o []) is)
 book_is (ends.Abnormal why) steps book is = inl (ap (λ (o : Option (List BookEntry)). unwrap_or o []) is)
 book_is ends.NoMemory steps book (inl none) = inr none.0
@@ -266,9 +267,9 @@ pub once_answers_right : AcknowledgedStays → AckedNeverFalls
     → before.book ≡ Some [] → now.book ≡ Some book → (base : Base) → IsLegal base book
     → AnswersAreRight (history_of base book) (map (talk_of before.seed) run.connections)
 once_answers_right stays never conf end before now book run empty told base legal =
-    let is : IsBook end run.steps (Some []) (Some book) =
-    subst (λ (o : Option (List BookEntry)). IsBook end run.steps (Some []) o) told
-    (subst (λ (o : Option (List BookEntry)). IsBook end run.steps o now.book) empty run.book) in
+    let is : IsBook (run.steps ≡ []) end (whole_book run.steps) (Some []) (Some book) =
+    subst (λ (o : Option (List BookEntry)). IsBook (run.steps ≡ []) end (whole_book run.steps) (Some []) o) told
+    (subst (λ (o : Option (List BookEntry)). IsBook (run.steps ≡ []) end (whole_book run.steps) o now.book) empty run.book) in
     All-from_recursion (λ talk. IsTurnedOff talk ⊎ IsAnswered (history_of base book) talk) (map (talk_of before.seed) run.connections)
     (talks_right stays never base book before.seed conf.session.authentication_ms before.gives run.connections legal
     (recursion_from_All (IsServedLink before.seed conf.session.authentication_ms before.gives) run.connections run.served.each)

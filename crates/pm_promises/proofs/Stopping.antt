@@ -17,9 +17,10 @@ use Rattle.pm_query.specs.Book.{Base, Course, course_after, history_after, histo
 use Rattle.pm_query.specs.BookLaws.{AckedNeverFalls}
 use Rattle.pm_query.specs.Durable.{HoldsAcknowledged, IsDurable, IsWithin}
 use Rattle.pm_query.specs.History.{History, beginning, number}
-use Rattle.pm_once.specs.Outside.{DiskView, OutsideView}
-use Rattle.pm_once.specs.Story.{HoldsHistory, IsNoAnswer, IsStory, KeepsMeaning}
-use Rattle.pm_once.specs.declared.end.ServerEnd.{ServerEnd}
+use Rattle.pm_server.specs.Views.{DiskView}
+use Rattle.pm_once.specs.Outside.{OutsideView}
+use Rattle.pm_server.specs.Story.{HoldsHistory, IsNoAnswer, IsStory, KeepsMeaning}
+use Rattle.pm_server.specs.declared.end.ServerEnd.{ServerEnd}
 use Rattle.pm_promises.specs.Promises.{IsTold}
 use Rattle.pm_promises.specs.Stops.{AcknowledgedStays, AreSomeOf, IsAsAtFirst, MeansWhole, WholeOrNot, commit_by, commits_in}
 use Rattle.pm_promises.proofs.Histories.{base_stays}

@@ -4,11 +4,11 @@ use Rattle.std.specs.Prelude.{IfSome}
 use Rattle.pm_query.specs.declared.book.BookEntry.{BookEntry}
 use Rattle.pm_query.specs.Book.{MayGoOn}
 use Rattle.pm_query.specs.declared.book.BookEntry.TheVariants.{Opened}
-use Rattle.pm_words.specs.declared.conf.Conf.{Conf}
+use Rattle.pm_server.specs.declared.conf.Conf.{Conf}
 use Rattle.pm_once.specs.Once.{IsOnceRun}
 use Rattle.pm_once.specs.Outside.{OutsideView}
-use Rattle.pm_once.specs.Story.{IsStory}
-use Rattle.pm_once.specs.declared.end.ServerEnd.{ServerEnd}
+use Rattle.pm_server.specs.Story.{IsStory}
+use Rattle.pm_server.specs.declared.end.ServerEnd.{ServerEnd}
 use Rattle.pm_promises.specs.Promises.{IsTold}
 use Rattle.pm_promises.specs.Restarts.{OpensEmpty}
 use Rattle.pm_promises.proofs.Histories.{going-append}

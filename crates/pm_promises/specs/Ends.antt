@@ -4,11 +4,11 @@ use Rattle.pm_disk.specs.Files.{Files}
 use Rattle.pm_modes.specs.declared.Mode.TheVariants.{Immediate}
 use Rattle.pm_query.specs.History.{History}
 use Rattle.pm_state.specs.declared.event.PmEvent.{PmEvent}
-use Rattle.pm_once.specs.Goes.{asked_in}
-use Rattle.pm_once.specs.Outside.{DiskView}
-use Rattle.pm_once.specs.Story.{IsClean}
-use Rattle.pm_once.specs.declared.end.ServerEnd.{ServerEnd}
-use Rattle.pm_once.specs.declared.end.ServerEnd.TheVariants.{Clean}
+use Rattle.pm_server.specs.Journal.{asked_in}
+use Rattle.pm_server.specs.Views.{DiskView}
+use Rattle.pm_server.specs.Story.{IsClean}
+use Rattle.pm_server.specs.declared.end.ServerEnd.{ServerEnd}
+use Rattle.pm_server.specs.declared.end.ServerEnd.TheVariants.{Clean}
 
 -- the files mean all commits of the history, and the log says that it is clean; so does whatever a stop leaves
 abbrev pub AreLeftClean : History → DiskView → Files → Type 0

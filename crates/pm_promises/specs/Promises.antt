@@ -1,7 +1,6 @@
 -- What a user counts on of any run of a server, by what it leaves: its journal, its book, its links and its files.
-use Rattle.std.specs.Prelude.{◌≡◌, ◌⊎◌, ℕ, List, [], map, Some, IfSome}
+use Rattle.std.specs.Prelude.{◌≡◌, ◌⊎◌, ℕ, true, List, [], map, Some, IfSome}
 use Rattle.std.specs.List.{AllByRecursion}
-use Rattle.pm_disk.specs.Cause.{Rose}
 use Rattle.pm_disk.specs.Files.{Files}
 use Rattle.pm_keys.specs.CancelKey.{cancel_key}
 use Rattle.pm_admit.specs.declared.Cac.TheVariants as decisions
@@ -11,27 +10,30 @@ use Rattle.pm_state.specs.declared.event.PmEvent.{PmEvent}
 use Rattle.pm_state.specs.Restarts.{RestartsInOrder}
 use Rattle.pm_query.specs.declared.book.BookEntry.{BookEntry}
 use Rattle.pm_query.specs.Book.{Base, history_of, standing_of}
+use Rattle.pm_segment.specs.Unread.{breaks_unread}
 use Rattle.pm_chain.specs.Steps.{journal_of}
-use Rattle.pm_words.specs.declared.conf.Conf.{Conf}
+use Rattle.pm_server.specs.declared.conf.Conf.{Conf}
 use Rattle.pm_once.specs.Once.{IsOnceRun}
-use Rattle.pm_once.specs.Outside.{DiskView, OutsideView}
+use Rattle.pm_server.specs.Views.{DiskView}
+use Rattle.pm_once.specs.Outside.{OutsideView}
 use Rattle.pm_once.specs.Service.{Connection}
-use Rattle.pm_once.specs.Story.{IsNoAnswer}
-use Rattle.pm_once.specs.declared.end.ServerEnd.{ServerEnd}
+use Rattle.pm_server.specs.Story.{IsNoAnswer}
+use Rattle.pm_server.specs.declared.end.ServerEnd.{ServerEnd}
 use Rattle.pm_promises.specs.Ends.{EndsClean}
 use Rattle.pm_promises.specs.Replies.{AnswersAreRight, Talk}
 use Rattle.pm_promises.specs.Restarts.{OpensEmpty}
 use Rattle.pm_promises.specs.Stops.{AcknowledgedStays, WholeOrNot}
 
--- The base is what the files meant that were handed in, unless the disk has failed, or nothing was answered.
-abbrev pub IsBaseOf : Base → List BookEntry → (before now : DiskView) → Type 0
-IsBaseOf base book before now =
+-- The base is what the files meant that were handed in, unless a fault of the disk stands in the book before its first redo,
+-- or nothing was answered.
+abbrev pub IsBaseOf : Base → List BookEntry → (before : DiskView) → Type 0
+IsBaseOf base book before =
     AllByRecursion IsNoAnswer book
-    ⊎ (Rose before.faults now.faults ⊎ IfSome before.files (λ files. MeansIn files (standing_of base) base.bytes))
+    ⊎ ((breaks_unread book ≡ true) ⊎ IfSome before.files (λ files. MeansIn files (standing_of base) base.bytes))
 
 -- The five, of one history.
 pub record IsPromised (limits : Limits) (end : ServerEnd) (journal : List PmEvent) (base : Base) (book : List BookEntry) (talks : List Talk) (before now : DiskView) : Type 0 where
-  pub base_is : IsBaseOf base book before now
+  pub base_is : IsBaseOf base book before
   -- every reply that was sent is right
   pub answers_are_right : AnswersAreRight (history_of base book) talks
   -- what was acknowledged stays

@@ -5,9 +5,10 @@ ghost use Rattle.pm_once.specs.Outside.{outside_view};
 ghost use Rattle.pm_promises.specs.Promises.{IsPromisedRun};
 
 use pm_disk::Disk;
-use pm_once::{Conf, Ended, Outside, once};
+use pm_once::{Ended, Outside, once};
 use pm_outside::{Chronicle, Clock, Port, Sink};
 use pm_query::{BookEntry, acked_never_falls, acknowledged_stays};
+use pm_server::Conf;
 use pm_state::{PmEvent, restarts_safely};
 use std::alloc::Global;
 use std::sync::Wait;

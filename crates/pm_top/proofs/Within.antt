@@ -1,7 +1,7 @@
 -- The options of a line stay within what a server can have.
 use Rattle.std.proofs.Common.{ℕ, ◌+◌, ◌≤◌, List, [], ◌∷◌, sym, subst, arith}
 use Rattle.std.specs.Prelude.{unwrap_or}
-use Rattle.pm_words.specs.declared.conf.Conf.{Conf}
+use Rattle.pm_server.specs.declared.conf.Conf.{Conf}
 use Rattle.pm_words.specs.declared.words.Command.{Command}
 use Rattle.pm_words.specs.Words.{Choice, Data, MaxConnections, RestartAfterCrash, AuthenticationTimeout, Choose, Chosen, IsLineWith, Says, nothing, with_choice}
 

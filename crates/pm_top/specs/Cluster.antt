@@ -2,7 +2,7 @@
 use Rattle.std.specs.Prelude.{IfSome}
 use Rattle.pm_log.specs.Init.{HasOpen, IsNewCluster, IsUntouched}
 use Rattle.pm_record.specs.Found.{IsClosed}
-use Rattle.pm_once.specs.Outside.{DiskView}
+use Rattle.pm_server.specs.Views.{DiskView}
 
 -- where the disk tells its files, they are a cluster of no commits, and durable
 abbrev pub HasNewCluster : DiskView → Type 0

@@ -3,12 +3,11 @@ use Rattle.std.specs.Prelude.{ℕ, List, [], codes}
 use Rattle.pm_disk.specs.Cause.{Rose}
 use Rattle.pm_record.specs.declared.fault.RedoFault.TheVariants as redo
 use Rattle.pm_once.specs.Outside.{OutsideView}
-use Rattle.pm_once.specs.Print.{IsPrinted, redo_line}
-use Rattle.pm_once.specs.declared.end.ServerEnd.{ServerEnd}
-use Rattle.pm_once.specs.declared.end.ServerEnd.TheVariants as ends
+use Rattle.pm_lines.specs.Print.{IsPrinted, redo_line}
+use Rattle.pm_server.specs.declared.end.ServerEnd.{ServerEnd}
+use Rattle.pm_server.specs.declared.end.ServerEnd.TheVariants as ends
 use Rattle.pm_top.specs.declared.status.Top.{Top}
-use Rattle.pm_top.specs.declared.status.Top.TheVariants.{Done, Abnormal, OutFault, DiskFault}
-use Rattle.pm_top.specs.declared.status.Top.TheVariants.{Exists, Unreadable, Usage, NoMemory}
+use Rattle.pm_top.specs.declared.status.Top.TheVariants.{Done, Abnormal, OutFault, DiskFault, Exists, Unreadable, Usage, NoMemory}
 
 -- the exit code of the program: served, refused or failed, no command line, out of memory
 abbrev pub exit_code : Top → ℕ

@@ -2,11 +2,11 @@
 
 ghost use Rattle.std.specs.Prelude.{◌≡◌, IsErr, codes};
 ghost use Rattle.pm_disk.specs.Cause.{IsCounted};
-ghost use Rattle.pm_once.specs.Print.{IsPrinted, file_letter};
+ghost use Rattle.pm_lines.specs.Print.{IsPrinted, file_letter};
 ghost use Rattle.pm_top.specs.Control.{control_lines, told_line, yes_or_no};
 
 use pm_disk::Which;
-use pm_once::{SinkFailed, print, print_with};
+use pm_lines::{SinkFailed, print, print_with};
 use pm_outside::Sink;
 use pm_record::Found;
 

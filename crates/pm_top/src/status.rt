@@ -3,8 +3,8 @@
 ghost use Rattle.std.specs.Prelude.{◌≡◌};
 ghost use Rattle.pm_top.specs.Ends.{exit_code};
 
-use pm_once::{ServerEnd, Why};
 use pm_record::RedoFault;
+use pm_server::{ServerEnd, Why};
 
 /// How a command ended.
 #[derive(Clone, Copy, Debug, PartialEq, Eq)]

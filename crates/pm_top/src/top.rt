@@ -4,7 +4,7 @@ ghost use Rattle.std.specs.Prelude.{◌≡◌, ◌≢◌, ◌+◌, ◌≤◌, �
 ghost use Rattle.std.specs.Prelude.{codes, option_map, IfSome};
 ghost use Rattle.pm_disk.specs.Cause.{IsCounted, Rose};
 ghost use Rattle.pm_once.specs.Outside.{outside_view};
-ghost use Rattle.pm_once.specs.Print.{IsPrinted};
+ghost use Rattle.pm_lines.specs.Print.{IsPrinted};
 ghost use Rattle.pm_record.specs.declared.fault.RedoFault.{RedoFault};
 ghost use Rattle.pm_redo.specs.Found.{IsReason};
 ghost use Rattle.pm_top.specs.Cluster.{HasNewCluster, IsFree, IsLeftAlone, IsTaken, KeepsTaken};
@@ -13,21 +13,23 @@ ghost use Rattle.pm_top.specs.Ends.{HasAnswer, HasSaid, IsControldataEnd, IsInit
 ghost use Rattle.pm_top.specs.Ends.{initdb_line, line_of};
 ghost use Rattle.pm_top.specs.Once.{RunsOnce};
 ghost use Rattle.pm_words.specs.Words.{IsLine, IsLineWith};
-ghost use Rattle.pm_words.specs.declared.conf.Conf.{Conf};
+ghost use Rattle.pm_server.specs.declared.conf.Conf.{Conf};
 ghost use Rattle.pm_words.specs.declared.words.Command.{Command};
 
 use crate::control::controldata;
 use crate::outside::Ended;
 use crate::status::Top;
 use pm_disk::Disk;
+use pm_lines::{print, print_redo};
 use pm_log::InitNo;
-use pm_once::{Outside, print, print_redo};
+use pm_once::Outside;
 use pm_outside::{Chronicle, Clock, Port, Sink};
 use pm_promises::once_as_promised;
 use pm_query::BookEntry;
 use pm_rows::Text;
+use pm_server::Conf;
 use pm_state::PmEvent;
-use pm_words::{Command, Conf, read_words};
+use pm_words::{Command, read_words};
 use std::alloc::Global;
 use std::sync::Wait;
 

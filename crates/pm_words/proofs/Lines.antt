@@ -1,6 +1,6 @@
 -- Words are one line alone.
 use Rattle.std.proofs.Common.{◌≡◌, ℕ, List, ◌∷◌, Some, None, length, refl, sym, ◌∙◌, ap, subst, arith}
-use Rattle.pm_words.specs.declared.conf.Conf.{Conf}
+use Rattle.pm_server.specs.declared.conf.Conf.{Conf}
 use Rattle.pm_words.specs.declared.words.Command.{Command}
 use Rattle.pm_words.specs.declared.words.Command.TheVariants.{Initdb, Once, Controldata}
 use Rattle.pm_words.specs.Words.{Choose, Chosen, IsLineWith, command_word, conf_of, nothing}

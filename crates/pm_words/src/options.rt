@@ -4,9 +4,9 @@ ghost use Rattle.std.specs.Prelude.{◌≡◌, ◌↔◌, ℕ, List, ◌∷◌, 
 ghost use Rattle.pm_words.specs.Words.{Choice, Chosen, IsNumberUpTo, MayChoose, Says, conf_of, nothing, option_name, with_choice};
 ghost use Rattle.pm_words.specs.Options.{BeginsWith, BeginsWithOption, IsPlain, Leaves, choice_of, chosen_of};
 
-use crate::conf::Conf;
 use crate::words::Command;
 use pm_rows::Text;
+use pm_server::Conf;
 use pm_session::SessionConf;
 use pm_supervisor::Limits;
 

@@ -4,9 +4,9 @@ ghost use Rattle.std.specs.Prelude.{◌≡◌, ◌≢◌, IfOk, OnErr, IfSome, I
 ghost use Rattle.pm_words.specs.declared.words.Command.{Command};
 ghost use Rattle.pm_words.specs.Words.{AreNoLine, IsLineWith, IsOnlyLine, command_word};
 
-use crate::conf::Conf;
 use crate::options::read_settings;
 use pm_rows::Text;
+use pm_server::Conf;
 use thiserror::Error;
 
 /// What the program is asked to do.

@@ -1,31 +1,41 @@
-use Rattle.std.proofs.Common.{◌≡◌, ℕ, List, [], None, refl, sym, ap, subst, ◌∙◌, inl, inr}
+use Rattle.std.proofs.Common.{◌≡◌, ◌⊎◌, ℕ, List, [], None, refl, sym, ap, subst, ◌∙◌, inl, inr}
 use Rattle.std.specs.Prelude.{Option, false, true, IfSome}
 use Rattle.std.proofs.lemmas.List.Elements.{All-nil}
 use Rattle.pm_disk.specs.Cause.{Rose}
 use Rattle.pm_state.specs.declared.event.PmEvent.{PmEvent}
 use Rattle.pm_journal.specs.Stands.{any_moment}
 use Rattle.pm_journal.specs.Supervision.{at_work}
-use Rattle.pm_segment.specs.Moment.{moment_of}
+use Rattle.pm_segment.specs.Moment.{moment}
 use Rattle.pm_segment.specs.Moves.{IsShown}
-use Rattle.pm_segment.specs.MovesLaws.{time_still}
-use Rattle.pm_once.specs.Log.{view_of as log_view_of}
-use Rattle.pm_once.specs.Outside.{OutsideView, outside_view}
-use Rattle.pm_once.specs.Once.{IsBook, IsJournal}
+use Rattle.pm_segment.specs.MovesLaws.{break_shown, time_still}
+use Rattle.std.specs.List.{AllByRecursion}
+use Rattle.pm_server.specs.Story.{IsNoOpening}
+use Rattle.pm_lines.specs.Log.{LogView, view_of as log_view_of}
+use Rattle.pm_chain.specs.Steps.{book_of, journal_of, whole_book}
+use Rattle.pm_once.specs.Outside.{OutsideView, outside_view, store_view}
+use Rattle.pm_server.specs.Ends.{IsBook}
+use Rattle.pm_server.specs.Journal.{IsJournal}
+use Rattle.pm_once.specs.Once.{EndThemselves}
+use Rattle.pm_once.specs.AuxiliaryRuns.{nothing_heard}
 use Rattle.pm_once.specs.View.{View, view_of}
-use Rattle.pm_once.proofs.Whole.{HasBegun, begins_idle, begins_running, nothing_asked, nothing_journal, logged_as, nothing_logged, whole_asked, whole_book_is, whole_end, whole_journal, whole_log, whole_rose, whole_runs}
+use Rattle.pm_once.proofs.Whole.{HasBegun, begins_idle, begins_running, nothing_asked, nothing_journal, logged_as, nothing_logged, whole_asked, whole_book_is, whole_end, whole_journal, whole_log, whole_once, whole_rose, whole_runs, whole_sessions}
+use Rattle.pm_once.proofs.Unharmed.{end_themselves}
 use Rattle.pm_once.proofs.Going.{serves_nothing}
-use Rattle.pm_once.proofs.Stories.{HasRunSo, ends_well, story_nothing, unread_counts, view_at, whole_cause, whole_story}
+use Rattle.pm_server.specs.StoryLaws.{HasRunSo, ends_well, store_at, story_nothing, unread_counts, whole_cause, whole_story}
+use Rattle.pm_once.specs.Knows.{Knows}
+use Rattle.pm_once.proofs.Known.{known_at}
+use Rattle.pm_once.proofs.Openings.{no_renewal, opened_once}
 use Rattle.pm_once.proofs.Serving.{nothing_served}
 use Rattle.pm_once.proofs.run_once.once.Goals as goal
 
 pub run-end-requires : goal.run-end-requires
 run-end-requires g c =
     let limits = c.args.conf.now.limits in
-    let v : View = record { work = at_work c.new-supervision.result; store = moment_of (g.B.Chronicle.entries c.in-Ok.store.book) c.in-Ok.store; log = log_view_of c.new-log.result; lost = c.new-2.result.items; auxiliaries = c.none.result; outcome = None; listens = true } in
+    let v : View = record { work = at_work c.new-supervision.result; store = moment c.in-Ok.store; log = log_view_of c.new-log.result; lost = c.new-2.result.items; auxiliaries = c.none.result; outcome = None; listens = true } in
     let begun : HasBegun limits v = record {
       standing = c.new-supervision.ensures.standing;
       told = subst (λ (t : Option (List PmEvent)). IfSome t (λ es. es ≡ [])) (sym c.new-supervision.ensures.told) c.requires.empty;
-      unbroken = c.new-log.ensures.unbroken;
+      unbroken = ap (λ (l : LogView). l.is_cut) c.new-log.ensures;
       lost = c.new-2.ensures.items;
       auxiliaries = c.none.ensures;
       outcome = refl;
@@ -45,19 +55,21 @@ returns-in-Err-clause-run g c =
       steps = [];
       connections = [];
       ended = false;
-      journal = subst (λ (t : Option (List PmEvent)). IsJournal limits gives [] (g.J.Chronicle.entries c.args.outside.journal) t) (sym (c.into_journal.ensures ∙ c.new-supervision.ensures.told)) (nothing_journal c.laws.ensures.steps limits gives (g.J.Chronicle.entries c.args.outside.journal));
+      journal = subst (λ (t : Option (List PmEvent)). IsJournal limits gives [] (g.J.Chronicle.entries c.args.outside.journal) t) (sym (c.into_journal.ensures ∙ c.new-supervision.ensures.told)) (nothing_journal limits gives (g.J.Chronicle.entries c.args.outside.journal));
+      are_steps = c.laws.ensures.steps.begins limits;
       book = inl (refl, refused.1);
-      chained = c.laws.ensures.chained limits any_moment [] tt (nothing_journal c.laws.ensures.steps limits gives (g.J.Chronicle.entries c.args.outside.journal)).are_steps;
+      chained = c.laws.ensures.chained limits any_moment [] tt (c.laws.ensures.steps.begins limits);
       asked = nothing_asked limits;
       ends = tt;
       runs = tt;
       served = nothing_served c.args.outside.seed c.args.conf.now.session.authentication_ms gives [] (g.P.Port.visits c.args.outside.port) serves_nothing;
-      logged = logged_as g.O.Sink.written g.O.Sink.faults _ _ _ _ _ c.new-log.ensures.sink c.into_sink.ensures
-          (nothing_logged (log_view_of c.new-log.result) (log_view_of c.say_end.new.self) c.new-log.ensures.unbroken c.say_end.ensures);
+      logged = logged_as _ (log_view_of c.new-log.result) (log_view_of c.say_end.new.log) _ _ _ _ c.new-log.ensures c.into_sink.ensures.written c.into_sink.ensures.faults
+          (nothing_logged (log_view_of c.new-log.result) (log_view_of c.say_end.new.log) (ap (λ (l : LogView). l.is_cut) c.new-log.ensures) c.say_end.ensures);
       faults = All-nil (IsShown (g.D.Disk.faults c.args.outside.disk) (g.D.Disk.faults c.in-Err.disk));
       story = λ empty. rw refused.0 (story_nothing (outside_view c.args.outside).disk _ (refused.1 ∙ empty));
       cause = tt;
-      well = λ calm files is sound. inr refl;
+      well = λ sound. inr refl;
+      unharmed = λ unfailed. tt;
     }
 
 pub returns-clause-run : goal.returns-clause-run
@@ -66,12 +78,12 @@ returns-clause-run g c =
     let gives = g.C.Clock.gives c.args.outside.clock in
     let disk = c.args.outside.disk in
     let store = c.in-Ok.store in
-    let v : View = record { work = at_work c.new-supervision.result; store = moment_of (g.B.Chronicle.entries store.book) store; log = log_view_of c.new-log.result; lost = c.new-2.result.items; auxiliaries = c.none.result; outcome = None; listens = true } in
-    let now : View = view_of (g.B.Chronicle.entries c.run-end.new.self.store.book) c.run-end.new.self in
+    let v : View = record { work = at_work c.new-supervision.result; store = moment store; log = log_view_of c.new-log.result; lost = c.new-2.result.items; auxiliaries = c.none.result; outcome = None; listens = true } in
+    let now : View = view_of c.run-end.new.self in
     let begun : HasBegun limits v = record {
       standing = c.new-supervision.ensures.standing;
       told = subst (λ (t : Option (List PmEvent)). IfSome t (λ es. es ≡ [])) (sym c.new-supervision.ensures.told) c.requires.empty;
-      unbroken = c.new-log.ensures.unbroken;
+      unbroken = ap (λ (l : LogView). l.is_cut) c.new-log.ensures;
       lost = c.new-2.ensures.items;
       auxiliaries = c.none.ensures;
       outcome = refl;
@@ -85,50 +97,51 @@ returns-clause-run g c =
     let steps = r.0 in
     let laws = c.laws.ensures in
     let before : OutsideView = outside_view c.args.outside in
-    let left : OutsideView = record {
-      visits = g.P.Port.visits c.run-end.new.port;
-      written = g.O.Sink.written c.into_sink-2.result;
-      sink_faults = g.O.Sink.faults c.into_sink-2.result;
-      disk = view_at now.store;
-      gives = gives;
-      journal = g.J.Chronicle.entries c.into_journal-2.result;
-      book = now.store.book;
-      seed = c.args.outside.seed;
-    } in
     let counted = unread_counts (g.D.Disk.faults disk) v.store.faults v.store.live (sym (ap g.D.Disk.faults c.in-Ok.ensures.disk)) c.in-Ok.ensures.unread in
-    let its_run : HasRunSo before.disk v.store steps now = record {
+    let its_run : HasRunSo before.disk v.store (book_of steps) now.store = record {
       began = rw c.in-Ok.ensures.disk (time_still (g.D.Disk.ticks disk) (g.D.Disk.images disk));
       generation = c.in-Ok.ensures.generation;
       spans = r.3.goes.store;
-      still = r.3.goes.still;
-      unread = r.3.goes.unread;
+      still = λ none. r.3.goes.still (no_renewal steps none);
+      unread = λ none. r.3.goes.unread (no_renewal steps none);
       files = ap g.D.Disk.seen c.in-Ok.ensures.disk;
       faults = ap g.D.Disk.faults c.in-Ok.ensures.disk;
-      known = r.3.goes.knows (g.D.Disk.faults disk) (record { counted = counted; come = tt });
     } in
+    let known : Knows (g.D.Disk.faults disk) now = r.3.goes.knows (g.D.Disk.faults disk) (record { counted = counted; come = tt }) in
+    let known_end = known_at end steps (g.D.Disk.faults disk) now r.3.ends known
+    (λ is. subst (λ (n : ℕ). Rose n now.store.faults) its_run.faults (whole_rose laws.steps laws.work limits gives end r.1 r.2 steps v now begun r.3 is)) in
+    let caused = whole_cause end (store_view before) v.store (book_of steps) now.store c.in-Ok.ensures.notes (λ empty. c.in-Ok.ensures.waits empty) its_run known_end c.reads_its_files.ensures in
+    let its_journal = whole_journal laws.steps laws.work laws.journal limits gives end r.1 r.2 steps v now begun r.3 in
     record {
       steps = steps;
       connections = r.1;
       ended = r.2;
-      journal = subst (λ (t : Option (List PmEvent)). IsJournal limits gives steps (g.J.Chronicle.entries c.args.outside.journal) t) (sym c.into_journal-2.ensures)
-          (subst (λ (t : Option (List PmEvent)). IsJournal limits gives steps t now.work.told) c.new-supervision.ensures.told (whole_journal laws.steps laws.work laws.journal limits gives end r.1 r.2 steps v now begun r.3));
-      book = subst (λ b. IsBook end steps (g.B.Chronicle.entries c.args.outside.book) (g.B.Chronicle.entries b)) (sym c.into_parts-disk.ensures.1)
+      journal = subst (λ (t : Option (List PmEvent)). IsJournal limits gives (journal_of steps) (g.J.Chronicle.entries c.args.outside.journal) t) (sym c.into_journal-2.ensures)
+          (subst (λ (t : Option (List PmEvent)). IsJournal limits gives (journal_of steps) t now.work.told) c.new-supervision.ensures.told its_journal.0);
+      are_steps = its_journal.1;
+      book = subst (λ b. IsBook (steps ≡ []) end (whole_book steps) (g.B.Chronicle.entries c.args.outside.book) (g.B.Chronicle.entries b)) (sym c.into_parts-disk.ensures.1)
           (whole_book_is gives end r.1 r.2 steps v now (g.B.Chronicle.entries c.args.outside.book) c.in-Ok.ensures.notes r.3);
-      chained = let j = whole_journal laws.steps laws.work laws.journal limits gives end r.1 r.2 steps v now begun r.3 in laws.chained limits any_moment steps j.legal j.are_steps;
+      chained = laws.chained limits any_moment steps its_journal.0.legal its_journal.1;
       asked = whole_asked laws.steps laws.work limits gives end r.1 r.2 steps v now begun r.3;
-      ends = whole_end laws.steps laws.work limits gives end r.1 r.2 steps v now begun r.3;
+      ends = whole_end laws.steps laws.work laws.journal laws.restarts limits gives end r.1 r.2 steps v now begun r.3;
       runs = whole_runs laws.steps laws.work limits gives end r.1 r.2 steps v now begun r.3;
       served = r.4;
-      logged = logged_as g.O.Sink.written g.O.Sink.faults _ _ _ _ _ c.new-log.ensures.sink c.into_sink-2.ensures
-          (whole_log laws.steps laws.work limits gives end r.1 r.2 steps v now (log_view_of c.say_end-2.new.self) begun r.3 c.say_end-2.ensures);
+      logged = logged_as _ (log_view_of c.new-log.result) (log_view_of c.say_end-2.new.log) _ _ _ _ c.new-log.ensures c.into_sink-2.ensures.written c.into_sink-2.ensures.faults
+          (whole_log laws.steps laws.work limits gives end r.1 r.2 steps v now (log_view_of c.say_end-2.new.log) begun r.3 c.say_end-2.ensures);
       faults = rw c.into_parts-disk.ensures.0 (r.3.goes.store.counts (g.D.Disk.faults disk) counted).each;
       story = λ empty. rw (c.into_parts-disk.ensures.0, c.into_parts-disk.ensures.1)
-          (whole_story end before.disk v.store steps now before.book empty c.in-Ok.ensures.notes (c.in-Ok.ensures.waits empty) its_run r.3.ends c.run-end.new.self.store.rests c.keeps_its_run.ensures.run);
-      cause = rw (c.into_parts-disk.ensures.0, c.into_parts-disk.ensures.1)
-          (whole_cause end before left v.store steps now (λ empty. c.in-Ok.ensures.waits empty) its_run r.3.ends
-          (λ is. subst (λ (n : ℕ). Rose n now.store.faults) its_run.faults (whole_rose laws.steps laws.work limits gives end r.1 r.2 steps v now begun r.3 is)) c.reads_its_files.ensures);
+          (whole_story end before.disk v.store (book_of steps) now.store before.book empty c.in-Ok.ensures.notes (c.in-Ok.ensures.waits empty) its_run known_end c.run-end.new.self.store.rests c.keeps_its_run.ensures.run);
+      cause = rw (c.into_parts-disk.ensures.0, c.into_parts-disk.ensures.1) caused;
       well = rw c.into_parts-disk.ensures.0
-          (ends_well end steps before (record left { disk = view_at now.store; book = now.store.book })
-          (whole_cause end before left v.store steps now (λ empty. c.in-Ok.ensures.waits empty) its_run r.3.ends
-          (λ is. subst (λ (n : ℕ). Rose n now.store.faults) its_run.faults (whole_rose laws.steps laws.work limits gives end r.1 r.2 steps v now begun r.3 is)) c.reads_its_files.ensures));
+          (ends_well end (book_of steps) (store_view before) (store_at now.store) caused (r.3.goes.store.counts (g.D.Disk.faults disk) counted).each
+          (elim (whole_once laws.steps laws.work limits gives end r.1 r.2 steps v now begun r.3) as (λ _. AllByRecursion IsNoOpening (book_of steps) ⊎ Rose before.disk.faults now.store.faults) [
+            | inl once ↦ inl (opened_once limits [] steps its_journal.1 once)
+            | inr rose ↦ inr (subst (λ (n : ℕ). Rose n now.store.faults) its_run.faults rose)
+          ]));
+      unharmed = rw c.into_parts-disk.ensures.0 (λ (unfailed : Rose before.disk.faults now.store.faults → ⊥).
+          elim (whole_sessions laws.steps laws.work limits gives end r.1 r.2 steps v now begun r.3) as (λ _. EndThemselves nothing_heard steps) [
+            | inl fine ↦ end_themselves nothing_heard steps (whole_runs laws.steps laws.work limits gives end r.1 r.2 steps v now begun r.3) fine
+                (λ breaks. unfailed (break_shown before.disk.faults now.store.faults (book_of steps) (r.3.goes.store.counts (g.D.Disk.faults disk) counted).each breaks))
+            | inr rose ↦ absurd (unfailed (subst (λ (n : ℕ). Rose n now.store.faults) its_run.faults rose))
+          ]);
     }

@@ -3,8 +3,8 @@ use Rattle.std.specs.Prelude.{codes, decimal}
 use Rattle.std.specs.FinMap.{len}
 use Rattle.pm_record.specs.declared.found.Found.{Found}
 use Rattle.pm_top.specs.Control.{control_lines, told_line, yes_or_no}
-use Rattle.pm_once.specs.Print.{file_letter}
-use Rattle.pm_once.specs.PrintLaws.{nothing_yet, part_cut, part_last, part_more, printed_as}
+use Rattle.pm_lines.specs.Print.{file_letter}
+use Rattle.pm_lines.specs.PrintLaws.{nothing_yet, part_cut, part_last, part_more, printed_as}
 use Rattle.pm_top.proofs.print.print_found.Goals as goal
 
 -- each line, and those behind it

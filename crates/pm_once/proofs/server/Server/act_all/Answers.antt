@@ -4,7 +4,7 @@ use Rattle.pm_once.proofs.Alls.{all_done, ended_in, none_yet, one_more_act, runn
 use Rattle.pm_once.proofs.server.Server.act_all.Goals as goal
 
 pub acts-init : goal.acts-init
-acts-init g c = record { steps = []; so_far = none_yet (view_of (g.B.Chronicle.entries c.args.self.now.store.book) c.args.self.now); said = λ says. refl }
+acts-init g c = record { steps = []; so_far = none_yet (view_of c.args.self.now); said = λ says. refl }
 
 pub do_next-requires : goal.do_next-requires
 do_next-requires g c = running_on (λ at. ⊥) c.acts.invariant.steps _ _ c.requires c.acts.invariant.so_far.does.goes c.acts.invariant.so_far.does.stays

@@ -8,7 +8,7 @@ use Rattle.pm_once.proofs.server.Server.act_all.Given as goal
 abbrev pub invariant-acts : goal.invariant-acts
 invariant-acts g l = record {
   steps : List Step;
-  so_far : ActsSoFar steps (view_of (g.B.Chronicle.entries l.initial.self.store.book) l.initial.self) (view_of (g.B.Chronicle.entries l.self.store.book) l.self);
+  so_far : ActsSoFar steps (view_of l.initial.self) (view_of l.self);
   said : AreSays (standing_of l.initial.self.supervision.memory).due → (l.self.store ≡ l.initial.self.store);
 }
 

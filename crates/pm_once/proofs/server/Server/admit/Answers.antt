@@ -8,11 +8,11 @@ use Rattle.pm_once.proofs.Past.{past_of}
 use Rattle.pm_once.proofs.server.Server.admit.Goals as goal
 
 pub take-pid-requires-clause-stands : goal.take-pid-requires-clause-stands
-take-pid-requires-clause-stands g c = past_of (view_of (g.B.Chronicle.entries c.args.self.now.store.book) c.args.self.now) c.requires.running
+take-pid-requires-clause-stands g c = past_of (view_of c.args.self.now) c.requires.running
 
 pub ask_smart-settled-requires-clause-running : goal.ask_smart-settled-requires-clause-running
 ask_smart-settled-requires-clause-running g c =
-    let v : View = view_of (g.B.Chronicle.entries c.args.self.now.store.book) c.args.self.now in
+    let v : View = view_of c.args.self.now in
     let w = at_work c.take-pid.new.self in
     let gives = g.C.Clock.gives c.args.clock.now in
     let one = taken c.laws.ensures.steps c.laws.ensures.work gives v w c.requires.idle.rests c.requires.settled c.requires.may c.take-pid.ensures.standing c.take-pid.ensures.told in
@@ -20,7 +20,7 @@ ask_smart-settled-requires-clause-running g c =
 
 pub returns-then-owes_smart-clause-admits : goal.returns-then-owes_smart-clause-admits
 returns-then-owes_smart-clause-admits g c =
-    let v : View = view_of (g.B.Chronicle.entries c.args.self.now.store.book) c.args.self.now in
+    let v : View = view_of c.args.self.now in
     let w = at_work c.take-pid.new.self in
     let gives = g.C.Clock.gives c.args.clock.now in
     let one = taken c.laws.ensures.steps c.laws.ensures.work gives v w c.requires.idle.rests c.requires.settled c.requires.may c.take-pid.ensures.standing c.take-pid.ensures.told in
@@ -33,7 +33,7 @@ returns-then-owes_smart-clause-admits g c =
 
 pub returns-clause-admits : goal.returns-clause-admits
 returns-clause-admits g c =
-    let v : View = view_of (g.B.Chronicle.entries c.args.self.now.store.book) c.args.self.now in
+    let v : View = view_of c.args.self.now in
     let w = at_work c.take-pid.new.self in
     let gives = g.C.Clock.gives c.args.clock.now in
     let took : HasTaken v w = record { rests = c.requires.idle.rests; settled = c.requires.settled; may = c.requires.may; ok = c.requires.served; standing = c.take-pid.ensures.standing; told = c.take-pid.ensures.told } in

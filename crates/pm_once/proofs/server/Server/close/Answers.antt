@@ -12,8 +12,8 @@ returns-clause-run g c =
     let n = c.write_last-closed.ensures.notes in
     let home = c.args.self.now.store.generation in
     let closed = c.write_last-closed in
-    let v : View = view_of (g.B.Chronicle.entries c.args.self.now.store.book) c.args.self.now in
-    let now : View = view_of (g.B.Chronicle.entries closed.new.store.book) (record c.args.self.now { store = closed.new.store; outcome = Some (Closed closed.result) }) in (
+    let v : View = view_of c.args.self.now in
+    let now : View = view_of (record c.args.self.now { store = closed.new.store; outcome = Some (Closed closed.result) }) in (
       checkpointer_run c.args.pid home c.write_last-closed.result n.0,
       rw (c.status.ensures, c.is_crashed.ensures) refl,
       record {

@@ -6,9 +6,9 @@ use Rattle.pm_journal.specs.Supervision.{at_work}
 use Rattle.pm_journal.specs.declared.act.Act.{Act}
 use Rattle.pm_once.specs.Calls.{Performs}
 use Rattle.pm_once.specs.View.{View, view_of}
-use Rattle.pm_once.specs.declared.end.ServerEnd.{ServerEnd}
-use Rattle.pm_once.specs.declared.end.ServerEnd.TheVariants.{Abnormal}
-use Rattle.pm_once.specs.declared.end.Why.TheVariants.{GenerationsSpent}
+use Rattle.pm_server.specs.declared.end.ServerEnd.{ServerEnd}
+use Rattle.pm_server.specs.declared.end.ServerEnd.TheVariants.{Abnormal}
+use Rattle.pm_server.specs.declared.end.Why.TheVariants.{GenerationsSpent}
 use Rattle.pm_once.proofs.Nexts.{first_says, next_given, next_none, next_spent, performed, reset_number, said_well, says_unspent, waits}
 use Rattle.pm_once.proofs.Past.{past_of}
 use Rattle.pm_once.proofs.server.Server.do_next.Goals as goal
@@ -23,7 +23,7 @@ no_ok : (b : Bool) (e : ServerEnd) (r : Result Bool ServerEnd) → r ≡ Err e �
 no_ok b e r one two = cc
 
 pub next-requires : goal.next-requires
-next-requires g c = record { stands = past_of (view_of (g.B.Chronicle.entries c.args.self.now.store.book) c.args.self.now) c.requires }
+next-requires g c = record { stands = past_of (view_of c.args.self.now) c.requires }
 
 pub perform-requires : goal.perform-requires
 perform-requires g c = λ generation is.
@@ -33,8 +33,8 @@ perform-requires g c = λ generation is.
 
 pub returns-in-Ok-clause-does : goal.returns-in-Ok-clause-does
 returns-in-Ok-clause-does g c =
-    let v : View = view_of (g.B.Chronicle.entries c.args.self.now.store.book) c.args.self.now in
-    let now : View = view_of (g.B.Chronicle.entries c.perform.new.self.store.book) c.perform.new.self in
+    let v : View = view_of c.args.self.now in
+    let now : View = view_of c.perform.new.self in
     let s = standing_of c.args.self.now.supervision.memory in
     let given = next_given s c.in-Ok-Some.act (sym (rw c.in-Ok-Some.field-0-is at c.in-Ok-Some.ensures.act)) in
     let w = at_work c.next.new.self in
@@ -54,8 +54,8 @@ returns-in-Ok-clause-said g c = λ says.
 
 pub returns-in-Err-perform-clause-does : goal.returns-in-Err-perform-clause-does
 returns-in-Err-perform-clause-does g c =
-    let v : View = view_of (g.B.Chronicle.entries c.args.self.now.store.book) c.args.self.now in
-    let now : View = view_of (g.B.Chronicle.entries c.perform.new.self.store.book) c.perform.new.self in
+    let v : View = view_of c.args.self.now in
+    let now : View = view_of c.perform.new.self in
     let s = standing_of c.args.self.now.supervision.memory in
     let given = next_given s c.in-Ok-Some.act (sym (rw c.in-Ok-Some.field-0-is at c.in-Ok-Some.ensures.act)) in
     let w = at_work c.next.new.self in
@@ -68,8 +68,8 @@ returns-in-Err-perform-clause-does g c =
 
 pub returns-in-Err-perform-clause-said : goal.returns-in-Err-perform-clause-said
 returns-in-Err-perform-clause-said g c = λ says.
-    let v : View = view_of (g.B.Chronicle.entries c.args.self.now.store.book) c.args.self.now in
-    let now : View = view_of (g.B.Chronicle.entries c.perform.new.self.store.book) c.perform.new.self in
+    let v : View = view_of c.args.self.now in
+    let now : View = view_of c.perform.new.self in
     let s = standing_of c.args.self.now.supervision.memory in
     let given = next_given s c.in-Ok-Some.act (sym (rw c.in-Ok-Some.field-0-is at c.in-Ok-Some.ensures.act)) in
     let line = first_says s.due given.0 says given.1.first in
@@ -79,7 +79,7 @@ returns-in-Err-perform-clause-said g c = λ says.
 
 pub returns-in-Ok-None-clause-does : goal.returns-in-Ok-None-clause-does
 returns-in-Ok-None-clause-does g c =
-    let v : View = view_of (g.B.Chronicle.entries c.args.self.now.store.book) c.args.self.now in
+    let v : View = view_of c.args.self.now in
     let s = standing_of c.args.self.now.supervision.memory in
     let none = next_none s (sym (rw c.in-Ok-None.field-0-is at c.in-Ok-None.ensures.act)) in
     let w = at_work c.next.new.self in
@@ -87,7 +87,7 @@ returns-in-Ok-None-clause-does g c =
 
 pub returns-in-Err-clause-does : goal.returns-in-Err-clause-does
 returns-in-Err-clause-does g c =
-    let v : View = view_of (g.B.Chronicle.entries c.args.self.now.store.book) c.args.self.now in
+    let v : View = view_of c.args.self.now in
     let s = standing_of c.args.self.now.supervision.memory in
     let spent = next_spent s (record {}) (sym c.in-Err.ensures.act) in
     let w = at_work c.next.new.self in

@@ -18,16 +18,16 @@ go_on-requires-clause-idle g c = record { rests = c.in-Ok.ensures.1.rests; unowe
 
 pub returns-in-Err : goal.returns-in-Err
 returns-in-Err g c =
-    let v : View = view_of (g.B.Chronicle.entries c.args.self.now.store.book) c.args.self.now in
+    let v : View = view_of c.args.self.now in
     let gives = g.C.Clock.gives c.args.clock.now in
     let one = c.in-Err.ensures in
     (one.0, [], false, finishes_serves gives (Err c.in-Err.end) one.0 v _ (turn_finishes gives (Err c.in-Err.end) one.0 v _ one.1 tt), nothing_served c.args.seed.now c.args.conf.now.authentication_ms gives one.0 (g.P.Port.visits c.args.port.now) one.1.does.serves)
 
 pub returns-then-owes_smart : goal.returns-then-owes_smart
 returns-then-owes_smart g c =
-    let v : View = view_of (g.B.Chronicle.entries c.args.self.now.store.book) c.args.self.now in
+    let v : View = view_of c.args.self.now in
     let gives = g.C.Clock.gives c.args.clock.now in
-    let mid : View = view_of (g.B.Chronicle.entries c.turn.new.self.store.book) c.turn.new.self in
+    let mid : View = view_of c.turn.new.self in
     let one = c.in-Ok.ensures in
     let asks = c.ask_smart.ensures.asks in
     let running = running_on (λ at. ⊥) one.0 v mid c.requires.running one.1.does.goes one.1.does.stays in
@@ -36,9 +36,9 @@ returns-then-owes_smart g c =
 
 pub returns : goal.returns
 returns g c =
-    let v : View = view_of (g.B.Chronicle.entries c.args.self.now.store.book) c.args.self.now in
+    let v : View = view_of c.args.self.now in
     let gives = g.C.Clock.gives c.args.clock.now in
-    let mid : View = view_of (g.B.Chronicle.entries c.turn.new.self.store.book) c.turn.new.self in
+    let mid : View = view_of c.turn.new.self in
     let one = c.in-Ok.ensures in
     let two = c.go_on.ensures in
     let idle : IsIdle mid.work.standing = record { rests = one.1.rests; unowed = sym c.owes_smart.ensures ∙ c.if-owes_smart.false } in (

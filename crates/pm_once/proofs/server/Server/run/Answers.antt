@@ -8,7 +8,7 @@ use Rattle.pm_once.proofs.server.Server.run.Goals as goal
 
 pub rounds-init : goal.rounds-init
 rounds-init g c =
-    let v : View = view_of (g.B.Chronicle.entries c.args.self.now.store.book) c.args.self.now in
+    let v : View = view_of c.args.self.now in
     let gives = g.C.Clock.gives c.args.clock.now in
     record { steps = []; connections = []; ended = false; serves = idle_serves gives v c.requires.idle; served = nothing_served c.args.seed.now c.args.conf.now.authentication_ms gives [] (g.P.Port.visits c.args.port.now) serves_nothing }
 
@@ -19,7 +19,7 @@ round-requires g c =
 
 pub rounds-preserved : goal.rounds-preserved
 rounds-preserved g c =
-    let v : View = view_of (g.B.Chronicle.entries c.args.self.now.store.book) c.args.self.now in
+    let v : View = view_of c.args.self.now in
     let gives = g.C.Clock.gives c.args.clock.now in
     let i = c.rounds.invariant in
     let two = c.in-Ok.ensures in
@@ -33,7 +33,7 @@ rounds-preserved g c =
 
 pub returns-in-Err : goal.returns-in-Err
 returns-in-Err g c =
-    let v : View = view_of (g.B.Chronicle.entries c.args.self.now.store.book) c.args.self.now in
+    let v : View = view_of c.args.self.now in
     let gives = g.C.Clock.gives c.args.clock.now in
     let i = c.rounds.invariant in
     let two = c.in-Err.ensures in (

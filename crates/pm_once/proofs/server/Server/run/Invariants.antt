@@ -11,6 +11,6 @@ invariant-rounds g l = record {
   steps : List Step;
   connections : List Connection;
   ended : Bool;
-  serves : Serves (g.C.Clock.gives l.clock) (Ok tt) connections ended steps (view_of (g.B.Chronicle.entries l.initial.self.store.book) l.initial.self) (view_of (g.B.Chronicle.entries l.self.store.book) l.self);
+  serves : Serves (g.C.Clock.gives l.clock) (Ok tt) connections ended steps (view_of l.initial.self) (view_of l.self);
   served : HasServed l.seed l.conf.authentication_ms (g.C.Clock.gives l.clock) connections ended steps (g.P.Port.visits l.initial.port) (g.P.Port.visits l.port);
 }

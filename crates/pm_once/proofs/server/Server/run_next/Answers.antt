@@ -11,7 +11,7 @@ use Rattle.pm_once.proofs.server.Server.run_next.Goals as goal
 
 pub returns-in-Some-Quit-clause-runs : goal.returns-in-Some-Quit-clause-runs
 returns-in-Some-Quit-clause-runs g c =
-    let v : View = view_of (g.B.Chronicle.entries c.args.self.now.store.book) c.args.self.now in
+    let v : View = view_of c.args.self.now in
     let pid = c.in-Some-Quit.pid in
     let k = c.in-Some-Quit.kind in
     let off = rw c.in-Some-Quit.field-0-is at c.in-Some-Quit.ensures.taken in
@@ -43,7 +43,7 @@ returns-in-Some-Quit-clause-runs g c =
 
 pub returns-in-Some-Terminate-clause-runs : goal.returns-in-Some-Terminate-clause-runs
 returns-in-Some-Terminate-clause-runs g c =
-    let v : View = view_of (g.B.Chronicle.entries c.args.self.now.store.book) c.args.self.now in
+    let v : View = view_of c.args.self.now in
     let pid = c.in-Some-Terminate.pid in
     let off = rw c.in-Some-Terminate.field-0-is at c.in-Some-Terminate.ensures.taken in
     let due = rw c.in-Some-Terminate.field-0-is at c.in-Some-Terminate.ensures.due in

@@ -13,14 +13,14 @@ use Rattle.pm_once.proofs.server.Server.run_one.Goals as goal
 
 pub note_exit-requires-clause-stands : goal.note_exit-requires-clause-stands
 note_exit-requires-clause-stands g c =
-    let v : View = view_of (g.B.Chronicle.entries c.args.self.now.store.book) c.args.self.now in
+    let v : View = view_of c.args.self.now in
     subst (λ (w : AtWork). HasPast w) (sym c.in-Some.ensures.runs.2.ran.work) (past_of v c.requires.running)
 
 pub finish-requires-clause-running : goal.finish-requires-clause-running
 finish-requires-clause-running g c =
-    let v : View = view_of (g.B.Chronicle.entries c.args.self.now.store.book) c.args.self.now in
-    let mid : View = view_of (g.B.Chronicle.entries c.run_next.new.self.store.book) c.run_next.new.self in
-    let now : View = view_of (g.B.Chronicle.entries c.note_exit.new.self.store.book) c.note_exit.new.self in
+    let v : View = view_of c.args.self.now in
+    let mid : View = view_of c.run_next.new.self in
+    let now : View = view_of c.note_exit.new.self in
     let gives = g.C.Clock.gives c.args.clock.now in
     let auxiliary = c.in-Some.ensures.runs in
     let noted = c.in-Ok.ensures.noted in
@@ -30,9 +30,9 @@ finish-requires-clause-running g c =
 
 pub returns-in-Ok-clause-runs : goal.returns-in-Ok-clause-runs
 returns-in-Ok-clause-runs g c =
-    let v : View = view_of (g.B.Chronicle.entries c.args.self.now.store.book) c.args.self.now in
-    let mid : View = view_of (g.B.Chronicle.entries c.run_next.new.self.store.book) c.run_next.new.self in
-    let now : View = view_of (g.B.Chronicle.entries c.note_exit.new.self.store.book) c.note_exit.new.self in
+    let v : View = view_of c.args.self.now in
+    let mid : View = view_of c.run_next.new.self in
+    let now : View = view_of c.note_exit.new.self in
     let gives = g.C.Clock.gives c.args.clock.now in
     let auxiliary = c.in-Some.ensures.runs in
     let noted = c.in-Ok.ensures.noted in
@@ -42,6 +42,6 @@ returns-in-Ok-clause-runs g c =
 
 pub returns-in-Err-clause-runs : goal.returns-in-Err-clause-runs
 returns-in-Err-clause-runs g c =
-    let v : View = view_of (g.B.Chronicle.entries c.args.self.now.store.book) c.args.self.now in
+    let v : View = view_of c.args.self.now in
     let auxiliary = c.in-Some.ensures.runs in
     (RunsOn auxiliary.0 ∷ [], ran_short c.laws.ensures.steps c.laws.ensures.journal (g.C.Clock.gives c.args.clock.now) auxiliary.0 v _ _ c.requires.running c.requires.idle auxiliary.2 c.in-Err.ensures.refused)

@@ -7,7 +7,7 @@ use Rattle.pm_journal.specs.Standing.{later}
 use Rattle.pm_journal.specs.Stands.{AtWork}
 use Rattle.pm_journal.specs.Supervision.{at_work}
 use Rattle.pm_journal.specs.declared.exit.ChildExit.{ChildExit}
-use Rattle.pm_segment.specs.Moment.{moment_of}
+use Rattle.pm_segment.specs.Moment.{moment}
 use Rattle.pm_session.specs.Exchange.{LinkView}
 use Rattle.pm_once.specs.Calls.{Admits, Asks, NotesExit}
 use Rattle.pm_once.specs.Serves.{IsServed}
@@ -25,17 +25,17 @@ use Rattle.pm_once.proofs.server.Server.serve_next.Goals as goal
 
 pub returns-in-Err : goal.returns-in-Err
 returns-in-Err g c =
-    let v : View = view_of (g.B.Chronicle.entries c.args.self.now.store.book) c.args.self.now in
+    let v : View = view_of c.args.self.now in
     let gives = g.C.Clock.gives c.args.clock.now in
     let same = same_work v.work (at_work c.make_room.new.self) c.make_room.ensures.standing c.make_room.ensures.told in
     ([], [], false, nothing_short gives v (at_work c.make_room.new.self) same, nothing_served c.args.seed.now c.args.conf.now.authentication_ms gives [] (g.P.Port.visits c.args.port.now) serves_nothing)
 
 pub returns-in_default : goal.returns-in_default
 returns-in_default g c =
-    let v : View = view_of (g.B.Chronicle.entries c.args.self.now.store.book) c.args.self.now in
+    let v : View = view_of c.args.self.now in
     let gives = g.C.Clock.gives c.args.clock.now in
     let same = same_work v.work (at_work c.make_room.new.self) c.make_room.ensures.standing c.make_room.ensures.told in
-    let now : View = view_of (g.B.Chronicle.entries c.ask_smart.new.self.store.book) c.ask_smart.new.self in
+    let now : View = view_of c.ask_smart.new.self in
     let one = c.ask_smart.ensures.asks in
     let asks : Asks gives c.ask_smart.result one.0 v now = subst (λ (w : AtWork). Asks gives c.ask_smart.result one.0 (record v { work = w }) now) same one.1 in (
       one.0,
@@ -47,11 +47,11 @@ returns-in_default g c =
 
 pub returns-in-Err-settled : goal.returns-in-Err-settled
 returns-in-Err-settled g c =
-    let v : View = view_of (g.B.Chronicle.entries c.args.self.now.store.book) c.args.self.now in
+    let v : View = view_of c.args.self.now in
     let gives = g.C.Clock.gives c.args.clock.now in
     let same = same_work v.work (at_work c.make_room.new.self) c.make_room.ensures.standing c.make_room.ensures.told in
     let v1 : View = record v { work = at_work c.make_room.new.self } in
-    let v2 : View = view_of (g.B.Chronicle.entries c.admit-admitted.new.self.store.book) c.admit-admitted.new.self in
+    let v2 : View = view_of c.admit-admitted.new.self in
     let one = c.admit-admitted.ensures.admits in
     let admits : Admits gives c.admit-admitted.result one.0 v v2 = subst (λ (w : AtWork). Admits gives c.admit-admitted.result one.0 (record v { work = w }) v2) same one.1 in
     let running2 = running_on gives one.0 v v2 c.requires.running admits.goes admits.opened in
@@ -59,7 +59,7 @@ returns-in-Err-settled g c =
     let seed = c.args.seed.now in
     let limit = c.args.conf.now.authentication_ms in
     let key = cancel_key seed c.admit-admitted.result.pid in
-    let v3 : View = record v2 { store = moment_of (g.B.Chronicle.entries c.serve_link-status.new.store.book) c.serve_link-status.new.store; outcome = None } in
+    let v3 : View = record v2 { store = moment c.serve_link-status.new.store; outcome = None } in
     let ran = session_ran key limit gives s.0 c.admit-admitted.result.pid v2 v3 s.6 s.1 s.2 admits.there refl refl s.7 refl refl refl refl in
     let is_served : IsServed seed limit gives s.0 = subst (λ (p : ℕ). IsServedAs (cancel_key seed p) limit gives s.0) (sym s.1) s.6 in
     let same_number = sym (ap (λ (l : LinkView). l.number) s.4) ∙ s.6.same ∙ ap (λ (l : LinkView). l.number) s.3 in
@@ -75,11 +75,11 @@ returns-in-Err-settled g c =
 
 pub note_exit-requires-clause-stands : goal.note_exit-requires-clause-stands
 note_exit-requires-clause-stands g c =
-    let v : View = view_of (g.B.Chronicle.entries c.args.self.now.store.book) c.args.self.now in
+    let v : View = view_of c.args.self.now in
     let gives = g.C.Clock.gives c.args.clock.now in
     let same = same_work v.work (at_work c.make_room.new.self) c.make_room.ensures.standing c.make_room.ensures.told in
     let v1 : View = record v { work = at_work c.make_room.new.self } in
-    let v2 : View = view_of (g.B.Chronicle.entries c.admit-admitted.new.self.store.book) c.admit-admitted.new.self in
+    let v2 : View = view_of c.admit-admitted.new.self in
     let one = c.admit-admitted.ensures.admits in
     let admits : Admits gives c.admit-admitted.result one.0 v v2 = subst (λ (w : AtWork). Admits gives c.admit-admitted.result one.0 (record v { work = w }) v2) same one.1 in
     let running2 = running_on gives one.0 v v2 c.requires.running admits.goes admits.opened in
@@ -87,11 +87,11 @@ note_exit-requires-clause-stands g c =
 
 pub finish-requires-clause-running : goal.finish-requires-clause-running
 finish-requires-clause-running g c =
-    let v : View = view_of (g.B.Chronicle.entries c.args.self.now.store.book) c.args.self.now in
+    let v : View = view_of c.args.self.now in
     let gives = g.C.Clock.gives c.args.clock.now in
     let same = same_work v.work (at_work c.make_room.new.self) c.make_room.ensures.standing c.make_room.ensures.told in
     let v1 : View = record v { work = at_work c.make_room.new.self } in
-    let v2 : View = view_of (g.B.Chronicle.entries c.admit-admitted.new.self.store.book) c.admit-admitted.new.self in
+    let v2 : View = view_of c.admit-admitted.new.self in
     let one = c.admit-admitted.ensures.admits in
     let admits : Admits gives c.admit-admitted.result one.0 v v2 = subst (λ (w : AtWork). Admits gives c.admit-admitted.result one.0 (record v { work = w }) v2) same one.1 in
     let running2 = running_on gives one.0 v v2 c.requires.running admits.goes admits.opened in
@@ -99,9 +99,9 @@ finish-requires-clause-running g c =
     let seed = c.args.seed.now in
     let limit = c.args.conf.now.authentication_ms in
     let key = cancel_key seed c.admit-admitted.result.pid in
-    let v3 : View = record v2 { store = moment_of (g.B.Chronicle.entries c.serve_link-status.new.store.book) c.serve_link-status.new.store; outcome = None } in
+    let v3 : View = record v2 { store = moment c.serve_link-status.new.store; outcome = None } in
     let ran = session_ran key limit gives s.0 c.admit-admitted.result.pid v2 v3 s.6 s.1 s.2 admits.there refl refl s.7 refl refl refl refl in
-    let v4 : View = view_of (g.B.Chronicle.entries c.note_exit.new.self.store.book) c.note_exit.new.self in
+    let v4 : View = view_of c.note_exit.new.self in
     let exits = c.session_exit.ensures ∙ ap (λ (p : ℕ). record { pid = p; kind = Backend; status = c.serve_link-status.result.status; was_active = is_signal c.serve_link-status.result.status; kept = None }) (sym s.1)
     ∙ session_exit key limit gives s.0 c.serve_link-status.result.status s.5 s.6 in
     let n = c.in-Ok-note_exit.ensures.noted in
@@ -111,11 +111,11 @@ finish-requires-clause-running g c =
 
 pub returns-in-Ok-note_exit : goal.returns-in-Ok-note_exit
 returns-in-Ok-note_exit g c =
-    let v : View = view_of (g.B.Chronicle.entries c.args.self.now.store.book) c.args.self.now in
+    let v : View = view_of c.args.self.now in
     let gives = g.C.Clock.gives c.args.clock.now in
     let same = same_work v.work (at_work c.make_room.new.self) c.make_room.ensures.standing c.make_room.ensures.told in
     let v1 : View = record v { work = at_work c.make_room.new.self } in
-    let v2 : View = view_of (g.B.Chronicle.entries c.admit-admitted.new.self.store.book) c.admit-admitted.new.self in
+    let v2 : View = view_of c.admit-admitted.new.self in
     let one = c.admit-admitted.ensures.admits in
     let admits : Admits gives c.admit-admitted.result one.0 v v2 = subst (λ (w : AtWork). Admits gives c.admit-admitted.result one.0 (record v { work = w }) v2) same one.1 in
     let running2 = running_on gives one.0 v v2 c.requires.running admits.goes admits.opened in
@@ -123,16 +123,16 @@ returns-in-Ok-note_exit g c =
     let seed = c.args.seed.now in
     let limit = c.args.conf.now.authentication_ms in
     let key = cancel_key seed c.admit-admitted.result.pid in
-    let v3 : View = record v2 { store = moment_of (g.B.Chronicle.entries c.serve_link-status.new.store.book) c.serve_link-status.new.store; outcome = None } in
+    let v3 : View = record v2 { store = moment c.serve_link-status.new.store; outcome = None } in
     let ran = session_ran key limit gives s.0 c.admit-admitted.result.pid v2 v3 s.6 s.1 s.2 admits.there refl refl s.7 refl refl refl refl in
-    let v4 : View = view_of (g.B.Chronicle.entries c.note_exit.new.self.store.book) c.note_exit.new.self in
+    let v4 : View = view_of c.note_exit.new.self in
     let exits = c.session_exit.ensures ∙ ap (λ (p : ℕ). record { pid = p; kind = Backend; status = c.serve_link-status.result.status; was_active = is_signal c.serve_link-status.result.status; kept = None }) (sym s.1)
     ∙ session_exit key limit gives s.0 c.serve_link-status.result.status s.5 s.6 in
     let is_served : IsServed seed limit gives s.0 = subst (λ (p : ℕ). IsServedAs (cancel_key seed p) limit gives s.0) (sym s.1) s.6 in
     let same_number = sym (ap (λ (l : LinkView). l.number) s.4) ∙ s.6.same ∙ ap (λ (l : LinkView). l.number) s.3 in
     let numbered = subst (λ (l : LinkView). IfSome (g.P.Port.visits c.args.port.now) (λ v. l.number ≡ length v.given + 1)) (sym s.3) c.in-Some.ensures.number in
     let visits = all_back_as [] s.0 _ _ (g.P.Port.visits c.args.port.now) (g.P.Port.visits c.args.port.now) (g.P.Port.visits c.next_link.new.port) _ s.3 s.4 same_number (no_change (g.P.Port.visits c.args.port.now)) c.in-Some.ensures.given c.in-Some.ensures.number c.done.ensures.visits in
-    let v5 : View = view_of (g.B.Chronicle.entries c.finish.new.self.store.book) c.finish.new.self in
+    let v5 : View = view_of c.finish.new.self in
     let n = c.in-Ok-note_exit.ensures.noted in
     let idle = idle_of v2 c.admit-admitted.result.settled c.in-Ok-settled.is admits.rests admits.unowed in
     let done = ran_noted c.laws.ensures.steps c.laws.ensures.work c.laws.ensures.journal gives (run_of s.0) n.0 v2 v3 v4 running2 idle (λ is none. cc) ran (subst (λ (x : ChildExit). NotesExit gives x n.0 v3 v4) exits n.1) in
@@ -146,11 +146,11 @@ returns-in-Ok-note_exit g c =
 
 pub returns-in-Err-note_exit : goal.returns-in-Err-note_exit
 returns-in-Err-note_exit g c =
-    let v : View = view_of (g.B.Chronicle.entries c.args.self.now.store.book) c.args.self.now in
+    let v : View = view_of c.args.self.now in
     let gives = g.C.Clock.gives c.args.clock.now in
     let same = same_work v.work (at_work c.make_room.new.self) c.make_room.ensures.standing c.make_room.ensures.told in
     let v1 : View = record v { work = at_work c.make_room.new.self } in
-    let v2 : View = view_of (g.B.Chronicle.entries c.admit-admitted.new.self.store.book) c.admit-admitted.new.self in
+    let v2 : View = view_of c.admit-admitted.new.self in
     let one = c.admit-admitted.ensures.admits in
     let admits : Admits gives c.admit-admitted.result one.0 v v2 = subst (λ (w : AtWork). Admits gives c.admit-admitted.result one.0 (record v { work = w }) v2) same one.1 in
     let running2 = running_on gives one.0 v v2 c.requires.running admits.goes admits.opened in
@@ -158,9 +158,9 @@ returns-in-Err-note_exit g c =
     let seed = c.args.seed.now in
     let limit = c.args.conf.now.authentication_ms in
     let key = cancel_key seed c.admit-admitted.result.pid in
-    let v3 : View = record v2 { store = moment_of (g.B.Chronicle.entries c.serve_link-status.new.store.book) c.serve_link-status.new.store; outcome = None } in
+    let v3 : View = record v2 { store = moment c.serve_link-status.new.store; outcome = None } in
     let ran = session_ran key limit gives s.0 c.admit-admitted.result.pid v2 v3 s.6 s.1 s.2 admits.there refl refl s.7 refl refl refl refl in
-    let v4 : View = view_of (g.B.Chronicle.entries c.note_exit.new.self.store.book) c.note_exit.new.self in
+    let v4 : View = view_of c.note_exit.new.self in
     let exits = c.session_exit.ensures ∙ ap (λ (p : ℕ). record { pid = p; kind = Backend; status = c.serve_link-status.result.status; was_active = is_signal c.serve_link-status.result.status; kept = None }) (sym s.1)
     ∙ session_exit key limit gives s.0 c.serve_link-status.result.status s.5 s.6 in
     let is_served : IsServed seed limit gives s.0 = subst (λ (p : ℕ). IsServedAs (cancel_key seed p) limit gives s.0) (sym s.1) s.6 in

@@ -1,0 +1,4 @@
+pub mod Print
+pub mod PrintLaws
+pub mod Log
+pub mod LogLaws

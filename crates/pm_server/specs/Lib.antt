@@ -1,0 +1,9 @@
+pub mod Views
+pub mod Journal
+pub mod JournalLaws
+pub mod Story
+pub mod Ends
+pub mod Spans
+pub mod SpansLaws
+pub mod UnredoneLaws
+pub mod StoryLaws

@@ -1,0 +1,80 @@
+-- What a run of a server leaves in its two files, behind whatever crash cycles.
+use Rattle.std.specs.Prelude.{◌≡◌, ◌⊎◌, ℕ, ◌≤◌, true, List, [], ◌∷◌, Option, Some, IfSome}
+use Rattle.std.specs.List.{AllByRecursion}
+use Rattle.pm_disk.specs.Files.{Files}
+use Rattle.pm_disk.specs.declared.disk.Which.{Which}
+use Rattle.pm_record.specs.Pair.{Means, MeansIn, PairStandsFor}
+use Rattle.pm_record.specs.StandsFor.{Content, standing_of}
+use Rattle.pm_query.specs.History.{History, count_of, number}
+use Rattle.pm_query.specs.Book.{Base, IsLegal, history_of, standing_of as base_standing}
+use Rattle.pm_query.specs.Durable.{IsDurable, MeansAsOne}
+use Rattle.pm_query.specs.declared.book.BookEntry.{BookEntry}
+use Rattle.pm_query.specs.declared.book.BookEntry.TheVariants.{Answered, Opened, Redone, Released}
+use Rattle.pm_segment.specs.Unread.{breaks_unread}
+use Rattle.pm_server.specs.Views.{DiskView}
+use Rattle.pm_server.specs.declared.end.ServerEnd.{ServerEnd}
+use Rattle.pm_server.specs.declared.end.ServerEnd.TheVariants.{Clean}
+
+-- ---- before the first redo has ended
+
+abbrev pub IsNoAnswer : BookEntry → Type 0
+IsNoAnswer (Answered pid script reply commit front tick) = ⊥
+IsNoAnswer (Released pid front tick) = ⊥
+IsNoAnswer _ = Unit {0}
+
+abbrev pub IsNoRedo : BookEntry → Type 0
+IsNoRedo (Redone pid generation kept) = ⊥
+IsNoRedo _ = Unit {0}
+
+-- No redo has ended, and no query was answered. At every tick whatever a stop leaves means what a stop could have left at first,
+-- where the disk tells.
+pub record KeepsMeaning (book : List BookEntry) (before now : DiskView) : Type 0 where
+  pub unanswered : AllByRecursion IsNoAnswer book
+  pub unredone : AllByRecursion IsNoRedo book
+  pub keeps : IfSome now.files (λ _. (t : ℕ) → before.ticks ≤ t → t ≤ now.ticks
+      → (image : Files) → now.images t image → MeansAsOne Means (before.images before.ticks) image)
+
+-- ---- behind it
+
+-- The base is what the files meant that were handed in, and so many bytes, where they are told, unless a fault of the disk
+-- stands in the book before its first redo. Where it tells its files at the end, at every tick whatever a stop leaves means a
+-- number of the history at that tick that holds every acknowledged commit.
+pub record HoldsHistory (base : Base) (book : List BookEntry) (before now : DiskView) : Type 0 where
+  pub base_is : (breaks_unread book ≡ true) ⊎ IfSome before.files (λ files. MeansIn files (base_standing base) base.bytes)
+  pub durable : IfSome now.files (λ _. IsDurable Means base book before.ticks now.ticks before.images now.images)
+
+-- The files mean all commits of the history, and the log is clean: it says so, and no batch stands behind its base.
+pub record IsClean (history : History) (files : Files) : Type 0 where
+  pub file : Which
+  pub content : Content
+  pub end : ℕ
+  pub pair : PairStandsFor files file content end
+  pub is : standing_of content ≡ number history (count_of history)
+  pub clean : content.clean ≡ true
+  pub nothing_behind : content.batches ≡ []
+
+-- ---- the whole
+
+abbrev pub IsNoOpening : BookEntry → Type 0
+IsNoOpening (Opened generation) = ⊥
+IsNoOpening _ = Unit {0}
+
+-- the store was opened once
+abbrev pub HasOneGeneration : List BookEntry → Type 0
+HasOneGeneration [] = Unit {0}
+HasOneGeneration (first ∷ book) = AllByRecursion IsNoOpening book
+
+-- it has one generation, or the disk tells its files
+abbrev pub IsSure : List BookEntry → Option Files → Type 0
+IsSure book files = HasOneGeneration book ⊎ ((its : Files) × (files ≡ Some its))
+
+-- What a run leaves that was handed an empty book: a book that is legal from a base, and files that at every tick hold its
+-- history from its first redo on, and before it mean what they meant. Behind a clean end they stand for all its commits, and so
+-- does whatever a stop leaves.
+pub record IsStory (end : ServerEnd) (before now : DiskView) (book : List BookEntry) : Type 0 where
+  pub base : Base
+  pub faults_are : base.faults ≡ before.faults
+  pub legal : IsSure book now.files → IsLegal base book
+  pub stops : KeepsMeaning book before now ⊎ HoldsHistory base book before now
+  pub clean : end ≡ Clean → IfSome now.files (λ files. ∥ IsClean (history_of base book) files ∥₁)
+  pub leaves_clean : end ≡ Clean → IfSome now.files (λ _. (image : Files) → now.images now.ticks image → ∥ IsClean (history_of base book) image ∥₁)
