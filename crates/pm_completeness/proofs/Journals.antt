@@ -1,0 +1,302 @@
+-- A whole journal: no child crashes, but for one that left its work undone.
+use Rattle.std.proofs.Common.{◌≡◌, ◌⊎◌, inl, inr, ℕ, ◌+◌, ◌≤◌, Bool, true, false, not, cond, ◌&&◌, ◌||◌, List, [], ◌∷◌, ◌++◌, Option, Some, None, refl, sym, ◌∙◌, ap, subst, arith, append_assoc}
+use Rattle.std.specs.Prelude.{IsSomeAnd, All, fold, is_some, nat_eq}
+use Rattle.std.specs.List.{AllByRecursion}
+use Rattle.std.proofs.lemmas.Grind.{flat_map-append}
+use Rattle.std.proofs.lemmas.List.Elements.{All-head, All-tail}
+use Rattle.pm_exit.specs.declared.child.Kind.{Kind}
+use Rattle.pm_exit.specs.declared.child.Kind.TheVariants as kind
+use Rattle.pm_exit.specs.declared.child.Status.{Status}
+use Rattle.pm_exit.specs.Ends.{is_exit_0, is_exit_1}
+use Rattle.pm_modes.specs.declared.Mode.{Mode}
+use Rattle.pm_modes.specs.declared.Mode.TheVariants.{Smart}
+use Rattle.pm_supervisor.specs.Children.{Child, child_of, count_of, is_checkpointer, is_session, is_startup_child, is_writer, one_if}
+use Rattle.pm_supervisor.specs.declared.Limits.{Limits}
+use Rattle.pm_supervisor.specs.declared.Ending.TheVariants as endings
+use Rattle.pm_state.specs.declared.action.Action.{Action}
+use Rattle.pm_state.specs.declared.event.PmEvent.{PmEvent}
+use Rattle.pm_state.specs.declared.event.PmEvent.TheVariants as entry
+use Rattle.pm_state.specs.declared.machine.Machine.{Machine}
+use Rattle.pm_state.specs.Laws.{RestartsSafely}
+use Rattle.pm_state.specs.Restarts.{Counts}
+use Rattle.pm_state.specs.Machine.{Exited, begun, step}
+use Rattle.pm_state.specs.TurnRules.{is_not_running}
+use Rattle.pm_state.specs.Journal.{AreLegal, Due, FollowsIn, IsLegal, Replay, all_replayed, replay_begun, replayed}
+use Rattle.pm_chain.specs.Steps.{AreSteps, AreStepsBehind, ChildRun, Notes, Renews, Runs, RunsOn, StandsByItself, Step, journal_by, journal_of, redo_end}
+use Rattle.pm_journal.specs.Stands.{any_moment}
+use Rattle.pm_server.specs.Journal.{asked_in}
+use Rattle.pm_once.specs.AuxiliaryRuns.{AreToldBehind, Heard, IsRunAs, heard_after, nothing_heard}
+use Rattle.pm_completeness.specs.Crashes.{AreOrderly, AreOrderlySoFar, CompletesItsRuns, IsBehindUndone, is_undone}
+use Rattle.pm_once.specs.Once.{EndThemselves, EndsItself}
+use Rattle.pm_once.specs.Undisturbed.{IsFineExit}
+use Rattle.pm_once.specs.Goes.{EndsWith}
+use Rattle.pm_completeness.proofs.Replaying.{IsPlain, acts_behind_redo, acts_in, entry_on, goes_on_at, rested, rests_at}
+use Rattle.pm_completeness.proofs.Crashing.{EndsCalm, IsCalmSo, IsLost, IsAlwaysOrderly, checkpointer_calm, checkpointer_lost, keeps_calm, keeps_lost, nobody_left, session_calm, startup_calm, startup_lost, writer_calm}
+
+-- ---- who is there
+
+there_counts : (test : Kind → Bool) (pid : ℕ) (k : Kind) (cs : List Child) → IsSomeAnd (child_of pid cs) (λ c. c.kind ≡ k) → test k ≡ true → 1 ≤ count_of test cs
+there_counts test pid k [] there is = absurd there
+there_counts test pid k (c ∷ cs) there is =
+    elim (nat_eq c.pid pid) as
+    (λ v. IsSomeAnd (cond v (Some c) (child_of pid cs)) (λ x. x.kind ≡ k) → 1 ≤ one_if (test c.kind) + count_of test cs) [
+      | true ↦ λ found. omega (arith, ap one_if (ap test found ∙ is))
+      | false ↦ λ later. omega (arith, there_counts test pid k cs later is)
+    ]
+    there
+
+was_there : (n : ℕ) (b : Bool) → 1 ≤ n → n ≡ one_if b → b ≡ true
+was_there n true one is = refl
+was_there n false one is = absurd (omega (arith, one, is))
+
+-- the machine counts the children, at each entry
+abbrev AreCounted : Replay → List PmEvent → Type 0
+AreCounted r [] = Unit {0}
+AreCounted r (e ∷ journal) = Counts r.machine r.shown.children × AreCounted (replayed r e) journal
+
+legal_front : (gives : ℕ → Bool) (r : Replay) (xs ys : List PmEvent) → AreLegal gives r (xs ++ ys) → AreLegal gives r xs
+legal_front gives r [] ys legal = tt
+legal_front gives r (x ∷ xs) ys legal = (legal.0, legal_front gives (replayed r x) xs ys legal.1)
+
+replayed_one : (r : Replay) (xs : List PmEvent) (e : PmEvent) → all_replayed r (xs ++ e ∷ []) ≡ replayed (all_replayed r xs) e
+replayed_one r [] e = refl
+replayed_one r (x ∷ xs) e = replayed_one (replayed r x) xs e
+
+are_counted : RestartsSafely → (limits : Limits) (gives : ℕ → Bool) (before journal : List PmEvent) → IsLegal limits gives (before ++ journal)
+    → AreCounted (all_replayed (replay_begun limits) before) journal
+are_counted safely limits gives before [] legal = tt
+are_counted safely limits gives before (e ∷ journal) legal = (
+  safely.counts limits gives before (legal_front gives (replay_begun limits) before (e ∷ journal) legal),
+  subst (λ (r : Replay). AreCounted r journal) (replayed_one (replay_begun limits) before e)
+      (are_counted safely limits gives (before ++ e ∷ []) journal (subst (IsLegal limits gives) (sym (append_assoc before (e ∷ []) journal)) legal)),
+)
+
+-- ---- requests
+
+abbrev AreSmart : List PmEvent → Type 0
+AreSmart journal = All (λ mode. mode ≡ Smart) (asked_in journal)
+
+-- the others were smart ones too
+smart_rest : (e : PmEvent) (journal : List PmEvent) → AreSmart (e ∷ journal) → AreSmart journal
+smart_rest (entry.Asked mode at) journal smart = All-tail (λ (m : Mode). m ≡ Smart) mode (asked_in journal) smart
+smart_rest e journal smart = smart
+
+smart_redo : (generation : ℕ) (kept : Option ℕ) (journal : List PmEvent) → AreSmart (redo_end generation kept ++ journal) → AreSmart journal
+smart_redo generation None journal smart = smart
+smart_redo generation (Some kept) journal smart = smart
+
+by_itself_plain : (e : PmEvent) (journal : List PmEvent) → StandsByItself e → AreSmart (e ∷ journal) → IsPlain e
+by_itself_plain (entry.Exited pid k status was_active at) journal stands smart = absurd stands
+by_itself_plain (entry.Asked mode at) journal stands smart = All-head (λ (m : Mode). m ≡ Smart) mode (asked_in journal) smart
+by_itself_plain e journal stands smart = tt
+
+-- ---- the end of a child
+
+never : (b : Bool) → b ≡ true → b ≡ false → ⊥
+never b one two = cc
+
+itself : (h : Heard) (run : ChildRun) (at : ℕ) → h.quit ≡ false → EndsItself h (Runs run at) → IsFineExit run
+itself h run at unquit (inl fine) = fine
+itself h run at unquit (inr quit) = absurd (never h.quit quit.0 unquit)
+
+by_itself : (a b c : Bool) → ((a || b) && not c) ≡ true → a || b ≡ true
+by_itself a b c is = grind arith
+
+one_of : (a b : Bool) → a || b ≡ true → (a ≡ true) ⊎ (b ≡ true)
+one_of true b is = inl refl
+one_of false b is = inr is
+
+done_or : (zero one asked : Bool) → zero || one ≡ true → (zero || asked ≡ true) ⊎ ((one ≡ true) × (asked ≡ false))
+done_or true one asked is = inl refl
+done_or false one true is = inl refl
+done_or false one false is = inr (is, refl)
+
+startup_there : (n : ℕ) (a b : Bool) → 1 ≤ n → n ≡ one_if (not a && not b) → a ≡ false
+startup_there n true b one is = absurd (omega (arith, one, is))
+startup_there n false b one is = refl
+
+-- the child was there
+there_at : (ds : List Due) (gives : ℕ → Bool) (r : Replay) (run : ChildRun) (at : ℕ) → ds ≡ [] → FollowsIn ds gives r (entry.Exited run.pid run.kind run.status run.was_active at)
+    → IsSomeAnd (child_of run.pid r.shown.children) (λ c. c.kind ≡ run.kind)
+there_at [] gives r run at none may = may.2.0
+there_at (d ∷ ds) gives r run at none may = absurd cc
+
+-- ---- behind a child that left its work undone
+
+-- no child is left that can end
+none_ends : (gives : ℕ → Bool) (h : Heard) (r : Replay) (run : ChildRun) (at : ℕ) (k : Kind) → IsRunAs h k run → IsSomeAnd (child_of run.pid r.shown.children) (λ c. c.kind ≡ k)
+    → Counts r.machine r.shown.children → r.machine.ended ≡ false → IsLost h [] r.machine → ⊥
+none_ends gives h r run at kind.Startup told there counts on lost =
+    let was = startup_there (count_of is_startup_child r.shown.children) (is_not_running r.machine.startup) r.machine.startup_due (there_counts is_startup_child run.pid kind.Startup r.shown.children there refl) counts.startup in
+    never (is_not_running r.machine.startup) (nobody_left h r.machine on lost).1 was
+none_ends gives h r run at kind.Checkpointer told there counts on lost =
+    never r.machine.checkpointer (was_there (count_of is_checkpointer r.shown.children) r.machine.checkpointer (there_counts is_checkpointer run.pid kind.Checkpointer r.shown.children there refl) counts.checkpointer) (nobody_left h r.machine on lost).2
+none_ends gives h r run at kind.Writer told there counts on lost =
+    never r.machine.writer (was_there (count_of is_writer r.shown.children) r.machine.writer (there_counts is_writer run.pid kind.Writer r.shown.children there refl) counts.writer) (nobody_left h r.machine on lost).3
+none_ends gives h r run at kind.Worker told there counts on lost = told
+none_ends gives h r run at kind.Backend told there counts on lost =
+    omega (arith, there_counts is_session run.pid kind.Backend r.shown.children there refl, counts.sessions, (nobody_left h r.machine on lost).0)
+none_ends gives h r run at kind.DeadEnd told there counts on lost = told
+
+lost_on : (limits : Limits) (gives : ℕ → Bool) (before steps : List Step) (h : Heard) (r : Replay) → AreLegal gives r (journal_of steps) → AreStepsBehind limits before steps
+    → AreSmart (journal_of steps) → AreToldBehind h steps → AreCounted r (journal_of steps) → IsLost h (acts_in r.due) r.machine
+    → AllByRecursion IsBehindUndone (journal_of steps)
+lost_on limits gives before [] h r legal are smart told counted lost = tt
+lost_on limits gives before (Notes e ∷ steps) h r legal are smart told counted lost =
+    let on = entry_on IsLost IsBehindUndone keeps_lost gives h r e legal.0 (by_itself_plain e (journal_of steps) are.0.fits smart) lost in
+    (on.0, lost_on limits gives (before ++ Notes e ∷ []) steps (heard_after h e) (replayed r e) legal.1 are.1 (smart_rest e (journal_of steps) smart) told.1 counted.1 on.1)
+lost_on limits gives before (Runs run at ∷ steps) h r legal are smart told counted lost =
+    let e : PmEvent = entry.Exited run.pid run.kind run.status run.was_active at in
+    let none = rests_at r.due gives r run.pid run.kind run.status run.was_active at legal.0 in
+    absurd (none_ends gives h r run at run.kind told.0 (there_at r.due gives r run at none legal.0) counted.0 (goes_on_at r.due gives r e none legal.0)
+    (subst (λ (ds : List Due). IsLost h (acts_in ds) r.machine) none lost))
+lost_on limits gives before (RunsOn run ∷ steps) h r legal are smart told counted lost =
+    lost_on limits gives (before ++ RunsOn run ∷ []) steps h r legal are.1 smart told.1 counted lost
+lost_on limits gives before (Renews generation gone ∷ steps) h r legal are smart told counted lost =
+    lost_on limits gives (before ++ Renews generation gone ∷ []) steps h r legal are.1 smart told.1 counted lost
+
+-- ---- the end of a child that isn't
+
+-- it is an orderly one, or its work is undone
+abbrev HasEnded : Heard → Kind → Machine → (pid : ℕ) → Status → (at : ℕ) → Bool → Type 0
+HasEnded h k m pid status at was_active =
+    ((is_undone (entry.Exited pid k status was_active at) ≡ true) × IsLost h (step m (Exited pid k status was_active at)).acts (step m (Exited pid k status was_active at)).after)
+    ⊎ EndsCalm h k m pid status at was_active
+
+run_ended : (h : Heard) (k : Kind) (run : ChildRun) (r : Replay) (at : ℕ) → run.kind ≡ k → IsRunAs h k run → IsFineExit run → Counts r.machine r.shown.children
+    → IsSomeAnd (child_of run.pid r.shown.children) (λ c. c.kind ≡ k) → IsCalmSo h [] r.machine
+    → HasEnded h k r.machine run.pid run.status at run.was_active
+run_ended h kind.Startup run r at is told fine counts there calm =
+    let was = startup_there (count_of is_startup_child r.shown.children) (is_not_running r.machine.startup) r.machine.startup_due (there_counts is_startup_child run.pid kind.Startup r.shown.children there refl) counts.startup in
+    let ends = by_itself (is_exit_0 run.status) (is_exit_1 run.status) run.was_active fine in
+    elim (done_or (is_exit_0 run.status) (is_exit_1 run.status) (is_some r.machine.shutdown) ends) [
+      | inl done ↦ inr (startup_calm h r.machine run.pid run.status at run.was_active calm was ends done)
+      | inr undone ↦ inl (undone.0, startup_lost h r.machine run.pid run.status at run.was_active calm was undone.0 undone.1)
+    ]
+run_ended h kind.Checkpointer run r at is (inl quit) fine counts there calm = absurd (never h.quit quit.0 calm.unquit)
+run_ended h kind.Checkpointer run r at is (inr closes) fine counts there calm =
+    elim (one_of (is_exit_0 run.status) (is_exit_1 run.status) (by_itself (is_exit_0 run.status) (is_exit_1 run.status) run.was_active fine)) [
+      | inl zero ↦ inr (checkpointer_calm h r.machine run.pid run.status at run.was_active calm closes.1
+          (was_there (count_of is_checkpointer r.shown.children) r.machine.checkpointer (there_counts is_checkpointer run.pid kind.Checkpointer r.shown.children there refl) counts.checkpointer) zero)
+      | inr one ↦ inl (
+        one,
+        checkpointer_lost h r.machine run.pid run.status at run.was_active calm closes.1
+            (was_there (count_of is_checkpointer r.shown.children) r.machine.checkpointer (there_counts is_checkpointer run.pid kind.Checkpointer r.shown.children there refl) counts.checkpointer) one,
+      )
+    ]
+run_ended h kind.Writer run r at is (inl quit) fine counts there calm = absurd (never h.quit quit.0 calm.unquit)
+run_ended h kind.Writer run r at is (inr ends) fine counts there calm = inr (writer_calm h r.machine run.pid run.status at run.was_active calm (ap (λ (x : ChildRun). is_exit_0 x.status) ends.2))
+run_ended h kind.Worker run r at is told fine counts there calm = absurd told
+run_ended h kind.Backend run r at is told fine counts there calm = inr (session_calm h r.machine run.pid run.status at run.was_active calm fine)
+run_ended h kind.DeadEnd run r at is told fine counts there calm = absurd told
+
+-- ---- the whole
+
+heard_redo : (h : Heard) (generation : ℕ) (kept : Option ℕ) → fold heard_after h (redo_end generation kept) ≡ h
+heard_redo h generation None = refl
+heard_redo h generation (Some kept) = refl
+
+-- behind the end of a child that ended redo
+redo_on : (gives : ℕ → Bool) (h : Heard) (r : Replay) (generation : ℕ) (kept : Option ℕ) (journal : List PmEvent)
+    → ((next : Replay) → AreLegal gives next journal → AreCounted next journal → IsCalmSo h (acts_in next.due) next.machine → AreOrderlySoFar next journal)
+    → AreLegal gives r (redo_end generation kept ++ journal) → AreCounted r (redo_end generation kept ++ journal) → IsCalmSo h (acts_in r.due) r.machine
+    → AreOrderlySoFar r (redo_end generation kept ++ journal)
+redo_on gives h r generation None journal on legal counted calm = on r legal counted calm
+redo_on gives h r generation (Some kept) journal on legal counted calm =
+    let redone = entry_on IsCalmSo IsAlwaysOrderly keeps_calm gives h r (entry.RedoEnded generation kept) legal.0 tt calm in
+    inr (tt, on (replayed r (entry.RedoEnded generation kept)) legal.1 counted.1 redone.1)
+
+redo_lost : (gives : ℕ → Bool) (h : Heard) (r : Replay) (generation : ℕ) (kept : Option ℕ) (journal : List PmEvent)
+    → ((next : Replay) → AreLegal gives next journal → AreCounted next journal → IsLost h (acts_in next.due) next.machine → AllByRecursion IsBehindUndone journal)
+    → AreLegal gives r (redo_end generation kept ++ journal) → AreCounted r (redo_end generation kept ++ journal) → IsLost h (acts_in r.due) r.machine
+    → AllByRecursion IsBehindUndone (redo_end generation kept ++ journal)
+redo_lost gives h r generation None journal on legal counted lost = on r legal counted lost
+redo_lost gives h r generation (Some kept) journal on legal counted lost =
+    let redone = entry_on IsLost IsBehindUndone keeps_lost gives h r (entry.RedoEnded generation kept) legal.0 tt lost in
+    (tt, on (replayed r (entry.RedoEnded generation kept)) legal.1 counted.1 redone.1)
+
+-- the end of a child, and what is behind it
+run_on : (gives : ℕ → Bool) (h : Heard) (r : Replay) (run : ChildRun) (at : ℕ) (journal : List PmEvent)
+    → ((next : Replay) → AreLegal gives next journal → AreCounted next journal → IsCalmSo h (acts_in next.due) next.machine → AreOrderlySoFar next journal)
+    → ((next : Replay) → AreLegal gives next journal → AreCounted next journal → IsLost h (acts_in next.due) next.machine → AllByRecursion IsBehindUndone journal)
+    → AreLegal gives r (journal_by (Runs run at) ++ journal) → AreCounted r (journal_by (Runs run at) ++ journal)
+    → IsRunAs h run.kind run → IsFineExit run → IsCalmSo h (acts_in r.due) r.machine → AreOrderlySoFar r (journal_by (Runs run at) ++ journal)
+run_on gives h r run at journal on behind legal counted told fine calm =
+    let e : PmEvent = entry.Exited run.pid run.kind run.status run.was_active at in
+    let none = rests_at r.due gives r run.pid run.kind run.status run.was_active at legal.0 in
+    let rests : IsCalmSo h [] r.machine = subst (λ (ds : List Due). IsCalmSo h (acts_in ds) r.machine) none calm in
+    let acts : List Action = (step r.machine (Exited run.pid run.kind run.status run.was_active at)).acts in
+    let dues = acts_behind_redo (is_startup_child run.kind && is_exit_0 run.status) acts in
+    elim (run_ended h run.kind run r at refl told fine counted.0 (there_at r.due gives r run at none legal.0) rests) [
+      | inl undone ↦ inl (
+        undone.0,
+        redo_lost gives h (replayed r e) run.generation run.kept journal behind legal.1 counted.1 (rested IsLost IsBehindUndone keeps_lost h r e acts none dues undone.1),
+      )
+      | inr ended ↦ inr (
+        ended.orderly,
+        redo_on gives h (replayed r e) run.generation run.kept journal on legal.1 counted.1 (rested IsCalmSo IsAlwaysOrderly keeps_calm h r e acts none dues ended.calm),
+      )
+    ]
+
+orderly_on : (limits : Limits) (gives : ℕ → Bool) (before steps : List Step) (h : Heard) (r : Replay) → AreLegal gives r (journal_of steps) → AreStepsBehind limits before steps
+    → AreSmart (journal_of steps) → AreToldBehind h steps → EndThemselves h steps → AreCounted r (journal_of steps) → IsCalmSo h (acts_in r.due) r.machine
+    → AreOrderlySoFar r (journal_of steps)
+orderly_on limits gives before [] h r legal are smart told ends counted calm = tt
+orderly_on limits gives before (Notes e ∷ steps) h r legal are smart told ends counted calm =
+    let on = entry_on IsCalmSo IsAlwaysOrderly keeps_calm gives h r e legal.0 (by_itself_plain e (journal_of steps) are.0.fits smart) calm in
+    inr (on.0 r.machine, orderly_on limits gives (before ++ Notes e ∷ []) steps (heard_after h e) (replayed r e) legal.1 are.1 (smart_rest e (journal_of steps) smart) told.1 ends.1 counted.1 on.1)
+orderly_on limits gives before (Runs run at ∷ steps) h r legal are smart told ends counted calm =
+    let same = heard_redo h run.generation run.kept in
+    let told_on : AreToldBehind h steps = subst (λ (x : Heard). AreToldBehind x steps) same told.1 in
+    let ends_on : EndThemselves h steps = subst (λ (x : Heard). EndThemselves x steps) same ends.1 in
+    let smart_on : AreSmart (journal_of steps) = smart_redo run.generation run.kept (journal_of steps) smart in
+    run_on gives h r run at (journal_of steps)
+    (λ next legal_on counted_on calm_on. orderly_on limits gives (before ++ Runs run at ∷ []) steps h next legal_on are.1 smart_on told_on ends_on counted_on calm_on)
+    (λ next legal_on counted_on lost_on_. lost_on limits gives (before ++ Runs run at ∷ []) steps h next legal_on are.1 smart_on told_on counted_on lost_on_)
+    legal counted told.0 (itself h run at calm.unquit ends.0) calm
+orderly_on limits gives before (RunsOn run ∷ steps) h r legal are smart told ends counted calm =
+    orderly_on limits gives (before ++ RunsOn run ∷ []) steps h r legal are.1 smart told.1 ends.1 counted calm
+orderly_on limits gives before (Renews generation gone ∷ steps) h r legal are smart told ends counted calm =
+    orderly_on limits gives (before ++ Renews generation gone ∷ []) steps h r legal are.1 smart told.1 ends.1 counted calm
+
+begun_calm : (limits : Limits) → IsCalmSo nothing_heard [] (begun limits)
+begun_calm limits = record {
+  unquit = refl;
+  no_crash = refl;
+  not_immediate = refl;
+  not_told = refl;
+  starting = refl;
+  no_quit = refl;
+  asked = refl;
+  closing = refl;
+  starts = refl;
+  writers = refl;
+}
+
+pub orderly_so_far : RestartsSafely → (limits : Limits) (gives : ℕ → Bool) (steps : List Step) → IsLegal limits gives (journal_of steps) → AreSteps limits steps
+    → AreSmart (journal_of steps) → AreToldBehind nothing_heard steps → EndThemselves nothing_heard steps → AreOrderlySoFar (replay_begun limits) (journal_of steps)
+orderly_so_far safely limits gives steps legal are smart told ends =
+    orderly_on limits gives [] steps nothing_heard (replay_begun limits) legal are smart told ends (are_counted safely limits gives [] (journal_of steps) legal) (begun_calm limits)
+
+last_of : {X : Type 0} (P : X → Type 0) (xs : List X) (x : X) → AllByRecursion P (xs ++ x ∷ []) → P x
+last_of P [] x all = all.0
+last_of P (y ∷ xs) x all = last_of P xs x all.1
+
+-- where the server ended clean no child left its work undone
+clean_orderly : (r : Replay) (journal : List PmEvent) → AreOrderlySoFar r (journal ++ entry.Ended endings.Clean ∷ []) → AreOrderly r (journal ++ entry.Ended endings.Clean ∷ [])
+clean_orderly r [] (inl undone) = absurd (let never : false ≡ true = undone.0 in cc)
+clean_orderly r [] (inr orderly) = orderly
+clean_orderly r (e ∷ journal) (inl undone) = absurd (last_of IsBehindUndone journal (entry.Ended endings.Clean) undone.1)
+clean_orderly r (e ∷ journal) (inr orderly) = (orderly.0, clean_orderly (replayed r e) journal orderly.1)
+
+pub ends_orderly : (r : Replay) (steps : List Step) → EndsWith (entry.Ended endings.Clean) steps → AreOrderlySoFar r (journal_of steps) → AreOrderly r (journal_of steps)
+ends_orderly r steps ends so_far =
+    let is : journal_of steps ≡ journal_of ends.0 ++ entry.Ended endings.Clean ∷ [] = ap journal_of ends.1 ∙ flat_map-append journal_by ends.0 (Notes (entry.Ended endings.Clean) ∷ []) in
+    subst (AreOrderly r) (sym is) (clean_orderly r (journal_of ends.0) (subst (AreOrderlySoFar r) is so_far))
+
+pub completes : RestartsSafely → CompletesItsRuns
+completes safely = record {
+  orderly = λ limits steps unharmed. orderly_so_far safely limits any_moment steps unharmed.legal unharmed.are_steps unharmed.smart unharmed.runs unharmed.ends;
+  clean = λ limits steps unharmed ends.
+      ends_orderly (replay_begun limits) steps ends (orderly_so_far safely limits any_moment steps unharmed.legal unharmed.are_steps unharmed.smart unharmed.runs unharmed.ends);
+}

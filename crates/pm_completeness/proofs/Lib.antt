@@ -1,0 +1,4 @@
+pub mod Replaying
+pub mod Crashing
+pub mod Journals
+pub mod WorkedCrashProofs

@@ -1,0 +1,19 @@
+//! The laws of crashes.
+ghost use Rattle.pm_completeness.specs.Crashes.{CompletesItsRuns};
+ghost use Rattle.pm_completeness.specs.WorkedCrashes.{WorkedCrashes};
+
+use pm_state::restarts_safely;
+
+/// Where each child ended by itself, outside the store, none crashes, none is told to end at once and none is killed, but behind
+/// a startup child that ended without its redo, or a checkpointer without the last checkpoint. Behind such a one no other child
+/// ends, and the server doesn't end clean.
+pub fn completes_its_runs()
+    ensures { CompletesItsRuns }
+{
+    restarts_safely();
+}
+
+/// What the definitions of crashes let pass, and what they refuse, at five journals.
+pub fn worked_crashes()
+    ensures { WorkedCrashes }
+{}
