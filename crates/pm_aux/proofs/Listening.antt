@@ -1,0 +1,106 @@
+-- What a child was told, from one moment to the next.
+use Rattle.std.proofs.Common.{◌≡◌, ℕ, ◌+◌, ◌≤◌, true, false, Option, None, Some, IfSome, Result, refl, sym, ◌∙◌, ap, subst, arith}
+use Rattle.std.specs.Option.{option_map}
+use Rattle.pm_life.specs.declared.standing.Standing.{Standing}
+use Rattle.pm_life.specs.declared.life.GateNo.{GateNo}
+use Rattle.pm_life.specs.Life.{Child, Told, nothing_told, met_at_gate, IsUntried}
+use Rattle.pm_life.specs.Attention.{Attention, attention, nothing_stands, IsAttentive, HasAsked, Hears}
+use Rattle.pm_aux.specs.Signals.{Listens}
+
+true_false : true ≡ false → ⊥
+true_false e = cc
+
+asked_none : (told : Option Told) → HasAsked 0 told told
+asked_none None = refl
+asked_none (Some told) = (omega arith, refl)
+
+pub asked_then : (m n : ℕ) (a b c : Option Told) → HasAsked m a b → HasAsked n b c → HasAsked (m + n) a c
+asked_then m n None b c one two = let e : b ≡ None = one in subst (λ (o : Option Told). HasAsked n o c) e two
+asked_then m n (Some a) None c one two = absurd one
+asked_then m n (Some a) (Some b) None one two = absurd two
+asked_then m n (Some a) (Some b) (Some c) one two = (omega (arith, one.0, two.0), two.1 ∙ one.1)
+
+asked_fewer : (m n : ℕ) (a b : Option Told) → HasAsked (m + n) a b → HasAsked m a b
+asked_fewer m n None b has = has
+asked_fewer m n (Some a) None has = absurd has
+asked_fewer m n (Some a) (Some b) has = (omega (arith, has.0), has.1)
+
+pub listens_none : (at : Attention) → IsAttentive at → Listens 0 at at
+listens_none at attentive = record { asked = asked_none at.told; child = refl; attentive = attentive }
+
+pub listens_both : (m n : ℕ) (a b c : Attention) → Listens m a b → Listens n b c → Listens (m + n) a c
+listens_both m n a b c one two = record {
+  asked = asked_then m n a.told b.told c.told one.asked two.asked;
+  child = two.child ∙ one.child;
+  attentive = two.attentive;
+}
+
+pub listens_fewer : (m n : ℕ) (a b : Attention) → Listens (m + n) a b → Listens m a b
+listens_fewer m n a b has = record { asked = asked_fewer m n a.told b.told has.asked; child = has.child; attentive = has.attentive }
+
+pub heard : (times : ℕ) (a b : Attention) → Hears times a b → IsAttentive b → Listens times a b
+heard times a b hears attentive = record { asked = hears.asked; child = hears.child; attentive = attentive }
+
+-- one more ask behind those before
+pub listens_more : (a b c : Attention) → Listens 0 a b → Hears 1 b c → IsAttentive c → Listens 0 a c
+listens_more a b c one hears attentive = listens_fewer 0 1 a c (listens_both 0 1 a b c one (heard 1 b c hears attentive))
+
+-- ---- at the start and at the gate
+
+-- where nothing was told yet, nothing stands
+pub untold : (told : Option Told) (child : Child) → IfSome told (λ t. t ≡ nothing_told) → IsAttentive (attention told child nothing_stands)
+untold None child is = tt
+untold (Some told) child is = rw is (record {
+  kill = (λ e. absurd (true_false (sym e)), λ h. absurd (omega (arith, h.1.1)));
+  quit = λ reason e. absurd cc;
+  quits = λ reason h. absurd (omega (arith, h.1.1));
+  terminate = (λ e. absurd (true_false (sym e)), λ h. absurd (omega (arith, h.1.1)));
+  cancel = λ e. absurd (true_false (sym e));
+  checkpoint = (λ e. absurd (true_false (sym e)), λ h. absurd (omega (arith, h.1.1)));
+})
+
+-- it has asked once at least, and this is what it has met at the gate
+abbrev pub Tells : Option (Result ℕ GateNo) → Option Told → Type 0
+Tells gate told = IfSome told (λ t. (1 ≤ t.asked) × (t.met ≡ gate))
+
+-- a child that has just started, behind its first ask
+pub asked_first : (before now : Option Told) → IfSome before (λ t. t ≡ nothing_told) → HasAsked 1 before now → Tells None now
+asked_first None now is asked = let e : now ≡ None = asked in rw e tt
+asked_first (Some before) None is asked = absurd asked
+asked_first (Some before) (Some now) is asked =
+    let none : before.asked ≡ 0 = ap (λ (t : Told). t.asked) is in
+    (omega (arith, none, asked.0), asked.1 ∙ ap (λ (t : Told). t.met) is)
+
+pub first_untried : (told : Option Told) → Tells None told → IsUntried told
+first_untried None tells = tt
+first_untried (Some told) tells = tells.1
+
+pub met_gate : (answer : Result ℕ GateNo) (before now : Option Told) → now ≡ option_map (met_at_gate answer) before → Tells None before → Tells (Some answer) now
+met_gate answer None now is tells = rw is tt
+met_gate answer (Some before) now is tells = rw is (tells.0, refl)
+
+pub tells_still : (gate : Option (Result ℕ GateNo)) (before now : Option Told) → HasAsked 0 before now → Tells gate before → Tells gate now
+tells_still gate None now asked tells = let e : now ≡ None = asked in rw e tt
+tells_still gate (Some before) None asked tells = absurd asked
+tells_still gate (Some before) (Some now) asked tells = (omega (arith, tells.0, asked.0), asked.1 ∙ tells.1)
+
+pub tells_asked : (gate : Option (Result ℕ GateNo)) (told : Option Told) → Tells gate told → IfSome told (λ t. 1 ≤ t.asked)
+tells_asked gate None tells = tt
+tells_asked gate (Some told) tells = tells.0
+
+pub tells_met : (gate : Option (Result ℕ GateNo)) (told : Option Told) → Tells gate told → IfSome told (λ t. t.met ≡ gate)
+tells_met gate None tells = tt
+tells_met gate (Some told) tells = tells.1
+
+-- what the gate answers changes nothing of what stands
+pub attentive_at_gate : (answer : Result ℕ GateNo) (before now : Option Told) (child_before child : Child) (standing : Standing) → now ≡ option_map (met_at_gate answer) before → IsAttentive (attention before child_before standing)
+    → IsAttentive (attention now child standing)
+attentive_at_gate answer None now child_before child standing e stands = rw e tt
+attentive_at_gate answer (Some told) now child_before child standing e stands = rw e (record {
+  kill = stands.kill;
+  quit = stands.quit;
+  quits = stands.quits;
+  terminate = stands.terminate;
+  cancel = stands.cancel;
+  checkpoint = stands.checkpoint;
+})

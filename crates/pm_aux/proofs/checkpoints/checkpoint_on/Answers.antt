@@ -1,0 +1,52 @@
+use Rattle.std.proofs.Common.{◌≡◌, ◌≢◌, ◌∙◌, [], false, None, Err, subst, rules}
+use Rattle.pm_exit.specs.declared.child.Kind.TheVariants.{Checkpointer}
+use Rattle.pm_query.specs.declared.store.StoreNo.TheVariants.{NoMemory}
+use Rattle.pm_query.specs.declared.store.Checkpointed.{Checkpointed}
+use Rattle.pm_query.specs.Calls.{user_of, CheckpointNotes}
+use Rattle.pm_aux.specs.Signals.{ends_of}
+use Rattle.pm_aux.specs.Work.{IsPassing}
+use Rattle.pm_aux.proofs.Listening.{listens_fewer, listens_both}
+use Rattle.pm_aux.proofs.Noting.{closes, closes_refused, passes_more, passes_still, same_user, met_later}
+use Rattle.pm_aux.proofs.Reasons.{refused_inside}
+use Rattle.pm_aux.proofs.checkpoints.checkpoint_on.Goals as goal
+
+pub returns-then-standing-clause-notes : goal.returns-then-standing-clause-notes
+returns-then-standing-clause-notes g c =
+    let before = c.loop.invariant.notes in
+    closes g.S.Store.notes _ _ c.close.result _ _ _ g.met.S.Store.in_turn (same_user _ _ _ _ (g.met.S.Store.stays _ _ _ before.1) c.loop.invariant.view) before c.close.ensures.notes
+
+pub returns-in-Err : goal.returns-in-Err
+returns-in-Err g c =
+    let none : ends_of c.loop.standing ≡ None = search rules in
+    let other : c.in-Err.no ≢ NoMemory = search rules in
+    let before = c.loop.invariant.notes in
+    record {
+      admits = c.checkpoint.ensures.admits;
+      view = c.checkpoint.ensures.view ∙ c.loop.invariant.view;
+      notes = closes_refused g.S.Store.notes _ _ c.in-Err.no _ _ _ g.met.S.Store.in_turn (same_user _ _ _ _ (g.met.S.Store.stays _ _ _ before.1) c.loop.invariant.view) before c.in-Err.ensures.notes;
+      listens = c.loop.invariant.listens;
+      ends = refused_inside Checkpointer c.in-Err.no c.loop.standing none other;
+      met = met_later Checkpointed _ _ c.in-Err.no c.in-Err.ensures.stale;
+    }
+
+pub loop-preserved-in-Ok : goal.loop-preserved-in-Ok
+loop-preserved-in-Ok g c =
+    let before = c.loop.invariant.notes in
+    record {
+      notes = passes_more g.S.Store.notes _ _ c.in-Ok.field-0 _ _ _ g.met.S.Store.in_turn (same_user _ _ _ _ (g.met.S.Store.stays _ _ _ before.1) c.loop.invariant.view) before c.in-Ok.ensures.notes;
+      admits = c.checkpoint.ensures.admits;
+      view = c.checkpoint.ensures.view ∙ c.loop.invariant.view;
+      listens = listens_fewer 0 1 _ _ (listens_both 0 1 _ _ _ c.loop.invariant.listens c.rest.ensures.listens);
+    }
+
+pub loop-preserved : goal.loop-preserved
+loop-preserved g c =
+    let call = c.checkpoint.ensures.notes in
+    let is : c.checkpoint.result ≡ Err NoMemory = search rules in
+    let none : call.0 ≡ [] = subst (λ r. CheckpointNotes (user_of (g.S.Store.stamp c.loop.store) (g.S.Store.view c.loop.pass)) false r call.0) is call.2 in
+    record {
+      notes = passes_still g.S.Store.notes (IsPassing (g.S.Store.view c.args.pass.now).pid) _ _ _ g.met.S.Store.in_turn c.loop.invariant.notes (call.0, call.1, none);
+      admits = c.checkpoint.ensures.admits;
+      view = c.checkpoint.ensures.view ∙ c.loop.invariant.view;
+      listens = listens_fewer 0 1 _ _ (listens_both 0 1 _ _ _ c.loop.invariant.listens c.rest-in-Err-NoMemory.ensures.listens);
+    }

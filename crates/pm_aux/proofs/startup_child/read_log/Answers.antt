@@ -1,0 +1,60 @@
+use Rattle.std.proofs.Common.{◌≡◌, ◌∙◌, [], None, Ok, Err, refl, ap, sym, subst, rules}
+use Rattle.pm_exit.specs.declared.child.Kind.TheVariants.{Startup}
+use Rattle.pm_life.specs.Life.{Child, attached_in}
+use Rattle.pm_life.specs.Attention.{Attention, attention}
+use Rattle.pm_aux.specs.Signals.{ends_of}
+use Rattle.pm_aux.specs.Runs.{Runner, user_in}
+use Rattle.pm_aux.specs.Work.{NotesInside}
+use Rattle.pm_aux.specs.declared.cause.Cause.TheVariants.{TurnedAway}
+use Rattle.pm_aux.proofs.Listening.{asked_first, attentive_at_gate, met_gate}
+use Rattle.pm_aux.proofs.Reasons.{told_first, terminated_first, turned_away, unterminated, redone, same_runner}
+use Rattle.pm_aux.proofs.startup_child.read_log.Goals as goal
+
+pub returns-in-Some-clause-run : goal.returns-in-Some-clause-run
+returns-in-Some-clause-run g c =
+    let at : Attention = attention (g.F.Life.told c.listen.new.life) (g.F.Life.child c.listen.new.life) c.listen.new.standing in
+    let hears = c.listen.ensures.hears in (
+      [],
+      g.met.S.Store.at_rest c.args.store.now,
+      told_first Startup _ c.in-Some.cause at (sym c.ends.ensures ∙ c.in-Some.is) c.listen.ensures.attentive (asked_first _ _ c.requires.untold hears.asked)
+          (ap (λ (who : Child). who.attached) hears.child ∙ c.requires.free),
+    )
+
+pub returns-then-standing-clause-run : goal.returns-then-standing-clause-run
+returns-then-standing-clause-run g c =
+    let at : Attention = attention (g.F.Life.told c.listen.new.life) (g.F.Life.child c.listen.new.life) c.listen.new.standing in
+    let hears = c.listen.ensures.hears in
+    let none : ends_of c.listen.new.standing ≡ None = search rules in (
+      [],
+      g.met.S.Store.at_rest c.args.store.now,
+      terminated_first _ at none c.if-standing.true c.listen.ensures.attentive (asked_first _ _ c.requires.untold hears.asked) (ap (λ (who : Child). who.attached) hears.child ∙ c.requires.free),
+    )
+
+pub returns-in-Ok-clause-run : goal.returns-in-Ok-clause-run
+returns-in-Ok-clause-run g c =
+    let at : Attention = attention (g.F.Life.told c.redo.new.life) (g.F.Life.child c.redo.new.life) c.listen.new.standing in
+    let hears = c.listen.ensures.hears in
+    let none : ends_of c.listen.new.standing ≡ None = search rules in
+    let told = c.redo.ensures.told ∙ c.in-Ok.ensures.told in
+    let child = c.in-Ok.ensures.ok ∙ ap (attached_in c.in-Ok.generation) hears.child in
+    let who = same_runner (g.S.Store.stamp c.args.store.now) (g.S.Store.stamp c.args.store.now) (g.F.Life.child c.args.life.now) (g.F.Life.child c.attach.new.self) refl (ap (λ (it : Child). it.pid) child) in
+    let noted = c.redo.ensures.notes in (
+      noted.0,
+      noted.1,
+      redone _ c.redo.result c.in-Ok.generation at noted.0 none c.if-standing.false (attentive_at_gate (Ok c.in-Ok.generation) (g.F.Life.told c.listen.new.life) _ (g.F.Life.child c.listen.new.life) (g.F.Life.child c.redo.new.life) _ told c.listen.ensures.attentive)
+          (met_gate (Ok c.in-Ok.generation) _ _ told (asked_first _ _ c.requires.untold hears.asked)) c.redo.ensures.attached
+          (subst (λ (it : Runner). NotesInside Startup (user_in it c.in-Ok.generation) c.redo.result noted.0) who noted.2),
+    )
+
+pub returns-in-Err-clause-run : goal.returns-in-Err-clause-run
+returns-in-Err-clause-run g c =
+    let at : Attention = attention (g.F.Life.told c.attach.new.self) (g.F.Life.child c.attach.new.self) c.listen.new.standing in
+    let hears = c.listen.ensures.hears in
+    let none : ends_of c.listen.new.standing ≡ None = search rules in (
+      [],
+      g.met.S.Store.at_rest c.args.store.now,
+      turned_away Startup _ c.in-Err.no at none (unterminated Startup (TurnedAway c.in-Err.no) c.listen.new.standing c.if-standing.false)
+          (attentive_at_gate (Err c.in-Err.no) (g.F.Life.told c.listen.new.life) _ (g.F.Life.child c.listen.new.life) (g.F.Life.child c.attach.new.self) _ c.in-Err.ensures.told c.listen.ensures.attentive)
+          (met_gate (Err c.in-Err.no) _ _ c.in-Err.ensures.told (asked_first _ _ c.requires.untold hears.asked))
+          (ap (λ (it : Child). it.attached) c.in-Err.ensures.refused ∙ ap (λ (it : Child). it.attached) hears.child ∙ c.requires.free),
+    )

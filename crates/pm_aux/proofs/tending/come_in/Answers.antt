@@ -1,0 +1,35 @@
+use Rattle.std.proofs.Common.{◌≡◌, ◌∙◌, ◌∷◌, [], Err, ap, sym, subst, rules}
+use Rattle.pm_life.specs.Life.{Child}
+use Rattle.pm_query.specs.declared.book.BookEntry.TheVariants.{Attached}
+use Rattle.pm_query.specs.declared.store.StoreNo.{StoreNo}
+use Rattle.pm_query.specs.declared.store.StoreNo.TheVariants.{NoMemory}
+use Rattle.pm_query.specs.Calls.{User, newcomer, EnterNotes}
+use Rattle.pm_aux.proofs.Listening.{listens_fewer, listens_both}
+use Rattle.pm_aux.proofs.Noting.{behind_as, none_behind, kept_out, same_newcomer}
+use Rattle.pm_aux.proofs.tending.come_in.Goals as goal
+
+pub returns-in-Ok-clause-notes : goal.returns-in-Ok-clause-notes
+returns-in-Ok-clause-notes g c =
+    let pid = c.pid.ensures ∙ ap (λ (who : Child). who.pid) c.loop.invariant.listens.child in
+    let call = c.in-Ok.ensures.notes in
+    (call.0, g.met.S.Store.in_turn _ _ _ [] call.0 c.loop.invariant.notes call.1, call.2 ∙ ap (λ (p : _). Attached p c.args.generation ∷ []) pid)
+
+pub loop-preserved : goal.loop-preserved
+loop-preserved g c =
+    let call = c.enter.ensures.notes in
+    let is : c.enter.result ≡ Err NoMemory = search rules in
+    let none : call.0 ≡ [] = subst (λ r. EnterNotes {P = g.row.S-Pass.Denot} (newcomer (g.S.Store.stamp c.loop.store) c.pid.result c.args.generation) r call.0) is call.2 in
+    record {
+      notes = none_behind g.S.Store.notes _ _ _ g.met.S.Store.in_turn c.loop.invariant.notes (call.0, call.1, none);
+      listens = listens_fewer 0 1 _ _ (listens_both 0 1 _ _ _ c.loop.invariant.listens c.rest.ensures.listens);
+    }
+
+pub returns-in-Err-clause-notes : goal.returns-in-Err-clause-notes
+returns-in-Err-clause-notes g c =
+    let pid = c.pid.ensures ∙ ap (λ (who : Child). who.pid) c.loop.invariant.listens.child in
+    let who = newcomer (g.S.Store.stamp c.loop.store) c.pid.result c.args.generation in
+    let user = newcomer (g.S.Store.stamp c.args.store.now) (g.F.Life.child c.args.life.now).pid c.args.generation in
+    let call = c.in-Err.ensures.notes in
+    let noted = behind_as g.S.Store.notes (λ (it : User). EnterNotes {P = Unit {0}} it (Err c.in-Err.no)) who user _ _ _ g.met.S.Store.in_turn
+    (same_newcomer _ _ _ _ c.args.generation (g.met.S.Store.stays _ _ _ c.loop.invariant.notes) pid) c.loop.invariant.notes (call.0, call.1, kept_out g.row.S-Pass.Denot who c.in-Err.no call.0 call.2) in
+    (noted.0, noted.1, subst (λ (refusal : StoreNo). EnterNotes {P = Unit {0}} user (Err refusal) noted.0) (sym c.in-Err.no-is) noted.2)

@@ -1,0 +1,10 @@
+use Rattle.std.proofs.Common.{[]}
+use Rattle.pm_life.specs.Attention.{attention}
+use Rattle.pm_aux.specs.Signals.{Listens}
+use Rattle.pm_aux.proofs.tending.come_in.Given as goal
+
+abbrev pub invariant-loop : goal.invariant-loop
+invariant-loop g l = record {
+  notes : g.S.Store.notes [] l.fn.store l.store;
+  listens : Listens 0 (attention (g.F.Life.told l.fn.life) (g.F.Life.child l.fn.life) l.fn.standing) (attention (g.F.Life.told l.life) (g.F.Life.child l.life) l.standing);
+}

@@ -1,0 +1,71 @@
+//! What the checkpointer does: it makes a checkpoint whenever one is due, and the last one when it is asked for it.
+ghost use Rattle.std.specs.Prelude.{◌≡◌, List};
+ghost use Rattle.pm_exit.specs.declared.child.Kind.TheVariants.{Checkpointer};
+ghost use Rattle.pm_query.specs.declared.book.BookEntry.{BookEntry};
+ghost use Rattle.pm_query.specs.Calls.{user_of};
+ghost use Rattle.pm_life.specs.Attention.{attention, IsAttentive};
+ghost use Rattle.pm_aux.specs.Ends.{fault_by, IsMetBehind};
+ghost use Rattle.pm_aux.specs.Signals.{Listens, EndsInside, IsLast};
+ghost use Rattle.pm_aux.specs.Work.{Checkpoints, ClosesBy};
+
+use crate::cause::Cause;
+use crate::rest::rest;
+use crate::signals::ends;
+use pm_life::{Life, Standing};
+use pm_outside::Clock;
+use pm_query::{Checkpointed, Store, StoreNo};
+use std::sync::Wait;
+
+/// Asks for a checkpoint, which the store makes if one is due, and rests, up to its end. Asked for the last one, it makes that.
+pub(crate) fn checkpoint_on<R: Wait, S: Store, C: Clock, F: Life>(
+    rt: &R,
+    store: &mut S,
+    pass: &mut S::Pass,
+    clock: &C,
+    life: &mut F,
+    standing: &mut Standing,
+) -> Cause
+    requires admits { S.admits store.old pass.old }
+    requires attentive { IsAttentive (attention (F.told life.old) (F.child life.old) standing.old) }
+    ensures admits { S.admits store.new pass.new }
+    ensures view { S.view pass.new ≡ S.view pass.old }
+    ensures notes { (noted : List BookEntry) × S.notes noted store.old store.new
+        × Checkpoints (user_of (S.stamp store.old) (S.view pass.old)) result noted }
+    ensures listens { Listens 0 (attention (F.told life.old) (F.child life.old) standing.old)
+        (attention (F.told life.new) (F.child life.new) standing.new) }
+    ensures ends { EndsInside Checkpointer result standing.new }
+    ensures met { IsMetBehind (S.met store.new) (fault_by result) }
+{
+    for _ in rt.forever() {
+        if let Some(cause) = ends(*standing) {
+            return cause;
+        }
+        if standing.checkpoint {
+            return close(store, pass);
+        }
+        match store.checkpoint(pass, false) {
+            Ok(_) => rest(clock, life, standing),
+            Err(StoreNo::NoMemory) => rest(clock, life, standing),
+            Err(no) => return Cause::Refused(no),
+        }
+    }
+    unreachable!()
+}
+
+// Makes the last checkpoint.
+fn close<S: Store>(store: &mut S, pass: &mut S::Pass) -> Cause
+    requires admits { S.admits store.old pass.old }
+    ensures admits { S.admits store.new pass.new }
+    ensures view { S.view pass.new ≡ S.view pass.old }
+    ensures notes { (noted : List BookEntry) × S.notes noted store.old store.new
+        × ClosesBy (user_of (S.stamp store.old) (S.view pass.old)) result noted }
+    ensures last { IsLast result }
+    ensures met { IsMetBehind (S.met store.new) (fault_by result) }
+{
+    match store.checkpoint(pass, true) {
+        Ok(Checkpointed::Done { .. }) => Cause::Closed,
+        Ok(Checkpointed::Skipped) => Cause::LeftOut,
+        Ok(Checkpointed::NotDue { .. }) => unreachable!(),
+        Err(no) => Cause::Refused(no),
+    }
+}
