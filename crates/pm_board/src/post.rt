@@ -38,9 +38,14 @@ pub struct Post<J: Letter + Drop> {
 impl<J: Letter + Drop> Model for Post<J> {
     ghost Value = { PostModel J.Told };
 
-    ghost view = { λ r. record { table = r.seat.table_id; slot = r.index; knows = post_of r.seat.me.0 } };
+    ghost view = { λ r. record {
+      table = r.seat.table_id;
+      slot = r.index;
+      knows = post_of r.seat.me.0;
+    } };
 
-    ghost invariant = { λ r. IsWholePost (arc_value r.words).shared.table_id r.seat.table_id r.index r.kind r.pid r.session_limit r.seat.me };
+    ghost invariant = { λ r. IsWholePost (arc_value r.words).shared.table_id r.seat.table_id
+        r.index r.kind r.pid r.session_limit r.seat.me };
 }
 
 impl<J: Letter + Drop> Post<J> {

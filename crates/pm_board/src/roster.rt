@@ -61,7 +61,8 @@ impl<J: Letter + Drop> Model for Roster<J> {
 
     ghost view = { λ r. record { table = r.seat.table_id; knows = roster_of r.seat.me.0 } };
 
-    ghost invariant = { λ r. IsWholeRoster (arc_value r.words).shared.table_id r.seat.table_id r.used r.children.items r.generation r.noticed r.seat.me };
+    ghost invariant = { λ r. IsWholeRoster (arc_value r.words).shared.table_id r.seat.table_id
+        r.used r.children.items r.generation r.noticed r.seat.me };
 }
 
 impl<J: Letter + Drop> Roster<J> {
@@ -152,6 +153,13 @@ impl<J: Letter + Drop> Roster<J> {
         ensures { result ≡ used_in self.now.knows.slots }
     {
         self.used
+    }
+
+    /// How many slots there are.
+    pub fn slots(&self) -> u32
+        ensures { result ≡ length self.now.knows.slots }
+    {
+        self.words.slot_count() as u32
     }
 
     /// Pid and kind of the child of a slot. None exactly where the supervisor sees no child there.
