@@ -1,0 +1,104 @@
+-- What the life of a child tells that runs on a post.
+use Rattle.std.specs.Prelude.{◌≡◌, ◌⊎◌, ℕ, Bool, true, false, List, [], ◌∷◌, ◌++◌, Option, Some, None, Result, Ok, Err, IfSome}
+use Rattle.std.specs.List.{fold}
+use Rattle.std.specs.Option.{option_to_list}
+use Rattle.pm_supervisor.specs.Children.{is_dead_end, is_session}
+use Rattle.pm_life.specs.declared.life.GateNo.{GateNo}
+use Rattle.pm_life.specs.declared.life.GateNo.TheVariants.{Quit, NotReady, TooMany}
+use Rattle.pm_life.specs.declared.life.Signals.{Signals}
+use Rattle.pm_life.specs.Life.{Child, Told, nothing_told, asked_again}
+use Rattle.pm_board.specs.declared.views.Cancel.{Cancel}
+use Rattle.pm_board.specs.declared.views.Heard.{Heard}
+use Rattle.pm_board.specs.declared.views.Offer.{Offer}
+use Rattle.pm_board.specs.declared.views.Work.{Work}
+use Rattle.pm_board.specs.declared.views.Work.TheVariants.{Idle, Sees, Inactive, Active, Refused, Attached}
+use Rattle.pm_board.specs.Told.{child_in}
+use Rattle.pm_board.specs.Models.{PostModel}
+use Rattle.pm_gate.specs.declared.tokens.Attached.{Attached as Token}
+
+-- ---- what it was told
+
+-- by these answers, one after the other
+abbrev pub told_in_turn : List Signals → Told
+told_in_turn answers = fold (λ told signals. asked_again signals told) nothing_told answers
+
+-- What a child has asked, was given and met, as its post noted it, and the cancel that it asked for, if it did.
+abbrev pub told_by : Heard → Option (ℕ × ℕ) → Told
+told_by heard cancel = record (told_in_turn heard.given) { met = heard.met; cancels = option_to_list cancel }
+
+-- ---- what it met at the gate
+
+abbrev pub IsRefusalOf : (generation : ℕ) → (session : Bool) → GateNo → Type 0
+IsRefusalOf generation session (Quit noticed reason) = noticed ≡ generation
+IsRefusalOf generation session (NotReady shut) = (shut ≡ generation) × (session ≡ true)
+IsRefusalOf generation session (TooMany count) = session ≡ true
+
+-- A child is let into its own generation. It is refused for a notice in that generation; only a session is refused for another
+-- cause.
+abbrev pub IsAnswerTo : (generation : ℕ) → (session : Bool) → Result ℕ GateNo → Type 0
+IsAnswerTo generation session (Ok let_in) = let_in ≡ generation
+IsAnswerTo generation session (Err refusal) = IsRefusalOf generation session refusal
+
+abbrev pub MetRightly : {D : Type 0} → Offer D → Option (Result ℕ GateNo) → Type 0
+MetRightly o met = IfSome met (IsAnswerTo o.generation (is_session o.kind))
+
+-- ---- the cancel that it asked for
+
+-- none was made but, perhaps, that one
+abbrev pub Makes : Option (ℕ × ℕ) → List Cancel → Type 0
+Makes None made = made ≡ []
+Makes (Some asked) made = (made ≡ []) ⊎ ((x : Cancel) × (x.pid ≡ asked.0) × (x.key ≡ asked.1) × (made ≡ x ∷ []))
+
+-- ---- the child and its post
+
+module _ {D : Type 0} where
+  abbrev pub child_as : Offer D → Option ℕ → Child
+  child_as o attached = record { pid = o.pid; is_dead_end = is_dead_end o.kind; attached = attached }
+
+  -- the child that runs
+  abbrev pub child_by : Work D → Child
+  child_by (Inactive o) = child_as o None
+  child_by (Active o) = child_as o None
+  child_by (Refused o g) = child_as o None
+  child_by (Attached o g) = child_as o (Some g)
+  child_by Idle = record { pid = 0; is_dead_end = false; attached = None }
+  child_by (Sees word) = record { pid = 0; is_dead_end = false; attached = None }
+
+  -- a child of this pid runs, and is attached where there is a token, in the token's generation
+  abbrev pub LivesAs : ℕ → Option Token → Work D → Type 0
+  LivesAs pid None (Inactive o) = pid ≡ o.pid
+  LivesAs pid (Some token) (Attached o g) = (pid ≡ o.pid) × (token.generation ≡ g)
+  LivesAs pid _ _ = ⊥
+
+  -- it runs, and stands neither before nor behind the gate's word
+  abbrev pub IsLiving : Work D → Type 0
+  IsLiving (Inactive o) = Unit {0}
+  IsLiving (Attached o g) = Unit {0}
+  IsLiving _ = ⊥
+
+  -- the generation that the child is attached in, if it is
+  abbrev pub attached_of : Work D → Option ℕ
+  attached_of (Attached o g) = Some g
+  attached_of _ = None
+
+-- a child's post, and pid and key of the cancel that it asked for, if it did
+pub record LifeModel (D : Type 0) : Type 0 where
+  pub post : PostModel D
+  pub cancel : Option (ℕ × ℕ)
+
+module _ {D : Type 0} where
+  -- The same child runs on the same post, that has had the same children before. It met at the gate what is right for it, and the
+  -- post has made no cancel since but the one that the child asked for.
+  pub record GoesOn (before : PostModel D) (now : LifeModel D) : Type 0 where
+    pub table : now.post.table ≡ before.table
+    pub slot : now.post.slot ≡ before.slot
+    pub child : child_in now.post.knows.work ≡ child_in before.knows.work
+    pub past : now.post.knows.past ≡ before.knows.past
+    pub heard : now.post.knows.notes.heard ≡ before.knows.notes.heard
+    pub met : (o : Offer D) → child_in before.knows.work ≡ Some o → MetRightly o now.post.knows.notes.now.met
+    pub made : List Cancel
+    pub makes : Makes now.cancel made
+    pub cancels : now.post.knows.notes.cancels ≡ before.knows.notes.cancels ++ made
+
+  abbrev pub GoesOnFrom : Option (PostModel D) → LifeModel D → Type 0
+  GoesOnFrom begun now = IfSome begun (λ before. GoesOn before now)

@@ -1,0 +1,132 @@
+-- How a run ends on its post.
+use Rattle.std.proofs.Common.{ℕ, ◌≡◌, ◌∙◌, ◌++◌, Bool, true, false, List, [], ◌∷◌, Option, Some, None, ap, sym, refl, subst}
+use Rattle.std.specs.Prelude.{◌↔◌, IsTrue, is_some, unwrap_or}
+use Rattle.pm_admit.specs.declared.Cac.{Cac}
+use Rattle.pm_worker.specs.declared.mail.LinkTold.{LinkTold}
+use Rattle.pm_exit.specs.declared.child.Status.{Status}
+use Rattle.pm_exit.specs.declared.child.Status.TheVariants.{Code}
+use Rattle.pm_exit.specs.Ends.{is_exit_0}
+use Rattle.std.proofs.lemmas.List.{append-nil}
+use Rattle.pm_worker.specs.declared.mail.MailTold.TheVariants as mail
+use Rattle.pm_query.specs.declared.book.BookEntry.{BookEntry}
+use Rattle.pm_board.specs.declared.views.Cancel.{Cancel}
+use Rattle.pm_board.specs.declared.views.Offer.{Offer}
+use Rattle.pm_board.specs.declared.views.Work.{Work}
+use Rattle.pm_board.specs.declared.views.Work.TheVariants.{Idle, Sees, Inactive, Active, Refused, Attached}
+use Rattle.pm_board.specs.Told.{child_in, past_child, MayEnd}
+use Rattle.pm_board.specs.Models.{PostModel, MayExit, HasExited}
+use Rattle.pm_post_life.specs.Lives.{GoesOn, child_as, child_by, attached_of, IsLiving}
+use Rattle.pm_worker.specs.declared.mail.MailTold.{MailTold}
+use Rattle.pm_worker.specs.Mails.{IsFor}
+use Rattle.pm_worker.specs.Runs.{Run, HasBegun, Does, IsRun, HasRun, close_run}
+
+module _ {D : Type 0} where
+  -- a living child is as its offer says
+  pub child_is : (work : Work D) (o : Offer D) → IsLiving work → child_in work ≡ Some o → child_by work ≡ child_as o (attached_of work)
+  child_is (Inactive p) o h e = ap (λ q. child_as (unwrap_or q o) None) e
+  child_is (Attached p g) o h e = ap (λ q. child_as (unwrap_or q o) (Some g)) e
+  child_is Idle o h e = elim h [ ]
+  child_is (Sees _) o h e = elim h [ ]
+  child_is (Active _) o h e = elim h [ ]
+  child_is (Refused _ _) o h e = elim h [ ]
+
+  -- and may end
+  pub ends : (work : Work D) (o : Offer D) → IsLiving work → child_in work ≡ Some o → MayEnd work o (is_some (attached_of work))
+  ends (Inactive p) o h e = (ap (λ q. unwrap_or q o) e, refl)
+  ends (Attached p g) o h e = (ap (λ q. unwrap_or q o) e, refl)
+  ends Idle o h e = elim h [ ]
+  ends (Sees _) o h e = elim h [ ]
+  ends (Active _) o h e = elim h [ ]
+  ends (Refused _ _) o h e = elim h [ ]
+
+  -- as that child and no other
+  pub ends_as : (work : Work D) (o p : Offer D) (active : Bool) → child_in work ≡ Some o → MayEnd work p active → p ≡ o
+  ends_as (Inactive q) o p active e h = sym h.0 ∙ ap (λ x. unwrap_or x o) e
+  ends_as (Attached q g) o p active e h = sym h.0 ∙ ap (λ x. unwrap_or x o) e
+  ends_as Idle o p active e h = elim h [ ]
+  ends_as (Sees _) o p active e h = elim h [ ]
+  ends_as (Active _) o p active e h = elim h [ ]
+  ends_as (Refused _ _) o p active e h = elim h [ ]
+
+  pub may_exit : (work : Work D) (o : Offer D) (status : Status) → IsLiving work → child_in work ≡ Some o
+      → (is_some (attached_of work) ≡ true → is_exit_0 status ≡ false) → MayExit work status
+  may_exit work o status h e well = (o, is_some (attached_of work), ends work o h e, λ aux active. well active)
+
+-- the run of a child that has exited
+abbrev pub run_of : PostModel MailTold → Offer MailTold → Status → MailTold → Option (ℕ × ℕ) → List Cancel → List BookEntry → Run
+run_of at o status back asked made noted =
+    record { child = past_child o status (is_some (attached_of at.knows.work)) back; heard = at.knows.notes.now; asked = asked; made = made; noted = noted }
+
+pub has_run : (before at after : PostModel MailTold) (cancel : Option (ℕ × ℕ)) (pid : ℕ) (given : MailTold) (begun : HasBegun pid given before) (on : GoesOn before (record { post = at; cancel = cancel }))
+    (status : Status) (back : MailTold) (noted : List BookEntry) → IsLiving at.knows.work → HasExited status back at.knows after.knows
+    → after.table ≡ at.table → after.slot ≡ at.slot → HasRun (run_of at begun.offer status back cancel on.made noted) before after
+has_run before at after cancel pid given begun on status back noted living exited t s =
+    let o = begun.offer in
+    let child : child_in at.knows.work ≡ Some o = on.child ∙ ap child_in begun.runs in
+    let now = exited o (is_some (attached_of at.knows.work)) (ends at.knows.work o living child) in
+    record {
+      table = t ∙ on.table;
+      slot = s ∙ on.slot;
+      idle = ap (λ w. w.work) now;
+      offer = ap child_in begun.runs;
+      past = ap (λ w. w.past) now ∙ ap (λ xs. xs ++ past_child o status (is_some (attached_of at.knows.work)) back ∷ []) on.past;
+      heard = ap (λ w. w.notes.heard) now ∙ ap (λ xs. xs ++ at.knows.notes.now ∷ []) on.heard;
+      cancels = ap (λ w. w.notes.cancels) now ∙ on.cancels;
+    }
+
+module _ (stamp : Option ℕ) (seed : List ℕ) (limit : ℕ) (gives : ℕ → Type 0) where
+  pub is_run : (before at : PostModel MailTold) (cancel : Option (ℕ × ℕ)) (pid : ℕ) (given : MailTold) (begun : HasBegun pid given before) (on : GoesOn before (record { post = at; cancel = cancel }))
+      (status : Status) (back : MailTold) (noted : List BookEntry) → Does stamp seed limit gives given (run_of at begun.offer status back cancel on.made noted)
+      → IsRun stamp seed limit gives (run_of at begun.offer status back cancel on.made noted)
+  is_run before at cancel pid given begun on status back noted does =
+      record {
+        fits = subst (λ (t : MailTold). IsFor t begun.offer.kind) (sym begun.given_is) begun.fits;
+        does = subst (λ (t : MailTold). Does stamp seed limit gives t (run_of at begun.offer status back cancel on.made noted)) (sym begun.given_is) does;
+        met = on.met begun.offer (ap child_in begun.runs);
+        makes = on.makes;
+      }
+
+-- of a child that closes its worker
+pub closed : (before after : PostModel MailTold) (pid : ℕ) (begun : HasBegun pid mail.Close before) → HasExited (Code 0) mail.Close before.knows after.knows
+    → after.table ≡ before.table → after.slot ≡ before.slot → HasRun (close_run begun.offer) before after
+closed before after pid begun exited t s =
+    let o = begun.offer in
+    let now = exited o false (subst (λ w. MayEnd w o false) (sym begun.runs) (refl, refl)) in
+    record {
+      table = t;
+      slot = s;
+      idle = ap (λ w. w.work) now;
+      offer = ap child_in begun.runs;
+      past = ap (λ w. w.past) now;
+      heard = ap (λ w. w.notes.heard) now ∙ ap (λ h. before.knows.notes.heard ++ h ∷ []) begun.untold;
+      cancels = ap (λ w. w.notes.cancels) now ∙ sym (append-nil before.knows.notes.cancels);
+    }
+
+pub closes : (stamp : Option ℕ) (seed : List ℕ) (limit : ℕ) (gives : ℕ → Type 0) (post : PostModel MailTold) (pid : ℕ) (begun : HasBegun pid mail.Close post) → IsRun stamp seed limit gives (close_run begun.offer)
+closes stamp seed limit gives post pid begun =
+    record {
+      fits = subst (λ (t : MailTold). IsFor t begun.offer.kind) (sym begun.given_is) begun.fits;
+      does = subst (λ (t : MailTold). Does stamp seed limit gives t (close_run begun.offer)) (sym begun.given_is) refl;
+      met = tt;
+      makes = refl;
+    }
+
+-- ---- whether the worker goes on
+
+false_true : false ≡ true → ⊥
+false_true e = cc
+
+pub goes_on : (given t : MailTold) → given ≡ t → (t ≡ mail.Close → ⊥) → IsTrue false ↔ (given ≡ mail.Close)
+goes_on given t e no_ = ((λ h. absurd (false_true h)), (λ closes_. absurd (no_ (sym e ∙ closes_))))
+
+pub serves : (link : LinkTold) (decision : Cac) → mail.Serve link decision ≡ mail.Close → ⊥
+serves link decision e = cc
+
+pub starts : mail.Startup ≡ mail.Close → ⊥
+starts e = cc
+
+pub checkpoints : mail.Checkpointer ≡ mail.Close → ⊥
+checkpoints e = cc
+
+pub writes : mail.Writer ≡ mail.Close → ⊥
+writes e = cc

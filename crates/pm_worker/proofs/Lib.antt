@@ -1,0 +1,4 @@
+mod Auxiliaries
+mod Exits
+mod Loops
+mod Sessions

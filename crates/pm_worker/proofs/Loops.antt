@@ -1,0 +1,90 @@
+-- What a worker has done, one run longer.
+use Rattle.std.proofs.Common.{ℕ, ◌≡◌, ◌∙◌, ◌++◌, List, [], ◌∷◌, Option, map, ap, sym, refl, subst}
+use Rattle.std.specs.List.{flat_map, AllByRecursion}
+use Rattle.std.proofs.lemmas.List.{append-nil, append_assoc}
+use Rattle.std.proofs.lemmas.Grind.{flat_map-append}
+use Rattle.pm_query.specs.declared.book.BookEntry.{BookEntry}
+use Rattle.pm_board.specs.declared.views.Work.TheVariants.{Idle}
+use Rattle.pm_board.specs.Models.{PostModel}
+use Rattle.pm_worker.specs.declared.mail.MailTold.{MailTold}
+use Rattle.pm_worker.specs.Runs.{Run, IsRun, HasRun, noted_by, HasWorked}
+
+maps_more : {A B : Type 0} (f : A → B) (xs : List A) (x : A) → map f (xs ++ x ∷ []) ≡ map f xs ++ f x ∷ []
+maps_more f [] x = refl
+maps_more f (y ∷ xs) x = ap (λ zs. f y ∷ zs) (maps_more f xs x)
+
+flat_more : {A B : Type 0} (f : A → List B) (xs : List A) (x : A) → flat_map f (xs ++ x ∷ []) ≡ flat_map f xs ++ f x
+flat_more f xs x = flat_map-append f xs (x ∷ []) ∙ ap (λ ys. flat_map f xs ++ ys) (append-nil (f x))
+
+pub all_more : {A : Type 0} (P : A → Type 0) (xs : List A) (x : A) → AllByRecursion P xs → P x → AllByRecursion P (xs ++ x ∷ [])
+all_more P [] x all p = (p, tt)
+all_more P (y ∷ xs) x all p = (all.0, all_more P xs x all.1 p)
+
+-- a list that is one longer, of a list that these runs have made
+grows : {A B : Type 0} (f : A → B) (before mid after : List B) (runs : List A) (run : A) → after ≡ mid ++ f run ∷ [] → mid ≡ before ++ map f runs → after ≡ before ++ map f (runs ++ run ∷ [])
+grows f before mid after runs run a m = a ∙ (ap (λ xs. xs ++ f run ∷ []) m ∙ (append_assoc before (map f runs) (f run ∷ []) ∙ ap (λ xs. before ++ xs) (sym (maps_more f runs run))))
+
+grows_by : {A B : Type 0} (f : A → List B) (before mid after : List B) (runs : List A) (run : A) → after ≡ mid ++ f run → mid ≡ before ++ flat_map f runs → after ≡ before ++ flat_map f (runs ++ run ∷ [])
+grows_by f before mid after runs run a m = a ∙ (ap (λ xs. xs ++ f run) m ∙ (append_assoc before (flat_map f runs) (f run) ∙ ap (λ xs. before ++ xs) (sym (flat_more f runs run))))
+
+-- the post looked, or started a child
+pub record Looked (before now : PostModel MailTold) : Type 0 where
+  pub table : now.table ≡ before.table
+  pub slot : now.slot ≡ before.slot
+  pub past : now.knows.past ≡ before.knows.past
+  pub heard : now.knows.notes.heard ≡ before.knows.notes.heard
+  pub cancels : now.knows.notes.cancels ≡ before.knows.notes.cancels
+
+module _ {S : Type 0} (notes : List BookEntry → S → S → Type 0) (stamp : Option ℕ) (seed : List ℕ) (limit : ℕ) (gives : ℕ → Type 0) where
+  pub nothing : (post : PostModel MailTold) (store : S) → post.knows.work ≡ Idle → notes [] store store → HasWorked notes stamp seed limit gives [] post post store store
+  nothing post store idle rest =
+      record {
+        each = tt;
+        post =
+            record {
+              table = refl;
+              slot = refl;
+              idle = idle;
+              past = sym (append-nil post.knows.past);
+              heard = sym (append-nil post.knows.notes.heard);
+              cancels = sym (append-nil post.knows.notes.cancels);
+            };
+        store = rest;
+      }
+
+  -- a look that found no child
+  pub looked : (runs : List Run) (begun before now : PostModel MailTold) (s0 s1 : S) → HasWorked notes stamp seed limit gives runs begun before s0 s1 → Looked before now → now.knows.work ≡ Idle
+      → HasWorked notes stamp seed limit gives runs begun now s0 s1
+  looked runs begun before now s0 s1 w l idle =
+      record {
+        each = w.each;
+        post =
+            record {
+              table = l.table ∙ w.post.table;
+              slot = l.slot ∙ w.post.slot;
+              idle = idle;
+              past = l.past ∙ w.post.past;
+              heard = l.heard ∙ w.post.heard;
+              cancels = l.cancels ∙ w.post.cancels;
+            };
+        store = w.store;
+      }
+
+  -- a child that was started and has ended
+  pub ran : (in_turn : (before between now : S) (first second : List BookEntry) → notes first before between → notes second between now → notes (first ++ second) before now)
+      (runs : List Run) (begun before started now : PostModel MailTold) (s0 s1 s2 : S) (run : Run) → HasWorked notes stamp seed limit gives runs begun before s0 s1
+      → Looked before started → notes run.noted s1 s2 → IsRun stamp seed limit gives run → HasRun run started now → HasWorked notes stamp seed limit gives (runs ++ run ∷ []) begun now s0 s2
+  ran in_turn runs begun before started now s0 s1 s2 run w l n is has =
+      record {
+        each = all_more (IsRun stamp seed limit gives) runs run w.each is;
+        post =
+            record {
+              table = has.table ∙ (l.table ∙ w.post.table);
+              slot = has.slot ∙ (l.slot ∙ w.post.slot);
+              idle = has.idle;
+              past = grows (λ (r : Run). r.child) begun.knows.past started.knows.past now.knows.past runs run has.past (l.past ∙ w.post.past);
+              heard = grows (λ (r : Run). r.heard) begun.knows.notes.heard started.knows.notes.heard now.knows.notes.heard runs run has.heard (l.heard ∙ w.post.heard);
+              cancels = grows_by (λ (r : Run). r.made) begun.knows.notes.cancels started.knows.notes.cancels now.knows.notes.cancels runs run has.cancels (l.cancels ∙ w.post.cancels);
+            };
+        store = subst (λ es. notes es s0 s2) (sym (flat_more (λ (r : Run). r.noted) runs run)) (in_turn s0 s1 s2 (noted_by runs) run.noted w.store n);
+      }

@@ -1,0 +1,110 @@
+-- The run of a session, from what its serving tells.
+use Rattle.std.proofs.Common.{ℕ, ◌≡◌, ◌⊎◌, ◌<◌, ◌≤◌, true, false, List, Option, Some, None, sym, refl, subst}
+use Rattle.std.specs.Prelude.{is_some}
+use Rattle.std.specs.Option.{option_map}
+use Rattle.pm_disk.specs.Cause.{Rose}
+use Rattle.pm_outside.specs.Traffic.{Traffic}
+use Rattle.pm_exit.specs.declared.child.Status.{Status}
+use Rattle.pm_exit.specs.Ends.{is_exit_0}
+use Rattle.pm_admit.specs.declared.Cac.{Cac}
+use Rattle.pm_life.specs.Life.{nothing_told}
+use Rattle.pm_keys.specs.CancelKey.{cancel_key}
+use Rattle.pm_query.specs.declared.book.BookEntry.{BookEntry}
+use Rattle.pm_query.specs.Calls.{newcomer}
+use Rattle.pm_session.specs.declared.ending.Cause.{Cause}
+use Rattle.pm_session.specs.declared.ending.Cause.TheVariants.{Terminated, Cancelling, LinkEnded, LinkFailed, TimedOut, PacketRefused, MessageRefused, DecisionRefused, GateRefused, ShortOfMemory, Panicked, ToldToTerminate, ToldToQuit, Killed, Overtaken}
+use Rattle.pm_session.specs.declared.ending.Stage.{Stage}
+use Rattle.pm_session.specs.declared.ending.Stage.TheVariants.{Outside, Entering, Greeted}
+use Rattle.pm_session.specs.Exchange.{CutsOff}
+use Rattle.pm_session.specs.Sent.{Turn}
+use Rattle.pm_session.specs.Session.{Ending, status_by, status_of, between, LetsGo, IsAttachedAt, HasPassed, IsSession, IsCaused, HasAskedFor, HeedsTold, IsAttachedBehind, HasCancelled}
+use Rattle.pm_board.specs.declared.views.Cancel.{Cancel}
+use Rattle.pm_board.specs.declared.views.Heard.{Heard}
+use Rattle.pm_board.specs.declared.views.Offer.{Offer}
+use Rattle.pm_board.specs.Told.{past_child}
+use Rattle.pm_post_life.specs.Lives.{told_by, child_as}
+use Rattle.pm_worker.specs.declared.mail.LinkTold.{LinkTold}
+use Rattle.pm_worker.specs.declared.mail.MailTold.{MailTold}
+use Rattle.pm_worker.specs.declared.mail.MailTold.TheVariants as mail
+use Rattle.pm_worker.specs.Mails.{traffic_in, traffic_of, passed_of}
+use Rattle.pm_worker.specs.Runs.{IsSessionRun}
+
+-- a link's traffic is told whole
+pub told_whole : (traffic : Option Traffic) → option_map traffic_of (option_map passed_of traffic) ≡ traffic
+told_whole None = refl
+told_whole (Some t) = refl
+
+absent : (attached : Option ℕ) → attached ≡ None → is_some attached ≡ true → ⊥
+absent None e is = cc
+absent (Some g) e is = cc
+
+-- who lets go isn't attached, and who stays doesn't exit with code 0
+by_cause : (cause : Cause) (attached : Option ℕ) (stays : Type 0) → LetsGo cause (attached ≡ None) stays → is_some attached ≡ true → is_exit_0 (status_by cause) ≡ false
+by_cause Terminated a stays h is = absurd (absent a h is)
+by_cause Cancelling a stays h is = absurd (absent a h is)
+by_cause LinkEnded a stays h is = absurd (absent a h is)
+by_cause LinkFailed a stays h is = absurd (absent a h is)
+by_cause TimedOut a stays h is = absurd (absent a h is)
+by_cause (PacketRefused fault) a stays h is = absurd (absent a h is)
+by_cause (MessageRefused fault) a stays h is = absurd (absent a h is)
+by_cause DecisionRefused a stays h is = absurd (absent a h is)
+by_cause (GateRefused refusal) a stays h is = absurd (absent a h is)
+by_cause ShortOfMemory a stays h is = absurd (absent a h is)
+by_cause ToldToTerminate a stays h is = absurd (absent a h is)
+by_cause Panicked a stays h is = refl
+by_cause (ToldToQuit reason) a stays h is = refl
+by_cause Killed a stays h is = refl
+by_cause Overtaken a stays h is = refl
+
+-- a session that ends attached doesn't exit with code 0
+pub stays_inside : (stage : Stage) (cause : Cause) (attached : Option ℕ) (stays : Type 0) → IsAttachedAt stage (attached ≡ None) (LetsGo cause (attached ≡ None) stays)
+    → is_some attached ≡ true → is_exit_0 (status_by cause) ≡ false
+stays_inside Outside cause a stays h is = absurd (absent a h is)
+stays_inside Entering cause a stays h is = by_cause cause a stays h is
+stays_inside Greeted cause a stays h is = by_cause cause a stays h is
+
+module _ {S : Type 0} (notes : List BookEntry → S → S → Type 0) (stamp : Option ℕ) (seed : List ℕ) (limit : ℕ) (gives : ℕ → Type 0) where
+  pub session_run : (link back : LinkTold) (decision : Cac) (o : Offer MailTold) (status : Status) (heard : Heard) (asked : Option (ℕ × ℕ)) (made : List Cancel) (attached : Option ℕ)
+      (ending : Ending) (turns : List Turn) (generation : ℕ) (s0 s1 : S) (traffic : Option Traffic) (key pid : ℕ)
+      → traffic_in back ≡ traffic → pid ≡ o.pid → (0 < pid → key ≡ cancel_key seed pid) → back.number ≡ link.number → link.faults ≤ back.faults → status ≡ status_of ending
+      → IsSession notes decision (newcomer stamp pid generation) key turns ending (Rose link.faults back.faults) (between traffic s0 s1)
+      → IsCaused ending turns generation decision traffic (Rose link.faults back.faults) (Some (told_by heard asked)) limit gives
+      → HasAskedFor turns (Some nothing_told) (Some (told_by heard asked)) → HeedsTold status (told_by heard asked) → IsAttachedBehind ending generation (child_as o attached)
+      → HasCancelled ending.cause traffic (Some (told_by heard asked))
+      → (noted : List BookEntry) × notes noted s0 s1
+      × IsSessionRun stamp seed limit gives link decision
+      (record { child = past_child o status (is_some attached) (mail.Served back); heard = heard; asked = asked; made = made; noted = noted })
+  session_run link back decision o status heard asked made attached ending turns generation s0 s1 traffic key pid t p k n f st session caused hears heeds behind cancelled =
+      let whole = subst (λ x. IsSession {S = Unit {0}} (λ entries _ _. entries ≡ session.noted) decision (newcomer stamp x generation) key turns ending (Rose link.faults back.faults)
+      (between (traffic_in back) tt tt)) p
+      (record {
+        came_in = session.came_in;
+        whole = session.whole;
+        noted = session.noted;
+        text = session.text;
+        passed = subst (λ x. HasPassed (CutsOff ending.exit ⊎ Rose link.faults back.faults) session.came_in session.whole x) (sym t) session.passed;
+        entries = refl;
+      }) in (
+        session.noted,
+        session.entries,
+        record {
+          back = back;
+          ending = ending;
+          turns = turns;
+          generation = generation;
+          attached = attached;
+          key = key;
+          keyed = subst (λ (x : ℕ). 0 < x → key ≡ cancel_key seed x) p k;
+          back_is = refl;
+          number = n;
+          faults = f;
+          status = st;
+          session = whole;
+          caused = subst (λ x. IsCaused ending turns generation decision x (Rose link.faults back.faults) (Some (told_by heard asked)) limit gives) (sym t) caused;
+          asked = hears;
+          heeds = heeds;
+          active = refl;
+          behind = behind;
+          cancels = subst (λ x. HasCancelled ending.cause x (Some (told_by heard asked))) (sym t) cancelled;
+        },
+      )

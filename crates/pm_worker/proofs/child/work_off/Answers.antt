@@ -1,0 +1,93 @@
+use Rattle.std.proofs.Common.{◌≡◌, ◌≢◌, ◌∙◌, ◌++◌, ◌∷◌, [], true, false, ap, sym, subst}
+use Rattle.pm_exit.specs.declared.child.Kind.{Kind}
+use Rattle.pm_worker.specs.declared.mail.MailTold.TheVariants as mail
+use Rattle.pm_worker.specs.Mails.{mail_told, IsFor}
+use Rattle.pm_worker.specs.Runs.{Run, IsRun, noted_by}
+use Rattle.pm_worker.proofs.Loops.{nothing, ran, all_more, Looked}
+use Rattle.pm_worker.proofs.child.work_off.Goals as goal
+
+pub loop-init : goal.loop-init
+loop-init g c =
+    let tools = c.args.tools.now in
+    record {
+      worked =
+          record {
+            runs = [];
+            worked =
+                nothing g.S.Store.notes (g.S.Store.stamp c.args.store.now) tools.seed tools.conf.authentication_ms (g.C.Clock.gives tools.clock) c.args.post c.args.store.now c.requires
+                (g.met.S.Store.at_rest c.args.store.now);
+            none = tt;
+          };
+      next = tt;
+      ends = tt;
+    }
+
+pub run_child-next-requires : goal.run_child-next-requires
+run_child-next-requires g c =
+    let met = c.in-Job.ensures.met in
+    record {
+      offer = met.1.0;
+      runs = ap (λ v. v.work) met.1.5;
+      pid_is = met.1.2;
+      given_is = met.1.4;
+      fits = subst (λ (k : Kind). IsFor (mail_told g.L.Link c.in-Job.job) k) (sym met.1.3) met.1.6;
+      untold = ap (λ v. v.notes.now) met.1.5;
+    }
+
+pub returns-then-closed : goal.returns-then-closed
+returns-then-closed g c =
+    let w = c.loop.invariant.worked in
+    let met = c.in-Job.ensures.met in
+    let r = c.run_child-next.ensures in
+    let tools = c.args.tools.now in
+    let gives = g.C.Clock.gives tools.clock in
+    let limit = tools.conf.authentication_ms in
+    let is = subst (λ stamp. IsRun stamp tools.seed limit gives r.0) (g.met.S.Store.stays c.args.store.now c.loop.store (noted_by w.runs) w.worked.store) r.2 in
+    let looked_ : Looked c.loop.post c.start.new.self =
+    record {
+      table = c.in-Job.ensures.table;
+      slot = c.in-Job.ensures.slot;
+      past = ap (λ v. v.past) met.1.5;
+      heard = ap (λ v. v.notes.heard) met.1.5;
+      cancels = ap (λ v. v.notes.cancels) met.1.5;
+    } in
+    record {
+      front = w.runs;
+      last = r.0;
+      worked =
+          ran g.S.Store.notes (g.S.Store.stamp c.args.store.now) tools.seed limit gives g.met.S.Store.in_turn w.runs c.args.post c.loop.post c.start.new.self c.run_child-next.result.0
+          c.args.store.now c.loop.store c.run_child-next.new.store r.0 w.worked looked_ r.1 is r.3;
+      earlier = w.none;
+      closes = r.4.0 c.if-closed.true;
+    }
+
+pub loop-preserved : goal.loop-preserved
+loop-preserved g c =
+    let w = c.loop.invariant.worked in
+    let met = c.in-Job.ensures.met in
+    let r = c.run_child-next.ensures in
+    let tools = c.args.tools.now in
+    let gives = g.C.Clock.gives tools.clock in
+    let limit = tools.conf.authentication_ms in
+    let is = subst (λ stamp. IsRun stamp tools.seed limit gives r.0) (g.met.S.Store.stays c.args.store.now c.loop.store (noted_by w.runs) w.worked.store) r.2 in
+    let looked_ : Looked c.loop.post c.start.new.self =
+    record {
+      table = c.in-Job.ensures.table;
+      slot = c.in-Job.ensures.slot;
+      past = ap (λ v. v.past) met.1.5;
+      heard = ap (λ v. v.notes.heard) met.1.5;
+      cancels = ap (λ v. v.notes.cancels) met.1.5;
+    } in
+    let goes_on : r.0.child.offer.given ≢ mail.Close = (λ e. let no_ : false ≡ true = sym c.if-closed.false ∙ r.4.1 e in absurd (cc)) in
+    record {
+      worked =
+          record {
+            runs = w.runs ++ r.0 ∷ [];
+            worked =
+                ran g.S.Store.notes (g.S.Store.stamp c.args.store.now) tools.seed limit gives g.met.S.Store.in_turn w.runs c.args.post c.loop.post c.start.new.self c.run_child-next.result.0
+                c.args.store.now c.loop.store c.run_child-next.new.store r.0 w.worked looked_ r.1 is r.3;
+            none = all_more (λ (run : Run). run.child.offer.given ≢ mail.Close) w.runs r.0 w.none goes_on;
+          };
+      next = tt;
+      ends = tt;
+    }

@@ -1,0 +1,8 @@
+use Rattle.std.proofs.Common.{Some}
+use Rattle.pm_worker.proofs.runs.run_child.Given as goal
+
+abbrev pub ghosts-serve_one : goal.ghosts-serve_one
+ghosts-serve_one g a = record { begun = Some a.post }
+
+abbrev pub ghosts-tend_one : goal.ghosts-tend_one
+ghosts-tend_one g a = record { begun = Some a.post }

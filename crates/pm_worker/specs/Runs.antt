@@ -1,0 +1,170 @@
+-- The runs of the children of one worker.
+use Rattle.std.specs.Prelude.{◌≡◌, ◌≢◌, ℕ, ◌<◌, ◌≤◌, false, List, [], ◌∷◌, ◌++◌, map, Option, Some, None, is_some}
+use Rattle.std.specs.List.{flat_map, AllByRecursion}
+use Rattle.pm_disk.specs.Cause.{Rose}
+use Rattle.pm_exit.specs.declared.child.Kind.{Kind}
+use Rattle.pm_exit.specs.declared.child.Kind.TheVariants as kinds
+use Rattle.pm_exit.specs.declared.child.Status.TheVariants.{Code}
+use Rattle.pm_admit.specs.declared.Cac.{Cac}
+use Rattle.pm_life.specs.Life.{Told, nothing_told}
+use Rattle.pm_keys.specs.CancelKey.{cancel_key}
+use Rattle.pm_query.specs.declared.book.BookEntry.{BookEntry}
+use Rattle.pm_query.specs.declared.store.StoreNo.{StoreNo}
+use Rattle.pm_query.specs.Calls.{newcomer}
+use Rattle.pm_session.specs.Sent.{Turn}
+use Rattle.pm_session.specs.Session.{Ending, status_of, between, IsSession, IsCaused, HasAskedFor, HeedsTold, IsAttachedBehind, HasCancelled}
+use Rattle.pm_aux.specs.Runs.{IsRunOf}
+use Rattle.pm_board.specs.declared.views.Cancel.{Cancel}
+use Rattle.pm_board.specs.declared.views.Heard.{Heard}
+use Rattle.pm_board.specs.declared.views.Offer.{Offer}
+use Rattle.pm_board.specs.declared.views.PastChild.{PastChild}
+use Rattle.pm_board.specs.declared.views.Work.TheVariants.{Idle, Inactive}
+use Rattle.pm_board.specs.Models.{PostModel}
+use Rattle.pm_board.specs.Rule.{no_signals}
+use Rattle.pm_board.specs.Told.{child_in}
+use Rattle.pm_post_life.specs.Lives.{told_by, child_as, MetRightly, Makes}
+use Rattle.pm_worker.specs.declared.mail.LinkTold.{LinkTold}
+use Rattle.pm_worker.specs.declared.mail.MailTold.{MailTold}
+use Rattle.pm_worker.specs.declared.mail.MailTold.TheVariants as mail
+use Rattle.pm_worker.specs.Mails.{traffic_in, IsFor}
+
+-- A run: the child as its slot lists it, with the mails both ways; what it heard; the cancel that it asked for, a pid and a key, and
+-- those that it made; and what it noted in the book.
+pub record Run : Type 0 where
+  pub child : PastChild MailTold
+  pub heard : Heard
+  pub asked : Option (ℕ × ℕ)
+  pub made : List Cancel
+  pub noted : List BookEntry
+
+abbrev pub told_in : Run → Told
+told_in run = told_by run.heard run.asked
+
+-- a child of this pid was started on the post just now, with a mail that tells this and is for it
+pub record HasBegun (pid : ℕ) (given : MailTold) (post : PostModel MailTold) : Type 0 where
+  pub offer : Offer MailTold
+  pub runs : post.knows.work ≡ Inactive offer
+  pub pid_is : offer.pid ≡ pid
+  pub given_is : offer.given ≡ given
+  pub fits : IsFor given offer.kind
+  pub untold : post.knows.notes.now ≡ no_signals
+
+-- ---- one run
+
+-- An auxiliary child of this kind, whose refusal and number of commits go back. `stamp` is the generation of its store, if that stays.
+pub record IsAuxRun (stamp : Option ℕ) (kind : Kind) (run : Run) : Type 0 where
+  pub fault : Option StoreNo
+  pub kept : Option ℕ
+  pub attached : Option ℕ
+  pub back_is : run.child.back ≡ mail.Aux fault kept
+  pub is :
+      IsRunOf kind (record { pid = run.child.offer.pid; stamp = stamp })
+      (record { done = record { status = run.child.status; fault = fault; kept = kept }; told = Some (told_in run); attached = attached }) run.noted
+  pub active : run.child.was_active ≡ is_some attached
+
+-- the child that closes its worker does nothing, and exits with code 0
+abbrev pub close_run : Offer MailTold → Run
+close_run o = record {
+  child = record { offer = o; status = Code 0; was_active = false; back = mail.Close };
+  heard = no_signals;
+  asked = None;
+  made = [];
+  noted = [];
+}
+
+-- what a worker goes by: the generation of its store, if that stays, the seed of its keys, the limit of authentication, and
+-- the moments that its clock gives
+module _ (stamp : Option ℕ) (seed : List ℕ) (limit : ℕ) (gives : ℕ → Type 0) where
+  -- a session over the link that came with the mail, which goes back
+  pub record IsSessionRun (link : LinkTold) (decision : Cac) (run : Run) : Type 0 where
+    pub back : LinkTold
+    pub ending : Ending
+    pub turns : List Turn
+    pub generation : ℕ
+    pub attached : Option ℕ
+    pub key : ℕ
+    -- pid 0 has none
+    pub keyed : 0 < run.child.offer.pid → key ≡ cancel_key seed run.child.offer.pid
+    pub back_is : run.child.back ≡ mail.Served back
+    pub number : back.number ≡ link.number
+    pub faults : link.faults ≤ back.faults
+    pub status : run.child.status ≡ status_of ending
+    pub session :
+        IsSession {S = Unit {0}} (λ entries _ _. entries ≡ run.noted) decision (newcomer stamp run.child.offer.pid generation) key turns ending
+        (Rose link.faults back.faults) (between (traffic_in back) tt tt)
+    pub caused : IsCaused ending turns generation decision (traffic_in back) (Rose link.faults back.faults) (Some (told_in run)) limit gives
+    pub asked : HasAskedFor turns (Some nothing_told) (Some (told_in run))
+    pub heeds : HeedsTold run.child.status (told_in run)
+    pub active : run.child.was_active ≡ is_some attached
+    pub behind : IsAttachedBehind ending generation (child_as run.child.offer attached)
+    pub cancels : HasCancelled ending.cause (traffic_in back) (Some (told_in run))
+
+  -- what a child does that was given a mail which tells this
+  abbrev pub Does : MailTold → Run → Type 0
+  Does (mail.Serve link decision) run = IsSessionRun link decision run
+  Does mail.Startup run = IsAuxRun stamp kinds.Startup run
+  Does mail.Checkpointer run = IsAuxRun stamp kinds.Checkpointer run
+  Does mail.Writer run = IsAuxRun stamp kinds.Writer run
+  Does mail.Close run = run ≡ close_run run.child.offer
+  Does (mail.Served link) run = ⊥
+  Does (mail.Aux fault kept) run = ⊥
+
+  -- A run of a child by its mail, which is one for it. It met at the gate what is right for it, and made no cancel but, perhaps, the
+  -- one that it asked for.
+  pub record IsRun (run : Run) : Type 0 where
+    pub fits : IsFor run.child.offer.given run.child.offer.kind
+    pub does : Does run.child.offer.given run
+    pub met : MetRightly run.child.offer run.heard.met
+    pub makes : Makes run.asked run.made
+
+-- ---- what a worker's post has of its runs
+
+-- the run is one more of the post's
+pub record HasRun (run : Run) (before after : PostModel MailTold) : Type 0 where
+  pub table : after.table ≡ before.table
+  pub slot : after.slot ≡ before.slot
+  pub idle : after.knows.work ≡ Idle
+  pub offer : child_in before.knows.work ≡ Some run.child.offer
+  pub past : after.knows.past ≡ before.knows.past ++ run.child ∷ []
+  pub heard : after.knows.notes.heard ≡ before.knows.notes.heard ++ run.heard ∷ []
+  pub cancels : after.knows.notes.cancels ≡ before.knows.notes.cancels ++ run.made
+
+abbrev pub noted_by : List Run → List BookEntry
+noted_by runs = flat_map (λ run. run.noted) runs
+
+-- The post has had these runs in order and no others; what it heard of each, and the cancels that it made, are theirs.
+pub record HasRuns (runs : List Run) (before after : PostModel MailTold) : Type 0 where
+  pub table : after.table ≡ before.table
+  pub slot : after.slot ≡ before.slot
+  pub idle : after.knows.work ≡ Idle
+  pub past : after.knows.past ≡ before.knows.past ++ map (λ run. run.child) runs
+  pub heard : after.knows.notes.heard ≡ before.knows.notes.heard ++ map (λ run. run.heard) runs
+  pub cancels : after.knows.notes.cancels ≡ before.knows.notes.cancels ++ flat_map (λ run. run.made) runs
+
+-- ---- all runs of a worker
+
+-- none of them closed the worker
+abbrev pub NoneCloses : List Run → Type 0
+NoneCloses runs = AllByRecursion (λ run. run.child.offer.given ≢ mail.Close) runs
+
+module _ {S : Type 0} (notes : List BookEntry → S → S → Type 0) (stamp : Option ℕ) (seed : List ℕ) (limit : ℕ) (gives : ℕ → Type 0) where
+  -- Between two moments a worker has had these runs: its post lists them, and they noted, one after the other, all that its store's
+  -- own calls have noted.
+  pub record HasWorked (runs : List Run) (post_before post_now : PostModel MailTold) (store_before store_now : S) : Type 0 where
+    pub each : AllByRecursion (IsRun stamp seed limit gives) runs
+    pub post : HasRuns runs post_before post_now
+    pub store : notes (noted_by runs) store_before store_now
+
+  -- some runs, and goes on
+  pub record GoesOnWorking (post_before post_now : PostModel MailTold) (store_before store_now : S) : Type 0 where
+    pub runs : List Run
+    pub worked : HasWorked runs post_before post_now store_before store_now
+    pub none : NoneCloses runs
+
+  -- its whole work, up to the run that closes it
+  pub record HasClosed (post_before post_now : PostModel MailTold) (store_before store_now : S) : Type 0 where
+    pub front : List Run
+    pub last : Run
+    pub worked : HasWorked (front ++ last ∷ []) post_before post_now store_before store_now
+    pub earlier : NoneCloses front
+    pub closes : last.child.offer.given ≡ mail.Close

@@ -1,0 +1,164 @@
+//! One run of a child, from its start to its exit.
+ghost use Rattle.std.specs.Prelude.{◌≡◌, ◌↔◌, ◌<◌, ℕ, true, List, Some, None, IfSome, IsTrue};
+ghost use Rattle.pm_board.specs.Places.{is_auxiliary};
+ghost use Rattle.pm_keys.specs.CancelKey.{cancel_key};
+ghost use Rattle.pm_life.specs.Life.{nothing_told};
+ghost use Rattle.pm_query.specs.declared.book.BookEntry.{BookEntry};
+ghost use Rattle.pm_aux.specs.Runs.{IsRunOf, runner, at_end};
+ghost use Rattle.pm_worker.specs.declared.mail.MailTold.TheVariants as told;
+ghost use Rattle.pm_worker.specs.Mails.{link_told, mail_told, aux_mail};
+ghost use Rattle.pm_worker.specs.Runs.{Run, HasBegun, IsRun, HasRun, close_run};
+
+use crate::mail::{Mail, MailTold, NewLink};
+use crate::tools::Tools;
+use pm_admit::Cac;
+use pm_aux::{AuxDone, checkpointer, startup, writer};
+use pm_board::Post;
+use pm_exit::{Kind, Status};
+use pm_life::Life;
+use pm_outside::{Clock, Link};
+use pm_post_life::{Begun, PostLife};
+use pm_query::Store;
+use pm_session::{Admission, Done, Means, serve};
+use std::marker::Brand;
+use std::sync::Wait;
+
+// The cancel key of a child. Pid 0 has none.
+fn key_of(seed: &[u8; 32], pid: u32) -> u32
+    ensures { 0 < pid → result ≡ cancel_key seed.now pid }
+{
+    if pid == 0 {
+        return 0;
+    }
+    pm_keys::key(seed, pid)
+}
+
+// Serves a connection.
+fn serve_one<R: Wait, C: Clock, L: Link + Drop, S: Store, K: Begun<MailTold>>(
+    tools: &Tools<R, C>,
+    post: Post<Mail<L>>,
+    pid: u32,
+    link: NewLink<L>,
+    decision: Cac,
+    store: &mut S,
+) -> Post<Mail<L>>
+    requires begun { K.begun ≡ Some post }
+    requires started { HasBegun pid (told.Serve (link_told L.Link link.link) decision) post }
+    ensures { (run : Run) × S.notes run.noted store.old store.new
+        × IsRun (S.stamp store.old) tools.now.seed tools.now.conf.authentication_ms
+        (C.gives tools.now.clock) run × HasRun run post result
+        × (run.child.offer.given ≡ told.Serve (link_told L.Link link.link) decision) }
+{
+    let life = PostLife::<Mail<L>, K>::new(post, pid, tools.seed);
+    let link = link.open();
+    let key = key_of(&tools.seed, pid);
+    let means = Means {
+        rt: &tools.rt,
+        alloc: tools.alloc,
+        clock: &tools.clock,
+    };
+    let admission = Admission { decision, key };
+    let Done { status, link, life } = serve(&means, link, life, admission, &tools.conf, store);
+    let mut post = life.into_post();
+    post.exit(status, Mail::Served { link });
+    post
+}
+
+// Does what an auxiliary child of this kind is there for.
+fn tend<R: Wait, C: Clock, S: Store, F: Life>(
+    tools: &Tools<R, C>,
+    kind: Kind,
+    store: &mut S,
+    life: &mut F,
+) -> AuxDone
+    requires kind { is_auxiliary kind ≡ true }
+    requires free { (F.child life.old).attached ≡ None }
+    requires may { ¬ (IsTrue (F.child life.old).is_dead_end) }
+    requires untold { IfSome (F.told life.old) (λ told. told ≡ nothing_told) }
+    ensures { (noted : List BookEntry) × S.notes noted store.old store.new
+        × IsRunOf kind (runner (S.stamp store.old) (F.child life.old))
+        (at_end result (F.told life.new) (F.child life.new)) noted }
+{
+    match kind {
+        Kind::Startup => startup(store, life),
+        Kind::Checkpointer => checkpointer(&tools.rt, store, &tools.clock, life),
+        Kind::Writer => writer(&tools.rt, store, &tools.clock, life),
+        Kind::Worker | Kind::Backend | Kind::DeadEnd => unreachable!(),
+    }
+}
+
+// Runs an auxiliary child.
+fn tend_one<R: Wait, C: Clock, L: Link + Drop, S: Store, K: Begun<MailTold>>(
+    tools: &Tools<R, C>,
+    post: Post<Mail<L>>,
+    pid: u32,
+    kind: Kind,
+    store: &mut S,
+) -> Post<Mail<L>>
+    requires begun { K.begun ≡ Some post }
+    requires kind { is_auxiliary kind ≡ true }
+    requires started { HasBegun pid (aux_mail kind) post }
+    ensures { (run : Run) × S.notes run.noted store.old store.new
+        × IsRun (S.stamp store.old) tools.now.seed tools.now.conf.authentication_ms
+        (C.gives tools.now.clock) run × HasRun run post result
+        × (run.child.offer.given ≡ aux_mail kind) }
+{
+    let mut life = PostLife::<Mail<L>, K>::new(post, pid, tools.seed);
+    let done = tend(tools, kind, store, &mut life);
+    let mut post = life.into_post();
+    post.exit(
+        done.status,
+        Mail::Aux {
+            fault: done.fault,
+            kept: done.kept,
+        },
+    );
+    post
+}
+
+// Ends the child that closes the worker.
+fn close_one<L: Link + Drop>(post: Post<Mail<L>>) -> Post<Mail<L>>
+    requires { (pid : ℕ) × HasBegun pid told.Close post }
+    ensures { (pid : ℕ) (begun : HasBegun pid told.Close post) → HasRun (close_run begun.offer) post
+        result }
+{
+    let mut post = post;
+    post.exit(Status::Code(0), Mail::Close);
+    post
+}
+
+/// Runs the child that was started on the post, and ends it. True where the worker ends with it.
+pub(crate) fn run_child<R: Wait, C: Clock, L: Link + Drop, S: Store>(
+    tools: &Tools<R, C>,
+    post: Post<Mail<L>>,
+    pid: u32,
+    job: Mail<L>,
+    store: &mut S,
+) -> (Post<Mail<L>>, bool)
+    requires { HasBegun pid (mail_told L.Link job) post }
+    ensures { (run : Run) × S.notes run.noted store.old store.new
+        × IsRun (S.stamp store.old) tools.now.seed tools.now.conf.authentication_ms
+        (C.gives tools.now.clock) run × HasRun run post result.0
+        × (IsTrue result.1 ↔ (run.child.offer.given ≡ told.Close)) }
+{
+    match job {
+        Mail::Serve { link, decision } => {
+            let post = serve_one::<R, C, L, S, Brand>(tools, post, pid, link, decision, store);
+            (post, false)
+        }
+        Mail::Startup => {
+            let post = tend_one::<R, C, L, S, Brand>(tools, post, pid, Kind::Startup, store);
+            (post, false)
+        }
+        Mail::Checkpointer => {
+            let post = tend_one::<R, C, L, S, Brand>(tools, post, pid, Kind::Checkpointer, store);
+            (post, false)
+        }
+        Mail::Writer => {
+            let post = tend_one::<R, C, L, S, Brand>(tools, post, pid, Kind::Writer, store);
+            (post, false)
+        }
+        Mail::Close => (close_one(post), true),
+        Mail::Served { .. } | Mail::Aux { .. } => unreachable!(),
+    }
+}
