@@ -1,0 +1,17 @@
+pub mod Folding
+pub mod Seen
+pub mod Sends
+pub mod Rolls
+pub mod Sitting
+pub mod MayBeDone
+pub mod Turning
+pub mod Starting
+pub mod Afresh
+pub mod Gating
+pub mod Calling
+pub mod Runs
+pub mod Acting
+pub mod Resting
+pub mod Asking
+pub mod Beginning
+pub mod Reaping

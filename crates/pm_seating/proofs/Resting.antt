@@ -1,0 +1,137 @@
+-- Where nothing is due, the acts of the next call may be done.
+use Rattle.std.proofs.Common.{◌≡◌, ℕ, List, [], ◌∷◌, refl, sym, ap, subst, ◌∙◌, length, nat_eq}
+use Rattle.std.specs.Prelude.{Bool, true, false, ◌||◌, if◌then◌else◌, Option, Some, None, IsSomeAnd}
+use Rattle.pm_exit.specs.declared.child.Kind.{Kind}
+use Rattle.pm_supervisor.specs.declared.Limits.{Limits}
+use Rattle.pm_supervisor.specs.Between.{all_detached}
+use Rattle.pm_supervisor.specs.Children.{Child, child_of}
+use Rattle.pm_supervisor.specs.Steps.{Trace}
+use Rattle.pm_state.specs.declared.action.Action.{Action}
+use Rattle.pm_state.specs.declared.event.PmEvent.{PmEvent}
+use Rattle.pm_state.specs.Laws.{TellsOfEachStart}
+use Rattle.pm_state.specs.Machine.{IsReady}
+use Rattle.pm_state.specs.Starts.{Owes, has_end}
+use Rattle.pm_state.specs.Shows.{Call, Exits, IsFit}
+use Rattle.pm_state.specs.InStep.{IsInStep}
+use Rattle.pm_state.specs.Journal.{acts_of_call, all_replayed, replay_begun}
+use Rattle.pm_board.specs.Gate.{Gate, gate_of}
+use Rattle.pm_journal.specs.declared.roll.Enrolled.{Enrolled}
+use Rattle.pm_journal.specs.Laws.{KeepsALegalJournal}
+use Rattle.pm_journal.specs.Roll.{kind_in, roll_of, without}
+use Rattle.pm_journal.specs.Standing.{IsAtRest, Standing, all_noted, called, ends_redo, exit_call, exit_entry, exiting, later, made, redo_entries}
+use Rattle.pm_journal.specs.Stands.{Stands}
+use Rattle.pm_board.specs.declared.views.Letter as Letter
+use Rattle.pm_board.specs.declared.roster.Released.{Released}
+use Rattle.pm_seating.specs.Board.{seat_at}
+use Rattle.pm_seating.specs.Calls.{exit_of}
+use Rattle.pm_seating.specs.Sitting.{HasReaped}
+use Rattle.pm_seating.proofs.Afresh.{afresh_exited}
+use Rattle.pm_seating.specs.Acts.{StartsAfresh, MayDo, gate_by, gate_shown, roll_behind}
+use Rattle.pm_seating.specs.Seating.{Move, journal_of}
+use Rattle.pm_seating.specs.Standing.{IsAt, IsRunning, View}
+use Rattle.std.specs.Option.{unwrap_or}
+use Rattle.pm_state.specs.declared.event.PmEvent.TheVariants as entry
+use Rattle.pm_journal.specs.declared.exit.ChildExit.{ChildExit}
+use Rattle.pm_seating.proofs.Calling.{due_noted, on_the_roll}
+use Rattle.pm_seating.proofs.Rolls.{cases}
+use Rattle.pm_seating.proofs.Turning.{calls_may}
+
+ready : TellsOfEachStart → (limits : Limits) (told : Option (List PmEvent)) (s : Standing) (h : Trace) → Stands limits told s h → IsAtRest s → IsReady s.machine
+ready tells limits told s h stands rest =
+    let owes : Owes [] s.machine = subst (λ (d : List Action). Owes d s.machine) rest.none_due stands.coming.owes in
+    let none = tells.done s.machine owes in
+    record {
+      goes_on = sym stands.coming.ended ∙ (ap (λ (d : List Action). s.ended || has_end d) rest.none_due ∙ ap (λ (b : Bool). b || false) rest.goes_on);
+      startup_reported = none.startup;
+      checkpointer_reported = none.checkpointer;
+      writer_reported = none.writer;
+    }
+
+same_roll : (cs : List Child) → roll_of (all_detached cs) ≡ roll_of cs
+same_roll [] = refl
+same_roll (c ∷ cs) = ap (λ (es : List Enrolled). record { pid = c.pid; kind = c.kind } ∷ es) (same_roll cs)
+
+-- the roll is that of the supervisor's children
+rolled : (limits : Limits) (journal : List PmEvent) (s : Standing) (h : Trace) → (stands : Stands limits (Some journal) s h)
+    → IsInStep limits (record { replay = all_replayed (replay_begun limits) journal; machine = s.machine; trace = h }) → s.children ≡ roll_of h.now.shared.children
+rolled limits journal s h stands step =
+    stands.remembers.children
+    ∙ (ap (λ (es : List PmEvent). roll_of (all_replayed (replay_begun limits) es).shown.children) (sym stands.told_is)
+    ∙ (ap (λ x. roll_of x.children) step.shown ∙ same_roll h.now.shared.children))
+
+there_is : (pid : ℕ) (k : Kind) (cs : List Child) → kind_in pid (roll_of cs) ≡ Some k → IsSomeAnd (child_of pid cs) (λ c. c.kind ≡ k)
+there_is pid k [] is = absurd (let no_ : ◌≡◌ {A = Option Kind} None (Some k) = is in cc)
+there_is pid k (c ∷ cs) is = cases (nat_eq c.pid pid)
+    (λ here. subst (λ (b : Bool). IsSomeAnd (if b then Some c else child_of pid cs) (λ d. d.kind ≡ k)) (sym here) (some_of c.kind k (sym (ap (λ (b : Bool). if b then Some c.kind else kind_in pid (roll_of cs)) here) ∙ is)))
+    (λ there. subst (λ (b : Bool). IsSomeAnd (if b then Some c else child_of pid cs) (λ d. d.kind ≡ k)) (sym there)
+    (there_is pid k cs (sym (ap (λ (b : Bool). if b then Some c.kind else kind_in pid (roll_of cs)) there) ∙ is)))
+  where
+    some_of : (x y : Kind) → Some x ≡ Some y → x ≡ y
+    some_of x y e = cc
+
+module _ {D : Type 0} where
+  -- the end of a child
+  pub exit_may : TellsOfEachStart → KeepsALegalJournal → (limits : Limits) (count : ℕ) (moves : List Move) (v : View D) (pid : ℕ) (kind : Kind) (status : _) (was_active : Bool) (now : ℕ)
+      → IsAt limits count moves v → IsAtRest v.work.standing → kind_in pid v.work.standing.children ≡ Some kind
+      → MayDo (acts_of_call v.work.standing.machine (Exits pid kind status was_active now)) (gate_of v.board) (without pid v.work.standing.children)
+  exit_may tells keeps limits count moves v pid kind status was_active now at rest there =
+      let s : Standing = v.work.standing in
+      let step = keeps.in_step limits (journal_of count moves) s at.past at.stands rest.none_due in
+      let roll : s.children ≡ roll_of at.past.now.shared.children = rolled limits (journal_of count moves) s at.past at.stands step in
+      let gates : gate_of v.board ≡ gate_shown at.past.now.shared = sym (ap (λ (acts : List Action). gate_by acts (gate_of v.board)) rest.none_due) ∙ at.gate in
+      subst (λ (g : Gate). MayDo (acts_of_call s.machine (Exits pid kind status was_active now)) g (without pid s.children)) (sym gates)
+      (subst (λ (cs : List Enrolled). MayDo (acts_of_call s.machine (Exits pid kind status was_active now)) (gate_shown at.past.now.shared) (without pid cs)) (sym roll)
+      (calls_may limits _ (Exits pid kind status was_active now) step
+      (ready tells limits (Some (journal_of count moves)) s at.past at.stands rest, there_is pid kind at.past.now.shared.children (sym (ap (kind_in pid) roll) ∙ there))))
+
+  -- and every call that tells of none: a turn, the time, a request
+  pub call_may : TellsOfEachStart → KeepsALegalJournal → (limits : Limits) (count : ℕ) (moves : List Move) (v : View D) (call : Call)
+      → IsAt limits count moves v → IsAtRest v.work.standing → ((h : Trace) → IsReady v.work.standing.machine → IsFit limits v.work.standing.machine h call) → ((roll : List Enrolled) → roll_behind call roll ≡ roll)
+      → MayDo (acts_of_call v.work.standing.machine call) (gate_of v.board) v.work.standing.children
+  call_may tells keeps limits count moves v call at rest fit still =
+      let s : Standing = v.work.standing in
+      let step = keeps.in_step limits (journal_of count moves) s at.past at.stands rest.none_due in
+      let roll : s.children ≡ roll_of at.past.now.shared.children = rolled limits (journal_of count moves) s at.past at.stands step in
+      let gates : gate_of v.board ≡ gate_shown at.past.now.shared = sym (ap (λ (acts : List Action). gate_by acts (gate_of v.board)) rest.none_due) ∙ at.gate in
+      subst (λ (g : Gate). MayDo (acts_of_call s.machine call) g s.children) (sym gates)
+      (subst (λ (cs : List Enrolled). MayDo (acts_of_call s.machine call) (gate_shown at.past.now.shared) cs) (sym (roll ∙ sym (still (roll_of at.past.now.shared.children))))
+      (calls_may limits _ call step (fit at.past (ready tells limits (Some (journal_of count moves)) s at.past at.stands rest))))
+
+children_left : (exit : ChildExit) (at : ℕ) (s t : Standing) (redo : List PmEvent) (b : Bool) (g n : ℕ) → redo ≡ (if b then entry.RedoEnded g n ∷ [] else [])
+    → (all_noted (exit_entry exit at ∷ redo) t).children ≡ without exit.pid t.children
+children_left exit at s t redo b g n is = ap (λ (es : List PmEvent). (all_noted (exit_entry exit at ∷ es) t).children) is ∙ both b
+  where
+    both : (c : Bool) → (all_noted (exit_entry exit at ∷ (if c then entry.RedoEnded g n ∷ [] else [])) t).children ≡ without exit.pid t.children
+    both true = refl
+    both false = refl
+
+module _ {D : Type 0} where
+  -- where the end of a child was noted, the acts that it asks for may be done
+  pub exited_may : TellsOfEachStart → KeepsALegalJournal → (v w : View D) (exit : ChildExit) (now : ℕ) → IsRunning v → IsAtRest v.work.standing
+      → kind_in exit.pid v.work.standing.children ≡ Some exit.kind → w.work.standing ≡ made (exiting exit now v.work.standing) v.work.standing → gate_of w.board ≡ gate_of v.board
+      → MayDo w.work.standing.due (gate_of w.board) w.work.standing.children
+  exited_may tells keeps v w exit now running rest there after gates =
+      let s : Standing = v.work.standing in
+      let call : Call = exit_call exit (later now s) in
+      let es : List PmEvent = (exiting exit now s).entries in
+      subst (λ (x : Standing). MayDo x.due (gate_of w.board) x.children) (sym after)
+      (subst (λ (due : List Action). MayDo due (gate_of w.board) (made (exiting exit now s) s).children) (sym (due_noted es (called call s)))
+      (subst (λ (cs : List Enrolled). MayDo (acts_of_call s.machine call) (gate_of w.board) cs) (sym (children_left exit (later now s) s (called call s) (redo_entries exit s) (ends_redo exit) s.generation (unwrap_or exit.kept 0) refl))
+      (subst (λ (g : Gate). MayDo (acts_of_call s.machine call) g (without exit.pid s.children)) (sym gates)
+      (exit_may tells keeps running.0 running.1 running.2 v exit.pid exit.kind exit.status exit.was_active (later now s) running.3 rest there))))
+
+  -- and in the slots of the children that may be started none has died attached
+  pub exited_fresh : {J : Type 0} (letter : Letter.Ghosts J D) → KeepsALegalJournal → (v w : View D) (k now : ℕ) (c : Enrolled) (released : Released J) (kept : Option ℕ) → IsAtRest v.work.standing
+      → seat_at k v.seats ≡ Some c → HasReaped letter k c released v.board w.board → (limits : Limits) (count : ℕ) (moves : List Move) → IsAt limits count moves v
+      → StartsAfresh w.board (called (exiting (exit_of kept released) now v.work.standing).call v.work.standing).due (called (exiting (exit_of kept released) now v.work.standing).call v.work.standing).machine
+  exited_fresh letter keeps v w k now c released kept rest sits has limits count moves at =
+      let s : Standing = v.work.standing in
+      let step = keeps.in_step limits (journal_of count moves) s at.past at.stands rest.none_due in
+      let roll : s.children ≡ roll_of at.past.now.shared.children = rolled limits (journal_of count moves) s at.past at.stands step in
+      let on : kind_in released.pid s.children ≡ Some released.kind =
+      ap (λ (p : ℕ). kind_in p s.children) has.pid ∙ (on_the_roll count moves v.board v.seats s k c at.seated sits ∙ ap Some (sym has.kind)) in
+      afresh_exited letter limits (length at.seated.seating.seats) k (later now s) c released v.board w.board s.machine at.past
+      (keeps.holds limits (Some (journal_of count moves)) s at.past at.stands rest.none_due).facts
+      (there_is released.pid released.kind at.past.now.shared.children (sym (ap (kind_in released.pid) roll) ∙ on))
+      has (at.seated.right k c (sym (ap (seat_at k) at.seated.at_hand) ∙ sits))
+      (subst (λ (due : List Action). StartsAfresh v.board due s.machine) rest.none_due at.afresh)

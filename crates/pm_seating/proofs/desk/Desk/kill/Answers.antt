@@ -1,0 +1,30 @@
+use Rattle.std.proofs.Common.{sym, ap, ◌∙◌}
+use Rattle.std.specs.Prelude.{not, is_some}
+use Rattle.pm_board.specs.declared.views.Signal.TheVariants as signal
+use Rattle.pm_journal.specs.Supervision.{at_work}
+use Rattle.pm_seating.specs.declared.audience.Audience.TheVariants.{One}
+use Rattle.pm_seating.specs.Seating.{sends}
+use Rattle.pm_seating.specs.Standing.{view}
+use Rattle.pm_seating.proofs.Asking.{killed_goes, none_killed}
+use Rattle.pm_seating.proofs.Sends.{seats_same}
+use Rattle.pm_seating.specs.Board.{seats_of}
+use Rattle.pm_seating.proofs.Reaping.{reaped_stepped}
+use Rattle.pm_seating.proofs.desk.Desk.kill.Goals as goal
+
+pub returns-then-is_none-clause-kills : goal.returns-then-is_none-clause-kills
+returns-then-is_none-clause-kills g c =
+    let v = view (at_work c.args.self.now.supervision) c.args.self.now.roster.knows in
+    λ line at. none_killed v c.args.pid line at (ap is_some (sym c.kind_of.ensures) ∙ (c.is_none.ensures ∙ ap not c.if-is_none.true))
+
+pub returns-clause-kills : goal.returns-clause-kills
+returns-clause-kills g c =
+    let v = view (at_work c.args.self.now.supervision) c.args.self.now.roster.knows in
+    let w = view (at_work c.kill.new.self) c.tell.new.roster.knows in
+    λ line at. killed_goes c.laws.ensures.work v w c.args.pid line at c.requires.rests c.requires.unowed
+    (ap is_some (sym c.kind_of.ensures) ∙ (c.is_none.ensures ∙ ap not c.if-is_none.false)) c.in_ok-kill.ensures.standing c.in_ok-kill.ensures.told
+    c.tell.ensures.knows (seats_same v.board w.board (sends (One c.args.pid) signal.Kill v.board.generation v.seats) c.tell.ensures.knows)
+
+pub returns-clause-reaped : goal.returns-clause-reaped
+returns-clause-reaped g c =
+    let d = c.args.self.now.roster.knows in
+    λ n were. reaped_stepped n d c.tell.new.roster.knows (sends (One c.args.pid) signal.Kill d.generation (seats_of d)) c.tell.ensures.knows were

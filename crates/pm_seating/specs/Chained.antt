@@ -1,0 +1,126 @@
+-- Journal, book, board, console, port and the runs of children agree.
+use Rattle.std.specs.Prelude.{◌≡◌, ◌≢◌, ℕ, ◌+◌, ◌≤◌, Bool, true, List, [], ◌∷◌, ◌++◌, length, codes, Option, IfSome}
+use Rattle.std.specs.List.{AllByRecursion, Contains}
+use Rattle.pm_modes.specs.declared.Mode.{Mode}
+use Rattle.pm_modes.specs.declared.Mode.TheVariants as mode
+use Rattle.pm_supervisor.specs.Children.{one_if}
+use Rattle.pm_state.specs.declared.event.PmEvent.{PmEvent}
+use Rattle.pm_state.specs.declared.event.PmEvent.TheVariants as entry
+use Rattle.pm_outside.specs.Visits.{Visit, Visits}
+use Rattle.pm_query.specs.declared.book.BookEntry.{BookEntry}
+use Rattle.pm_chain.specs.Chain.{AgreeOnGenerations, RedosEnd, RedosAreTold, UsersWereStarted, AttachOnce, AreDistinct, attached_of, gone_from, lost_from}
+use Rattle.pm_chain.specs.Steps.{ChildRun}
+use Rattle.pm_board.specs.declared.views.RosterView.{RosterView}
+use Rattle.pm_seating.specs.Seating.{Move, Notes, Reads, PortEnds, PidsEnd, Request, Nothing, Stop, Kill, ends, journal_of}
+use Rattle.pm_seating.specs.Standing.{IsBoardOf}
+use Rattle.pm_seating.specs.Runs.{AreGatheredRuns, EndsActiveAs, EndsAreRuns, IsOnBoard}
+
+-- ---- journal and book
+
+-- The children that ended while their slots were active are gone, in that order, and then whoever else was still inside; each once.
+pub record BeginsWithLost (gone lost : List ℕ) : Type 0 where
+  pub others : List ℕ
+  pub is : gone ≡ lost ++ others
+  pub once : AreDistinct gone
+
+abbrev pub LostAreGone : List (List ℕ) → List (List ℕ) → Type 0
+LostAreGone [] lost = Unit {0}
+LostAreGone (pids ∷ gone) [] = ⊥
+LostAreGone (pids ∷ gone) (those ∷ lost) = BeginsWithLost pids those × LostAreGone gone lost
+
+-- the chain of a server whose children may leave the store without its noting that
+pub record IsChainedLoosely (journal : List PmEvent) (book : List BookEntry) : Type 0 where
+  pub generations : AgreeOnGenerations journal book
+  pub redos_end : RedosEnd journal book
+  pub redos_told : RedosAreTold journal book
+  pub users : UsersWereStarted journal book
+  pub once : AttachOnce (attached_of book)
+  pub gone : LostAreGone (gone_from [] book) ([] ∷ lost_from [] journal)
+
+-- ---- requests
+
+abbrev pub mode_word : Mode → List ℕ
+mode_word mode.Smart = codes "smart"
+mode_word mode.Fast = codes "fast"
+mode_word mode.Immediate = codes "immediate"
+
+module _ (IsNumber : List ℕ → ℕ → Type 0) where
+  -- the line asks to kill this child, by one to ten digits
+  pub record IsKillLine (line : List ℕ) (pid : ℕ) : Type 0 where
+    pub digits : List ℕ
+    pub is : line ≡ codes "kill " ++ digits
+    pub number : IsNumber digits pid
+
+  -- a line asks for this
+  abbrev pub AsksFor : List ℕ → Request → Type 0
+  AsksFor line (Stop how) = line ≡ mode_word how
+  AsksFor line (Kill pid) = IsKillLine line pid
+  AsksFor line Nothing = ((how : Mode) → line ≢ mode_word how) × ((pid : ℕ) → ¬ (IsKillLine line pid))
+
+  abbrev pub IsReadAs : Move → Type 0
+  IsReadAs (Reads line asks at) = AsksFor line asks
+  IsReadAs _ = Unit {0}
+
+-- requests stand in no other move
+abbrev pub IsUnasked : Move → Type 0
+IsUnasked (Notes (entry.Asked how at) slot) = ⊥
+IsUnasked (Notes (entry.KillAsked pid) slot) = ⊥
+IsUnasked _ = Unit {0}
+
+abbrev pub lines_in : List Move → List (List ℕ)
+lines_in [] = []
+lines_in (Reads line asks at ∷ moves) = line ∷ lines_in moves
+lines_in (_ ∷ moves) = lines_in moves
+
+abbrev pub port_ends_in : List Move → ℕ
+port_ends_in [] = 0
+port_ends_in (PortEnds at ∷ moves) = 1 + port_ends_in moves
+port_ends_in (_ ∷ moves) = port_ends_in moves
+
+abbrev pub pids_end_in : List Move → ℕ
+pids_end_in [] = 0
+pids_end_in (PidsEnd at ∷ moves) = 1 + pids_end_in moves
+pids_end_in (_ ∷ moves) = pids_end_in moves
+
+-- The requests are those of the console's lines, in order, one at the port's end and one for the last pid. Where memory was
+-- short, the last of these may be missing.
+pub record AsksAsTold (IsNumber : List ℕ → ℕ → Type 0) (moves : List Move) (lines : List (List ℕ)) (ended spent short : Bool) : Type 0 where
+  pub unread : List (List ℕ)
+  pub lines_are : lines ≡ lines_in moves ++ unread
+  pub read : AllByRecursion (IsReadAs IsNumber) moves
+  pub alone : AllByRecursion IsUnasked moves
+  pub missing : Bool
+  pub port : port_ends_in moves ≤ one_if ended
+  pub pids : pids_end_in moves ≤ one_if spent
+  pub all : length lines + (one_if ended + one_if spent) ≡ (length (lines_in moves) + (port_ends_in moves + pids_end_in moves)) + one_if missing
+  pub why : missing ≡ true → short ≡ true
+
+-- ---- links
+
+abbrev pub accepted_in : List PmEvent → List ℕ
+accepted_in [] = []
+accepted_in (entry.Accepted pid decision ∷ journal) = pid ∷ accepted_in journal
+accepted_in (_ ∷ journal) = accepted_in journal
+
+-- the n-th link that the port gave is that of the n-th connection accepted, and each came back once
+pub record LinksCameBack (journal : List PmEvent) (visits : Visits) : Type 0 where
+  pub given : length visits.given ≡ length (accepted_in journal)
+  pub back : length visits.back ≡ length visits.given
+  pub each : (n : ℕ) → 1 ≤ n → n ≤ length visits.given → (visit : Visit) × Contains visits.back visit × (visit.number ≡ n)
+
+-- ---- all of it
+
+pub record AreTied {D : Type 0} (IsNumber : List ℕ → ℕ → Type 0) (count : ℕ) (moves : List Move) (book : Option (List BookEntry)) (d : RosterView D) (runs : ℕ → List ChildRun)
+    (lines : Option (List (List ℕ))) (ended spent short : Bool) (visits : Option Visits) : Type 0 where
+  -- journal and book: generations, ends of redo, children, and who is gone
+  pub chained : IfSome book (IsChainedLoosely (journal_of count moves))
+  -- the roster's steps are those of the entries
+  pub board : IsBoardOf count moves d
+  pub on_board : AllByRecursion (IsOnBoard count) moves
+  -- console and port
+  pub asked : IfSome lines (λ ls. AsksAsTold IsNumber moves ls ended spent short)
+  pub links : IfSome visits (LinksCameBack (journal_of count moves))
+  -- each end in the journal is that of a run
+  pub gathered : AreGatheredRuns runs d
+  pub ends_are : EndsAreRuns count runs (journal_of count moves)
+  pub active : AllByRecursion (λ e. AllByRecursion EndsActiveAs (ends e)) (journal_of count moves)

@@ -1,0 +1,189 @@
+//! A supervisor at work with its board: the calls of a turn that tell of children.
+ghost use Rattle.pm_seating.specs.Acts.{slot_of, ShowsNow, MayPerform, Performs};
+ghost use Rattle.pm_seating.specs.Calls.{exit_of};
+ghost use Rattle.pm_seating.specs.Sitting.{AreReaped};
+ghost use Rattle.std.specs.Prelude.{◌≡◌, ◌+◌, ◌<◌, ℕ, List, Option, false, None, OnErr, OnOk, Some, length, option_map};
+
+use crate::audience::Audience;
+use crate::laws::laws;
+use crate::mail::Report;
+use crate::meant::child_kind;
+use crate::seats::{reap, seat, seated};
+use crate::telling::{quit_all, tell};
+use pm_board::{Letter, Released, Roster, Signal};
+use pm_exit::{Kind, Status};
+use pm_journal::{Act, ChildExit, Enrolled, GenerationsSpent, Supervision, Taken};
+use pm_outside::Chronicle;
+use pm_state::PmEvent;
+
+/// What a look at a slot came to.
+#[derive(Drop)]
+pub enum Looked<M> {
+    /// Nobody sits there, or the child was found running.
+    Nothing,
+    /// The child has ended, which was noted. This mail came back.
+    Ended(M),
+    /// The child has ended, and there was no memory to note it. This mail came back.
+    ShortOfMemory(M),
+}
+
+/// A supervisor at work, and its roster.
+#[derive(Drop)]
+pub struct Desk<J: Chronicle<PmEvent>, M: Letter + Drop> {
+    pub(crate) supervision: Supervision<J>,
+    pub(crate) roster: Roster<M>,
+}
+
+impl<J: Chronicle<PmEvent>, M: Report + Drop> Desk<J, M> {
+    ghost use Rattle.pm_supervisor.specs.Steps.{kind_for};
+    ghost use Rattle.pm_board.specs.Places.{AllReaped};
+    ghost use Rattle.pm_journal.specs.Standing.{IsAtRest, MayTake, decision_on, next_pid};
+    ghost use Rattle.pm_journal.specs.Stands.{IsSettled};
+    ghost use Rattle.pm_journal.specs.Supervision.{HasRoom, at_work, standing};
+    ghost use Rattle.pm_seating.specs.Board.{seat_at, seats_of};
+    ghost use Rattle.pm_seating.specs.Seating.{Move};
+    ghost use Rattle.pm_seating.specs.Standing.{Goes, IsRunning, SeatServes, view};
+    ghost use Rattle.pm_seating.specs.Calls.{accepts, HasLookedAt};
+
+    /// Takes the next connection, right behind a turn, for a child in a slot that is free and serves it.
+    pub fn admit(&mut self, slot: u32, mail: M) -> Taken
+        requires fits { M.fits mail (kind_for (decision_on (standing self.old.supervision))) }
+        requires running { IsRunning (view (at_work self.old.supervision) self.old.roster.knows) }
+        requires rests { IsAtRest (standing self.old.supervision) }
+        requires settled { IsSettled (standing self.old.supervision) }
+        requires may { MayTake (standing self.old.supervision) }
+        requires room { HasRoom 1 self.old.supervision }
+        requires slot { slot < length (seats_of self.old.roster.knows) }
+        requires free { seat_at slot (seats_of self.old.roster.knows) ≡ None }
+        requires serves { SeatServes (length (seats_of self.old.roster.knows)) slot (kind_for (decision_on
+            (standing self.old.supervision))) }
+        requires reaped { AllReaped self.old.roster.knows }
+        ensures pid { result.pid ≡ next_pid (standing self.old.supervision) }
+        ensures decision { result.decision ≡ decision_on (standing self.old.supervision) }
+        ensures goes { Goes (accepts slot (standing self.old.supervision))
+            (view (at_work self.old.supervision) self.old.roster.knows)
+            (view (at_work self.new.supervision) self.new.roster.knows) }
+    {
+        laws();
+        let taken = self.supervision.take();
+        let child = Enrolled {
+            pid: taken.pid,
+            kind: child_kind(taken.decision),
+        };
+        seat(&mut self.roster, slot, child, mail);
+        taken
+    }
+
+    /// Looks at a slot, and notes the end of its child where it has ended. The mail that came back is handed on.
+    pub fn look_at(&mut self, slot: u32, now: u64) -> Looked<M>
+        requires running { IsRunning (view (at_work self.old.supervision) self.old.roster.knows) }
+        requires rests { IsAtRest (standing self.old.supervision) }
+        requires unowed { (standing self.old.supervision).owes_smart ≡ false }
+        requires slot { slot < length (seats_of self.old.roster.knows) }
+        ensures looks { HasLookedAt M.Letter M.kept slot now result
+            (view (at_work self.old.supervision) self.old.roster.knows)
+            (view (at_work self.new.supervision) self.new.roster.knows) }
+        ensures reaped { AreReaped slot self.old.roster.knows
+            → AreReaped (slot + 1) self.new.roster.knows }
+    {
+        laws();
+        let Some(child) = seated(&self.roster, slot) else {
+            return Looked::Nothing;
+        };
+        match reap(&mut self.roster, slot, child) {
+            None => Looked::Nothing,
+            Some(released) => match self.supervision.exited(exit_of(&released), now) {
+                Ok(()) => Looked::Ended(released.job),
+                Err(_) => Looked::ShortOfMemory(released.job),
+            },
+        }
+    }
+}
+
+impl<J: Chronicle<PmEvent>, M: Report + Drop> Desk<J, M> {
+    ghost use Rattle.std.specs.Prelude.{Bool, Err, Ok, true};
+    ghost use Rattle.pm_exit.specs.declared.child.Kind.{Kind};
+    ghost use Rattle.pm_journal.specs.Supervision.{at_work, standing};
+    ghost use Rattle.pm_journal.specs.declared.act.GenerationsSpent.{GenerationsSpent};
+    ghost use Rattle.pm_seating.specs.Acts.{slot_of};
+    ghost use Rattle.pm_seating.specs.Board.{seats_of};
+    ghost use Rattle.pm_seating.specs.Calls.{DoesNext};
+    ghost use Rattle.pm_seating.specs.Seating.{Move};
+    ghost use Rattle.pm_seating.specs.Standing.{Goes, IsRunning, view};
+
+    /// Does the next act that is due, if there is one: its entry is noted, and then it is done at the board.
+    pub fn do_next(&mut self) -> Result<Option<Act>, GenerationsSpent>
+        requires running { IsRunning (view (at_work self.old.supervision) self.old.roster.knows) }
+        ensures act { DoesNext result
+            (view (at_work self.old.supervision) self.old.roster.knows)
+            (view (at_work self.new.supervision) self.new.roster.knows) }
+        ensures reaped { (n : ℕ) → AreReaped n self.old.roster.knows
+            → AreReaped n self.new.roster.knows }
+    {
+        laws();
+        match self.supervision.next() {
+            Ok(Some(act)) => {
+                self.perform(act);
+                Ok(Some(act))
+            }
+            Ok(None) => Ok(None),
+            Err(GenerationsSpent) => Err(GenerationsSpent),
+        }
+    }
+
+    // Does an act at the board, whose entry was noted.
+    fn perform(&mut self, act: Act)
+        requires shows { ShowsNow self.old.roster.knows (seats_of self.old.roster.knows) }
+        requires may { MayPerform act self.old.roster.knows (seats_of self.old.roster.knows) }
+        ensures supervision { self.new.supervision ≡ self.old.supervision }
+        ensures performs { Performs act M.ordered self.old.roster.knows (seats_of self.old.roster.knows) self.new.roster.knows (seats_of self.new.roster.knows) }
+    {
+        let roster = &mut self.roster;
+        match act {
+            Act::Start { pid, kind } => seat(
+                roster,
+                slot_of(kind),
+                Enrolled { pid, kind },
+                M::order(kind),
+            ),
+            Act::Quit(why) => quit_all(roster, why),
+            Act::Terminate => tell(roster, Audience::Stoppable, Signal::Terminate),
+            Act::KillAll => tell(roster, Audience::Everyone, Signal::Kill),
+            Act::AskCheckpoint => tell(roster, Audience::Checkpointer, Signal::Checkpoint),
+            Act::Ready { .. } => pm_gate::ready(roster),
+            Act::Reset { generation } => {
+                prove!(generation > 0);
+                pm_gate::reset(roster);
+            }
+            Act::Say(_) | Act::End(_) => {}
+        }
+    }
+}
+
+// The slot of a child that serves no connection.
+fn slot_of(kind: Kind) -> u32
+    ensures { result ≡ slot_of kind }
+{
+    match kind {
+        Kind::Checkpointer => 1,
+        Kind::Writer => 2,
+        _ => 0,
+    }
+}
+
+// The end of a child that was released. Of a startup child that ended with code 0 it tells the number that it kept.
+fn exit_of<M: Report>(released: &Released<M>) -> ChildExit
+    ensures { result ≡ exit_of (M.kept released.now.job) released.now }
+{
+    let kept = match (released.kind, released.status) {
+        (Kind::Startup, Status::Code(0)) => Some(released.job.kept().unwrap_or(0)),
+        _ => None,
+    };
+    ChildExit {
+        pid: released.pid,
+        kind: released.kind,
+        status: released.status,
+        was_active: released.was_active,
+        kept,
+    }
+}
