@@ -1,13 +1,9 @@
-//! Tests of the public calls of the store.
+//! Tests of the public calls of the store: one script of visits.
 #![tactic(auto)]
 
 #[cfg(test)]
-mod checkpoints;
+mod scenes;
 #[cfg(test)]
-mod commits;
+mod told;
 #[cfg(test)]
-mod faults;
-#[cfg(test)]
-mod generations;
-#[cfg(test)]
-mod world;
+mod visit;

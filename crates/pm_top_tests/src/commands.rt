@@ -1,74 +1,185 @@
-// How a command ends where nothing fails.
-use crate::memory::{NO_FAULTS, check_files, initdb, texts};
-use pm_disk::MemDisk;
-use pm_once_tests::bytes::{CLOSED, HEADER, OPEN};
-use pm_once_tests::memory;
-use pm_top::{Top, run};
-use std::alloc::Global;
-use std::process::Abort;
-use std::sync::Wait;
+//! What the commands say of files, and of words that are no command line.
+use crate::play::play;
 use std::test::Fail;
-use std::time::Clock;
 
-// An `initdb` that ends so, and behind which there is a cluster without rows.
-fn check_initdb<R: Wait + Clock + Copy + Drop + Abort>(
-    rt: &R,
-    alloc: Global,
-    disk: MemDisk,
-    status: Top,
-    code: u8,
-    line: &[u8],
-) -> Result<MemDisk, Fail> {
-    let ended = initdb(rt, alloc, disk, NO_FAULTS)?;
-    assert_eq!(rt; ended.status, status);
-    assert_eq!(rt; ended.status.code(), code);
-    let outside = ended.outside;
-    assert_eq!(rt; outside.sink.bytes(), line);
-    check_files(
-        rt,
-        alloc,
-        &outside.disk,
-        &[OPEN, HEADER, CLOSED],
-        &[CLOSED],
-        "initdb",
-    )?;
-    Ok(outside.disk)
-}
+/// Commands over files, where nothing fails.
+const SCENES: &str = r"
+# a cluster is made once
+files ..0 | ..0
+$ initdb --data folder
+ends Done 0
+says initialized\n
+a NEW
+b CLOSED
+$ initdb --data folder
+ends Exists 1
+says a\x20cluster\x20exists\n
+a NEW
+b CLOSED
+# words that are no command line
+$
+ends Usage 2
+says USAGE
+$ serve
+ends Usage 2
+says USAGE
+$ once --data
+ends Usage 2
+says USAGE
+$ controldata folder
+ends Usage 2
+says USAGE
+$ initdb --data x --data y
+ends Usage 2
+says USAGE
+$ workload --data x
+ends Usage 2
+says USAGE
+$ once --data x --max-connections 65
+ends Usage 2
+says USAGE
+$ once --data x --max-connections 0
+ends Usage 2
+says USAGE
+$ once --data x --restart-after-crash no
+ends Usage 2
+says USAGE
+$ initdb --data x --restart-after-crash off
+ends Usage 2
+says USAGE
+# what the files stand for: behind `initdb`, a kill, a checkpoint, and a kill before the old file was closed
+files NEW | CLOSED
+$ controldata --data=folder
+ends Done 0
+says OF_NEW
+book
+a NEW
+b CLOSED
+files ONE_ROW | CLOSED
+$ controldata --data=folder
+ends Done 0
+says OF_ONE_ROW
+book
+a ONE_ROW
+b CLOSED
+files ONE_ROW_CLOSED | BASE_OF_ONE
+$ controldata --data=folder
+ends Done 0
+says OF_CHECKPOINT
+book
+a ONE_ROW_CLOSED
+b BASE_OF_ONE
+files ONE_ROW | BASE_OF_ONE
+$ controldata --data=folder
+ends Done 0
+says OF_CHECKPOINT
+book
+a ONE_ROW
+b BASE_OF_ONE
+# a cluster that was served
+files ..0 | ..0
+$ initdb --data folder
+$ once --data=folder < PACKET INSERT_SEVEN SELECT_SEVEN TERMINATE
+$ controldata --data=folder
+ends Done 0
+says OF_CHECKPOINT
+book
+a ONE_ROW_CLOSED
+b BASE_OF_ONE
+# files that are no log: nobody is served, and they stay as they are
+files ..0 | ..0
+$ once --data=folder < PACKET
+ends Abnormal(StartupFailed(Redo(NoCluster))) 1
+says STARTUP_FAILED ABORTING NO_CLUSTER
+links 0
+$ controldata --data=folder
+ends Unreadable(NoCluster) 1
+says NO_CLUSTER
+a ..0
+b ..0
+files CLOSED HEADER | CLOSED
+$ once --data=folder < PACKET
+ends Abnormal(StartupFailed(Redo(NoCluster))) 1
+says STARTUP_FAILED ABORTING NO_CLUSTER
+links 0
+$ controldata --data=folder
+ends Unreadable(NoCluster) 1
+says NO_CLUSTER
+a CLOSED HEADER
+b CLOSED
+files OPEN | CLOSED
+$ once --data=folder < PACKET
+ends Abnormal(StartupFailed(Redo(BadFile { file: A, at: 1 }))) 1
+says STARTUP_FAILED ABORTING damaged\x20file\x20A\x20at\x201\n
+links 0
+$ controldata --data=folder
+ends Unreadable(BadFile { file: A, at: 1 }) 1
+says damaged\x20file\x20A\x20at\x201\n
+a OPEN
+b CLOSED
+files OPEN HEADER | CLOSED
+$ once --data=folder < PACKET
+ends Abnormal(StartupFailed(Redo(BadFile { file: A, at: 30 }))) 1
+says STARTUP_FAILED ABORTING damaged\x20file\x20A\x20at\x2030\n
+links 0
+$ controldata --data=folder
+ends Unreadable(BadFile { file: A, at: 30 }) 1
+says damaged\x20file\x20A\x20at\x2030\n
+a OPEN HEADER
+b CLOSED
+files OPEN HEADER OPEN PUT_SEVEN | CLOSED
+$ once --data=folder < PACKET
+ends Abnormal(StartupFailed(Redo(BadFile { file: A, at: 59 }))) 1
+says STARTUP_FAILED ABORTING damaged\x20file\x20A\x20at\x2059\n
+links 0
+$ controldata --data=folder
+ends Unreadable(BadFile { file: A, at: 59 }) 1
+says damaged\x20file\x20A\x20at\x2059\n
+a OPEN HEADER OPEN PUT_SEVEN
+b CLOSED
+files CLOSED | OPEN PGPMLOX
+$ once --data=folder < PACKET
+ends Abnormal(StartupFailed(Redo(BadFile { file: B, at: 7 }))) 1
+says STARTUP_FAILED ABORTING damaged\x20file\x20B\x20at\x207\n
+links 0
+$ controldata --data=folder
+ends Unreadable(BadFile { file: B, at: 7 }) 1
+says damaged\x20file\x20B\x20at\x207\n
+a CLOSED
+b OPEN PGPMLOX
+files ONE_ROW | ..0
+$ once --data=folder < PACKET
+ends Abnormal(StartupFailed(Redo(BadFile { file: B, at: 0 }))) 1
+says STARTUP_FAILED ABORTING damaged\x20file\x20B\x20at\x200\n
+links 0
+$ controldata --data=folder
+ends Unreadable(BadFile { file: B, at: 0 }) 1
+says damaged\x20file\x20B\x20at\x200\n
+a ONE_ROW
+b ..0
+files ONE_ROW | OPEN X
+$ once --data=folder < PACKET
+ends Abnormal(StartupFailed(Redo(BadFile { file: B, at: 1 }))) 1
+says STARTUP_FAILED ABORTING damaged\x20file\x20B\x20at\x201\n
+links 0
+$ controldata --data=folder
+ends Unreadable(BadFile { file: B, at: 1 }) 1
+says damaged\x20file\x20B\x20at\x201\n
+a ONE_ROW
+b OPEN X
+files ONE_ROW | OPEN HEADER CLOSED
+$ once --data=folder < PACKET
+ends Abnormal(StartupFailed(Redo(SameEpoch { epoch: 1 }))) 1
+says STARTUP_FAILED ABORTING two\x20files\x20of\x20epoch\x201\n
+links 0
+$ controldata --data=folder
+ends Unreadable(SameEpoch { epoch: 1 }) 1
+says two\x20files\x20of\x20epoch\x201\n
+a ONE_ROW
+b OPEN HEADER CLOSED";
 
 #[test]
-fn a_cluster_is_made_once(rt: HostRuntime) -> Result<(), Fail> {
-    let alloc = rt.alloc();
-    let disk = MemDisk::new(alloc);
-    let disk = check_initdb(&rt, alloc, disk, Top::Done, 0, b"initialized\n")?;
-    check_initdb(&rt, alloc, disk, Top::Exists, 1, b"a cluster exists\n")?;
-    Ok(())
-}
-
-#[test]
-fn words_that_are_no_line_get_the_usage(rt: HostRuntime) -> Result<(), Fail> {
-    let alloc = rt.alloc();
-    let cases: [&[&str]; 10] = [
-        &[],
-        &["serve"],
-        &["once", "--data"],
-        &["controldata", "folder"],
-        &["initdb", "--data", "x", "--data", "y"],
-        &["workload", "--data", "x"],
-        &["once", "--data", "x", "--max-connections", "65"],
-        &["once", "--data", "x", "--max-connections", "0"],
-        &["once", "--data", "x", "--restart-after-crash", "no"],
-        &["initdb", "--data", "x", "--restart-after-crash", "off"],
-    ];
-    for words in cases {
-        let words = texts(alloc, words)?;
-        let outside = memory(&rt, alloc, MemDisk::new(alloc), &[], NO_FAULTS)?;
-        let ended = run(&rt, alloc, &words, outside);
-        assert_eq!(rt; ended.status, Top::Usage);
-        assert_eq!(rt; ended.status.code(), 2);
-        assert_eq!(rt;
-            ended.outside.sink.bytes(),
-            b"usage: initdb | once | serve | controldata | workload\n".as_slice()
-        );
-    }
+fn commands_tell_what_they_find(rt: HostRuntime) -> Result<(), Fail> {
+    let _left = play(&rt, rt.alloc(), SCENES)?;
     Ok(())
 }

@@ -1,25 +1,16 @@
-//! Tests of the top call, over memory. What is sent, stored and noted is written out by hand.
+//! Tests of the top call, over memory: scenes of commands as lines of a text. What is sent, stored and noted is written out
+//! by hand, from the documents of the formats.
 #![tactic(auto)]
 
 #[cfg(test)]
-mod bytes;
+mod answers;
 #[cfg(test)]
 mod commands;
 #[cfg(test)]
-mod commits;
+mod crashes;
 #[cfg(test)]
-mod control;
+mod faults;
 #[cfg(test)]
-mod disk_faults;
+mod names;
 #[cfg(test)]
-mod entries;
-#[cfg(test)]
-mod memory;
-#[cfg(test)]
-mod outside_faults;
-#[cfg(test)]
-mod scripts;
-#[cfg(test)]
-mod talks;
-#[cfg(test)]
-mod unreadable;
+mod play;

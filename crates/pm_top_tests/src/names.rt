@@ -1,0 +1,199 @@
+//! What words of the scenes stand for: what is sent and stored, by the documents of their formats, and what is told.
+use bstr::ByteVec;
+use std::alloc::Global;
+use std::test::Fail;
+
+/// `NAME = bytes`, in which escapes stand for theirs, and `NAME := WORD WORD`.
+const NAMES: &str = r#"# a startup packet with the user `ann`
+PACKET = \0\0\0\x12\0\x03\0\0user\0ann\0\0
+# queries
+INSERT_SEVEN = Q\0\0\0\x27INSERT INTO kv VALUES (7, 'seven')\0
+INSERT_EIGHT = Q\0\0\0\x27INSERT INTO kv VALUES (8, 'eight')\0
+SELECT_SEVEN = Q\0\0\0\x24SELECT k, v FROM kv WHERE k = 7\0
+SELECT_EIGHT = Q\0\0\0\x24SELECT k, v FROM kv WHERE k = 8\0
+INSERT_OTHER = Q\0\0\0\x27INSERT INTO kv VALUES (7, 'other')\0
+COUNT = Q\0\0\0\x1cSELECT count(*) FROM kv\0
+# two statements of one query: the second one's key is there already
+INSERT_TWICE = Q\0\0\0CINSERT INTO kv VALUES (1, 'a'); INSERT INTO kv VALUES (1, 'b')\0
+# the greatest key, one above it, and the least
+INSERT_GREATEST = Q\0\0\x005INSERT INTO kv VALUES (9223372036854775807, 'a')\0
+INSERT_BEYOND = Q\0\0\x005INSERT INTO kv VALUES (9223372036854775808, 'a')\0
+INSERT_LEAST = Q\0\0\x006INSERT INTO kv VALUES (-9223372036854775808, 'a')\0
+# a query of one empty statement, and one of none
+SEMICOLON = Q\0\0\0\x06;\0
+NOTHING = Q\0\0\0\x05\0
+# the end of a session by its client
+TERMINATE = X\0\0\0\x04
+# the startup packet of psql, and two statements as it sends them
+PSQL_PACKET = \0\0\0\x54\0\x03\0\0user\0postgres\0database\0postgres\0application_name\0psql\0client_encoding\0UTF8\0\0
+PSQL_INSERT = Q\0\0\x001insert into KV (k, v) values\n (-3, 'it''s');\0
+PSQL_SELECT = Q\0\0\0\x21select * from kv order by k;\0
+# requests for encryption, and how each is answered
+SSL_REQUEST = \0\0\0\x08\x04\xd2\x16\x2f
+GSS_REQUEST = \0\0\0\x08\x04\xd2\x16\x30
+NO_ENCRYPTION = N
+# the greeting of a session up to its cancel key
+GREETING = R\0\0\0\x08\0\0\0\0S\0\0\0\x18server_version\x0016.0\0S\0\0\0\x19server_encoding\0UTF8\0S\0\0\0\x19client_encoding\0UTF8\0S\0\0\0\x17DateStyle\0ISO, MDY\0S\0\0\0\x19integer_datetimes\0on\0S\0\0\0\x23standard_conforming_strings\0on\0
+# the rest of it for the sessions with pid 4, 5 and 8: their keys are words of the key stream of ChaCha20 at zero bytes
+KEY_OF_4 = K\0\0\0\x0c\0\0\0\x04\xb8\x19\xd2\xbdZ\0\0\0\x05I
+KEY_OF_5 = K\0\0\0\x0c\0\0\0\x05\x1a\xed\x8d\xa0Z\0\0\0\x05I
+KEY_OF_8 = K\0\0\0\x0c\0\0\0\x08\x7cYA\xdaZ\0\0\0\x05I
+# answers
+INSERTED = C\0\0\0\x0fINSERT 0 1\0Z\0\0\0\x05I
+COLUMNS = T\0\0\0\x2e\0\x02k\0\0\0\0\0\0\0\0\0\0\x14\0\x08\xff\xff\xff\xff\0\0v\0\0\0\0\0\0\0\0\0\0\x19\xff\xff\xff\xff\xff\xff\0\0
+SEVEN = D\0\0\0\x14\0\x02\0\0\0\x017\0\0\0\x05seven
+EIGHT = D\0\0\0\x14\0\x02\0\0\0\x018\0\0\0\x05eight
+ITS = D\0\0\0\x14\0\x02\0\0\0\x02-3\0\0\0\x04it's
+FOUND = C\0\0\0\x0dSELECT 1\0Z\0\0\0\x05I
+ABSENT = C\0\0\0\x0dSELECT 0\0Z\0\0\0\x05I
+NO_ROWS = T\0\0\0\x1e\0\x01count\0\0\0\0\0\0\0\0\0\0\x14\0\x08\xff\xff\xff\xff\0\0D\0\0\0\x0b\0\x01\0\0\0\x010C\0\0\0\x0dSELECT 1\0Z\0\0\0\x05I
+EMPTY = I\0\0\0\x04Z\0\0\0\x05I
+# one row was inserted, and its key was there for the next one
+INSERTED_ONCE = C\0\0\0\x0fINSERT 0 1\0E\0\0\0\x71SERROR\0VERROR\0C23505\0Mduplicate key value violates unique constraint "kv_pkey"\0DKey (k)=(1) already exists.\0\0Z\0\0\0\x05I
+DUPLICATE = E\0\0\0\x71SERROR\0VERROR\0C23505\0Mduplicate key value violates unique constraint "kv_pkey"\0DKey (k)=(7) already exists.\0\0Z\0\0\0\x05I
+OUT_OF_RANGE = E\0\0\0\x2fSERROR\0VERROR\0C22003\0Mbigint out of range\0\0Z\0\0\0\x05I
+# the end of a session that met a fault of the disk
+PANIC = E\0\0\0\x3dSPANIC\0VPANIC\0C58030\0Mcould not write to the commit log\0\0
+# the refusals of a packet: a second request for encryption of one kind, no user, and a body that isn't pairs
+ASKED_TWICE = E\0\0\0\x5fSFATAL\0VFATAL\0C0A000\0Munsupported frontend protocol 1234.5679: server supports 3.0 to 3.0\0\0
+NO_USER = E\0\0\0\x4fSFATAL\0VFATAL\0C28000\0Mno PostgreSQL user name specified in startup packet\0\0
+BAD_LAYOUT = E\0\0\0\x5bSFATAL\0VFATAL\0C08P01\0Minvalid startup packet layout: expected terminator as last byte\0\0
+# those of a message
+LONG_QUERY = E\0\0\x005SFATAL\0VFATAL\0C54000\0Mquery exceeds 65536 bytes\0\0
+EXTENDED = E\0\0\0\x44SFATAL\0VFATAL\0C0A000\0Mextended query protocol is not supported\0\0
+UNKNOWN_TYPE = E\0\0\0\x3dSFATAL\0VFATAL\0C08P01\0Minvalid frontend message type 122\0\0
+# the gates of a file, or of what is written behind it
+CLOSED = \0
+OPEN = \x01
+# magic, version, epoch, clean, the commits in the base and its rows; and of the second epoch without the last two
+HEADER = PGPMLOG\x01\0\0\0\0\0\0\0\x01\x01\0\0\0\0\0\0\0\0\0\0\0\0
+SECOND_HEADER = PGPMLOG\x01\0\0\0\0\0\0\0\x02\x01
+NO_COMMIT = \0\0\0\0\0\0\0\0\0\0\0\0
+ONE_COMMIT = \0\0\0\0\0\0\0\x01\0\0\0\x01
+TWO_COMMITS = \0\0\0\0\0\0\0\x02\0\0\0\x02
+# rows of a base
+ROW_SEVEN = \0\0\0\0\0\0\0\x07\0\0\0\x05seven
+ROW_EIGHT = \0\0\0\0\0\0\0\x08\0\0\0\x05eight
+# the length and the body of a commit that puts a row
+PUT_SEVEN = \0\0\0\x18\0\0\0\x01\0\x01\x01\0\0\0\0\0\0\0\x07\0\0\0\x05seven
+PUT_EIGHT = \0\0\0\x18\0\0\0\x01\0\x01\x01\0\0\0\0\0\0\0\x08\0\0\0\x05eight
+# file A behind `initdb`, behind a commit, and behind a checkpoint; file B behind one of no row, and of one
+NEW := OPEN HEADER CLOSED
+ONE_ROW := OPEN HEADER OPEN PUT_SEVEN CLOSED
+ONE_ROW_CLOSED := CLOSED HEADER OPEN PUT_SEVEN CLOSED
+BASE_OF_NONE := OPEN SECOND_HEADER NO_COMMIT CLOSED
+BASE_OF_ONE := OPEN SECOND_HEADER ONE_COMMIT ROW_SEVEN CLOSED
+# lines of the server's log
+READY = LOG:  database system is ready to accept connections\n
+SMART = LOG:  received smart shutdown request\n
+DOWN = LOG:  database system is shut down\n
+SESSION_CRASHED = LOG:  child 4 (backend) was terminated by signal 6\n
+CHECKPOINTER_CRASHED = LOG:  child 2 (checkpointer) was terminated by signal 6\n
+TERMINATING = LOG:  terminating any other active server processes\n
+REINITIALIZING = LOG:  all server processes terminated; reinitializing\n
+RESTART_OFF = LOG:  shutting down because restart_after_crash is off\n
+ABNORMAL = LOG:  abnormal database system shutdown\n
+STARTUP_FAILED = LOG:  child 1 (startup) exited with exit code 1\n
+ABORTING = LOG:  aborting startup due to startup process failure\n
+NO_CLUSTER = no readable cluster\n
+PLAIN := READY SMART DOWN
+CRASH_CYCLE := READY SESSION_CRASHED TERMINATING REINITIALIZING READY SMART DOWN
+# what commands say
+USAGE = usage: initdb | once | serve | controldata | workload\n
+DISK_FAULT = disk fault\n
+OF_NEW = file: A\nepoch: 1\nclean: yes\ncommits: 0\nrows: 0\nbatches: 0\n
+OF_ONE_ROW = file: A\nepoch: 1\nclean: no\ncommits: 1\nrows: 1\nbatches: 1\n
+OF_CHECKPOINT = file: B\nepoch: 2\nclean: yes\ncommits: 1\nrows: 1\nbatches: 0\n
+# entries of the book: a disk is made by four calls, its two files are read at ticks 5 to 10, and a commit takes four ticks
+OPENED = Opened { generation: 1 }\n
+REDO_ATTACHED = Attached { pid: 1, generation: 1 }\n
+REDONE = Redone { pid: 1, generation: 1, kept: 0 }\n
+REDO_DETACHED = Detached { pid: 1 }\n
+STARTED := OPENED REDO_ATTACHED REDONE REDO_DETACHED
+CLOSE_ATTACHED = Attached { pid: 2, generation: 1 }\n
+CHECKPOINTED = CheckpointEnded { pid: 2, done: true, clean: true }\n
+CLOSE_DETACHED = Detached { pid: 2 }\n
+CLOSE := CLOSE_ATTACHED CHECKPOINTED CLOSE_DETACHED
+ATTACHED = Attached { pid: 4, generation: 1 }\n
+DETACHED = Detached { pid: 4 }\n
+NEXT_ATTACHED = Attached { pid: 5, generation: 1 }\n
+NEXT_DETACHED = Detached { pid: 5 }\n
+PUTS_SEVEN = Answered { pid: 4, script: Script { stmts: [Insert { key: 7, value: Text { content: "seven" } }] }, reply: Reply { items: [Insert] }, commit: Commit { changes: [Put { key: 7, value: Text { content: "seven" } }] }, front: 1, tick: 10 }\n
+PUTS_EIGHT = Answered { pid: 4, script: Script { stmts: [Insert { key: 8, value: Text { content: "eight" } }] }, reply: Reply { items: [Insert] }, commit: Commit { changes: [Put { key: 8, value: Text { content: "eight" } }] }, front: 2, tick: 14 }\n
+NEXT_PUTS_EIGHT = Answered { pid: 5, script: Script { stmts: [Insert { key: 8, value: Text { content: "eight" } }] }, reply: Reply { items: [Insert] }, commit: Commit { changes: [Put { key: 8, value: Text { content: "eight" } }] }, front: 2, tick: 14 }\n
+REFUSES_OTHER = Answered { pid: 4, script: Script { stmts: [Insert { key: 7, value: Text { content: "other" } }] }, reply: Reply { items: [Duplicate { key: 7 }] }, commit: Commit { changes: [] }, front: 1, tick: 14 }\n
+FINDS_SEVEN = Answered { pid: 4, script: Script { stmts: [Select { key: Some(7) }] }, reply: Reply { items: [Rows(Pairs { pairs: [(7, Text { content: "seven" })] })] }, commit: Commit { changes: [] }, front: 1, tick: 14 }\n
+FINDS_NO_EIGHT = Answered { pid: 4, script: Script { stmts: [Select { key: Some(8) }] }, reply: Reply { items: [Rows(Pairs { pairs: [] })] }, commit: Commit { changes: [] }, front: 0, tick: 10 }\n
+RELEASED_AT_10 = Released { pid: 4, front: 0, tick: 10 }\n
+RELEASED_AT_14 = Released { pid: 4, front: 1, tick: 14 }\n
+NEXT_RELEASED_AT_18 = Released { pid: 5, front: 2, tick: 18 }\n
+# the log broke at this tick, while one of these pids was at it
+BROKE_1_AT_5 = Broke { pid: 1, since: 5, faults: 1 }\n
+BROKE_1_AT_6 = Broke { pid: 1, since: 6, faults: 1 }\n
+BROKE_1_AT_7 = Broke { pid: 1, since: 7, faults: 1 }\n
+BROKE_1_AT_8 = Broke { pid: 1, since: 8, faults: 1 }\n
+BROKE_1_AT_9 = Broke { pid: 1, since: 9, faults: 1 }\n
+BROKE_1_AT_10 = Broke { pid: 1, since: 10, faults: 1 }\n
+BROKE_2_AT_15 = Broke { pid: 2, since: 15, faults: 1 }\n
+BROKE_2_AT_16 = Broke { pid: 2, since: 16, faults: 1 }\n
+BROKE_2_AT_17 = Broke { pid: 2, since: 17, faults: 1 }\n
+BROKE_2_AT_18 = Broke { pid: 2, since: 18, faults: 1 }\n
+BROKE_2_AT_19 = Broke { pid: 2, since: 19, faults: 1 }\n
+BROKE_2_AT_20 = Broke { pid: 2, since: 20, faults: 1 }\n
+BROKE_4_AT_11 = Broke { pid: 4, since: 11, faults: 1 }\n
+BROKE_4_AT_12 = Broke { pid: 4, since: 12, faults: 1 }\n
+BROKE_4_AT_13 = Broke { pid: 4, since: 13, faults: 1 }\n
+BROKE_4_AT_14 = Broke { pid: 4, since: 14, faults: 1 }\n
+BROKE_4_AT_15 = Broke { pid: 4, since: 15, faults: 1 }\n
+BROKE_4_AT_16 = Broke { pid: 4, since: 16, faults: 1 }\n
+BROKE_4_AT_17 = Broke { pid: 4, since: 17, faults: 1 }\n
+BROKE_4_AT_18 = Broke { pid: 4, since: 18, faults: 1 }\n
+# the next generation behind a fault at tick 14: its redo takes six calls more
+NEXT_GENERATION = Gone { pid: 4 }\nOpened { generation: 2 }\nAttached { pid: 5, generation: 2 }\nRedone { pid: 5, generation: 2, kept: 1 }\nDetached { pid: 5 }\nAttached { pid: 8, generation: 2 }\nAnswered { pid: 8, script: Script { stmts: [Select { key: Some(7) }] }, reply: Reply { items: [Rows(Pairs { pairs: [(7, Text { content: "seven" })] })] }, commit: Commit { changes: [] }, front: 1, tick: 20 }\nReleased { pid: 8, front: 1, tick: 20 }\nDetached { pid: 8 }\nAttached { pid: 6, generation: 2 }\nCheckpointEnded { pid: 6, done: true, clean: true }\nDetached { pid: 6 }\n
+# entries of the journal
+REDO_1 = RedoEnded { generation: 1, kept: 0 }\n
+RESET_2 = Reset { generation: 2 }\n
+REDO_2_OF_0 = RedoEnded { generation: 2, kept: 0 }\n
+REDO_2_OF_1 = RedoEnded { generation: 2, kept: 1 }\n
+REDO_2_OF_2 = RedoEnded { generation: 2, kept: 2 }\n"#;
+
+// What a list of names says behind a sign, or the word itself.
+fn meaning<'a>(word: &'a str, sign: &str) -> &'a str {
+    for line in NAMES.lines() {
+        if let Some((name, meaning)) = line.split_once(sign)
+            && name == word
+        {
+            return meaning;
+        }
+    }
+    word
+}
+
+pub fn number(text: &str) -> Result<usize, Fail> {
+    Ok(text.parse::<usize>().ok().ok_or("a number")?)
+}
+
+// Puts what a word stands for behind the bytes. `v*3` stands for it three times, and `..60` cuts there.
+fn put(alloc: Global, bytes: &mut Vec<u8>, word: &str) -> Result<(), Fail> {
+    if let Some(length) = word.strip_prefix("..") {
+        bytes.truncate(number(length)?);
+        return Ok(());
+    }
+    let (unit, times) = word.split_once('*').unwrap_or((word, "1"));
+    let part = Vec::unescape_bytes(alloc, meaning(unit, " = "))?;
+    for _ in 0..number(times)? {
+        bytes.extend_from_slice(&part)?;
+    }
+    Ok(())
+}
+
+/// The bytes that words stand for, one behind the other.
+pub fn spelled(alloc: Global, words: &str) -> Result<Vec<u8>, Fail> {
+    let mut bytes = Vec::new(alloc);
+    for word in words.split_whitespace() {
+        for part in meaning(word, " := ").split_whitespace() {
+            put(alloc, &mut bytes, part)?;
+        }
+    }
+    Ok(bytes)
+}
