@@ -7,7 +7,7 @@ use crate::world::{Seat, cluster};
 use pm_admit::Cac;
 use pm_life::{Cancelled, ScriptedLife};
 use pm_outside::{Kept, LinkScript, MemClock, MemLink};
-use pm_session::{Admission, Means, SessionConf, serve};
+use pm_session::{Admission, Done, Means, SessionConf, serve};
 use pm_shared::{Shared, TokenStore};
 use std::alloc::{AllocError, Global};
 use std::process::Abort;
@@ -65,7 +65,12 @@ fn talk<R: Wait + Abort + time::Clock + Copy + Drop>(
     };
     let link = link_of(alloc, INCOMING)?;
     let served = serve(&means, link, life, admission, &conf, &mut store);
-    Ok(served.link)
+    let Done {
+        status: _,
+        link,
+        life: _,
+    } = served;
+    Ok(link)
 }
 
 #[test]
