@@ -1,20 +1,16 @@
 -- Signals that a child took and was given, from one moment to the next.
-use Rattle.std.proofs.Common.{◌≡◌, ◌⊎◌, inl, inr, ℕ, ◌+◌, ◌-◌, ◌^◌, ◌≤◌, ◌<◌, min, List, Bool, true, false, IsTrue, Option, None, Some, IfSome, Result, refl, sym, ◌∙◌, ap, subst, arith}
+use Rattle.std.proofs.Common.{◌≡◌, inl, inr, ℕ, ◌+◌, List, Bool, true, false, Option, None, Some, IfSome, Result, refl, ◌∙◌, ap, subst, arith}
 use Rattle.std.specs.Option.{option_map}
-use Rattle.std.specs.List.{Contains}
 use Rattle.pm_supervisor.specs.declared.Reason.{Reason}
 use Rattle.pm_life.specs.declared.standing.Standing.{Standing}
 use Rattle.pm_life.specs.declared.life.GateNo.{GateNo}
-use Rattle.pm_life.specs.Life.{Child, Told, Signal, Kill, Quit, Terminate, Cancel, nothing_told, met_at_gate, next_ask, was_told, IsUntried, HasNoCancel}
-use Rattle.pm_life.specs.Attention.{Attention, attention, nothing_stands, was_given, Stands, IsAttentive, IsBy, HasAsked, KeepsCancels, Gains, HasGained, GivenSince, Hears}
-use Rattle.pm_session.specs.declared.ending.Cause.{Cause}
-use Rattle.pm_session.specs.declared.ending.Cause.TheVariants.{ToldToTerminate, ToldToQuit, Killed}
-use Rattle.pm_session.specs.Exchange.{LinkView}
-use Rattle.pm_session.specs.Conversation.{ShowsCause, IsBreak}
-use Rattle.pm_session.specs.Attention.{ends_by, ends_of}
-
-true_false : true ≡ false → ⊥
-true_false e = cc
+use Rattle.pm_life.specs.Life.{Child, Told, Signal, Kill, Quit, Terminate, Cancel, nothing_told, met_at_gate, was_told, IsUntried, HasNoCancel}
+use Rattle.pm_life.specs.Attention.{Attention, attention, was_given, Stands, IsAttentive, IsBy, HasAsked, KeepsCancels, Gains, HasGained, GivenSince, Hears}
+use Rattle.pm_exchange.specs.declared.ending.Cause.{Cause}
+use Rattle.pm_exchange.specs.declared.ending.Cause.TheVariants.{ToldToTerminate, ToldToQuit, Killed}
+use Rattle.pm_exchange.specs.Exchange.{LinkView}
+use Rattle.pm_exchange.specs.Moments.{ShowsCause, IsBreak}
+use Rattle.pm_exchange.specs.Attention.{ends_by, ends_of}
 
 -- ---- what was told, from one moment to the next
 
@@ -144,41 +140,6 @@ untried_still m (Some before) (Some now) asked untried = asked.1 ∙ untried
 
 -- ---- what stands
 
-pub untold : (told : Option Told) (child : Child) → IfSome told (λ t. t ≡ nothing_told) → IsAttentive (attention told child nothing_stands)
-untold None child is = tt
-untold (Some told) child is = rw is (record {
-  kill = (λ e. absurd (true_false (sym e)), λ h. absurd (omega (arith, h.1.1)));
-  quit = λ reason e. absurd cc;
-  quits = λ reason h. absurd (omega (arith, h.1.1));
-  terminate = (λ e. absurd (true_false (sym e)), λ h. absurd (omega (arith, h.1.1)));
-  cancel = λ e. absurd (true_false (sym e));
-  checkpoint = (λ e. absurd (true_false (sym e)), λ h. absurd (omega (arith, h.1.1)));
-})
-
-dropped : (told : Option Told) (child : Child) (standing : Standing) → IsAttentive (attention told child standing) → IsAttentive (attention told child (record standing { cancel = false }))
-dropped None child standing stands = tt
-dropped (Some told) child standing stands = record {
-  kill = stands.kill;
-  quit = stands.quit;
-  quits = stands.quits;
-  terminate = stands.terminate;
-  cancel = λ e. absurd (true_false (sym e));
-  checkpoint = stands.checkpoint;
-}
-
--- a cancel that is heeded or dropped stands no more
-pub hears_dropped : (told : Option Told) (child : Child) (standing : Standing) → Hears 0 (attention told child standing) (attention told child (record standing { cancel = false }))
-hears_dropped told child standing = record {
-  asked = asked_none told;
-  child = refl;
-  gained = gained_none told;
-  cancels = cancels_none told;
-  given = λ signal given. given;
-  stands = dropped told child standing;
-  kill = λ is. is;
-  cancel = λ e. absurd (true_false (sym e));
-}
-
 given_if : (told : Option Told) (child : Child) (standing : Standing) (signal : Signal) → ((t : Told) → Stands standing t → was_told signal t) → IsAttentive (attention told child standing) → was_given signal told
 given_if None child standing signal gives attentive = tt
 given_if (Some told) child standing signal gives attentive = gives told attentive
@@ -202,19 +163,6 @@ shown_by false None false cause before now at k q t attentive is = absurd cc
 -- what ends a session was told
 pub told_cause : (at : Attention) (cause : Cause) (before now : LinkView) → IsAttentive at → ends_of at.standing ≡ Some cause → IsBreak cause × ShowsCause cause before now at
 told_cause at cause before now attentive is = shown_by at.standing.kill at.standing.quit at.standing.terminate cause before now at refl refl refl attentive is
-
--- what the gate answers changes nothing of what stands
-pub attentive_at_gate : (answer : Result ℕ GateNo) (before now : Option Told) (child_before child : Child) (standing : Standing) → now ≡ option_map (met_at_gate answer) before → IsAttentive (attention before child_before standing)
-    → IsAttentive (attention now child standing)
-attentive_at_gate answer None now child_before child standing e stands = rw e tt
-attentive_at_gate answer (Some told) now child_before child standing e stands = rw e (record {
-  kill = stands.kill;
-  quit = stands.quit;
-  quits = stands.quits;
-  terminate = stands.terminate;
-  cancel = stands.cancel;
-  checkpoint = stands.checkpoint;
-})
 
 -- nor of which cancels were asked for
 pub cancels_at_gate : (answer : Result ℕ GateNo) (before now : Option Told) → now ≡ option_map (met_at_gate answer) before → KeepsCancels before now

@@ -1,5 +1,5 @@
 -- Which queries of what came in have an answer.
-use Rattle.std.proofs.Common.{◌≡◌, ◌≢◌, ◌⊎◌, inl, inr, ℕ, ◌+◌, ◌^◌, ◌<◌, ◌≤◌, List, [], ◌∷◌, ◌++◌, length, take, get_or, Option, None, Some, Result, Ok, Err, refl, sym, ◌∙◌, ap, subst, arith, append_assoc, length-append}
+use Rattle.std.proofs.Common.{◌≡◌, ◌≢◌, ◌⊎◌, inl, inr, ℕ, ◌+◌, ◌<◌, ◌≤◌, List, [], ◌∷◌, ◌++◌, length, get_or, None, Some, Result, Ok, Err, refl, sym, ◌∙◌, ap, subst, arith, append_assoc, length-append}
 use Rattle.std.specs.List.{flat_map, Contains}
 use Rattle.std.proofs.lemmas.List.{append_cancel_left, append-nil, take_all}
 use Rattle.std.proofs.lemmas.List.Concat.{flat_map-cons}
@@ -20,18 +20,19 @@ use Rattle.pm_sql.specs.Laws.{NoFault}
 use Rattle.pm_query.specs.declared.book.BookEntry.{BookEntry}
 use Rattle.pm_query.specs.Calls.{User}
 use Rattle.pm_life.specs.Life.{Told, Signal}
-use Rattle.pm_wire.specs.Pieces.{int32, message, string}
+use Rattle.pm_wire.specs.Pieces.{int32, string}
 use Rattle.pm_wire.specs.Numbers.{number_again}
 use Rattle.pm_wire.specs.Stream.{StandApart}
 use Rattle.pm_wire.specs.Frontend.{FrontMessage, Query, BadQuery, LongQuery as IsLongQuery, Terminate, Extended as IsExtended, Other, IsFront, IsBadHeader}
-use Rattle.pm_session.specs.declared.ending.MessageFault.TheVariants.{BadLength, BadForm, LongQuery, Extended, UnknownType}
-use Rattle.pm_session.specs.declared.ending.Cause.{Cause}
-use Rattle.pm_session.specs.declared.ending.Cause.TheVariants.{Terminated, Cancelling, LinkEnded, LinkFailed, TimedOut, PacketRefused, MessageRefused, DecisionRefused, GateRefused, ShortOfMemory, Panicked, ToldToTerminate, ToldToQuit, Killed, Overtaken}
-use Rattle.pm_session.specs.declared.ending.Stage.{Stage}
-use Rattle.pm_session.specs.declared.ending.Stage.TheVariants.{Outside, Entering, Greeted}
-use Rattle.pm_session.specs.Sent.{Turn, Ran, Faulted, NotUtf8, Cancelled, LogIsFull, Memory}
-use Rattle.pm_session.specs.Session.{Ending, AllNotes, AskInTurn, CausedBy, EndsAt, IsAdmitted, IsBehindStart, IsCancelledTurn, IsCaused, IsServed, IsSession, IsStart, IsTurnedAway, MayPassOver, NotesOutside, StaysOut, TurnNotes, TurnsAway, between, first_phase, query_bytes}
-use Rattle.pm_session.specs.Complete.{IsOpening, IsProper, AllProper, IsRun, AllRun, EndsForStore, IsUndisturbed, Begins, EachQueryIsAnswered}
+use Rattle.pm_exchange.specs.declared.ending.MessageFault.TheVariants.{BadLength, BadForm, LongQuery, Extended, UnknownType}
+use Rattle.pm_exchange.specs.declared.ending.Cause.{Cause}
+use Rattle.pm_exchange.specs.declared.ending.Cause.TheVariants.{Terminated, Cancelling, LinkEnded, LinkFailed, TimedOut, PacketRefused, MessageRefused, DecisionRefused, GateRefused, ShortOfMemory, Panicked, ToldToTerminate, ToldToQuit, Killed, Overtaken}
+use Rattle.pm_exchange.specs.declared.ending.Stage.{Stage}
+use Rattle.pm_exchange.specs.declared.ending.Stage.TheVariants.{Outside, Entering, Greeted}
+use Rattle.pm_exchange.specs.Sent.{Turn, Ran, Faulted, NotUtf8, Cancelled, LogIsFull, Memory}
+use Rattle.pm_session.specs.Session.{Ending, AllNotes, AskInTurn, CausedBy, EndsAt, IsAdmitted, IsBehindStart, IsCaused, IsServed, IsStart, MayPassOver, NotesOutside, StaysOut, TurnsAway, between, first_phase, query_bytes}
+use Rattle.pm_exchange.specs.Queries.{IsCancelledTurn, TurnNotes}
+use Rattle.pm_session.specs.Complete.{IsProper, AllProper, IsRun, AllRun, EndsForStore, Begins, EachQueryIsAnswered}
 
 -- ---- what stands behind an opening
 

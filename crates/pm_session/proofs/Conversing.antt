@@ -1,30 +1,29 @@
 -- Queries one behind the other, up to the end of a session.
-use Rattle.std.proofs.Common.{◌≡◌, ◌⊎◌, inl, inr, ℕ, zero, suc, ◌+◌, ◌*◌, ◌<◌, ◌≤◌, List, [], ◌∷◌, ◌++◌, length, take, drop, Option, None, Some, Result, Ok, Err, IfOk, IfErr, OnOk, refl, sym, ◌∙◌, ap, subst, arith, append_assoc, take-append-drop, length-append}
+use Rattle.std.proofs.Common.{◌≡◌, inl, inr, ℕ, zero, suc, ◌+◌, List, [], ◌∷◌, ◌++◌, length, Option, None, Result, Ok, Err, OnOk, refl, sym, ◌∙◌, ap, subst, arith, append_assoc, length-append}
 use Rattle.std.specs.List.{flat_map, Contains}
 use Rattle.std.proofs.lemmas.Grind.{flat_map-append}
 use Rattle.std.proofs.lemmas.List.{append-nil}
 use Rattle.std.proofs.lemmas.List.Concat.{flat_map-cons}
 use Rattle.std.proofs.lemmas.List.Elements.{Contains-append_cases}
-use Rattle.pm_sql.specs.declared.stmt.Stmt.{Stmt}
-use Rattle.pm_sql.specs.Statements.{IsQueryText}
 use Rattle.pm_query.specs.declared.book.BookEntry.{BookEntry}
-use Rattle.pm_query.specs.declared.book.BookEntry.TheVariants.{Released}
 use Rattle.pm_query.specs.Calls.{User}
-use Rattle.pm_life.specs.Life.{Told, Signal, Kill, Quit, Terminate as ToTerminate, Cancel}
+use Rattle.pm_life.specs.Life.{Told, Cancel}
 use Rattle.pm_wire.specs.Outgoing.{Outgoing}
 use Rattle.pm_wire.specs.Backend.{BackMessage}
-use Rattle.pm_wire.specs.Frontend.{FrontMessage, Query, BadQuery, LongQuery, Terminate, Extended, Other, IsFront, IsUndecided, IsBadHeader, BeginsBadly}
-use Rattle.pm_session.specs.declared.ending.MessageFault.{MessageFault}
-use Rattle.pm_session.specs.declared.ending.Cause.{Cause}
-use Rattle.pm_session.specs.declared.ending.Cause.TheVariants.{Terminated, Cancelling, LinkEnded, LinkFailed, TimedOut, PacketRefused, MessageRefused, DecisionRefused, GateRefused, ShortOfMemory, Panicked, ToldToTerminate, ToldToQuit, Killed, Overtaken}
-use Rattle.pm_session.specs.Exchange.{LinkView, Passes, CutsOff}
+use Rattle.pm_wire.specs.Frontend.{FrontMessage, Query, BadQuery, LongQuery, Terminate, Extended, Other, IsFront, IsUndecided, BeginsBadly}
+use Rattle.pm_exchange.specs.declared.ending.Cause.{Cause}
+use Rattle.pm_exchange.specs.declared.ending.Cause.TheVariants.{Terminated, Cancelling, LinkEnded, LinkFailed, TimedOut, PacketRefused, MessageRefused, DecisionRefused, GateRefused, ShortOfMemory, Panicked, ToldToTerminate, ToldToQuit, Killed, Overtaken}
+use Rattle.pm_exchange.specs.Exchange.{LinkView, Passes, CutsOff}
 use Rattle.pm_life.specs.Attention.{Attention, Hears, IsAttentive, was_given}
-use Rattle.pm_session.specs.Sent.{Turn, Ran, Faulted, NotUtf8, Cancelled, LogIsFull, Memory, bytes_of, turn_messages}
-use Rattle.pm_session.specs.Session.{TurnNotes, AllNotes, AllSleep, Sleeps, HasSleptFor, HasWaited, seconds_slept, EndsAt, MayPassOver, IsCancelledTurn, pieces, query_bytes}
-use Rattle.pm_session.specs.Conversation.{Moment, moment, Conversed, ShowsCause, IsBreak}
-use Rattle.pm_session.specs.declared.release.Answer.{Answer}
-use Rattle.pm_session.specs.Turns.{Desk, desk, Says, EndNotes, AnswerNotes, turn_of, piece_of, IsSignal, IsHeeded, IsFit, Answered, BrokenOff, ReplyGoes, Refuses, MessageGoes, Comes, Conversing, Converses}
-use Rattle.pm_session.specs.Attention.{ends_of}
+use Rattle.pm_exchange.specs.Sent.{Turn, bytes_of, turn_messages}
+use Rattle.pm_exchange.specs.Queries.{TurnNotes, Sleeps, IsCancelledTurn}
+use Rattle.pm_session.specs.Session.{AllNotes, AllSleep, EndsAt, MayPassOver, pieces, query_bytes}
+use Rattle.pm_exchange.specs.Moments.{Moment, moment, IsBreak}
+use Rattle.pm_session.specs.Conversation.{Conversed}
+use Rattle.pm_exchange.specs.declared.release.Answer.{Answer}
+use Rattle.pm_session.specs.Turns.{desk, Says, Answered, BrokenOff, ReplyGoes, Refuses, MessageGoes, Conversing, Converses}
+use Rattle.pm_exchange.specs.Answers.{EndNotes, turn_of, piece_of, IsFit}
+use Rattle.pm_exchange.specs.Attention.{ends_of}
 use Rattle.pm_session.specs.Heeding.{AllRead}
 use Rattle.pm_session.proofs.Attentions.{hears_none, hears_both, hears_fewer, since_given, since_later}
 use Rattle.pm_session.proofs.Heeding.{heed_none, heed_then, turn_heeds}
@@ -58,46 +57,6 @@ sleep_then gives [] more_texts [] more_turns each next = next
 sleep_then gives [] more_texts (turn ∷ turns) more_turns each next = absurd each
 sleep_then gives (text ∷ texts) more_texts [] more_turns each next = absurd each
 sleep_then gives (text ∷ texts) more_texts (turn ∷ turns) more_turns (front, slept, rest) next = (front, slept, sleep_then gives texts more_texts turns more_turns rest next)
-
--- a query for which nothing was noted hasn't run
-pub sleeps_unnoted : (gives : ℕ → Type 0) (pid : ℕ) (text : List ℕ) (turn : Turn) → TurnNotes pid text turn [] → Sleeps gives text turn
-sleeps_unnoted gives pid text (Ran reply) notes = absurd (none_released notes.answered pid notes.front notes.tick notes.entries_are)
-  where
-    none_released : (entries : List BookEntry) (pid front tick : ℕ) → [] ≡ entries ++ Released pid front tick ∷ [] → ⊥
-    none_released [] pid front tick e = cc
-    none_released (entry ∷ entries) pid front tick e = cc
-sleeps_unnoted gives pid text (Faulted fault) notes = tt
-sleeps_unnoted gives pid text NotUtf8 notes = tt
-sleeps_unnoted gives pid text Cancelled notes = tt
-sleeps_unnoted gives pid text LogIsFull notes = absurd cc
-sleeps_unnoted gives pid text Memory notes = tt
-
--- a script that slept is that of the text
-pub sleeps_spelled : (gives : ℕ → Type 0) (text : List ℕ) (script : List Stmt) (turn : Turn) → IsQueryText text script → HasSleptFor gives turn script → Sleeps gives text turn
-sleeps_spelled gives text script (Ran reply) query slept = (script, query, slept)
-sleeps_spelled gives text script LogIsFull query slept = (script, query, slept)
-sleeps_spelled gives text script (Faulted fault) query slept = tt
-sleeps_spelled gives text script NotUtf8 query slept = tt
-sleeps_spelled gives text script Cancelled query slept = tt
-sleeps_spelled gives text script Memory query slept = tt
-
--- once all of the time has passed, whatever its turn
-pub slept_for : (gives : ℕ → Type 0) (turn : Turn) (script : List Stmt) → HasWaited gives (1000 * seconds_slept script) → HasSleptFor gives turn script
-slept_for gives (Ran reply) script waited = waited
-slept_for gives LogIsFull script waited = waited
-slept_for gives (Faulted fault) script waited = tt
-slept_for gives NotUtf8 script waited = tt
-slept_for gives Cancelled script waited = tt
-slept_for gives Memory script waited = tt
-
-pub all_slept : (gives : ℕ → Type 0) (script : List Stmt) (result : Result Answer Cause) → HasWaited gives (1000 * seconds_slept script) → IfOk result (λ answer. HasSleptFor gives (turn_of answer) script)
-all_slept gives script (Ok answer) waited = slept_for gives (turn_of answer) script waited
-all_slept gives script (Err cause) waited = tt
-
-pub all_spelled : (gives : ℕ → Type 0) (text other : List ℕ) (script : List Stmt) (result : Result Answer Cause) → text ≡ other → IsQueryText text script → IfOk result (λ answer. HasSleptFor gives (turn_of answer) script)
-    → IfOk result (λ answer. Sleeps gives other (turn_of answer))
-all_spelled gives text other script (Ok answer) same query slept = subst (λ (bytes : List ℕ). Sleeps gives bytes (turn_of answer)) same (sleeps_spelled gives text script (turn_of answer) query slept)
-all_spelled gives text other script (Err cause) same query slept = tt
 
 pub nothing_among : (turn : Turn) → Contains [] turn → ⊥
 nothing_among turn (k, lt, is) = omega (arith, lt)
@@ -526,7 +485,3 @@ pub unreplied : {S : Type 0} (notes : List BookEntry → S → S → Type 0) (gi
     → ReplyGoes notes gives user text (Err cause) (moment link [] store_before child_before) (moment link [] store_now child_now)
 unreplied notes gives user text cause link store_before store_now child_before child_now (entries, noted, ends) heard =
     inr (record { noted = entries; ends = ends; passes = passes_none link; entries = noted; hears = heard })
-
--- an answer that fits a text fits the same bytes
-pub fit_as : (text other : List ℕ) (answer : Answer) → text ≡ other → ((before now : Option Told) → IsFit text answer before now) → (before now : Option Told) → IsFit other answer before now
-fit_as text other answer same fits before now = subst (λ (bytes : List ℕ). IsFit bytes answer before now) same (fits before now)

@@ -1,5 +1,5 @@
 -- The packets before a session, one behind the other.
-use Rattle.std.proofs.Common.{if◌then◌else◌, ◌≡◌, ◌≢◌, ◌⊎◌, inl, inr, ℕ, ◌+◌, ◌≤◌, ◌<◌, Bool, true, false, List, [], ◌∷◌, ◌++◌, length, map, take, drop, take-append-drop, length-append, Option, None, Some, Result, Ok, Err, MatchResult, refl, sym, ◌∙◌, ap, subst, arith, append_assoc}
+use Rattle.std.proofs.Common.{if◌then◌else◌, ◌≡◌, inl, inr, ℕ, Bool, true, false, List, [], ◌∷◌, ◌++◌, map, take, drop, take-append-drop, Option, None, Some, Result, Ok, Err, refl, sym, ◌∙◌, ap, subst, arith, append_assoc}
 use Rattle.std.specs.List.{flat_map}
 use Rattle.std.proofs.lemmas.Grind.{flat_map-append}
 use Rattle.std.proofs.lemmas.List.{append-nil, map-append, take_all}
@@ -7,20 +7,19 @@ use Rattle.std.proofs.lemmas.List.Concat.{flat_map-cons}
 use Rattle.pm_startup.specs.declared.packet.StartFault.{StartFault}
 use Rattle.pm_startup.specs.declared.packet.StartFault.TheVariants as packets
 use Rattle.pm_startup.specs.declared.phase.Phase.{Phase}
-use Rattle.pm_startup.specs.declared.phase.Step.{Step}
 use Rattle.pm_startup.specs.declared.phase.Step.TheVariants as steps
-use Rattle.pm_startup.specs.Grammar.{Content, int32, packet, startup, ssl_request, gssenc_request, cancel_request, FrontDecides, Decides, IsUndecided, IsIncomplete}
+use Rattle.pm_startup.specs.Grammar.{Content, int32, packet, startup, ssl_request, gssenc_request, cancel_request, FrontDecides, Decides, IsUndecided}
 use Rattle.pm_startup.specs.Phases.{step_of}
-use Rattle.pm_session.specs.declared.ending.Cause.{Cause}
-use Rattle.pm_session.specs.declared.ending.Cause.TheVariants.{Terminated, Cancelling, LinkEnded, LinkFailed, TimedOut, PacketRefused, MessageRefused, DecisionRefused, GateRefused, ShortOfMemory, Panicked, ToldToTerminate, ToldToQuit, Killed, Overtaken}
-use Rattle.pm_session.specs.Exchange.{LinkView, Passes, CutsOff, Holds, IsSentAll, Sends, Receives, ReceivesNothing}
+use Rattle.pm_exchange.specs.declared.ending.Cause.{Cause}
+use Rattle.pm_exchange.specs.declared.ending.Cause.TheVariants.{Terminated, Cancelling, LinkEnded, LinkFailed, TimedOut, PacketRefused, MessageRefused, DecisionRefused, GateRefused, ShortOfMemory, Panicked, ToldToTerminate, ToldToQuit, Killed, Overtaken}
+use Rattle.pm_exchange.specs.Exchange.{LinkView, Passes, CutsOff, Holds, Sends, Receives, ReceivesNothing}
 use Rattle.std.specs.Option.{option_map}
 use Rattle.pm_life.specs.declared.standing.Standing.{Standing}
 use Rattle.pm_life.specs.Life.{Child, Told, asked_cancel}
 use Rattle.pm_life.specs.Attention.{Attention, attention, Hears, KeepsCancels}
-use Rattle.pm_session.specs.Session.{AskInTurn, IsStart, IsRefusedPacket, StopsAt, MayPassOver, first_phase}
-use Rattle.pm_session.specs.Conversation.{IsBreak, ShowsCause}
-use Rattle.pm_session.specs.Entry.{outside, Asked, GoesOn, AsksToCancel, Attends, Enters}
+use Rattle.pm_session.specs.Session.{AskInTurn, StopsAt, MayPassOver, first_phase}
+use Rattle.pm_exchange.specs.Moments.{IsBreak, ShowsCause, outside, Attends}
+use Rattle.pm_session.specs.Entry.{Asked, GoesOn, AsksToCancel, Enters}
 use Rattle.pm_session.proofs.Attentions.{hears_none, hears_both, hears_fewer, asked_then, cancels_none}
 use Rattle.pm_session.proofs.Links.{passes_none, passes_both, passes_no_more, holds_then, holds_still, sound_left}
 use Rattle.pm_session.proofs.Said.{shows_since}

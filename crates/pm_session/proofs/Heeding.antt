@@ -1,14 +1,14 @@
 -- Turns that heed the signals given, one behind the other.
-use Rattle.std.proofs.Common.{◌≡◌, ◌⊎◌, inl, inr, ℕ, ◌+◌, ◌-◌, ◌^◌, ◌≤◌, min, Bool, true, false, List, [], ◌∷◌, ◌++◌, Option, None, Some, IfSome, refl, sym, ◌∙◌, ap, subst, arith}
+use Rattle.std.proofs.Common.{◌≡◌, ◌⊎◌, inl, inr, ℕ, ◌+◌, ◌≤◌, Bool, true, false, List, [], ◌∷◌, ◌++◌, Option, None, Some, IfSome, refl, sym, ◌∙◌, subst, arith}
 use Rattle.std.specs.List.{Contains}
 use Rattle.std.proofs.lemmas.List.{append-nil}
 use Rattle.pm_supervisor.specs.declared.Reason.{Reason}
 use Rattle.pm_life.specs.declared.standing.Standing.{Standing}
 use Rattle.pm_life.specs.Life.{Told, Signal, Kill, Quit, Terminate, Cancel, Checkpoint, next_ask, was_told}
 use Rattle.pm_life.specs.Attention.{Attention, Stands, IsAttentive, IsBy, HasAsked, HasGained, Gains, GivenSince, Hears}
-use Rattle.pm_session.specs.Attention.{ends_by, ends_of}
-use Rattle.pm_session.specs.Sent.{Turn, Cancelled}
-use Rattle.pm_session.specs.Heeding.{IsEnding, TurnHeeds, TurnsHeed, HeedInTurn}
+use Rattle.pm_exchange.specs.Attention.{ends_by, ends_of}
+use Rattle.pm_exchange.specs.Sent.{Turn, Cancelled}
+use Rattle.pm_session.specs.Heeding.{IsEnding, TurnsHeed, HeedInTurn}
 
 true_false : true ≡ false → ⊥
 true_false e = cc

@@ -8,5 +8,4 @@ pub mod Links
 pub mod Noted
 pub mod Said
 pub mod Sessions
-pub mod Signals
 pub mod Steps

@@ -1,26 +1,10 @@
 -- What passed on a link, from one moment to the next.
-use Rattle.std.proofs.Common.{◌≡◌, ◌≢◌, ◌↔◌, ◌⊎◌, inl, inr, ℕ, ◌+◌, ◌-◌, ◌^◌, ◌≤◌, ◌<◌, ◌||◌, min, Bool, true, false, IsTrue, List, [], ◌∷◌, ◌++◌, length, take, drop, take-append-drop, length-take, Option, None, Some, IfSome, Result, Ok, Err, refl, sym, ◌∙◌, ap, subst, arith, append_assoc}
-use Rattle.std.specs.Option.{option_map, option_or}
-use Rattle.std.specs.List.{Contains}
-use Rattle.std.proofs.lemmas.List.{append-nil, take-append-le, drop-append-le, length-take-le, take-take}
-use Rattle.std.proofs.Math.Seq.{take-append-add}
-use Rattle.std.proofs.lemmas.List.Elements.{Contains-append_left, Contains-append_right, Contains-append_cases, Contains-push, Contains-push_cases}
-use Rattle.pm_supervisor.specs.declared.Reason.{Reason}
-use Rattle.pm_life.specs.declared.life.Signals.{Signals}
-use Rattle.pm_life.specs.Life.{Child, Told, Signal, Kill, Quit, Terminate, Cancel, Checkpoint, nothing_told, one_if, quit_in, signals_in, asked_again, was_told}
-use Rattle.pm_life.specs.declared.standing.Standing.{Standing}
-use Rattle.pm_session.specs.declared.ending.Cause.{Cause}
-use Rattle.pm_session.specs.declared.ending.Cause.TheVariants.{LinkFailed, ToldToTerminate, ToldToQuit, Killed}
-use Rattle.pm_outside.specs.Traffic.{Traffic, IsFresh, GotWithin, after_read, after_write}
-use Rattle.pm_outside.specs.declared.link.Got.{Got}
-use Rattle.pm_outside.specs.declared.link.Got.TheVariants.{Bytes, NotYet, End, Failed}
-use Rattle.pm_outside.specs.declared.link.Put.{Put}
-use Rattle.pm_outside.specs.declared.link.Put.TheVariants.{Count, Failed as PutFailed}
-use Rattle.pm_disk.specs.Cause.{Rose, IsCounted}
-use Rattle.pm_session.specs.Exchange.{LinkView, link_view, Appended, came_in_of, went_out_of, HasEnded, Passes, HasFailed, Holds, HoldsReading, IsSound, IsLeftFor, Reads, Receives, ReceivesNothing, SentAllBut, Sends}
-use Rattle.pm_session.specs.Conversation.{ShowsCause, IsBreak}
-use Rattle.pm_life.specs.Attention.{Attention, attention, nothing_stands, with_signals, was_given, Stands, IsAttentive, HasAsked, Hears}
-use Rattle.pm_session.specs.Attention.{ends_by, ends_of}
+use Rattle.std.proofs.Common.{◌≡◌, ℕ, Bool, true, false, List, [], ◌++◌, Option, None, Some, Result, Ok, Err, refl, sym, ◌∙◌, ap, subst, arith, append_assoc}
+use Rattle.std.specs.Option.{option_map}
+use Rattle.std.proofs.lemmas.List.{append-nil}
+use Rattle.pm_exchange.specs.declared.ending.Cause.{Cause}
+use Rattle.pm_outside.specs.Traffic.{Traffic, IsFresh}
+use Rattle.pm_exchange.specs.Exchange.{LinkView, Appended, came_in_of, went_out_of, Passes, Holds, IsSound, IsLeftFor, Sends}
 
 -- ---- what passes
 
@@ -46,49 +30,6 @@ passes_both came1 went1 came2 went2 a b c one two = record {
 
 -- ---- one write
 
-wrote_in : (before now : Option Traffic) (put : Put) (from : List ℕ) → now ≡ option_map (λ t. after_write t put from) before → Appended [] (came_in_of before) (came_in_of now)
-wrote_in None now put from is = ap came_in_of is
-wrote_in (Some t) now put from is = ap came_in_of is ∙ appended_none (Some t.came_in)
-
-wrote_out : (before now : Option Traffic) (count : ℕ) (from : List ℕ) → now ≡ option_map (λ t. after_write t (Count count) from) before → Appended (take count from) (went_out_of before) (went_out_of now)
-wrote_out None now count from is = ap went_out_of is
-wrote_out (Some t) now count from is = ap went_out_of is
-
-wrote_none : (before now : Option Traffic) (from : List ℕ) → now ≡ option_map (λ t. after_write t PutFailed from) before → Appended [] (went_out_of before) (went_out_of now)
-wrote_none None now from is = ap went_out_of is
-wrote_none (Some t) now from is = ap went_out_of is ∙ appended_none (Some t.went_out)
-
-end_stays : (before now : Option Traffic) (put : Put) (from : List ℕ) → now ≡ option_map (λ t. after_write t put from) before → HasEnded before → HasEnded now
-end_stays None now put from is ended = subst HasEnded (sym is) tt
-end_stays (Some t) now put from is ended = subst HasEnded (sym is) ended
-
-pub wrote : (before now : LinkView) (count : ℕ) (from : List ℕ) → now.traffic ≡ option_map (λ t. after_write t (Count count) from) before.traffic → now.number ≡ before.number → before.faults ≤ now.faults
-    → Passes [] (take count from) before now
-wrote before now count from is same later = record {
-  came_in = wrote_in before.traffic now.traffic (Count count) from is;
-  went_out = wrote_out before.traffic now.traffic count from is;
-  ended = end_stays before.traffic now.traffic (Count count) from is;
-  number = same;
-  later = later;
-}
-
-pub write_failed : (before now : LinkView) (from : List ℕ) → now.traffic ≡ option_map (λ t. after_write t PutFailed from) before.traffic → now.number ≡ before.number → before.faults ≤ now.faults → Passes [] [] before now
-write_failed before now from is same later = record {
-  came_in = wrote_in before.traffic now.traffic PutFailed from is;
-  went_out = wrote_none before.traffic now.traffic from is;
-  ended = end_stays before.traffic now.traffic PutFailed from is;
-  number = same;
-  later = later;
-}
-
--- so many more are sent
-pub sends_more : (bytes rest left : List ℕ) (count : ℕ) (a b c : LinkView) → left ≡ drop count rest → SentAllBut rest bytes a b → Passes [] (take count rest) b c → SentAllBut left bytes a c
-sends_more bytes rest left count a b c is so_far more = record {
-  went = so_far.went ++ take count rest;
-  whole = so_far.whole ∙ ap (λ (l : List ℕ). so_far.went ++ l) (sym (take-append-drop count rest) ∙ ap (λ (l : List ℕ). take count rest ++ l) (sym is)) ∙ sym (append_assoc so_far.went (take count rest) left);
-  passes = passes_both [] so_far.went [] (take count rest) a b c so_far.passes more;
-}
-
 -- no more passed
 pub passes_no_more : (came went : List ℕ) (a b c : LinkView) → Passes came went a b → Passes [] [] b c → Passes came went a c
 passes_no_more came went a b c one two =
@@ -96,102 +37,16 @@ passes_no_more came went a b c one two =
 
 -- ---- one read
 
-got_in : (before now : Option Traffic) (count : ℕ) (into : List ℕ) → now ≡ option_map (λ t. after_read t (Bytes count) into) before → Appended (take count into) (came_in_of before) (came_in_of now)
-got_in None now count into is = ap came_in_of is
-got_in (Some t) now count into is = ap came_in_of is
-
-got_out : (before now : Option Traffic) (result : Got) (into : List ℕ) → now ≡ option_map (λ t. after_read t result into) before → Appended [] (went_out_of before) (went_out_of now)
-got_out None now result into is = ap went_out_of is
-got_out (Some t) now (Bytes count) into is = ap went_out_of is ∙ appended_none (Some t.went_out)
-got_out (Some t) now NotYet into is = ap went_out_of is ∙ appended_none (Some t.went_out)
-got_out (Some t) now End into is = ap went_out_of is ∙ appended_none (Some t.went_out)
-got_out (Some t) now Failed into is = ap went_out_of is ∙ appended_none (Some t.went_out)
-
-end_behind : (before now : Option Traffic) (result : Got) (into : List ℕ) → now ≡ option_map (λ t. after_read t result into) before → HasEnded before → HasEnded now
-end_behind None now result into is ended = subst HasEnded (sym is) tt
-end_behind (Some t) now (Bytes count) into is ended = subst HasEnded (sym is) ended
-end_behind (Some t) now NotYet into is ended = subst HasEnded (sym is) ended
-end_behind (Some t) now End into is ended = subst HasEnded (sym is) refl
-end_behind (Some t) now Failed into is ended = subst HasEnded (sym is) ended
-
-got_none : (before now : Option Traffic) (result : Got) (into : List ℕ) → ((t : Traffic) → (after_read t result into).came_in ≡ t.came_in) → now ≡ option_map (λ t. after_read t result into) before → Appended [] (came_in_of before) (came_in_of now)
-got_none None now result into keeps is = ap came_in_of is
-got_none (Some t) now result into keeps is = ap came_in_of is ∙ ap (λ (l : List ℕ). Some l) (keeps t) ∙ appended_none (Some t.came_in)
-
--- the bytes that a read gave
-abbrev pub got_bytes : Got → List ℕ → List ℕ
-got_bytes (Bytes count) into = take count into
-got_bytes NotYet into = []
-got_bytes End into = []
-got_bytes Failed into = []
-
-nothing_came : (unread_before unread_now : List ℕ) (before now : LinkView) (result : Got) (into : List ℕ) → ((t : Traffic) → (after_read t result into).came_in ≡ t.came_in)
-    → now.traffic ≡ option_map (λ t. after_read t result into) before.traffic → now.number ≡ before.number → before.faults ≤ now.faults → unread_now ≡ unread_before ++ [] → ReceivesNothing unread_before unread_now before now
-nothing_came unread_before unread_now before now result into keeps is same later behind = record {
-  unread = behind ∙ append-nil unread_before;
-  passes = record {
-    came_in = got_none before.traffic now.traffic result into keeps is;
-    went_out = got_out before.traffic now.traffic result into is;
-    ended = end_behind before.traffic now.traffic result into is;
-    number = same;
-    later = later;
-  };
-}
-
-has_ended : (before now : Option Traffic) (into : List ℕ) → now ≡ option_map (λ t. after_read t End into) before → HasEnded now
-has_ended None now into is = subst HasEnded (sym is) tt
-has_ended (Some t) now into is = subst HasEnded (sym is) refl
-
--- what one read did, where what it gave stands behind what stood
-pub has_read : (result : Got) (into unread_before unread_now : List ℕ) (before now : LinkView) → GotWithin result (length into) → now.traffic ≡ option_map (λ t. after_read t result into) before.traffic → now.number ≡ before.number
-    → IsCounted before.faults now.faults (result ≡ Failed) → unread_now ≡ unread_before ++ got_bytes result into → Reads result unread_before unread_now before now
-has_read (Bytes count) into unread_before unread_now before now within is same counted behind = record {
-  came = take count into;
-  some = λ e. absurd (omega (arith, within.0, within.1, length-take count into, ap length e));
-  unread = behind;
-  passes = record {
-    came_in = got_in before.traffic now.traffic count into is;
-    went_out = got_out before.traffic now.traffic (Bytes count) into is;
-    ended = end_behind before.traffic now.traffic (Bytes count) into is;
-    number = same;
-    later = counted.later;
-  };
-}
-has_read NotYet into unread_before unread_now before now within is same counted behind =
-    nothing_came unread_before unread_now before now NotYet into (λ t. refl) is same counted.later behind
-has_read End into unread_before unread_now before now within is same counted behind =
-    (nothing_came unread_before unread_now before now End into (λ t. refl) is same counted.later behind, has_ended before.traffic now.traffic into is)
-has_read Failed into unread_before unread_now before now within is same counted behind =
-    (nothing_came unread_before unread_now before now Failed into (λ t. refl) is same counted.later behind, counted.rose refl)
-
 -- all was sent
 pub sent_all : (done : Unit {0}) (bytes : List ℕ) (before now : LinkView) → Sends (Ok done) bytes before now → Passes [] bytes before now
 sent_all done bytes before now sends =
     let whole : sends.went ≡ bytes = sym (append-nil sends.went) ∙ ap (λ (l : List ℕ). sends.went ++ l) (sym sends.all) ∙ sym sends.whole in
     subst (λ (w : List ℕ). Passes [] w before now) whole sends.passes
 
--- the front of a slice that got more bytes behind what it had
-take_filled : (have count : ℕ) (xs ys rest : List ℕ) → have ≤ length xs → count ≤ length ys → take (have + count) (take have xs ++ (ys ++ rest)) ≡ take have xs ++ take count ys
-take_filled have count xs ys rest within fits =
-    let front : length (take have xs) ≡ have = length-take-le have xs within in
-    ap (λ (n : ℕ). take (n + count) (take have xs ++ (ys ++ rest))) (sym front) ∙ take-append-add (take have xs) (ys ++ rest) count ∙ ap (λ (l : List ℕ). take have xs ++ l) (take-append-le count ys rest fits)
-
--- what stands in a buffer into which bytes were read behind what stood
-pub stands_behind : (start have count size : ℕ) (xs ys post rest : List ℕ) → start ≤ have → have ≤ length xs → count ≤ length ys → have + count ≤ size
-    → drop start (take (have + count) (take size ((take have xs ++ (ys ++ post)) ++ rest))) ≡ drop start (take have xs) ++ take count ys
-stands_behind start have count size xs ys post rest order within fits room =
-    let together : (take have xs ++ (ys ++ post)) ++ rest ≡ take have xs ++ (ys ++ (post ++ rest)) = simp append_assoc in
-    let front : start ≤ length (take have xs) = omega (arith, length-take-le have xs within, order) in
-    ap (λ (l : List ℕ). drop start l) (take-take (have + count) size ((take have xs ++ (ys ++ post)) ++ rest) room ∙ ap (λ (l : List ℕ). take (have + count) l) together ∙ take_filled have count xs ys (post ++ rest) within fits)
-    ∙ drop-append-le start (take have xs) (take count ys) front
-
 -- ---- sound links
 
 true_false : true ≡ false → ⊥
 true_false e = cc
-
-neither : (a b : Bool) → a ≡ false → b ≡ false → (a || b) ≡ false
-neither a b one two = rw (one, two) refl
 
 pub fresh_sound : (traffic : Option Traffic) → IsFresh traffic → IsSound false traffic
 fresh_sound None fresh = tt
@@ -210,30 +65,3 @@ holds_then ended (Err cause) a b c one two = λ sound. two (one sound)
 pub holds_still : (ended : Bool) (result : Result (Unit {0}) Cause) (at : LinkView) → Holds ended result at at
 holds_still ended (Ok done) at = λ sound. sound
 holds_still ended (Err cause) at = λ sound. sound_left ended cause at.traffic sound
-
-pub wrote_sound : (ended : Bool) (before now : Option Traffic) (count : ℕ) (from : List ℕ) → now ≡ option_map (λ t. after_write t (Count count) from) before → IsSound ended before → IsSound ended now
-wrote_sound ended None now count from is sound = subst (IsSound ended) (sym is) tt
-wrote_sound ended (Some t) now count from is sound = subst (IsSound ended) (sym is) (sound.0, neither t.went_on t.failed sound.1 sound.0, sound.2)
-
-pub write_left : (ended : Bool) (before now : Option Traffic) (from : List ℕ) → now ≡ option_map (λ t. after_write t PutFailed from) before → IsSound ended before → IsLeftFor LinkFailed now
-write_left ended None now from is sound = subst (IsLeftFor LinkFailed) (sym is) tt
-write_left ended (Some t) now from is sound = subst (IsLeftFor LinkFailed) (sym is) (neither t.went_on t.failed sound.1 sound.0, λ failed. refl)
-
-read_on : (t : Traffic) → IsSound false (Some t) → ((t.went_on || t.failed) || t.ended) ≡ false
-read_on t sound = neither (t.went_on || t.failed) t.ended (neither t.went_on t.failed sound.1 sound.0) sound.2
-
-pub read_holds : (result : Got) (into : List ℕ) (before now : LinkView) → now.traffic ≡ option_map (λ t. after_read t result into) before.traffic → HoldsReading result before now
-read_holds result into before now is = read_by result before now before.traffic refl is
-  where
-    told_by : (before : LinkView) (t : Traffic) → before.traffic ≡ Some t → IsSound false before.traffic → IsSound false (Some t)
-    told_by before t at sound = subst (IsSound false) at sound
-
-    read_by : (result : Got) (before now : LinkView) (first : Option Traffic) → before.traffic ≡ first → now.traffic ≡ option_map (λ t. after_read t result into) first → HoldsReading result before now
-    read_by (Bytes count) before now None at is = λ sound. subst (IsSound false) (sym is) tt
-    read_by (Bytes count) before now (Some t) at is = λ sound. let s = told_by before t at sound in subst (IsSound false) (sym is) (s.0, read_on t s, s.2)
-    read_by NotYet before now None at is = λ sound. subst (IsSound false) (sym is) tt
-    read_by NotYet before now (Some t) at is = λ sound. let s = told_by before t at sound in subst (IsSound false) (sym is) (s.0, read_on t s, s.2)
-    read_by End before now None at is = λ sound. subst (IsSound true) (sym is) tt
-    read_by End before now (Some t) at is = λ sound. let s = told_by before t at sound in subst (IsSound true) (sym is) (s.0, read_on t s, refl)
-    read_by Failed before now None at is = λ sound. subst (IsLeftFor LinkFailed) (sym is) tt
-    read_by Failed before now (Some t) at is = λ sound. let s = told_by before t at sound in subst (IsLeftFor LinkFailed) (sym is) (read_on t s, λ failed. refl)

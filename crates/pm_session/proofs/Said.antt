@@ -1,5 +1,5 @@
 -- Messages that are said one behind the other.
-use Rattle.std.proofs.Common.{◌≡◌, ℕ, ℤ, ◌+◌, ◌^◌, FitsSigned, w64, ◌≤◌, List, [], ◌∷◌, ◌++◌, length, take, drop, suc, map, get_or, Result, Ok, Err, IfErr, MatchResult, refl, sym, ◌∙◌, ap, subst, arith, append_assoc, ◌<◌, take-append-drop, drop-cons, false}
+use Rattle.std.proofs.Common.{◌≡◌, ℕ, ℤ, ◌+◌, ◌^◌, FitsSigned, w64, ◌≤◌, List, [], ◌∷◌, ◌++◌, length, take, drop, suc, map, get_or, Result, Ok, Err, IfErr, refl, sym, ◌∙◌, ap, subst, arith, append_assoc, ◌<◌, take-append-drop, drop-cons, false}
 use Rattle.std.specs.List.{flat_map}
 use Rattle.std.proofs.lemmas.Grind.{flat_map-append}
 use Rattle.std.proofs.lemmas.List.{append-nil, map-append, take_more}
@@ -15,13 +15,13 @@ use Rattle.std.proofs.lemmas.Int.{ints}
 use Rattle.pm_wire.specs.Longest.{longest, HasSizes}
 use Rattle.pm_wire.specs.Short.{short_pair}
 use Rattle.pm_wire.specs.Backend.{BackMessage, Pair, IsWritable, spelling}
-use Rattle.pm_session.specs.declared.ending.Cause.{Cause}
-use Rattle.pm_session.specs.declared.ending.Cause.TheVariants.{Terminated, Cancelling, LinkEnded, LinkFailed, TimedOut, PacketRefused, MessageRefused, DecisionRefused, GateRefused, ShortOfMemory, Panicked, ToldToTerminate, ToldToQuit, Killed, Overtaken}
-use Rattle.pm_session.specs.Exchange.{LinkView, Passes, Sends, HasEnded, HasFailed, CutsOff, Holds}
-use Rattle.pm_life.specs.Attention.{Attention, Hears, was_given}
-use Rattle.pm_session.specs.Conversation.{ShowsCause, IsBreak}
-use Rattle.pm_session.specs.Sent.{bytes_of, item_messages}
-use Rattle.pm_session.specs.Turns.{Desk, desk, IsLeft, Says}
+use Rattle.pm_exchange.specs.declared.ending.Cause.{Cause}
+use Rattle.pm_exchange.specs.declared.ending.Cause.TheVariants.{Terminated, Cancelling, LinkEnded, LinkFailed, TimedOut, PacketRefused, MessageRefused, DecisionRefused, GateRefused, ShortOfMemory, Panicked, ToldToTerminate, ToldToQuit, Killed, Overtaken}
+use Rattle.pm_exchange.specs.Exchange.{LinkView, Sends, Holds}
+use Rattle.pm_life.specs.Attention.{Attention, Hears}
+use Rattle.pm_exchange.specs.Moments.{ShowsCause, IsBreak}
+use Rattle.pm_exchange.specs.Sent.{bytes_of, item_messages}
+use Rattle.pm_session.specs.Turns.{Desk, desk, Says}
 use Rattle.pm_session.proofs.Attentions.{hears_none, hears_both}
 use Rattle.pm_session.proofs.Links.{passes_none, passes_both, holds_then}
 

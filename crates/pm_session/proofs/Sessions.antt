@@ -1,43 +1,44 @@
 -- A whole session, put together from its parts.
-use Rattle.std.proofs.Common.{◌≡◌, ◌≢◌, ◌⊎◌, inl, inr, ℕ, ◌+◌, ◌-◌, ◌^◌, ◌≤◌, ◌<◌, min, Bool, true, false, cond, IsTrue, List, [], ◌∷◌, ◌++◌, length, map, Option, None, Some, IfSome, Result, Ok, Err, MatchResult, refl, sym, ◌∙◌, ap, subst, arith, append_assoc}
-use Rattle.std.specs.List.{flat_map}
+use Rattle.std.proofs.Common.{◌≡◌, ◌≢◌, ◌⊎◌, inl, inr, ℕ, ◌+◌, ◌≤◌, Bool, true, false, List, [], ◌∷◌, ◌++◌, length, map, Option, None, Some, IfSome, Result, Ok, Err, refl, sym, ◌∙◌, ap, subst, arith, append_assoc}
+use Rattle.std.specs.List.{flat_map, Contains}
 use Rattle.std.specs.Option.{option_map}
-use Rattle.std.specs.List.{Contains}
 use Rattle.std.proofs.lemmas.List.{append-nil}
 use Rattle.std.proofs.lemmas.List.Elements.{Contains-append_right}
-use Rattle.pm_outside.specs.Traffic.{Traffic, no_traffic, IsFresh}
+use Rattle.pm_outside.specs.Traffic.{Traffic, IsFresh}
 use Rattle.pm_admit.specs.declared.Cac.{Cac}
 use Rattle.pm_admit.specs.declared.Cac.TheVariants as decisions
 use Rattle.pm_exit.specs.declared.child.Status.{Status}
 use Rattle.pm_exit.specs.declared.child.Status.TheVariants as statuses
-use Rattle.pm_startup.specs.declared.packet.StartFault.TheVariants as packets
 use Rattle.pm_startup.specs.declared.phase.Phase.{Phase}
 use Rattle.pm_wire.specs.Backend.{BackMessage}
-use Rattle.pm_wire.specs.Frontend.{FrontMessage, Query, BadQuery, LongQuery, Terminate, Extended, Other, IsFront, IsUndecided, IsBadHeader}
 use Rattle.pm_query.specs.declared.book.BookEntry.{BookEntry}
 use Rattle.pm_query.specs.declared.book.BookEntry.TheVariants.{Attached}
 use Rattle.pm_query.specs.declared.store.StoreNo.{StoreNo}
 use Rattle.pm_query.specs.declared.store.StoreNo.TheVariants as nos
-use Rattle.pm_query.specs.Calls.{User, PassView, user_of, newcomer, new_pass, EnterNotes, LeaveNotes}
+use Rattle.pm_query.specs.declared.store.Store as Store
+use Rattle.pm_query.specs.Calls.{User, PassView, user_of, newcomer, new_pass, EnterNotes}
 use Rattle.pm_life.specs.Life.{Child, Told, Signal, Kill, Quit, Terminate as ToTerminate, Cancel, nothing_told, met_at_gate, asked_cancel, IsUntried, HasNoCancel}
 use Rattle.pm_life.specs.declared.life.GateNo.{GateNo}
 use Rattle.pm_startup.specs.Grammar.{cancel_request, Decides}
-use Rattle.pm_session.specs.declared.ending.Cause.{Cause}
-use Rattle.pm_session.specs.declared.ending.Cause.TheVariants.{Terminated, Cancelling, LinkEnded, LinkFailed, TimedOut, PacketRefused, MessageRefused, DecisionRefused, GateRefused, ShortOfMemory, Panicked, ToldToTerminate, ToldToQuit, Killed, Overtaken}
-use Rattle.pm_session.specs.declared.ending.Stage.{Stage}
-use Rattle.pm_session.specs.declared.ending.Stage.TheVariants.{Outside, Entering, Greeted}
-use Rattle.pm_session.specs.Exchange.{LinkView, link_view, Appended, came_in_of, went_out_of, HasEnded, Passes, HasFailed, CutsOff, IsSentAll, Sends, Holds, IsSound, IsLeftFor}
-use Rattle.pm_life.specs.Attention.{Attention, attention, HasAsked, Hears, IsAttentive, KeepsCancels, was_given}
-use Rattle.pm_session.specs.Attention.{ends_of}
-use Rattle.pm_session.specs.Sent.{Turn, bytes_of, greeting, last_of}
-use Rattle.pm_session.specs.Session.{Ending, Heeds, HasAskedFor, CausedBy, IsCaused, HasEntered, IsAdmitted, IsText, IsTurnedAway, IsServed, IsSession, Span, between, HasPassed, AskInTurn, IsStart, StopsAt, EndsAt, StopsInside, AllNotes, AllSleep, HasSlept, MayPassOver, NotesOutside, Leaves, LetsGo, IsCancelledTurn, IsAttachedAt, IsBehindStart, IsInside, StaysOut, AsksCancel, MakesCancels, HasCancelled, first_phase, pieces, query_bytes, last_messages, status_by, status_of, TurnsAway, IsAttachedBehind}
-use Rattle.pm_session.specs.Conversation.{Moment, moment, Conversed, ShowsCause, IsBreak}
+use Rattle.pm_exchange.specs.declared.ending.Cause.{Cause}
+use Rattle.pm_exchange.specs.declared.ending.Cause.TheVariants.{Terminated, Cancelling, LinkEnded, LinkFailed, TimedOut, PacketRefused, MessageRefused, DecisionRefused, GateRefused, ShortOfMemory, Panicked, ToldToTerminate, ToldToQuit, Killed, Overtaken}
+use Rattle.pm_exchange.specs.declared.ending.Stage.{Stage}
+use Rattle.pm_exchange.specs.declared.ending.Stage.TheVariants.{Outside, Entering, Greeted}
+use Rattle.pm_exchange.specs.Exchange.{LinkView, Appended, came_in_of, went_out_of, HasEnded, Passes, HasFailed, CutsOff, Sends, Holds, IsSound, IsLeftFor}
+use Rattle.pm_life.specs.Attention.{Attention, HasAsked, Hears, IsAttentive, KeepsCancels, was_given}
+use Rattle.pm_exchange.specs.Attention.{ends_of}
+use Rattle.pm_exchange.specs.Sent.{Turn, bytes_of, greeting, last_of}
+use Rattle.pm_session.specs.Session.{Ending, Heeds, HasAskedFor, CausedBy, IsCaused, HasEntered, IsAdmitted, IsSession, between, HasPassed, AskInTurn, IsStart, StopsAt, EndsAt, AllNotes, AllSleep, HasSlept, MayPassOver, NotesOutside, Leaves, IsAttachedAt, IsBehindStart, IsInside, StaysOut, AsksCancel, HasCancelled, first_phase, pieces, query_bytes, last_messages, status_of, TurnsAway, IsAttachedBehind}
+use Rattle.pm_exchange.specs.Ends.{LetsGo, status_by}
+use Rattle.pm_exchange.specs.Queries.{IsCancelledTurn}
+use Rattle.pm_exchange.specs.Moments.{Moment, moment, ShowsCause, IsBreak, outside}
+use Rattle.pm_session.specs.Conversation.{Conversed}
 use Rattle.pm_session.specs.declared.session.Admission.{Admission}
-use Rattle.pm_session.specs.Entry.{ClosesBy, Connected, outside, Enters, AsksToCancel, IsTold, EndsBy, Closes, Serves, IsTextBehind, IsTextInside, CanRefuseEntry, refusal_cause}
+use Rattle.pm_session.specs.Entry.{ClosesBy, Connected, Enters, AsksToCancel, IsTold, EndsBy, Closes, Serves, IsTextBehind, IsTextInside, CanRefuseEntry, refusal_cause}
 use Rattle.pm_session.specs.Heeding.{TurnsHeed, HeedInTurn, AllRead}
-use Rattle.pm_session.proofs.Attentions.{untried_still, new_untried, new_no_cancel, hears_none, hears_both, hears_fewer, cancels_then, cancels_still, HasCancels}
+use Rattle.pm_session.proofs.Attentions.{untried_still, new_untried, new_no_cancel, hears_both, hears_fewer, cancels_then, cancels_still, HasCancels}
 use Rattle.pm_session.proofs.Heeding.{heed_none, heed_all, heed_later, heed_earlier}
-use Rattle.pm_session.proofs.Links.{passes_none, passes_both, passes_no_more, sound_left, fresh_sound}
+use Rattle.pm_session.proofs.Links.{passes_both, sound_left, fresh_sound}
 use Rattle.pm_session.proofs.Closings.{told_status, told_still, told_now}
 use Rattle.pm_session.proofs.Said.{bytes_of-none, bytes_of-append, shows_since}
 use Rattle.pm_session.proofs.Conversing.{nothing_yet}
@@ -1026,15 +1027,15 @@ started_made ending link0 link1 link2 unread1 at0 at1 at2 times none enters stil
 -- ---- the whole, as its caller sees it
 
 -- memory was short before the first byte
-pub connected_not : {S : Type 0} (notes : List BookEntry → S → S → Type 0) (stamp : Option ℕ) (admission : Admission) (gives : ℕ → Type 0) (exit : Cause) (link0 link1 : LinkView) (store : S) (at0 at1 : Attention) → notes [] store store
+pub connected_not : {S P : Type 0} (its : Store.Ghosts S P) (admission : Admission) (gives : ℕ → Type 0) (exit : Cause) (link0 link1 : LinkView) (store : S) (at0 at1 : Attention) → its.notes [] store store
     → IsFresh link0.traffic → at0.child.attached ≡ None → IfSome at0.told (λ t. t ≡ nothing_told) → ClosesBy admission.decision Outside ShortOfMemory exit (outside link0 [] at0) (outside link1 [] at1)
-    → Connected notes stamp admission gives exit (moment link0 [] store at0) (moment link1 [] store at1)
-connected_not notes stamp admission gives exit link0 link1 store at0 at1 rests fresh free untold (ending, stage, exits, closes) = (
+    → Connected its admission gives exit (moment link0 [] store at0) (moment link1 [] store at1)
+connected_not its admission gives exit link0 link1 store at0 at1 rests fresh free untold (ending, stage, exits, closes) = (
   ending,
   [],
   0,
   exits,
-  stopped_session notes admission.decision (newcomer stamp at0.child.pid 0) admission.key ShortOfMemory ending link0 link0 link1 [] store at0 at0 at1 rests fresh (enters_not link0 at0) stage closes,
+  stopped_session its.notes admission.decision (newcomer (its.stamp store) at0.child.pid 0) admission.key ShortOfMemory ending link0 link0 link1 [] store at0 at0 at1 rests fresh (enters_not link0 at0) stage closes,
   λ limit. stopped_caused admission.decision 0 ShortOfMemory ending link0 link0 link1 [] at0 at0 at1 fresh (enters_not link0 at0) stage closes (untried_still 1 at0.told at1.told closes.hears.asked (new_untried at0.told untold)) limit gives,
   asked_for 1 [] at0.told at1.told (omega arith) closes.hears.asked,
   attached_outside ending.stage (at1.child.attached ≡ None) (LetsGo ending.exit (at1.child.attached ≡ None) (at1.child.attached ≡ Some 0)) stage (ap (λ (child : Child). child.attached) closes.hears.child ∙ free),
@@ -1051,17 +1052,17 @@ pub record Handed (link0 link1 given back : LinkView) (at0 at1 : Attention) (tol
   pub child_given : at0.child ≡ child0
   pub child_back : child1 ≡ at1.child
 
-pub connected_as : {S : Type 0} (notes : List BookEntry → S → S → Type 0) (stamp : Option ℕ) (admission : Admission) (gives : ℕ → Type 0) (exit : Cause) (status : Status) (limit : ℕ) (link0 link1 given back : LinkView) (unread0 unread1 : List ℕ) (store0 store1 : S) (at0 at1 : Attention)
-    (told0 told1 : Option Told) (child0 child1 : Child) → Handed link0 link1 given back at0 at1 told0 told1 child0 child1 → status ≡ status_by exit → Connected notes stamp admission gives exit (moment link0 unread0 store0 at0) (moment link1 unread1 store1 at1)
+pub connected_as : {S P : Type 0} (its : Store.Ghosts S P) (admission : Admission) (gives : ℕ → Type 0) (exit : Cause) (status : Status) (limit : ℕ) (link0 link1 given back : LinkView) (unread0 unread1 : List ℕ) (store0 store1 : S) (at0 at1 : Attention)
+    (told0 told1 : Option Told) (child0 child1 : Child) → Handed link0 link1 given back at0 at1 told0 told1 child0 child1 → status ≡ status_by exit → Connected its admission gives exit (moment link0 unread0 store0 at0) (moment link1 unread1 store1 at1)
     → (ending : Ending) × (turns : List Turn) × (generation : ℕ) × (status ≡ status_of ending)
-    × IsSession notes admission.decision (newcomer stamp child0.pid generation) admission.key turns ending (HasFailed given back) (between back.traffic store0 store1)
+    × IsSession its.notes admission.decision (newcomer (its.stamp store0) child0.pid generation) admission.key turns ending (HasFailed given back) (between back.traffic store0 store1)
     × IsCaused ending turns generation admission.decision back.traffic (HasFailed given back) told1 limit gives × HasAskedFor turns told0 told1
     × IsAttachedBehind ending generation child1 × HasCancelled ending.cause back.traffic told1
-connected_as notes stamp admission gives exit status limit link0 link1 given back unread0 unread1 store0 store1 at0 at1 told0 told1 child0 child1 handed is s =
+connected_as its admission gives exit status limit link0 link1 given back unread0 unread1 store0 store1 at0 at1 told0 told1 child0 child1 handed is s =
     rw (← handed.link_given, ← handed.link_back, ← handed.told_given, handed.told_back, ← handed.child_given, handed.child_back) (s.0, s.1, s.2, is ∙ ap status_by (sym s.3), s.4, s.5 limit, s.6, s.7, s.8)
 
-pub connected_heeds : {S : Type 0} (notes : List BookEntry → S → S → Type 0) (stamp : Option ℕ) (admission : Admission) (gives : ℕ → Type 0) (exit : Cause) (status : Status) (before now : Moment S) (told : Option Told) → status ≡ status_by exit → told ≡ now.child.told
-    → Connected notes stamp admission gives exit before now → Heeds status told
-connected_heeds notes stamp admission gives exit status before now told is same s =
+pub connected_heeds : {S P : Type 0} (its : Store.Ghosts S P) (admission : Admission) (gives : ℕ → Type 0) (exit : Cause) (status : Status) (before now : Moment S) (told : Option Told) → status ≡ status_by exit → told ≡ now.child.told
+    → Connected its admission gives exit before now → Heeds status told
+connected_heeds its admission gives exit status before now told is same s =
     let status_is : status ≡ status_of s.0 = is ∙ ap status_by (sym s.3) in
     rw (status_is, same) s.9

@@ -1,19 +1,19 @@
 -- Steps of a session: a wait, a message, an end.
-use Rattle.std.proofs.Common.{◌≡◌, ◌⊎◌, inl, inr, ℕ, ◌+◌, ◌<◌, ◌≤◌, List, [], ◌∷◌, ◌++◌, length, drop, Result, Ok, Err, refl, sym, ◌∙◌, ap, subst, arith, length-append}
+use Rattle.std.proofs.Common.{◌≡◌, inl, inr, ℕ, ◌<◌, ◌≤◌, List, [], ◌∷◌, ◌++◌, length, drop, Result, Ok, Err, refl, sym, ◌∙◌, ap, subst, arith, length-append}
 use Rattle.std.proofs.lemmas.List.{append-nil}
 use Rattle.pm_query.specs.declared.book.BookEntry.{BookEntry}
 use Rattle.pm_query.specs.Calls.{User}
 use Rattle.pm_wire.specs.Pieces.{int32}
-use Rattle.pm_wire.specs.Frontend.{IsUndecided, IsBadHeader, BeginsBadly, Wants, its_type, its_length, its_body}
-use Rattle.pm_session.specs.declared.ending.MessageFault.TheVariants.{BadLength}
-use Rattle.pm_session.specs.declared.ending.Cause.{Cause}
-use Rattle.pm_session.specs.declared.ending.Cause.TheVariants.{Terminated, Cancelling, LinkEnded, LinkFailed, TimedOut, PacketRefused, MessageRefused, DecisionRefused, GateRefused, ShortOfMemory, Panicked, ToldToTerminate, ToldToQuit, Killed, Overtaken}
-use Rattle.pm_session.specs.Exchange.{LinkView, Passes}
+use Rattle.pm_wire.specs.Frontend.{IsUndecided, IsBadHeader, BeginsBadly}
+use Rattle.pm_exchange.specs.declared.ending.MessageFault.TheVariants.{BadLength}
+use Rattle.pm_exchange.specs.declared.ending.Cause.{Cause}
+use Rattle.pm_exchange.specs.declared.ending.Cause.TheVariants.{Terminated, Cancelling, LinkEnded, LinkFailed, TimedOut, PacketRefused, MessageRefused, DecisionRefused, GateRefused, ShortOfMemory, Panicked, ToldToTerminate, ToldToQuit, Killed, Overtaken}
+use Rattle.pm_exchange.specs.Exchange.{LinkView, Passes}
 use Rattle.pm_life.specs.Attention.{Attention, Hears}
-use Rattle.pm_session.specs.Sent.{bytes_of}
-use Rattle.pm_session.specs.Session.{MayPassOver, pieces}
-use Rattle.pm_session.specs.Conversation.{Moment, moment, Conversed, IsBreak}
-use Rattle.pm_session.specs.Turns.{IsSignal, Comes, Conversing, Converses}
+use Rattle.pm_session.specs.Session.{MayPassOver}
+use Rattle.pm_exchange.specs.Moments.{moment, IsBreak, IsSignal, Comes}
+use Rattle.pm_session.specs.Conversation.{Conversed}
+use Rattle.pm_session.specs.Turns.{Converses}
 use Rattle.pm_session.proofs.Heeding.{heed_none}
 use Rattle.pm_session.proofs.Attentions.{hears_both, hears_fewer}
 use Rattle.pm_session.proofs.Links.{passes_none}
@@ -111,9 +111,3 @@ length_refused notes gives user seen unread link store child_before child_now re
     drop_front : (front rest : List ℕ) → drop (length front) (front ++ rest) ≡ rest
     drop_front [] rest = refl
     drop_front (x ∷ front) rest = drop_front front rest
-
--- so many bytes fit the inbox
-pub wanted_fits : (unread : List ℕ) (wanted : ℕ) → Wants unread wanted → wanted ≤ 66048
-wanted_fits unread wanted (its_type none is) = omega (arith, is)
-wanted_fits unread wanted (its_length kind part is simple few is_wanted) = omega (arith, is_wanted)
-wanted_fits unread wanted (its_body seen part is within more is_wanted) = omega (arith, is_wanted, within)

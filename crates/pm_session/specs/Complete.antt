@@ -12,9 +12,9 @@ use Rattle.pm_query.specs.declared.book.BookEntry.{BookEntry}
 use Rattle.pm_query.specs.Calls.{User}
 use Rattle.pm_wire.specs.Frontend.{IsFront, Query}
 use Rattle.pm_life.specs.Life.{Told}
-use Rattle.pm_session.specs.declared.ending.Cause.{Cause}
-use Rattle.pm_session.specs.declared.ending.Cause.TheVariants.{ShortOfMemory, Panicked, Overtaken}
-use Rattle.pm_session.specs.Sent.{Turn, Ran, LogIsFull, Memory}
+use Rattle.pm_exchange.specs.declared.ending.Cause.{Cause}
+use Rattle.pm_exchange.specs.declared.ending.Cause.TheVariants.{ShortOfMemory, Panicked, Overtaken}
+use Rattle.pm_exchange.specs.Sent.{Turn, Ran, LogIsFull, Memory}
 use Rattle.pm_session.specs.Session.{Ending, AskInTurn, IsStart, IsSession, IsCaused, between, first_phase, query_bytes}
 
 -- requests for encryption, and the packet that starts the session

@@ -1,11 +1,10 @@
 -- The start of a connection, up to its startup packet; and what is said last.
-use Rattle.std.specs.Prelude.{◌≡◌, ◌≢◌, ◌⊎◌, ℕ, ◌<◌, ◌≤◌, List, [], ◌∷◌, ◌++◌, length, take, map, Bool, true, false, Option, None, Some, IfSome, Result, Ok, Err, IsTrue}
+use Rattle.std.specs.Prelude.{◌≡◌, ◌≢◌, ◌⊎◌, ℕ, ◌<◌, ◌≤◌, List, [], ◌∷◌, ◌++◌, length, take, map, false, Option, IfSome, Result, Ok, Err, MatchOption}
 use Rattle.std.specs.List.{flat_map}
 use Rattle.std.specs.Option.{option_map}
 use Rattle.pm_admit.specs.declared.Cac.{Cac}
 use Rattle.pm_admit.specs.declared.Cac.TheVariants as decisions
 use Rattle.pm_exit.specs.declared.child.Status.TheVariants as statuses
-use Rattle.pm_startup.specs.declared.packet.StartFault.{StartFault}
 use Rattle.pm_startup.specs.declared.phase.Phase.{Phase}
 use Rattle.pm_startup.specs.declared.phase.Step.TheVariants.{SayNo}
 use Rattle.pm_startup.specs.Grammar.{Content, startup, cancel_request, Decides, FrontDecides, IsUndecided as IsNoPacketYet}
@@ -14,25 +13,24 @@ use Rattle.pm_query.specs.declared.book.BookEntry.{BookEntry}
 use Rattle.pm_query.specs.declared.book.BookEntry.TheVariants.{Attached}
 use Rattle.pm_query.specs.declared.store.StoreNo.{StoreNo}
 use Rattle.pm_query.specs.declared.store.StoreNo.TheVariants as nos
-use Rattle.pm_query.specs.Calls.{User, PassView, newcomer, user_of}
-use Rattle.pm_life.specs.Life.{Told, Signal, Kill, Quit, Terminate, asked_cancel}
-use Rattle.pm_session.specs.declared.ending.Cause.{Cause}
-use Rattle.pm_session.specs.declared.ending.Cause.TheVariants.{Cancelling, ToldToTerminate, ToldToQuit, Killed, Overtaken, ShortOfMemory}
-use Rattle.pm_session.specs.declared.ending.Stage.{Stage}
+use Rattle.pm_query.specs.declared.store.Store as Store
+use Rattle.pm_query.specs.Calls.{User, newcomer, user_of}
+use Rattle.pm_life.specs.Life.{Told, Kill, Quit, Terminate, asked_cancel}
+use Rattle.pm_exchange.specs.declared.ending.Cause.{Cause}
+use Rattle.pm_exchange.specs.declared.ending.Cause.TheVariants.{Cancelling, ToldToTerminate, ToldToQuit, Killed, Overtaken, ShortOfMemory}
+use Rattle.pm_exchange.specs.declared.ending.Stage.{Stage}
 use Rattle.pm_session.specs.declared.session.Admission.{Admission}
 use Rattle.pm_session.specs.declared.startup.Ask.{Ask}
 use Rattle.pm_session.specs.declared.startup.Ask.TheVariants.{Nothing, Encryption, Start, Cancel, Refused}
-use Rattle.pm_session.specs.Exchange.{LinkView, Passes, HasFailed, CutsOff, Holds, IsLeftFor, IsSound}
-use Rattle.pm_life.specs.declared.standing.Standing.{Standing}
-use Rattle.pm_life.specs.Attention.{Attention, HasAsked, Hears, IsAttentive, KeepsCancels, was_given}
-use Rattle.pm_session.specs.Attention.{ends_of}
-use Rattle.pm_session.specs.Sent.{Turn, bytes_of}
-use Rattle.pm_session.specs.Session.{Ending, Heeds, HasAskedFor, IsCaused, IsSession, IsAttachedBehind, HasCancelled, IsInside, AllSleep, HasSlept, EndsSoundly, between, query_bytes, IsText, IsStart, IsRefusedPacket, AskInTurn, StopsAt, MayPassOver, Leaves, first_phase, last_messages, status_by, status_of}
-use Rattle.pm_session.specs.Conversation.{Moment, moment, ShowsCause}
-
--- a moment at which no store is used
-abbrev pub outside : LinkView → List ℕ → Attention → Moment (Unit {0})
-outside link unread child = moment link unread tt child
+use Rattle.pm_exchange.specs.Exchange.{Passes, HasFailed, CutsOff, Holds, IsLeftFor, IsSound}
+use Rattle.pm_life.specs.Attention.{Attention, Hears, KeepsCancels, was_given}
+use Rattle.pm_exchange.specs.Sent.{Turn, bytes_of}
+use Rattle.pm_session.specs.Session.{Ending, Heeds, HasAskedFor, IsCaused, IsSession, IsAttachedBehind, HasCancelled, IsInside, AllSleep, HasSlept, EndsSoundly, between, query_bytes, IsText, IsStart, IsRefusedPacket, AskInTurn, StopsAt, MayPassOver, Leaves, first_phase, last_messages, status_of}
+use Rattle.pm_exchange.specs.Ends.{status_by}
+use Rattle.pm_exchange.specs.Moments.{Moment, ShowsCause, Attends}
+use Rattle.pm_wire.specs.Backend.{BackMessage}
+use Rattle.pm_wire.specs.Conditions.{told}
+use Rattle.pm_wire.specs.declared.condition.Condition.{Condition}
 
 -- ---- the startup packet
 
@@ -64,13 +62,6 @@ GoesOn (Err cause) phase last beyond missing before now =
 abbrev pub AsksToCancel : Result (Unit {0}) Cause → (last : List ℕ) → (before now : Option Told) → Type 0
 AsksToCancel (Err Cancelling) last before now = (pid : ℕ) × (key : ℕ) × Decides last (Ok (cancel_request pid key)) × (now ≡ option_map (asked_cancel pid key) before)
 AsksToCancel _ last before now = KeepsCancels before now
-
--- Between two moments the child went on heeding what it was given, and was at the gate no more.
-pub record Attends (before now : Attention) : Type 0 where
-  pub asked : HasAsked 0 before.told now.told
-  pub child : now.child ≡ before.child
-  pub given : (signal : Signal) → was_given signal before.told → was_given signal now.told
-  pub stands : IsAttentive before → IsAttentive now
 
 -- The packets up to the one that starts the session, or up to its end; each request for encryption was answered, but for
 -- one whose answer was broken off.
@@ -108,22 +99,9 @@ refusal_cause _ = ShortOfMemory
 
 -- ---- the last words
 
--- these words were said, or a front of them: the child was killed, or the link failed
-pub record SaysLast (words : List ℕ) (before now : Moment (Unit {0})) : Type 0 where
-  pub went : List ℕ
-  pub missing : List ℕ
-  pub whole : words ≡ went ++ missing
-  pub cut : (missing ≡ []) ⊎ (IsTrue now.child.standing.kill ⊎ HasFailed before.link now.link)
-  pub passes : Passes [] went before.link now.link
-  pub hears : Hears 0 before.child now.child
-  pub silent : words ≡ [] → now ≡ before
-  pub sound : (ended : Bool) → IsSound ended before.link.traffic → IfSome now.link.traffic (λ t. t.went_on ≡ false)
-
--- By what a session ends in place of a cause, where this stands: by what was told, where the child would exit as if nothing
--- had happened.
-abbrev pub IsLastCause : Standing → (cause ends : Cause) → Type 0
-IsLastCause standing cause ends =
-    ((ends ≡ cause) × (status_by cause ≡ statuses.Code 0 → ends_of standing ≡ None)) ⊎ ((status_by cause ≡ statuses.Code 0) × (ends_of standing ≡ Some ends))
+-- this says these messages, or there are none
+abbrev pub IsSaidBy : List BackMessage → Option Condition → Type 0
+IsSaidBy messages result = MatchOption result (messages ≡ []) (λ condition. messages ≡ told condition ∷ [])
 
 -- what the child was told to do
 abbrev pub IsTold : Cause → Attention → Type 0
@@ -193,31 +171,34 @@ pub record Serves {S : Type 0} (notes : List BookEntry → S → S → Type 0) (
 
 -- ---- from each stage on, up to a child's exit by this cause
 
--- in the store, by this pass
-abbrev pub Inside : {S : Type 0} → (notes : List BookEntry → S → S → Type 0) → (stamp : Option ℕ) → PassView → (key : ℕ) → (gives : ℕ → Type 0) → (exit : Cause) → (before now : Moment S) → Type 0
-Inside notes stamp view key gives exit before now =
-    (ending : Ending) × (ending.exit ≡ exit) × Serves notes (IsTextInside decisions.Ok (user_of stamp view) key) decisions.Ok view.generation gives ending before now × IsInside ending.stage
+module _ {S P : Type 0} (its : Store.Ghosts S P) where
+  -- in the store, by this pass
+  abbrev pub Inside : P → (key : ℕ) → (gives : ℕ → Type 0) → (exit : Cause) → (before now : Moment S) → Type 0
+  Inside pass key gives exit before now =
+      (ending : Ending) × (ending.exit ≡ exit)
+      × Serves its.notes (IsTextInside decisions.Ok (user_of (its.stamp before.store) (its.view pass)) key) decisions.Ok (its.view pass).generation gives ending before now
+      × IsInside ending.stage
 
--- through the gate, in this generation
-abbrev pub Entered : {S : Type 0} → (notes : List BookEntry → S → S → Type 0) → (stamp : Option ℕ) → (key generation : ℕ) → (gives : ℕ → Type 0) → (exit : Cause) → (before now : Moment S) → Type 0
-Entered notes stamp key generation gives exit before now =
-    (ending : Ending) × (ending.exit ≡ exit)
-    × Serves notes (IsTextBehind decisions.Ok (newcomer stamp before.child.child.pid generation) key) decisions.Ok generation gives ending before now
-    × IsInside ending.stage
+  -- through the gate, in this generation
+  abbrev pub Entered : (key generation : ℕ) → (gives : ℕ → Type 0) → (exit : Cause) → (before now : Moment S) → Type 0
+  Entered key generation gives exit before now =
+      (ending : Ending) × (ending.exit ≡ exit)
+      × Serves its.notes (IsTextBehind decisions.Ok (newcomer (its.stamp before.store) before.child.child.pid generation) key) decisions.Ok generation gives ending before now
+      × IsInside ending.stage
 
--- behind the startup packet
-abbrev pub Admitted : {S : Type 0} → (notes : List BookEntry → S → S → Type 0) → (stamp : Option ℕ) → Admission → (gives : ℕ → Type 0) → (exit : Cause) → (before now : Moment S) → Type 0
-Admitted notes stamp admission gives exit before now =
-    (ending : Ending) × (generation : ℕ) × (ending.exit ≡ exit) × IsAttachedBehind ending generation now.child.child
-    × Serves notes (IsTextBehind admission.decision (newcomer stamp before.child.child.pid generation) admission.key) admission.decision generation gives ending before now
+  -- behind the startup packet
+  abbrev pub Admitted : Admission → (gives : ℕ → Type 0) → (exit : Cause) → (before now : Moment S) → Type 0
+  Admitted admission gives exit before now =
+      (ending : Ending) × (generation : ℕ) × (ending.exit ≡ exit) × IsAttachedBehind ending generation now.child.child
+      × Serves its.notes (IsTextBehind admission.decision (newcomer (its.stamp before.store) before.child.child.pid generation) admission.key) admission.decision generation gives ending before now
 
--- from its first byte
-abbrev pub Connected : {S : Type 0} → (notes : List BookEntry → S → S → Type 0) → (stamp : Option ℕ) → Admission → (gives : ℕ → Type 0) → (exit : Cause) → (before now : Moment S) → Type 0
-Connected notes stamp admission gives exit before now =
-    (ending : Ending) × (turns : List Turn) × (generation : ℕ) × (ending.exit ≡ exit)
-    × IsSession notes admission.decision (newcomer stamp before.child.child.pid generation) admission.key turns ending (HasFailed before.link now.link) (between now.link.traffic before.store now.store)
-    × ((limit : ℕ) → IsCaused ending turns generation admission.decision now.link.traffic (HasFailed before.link now.link) now.child.told limit gives)
-    × HasAskedFor turns before.child.told now.child.told
-    × IsAttachedBehind ending generation now.child.child
-    × HasCancelled ending.cause now.link.traffic now.child.told
-    × Heeds (status_of ending) now.child.told
+  -- from its first byte
+  abbrev pub Connected : Admission → (gives : ℕ → Type 0) → (exit : Cause) → (before now : Moment S) → Type 0
+  Connected admission gives exit before now =
+      (ending : Ending) × (turns : List Turn) × (generation : ℕ) × (ending.exit ≡ exit)
+      × IsSession its.notes admission.decision (newcomer (its.stamp before.store) before.child.child.pid generation) admission.key turns ending (HasFailed before.link now.link) (between now.link.traffic before.store now.store)
+      × ((limit : ℕ) → IsCaused ending turns generation admission.decision now.link.traffic (HasFailed before.link now.link) now.child.told limit gives)
+      × HasAskedFor turns before.child.told now.child.told
+      × IsAttachedBehind ending generation now.child.child
+      × HasCancelled ending.cause now.link.traffic now.child.told
+      × Heeds (status_of ending) now.child.told

@@ -1,12 +1,10 @@
 -- How a session heeds its signals from query to query, and what it reads a query as.
 use Rattle.std.specs.Prelude.{◌≡◌, ◌≤◌, ℕ, List, [], ◌∷◌, Option, None, Some}
 use Rattle.std.specs.List.{Contains}
-use Rattle.std.specs.Str.{IsUtf8}
-use Rattle.pm_sql.specs.declared.stmt.Stmt.{Stmt}
-use Rattle.pm_sql.specs.Statements.{IsQueryText}
 use Rattle.pm_life.specs.Life.{Told, Signal, Kill, Quit, Terminate, Cancel, Checkpoint, next_ask}
 use Rattle.pm_life.specs.Attention.{IsBy}
-use Rattle.pm_session.specs.Sent.{Turn, NotUtf8, Cancelled}
+use Rattle.pm_exchange.specs.Sent.{Turn, Cancelled}
+use Rattle.pm_exchange.specs.Queries.{IsReadAs}
 
 -- ---- signals
 
@@ -38,12 +36,6 @@ HeedInTurn turns (Some before) None = ⊥
 HeedInTurn turns (Some before) (Some now) = TurnsHeed before.asked turns now.asked now.given
 
 -- ---- texts
-
--- Only bytes that are UTF-8 are looked at further, and only a script is cancelled.
-abbrev pub IsReadAs : List ℕ → Turn → Type 0
-IsReadAs text NotUtf8 = Unit {0}
-IsReadAs text Cancelled = IsUtf8 text × ((script : List Stmt) × IsQueryText text script)
-IsReadAs text _ = IsUtf8 text
 
 abbrev pub AllRead : List (List ℕ) → List Turn → Type 0
 AllRead [] turns = Unit {0}

@@ -1,7 +1,3 @@
-pub mod Sent
-pub mod Exchange
-pub mod Line
-pub mod Attention
 pub mod Heeding
 pub mod Session
 pub mod Conversation

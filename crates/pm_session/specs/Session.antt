@@ -1,45 +1,44 @@
 -- A whole session: what its client is sent for what it sent, what the child notes, how it ends, and why.
-use Rattle.std.specs.Prelude.{◌≡◌, ◌≢◌, ◌⊎◌, ℕ, ◌+◌, ◌-◌, ◌*◌, ◌^◌, ◌≤◌, min, Bool, true, false, List, [], ◌∷◌, ◌++◌, length, map, codes, Option, None, Some, Result, Ok, Err, IfSome, IsTrue}
+use Rattle.std.specs.Prelude.{◌≡◌, ◌≢◌, ◌⊎◌, ℕ, ◌+◌, ◌-◌, ◌^◌, ◌≤◌, min, true, false, List, [], ◌∷◌, ◌++◌, length, map, codes, Option, None, Some, Ok, Err, IfSome}
 use Rattle.std.specs.List.{flat_map}
-use Rattle.std.specs.Str.{IsUtf8}
 use Rattle.pm_outside.specs.Traffic.{Traffic}
 use Rattle.pm_admit.specs.declared.Cac.{Cac}
 use Rattle.pm_admit.specs.declared.Cac.TheVariants as decisions
 use Rattle.pm_exit.specs.declared.child.Status.{Status}
 use Rattle.pm_exit.specs.declared.child.Status.TheVariants as statuses
 use Rattle.pm_startup.specs.declared.packet.StartFault.{StartFault}
-use Rattle.pm_startup.specs.declared.packet.StartFault.TheVariants.{Length}
 use Rattle.pm_startup.specs.declared.phase.Phase.{Phase}
 use Rattle.pm_startup.specs.declared.phase.Step.TheVariants.{SayNo, Refuse}
 use Rattle.pm_startup.specs.Grammar.{Content, startup, cancel_request, Decides, IsUndecided as IsNoPacketYet}
 use Rattle.pm_startup.specs.Phases.{step_of}
-use Rattle.pm_sql.specs.declared.stmt.Stmt.{Stmt}
-use Rattle.pm_sql.specs.declared.query.SqlFault.{SqlFault}
-use Rattle.pm_sql.specs.declared.query.SqlFault.TheVariants as texts
-use Rattle.pm_sql.specs.Statements.{IsQueryText}
-use Rattle.pm_sql.specs.Limits.{sleep_seconds}
-use Rattle.pm_sql.specs.Faults.{IsFaultOf}
-use Rattle.pm_rows.specs.declared.commit.Change.{Change}
-use Rattle.pm_query.specs.declared.item.Item.{Item}
 use Rattle.pm_query.specs.declared.book.BookEntry.{BookEntry}
-use Rattle.pm_query.specs.declared.book.BookEntry.TheVariants.{Attached, Answered, Released, LogFull}
-use Rattle.pm_query.specs.Calls.{User, MayBeOver, NotesAnswer, NotesFault, LeaveNotes}
+use Rattle.pm_query.specs.declared.book.BookEntry.TheVariants.{Attached}
+use Rattle.pm_query.specs.declared.store.Store as Store
+use Rattle.pm_outside.specs.declared.link.Link as Link
+use Rattle.pm_life.specs.declared.life.Life as Life
+use Rattle.pm_disk.specs.Cause.{Rose}
+use Rattle.pm_exchange.specs.declared.last.Done.{Done}
+use Rattle.pm_session.specs.declared.session.Admission.{Admission}
+use Rattle.pm_session.specs.declared.session.SessionConf.{SessionConf}
+use Rattle.pm_query.specs.Calls.{newcomer, User, MayBeOver, NotesFault, LeaveNotes}
 use Rattle.pm_supervisor.specs.declared.Reason.{Reason}
 use Rattle.pm_life.specs.declared.life.GateNo.{GateNo}
-use Rattle.pm_life.specs.Life.{Child, Told, Signal, Kill, Quit, Terminate as ToTerminate, Cancel, was_told}
+use Rattle.pm_life.specs.Life.{Child, Told, Kill, Quit, Terminate as ToTerminate, Cancel, was_told}
 use Rattle.pm_wire.specs.Backend.{BackMessage}
-use Rattle.pm_wire.specs.Frontend.{FrontMessage, Query, BadQuery, LongQuery as IsLongQuery, Terminate, Extended as IsExtended, Other, IsFront, IsUndecided as IsNoMessageYet, IsBadHeader}
+use Rattle.pm_wire.specs.Frontend.{Query, BadQuery, LongQuery as IsLongQuery, Extended as IsExtended, Other, IsFront, IsUndecided as IsNoMessageYet, IsBadHeader}
 use Rattle.pm_wire.specs.Pieces.{message, string}
-use Rattle.pm_session.specs.declared.ending.MessageFault.{MessageFault}
-use Rattle.pm_session.specs.declared.ending.MessageFault.TheVariants.{BadLength, BadForm, LongQuery, Extended, UnknownType}
-use Rattle.pm_session.specs.declared.ending.Cause.{Cause}
-use Rattle.pm_session.specs.declared.ending.Cause.TheVariants.{Terminated, Cancelling, LinkEnded, LinkFailed, TimedOut, PacketRefused, MessageRefused, DecisionRefused, GateRefused, ShortOfMemory, Panicked, ToldToTerminate, ToldToQuit, Killed, Overtaken}
-use Rattle.pm_session.specs.declared.ending.Stage.{Stage}
-use Rattle.pm_session.specs.declared.ending.Stage.TheVariants.{Outside, Entering, Greeted}
-use Rattle.pm_session.specs.Exchange.{CutsOff}
+use Rattle.pm_exchange.specs.declared.ending.MessageFault.{MessageFault}
+use Rattle.pm_exchange.specs.declared.ending.MessageFault.TheVariants.{BadLength, BadForm, LongQuery, Extended, UnknownType}
+use Rattle.pm_exchange.specs.declared.ending.Cause.{Cause}
+use Rattle.pm_exchange.specs.declared.ending.Cause.TheVariants.{Terminated, Cancelling, LinkEnded, LinkFailed, TimedOut, PacketRefused, MessageRefused, DecisionRefused, GateRefused, ShortOfMemory, Panicked, ToldToTerminate, ToldToQuit, Killed, Overtaken}
+use Rattle.pm_exchange.specs.declared.ending.Stage.{Stage}
+use Rattle.pm_exchange.specs.declared.ending.Stage.TheVariants.{Outside, Entering, Greeted}
+use Rattle.pm_exchange.specs.Exchange.{CutsOff}
 use Rattle.pm_life.specs.Attention.{was_given}
 use Rattle.pm_session.specs.Heeding.{TurnsHeed, AllRead}
-use Rattle.pm_session.specs.Sent.{Turn, Ran, Faulted, NotUtf8, Cancelled, LogIsFull, Memory, bytes_of, greeting, turn_messages, last_of}
+use Rattle.pm_exchange.specs.Sent.{Turn, bytes_of, greeting, turn_messages, last_of}
+use Rattle.pm_exchange.specs.Ends.{status_by, LetsGo}
+use Rattle.pm_exchange.specs.Queries.{IsUnreleased, TurnNotes, Sleeps, IsCancelledTurn}
 
 -- ---- endings
 
@@ -54,55 +53,10 @@ pub record Ending : Type 0 where
 abbrev pub last_messages : Cac → Ending → List BackMessage
 last_messages decision ending = last_of decision ending.stage ending.cause
 
--- how the child exits
-abbrev pub status_by : Cause → Status
-status_by Terminated = statuses.Code 0
-status_by Cancelling = statuses.Code 0
-status_by LinkEnded = statuses.Code 0
-status_by LinkFailed = statuses.Code 1
-status_by TimedOut = statuses.Code 1
-status_by (PacketRefused (Length seen)) = statuses.Code 0
-status_by (PacketRefused fault) = statuses.Code 1
-status_by (MessageRefused fault) = statuses.Code 1
-status_by DecisionRefused = statuses.Code 1
-status_by (GateRefused refusal) = statuses.Code 1
-status_by ShortOfMemory = statuses.Code 1
-status_by Panicked = statuses.Signal 6
-status_by ToldToTerminate = statuses.Code 1
-status_by (ToldToQuit reason) = statuses.Code 2
-status_by Killed = statuses.Signal 9
-status_by Overtaken = statuses.Signal 6
-
 abbrev pub status_of : Ending → Status
 status_of ending = status_by ending.exit
 
 -- ---- turns
-
--- an answer to this text, not released; or nothing
-abbrev pub IsUnreleased : ℕ → List ℕ → List BookEntry → Type 0
-IsUnreleased pid text entries =
-    (entries ≡ [])
-    ⊎ ((script : List Stmt) × (reply : List Item) × (front : ℕ) × (commit : List Change) × IsQueryText text script × NotesAnswer pid script reply front commit entries)
-
--- an answer to this text, and its release
-pub record IsReleased (pid : ℕ) (text : List ℕ) (reply : List Item) (entries : List BookEntry) : Type 0 where
-  pub script : List Stmt
-  pub commit : List Change
-  pub front : ℕ
-  pub tick : ℕ
-  pub answered : List BookEntry
-  pub query : IsQueryText text script
-  pub answer : NotesAnswer pid script reply front commit answered
-  pub entries_are : entries ≡ answered ++ Released pid front tick ∷ []
-
-abbrev pub TurnNotes : ℕ → List ℕ → Turn → List BookEntry → Type 0
-TurnNotes pid text (Ran reply) entries = IsReleased pid text reply entries
-TurnNotes pid text (Faulted fault) entries = (fault ≢ texts.NoMemory) × IsFaultOf text fault × (entries ≡ [])
-TurnNotes pid text NotUtf8 entries = ¬ (IsUtf8 text) × (entries ≡ [])
-TurnNotes pid text Cancelled entries = entries ≡ []
-TurnNotes pid text LogIsFull entries = (script : List Stmt) × (need : ℕ) × (room : ℕ) × IsQueryText text script × (entries ≡ LogFull pid script need room ∷ [])
-TurnNotes pid text Memory entries =
-    IsUnreleased pid text entries ⊎ ((script : List Stmt) × (need : ℕ) × (room : ℕ) × IsQueryText text script × (entries ≡ LogFull pid script need room ∷ []))
 
 abbrev pub query_bytes : List ℕ → List ℕ
 query_bytes text = message (codes "Q") (string text)
@@ -200,15 +154,6 @@ EndsAt user Killed last noted = StopsInside user.pid last noted
 EndsAt user Overtaken last noted = MayBeOver user × BreaksOff user.pid last noted
 
 -- ---- the whole
-
--- A child that exits of itself lets go of the store and of its attachment. A panic, a Quit and a Kill leave both to the
--- supervisor.
-abbrev pub LetsGo : Cause → Type 0 → Type 0 → Type 0
-LetsGo Panicked leaves stays = stays
-LetsGo (ToldToQuit reason) leaves stays = stays
-LetsGo Killed leaves stays = stays
-LetsGo Overtaken leaves stays = stays
-LetsGo _ leaves stays = leaves
 
 abbrev pub Leaves : User → Cause → List BookEntry → Type 0
 Leaves user cause left = LetsGo cause (LeaveNotes user left) (left ≡ [])
@@ -314,30 +259,6 @@ pub record IsApart (gives : ℕ → Type 0) (limit : ℕ) : Type 0 where
   pub second : gives later
   pub apart : earlier + limit ≤ later
 
--- the clock gave two moments so far apart, or it stands at its last
-pub record HasWaited (gives : ℕ → Type 0) (milliseconds : ℕ) : Type 0 where
-  pub first : ℕ
-  pub last : ℕ
-  pub from : gives first
-  pub to : gives last
-  pub apart : (first + milliseconds ≤ last) ⊎ (last ≡ 2 ^ 64 - 1)
-
--- the seconds that statements sleep, as a number of 64 bits
-abbrev pub seconds_slept : List Stmt → ℕ
-seconds_slept script = min (sleep_seconds script) (2 ^ 64 - 1)
-
--- for a script that was run, all its seconds have passed
-abbrev pub HasSleptFor : (ℕ → Type 0) → Turn → List Stmt → Type 0
-HasSleptFor gives (Ran reply) script = HasWaited gives (1000 * seconds_slept script)
-HasSleptFor gives LogIsFull script = HasWaited gives (1000 * seconds_slept script)
-HasSleptFor gives turn script = Unit {0}
-
--- the same of the text that spells it
-abbrev pub Sleeps : (ℕ → Type 0) → List ℕ → Turn → Type 0
-Sleeps gives text (Ran reply) = (script : List Stmt) × IsQueryText text script × HasSleptFor gives (Ran reply) script
-Sleeps gives text LogIsFull = (script : List Stmt) × IsQueryText text script × HasSleptFor gives LogIsFull script
-Sleeps gives text turn = Unit {0}
-
 -- each query has slept, as far as it was run
 abbrev pub AllSleep : (ℕ → Type 0) → List (List ℕ) → List Turn → Type 0
 AllSleep gives [] [] = Unit {0}
@@ -385,10 +306,6 @@ HasEntered _ generation told = IfSome told (λ t. t.met ≡ Some (Ok generation)
 abbrev pub StaysOut : Stage → Cause → Option Told → Type 0
 StaysOut Outside cause told = IfSome told (λ t. (t.met ≡ None) ⊎ ((refusal : GateNo) × (cause ≡ GateRefused refusal) × (t.met ≡ Some (Err refusal))))
 StaysOut _ cause told = Unit {0}
-
-abbrev pub IsCancelledTurn : Turn → Type 0
-IsCancelledTurn Cancelled = Unit {0}
-IsCancelledTurn _ = ⊥
 
 pub record IsCaused (ending : Ending) (turns : List Turn) (generation : ℕ) (decision : Cac) (link : Option Traffic) (link_failed : Type 0) (told : Option Told) (limit : ℕ) (gives : ℕ → Type 0) : Type 0 where
   pub cause : CausedBy ending.cause decision link link_failed told limit gives
@@ -450,3 +367,19 @@ MakesCancels came_in cancels = (cancels ≡ []) ⊎ ((pid : ℕ) × (key : ℕ) 
 pub record HasCancelled (cause : Cause) (link : Option Traffic) (told : Option Told) : Type 0 where
   pub sent : IfSome told (λ t. IfSome link (λ traffic. MakesCancels traffic.came_in t.cancels))
   pub made : cause ≡ Cancelling → IfSome told (λ t. t.cancels ≢ [])
+
+-- ---- a connection served
+
+module _ {S P L F : Type 0} (its : Store.Ghosts S P) (of_link : Link.Ghosts L) (of_life : Life.Ghosts F) where
+  -- What came in on this link, what went out and what the child of this life noted are those of one session; its ending has
+  -- its causes and its status. It has asked for its signals, is attached or not, and has made cancels as told above.
+  abbrev pub HasServed : Admission → SessionConf → (gives : ℕ → Type 0) → L → F → S → Done L F → S → Type 0
+  HasServed admission conf gives link life before result now =
+      (ending : Ending) × (turns : List Turn) × (generation : ℕ) × (result.status ≡ status_of ending)
+      × IsSession its.notes admission.decision (newcomer (its.stamp before) (of_life.child life).pid generation) admission.key turns ending
+      (Rose (of_link.faults link) (of_link.faults result.link)) (between (of_link.traffic result.link) before now)
+      × IsCaused ending turns generation admission.decision (of_link.traffic result.link) (Rose (of_link.faults link) (of_link.faults result.link))
+      (of_life.told result.life) conf.authentication_ms gives
+      × HasAskedFor turns (of_life.told life) (of_life.told result.life)
+      × IsAttachedBehind ending generation (of_life.child result.life)
+      × HasCancelled ending.cause (of_link.traffic result.link) (of_life.told result.life)

@@ -1,16 +1,15 @@
 //! The end of a connection: what is said last, and as what the child exits.
-ghost use Rattle.std.specs.Prelude.{◌≡◌, ◌⊎◌, ◌≤◌, [], ◌∷◌, MatchOption, IfSome, cond};
+ghost use Rattle.std.specs.Prelude.{◌≡◌, ◌≤◌, [], ◌∷◌, IfSome};
 ghost use Rattle.pm_wire.specs.Conditions.{fixed_message, told};
 ghost use Rattle.pm_wire.specs.Longest.{IsGiven};
-ghost use Rattle.pm_life.specs.Attention.{Hears, IsAttentive};
-ghost use Rattle.pm_session.specs.Sent.{bytes_of, from_attach, packet_refusal, message_refusal, decision_refusal, gate_refusal, last_of};
-ghost use Rattle.pm_session.specs.Entry.{outside, SaysLast, ClosesBy, IsLastCause};
+ghost use Rattle.pm_exchange.specs.Sent.{bytes_of, from_attach, packet_refusal, message_refusal, decision_refusal, gate_refusal, last_of};
+ghost use Rattle.pm_exchange.specs.Moments.{outside};
+ghost use Rattle.pm_exchange.specs.Room.{buffer_bytes};
+ghost use Rattle.pm_session.specs.Entry.{ClosesBy, IsSaidBy};
 
 use crate::desk::Desk;
-use crate::ending::{Cause, MessageFault, Stage};
-use crate::line::Line;
 use pm_admit::Cac;
-use pm_exit::Status;
+use pm_exchange::{Cause, Line, MessageFault, Stage};
 use pm_life::{GateNo, Life};
 use pm_outside::Link;
 use pm_startup::StartFault;
@@ -31,60 +30,19 @@ impl<L: Link, F: Life> Desk<L, F> {
     }
 }
 
-impl<L: Link, F: Life> Line<L, F> {
-    /// Brings a session to its end that found no memory for its buffers.
-    pub(crate) fn close_short_of_memory(&mut self, decision: Cac) -> Cause
-        ensures closes { ClosesBy decision Stage.Outside Cause.ShortOfMemory result
-            (outside self.old.link [] self.old.child) (outside self.new.link [] self.new.child) }
-    {
-        let cause = self.last_cause(Cause::ShortOfMemory);
-        self.say_last(fixed(Fixed::FatalMemory));
-        self.exit_by(cause)
-    }
-
-    // Takes the child's signals, and tells by what the session ends: a signal counts where the child would exit as if
-    // nothing had happened.
-    fn last_cause(&mut self, cause: Cause) -> Cause
-        ensures link { self.new.link ≡ self.old.link }
-        ensures hears { Hears 1 self.old.child self.new.child }
-        ensures attentive { IsAttentive self.new.child }
-        ensures last { IsLastCause self.new.child.standing cause result }
-    {
-        self.ear.listen();
-        match (cause.status(), self.ear.ends()) {
-            (Status::Code(0), Some(told)) => told,
-            _ => cause,
-        }
-    }
-
-    // Says the last words. A Kill breaks them off, a fault of the link is passed over, and behind them the child takes its
-    // signals once more.
-    fn say_last(&mut self, words: &[u8])
-        ensures { SaysLast words.now (outside self.old.link [] self.old.child)
-            (outside self.new.link [] self.new.child) }
-    {
-        if words.is_empty() || self.ear.is_killed() {
-            return;
-        }
-        let _ = self.send(words);
-        self.ear.listen();
-    }
-
-    // By what the child exits where the session ended by this cause.
-    fn exit_by(&self, cause: Cause) -> Cause
-        ensures { result ≡ cond self.now.child.standing.kill Cause.Killed cause }
-    {
-        if self.ear.is_killed() {
-            Cause::Killed
-        } else {
-            cause
-        }
-    }
+/// Brings a session to its end that found no memory for its buffers.
+pub(crate) fn close_short_of_memory<L: Link, F: Life>(line: &mut Line<L, F>, decision: Cac) -> Cause
+    ensures closes { ClosesBy decision Stage.Outside Cause.ShortOfMemory result
+        (outside line.old.link [] line.old.child) (outside line.new.link [] line.new.child) }
+{
+    let cause = line.last_cause(Cause::ShortOfMemory);
+    line.say_last(fixed(Fixed::FatalMemory));
+    line.exit_by(cause)
 }
 
 // Puts what is said last into the outbox, alone.
 fn put_last(outbox: &mut Outbox, decision: Cac, stage: Stage, cause: Cause)
-    requires { 66048 ≤ outbox.old.capacity }
+    requires { buffer_bytes ≤ outbox.old.capacity }
     ensures bytes { outbox.new.bytes ≡ bytes_of (last_of decision stage cause) }
     ensures room { outbox.old.capacity ≤ outbox.new.capacity }
 {
@@ -97,8 +55,7 @@ fn put_last(outbox: &mut Outbox, decision: Cac, stage: Stage, cause: Cause)
 
 // What is said last.
 fn last_condition(decision: Cac, stage: Stage, cause: Cause) -> Option<Condition<'static>>
-    ensures says { MatchOption result (last_of decision stage cause ≡ [])
-        (λ condition. last_of decision stage cause ≡ told condition ∷ []) }
+    ensures says { IsSaidBy (last_of decision stage cause) result }
     ensures given { IfSome result IsGiven }
 {
     match cause {
@@ -123,8 +80,7 @@ fn last_condition(decision: Cac, stage: Stage, cause: Cause) -> Option<Condition
 
 // A child outside says nothing to a signal.
 fn from_attach(stage: Stage, words: Fixed) -> Option<Condition<'static>>
-    ensures says { MatchOption result (from_attach stage (fixed_message words ∷ []) ≡ [])
-        (λ condition. from_attach stage (fixed_message words ∷ []) ≡ told condition ∷ []) }
+    ensures says { IsSaidBy (from_attach stage (fixed_message words ∷ [])) result }
     ensures given { IfSome result IsGiven }
 {
     match stage {
@@ -134,8 +90,7 @@ fn from_attach(stage: Stage, words: Fixed) -> Option<Condition<'static>>
 }
 
 fn packet_condition(fault: StartFault) -> Option<Condition<'static>>
-    ensures says { MatchOption result (packet_refusal fault ≡ [])
-        (λ condition. packet_refusal fault ≡ told condition ∷ []) }
+    ensures says { IsSaidBy (packet_refusal fault) result }
     ensures given { IfSome result IsGiven }
 {
     match fault {
@@ -162,8 +117,7 @@ fn message_condition(fault: MessageFault) -> Condition<'static>
 }
 
 fn decision_condition(decision: Cac) -> Option<Condition<'static>>
-    ensures says { MatchOption result (decision_refusal decision ≡ [])
-        (λ condition. decision_refusal decision ≡ told condition ∷ []) }
+    ensures says { IsSaidBy (decision_refusal decision) result }
     ensures given { IfSome result IsGiven }
 {
     match decision {

@@ -1,16 +1,14 @@
 //! A greeted client's queries, in order, up to the session's end.
-ghost use Rattle.std.specs.Prelude.{◌≡◌, ◌≤◌, false, [], length, IfErr, OnOk};
-ghost use Rattle.pm_query.specs.Calls.{user_of};
-ghost use Rattle.pm_wire.specs.Pieces.{HasNoZero};
+ghost use Rattle.std.specs.Prelude.{◌≡◌, false, [], length, OnOk};
 ghost use Rattle.pm_wire.specs.Frontend.{front_message};
-ghost use Rattle.pm_session.specs.Exchange.{Holds, IsLeftFor, IsSound};
-ghost use Rattle.pm_session.specs.Conversation.{Conversed, ShowsCause};
-ghost use Rattle.pm_session.specs.Turns.{Converses, MessageGoes, ReplyGoes, HasQueryText, at_desk};
+ghost use Rattle.pm_exchange.specs.Exchange.{Holds, IsLeftFor, IsSound};
+ghost use Rattle.pm_exchange.specs.Moments.{ShowsCause, GoesOrShows};
+ghost use Rattle.pm_exchange.specs.Room.{IsQueryString};
+ghost use Rattle.pm_session.specs.Turns.{Talked, Talks, Takes, Replies, HasQueryText, at_desk};
+ghost use Rattle.pm_exchange.specs.Answers.{KeepsUser};
 
 use crate::desk::Desk;
-use crate::ending::{Cause, MessageFault};
-use crate::inbox::Inbox;
-use crate::means::Means;
+use pm_exchange::{Cause, Inbox, Means, MessageFault, wanted_bytes_fit};
 use pm_life::Life;
 use pm_outside::{Clock, Link};
 use pm_query::Store;
@@ -31,13 +29,12 @@ impl<L: Link, F: Life> Desk<L, F> {
     ) -> Cause
         requires admits { S.admits store.old pass.old }
         requires empty { self.old.outbox.bytes ≡ [] }
-        ensures talks { Conversed S.notes (C.gives means.now.clock.now) (user_of (S.stamp store.old) (S.view pass.old)) result
+        ensures talks { Talked S.Store (C.gives means.now.clock.now) pass.old result
             (at_desk self.old inbox.old store.old) (at_desk self.new inbox.new store.new) }
         ensures cause { ShowsCause result self.old.link self.new.link self.new.child }
         ensures holds { IsSound false self.old.link.traffic → IsLeftFor result self.new.link.traffic }
         ensures admits { S.admits store.new pass.new }
-        ensures user { user_of (S.stamp store.new) (S.view pass.new) ≡ user_of (S.stamp store.old)
-            (S.view pass.old) }
+        ensures user { KeepsUser S.Store store.old pass.old store.new pass.new }
     {
         for _ in means.rt.forever() {
             if let Err(cause) = self.step(means, inbox, store, pass) {
@@ -57,19 +54,20 @@ impl<L: Link, F: Life> Desk<L, F> {
     ) -> Result<(), Cause>
         requires admits { S.admits store.old pass.old }
         requires empty { self.old.outbox.bytes ≡ [] }
-        ensures talks { Converses S.notes (C.gives means.now.clock.now) (user_of (S.stamp store.old) (S.view pass.old)) result
+        ensures talks { Talks S.Store (C.gives means.now.clock.now) pass.old result
             (at_desk self.old inbox.old store.old) (at_desk self.new inbox.new store.new) }
-        ensures cause { IfErr result (λ cause. ShowsCause cause self.old.link self.new.link
-            self.new.child) }
+        ensures cause { GoesOrShows result self.old.link self.new.link self.new.child }
         ensures holds { Holds false result self.old.link self.new.link }
         ensures admits { S.admits store.new pass.new }
-        ensures user { user_of (S.stamp store.new) (S.view pass.new) ≡ user_of (S.stamp store.old)
-            (S.view pass.old) }
+        ensures user { KeepsUser S.Store store.old pass.old store.new pass.new }
         ensures empty { OnOk result (self.new.outbox.bytes ≡ []) }
     {
         self.line.heed()?;
         match Front::read(inbox.unread()) {
-            Take::Short { wanted } => self.line.await_bytes(means, inbox, wanted),
+            Take::Short { wanted } => {
+                wanted_bytes_fit();
+                self.line.await_bytes(means, inbox, wanted)
+            }
             Take::Bad(WireFault::BadForm { .. }) => unreachable!(),
             Take::Bad(WireFault::BadLength { seen }) => {
                 inbox.pass(HEADER);
@@ -94,15 +92,13 @@ impl<L: Link, F: Life> Desk<L, F> {
         requires admits { S.admits store.old pass.old }
         requires empty { self.old.outbox.bytes ≡ [] }
         requires text { HasQueryText (front_message message) }
-        ensures goes { MessageGoes S.notes (C.gives means.now.clock.now) (user_of (S.stamp store.old) (S.view pass.old))
+        ensures goes { Takes S.Store (C.gives means.now.clock.now) pass.old
             (front_message message.entry) result (at_desk self.old [] store.old)
             (at_desk self.new [] store.new) }
-        ensures cause { IfErr result (λ cause. ShowsCause cause self.old.link self.new.link
-            self.new.child) }
+        ensures cause { GoesOrShows result self.old.link self.new.link self.new.child }
         ensures holds { Holds false result self.old.link self.new.link }
         ensures admits { S.admits store.new pass.new }
-        ensures user { user_of (S.stamp store.new) (S.view pass.new) ≡ user_of (S.stamp store.old)
-            (S.view pass.old) }
+        ensures user { KeepsUser S.Store store.old pass.old store.new pass.new }
         ensures empty { OnOk result (self.new.outbox.bytes ≡ []) }
     {
         match message {
@@ -127,15 +123,13 @@ impl<L: Link, F: Life> Desk<L, F> {
     ) -> Result<(), Cause>
         requires admits { S.admits store.old pass.old }
         requires empty { self.old.outbox.bytes ≡ [] }
-        requires text { HasNoZero text.now × (length text.now ≤ 65536) }
-        ensures goes { ReplyGoes S.notes (C.gives means.now.clock.now) (user_of (S.stamp store.old) (S.view pass.old)) text.now
+        requires text { IsQueryString text.now }
+        ensures goes { Replies S.Store (C.gives means.now.clock.now) pass.old text.now
             result (at_desk self.old [] store.old) (at_desk self.new [] store.new) }
-        ensures cause { IfErr result (λ cause. ShowsCause cause self.old.link self.new.link
-            self.new.child) }
+        ensures cause { GoesOrShows result self.old.link self.new.link self.new.child }
         ensures holds { Holds false result self.old.link self.new.link }
         ensures admits { S.admits store.new pass.new }
-        ensures user { user_of (S.stamp store.new) (S.view pass.new) ≡ user_of (S.stamp store.old)
-            (S.view pass.old) }
+        ensures user { KeepsUser S.Store store.old pass.old store.new pass.new }
         ensures empty { OnOk result (self.new.outbox.bytes ≡ []) }
     {
         let answer = self.line.answer_to(means, store, pass, text)?;

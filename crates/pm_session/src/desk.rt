@@ -1,21 +1,20 @@
 //! What a client is sent for a query. What is said stands in the outbox until that is full, or the query's piece is at its
 //! end. Where sending is broken off, a front of it went out.
-ghost use Rattle.std.specs.Prelude.{◌≡◌, ◌≤◌, ◌<◌, ◌^◌, ◌++◌, ◌∷◌, [], All, length, map, flat_map, decimal, None, OnOk};
+ghost use Rattle.std.specs.Prelude.{◌≡◌, ◌≤◌, ◌<◌, ◌++◌, ◌∷◌, [], All, length, flat_map, None, OnOk};
 ghost use Rattle.pm_wire.specs.Outgoing.{room};
-ghost use Rattle.pm_wire.specs.Pieces.{HasNoZero};
 ghost use Rattle.pm_wire.specs.Backend.{back_message, spelling, IsWritable, Fields, Pair, One, Complete, Ready};
 ghost use Rattle.pm_wire.specs.Conditions.{told, error, fixed_message};
 ghost use Rattle.pm_wire.specs.Longest.{longest, longest_told, HasSizes, IsGiven};
 ghost use Rattle.pm_wire.specs.declared.back.Tag.TheVariants as tags;
 ghost use Rattle.pm_query.specs.Limits.{HasShortValues, IsShortRow};
 ghost use Rattle.pm_query.specs.declared.item.Item.TheVariants as items;
-ghost use Rattle.pm_session.specs.Sent.{item_messages, row_messages, fault_state};
-ghost use Rattle.pm_session.specs.Turns.{Says, IsSayable, piece_of};
+ghost use Rattle.pm_exchange.specs.Sent.{item_messages, row_messages, fault_state};
+ghost use Rattle.pm_session.specs.Turns.{Says};
+ghost use Rattle.pm_exchange.specs.Answers.{IsSayable, piece_of};
+ghost use Rattle.pm_exchange.specs.Room.{buffer_bytes, IsFaultString};
 
-use crate::ending::Cause;
-use crate::line::Line;
-use crate::release::{Answer, Released};
 use itoa::Buffer;
+use pm_exchange::{Answer, Cause, Line, Released};
 use pm_life::Life;
 use pm_outside::Link;
 use pm_query::Item;
@@ -44,18 +43,19 @@ pub struct Desk<L: Link, F: Life> {
 
 impl<L: Link, F: Life> Model for Desk<L, F> {
     ghost use Rattle.std.specs.Prelude.{◌≤◌};
+    ghost use Rattle.pm_exchange.specs.Room.{buffer_bytes};
     ghost use Rattle.pm_session.specs.Turns.{Desk as DeskView};
 
     ghost Value = { DeskView };
 
     ghost view = { λ d. record { link = d.line.link; outbox = d.outbox; child = d.line.child } };
 
-    ghost invariant = { λ d. 66048 ≤ d.outbox.capacity };
+    ghost invariant = { λ d. buffer_bytes ≤ d.outbox.capacity };
 }
 
 impl<L: Link, F: Life> Desk<L, F> {
     pub(crate) fn new(line: Line<L, F>, outbox: Outbox) -> Desk<L, F>
-        requires room { 66048 ≤ outbox.capacity }
+        requires room { buffer_bytes ≤ outbox.capacity }
         ensures link { result.link ≡ line.link }
         ensures child { result.child ≡ line.child }
         ensures outbox { result.outbox ≡ outbox }
@@ -121,7 +121,7 @@ impl<L: Link, F: Life> Desk<L, F> {
 
     // Says why a text is no script.
     fn say_fault(&mut self, fault: SqlFault, message: &str) -> Result<(), Cause>
-        requires text { HasNoZero message.now × (length message.now ≤ 65573) }
+        requires text { IsFaultString message.now }
         ensures says { Says result (error (fault_state fault) message.now None ∷ Ready ∷ []) self.old self.new }
     {
         let report = Report {
@@ -226,7 +226,7 @@ impl<L: Link, F: Life> Desk<L, F> {
     fn say(&mut self, message: Back, most: usize) -> Result<(), Cause>
         requires writable { IsWritable (back_message message) }
         requires most { length (spelling (back_message message)) ≤ most }
-        requires fits { most ≤ 66048 }
+        requires fits { most ≤ buffer_bytes }
         ensures says { Says result (back_message message.entry ∷ []) self.old self.new }
     {
         self.make_room(most)?;
@@ -236,7 +236,7 @@ impl<L: Link, F: Life> Desk<L, F> {
 
     // Has room for so many bytes in the outbox: where they are more than it has, what stands there is sent first.
     fn make_room(&mut self, most: usize) -> Result<(), Cause>
-        requires fits { most ≤ 66048 }
+        requires fits { most ≤ buffer_bytes }
         ensures says { Says result [] self.old self.new }
         ensures room { OnOk result (most ≤ room self.new.outbox) }
     {

@@ -2,24 +2,16 @@
 //!
 //! [`serve`] reads what a client sends, answers it over any [`Store`](pm_query::Store), and heeds the signals that its
 //! [`Life`](pm_life::Life) gives it. What a client is sent for what it sends, what is noted, how a session ends and why
-//! are the definitions of `specs/Session` and `specs/Sent`.
+//! are the definitions of `specs/Session` here, and of `specs/Sent` and `specs/Queries` of [`pm_exchange`].
 #![tactic(auto)]
 
 mod close;
 mod converse;
 mod desk;
-mod ear;
-mod ending;
-mod inbox;
 mod laws;
-mod line;
-mod means;
-mod query;
-mod release;
 mod session;
 mod startup;
 
-pub use ending::{Cause, MessageFault, Stage};
 pub use laws::each_query_is_answered;
-pub use means::Means;
-pub use session::{Admission, Done, SessionConf, serve};
+pub use pm_exchange::{Cause, Done, Means, MessageFault, Stage};
+pub use session::{Admission, SessionConf, serve};

@@ -1,36 +1,30 @@
 //! One connection from its first byte to its end.
-ghost use Rattle.std.specs.Prelude.{◌≡◌, ◌≤◌, ◌+◌, ◌++◌, ℕ, false, List, [], length, None, Some, Ok, OnOk, IfOk, IfSome, MatchResult, IsTrue};
+ghost use Rattle.std.specs.Prelude.{◌≡◌, ◌≤◌, ◌+◌, ◌++◌, false, [], length, None, Some, Ok, OnOk, IfOk, IfSome, IsTrue};
 ghost use Rattle.pm_wire.specs.Pieces.{HasNoZero};
 ghost use Rattle.pm_wire.specs.Backend.{spelling, Param};
-ghost use Rattle.pm_disk.specs.Cause.{Rose};
 ghost use Rattle.pm_outside.specs.Traffic.{IsFresh};
-ghost use Rattle.pm_query.specs.Calls.{newcomer, user_of};
-ghost use Rattle.pm_life.specs.Life.{nothing_told, IsUntried};
+ghost use Rattle.pm_life.specs.Life.{IsUntried};
 ghost use Rattle.pm_life.specs.Attention.{Hears};
-ghost use Rattle.pm_session.specs.Exchange.{link_view, Holds, Sends};
-ghost use Rattle.pm_session.specs.Conversation.{IsBreak, ShowsCause};
-ghost use Rattle.pm_session.specs.Sent.{Turn, bytes_of, greeting};
-ghost use Rattle.pm_session.specs.Session.{Ending, status_by, status_of, between, IsSession, IsCaused, HasAskedFor, Heeds, HasCancelled, IsAttachedBehind};
+ghost use Rattle.pm_exchange.specs.Exchange.{Holds, Sends};
+ghost use Rattle.pm_exchange.specs.Moments.{GoesOrBreaks, IsUntold};
+ghost use Rattle.pm_exchange.specs.Sent.{bytes_of, greeting};
+ghost use Rattle.pm_session.specs.Session.{HasServed, Heeds};
+ghost use Rattle.pm_exchange.specs.Room.{buffer_bytes};
 ghost use Rattle.pm_session.specs.Entry.{Admitted, Connected, Entered, Inside, CanRefuseEntry, refusal_cause};
 ghost use Rattle.pm_session.specs.Turns.{at_desk};
+ghost use Rattle.pm_exchange.specs.Answers.{KeepsUser};
 
+use crate::close::close_short_of_memory;
 use crate::desk::Desk;
-use crate::ear::Ear;
-use crate::ending::{Cause, Stage};
-use crate::inbox::Inbox;
-use crate::line::Line;
-use crate::means::Means;
+use crate::startup::startup;
 use pm_admit::Cac;
-use pm_exit::Status;
+use pm_exchange::{BUFFER_BYTES, Cause, Done, Ear, Inbox, Line, Means, Stage};
 use pm_life::Life;
 use pm_outside::{Clock, Link};
 use pm_query::{Store, StoreNo};
 use pm_wire::{Back, Outbox, back_messages_have_a_longest};
 use std::alloc::{AllocError, Global};
 use std::sync::Wait;
-
-/// How many bytes a part of an answer has at most: the longest message, which says a token of the client's query, and some more.
-const OUTBOX_BYTES: usize = 66_048;
 
 /// The settings that a client is told at the start, in this order.
 const SETTINGS: [(&str, &str); 6] = [
@@ -56,14 +50,6 @@ pub struct Admission {
     pub key: u32,
 }
 
-/// How a connection's child exits, and its link and its life, given back.
-#[derive(Debug)]
-pub struct Done<L, F> {
-    pub status: Status,
-    pub link: L,
-    pub life: F,
-}
-
 /// Serves one connection to its end.
 pub fn serve<R: Wait, L: Link, S: Store, C: Clock, F: Life>(
     means: &Means<'_, R, C>,
@@ -76,20 +62,11 @@ pub fn serve<R: Wait, L: Link, S: Store, C: Clock, F: Life>(
     requires fresh { IsFresh (L.traffic link) }
     requires free { (F.child life).attached ≡ None }
     requires may { admission.decision ≡ Cac.Ok → ¬ (IsTrue (F.child life).is_dead_end) }
-    requires untold { IfSome (F.told life) (λ told. told ≡ nothing_told) }
+    requires untold { IsUntold (F.told life) }
     // What came in, what went out and what this child noted are those of one session; its ending has its causes and its
     // status.
-    ensures session { (ending : Ending) × (turns : List Turn) × (generation : ℕ)
-        × (result.status ≡ status_of ending)
-        × IsSession S.notes admission.decision (newcomer (S.stamp store.old) (F.child life).pid
-        generation) admission.key turns ending (Rose (L.faults link) (L.faults result.link))
-        (between (L.traffic result.link) store.old store.new)
-        × IsCaused ending turns generation admission.decision (L.traffic result.link)
-        (Rose (L.faults link) (L.faults result.link)) (F.told result.life)
-        conf.now.authentication_ms (C.gives means.now.clock.now)
-        × HasAskedFor turns (F.told life) (F.told result.life)
-        × IsAttachedBehind ending generation (F.child result.life)
-        × HasCancelled ending.cause (L.traffic result.link) (F.told result.life) }
+    ensures session { HasServed S.Store L.Link F.Life admission conf.now
+        (C.gives means.now.clock.now) link life store.old result store.new }
     // What it was given it has heeded.
     ensures heeds { Heeds result.status (F.told result.life) }
     ensures number { L.number result.link ≡ L.number link }
@@ -97,7 +74,7 @@ pub fn serve<R: Wait, L: Link, S: Store, C: Clock, F: Life>(
 {
     let mut line = Line::new(link, Ear::new(life));
     let Ok((mut inbox, outbox)) = buffers(means.alloc) else {
-        let exit = line.close_short_of_memory(admission.decision);
+        let exit = close_short_of_memory(&mut line, admission.decision);
         return line.done(exit);
     };
     let mut desk = Desk::new(line, outbox);
@@ -107,29 +84,11 @@ pub fn serve<R: Wait, L: Link, S: Store, C: Clock, F: Life>(
 
 // Room for what comes in and for what is said.
 fn buffers(alloc: Global) -> Result<(Inbox, Outbox), AllocError>
-    ensures { IfOk result (λ both. (both.0 ≡ []) × (both.1.bytes ≡ []) × (66048 ≤ both.1.capacity)) }
+    ensures { IfOk result (λ both. (both.0 ≡ []) × (both.1.bytes ≡ []) × (buffer_bytes ≤ both.1.capacity)) }
 {
     let inbox = Inbox::new(alloc)?;
-    let outbox = Outbox::with_capacity(alloc, OUTBOX_BYTES)?;
+    let outbox = Outbox::with_capacity(alloc, BUFFER_BYTES)?;
     Ok((inbox, outbox))
-}
-
-impl<L: Link, F: Life> Line<L, F> {
-    // The link and the life, given back, and how the child exits.
-    fn done(self, exit: Cause) -> Done<L, F>
-        ensures status { result.status ≡ status_by exit }
-        ensures link { self.link ≡ link_view (L.traffic result.link) (L.number result.link)
-            (L.faults result.link) }
-        ensures told { F.told result.life ≡ self.child.told }
-        ensures child { F.child result.life ≡ self.child.child }
-    {
-        let Line { link, ear } = self;
-        Done {
-            status: exit.status(),
-            link,
-            life: ear.into_life(),
-        }
-    }
 }
 
 impl<L: Link, F: Life> Desk<L, F> {
@@ -144,16 +103,16 @@ impl<L: Link, F: Life> Desk<L, F> {
         requires fresh { IsFresh self.old.link.traffic }
         requires free { self.old.child.child.attached ≡ None }
         requires may { admission.decision ≡ Cac.Ok → ¬ (IsTrue self.old.child.child.is_dead_end) }
-        requires untold { IfSome self.old.child.told (λ told. told ≡ nothing_told) }
+        requires untold { IsUntold self.old.child.told }
         requires unread { inbox.old ≡ [] }
         requires empty { self.old.outbox.bytes ≡ [] }
-        ensures session { Connected S.notes (S.stamp store.old) admission
+        ensures session { Connected S.Store admission
             (C.gives means.now.clock.now) result (at_desk self.old inbox.old store.old)
             (at_desk self.new inbox.new store.new) }
         ensures number { self.new.link.number ≡ self.old.link.number }
         ensures link_faults { self.old.link.faults ≤ self.new.link.faults }
     {
-        match self.line.startup(means, inbox) {
+        match startup(&mut self.line, means, inbox) {
             Ok(()) => self.admit(means, inbox, admission, store),
             Err(cause) => self.close(admission.decision, Stage::Outside, cause),
         }
@@ -171,7 +130,7 @@ impl<L: Link, F: Life> Desk<L, F> {
         requires may { admission.decision ≡ Cac.Ok → ¬ (IsTrue self.old.child.child.is_dead_end) }
         requires untried { IsUntried self.old.child.told }
         requires empty { self.old.outbox.bytes ≡ [] }
-        ensures serves { Admitted S.notes (S.stamp store.old) admission
+        ensures serves { Admitted S.Store admission
             (C.gives means.now.clock.now) result (at_desk self.old inbox.old store.old)
             (at_desk self.new inbox.new store.new) }
     {
@@ -202,9 +161,9 @@ impl<L: Link, F: Life> Desk<L, F> {
         store: &mut S,
         generation: u32,
     ) -> Cause
-        requires met { IfSome self.old.child.told (λ told. told.met ≡ Some (Ok generation)) }
+        requires met { IfSome self.old.child.told (λ t. t.met ≡ Some (Ok generation)) }
         requires empty { self.old.outbox.bytes ≡ [] }
-        ensures serves { Entered S.notes (S.stamp store.old) key generation
+        ensures serves { Entered S.Store key generation
             (C.gives means.now.clock.now) result (at_desk self.old inbox.old store.old)
             (at_desk self.new inbox.new store.new) }
         ensures child { self.new.child.child ≡ self.old.child.child }
@@ -236,16 +195,15 @@ impl<L: Link, F: Life> Desk<L, F> {
     ) -> Cause
         requires admits { S.admits store.old pass.old }
         requires pid { self.old.child.child.pid ≡ (S.view pass.old).pid }
-        requires met { IfSome self.old.child.told (λ told. told.met ≡ Some
+        requires met { IfSome self.old.child.told (λ t. t.met ≡ Some
             (Ok (S.view pass.old).generation)) }
         requires empty { self.old.outbox.bytes ≡ [] }
-        ensures serves { Inside S.notes (S.stamp store.old) (S.view pass.old) key
+        ensures serves { Inside S.Store pass.old key
             (C.gives means.now.clock.now) result (at_desk self.old inbox.old store.old)
             (at_desk self.new inbox.new store.new) }
         ensures child { self.new.child.child ≡ self.old.child.child }
         ensures admits { S.admits store.new pass.new }
-        ensures user { user_of (S.stamp store.new) (S.view pass.new) ≡ user_of (S.stamp store.old)
-            (S.view pass.old) }
+        ensures user { KeepsUser S.Store store.old pass.old store.new pass.new }
     {
         let cause = match self.greet(key) {
             Ok(()) => self.converse(means, inbox, store, pass),
@@ -260,8 +218,7 @@ impl<L: Link, F: Life> Desk<L, F> {
         ensures sends { Sends result (bytes_of (greeting self.old.child.child.pid key))
             self.old.link self.new.link }
         ensures hears { Hears 0 self.old.child self.new.child }
-        ensures cause { MatchResult result (λ _. Unit {0}) (λ cause. IsBreak cause
-            × ShowsCause cause self.old.link self.new.link self.new.child) }
+        ensures cause { GoesOrBreaks result self.old.link self.new.link self.new.child }
         ensures holds { Holds false result self.old.link self.new.link }
         ensures empty { OnOk result (self.new.outbox.bytes ≡ []) }
     {
@@ -289,9 +246,9 @@ fn refusal_cause(no: StoreNo) -> Cause
 // Puts the greeting into the outbox: AuthenticationOk, the settings, the cancel key and ReadyForQuery.
 fn put_greeting(outbox: &mut Outbox, pid: u32, key: u32)
     requires empty { outbox.old.bytes ≡ [] }
-    requires room { 66048 ≤ outbox.old.capacity }
+    requires room { buffer_bytes ≤ outbox.old.capacity }
     ensures bytes { outbox.new.bytes ≡ bytes_of (greeting pid key) }
-    ensures room { 66048 ≤ outbox.new.capacity }
+    ensures room { buffer_bytes ≤ outbox.new.capacity }
 {
     back_messages_have_a_longest();
     Back::Auth.put(outbox);

@@ -2,12 +2,10 @@
 ghost use Rattle.std.specs.Prelude.{◌≡◌, ℕ, List, [], Ok};
 ghost use Rattle.pm_startup.specs.Grammar.{content_of, FrontDecides};
 ghost use Rattle.pm_life.specs.Life.{HasNoCancel};
-ghost use Rattle.pm_session.specs.Entry.{AsksFor, Enters, outside};
+ghost use Rattle.pm_exchange.specs.Moments.{outside};
+ghost use Rattle.pm_session.specs.Entry.{AsksFor, Enters};
 
-use crate::ending::Cause;
-use crate::inbox::Inbox;
-use crate::line::Line;
-use crate::means::Means;
+use pm_exchange::{Cause, Inbox, Line, Means};
 use pm_life::Life;
 use pm_outside::{Clock, Link};
 use pm_startup::{Packet, Phase, Read, StartFault, Step, next, read};
@@ -17,7 +15,7 @@ use std::sync::Wait;
 const NO_ENCRYPTION: &[u8] = b"N";
 
 /// What the bytes that came so far ask for.
-#[derive(Clone, Copy, Debug, PartialEq, Eq)]
+#[derive(Clone, Copy)]
 enum Ask {
     /// They are too few to tell.
     Nothing,
@@ -31,43 +29,41 @@ enum Ask {
     Refused(StartFault),
 }
 
-impl<L: Link, F: Life> Line<L, F> {
-    /// Reads packets until one starts the session. Any other end of it is an error.
-    pub(crate) fn startup<R: Wait, C: Clock>(
-        &mut self,
-        means: &Means<'_, R, C>,
-        inbox: &mut Inbox,
-    ) -> Result<(), Cause>
-        requires empty { inbox.old ≡ [] }
-        requires none { HasNoCancel self.old.child.told }
-        ensures enters { Enters result (outside self.old.link inbox.old self.old.child)
-            (outside self.new.link inbox.new self.new.child) }
-    {
-        let mut phase = Phase {
-            ssl_used: false,
-            gss_used: false,
-        };
-        for _ in means.rt.forever() {
-            match asked_by(phase, inbox.unread()) {
-                Ask::Nothing => self.receive(means, inbox)?,
-                Ask::Encryption { behind, used } => {
-                    inbox.pass(used);
-                    phase = behind;
-                    self.send(NO_ENCRYPTION)?;
-                }
-                Ask::Start { used } => {
-                    inbox.pass(used);
-                    return Ok(());
-                }
-                Ask::Cancel { pid, key } => {
-                    self.cancel(pid, key);
-                    return Err(Cause::Cancelling);
-                }
-                Ask::Refused(fault) => return Err(Cause::PacketRefused(fault)),
+/// Reads packets until one starts the session. Any other end of it is an error.
+pub(crate) fn startup<R: Wait, L: Link, C: Clock, F: Life>(
+    line: &mut Line<L, F>,
+    means: &Means<'_, R, C>,
+    inbox: &mut Inbox,
+) -> Result<(), Cause>
+    requires empty { inbox.old ≡ [] }
+    requires none { HasNoCancel line.old.child.told }
+    ensures enters { Enters result (outside line.old.link inbox.old line.old.child)
+        (outside line.new.link inbox.new line.new.child) }
+{
+    let mut phase = Phase {
+        ssl_used: false,
+        gss_used: false,
+    };
+    for _ in means.rt.forever() {
+        match asked_by(phase, inbox.unread()) {
+            Ask::Nothing => line.receive(means, inbox)?,
+            Ask::Encryption { behind, used } => {
+                inbox.pass(used);
+                phase = behind;
+                line.send(NO_ENCRYPTION)?;
             }
+            Ask::Start { used } => {
+                inbox.pass(used);
+                return Ok(());
+            }
+            Ask::Cancel { pid, key } => {
+                line.cancel(pid, key);
+                return Err(Cause::Cancelling);
+            }
+            Ask::Refused(fault) => return Err(Cause::PacketRefused(fault)),
         }
-        unreachable!()
     }
+    unreachable!()
 }
 
 // What the bytes ask for in this phase.

@@ -11,13 +11,14 @@ use Rattle.pm_life.specs.Life.{nothing_told}
 use Rattle.pm_keys.specs.CancelKey.{cancel_key}
 use Rattle.pm_query.specs.declared.book.BookEntry.{BookEntry}
 use Rattle.pm_query.specs.Calls.{newcomer}
-use Rattle.pm_session.specs.declared.ending.Cause.{Cause}
-use Rattle.pm_session.specs.declared.ending.Cause.TheVariants.{Terminated, Cancelling, LinkEnded, LinkFailed, TimedOut, PacketRefused, MessageRefused, DecisionRefused, GateRefused, ShortOfMemory, Panicked, ToldToTerminate, ToldToQuit, Killed, Overtaken}
-use Rattle.pm_session.specs.declared.ending.Stage.{Stage}
-use Rattle.pm_session.specs.declared.ending.Stage.TheVariants.{Outside, Entering, Greeted}
-use Rattle.pm_session.specs.Exchange.{CutsOff}
-use Rattle.pm_session.specs.Sent.{Turn}
-use Rattle.pm_session.specs.Session.{Ending, status_by, status_of, between, LetsGo, IsAttachedAt, HasPassed, IsSession, IsCaused, HasAskedFor, HeedsTold, IsAttachedBehind, HasCancelled}
+use Rattle.pm_exchange.specs.declared.ending.Cause.{Cause}
+use Rattle.pm_exchange.specs.declared.ending.Cause.TheVariants.{Terminated, Cancelling, LinkEnded, LinkFailed, TimedOut, PacketRefused, MessageRefused, DecisionRefused, GateRefused, ShortOfMemory, Panicked, ToldToTerminate, ToldToQuit, Killed, Overtaken}
+use Rattle.pm_exchange.specs.declared.ending.Stage.{Stage}
+use Rattle.pm_exchange.specs.declared.ending.Stage.TheVariants.{Outside, Entering, Greeted}
+use Rattle.pm_exchange.specs.Exchange.{CutsOff}
+use Rattle.pm_exchange.specs.Sent.{Turn}
+use Rattle.pm_session.specs.Session.{Ending, status_of, between, IsAttachedAt, HasPassed, IsSession, IsCaused, HasAskedFor, HeedsTold, IsAttachedBehind, HasCancelled}
+use Rattle.pm_exchange.specs.Ends.{status_by, LetsGo}
 use Rattle.pm_board.specs.declared.views.Cancel.{Cancel}
 use Rattle.pm_board.specs.declared.views.Heard.{Heard}
 use Rattle.pm_board.specs.declared.views.Offer.{Offer}

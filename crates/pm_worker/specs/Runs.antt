@@ -11,7 +11,7 @@ use Rattle.pm_keys.specs.CancelKey.{cancel_key}
 use Rattle.pm_query.specs.declared.book.BookEntry.{BookEntry}
 use Rattle.pm_query.specs.declared.store.StoreNo.{StoreNo}
 use Rattle.pm_query.specs.Calls.{newcomer}
-use Rattle.pm_session.specs.Sent.{Turn}
+use Rattle.pm_exchange.specs.Sent.{Turn}
 use Rattle.pm_session.specs.Session.{Ending, status_of, between, IsSession, IsCaused, HasAskedFor, HeedsTold, IsAttachedBehind, HasCancelled}
 use Rattle.pm_aux.specs.Runs.{IsRunOf}
 use Rattle.pm_board.specs.declared.views.Cancel.{Cancel}

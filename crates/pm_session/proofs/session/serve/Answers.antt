@@ -1,34 +1,34 @@
-use Rattle.std.proofs.Common.{◌≡◌, ◌∙◌, ◌≤◌, [], None, Option, IfSome, ap, sym, subst, arith}
+use Rattle.std.proofs.Common.{◌≡◌, ◌∙◌, [], Option, IfSome, ap, sym, subst, arith}
 use Rattle.pm_outside.specs.Traffic.{IsFresh}
 use Rattle.pm_life.specs.Life.{Child, Told, nothing_told}
 use Rattle.pm_life.specs.Attention.{Attention}
-use Rattle.pm_session.specs.Exchange.{LinkView, link_view}
+use Rattle.pm_exchange.specs.Exchange.{LinkView}
 use Rattle.pm_session.specs.Entry.{Connected}
-use Rattle.pm_session.specs.Conversation.{moment}
+use Rattle.pm_exchange.specs.Moments.{moment}
 use Rattle.pm_session.specs.Turns.{at_desk}
-use Rattle.pm_session.proofs.Sessions.{Handed, connected_not, connected_as, connected_heeds}
+use Rattle.pm_session.proofs.Sessions.{connected_not, connected_as, connected_heeds}
 use Rattle.pm_session.proofs.session.serve.Goals as goal
 
 -- ---- without memory
 
 abbrev Short : (g : _) → goal.After-done g → Type 0
 Short g c =
-    Connected g.S.Store.notes (g.S.Store.stamp c.args.store.now) c.args.admission (g.C.Clock.gives c.args.means.now.clock.now) c.close_short_of_memory-exit.result
-    (moment c.new-line.result.link [] c.args.store.now c.new-line.result.child) (moment c.close_short_of_memory-exit.new.self.link [] c.args.store.now c.close_short_of_memory-exit.new.self.child)
+    Connected g.S.Store c.args.admission (g.C.Clock.gives c.args.means.now.clock.now) c.close_short_of_memory-exit.result
+    (moment c.new-line.result.link [] c.args.store.now c.new-line.result.child) (moment c.close_short_of_memory-exit.new.line.link [] c.args.store.now c.close_short_of_memory-exit.new.line.child)
 
 short : (g : _) (c : goal.After-done g) → Short g c
 short g c =
     let at : c.new-line.result.child ≡ _ = c.new-line.ensures.child ∙ c.new.ensures in
     let told0 = ap (λ (at : Attention). at.told) at in
     let child0 = ap (λ (at : Attention). at.child) at in
-    connected_not g.S.Store.notes _ c.args.admission _ _ _ _ c.args.store.now c.new-line.result.child _ (g.met.S.Store.at_rest _)
+    connected_not g.S.Store c.args.admission _ _ _ _ c.args.store.now c.new-line.result.child _ (g.met.S.Store.at_rest _)
     (subst (λ (l : LinkView). IsFresh l.traffic) (sym c.new-line.ensures.link) c.requires.fresh) (ap (λ (child : Child). child.attached) child0 ∙ c.requires.free)
     (subst (λ (t : Option Told). IfSome t (λ told. told ≡ nothing_told)) (sym told0) c.requires.untold) c.close_short_of_memory-exit.ensures.closes
 
 pub returns-in_default-clause-session : goal.returns-in_default-clause-session
 returns-in_default-clause-session g c =
     let at : c.new-line.result.child ≡ _ = c.new-line.ensures.child ∙ c.new.ensures in
-    connected_as g.S.Store.notes _ c.args.admission _ _ _ c.args.conf.now.authentication_ms _ _ _ _ [] [] _ _ c.new-line.result.child c.close_short_of_memory-exit.new.self.child _ _ _ _ (record {
+    connected_as g.S.Store c.args.admission _ _ _ c.args.conf.now.authentication_ms _ _ _ _ [] [] _ _ c.new-line.result.child c.close_short_of_memory-exit.new.line.child _ _ _ _ (record {
       link_given = c.new-line.ensures.link;
       link_back = c.done.ensures.link;
       told_given = ap (λ (at : Attention). at.told) at;
@@ -39,7 +39,7 @@ returns-in_default-clause-session g c =
 
 pub returns-in_default-clause-heeds : goal.returns-in_default-clause-heeds
 returns-in_default-clause-heeds g c =
-    connected_heeds g.S.Store.notes _ c.args.admission _ _ _ (moment c.new-line.result.link [] c.args.store.now c.new-line.result.child) (moment c.close_short_of_memory-exit.new.self.link [] c.args.store.now c.close_short_of_memory-exit.new.self.child) _
+    connected_heeds g.S.Store c.args.admission _ _ _ (moment c.new-line.result.link [] c.args.store.now c.new-line.result.child) (moment c.close_short_of_memory-exit.new.line.link [] c.args.store.now c.close_short_of_memory-exit.new.line.child) _
     c.done.ensures.status c.done.ensures.told (short g c)
 
 pub returns-in_default-clause-number : goal.returns-in_default-clause-number
@@ -65,7 +65,7 @@ session-exit-requires-clause-untold g c =
 pub returns-clause-session : goal.returns-clause-session
 returns-clause-session g c =
     let at : c.new-desk.result.child ≡ _ = c.new-desk.ensures.child ∙ c.new-line.ensures.child ∙ c.new.ensures in
-    connected_as g.S.Store.notes _ c.args.admission _ _ _ c.args.conf.now.authentication_ms _ _ _ _ c.in-Ok.inbox c.session-exit.new.inbox _ _ c.new-desk.result.child c.session-exit.new.self.child _ _ _ _ (record {
+    connected_as g.S.Store c.args.admission _ _ _ c.args.conf.now.authentication_ms _ _ _ _ c.in-Ok.inbox c.session-exit.new.inbox _ _ c.new-desk.result.child c.session-exit.new.self.child _ _ _ _ (record {
       link_given = c.new-desk.ensures.link ∙ c.new-line.ensures.link;
       link_back = sym c.into_line.ensures.link ∙ c.done-2.ensures.link;
       told_given = ap (λ (at : Attention). at.told) at;
@@ -76,7 +76,7 @@ returns-clause-session g c =
 
 pub returns-clause-heeds : goal.returns-clause-heeds
 returns-clause-heeds g c =
-    connected_heeds g.S.Store.notes _ c.args.admission _ _ _ (at_desk c.new-desk.result c.in-Ok.inbox c.args.store.now) (at_desk c.session-exit.new.self c.session-exit.new.inbox c.session-exit.new.store) _
+    connected_heeds g.S.Store c.args.admission _ _ _ (at_desk c.new-desk.result c.in-Ok.inbox c.args.store.now) (at_desk c.session-exit.new.self c.session-exit.new.inbox c.session-exit.new.store) _
     c.done-2.ensures.status (c.done-2.ensures.told ∙ ap (λ (at : Attention). at.told) c.into_line.ensures.child) c.session-exit.ensures.session
 
 pub returns-clause-number : goal.returns-clause-number

@@ -1,5 +1,4 @@
-use Rattle.std.proofs.Common.{◌∙◌, ◌≡◌, inr, sym, subst, Ok, ℕ, List, take}
-use Rattle.pm_startup.specs.Grammar.{Content, FrontDecides}
+use Rattle.std.proofs.Common.{◌∙◌, inr, sym}
 use Rattle.pm_session.proofs.startup.asked_by_packet.Goals as goal
 
 pub returns-in-Refuse : goal.returns-in-Refuse

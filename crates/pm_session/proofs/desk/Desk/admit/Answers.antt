@@ -1,12 +1,13 @@
-use Rattle.std.proofs.Common.{◌≡◌, ◌≢◌, ◌∙◌, ◌++◌, [], ℕ, List, Option, None, Some, Ok, Err, true, false, ap, sym, subst, refl, arith}
+use Rattle.std.proofs.Common.{◌≡◌, ◌∙◌, [], ℕ, List, None, Some, Ok, Err, true, false, ap, sym, subst, refl, arith}
 use Rattle.pm_admit.specs.declared.Cac.TheVariants as decisions
 use Rattle.pm_query.specs.Calls.{User, newcomer}
 use Rattle.pm_life.specs.Life.{Child, attached_in}
-use Rattle.pm_session.specs.declared.ending.Cause.{Cause}
-use Rattle.pm_session.specs.declared.ending.Cause.TheVariants.{DecisionRefused, GateRefused}
-use Rattle.pm_session.specs.Session.{HasAskedFor, LetsGo}
-use Rattle.pm_session.specs.Sent.{Turn}
-use Rattle.pm_session.specs.Conversation.{moment}
+use Rattle.pm_exchange.specs.declared.ending.Cause.{Cause}
+use Rattle.pm_exchange.specs.declared.ending.Cause.TheVariants.{DecisionRefused, GateRefused}
+use Rattle.pm_session.specs.Session.{HasAskedFor}
+use Rattle.pm_exchange.specs.Ends.{LetsGo}
+use Rattle.pm_exchange.specs.Sent.{Turn}
+use Rattle.pm_exchange.specs.Moments.{moment}
 use Rattle.pm_session.specs.Entry.{Serves, IsTextBehind}
 use Rattle.pm_session.proofs.Attentions.{cancels_at_gate, cancels_then, hears_both, untried_still}
 use Rattle.pm_session.proofs.Sessions.{at_outside, told_away, turned_away, asked_for, asked_at_gate, met_now, met_still, served_since, lets_go_by, attached_outside, attached_inside, out_untried, out_refused}

@@ -1,8 +1,9 @@
-use Rattle.std.proofs.Common.{◌≡◌, ◌∙◌, ◌++◌, ◌≤◌, [], ℕ, List, None, Ok, Err, ap, sym, subst, refl, arith}
+use Rattle.std.proofs.Common.{◌≡◌, ◌∙◌, [], ℕ, List, Ok, Err, ap, subst, arith}
 use Rattle.pm_query.specs.Calls.{User, newcomer}
 use Rattle.pm_life.specs.Life.{Child}
-use Rattle.pm_session.specs.Conversation.{moment}
-use Rattle.pm_session.specs.Entry.{outside, Enters, Serves, IsTextBehind}
+use Rattle.pm_exchange.specs.Moments.{moment}
+use Rattle.pm_exchange.specs.Moments.{outside}
+use Rattle.pm_session.specs.Entry.{Enters, Serves, IsTextBehind}
 use Rattle.pm_session.proofs.Attentions.{untried_still, new_untried, new_no_cancel}
 use Rattle.pm_session.proofs.Links.{fresh_sound}
 use Rattle.pm_session.proofs.Sessions.{stopped_session, stopped_caused, started_session, started_caused, stopped_made, started_made, no_cancel_kept, asked_for, asked_since, attached_outside, started_slept}
@@ -25,8 +26,8 @@ returns-in-Ok-clause-session g c =
     let key = c.args.admission.key in
     let l0 = c.self.inside.line.link in
     let at0 = c.self.inside.line.child in
-    let l1 = c.startup.new.self.link in
-    let at1 = c.startup.new.self.child in
+    let l1 = c.startup.new.line.link in
+    let at1 = c.startup.new.line.child in
     let l2 = c.admit.new.self.link in
     let at2 = c.admit.new.self.child in
     let fresh = rw (← c.self.view_is) at c.requires.fresh in
@@ -66,8 +67,8 @@ returns-in-Err-clause-session g c =
     let cause = c.in-Err.cause in
     let l0 = c.self.inside.line.link in
     let at0 = c.self.inside.line.child in
-    let l1 = c.startup.new.self.link in
-    let at1 = c.startup.new.self.child in
+    let l1 = c.startup.new.line.link in
+    let at1 = c.startup.new.line.child in
     let l2 = c.close.new.self.link in
     let at2 = c.close.new.self.child in
     let user : User = newcomer (g.S.Store.stamp c.args.store.now) at0.child.pid 0 in

@@ -1,10 +1,10 @@
-use Rattle.std.proofs.Common.{◌≡◌, ◌∙◌, ◌++◌, ◌<◌, ℕ, List, length, take, drop, ap, arith, refl, subst, sym, take-append-drop}
+use Rattle.std.proofs.Common.{◌∙◌, ◌++◌, ◌<◌, ℕ, List, length, take, drop, ap, refl, subst, sym, take-append-drop}
 use Rattle.pm_wire.specs.Frontend.{front_message, IsFront, IsUndecided, BeginsBadly}
 use Rattle.pm_wire.specs.declared.take.Take.TheVariants.{Bad}
 use Rattle.pm_wire.specs.declared.take.WireFault.{WireFault}
 use Rattle.std.proofs.lemmas.Result.{err_from_is_err_and}
 use Rattle.pm_session.proofs.Conversing.{message_taken}
-use Rattle.pm_session.proofs.Steps.{stops_here, waited, wanted_fits, bad_length, length_refused}
+use Rattle.pm_session.proofs.Steps.{stops_here, waited, bad_length, length_refused}
 use Rattle.pm_session.proofs.desk.Desk.step.Goals as goal
 
 pub returns-in_err-heed-clause-talks : goal.returns-in_err-heed-clause-talks
@@ -18,7 +18,7 @@ returns-in_err-heed-clause-cause g c =
     rw (p.1, p.2) (c.in_err-heed.ensures.stops.1 _ _)
 
 pub await_bytes-requires : goal.await_bytes-requires
-await_bytes-requires g c = record { room = wanted_fits c.unread.result.now c.in-Short.wanted ((c.in-Short.ensures.short c.in-Short.wanted).0 refl) }
+await_bytes-requires g c = record { room = c.wanted_bytes_fit.ensures c.unread.result.now c.in-Short.wanted ((c.in-Short.ensures.short c.in-Short.wanted).0 refl) }
 
 pub returns-in-Short-clause-talks : goal.returns-in-Short-clause-talks
 returns-in-Short-clause-talks g c =

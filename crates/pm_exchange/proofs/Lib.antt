@@ -1,0 +1,8 @@
+pub mod Attending
+pub mod Attentions
+pub mod Lasts
+pub mod Links
+pub mod Noted
+pub mod Signals
+pub mod Sleeping
+pub mod Wanting

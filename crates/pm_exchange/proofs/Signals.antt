@@ -1,0 +1,45 @@
+-- Signals that end a session or cancel a query.
+use Rattle.std.proofs.Common.{◌≡◌, ◌∙◌, ℕ, inl, inr, Bool, true, false, Option, None, Some, sym, subst}
+use Rattle.pm_supervisor.specs.declared.Reason.{Reason}
+use Rattle.pm_life.specs.Life.{Cancel}
+use Rattle.pm_exchange.specs.declared.ending.Cause.{Cause}
+use Rattle.pm_exchange.specs.declared.ending.Cause.TheVariants.{ToldToTerminate, ToldToQuit, Killed}
+use Rattle.pm_life.specs.Attention.{Attention, Hears, GivenSince, IsAttentive}
+use Rattle.pm_exchange.specs.Attention.{ends_by, ends_of}
+use Rattle.pm_exchange.specs.Moments.{IsSignal, IsHeeded, IsWaitEnd}
+use Rattle.pm_exchange.proofs.Attentions.{told_cause}
+
+ended_by : (kill : Bool) (quit : Option Reason) (terminate : Bool) (cause : Cause) → ends_by kill quit terminate ≡ Some cause → IsSignal cause
+ended_by true quit terminate cause is = let same : Killed ≡ cause = cc in subst IsSignal same tt
+ended_by false (Some reason) terminate cause is = let same : ToldToQuit reason ≡ cause = cc in subst IsSignal same tt
+ended_by false None true cause is = let same : ToldToTerminate ≡ cause = cc in subst IsSignal same tt
+ended_by false None false cause is = absurd cc
+
+-- the signal that stands was given
+pub signal_told : (at : Attention) (cause : Cause) → IsAttentive at → ends_of at.standing ≡ Some cause → IsSignal cause × IsHeeded cause at
+signal_told at cause attentive is = (ended_by at.standing.kill at.standing.quit at.standing.terminate cause is, λ before now. (told_cause at cause before now attentive is).1)
+
+-- ---- a wait that a Terminate doesn't end
+
+still_ends : (kill : Bool) (quit : Option Reason) (terminate : Bool) (cause : Cause) → ends_by kill quit false ≡ Some cause → ends_by kill quit terminate ≡ Some cause
+still_ends true quit terminate cause is = is
+still_ends false (Some reason) terminate cause is = is
+still_ends false None terminate cause is = absurd cc
+
+wait_end : (kill : Bool) (quit : Option Reason) (cause : Cause) → ends_by kill quit false ≡ Some cause → IsWaitEnd cause
+wait_end true quit cause is = let same : Killed ≡ cause = cc in subst IsWaitEnd same tt
+wait_end false (Some reason) cause is = let same : ToldToQuit reason ≡ cause = cc in subst IsWaitEnd same tt
+wait_end false None cause is = absurd cc
+
+pub wait_told : (at : Attention) (cause : Cause) → IsAttentive at → ends_by at.standing.kill at.standing.quit false ≡ Some cause → IsWaitEnd cause × IsHeeded cause at
+wait_told at cause attentive is = (
+  wait_end at.standing.kill at.standing.quit cause is,
+  λ before now. (told_cause at cause before now attentive (still_ends at.standing.kill at.standing.quit at.standing.terminate cause is)).1,
+)
+
+-- a cancel that stands, where none stood, was given since
+pub cancel_since : (before now : Attention) (k : ℕ) → before.standing.cancel ≡ false → Hears k before now → now.standing.cancel ≡ true → GivenSince Cancel before.told now.told
+cancel_since before now k idle hears is = elim (hears.cancel is) [ inl stood ↦ absurd (true_false (sym stood ∙ idle)) | inr since ↦ since ]
+  where
+    true_false : true ≡ false → ⊥
+    true_false e = cc

@@ -1,0 +1,25 @@
+use Rattle.std.proofs.Common.{ℕ, List, subst}
+use Rattle.pm_exchange.specs.Queries.{Sleeps}
+use Rattle.pm_exchange.specs.Answers.{turn_of}
+use Rattle.pm_exchange.proofs.Attentions.{hears_both, hears_dropped}
+use Rattle.pm_exchange.proofs.Sleeping.{fit_as, sleeps_unnoted, all_spelled}
+use Rattle.pm_exchange.proofs.ear.Ear.answer_to.Goals as goal
+
+pub returns-in-Err-clause-fit : goal.returns-in-Err-clause-fit
+returns-in-Err-clause-fit g c = fit_as _ _ _ c.in-Ok.ensures.cases.0 c.faulted.ensures.fit _ _
+
+pub returns-in_default-clause-hears : goal.returns-in_default-clause-hears
+returns-in_default-clause-hears g c = rw c.drop_cancel.ensures (hears_dropped _ _ _)
+
+pub returns-in-Err-clause-hears : goal.returns-in-Err-clause-hears
+returns-in-Err-clause-hears g c = rw c.drop_cancel.ensures (hears_dropped _ _ _)
+
+pub returns-in-Ok-parse-clause-hears : goal.returns-in-Ok-parse-clause-hears
+returns-in-Ok-parse-clause-hears g c = hears_both 0 0 _ _ _ (hears_dropped _ _ _) (rw c.drop_cancel.ensures at c.script_answer.ensures.hears)
+
+pub returns-in-Err-clause-slept : goal.returns-in-Err-clause-slept
+returns-in-Err-clause-slept g c =
+    subst (λ (bytes : List ℕ). Sleeps (g.C.Clock.gives c.args.means.now.clock.now) bytes (turn_of c.faulted.result)) c.in-Ok.ensures.cases.0 (sleeps_unnoted _ 0 _ _ (c.faulted.ensures.notes 0))
+
+pub returns-in-Ok-parse-clause-slept : goal.returns-in-Ok-parse-clause-slept
+returns-in-Ok-parse-clause-slept g c = all_spelled _ _ _ c.in-Ok-parse.script c.script_answer.result c.in-Ok.ensures.cases.0 c.in-Ok-parse.ensures.script c.script_answer.ensures.slept

@@ -1,0 +1,24 @@
+use Rattle.pm_query.specs.Calls.{user_of}
+use Rattle.pm_exchange.proofs.Attentions.{hears_fewer, hears_none}
+use Rattle.pm_exchange.proofs.Noted.{run_can, run_refused, ran, released_fits, same_user_at}
+use Rattle.pm_exchange.proofs.ear.Ear.run.Goals as goal
+
+pub returns-in-Ok-clause-notes : goal.returns-in-Ok-clause-notes
+returns-in-Ok-clause-notes g c =
+    let user = same_user_at c.in-Ok.staged.front _ _ (g.S.Store.view c.args.pass.now) _ (g.met.S.Store.stays _ _ _ c.in-Ok.ensures.notes.1) c.in-Ok.ensures.view in
+    ran _ _ _ _ c.in-Ok.staged _ _ _ _ g.met.S.Store.in_turn user c.in-Ok.ensures.notes c.release.ensures.notes
+
+pub returns-in-Ok-clause-fit : goal.returns-in-Ok-clause-fit
+returns-in-Ok-clause-fit g c = released_fits _ c.in-Ok.staged _ _ c.args.script.now _ _ c.release.ensures.notes.2 c.in-Ok.ensures.short
+
+pub returns-in-Ok-clause-hears : goal.returns-in-Ok-clause-hears
+returns-in-Ok-clause-hears g c = hears_fewer 0 1 _ _ c.release.ensures.hears
+
+pub returns-in-Err-clause-hears : goal.returns-in-Err-clause-hears
+returns-in-Err-clause-hears g c = hears_none _
+
+pub refusal_of-requires : goal.refusal_of-requires
+refusal_of-requires g c = run_can (user_of (g.S.Store.stamp c.args.store.now) (g.S.Store.view c.args.pass.now)) c.args.script.now c.in-Err.no c.in-Err.ensures.notes.0 c.in-Err.ensures.notes.2
+
+pub returns-in-Err-clause-notes : goal.returns-in-Err-clause-notes
+returns-in-Err-clause-notes g c = rw c.refusal_of.ensures (run_refused g.S.Store.notes (user_of (g.S.Store.stamp c.args.store.now) (g.S.Store.view c.args.pass.now)) c.args.script.now c.in-Err.no _ _ c.in-Err.ensures.notes)

@@ -1,0 +1,24 @@
+use Rattle.std.proofs.Common.{◌∙◌, sym}
+use Rattle.std.proofs.lemmas.Result.{err_from_is_err_and}
+use Rattle.pm_exchange.proofs.Attentions.{hears_none, hears_both, hears_fewer}
+use Rattle.pm_exchange.proofs.Signals.{cancel_since}
+use Rattle.pm_exchange.proofs.ear.Ear.sleep.Goals as goal
+
+pub loop-init : goal.loop-init
+loop-init g c = record { hears = hears_none _ }
+
+pub returns-in_err-heed : goal.returns-in_err-heed
+returns-in_err-heed g c =
+    let p = err_from_is_err_and c.from_residual.result c.from_residual.ensures.1 in
+    record { goes = rw (p.1, p.2) c.in_err-heed.ensures.stops; hears = hears_both 0 1 _ _ _ c.loop.invariant.hears c.heed.ensures.hears }
+
+pub returns-then-is_cancelled : goal.returns-then-is_cancelled
+returns-then-is_cancelled g c =
+    let heard = hears_both 0 1 _ _ _ c.loop.invariant.hears c.heed.ensures.hears in
+    record { goes = cancel_since _ _ 1 c.requires.idle heard (sym c.is_cancelled.ensures ∙ c.if-is_cancelled.true); hears = heard }
+
+pub returns-then-end-now-clause-hears : goal.returns-then-end-now-clause-hears
+returns-then-end-now-clause-hears g c = hears_both 0 1 _ _ _ c.loop.invariant.hears c.heed.ensures.hears
+
+pub loop-preserved : goal.loop-preserved
+loop-preserved g c = record { hears = hears_fewer 0 1 _ _ (hears_both 0 1 _ _ _ c.loop.invariant.hears c.heed.ensures.hears) }

@@ -1,0 +1,29 @@
+use Rattle.std.proofs.Common.{◌≡◌, ℕ, ◌-◌, List, length, take, drop, arith, length-drop}
+use Rattle.std.proofs.lemmas.List.{take_all}
+use Rattle.pm_exchange.specs.declared.ending.Cause.TheVariants.{Killed}
+use Rattle.pm_exchange.proofs.Attentions.{hears_both, hears_fewer}
+use Rattle.pm_exchange.proofs.Links.{sends_more, wrote, sound_left, wrote_sound, write_left}
+use Rattle.pm_exchange.proofs.line.Line.send.Goals as goal
+
+-- what is left behind the first n, as the code takes it
+rest_of : (xs : List ℕ) (n : ℕ) → take (length xs - n) (drop n xs) ≡ drop n xs
+rest_of xs n = take_all _ _ (omega (arith, length-drop n xs))
+
+pub loop-rest-preserved : goal.loop-rest-preserved
+loop-rest-preserved g c = record {
+  sent = sends_more _ _ _ c.in-Count.count _ _ _ (rest_of c.loop-rest.rest.now c.in-Count.count) c.loop-rest.invariant.sent (wrote _ _ c.in-Count.count c.loop-rest.rest.now c.in-Count.ensures.traffic c.in-Count.ensures.number c.in-Count.ensures.cause.later);
+  hears = hears_fewer 0 1 _ _ (hears_both 0 1 _ _ _ c.loop-rest.invariant.hears c.listen.ensures.hears);
+  sound = λ ended sound. wrote_sound ended _ _ c.in-Count.count c.loop-rest.rest.now c.in-Count.ensures.traffic (c.loop-rest.invariant.sound ended sound);
+}
+
+pub returns-then-is_killed-clause-holds : goal.returns-then-is_killed-clause-holds
+returns-then-is_killed-clause-holds g c = λ ended sound. sound_left ended Killed _ (c.loop-rest.invariant.sound ended sound)
+
+pub returns-in-Failed-clause-holds : goal.returns-in-Failed-clause-holds
+returns-in-Failed-clause-holds g c = λ ended sound. write_left ended _ _ c.loop-rest.rest.now c.in-Failed.ensures.traffic (c.loop-rest.invariant.sound ended sound)
+
+pub returns-then-is_killed-clause-hears : goal.returns-then-is_killed-clause-hears
+returns-then-is_killed-clause-hears g c = hears_fewer 0 1 _ _ (hears_both 0 1 _ _ _ c.loop-rest.invariant.hears c.listen.ensures.hears)
+
+pub returns-in-Failed-clause-hears : goal.returns-in-Failed-clause-hears
+returns-in-Failed-clause-hears g c = hears_fewer 0 1 _ _ (hears_both 0 1 _ _ _ c.loop-rest.invariant.hears c.listen.ensures.hears)

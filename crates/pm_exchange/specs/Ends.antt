@@ -1,0 +1,38 @@
+-- As what a child exits, by what its session ended.
+use Rattle.pm_exit.specs.declared.child.Status.{Status}
+use Rattle.pm_exit.specs.declared.child.Status.TheVariants as statuses
+use Rattle.pm_startup.specs.declared.packet.StartFault.TheVariants.{Length}
+use Rattle.pm_exchange.specs.declared.ending.Cause.{Cause}
+use Rattle.pm_exchange.specs.declared.ending.Cause.TheVariants.{Terminated, Cancelling, LinkEnded, LinkFailed, TimedOut, PacketRefused, MessageRefused, DecisionRefused, GateRefused, ShortOfMemory, Panicked, ToldToTerminate, ToldToQuit, Killed, Overtaken}
+
+-- ---- endings
+
+-- how the child exits
+abbrev pub status_by : Cause → Status
+status_by Terminated = statuses.Code 0
+status_by Cancelling = statuses.Code 0
+status_by LinkEnded = statuses.Code 0
+status_by LinkFailed = statuses.Code 1
+status_by TimedOut = statuses.Code 1
+status_by (PacketRefused (Length seen)) = statuses.Code 0
+status_by (PacketRefused fault) = statuses.Code 1
+status_by (MessageRefused fault) = statuses.Code 1
+status_by DecisionRefused = statuses.Code 1
+status_by (GateRefused refusal) = statuses.Code 1
+status_by ShortOfMemory = statuses.Code 1
+status_by Panicked = statuses.Signal 6
+status_by ToldToTerminate = statuses.Code 1
+status_by (ToldToQuit reason) = statuses.Code 2
+status_by Killed = statuses.Signal 9
+status_by Overtaken = statuses.Signal 6
+
+-- ---- the whole
+
+-- A child that exits of itself lets go of the store and of its attachment. A panic, a Quit and a Kill leave both to the
+-- supervisor.
+abbrev pub LetsGo : Cause → Type 0 → Type 0 → Type 0
+LetsGo Panicked leaves stays = stays
+LetsGo (ToldToQuit reason) leaves stays = stays
+LetsGo Killed leaves stays = stays
+LetsGo Overtaken leaves stays = stays
+LetsGo _ leaves stays = leaves

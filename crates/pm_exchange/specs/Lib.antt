@@ -1,0 +1,10 @@
+pub mod Exchange
+pub mod Line
+pub mod Attention
+pub mod Sent
+pub mod Moments
+pub mod Queries
+pub mod Answers
+pub mod Ends
+pub mod Last
+pub mod Room

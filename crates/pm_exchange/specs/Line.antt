@@ -1,0 +1,22 @@
+-- A child's line to its client, and what the child hears.
+use Rattle.std.specs.Prelude.{◌≡◌, ℕ, false, Result, MatchResult}
+use Rattle.std.specs.Option.{option_map}
+use Rattle.pm_life.specs.declared.life.GateNo.{GateNo}
+use Rattle.pm_life.specs.Life.{met_at_gate, attached_in}
+use Rattle.pm_life.specs.Attention.{Attention, attention}
+use Rattle.pm_exchange.specs.Exchange.{LinkView}
+
+-- the link, and what the child was told
+pub record LineView : Type 0 where
+  pub link : LinkView
+  pub child : Attention
+
+-- where no cancel stands
+abbrev pub without_cancel : Attention → Attention
+without_cancel at = attention at.told at.child (record at.standing { cancel = false })
+
+-- A child that was let through the gate is attached in the generation that it was answered; what stands, stands.
+pub record MeetsGate (answer : Result ℕ GateNo) (before now : Attention) : Type 0 where
+  pub told : now.told ≡ option_map (met_at_gate answer) before.told
+  pub child : MatchResult answer (λ generation. now.child ≡ attached_in generation before.child) (λ refusal. now.child ≡ before.child)
+  pub standing : now.standing ≡ before.standing

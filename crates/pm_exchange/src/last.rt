@@ -1,0 +1,77 @@
+//! What a child does last on its line, and as what it exits.
+ghost use Rattle.std.specs.Prelude.{◌≡◌, [], cond};
+ghost use Rattle.pm_life.specs.Attention.{Hears, IsAttentive};
+ghost use Rattle.pm_exchange.specs.Exchange.{seen};
+ghost use Rattle.pm_exchange.specs.Ends.{status_by};
+ghost use Rattle.pm_exchange.specs.Moments.{outside};
+ghost use Rattle.pm_exchange.specs.Last.{SaysLast, IsLastCause};
+
+use crate::ending::Cause;
+use crate::line::Line;
+use pm_exit::Status;
+use pm_life::Life;
+use pm_outside::Link;
+
+/// How a connection's child exits, and its link and its life, given back.
+#[derive(Debug)]
+pub struct Done<L, F> {
+    pub status: Status,
+    pub link: L,
+    pub life: F,
+}
+
+impl<L: Link, F: Life> Line<L, F> {
+    /// Takes the child's signals, and tells by what the session ends: a signal counts where the child would exit as if
+    /// nothing had happened.
+    pub fn last_cause(&mut self, cause: Cause) -> Cause
+        ensures link { self.new.link ≡ self.old.link }
+        ensures hears { Hears 1 self.old.child self.new.child }
+        ensures attentive { IsAttentive self.new.child }
+        ensures last { IsLastCause self.new.child.standing cause result }
+    {
+        self.ear.listen();
+        match (cause.status(), self.ear.ends()) {
+            (Status::Code(0), Some(told)) => told,
+            _ => cause,
+        }
+    }
+
+    /// Says the last words. A Kill breaks them off, a fault of the link is passed over, and behind them the child takes
+    /// its signals once more.
+    pub fn say_last(&mut self, words: &[u8])
+        ensures { SaysLast words.now (outside self.old.link [] self.old.child)
+            (outside self.new.link [] self.new.child) }
+    {
+        if words.is_empty() || self.ear.is_killed() {
+            return;
+        }
+        let _ = self.send(words);
+        self.ear.listen();
+    }
+
+    /// By what the child exits where the session ended by this cause.
+    pub fn exit_by(&self, cause: Cause) -> Cause
+        ensures { result ≡ cond self.now.child.standing.kill Cause.Killed cause }
+    {
+        if self.ear.is_killed() {
+            Cause::Killed
+        } else {
+            cause
+        }
+    }
+
+    /// The link and the life, given back, and how the child exits.
+    pub fn done(self, exit: Cause) -> Done<L, F>
+        ensures status { result.status ≡ status_by exit }
+        ensures link { self.link ≡ seen L.Link result.link }
+        ensures told { F.told result.life ≡ self.child.told }
+        ensures child { F.child result.life ≡ self.child.child }
+    {
+        let Line { link, ear } = self;
+        Done {
+            status: exit.status(),
+            link,
+            life: ear.into_life(),
+        }
+    }
+}

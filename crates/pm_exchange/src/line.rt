@@ -1,0 +1,167 @@
+//! Reading from the client and sending to it. Before each read and each write the child takes its signals.
+ghost use Rattle.std.specs.Prelude.{◌≡◌, ◌<◌, ◌≤◌, ℕ, Bool, false, None, Some, IsTrue, length, option_map};
+ghost use Rattle.pm_life.specs.Life.{HasNoCancel, IsUntried, asked_cancel, let_go};
+ghost use Rattle.pm_life.specs.Attention.{Hears, IsAttentive};
+ghost use Rattle.pm_exchange.specs.Attention.{EndsIn};
+ghost use Rattle.pm_exchange.specs.Exchange.{link_view, Holds, Sends, seen, ReceivesOrNot};
+ghost use Rattle.pm_exchange.specs.Moments.{GoesOrBreaks, GoesOrShows, GoesOrStops, Comes};
+ghost use Rattle.pm_exchange.specs.Line.{MeetsGate};
+ghost use Rattle.pm_exchange.specs.Room.{buffer_bytes};
+
+use crate::ear::Ear;
+use crate::ending::Cause;
+use crate::inbox::Inbox;
+use crate::means::Means;
+use pm_life::{GateNo, Life};
+use pm_outside::{Clock, Got, Link, Put};
+use std::marker::Model;
+use std::sync::Wait;
+
+/// The link to the client, and what the child hears.
+pub struct Line<L: Link, F: Life> {
+    pub(crate) link: L,
+    pub(crate) ear: Ear<F>,
+}
+
+impl<L: Link, F: Life> Model for Line<L, F> {
+    ghost use Rattle.pm_exchange.specs.Exchange.{link_view};
+    ghost use Rattle.pm_exchange.specs.Line.{LineView};
+
+    ghost Value = { LineView };
+
+    ghost view = { λ l. record { link = link_view (L.traffic l.link) (L.number l.link) (L.faults l.link); child = l.ear } };
+}
+
+impl<L: Link, F: Life> Line<L, F> {
+    pub fn new(link: L, ear: Ear<F>) -> Line<L, F>
+        ensures link { result.link ≡ seen L.Link link }
+        ensures child { result.child ≡ ear }
+    {
+        Line { link, ear }
+    }
+
+    /// Sends all the bytes. A Kill breaks it off; any other signal stands until later.
+    pub fn send(&mut self, bytes: &[u8]) -> Result<(), Cause>
+        ensures sends { Sends result bytes.now self.old.link self.new.link }
+        ensures hears { Hears 0 self.old.child self.new.child }
+        ensures cause { GoesOrBreaks result self.old.link self.new.link self.new.child }
+        ensures kill { result ≡ Err Cause.Killed → IsTrue self.new.child.standing.kill }
+        ensures holds { (ended : Bool) → Holds ended result self.old.link self.new.link }
+    {
+        let mut rest = bytes;
+        while !rest.is_empty() {
+            self.ear.listen();
+            if self.ear.is_killed() {
+                return Err(Cause::Killed);
+            }
+            match self.link.write(rest) {
+                Put::Count(count) => rest = &rest[count..],
+                Put::Failed => return Err(Cause::LinkFailed),
+            }
+        }
+        Ok(())
+    }
+
+    /// Waits for bytes, and takes those that came, one or more. A signal that ends the session is heeded before each read.
+    pub fn receive<R: Wait, C: Clock>(
+        &mut self,
+        means: &Means<'_, R, C>,
+        inbox: &mut Inbox,
+    ) -> Result<(), Cause>
+        requires room { length inbox.old < buffer_bytes }
+        ensures came { ReceivesOrNot result inbox.old inbox.new self.old.link self.new.link }
+        ensures hears { Hears 1 self.old.child self.new.child }
+        ensures cause { GoesOrBreaks result self.old.link self.new.link self.new.child }
+        ensures holds { Holds false result self.old.link self.new.link }
+    {
+        for _ in means.rt.forever() {
+            self.ear.listen();
+            if let Some(cause) = self.ear.ends() {
+                return Err(cause);
+            }
+            match inbox.read_from(&mut self.link) {
+                Got::Bytes(_) => return Ok(()),
+                Got::NotYet => means.clock.pause(),
+                Got::End => return Err(Cause::LinkEnded),
+                Got::Failed => return Err(Cause::LinkFailed),
+            }
+        }
+        unreachable!()
+    }
+
+    /// Waits until so many bytes are there. Where that is broken off, those that are there are passed over.
+    pub fn await_bytes<R: Wait, C: Clock>(
+        &mut self,
+        means: &Means<'_, R, C>,
+        inbox: &mut Inbox,
+        wanted: usize,
+    ) -> Result<(), Cause>
+        requires room { wanted ≤ buffer_bytes }
+        ensures comes { Comes wanted result inbox.old inbox.new self.old.link self.new.link }
+        ensures hears { Hears 0 self.old.child self.new.child }
+        ensures cause { GoesOrShows result self.old.link self.new.link self.new.child }
+        ensures holds { Holds false result self.old.link self.new.link }
+    {
+        while inbox.unread().len() < wanted {
+            if let Err(cause) = self.receive(means, inbox) {
+                let count = inbox.unread().len();
+                inbox.pass(count);
+                return Err(cause);
+            }
+        }
+        Ok(())
+    }
+}
+
+// What the child hears, with no word on the link.
+impl<L: Link, F: Life> Line<L, F> {
+    /// As [`Ear::pid`].
+    pub fn pid(&self) -> u32
+        ensures { result ≡ self.now.child.child.pid }
+    {
+        self.ear.pid()
+    }
+
+    /// As [`Ear::heed`].
+    pub fn heed(&mut self) -> Result<(), Cause>
+        ensures link { self.new.link ≡ self.old.link }
+        ensures hears { Hears 1 self.old.child self.new.child }
+        ensures attentive { IsAttentive self.new.child }
+        ensures ends { EndsIn result self.new.child.standing }
+        ensures stops { GoesOrStops result self.new.child }
+    {
+        self.ear.heed()
+    }
+
+    /// As [`Ear::attach`].
+    pub fn attach(&mut self) -> Result<u32, GateNo>
+        requires free { self.old.child.child.attached ≡ None }
+        requires may { ¬ (IsTrue self.old.child.child.is_dead_end) }
+        requires once { IsUntried self.old.child.told }
+        ensures link { self.new.link ≡ self.old.link }
+        ensures meets { MeetsGate result self.old.child self.new.child }
+    {
+        self.ear.attach()
+    }
+
+    /// As [`Ear::cancel`].
+    pub fn cancel(&mut self, pid: u32, key: u32)
+        requires { HasNoCancel self.old.child.told }
+        ensures link { self.new.link ≡ self.old.link }
+        ensures told { self.new.child.told ≡ option_map (asked_cancel pid key) self.old.child.told }
+        ensures child { self.new.child.child ≡ self.old.child.child }
+        ensures standing { self.new.child.standing ≡ self.old.child.standing }
+    {
+        self.ear.cancel(pid, key);
+    }
+
+    /// As [`Ear::detach`].
+    pub fn detach(&mut self)
+        requires { (generation : ℕ) × (self.old.child.child.attached ≡ Some generation) }
+        ensures link { self.new.link ≡ self.old.link }
+        ensures child { self.new.child.child ≡ let_go self.old.child.child }
+        ensures told { self.new.child.told ≡ self.old.child.told }
+    {
+        self.ear.detach();
+    }
+}
