@@ -24,7 +24,7 @@ use Rattle.pm_state.specs.Promises.{has_act, is_ask_checkpoint, is_quit}
 use Rattle.pm_state.specs.Requests.{asked_with, ticked_at}
 use Rattle.pm_state.specs.TurnRules.{are_backends_gone, backends_gone, children_gone, dead_ends_gone, end_smart, is_not_running, restart_writer, start_recovery, stop_backends}
 use Rattle.pm_state.specs.Journal.{Do, Fits, reported, row_of, settled}
-use Rattle.pm_once.specs.AuxiliaryRuns.{Heard, heard_after}
+use Rattle.pm_duties.specs.AuxiliaryRuns.{Heard, heard_after}
 use Rattle.pm_completeness.specs.Crashes.{IsBehindUndone, IsOrderly}
 use Rattle.pm_completeness.proofs.Replaying.{Keeps}
 

@@ -25,11 +25,10 @@ use Rattle.pm_state.specs.Journal.{AreLegal, Due, FollowsIn, IsLegal, Replay, al
 use Rattle.pm_chain.specs.Steps.{AreSteps, AreStepsBehind, ChildRun, Notes, Renews, Runs, RunsOn, StandsByItself, Step, journal_by, journal_of, redo_end}
 use Rattle.pm_journal.specs.Stands.{any_moment}
 use Rattle.pm_server.specs.Journal.{asked_in}
-use Rattle.pm_once.specs.AuxiliaryRuns.{AreToldBehind, Heard, IsRunAs, heard_after, nothing_heard}
+use Rattle.pm_duties.specs.AuxiliaryRuns.{AreToldBehind, Heard, IsRunAs, heard_after, nothing_heard}
 use Rattle.pm_completeness.specs.Crashes.{AreOrderly, AreOrderlySoFar, CompletesItsRuns, IsBehindUndone, is_undone}
-use Rattle.pm_once.specs.Once.{EndThemselves, EndsItself}
-use Rattle.pm_once.specs.Undisturbed.{IsFineExit}
-use Rattle.pm_once.specs.Goes.{EndsWith}
+use Rattle.pm_duties.specs.Calm.{EndThemselves, EndsItself, IsFineExit}
+use Rattle.pm_acts.specs.Steps.{EndsWith}
 use Rattle.pm_completeness.proofs.Replaying.{IsPlain, acts_behind_redo, acts_in, entry_on, goes_on_at, rested, rests_at}
 use Rattle.pm_completeness.proofs.Crashing.{EndsCalm, IsCalmSo, IsLost, IsAlwaysOrderly, checkpointer_calm, checkpointer_lost, keeps_calm, keeps_lost, nobody_left, session_calm, startup_calm, startup_lost, writer_calm}
 

@@ -15,7 +15,7 @@ use Rattle.pm_state.specs.Machine.{accepted_as, view_of}
 use Rattle.pm_admit.specs.Admission.{decide_of}
 use Rattle.pm_state.specs.Requests.{asked_with, ticked_at}
 use Rattle.pm_state.specs.Journal.{Do, Due, EndRedo, Fits, FitsFirst, Follows, FollowsIn, MayCome, Replay, caused, dues, dues_after, replayed, reported, row_of, settled, without_first}
-use Rattle.pm_once.specs.AuxiliaryRuns.{Heard, heard_after}
+use Rattle.pm_duties.specs.AuxiliaryRuns.{Heard, heard_after}
 
 -- what is due, without the end of redo
 abbrev pub acts_in : List Due → List Action

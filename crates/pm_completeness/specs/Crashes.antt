@@ -16,9 +16,9 @@ use Rattle.pm_state.specs.Journal.{IsLegal, Replay, replay_begun, replayed}
 use Rattle.pm_chain.specs.Steps.{AreSteps, Step, journal_of}
 use Rattle.pm_journal.specs.Stands.{any_moment}
 use Rattle.pm_server.specs.Journal.{asked_in}
-use Rattle.pm_once.specs.AuxiliaryRuns.{AreToldBehind, nothing_heard}
-use Rattle.pm_once.specs.Goes.{EndsWith}
-use Rattle.pm_once.specs.Once.{EndThemselves}
+use Rattle.pm_duties.specs.AuxiliaryRuns.{AreToldBehind, nothing_heard}
+use Rattle.pm_acts.specs.Steps.{EndsWith}
+use Rattle.pm_duties.specs.Calm.{EndThemselves}
 
 -- ---- entries
 

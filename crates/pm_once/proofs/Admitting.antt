@@ -18,12 +18,15 @@ use Rattle.pm_journal.specs.Laws.{GoesOnOverItsJournal, KeepsALegalJournal}
 use Rattle.pm_journal.specs.declared.supervision.Taken.{Taken}
 use Rattle.pm_journal.specs.Standing.{Adds, IsAtRest, MayTake, Standing, accepting, decision_on, later, made, next_pid}
 use Rattle.pm_journal.specs.Stands.{AtWork, IsSettled}
-use Rattle.pm_once.specs.Calls.{Admits, Asks, ComesTo, Finishes, HasRun}
-use Rattle.pm_once.specs.Goes.{Goes, IsIdle, IsRunning, is_last_drawn, sessions_in}
+use Rattle.pm_once.specs.Calls.{Admits, Asks, Finishes, HasRun}
+use Rattle.pm_duties.specs.Outcomes.{ComesTo}
+use Rattle.pm_once.specs.Goes.{Goes, IsRunning}
+use Rattle.pm_acts.specs.Acts.{IsIdle, is_last_drawn, IsPresent}
+use Rattle.pm_acts.specs.Steps.{sessions_in}
 use Rattle.pm_server.specs.Journal.{accepted_in}
-use Rattle.pm_once.specs.Auxiliaries.{AreThere, HasLess, IsPresent}
-use Rattle.pm_once.specs.declared.outcome.Outcome.{Outcome}
-use Rattle.pm_once.specs.declared.auxiliaries.Auxiliaries.{Auxiliaries}
+use Rattle.pm_duties.specs.Auxiliaries.{AreThere, HasLess}
+use Rattle.pm_duties.specs.declared.outcome.Outcome.{Outcome}
+use Rattle.pm_duties.specs.declared.auxiliaries.Auxiliaries.{Auxiliaries}
 use Rattle.pm_journal.specs.Roll.{kind_in}
 use Rattle.pm_segment.specs.MovesLaws.{moves_none}
 use Rattle.pm_once.specs.Serves.{HasServed, IsServed, Serves}
@@ -37,8 +40,9 @@ use Rattle.pm_server.specs.JournalLaws.{accepted_in-append}
 use Rattle.pm_once.proofs.Finishing.{is_drawn}
 use Rattle.pm_once.proofs.SessionRuns.{session_run}
 use Rattle.pm_once.proofs.SessionEnds.{session_sound}
-use Rattle.pm_once.proofs.Undisturbed.{still_less}
-use Rattle.pm_once.proofs.Going.{goes_none, goes_on, journal-append, sessions-append, stays_on}
+use Rattle.pm_duties.specs.CalmLaws.{still_less}
+use Rattle.pm_once.proofs.Going.{goes_none, goes_on, stays_on}
+use Rattle.pm_acts.specs.StepsLaws.{journal-append, sessions-append}
 use Rattle.pm_once.proofs.Serving.{ends_on, one_numbered, open_on}
 use Rattle.pm_once.proofs.Knowing.{known_moved}
 

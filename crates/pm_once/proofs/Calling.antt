@@ -4,8 +4,6 @@ use Rattle.std.specs.Prelude.{Bool, true, false, is_some, max, nat_le, IfSome}
 use Rattle.std.specs.List.{last_or}
 use Rattle.std.proofs.lemmas.Bool.Decides.{nat_tests}
 use Rattle.std.proofs.lemmas.List.Elements.{All-push}
-use Rattle.pm_exit.specs.declared.child.Kind.{Kind}
-use Rattle.pm_exit.specs.declared.child.Kind.TheVariants as kind
 use Rattle.pm_modes.specs.declared.Mode.{Mode}
 use Rattle.pm_modes.specs.declared.Mode.TheVariants.{Smart}
 use Rattle.pm_modes.specs.Strength.{strengthen_of}
@@ -17,25 +15,27 @@ use Rattle.pm_state.specs.declared.event.PmEvent.TheVariants as entry
 use Rattle.pm_chain.specs.Laws.{StepsGoOn}
 use Rattle.pm_chain.specs.Steps.{Step, Notes, journal_of}
 use Rattle.pm_journal.specs.Laws.{GoesOnOverItsJournal}
-use Rattle.pm_journal.specs.Roll.{kind_in}
 use Rattle.pm_journal.specs.Standing.{Adds, IsAtRest, Standing, asking, later, made, turning}
 use Rattle.pm_journal.specs.Stands.{AtWork, Stands, behind}
-use Rattle.pm_once.specs.Goes.{AreOurs, AsksAsDue, Does, IsAt, IsFree, IsIdle, IsOpen, is_last_drawn}
+use Rattle.pm_acts.specs.Acts.{AreOurs, AsksAsDue, IsIdle, is_last_drawn}
+use Rattle.pm_once.specs.Goes.{Does, IsAt, IsOpen}
+use Rattle.pm_acts.specs.Steps.{IsFree}
 use Rattle.pm_server.specs.Journal.{IsMoment, asked_in}
-use Rattle.pm_once.specs.Auxiliaries.{AreThere, IsPresent}
+use Rattle.pm_duties.specs.Auxiliaries.{AreThere}
 use Rattle.pm_lines.specs.Log.{HasSaid}
-use Rattle.pm_once.specs.declared.auxiliaries.Auxiliaries.{Auxiliaries}
 use Rattle.pm_once.specs.View.{View}
-use Rattle.pm_once.proofs.Acting.{notes_follow}
-use Rattle.pm_once.proofs.Causing.{caused_entry}
+use Rattle.pm_acts.specs.RunsLaws.{notes_follow}
+use Rattle.pm_duties.specs.CausesLaws.{caused_entry}
 use Rattle.pm_server.specs.JournalLaws.{asked_in-append, adds_none}
-use Rattle.pm_once.proofs.Going.{serves_nothing}
-use Rattle.pm_once.proofs.Nexts.{told_more}
-use Rattle.pm_once.proofs.Ours.{ask_says, says_ours, turn_rule}
-use Rattle.pm_once.proofs.Undisturbed.{asked_disturbed, asked_stands, goes_on_so, turned_disturbed}
+use Rattle.pm_acts.specs.StepsLaws.{serves_nothing}
+use Rattle.pm_acts.specs.NextsLaws.{told_more}
+use Rattle.pm_acts.specs.RulesLaws.{ask_says, says_ours, turn_rule}
+use Rattle.pm_once.proofs.Undisturbed.{asked_disturbed, turned_disturbed}
+use Rattle.pm_duties.specs.CalmLaws.{asked_stands, goes_on_so}
 use Rattle.pm_lines.specs.LogLaws.{said_same}
 use Rattle.pm_server.specs.SpansLaws.{spans_none}
 use Rattle.pm_segment.specs.MovesLaws.{moves_none}
+use Rattle.pm_duties.specs.AuxiliariesLaws.{auxiliaries_still}
 
 -- ---- moments
 
@@ -58,19 +58,6 @@ later_moment gives at before given =
 pub as_last : (gives : ℕ → Type 0) (before at : ℕ) → IsMoment gives before at → (at ≡ before) ⊎ gives at
 as_last gives before at (inl given) = inr given
 as_last gives before at (inr old) = inl old.0
-
--- ---- the children stay
-
-pub auxiliary_still : (auxiliary : Option ℕ) (k : Kind) (s t : Standing) → t.children ≡ s.children → t.last_pid ≡ s.last_pid → IsPresent auxiliary k s → IsPresent auxiliary k t
-auxiliary_still None k s t children pid there = tt
-auxiliary_still (Some p) k s t children pid there = (ap (kind_in p) children ∙ there.0, omega (arith, there.1, pid))
-
-pub auxiliaries_still : (auxiliaries : Auxiliaries) (s t : Standing) → t.children ≡ s.children → t.last_pid ≡ s.last_pid → AreThere auxiliaries s → AreThere auxiliaries t
-auxiliaries_still auxiliaries s t children pid there = record {
-  startup = auxiliary_still auxiliaries.startup kind.Startup s t children pid there.startup;
-  checkpointer = auxiliary_still auxiliaries.checkpointer kind.Checkpointer s t children pid there.checkpointer;
-  writer = auxiliary_still auxiliaries.writer kind.Writer s t children pid there.writer;
-}
 
 -- ---- a request
 

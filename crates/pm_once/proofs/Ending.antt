@@ -1,8 +1,7 @@
 -- A child has run: its end is noted, or memory is short for that. And a connection is accepted.
-use Rattle.std.proofs.Common.{◌≡◌, ◌⊎◌, inl, ℕ, ◌+◌, ◌≤◌, List, [], ◌∷◌, ◌++◌, length, Option, None, Some, refl, sym, ◌∙◌, ap, subst, arith, append-nil, eq-eqb}
-use Rattle.std.specs.Prelude.{Bool, true, false, ◌==◌, if◌then◌else◌, is_some, IfSome, unwrap_or}
+use Rattle.std.proofs.Common.{◌≡◌, ◌⊎◌, inl, ℕ, ◌+◌, ◌≤◌, List, [], ◌∷◌, ◌++◌, length, Option, None, Some, refl, sym, ◌∙◌, ap, subst, append-nil, eq-eqb}
+use Rattle.std.specs.Prelude.{Bool, true, false, if◌then◌else◌, is_some, IfSome, unwrap_or}
 use Rattle.std.specs.List.{last_or}
-use Rattle.std.proofs.lemmas.Bool.Decides.{nat_tests}
 use Rattle.pm_exit.specs.declared.child.Kind.{Kind}
 use Rattle.pm_exit.specs.declared.child.Kind.TheVariants as kind
 use Rattle.pm_exit.specs.declared.child.Status.{Status}
@@ -25,25 +24,30 @@ use Rattle.pm_journal.specs.Roll.{kind_in, without}
 use Rattle.pm_journal.specs.declared.exit.ChildExit.{ChildExit}
 use Rattle.pm_journal.specs.Standing.{Adds, IsAtRest, MayTake, Standing, accepting, all_noted, called, decision_on, exit_call, exit_entry, exiting, later, made, next_pid, ends_redo}
 use Rattle.pm_journal.specs.Stands.{AtWork, IsSettled, Stands, behind}
-use Rattle.pm_once.specs.Calls.{ComesTo, HasRun, NotesExit, NotesNoExit, exit_of}
-use Rattle.pm_once.specs.Goes.{AreOurs, AsksAsDue, Goes, IsFree, IsIdle, IsRunning, StaysOpen, is_last_drawn}
+use Rattle.pm_duties.specs.Outcomes.{ComesTo}
+use Rattle.pm_once.specs.Calls.{HasRun, NotesExit, NotesNoExit}
+use Rattle.pm_acts.specs.Steps.{exit_of, IsFree}
+use Rattle.pm_acts.specs.Acts.{AreOurs, AsksAsDue, IsIdle, is_last_drawn}
+use Rattle.pm_once.specs.Goes.{Goes, IsRunning, StaysOpen}
 use Rattle.pm_server.specs.Journal.{IsMoment, asked_in}
 use Rattle.pm_server.specs.Spans.{Spans}
-use Rattle.pm_once.specs.Auxiliaries.{AreThere, HasLess, IsPresent, heard_of}
-use Rattle.pm_once.specs.declared.outcome.Outcome.{Outcome}
+use Rattle.pm_duties.specs.Auxiliaries.{AreThere, HasLess, heard_of}
+use Rattle.pm_duties.specs.declared.outcome.Outcome.{Outcome}
 use Rattle.pm_lines.specs.Log.{HasSaid, LogView}
 use Rattle.pm_once.specs.View.{View}
-use Rattle.pm_once.specs.declared.auxiliaries.Auxiliaries.{Auxiliaries}
-use Rattle.pm_once.proofs.Acting.{asks_drawn, notes_follow, run_follows, runs_on_follows}
+use Rattle.pm_duties.specs.declared.auxiliaries.Auxiliaries.{Auxiliaries}
+use Rattle.pm_acts.specs.ActsLaws.{asks_drawn}
+use Rattle.pm_acts.specs.RunsLaws.{notes_follow, run_follows, runs_on_follows, exit_entries, lost_more, more_inside, no_asks, no_lines, run_inside, there_in}
 use Rattle.pm_once.proofs.Calling.{as_last, later_moment}
-use Rattle.pm_once.proofs.Causing.{caused_entry, caused_on, caused_run}
+use Rattle.pm_duties.specs.CausesLaws.{caused_entry, caused_on, caused_run}
 use Rattle.pm_server.specs.JournalLaws.{asked_in-append, adds_none}
-use Rattle.pm_once.proofs.Nexts.{told_more}
-use Rattle.pm_once.proofs.Ours.{exit_ours}
-use Rattle.pm_once.proofs.Running.{exit_entries, auxiliaries_without, lost_more, more_inside, no_asks, no_lines, off_startup, run_inside, there_in}
+use Rattle.pm_acts.specs.NextsLaws.{told_more}
+use Rattle.pm_acts.specs.RulesLaws.{exit_ours}
+use Rattle.pm_duties.specs.AuxiliariesLaws.{auxiliaries_without, off_startup, auxiliaries_beside}
 use Rattle.pm_lines.specs.LogLaws.{said_same}
 use Rattle.pm_server.specs.SpansLaws.{spans_moves, spans_none}
-use Rattle.pm_once.proofs.Undisturbed.{GoesOnDisk, goes_on_so, ran_disturbed, ran_on_disturbed, taken_disturbed}
+use Rattle.pm_once.proofs.Undisturbed.{GoesOnDisk, ran_disturbed, ran_on_disturbed, taken_disturbed}
+use Rattle.pm_duties.specs.CalmLaws.{goes_on_so}
 use Rattle.pm_once.proofs.Knowing.{known_still}
 
 -- what the end of a child leaves
@@ -214,21 +218,6 @@ ran_on goes legal gives run before mid now running rests ran noted =
     }
 
 -- ---- a connection is accepted
-
-auxiliary_beside : (auxiliary : Option ℕ) (k new : Kind) (s t : Standing) → t.children ≡ record { pid = s.last_pid + 1; kind = new } ∷ s.children → t.last_pid ≡ s.last_pid + 1 → IsPresent auxiliary k s → IsPresent auxiliary k t
-auxiliary_beside None k new s t children last is = tt
-auxiliary_beside (Some p) k new s t children last is =
-    (ap (kind_in p) children ∙ ap (λ (b : Bool). if b then Some new else kind_in p s.children) (another p s.last_pid is.1) ∙ is.0, omega (arith, is.1, last))
-  where
-    another : (p last : ℕ) → p ≤ last → (last + 1 == p) ≡ false
-    another p last within = grind (arith, nat_tests)
-
-pub auxiliaries_beside : (auxiliaries : Auxiliaries) (new : Kind) (s t : Standing) → t.children ≡ record { pid = s.last_pid + 1; kind = new } ∷ s.children → t.last_pid ≡ s.last_pid + 1 → AreThere auxiliaries s → AreThere auxiliaries t
-auxiliaries_beside auxiliaries new s t children last is = record {
-  startup = auxiliary_beside auxiliaries.startup kind.Startup new s t children last is.startup;
-  checkpointer = auxiliary_beside auxiliaries.checkpointer kind.Checkpointer new s t children last is.checkpointer;
-  writer = auxiliary_beside auxiliaries.writer kind.Writer new s t children last is.writer;
-}
 
 pub record IsTaken (gives : ℕ → Type 0) (before now : View) : Type 0 where
   pub goes : Goes gives (Notes (entry.Accepted (next_pid before.work.standing) (decision_on before.work.standing)) ∷ []) before now

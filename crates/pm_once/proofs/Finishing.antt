@@ -10,19 +10,23 @@ use Rattle.pm_chain.specs.Steps.{Step, Notes, journal_of}
 use Rattle.pm_journal.specs.Laws.{GoesOnOverItsJournal}
 use Rattle.pm_journal.specs.Standing.{Adds, IsAtRest, Standing, asking, later, made}
 use Rattle.pm_journal.specs.Stands.{AtWork}
-use Rattle.pm_once.specs.Calls.{Acts, AreSays, Asks, Finishes}
-use Rattle.pm_once.specs.Goes.{AsksAsDue, IsAt, IsIdle, IsOpen, IsRunning, StaysOpen, is_last_drawn}
+use Rattle.pm_once.specs.Calls.{Acts, Asks, Finishes}
+use Rattle.pm_acts.specs.Acts.{AreSays, AsksAsDue, IsIdle, is_last_drawn}
+use Rattle.pm_once.specs.Goes.{IsAt, IsOpen, IsRunning, StaysOpen}
 use Rattle.pm_server.specs.Journal.{asked_in}
 use Rattle.pm_once.specs.View.{View}
 use Rattle.pm_server.specs.declared.end.ServerEnd.{ServerEnd}
 use Rattle.pm_server.specs.declared.end.ServerEnd.TheVariants.{NoMemory}
-use Rattle.pm_once.proofs.Calling.{asked, deaf, auxiliary_still}
+use Rattle.pm_once.proofs.Calling.{asked, deaf}
+use Rattle.pm_duties.specs.AuxiliariesLaws.{auxiliary_still}
 use Rattle.pm_server.specs.JournalLaws.{adds_none, times_none}
-use Rattle.pm_once.proofs.Going.{does_any, does_then, serves_nothing}
-use Rattle.pm_once.proofs.Nexts.{same_work}
-use Rattle.pm_once.proofs.Ours.{ask_says}
+use Rattle.pm_once.proofs.Going.{does_any, does_then}
+use Rattle.pm_acts.specs.StepsLaws.{serves_nothing}
+use Rattle.pm_acts.specs.NextsLaws.{same_work}
+use Rattle.pm_acts.specs.RulesLaws.{ask_says}
 use Rattle.pm_server.specs.SpansLaws.{spans_none}
-use Rattle.pm_once.proofs.Undisturbed.{disturbed_on, less_follows, no_more, still_less}
+use Rattle.pm_once.proofs.Undisturbed.{disturbed_on, less_follows}
+use Rattle.pm_duties.specs.CalmLaws.{no_more, still_less}
 use Rattle.pm_segment.specs.MovesLaws.{moves_none}
 
 never_err : {E : Type 0} (e : E) (r : Result (Unit {0}) E) → r ≡ Err e → IsOk r → ⊥

@@ -1,40 +1,23 @@
 -- Steps of a server, some behind others.
-use Rattle.std.proofs.Common.{◌≡◌, ℕ, List, [], ◌∷◌, ◌++◌, Result, Ok, Err, refl, sym, ◌∙◌, ap, subst, append_assoc, append-nil}
+use Rattle.std.proofs.Common.{ℕ, List, [], ◌∷◌, ◌++◌, Result, Ok, Err, refl, sym, ◌∙◌, ap, subst, append_assoc, append-nil}
 use Rattle.std.specs.Prelude.{OnOk, IfErr}
-use Rattle.std.specs.List.{AllByRecursion}
-use Rattle.std.proofs.lemmas.Grind.{flat_map-append}
 use Rattle.pm_state.specs.declared.event.PmEvent.{PmEvent}
 use Rattle.pm_query.specs.declared.book.BookEntry.{BookEntry}
-use Rattle.pm_chain.specs.Steps.{ChildRun, Step, Notes, book_by, book_of, journal_by, journal_of}
+use Rattle.pm_chain.specs.Steps.{Step, Notes, book_of, journal_of}
 use Rattle.pm_journal.specs.Standing.{Adds}
-use Rattle.pm_journal.specs.declared.supervision.Taken.{Taken}
 use Rattle.pm_segment.specs.Moves.{StaysUnread}
 use Rattle.pm_segment.specs.MovesLaws.{moves_none, unread_on}
-use Rattle.pm_once.specs.Goes.{Does, EndsWith, Goes, IsAt, IsEndOf, IsNoRenewal, IsOpen, ServesNone, StaysOpen, session_by, sessions_in}
+use Rattle.pm_once.specs.Goes.{Does, Goes, IsAt, IsEndOf, IsOpen, StaysOpen}
+use Rattle.pm_acts.specs.Steps.{EndsWith, IsNoRenewal}
 use Rattle.pm_server.specs.Spans.{Spans}
-use Rattle.pm_server.specs.Journal.{Times, accepted_in}
+use Rattle.pm_server.specs.Journal.{Times}
 use Rattle.pm_once.specs.View.{View}
 use Rattle.pm_server.specs.declared.end.ServerEnd.{ServerEnd}
-use Rattle.pm_server.specs.declared.end.ServerEnd.TheVariants.{Clean, Abnormal, NoMemory}
+use Rattle.pm_server.specs.declared.end.ServerEnd.TheVariants.{Clean, Abnormal, NoThread, NoMemory}
 use Rattle.pm_server.specs.declared.end.Why.TheVariants.{AfterCrash, StartupFailed, RestartOff, GenerationsSpent}
-use Rattle.pm_server.specs.JournalLaws.{accepted_in-append, adds_both, adds_none, times_any, times_none, times_on}
+use Rattle.pm_server.specs.JournalLaws.{adds_both, adds_none, times_any, times_none, times_on}
 use Rattle.pm_server.specs.SpansLaws.{spans_none, spans_on}
-
-pub journal-append : (one two : List Step) → journal_of (one ++ two) ≡ journal_of one ++ journal_of two
-journal-append one two = flat_map-append journal_by one two
-
-pub book-append : (one two : List Step) → book_of (one ++ two) ≡ book_of one ++ book_of two
-book-append one two = flat_map-append book_by one two
-
-pub sessions-append : (one two : List Step) → sessions_in (one ++ two) ≡ sessions_in one ++ sessions_in two
-sessions-append one two = flat_map-append session_by one two
-
--- ---- steps
-
--- what holds of all holds of the first and of the others
-pub each_part : {X : Type 0} (P : X → Type 0) (xs ys : List X) → AllByRecursion P (xs ++ ys) → AllByRecursion P xs × AllByRecursion P ys
-each_part P [] ys all = (tt, all)
-each_part P (x ∷ xs) ys all = let parts = each_part P xs ys all.1 in ((all.0, parts.0), parts.1)
+use Rattle.pm_acts.specs.StepsLaws.{journal-append, book-append, each_part, serves_nothing, serves_both}
 
 pub goes_none : (gives : ℕ → Type 0) (v : View) → Goes gives [] v v
 goes_none gives v = record {
@@ -86,17 +69,8 @@ end_behind (Abnormal AfterCrash) one two v ends = (with_behind _ one two ends.0,
 end_behind (Abnormal RestartOff) one two v ends = with_behind _ one two ends
 end_behind (Abnormal (StartupFailed why)) one two v ends = (with_behind _ one two ends.0, ends.1)
 end_behind (Abnormal GenerationsSpent) one two v ends = ends
+end_behind NoThread one two v ends = absurd ends
 end_behind NoMemory one two v ends = tt
-
-pub serves_nothing : ServesNone []
-serves_nothing = record { accepted = refl; sessions = refl }
-
-pub serves_both : (one two : List Step) → ServesNone one → ServesNone two → ServesNone (one ++ two)
-serves_both one two first second = record {
-  accepted = ap accepted_in (journal-append one two) ∙ accepted_in-append (journal_of one) (journal_of two)
-      ∙ ap (λ (l : List Taken). l ++ accepted_in (journal_of two)) first.accepted ∙ second.accepted;
-  sessions = sessions-append one two ∙ ap (λ (l : List ChildRun). l ++ sessions_in two) first.sessions ∙ second.sessions;
-}
 
 ends_on : (result : Result (Unit {0}) ServerEnd) (one two : List Step) (c : View) → IfErr result (λ end. IsEndOf end two c) → IfErr result (λ end. IsEndOf end (one ++ two) c)
 ends_on (Ok done) one two c ends = tt

@@ -7,15 +7,16 @@ use Rattle.pm_segment.specs.Redos.{IsAtLastEpoch, is_broken}
 use Rattle.pm_server.specs.Ends.{IsKnownAt}
 use Rattle.pm_server.specs.StoryLaws.{broken_rose}
 use Rattle.pm_server.specs.declared.end.ServerEnd.{ServerEnd}
-use Rattle.pm_server.specs.declared.end.ServerEnd.TheVariants.{Clean, Abnormal, NoMemory}
-use Rattle.pm_server.specs.declared.end.StartWhy.TheVariants.{Redo}
+use Rattle.pm_server.specs.declared.end.ServerEnd.TheVariants.{Clean, Abnormal, NoThread, NoMemory}
+use Rattle.pm_server.specs.declared.end.StartWhy.TheVariants.{Redo, Killed}
 use Rattle.pm_server.specs.declared.end.Why.TheVariants.{AfterCrash, StartupFailed, RestartOff, GenerationsSpent}
 use Rattle.pm_once.specs.Goes.{IsEndOf}
-use Rattle.pm_once.specs.Knows.{HasComeTo, Knows}
+use Rattle.pm_duties.specs.Outcomes.{HasComeTo}
+use Rattle.pm_once.specs.Knows.{Knows}
 use Rattle.pm_once.specs.View.{View}
-use Rattle.pm_once.specs.declared.checkpointer.Closed.TheVariants.{Full}
-use Rattle.pm_once.specs.declared.outcome.Outcome.{Outcome}
-use Rattle.pm_once.specs.declared.outcome.Outcome.TheVariants.{Closed}
+use Rattle.pm_duties.specs.declared.checkpointer.Closed.TheVariants.{Full}
+use Rattle.pm_duties.specs.declared.outcome.Outcome.{Outcome}
+use Rattle.pm_duties.specs.declared.outcome.Outcome.TheVariants.{Closed}
 
 crash_caused : (from : ℕ) (now : View) → Knows from now → (now.outcome ≡ Some (Closed Full)) ⊎ (is_broken now.store.live ≡ true)
     → Rose from now.store.faults ⊎ IfSome now.store.files (λ files. ∥ IsAtLastEpoch files ∥₁)
@@ -27,6 +28,8 @@ pub known_at : (end : ServerEnd) (steps : List Step) (from : ℕ) (now : View) �
 known_at Clean steps from now ends known rose = subst (λ (o : Option Outcome). HasComeTo o from now.store) ends.1 known.come
 known_at (Abnormal AfterCrash) steps from now ends known rose = crash_caused from now known ends.1
 known_at (Abnormal (StartupFailed (Redo fault))) steps from now ends known rose = subst (λ (o : Option Outcome). HasComeTo o from now.store) ends.1 known.come
+known_at (Abnormal (StartupFailed Killed)) steps from now ends known rose = subst (λ (o : Option Outcome). HasComeTo o from now.store) ends.1 known.come
 known_at (Abnormal RestartOff) steps from now ends known rose = rose (inl refl)
 known_at (Abnormal GenerationsSpent) steps from now ends known rose = rose (inr refl)
+known_at NoThread steps from now ends known rose = absurd ends
 known_at NoMemory steps from now ends known rose = tt

@@ -5,7 +5,7 @@ use Rattle.std.proofs.lemmas.List.{length-map, map-append}
 use Rattle.std.proofs.lemmas.Option.{slice_get-get_or}
 use Rattle.std.proofs.Math.Seq.{get_or-append_seam}
 use Rattle.pm_outside.specs.Visits.{Visit, Visits, after_done, faults_when_given}
-use Rattle.pm_session.specs.Exchange.{LinkView}
+use Rattle.pm_exchange.specs.Exchange.{LinkView}
 use Rattle.pm_once.specs.Service.{Connection, visit_of, with_connections, with_link}
 
 -- one that was given is out

@@ -7,15 +7,18 @@ use Rattle.pm_exit.specs.declared.child.Kind.TheVariants as kind
 use Rattle.pm_exit.specs.declared.child.Status.{Status}
 use Rattle.pm_outside.specs.Visits.{Visit, Visits}
 use Rattle.pm_startup.specs.declared.packet.StartFault.TheVariants as packets
-use Rattle.pm_session.specs.Session.{status_by, status_of}
-use Rattle.pm_session.specs.declared.ending.Cause.{Cause}
-use Rattle.pm_session.specs.declared.ending.Cause.TheVariants.{Terminated, Cancelling, LinkEnded, LinkFailed, TimedOut, PacketRefused, MessageRefused, DecisionRefused, GateRefused, ShortOfMemory, Panicked, ToldToTerminate, ToldToQuit, Killed, Overtaken}
+use Rattle.pm_exchange.specs.Ends.{status_by}
+use Rattle.pm_session.specs.Session.{status_of}
+use Rattle.pm_exchange.specs.declared.ending.Cause.{Cause}
+use Rattle.pm_exchange.specs.declared.ending.Cause.TheVariants.{Terminated, Cancelling, LinkEnded, LinkFailed, TimedOut, PacketRefused, MessageRefused, DecisionRefused, GateRefused, ShortOfMemory, Panicked, ToldToTerminate, ToldToQuit, Killed, Overtaken}
 use Rattle.pm_chain.specs.Steps.{ChildRun, Step, journal_of}
 use Rattle.pm_journal.specs.declared.exit.ChildExit.{ChildExit}
 use Rattle.pm_journal.specs.declared.supervision.Taken.{Taken}
 use Rattle.pm_journal.specs.Standing.{later}
-use Rattle.pm_once.specs.Calls.{Asks, Finishes, exit_of}
-use Rattle.pm_once.specs.Goes.{IsEndOf, IsIdle, ServesNone, StaysOpen, is_last_drawn, sessions_in}
+use Rattle.pm_once.specs.Calls.{Asks, Finishes}
+use Rattle.pm_acts.specs.Steps.{exit_of, ServesNone, sessions_in}
+use Rattle.pm_once.specs.Goes.{IsEndOf, StaysOpen}
+use Rattle.pm_acts.specs.Acts.{IsIdle, is_last_drawn}
 use Rattle.pm_server.specs.Journal.{accepted_in, asked_in}
 use Rattle.pm_once.specs.Serves.{AreNumbered, HasServed, IsServed, Serves, passed, taken_for}
 use Rattle.pm_once.specs.Service.{Connection, IsOfItself, IsServedAs, is_panic, is_signal, run_of, visit_of, with_connections, with_end}
@@ -23,7 +26,8 @@ use Rattle.pm_once.specs.View.{View}
 use Rattle.pm_server.specs.declared.end.ServerEnd.{ServerEnd}
 use Rattle.pm_server.specs.declared.end.ServerEnd.TheVariants.{NoMemory}
 use Rattle.pm_server.specs.JournalLaws.{accepted_in-append, asked_in-append}
-use Rattle.pm_once.proofs.Going.{does_nothing, end_behind, goes_on, journal-append, sessions-append, stays_on}
+use Rattle.pm_once.proofs.Going.{does_nothing, end_behind, goes_on, stays_on}
+use Rattle.pm_acts.specs.StepsLaws.{journal-append, sessions-append}
 use Rattle.pm_once.proofs.Links.{both_changes, no_change}
 
 -- ---- how a session's child ends

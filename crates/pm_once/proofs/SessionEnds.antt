@@ -9,11 +9,12 @@ use Rattle.pm_exit.specs.Ends.{is_exit_0, is_exit_1}
 use Rattle.pm_query.specs.declared.book.BookEntry.{BookEntry}
 use Rattle.pm_query.specs.declared.book.BookEntry.TheVariants.{Attached, Broke}
 use Rattle.pm_segment.specs.Moves.{IsCountedFrom, IsShown, Moves}
-use Rattle.pm_session.specs.Session.{EndsAt, IsText, TurnsAway, status_by}
-use Rattle.pm_session.specs.declared.ending.Cause.{Cause}
-use Rattle.pm_session.specs.declared.ending.Cause.TheVariants.{Terminated, Cancelling, LinkEnded, LinkFailed, TimedOut, PacketRefused, MessageRefused, DecisionRefused, GateRefused, ShortOfMemory, Panicked, ToldToTerminate, ToldToQuit, Killed, Overtaken}
+use Rattle.pm_session.specs.Session.{EndsAt, IsText, TurnsAway}
+use Rattle.pm_exchange.specs.Ends.{status_by}
+use Rattle.pm_exchange.specs.declared.ending.Cause.{Cause}
+use Rattle.pm_exchange.specs.declared.ending.Cause.TheVariants.{Terminated, Cancelling, LinkEnded, LinkFailed, TimedOut, PacketRefused, MessageRefused, DecisionRefused, GateRefused, ShortOfMemory, Panicked, ToldToTerminate, ToldToQuit, Killed, Overtaken}
 use Rattle.pm_startup.specs.declared.packet.StartFault.TheVariants as packets
-use Rattle.pm_once.specs.Undisturbed.{IsFineExit}
+use Rattle.pm_duties.specs.Calm.{IsFineExit}
 use Rattle.pm_once.specs.Service.{Connection, IsOfItself, IsServedAs, is_panic, run_of, user_in}
 use Rattle.pm_once.specs.View.{View}
 

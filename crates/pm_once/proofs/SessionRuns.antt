@@ -7,12 +7,13 @@ use Rattle.pm_admit.specs.declared.Cac.TheVariants as decisions
 use Rattle.pm_query.specs.Calls.{User, LeaveNotes}
 use Rattle.pm_query.specs.declared.book.BookEntry.{BookEntry}
 use Rattle.pm_query.specs.declared.book.BookEntry.TheVariants.{Attached, Answered, Released, Detached, Broke, LogFull}
-use Rattle.pm_session.specs.Sent.{Turn, Ran, Faulted, NotUtf8, Cancelled, LogIsFull, Memory}
-use Rattle.pm_session.specs.Session.{AllNotes, EndsAt, IsText, IsUnreleased, Leaves, NotesOutside, StopsInside, TurnNotes, TurnsAway}
-use Rattle.pm_session.specs.declared.ending.Cause.{Cause}
-use Rattle.pm_session.specs.declared.ending.Cause.TheVariants.{Terminated, Cancelling, LinkEnded, LinkFailed, TimedOut, PacketRefused, MessageRefused, DecisionRefused, GateRefused, ShortOfMemory, Panicked, ToldToTerminate, ToldToQuit, Killed, Overtaken}
-use Rattle.pm_session.specs.declared.ending.Stage.{Stage}
-use Rattle.pm_session.specs.declared.ending.Stage.TheVariants.{Outside, Entering, Greeted}
+use Rattle.pm_exchange.specs.Sent.{Turn, Ran, Faulted, NotUtf8, Cancelled, LogIsFull, Memory}
+use Rattle.pm_session.specs.Session.{AllNotes, EndsAt, IsText, Leaves, NotesOutside, StopsInside, TurnsAway}
+use Rattle.pm_exchange.specs.Queries.{IsUnreleased, TurnNotes}
+use Rattle.pm_exchange.specs.declared.ending.Cause.{Cause}
+use Rattle.pm_exchange.specs.declared.ending.Cause.TheVariants.{Terminated, Cancelling, LinkEnded, LinkFailed, TimedOut, PacketRefused, MessageRefused, DecisionRefused, GateRefused, ShortOfMemory, Panicked, ToldToTerminate, ToldToQuit, Killed, Overtaken}
+use Rattle.pm_exchange.specs.declared.ending.Stage.{Stage}
+use Rattle.pm_exchange.specs.declared.ending.Stage.TheVariants.{Outside, Entering, Greeted}
 use Rattle.pm_chain.specs.Steps.{ChildRun, HasEntered, IsRunOf, IsWorkOf, StaysOutside, leaving}
 use Rattle.pm_once.specs.Service.{Connection, IsOfItself, IsServedAs, is_panic, run_of, user_in}
 

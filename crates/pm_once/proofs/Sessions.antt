@@ -8,13 +8,15 @@ use Rattle.pm_life.specs.declared.life.GateNo.{GateNo}
 use Rattle.pm_life.specs.Life.{Child, Told, nothing_told, Signal, Kill, Quit, Terminate, Cancel, was_told}
 use Rattle.pm_query.specs.Calls.{newcomer}
 use Rattle.pm_query.specs.declared.book.BookEntry.{BookEntry}
-use Rattle.pm_session.specs.Exchange.{LinkView, HasFailed}
-use Rattle.pm_session.specs.Sent.{Turn}
-use Rattle.pm_session.specs.Session.{Ending, HasAskedFor, HasCancelled, HeedsTold, IsAttachedAt, IsAttachedBehind, LetsGo, status_of, IsText, IsSession, IsCaused, CausedBy, HasEntered, IsCancelledTurn, NotesOutside, EndsAt, TurnsAway, between}
-use Rattle.pm_session.specs.declared.ending.Cause.{Cause}
-use Rattle.pm_session.specs.declared.ending.Cause.TheVariants.{Terminated, Cancelling, LinkEnded, LinkFailed, TimedOut, PacketRefused, MessageRefused, DecisionRefused, GateRefused, ShortOfMemory, Panicked, ToldToTerminate, ToldToQuit, Killed, Overtaken}
-use Rattle.pm_session.specs.declared.ending.Stage.{Stage}
-use Rattle.pm_session.specs.declared.ending.Stage.TheVariants.{Outside, Entering, Greeted}
+use Rattle.pm_exchange.specs.Exchange.{LinkView, HasFailed}
+use Rattle.pm_exchange.specs.Sent.{Turn}
+use Rattle.pm_session.specs.Session.{Ending, HasAskedFor, HasCancelled, HeedsTold, IsAttachedAt, IsAttachedBehind, status_of, IsText, IsSession, IsCaused, CausedBy, HasEntered, NotesOutside, EndsAt, TurnsAway, between}
+use Rattle.pm_exchange.specs.Ends.{LetsGo}
+use Rattle.pm_exchange.specs.Queries.{IsCancelledTurn}
+use Rattle.pm_exchange.specs.declared.ending.Cause.{Cause}
+use Rattle.pm_exchange.specs.declared.ending.Cause.TheVariants.{Terminated, Cancelling, LinkEnded, LinkFailed, TimedOut, PacketRefused, MessageRefused, DecisionRefused, GateRefused, ShortOfMemory, Panicked, ToldToTerminate, ToldToQuit, Killed, Overtaken}
+use Rattle.pm_exchange.specs.declared.ending.Stage.{Stage}
+use Rattle.pm_exchange.specs.declared.ending.Stage.TheVariants.{Outside, Entering, Greeted}
 use Rattle.pm_startup.specs.declared.phase.Phase.{Phase}
 use Rattle.pm_once.specs.Service.{IsOfItself, IsServedAs}
 

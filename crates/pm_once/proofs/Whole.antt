@@ -29,26 +29,29 @@ use Rattle.pm_chain.specs.Steps.{AreSteps, AreStepsBehind, MayFollow, MayStep, N
 use Rattle.pm_journal.specs.Laws.{GoesOnOverItsJournal, KeepsALegalJournal}
 use Rattle.pm_journal.specs.Standing.{Standing, first_due, nothing_done}
 use Rattle.pm_journal.specs.Stands.{Remembers, Stands, any_moment}
-use Rattle.pm_once.specs.Goes.{AreCaused, AreOurs, AsksAsDue, EndsWith, IsAt, IsEndOf, IsIdle, IsNoRenewal, IsOpen, IsRefusedSo, IsRunning, Outset, is_last_drawn}
+use Rattle.pm_duties.specs.Outcomes.{AreCaused, IsRefusedSo}
+use Rattle.pm_acts.specs.Acts.{AreOurs, AsksAsDue, IsIdle, is_last_drawn}
+use Rattle.pm_acts.specs.Steps.{EndsWith, IsNoRenewal}
+use Rattle.pm_once.specs.Goes.{IsAt, IsEndOf, IsOpen, IsRunning, Outset}
 use Rattle.pm_server.specs.Journal.{IsMoment, asked_in, IsJournal}
-use Rattle.pm_once.specs.Auxiliaries.{AreThere, nobody}
+use Rattle.pm_duties.specs.Auxiliaries.{AreThere, nobody}
 use Rattle.pm_lines.specs.Log.{HasLogged, LogView, Says, log_of, opened}
 use Rattle.pm_lines.specs.LogLaws.{logged_by, printed_more, said_first}
 use Rattle.pm_once.specs.Once.{IsAsked, IsOnceEnd, is_spent_of_pids}
 use Rattle.pm_server.specs.Ends.{IsBook, end_line}
 use Rattle.pm_once.specs.Serves.{Serves}
 use Rattle.pm_once.specs.Service.{Connection}
-use Rattle.pm_once.specs.Undisturbed.{HasFineSession, IsCalm, is_behind_crash}
+use Rattle.pm_duties.specs.Calm.{HasFineSession, IsCalm, is_behind_crash}
 use Rattle.pm_once.specs.View.{View}
 use Rattle.pm_server.specs.declared.end.ServerEnd.{ServerEnd}
-use Rattle.pm_server.specs.declared.end.ServerEnd.TheVariants.{Clean, Abnormal, NoMemory}
+use Rattle.pm_server.specs.declared.end.ServerEnd.TheVariants.{Clean, Abnormal, NoThread, NoMemory}
 use Rattle.pm_server.specs.declared.end.Why.TheVariants.{AfterCrash, StartupFailed, RestartOff, GenerationsSpent}
-use Rattle.pm_once.specs.AuxiliaryRuns.{AreToldBehind, nothing_heard}
-use Rattle.pm_once.specs.declared.auxiliaries.Auxiliaries.{Auxiliaries}
-use Rattle.pm_once.specs.declared.outcome.Outcome.{Outcome}
-use Rattle.pm_once.proofs.Acting.{first_is}
+use Rattle.pm_duties.specs.AuxiliaryRuns.{AreToldBehind, nothing_heard}
+use Rattle.pm_duties.specs.declared.auxiliaries.Auxiliaries.{Auxiliaries}
+use Rattle.pm_duties.specs.declared.outcome.Outcome.{Outcome}
+use Rattle.pm_acts.specs.ActsLaws.{first_is}
 use Rattle.pm_server.specs.JournalLaws.{all_weaker, adds_none}
-use Rattle.pm_once.proofs.Going.{journal-append}
+use Rattle.pm_acts.specs.StepsLaws.{journal-append}
 use Rattle.pm_once.proofs.Undisturbed.{spent_disturbed}
 
 -- a server before it does anything
@@ -192,6 +195,7 @@ ended_by limits (Abnormal AfterCrash) steps now same next set refused ends = end
 ended_by limits (Abnormal RestartOff) steps now same next set refused ends = (ends, told_off limits steps set ends)
 ended_by limits (Abnormal (StartupFailed why)) steps now same next set refused ends = (ends.0, subst (λ (o : Option Outcome). IsRefusedSo o steps) ends.1 refused)
 ended_by limits (Abnormal GenerationsSpent) steps now same next set refused ends = (sym same ∙ ends.0, next ends.0 ends.1)
+ended_by limits NoThread steps now same next set refused ends = absurd ends
 ended_by limits NoMemory steps now same next set refused ends = tt
 
 pub whole_end : StepsGoOn → GoesOnOverItsJournal → KeepsALegalJournal → RestartsSafely → (limits : Limits) (gives : ℕ → Type 0) (end : ServerEnd) (cs : List Connection) (ended : Bool) (steps : List Step) (v now : View) → HasBegun limits v
@@ -309,6 +313,7 @@ whole_log goes work limits gives end cs ended steps v now last begun serves says
 
 book_by_end : (end : ServerEnd) (steps : List Step) (before now : Option (List BookEntry)) → NotesEntries (Opened 1 ∷ book_of steps) before now → IsBook (steps ≡ []) end (whole_book steps) before now
 book_by_end NoMemory steps before now notes = inr notes
+book_by_end NoThread steps before now notes = inr notes
 book_by_end Clean steps before now notes = notes
 book_by_end (Abnormal why) steps before now notes = notes
 

@@ -1,14 +1,10 @@
 -- What the parts of a server's calls do.
-use Rattle.std.specs.Prelude.{◌≡◌, ◌⊎◌, ℕ, ◌+◌, ◌≤◌, Bool, true, false, if◌then◌else◌, List, [], ◌∷◌, ◌++◌, length, Option, None, Some, Result, Ok, Err, IfErr, OnOk}
+use Rattle.std.specs.Prelude.{IsOk, ◌≡◌, ◌⊎◌, ℕ, ◌+◌, ◌≤◌, Bool, true, false, if◌then◌else◌, List, [], ◌∷◌, ◌++◌, length, None, Some, Result, Ok, Err, IfErr, OnOk}
 use Rattle.std.specs.declared.alloc.AllocError.{AllocError}
 use Rattle.pm_exit.specs.declared.child.Kind.{Kind}
 use Rattle.pm_exit.specs.declared.child.Kind.TheVariants as kinds
 use Rattle.pm_supervisor.specs.declared.Ending.{Ending}
-use Rattle.pm_supervisor.specs.declared.Ending.TheVariants as endings
-use Rattle.pm_state.specs.declared.action.Action.{Action}
-use Rattle.pm_state.specs.declared.action.Action.TheVariants as acts
 use Rattle.pm_disk.specs.Cause.{Rose}
-use Rattle.pm_segment.specs.Moment.{Moment}
 use Rattle.pm_segment.specs.Moves.{IsCountedFrom, Moves}
 use Rattle.pm_segment.specs.Redos.{is_broken}
 use Rattle.pm_admit.specs.declared.Cac.TheVariants as decisions
@@ -19,50 +15,25 @@ use Rattle.pm_journal.specs.declared.exit.ChildExit.{ChildExit}
 use Rattle.pm_journal.specs.Roll.{kind_in}
 use Rattle.pm_journal.specs.Standing.{Adds, IsAtRest, Standing, exiting, made}
 use Rattle.pm_journal.specs.Stands.{IsSettled}
-use Rattle.pm_once.specs.Goes.{Does, Goes, IsIdle, StaysOpen, if_session, is_last_drawn, sessions_in}
+use Rattle.pm_once.specs.Goes.{Does, Goes, StaysOpen}
+use Rattle.pm_acts.specs.Acts.{IsIdle, is_last_drawn, LogBehind, AreSays, Keeps, IsPresent}
+use Rattle.pm_acts.specs.Steps.{if_session, sessions_in}
 use Rattle.pm_server.specs.Journal.{accepted_in, asked_in}
-use Rattle.pm_once.specs.Auxiliaries.{AreThere, HasLess, IsPresent, auxiliaries_after, heard_of}
-use Rattle.pm_once.specs.AuxiliaryRuns.{IsRefusedRun, IsRunAs, startup_or}
+use Rattle.pm_duties.specs.Auxiliaries.{AreThere, HasLess, auxiliaries_after, heard_of, IsOff}
+use Rattle.pm_duties.specs.AuxiliaryRuns.{IsRunAs}
 use Rattle.pm_once.specs.Knows.{Knows}
-use Rattle.pm_once.specs.Undisturbed.{IsFineExit}
-use Rattle.pm_lines.specs.Log.{LogView, Says, log_line}
+use Rattle.pm_duties.specs.Calm.{IsFineExit}
 use Rattle.pm_server.specs.Spans.{HasRenewed}
 use Rattle.pm_once.specs.View.{View}
 use Rattle.pm_server.specs.declared.end.ServerEnd.{ServerEnd}
-use Rattle.pm_server.specs.declared.end.ServerEnd.TheVariants.{Clean, Abnormal, NoMemory}
-use Rattle.pm_server.specs.declared.end.Why.TheVariants.{AfterCrash, RestartOff, StartupFailed}
-use Rattle.pm_once.specs.declared.outcome.Outcome.{Outcome}
-use Rattle.pm_once.specs.declared.outcome.Outcome.TheVariants.{Closed, Refused}
-use Rattle.pm_once.specs.declared.checkpointer.Closed.TheVariants.{Full, Made}
-use Rattle.pm_once.specs.declared.auxiliaries.Auxiliaries.{Auxiliaries}
+use Rattle.pm_server.specs.declared.end.ServerEnd.TheVariants.{NoMemory}
 use Rattle.pm_once.specs.declared.admitted.Admitted.{Admitted}
+use Rattle.pm_duties.specs.Outcomes.{end_in, Stays, ComesTo}
 
 -- ---- an act
 
--- how the server ends where its machine does: by what the last auxiliary child came to, or since its log is broken. There is
--- nothing else but want of memory behind such an end
-abbrev pub end_in : Ending → Option Outcome → Bool → ServerEnd
-end_in endings.Clean (Some (Closed Made)) broken = Clean
-end_in endings.AfterCrash (Some (Closed Full)) broken = Abnormal AfterCrash
-end_in endings.AfterCrash outcome true = Abnormal AfterCrash
-end_in endings.StartupFailed (Some (Refused why)) broken = Abnormal (StartupFailed why)
-end_in endings.RestartOff outcome broken = Abnormal RestartOff
-end_in ending outcome broken = NoMemory
-
 abbrev pub end_by : Ending → View → ServerEnd
 end_by ending v = end_in ending v.outcome (is_broken v.store.live)
-
-abbrev pub LogBehind : Act → LogView → LogView → Type 0
-LogBehind (act.Say line) before now = Says (log_line line) before now
-LogBehind _ before now = now ≡ before
-
--- nobody has used the store
-pub record Stays (before now : Moment) : Type 0 where
-  pub moves : Moves [] before now
-  pub rows : now.rows ≡ before.rows
-  pub live : now.live ≡ before.live
-  pub files : now.files ≡ before.files
-  pub faults : now.faults ≡ before.faults
 
 -- the store and those that it lost, behind an act that may have renewed it: nothing was noted where memory was short
 abbrev pub StoreBehind : Act → Result (Unit {0}) ServerEnd → View → View → Type 0
@@ -101,23 +72,11 @@ pub record Performs (a : Act) (result : Result (Unit {0}) ServerEnd) (before now
   pub ends : EndBehind a result before
   pub listens : now.listens ≡ before.listens
 
--- ---- acts, one after the other
-
-abbrev pub AreSays : List Action → Type 0
-AreSays [] = Unit {0}
-AreSays (acts.Say line ∷ rest) = AreSays rest
-AreSays (_ ∷ rest) = ⊥
-
--- what acts keep of where the supervisor stands
-pub record Keeps (before now : Standing) : Type 0 where
-  pub auxiliaries : (pid : ℕ) (kind : Kind) → IsPresent (Some pid) kind before → IsPresent (Some pid) kind now
-  pub settled : IsSettled before → IsSettled now
-  pub drawn : is_last_drawn before.last_pid ≡ true → is_last_drawn now.last_pid ≡ true
-  pub unowed : is_last_drawn before.last_pid ≡ true → before.owes_smart ≡ false → now.owes_smart ≡ false
-
 abbrev pub outcome : Result Bool ServerEnd → Result (Unit {0}) ServerEnd
 outcome (Ok on) = Ok tt
 outcome (Err end) = Err end
+
+-- ---- acts, one after the other
 
 -- the first act that is due was done, or there was none
 pub record DoesNext (result : Result Bool ServerEnd) (steps : List Step) (before now : View) : Type 0 where
@@ -129,6 +88,12 @@ pub record DoesNext (result : Result Bool ServerEnd) (steps : List Step) (before
   pub says : AreSays before.work.standing.due → AreSays now.work.standing.due × (now.work.standing.owes_smart ≡ before.work.standing.owes_smart)
   pub listens : now.listens ≡ before.listens
 
+-- and where all that are due are lines, the store is as it was. `view` is a server at a moment, and `store` its store.
+abbrev pub DoesOne : {S X : Type 0} → (view : S → View) → (store : S → X) → Result Bool ServerEnd → (before now : S) → Type 0
+DoesOne view store result before now =
+    (steps : List Step) × DoesNext result steps (view before) (view now)
+    × (AreSays (view before).work.standing.due → IsOk result × (store now ≡ store before))
+
 -- all acts that were due were done
 pub record Acts (result : Result (Unit {0}) ServerEnd) (steps : List Step) (before now : View) : Type 0 where
   pub does : Does (λ at. ⊥) result steps before now
@@ -138,28 +103,7 @@ pub record Acts (result : Result (Unit {0}) ServerEnd) (steps : List Step) (befo
   pub ended : OnOk result (now.work.standing.ended ≡ before.work.standing.ended)
   pub listens : now.listens ≡ before.listens
 
--- some of them were, and others may be due
-pub record ActsSoFar (steps : List Step) (before now : View) : Type 0 where
-  pub does : Does (λ at. ⊥) (Ok tt) steps before now
-  pub keeps : Keeps before.work.standing now.work.standing
-  pub ended : now.work.standing.ended ≡ before.work.standing.ended
-  pub says : AreSays before.work.standing.due → AreSays now.work.standing.due × (now.work.standing.owes_smart ≡ before.work.standing.owes_smart)
-  pub listens : now.listens ≡ before.listens
-
 -- ---- the run of a child
-
--- the child isn't among those that serve no connection
-abbrev pub IsOff : Kind → Auxiliaries → Type 0
-IsOff kinds.Startup auxiliaries = auxiliaries.startup ≡ None
-IsOff kinds.Checkpointer auxiliaries = auxiliaries.checkpointer ≡ None
-IsOff kinds.Writer auxiliaries = auxiliaries.writer ≡ None
-IsOff _ auxiliaries = Unit {0}
-
--- a startup child that is refused leaves why, and no other child does
-abbrev pub ComesTo : ChildRun → (before now : Option Outcome) → Type 0
-ComesTo run before (Some (Refused why)) =
-    IsRefusedRun why run ⊎ ((before ≡ Some (Refused why)) × ((last : Option ChildRun) → startup_or last run.kind run ≡ last))
-ComesTo run before _ = Unit {0}
 
 -- A child that is there has run, and its end isn't noted yet.
 pub record HasRun (run : ChildRun) (before now : View) : Type 0 where
@@ -178,10 +122,6 @@ pub record HasRun (run : ChildRun) (before now : View) : Type 0 where
   pub lost : now.lost ≡ before.lost
   pub log : now.log ≡ before.log
   pub listens : now.listens ≡ before.listens
-
--- the end of a run
-abbrev pub exit_of : ChildRun → ChildExit
-exit_of run = record { pid = run.pid; kind = run.kind; status = run.status; was_active = run.was_active; kept = run.kept }
 
 -- the end of a child is noted at this moment
 pub record NotesExit (gives : ℕ → Type 0) (exit : ChildExit) (at : ℕ) (before now : View) : Type 0 where

@@ -1,12 +1,8 @@
-pub mod Auxiliaries
-pub mod AuxiliaryRuns
 pub mod Calls
 pub mod Goes
 pub mod Knows
-pub mod Laws
 pub mod Once
 pub mod Outside
-pub mod Quiet
 pub mod Serves
 pub mod Service
 pub mod Undisturbed

@@ -1,7 +1,6 @@
 -- What a run of `once` leaves: its journal and its book, step after step, its log, and the links that it served.
-use Rattle.std.specs.Prelude.{◌≡◌, ◌⊎◌, ◌+◌, ◌≤◌, Bool, true, List, [], ◌∷◌, ◌++◌, All, fold, Some, IfSome, length}
+use Rattle.std.specs.Prelude.{◌≡◌, ◌⊎◌, ◌+◌, ◌≤◌, Bool, true, List, [], ◌++◌, All, Some, IfSome, length}
 use Rattle.pm_disk.specs.Cause.{Rose}
-use Rattle.pm_exit.specs.declared.child.Status.TheVariants.{Code}
 use Rattle.pm_modes.specs.declared.Mode.TheVariants.{Smart}
 use Rattle.pm_supervisor.specs.declared.Limits.{Limits}
 use Rattle.pm_supervisor.specs.declared.Ending.TheVariants as endings
@@ -9,21 +8,22 @@ use Rattle.pm_supervisor.specs.Children.{one_if}
 use Rattle.pm_state.specs.declared.event.PmEvent.TheVariants as entry
 use Rattle.pm_segment.specs.Moves.{IsShown}
 use Rattle.pm_chain.specs.Chain.{IsChained}
-use Rattle.pm_chain.specs.Steps.{AreSteps, Runs, Step, book_of, journal_by, journal_of, replay_of, whole_book}
+use Rattle.pm_chain.specs.Steps.{AreSteps, Step, book_of, journal_of, replay_of, whole_book}
 use Rattle.pm_server.specs.declared.conf.Conf.{Conf}
-use Rattle.pm_once.specs.AuxiliaryRuns.{AreToldBehind, Heard, IsIdleRun, IsRefusedLast, heard_after, nothing_heard}
-use Rattle.pm_once.specs.Goes.{EndsWith, is_last_drawn}
+use Rattle.pm_duties.specs.AuxiliaryRuns.{AreToldBehind, IsRefusedLast, nothing_heard}
+use Rattle.pm_acts.specs.Steps.{EndsWith}
+use Rattle.pm_acts.specs.Acts.{is_last_drawn}
 use Rattle.pm_server.specs.Journal.{IsJournal, asked_in}
 use Rattle.pm_lines.specs.Log.{HasLogged, log_of}
 use Rattle.pm_once.specs.Outside.{OutsideView, store_view}
 use Rattle.pm_server.specs.Ends.{EndsWell, IsBook, IsCausedBy, IsEndBy, end_line}
 use Rattle.pm_once.specs.Serves.{HasServed}
 use Rattle.pm_once.specs.Service.{Connection}
-use Rattle.pm_once.specs.Undisturbed.{IsFineExit}
 use Rattle.pm_server.specs.Story.{IsStory}
 use Rattle.pm_server.specs.declared.end.ServerEnd.{ServerEnd}
 use Rattle.pm_server.specs.declared.end.ServerEnd.TheVariants.{Abnormal, NoMemory}
 use Rattle.pm_server.specs.declared.end.Why.TheVariants.{StartupFailed}
+use Rattle.pm_duties.specs.Calm.{EndThemselves}
 
 -- ---- its requests
 
@@ -47,16 +47,6 @@ abbrev pub IsOnceEnd : Limits → ServerEnd → List Step → Type 0
 IsOnceEnd limits (Abnormal (StartupFailed why)) steps =
     EndsWith (entry.Ended endings.StartupFailed) steps × IsRefusedLast why steps
 IsOnceEnd limits end steps = IsEndBy (λ how. EndsWith (entry.Ended how) steps) limits end (journal_of steps)
-
--- A child ended by itself, outside the store: with code 0 or 1, or with 2 where all were told to end at once.
-abbrev pub EndsItself : Heard → Step → Type 0
-EndsItself heard (Runs run at) = IsFineExit run ⊎ ((heard.quit ≡ true) × IsIdleRun (Code 2) run)
-EndsItself heard _ = Unit {0}
-
--- each by what was told before it
-abbrev pub EndThemselves : Heard → List Step → Type 0
-EndThemselves heard [] = Unit {0}
-EndThemselves heard (step ∷ steps) = EndsItself heard step × EndThemselves (fold heard_after heard (journal_by step)) steps
 
 -- ---- the whole
 

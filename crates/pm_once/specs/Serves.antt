@@ -5,7 +5,9 @@ use Rattle.pm_keys.specs.CancelKey.{cancel_key}
 use Rattle.pm_outside.specs.Visits.{Visits}
 use Rattle.pm_chain.specs.Steps.{Step, journal_of}
 use Rattle.pm_journal.specs.declared.supervision.Taken.{Taken}
-use Rattle.pm_once.specs.Goes.{Goes, IsEndOf, IsIdle, StaysOpen, is_last_drawn, sessions_in}
+use Rattle.pm_once.specs.Goes.{Goes, IsEndOf, StaysOpen}
+use Rattle.pm_acts.specs.Acts.{IsIdle, is_last_drawn}
+use Rattle.pm_acts.specs.Steps.{sessions_in}
 use Rattle.pm_server.specs.Journal.{accepted_in, asked_in}
 use Rattle.pm_once.specs.Service.{Connection, IsServedAs, run_of, with_connections, with_end}
 use Rattle.pm_once.specs.View.{View}

@@ -10,11 +10,12 @@ use Rattle.pm_outside.specs.Visits.{Visit, Visits}
 use Rattle.pm_query.specs.Calls.{User, newcomer}
 use Rattle.pm_query.specs.declared.book.BookEntry.{BookEntry}
 use Rattle.pm_segment.specs.Moves.{NotesEntries}
-use Rattle.pm_session.specs.Exchange.{LinkView, HasFailed}
-use Rattle.pm_session.specs.Sent.{Turn}
-use Rattle.pm_session.specs.Session.{Ending, HasAskedFor, HasCancelled, HeedsTold, IsAttachedBehind, IsSession, IsCaused, IsCancelledTurn, between, status_of}
-use Rattle.pm_session.specs.declared.ending.Cause.{Cause}
-use Rattle.pm_session.specs.declared.ending.Cause.TheVariants.{DecisionRefused, GateRefused, Panicked, ToldToTerminate, ToldToQuit, Killed, Overtaken}
+use Rattle.pm_exchange.specs.Exchange.{LinkView, HasFailed}
+use Rattle.pm_exchange.specs.Sent.{Turn}
+use Rattle.pm_session.specs.Session.{Ending, HasAskedFor, HasCancelled, HeedsTold, IsAttachedBehind, IsSession, IsCaused, between, status_of}
+use Rattle.pm_exchange.specs.Queries.{IsCancelledTurn}
+use Rattle.pm_exchange.specs.declared.ending.Cause.{Cause}
+use Rattle.pm_exchange.specs.declared.ending.Cause.TheVariants.{DecisionRefused, GateRefused, Panicked, ToldToTerminate, ToldToQuit, Killed, Overtaken}
 use Rattle.pm_chain.specs.Steps.{ChildRun}
 
 -- One connection: its child's pid and generation, its link as it was given and as it came back, how its queries were answered,

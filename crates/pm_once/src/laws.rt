@@ -2,7 +2,6 @@
 
 ghost use Rattle.pm_chain.specs.Laws.{StepsAreChained, StepsGoOn};
 ghost use Rattle.pm_journal.specs.Laws.{GoesOnOverItsJournal, KeepsALegalJournal};
-ghost use Rattle.pm_once.specs.Laws.{OpensOnce};
 ghost use Rattle.pm_state.specs.Laws.{RestartsSafely};
 
 use pm_chain::{steps_are_chained, steps_go_on};
@@ -23,8 +22,3 @@ pub(crate) fn laws()
     keeps_a_legal_journal();
     restarts_safely();
 }
-
-/// A server whose store was never renewed opened it once: its book has one generation.
-pub fn opens_once()
-    ensures { OpensOnce }
-{}

@@ -6,19 +6,12 @@
 #![tactic(auto)]
 
 mod admitted;
-mod auxiliaries;
-mod checkpointer;
 mod laws;
-mod outcome;
 mod outside;
-mod quiet;
-mod quiet_life;
 mod rounds;
 mod run_once;
 mod server;
 mod session;
-mod startup;
 
-pub use laws::opens_once;
 pub use outside::{Ended, Outside};
 pub use run_once::once;

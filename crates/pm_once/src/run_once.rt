@@ -4,11 +4,11 @@ ghost use Rattle.std.specs.Prelude.{◌≡◌, ◌≤◌, ◌+◌, [], IfSome};
 ghost use Rattle.pm_once.specs.Once.{IsOnceRun};
 ghost use Rattle.pm_once.specs.Outside.{outside_view};
 
-use crate::auxiliaries::Auxiliaries;
 use crate::laws::laws;
 use crate::outside::{Ended, Outside};
 use crate::server::Server;
 use pm_disk::Disk;
+use pm_duties::Auxiliaries;
 use pm_journal::Supervision;
 use pm_lines::Log;
 use pm_outside::{Chronicle, Clock, Port, Sink};

@@ -3,16 +3,14 @@
 ghost use Rattle.std.specs.Prelude.{◌≡◌, List, false, None, option_map};
 ghost use Rattle.pm_chain.specs.Steps.{Step};
 ghost use Rattle.pm_once.specs.Service.{is_signal};
-ghost use Rattle.pm_once.specs.declared.outcome.Outcome.{Outcome};
+ghost use Rattle.pm_duties.specs.declared.outcome.Outcome.{Outcome};
 
 use crate::admitted::Admitted;
-use crate::auxiliaries::{Auxiliaries, Duty};
-use crate::checkpointer::{Closed, write_last};
 use crate::laws::laws;
-use crate::outcome::Outcome;
 use crate::session::{Served, next_link, serve_link};
-use crate::startup::read_log;
+use pm_acts::{Acting, act_all};
 use pm_disk::Disk;
+use pm_duties::{Auxiliaries, Closed, Duty, Outcome, read_log, write_last};
 use pm_exit::{Kind, Status};
 use pm_journal::{Act, ChildExit, GenerationsSpent, Supervision, Taken};
 use pm_lines::Log;
@@ -47,7 +45,8 @@ impl<J: Chronicle<PmEvent>, O: Sink, D: Disk, B: Chronicle<BookEntry>> Server<J,
     ghost use Rattle.pm_journal.specs.Supervision.{standing};
     ghost use Rattle.pm_journal.specs.declared.act.Act.TheVariants.{Reset, Say};
     ghost use Rattle.pm_state.specs.declared.action.Line.{Line};
-    ghost use Rattle.pm_once.specs.Calls.{Acts, AreSays, DoesNext, Performs, RenewsStore, end_by};
+    ghost use Rattle.pm_once.specs.Calls.{Acts, Performs, RenewsStore, end_by};
+    ghost use Rattle.pm_acts.specs.Acts.{AreSays};
     ghost use Rattle.pm_once.specs.Goes.{IsRunning};
     ghost use Rattle.pm_once.specs.View.{view_of};
 
@@ -105,25 +104,6 @@ impl<J: Chronicle<PmEvent>, O: Sink, D: Disk, B: Chronicle<BookEntry>> Server<J,
         Ok(())
     }
 
-    // Does the next act that is due, if there is one.
-    fn do_next(&mut self) -> Result<bool, ServerEnd>
-        requires { IsRunning (view_of self.old) }
-        ensures does { (steps : List Step) × DoesNext result steps (view_of self.old)
-            (view_of self.new) }
-        ensures said { AreSays (standing self.old.supervision).due → IsOk result
-            × (self.new.store ≡ self.old.store) }
-    {
-        laws();
-        match self.supervision.next() {
-            Ok(Some(act)) => match self.perform(act) {
-                Ok(()) => Ok(true),
-                Err(end) => Err(end),
-            },
-            Ok(None) => Ok(false),
-            Err(GenerationsSpent) => Err(ServerEnd::Abnormal(Why::GenerationsSpent)),
-        }
-    }
-
     // Does all acts that are due, in their order.
     pub(crate) fn act_all(&mut self) -> Result<(), ServerEnd>
         requires { IsRunning (view_of self.old) }
@@ -132,13 +112,33 @@ impl<J: Chronicle<PmEvent>, O: Sink, D: Disk, B: Chronicle<BookEntry>> Server<J,
         ensures said { AreSays (standing self.old.supervision).due → IsOk result
             × (self.new.store ≡ self.old.store) }
     {
+        act_all(self)
+    }
+}
+
+impl<J: Chronicle<PmEvent>, O: Sink, D: Disk, B: Chronicle<BookEntry>> Acting
+    for Server<J, O, D, B> {
+    ghost use Rattle.std.specs.Prelude.{length};
+    ghost use Rattle.pm_journal.specs.Supervision.{standing};
+    ghost use Rattle.pm_once.specs.Calls.{DoesOne};
+    ghost use Rattle.pm_once.specs.Goes.{IsRunning};
+    ghost use Rattle.pm_once.specs.View.{view_of};
+
+    ghost may = { λ server. IsRunning (view_of server) };
+
+    ghost due = { λ server. length (standing server.supervision).due };
+
+    ghost does = { DoesOne view_of (λ server. server.store) };
+
+    fn do_next(&mut self) -> Result<bool, ServerEnd> {
         laws();
-        'acts: loop {
-            match self.do_next() {
-                Ok(true) => {}
-                Ok(false) => return Ok(()),
-                Err(end) => return Err(end),
-            }
+        match self.supervision.next() {
+            Ok(Some(act)) => match self.perform(act) {
+                Ok(()) => Ok(true),
+                Err(end) => Err(end),
+            },
+            Ok(None) => Ok(false),
+            Err(GenerationsSpent) => Err(ServerEnd::Abnormal(Why::GenerationsSpent)),
         }
     }
 }
@@ -151,8 +151,10 @@ impl<J: Chronicle<PmEvent>, O: Sink, D: Disk, B: Chronicle<BookEntry>> Server<J,
     ghost use Rattle.pm_journal.specs.Standing.{IsAtRest, ends_redo};
     ghost use Rattle.pm_journal.specs.Stands.{HasPast};
     ghost use Rattle.pm_journal.specs.Supervision.{at_work, standing};
-    ghost use Rattle.pm_once.specs.Calls.{Asks, Finishes, HasAuxiliaryRun, NotesExit, NotesNoExit, exit_of};
-    ghost use Rattle.pm_once.specs.Goes.{IsIdle, IsRunning};
+    ghost use Rattle.pm_once.specs.Calls.{Asks, Finishes, HasAuxiliaryRun, NotesExit, NotesNoExit};
+    ghost use Rattle.pm_acts.specs.Steps.{exit_of};
+    ghost use Rattle.pm_acts.specs.Acts.{IsIdle};
+    ghost use Rattle.pm_once.specs.Goes.{IsRunning};
     ghost use Rattle.pm_once.specs.View.{view_of};
 
     // Asks for a smart shutdown, and does the acts of that. No further link is asked for.
@@ -294,7 +296,8 @@ impl<J: Chronicle<PmEvent>, O: Sink, D: Disk, B: Chronicle<BookEntry>> Server<J,
     ghost use Rattle.pm_journal.specs.Stands.{IsSettled};
     ghost use Rattle.pm_journal.specs.Supervision.{HasRoom, standing};
     ghost use Rattle.pm_once.specs.Calls.{Admits};
-    ghost use Rattle.pm_once.specs.Goes.{IsIdle, IsRunning};
+    ghost use Rattle.pm_acts.specs.Acts.{IsIdle};
+    ghost use Rattle.pm_once.specs.Goes.{IsRunning};
     ghost use Rattle.pm_once.specs.Serves.{HasServed, Serves};
     ghost use Rattle.pm_once.specs.Service.{Connection};
     ghost use Rattle.pm_once.specs.View.{view_of};

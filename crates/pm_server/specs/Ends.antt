@@ -21,8 +21,8 @@ use Rattle.pm_lines.specs.Print.{redo_line}
 use Rattle.pm_server.specs.Story.{HasOneGeneration}
 use Rattle.pm_server.specs.Views.{DiskView, StoreView}
 use Rattle.pm_server.specs.declared.end.ServerEnd.{ServerEnd}
-use Rattle.pm_server.specs.declared.end.ServerEnd.TheVariants.{Clean, Abnormal, NoMemory}
-use Rattle.pm_server.specs.declared.end.StartWhy.TheVariants.{Redo}
+use Rattle.pm_server.specs.declared.end.ServerEnd.TheVariants.{Clean, Abnormal, NoThread, NoMemory}
+use Rattle.pm_server.specs.declared.end.StartWhy.TheVariants.{Redo, Killed}
 use Rattle.pm_server.specs.declared.end.Why.TheVariants.{AfterCrash, StartupFailed, RestartOff, GenerationsSpent}
 
 -- ---- by its journal
@@ -37,13 +37,15 @@ IsEndBy ended limits (Abnormal (StartupFailed why)) journal = ended endings.Star
 IsEndBy ended limits (Abnormal GenerationsSpent) journal =
     ((all_replayed (replay_begun limits) journal).shown.generation ≡ 4294967295)
     × Follows any_moment (all_replayed (replay_begun limits) journal) (entry.Reset 4294967296)
+IsEndBy ended limits NoThread journal = journal ≡ []
 IsEndBy ended limits NoMemory journal = Unit {0}
 
 -- ---- by its book and its disk
 
--- The book begins with the opening of the store, or memory was short for that, and nothing else was done.
+-- The book begins with the opening of the store, or there was no memory for that, or no thread, and nothing else was done.
 abbrev pub IsBook : (nothing_done : Type 0) → ServerEnd → (book : List BookEntry) → (before now : Option (List BookEntry)) → Type 0
 IsBook nothing_done NoMemory book before now = (nothing_done × (now ≡ before)) ⊎ NotesEntries book before now
+IsBook nothing_done NoThread book before now = (nothing_done × (now ≡ before)) ⊎ NotesEntries book before now
 IsBook nothing_done end book before now = NotesEntries book before now
 
 -- the files are those that were handed in, unless a fault of the disk was noted
@@ -62,12 +64,14 @@ IsFailedBy redo.Disk book before now = Rose before.disk.faults now.disk.faults
 IsFailedBy redo.NoMemory book before now = ⊥
 IsFailedBy fault book before now = IfSome now.disk.files (IsReason fault) × AreTraced book before now
 
--- why it ended abnormally, by its disk: the disk has failed, or the log stands in its last epoch. No child crashes otherwise
--- before a shutdown is asked for.
+-- Why it ended abnormally, of a server of one thread, by its disk: the disk has failed, or the log stands in its last epoch. No
+-- child crashes otherwise before a shutdown is asked for, none is killed, and no other thread is wanted.
 abbrev pub IsCausedBy : ServerEnd → List BookEntry → (before now : StoreView) → Type 0
 IsCausedBy (Abnormal AfterCrash) book before now =
     Rose before.disk.faults now.disk.faults ⊎ IfSome now.disk.files (λ files. ∥ IsAtLastEpoch files ∥₁)
 IsCausedBy (Abnormal (StartupFailed (Redo fault))) book before now = IsFailedBy fault book before now
+IsCausedBy (Abnormal (StartupFailed Killed)) book before now = ⊥
+IsCausedBy NoThread book before now = ⊥
 IsCausedBy (Abnormal RestartOff) book before now = Rose before.disk.faults now.disk.faults
 IsCausedBy (Abnormal GenerationsSpent) book before now = Rose before.disk.faults now.disk.faults
 IsCausedBy _ book before now = Unit {0}
@@ -95,11 +99,13 @@ HasRefused redo.Disk from at = Rose from at.faults
 HasRefused redo.NoMemory from at = ⊥
 HasRefused fault from at = IfSome at.files (IsReason fault) × (at.live ≡ None)
 
--- where a server ends so whose disk's count of faults was this one at first
+-- where a server of one thread ends so whose disk's count of faults was this one at first
 abbrev pub IsKnownAt : ServerEnd → (from : ℕ) → Moment → Type 0
 IsKnownAt Clean from at = (epoch : ℕ) × IsCleanAt epoch at.live at.rows at.files
 IsKnownAt (Abnormal AfterCrash) from at = Rose from at.faults ⊎ IfSome at.files (λ files. ∥ IsAtLastEpoch files ∥₁)
 IsKnownAt (Abnormal (StartupFailed (Redo fault))) from at = HasRefused fault from at
+IsKnownAt (Abnormal (StartupFailed Killed)) from at = ⊥
+IsKnownAt NoThread from at = ⊥
 IsKnownAt (Abnormal RestartOff) from at = Rose from at.faults
 IsKnownAt (Abnormal GenerationsSpent) from at = Rose from at.faults
 IsKnownAt NoMemory from at = Unit {0}
@@ -111,6 +117,8 @@ abbrev pub end_line : ServerEnd → List ℕ
 end_line Clean = []
 end_line (Abnormal AfterCrash) = []
 end_line (Abnormal (StartupFailed (Redo fault))) = redo_line fault
+end_line (Abnormal (StartupFailed Killed)) = codes "startup was killed\n"
 end_line (Abnormal RestartOff) = []
 end_line (Abnormal GenerationsSpent) = codes "no generation is left\n"
+end_line NoThread = codes "no thread\n"
 end_line NoMemory = codes "out of memory\n"

@@ -36,8 +36,8 @@ use Rattle.pm_server.specs.Ends.{AreTraced, EndsWell, HasRefused, IsCausedBy, Is
 use Rattle.pm_server.specs.Views.{DiskView, StoreView}
 use Rattle.pm_server.specs.Story.{HasOneGeneration, IsClean, IsNoAnswer, IsNoOpening, IsStory, IsSure}
 use Rattle.pm_server.specs.declared.end.ServerEnd.{ServerEnd}
-use Rattle.pm_server.specs.declared.end.ServerEnd.TheVariants.{Clean, Abnormal, NoMemory}
-use Rattle.pm_server.specs.declared.end.StartWhy.TheVariants.{Redo}
+use Rattle.pm_server.specs.declared.end.ServerEnd.TheVariants.{Clean, Abnormal, NoThread, NoMemory}
+use Rattle.pm_server.specs.declared.end.StartWhy.TheVariants.{Redo, Killed}
 use Rattle.pm_server.specs.declared.end.Why.TheVariants.{AfterCrash, StartupFailed, RestartOff, GenerationsSpent}
 use Rattle.pm_server.specs.UnredoneLaws.{unredone}
 
@@ -51,7 +51,7 @@ told_as : (book : Option (List BookEntry)) (Holds : List BookEntry → Type 0) (
 told_as book Holds b is told = subst (λ (bk : Option (List BookEntry)). IfSome bk Holds) is told
 
 -- what holds where the disk tells its files
-where_told : (files : Option Files) (P Q : Type 0) → (P → Q) → IfSome files (λ _. P) → IfSome files (λ _. Q)
+pub where_told : (files : Option Files) (P Q : Type 0) → (P → Q) → IfSome files (λ _. P) → IfSome files (λ _. Q)
 where_told None P Q step told = tt
 where_told (Some f) P Q step told = step told
 
@@ -82,7 +82,7 @@ is_no_answer (CheckpointEnded pid done clean) none = tt
 is_no_answer (Broke pid since faults) none = tt
 is_no_answer (LogFull pid script need room) none = tt
 
-no_answers : (book : List BookEntry) → All HasNoTick book → AllByRecursion IsNoAnswer book
+pub no_answers : (book : List BookEntry) → All HasNoTick book → AllByRecursion IsNoAnswer book
 no_answers [] all = tt
 no_answers (e ∷ book) all = (is_no_answer e (All-head HasNoTick e book all), no_answers book (All-tail HasNoTick e book all))
 
@@ -122,7 +122,7 @@ clean_begun base at book epoch (inl gone) clean = clean_at base at gone.0 book e
 clean_begun base at book epoch (inr renewed) clean = absurd (never_read at.live clean.0 clean.1 renewed.unread)
 
 -- where the disk tells its files, and so it is sure
-clean_told : (base : Base) (at : Moment) (book : List BookEntry) (epoch : ℕ) (files : Option Files) → at.files ≡ files → (IsSureAt at → HasBegun base at book) → IsCleanAt epoch at.live at.rows at.files
+pub clean_told : (base : Base) (at : Moment) (book : List BookEntry) (epoch : ℕ) (files : Option Files) → at.files ≡ files → (IsSureAt at → HasBegun base at book) → IsCleanAt epoch at.live at.rows at.files
     → IfSome at.files (λ f. ∥ IsClean (history_of base book) f ∥₁)
 clean_told base at book epoch None is begun clean = subst (λ (x : Option Files). IfSome x (λ f. ∥ IsClean (history_of base book) f ∥₁)) (sym is) tt
 clean_told base at book epoch (Some f) is begun clean = clean_begun base at book epoch (begun (inr (f, is))) clean
@@ -167,7 +167,7 @@ left_begun : (base : Base) (at : Moment) (book : List BookEntry) (epoch : ℕ) �
 left_begun base at book epoch rests (inl gone) clean = left_clean base at book epoch at.files refl rests gone.0 gone.1 clean
 left_begun base at book epoch rests (inr renewed) clean = absurd (never_read at.live clean.0 clean.1 renewed.unread)
 
-left_told : (base : Base) (at : Moment) (book : List BookEntry) (epoch : ℕ) (files : Option Files) → at.files ≡ files → RestsAt at → (IsSureAt at → HasBegun base at book) → IsCleanAt epoch at.live at.rows at.files → LeavesClean base book at
+pub left_told : (base : Base) (at : Moment) (book : List BookEntry) (epoch : ℕ) (files : Option Files) → at.files ≡ files → RestsAt at → (IsSureAt at → HasBegun base at book) → IsCleanAt epoch at.live at.rows at.files → LeavesClean base book at
 left_told base at book epoch None is rests begun clean = subst (λ (x : Option Files). IfSome x (λ _. (image : Files) → at.images at.ticks image → ∥ IsClean (history_of base book) image ∥₁)) (sym is) tt
 left_told base at book epoch (Some f) is rests begun clean = left_begun base at book epoch rests (begun (inr (f, is))) clean
 
@@ -302,6 +302,8 @@ pub whole_cause : (end : ServerEnd) (before : StoreView) (first : Moment) (entri
     → IsKnownAt end before.disk.faults at → ((origin : Origin) (base : Base) → GoesFrom origin base at → Told at (λ book. CanBeRead at)) → IsCausedBy end (Opened 1 ∷ entries) before (store_at at)
 whole_cause Clean before first entries at opened waits run known law = tt
 whole_cause NoMemory before first entries at opened waits run known law = tt
+whole_cause NoThread before first entries at opened waits run known law = known
+whole_cause (Abnormal (StartupFailed Killed)) before first entries at opened waits run known law = known
 whole_cause (Abnormal RestartOff) before first entries at opened waits run known law = known
 whole_cause (Abnormal GenerationsSpent) before first entries at opened waits run known law = known
 whole_cause (Abnormal AfterCrash) before first entries at opened waits run known law = known
@@ -333,6 +335,8 @@ pub ends_well : (end : ServerEnd) (entries : List BookEntry) (before now : Store
     → AllByRecursion IsNoOpening entries ⊎ Rose before.disk.faults now.disk.faults → EndsWell end before.disk now.disk
 ends_well Clean entries before now cause shown once = λ sound. inl refl
 ends_well NoMemory entries before now cause shown once = λ sound. inr refl
+ends_well NoThread entries before now cause shown once = λ sound. absurd cause
+ends_well (Abnormal (StartupFailed Killed)) entries before now cause shown once = λ sound. absurd cause
 ends_well (Abnormal RestartOff) entries before now cause shown once = λ sound. absurd (sound.unfailed cause)
 ends_well (Abnormal GenerationsSpent) entries before now cause shown once = λ sound. absurd (sound.unfailed cause)
 ends_well (Abnormal AfterCrash) entries before now cause shown once = λ sound. elim cause [

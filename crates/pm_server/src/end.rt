@@ -10,6 +10,8 @@ pub enum ServerEnd {
     /// It was asked to shut down, and left the log clean.
     Clean,
     Abnormal(Why),
+    /// There was no thread for a worker.
+    NoThread,
     NoMemory,
 }
 
@@ -29,6 +31,8 @@ pub enum Why {
 #[derive(Clone, Copy, Debug, PartialEq, Eq)]
 pub enum StartWhy {
     Redo(RedoFault),
+    /// The startup child was killed.
+    Killed,
 }
 
 impl From<AllocError> for ServerEnd {

@@ -14,7 +14,11 @@ pub fn say_end<O: Sink>(log: &mut Log<O>, end: ServerEnd)
     match end {
         ServerEnd::Clean | ServerEnd::Abnormal(Why::AfterCrash | Why::RestartOff) => {}
         ServerEnd::Abnormal(Why::StartupFailed(StartWhy::Redo(fault))) => log.say_redo(fault),
+        ServerEnd::Abnormal(Why::StartupFailed(StartWhy::Killed)) => {
+            log.say_text(b"startup was killed\n");
+        }
         ServerEnd::Abnormal(Why::GenerationsSpent) => log.say_text(b"no generation is left\n"),
+        ServerEnd::NoThread => log.say_text(b"no thread\n"),
         ServerEnd::NoMemory => log.say_text(b"out of memory\n"),
     }
 }

@@ -15,16 +15,15 @@ use Rattle.pm_chain.specs.Steps.{book_of, journal_of, whole_book}
 use Rattle.pm_once.specs.Outside.{OutsideView, outside_view, store_view}
 use Rattle.pm_server.specs.Ends.{IsBook}
 use Rattle.pm_server.specs.Journal.{IsJournal}
-use Rattle.pm_once.specs.Once.{EndThemselves}
-use Rattle.pm_once.specs.AuxiliaryRuns.{nothing_heard}
+use Rattle.pm_duties.specs.Calm.{EndThemselves}
+use Rattle.pm_duties.specs.AuxiliaryRuns.{nothing_heard}
 use Rattle.pm_once.specs.View.{View, view_of}
 use Rattle.pm_once.proofs.Whole.{HasBegun, begins_idle, begins_running, nothing_asked, nothing_journal, logged_as, nothing_logged, whole_asked, whole_book_is, whole_end, whole_journal, whole_log, whole_once, whole_rose, whole_runs, whole_sessions}
-use Rattle.pm_once.proofs.Unharmed.{end_themselves}
-use Rattle.pm_once.proofs.Going.{serves_nothing}
+use Rattle.pm_duties.specs.EndsLaws.{end_themselves}
+use Rattle.pm_acts.specs.StepsLaws.{serves_nothing, no_renewal, opened_once}
 use Rattle.pm_server.specs.StoryLaws.{HasRunSo, ends_well, store_at, story_nothing, unread_counts, whole_cause, whole_story}
 use Rattle.pm_once.specs.Knows.{Knows}
 use Rattle.pm_once.proofs.Known.{known_at}
-use Rattle.pm_once.proofs.Openings.{no_renewal, opened_once}
 use Rattle.pm_once.proofs.Serving.{nothing_served}
 use Rattle.pm_once.proofs.run_once.once.Goals as goal
 

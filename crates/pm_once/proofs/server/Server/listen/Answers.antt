@@ -1,7 +1,7 @@
 use Rattle.std.proofs.Common.{[]}
 use Rattle.std.specs.Prelude.{false}
 use Rattle.pm_once.specs.View.{View, view_of}
-use Rattle.pm_once.proofs.Going.{serves_nothing}
+use Rattle.pm_acts.specs.StepsLaws.{serves_nothing}
 use Rattle.pm_once.proofs.Serving.{idle_serves, nothing_served}
 use Rattle.pm_once.proofs.server.Server.listen.Goals as goal
 

@@ -2,7 +2,7 @@ use Rattle.std.proofs.Common.{◌++◌, [], Ok, Err}
 use Rattle.std.specs.Prelude.{false}
 use Rattle.pm_once.specs.View.{View, view_of}
 use Rattle.pm_once.proofs.Alls.{running_on}
-use Rattle.pm_once.proofs.Going.{serves_nothing}
+use Rattle.pm_acts.specs.StepsLaws.{serves_nothing}
 use Rattle.pm_once.proofs.Serving.{idle_serves, nothing_served, served_on, serves_on}
 use Rattle.pm_once.proofs.server.Server.run.Goals as goal
 

@@ -8,7 +8,7 @@ use Rattle.pm_journal.specs.Stands.{AtWork}
 use Rattle.pm_journal.specs.Supervision.{at_work}
 use Rattle.pm_journal.specs.declared.exit.ChildExit.{ChildExit}
 use Rattle.pm_segment.specs.Moment.{moment}
-use Rattle.pm_session.specs.Exchange.{LinkView}
+use Rattle.pm_exchange.specs.Exchange.{LinkView}
 use Rattle.pm_once.specs.Calls.{Admits, Asks, NotesExit}
 use Rattle.pm_once.specs.Serves.{IsServed}
 use Rattle.pm_once.specs.Service.{IsServedAs, is_signal, run_of}
@@ -16,9 +16,9 @@ use Rattle.pm_once.specs.View.{View, view_of}
 use Rattle.pm_once.proofs.Admitting.{idle_of, nothing_short, serves_session, serves_short, session_ran, session_served, short_served, still_short}
 use Rattle.pm_once.proofs.Alls.{running_on}
 use Rattle.pm_once.proofs.Ending.{ran_noted, ran_on}
-use Rattle.pm_once.proofs.Going.{serves_nothing}
+use Rattle.pm_acts.specs.StepsLaws.{serves_nothing}
 use Rattle.pm_once.proofs.Links.{all_back_as, no_change}
-use Rattle.pm_once.proofs.Nexts.{same_work}
+use Rattle.pm_acts.specs.NextsLaws.{same_work}
 use Rattle.pm_once.proofs.Past.{past_of}
 use Rattle.pm_once.proofs.Serving.{asks_serves, end_served, nothing_served, session_exit}
 use Rattle.pm_once.proofs.server.Server.serve_next.Goals as goal

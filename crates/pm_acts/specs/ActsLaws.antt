@@ -1,0 +1,195 @@
+-- An act is given and done, and its entry is noted.
+use Rattle.std.proofs.Common.{◌≡◌, ℕ, refl, eq-eqb, ◌+◌, ◌≤◌, arith, cond, Some, ◌∙◌, ap, [], ◌∷◌, sym, subst, List, length, ◌++◌}
+use Rattle.std.specs.Prelude.{true, ◌==◌, false, Bool, nat_le, ◌||◌}
+use Rattle.std.proofs.lemmas.Bool.{eqb-true, le-leb, leb-true, lt-leb, ne_eqb}
+use Rattle.pm_exit.specs.declared.child.Kind.{Kind}
+use Rattle.pm_state.specs.declared.action.Action.{Action}
+use Rattle.pm_state.specs.declared.action.Action.TheVariants as act
+use Rattle.pm_journal.specs.Roll.{kind_in}
+use Rattle.pm_journal.specs.Standing.{Standing, done, next_pid, entry_for, first_due, act_for}
+use Rattle.pm_acts.specs.Acts.{IsPresent, is_last_drawn, AsksAsDue, AreOurs, Keeps, LogBehind}
+use Rattle.pm_server.specs.Journal.{asked_in, accepted_in}
+use Rattle.pm_supervisor.specs.Children.{one_if}
+use Rattle.pm_modes.specs.declared.Mode.{Mode}
+use Rattle.pm_state.specs.Journal.{without_first}
+use Rattle.pm_supervisor.specs.declared.Ending.TheVariants as endings
+use Rattle.pm_lines.specs.Log.{HasSaid, LogView}
+use Rattle.pm_lines.specs.LogLaws.{said_more, said_same}
+use Rattle.pm_state.specs.declared.event.PmEvent.{PmEvent}
+
+-- ---- the children
+
+same_pid : (pid : ℕ) → (pid == pid) ≡ true
+same_pid pid = eq-eqb pid pid refl
+
+other_pid : (pid last : ℕ) → pid ≤ last → (last + 1 == pid) ≡ false
+other_pid pid last within = ne_eqb (last + 1) pid (λ is. omega (arith, is, within))
+
+-- a child stays
+pub auxiliary_kept : (a : Action) (s : Standing) (pid : ℕ) (k' : Kind) → IsPresent (Some pid) k' s → IsPresent (Some pid) k' (done a s)
+auxiliary_kept (act.Start k) s pid k' there = (ap (λ (b : Bool). cond b (Some k) (kind_in pid s.children)) (other_pid pid s.last_pid there.1) ∙ there.0, omega (arith, there.1))
+auxiliary_kept (act.Quit why) s pid k' there = there
+auxiliary_kept act.Terminate s pid k' there = there
+auxiliary_kept act.KillAll s pid k' there = there
+auxiliary_kept act.AskCheckpoint s pid k' there = there
+auxiliary_kept act.Ready s pid k' there = there
+auxiliary_kept act.Reset s pid k' there = there
+auxiliary_kept (act.Say line) s pid k' there = there
+auxiliary_kept (act.End how) s pid k' there = there
+
+-- and one is started
+pub auxiliary_started : (k : Kind) (s : Standing) → IsPresent (Some (next_pid s)) k (done (act.Start k) s)
+auxiliary_started k s = (ap (λ (b : Bool). cond b (Some k) (kind_in (next_pid s) s.children)) (same_pid (next_pid s)), omega arith)
+
+-- ---- requests
+
+pub not_asked : (a : Action) (s : Standing) → asked_in (entry_for a s ∷ []) ≡ []
+not_asked (act.Start k) s = refl
+not_asked (act.Quit why) s = refl
+not_asked act.Terminate s = refl
+not_asked act.KillAll s = refl
+not_asked act.AskCheckpoint s = refl
+not_asked act.Ready s = refl
+not_asked act.Reset s = refl
+not_asked (act.Say line) s = refl
+not_asked (act.End how) s = refl
+
+pub not_accepted : (a : Action) (s : Standing) → accepted_in (entry_for a s ∷ []) ≡ []
+not_accepted (act.Start k) s = refl
+not_accepted (act.Quit why) s = refl
+not_accepted act.Terminate s = refl
+not_accepted act.KillAll s = refl
+not_accepted act.AskCheckpoint s = refl
+not_accepted act.Ready s = refl
+not_accepted act.Reset s = refl
+not_accepted (act.Say line) s = refl
+not_accepted (act.End how) s = refl
+
+drawn_test : (last : ℕ) → (last + 1 == 2147480000) ≡ true → one_if (is_last_drawn last) ≡ 0
+drawn_test last is = ap one_if (not_yet last is)
+  where
+    not_yet : (last : ℕ) → (last + 1 == 2147480000) ≡ true → nat_le 2147480000 last ≡ false
+    not_yet last is = lt-leb 2147480000 last (omega (arith, eqb-true (last + 1) 2147480000 is))
+
+drawn_now : (last : ℕ) → (last + 1 == 2147480000) ≡ true → one_if (is_last_drawn (last + 1)) ≡ 1
+drawn_now last is = ap one_if (it_is last is)
+  where
+    it_is : (last : ℕ) → (last + 1 == 2147480000) ≡ true → nat_le 2147480000 (last + 1) ≡ true
+    it_is last is = le-leb 2147480000 (last + 1) (omega (arith, eqb-true (last + 1) 2147480000 is))
+
+drawn_grows : (last : ℕ) → one_if (is_last_drawn last) ≤ one_if (is_last_drawn (last + 1))
+drawn_grows last = elim (nat_le 2147480000 last) as (λ (b : Bool). nat_le 2147480000 last ≡ b → one_if b ≤ one_if (is_last_drawn (last + 1))) [
+  | true ↦ λ is. subst (λ (b : Bool). 1 ≤ one_if b) (sym (further last is)) (omega arith)
+  | false ↦ λ is. omega arith
+] refl
+  where
+    further : (last : ℕ) → nat_le 2147480000 last ≡ true → nat_le 2147480000 (last + 1) ≡ true
+    further last is = le-leb 2147480000 (last + 1) (omega (arith, leb-true 2147480000 last is))
+
+-- a pid more is drawn
+pub asks_drawn : (asked : List Mode) (listens : Bool) (s t : Standing) → t.last_pid ≡ s.last_pid + 1 → t.owes_smart ≡ (s.owes_smart || (s.last_pid + 1 == 2147480000)) → AsksAsDue asked listens s → AsksAsDue asked listens t
+asks_drawn asked listens s t pid owes asks = record {
+  smart = asks.smart;
+  few = elim (s.last_pid + 1 == 2147480000) as (λ (b : Bool). (s.last_pid + 1 == 2147480000) ≡ b → length asked + one_if t.owes_smart + one_if listens ≤ 1 + one_if (is_last_drawn t.last_pid)) [
+    | true ↦ λ is. omega (arith, asks.few, drawn_test s.last_pid is, drawn_now s.last_pid is, ap (λ (n : ℕ). one_if (is_last_drawn n)) pid, at_most_one t.owes_smart)
+    | false ↦ λ is. omega (arith, asks.few, drawn_grows s.last_pid, ap (λ (n : ℕ). one_if (is_last_drawn n)) pid, ap one_if (owes ∙ ap (λ (b : Bool). s.owes_smart || b) is ∙ or_false s.owes_smart))
+  ] refl;
+}
+  where
+    at_most_one : (b : Bool) → one_if b ≤ 1
+    at_most_one true = omega arith
+    at_most_one false = omega arith
+
+    or_false : (b : Bool) → (b || false) ≡ b
+    or_false true = refl
+    or_false false = refl
+
+pub asks_acted : (a : Action) (s : Standing) (asked : List Mode) (listens : Bool) → AsksAsDue asked listens s → AsksAsDue asked listens (done a s)
+asks_acted (act.Start k) s asked listens asks = asks_drawn asked listens s (done (act.Start k) s) refl refl asks
+asks_acted (act.Quit why) s asked listens asks = record { smart = asks.smart; few = asks.few }
+asks_acted act.Terminate s asked listens asks = record { smart = asks.smart; few = asks.few }
+asks_acted act.KillAll s asked listens asks = record { smart = asks.smart; few = asks.few }
+asks_acted act.AskCheckpoint s asked listens asks = record { smart = asks.smart; few = asks.few }
+asks_acted act.Ready s asked listens asks = record { smart = asks.smart; few = asks.few }
+asks_acted act.Reset s asked listens asks = record { smart = asks.smart; few = asks.few }
+asks_acted (act.Say line) s asked listens asks = record { smart = asks.smart; few = asks.few }
+asks_acted (act.End how) s asked listens asks = record { smart = asks.smart; few = asks.few }
+
+pub drawn_kept : (a : Action) (s : Standing) → is_last_drawn s.last_pid ≡ true → is_last_drawn (done a s).last_pid ≡ true
+drawn_kept (act.Start k) s drawn = le-leb 2147480000 (s.last_pid + 1) (omega (arith, leb-true 2147480000 s.last_pid drawn))
+drawn_kept (act.Quit why) s drawn = drawn
+drawn_kept act.Terminate s drawn = drawn
+drawn_kept act.KillAll s drawn = drawn
+drawn_kept act.AskCheckpoint s drawn = drawn
+drawn_kept act.Ready s drawn = drawn
+drawn_kept act.Reset s drawn = drawn
+drawn_kept (act.Say line) s drawn = drawn
+drawn_kept (act.End how) s drawn = drawn
+
+not_last : (last : ℕ) → nat_le 2147480000 last ≡ true → (last + 1 == 2147480000) ≡ false
+not_last last drawn = ne_eqb (last + 1) 2147480000 (λ is. omega (arith, is, leb-true 2147480000 last drawn))
+
+pub unowed_kept : (a : Action) (s : Standing) → is_last_drawn s.last_pid ≡ true → s.owes_smart ≡ false → (done a s).owes_smart ≡ false
+unowed_kept (act.Start k) s drawn unowed = ap (λ (b : Bool). b || (s.last_pid + 1 == 2147480000)) unowed ∙ not_last s.last_pid drawn
+unowed_kept (act.Quit why) s drawn unowed = unowed
+unowed_kept act.Terminate s drawn unowed = unowed
+unowed_kept act.KillAll s drawn unowed = unowed
+unowed_kept act.AskCheckpoint s drawn unowed = unowed
+unowed_kept act.Ready s drawn unowed = unowed
+unowed_kept act.Reset s drawn unowed = unowed
+unowed_kept (act.Say line) s drawn unowed = unowed
+unowed_kept (act.End how) s drawn unowed = unowed
+
+-- ---- the acts that are left
+
+pub due_kept : (a : Action) (s : Standing) → (done a s).due ≡ without_first s.due
+due_kept (act.Start k) s = refl
+due_kept (act.Quit why) s = refl
+due_kept act.Terminate s = refl
+due_kept act.KillAll s = refl
+due_kept act.AskCheckpoint s = refl
+due_kept act.Ready s = refl
+due_kept act.Reset s = refl
+due_kept (act.Say line) s = refl
+due_kept (act.End how) s = refl
+
+pub ours_tail : (asked : Bool) (a : Action) (rest : List Action) → AreOurs asked (a ∷ rest) → AreOurs asked rest
+ours_tail asked (act.Start k) rest ours = ours
+ours_tail asked (act.Quit why) rest ours = ours
+ours_tail asked act.Terminate rest ours = ours
+ours_tail asked act.KillAll rest ours = absurd ours
+ours_tail asked act.AskCheckpoint rest ours = ours
+ours_tail asked act.Ready rest ours = ours
+ours_tail asked act.Reset rest ours = ours.1
+ours_tail asked (act.Say line) rest ours = ours
+ours_tail asked (act.End endings.Clean) rest ours = ours
+ours_tail asked (act.End endings.AfterCrash) rest ours = ours
+ours_tail asked (act.End endings.StartupFailed) rest ours = ours
+ours_tail asked (act.End endings.RestartOff) rest ours = ours.1
+
+pub none_is_killed : (asked : Bool) (rest : List Action) → AreOurs asked (act.KillAll ∷ rest) → ⊥
+none_is_killed asked rest ours = ours
+
+pub first_is : (acts : List Action) (a : Action) → first_due acts ≡ Some a → acts ≡ a ∷ without_first acts
+first_is [] a is = absurd cc
+first_is (b ∷ acts) a is = cc
+
+pub keeps_on : (a b c : Standing) → Keeps a b → Keeps b c → Keeps a c
+keeps_on a b c one two = record {
+  auxiliaries = λ pid kind there. two.auxiliaries pid kind (one.auxiliaries pid kind there);
+  settled = λ was. two.settled (one.settled was);
+  drawn = λ drawn. two.drawn (one.drawn drawn);
+  unowed = λ drawn unowed. two.unowed (one.drawn drawn) (one.unowed drawn unowed);
+}
+
+-- an act is done
+pub said_acted : (a : Action) (s : Standing) (journal : List PmEvent) (first before now : LogView) → LogBehind (act_for a s) before now → HasSaid journal first before → HasSaid (journal ++ entry_for a s ∷ []) first now
+said_acted (act.Start k) s journal first before now same so_far = subst (λ (l : LogView). HasSaid (journal ++ entry_for (act.Start k) s ∷ []) first l) (sym same) (said_same journal (entry_for (act.Start k) s ∷ []) first before refl so_far)
+said_acted (act.Quit why) s journal first before now same so_far = subst (λ (l : LogView). HasSaid (journal ++ entry_for (act.Quit why) s ∷ []) first l) (sym same) (said_same journal (entry_for (act.Quit why) s ∷ []) first before refl so_far)
+said_acted act.Terminate s journal first before now same so_far = subst (λ (l : LogView). HasSaid (journal ++ entry_for act.Terminate s ∷ []) first l) (sym same) (said_same journal (entry_for act.Terminate s ∷ []) first before refl so_far)
+said_acted act.KillAll s journal first before now same so_far = subst (λ (l : LogView). HasSaid (journal ++ entry_for act.KillAll s ∷ []) first l) (sym same) (said_same journal (entry_for act.KillAll s ∷ []) first before refl so_far)
+said_acted act.AskCheckpoint s journal first before now same so_far = subst (λ (l : LogView). HasSaid (journal ++ entry_for act.AskCheckpoint s ∷ []) first l) (sym same) (said_same journal (entry_for act.AskCheckpoint s ∷ []) first before refl so_far)
+said_acted act.Ready s journal first before now same so_far = subst (λ (l : LogView). HasSaid (journal ++ entry_for act.Ready s ∷ []) first l) (sym same) (said_same journal (entry_for act.Ready s ∷ []) first before refl so_far)
+said_acted act.Reset s journal first before now same so_far = subst (λ (l : LogView). HasSaid (journal ++ entry_for act.Reset s ∷ []) first l) (sym same) (said_same journal (entry_for act.Reset s ∷ []) first before refl so_far)
+said_acted (act.Say line) s journal first before now says so_far = said_more journal line first before now so_far says
+said_acted (act.End how) s journal first before now same so_far = subst (λ (l : LogView). HasSaid (journal ++ entry_for (act.End how) s ∷ []) first l) (sym same) (said_same journal (entry_for (act.End how) s ∷ []) first before refl so_far)

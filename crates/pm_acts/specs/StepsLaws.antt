@@ -1,0 +1,91 @@
+-- Steps of a server, some behind others, and the openings of the store in their book.
+use Rattle.std.proofs.Common.{◌≡◌, List, ◌++◌, [], ◌∷◌, refl, ◌∙◌, ap, ℕ, inl, inr, sym, subst}
+use Rattle.std.proofs.lemmas.Grind.{flat_map-append}
+use Rattle.std.specs.List.{AllByRecursion}
+use Rattle.std.specs.Prelude.{map, Bool, true, false, if◌then◌else◌}
+use Rattle.pm_chain.specs.Steps.{Step, journal_by, journal_of, book_by, book_of, ChildRun, Notes, Renews, Runs, RunsOn, IsWorkOf, IsRunOf, AreStepsBehind}
+use Rattle.pm_acts.specs.Steps.{session_by, sessions_in, ServesNone, IsNoRenewal}
+use Rattle.pm_journal.specs.declared.supervision.Taken.{Taken}
+use Rattle.pm_server.specs.Journal.{accepted_in}
+use Rattle.pm_server.specs.JournalLaws.{accepted_in-append}
+use Rattle.pm_query.specs.declared.book.BookEntry.TheVariants.{Opened, Gone, Attached, Redone, Answered, Released, Detached, CheckpointEnded, Broke, LogFull}
+use Rattle.pm_server.specs.Story.{IsNoOpening}
+use Rattle.pm_query.specs.declared.book.BookEntry.{BookEntry}
+use Rattle.pm_supervisor.specs.declared.Limits.{Limits}
+
+pub journal-append : (one two : List Step) → journal_of (one ++ two) ≡ journal_of one ++ journal_of two
+journal-append one two = flat_map-append journal_by one two
+
+pub book-append : (one two : List Step) → book_of (one ++ two) ≡ book_of one ++ book_of two
+book-append one two = flat_map-append book_by one two
+
+pub sessions-append : (one two : List Step) → sessions_in (one ++ two) ≡ sessions_in one ++ sessions_in two
+sessions-append one two = flat_map-append session_by one two
+
+-- ---- steps
+
+-- what holds of all holds of the first and of the others
+pub each_part : {X : Type 0} (P : X → Type 0) (xs ys : List X) → AllByRecursion P (xs ++ ys) → AllByRecursion P xs × AllByRecursion P ys
+each_part P [] ys all = (tt, all)
+each_part P (x ∷ xs) ys all = let parts = each_part P xs ys all.1 in ((all.0, parts.0), parts.1)
+
+pub serves_nothing : ServesNone []
+serves_nothing = record { accepted = refl; sessions = refl }
+
+pub serves_both : (one two : List Step) → ServesNone one → ServesNone two → ServesNone (one ++ two)
+serves_both one two first second = record {
+  accepted = ap accepted_in (journal-append one two) ∙ accepted_in-append (journal_of one) (journal_of two)
+      ∙ ap (λ (l : List Taken). l ++ accepted_in (journal_of two)) first.accepted ∙ second.accepted;
+  sessions = sessions-append one two ∙ ap (λ (l : List ChildRun). l ++ sessions_in two) first.sessions ∙ second.sessions;
+}
+
+-- a store that was opened once was never renewed
+pub no_renewal : (steps : List Step) → AllByRecursion IsNoOpening (book_of steps) → AllByRecursion IsNoRenewal steps
+no_renewal [] all = tt
+no_renewal (Notes noted ∷ steps) all = (tt, no_renewal steps all)
+no_renewal (Runs run at ∷ steps) all = (tt, no_renewal steps (each_part IsNoOpening run.noted (book_of steps) all).1)
+no_renewal (RunsOn run ∷ steps) all = (tt, no_renewal steps (each_part IsNoOpening run.noted (book_of steps) all).1)
+no_renewal (Renews generation gone ∷ steps) all =
+    absurd (each_part IsNoOpening (map Gone gone) (Opened generation ∷ []) (each_part IsNoOpening (map Gone gone ++ Opened generation ∷ []) (book_of steps) all).0).1.0
+
+-- ---- and a store that was never renewed was opened once
+
+both_parts : {X : Type 0} (P : X → Type 0) (xs ys : List X) → AllByRecursion P xs → AllByRecursion P ys → AllByRecursion P (xs ++ ys)
+both_parts P [] ys one two = two
+both_parts P (x ∷ xs) ys one two = (one.0, both_parts P xs ys one.1 two)
+
+is_no_opening : (run : ChildRun) (e : BookEntry) → IsWorkOf run e → IsNoOpening e
+is_no_opening run (Opened generation) of_it = of_it
+is_no_opening run (Attached pid generation) of_it = tt
+is_no_opening run (Redone pid generation kept) of_it = tt
+is_no_opening run (Answered pid script reply commit front tick) of_it = tt
+is_no_opening run (Released pid front tick) of_it = tt
+is_no_opening run (Detached pid) of_it = tt
+is_no_opening run (Gone pid) of_it = tt
+is_no_opening run (CheckpointEnded pid done clean) of_it = tt
+is_no_opening run (Broke pid since faults) of_it = tt
+is_no_opening run (LogFull pid script need room) of_it = tt
+
+no_opening : (run : ChildRun) (work : List BookEntry) → AllByRecursion (IsWorkOf run) work → AllByRecursion IsNoOpening work
+no_opening run [] of_it = tt
+no_opening run (e ∷ work) of_it = (is_no_opening run e of_it.0, no_opening run work of_it.1)
+
+none_leaving : (active : Bool) (pid : ℕ) → AllByRecursion IsNoOpening (if active then [] else Detached pid ∷ [])
+none_leaving true pid = tt
+none_leaving false pid = (tt, tt)
+
+none_by : (run : ChildRun) → IsRunOf run → AllByRecursion IsNoOpening run.noted
+none_by run is = elim is.use_of_store [
+  | inl outside ↦ subst (AllByRecursion IsNoOpening) (sym outside.noted) tt
+  | inr entered ↦ subst (AllByRecursion IsNoOpening) (sym entered.noted)
+      (tt, both_parts IsNoOpening entered.work _ (no_opening run entered.work entered.of_it) (none_leaving run.was_active run.pid))
+]
+
+pub opened_once : (limits : Limits) (before steps : List Step) → AreStepsBehind limits before steps → AllByRecursion IsNoRenewal steps → AllByRecursion IsNoOpening (book_of steps)
+opened_once limits before [] are once = tt
+opened_once limits before (Notes noted ∷ steps) are once = opened_once limits (before ++ Notes noted ∷ []) steps are.1 once.1
+opened_once limits before (Runs run at ∷ steps) are once =
+    both_parts IsNoOpening run.noted (book_of steps) (none_by run are.0.fits.1) (opened_once limits (before ++ Runs run at ∷ []) steps are.1 once.1)
+opened_once limits before (RunsOn run ∷ steps) are once =
+    both_parts IsNoOpening run.noted (book_of steps) (none_by run are.0.fits.1) (opened_once limits (before ++ RunsOn run ∷ []) steps are.1 once.1)
+opened_once limits before (Renews generation gone ∷ steps) are once = absurd once.0

@@ -1,0 +1,10 @@
+pub mod AuxiliaryRuns
+pub mod Auxiliaries
+pub mod Outcomes
+pub mod Calm
+pub mod AuxiliariesLaws
+pub mod AuxiliaryRunsLaws
+pub mod CausesLaws
+pub mod OutcomesLaws
+pub mod CalmLaws
+pub mod EndsLaws
