@@ -2,7 +2,8 @@
 use Rattle.std.proofs.Common.{◌⊎◌, inl, inr, List, Option, Some, None}
 use Rattle.std.specs.Prelude.{map, IfSome}
 use Rattle.pm_disk.specs.Files.{Files}
-use Rattle.pm_query.specs.BookLaws.{AckedNeverFalls, AcknowledgedStays}
+use Rattle.pm_answers.specs.Laws.{RepliesAreRight}
+use Rattle.pm_query.specs.BookLaws.{AckedNeverFalls}
 use Rattle.pm_query.specs.Book.{Base, history_of}
 use Rattle.pm_query.specs.declared.book.BookEntry.{BookEntry}
 use Rattle.pm_chain.specs.Steps.{journal_of}
@@ -17,7 +18,8 @@ use Rattle.pm_server.specs.Story.{HoldsHistory, IsClean, IsStory, KeepsMeaning}
 use Rattle.pm_server.specs.declared.end.ServerEnd.{ServerEnd}
 use Rattle.pm_promises.specs.Promises.{IsBaseOf, IsPromised, IsPromisedRun, IsTold, talk_of}
 use Rattle.pm_promises.proofs.Replying.{once_answers_right}
-use Rattle.pm_promises.proofs.Stopping.{once_keeps}
+use Rattle.pm_promises.specs.Stops.{AcknowledgedStays}
+use Rattle.pm_promises.specs.StopsLaws.{at_each, whole_each}
 use Rattle.pm_promises.proofs.Telling.{its_story, opens_empty}
 
 base_is : (base : Base) (book : List BookEntry) (before now : DiskView) → KeepsMeaning book before now ⊎ HoldsHistory base book before now → IsBaseOf base book before
@@ -28,18 +30,18 @@ both : {A : Type 0} (P Q : A → Type 0) (o : Option A) → IfSome o P → IfSom
 both P Q None p q = tt
 both P Q (Some x) p q = (p, q)
 
-promised : AcknowledgedStays → AckedNeverFalls → (conf : Conf) (end : ServerEnd) (before now : OutsideView) (run : IsOnceRun conf end before now)
+promised : RepliesAreRight → AckedNeverFalls → (conf : Conf) (end : ServerEnd) (before now : OutsideView) (run : IsOnceRun conf end before now)
     → RestartsInOrder conf.limits (journal_of run.steps) → (book : List BookEntry) → IsTold before now book
     → (base : Base) × IsPromised conf.limits end (journal_of run.steps) base book (map (talk_of before.seed) run.connections) before.disk now.disk
-promised stays never conf end before now run restarts book told =
+promised law never conf end before now run restarts book told =
     let story : IsStory end before.disk now.disk book = its_story conf end before now run book told in
-    let kept = once_keeps never end before now book told story in (
+    let stays : AcknowledgedStays story.base book before.disk now.disk = at_each story.base book before.disk now.disk told.files told.files_are story.stops in (
       story.base,
       record {
         base_is = base_is story.base book before.disk now.disk story.stops;
-        answers_are_right = once_answers_right stays never conf end before now book run told.empty told.book_is story.base (story.legal (inr (told.files, told.files_are)));
-        acknowledged_stays = kept.0;
-        whole_or_not = kept.1;
+        answers_are_right = once_answers_right law conf end before now book run told.empty told.book_is story.base (story.legal (inr (told.files, told.files_are)));
+        acknowledged_stays = stays;
+        whole_or_not = whole_each never story.base book before.disk now.disk stays;
         admits_none_until_redo = restarts;
         opens_empty = opens_empty conf end before now run book told;
         ends_clean = λ clean modes. both (λ files. ∥ IsClean (history_of story.base book) files ∥₁)
@@ -48,8 +50,8 @@ promised stays never conf end before now run restarts book told =
       },
     )
 
-pub promised_run : AcknowledgedStays → AckedNeverFalls → RestartsSafely → (conf : Conf) (end : ServerEnd) (before now : OutsideView) → IsOnceRun conf end before now
+pub promised_run : RepliesAreRight → AckedNeverFalls → RestartsSafely → (conf : Conf) (end : ServerEnd) (before now : OutsideView) → IsOnceRun conf end before now
     → IsPromisedRun conf end before now
-promised_run stays never safely conf end before now run =
+promised_run law never safely conf end before now run =
     let restarts : RestartsInOrder conf.limits (journal_of run.steps) = safely.in_order conf.limits any_moment (journal_of run.steps) run.journal.legal in
-    record { run = run; restarts = restarts; promised = promised stays never conf end before now run restarts }
+    record { run = run; restarts = restarts; promised = promised law never conf end before now run restarts }

@@ -2,8 +2,6 @@
 use Rattle.std.proofs.Common.{◌∷◌, inr, List, [], Option, subst}
 use Rattle.std.specs.Prelude.{IfSome}
 use Rattle.pm_query.specs.declared.book.BookEntry.{BookEntry}
-use Rattle.pm_query.specs.Book.{MayGoOn}
-use Rattle.pm_query.specs.declared.book.BookEntry.TheVariants.{Opened}
 use Rattle.pm_server.specs.declared.conf.Conf.{Conf}
 use Rattle.pm_once.specs.Once.{IsOnceRun}
 use Rattle.pm_once.specs.Outside.{OutsideView}
@@ -11,7 +9,7 @@ use Rattle.pm_server.specs.Story.{IsStory}
 use Rattle.pm_server.specs.declared.end.ServerEnd.{ServerEnd}
 use Rattle.pm_promises.specs.Promises.{IsTold}
 use Rattle.pm_promises.specs.Restarts.{OpensEmpty}
-use Rattle.pm_promises.proofs.Histories.{going-append}
+use Rattle.pm_promises.specs.RestartsLaws.{legal_opens_empty}
 
 pub its_story : (conf : Conf) (end : ServerEnd) (before now : OutsideView) → IsOnceRun conf end before now → (book : List BookEntry) → IsTold before now book
     → IsStory end before.disk now.disk book
@@ -20,7 +18,6 @@ its_story conf end before now run book told =
 
 pub opens_empty : (conf : Conf) (end : ServerEnd) (before now : OutsideView) → IsOnceRun conf end before now → (book : List BookEntry) → IsTold before now book
     → OpensEmpty book
-opens_empty conf end before now run book told front behind generation pid is =
+opens_empty conf end before now run book told =
     let story : IsStory end before.disk now.disk book = its_story conf end before now run book told in
-    let legal = (story.legal (inr (told.files, told.files_are))).entries in
-    (going-append story.base [] front (Opened generation ∷ behind) (subst (MayGoOn story.base []) is legal)).1.0.empty pid
+    legal_opens_empty story.base book (story.legal (inr (told.files, told.files_are)))

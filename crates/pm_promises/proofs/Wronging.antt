@@ -4,7 +4,7 @@ use Rattle.pm_rows.specs.Standing.{Standing}
 use Rattle.pm_rows.specs.declared.commit.Change.{Change}
 use Rattle.pm_query.specs.Answer.{commit_of}
 use Rattle.pm_query.specs.History.{number}
-use Rattle.pm_promises.specs.Replies.{with_changes}
+use Rattle.pm_answers.specs.Replies.{with_changes}
 use Rattle.pm_promises.specs.Laws.{NoneBeyond}
 
 grows : (changes : List Change) (s : Standing) → s.count ≤ (with_changes changes s).count

@@ -2,8 +2,8 @@
 use Rattle.std.specs.Prelude.{ℕ, ◌<◌, List, [], ◌∷◌}
 use Rattle.pm_query.specs.declared.item.Item.{Item}
 use Rattle.pm_query.specs.History.{History}
-use Rattle.pm_session.specs.Sent.{Ran}
-use Rattle.pm_promises.specs.Replies.{AreRight}
+use Rattle.pm_exchange.specs.Sent.{Ran}
+use Rattle.pm_answers.specs.Replies.{AreRight}
 
 -- no reply is right that would show more than is acknowledged, or less than the session has seen
 abbrev pub NoneBeyond : Type 0

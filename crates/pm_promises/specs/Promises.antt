@@ -20,7 +20,7 @@ use Rattle.pm_once.specs.Service.{Connection}
 use Rattle.pm_server.specs.Story.{IsNoAnswer}
 use Rattle.pm_server.specs.declared.end.ServerEnd.{ServerEnd}
 use Rattle.pm_promises.specs.Ends.{EndsClean}
-use Rattle.pm_promises.specs.Replies.{AnswersAreRight, Talk}
+use Rattle.pm_answers.specs.Replies.{AnswersAreRight, Talk}
 use Rattle.pm_promises.specs.Restarts.{OpensEmpty}
 use Rattle.pm_promises.specs.Stops.{AcknowledgedStays, WholeOrNot}
 

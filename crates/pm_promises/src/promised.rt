@@ -4,10 +4,11 @@ ghost use Rattle.std.specs.Prelude.{◌≡◌, ◌≤◌, ◌+◌, [], IfSome};
 ghost use Rattle.pm_once.specs.Outside.{outside_view};
 ghost use Rattle.pm_promises.specs.Promises.{IsPromisedRun};
 
+use pm_answers::replies_are_right;
 use pm_disk::Disk;
 use pm_once::{Ended, Outside, once};
 use pm_outside::{Chronicle, Clock, Port, Sink};
-use pm_query::{BookEntry, acked_never_falls, acknowledged_stays};
+use pm_query::{BookEntry, acked_never_falls};
 use pm_server::Conf;
 use pm_state::{PmEvent, restarts_safely};
 use std::alloc::Global;
@@ -35,7 +36,7 @@ where
         (outside_view result.outside) }
     ensures rest { (result.outside.clock ≡ outside.clock) × (result.outside.seed ≡ outside.seed) }
 {
-    acknowledged_stays();
+    replies_are_right();
     acked_never_falls();
     restarts_safely();
     once(rt, alloc, conf, outside)

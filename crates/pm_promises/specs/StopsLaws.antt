@@ -18,12 +18,9 @@ use Rattle.pm_query.specs.BookLaws.{AckedNeverFalls}
 use Rattle.pm_query.specs.Durable.{HoldsAcknowledged, IsDurable, IsWithin}
 use Rattle.pm_query.specs.History.{History, beginning, number}
 use Rattle.pm_server.specs.Views.{DiskView}
-use Rattle.pm_once.specs.Outside.{OutsideView}
-use Rattle.pm_server.specs.Story.{HoldsHistory, IsNoAnswer, IsStory, KeepsMeaning}
-use Rattle.pm_server.specs.declared.end.ServerEnd.{ServerEnd}
-use Rattle.pm_promises.specs.Promises.{IsTold}
+use Rattle.pm_server.specs.Story.{HoldsHistory, IsNoAnswer, KeepsMeaning}
 use Rattle.pm_promises.specs.Stops.{AcknowledgedStays, AreSomeOf, IsAsAtFirst, MeansWhole, WholeOrNot, commit_by, commits_in}
-use Rattle.pm_promises.proofs.Histories.{base_stays}
+use Rattle.pm_answers.specs.HistoryLaws.{base_stays}
 
 -- ---- before the first answer
 
@@ -87,7 +84,7 @@ kept_by base book before now durable t from to image left = by_test (nat_le dura
     same = durable.opening t from (omega (arith, by_false durable.start t le)) image left;
   })
 
-at_each : (base : Base) (book : List BookEntry) (before now : DiskView) (files : Files) → now.files ≡ Some files
+pub at_each : (base : Base) (book : List BookEntry) (before now : DiskView) (files : Files) → now.files ≡ Some files
     → KeepsMeaning book before now ⊎ HoldsHistory base book before now → AcknowledgedStays base book before now
 at_each base book before now files told (inl keeps) t from to image left =
     inr (record {
@@ -168,16 +165,9 @@ whole_number never base book image holds = ∥∥₁_map holds (λ h.
       subst (Means image) same h.3,
     ))
 
-whole_each : AckedNeverFalls → (base : Base) (book : List BookEntry) (before now : DiskView) → AcknowledgedStays base book before now → WholeOrNot base book before now
+pub whole_each : AckedNeverFalls → (base : Base) (book : List BookEntry) (before now : DiskView) → AcknowledgedStays base book before now → WholeOrNot base book before now
 whole_each never base book before now stays t from to image left = by (stays t from to image left) where
   by : HoldsAcknowledged Means (history_at base book t) image ⊎ IsAsAtFirst book before t image
       → ∥ ((commits : List (List Change)) × AreSomeOf commits (commits_in (up_to t book)) × MeansWhole base commits image) ∥₁ ⊎ IsAsAtFirst book before t image
   by (inl holds) = inl (whole_number never base (up_to t book) image holds)
   by (inr first) = inr first
-
-pub once_keeps : AckedNeverFalls → (end : ServerEnd) (before now : OutsideView) (book : List BookEntry) → IsTold before now book
-    → (story : IsStory end before.disk now.disk book)
-    → AcknowledgedStays story.base book before.disk now.disk × WholeOrNot story.base book before.disk now.disk
-once_keeps never end before now book told story =
-    let stays : AcknowledgedStays story.base book before.disk now.disk = at_each story.base book before.disk now.disk told.files told.files_are story.stops in
-    (stays, whole_each never story.base book before.disk now.disk stays)

@@ -1,0 +1,4 @@
+pub mod Own
+pub mod Generations
+pub mod Prefixes
+pub mod Replying

@@ -1,0 +1,4 @@
+pub mod Replies
+pub mod Own
+pub mod HistoryLaws
+pub mod Laws
