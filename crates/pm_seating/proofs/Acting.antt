@@ -24,15 +24,15 @@ use Rattle.pm_journal.specs.declared.act.GenerationsSpent.{GenerationsSpent}
 use Rattle.pm_journal.specs.declared.roll.Enrolled.{Enrolled}
 use Rattle.pm_journal.specs.Laws.{GoesOnOverItsJournal}
 use Rattle.pm_journal.specs.Roll.{kind_in}
-use Rattle.pm_journal.specs.Stands.{Stands}
+use Rattle.pm_journal.specs.Stands.{AtWork, Stands}
 use Rattle.pm_journal.specs.Standing.{Adds, Next, Standing, act_for, done, entry_for, first_due, is_spent, next_in, next_of, next_pid}
 use Rattle.pm_seating.specs.declared.audience.Audience.{Audience}
 use Rattle.pm_seating.specs.declared.audience.Audience.TheVariants.{Everyone, Stoppable, Checkpointer}
 use Rattle.pm_seating.specs.Acts.{HasLostNone, StartOnly, StartsAfresh, gate_by, gate_shown, MayDo, MayPerform, NoneIs, Performs, slot_of, steps_for}
-use Rattle.pm_seating.specs.Board.{SeenAs, after_steps, begun_of, ended_of, seat_at, sitting}
+use Rattle.pm_seating.specs.Board.{SeenAs, after_steps, begun_of, ended_of, seat_at, seats_of, sitting}
 use Rattle.pm_seating.specs.Calls.{slot_for}
 use Rattle.pm_seating.specs.Seating.{Seating, Move, Notes, Begun, Ended, begins, ends, begun_at, ended_at, board_steps, begun_by, ended_by, journal_of, seating_by, steps_by, is_meant, seated, seating_of, sends, sends_from, steps_of}
-use Rattle.pm_seating.specs.Standing.{AreOnRoll, View, IsSeated, Goes, SeatServes}
+use Rattle.pm_seating.specs.Standing.{AreOnRoll, View, IsRunning, IsSeated, Goes, SeatServes, view}
 use Rattle.pm_seating.proofs.Afresh.{afresh_acted, own_kind}
 use Rattle.pm_seating.proofs.Calling.{sat_down, told_more}
 use Rattle.pm_seating.proofs.Folding.{journal-more, seating-more, steps-more, begun-more, ended-more}
@@ -91,6 +91,29 @@ spent_in (a ∷ rest) s e answer =
 
 pub next_spent : (s : Standing) (e : GenerationsSpent) → (next_of s).answer ≡ Err e → (next_of s).after ≡ s
 next_spent s e answer = spent_in s.due s e answer
+
+-- and nothing is noted
+none_noted_in : (due : List Action) (s : Standing) → (next_in due s).answer ≡ Ok None → (next_in due s).entries ≡ []
+none_noted_in [] s answer = refl
+none_noted_in (a ∷ rest) s answer =
+    elim (is_spent a s) as (λ (b : Bool). is_spent a s ≡ b → (next_in (a ∷ rest) s).answer ≡ Ok None → (next_in (a ∷ rest) s).entries ≡ []) [
+      | true ↦ λ spent answer'. absurd (let e : (next_in (a ∷ rest) s).answer ≡ Err (record {}) = rw spent refl in cc)
+      | false ↦ λ unspent answer'. absurd (let e : (next_in (a ∷ rest) s).answer ≡ Ok (Some (act_for a s)) = rw unspent refl in cc)
+    ] refl answer
+
+pub none_noted : (s : Standing) → (next_of s).answer ≡ Ok None → (next_of s).entries ≡ []
+none_noted s answer = none_noted_in s.due s answer
+
+spent_noted_in : (due : List Action) (s : Standing) (e : GenerationsSpent) → (next_in due s).answer ≡ Err e → (next_in due s).entries ≡ []
+spent_noted_in [] s e answer = refl
+spent_noted_in (a ∷ rest) s e answer =
+    elim (is_spent a s) as (λ (b : Bool). is_spent a s ≡ b → (next_in (a ∷ rest) s).answer ≡ Err e → (next_in (a ∷ rest) s).entries ≡ []) [
+      | true ↦ λ spent answer'. (let is : next_in (a ∷ rest) s ≡ record { answer = Err (record {}); entries = []; after = s } = rw spent refl in ap (λ (n : Next). n.entries) is)
+      | false ↦ λ unspent answer'. absurd (let x : (next_in (a ∷ rest) s).answer ≡ Ok (Some (act_for a s)) = rw unspent refl in cc)
+    ] refl answer
+
+pub spent_noted : (s : Standing) (e : GenerationsSpent) → (next_of s).answer ≡ Err e → (next_of s).entries ≡ []
+spent_noted s e answer = spent_noted_in s.due s e answer
 
 -- ---- who is there
 
@@ -435,3 +458,16 @@ module _ {D : Type 0} where
             (afresh_acted v.board w.board v.seats w.seats s ordered a (without_first s.due) has
             (subst (λ (due : List Action). StartsAfresh v.board due s.machine) (split_due s.due a first) at.afresh));
       }
+
+  -- and before that it might be done
+  pub may_next : (work : AtWork) (d : RosterView D) (given : Act) → IsRunning (view work d) → (next_of work.standing).answer ≡ Ok (Some given) → ((pid : ℕ) (kind : Kind) → given ≡ act.Start pid kind → pid < 2 ^ 31)
+      → MayPerform given d (seats_of d)
+  may_next work d given run answer pids =
+      let s : Standing = work.standing in
+      let next = next_given s given answer in
+      let due : s.due ≡ next.0 ∷ without_first s.due = split_due s.due next.0 next.1.first in
+      subst (λ (a : Act). MayPerform a d (seats_of d)) (sym next.1.act_is)
+      (may_perform run.1 run.2 d (seats_of d) s next.0 (without_first s.due) run.3.seated
+      (subst (λ (acts : List Action). MayDo acts (gate_of d) s.children) due run.3.may)
+      (subst (λ (acts : List Action). StartOnly (HasLostNone d) acts) due run.3.afresh.due) run.3.many
+      (λ pid kind is. pids pid kind (next.1.act_is ∙ is)))

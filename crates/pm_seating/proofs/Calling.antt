@@ -36,7 +36,7 @@ use Rattle.pm_seating.specs.Board.{Shows, ended_of, begun_of, seat_at, sitting}
 use Rattle.pm_board.specs.declared.views.Letter as Letter
 use Rattle.pm_seating.specs.Sitting.{HasReaped, StillRuns}
 use Rattle.pm_seating.specs.Standing.{View, IsAt, IsRunning, IsEnding, Goes, IsSeated, AreOnRoll, SeatServes}
-use Rattle.pm_seating.specs.Calls.{accepts, exits, exit_of, notes_in, IsCutOff}
+use Rattle.pm_seating.specs.Calls.{accepts, exits, exit_of, notes_in, EndsBehind, IsCutOff}
 use Rattle.pm_board.specs.declared.views.PastChild.{PastChild}
 use Rattle.pm_seating.proofs.Folding.{journal-more, journal-notes, seating-more, steps-more, begun-more, ended-more}
 use Rattle.pm_seating.proofs.Rolls.{on_roll_more, on_roll_less, found_kind, cases, same_pid, other_pid}
@@ -355,22 +355,30 @@ module _ {D : Type 0} where
   pub cut_off : {J : Type 0} (letter : Letter.Ghosts J D) (k : ℕ) (c : Enrolled) (released : Released J) (v w : View D)
       → k < length v.seats → seat_at k v.seats ≡ Some c → HasReaped letter k c released v.board w.board → w.seats ≡ set v.seats k None
       → w.work.standing ≡ v.work.standing → w.work.told ≡ v.work.told → IsCutOff v w
-  cut_off letter k c released v w near sits has then_seats same told_same limits count moves at =
-      let s : Standing = v.work.standing in
-      let noted : PmEvent = entry.Exited released.pid released.kind released.status released.was_active 0 in
-      let now = stood_up letter count moves v.board w.board v.seats w.seats s (record s { children = without c.pid s.children }) k c released 0 at.seated near sits has then_seats refl refl refl in
-      let p : now.seating ≡ record { seats = w.seats; generation = w.board.generation } = (λ i. record { seats = sym now.at_hand i; generation = sym now.shows.generation i }) in (
-        subst (λ (x : Seating). IsEnding count moves w.board x) p (record {
-          last = steps_by (seating_of count moves) (Notes noted k);
-          steps = now.steps ∙ steps-more count moves (Notes noted k);
-          final = (tt, tt);
-          shows = now.shows;
-          begun = λ j. (begun_by j (seating_of count moves) (Notes noted k), now.had.begun j ∙ begun-more count j moves (Notes noted k));
-          ended = λ j. (ended_by j (Notes noted k), now.had.ended j ∙ ended-more j moves (Notes noted k));
-        }),
-        same,
-        told_same,
-      )
+  cut_off letter k c released v w near sits has then_seats same told_same = (ending, (λ i. record { told = told_same i; standing = same i }), ap (λ (n : RosterNotes). n.last_pid) has.became.notes_are)
+    where
+      s : Standing
+      s = v.work.standing
+
+      noted_end : PmEvent
+      noted_end = entry.Exited released.pid released.kind released.status released.was_active 0
+
+      none_begun : (g : ℕ) (b : Bool) → (if b then begins g noted_end else []) ≡ []
+      none_begun g true = refl
+      none_begun g false = refl
+
+      ending : EndsBehind v w
+      ending limits count moves at =
+          let now = stood_up letter count moves v.board w.board v.seats w.seats s (record s { children = without c.pid s.children }) k c released 0 at.seated near sits has then_seats refl refl refl in
+          let p : now.seating ≡ record { seats = w.seats; generation = w.board.generation } = (λ i. record { seats = sym now.at_hand i; generation = sym now.shows.generation i }) in
+          subst (λ (x : Seating). IsEnding count moves w.board x) p (record {
+            last = steps_by (seating_of count moves) (Notes noted_end k);
+            steps = now.steps ∙ steps-more count moves (Notes noted_end k);
+            final = (tt, tt);
+            shows = now.shows;
+            begun = λ j. now.had.begun j ∙ (begun-more count j moves (Notes noted_end k) ∙ (ap (λ (bs : List Begun). begun_at count j moves ++ bs) (none_begun (seating_of count moves).generation (nat_eq k j)) ∙ append-nil (begun_at count j moves)));
+            ended = λ j. (ended_by j (Notes noted_end k), now.had.ended j ∙ ended-more j moves (Notes noted_end k));
+          })
 
   pub looked_then : (count : ℕ) (moves : List Move) (v w : View D) (k : ℕ) (c : Enrolled) → IsSeated count moves v.board v.seats v.work.standing
       → k < length v.seats → seat_at k v.seats ≡ Some c → StillRuns k c v.board w.board → w.seats ≡ v.seats → IsSeated count moves w.board w.seats v.work.standing

@@ -7,6 +7,7 @@ pub mod MayBeDone
 pub mod Turning
 pub mod Starting
 pub mod Afresh
+pub mod Keeping
 pub mod Gating
 pub mod Calling
 pub mod Runs
@@ -15,3 +16,4 @@ pub mod Resting
 pub mod Asking
 pub mod Beginning
 pub mod Reaping
+pub mod Ending

@@ -34,7 +34,7 @@ each_among : (P : Ended → Type 0) (xs : List Ended) → ((end : Ended) → Amo
 each_among P [] h = tt
 each_among P (x ∷ xs) h = (h x (inl refl), each_among P xs (λ end on. h end (inr on)))
 
-all_append : {X : Type 0} (P : X → Type 0) (xs ys : List X) → AllByRecursion P xs → AllByRecursion P ys → AllByRecursion P (xs ++ ys)
+pub all_append : {X : Type 0} (P : X → Type 0) (xs ys : List X) → AllByRecursion P xs → AllByRecursion P ys → AllByRecursion P (xs ++ ys)
 all_append P [] ys a b = b
 all_append P (x ∷ xs) ys a b = (a.0, all_append P xs ys a.1 b)
 

@@ -1,5 +1,5 @@
 -- When the acts that are due may be done at the board.
-use Rattle.std.specs.Prelude.{◌≡◌, ◌≢◌, ℕ, ◌+◌, ◌<◌, ◌≤◌, Bool, true, false, not, ◌||◌, if◌then◌else◌, List, [], ◌∷◌, Option, None, Some, length, slice_set}
+use Rattle.std.specs.Prelude.{◌≡◌, ◌≢◌, ℕ, ◌+◌, ◌<◌, ◌≤◌, Bool, true, false, not, ◌||◌, if◌then◌else◌, List, [], ◌∷◌, Option, None, Some, Result, Ok, length, slice_set}
 use Rattle.std.specs.List.{AllByRecursion}
 use Rattle.pm_exit.specs.declared.child.Kind.{Kind}
 use Rattle.pm_exit.specs.declared.child.Kind.TheVariants as kind
@@ -24,7 +24,8 @@ use Rattle.pm_board.specs.declared.views.RosterView.{RosterView}
 use Rattle.pm_board.specs.declared.views.Signal.TheVariants as signal
 use Rattle.pm_journal.specs.declared.act.Act.{Act}
 use Rattle.pm_journal.specs.declared.act.Act.TheVariants as act
-use Rattle.pm_seating.specs.Board.{Shows, after_steps}
+use Rattle.pm_journal.specs.declared.act.GenerationsSpent.{GenerationsSpent}
+use Rattle.pm_seating.specs.Board.{Shows, after_steps, seats_of}
 use Rattle.pm_seating.specs.Seating.{sends}
 use Rattle.pm_seating.specs.declared.audience.Audience.TheVariants.{Everyone, Stoppable, Checkpointer}
 use Rattle.pm_journal.specs.declared.roll.Enrolled.{Enrolled}
@@ -124,6 +125,11 @@ module _ {D : Type 0} where
   Performs (act.Start pid kind) ordered d seats e seats' =
       HasAssigned (slot_of kind) pid kind (ordered kind) d e × (seats' ≡ slice_set seats (slot_of kind) (Some (record { pid = pid; kind = kind })))
   Performs a ordered d seats e seats' = (e ≡ after_steps d (steps_for a d.generation seats)) × (seats' ≡ seats)
+
+  -- it is done, where there was one
+  abbrev pub IsDone : Result (Option Act) GenerationsSpent → (ordered : Kind → D) → RosterView D → RosterView D → Type 0
+  IsDone (Ok (Some a)) ordered d e = Performs a ordered d (seats_of d) e (seats_of e)
+  IsDone answer ordered d e = e ≡ d
 
 -- the children behind a call's own entry
 abbrev pub roll_behind : Call → List Enrolled → List Enrolled

@@ -12,7 +12,7 @@ use Rattle.pm_board.specs.declared.views.Letter as Letter
 use Rattle.pm_journal.specs.declared.roll.Enrolled.{Enrolled}
 use Rattle.pm_seating.specs.declared.desk.Looked.{Looked}
 use Rattle.pm_seating.specs.declared.desk.Looked.TheVariants.{Nothing, Ended, ShortOfMemory}
-use Rattle.pm_seating.specs.Sitting.{HasReaped}
+use Rattle.pm_seating.specs.Sitting.{HasFoundNone, HasReaped, KeepsPast}
 use Rattle.pm_state.specs.declared.action.Action.{Action}
 use Rattle.pm_state.specs.declared.action.Action.TheVariants as action
 use Rattle.pm_modes.specs.declared.Mode.{Mode}
@@ -51,42 +51,46 @@ exit_of kept released =
       kept = kept_by released.kind released.status kept;
     }
 
--- nothing more was noted: the steps of the roster are those of the moves so far, and final ones
-abbrev pub IsCutOff : {D : Type 0} → View D → View D → Type 0
-IsCutOff before now =
+-- the steps of the roster are those of the moves so far, and final ones
+abbrev pub EndsBehind : {D : Type 0} → View D → View D → Type 0
+EndsBehind before now =
     (limits : Limits) (count : ℕ) (moves : List Move) → IsAt limits count moves before
-    → IsEnding count moves now.board (record { seats = now.seats; generation = now.board.generation }) × (now.work.standing ≡ before.work.standing) × (now.work.told ≡ before.work.told)
+    → IsEnding count moves now.board (record { seats = now.seats; generation = now.board.generation })
+
+-- nothing more was noted
+abbrev pub IsCutOff : {D : Type 0} → View D → View D → Type 0
+IsCutOff before now = EndsBehind before now × (now.work ≡ before.work) × (now.board.notes.last_pid ≡ before.board.notes.last_pid)
 
 module _ {J D : Type 0} (letter : Letter.Ghosts J D) (kept : J → Option ℕ) (slot at : ℕ) where
-  -- A look at the slot: nobody sits there or the child still runs, and nothing was noted; its child has ended, gave this mail
-  -- back, and that was noted; or there was no memory to note it.
+  -- A look at the slot: nobody sits there or the child still runs, and nothing was noted; its child has ended, and that was
+  -- noted; or there was no memory to note it.
   abbrev pub HasLookedAt : Looked J → View D → View D → Type 0
-  HasLookedAt Nothing before now = Goes [] before now
-  HasLookedAt (Ended mail) before now =
-      (c : Enrolled) × (released : Released J) × (released.job ≡ mail) × HasReaped letter slot c released before.board now.board
-      × Goes (exits slot (exit_of (kept mail) released) at before.work.standing) before now
-  HasLookedAt (ShortOfMemory mail) before now =
-      (c : Enrolled) × (released : Released J) × (released.job ≡ mail) × HasReaped letter slot c released before.board now.board
-      × IsCutOff before now
+  HasLookedAt Nothing before now =
+      Goes [] before now × (now.work ≡ before.work) × KeepsPast before.board now.board × HasFoundNone slot before.board now.board
+  HasLookedAt (Ended released) before now =
+      (c : Enrolled) × HasReaped letter slot c released before.board now.board
+      × Goes (exits slot (exit_of (kept released.job) released) at before.work.standing) before now
+      × (now.work.standing ≡ made (exiting (exit_of (kept released.job) released) at before.work.standing) before.work.standing)
+  HasLookedAt (ShortOfMemory released) before now =
+      (c : Enrolled) × HasReaped letter slot c released before.board now.board × IsCutOff before now
 
 -- the slot that an act's entry tells of
 abbrev pub slot_for : Action → ℕ
 slot_for (action.Start kind) = slot_of kind
 slot_for _ = 0
 
--- The first act that is due was noted and done; or none was due, or there is no further generation, and nothing was noted.
-abbrev pub DoesNext : {D : Type 0} → Result (Option Act) GenerationsSpent → View D → View D → Type 0
-DoesNext (Ok (Some a)) before now =
-    (first : Action) × (first_due before.work.standing.due ≡ Some first)
-    × Goes (Notes (entry_for first before.work.standing) (slot_for first) ∷ []) before now
-DoesNext answer before now =
-    (now.work.standing ≡ before.work.standing) × (now.board ≡ before.board) × (now.seats ≡ before.seats)
-
 -- nothing was noted, and nothing done
 abbrev pub StandsStill : {D : Type 0} → View D → View D → Type 0
 StandsStill before now =
     (now.work.standing ≡ before.work.standing) × (now.work.told ≡ before.work.told) × (now.board ≡ before.board)
     × (now.seats ≡ before.seats)
+
+-- The first act that is due was noted and done; or none was due, or there is no further generation, and nothing was noted.
+abbrev pub DoesNext : {D : Type 0} → Result (Option Act) GenerationsSpent → View D → View D → Type 0
+DoesNext (Ok (Some a)) before now =
+    (first : Action) × (first_due before.work.standing.due ≡ Some first)
+    × Goes (Notes (entry_for first before.work.standing) (slot_for first) ∷ []) before now
+DoesNext answer before now = StandsStill before now
 
 -- A call was made that tells of no child: these moves more. Or there was no memory for it.
 abbrev pub Makes : {T E D : Type 0} → Result T E → Making → List Move → View D → View D → Type 0

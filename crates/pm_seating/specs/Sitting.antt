@@ -1,5 +1,5 @@
 -- What a look at a slot comes to.
-use Rattle.std.specs.Prelude.{◌≡◌, ℕ, ◌<◌}
+use Rattle.std.specs.Prelude.{◌≡◌, ◌⊎◌, ℕ, ◌<◌}
 use Rattle.pm_journal.specs.declared.roll.Enrolled.{Enrolled}
 use Rattle.pm_board.specs.declared.views.Offer.{Offer}
 use Rattle.pm_board.specs.declared.views.RosterView.{RosterView}
@@ -24,11 +24,19 @@ module _ {D : Type 0} where
   abbrev pub AreReaped : ℕ → RosterView D → Type 0
   AreReaped n d = (k : ℕ) → k < n → IsReaped d.notes.last_connection (slot_at d k) (slot_at d k).sight
 
+  -- no child was released
+  abbrev pub KeepsPast : RosterView D → RosterView D → Type 0
+  KeepsPast before after = (k : ℕ) → (slot_at after k).past ≡ (slot_at before k).past
+
   -- the child of the slot k was found running
   pub record StillRuns (k : ℕ) (c : Enrolled) (before after : RosterView D) : Type 0 where
     pub sits : Sits k c before
     pub word : ℕ
     pub became : SlotBecame k (running_slot (slot_at before k) sits.offer before.notes.last_connection) (noted_look before.notes word) before after
+
+  -- no end was found in the slot k: nobody sits there, or the child runs
+  abbrev pub HasFoundNone : ℕ → RosterView D → RosterView D → Type 0
+  HasFoundNone k before after = (after ≡ before) ⊎ ((c : Enrolled) × StillRuns k c before after)
 
 module _ {J D : Type 0} (letter : Letter.Ghosts J D) where
   -- the child of the slot k was found ended, and was released: its slot is unused, and it stands last among those of the slot

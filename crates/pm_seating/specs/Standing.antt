@@ -66,6 +66,10 @@ IsFinal (step.Release pid kind generation) = Unit {0}
 IsFinal (step.Assign slot pid kind.DeadEnd generation) = Unit {0}
 IsFinal _ = ⊥
 
+-- these children closed their workers
+abbrev pub AreClosing : List Begun → Type 0
+AreClosing others = AllByRecursion (λ b. b.kind ≡ kind.DeadEnd) others
+
 module _ {D : Type 0} where
   -- the children of each slot are those that the moves tell of, as they began and as they ended
   pub record HasHad (count : ℕ) (moves : List Move) (d : RosterView D) (s : Seating) : Type 0 where
@@ -125,19 +129,19 @@ module _ {D : Type 0} where
   -- ---- behind the last entry
 
   -- Nothing is noted any more. The steps of the roster are those of these moves, and behind them there are only final ones; the
-  -- children of each slot are those that the moves tell of, and others behind them; these sit there now.
+  -- children of each slot are those that the moves tell of, and no others; these sit there now.
   pub record IsEnding (count : ℕ) (moves : List Move) (d : RosterView D) (s : Seating) : Type 0 where
     pub last : List RosterStep
     pub steps : d.notes.steps ≡ board_steps count moves ++ last
     pub final : AllByRecursion IsFinal last
     pub shows : Shows d s
-    pub begun : (k : ℕ) → (others : List Begun) × (map begun_of (slot_at d k).past ++ sitting s.generation (seat_at k s.seats) ≡ begun_at count k moves ++ others)
+    pub begun : (k : ℕ) → map begun_of (slot_at d k).past ++ sitting s.generation (seat_at k s.seats) ≡ begun_at count k moves
     pub ended : (k : ℕ) → (others : List Ended) × (map ended_of (slot_at d k).past ≡ ended_at k moves ++ others)
 
-  -- and at the end nobody sits anywhere
+  -- The same of the children that were released, of which the last ones closed workers: at the end nobody sits anywhere.
   pub record IsBoardOf (count : ℕ) (moves : List Move) (d : RosterView D) : Type 0 where
     pub last : List RosterStep
     pub steps : d.notes.steps ≡ board_steps count moves ++ last
     pub final : AllByRecursion IsFinal last
-    pub begun : (k : ℕ) → (others : List Begun) × (map begun_of (slot_at d k).past ≡ begun_at count k moves ++ others)
+    pub begun : (k : ℕ) → (others : List Begun) × AreClosing others × (map begun_of (slot_at d k).past ≡ begun_at count k moves ++ others)
     pub ended : (k : ℕ) → (others : List Ended) × (map ended_of (slot_at d k).past ≡ ended_at k moves ++ others)

@@ -1,10 +1,10 @@
 //! The calls of a turn that tell of no child.
-ghost use Rattle.std.specs.Prelude.{◌≡◌, ◌∷◌, ℕ, List, [], false, OnErr, OnOk};
+ghost use Rattle.std.specs.Prelude.{◌≡◌, ◌∷◌, ℕ, List, [], false, OnErr, OnOk, is_some};
 ghost use Rattle.pm_journal.specs.Standing.{IsAtRest, MayAsk, asking, later, ticking, turning};
 ghost use Rattle.pm_journal.specs.Stands.{IsSettled};
-ghost use Rattle.pm_journal.specs.Supervision.{at_work, standing};
+ghost use Rattle.pm_journal.specs.Supervision.{at_work, standing, told};
 ghost use Rattle.pm_seating.specs.Calls.{AsksFor, Makes, StandsStill};
-ghost use Rattle.pm_seating.specs.Sitting.{AreReaped};
+ghost use Rattle.pm_seating.specs.Sitting.{AreReaped, KeepsPast};
 ghost use Rattle.pm_seating.specs.Seating.{Kill, Move, Reads};
 ghost use Rattle.pm_seating.specs.Standing.{Goes, IsRunning, view};
 
@@ -25,6 +25,8 @@ impl<J: Chronicle<PmEvent>, M: Report + Drop> Desk<J, M> {
         requires running { IsRunning (view (at_work self.old.supervision) self.old.roster.knows) }
         requires rests { IsAtRest (standing self.old.supervision) }
         requires unowed { (standing self.old.supervision).owes_smart ≡ false }
+        ensures table { self.new.roster.table ≡ self.old.roster.table }
+        ensures tells { is_some (told self.new.supervision) ≡ is_some (told self.old.supervision) }
         ensures ticks { Makes result (ticking at (standing self.old.supervision)) []
             (view (at_work self.old.supervision) self.old.roster.knows)
             (view (at_work self.new.supervision) self.new.roster.knows) }
@@ -38,6 +40,8 @@ impl<J: Chronicle<PmEvent>, M: Report + Drop> Desk<J, M> {
         requires running { IsRunning (view (at_work self.old.supervision) self.old.roster.knows) }
         requires rests { IsAtRest (standing self.old.supervision) }
         requires unowed { (standing self.old.supervision).owes_smart ≡ false }
+        ensures table { self.new.roster.table ≡ self.old.roster.table }
+        ensures tells { is_some (told self.new.supervision) ≡ is_some (told self.old.supervision) }
         ensures turns { Makes result turning []
             (view (at_work self.old.supervision) self.old.roster.knows)
             (view (at_work self.new.supervision) self.new.roster.knows) }
@@ -52,6 +56,8 @@ impl<J: Chronicle<PmEvent>, M: Report + Drop> Desk<J, M> {
         requires running { IsRunning (view (at_work self.old.supervision) self.old.roster.knows) }
         requires rests { IsAtRest (standing self.old.supervision) }
         requires may { MayAsk mode (standing self.old.supervision) }
+        ensures table { self.new.roster.table ≡ self.old.roster.table }
+        ensures tells { is_some (told self.new.supervision) ≡ is_some (told self.old.supervision) }
         ensures asks { (move : Move) → AsksFor mode (later at (standing self.old.supervision)) move
             → Makes result (asking mode at (standing self.old.supervision)) (move ∷ [])
             (view (at_work self.old.supervision) self.old.roster.knows)
@@ -66,6 +72,11 @@ impl<J: Chronicle<PmEvent>, M: Report + Drop> Desk<J, M> {
         requires running { IsRunning (view (at_work self.old.supervision) self.old.roster.knows) }
         requires rests { IsAtRest (standing self.old.supervision) }
         requires unowed { (standing self.old.supervision).owes_smart ≡ false }
+        ensures table { self.new.roster.table ≡ self.old.roster.table }
+        ensures tells { is_some (told self.new.supervision) ≡ is_some (told self.old.supervision) }
+        ensures standing { standing self.new.supervision ≡ standing self.old.supervision }
+        ensures slots { self.new.roster.knows.slots ≡ self.old.roster.knows.slots }
+        ensures past { KeepsPast self.old.roster.knows self.new.roster.knows }
         ensures kills { OnOk result ((line : List ℕ) (at : ℕ) → Goes (Reads line (Kill pid) at ∷ [])
             (view (at_work self.old.supervision) self.old.roster.knows)
             (view (at_work self.new.supervision) self.new.roster.knows)) }

@@ -1,8 +1,8 @@
 //! A supervisor at work with its board: the calls of a turn that tell of children.
 ghost use Rattle.pm_seating.specs.Acts.{slot_of, ShowsNow, MayPerform, Performs};
 ghost use Rattle.pm_seating.specs.Calls.{exit_of};
-ghost use Rattle.pm_seating.specs.Sitting.{AreReaped};
-ghost use Rattle.std.specs.Prelude.{◌≡◌, ◌+◌, ◌<◌, ℕ, List, Option, false, None, OnErr, OnOk, Some, length, option_map};
+ghost use Rattle.pm_seating.specs.Sitting.{AreReaped, KeepsPast};
+ghost use Rattle.std.specs.Prelude.{◌≡◌, ◌+◌, ◌<◌, ℕ, List, Option, false, None, OnErr, OnOk, Some, is_some, length, option_map};
 
 use crate::audience::Audience;
 use crate::laws::laws;
@@ -21,10 +21,10 @@ use pm_state::PmEvent;
 pub enum Looked<M> {
     /// Nobody sits there, or the child was found running.
     Nothing,
-    /// The child has ended, which was noted. This mail came back.
-    Ended(M),
-    /// The child has ended, and there was no memory to note it. This mail came back.
-    ShortOfMemory(M),
+    /// The child has ended, which was noted.
+    Ended(Released<M>),
+    /// The child has ended, and there was no memory to note it.
+    ShortOfMemory(Released<M>),
 }
 
 /// A supervisor at work, and its roster.
@@ -36,10 +36,11 @@ pub struct Desk<J: Chronicle<PmEvent>, M: Letter + Drop> {
 
 impl<J: Chronicle<PmEvent>, M: Report + Drop> Desk<J, M> {
     ghost use Rattle.pm_supervisor.specs.Steps.{kind_for};
+    ghost use Rattle.pm_board.specs.Models.{HasAssigned};
     ghost use Rattle.pm_board.specs.Places.{AllReaped};
-    ghost use Rattle.pm_journal.specs.Standing.{IsAtRest, MayTake, decision_on, next_pid};
+    ghost use Rattle.pm_journal.specs.Standing.{IsAtRest, MayTake, accepting, decision_on, made, next_pid};
     ghost use Rattle.pm_journal.specs.Stands.{IsSettled};
-    ghost use Rattle.pm_journal.specs.Supervision.{HasRoom, at_work, standing};
+    ghost use Rattle.pm_journal.specs.Supervision.{HasRoom, at_work, standing, told};
     ghost use Rattle.pm_seating.specs.Board.{seat_at, seats_of};
     ghost use Rattle.pm_seating.specs.Seating.{Move};
     ghost use Rattle.pm_seating.specs.Standing.{Goes, IsRunning, SeatServes, view};
@@ -58,8 +59,16 @@ impl<J: Chronicle<PmEvent>, M: Report + Drop> Desk<J, M> {
         requires serves { SeatServes (length (seats_of self.old.roster.knows)) slot (kind_for (decision_on
             (standing self.old.supervision))) }
         requires reaped { AllReaped self.old.roster.knows }
+        ensures table { self.new.roster.table ≡ self.old.roster.table }
+        ensures tells { is_some (told self.new.supervision) ≡ is_some (told self.old.supervision) }
         ensures pid { result.pid ≡ next_pid (standing self.old.supervision) }
         ensures decision { result.decision ≡ decision_on (standing self.old.supervision) }
+        ensures standing { standing self.new.supervision ≡ made
+            (accepting (standing self.old.supervision)) (standing self.old.supervision) }
+        ensures assigned { HasAssigned slot (next_pid (standing self.old.supervision))
+            (kind_for (decision_on (standing self.old.supervision))) (M.told mail)
+            self.old.roster.knows self.new.roster.knows }
+        ensures past { KeepsPast self.old.roster.knows self.new.roster.knows }
         ensures goes { Goes (accepts slot (standing self.old.supervision))
             (view (at_work self.old.supervision) self.old.roster.knows)
             (view (at_work self.new.supervision) self.new.roster.knows) }
@@ -74,12 +83,14 @@ impl<J: Chronicle<PmEvent>, M: Report + Drop> Desk<J, M> {
         taken
     }
 
-    /// Looks at a slot, and notes the end of its child where it has ended. The mail that came back is handed on.
+    /// Looks at a slot, and notes the end of its child where it has ended. The child is handed on, with the mail that came back.
     pub fn look_at(&mut self, slot: u32, now: u64) -> Looked<M>
         requires running { IsRunning (view (at_work self.old.supervision) self.old.roster.knows) }
         requires rests { IsAtRest (standing self.old.supervision) }
         requires unowed { (standing self.old.supervision).owes_smart ≡ false }
         requires slot { slot < length (seats_of self.old.roster.knows) }
+        ensures table { self.new.roster.table ≡ self.old.roster.table }
+        ensures tells { is_some (told self.new.supervision) ≡ is_some (told self.old.supervision) }
         ensures looks { HasLookedAt M.Letter M.kept slot now result
             (view (at_work self.old.supervision) self.old.roster.knows)
             (view (at_work self.new.supervision) self.new.roster.knows) }
@@ -93,8 +104,8 @@ impl<J: Chronicle<PmEvent>, M: Report + Drop> Desk<J, M> {
         match reap(&mut self.roster, slot, child) {
             None => Looked::Nothing,
             Some(released) => match self.supervision.exited(exit_of(&released), now) {
-                Ok(()) => Looked::Ended(released.job),
-                Err(_) => Looked::ShortOfMemory(released.job),
+                Ok(()) => Looked::Ended(released),
+                Err(_) => Looked::ShortOfMemory(released),
             },
         }
     }
@@ -103,9 +114,12 @@ impl<J: Chronicle<PmEvent>, M: Report + Drop> Desk<J, M> {
 impl<J: Chronicle<PmEvent>, M: Report + Drop> Desk<J, M> {
     ghost use Rattle.std.specs.Prelude.{Bool, Err, Ok, true};
     ghost use Rattle.pm_exit.specs.declared.child.Kind.{Kind};
-    ghost use Rattle.pm_journal.specs.Supervision.{at_work, standing};
+    ghost use Rattle.pm_journal.specs.Standing.{next_of};
+    ghost use Rattle.pm_journal.specs.Stands.{IsSettled};
+    ghost use Rattle.pm_journal.specs.Supervision.{at_work, standing, told};
+    ghost use Rattle.pm_journal.specs.declared.act.Act.{Act};
     ghost use Rattle.pm_journal.specs.declared.act.GenerationsSpent.{GenerationsSpent};
-    ghost use Rattle.pm_seating.specs.Acts.{slot_of};
+    ghost use Rattle.pm_seating.specs.Acts.{IsDone, MayPerform, slot_of};
     ghost use Rattle.pm_seating.specs.Board.{seats_of};
     ghost use Rattle.pm_seating.specs.Calls.{DoesNext};
     ghost use Rattle.pm_seating.specs.Seating.{Move};
@@ -114,6 +128,17 @@ impl<J: Chronicle<PmEvent>, M: Report + Drop> Desk<J, M> {
     /// Does the next act that is due, if there is one: its entry is noted, and then it is done at the board.
     pub fn do_next(&mut self) -> Result<Option<Act>, GenerationsSpent>
         requires running { IsRunning (view (at_work self.old.supervision) self.old.roster.knows) }
+        ensures table { self.new.roster.table ≡ self.old.roster.table }
+        ensures tells { is_some (told self.new.supervision) ≡ is_some (told self.old.supervision) }
+        ensures answer { result ≡ (next_of (standing self.old.supervision)).answer }
+        ensures standing { standing self.new.supervision
+            ≡ (next_of (standing self.old.supervision)).after }
+        ensures settled { IsSettled (standing self.old.supervision)
+            → IsSettled (standing self.new.supervision) }
+        ensures may { (a : Act) → result ≡ Ok (Some a)
+            → MayPerform a self.old.roster.knows (seats_of self.old.roster.knows) }
+        ensures performs { IsDone result M.ordered self.old.roster.knows self.new.roster.knows }
+        ensures past { KeepsPast self.old.roster.knows self.new.roster.knows }
         ensures act { DoesNext result
             (view (at_work self.old.supervision) self.old.roster.knows)
             (view (at_work self.new.supervision) self.new.roster.knows) }
@@ -136,6 +161,7 @@ impl<J: Chronicle<PmEvent>, M: Report + Drop> Desk<J, M> {
         requires shows { ShowsNow self.old.roster.knows (seats_of self.old.roster.knows) }
         requires may { MayPerform act self.old.roster.knows (seats_of self.old.roster.knows) }
         ensures supervision { self.new.supervision ≡ self.old.supervision }
+        ensures table { self.new.roster.table ≡ self.old.roster.table }
         ensures performs { Performs act M.ordered self.old.roster.knows (seats_of self.old.roster.knows) self.new.roster.knows (seats_of self.new.roster.knows) }
     {
         let roster = &mut self.roster;

@@ -289,8 +289,8 @@ impl<D: Disk + Drop, B: Chronicle<BookEntry> + Drop> Shared<D, B> {
         result
     }
 
-    // Takes in a token.
-    fn join(&mut self, token: Token<D, B>)
+    /// Takes the next token back, in the order of their numbers. It takes no memory.
+    pub fn take_back(&mut self, token: Token<D, B>)
         requires { (token.table ≡ self.old.table) × (token.number ≡ length self.old.joined) }
         ensures { self.new ≡ shared_with self.old self.old.tokens
             (self.old.joined ++ record { own = token.own; past = token.past } ∷ []) }
@@ -315,9 +315,9 @@ impl<D: Disk + Drop, B: Chronicle<BookEntry> + Drop> Shared<D, B> {
     {
         let Tokens { list } = tokens;
         for token in list {
-            self.join(token);
+            self.take_back(token);
         }
-        self.take_alone()
+        self.into_segment()
     }
 
     /// The disk and the book, once all tokens are back. Where both tell, the first redo hasn't come, and at every tick since
@@ -335,8 +335,9 @@ impl<D: Disk + Drop, B: Chronicle<BookEntry> + Drop> Shared<D, B> {
         store.into_parts()
     }
 
-    // Takes the store for good. Nobody else has it.
-    fn take_alone(self) -> Segment<D, B>
+    /// The store, once each token was taken back, behind all entries. It takes no memory and doesn't wait, since nobody else
+    /// has it.
+    pub fn into_segment(self) -> Segment<D, B>
         requires { length self.joined ≡ self.tokens }
         ensures { IfSome self.first (λ first. (log : List BookEntry) × Behind first log result
             × IsShuffle self.tokens (owns self.joined) self.own log

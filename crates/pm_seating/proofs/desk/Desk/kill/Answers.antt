@@ -1,12 +1,14 @@
 use Rattle.std.proofs.Common.{sym, ap, ◌∙◌}
 use Rattle.std.specs.Prelude.{not, is_some}
+use Rattle.pm_board.specs.declared.views.RosterView.{RosterView}
 use Rattle.pm_board.specs.declared.views.Signal.TheVariants as signal
 use Rattle.pm_journal.specs.Supervision.{at_work}
 use Rattle.pm_seating.specs.declared.audience.Audience.TheVariants.{One}
 use Rattle.pm_seating.specs.Seating.{sends}
 use Rattle.pm_seating.specs.Standing.{view}
 use Rattle.pm_seating.proofs.Asking.{killed_goes, none_killed}
-use Rattle.pm_seating.proofs.Sends.{seats_same}
+use Rattle.pm_seating.proofs.Keeping.{adds_tells, keeps_stepped}
+use Rattle.pm_seating.proofs.Sends.{same-slots, seats_same}
 use Rattle.pm_seating.specs.Board.{seats_of}
 use Rattle.pm_seating.proofs.Reaping.{reaped_stepped}
 use Rattle.pm_seating.proofs.desk.Desk.kill.Goals as goal
@@ -28,3 +30,17 @@ pub returns-clause-reaped : goal.returns-clause-reaped
 returns-clause-reaped g c =
     let d = c.args.self.now.roster.knows in
     λ n were. reaped_stepped n d c.tell.new.roster.knows (sends (One c.args.pid) signal.Kill d.generation (seats_of d)) c.tell.ensures.knows were
+
+pub returns-clause-slots : goal.returns-clause-slots
+returns-clause-slots g c =
+    let d = c.args.self.now.roster.knows in
+    let ss = sends (One c.args.pid) signal.Kill d.generation (seats_of d) in
+    ap (λ (v : RosterView _). v.slots) c.tell.ensures.knows ∙ same-slots d ss
+
+pub returns-clause-past : goal.returns-clause-past
+returns-clause-past g c =
+    let d = c.args.self.now.roster.knows in
+    keeps_stepped d c.tell.new.roster.knows (sends (One c.args.pid) signal.Kill d.generation (seats_of d)) c.tell.ensures.knows
+
+pub returns-clause-tells : goal.returns-clause-tells
+returns-clause-tells g c = adds_tells _ _ _ c.in_ok-kill.ensures.told

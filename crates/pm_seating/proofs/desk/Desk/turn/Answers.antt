@@ -1,4 +1,5 @@
-use Rattle.std.proofs.Common.{[], refl}
+use Rattle.std.proofs.Common.{[], ap, refl}
+use Rattle.std.specs.Prelude.{is_some}
 use Rattle.pm_journal.specs.Standing.{turning}
 use Rattle.pm_journal.specs.Supervision.{at_work}
 use Rattle.pm_seating.specs.Standing.{view}
@@ -12,3 +13,6 @@ returns-clause-turns g c =
     makes_of c.turn.result turning [] v w c.turn.ensures.standing c.turn.ensures.standing c.turn.ensures.refused
     (λ after also. turned_goes c.laws.ensures.work c.laws.ensures.starts c.laws.ensures.journal v w.work c.requires.rests c.requires.unowed after c.turn.ensures.told)
     (λ same. (same, c.turn.ensures.told, refl, refl)) refl refl
+
+pub returns-clause-tells : goal.returns-clause-tells
+returns-clause-tells g c = ap is_some c.turn.ensures.told

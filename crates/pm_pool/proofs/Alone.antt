@@ -1,0 +1,55 @@
+-- Where the shared side has noted its first generation alone, and no token anything, the log has no other entry.
+use Rattle.std.proofs.Common.{◌≡◌, ◌⊎◌, inl, inr, arith, ℕ, zero, suc, List, [], ◌∷◌, refl, sym, ap, ◌∙◌, subst}
+use Rattle.std.specs.Prelude.{Bool, true, false, Some, slice_get}
+use Rattle.pm_query.specs.declared.book.BookEntry.{BookEntry}
+use Rattle.pm_shared.specs.declared.views.Joined.{Joined}
+use Rattle.pm_shared.specs.declared.views.Noted.{Noted}
+use Rattle.pm_shared.specs.Log.{IsShuffle, Line, book_of, is_own, noted, placed_rest}
+use Rattle.pm_shared.specs.Places.{EachOnce, Has}
+use Rattle.pm_shared.specs.Told.{owns}
+use Rattle.pm_pool.specs.Works.{AreUnused}
+use Rattle.pm_pool.proofs.Lists.{some_same}
+
+-- no list has anything
+none_has : (joined : List Joined) → AreUnused joined → (k : ℕ) (l : List Noted) (x : Noted) → slice_get (owns joined) k ≡ Some l → Has l x → ⊥
+none_has [] unused k l x is has = cc
+none_has (his ∷ joined) unused zero l x is has =
+    let nil : l ≡ [] = sym (some_same _ _ is) ∙ unused.0 in
+    let at : slice_get {X = Noted} [] has.0 ≡ Some x = subst (λ (m : List Noted). slice_get m has.0 ≡ Some x) nil has.1 in
+    cc
+none_has (his ∷ joined) unused (suc k) l x is has = none_has joined unused.1 k l x is has
+
+-- the one entry of the shared side's own list
+the_one : (e : BookEntry) (x : Noted) → Has (noted 0 e ∷ []) x → noted 0 e ≡ x
+the_one e x (zero, is) = some_same _ _ is
+the_one e x (suc i, is) = cc
+
+-- each entry is that one
+each_first : (joined : List Joined) (e : BookEntry) (log : List BookEntry) → AreUnused joined → EachOnce (owns joined) (noted 0 e ∷ []) log → (j : ℕ) (x : BookEntry) → slice_get log j ≡ Some x → (own : Bool) → is_own x ≡ own → noted 0 e ≡ noted j x
+each_first joined e log unused once j x at true own =
+    let found = once.found j x at own in
+    absurd (none_has joined unused found.0 found.1 (noted j x) found.2 found.3)
+each_first joined e log unused once j x at false own = the_one e (noted j x) (once.shared j x at own)
+
+apart : ◌≡◌ {A = ℕ} 0 1 → ⊥
+apart is = omega arith
+
+only_one : (e : BookEntry) (log : List BookEntry) → ((j : ℕ) (x : BookEntry) → slice_get log j ≡ Some x → noted 0 e ≡ noted j x) → (log ≡ []) ⊎ (log ≡ e ∷ [])
+only_one e [] each = inl refl
+only_one e (x ∷ []) each = inr (ap (λ (y : Noted). y.entry ∷ []) (sym (each 0 x refl)))
+only_one e (x ∷ y ∷ log) each =
+    absurd (apart (ap (λ (z : Noted). z.at) (each 1 y refl)))
+
+not_none : (e : BookEntry) (log : List Line) → book_of log ≡ [] → noted 0 e ∷ [] ≡ placed_rest 0 log → ⊥
+not_none e [] none is = cc
+not_none e (line ∷ log) none is = cc
+
+pub alone : (n : ℕ) (joined : List Joined) (e : BookEntry) (own : List Noted) (log : List BookEntry) → own ≡ noted 0 e ∷ [] → AreUnused joined → IsShuffle n (owns joined) own log → EachOnce (owns joined) own log → log ≡ e ∷ []
+alone n joined e own log is unused shuffle once = pick (only_one e log (λ j x at. each_first joined e log unused once' j x at (is_own x) refl))
+  where
+    once' : EachOnce (owns joined) (noted 0 e ∷ []) log
+    once' = subst (λ (l : List Noted). EachOnce (owns joined) l log) is once
+
+    pick : (log ≡ []) ⊎ (log ≡ e ∷ []) → log ≡ e ∷ []
+    pick (inl none) = absurd (not_none e shuffle.log (shuffle.book_is ∙ none) (sym is ∙ shuffle.own_list))
+    pick (inr one) = one

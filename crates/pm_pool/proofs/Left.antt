@@ -1,0 +1,51 @@
+-- What is left once the workers of all slots were closed.
+use Rattle.std.proofs.Common.{◌≡◌, ℕ, zero, suc, List, [], ◌∷◌, length, refl, ◌∙◌, subst}
+use Rattle.std.proofs.lemmas.List.{length-map}
+use Rattle.std.specs.Prelude.{None, Option, Some, IfSome, slice_get}
+use Rattle.pm_board.specs.declared.views.RosterView.{RosterView}
+use Rattle.pm_query.specs.declared.book.BookEntry.{BookEntry}
+use Rattle.pm_shared.specs.declared.views.Joined.{Joined}
+use Rattle.pm_shared.specs.declared.views.Noted.{Noted}
+use Rattle.pm_shared.specs.Log.{IsShuffle}
+use Rattle.pm_shared.specs.Places.{EachOnce}
+use Rattle.pm_shared.specs.Told.{AllContinue, SharedModel, owns, pasts}
+use Rattle.pm_worker.specs.declared.mail.MailTold.{MailTold}
+use Rattle.pm_crew.specs.Left.{AreLeft, IsWorked, Manner}
+use Rattle.pm_pool.specs.Closing.{AreClosed}
+use Rattle.pm_pool.proofs.Lists.{some_same}
+
+got_own : (joined : List Joined) (k : ℕ) (own : List Noted) → slice_get (owns joined) k ≡ Some own → (his : Joined) × (slice_get joined k ≡ Some his) × (his.own ≡ own)
+got_own [] k own is = absurd (cc)
+got_own (his ∷ joined) zero own is = (his, refl, some_same his.own own is)
+got_own (his ∷ joined) (suc k) own is = got_own joined k own is
+
+-- what a store out of the hands of this shared side says of its log
+abbrev pub ComesOut : {F : Type 0} → (F → List BookEntry → Type 0) → SharedModel F → Type 0
+ComesOut R s =
+    IfSome s.first (λ first. (log : List BookEntry) × R first log × IsShuffle s.tokens (owns s.joined) s.own log × EachOnce (owns s.joined) s.own log × AllContinue (pasts s.joined) log)
+
+module _ {F : Type 0} (R : F → List BookEntry → Type 0) (manner : Manner) (n : ℕ) (d e : RosterView MailTold) (s t : SharedModel F) (a : AreClosed manner n d e s t) where
+  are_left : (log : List BookEntry) → length d.slots ≡ n → IsShuffle n (owns a.joined) s.own log → EachOnce (owns a.joined) s.own log → AreLeft manner n e s.own log
+  are_left log slots shuffle once =
+      record {
+        runs = a.runs;
+        lists = owns a.joined;
+        slots = a.count ∙ slots;
+        all = length-map a.joined (λ (his : Joined). his.own) ∙ a.all;
+        each = λ k own at. each k own (got_own a.joined k own at);
+        shuffle = shuffle;
+        once = once;
+        sent = a.sent;
+      }
+    where
+      each : (k : ℕ) (own : List Noted) → (his : Joined) × (slice_get a.joined k ≡ Some his) × (his.own ≡ own) → IsWorked manner e k (a.runs k) own
+      each k own got = subst (λ (l : List Noted). IsWorked manner e k (a.runs k) l) got.2 (a.worked k got.0 got.1)
+
+  pub left_all : length d.slots ≡ n → s.tokens ≡ n → ComesOut R t → IfSome s.first (λ first. (log : List BookEntry) × R first log × AreLeft manner n e s.own log)
+  left_all slots tokens out = by s.first (subst (ComesOut R) a.shared out)
+    where
+      by : (first : Option F)
+          → IfSome first (λ f. (log : List BookEntry) × R f log × IsShuffle s.tokens (owns a.joined) s.own log × EachOnce (owns a.joined) s.own log × AllContinue (pasts a.joined) log)
+          → IfSome first (λ f. (log : List BookEntry) × R f log × AreLeft manner n e s.own log)
+      by None h = h
+      by (Some f) h = (h.0, h.1, are_left h.0 slots (subst (λ (m : ℕ). IsShuffle m (owns a.joined) s.own h.0) tokens h.2) h.3)

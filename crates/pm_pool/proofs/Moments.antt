@@ -1,0 +1,111 @@
+-- A run by the moments of one clock is one by those of a clock that gives them all.
+use Rattle.std.proofs.Common.{ℕ, List, [], ◌∷◌}
+use Rattle.std.specs.Prelude.{Option, None, Some, IfSome}
+use Rattle.std.specs.List.{AllByRecursion}
+use Rattle.pm_admit.specs.declared.Cac.{Cac}
+use Rattle.pm_life.specs.Life.{Told}
+use Rattle.pm_outside.specs.Traffic.{Traffic}
+use Rattle.pm_sql.specs.declared.stmt.Stmt.{Stmt}
+use Rattle.pm_exchange.specs.declared.ending.Cause.{Cause}
+use Rattle.pm_exchange.specs.declared.ending.Cause.TheVariants.{TimedOut}
+use Rattle.pm_exchange.specs.Sent.{Turn, Ran, LogIsFull}
+use Rattle.pm_session.specs.Session.{AllSleep, CausedBy, Ending, HasSlept, IsApart, IsCaused}
+use Rattle.pm_exchange.specs.Queries.{HasSleptFor, HasWaited, Sleeps}
+use Rattle.pm_worker.specs.declared.mail.LinkTold.{LinkTold}
+use Rattle.pm_worker.specs.declared.mail.MailTold.{MailTold}
+use Rattle.pm_worker.specs.declared.mail.MailTold.TheVariants as mail
+use Rattle.pm_worker.specs.Runs.{Does, IsRun, IsSessionRun, Run}
+
+module _ {gives more : ℕ → Type 0} (on : (moment : ℕ) → gives moment → more moment) where
+  waited : (milliseconds : ℕ) → HasWaited gives milliseconds → HasWaited more milliseconds
+  waited milliseconds w = record { first = w.first; last = w.last; from = on w.first w.from; to = on w.last w.to; apart = w.apart }
+
+  apart_by : (limit : ℕ) → IsApart gives limit → IsApart more limit
+  apart_by limit a = record { earlier = a.earlier; later = a.later; first = on a.earlier a.first; second = on a.later a.second; apart = a.apart }
+
+  slept_for : (turn : Turn) (script : List Stmt) → HasSleptFor gives turn script → HasSleptFor more turn script
+  slept_for (Ran reply) script w = waited _ w
+  slept_for LogIsFull script w = waited _ w
+  slept_for turn script w = w
+
+  sleeps : (text : List ℕ) (turn : Turn) → Sleeps gives text turn → Sleeps more text turn
+  sleeps text (Ran reply) s = (s.0, s.1, slept_for (Ran reply) s.0 s.2)
+  sleeps text LogIsFull s = (s.0, s.1, slept_for LogIsFull s.0 s.2)
+  sleeps text turn s = s
+
+  all_sleep : (texts : List (List ℕ)) (turns : List Turn) → AllSleep gives texts turns → AllSleep more texts turns
+  all_sleep [] [] s = s
+  all_sleep (text ∷ texts) (turn ∷ turns) s = (s.0, sleeps text turn s.1, all_sleep texts turns s.2)
+  all_sleep [] (turn ∷ turns) s = s
+  all_sleep (text ∷ texts) [] s = s
+
+  has_slept : (turns : List Turn) (came_in : List ℕ) → HasSlept gives turns came_in → HasSlept more turns came_in
+  has_slept [] came_in s = s
+  has_slept (turn ∷ turns) came_in s =
+      record {
+        requests = s.requests;
+        phase = s.phase;
+        packet = s.packet;
+        texts = s.texts;
+        beyond = s.beyond;
+        asks = s.asks;
+        start = s.start;
+        slept = all_sleep s.texts (turn ∷ turns) s.slept;
+        input = s.input;
+      }
+
+  link_slept : (turns : List Turn) (link : Option Traffic) → IfSome link (λ traffic. HasSlept gives turns traffic.came_in) → IfSome link (λ traffic. HasSlept more turns traffic.came_in)
+  link_slept turns None s = s
+  link_slept turns (Some traffic) s = has_slept turns traffic.came_in s
+
+  caused_by : (cause : Cause) (decision : Cac) (link : Option Traffic) (failed : Type 0) (told : Option Told) (limit : ℕ) → CausedBy cause decision link failed told limit gives → CausedBy cause decision link failed told limit more
+  caused_by TimedOut decision link failed told limit c = (c.0, apart_by limit c.1)
+  caused_by cause decision link failed told limit c = c
+
+  caused : (ending : Ending) (turns : List Turn) (generation : ℕ) (decision : Cac) (link : Option Traffic) (failed : Type 0) (told : Option Told) (limit : ℕ) → IsCaused ending turns generation decision link failed told limit gives
+      → IsCaused ending turns generation decision link failed told limit more
+  caused ending turns generation decision link failed told limit c =
+      record {
+        cause = caused_by ending.cause decision link failed told limit c.cause;
+        exit = caused_by ending.exit decision link failed told limit c.exit;
+        gate = c.gate;
+        out = c.out;
+        heeded = c.heeded;
+        sound = c.sound;
+        slept = link_slept turns link c.slept;
+        cancelled = c.cancelled;
+      }
+
+  session_run : (stamp : Option ℕ) (seed : List ℕ) (limit : ℕ) (link : LinkTold) (decision : Cac) (run : Run) → IsSessionRun stamp seed limit gives link decision run → IsSessionRun stamp seed limit more link decision run
+  session_run stamp seed limit link decision run r =
+      record {
+        back = r.back;
+        ending = r.ending;
+        turns = r.turns;
+        generation = r.generation;
+        attached = r.attached;
+        key = r.key;
+        keyed = r.keyed;
+        back_is = r.back_is;
+        number = r.number;
+        faults = r.faults;
+        status = r.status;
+        session = r.session;
+        caused = caused _ _ _ _ _ _ _ _ r.caused;
+        asked = r.asked;
+        heeds = r.heeds;
+        active = r.active;
+        behind = r.behind;
+        cancels = r.cancels;
+      }
+
+  does_so : (stamp : Option ℕ) (seed : List ℕ) (limit : ℕ) (given : MailTold) (run : Run) → Does stamp seed limit gives given run → Does stamp seed limit more given run
+  does_so stamp seed limit (mail.Serve link decision) run d = session_run stamp seed limit link decision run d
+  does_so stamp seed limit given run d = d
+
+  is_run : (stamp : Option ℕ) (seed : List ℕ) (limit : ℕ) (run : Run) → IsRun stamp seed limit gives run → IsRun stamp seed limit more run
+  is_run stamp seed limit run r = record { fits = r.fits; does = does_so stamp seed limit run.child.offer.given run r.does; met = r.met; makes = r.makes }
+
+  pub are_runs : (stamp : Option ℕ) (seed : List ℕ) (limit : ℕ) (runs : List Run) → AllByRecursion (IsRun stamp seed limit gives) runs → AllByRecursion (IsRun stamp seed limit more) runs
+  are_runs stamp seed limit [] all = all
+  are_runs stamp seed limit (run ∷ runs) all = (is_run stamp seed limit run all.0, are_runs stamp seed limit runs all.1)

@@ -1,0 +1,16 @@
+use Rattle.std.proofs.Common.{◌≡◌}
+use Rattle.pm_board.specs.declared.views.Offer.{Offer}
+use Rattle.pm_board.specs.declared.views.Sight.TheVariants.{Assigned}
+use Rattle.pm_board.specs.Places.{slot_at}
+use Rattle.pm_worker.specs.declared.mail.MailTold.{MailTold}
+use Rattle.pm_pool.proofs.Slots.{IsWatched}
+use Rattle.pm_pool.proofs.closing.release.Given as goal
+
+abbrev pub invariant-loop : goal.invariant-loop
+invariant-loop g l =
+    record {
+      table : l.roster.table ≡ l.fn.roster.table;
+      watched : (o : Offer MailTold) × ((slot_at l.fn.roster.knows l.slot).sight ≡ Assigned o) × IsWatched l.slot o l.fn.roster.knows l.roster.knows;
+      next : (goal.iterator-loop g).can_next l.iterator';
+      ends : (goal.iterator-loop g).is_finite l.iterator';
+    }

@@ -1,0 +1,12 @@
+use Rattle.std.proofs.Common.{ℕ, ◌≡◌, ◌≤◌, All, vec_len}
+use Rattle.std.specs.Prelude.{vec_capacity}
+use Rattle.pm_pool.proofs.stock.clocks.Given as goal
+
+abbrev pub invariant-loop : goal.invariant-loop
+invariant-loop g l =
+    record {
+      few : l.counter ≤ l.count;
+      count : vec_len l.clocks ≡ l.counter;
+      room : vec_capacity l.clocks ≡ l.count;
+      gives : All (λ clock'. (moment : ℕ) → g.C.Clock.gives clock' moment → g.C.Clock.gives l.clock moment) l.clocks.items;
+    }

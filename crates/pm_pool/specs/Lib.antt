@@ -1,0 +1,5 @@
+pub mod Closing
+pub mod Given
+pub mod Plan
+pub mod Pools
+pub mod Works

@@ -1,0 +1,36 @@
+//! What a pool is made by.
+ghost use Rattle.std.specs.Prelude.{◌≡◌, ◌+◌, ◌≤◌};
+ghost use Rattle.pm_pool.specs.Plan.{slots_of};
+
+use pm_session::SessionConf;
+use std::snapshot::Snapshot;
+
+/// What a pool is made by.
+#[derive(Clone, Copy, Debug, PartialEq, Eq)]
+pub struct Plan {
+    /// The number of sessions that may be attached at once (`max_connections`).
+    pub max_connections: u32,
+    /// The number of background workers (`max_worker_processes`).
+    pub max_worker_processes: u32,
+    pub conf: SessionConf,
+    /// That of the cancel keys.
+    pub seed: [u8; 32],
+}
+
+impl Plan {
+    /// How many slots its board has: one each for startup child, checkpointer and writer, two for each session or background
+    /// worker, since one that is ending may be there beside its successor, and four for dead-end children.
+    pub fn slots(&self) -> u32
+        requires { self.now.max_connections + self.now.max_worker_processes ≤ 200 }
+        ensures { result ≡ slots_of self.now }
+    {
+        3 + 2 * (self.max_connections + self.max_worker_processes) + 4
+    }
+}
+
+/// What the workers of a pool go by: its plan, and the clock that theirs were made from, for contracts alone.
+#[derive(Drop)]
+pub struct Terms<C> {
+    pub plan: Plan,
+    pub clock: Snapshot<C>,
+}

@@ -1,0 +1,5 @@
+//! Tests of pools, with real threads.
+#![tactic(auto)]
+
+#[cfg(test)]
+mod pools;

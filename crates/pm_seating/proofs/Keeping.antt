@@ -1,0 +1,54 @@
+-- What leaves the children that were released, and whether the journal tells.
+use Rattle.std.proofs.Common.{◌≡◌, ℕ, ◌++◌, ◌∙◌, refl, ap, append-nil, get_or}
+use Rattle.std.specs.Prelude.{List, [], Option, None, Some, Result, Ok, Err, OnErr, OnOk, is_some}
+use Rattle.pm_state.specs.declared.event.PmEvent.{PmEvent}
+use Rattle.pm_journal.specs.Standing.{Adds, Standing}
+use Rattle.pm_exit.specs.declared.child.Kind.{Kind}
+use Rattle.pm_board.specs.declared.views.RosterNotes.{RosterNotes}
+use Rattle.pm_board.specs.declared.views.RosterStep.{RosterStep}
+use Rattle.pm_board.specs.declared.views.RosterView.{RosterView}
+use Rattle.pm_board.specs.declared.views.Sight.TheVariants.{Unused}
+use Rattle.pm_board.specs.declared.views.SlotView.{SlotView}
+use Rattle.pm_board.specs.Models.{SlotBecame}
+use Rattle.pm_board.specs.Places.{slot_at, slot_view}
+use Rattle.pm_journal.specs.declared.act.Act.{Act}
+use Rattle.pm_journal.specs.declared.act.Act.TheVariants as act
+use Rattle.pm_journal.specs.declared.roll.Enrolled.{Enrolled}
+use Rattle.pm_seating.specs.Acts.{Performs, slot_of, steps_for}
+use Rattle.pm_seating.specs.Board.{after_steps}
+use Rattle.pm_seating.specs.Sitting.{KeepsPast}
+use Rattle.pm_seating.proofs.Afresh.{became_same}
+use Rattle.pm_seating.proofs.Sends.{same-slots}
+
+pub adds_tells : (entries : List PmEvent) (before now : Option (List PmEvent)) → Adds entries before now → is_some now ≡ is_some before
+adds_tells entries None now adds = ap is_some adds
+adds_tells entries (Some es) now adds = ap is_some adds
+
+pub adds_none : (entries : List PmEvent) (before now : Option (List PmEvent)) → entries ≡ [] → Adds entries before now → now ≡ before
+adds_none entries None now none adds = adds
+adds_none entries (Some es) now none adds = adds ∙ ap (λ (l : List PmEvent). Some l) (ap (λ (l : List PmEvent). es ++ l) none ∙ append-nil es)
+
+pub made_tells : {T E : Type 0} (result : Result T E) (entries : List PmEvent) (before now : Option (List PmEvent)) (s t : Standing) → OnOk result (Adds entries before now) → OnErr result ((t ≡ s) × (now ≡ before)) → is_some now ≡ is_some before
+made_tells (Ok done) entries before now s t adds refused = adds_tells entries before now adds
+made_tells (Err error) entries before now s t adds refused = ap is_some refused.1
+
+module _ {D : Type 0} where
+  -- a slot became another with the same children
+  pub keeps_became : (k : ℕ) (x : SlotView D) (notes : RosterNotes) (d e : RosterView D) → SlotBecame k x notes d e → x.past ≡ (slot_at d k).past → KeepsPast d e
+  keeps_became k x notes d e became past = (became_same k x notes d e became past).past
+
+  -- steps that change no slot
+  pub keeps_stepped : (d e : RosterView D) (ss : List RosterStep) → e ≡ after_steps d ss → KeepsPast d e
+  keeps_stepped d e ss is k = ap (λ (xs : List (SlotView D)). (get_or xs k (slot_view [] Unused)).past) (ap (λ (v : RosterView D). v.slots) is ∙ same-slots d ss)
+
+  -- an act
+  pub keeps_acted : (a : Act) (ordered : Kind → D) (d e : RosterView D) (seats seats' : List (Option Enrolled)) → Performs a ordered d seats e seats' → KeepsPast d e
+  keeps_acted (act.Start pid kind) ordered d e seats seats' has = keeps_became (slot_of kind) _ _ d e has.0.2 refl
+  keeps_acted (act.Quit why) ordered d e seats seats' has = keeps_stepped d e (steps_for (act.Quit why) d.generation seats) has.0
+  keeps_acted act.Terminate ordered d e seats seats' has = keeps_stepped d e (steps_for act.Terminate d.generation seats) has.0
+  keeps_acted act.KillAll ordered d e seats seats' has = keeps_stepped d e (steps_for act.KillAll d.generation seats) has.0
+  keeps_acted act.AskCheckpoint ordered d e seats seats' has = keeps_stepped d e (steps_for act.AskCheckpoint d.generation seats) has.0
+  keeps_acted (act.Ready generation) ordered d e seats seats' has = keeps_stepped d e (steps_for (act.Ready generation) d.generation seats) has.0
+  keeps_acted (act.Reset generation) ordered d e seats seats' has = keeps_stepped d e (steps_for (act.Reset generation) d.generation seats) has.0
+  keeps_acted (act.Say line) ordered d e seats seats' has = keeps_stepped d e [] has.0
+  keeps_acted (act.End how) ordered d e seats seats' has = keeps_stepped d e [] has.0

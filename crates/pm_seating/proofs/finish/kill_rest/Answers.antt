@@ -1,0 +1,17 @@
+use Rattle.std.proofs.Common.{ap, ◌∙◌}
+use Rattle.pm_board.specs.declared.views.RosterView.{RosterView}
+use Rattle.pm_board.specs.declared.views.Signal.TheVariants as signal
+use Rattle.pm_seating.specs.declared.audience.Audience.TheVariants.{Everyone}
+use Rattle.pm_seating.specs.Board.{seats_of}
+use Rattle.pm_seating.specs.Seating.{sends}
+use Rattle.pm_seating.proofs.Ending.{killed_keeps}
+use Rattle.pm_seating.proofs.Sends.{same-slots}
+use Rattle.pm_seating.proofs.finish.kill_rest.Goals as goal
+
+pub returns-clause-slots : goal.returns-clause-slots
+returns-clause-slots g c =
+    let d = c.args.roster.now.knows in
+    ap (λ (v : RosterView _). v.slots) c.tell.ensures.knows ∙ same-slots d (sends Everyone signal.Kill d.generation (seats_of d))
+
+pub returns-clause-ending : goal.returns-clause-ending
+returns-clause-ending g c = killed_keeps c.args.roster.now.knows c.tell.new.roster.knows c.tell.ensures.knows
