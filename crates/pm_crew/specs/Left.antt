@@ -1,0 +1,42 @@
+-- What the workers of a board leave once they were joined.
+use Rattle.std.specs.Prelude.{◌≡◌, ◌<◌, ℕ, List, map, Option, None, Some, length, slice_get}
+use Rattle.std.specs.List.{AllByRecursion}
+use Rattle.pm_board.specs.declared.views.PostNotes.{PostNotes}
+use Rattle.pm_board.specs.declared.views.RosterView.{RosterView}
+use Rattle.pm_board.specs.declared.views.Sight.TheVariants.{Gathered}
+use Rattle.pm_board.specs.Heard.{HeardAsSent}
+use Rattle.pm_board.specs.Places.{slot_at}
+use Rattle.pm_query.specs.declared.book.BookEntry.{BookEntry}
+use Rattle.pm_shared.specs.declared.views.Noted.{Noted}
+use Rattle.pm_shared.specs.Log.{IsShuffle, entries_of}
+use Rattle.pm_shared.specs.Places.{EachOnce}
+use Rattle.pm_worker.specs.declared.mail.MailTold.{MailTold}
+use Rattle.pm_worker.specs.Runs.{IsRun, Run, noted_by}
+
+-- what the workers go by: the seed of their keys, the limit of authentication, and the moments that their clocks give
+pub record Manner : Type 1 where
+  pub seed : List ℕ
+  pub limit : ℕ
+  pub gives : ℕ → Type 0
+
+-- The worker of the slot k was joined. These are its runs: one for one, and in order, the children of its slot; what these heard and
+-- what they noted in the book, each at its place, are theirs.
+pub record IsWorked (manner : Manner) (d : RosterView MailTold) (k : ℕ) (runs : List Run) (noted : List Noted) : Type 0 where
+  pub each : AllByRecursion (IsRun None manner.seed manner.limit manner.gives) runs
+  pub notes : PostNotes
+  pub children : (slot_at d k).past ≡ map (λ run. run.child) runs
+  pub gathered : (slot_at d k).sight ≡ Gathered (slot_at d k).past notes
+  pub heard : notes.heard ≡ map (λ run. run.heard) runs
+  pub entries : entries_of noted ≡ noted_by runs
+
+-- All workers of a board of so many slots were joined. The book's entries are those of their runs and of the shared side's own list,
+-- each once and in order, and what their children heard was sent to them.
+pub record AreLeft (manner : Manner) (count : ℕ) (d : RosterView MailTold) (own : List Noted) (book : List BookEntry) : Type 0 where
+  pub runs : ℕ → List Run
+  pub lists : List (List Noted)
+  pub slots : length d.slots ≡ count
+  pub all : length lists ≡ count
+  pub each : (k : ℕ) (noted : List Noted) → slice_get lists k ≡ Some noted → IsWorked manner d k (runs k) noted
+  pub shuffle : IsShuffle count lists own book
+  pub once : EachOnce lists own book
+  pub sent : HeardAsSent d

@@ -1,0 +1,9 @@
+pub mod Left
+pub mod Redos
+pub mod Renewals
+pub mod Pids
+pub mod OwnLaws
+pub mod EntriesLaws
+pub mod PidsLaws
+pub mod Talks
+pub mod TalksLaws

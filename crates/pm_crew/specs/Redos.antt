@@ -1,0 +1,42 @@
+-- The ends of redo that a supervisor told of, beside what its startup children kept.
+use Rattle.std.specs.Prelude.{◌≡◌, ◌==◌, ℕ, if◌then◌else◌, List, [], ◌∷◌, ◌++◌, Option, None, Some}
+use Rattle.std.specs.List.{flat_map}
+use Rattle.pm_exit.specs.declared.child.Kind.{Kind}
+use Rattle.pm_exit.specs.declared.child.Status.{Status}
+use Rattle.pm_state.specs.declared.event.PmEvent.TheVariants as entry
+use Rattle.pm_board.specs.declared.views.PastChild.{PastChild}
+use Rattle.pm_board.specs.declared.views.RosterView.{RosterView}
+use Rattle.pm_board.specs.Places.{slot_at}
+use Rattle.pm_chain.specs.Chain.{InGeneration}
+use Rattle.pm_seating.specs.Calls.{kept_by}
+use Rattle.pm_seating.specs.Seating.{Move, Notes}
+use Rattle.pm_worker.specs.declared.mail.MailTold.{MailTold}
+use Rattle.pm_worker.specs.declared.mail.MailTold.TheVariants as mail
+
+-- the number of commits that a mail tells of which came back
+abbrev pub kept_in : MailTold → Option ℕ
+kept_in (mail.Aux fault kept) = kept
+kept_in _ = None
+
+abbrev pub told_if : ℕ → Option ℕ → List InGeneration
+told_if generation None = []
+told_if generation (Some kept) = record { number = kept; generation = generation } ∷ []
+
+-- the end of redo that a child tells of, which only a startup child does that exits with code 0
+abbrev pub redo_told : PastChild MailTold → List InGeneration
+redo_told child = told_if child.offer.generation (kept_by child.offer.kind child.status (kept_in child.back))
+
+abbrev pub redo_ends_by : ℕ → Move → List InGeneration
+redo_ends_by k (Notes (entry.RedoEnded generation kept) slot) =
+    if slot == k then record { number = kept; generation = generation } ∷ [] else []
+redo_ends_by k _ = []
+
+-- the ends of redo that these moves tell of, of children of the slot k
+abbrev pub redo_ends_at : ℕ → List Move → List InGeneration
+redo_ends_at k moves = flat_map (redo_ends_by k) moves
+
+-- Each end of redo that the moves tell of is that of a child of its slot, with the number that this child told, in order; others
+-- were never told of, since the run ended.
+abbrev pub RedosAreThose : List Move → RosterView MailTold → Type 0
+RedosAreThose moves d =
+    (k : ℕ) → (others : List InGeneration) × (flat_map redo_told (slot_at d k).past ≡ redo_ends_at k moves ++ others)

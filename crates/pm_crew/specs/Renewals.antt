@@ -1,0 +1,35 @@
+-- Whom the supervisor gave up before each generation that it began.
+use Rattle.std.specs.Prelude.{◌≡◌, ℕ, true, Bool, List, [], ◌∷◌, ◌++◌}
+use Rattle.pm_exit.specs.declared.child.Kind.{Kind}
+use Rattle.pm_exit.specs.declared.child.Status.{Status}
+use Rattle.pm_state.specs.declared.event.PmEvent.{PmEvent}
+use Rattle.pm_state.specs.declared.event.PmEvent.TheVariants as event
+use Rattle.pm_chain.specs.Chain.{AgreeOnGenerations, gone_from, lost_from}
+use Rattle.pm_query.specs.declared.book.BookEntry.{BookEntry}
+use Rattle.pm_shared.specs.declared.views.Noted.{Noted}
+use Rattle.pm_shared.specs.Log.{entries_of}
+use Rattle.pm_shared.specs.Renewed.{AreApart}
+
+-- first the lost ones, in that order, and then others, each once and none of the lost
+pub record BeginsWithThose (gone lost : List ℕ) : Type 0 where
+  pub others : List ℕ
+  pub is : gone ≡ lost ++ others
+  pub apart : AreApart lost others
+
+-- so it is for each generation that was opened
+abbrev pub EachBeginsSo : (gone lost : List (List ℕ)) → Type 0
+EachBeginsSo [] lost = Unit {0}
+EachBeginsSo (pids ∷ gone) [] = ⊥
+EachBeginsSo (pids ∷ gone) (those ∷ lost) = BeginsWithThose pids those × EachBeginsSo gone lost
+
+-- The shared side opened the generations that the journal begins, and noted as gone before each those that the journal lost.
+pub record RenewsAsTold (journal : List PmEvent) (own : List Noted) : Type 0 where
+  pub generations : AgreeOnGenerations journal (entries_of own)
+  pub gone : EachBeginsSo (gone_from [] (entries_of own)) ([] ∷ lost_from [] journal)
+
+-- the children that ended while their slots were active since the last generation began, behind those so far
+abbrev pub lost_since : List ℕ → List PmEvent → List ℕ
+lost_since so_far [] = so_far
+lost_since so_far (event.Exited pid kind status true at ∷ journal) = lost_since (so_far ++ pid ∷ []) journal
+lost_since so_far (event.Reset generation ∷ journal) = lost_since [] journal
+lost_since so_far (_ ∷ journal) = lost_since so_far journal

@@ -1,0 +1,53 @@
+-- What is left of a store, behind all that was noted since it was opened over a disk.
+use Rattle.std.specs.Prelude.{◌≡◌, ◌⊎◌, ℕ, ◌≤◌, true, false, List, [], All, Option, Some, IfSome}
+use Rattle.pm_disk.specs.Files.{Files}
+use Rattle.pm_disk.specs.declared.disk.Disk as Disk
+use Rattle.pm_record.specs.OnDisk.{GoesOn}
+use Rattle.pm_record.specs.declared.fault.RedoFault.{RedoFault}
+use Rattle.pm_redo.specs.Found.{IsReason}
+use Rattle.pm_query.specs.declared.book.BookEntry.{BookEntry}
+use Rattle.pm_query.specs.Book.{Base, IsLegal, faults_here, generation_of, history_of, is_closed}
+use Rattle.pm_segment.specs.Moves.{IsShown}
+use Rattle.pm_segment.specs.Redos.{SaysNothing}
+use Rattle.pm_segment.specs.Unread.{has_redo}
+use Rattle.pm_server.specs.Ends.{AreHandedIn}
+use Rattle.pm_server.specs.Story.{HoldsHistory, IsClean, KeepsMeaning}
+use Rattle.pm_server.specs.Views.{DiskView}
+
+-- what is told of a disk
+abbrev pub disk_view : {D : Type 0} → Disk.Ghosts D → D → DiskView
+disk_view g disk = record { files = g.seen disk; images = g.images disk; ticks = g.ticks disk; faults = g.faults disk }
+
+-- it is the first generation, or the disk tells its files
+abbrev pub IsSure : List BookEntry → Option Files → Type 0
+IsSure log files = (generation_of log ≡ 1) ⊎ ((its : Files) × (files ≡ Some its))
+
+-- the files mean all commits of the history, and the log is clean; so does whatever a stop leaves
+abbrev pub AreClean : Base → List BookEntry → DiskView → Files → Type 0
+AreClean base log now files =
+    ∥ IsClean (history_of base log) files ∥₁
+    × ((image : Files) → now.images now.ticks image → ∥ IsClean (history_of base log) image ∥₁)
+
+-- a redo of these files is refused by a fault of the disk, or for want of memory, alone
+abbrev pub AreReadable : Files → Type 0
+AreReadable files = (reason : RedoFault) → IsReason reason files → SaysNothing reason
+
+-- What a book leaves that tells: it is legal from a base; at every tick since the opening what a stop leaves means a number of its
+-- history, behind the first redo, and before that what it meant at first. Where the log was left clean, and the disk hasn't failed
+-- since, the files are clean. They can be read again, or they are those that were handed in.
+pub record IsLeft (first now : DiskView) (log : List BookEntry) : Type 0 where
+  pub base : Base
+  pub faults_are : base.faults ≡ first.faults
+  pub legal : IsSure log now.files → IsLegal base log
+  pub stops : KeepsMeaning log first now ⊎ HoldsHistory base log first now
+  pub clean : is_closed log ≡ true → faults_here log ≡ Some [] → IfSome now.files (AreClean base log now)
+  pub read : IfSome now.files (λ files. AreHandedIn log first now ⊎ AreReadable files)
+
+-- The same where the book needn't tell: no stop leaves of an earlier tick what it couldn't leave then, each fault that was noted has
+-- risen the disk's count, and before the first redo the files are those that were handed in, unless the disk has failed.
+pub record Remains (first now : DiskView) (book : Option (List BookEntry)) (log : List BookEntry) : Type 0 where
+  pub time : GoesOn first.ticks now.ticks first.images now.images
+  pub later : first.faults ≤ now.faults
+  pub faults : All (IsShown first.faults now.faults) log
+  pub unread : has_redo log ≡ false → AreHandedIn log first now
+  pub told : IfSome book (λ its. (its ≡ log) × IsLeft first now log)

@@ -1,0 +1,38 @@
+-- What a user counts on of a server of many connections, by what it leaves.
+use Rattle.std.specs.Prelude.{◌≡◌, ◌<◌, ℕ, List}
+use Rattle.pm_query.specs.declared.book.BookEntry.{BookEntry}
+use Rattle.pm_query.specs.Book.{Base, history_of}
+use Rattle.pm_state.specs.declared.event.PmEvent.{PmEvent}
+use Rattle.pm_state.specs.Restarts.{RestartsInOrder}
+use Rattle.pm_supervisor.specs.declared.Limits.{Limits}
+use Rattle.pm_answers.specs.Replies.{AnswersAreRight, Talk}
+use Rattle.pm_promises.specs.Promises.{IsBaseOf}
+use Rattle.pm_promises.specs.Restarts.{OpensEmpty}
+use Rattle.pm_promises.specs.Stops.{AcknowledgedStays, WholeOrNot}
+use Rattle.pm_server.specs.Views.{DiskView}
+use Rattle.pm_worker.specs.Runs.{Run}
+use Rattle.pm_crew.specs.Talks.{AreTalksOf}
+
+-- The runs of the workers of so many slots, and the seed of their keys.
+pub record Crew : Type 0 where
+  pub count : ℕ
+  pub seed : List ℕ
+  pub runs : ℕ → List Run
+
+-- The connections that the worker of each slot served, one behind the other, as their clients saw them: each reply is right.
+abbrev pub AllAnswersAreRight : Base → List BookEntry → Crew → Type 0
+AllAnswersAreRight base book crew =
+    (k : ℕ) → k < crew.count → (talks : List Talk) × AreTalksOf crew.seed (crew.runs k) talks × AnswersAreRight (history_of base book) talks
+
+-- The promises, of one history.
+pub record IsPromised (limits : Limits) (journal : List PmEvent) (base : Base) (book : List BookEntry) (crew : Crew) (before now : DiskView) : Type 0 where
+  pub base_is : IsBaseOf base book before
+  -- every reply that was sent is right
+  pub answers_are_right : AllAnswersAreRight base book crew
+  -- what was acknowledged stays
+  pub acknowledged_stays : AcknowledgedStays base book before now
+  -- a commit is in the rows as a whole, or not at all
+  pub whole_or_not : WholeOrNot base book before now
+  -- from an abnormal exit until redo has ended no session is admitted, and a generation begins with nobody left
+  pub admits_none_until_redo : RestartsInOrder limits journal
+  pub opens_empty : OpensEmpty book

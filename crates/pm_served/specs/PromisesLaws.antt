@@ -1,0 +1,60 @@
+-- A server of many connections keeps what a user counts on.
+use Rattle.std.proofs.Common.{◌≡◌, ◌⊎◌, inl, inr, ℕ, ◌<◌, List, [], Some, None, refl, ap, subst, arith}
+use Rattle.std.specs.List.{AllByRecursion}
+use Rattle.std.proofs.lemmas.List.Elements.{All-from_recursion}
+use Rattle.std.proofs.lemmas.Option.{slice_get-get_or}
+use Rattle.std.specs.Prelude.{get_or, length}
+use Rattle.pm_disk.specs.Files.{Files}
+use Rattle.pm_board.specs.declared.views.RosterView.{RosterView}
+use Rattle.pm_query.specs.declared.book.BookEntry.{BookEntry}
+use Rattle.pm_query.specs.Book.{Base, IsLegal, history_of}
+use Rattle.pm_query.specs.BookLaws.{AckedNeverFalls}
+use Rattle.pm_state.specs.declared.event.PmEvent.{PmEvent}
+use Rattle.pm_state.specs.Restarts.{RestartsInOrder}
+use Rattle.pm_supervisor.specs.declared.Limits.{Limits}
+use Rattle.pm_answers.specs.Laws.{OwnEntriesStand, RepliesAreRight}
+use Rattle.pm_answers.specs.Replies.{IsAnswered, IsTurnedOff}
+use Rattle.pm_promises.specs.Promises.{IsBaseOf}
+use Rattle.pm_promises.specs.RestartsLaws.{legal_opens_empty}
+use Rattle.pm_promises.specs.Stops.{AcknowledgedStays}
+use Rattle.pm_promises.specs.StopsLaws.{at_each, whole_each}
+use Rattle.pm_remains.specs.Remains.{IsLeft}
+use Rattle.pm_server.specs.Story.{HoldsHistory, KeepsMeaning}
+use Rattle.pm_server.specs.Views.{DiskView}
+use Rattle.pm_shared.specs.declared.views.Noted.{Noted}
+use Rattle.pm_worker.specs.declared.mail.MailTold.{MailTold}
+use Rattle.pm_worker.specs.Runs.{IsRun, Run}
+use Rattle.pm_crew.specs.EntriesLaws.{entries_of_runs}
+use Rattle.pm_crew.specs.Left.{AreLeft, IsWorked, Manner}
+use Rattle.pm_crew.specs.Pids.{AreUsedOnce}
+use Rattle.pm_crew.specs.TalksLaws.{FineTalks, fine_talks}
+use Rattle.pm_served.specs.Promises.{AllAnswersAreRight, Crew, IsPromised}
+
+base_is : (base : Base) (book : List BookEntry) (before now : DiskView) → KeepsMeaning book before now ⊎ HoldsHistory base book before now → IsBaseOf base book before
+base_is base book before now (inl keeps) = inl keeps.unanswered
+base_is base book before now (inr holds) = inr holds.base_is
+
+module _ (right : RepliesAreRight) (own : OwnEntriesStand) (never : AckedNeverFalls) (manner : Manner) (count : ℕ) (d : RosterView MailTold) (list : List Noted) (book : List BookEntry)
+    (left : AreLeft manner count d list book) (once : AreUsedOnce d) where
+  its_runs : (k : ℕ) → k < count → AllByRecursion (IsRun None manner.seed manner.limit manner.gives) (left.runs k)
+  its_runs k less = (left.each k (get_or left.lists k []) (slice_get-get_or left.lists k [] (omega (arith, less, left.all)))).each
+
+  answers : (base : Base) → IsLegal base book → AllAnswersAreRight base book (record { count = count; seed = manner.seed; runs = left.runs })
+  answers base legal k less =
+      let fine : FineTalks manner.seed base book (left.runs k) =
+      fine_talks right own manner.seed manner.limit manner.gives base book legal (left.runs k) (its_runs k less) (entries_of_runs manner count d list book left once k less) in
+      (fine.talks, fine.are, All-from_recursion (λ talk. IsTurnedOff talk ⊎ IsAnswered (history_of base book) talk) fine.talks fine.fine)
+
+  pub promised : (limits : Limits) (journal : List PmEvent) (before now : DiskView) (files : Files) → now.files ≡ Some files → RestartsInOrder limits journal → (remains : IsLeft before now book)
+      → IsPromised limits journal remains.base book (record { count = count; seed = manner.seed; runs = left.runs }) before now
+  promised limits journal before now files told restarts remains =
+      let legal : IsLegal remains.base book = remains.legal (inr (files, told)) in
+      let stays : AcknowledgedStays remains.base book before now = at_each remains.base book before now files told remains.stops in
+      record {
+        base_is = base_is remains.base book before now remains.stops;
+        answers_are_right = answers remains.base legal;
+        acknowledged_stays = stays;
+        whole_or_not = whole_each never remains.base book before now stays;
+        admits_none_until_redo = restarts;
+        opens_empty = legal_opens_empty remains.base book legal;
+      }
