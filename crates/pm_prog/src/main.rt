@@ -1,23 +1,16 @@
 //! The program `pg_postmaster`: its words, and the outside that they are run over.
 #![tactic(auto)]
 
-mod clock;
-mod standard;
-#[cfg(test)]
-mod tests;
-
-use crate::clock::SystemClock;
-use crate::standard::{StandardPort, StandardSink};
 use pm_disk::{Disk, MemDisk};
 use pm_files::LogFiles;
 use pm_outside::{Forgotten, MemClock, MemPort, Port, Sink};
 use pm_rows::Text;
+use pm_standard::{StandardPort, StandardSink, SystemClock, fill_standard_streams};
 use pm_top::{Command, Ended, Outside, Top, read_words, run};
 use std::alloc::{AllocError, Global};
 use std::env::{self, Env};
-use std::fs::{self, OpenOptions};
-use std::io::{self, ErrorKind, Write};
-use std::os::fd::{AsRawFd, IntoRawFd};
+use std::fs;
+use std::io::{ErrorKind, Write};
 use std::process::ExitCode;
 use std::random::RandomSource;
 use std::sync::Wait;
@@ -25,9 +18,6 @@ use std::time::Clock;
 
 /// The exit code where the program can't start.
 const COULD_NOT_START: u8 = 1;
-
-/// Standard input, standard output and standard error have the first descriptors of the process.
-const STANDARD_STREAMS: i32 = 3;
 
 fn main(rt: HostRuntime) -> ExitCode {
     if fill_standard_streams(&rt).is_err() {
@@ -38,22 +28,6 @@ fn main(rt: HostRuntime) -> ExitCode {
     } else {
         start(rt, &rt, StandardSink::new(rt.stdout()))
     }
-}
-
-// Opens the null device in the place of each standard stream that is closed. A log file would get its number otherwise,
-// and what is meant for the stream would be written over the log.
-fn fill_standard_streams(rt: &HostRuntime) -> io::Result<()> {
-    for _ in 0..STANDARD_STREAMS {
-        let null = OpenOptions::new()
-            .read(true)
-            .write(true)
-            .open(rt, "/dev/null")?;
-        if null.as_raw_fd() >= STANDARD_STREAMS {
-            break;
-        }
-        let _kept_open = null.into_raw_fd();
-    }
-    Ok(())
 }
 
 fn could_not_start(rt: &HostRuntime) -> ExitCode {
@@ -93,7 +67,9 @@ where
             let _ = fs::create_dir_all(&rt, line.dir);
             over_disk(wait, alloc, &words, disk, sink)
         }
-        Command::Controldata => over_disk(wait, alloc, &words, disk, sink),
+        Command::Controldata | Command::Workload { .. } => {
+            over_disk(wait, alloc, &words, disk, sink)
+        }
     }
 }
 
@@ -166,7 +142,7 @@ fn end_of<R, P, O, D, C>(
     outside: Outside<P, O, D, C, Forgotten, Forgotten>,
 ) -> ExitCode
 where
-    R: Wait,
+    R: Wait + Clock + Copy + Drop,
     P: Port + Drop,
     O: Sink + Drop,
     D: Disk + Drop,

@@ -1,9 +1,13 @@
 -- The options of a line stay within what a server can have.
-use Rattle.std.proofs.Common.{ℕ, ◌+◌, ◌≤◌, List, [], ◌∷◌, sym, subst, arith}
+use Rattle.std.proofs.Common.{◌≡◌, ℕ, ◌+◌, ◌≤◌, List, [], ◌∷◌, Option, None, Some, sym, subst, arith}
+use Rattle.std.specs.Option.{option_map}
 use Rattle.std.specs.Prelude.{unwrap_or}
 use Rattle.pm_server.specs.declared.conf.Conf.{Conf}
 use Rattle.pm_words.specs.declared.words.Command.{Command}
-use Rattle.pm_words.specs.Words.{Choice, Data, MaxConnections, RestartAfterCrash, AuthenticationTimeout, Choose, Chosen, IsLineWith, Says, nothing, with_choice}
+use Rattle.pm_words.specs.declared.words.Command.TheVariants as command
+use Rattle.pm_words.specs.declared.words.Verb.{Verb}
+use Rattle.pm_words.specs.declared.words.Verb.TheVariants.{Initdb, Once, Controldata, Workload}
+use Rattle.pm_words.specs.Words.{Choice, Data, MaxConnections, RestartAfterCrash, AuthenticationTimeout, Number, Choose, Chosen, IsLineWith, Says, command_of, nothing, with_choice}
 
 -- at most 64 connections were asked for
 abbrev IsFew : Chosen → Type 0
@@ -11,20 +15,53 @@ IsFew chosen = unwrap_or chosen.max_connections 20 ≤ 64
 
 few_with : (choice : Choice) (value : List ℕ) (before : Chosen) → Says choice value → IsFew before → IsFew (with_choice choice before)
 few_with (Data dir) value before says few = few
+few_with (Number number) value before says few = few
 few_with (MaxConnections count) value before says few = says.to_most
 few_with (RestartAfterCrash restarts) value before says few = few
 few_with (AuthenticationTimeout seconds) value before says few = few
 
-few_chosen : (command : Command) (before : Chosen) (choices : List Choice) (words : List (List ℕ)) (after : Chosen)
-    → Choose command before choices words after → IsFew before → IsFew after
-few_chosen command before [] words after chose few = subst IsFew (sym chose.1) few
-few_chosen command before (choice ∷ choices) words after chose few =
+few_chosen : (verb : Verb) (before : Chosen) (choices : List Choice) (words : List (List ℕ)) (after : Chosen)
+    → Choose verb before choices words after → IsFew before → IsFew after
+few_chosen verb before [] words after chose few = subst IsFew (sym chose.1) few
+few_chosen verb before (choice ∷ choices) words after chose few =
     let spelled = chose.3 in
-    few_chosen command (with_choice choice before) choices chose.1 after chose.5
+    few_chosen verb (with_choice choice before) choices chose.1 after chose.5
     (few_with choice spelled.0 before spelled.1 few)
 
 pub within : (words : List (List ℕ)) (command : Command) (dir : List ℕ) (conf : Conf) → IsLineWith words command dir conf
     → conf.limits.max_connections + conf.limits.max_worker_processes ≤ 200
 within words command dir conf line =
-    let few : IsFew line.chosen = few_chosen command nothing line.choices line.options line.chosen line.choose (omega arith) in
+    let few : IsFew line.chosen = few_chosen line.verb nothing line.choices line.options line.chosen line.choose (omega arith) in
     subst (λ (c : Conf). c.limits.max_connections + c.limits.max_worker_processes ≤ 200) (sym line.conf_is) (omega (arith, few))
+
+-- not more queries were asked for than a workload may have
+abbrev IsLow : Chosen → Type 0
+IsLow chosen = unwrap_or chosen.number 0 ≤ 100000
+
+low_with : (choice : Choice) (value : List ℕ) (before : Chosen) → Says choice value → IsLow before → IsLow (with_choice choice before)
+low_with (Data dir) value before says low = low
+low_with (MaxConnections count) value before says low = low
+low_with (RestartAfterCrash restarts) value before says low = low
+low_with (AuthenticationTimeout seconds) value before says low = low
+low_with (Number number) value before says low = says.to_most
+
+low_chosen : (verb : Verb) (before : Chosen) (choices : List Choice) (words : List (List ℕ)) (after : Chosen) → Choose verb before choices words after → IsLow before → IsLow after
+low_chosen verb before [] words after chose low = subst IsLow (sym chose.1) low
+low_chosen verb before (choice ∷ choices) words after chose low =
+    let spelled = chose.3 in
+    low_chosen verb (with_choice choice before) choices chose.1 after chose.5 (low_with choice spelled.0 before spelled.1 low)
+
+works : (given : Option ℕ) (number : ℕ) → option_map command.Workload given ≡ Some (command.Workload number) → unwrap_or given 0 ≡ number
+works None number is = absurd cc
+works (Some given) number is = cc
+
+asked : (verb : Verb) (chosen : Chosen) (number : ℕ) → command_of verb chosen ≡ Some (command.Workload number) → unwrap_or chosen.number 0 ≡ number
+asked Initdb chosen number is = absurd cc
+asked Once chosen number is = absurd cc
+asked Controldata chosen number is = absurd cc
+asked Workload chosen number is = works chosen.number number is
+
+pub number_within : (words : List (List ℕ)) (number : ℕ) (dir : List ℕ) (conf : Conf) → IsLineWith words (command.Workload number) dir conf → number ≤ 100000
+number_within words number dir conf line =
+    let low : IsLow line.chosen = low_chosen line.verb nothing line.choices line.options line.chosen line.choose (omega arith) in
+    omega (arith, low, asked line.verb line.chosen number line.asks)

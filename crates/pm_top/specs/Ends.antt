@@ -7,9 +7,9 @@ use Rattle.pm_lines.specs.Print.{IsPrinted, redo_line}
 use Rattle.pm_server.specs.declared.end.ServerEnd.{ServerEnd}
 use Rattle.pm_server.specs.declared.end.ServerEnd.TheVariants as ends
 use Rattle.pm_top.specs.declared.status.Top.{Top}
-use Rattle.pm_top.specs.declared.status.Top.TheVariants.{Done, Abnormal, OutFault, DiskFault, Exists, Unreadable, Usage, NoMemory}
+use Rattle.pm_top.specs.declared.status.Top.TheVariants.{Done, Abnormal, OutFault, DiskFault, Exists, Unreadable, Usage, NoMemory, NoThread}
 
--- the exit code of the program: served, refused or failed, no command line, out of memory
+-- the exit code of the program: served, refused or failed, no command line, out of memory, out of threads
 abbrev pub exit_code : Top → ℕ
 exit_code Done = 0
 exit_code (Abnormal why) = 1
@@ -19,6 +19,7 @@ exit_code Exists = 1
 exit_code (Unreadable fault) = 1
 exit_code Usage = 2
 exit_code NoMemory = 3
+exit_code NoThread = 4
 
 -- ---- which ends a command may have
 
@@ -45,10 +46,11 @@ HasAnswer Done = Unit {0}
 HasAnswer OutFault = Unit {0}
 HasAnswer _ = ⊥
 
--- how `once` ends
+-- how a server ends
 abbrev pub status_of : ServerEnd → Top
 status_of ends.Clean = Done
 status_of (ends.Abnormal why) = Abnormal why
+status_of ends.NoThread = NoThread
 status_of ends.NoMemory = NoMemory
 
 -- ---- what is printed
@@ -63,6 +65,7 @@ line_of Exists = codes "a cluster exists\n"
 line_of (Unreadable fault) = redo_line fault
 line_of Usage = codes "usage: initdb | once | serve | controldata | workload\n"
 line_of NoMemory = codes "out of memory\n"
+line_of NoThread = []
 
 -- what `initdb` says
 abbrev pub initdb_line : Top → List ℕ

@@ -2,3 +2,4 @@ pub mod Ends
 pub mod Cluster
 pub mod Control
 pub mod Once
+pub mod Load

@@ -3,6 +3,7 @@
 #![tactic(auto)]
 
 mod control;
+mod load;
 mod outside;
 mod print;
 mod status;

@@ -23,6 +23,8 @@ pub enum Top {
     /// The words are no command line.
     Usage,
     NoMemory,
+    /// A server of many connections had no thread for one of its children.
+    NoThread,
 }
 
 impl Top {
@@ -36,6 +38,7 @@ impl Top {
                 1,
             Top::Usage => 2,
             Top::NoMemory => 3,
+            Top::NoThread => 4,
         }
     }
 }
@@ -50,6 +53,7 @@ impl From<ServerEnd> for Top {
         match end {
             ServerEnd::Clean => Top::Done,
             ServerEnd::Abnormal(why) => Top::Abnormal(why),
+            ServerEnd::NoThread => Top::NoThread,
             ServerEnd::NoMemory => Top::NoMemory,
         }
     }

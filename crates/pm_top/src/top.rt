@@ -11,12 +11,15 @@ ghost use Rattle.pm_top.specs.Cluster.{HasNewCluster, IsFree, IsLeftAlone, IsTak
 ghost use Rattle.pm_top.specs.Control.{HasTold};
 ghost use Rattle.pm_top.specs.Ends.{HasAnswer, HasSaid, IsControldataEnd, IsInitdbEnd};
 ghost use Rattle.pm_top.specs.Ends.{initdb_line, line_of};
+ghost use Rattle.pm_top.specs.Load.{IsWorkloadEnd};
 ghost use Rattle.pm_top.specs.Once.{RunsOnce};
+ghost use Rattle.pm_workload.specs.Worked.{HasTold as HasWorked};
 ghost use Rattle.pm_words.specs.Words.{IsLine, IsLineWith};
 ghost use Rattle.pm_server.specs.declared.conf.Conf.{Conf};
 ghost use Rattle.pm_words.specs.declared.words.Command.{Command};
 
 use crate::control::controldata;
+use crate::load::load;
 use crate::outside::Ended;
 use crate::status::Top;
 use pm_disk::Disk;
@@ -32,6 +35,7 @@ use pm_state::PmEvent;
 use pm_words::{Command, read_words};
 use std::alloc::Global;
 use std::sync::Wait;
+use std::time;
 
 /// Does what the words ask. The journal that it is given has no entries.
 pub fn run<R, P, O, D, C, J, B>(
@@ -41,7 +45,7 @@ pub fn run<R, P, O, D, C, J, B>(
     outside: Outside<P, O, D, C, J, B>,
 ) -> Ended<P, O, D, C, J, B>
 where
-    R: Wait,
+    R: Wait + time::Clock + Copy + Drop,
     P: Port,
     O: Sink,
     D: Disk,
@@ -81,6 +85,12 @@ where
         → IfSome (D.seen outside.disk) (λ files. IsReason fault files) }
     ensures untouched { (dir : List ℕ) → IsLine words.now Command.Controldata dir
         → IsLeftAlone (outside_view outside).disk (outside_view result.outside).disk }
+    // `workload`: what its queries come to is told, where each of them had the answer that is meant.
+    ensures workload_ends { (number : ℕ) (dir : List ℕ)
+        → IsLine words.now (Command.Workload number) dir → IsWorkloadEnd result.status }
+    ensures worked { (number : ℕ) (dir : List ℕ) → IsLine words.now (Command.Workload number) dir
+        → HasAnswer result.status → HasWorked number (result.status ≡ Top.OutFault)
+        (O.written outside.sink) (O.written result.outside.sink) }
     // What is printed is the line of the status, or a front of it where the sink fails.
     ensures initdb_says { (dir : List ℕ) → IsLine words.now Command.Initdb dir
         → HasSaid (initdb_line result.status) (outside_view outside) (outside_view result.outside) }
@@ -89,6 +99,9 @@ where
         ≡ option_map (λ written. written ++ codes "initialized\n") (O.written outside.sink) }
     ensures controldata_says { (dir : List ℕ) → IsLine words.now Command.Controldata dir
         → ¬ (HasAnswer result.status)
+        → HasSaid (line_of result.status) (outside_view outside) (outside_view result.outside) }
+    ensures workload_says { (number : ℕ) (dir : List ℕ)
+        → IsLine words.now (Command.Workload number) dir → ¬ (HasAnswer result.status)
         → HasSaid (line_of result.status) (outside_view outside) (outside_view result.outside) }
     ensures usage_says { result.status ≡ Top.Usage
         → HasSaid (line_of Top.Usage) (outside_view outside) (outside_view result.outside) }
@@ -113,6 +126,7 @@ where
             Command::Initdb => initdb(outside),
             Command::Once => return run_server(rt, alloc, &line.conf, outside),
             Command::Controldata => controldata(alloc, outside),
+            Command::Workload { number } => load(rt, alloc, number, outside),
         },
     };
     tell(&mut outside.sink, status);
@@ -191,7 +205,7 @@ fn tell<O: Sink>(sink: &mut O, status: Top)
     ensures later { O.faults sink.old ≤ O.faults sink.new }
 {
     let told = match status {
-        Top::Done | Top::Abnormal(_) | Top::OutFault => return,
+        Top::Done | Top::Abnormal(_) | Top::OutFault | Top::NoThread => return,
         Top::Usage => print(
             sink,
             b"usage: initdb | once | serve | controldata | workload\n",

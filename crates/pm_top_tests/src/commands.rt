@@ -47,6 +47,22 @@ says USAGE
 $ initdb --data x --restart-after-crash off
 ends Usage 2
 says USAGE
+# workloads: none touches the files that it is handed
+files NEW | CLOSED
+$ workload --number 5
+ends Done 0
+says queries\x205\ncommits\x204\nrows\x204\nkey\x20sum\x201000\nlast\x20key\x20524\n
+a NEW
+b CLOSED
+$ workload --number=0
+ends Done 0
+says queries\x200\ncommits\x200\nrows\x200\nkey\x20sum\x200\nlast\x20key\x20none\n
+$ workload --number 10
+ends Done 0
+says queries\x2010\ncommits\x208\nrows\x208\nkey\x20sum\x208340\nlast\x20key\x202574\n
+fail line 1
+$ workload --number 5
+ends OutFault 1
 # what the files stand for: behind `initdb`, a kill, a checkpoint, and a kill before the old file was closed
 files NEW | CLOSED
 $ controldata --data=folder

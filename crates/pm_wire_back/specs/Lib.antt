@@ -3,3 +3,4 @@ pub mod Parts
 pub mod BackReading
 pub mod Received
 pub mod Failing
+pub mod Plain

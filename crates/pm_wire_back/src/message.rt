@@ -1,9 +1,11 @@
 //! Reading a message of the server: its type, its length and its body.
 
-ghost use Rattle.std.specs.Prelude.{◌≡◌, ◌<◌, ◌≤◌, ◌^◌, length, true};
+ghost use Rattle.std.specs.Prelude.{◌≡◌, ◌<◌, ◌≤◌, ◌^◌, length, true, IfOk};
 ghost use Rattle.pm_wire.specs.Backend.{back_message};
 ghost use Rattle.pm_wire.specs.Reading.{seen_by};
+ghost use Rattle.pm_wire.specs.Taking.{IfWhole};
 ghost use Rattle.pm_wire_back.specs.Parts.{Gives};
+ghost use Rattle.pm_wire_back.specs.Plain.{IsPlain};
 ghost use Rattle.pm_wire_back.specs.BackReading.{word_at, param_at, key_data_at, fits_type, fields_at, body_at, has_length, back_of_length, back_of};
 
 use crate::parts::{Ending, Read, Stop, int32, literal, string};
@@ -16,8 +18,10 @@ use pm_wire::{Back, Shape, Take, WireFault};
 /// Reads a message whose body is this word.
 #[tactic(auto, unfolding(crate::specs::BackReading::word_at))]
 fn word<'a>(word: &[u8], value: Back<'a>, bytes: &'a [u8]) -> Read<'a, Back<'a>>
-    ensures { Gives (λ x. (back_message x.0, x.1.now)) result
+    requires { IsPlain value }
+    ensures gives { Gives (λ x. (back_message x.0, x.1.now)) result
         (word_at word.now (back_message value.entry) bytes.now) }
+    ensures plain { IfOk result (λ x. IsPlain x.0) }
 {
     let rest = literal(word, bytes)?;
     Ok((value, rest))
@@ -26,7 +30,8 @@ fn word<'a>(word: &[u8], value: Back<'a>, bytes: &'a [u8]) -> Read<'a, Back<'a>>
 #[tactic(auto, unfolding(crate::specs::BackReading::param_at))]
 fn param(bytes: &[u8], size: usize) -> Read<'_, Back<'_>>
     requires { 2 ≤ size }
-    ensures { Gives (λ x. (back_message x.0, x.1.now)) result (param_at size bytes.now) }
+    ensures gives { Gives (λ x. (back_message x.0, x.1.now)) result (param_at size bytes.now) }
+    ensures plain { IfOk result (λ x. IsPlain x.0) }
 {
     let (name, rest) = string(bytes, Ending::Anywhere, size - 2)?;
     let (value, rest) = string(rest, Ending::Exactly, (size - 2).saturating_sub(name.len()))?;
@@ -35,7 +40,8 @@ fn param(bytes: &[u8], size: usize) -> Read<'_, Back<'_>>
 
 #[tactic(auto, unfolding(crate::specs::BackReading::key_data_at))]
 fn key_data(bytes: &[u8]) -> Read<'_, Back<'_>>
-    ensures { Gives (λ x. (back_message x.0, x.1.now)) result (key_data_at bytes.now) }
+    ensures gives { Gives (λ x. (back_message x.0, x.1.now)) result (key_data_at bytes.now) }
+    ensures plain { IfOk result (λ x. IsPlain x.0) }
 {
     let (pid, rest) = int32(bytes)?;
     let (key, rest) = int32(rest)?;
@@ -60,7 +66,8 @@ fn fits_type(kind: u8, size: usize) -> bool
 }
 
 fn fields(bytes: &[u8], size: usize) -> Read<'_, Back<'_>>
-    ensures { Gives (λ x. (back_message x.0, x.1.now)) result (fields_at size bytes.now) }
+    ensures gives { Gives (λ x. (back_message x.0, x.1.now)) result (fields_at size bytes.now) }
+    ensures plain { IfOk result (λ x. IsPlain x.0) }
 {
     let shape = match size {
         42 => Shape::Pair,
@@ -75,7 +82,8 @@ fn fields(bytes: &[u8], size: usize) -> Read<'_, Back<'_>>
 fn body(kind: u8, size: usize, bytes: &[u8]) -> Read<'_, Back<'_>>
     requires fits { fits_type kind size ≡ true }
     requires high { size < 2 ^ 31 }
-    ensures { Gives (λ x. (back_message x.0, x.1.now)) result (body_at kind size bytes.now) }
+    ensures gives { Gives (λ x. (back_message x.0, x.1.now)) result (body_at kind size bytes.now) }
+    ensures plain { IfOk result (λ x. IsPlain x.0) }
 {
     match kind {
         b'R' => word(b"\0\0\0\0", Back::Auth, bytes),
@@ -109,7 +117,8 @@ fn has_length(kind: u8, seen: u32) -> bool
 /// Reads a message behind its type and its length.
 fn behind_length(kind: u8, seen: u32, after: &[u8]) -> Take<Back<'_>>
     requires { length after.now < 2 ^ 63 }
-    ensures { seen_by back_message result ≡ back_of_length kind seen after.now }
+    ensures seen { seen_by back_message result ≡ back_of_length kind seen after.now }
+    ensures plain { IfWhole result (λ value used. IsPlain value) }
 {
     if !has_length(kind, seen) {
         return Take::Bad(WireFault::BadLength { seen });
@@ -126,7 +135,8 @@ fn behind_length(kind: u8, seen: u32, after: &[u8]) -> Take<Back<'_>>
 
 #[tactic(auto, unfolding(crate::specs::BackReading::back_of))]
 pub(crate) fn back_of(bytes: &[u8]) -> Take<Back<'_>>
-    ensures { seen_by back_message result ≡ back_of bytes.now }
+    ensures seen { seen_by back_message result ≡ back_of bytes.now }
+    ensures plain { IfWhole result (λ value used. IsPlain value) }
 {
     match bytes {
         [] => Take::Short { wanted: 5 },

@@ -5,6 +5,7 @@ ghost use Rattle.pm_wire.specs.Backend.{BackMessage, IsBack, back_message};
 ghost use Rattle.pm_wire_back.specs.Received.{IsPartial, IsWholeAt, HasNoSuchLength, DepartsHere};
 ghost use Rattle.pm_wire.specs.Reading.{seen_by};
 ghost use Rattle.pm_wire.specs.Taking.{IfWhole};
+ghost use Rattle.pm_wire_back.specs.Plain.{IsPlain};
 
 use crate::message::back_of;
 use pm_wire::{Back, Take, WireFault};
@@ -13,7 +14,8 @@ use pm_wire::{Back, Take, WireFault};
 ///
 /// A length is told when it is whole, and any other byte as soon as it stands where no message has it. A caller
 /// that reads again only when the wanted bytes are there reads each message at most three times; one that
-/// reads at each byte, to meet a fault early, reads the front of the message each time.
+/// reads at each byte, to meet a fault early, reads the front of the message each time. An error or a notice of the
+/// table is read by its fields, and never as `Told`.
 pub fn read_back(bytes: &[u8]) -> Take<Back<'_>>
     // What is read stands there, and every message that stands there is read.
     ensures whole { IfWhole result (λ value used. (used ≤ length bytes.now)
@@ -21,6 +23,7 @@ pub fn read_back(bytes: &[u8]) -> Take<Back<'_>>
     ensures every { (spelled rest : List ℕ) (m : BackMessage) → IsBack spelled m
         → bytes.now ≡ spelled ++ rest → seen_by back_message result ≡ Take.Whole m
         (length spelled) }
+    ensures plain { IfWhole result (λ value used. IsPlain value) }
 
     // Why nothing is read.
     ensures short { (wanted : ℕ) → (result ≡ Take.Short wanted)

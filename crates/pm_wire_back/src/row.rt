@@ -3,6 +3,7 @@
 ghost use Rattle.std.specs.Prelude.{◌≡◌, ◌<◌, ◌≤◌, ◌^◌, IfOk};
 ghost use Rattle.pm_wire.specs.Backend.{back_message};
 ghost use Rattle.pm_wire_back.specs.Parts.{Gives};
+ghost use Rattle.pm_wire_back.specs.Plain.{IsPlain};
 ghost use Rattle.pm_wire_back.specs.BackReading.{one_at, count_at, pair_at, columns_at, row_at};
 
 use crate::parts::{Read, Stop, key, literal, text};
@@ -12,7 +13,8 @@ use pm_wire::Back;
 fn one(bytes: &[u8], size: usize) -> Read<'_, Back<'_>>
     requires low { 6 ≤ size }
     requires high { size < 2 ^ 32 }
-    ensures { Gives (λ x. (back_message x.0, x.1.now)) result (one_at size bytes.now) }
+    ensures gives { Gives (λ x. (back_message x.0, x.1.now)) result (one_at size bytes.now) }
+    ensures plain { IfOk result (λ x. IsPlain x.0) }
 {
     let rest = literal(&((size - 6) as u32).to_be_bytes(), bytes)?;
     let (text, rest) = text(rest, size - 6)?;
@@ -40,7 +42,8 @@ fn count(bytes: &[u8], most: usize) -> Read<'_, u8>
 fn pair(bytes: &[u8], size: usize) -> Read<'_, Back<'_>>
     requires low { 10 < size }
     requires high { size < 2 ^ 32 }
-    ensures { Gives (λ x. (back_message x.0, x.1.now)) result (pair_at size bytes.now) }
+    ensures gives { Gives (λ x. (back_message x.0, x.1.now)) result (pair_at size bytes.now) }
+    ensures plain { IfOk result (λ x. IsPlain x.0) }
 {
     let room = size - 10;
     let rest = literal(b"\0\0\0", bytes)?;
@@ -56,7 +59,8 @@ fn pair(bytes: &[u8], size: usize) -> Read<'_, Back<'_>>
 fn columns(bytes: &[u8], size: usize) -> Read<'_, Back<'_>>
     requires low { 6 ≤ size }
     requires high { size < 2 ^ 32 }
-    ensures { Gives (λ x. (back_message x.0, x.1.now)) result (columns_at size bytes.now) }
+    ensures gives { Gives (λ x. (back_message x.0, x.1.now)) result (columns_at size bytes.now) }
+    ensures plain { IfOk result (λ x. IsPlain x.0) }
 {
     match bytes {
         [] => Err(Stop::Partial),
@@ -70,7 +74,8 @@ fn columns(bytes: &[u8], size: usize) -> Read<'_, Back<'_>>
 pub(crate) fn row(bytes: &[u8], size: usize) -> Read<'_, Back<'_>>
     requires low { 6 ≤ size }
     requires high { size < 2 ^ 32 }
-    ensures { Gives (λ x. (back_message x.0, x.1.now)) result (row_at size bytes.now) }
+    ensures gives { Gives (λ x. (back_message x.0, x.1.now)) result (row_at size bytes.now) }
+    ensures plain { IfOk result (λ x. IsPlain x.0) }
 {
     let rest = literal(b"\0", bytes)?;
     columns(rest, size)

@@ -1,8 +1,9 @@
 //! Reading what a statement did.
 
-ghost use Rattle.std.specs.Prelude.{◌≡◌, ◌<◌, ◌≤◌};
+ghost use Rattle.std.specs.Prelude.{◌≡◌, ◌<◌, ◌≤◌, IfOk};
 ghost use Rattle.pm_wire.specs.Backend.{back_message};
 ghost use Rattle.pm_wire_back.specs.Parts.{Gives};
+ghost use Rattle.pm_wire_back.specs.Plain.{IsPlain};
 ghost use Rattle.pm_wire_back.specs.BackReading.{counted_verb_at, leaves_number, tag_at, complete_at};
 
 use crate::parts::{Read, Stop, literal, number};
@@ -57,7 +58,8 @@ fn tag_of(bytes: &[u8], size: usize) -> Read<'_, Tag>
 
 #[tactic(auto, unfolding(crate::specs::BackReading::complete_at))]
 pub(crate) fn tag(bytes: &[u8], size: usize) -> Read<'_, Back<'_>>
-    ensures { Gives (λ x. (back_message x.0, x.1.now)) result (complete_at size bytes.now) }
+    ensures gives { Gives (λ x. (back_message x.0, x.1.now)) result (complete_at size bytes.now) }
+    ensures plain { IfOk result (λ x. IsPlain x.0) }
 {
     let (tag, rest) = tag_of(bytes, size)?;
     Ok((Back::Complete(tag), rest))

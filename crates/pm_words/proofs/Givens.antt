@@ -3,8 +3,8 @@ use Rattle.std.proofs.Common.{◌≡◌, ◌≢◌, ℕ, ◌<◌, ◌≤◌, ◌
 use Rattle.std.proofs.lemmas.List.{take_all}
 use Rattle.std.specs.Prelude.{◌⊎◌, codes, nat_eq, not, IfSome, IfNone}
 use Rattle.std.specs.List.{list_all}
-use Rattle.pm_words.specs.declared.words.Command.{Command}
-use Rattle.pm_words.specs.Words.{Choice, Data, MaxConnections, RestartAfterCrash, AuthenticationTimeout, Choose, Chosen, MayChoose, Says, Spells, option_name, with_choice}
+use Rattle.pm_words.specs.declared.words.Verb.{Verb}
+use Rattle.pm_words.specs.Words.{Choice, Data, MaxConnections, RestartAfterCrash, AuthenticationTimeout, Number, Choose, Chosen, MayChoose, Says, Spells, option_name, with_choice}
 use Rattle.pm_words.specs.Options.{BeginsWith, BeginsWithOption, IsName, IsPlain, Leaves}
 
 -- ---- names
@@ -18,6 +18,7 @@ is_name (Data dir) = by_test (codes "--data") refl
 is_name (MaxConnections count) = by_test (codes "--max-connections") refl
 is_name (RestartAfterCrash restarts) = by_test (codes "--restart-after-crash") refl
 is_name (AuthenticationTimeout seconds) = by_test (codes "--authentication-timeout") refl
+is_name (Number number) = by_test (codes "--number") refl
 
 pub by_index : (name : List ℕ) → ((i : ℕ) → i < length name → get_or name i 0 ≢ 61) → IsName name
 by_index [] each = tt
@@ -112,20 +113,27 @@ same-choice (Data dir) (Data other) value name first second = ap Data (sym first
 same-choice (Data dir) (MaxConnections count) value name first second = absurd (omega (arith, ap (λ (l : List ℕ). length l) name))
 same-choice (Data dir) (RestartAfterCrash restarts) value name first second = absurd (omega (arith, ap (λ (l : List ℕ). length l) name))
 same-choice (Data dir) (AuthenticationTimeout seconds) value name first second = absurd (omega (arith, ap (λ (l : List ℕ). length l) name))
+same-choice (Data dir) (Number number) value name first second = absurd (omega (arith, ap (λ (l : List ℕ). length l) name))
 same-choice (MaxConnections count) (Data dir) value name first second = absurd (omega (arith, ap (λ (l : List ℕ). length l) name))
 same-choice (MaxConnections count) (MaxConnections other) value name first second = ap MaxConnections (first.number_is ∙ sym second.number_is)
 same-choice (MaxConnections count) (RestartAfterCrash restarts) value name first second = absurd (omega (arith, ap (λ (l : List ℕ). length l) name))
 same-choice (MaxConnections count) (AuthenticationTimeout seconds) value name first second = absurd (omega (arith, ap (λ (l : List ℕ). length l) name))
+same-choice (MaxConnections count) (Number number) value name first second = absurd (omega (arith, ap (λ (l : List ℕ). length l) name))
 same-choice (RestartAfterCrash restarts) (Data dir) value name first second = absurd (omega (arith, ap (λ (l : List ℕ). length l) name))
 same-choice (RestartAfterCrash restarts) (MaxConnections count) value name first second = absurd (omega (arith, ap (λ (l : List ℕ). length l) name))
-same-choice (RestartAfterCrash restarts) (RestartAfterCrash other) value name first second =
-    ap RestartAfterCrash (same-flag restarts other value first second)
+same-choice (RestartAfterCrash restarts) (RestartAfterCrash other) value name first second = ap RestartAfterCrash (same-flag restarts other value first second)
 same-choice (RestartAfterCrash restarts) (AuthenticationTimeout seconds) value name first second = absurd (omega (arith, ap (λ (l : List ℕ). length l) name))
+same-choice (RestartAfterCrash restarts) (Number number) value name first second = absurd (omega (arith, ap (λ (l : List ℕ). length l) name))
 same-choice (AuthenticationTimeout seconds) (Data dir) value name first second = absurd (omega (arith, ap (λ (l : List ℕ). length l) name))
 same-choice (AuthenticationTimeout seconds) (MaxConnections count) value name first second = absurd (omega (arith, ap (λ (l : List ℕ). length l) name))
 same-choice (AuthenticationTimeout seconds) (RestartAfterCrash restarts) value name first second = absurd (omega (arith, ap (λ (l : List ℕ). length l) name))
-same-choice (AuthenticationTimeout seconds) (AuthenticationTimeout other) value name first second =
-    ap AuthenticationTimeout (first.number_is ∙ sym second.number_is)
+same-choice (AuthenticationTimeout seconds) (AuthenticationTimeout other) value name first second = ap AuthenticationTimeout (first.number_is ∙ sym second.number_is)
+same-choice (AuthenticationTimeout seconds) (Number number) value name first second = absurd (omega (arith, ap (λ (l : List ℕ). length l) name))
+same-choice (Number number) (Data dir) value name first second = absurd (omega (arith, ap (λ (l : List ℕ). length l) name))
+same-choice (Number number) (MaxConnections count) value name first second = absurd (omega (arith, ap (λ (l : List ℕ). length l) name))
+same-choice (Number number) (RestartAfterCrash restarts) value name first second = absurd (omega (arith, ap (λ (l : List ℕ). length l) name))
+same-choice (Number number) (AuthenticationTimeout seconds) value name first second = absurd (omega (arith, ap (λ (l : List ℕ). length l) name))
+same-choice (Number number) (Number other) value name first second = ap Number (first.number_is ∙ sym second.number_is)
 
 -- the words begin with one option
 same-option : (words : List (List ℕ)) (one two : Choice) (behind rest : List (List ℕ)) → BeginsWithOption words one behind → BeginsWithOption words two rest
@@ -141,29 +149,29 @@ same-option (word ∷ words) one two behind rest first second =
 
 -- ---- one after the other
 
-pub step_back : (command : Command) (choice : Choice) (before after : Chosen) (words behind : List (List ℕ)) → BeginsWithOption words choice behind
-    → MayChoose command choice before → Leaves command (with_choice choice before) behind after → Leaves command before words after
-step_back command choice before after words behind is may leaves =
+pub step_back : (verb : Verb) (choice : Choice) (before after : Chosen) (words behind : List (List ℕ)) → BeginsWithOption words choice behind
+    → MayChoose verb choice before → Leaves verb (with_choice choice before) behind after → Leaves verb before words after
+step_back verb choice before after words behind is may leaves =
     record {
       choices = choice ∷ leaves.choices;
       choose = (is.first, behind, is.words_are, is.spells, may, leaves.choose);
     }
 
-pub record StepsOn (command : Command) (choice : Choice) (before after : Chosen) (behind : List (List ℕ)) : Type 0 where
-  pub may : MayChoose command choice before
-  pub leaves : Leaves command (with_choice choice before) behind after
+pub record StepsOn (verb : Verb) (choice : Choice) (before after : Chosen) (behind : List (List ℕ)) : Type 0 where
+  pub may : MayChoose verb choice before
+  pub leaves : Leaves verb (with_choice choice before) behind after
 
 -- what is left of words that aren't empty begins with an option
-pub record Begun (command : Command) (before after : Chosen) (words : List (List ℕ)) : Type 0 where
+pub record Begun (verb : Verb) (before after : Chosen) (words : List (List ℕ)) : Type 0 where
   pub choice : Choice
   pub behind : List (List ℕ)
   pub is : BeginsWithOption words choice behind
-  pub on : StepsOn command choice before after behind
+  pub on : StepsOn verb choice before after behind
 
-begun-by : (command : Command) (before after : Chosen) (words : List (List ℕ)) (choices : List Choice) → (words ≡ [] → ⊥)
-    → Choose command before choices words after → Begun command before after words
-begun-by command before after words [] some choose = absurd (some choose.0)
-begun-by command before after words (choice ∷ choices) some choose =
+begun-by : (verb : Verb) (before after : Chosen) (words : List (List ℕ)) (choices : List Choice) → (words ≡ [] → ⊥)
+    → Choose verb before choices words after → Begun verb before after words
+begun-by verb before after words [] some choose = absurd (some choose.0)
+begun-by verb before after words (choice ∷ choices) some choose =
     record {
       choice = choice;
       behind = choose.1;
@@ -171,16 +179,16 @@ begun-by command before after words (choice ∷ choices) some choose =
       on = record { may = choose.4; leaves = record { choices = choices; choose = choose.5 } };
     }
 
-pub begun : (command : Command) (before after : Chosen) (words : List (List ℕ)) → (words ≡ [] → ⊥) → Leaves command before words after
-    → Begun command before after words
-begun command before after words some leaves = begun-by command before after words leaves.choices some leaves.choose
+pub begun : (verb : Verb) (before after : Chosen) (words : List (List ℕ)) → (words ≡ [] → ⊥) → Leaves verb before words after
+    → Begun verb before after words
+begun verb before after words some leaves = begun-by verb before after words leaves.choices some leaves.choose
 
-pub step_on : (command : Command) (choice : Choice) (before after : Chosen) (words behind : List (List ℕ)) → (words ≡ [] → ⊥)
-    → BeginsWithOption words choice behind → Leaves command before words after → StepsOn command choice before after behind
-step_on command choice before after words behind some is leaves =
-    let one : Begun command before after words = begun command before after words some leaves in
+pub step_on : (verb : Verb) (choice : Choice) (before after : Chosen) (words behind : List (List ℕ)) → (words ≡ [] → ⊥)
+    → BeginsWithOption words choice behind → Leaves verb before words after → StepsOn verb choice before after behind
+step_on verb choice before after words behind some is leaves =
+    let one : Begun verb before after words = begun verb before after words some leaves in
     let same : (one.choice ≡ choice) × (one.behind ≡ behind) = same-option words one.choice choice one.behind behind one.is is in
-    subst (λ c. StepsOn command c before after behind) same.0 (subst (λ b. StepsOn command one.choice before after b) same.1 one.on)
+    subst (λ c. StepsOn verb c before after behind) same.0 (subst (λ b. StepsOn verb one.choice before after b) same.1 one.on)
 
 begins-some : (choice : Choice) (words : List (List ℕ)) → Spells choice words → words ≡ [] → ⊥
 begins-some choice words spells none =
@@ -193,13 +201,13 @@ nothing-before : (first rest : List (List ℕ)) → [] ≡ first ++ rest → fir
 nothing-before [] rest is = refl
 nothing-before (word ∷ first) rest is = absurd cc
 
-at-end-by : (command : Command) (before after : Chosen) (choices : List Choice) → Choose command before choices [] after → after ≡ before
-at-end-by command before after [] choose = choose.1
-at-end-by command before after (choice ∷ choices) choose =
+at-end-by : (verb : Verb) (before after : Chosen) (choices : List Choice) → Choose verb before choices [] after → after ≡ before
+at-end-by verb before after [] choose = choose.1
+at-end-by verb before after (choice ∷ choices) choose =
     absurd (begins-some choice choose.0 choose.3 (nothing-before choose.0 choose.1 choose.2))
 
-pub at-end : (command : Command) (before after : Chosen) → Leaves command before [] after → after ≡ before
-at-end command before after leaves = at-end-by command before after leaves.choices leaves.choose
+pub at-end : (verb : Verb) (before after : Chosen) → Leaves verb before [] after → after ≡ before
+at-end verb before after leaves = at-end-by verb before after leaves.choices leaves.choose
 
 pub shorter : (words : List (List ℕ)) (choice : Choice) (behind : List (List ℕ)) → BeginsWithOption words choice behind → length behind < length words
 shorter words choice behind is = longer is.first (begins-some choice is.first is.spells) is.words_are

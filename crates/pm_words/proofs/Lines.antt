@@ -2,52 +2,60 @@
 use Rattle.std.proofs.Common.{◌≡◌, ℕ, List, ◌∷◌, Some, None, length, refl, sym, ◌∙◌, ap, subst, arith}
 use Rattle.pm_server.specs.declared.conf.Conf.{Conf}
 use Rattle.pm_words.specs.declared.words.Command.{Command}
-use Rattle.pm_words.specs.declared.words.Command.TheVariants.{Initdb, Once, Controldata}
-use Rattle.pm_words.specs.Words.{Choose, Chosen, IsLineWith, command_word, conf_of, nothing}
+use Rattle.pm_words.specs.declared.words.Verb.{Verb}
+use Rattle.pm_words.specs.declared.words.Verb.TheVariants.{Initdb, Once, Controldata, Workload}
+use Rattle.pm_words.specs.Words.{Choose, Chosen, IsLineWith, command_of, conf_of, folder_of, nothing, verb_word}
 use Rattle.pm_words.specs.Options.{Leaves}
 
--- the commands' words have three lengths
-by_length : (one two : Command) → length (command_word one) ≡ length (command_word two) → one ≡ two
+-- the verbs' words are of four lengths
+by_length : (one two : Verb) → length (verb_word one) ≡ length (verb_word two) → one ≡ two
 by_length Initdb Initdb same = refl
 by_length Initdb Once same = absurd (omega (arith, same))
 by_length Initdb Controldata same = absurd (omega (arith, same))
+by_length Initdb Workload same = absurd (omega (arith, same))
 by_length Once Initdb same = absurd (omega (arith, same))
 by_length Once Once same = refl
 by_length Once Controldata same = absurd (omega (arith, same))
+by_length Once Workload same = absurd (omega (arith, same))
 by_length Controldata Initdb same = absurd (omega (arith, same))
 by_length Controldata Once same = absurd (omega (arith, same))
 by_length Controldata Controldata same = refl
+by_length Controldata Workload same = absurd (omega (arith, same))
+by_length Workload Initdb same = absurd (omega (arith, same))
+by_length Workload Once same = absurd (omega (arith, same))
+by_length Workload Controldata same = absurd (omega (arith, same))
+by_length Workload Workload same = refl
 
--- what the words behind the command leave
-pub record Given (command : Command) (tail : List (List ℕ)) (other : Command) (dir : List ℕ) (conf : Conf) : Type 0 where
-  pub same : other ≡ command
+-- what the words behind the verb leave
+pub record Given (verb : Verb) (tail : List (List ℕ)) (command : Command) (dir : List ℕ) (conf : Conf) : Type 0 where
   pub after : Chosen
-  pub leaves : Leaves command nothing tail after
-  pub folder : after.dir ≡ Some dir
+  pub leaves : Leaves verb nothing tail after
+  pub asks : command_of verb after ≡ Some command
+  pub folder : folder_of verb after ≡ Some dir
   pub conf_is : conf ≡ conf_of after
 
-pub given : (words : List (List ℕ)) (command : Command) (tail : List (List ℕ)) (other : Command) (dir : List ℕ) (conf : Conf)
-    → words ≡ command_word command ∷ tail → IsLineWith words other dir conf → Given command tail other dir conf
-given words command tail other dir conf are line =
-    let both : command_word other ∷ line.options ≡ command_word command ∷ tail = sym line.words_are ∙ are in
-    let word : command_word other ≡ command_word command = cc in
-    let same : other ≡ command = by_length other command (ap (λ (l : List ℕ). length l) word) in
+pub given : (words : List (List ℕ)) (verb : Verb) (tail : List (List ℕ)) (command : Command) (dir : List ℕ) (conf : Conf)
+    → words ≡ verb_word verb ∷ tail → IsLineWith words command dir conf → Given verb tail command dir conf
+given words verb tail command dir conf are line =
+    let both : verb_word line.verb ∷ line.options ≡ verb_word verb ∷ tail = sym line.words_are ∙ are in
+    let word : verb_word line.verb ≡ verb_word verb = cc in
+    let same : line.verb ≡ verb = by_length line.verb verb (ap (λ (l : List ℕ). length l) word) in
     let rest : line.options ≡ tail = cc in
     record {
-      same = same;
       after = line.chosen;
       leaves = record {
         choices = line.choices;
         choose =
-            subst (λ c. Choose c nothing line.choices tail line.chosen) same
-            (subst (λ options. Choose other nothing line.choices options line.chosen) rest line.choose);
+            subst (λ v. Choose v nothing line.choices tail line.chosen) same
+            (subst (λ options. Choose line.verb nothing line.choices options line.chosen) rest line.choose);
       };
-      folder = line.folder;
+      asks = subst (λ v. command_of v line.chosen ≡ Some command) same line.asks;
+      folder = subst (λ v. folder_of v line.chosen ≡ Some dir) same line.folder;
       conf_is = line.conf_is;
     }
 
-pub some-dir : (one two : List ℕ) → Some one ≡ Some two → one ≡ two
-some-dir one two same = cc
+pub same_some : {X : Type 0} (one two : X) → Some one ≡ Some two → one ≡ two
+same_some one two same = cc
 
-pub no-dir : (dir : List ℕ) → Some dir ≡ None → ⊥
-no-dir dir same = absurd cc
+pub not_none : {X : Type 0} (one : X) → Some one ≡ None → ⊥
+not_none one same = absurd cc

@@ -4,8 +4,8 @@ use Rattle.std.specs.List.{AllByRecursion}
 use Rattle.pm_words.specs.declared.options.Setting.{Setting}
 use Rattle.pm_words.specs.declared.options.Setting.TheVariants as setting
 use Rattle.pm_words.specs.declared.options.Settings.{Settings}
-use Rattle.pm_words.specs.declared.words.Command.{Command}
-use Rattle.pm_words.specs.Words.{Choice, Data, MaxConnections, RestartAfterCrash, AuthenticationTimeout, Choose, Chosen, IsGiven, Spells}
+use Rattle.pm_words.specs.declared.words.Verb.{Verb}
+use Rattle.pm_words.specs.Words.{Choice, Data, MaxConnections, RestartAfterCrash, AuthenticationTimeout, Number, Choose, Chosen, IsGiven, Spells}
 
 -- what the code has of an option
 abbrev pub choice_of : Setting → Choice
@@ -13,6 +13,7 @@ choice_of (setting.Data dir) = Data dir.now
 choice_of (setting.MaxConnections count) = MaxConnections count
 choice_of (setting.RestartAfterCrash restarts) = RestartAfterCrash restarts
 choice_of (setting.AuthenticationTimeout seconds) = AuthenticationTimeout seconds
+choice_of (setting.Number number) = Number number
 
 -- and of those that were given
 abbrev pub chosen_of : Settings → Chosen
@@ -22,6 +23,7 @@ chosen_of settings =
       max_connections = settings.max_connections;
       restart_after_crash = settings.restart_after_crash;
       authentication_seconds = settings.authentication_seconds;
+      number = settings.number;
     }
 
 -- a name has no `=`
@@ -46,6 +48,6 @@ pub record BeginsWithOption (words : List (List ℕ)) (choice : Choice) (behind 
   pub words_are : words ≡ first ++ behind
 
 -- options behind what was chosen before
-pub record Leaves (command : Command) (before : Chosen) (words : List (List ℕ)) (after : Chosen) : Type 0 where
+pub record Leaves (verb : Verb) (before : Chosen) (words : List (List ℕ)) (after : Chosen) : Type 0 where
   pub choices : List Choice
-  pub choose : Choose command before choices words after
+  pub choose : Choose verb before choices words after

@@ -1,14 +1,17 @@
 -- The words of the command line: a command, and options in any order, each at most once.
-use Rattle.std.specs.Prelude.{◌≡◌, ◌≢◌, ◌⊎◌, ℕ, ◌*◌, ◌≤◌, Bool, true, false, List, [], ◌∷◌, ◌++◌, codes, length, slice_get, Option, None, Some, unwrap_or}
+use Rattle.std.specs.Prelude.{◌≡◌, ◌≢◌, ◌⊎◌, ℕ, ◌*◌, ◌≤◌, Bool, true, false, List, [], ◌∷◌, ◌++◌, codes, length, slice_get, Option, None, Some, option_map, unwrap_or}
 use Rattle.std.specs.Str.Parse.{IsNumeral, digits_value}
 use Rattle.pm_server.specs.declared.conf.Conf.{Conf}
 use Rattle.pm_words.specs.declared.words.Command.{Command}
-use Rattle.pm_words.specs.declared.words.Command.TheVariants.{Initdb, Once, Controldata}
+use Rattle.pm_words.specs.declared.words.Command.TheVariants as command
+use Rattle.pm_words.specs.declared.words.Verb.{Verb}
+use Rattle.pm_words.specs.declared.words.Verb.TheVariants.{Initdb, Once, Controldata, Workload}
 
-abbrev pub command_word : Command → List ℕ
-command_word Initdb = codes "initdb"
-command_word Once = codes "once"
-command_word Controldata = codes "controldata"
+abbrev pub verb_word : Verb → List ℕ
+verb_word Initdb = codes "initdb"
+verb_word Once = codes "once"
+verb_word Controldata = codes "controldata"
+verb_word Workload = codes "workload"
 
 -- ---- options
 
@@ -19,28 +22,31 @@ pub data Choice : Type 0 where
   MaxConnections : (count : ℕ) → Choice
   RestartAfterCrash : (restarts : Bool) → Choice
   AuthenticationTimeout : (seconds : ℕ) → Choice
+  Number : (number : ℕ) → Choice
 
 abbrev pub option_name : Choice → List ℕ
 option_name (Data dir) = codes "--data"
 option_name (MaxConnections count) = codes "--max-connections"
 option_name (RestartAfterCrash restarts) = codes "--restart-after-crash"
 option_name (AuthenticationTimeout seconds) = codes "--authentication-timeout"
+option_name (Number number) = codes "--number"
 
--- a number from 1 to this one, in one to ten digits
-pub record IsNumberUpTo (most number : ℕ) (value : List ℕ) : Type 0 where
+-- a number of these limits, in one to ten digits
+pub record IsNumberIn (least most number : ℕ) (value : List ℕ) : Type 0 where
   pub digits : IsNumeral 10 value
   pub few : length value ≤ 10
   pub number_is : number ≡ digits_value 10 value
-  pub from_one : 1 ≤ number
+  pub from_least : least ≤ number
   pub to_most : number ≤ most
 
 -- the value says it
 abbrev pub Says : Choice → (value : List ℕ) → Type 0
 Says (Data dir) value = value ≡ dir
-Says (MaxConnections count) value = IsNumberUpTo 64 count value
+Says (MaxConnections count) value = IsNumberIn 1 64 count value
 Says (RestartAfterCrash true) value = value ≡ codes "on"
 Says (RestartAfterCrash false) value = value ≡ codes "off"
-Says (AuthenticationTimeout seconds) value = IsNumberUpTo 600 seconds value
+Says (AuthenticationTimeout seconds) value = IsNumberIn 1 600 seconds value
+Says (Number number) value = IsNumberIn 0 100000 number value
 
 -- A value stands behind its name and `=` (61) in one word, or is a word of its own that doesn't begin with `-` (45). It isn't
 -- empty.
@@ -52,11 +58,14 @@ IsGiven name value words =
 abbrev pub Spells : Choice → (words : List (List ℕ)) → Type 0
 Spells choice words = (value : List ℕ) × Says choice value × IsGiven (option_name choice) value words
 
--- all but the folder are for `once`
-abbrev pub IsFor : Command → Choice → Type 0
-IsFor command (Data dir) = Unit {0}
+-- a workload has its number alone, `once` all others, and the rest the folder
+abbrev pub IsFor : Verb → Choice → Type 0
+IsFor Workload (Number number) = Unit {0}
+IsFor Workload choice = ⊥
+IsFor verb (Number number) = ⊥
+IsFor verb (Data dir) = Unit {0}
 IsFor Once choice = Unit {0}
-IsFor command choice = ⊥
+IsFor verb choice = ⊥
 
 -- ---- what they choose
 
@@ -66,9 +75,17 @@ pub record Chosen : Type 0 where
   pub max_connections : Option ℕ
   pub restart_after_crash : Option Bool
   pub authentication_seconds : Option ℕ
+  pub number : Option ℕ
 
 abbrev pub nothing : Chosen
-nothing = record { dir = None; max_connections = None; restart_after_crash = None; authentication_seconds = None }
+nothing =
+    record {
+      dir = None;
+      max_connections = None;
+      restart_after_crash = None;
+      authentication_seconds = None;
+      number = None;
+    }
 
 -- this option wasn't given yet
 abbrev pub IsOpen : Choice → Chosen → Type 0
@@ -76,23 +93,25 @@ IsOpen (Data dir) chosen = chosen.dir ≡ None
 IsOpen (MaxConnections count) chosen = chosen.max_connections ≡ None
 IsOpen (RestartAfterCrash restarts) chosen = chosen.restart_after_crash ≡ None
 IsOpen (AuthenticationTimeout seconds) chosen = chosen.authentication_seconds ≡ None
+IsOpen (Number number) chosen = chosen.number ≡ None
 
 abbrev pub with_choice : Choice → Chosen → Chosen
 with_choice (Data dir) chosen = record chosen { dir = Some dir }
 with_choice (MaxConnections count) chosen = record chosen { max_connections = Some count }
 with_choice (RestartAfterCrash restarts) chosen = record chosen { restart_after_crash = Some restarts }
 with_choice (AuthenticationTimeout seconds) chosen = record chosen { authentication_seconds = Some seconds }
+with_choice (Number number) chosen = record chosen { number = Some number }
 
 -- an option for this command that wasn't given yet
-abbrev pub MayChoose : Command → Choice → Chosen → Type 0
-MayChoose command choice chosen = IsFor command choice × IsOpen choice chosen
+abbrev pub MayChoose : Verb → Choice → Chosen → Type 0
+MayChoose verb choice chosen = IsFor verb choice × IsOpen choice chosen
 
 -- The words spell these options, and behind what was chosen before they leave this.
-abbrev pub Choose : Command → (before : Chosen) → List Choice → (words : List (List ℕ)) → (after : Chosen) → Type 0
-Choose command before [] words after = (words ≡ []) × (after ≡ before)
-Choose command before (choice ∷ choices) words after =
-    (first : List (List ℕ)) × (rest : List (List ℕ)) × (words ≡ first ++ rest) × Spells choice first × MayChoose command choice before
-    × Choose command (with_choice choice before) choices rest after
+abbrev pub Choose : Verb → (before : Chosen) → List Choice → (words : List (List ℕ)) → (after : Chosen) → Type 0
+Choose verb before [] words after = (words ≡ []) × (after ≡ before)
+Choose verb before (choice ∷ choices) words after =
+    (first : List (List ℕ)) × (rest : List (List ℕ)) × (words ≡ first ++ rest) × Spells choice first × MayChoose verb choice before
+    × Choose verb (with_choice choice before) choices rest after
 
 -- what a server goes by: by default up to 20 connections, a restart after a crash, and 60 seconds for a client to log in
 abbrev pub conf_of : Chosen → Conf
@@ -106,16 +125,30 @@ conf_of chosen =
       session = record { authentication_ms = unwrap_or chosen.authentication_seconds 60 * 1000 };
     }
 
+-- what the program is asked to do, where the options are there that the command wants
+abbrev pub command_of : Verb → Chosen → Option Command
+command_of Initdb chosen = Some command.Initdb
+command_of Once chosen = Some command.Once
+command_of Controldata chosen = Some command.Controldata
+command_of Workload chosen = option_map command.Workload chosen.number
+
+-- the folder, which is empty for a workload
+abbrev pub folder_of : Verb → Chosen → Option (List ℕ)
+folder_of Workload chosen = Some []
+folder_of verb chosen = chosen.dir
+
 -- ---- a line
 
--- a command with its options, the folder among them
+-- a command with its options, those among them that it wants
 pub record IsLineWith (words : List (List ℕ)) (command : Command) (dir : List ℕ) (conf : Conf) : Type 0 where
+  pub verb : Verb
   pub options : List (List ℕ)
   pub choices : List Choice
   pub chosen : Chosen
-  pub words_are : words ≡ command_word command ∷ options
-  pub choose : Choose command nothing choices options chosen
-  pub folder : chosen.dir ≡ Some dir
+  pub words_are : words ≡ verb_word verb ∷ options
+  pub choose : Choose verb nothing choices options chosen
+  pub asks : command_of verb chosen ≡ Some command
+  pub folder : folder_of verb chosen ≡ Some dir
   pub conf_is : conf ≡ conf_of chosen
 
 -- no other line is spelled by the words

@@ -1,10 +1,10 @@
 //! The options of the command line.
 
-ghost use Rattle.std.specs.Prelude.{◌≡◌, ◌↔◌, ℕ, List, ◌∷◌, IfSome, IfNone, IsTrue};
-ghost use Rattle.pm_words.specs.Words.{Choice, Chosen, IsNumberUpTo, MayChoose, Says, conf_of, nothing, option_name, with_choice};
+ghost use Rattle.std.specs.Prelude.{◌≡◌, ◌↔◌, ℕ, List, ◌∷◌, IfSome, IfNone, IsTrue, option_map};
+ghost use Rattle.pm_words.specs.Words.{Choice, Chosen, IsNumberIn, MayChoose, Says, command_of, conf_of, folder_of, nothing, option_name, with_choice};
 ghost use Rattle.pm_words.specs.Options.{BeginsWith, BeginsWithOption, IsPlain, Leaves, choice_of, chosen_of};
 
-use crate::words::Command;
+use crate::words::{Command, Verb};
 use pm_rows::Text;
 use pm_server::Conf;
 use pm_session::SessionConf;
@@ -22,6 +22,9 @@ const DEFAULT_SECONDS: u32 = 60;
 /// The same, at most.
 const MOST_SECONDS: u32 = 600;
 
+/// How many queries a workload has, at most.
+const MOST_QUERIES: u32 = 100_000;
+
 // An option, with what its value says.
 #[derive(Clone, Copy)]
 pub(crate) enum Setting<'a> {
@@ -29,6 +32,7 @@ pub(crate) enum Setting<'a> {
     MaxConnections(u32),
     RestartAfterCrash(bool),
     AuthenticationTimeout(u32),
+    Number(u32),
 }
 
 // The options that were given.
@@ -38,6 +42,7 @@ pub(crate) struct Settings<'a> {
     pub(crate) max_connections: Option<u32>,
     pub(crate) restart_after_crash: Option<bool>,
     pub(crate) authentication_seconds: Option<u32>,
+    pub(crate) number: Option<u32>,
 }
 
 impl<'a> Settings<'a> {
@@ -49,19 +54,23 @@ impl<'a> Settings<'a> {
             max_connections: None,
             restart_after_crash: None,
             authentication_seconds: None,
+            number: None,
         }
     }
 
     // Whether this option may come next: it is one of the command, and wasn't given yet.
-    fn may_take(&self, command: Command, setting: Setting<'a>) -> bool
-        ensures { IsTrue result ↔ MayChoose command (choice_of setting.entry) (chosen_of self.now) }
+    fn may_take(&self, verb: Verb, setting: Setting<'a>) -> bool
+        ensures { IsTrue result ↔ MayChoose verb (choice_of setting.entry) (chosen_of self.now) }
     {
-        let of_once = command == Command::Once;
+        let of_once = verb == Verb::Once;
         match setting {
-            Setting::Data(_) => self.dir.is_none(),
+            Setting::Data(_) => verb != Verb::Workload && self.dir.is_none(),
             Setting::MaxConnections(_) => of_once && self.max_connections.is_none(),
             Setting::RestartAfterCrash(_) => of_once && self.restart_after_crash.is_none(),
-            Setting::AuthenticationTimeout(_) => of_once && self.authentication_seconds.is_none(),
+            Setting::AuthenticationTimeout(_) => {
+                of_once && self.authentication_seconds.is_none()
+            }
+            Setting::Number(_) => verb == Verb::Workload && self.number.is_none(),
         }
     }
 
@@ -76,8 +85,34 @@ impl<'a> Settings<'a> {
             Setting::AuthenticationTimeout(seconds) => {
                 self.authentication_seconds = Some(seconds);
             }
+            Setting::Number(number) => self.number = Some(number),
         }
         self
+    }
+
+    // What the program is asked to do. None where an option is missing that the command wants.
+    pub(crate) fn command(&self, verb: Verb) -> Option<Command>
+        ensures { result ≡ command_of verb (chosen_of self.now) }
+    {
+        match verb {
+            Verb::Initdb => Some(Command::Initdb),
+            Verb::Once => Some(Command::Once),
+            Verb::Controldata => Some(Command::Controldata),
+            Verb::Workload => match self.number {
+                Some(number) => Some(Command::Workload { number }),
+                None => None,
+            },
+        }
+    }
+
+    // The folder of the cluster, where the command has one.
+    pub(crate) fn folder(&self, verb: Verb) -> Option<&'a str>
+        ensures { option_map (λ dir. dir.now) result ≡ folder_of verb (chosen_of self.now) }
+    {
+        match verb {
+            Verb::Workload => Some(""),
+            Verb::Initdb | Verb::Once | Verb::Controldata => self.dir,
+        }
     }
 
     // What a server goes by.
@@ -99,24 +134,24 @@ impl<'a> Settings<'a> {
 }
 
 // The options of the words behind the command.
-pub(crate) fn read_settings<'a>(command: Command, words: &'a [Text]) -> Option<Settings<'a>>
-    ensures found { IfSome result (λ settings. Leaves command nothing words.now
+pub(crate) fn read_settings<'a>(verb: Verb, words: &'a [Text]) -> Option<Settings<'a>>
+    ensures found { IfSome result (λ settings. Leaves verb nothing words.now
         (chosen_of settings)) }
     ensures only { IfSome result (λ settings. (after : Chosen)
-        → Leaves command nothing words.now after → after ≡ chosen_of settings) }
-    ensures none { IfNone result ((after : Chosen) → ¬ (Leaves command nothing words.now after)) }
+        → Leaves verb nothing words.now after → after ≡ chosen_of settings) }
+    ensures none { IfNone result ((after : Chosen) → ¬ (Leaves verb nothing words.now after)) }
 {
-    read_on(command, Settings::new(), words)
+    read_on(verb, Settings::new(), words)
 }
 
-// The same behind the options that were given before: not more than four, since each is given once.
-fn read_on<'a>(command: Command, before: Settings<'a>, words: &'a [Text]) -> Option<Settings<'a>>
-    ensures found { IfSome result (λ settings. Leaves command (chosen_of before.entry) words.now
+// The same behind the options that were given before, of which each is given once.
+fn read_on<'a>(verb: Verb, before: Settings<'a>, words: &'a [Text]) -> Option<Settings<'a>>
+    ensures found { IfSome result (λ settings. Leaves verb (chosen_of before.entry) words.now
         (chosen_of settings)) }
     ensures only { IfSome result (λ settings. (after : Chosen)
-        → Leaves command (chosen_of before.entry) words.now after → after ≡ chosen_of settings) }
+        → Leaves verb (chosen_of before.entry) words.now after → after ≡ chosen_of settings) }
     ensures none { IfNone result ((after : Chosen)
-        → ¬ (Leaves command (chosen_of before.entry) words.now after)) }
+        → ¬ (Leaves verb (chosen_of before.entry) words.now after)) }
 {
     if words.is_empty() {
         return Some(before);
@@ -124,8 +159,8 @@ fn read_on<'a>(command: Command, before: Settings<'a>, words: &'a [Text]) -> Opt
     let Some(next) = next_option(words) else {
         return None;
     };
-    if before.may_take(command, next.setting) {
-        read_on(command, before.with(next.setting), next.behind)
+    if before.may_take(verb, next.setting) {
+        read_on(verb, before.with(next.setting), next.behind)
     } else {
         None
     }
@@ -231,7 +266,7 @@ fn setting_named<'a>(name: &str, value: &'a str) -> Option<Setting<'a>>
 {
     match name {
         "--data" => Some(Setting::Data(value)),
-        "--max-connections" => match number(value, MOST_CONNECTIONS) {
+        "--max-connections" => match number(value, 1, MOST_CONNECTIONS) {
             Some(count) => Some(Setting::MaxConnections(count)),
             None => None,
         },
@@ -240,24 +275,28 @@ fn setting_named<'a>(name: &str, value: &'a str) -> Option<Setting<'a>>
             "off" => Some(Setting::RestartAfterCrash(false)),
             _ => None,
         },
-        "--authentication-timeout" => match number(value, MOST_SECONDS) {
+        "--authentication-timeout" => match number(value, 1, MOST_SECONDS) {
             Some(seconds) => Some(Setting::AuthenticationTimeout(seconds)),
+            None => None,
+        },
+        "--number" => match number(value, 0, MOST_QUERIES) {
+            Some(number) => Some(Setting::Number(number)),
             None => None,
         },
         _ => None,
     }
 }
 
-// A number from 1 to this one.
-fn number(value: &str, most: u32) -> Option<u32>
-    ensures found { IfSome result (λ number. IsNumberUpTo most number value.now) }
-    ensures none { IfNone result ((number : ℕ) → ¬ (IsNumberUpTo most number value.now)) }
+// A number of these limits.
+fn number(value: &str, least: u32, most: u32) -> Option<u32>
+    ensures found { IfSome result (λ number. IsNumberIn least most number value.now) }
+    ensures none { IfNone result ((number : ℕ) → ¬ (IsNumberIn least most number value.now)) }
 {
     if value.len() > 10 || value.as_bytes().first() == Some(&b'+') {
         return None;
     }
     match value.parse::<u32>() {
-        Ok(number) if 1 <= number && number <= most => Some(number),
+        Ok(number) if least <= number && number <= most => Some(number),
         _ => None,
     }
 }

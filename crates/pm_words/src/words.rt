@@ -1,13 +1,22 @@
 //! The words of the command line.
 
 ghost use Rattle.std.specs.Prelude.{◌≡◌, ◌≢◌, IfOk, OnErr, IfSome, IfNone};
-ghost use Rattle.pm_words.specs.declared.words.Command.{Command};
-ghost use Rattle.pm_words.specs.Words.{AreNoLine, IsLineWith, IsOnlyLine, command_word};
+ghost use Rattle.pm_words.specs.declared.words.Verb.{Verb};
+ghost use Rattle.pm_words.specs.Words.{AreNoLine, IsLineWith, IsOnlyLine, verb_word};
 
 use crate::options::read_settings;
 use pm_rows::Text;
 use pm_server::Conf;
 use thiserror::Error;
+
+/// The first word.
+#[derive(Clone, Copy, Debug, PartialEq, Eq)]
+pub enum Verb {
+    Initdb,
+    Once,
+    Controldata,
+    Workload,
+}
 
 /// What the program is asked to do.
 #[derive(Clone, Copy, Debug, PartialEq, Eq)]
@@ -18,13 +27,15 @@ pub enum Command {
     Once,
     /// Tells what the files of a cluster stand for.
     Controldata,
+    /// Asks a server in memory so many queries, and checks its answers.
+    Workload { number: u32 },
 }
 
 /// A command line that is in the grammar.
 #[derive(Clone, Copy, Debug, PartialEq, Eq)]
 pub struct Line<'a> {
     pub command: Command,
-    /// The folder of the cluster.
+    /// The folder of the cluster. Empty for a workload, which has none.
     pub dir: &'a str,
     /// What a server goes by; the other commands have no use for it.
     pub conf: Conf,
@@ -36,15 +47,16 @@ pub enum WordsNo {
     Usage,
 }
 
-/// Reads `initdb`, `once` or `controldata` and then options in any order, each at most once, as `--name value` or `--name=value`.
-/// A value isn't empty, and as a word of its own it doesn't begin with `-`.
+/// Reads `initdb`, `once`, `controldata` or `workload` and then options in any order, each at most once, as `--name value` or
+/// `--name=value`. A value isn't empty, and as a word of its own it doesn't begin with `-`.
 ///
-/// - `--data`: the folder of the cluster. Each command wants it.
+/// - `--data`: the folder of the cluster. Each command wants it but `workload`, which has none.
 /// - `--max-connections`: 1 to 64, and 20 by default.
 /// - `--restart-after-crash`: `on`, the default, or `off`.
 /// - `--authentication-timeout`: 1 to 600 seconds, and 60 by default.
+/// - `--number`: 0 to 100000. For `workload` alone, which wants it.
 ///
-/// The last three are for `once` alone. A number has one to ten digits.
+/// The second to fourth are for `once` alone. A number has one to ten digits.
 pub fn read_words<'a>(words: &'a [Text]) -> Result<Line<'a>, WordsNo>
     ensures line { IfOk result (λ line. IsLineWith words.now line.command line.dir.now line.conf) }
     ensures only { IfOk result (λ line. IsOnlyLine words.now line.command line.dir.now line.conf) }
@@ -53,13 +65,16 @@ pub fn read_words<'a>(words: &'a [Text]) -> Result<Line<'a>, WordsNo>
     let [first, options @ ..] = words else {
         return Err(WordsNo::Usage);
     };
-    let Some(command) = command_named(first.as_str()) else {
+    let Some(verb) = verb_named(first.as_str()) else {
         return Err(WordsNo::Usage);
     };
-    let Some(settings) = read_settings(command, options) else {
+    let Some(settings) = read_settings(verb, options) else {
         return Err(WordsNo::Usage);
     };
-    match settings.dir {
+    let Some(command) = settings.command(verb) else {
+        return Err(WordsNo::Usage);
+    };
+    match settings.folder(verb) {
         Some(dir) => Ok(Line {
             command,
             dir,
@@ -69,14 +84,15 @@ pub fn read_words<'a>(words: &'a [Text]) -> Result<Line<'a>, WordsNo>
     }
 }
 
-fn command_named(word: &str) -> Option<Command>
-    ensures found { IfSome result (λ command. word.now ≡ command_word command) }
-    ensures none { IfNone result ((command : Command) → word.now ≢ command_word command) }
+fn verb_named(word: &str) -> Option<Verb>
+    ensures found { IfSome result (λ verb. word.now ≡ verb_word verb) }
+    ensures none { IfNone result ((verb : Verb) → word.now ≢ verb_word verb) }
 {
     match word {
-        "initdb" => Some(Command::Initdb),
-        "once" => Some(Command::Once),
-        "controldata" => Some(Command::Controldata),
+        "initdb" => Some(Verb::Initdb),
+        "once" => Some(Verb::Once),
+        "controldata" => Some(Verb::Controldata),
+        "workload" => Some(Verb::Workload),
         _ => None,
     }
 }

@@ -3,7 +3,7 @@ use Rattle.pm_wire_back.proofs.BackAgain.{Reads, whole_is, every_is, partial_is,
 use Rattle.pm_wire_back.proofs.reading.read_back.Goals as goal
 
 reads : (c : goal.After-back_of) → Reads c.back_of.result c.args.bytes.now
-reads c = record { is = c.back_of.ensures; fits = λ i. omega (arith, c.type_inv.bytes i) }
+reads c = record { is = c.back_of.ensures.seen; fits = λ i. omega (arith, c.type_inv.bytes i) }
 
 pub returns-clause-whole : goal.returns-clause-whole
 returns-clause-whole c = whole_is c.back_of.result c.args.bytes.now (reads c)

@@ -8,10 +8,10 @@ use Rattle.pm_words.proofs.options.read_settings.Goals as goal
 pub returns-clause-only : goal.returns-clause-only
 returns-clause-only c =
     subst
-    (λ before. IfSome c.read_on.result (λ (settings : Settings). (after : Chosen) → Leaves c.args.command before c.args.words.now after → after ≡ chosen_of settings))
+    (λ before. IfSome c.read_on.result (λ (settings : Settings). (after : Chosen) → Leaves c.args.verb before c.args.words.now after → after ≡ chosen_of settings))
     c.new.ensures c.read_on.ensures.only
 
 pub returns-clause-none : goal.returns-clause-none
 returns-clause-none c =
-    subst (λ before. IfNone c.read_on.result ((after : Chosen) → Leaves c.args.command before c.args.words.now after → ⊥))
+    subst (λ before. IfNone c.read_on.result ((after : Chosen) → Leaves c.args.verb before c.args.words.now after → ⊥))
     c.new.ensures c.read_on.ensures.none

@@ -1,0 +1,7 @@
+use Rattle.pm_client.proofs.Links.{rest_of, sent_more, wrote}
+use Rattle.pm_client.proofs.exchange.send.Goals as goal
+
+pub loop-rest-preserved : goal.loop-rest-preserved
+loop-rest-preserved g c = record {
+  sent = sent_more _ _ _ c.in-Count.count _ _ _ (rest_of c.loop-rest.rest.now c.in-Count.count) c.loop-rest.invariant.sent (wrote _ _ c.in-Count.count c.loop-rest.rest.now c.in-Count.ensures.traffic c.in-Count.ensures.cause.later);
+}

@@ -1,0 +1,4 @@
+pub mod Show
+pub mod Sides
+pub mod Talk
+pub mod Hearing
