@@ -7,3 +7,4 @@ pub mod RunsLaws
 pub mod ActsLaws
 pub mod NextsLaws
 pub mod RulesLaws
+pub mod EndsLaws

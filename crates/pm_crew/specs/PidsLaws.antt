@@ -11,7 +11,7 @@ use Rattle.pm_state.specs.declared.action.Action.{Action}
 use Rattle.pm_state.specs.declared.action.Action.TheVariants as act
 use Rattle.pm_state.specs.declared.event.PmEvent.{PmEvent}
 use Rattle.pm_state.specs.declared.event.PmEvent.TheVariants as entry
-use Rattle.pm_state.specs.Journal.{AreLegal, Do, Due, EndRedo, Fits, FitsFirst, Follows, FollowsIn, IsLegal, Replay, replay_begun, replayed}
+use Rattle.pm_state.specs.Journal.{AreLegal, Do, Due, EndRedo, Fits, FitsFirst, Follows, FollowsIn, IsLegal, Replay, all_replayed, replay_begun, replayed}
 use Rattle.pm_board.specs.declared.views.PastChild.{PastChild}
 use Rattle.pm_board.specs.declared.views.RosterView.{RosterView}
 use Rattle.pm_board.specs.Places.{slot_at}
@@ -104,6 +104,40 @@ pids_rise gives r (entry.Ready generation ∷ journal) legal = pids_rise gives (
 pids_rise gives r (entry.Reset generation ∷ journal) legal = pids_rise gives (replayed r (entry.Reset generation)) journal legal.1
 pids_rise gives r (entry.Said line ∷ journal) legal = pids_rise gives (replayed r (entry.Said line)) journal legal.1
 pids_rise gives r (entry.Ended how ∷ journal) legal = pids_rise gives (replayed r (entry.Ended how)) journal legal.1
+
+-- The last pid of a journal, where it goes on from this one.
+pub record AreBelow (low high : ℕ) (pids : List ℕ) : Type 0 where
+  pub first : low ≤ high
+  pub each : (pid : ℕ) → IsPidOf pid pids → pid ≤ high
+
+below_next : (low pid high : ℕ) (pids : List ℕ) → pid ≡ low + 1 → AreBelow pid high pids → AreBelow low high (pid ∷ pids)
+below_next low pid high pids next rest = record { first = (let up = rest.first in omega (arith, next, up)); each = by }
+  where
+    by : (other : ℕ) → IsPidOf other (pid ∷ pids) → other ≤ high
+    by other (inl is) = (let up = rest.first in omega (arith, is, up))
+    by other (inr there) = rest.each other there
+
+-- no pid of a legal journal is above the last
+pub pids_below : (gives : ℕ → Bool) (r : Replay) (journal : List PmEvent) → AreLegal gives r journal → AreBelow r.shown.last_pid (all_replayed r journal).shown.last_pid (pids_in journal)
+pids_below gives r [] legal = record { first = omega arith; each = λ pid there. absurd there }
+pids_below gives r (entry.Started pid kind ∷ journal) legal =
+    below_next r.shown.last_pid pid _ (pids_in journal) (started_next gives r r.due pid kind legal.0) (pids_below gives (replayed r (entry.Started pid kind)) journal legal.1)
+pids_below gives r (entry.Accepted pid decision ∷ journal) legal =
+    below_next r.shown.last_pid pid _ (pids_in journal) (accepted_next gives r r.due pid decision legal.0) (pids_below gives (replayed r (entry.Accepted pid decision)) journal legal.1)
+pids_below gives r (entry.RedoEnded generation kept ∷ journal) legal =
+    subst (λ (low : ℕ). AreBelow low (all_replayed r (entry.RedoEnded generation kept ∷ journal)).shown.last_pid (pids_in journal)) (same_pid r.shown (is_none r.machine.shutdown))
+    (pids_below gives (replayed r (entry.RedoEnded generation kept)) journal legal.1)
+pids_below gives r (entry.Exited pid kind status was_active at ∷ journal) legal = pids_below gives (replayed r (entry.Exited pid kind status was_active at)) journal legal.1
+pids_below gives r (entry.Asked mode at ∷ journal) legal = pids_below gives (replayed r (entry.Asked mode at)) journal legal.1
+pids_below gives r (entry.KillAsked pid ∷ journal) legal = pids_below gives (replayed r (entry.KillAsked pid)) journal legal.1
+pids_below gives r (entry.QuitSent why ∷ journal) legal = pids_below gives (replayed r (entry.QuitSent why)) journal legal.1
+pids_below gives r (entry.TerminateSent ∷ journal) legal = pids_below gives (replayed r (entry.TerminateSent)) journal legal.1
+pids_below gives r (entry.KillSent at ∷ journal) legal = pids_below gives (replayed r (entry.KillSent at)) journal legal.1
+pids_below gives r (entry.CheckpointAsked ∷ journal) legal = pids_below gives (replayed r (entry.CheckpointAsked)) journal legal.1
+pids_below gives r (entry.Ready generation ∷ journal) legal = pids_below gives (replayed r (entry.Ready generation)) journal legal.1
+pids_below gives r (entry.Reset generation ∷ journal) legal = pids_below gives (replayed r (entry.Reset generation)) journal legal.1
+pids_below gives r (entry.Said line ∷ journal) legal = pids_below gives (replayed r (entry.Said line)) journal legal.1
+pids_below gives r (entry.Ended how ∷ journal) legal = pids_below gives (replayed r (entry.Ended how)) journal legal.1
 
 -- ---- in the slots
 
@@ -234,3 +268,42 @@ used_once limits gives count moves d legal begun = record {
 
     pids_are : (k : ℕ) → pids_at d k ≡ begun_pids (begun_at count k moves)
     pids_are k = pids_of_past (slot_at d k).past ∙ ap begun_pids (begun k)
+
+-- ---- the last pid
+
+pid_either : (pid : ℕ) (xs ys : List ℕ) → IsPidOf pid xs ⊎ IsPidOf pid ys → IsPidOf pid (xs ++ ys)
+pid_either pid [] ys (inl there) = absurd there
+pid_either pid [] ys (inr there) = there
+pid_either pid (x ∷ xs) ys (inl (inl is)) = inl is
+pid_either pid (x ∷ xs) ys (inl (inr there)) = inr (pid_either pid xs ys (inl there))
+pid_either pid (x ∷ xs) ys (inr there) = inr (pid_either pid xs ys (inr there))
+
+-- whoever began in a slot is one of those that the entries tell of
+begun_told : (k pid : ℕ) (s : Seating) (moves : List Move) → IsPidOf pid (begun_pids (begun_from k s moves)) → IsPidOf pid (pids_in (entries_from s moves))
+begun_told k pid s [] there = absurd there
+begun_told k pid s (move ∷ moves) there =
+    subst (IsPidOf pid) (sym (pids_append (entries_by s move) (entries_from (seating_by s move) moves)))
+    (pid_either pid (pids_in (entries_by s move)) (pids_in (entries_from (seating_by s move) moves)) (by (beginning s move) (λ more. begun_told k pid (seating_by s move) moves more)))
+  where
+    one : (child : Begun) (test : Bool) → IsPidOf pid (begun_pids ((if test then child ∷ [] else []) ++ begun_from k (seating_by s move) moves))
+        → (IsPidOf pid (begun_pids (begun_from k (seating_by s move) moves)) → IsPidOf pid (pids_in (entries_from (seating_by s move) moves)))
+        → IsPidOf pid (child.pid ∷ []) ⊎ IsPidOf pid (pids_in (entries_from (seating_by s move) moves))
+    one child true (inl is) more = inl (inl is)
+    one child true (inr there) more = inr (more there)
+    one child false there more = inr (more there)
+
+    by : Beginning s move → (IsPidOf pid (begun_pids (begun_from k (seating_by s move) moves)) → IsPidOf pid (pids_in (entries_from (seating_by s move) moves)))
+        → IsPidOf pid (pids_in (entries_by s move)) ⊎ IsPidOf pid (pids_in (entries_from (seating_by s move) moves))
+    by (Nobody no_pid no_child) more =
+        inr (more (subst (λ (l : List Begun). IsPidOf pid (begun_pids (l ++ begun_from k (seating_by s move) moves))) (no_child k) there))
+    by (Somebody child slot its_pid its_child) more =
+        subst (λ (l : List ℕ). IsPidOf pid l ⊎ IsPidOf pid (pids_in (entries_from (seating_by s move) moves))) (sym its_pid)
+        (one child (slot == k) (subst (λ (l : List Begun). IsPidOf pid (begun_pids (l ++ begun_from k (seating_by s move) moves))) (its_child k) there) more)
+
+-- no child that was released had a pid above the last
+pub drawn_by : (limits : Limits) (gives : ℕ → Bool) (count : ℕ) (moves : List Move) (d : RosterView MailTold) → IsLegal limits gives (journal_of count moves)
+    → ((k : ℕ) → map begun_of (slot_at d k).past ≡ begun_at count k moves)
+    → (k pid : ℕ) → IsPidOf pid (pids_at d k) → pid ≤ (all_replayed (replay_begun limits) (journal_of count moves)).shown.last_pid
+drawn_by limits gives count moves d legal begun k pid there =
+    (pids_below gives (replay_begun limits) (journal_of count moves) legal).each pid
+    (begun_told k pid (empty count) moves (subst (IsPidOf pid) (pids_of_past (slot_at d k).past ∙ ap begun_pids (begun k)) there))

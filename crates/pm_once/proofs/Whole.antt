@@ -13,7 +13,7 @@ use Rattle.pm_supervisor.specs.Steps.{empty_trace}
 use Rattle.pm_state.specs.declared.event.PmEvent.{PmEvent}
 use Rattle.pm_state.specs.declared.event.PmEvent.TheVariants as entry
 use Rattle.pm_supervisor.specs.declared.Ending.TheVariants as endings
-use Rattle.pm_state.specs.Journal.{AreLegal, Follows, all_replayed, dues, entries_of, replay_begun, without_first}
+use Rattle.pm_state.specs.Journal.{Follows, all_replayed, replay_begun}
 use Rattle.pm_state.specs.Laws.{RestartsSafely}
 use Rattle.pm_state.specs.Restarts.{AreAsSet}
 use Rattle.pm_state.specs.declared.action.Action.{Action}
@@ -49,8 +49,8 @@ use Rattle.pm_server.specs.declared.end.Why.TheVariants.{AfterCrash, StartupFail
 use Rattle.pm_duties.specs.AuxiliaryRuns.{AreToldBehind, nothing_heard}
 use Rattle.pm_duties.specs.declared.auxiliaries.Auxiliaries.{Auxiliaries}
 use Rattle.pm_duties.specs.declared.outcome.Outcome.{Outcome}
-use Rattle.pm_acts.specs.ActsLaws.{first_is}
 use Rattle.pm_server.specs.JournalLaws.{all_weaker, adds_none}
+use Rattle.pm_acts.specs.EndsLaws.{last_set, spent_next}
 use Rattle.pm_acts.specs.StepsLaws.{journal-append}
 use Rattle.pm_once.proofs.Undisturbed.{spent_disturbed}
 
@@ -166,27 +166,11 @@ whole_asked goes work limits gives end cs ended steps v now begun serves =
       | inr (inr drawn) ↦ inr (inr (subst (λ (n : ℕ). is_last_drawn n ≡ true) same drawn))
     ]
 
--- the last of them
-last_set : (limits : Limits) (xs ys : List PmEvent) → AreAsSet limits (xs ++ ys) → AreAsSet limits ys
-last_set limits [] ys all = all
-last_set limits (x ∷ xs) ys all = last_set limits xs ys all.1
-
 -- a server that isn't to restart
 told_off : (limits : Limits) (steps : List Step) → AreAsSet limits (journal_of steps) → EndsWith (entry.Ended endings.RestartOff) steps → limits.restart_after_crash ≡ false
 told_off limits steps set ends =
     (last_set limits (journal_of ends.0) (entry.Ended endings.RestartOff ∷ [])
     (subst (AreAsSet limits) (ap journal_of ends.1 ∙ journal-append ends.0 (Notes (entry.Ended endings.RestartOff) ∷ [])) set)).0
-
--- the next entry would be the reset of a generation that has no number
-spent_next : (limits : Limits) (journal : List PmEvent) (s : Standing) (h : _) → Stands limits (Some journal) s h → s.generation ≡ 4294967295 → first_due s.due ≡ Some act.Reset
-    → Follows any_moment (all_replayed (replay_begun limits) journal) (entry.Reset 4294967296)
-spent_next limits journal s h stands last first =
-    let r = all_replayed (replay_begun limits) stands.journal in
-    let legal : AreLegal any_moment r (entries_of 0 s.called_at r (dues (act.Reset ∷ without_first s.due))) =
-    subst (λ (due : List Action). AreLegal any_moment r (entries_of 0 s.called_at r (dues due))) (first_is s.due act.Reset first) stands.coming.legal in
-    let follows : Follows any_moment r (entry.Reset 4294967296) =
-    subst (λ (n : ℕ). Follows any_moment r (entry.Reset (n + 1))) (sym stands.remembers.generation ∙ last) legal.0 in
-    subst (λ (l : List PmEvent). Follows any_moment (all_replayed (replay_begun limits) l) (entry.Reset 4294967296)) (sym stands.told_is) follows
 
 ended_by : (limits : Limits) (end : ServerEnd) (steps : List Step) (now : View) → now.work.standing.generation ≡ (replay_of limits steps).shown.generation
     → (now.work.standing.generation ≡ 4294967295 → first_due now.work.standing.due ≡ Some act.Reset → Follows any_moment (replay_of limits steps) (entry.Reset 4294967296)) → AreAsSet limits (journal_of steps) → IsRefusedSo now.outcome steps → IsEndOf end steps now → IsOnceEnd limits end steps

@@ -35,7 +35,7 @@ use Rattle.pm_seating.specs.Seating.{Seating, Move, Notes, Begun, Ended, begins,
 use Rattle.pm_seating.specs.Standing.{AreOnRoll, View, IsRunning, IsSeated, Goes, SeatServes, view}
 use Rattle.pm_seating.proofs.Afresh.{afresh_acted, own_kind}
 use Rattle.pm_seating.proofs.Calling.{sat_down, told_more}
-use Rattle.pm_seating.proofs.Folding.{journal-more, seating-more, steps-more, begun-more, ended-more}
+use Rattle.pm_seating.specs.FoldingLaws.{journal-more, seating-more, steps-more, begun-more, ended-more}
 use Rattle.pm_seating.proofs.Rolls.{cases, found_kind}
 use Rattle.pm_seating.proofs.Sends.{noted-steps, same-slots, same-generation, shows_same}
 

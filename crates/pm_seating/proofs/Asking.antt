@@ -31,7 +31,7 @@ use Rattle.pm_seating.specs.Standing.{AreOnRoll, Goes, IsAt, IsSeated, View, kin
 use Rattle.pm_seating.proofs.Acting.{moved, same-gate}
 use Rattle.pm_seating.proofs.Afresh.{afresh_called, afresh_still, stepped_same}
 use Rattle.pm_seating.proofs.Calling.{afresh_noted, due_noted, rested, told_more}
-use Rattle.pm_seating.proofs.Folding.{journal-more}
+use Rattle.pm_seating.specs.FoldingLaws.{journal-more}
 use Rattle.pm_seating.proofs.Gating.{calls_leave}
 use Rattle.pm_seating.proofs.Resting.{call_may}
 use Rattle.pm_seating.proofs.Sends.{same-generation}

@@ -38,7 +38,7 @@ use Rattle.pm_seating.specs.Sitting.{HasReaped, StillRuns}
 use Rattle.pm_seating.specs.Standing.{View, IsAt, IsRunning, IsEnding, Goes, IsSeated, AreOnRoll, SeatServes}
 use Rattle.pm_seating.specs.Calls.{accepts, exits, exit_of, notes_in, EndsBehind, IsCutOff}
 use Rattle.pm_board.specs.declared.views.PastChild.{PastChild}
-use Rattle.pm_seating.proofs.Folding.{journal-more, journal-notes, seating-more, steps-more, begun-more, ended-more}
+use Rattle.pm_seating.specs.FoldingLaws.{journal-more, journal-notes, seating-more, steps-more, begun-more, ended-more}
 use Rattle.pm_seating.proofs.Rolls.{on_roll_more, on_roll_less, found_kind, cases, same_pid, other_pid}
 use Rattle.pm_seating.proofs.Sitting.{shows_set, had_begun, had_ended}
 

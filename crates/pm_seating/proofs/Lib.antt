@@ -1,4 +1,3 @@
-pub mod Folding
 pub mod Seen
 pub mod Sends
 pub mod Rolls

@@ -19,7 +19,7 @@ use Rattle.pm_seating.specs.Seating.{Seating, Move, Notes, Begun, Ended, with_se
 use Rattle.pm_seating.specs.Board.{SeenAs, Shows, begun_of, ended_of, seat_at, sitting}
 use Rattle.pm_seating.specs.Sitting.{Sits, HasReaped}
 use Rattle.pm_seating.specs.Standing.{HasHad}
-use Rattle.pm_seating.proofs.Folding.{begun-more, ended-more}
+use Rattle.pm_seating.specs.FoldingLaws.{begun-more, ended-more}
 use Rattle.pm_seating.proofs.Rolls.{cases, same_pid, other_pid, unlike, like}
 
 set_set : {A : Type 0} (l : List A) (k : ℕ) (a b : A) → set (set l k a) k b ≡ set l k b

@@ -1,0 +1,137 @@
+-- The acts of the machine.
+use Rattle.std.proofs.Common.{◌≡◌, ◌⊎◌, inl, inr, ℕ, ◌+◌, ◌≤◌, List, [], ◌∷◌, ◌++◌, refl, sym, ap, subst, ◌∙◌, length, arith, append-nil}
+use Rattle.std.specs.Prelude.{Bool, true, false, if◌then◌else◌, Option, None, Some, IfSome, Result, Ok, Err, is_some, option_map}
+use Rattle.pm_exit.specs.declared.child.Kind.{Kind}
+use Rattle.pm_exit.specs.declared.child.Kind.TheVariants as kinds
+use Rattle.pm_board.specs.declared.views.RosterStep.{RosterStep}
+use Rattle.pm_board.specs.declared.views.RosterView.{RosterView}
+use Rattle.pm_board.specs.declared.views.SlotView.{SlotView}
+use Rattle.pm_board.specs.Children.{CountsChildren}
+use Rattle.pm_board.specs.Places.{is_auxiliary, is_connection}
+use Rattle.pm_acts.specs.Acts.{LogBehind}
+use Rattle.pm_acts.specs.ActsLaws.{said_acted}
+use Rattle.pm_acts.specs.NextsLaws.{generation_kept}
+use Rattle.pm_journal.specs.declared.act.Act.{Act}
+use Rattle.pm_journal.specs.declared.act.Act.TheVariants as act
+use Rattle.pm_journal.specs.declared.roll.Enrolled.{Enrolled}
+use Rattle.pm_journal.specs.Standing.{Standing, act_for, done, entry_for, first_due, next_pid}
+use Rattle.pm_outside.specs.Visits.{Visits}
+use Rattle.pm_seating.specs.Acts.{MayPerform, Performs, slot_of, steps_for}
+use Rattle.pm_seating.specs.Board.{after_steps}
+use Rattle.pm_seating.specs.Calls.{slot_for}
+use Rattle.pm_seating.specs.Chained.{accepted_in}
+use Rattle.pm_seating.specs.FoldingLaws.{journal-more}
+use Rattle.pm_seating.specs.Seating.{Move, Notes, journal_of}
+use Rattle.pm_seating.specs.Standing.{view}
+use Rattle.pm_seating.specs.Standing as seating
+use Rattle.pm_state.specs.declared.action.Action.{Action}
+use Rattle.pm_state.specs.declared.action.Action.TheVariants as action
+use Rattle.pm_state.specs.declared.event.PmEvent.{PmEvent}
+use Rattle.pm_worker.specs.declared.mail.MailTold.{MailTold}
+use Rattle.pm_postmaster.specs.Links.{HasLinks}
+use Rattle.pm_postmaster.specs.Serving.{Holds, IsServing, KillsAll, Moments, Outset}
+use Rattle.pm_postmaster.specs.View.{View}
+use Rattle.pm_postmaster.proofs.Going.{GoesBy, Leaves, holds_on}
+use Rattle.pm_postmaster.proofs.Linking.{links_same, links_started, same_slots}
+use Rattle.pm_postmaster.proofs.Moments.{done_given, done_moments}
+use Rattle.pm_postmaster.proofs.Steps.{count_more}
+
+none_connects : (kind : Kind) → is_auxiliary kind ≡ true → is_connection kind ≡ false
+none_connects kinds.Startup is = refl
+none_connects kinds.Checkpointer is = refl
+none_connects kinds.Writer is = refl
+none_connects kinds.Worker is = refl
+none_connects kinds.Backend is = absurd (let no_ : false ≡ true = is in cc)
+none_connects kinds.DeadEnd is = absurd (let no_ : false ≡ true = is in cc)
+
+-- no act accepts a connection
+none_accepted : (a : Action) (s : Standing) → accepted_in (entry_for a s ∷ []) ≡ []
+none_accepted (action.Start k) s = refl
+none_accepted (action.Quit why) s = refl
+none_accepted action.Terminate s = refl
+none_accepted action.KillAll s = refl
+none_accepted action.AskCheckpoint s = refl
+none_accepted action.Ready s = refl
+none_accepted action.Reset s = refl
+none_accepted (action.Say line) s = refl
+none_accepted (action.End how) s = refl
+
+-- the act that is due first kills all only where that is due
+kills_first : (acts : List Action) (a : Action) → first_due acts ≡ Some a → a ≡ action.KillAll → KillsAll acts
+kills_first [] a first is = absurd (let no_ : ◌≡◌ {A = Option Action} None (Some a) = first in cc)
+kills_first (x ∷ acts) a first is = subst KillsAll (ap (λ (y : Action). y ∷ acts) (let same : x ≡ action.KillAll = (let one : Some x ≡ Some a = first in cc) in sym same)) tt
+
+module _ (counts : CountsChildren) (n : ℕ) (d e : RosterView MailTold) (seats seats' : List (Option Enrolled)) (ordered : Kind → MailTold) (visits : Visits) where
+  stepped : (ss : List RosterStep) → e ≡ after_steps d ss → HasLinks n d visits → HasLinks n e visits
+  stepped ss is = links_same n d e visits (ap (λ (x : RosterView MailTold). x.slots) is ∙ same_slots d ss)
+
+  -- an act leaves the links that are out
+  pub links_acted : (a : Act) → Performs a ordered d seats e seats' → MayPerform a d seats → HasLinks n d visits → HasLinks n e visits
+  links_acted (act.Start pid kind) has may = links_started (slot_of kind) d e pid kind (ordered kind) may.1.slot may.1.unused has.0 counts n visits (none_connects kind may.0)
+  links_acted (act.Quit why) has may = stepped (steps_for (act.Quit why) d.generation seats) has.0
+  links_acted act.Terminate has may = stepped (steps_for act.Terminate d.generation seats) has.0
+  links_acted act.KillAll has may = stepped (steps_for act.KillAll d.generation seats) has.0
+  links_acted act.AskCheckpoint has may = stepped (steps_for act.AskCheckpoint d.generation seats) has.0
+  links_acted (act.Ready g) has may = stepped (steps_for (act.Ready g) d.generation seats) has.0
+  links_acted (act.Reset g) has may = stepped (steps_for (act.Reset g) d.generation seats) has.0
+  links_acted (act.Say line) has may = stepped [] has.0
+  links_acted (act.End how) has may = stepped [] has.0
+
+-- and all slots
+pub slots_acted : (d e : RosterView MailTold) (seats seats' : List (Option Enrolled)) (ordered : Kind → MailTold) (a : Act) → Performs a ordered d seats e seats' → length e.slots ≡ length d.slots
+slots_acted d e seats seats' ordered (act.Start pid kind) has = has.0.2.count
+slots_acted d e seats seats' ordered (act.Quit why) has = ap (λ (x : RosterView MailTold). length x.slots) has.0 ∙ ap length (same_slots d (steps_for (act.Quit why) d.generation seats))
+slots_acted d e seats seats' ordered act.Terminate has = ap (λ (x : RosterView MailTold). length x.slots) has.0 ∙ ap length (same_slots d (steps_for act.Terminate d.generation seats))
+slots_acted d e seats seats' ordered act.KillAll has = ap (λ (x : RosterView MailTold). length x.slots) has.0 ∙ ap length (same_slots d (steps_for act.KillAll d.generation seats))
+slots_acted d e seats seats' ordered act.AskCheckpoint has = ap (λ (x : RosterView MailTold). length x.slots) has.0 ∙ ap length (same_slots d (steps_for act.AskCheckpoint d.generation seats))
+slots_acted d e seats seats' ordered (act.Ready g) has = ap (λ (x : RosterView MailTold). length x.slots) has.0 ∙ ap length (same_slots d (steps_for (act.Ready g) d.generation seats))
+slots_acted d e seats seats' ordered (act.Reset g) has = ap (λ (x : RosterView MailTold). length x.slots) has.0 ∙ ap length (same_slots d (steps_for (act.Reset g) d.generation seats))
+slots_acted d e seats seats' ordered (act.Say line) has = ap (λ (x : RosterView MailTold). length x.slots) has.0
+slots_acted d e seats seats' ordered (act.End how) has = ap (λ (x : RosterView MailTold). length x.slots) has.0
+
+links_in : (n m : ℕ) (d e : RosterView MailTold) (visits now : Option Visits) → now ≡ visits → m ≡ n → ((its : Visits) → HasLinks n d its → HasLinks n e its)
+    → IfSome visits (HasLinks n d) → IfSome now (HasLinks m e)
+links_in n m d e visits now is count on was = subst (λ (v : Option Visits). IfSome v (HasLinks m e)) (sym is) (by visits was)
+  where
+    by : (v : Option Visits) → IfSome v (HasLinks n d) → IfSome v (HasLinks m e)
+    by None has = tt
+    by (Some its) has = subst (λ (x : ℕ). HasLinks x e its) (sym count) (on its has)
+
+module _ {D C : Type 0} (gives : C → ℕ → Type 0) where
+  -- An act was noted, and done at the board; its line was written.
+  pub record Acts (a : Action) (before now : View D C) : Type 0 where
+    pub first : first_due before.work.standing.due ≡ Some a
+    pub goes : seating.Goes (Notes (entry_for a before.work.standing) (slot_for a) ∷ []) (view before.work before.board) (view now.work now.board)
+    pub standing : now.work.standing ≡ done a before.work.standing
+    pub links : (n : ℕ) (visits : Visits) → HasLinks n before.board visits → HasLinks n now.board visits
+    pub log : LogBehind (act_for a before.work.standing) before.log now.log
+    pub visits : now.visits ≡ before.visits
+    pub leaves : Leaves gives before now
+    pub slots : length now.board.slots ≡ length before.board.slots
+
+  -- what holds behind an act, and these moves
+  pub record Stands (outset : Outset D C) (moves : List Move) (now : View D C) : Type 0 where
+    pub at : seating.IsAt outset.limits outset.count moves (view now.work now.board)
+    pub holds : Holds gives outset moves now
+    pub moments : Moments (gives outset.clock) now.work.standing
+
+  pub acted : (outset : Outset D C) (a : Action) (before now : View D C) → Acts a before now → (was : IsServing gives outset before)
+      → Stands outset (was.moves ++ Notes (entry_for a before.work.standing) (slot_for a) ∷ []) now
+  acted outset a before now acts was =
+      let s : Standing = before.work.standing in
+      let move : Move = Notes (entry_for a s) (slot_for a) in
+      let e : List PmEvent = entry_for a s ∷ [] in
+      let kills = kills_first s.due a acts.first in
+      let goes : GoesBy gives outset was.moves (move ∷ []) e before now = record {
+        journal = journal-more outset.count was.moves move;
+        given = done_given (gives outset.clock) a s kills was.moments;
+        said = said_acted a s (journal_of outset.count was.moves) outset.log before.log now.log acts.log;
+        links = links_in _ _ before.board now.board before.visits now.visits acts.visits (count_more (journal_of outset.count was.moves) e (none_accepted a s)) (λ its. acts.links _ its);
+        leaves = acts.leaves;
+        slots = acts.slots;
+      } in
+      record {
+        at = acts.goes outset.limits outset.count was.moves was.at;
+        holds = holds_on gives outset was.moves (move ∷ []) e before now goes was.holds;
+        moments = subst (Moments (gives outset.clock)) (sym acts.standing) (done_moments (gives outset.clock) a s kills was.moments);
+      }

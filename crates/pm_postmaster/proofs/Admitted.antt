@@ -1,0 +1,127 @@
+-- A connection is taken.
+use Rattle.std.proofs.Common.{◌≡◌, ◌⊎◌, inl, inr, ℕ, ◌+◌, ◌<◌, ◌≤◌, List, [], ◌∷◌, ◌++◌, refl, sym, ap, subst, ◌∙◌, length, arith}
+use Rattle.std.proofs.lemmas.List.{length_push}
+use Rattle.std.specs.Prelude.{Bool, true, false, Option, None, Some, IfSome, is_some, option_map}
+use Rattle.pm_admit.specs.declared.Cac.{Cac}
+use Rattle.pm_admit.specs.declared.Cac.TheVariants as decisions
+use Rattle.pm_exit.specs.declared.child.Kind.{Kind}
+use Rattle.pm_exit.specs.declared.child.Kind.TheVariants as kinds
+use Rattle.pm_board.specs.declared.views.RosterView.{RosterView}
+use Rattle.pm_board.specs.declared.views.Sight.TheVariants.{Unused}
+use Rattle.pm_board.specs.Children.{CountsChildren}
+use Rattle.pm_board.specs.Models.{HasAssigned}
+use Rattle.pm_board.specs.Places.{is_connection, slot_at}
+use Rattle.pm_journal.specs.declared.roll.Enrolled.{Enrolled}
+use Rattle.pm_journal.specs.Standing.{Standing, accepting, decision_on, made, next_pid}
+use Rattle.pm_lines.specs.Log.{HasSaid}
+use Rattle.pm_lines.specs.LogLaws.{said_same}
+use Rattle.pm_outside.specs.Visits.{Visits, after_accept}
+use Rattle.pm_outside.specs.declared.port.Accepted.{Accepted}
+use Rattle.pm_outside.specs.declared.port.Accepted.TheVariants as answers
+use Rattle.pm_seating.specs.Board.{SeenAs, seat_at, seats_of}
+use Rattle.pm_seating.specs.Calls.{accepts}
+use Rattle.pm_seating.specs.Chained.{accepted_in}
+use Rattle.pm_seating.specs.FoldingLaws.{journal-more}
+use Rattle.pm_seating.specs.Seating.{Move, Notes, Seating, journal_of}
+use Rattle.pm_seating.specs.Standing.{view}
+use Rattle.pm_seating.specs.Standing as seating
+use Rattle.pm_state.specs.declared.event.PmEvent.{PmEvent}
+use Rattle.pm_state.specs.declared.event.PmEvent.TheVariants as entry
+use Rattle.pm_supervisor.specs.Steps.{kind_for}
+use Rattle.pm_worker.specs.declared.mail.MailTold.{MailTold}
+use Rattle.pm_worker.specs.declared.mail.MailTold.TheVariants as mail
+use Rattle.pm_postmaster.specs.Links.{GivesLink, HasLinks}
+use Rattle.pm_postmaster.specs.Serving.{IsServing, Moments, Outset}
+use Rattle.pm_postmaster.specs.View.{View}
+use Rattle.pm_postmaster.proofs.Going.{GoesBy, Leaves, LeavesStore, count_in, serves_on}
+use Rattle.pm_postmaster.proofs.Linking.{links_accepted}
+use Rattle.pm_postmaster.proofs.Moments.{accepted_moments}
+use Rattle.pm_postmaster.proofs.Steps.{accepted-append}
+
+-- the port has answered without a link
+pub no_link : {L : Type 0} (faults : L → ℕ) (n : ℕ) (d : RosterView MailTold) (visits : Option Visits) (answer : Accepted L) → ((link : L) → answer ≡ answers.Link link → ⊥)
+    → IfSome visits (HasLinks n d) → IfSome (option_map (λ v. after_accept faults v answer) visits) (HasLinks n d)
+no_link faults n d None answer none was = tt
+no_link faults n d (Some its) (answers.Link link) none was = absurd (none link refl)
+no_link faults n d (Some its) answers.NotYet none was = was
+no_link faults n d (Some its) answers.End none was = record { given = was.given; out = was.out; each = was.each; back = was.back }
+no_link faults n d (Some its) answers.Failed none was = was
+
+-- a link was given that had failed so often
+abbrev pub with_given : ℕ → Visits → Visits
+with_given faults v = record v { given = v.given ++ faults ∷ [] }
+
+-- who answers a connection
+pub connects : (decision : Cac) → (is_connection (kind_for decision) ≡ true) × (decision ≡ decisions.Ok → kind_for decision ≡ kinds.Backend)
+connects decisions.Ok = (refl, λ is. refl)
+connects decisions.Startup = (refl, λ is. absurd (cc))
+connects decisions.Recovery = (refl, λ is. absurd (cc))
+connects decisions.Shutdown = (refl, λ is. absurd (cc))
+connects decisions.TooMany = (refl, λ is. absurd (cc))
+
+-- the links of a port are as they were, but for how it stands itself
+pub unlinked : {D C : Type 0} (gives : C → ℕ → Type 0) (outset : Outset D C) (before : View D C) (visits : Option Visits) (listens : Bool)
+    → ((n : ℕ) → IfSome before.visits (HasLinks n before.board) → IfSome visits (HasLinks n before.board))
+    → IsServing gives outset before → IsServing gives outset (record before { visits = visits; listens = listens })
+unlinked gives outset before visits listens links was =
+    let stays = was.holds.stays in
+    record {
+      moves = was.moves;
+      at = was.at;
+      holds = record {
+        stays = record { table = stays.table; home = stays.home; tokens = stays.tokens; joined = stays.joined; disk = stays.disk; clock = stays.clock };
+        slots = was.holds.slots;
+        tells = was.holds.tells;
+        times = was.holds.times;
+        said = was.holds.said;
+        links = links _ was.holds.links;
+      };
+      moments = was.moments;
+      generation = was.generation;
+      renews = was.renews;
+      redos = was.redos;
+      came = was.came;
+    }
+
+module _ {D C : Type 0} (gives : C → ℕ → Type 0) (counts : CountsChildren) where
+  -- nobody sits at the board where the supervisor sees nobody
+  pub unused_at : (outset : Outset D C) (v : View D C) (k : ℕ) → k < length (seats_of v.board) → seat_at k (seats_of v.board) ≡ None → IsServing gives outset v
+      → (slot_at v.board k).sight ≡ Unused
+  unused_at outset v k near free was =
+      let seated = was.at.seated in
+      subst (λ (x : Option Enrolled). SeenAs seated.seating.generation x (slot_at v.board k).sight) (ap (seat_at k) (sym seated.at_hand) ∙ free)
+      (seated.shows.each k (subst (λ (xs : List (Option Enrolled)). k < length xs) seated.at_hand near))
+
+  -- the link of the port was given to a child
+  pub admitted_on : (outset : Outset D C) (before now : View D C) (k faults : ℕ) (given : MailTold) → Leaves gives before now → now.shared.generation ≡ before.shared.generation
+      → now.log ≡ before.log → k < length before.board.slots → (slot_at before.board k).sight ≡ Unused
+      → HasAssigned k (next_pid before.work.standing) (kind_for (decision_on before.work.standing)) given before.board now.board
+      → now.visits ≡ option_map (with_given faults) before.visits → IfSome before.visits (λ v. GivesLink (length v.given + 1) given)
+      → seating.Goes (accepts k before.work.standing) (view before.work before.board) (view now.work now.board)
+      → now.work.standing ≡ made (accepting before.work.standing) before.work.standing
+      → LeavesStore gives before now → IsServing gives outset before → IsServing gives outset now
+  admitted_on outset before now k faults given leaves shared log near free has visits number goes standing store was =
+      let s : Standing = before.work.standing in
+      let e : List PmEvent = entry.Accepted (next_pid s) (decision_on s) ∷ [] in
+      let journal : List PmEvent = journal_of outset.count was.moves in
+      let more : count_in (journal ++ e) ≡ count_in journal + 1 = ap length (accepted-append journal e) ∙ length_push (accepted_in journal) (next_pid s) in
+      let by : GoesBy gives outset was.moves (accepts k s) e before now = record {
+        journal = journal-more outset.count was.moves (Notes (entry.Accepted (next_pid s) (decision_on s)) k);
+        given = (tt, tt);
+        said = λ said. subst (HasSaid (journal ++ e) outset.log) (sym log) (said_same journal e outset.log before.log refl said);
+        links = λ links. subst (λ (n : ℕ). IfSome now.visits (HasLinks n now.board)) (sym more)
+            (subst (λ (v : Option Visits). IfSome v (HasLinks (count_in journal + 1) now.board)) (sym visits) (by_visits (count_in journal) before.visits number links));
+        leaves = leaves;
+        slots = has.2.count;
+      } in
+      serves_on gives outset (accepts k s) e before now was by (goes outset.limits outset.count was.moves was.at)
+      (subst (Moments (gives outset.clock)) (sym standing) (accepted_moments (gives outset.clock) s was.moments))
+      (shared ∙ (was.generation ∙ sym (ap (λ (x : Standing). x.generation) standing)))
+      (record { since = λ so. refl; lost = λ so. refl; resets = refl }) (λ j. refl) store
+    where
+      by_visits : (n : ℕ) (v : Option Visits) → IfSome v (λ its. GivesLink (length its.given + 1) given) → IfSome v (HasLinks n before.board)
+          → IfSome (option_map (with_given faults) v) (HasLinks (n + 1) now.board)
+      by_visits n None number had = tt
+      by_visits n (Some its) number had =
+          links_accepted k before.board now.board (next_pid before.work.standing) (kind_for (decision_on before.work.standing)) given near free has counts n its
+          (record its { given = its.given ++ faults ∷ [] }) refl (length_push its.given faults) (subst (λ (m : ℕ). GivesLink (m + 1) given) had.given number) had

@@ -1,0 +1,121 @@
+-- A server begins.
+use Rattle.std.proofs.Common.{◌≡◌, ◌⊎◌, inl, inr, ℕ, zero, suc, ◌+◌, ◌<◌, ◌≤◌, List, [], ◌∷◌, ◌++◌, refl, sym, ap, subst, ◌∙◌, length, arith, get_or, replicate}
+use Rattle.std.proofs.lemmas.List.{length-replicate}
+use Rattle.std.specs.Prelude.{Bool, true, false, cond, nat_eq, Option, None, Some, IfSome, is_some}
+use Rattle.std.specs.List.{Contains, flat_map}
+use Rattle.pm_board.specs.declared.views.PastChild.{PastChild}
+use Rattle.pm_board.specs.declared.views.RosterView.{RosterView}
+use Rattle.pm_board.specs.declared.views.Sight.TheVariants.{Unused}
+use Rattle.pm_board.specs.declared.views.SlotView.{SlotView}
+use Rattle.pm_board.specs.Children.{children_of, count_of}
+use Rattle.pm_board.specs.Places.{is_connection, slot_at, slot_view}
+use Rattle.pm_board.specs.Told.{new_roster}
+use Rattle.pm_crew.specs.Redos.{redo_told}
+use Rattle.pm_journal.specs.Standing.{nothing_done}
+use Rattle.pm_lines.specs.Log.{HasSaid}
+use Rattle.pm_lines.specs.LogLaws.{said_first}
+use Rattle.pm_outside.specs.Visits.{Visits, no_visits}
+use Rattle.pm_query.specs.declared.book.BookEntry.TheVariants.{Opened}
+use Rattle.pm_seating.specs.Standing.{IsAt, view}
+use Rattle.pm_shared.specs.declared.views.Noted.{Noted}
+use Rattle.pm_shared.specs.Log.{noted}
+use Rattle.pm_supervisor.specs.declared.Limits.{Limits}
+use Rattle.pm_worker.specs.declared.mail.MailTold.{MailTold}
+use Rattle.pm_postmaster.specs.Links.{HasLinks}
+use Rattle.pm_postmaster.specs.Looking.{came_of}
+use Rattle.pm_postmaster.specs.Serving.{IsAlive, IsServing, KillsAll, Outset, Renews}
+use Rattle.pm_postmaster.specs.View.{View}
+
+abbrev no_slot : SlotView MailTold
+no_slot = slot_view [] Unused
+
+none_counted : (n : ℕ) → count_of is_connection (children_of (replicate n no_slot)) ≡ 0
+none_counted zero = refl
+none_counted (suc n) = omega (arith, none_counted n)
+
+-- a slot of a new board
+new_slot : (count k : ℕ) → get_or (replicate count no_slot) k no_slot ≡ no_slot
+new_slot zero k = refl
+new_slot (suc n) zero = refl
+new_slot (suc n) (suc k) = new_slot n k
+
+module _ (count limit posts : ℕ) where
+  abbrev new_board : RosterView MailTold
+  new_board = new_roster count limit posts
+
+  new_past : (k : ℕ) → (slot_at new_board k).past ≡ []
+  new_past k = ap (λ (x : SlotView MailTold). x.past) (new_slot count k)
+
+  new_links : HasLinks 0 new_board no_visits
+  new_links = record {
+    given = refl;
+    out = (let none = none_counted count in omega (arith, none));
+    each = λ i from to. absurd (omega (arith, from, to));
+    back = λ k child has. absurd (let one : Contains [] child = subst (λ (xs : List (PastChild MailTold)). Contains xs child) (new_past k) has in let near = one.1 in omega (arith, near));
+  }
+
+  new_redos : (k : ℕ) → flat_map redo_told (slot_at new_board k).past ≡ []
+  new_redos k = ap (λ (xs : List (PastChild MailTold)). flat_map redo_told xs) (new_past k)
+
+new_renews : (own : List Noted) → own ≡ noted 0 (Opened 1) ∷ [] → Renews [] [] own
+new_renews own is = subst (λ (o : List Noted). Renews [] [] o) (sym is)
+    (record { lost_is = refl; opened = refl; gone = (record { others = []; is = refl; apart = λ pid. omega arith }, tt); fresh = refl })
+
+-- a server that begins as it is now
+abbrev pub outset_of : {D C : Type 0} → Limits → ℕ → View D C → Outset D C
+outset_of limits count v = record {
+  limits = limits;
+  count = count;
+  table = v.table;
+  shared = v.shared;
+  log = v.log;
+  clock = v.clock;
+  tells = is_some v.work.told;
+}
+
+module _ {D C : Type 0} (gives : C → ℕ → Type 0) where
+  begins : (outset : Outset D C) (v : View D C) (limit posts : ℕ) → IsAt outset.limits outset.count [] (view v.work v.board)
+      → v.work.standing ≡ nothing_done outset.limits → v.board ≡ new_roster outset.count limit posts
+      → v.table ≡ outset.table → v.shared ≡ outset.shared → v.clock ≡ outset.clock → v.log ≡ outset.log → outset.log.is_cut ≡ false
+      → is_some v.work.told ≡ outset.tells → IfSome v.visits (λ visits. visits ≡ no_visits)
+      → v.shared.generation ≡ 1 → v.shared.own ≡ noted 0 (Opened 1) ∷ [] → v.lost ≡ [] → v.came ≡ None → IsServing gives outset v
+  begins outset v limit posts at standing board table shared clock log uncut tells visits generation own lost came = record {
+    moves = [];
+    at = at;
+    holds = record {
+      stays = record {
+        table = table;
+        home = ap (λ s. s.table) shared;
+        tokens = ap (λ s. s.tokens) shared;
+        joined = ap (λ s. s.joined) shared;
+        disk = ap (λ s. s.first) shared;
+        clock = clock;
+      };
+      slots = ap (λ (d : RosterView MailTold). length d.slots) board ∙ length-replicate outset.count no_slot;
+      tells = tells;
+      times = tt;
+      said = subst (λ l. HasSaid [] outset.log l) (sym log) (said_first outset.log uncut);
+      links = by v.visits visits;
+    };
+    moments = record { last = inl (ap (λ s. s.moment) standing); called = λ kills. absurd (subst (λ s. KillsAll s.due) standing kills) };
+    generation = generation ∙ sym (ap (λ s. s.generation) standing);
+    renews = subst (λ (l : List ℕ). Renews [] l v.shared.own) (sym lost) (new_renews v.shared.own own);
+    redos = λ k. ap (λ (d : RosterView MailTold). flat_map redo_told (slot_at d k).past) board ∙ new_redos outset.count limit posts k;
+    came = came ∙ sym (ap (λ (d : RosterView MailTold). came_of (slot_at d 0).past) board ∙ ap came_of (new_past outset.count limit posts 0));
+  }
+    where
+      by : (its : Option Visits) → IfSome its (λ visits. visits ≡ no_visits) → IfSome its (HasLinks 0 v.board)
+      by None new = tt
+      by (Some its) new = subst (λ (x : Visits). HasLinks 0 v.board x) (sym new) (subst (λ (d : RosterView MailTold). HasLinks 0 d no_visits) (sym board) (new_links outset.count limit posts))
+
+  pub begun : (limits : Limits) (count : ℕ) (v : View D C) (limit posts : ℕ) → IsAt limits count [] (view v.work v.board)
+      → v.work.standing ≡ nothing_done limits → v.board ≡ new_roster count limit posts → v.log.is_cut ≡ false → IfSome v.visits (λ visits. visits ≡ no_visits)
+      → v.shared.generation ≡ 1 → v.shared.own ≡ noted 0 (Opened 1) ∷ [] → v.lost ≡ [] → v.came ≡ None → IsServing gives (outset_of limits count v) v
+  begun limits count v limit posts at standing board uncut visits generation own lost came =
+      begins (outset_of limits count v) v limit posts at standing board refl refl refl refl uncut refl visits generation own lost came
+
+  pub begun_alive : (limits : Limits) (count : ℕ) (v : View D C) (limit posts : ℕ) → IsAt limits count [] (view v.work v.board)
+      → v.work.standing ≡ nothing_done limits → v.board ≡ new_roster count limit posts → v.log.is_cut ≡ false → IfSome v.visits (λ visits. visits ≡ no_visits)
+      → v.shared.generation ≡ 1 → v.shared.own ≡ noted 0 (Opened 1) ∷ [] → v.lost ≡ [] → v.came ≡ None → IsAlive gives v
+  begun_alive limits count v limit posts at standing board uncut visits generation own lost came =
+      (outset_of limits count v, begun limits count v limit posts at standing board uncut visits generation own lost came)

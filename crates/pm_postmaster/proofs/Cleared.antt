@@ -1,0 +1,105 @@
+-- The clearing of a board.
+use Rattle.std.proofs.Common.{◌≡◌, ◌⊎◌, inl, inr, ℕ, ◌<◌, List, [], ◌∷◌, ◌++◌, refl, sym, ap, subst, ◌∙◌, length, get_or, append-nil, append_assoc, arith, nat_eq}
+use Rattle.std.proofs.lemmas.List.{length-map}
+use Rattle.std.specs.Prelude.{Bool, Option, None, Some, IfSome, option_map}
+use Rattle.atomic_table.specs.Seated.{TableId}
+use Rattle.pm_exit.specs.declared.child.Kind.{Kind}
+use Rattle.pm_exit.specs.declared.child.Status.{Status}
+use Rattle.pm_board.specs.declared.views.PastChild.{PastChild}
+use Rattle.pm_board.specs.declared.views.RosterView.{RosterView}
+use Rattle.pm_board.specs.declared.views.SlotView.{SlotView}
+use Rattle.pm_board.specs.Children.{CountsChildren, child_in_slot, children_of}
+use Rattle.pm_journal.specs.declared.roll.Enrolled.{Enrolled}
+use Rattle.pm_seating.specs.Board.{enrolled, seats_of}
+use Rattle.pm_board.specs.declared.views.Sight.TheVariants.{Unused}
+use Rattle.pm_board.specs.Places.{slot_at, slot_view}
+use Rattle.pm_outside.specs.Visits.{Visits}
+use Rattle.pm_seating.specs.Final.{KeepsEnding}
+use Rattle.pm_seating.specs.Sitting.{HasFoundNone, StillRuns}
+use Rattle.pm_worker.specs.declared.mail.MailTold.{MailTold}
+use Rattle.pm_postmaster.specs.Clearing.{Clears, MayClear}
+use Rattle.pm_postmaster.specs.Links.{HasLinks}
+use Rattle.pm_postmaster.specs.Looking.{opened}
+use Rattle.pm_postmaster.proofs.Linking.{by_test, links_same}
+use Rattle.pm_postmaster.proofs.Reaped.{Leaving, links_back, links_still, past_more, slots_found}
+
+-- slots that are the same
+pub clears_same : (t u : TableId) (d e : RosterView MailTold) (visits now : Option Visits) → u ≡ t → KeepsEnding d e → e.slots ≡ d.slots → now ≡ visits → Clears t d visits u e now
+clears_same t u d e visits now table ending slots is = record {
+  table = table;
+  slots = ap length slots;
+  ending = ending;
+  links = λ n had. subst (λ (v : Option Visits). IfSome v (HasLinks n e)) (sym is) (by n visits had);
+  past = λ k. ([], ap (λ (xs : List (SlotView MailTold)). (get_or xs k (slot_view [] Unused)).past) slots ∙ sym (append-nil (slot_at d k).past));
+}
+  where
+    by : (n : ℕ) (v : Option Visits) → IfSome v (HasLinks n d) → IfSome v (HasLinks n e)
+    by n None had = tt
+    by n (Some its) had = links_same n d e its slots had
+
+-- a look that found no end
+pub clears_found : (k : ℕ) (t u : TableId) (d e : RosterView MailTold) (visits now : Option Visits) → u ≡ t → KeepsEnding d e → k < length d.slots → HasFoundNone k d e
+    → ((j : ℕ) → (slot_at e j).past ≡ (slot_at d j).past) → now ≡ visits → Clears t d visits u e now
+clears_found k t u d e visits now table ending near found past is = record {
+  table = table;
+  slots = slots_found k d e found;
+  ending = ending;
+  links = λ n had. links_still n n k d e visits now near found is refl had;
+  past = λ j. ([], past j ∙ sym (append-nil (slot_at d j).past));
+}
+
+-- a child was released
+pub clears_released : CountsChildren → (k : ℕ) (kind : Kind) (status : Status) (active : Bool) (back : MailTold) (t u : TableId) (d e : RosterView MailTold) (visits now : Option Visits) → u ≡ t
+    → KeepsEnding d e → Leaving k kind status active back d e → now ≡ option_map (opened back) visits → Clears t d visits u e now
+clears_released counts k kind status active back t u d e visits now table ending has is = record {
+  table = table;
+  slots = has.became.count;
+  ending = ending;
+  links = λ n had. links_back counts n n k kind status active back d e visits now has is refl had;
+  past = past_more k kind status active back d e has;
+}
+
+pub clears_none : (t : TableId) (d : RosterView MailTold) (visits : Option Visits) → Clears t d visits t d visits
+clears_none t d visits = record {
+  table = refl;
+  slots = refl;
+  ending = record { ending = λ count moves was. was; last_pid = refl };
+  links = λ n had. had;
+  past = λ k. ([], sym (append-nil (slot_at d k).past));
+}
+
+pub clears_both : (t u w : TableId) (d e f : RosterView MailTold) (a b c : Option Visits) → Clears t d a u e b → Clears u e b w f c → Clears t d a w f c
+clears_both t u w d e f a b c one two = record {
+  table = two.table ∙ one.table;
+  slots = two.slots ∙ one.slots;
+  ending = record {
+    ending = λ count moves was. two.ending.ending count moves (one.ending.ending count moves was);
+    last_pid = two.ending.last_pid ∙ one.ending.last_pid;
+  };
+  links = λ n had. two.links n (one.links n had);
+  past = λ k. (let p = one.past k in let q = two.past k in
+      (p.0 ++ q.0, q.1 ∙ (ap (λ (xs : List (PastChild MailTold)). xs ++ q.0) p.1 ∙ append_assoc (slot_at d k).past p.0 q.0)));
+}
+
+pub may_still : (t u : TableId) (d e : RosterView MailTold) (a b : Option Visits) → Clears t d a u e b → MayClear d a → MayClear e b
+may_still t u d e a b clears may = record {
+  count = may.count;
+  moves = may.moves;
+  ending = clears.ending.ending may.count may.moves may.ending;
+  accepted = may.accepted;
+  links = clears.links may.accepted may.links;
+}
+
+-- ---- of one slot
+
+pub as_many_seats : (d : RosterView MailTold) → length (seats_of d) ≡ length d.slots
+as_many_seats d = length-map (children_of d.slots) enrolled ∙ length-map d.slots child_in_slot
+
+pub near_slots : (k : ℕ) (d : RosterView MailTold) → k < length (seats_of d) → k < length d.slots
+near_slots k d near = subst (λ (n : ℕ). k < n) (as_many_seats d) near
+
+pub past_still : (k : ℕ) (c : Enrolled) (d e : RosterView MailTold) → StillRuns k c d e → (j : ℕ) → (slot_at e j).past ≡ (slot_at d j).past
+past_still k c d e still j = by_test (nat_eq j k)
+    (λ is. (let same : j ≡ k = grind (arith, is) in
+    ap (λ (i : ℕ). (slot_at e i).past) same ∙ (ap (λ (x : SlotView MailTold). x.past) still.became.here ∙ ap (λ (i : ℕ). (slot_at d i).past) (sym same))))
+    (λ isnt. ap (λ (x : SlotView MailTold). x.past) (still.became.others j (grind (arith, isnt))))

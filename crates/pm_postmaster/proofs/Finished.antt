@@ -1,0 +1,136 @@
+-- What a run leaves, by its parts.
+use Rattle.std.proofs.Common.{◌≡◌, ◌⊎◌, inl, inr, ℕ, ◌+◌, ◌<◌, ◌≤◌, List, [], ◌∷◌, ◌++◌, refl, sym, ap, subst, ◌∙◌, length, map, arith, append-nil, append_assoc}
+use Rattle.std.proofs.lemmas.List.{get_or_past}
+use Rattle.std.specs.Prelude.{Bool, true, false, Option, None, Some, IfSome, is_some, nat_lt, option_map}
+use Rattle.pm_disk.specs.declared.disk.Disk as Disk
+use Rattle.pm_journal.specs.Standing.{Adds}
+use Rattle.pm_outside.specs.declared.chronicle.Chronicle as Chronicle
+use Rattle.pm_pool.specs.Given.{IsGivenBack, IsOpenedAlone}
+use Rattle.pm_query.specs.declared.book.BookEntry.{BookEntry}
+use Rattle.pm_query.specs.declared.book.BookEntry.TheVariants.{Opened}
+use Rattle.pm_record.specs.OnDisk.{GoesOn}
+use Rattle.pm_segment.specs.Moment.{moment}
+use Rattle.pm_segment.specs.MovesLaws.{time_still}
+use Rattle.pm_segment.specs.Unread.{has_break}
+use Rattle.pm_lines.specs.Log.{HasLogged, HasPrinted, LogView, Says, log_of}
+use Rattle.pm_lines.specs.LogLaws.{logged_by, printed_more}
+use Rattle.pm_board.specs.declared.views.PastChild.{PastChild}
+use Rattle.pm_board.specs.declared.views.RosterView.{RosterView}
+use Rattle.pm_board.specs.declared.views.Sight.TheVariants.{Unused}
+use Rattle.pm_board.specs.declared.views.SlotView.{SlotView}
+use Rattle.pm_board.specs.Places.{slot_at, slot_view}
+use Rattle.pm_crew.specs.Left.{AreLeft, Manner}
+use Rattle.pm_crew.specs.Pids.{AreUsedOnce}
+use Rattle.pm_crew.specs.PidsLaws.{drawn_by, used_once}
+use Rattle.pm_journal.specs.Stands.{any_moment, highest_pid}
+use Rattle.pm_outside.specs.Visits.{Visits}
+use Rattle.pm_pool.specs.Closing.{HasHadLast}
+use Rattle.pm_seating.specs.Chained.{LinksCameBack, accepted_in}
+use Rattle.pm_seating.specs.Final.{EndsWithNobody, IsEndingAt, NobodySits}
+use Rattle.pm_seating.specs.Seating.{Move, journal_of}
+use Rattle.pm_server.specs.declared.end.ServerEnd.{ServerEnd}
+use Rattle.pm_server.specs.declared.end.ServerEnd.TheVariants.{Clean, Abnormal, NoThread, NoMemory}
+use Rattle.pm_server.specs.declared.end.Why.TheVariants.{AfterCrash, StartupFailed, RestartOff, GenerationsSpent}
+use Rattle.pm_shared.specs.declared.views.Noted.{Noted}
+use Rattle.pm_state.specs.Journal.{IsLegal}
+use Rattle.pm_supervisor.specs.declared.Limits.{Limits}
+use Rattle.pm_worker.specs.declared.mail.MailTold.{MailTold}
+use Rattle.pm_postmaster.specs.Links.{HasLinks}
+use Rattle.pm_postmaster.specs.Serving.{IsCausedBehind, last_pid_in}
+use Rattle.pm_postmaster.proofs.Closing.{still_once}
+use Rattle.pm_postmaster.proofs.Home.{links_home}
+use Rattle.pm_postmaster.proofs.Linking.{by_test}
+use Rattle.pm_state.specs.declared.event.PmEvent.{PmEvent}
+use Rattle.pm_postmaster.specs.Served.{IsEnded}
+
+-- these entries were added to a new journal
+pub adds_new : (journal : List PmEvent) (before now : Option (List PmEvent)) → IfSome before (λ entries. entries ≡ []) → is_some now ≡ is_some before
+    → IfSome now (λ entries. entries ≡ journal) → Adds journal before now
+adds_new journal None None new same is = refl
+adds_new journal None (Some its) new same is = absurd (let no_ : true ≡ false = same in cc)
+adds_new journal (Some first) None new same is = absurd (let no_ : false ≡ true = same in cc)
+adds_new journal (Some first) (Some its) new same is = ap (λ (l : List PmEvent). Some l) (is ∙ ap (λ (l : List PmEvent). l ++ journal) (sym new))
+
+-- the lines of the journal and of the end were logged
+pub logged_all : (text line : List ℕ) (first last : LogView) (written : Option (List ℕ)) (faults : ℕ) → HasPrinted text first last → IsEnded line last written faults
+    → HasLogged (text ++ line) first.written written first.faults faults
+logged_all text line first last written faults printed ended =
+    subst (λ (w : Option (List ℕ)). HasLogged (text ++ line) first.written w first.faults faults) ended.2
+    (subst (λ (n : ℕ). HasLogged (text ++ line) first.written ended.0.written first.faults n) ended.3 (logged_by (text ++ line) first ended.0 (printed_more text line first last ended.0 printed ended.1)))
+
+-- the same, of a log that began so
+pub logged_whole : (text line : List ℕ) (first last start : LogView) (written : Option (List ℕ)) (faults : ℕ) → first ≡ start → HasPrinted text first last → IsEnded line last written faults
+    → HasLogged (text ++ line) start.written written start.faults faults
+logged_whole text line first last start written faults is printed ended =
+    subst (λ (l : LogView). HasLogged (text ++ line) l.written written l.faults faults) is (logged_all text line first last written faults printed ended)
+
+-- the journal tells these entries
+pub told_at : (was now : Option (List PmEvent)) (journal : List PmEvent) → now ≡ was → IfSome was (λ its. its ≡ journal) → IfSome now (λ its. its ≡ journal)
+told_at was now journal is told = subst (λ (t : Option (List PmEvent)). IfSome t (λ its. its ≡ journal)) (sym is) told
+
+-- ---- the whole
+
+-- a store that has noted nothing but its first generation
+pub opened_alone : {D B : Type 0} (g : Disk.Ghosts D) (h : Chronicle.Ghosts B BookEntry) (first disk : D) (book : B) → IsOpenedAlone g h first disk book
+    → (IfSome (h.entries book) (λ its. its ≡ Opened 1 ∷ [])) × (g.seen disk ≡ g.seen first) × GoesOn (g.ticks first) (g.ticks disk) (g.images first) (g.images disk)
+opened_alone g h first disk book alone =
+    let behind = alone.1 in
+    let files : (moment alone.0).files ≡ g.seen first = unread (behind.unread refl).1 in (
+      subst (λ (b : _). IfSome (h.entries b) (λ its. its ≡ Opened 1 ∷ [])) (sym alone.3) behind.told,
+      ap g.seen alone.2 ∙ files,
+      subst (λ (d : _). GoesOn (g.ticks first) (g.ticks d) (g.images first) (g.images d)) (sym alone.2) behind.time,
+    )
+  where
+    unread : {X : Type 0} → (has_break (Opened 1 ∷ []) ≡ true) ⊎ X → X
+    unread (inl broke) = absurd (let no_ : false ≡ true = broke in cc)
+    unread (inr same) = same
+
+-- disk and book where no pool was made
+pub given_back : {D B : Type 0} (g : Disk.Ghosts D) (h : Chronicle.Ghosts B BookEntry) (first disk : D) (given book : B) → IsGivenBack g h first given disk book
+    → ((h.entries book ≡ h.entries given) ⊎ IfSome (h.entries book) (λ its. its ≡ Opened 1 ∷ [])) × (g.seen disk ≡ g.seen first)
+    × GoesOn (g.ticks first) (g.ticks disk) (g.images first) (g.images disk)
+given_back g h first disk given book (inl same) =
+    (inl same.1, ap g.seen same.0, subst (λ (d : _). GoesOn (g.ticks first) (g.ticks d) (g.images first) (g.images d)) (sym same.0) (time_still (g.ticks first) (g.images first)))
+given_back g h first disk given book (inr alone) = let it = opened_alone g h first disk book alone in (inr it.0, it.1, it.2)
+
+-- a cause stays one behind children that were released later
+pub caused_more : (end : ServerEnd) (past more now : List (PastChild MailTold)) → now ≡ past ++ more → IsCausedBehind end past → IsCausedBehind end now
+caused_more (Abnormal (StartupFailed reason)) past more now is cause =
+    (cause.0, cause.1 ++ more, is ∙ (ap (λ (l : List (PastChild MailTold)). l ++ more) cause.2 ∙ append_assoc cause.0 cause.1 more), cause.3, cause.4, cause.5)
+caused_more (Abnormal AfterCrash) past more now is cause = tt
+caused_more (Abnormal RestartOff) past more now is cause = tt
+caused_more (Abnormal GenerationsSpent) past more now is cause = tt
+caused_more Clean past more now is cause = tt
+caused_more NoThread past more now is cause = tt
+caused_more NoMemory past more now is cause = tt
+
+-- behind all slots there is nobody
+pub none_behind : (d : RosterView MailTold) (k : ℕ) → length d.slots ≤ k → (slot_at d k).past ≡ []
+none_behind d k far = ap (λ (x : SlotView MailTold). x.past) (get_or_past d.slots k (slot_view [] Unused) far)
+
+module _ (limits : Limits) (count : ℕ) (moves : List Move) (board after : RosterView MailTold) (nobody : EndsWithNobody MailTold)
+    (ending : IsEndingAt count moves board) (sits : NobodySits board) (slots : length board.slots ≡ count) (slots_after : length after.slots ≡ count)
+    (legal : IsLegal limits any_moment (journal_of count moves)) (drawn : last_pid_in limits (journal_of count moves) ≤ highest_pid)
+    (last : (k : ℕ) → k < count → HasHadLast k board after) where
+  pub once_after : AreUsedOnce after
+  once_after =
+      still_once count board after (used_once limits any_moment count moves board legal (nobody.exact count moves board ending sits))
+      (λ k pid there. (let low = drawn_by limits any_moment count moves board legal (nobody.exact count moves board ending sits) k pid there in omega (arith, low, drawn)))
+      last (λ k far. ap (λ (l : List (PastChild MailTold)). map (λ child. child.offer.pid) l) (none_behind after k (subst (λ (n : ℕ). n ≤ k) (sym slots_after) far)))
+
+  pub past_after : (k : ℕ) → (others : List (PastChild MailTold)) × ((slot_at after k).past ≡ (slot_at board k).past ++ others)
+  past_after k = by_test (nat_lt k count)
+      (λ is. (let one : HasHadLast k board after = last k (grind (arith, is)) in (one.child ∷ [], one.past)))
+      (λ isnt. (let far : count ≤ k = grind (arith, isnt) in (
+        [],
+        none_behind after k (subst (λ (n : ℕ). n ≤ k) (sym slots_after) far)
+            ∙ (sym (none_behind board k (subst (λ (n : ℕ). n ≤ k) (sym slots) far)) ∙ sym (append-nil (slot_at board k).past)),
+      )))
+
+-- links, where the port tells them
+pub home_if : (manner : Manner) (count : ℕ) (before after : RosterView MailTold) (own : List Noted) (book : List BookEntry) → AreLeft manner count after own book
+    → ((k : ℕ) → (slot_at before k).sight ≡ Unused) → ((k : ℕ) → k < count → (others : List (PastChild MailTold)) × ((slot_at after k).past ≡ (slot_at before k).past ++ others))
+    → ((k : ℕ) → count ≤ k → (slot_at before k).past ≡ []) → (journal : List PmEvent) (visits : Option Visits)
+    → IfSome visits (HasLinks (length (accepted_in journal)) before) → IfSome visits (LinksCameBack journal)
+home_if manner count before after own book left free more wide journal None was = tt
+home_if manner count before after own book left free more wide journal (Some visits) was = links_home manner count before after own book left free more wide journal visits was

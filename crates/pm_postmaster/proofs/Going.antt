@@ -1,0 +1,158 @@
+-- A server goes on, and ends.
+use Rattle.std.proofs.Common.{◌≡◌, ◌⊎◌, inl, inr, ℕ, ◌+◌, ◌≤◌, List, [], ◌∷◌, ◌++◌, refl, sym, ap, subst, ◌∙◌, length, arith, append-nil}
+use Rattle.std.specs.Prelude.{Bool, true, false, if◌then◌else◌, Option, None, Some, IfSome, Result, Ok, Err, is_some, option_map}
+use Rattle.pm_board.specs.declared.views.RosterView.{RosterView}
+use Rattle.pm_journal.specs.Laws.{KeepsALegalJournal}
+use Rattle.pm_journal.specs.Moments.{AreGiven}
+use Rattle.pm_journal.specs.Standing.{Standing}
+use Rattle.pm_journal.specs.Stands.{Stands, any_moment, highest_pid}
+use Rattle.pm_supervisor.specs.declared.Limits.{Limits}
+use Rattle.pm_supervisor.specs.Steps.{Trace}
+use Rattle.pm_lines.specs.Log.{HasSaid}
+use Rattle.pm_seating.specs.Chained.{accepted_in}
+use Rattle.pm_seating.specs.Final.{IsEndingAt, MayEndAnywhere}
+use Rattle.pm_seating.specs.Seating.{Move, journal_of}
+use Rattle.pm_seating.specs.Sitting.{KeepsPast}
+use Rattle.pm_shared.specs.declared.views.Noted.{Noted}
+use Rattle.pm_board.specs.Places.{slot_at}
+use Rattle.pm_seating.specs.Standing.{IsAt, IsRunning, view}
+use Rattle.pm_server.specs.JournalLaws.{all_given}
+use Rattle.pm_server.specs.declared.end.ServerEnd.{ServerEnd}
+use Rattle.pm_state.specs.declared.event.PmEvent.{PmEvent}
+use Rattle.pm_state.specs.Journal.{IsLegal}
+use Rattle.pm_worker.specs.declared.mail.MailTold.{MailTold}
+use Rattle.pm_postmaster.specs.Links.{HasLinks}
+use Rattle.pm_postmaster.specs.Serving.{Goes, HasStopped, Holds, IsAlive, IsCausedBehind, IsEndBehind, IsServing, Keeps, Moments, Outset, Renews, StaysWith, Stops, last_pid_in}
+use Rattle.pm_postmaster.specs.Looking.{came_of}
+use Rattle.pm_postmaster.specs.View.{View}
+use Rattle.pm_postmaster.proofs.Redoing.{TellNone, redos_still, redos_told}
+use Rattle.pm_postmaster.proofs.Renewing.{AreQuiet, renews_as_told, renews_quiet}
+
+-- no pid was drawn above the highest
+pub drawn_at : KeepsALegalJournal → (limits : Limits) (journal : List PmEvent) (s : Standing) (h : Trace) → Stands limits (Some journal) s h → last_pid_in limits journal ≤ highest_pid
+drawn_at legal limits journal s h stands =
+    let low : s.last_pid ≤ highest_pid = legal.pids limits (Some journal) s h stands in
+    let same : s.last_pid ≡ last_pid_in limits stands.journal = stands.remembers.last_pid in
+    subst (λ (n : ℕ). n ≤ highest_pid) (same ∙ ap (last_pid_in limits) (sym stands.told_is)) low
+
+-- the connections of a journal
+abbrev pub count_in : List PmEvent → ℕ
+count_in journal = length (accepted_in journal)
+
+module _ {D C : Type 0} (gives : C → ℕ → Type 0) where
+  -- what one thing leaves as it was
+  pub record Leaves (before now : View D C) : Type 0 where
+    pub table : now.table ≡ before.table
+    pub home : now.shared.table ≡ before.shared.table
+    pub tokens : now.shared.tokens ≡ before.shared.tokens
+    pub joined : now.shared.joined ≡ before.shared.joined
+    pub disk : now.shared.first ≡ before.shared.first
+    pub clock : now.clock ≡ before.clock
+    pub tells : is_some now.work.told ≡ is_some before.work.told
+
+  -- what most things leave of the store's side, and of startup children
+  pub record LeavesStore (before now : View D C) : Type 0 where
+    pub lost : now.lost ≡ before.lost
+    pub own : now.shared.own ≡ before.shared.own
+    pub came : now.came ≡ before.came
+    pub past : KeepsPast before.board now.board
+
+  -- where these entries tell of no loss, and these moves of no end of redo
+  pub renews_on : (journal entries : List PmEvent) (before now : View D C) → AreQuiet entries → LeavesStore before now
+      → Renews journal before.lost before.shared.own → Renews (journal ++ entries) now.lost now.shared.own
+  renews_on journal entries before now quiet leaves was =
+      subst (λ (l : List ℕ). Renews (journal ++ entries) l now.shared.own) (sym leaves.lost)
+      (subst (λ (own : List Noted). Renews (journal ++ entries) before.lost own) (sym leaves.own) (renews_quiet journal before.lost before.shared.own entries quiet was))
+
+  pub came_on : (before now : View D C) → LeavesStore before now → before.came ≡ came_of (slot_at before.board 0).past → now.came ≡ came_of (slot_at now.board 0).past
+  came_on before now leaves was = leaves.came ∙ (was ∙ ap came_of (sym (leaves.past 0)))
+
+  stays_on : (outset : Outset D C) (before now : View D C) → Leaves before now → StaysWith outset before → StaysWith outset now
+  stays_on outset before now leaves was = record {
+    table = leaves.table ∙ was.table;
+    home = leaves.home ∙ was.home;
+    tokens = leaves.tokens ∙ was.tokens;
+    joined = leaves.joined ∙ was.joined;
+    disk = leaves.disk ∙ was.disk;
+    clock = leaves.clock ∙ was.clock;
+  }
+
+  -- These moves more, which leave these entries.
+  pub record GoesBy (outset : Outset D C) (earlier more : List Move) (entries : List PmEvent) (before now : View D C) : Type 0 where
+    pub journal : journal_of outset.count (earlier ++ more) ≡ journal_of outset.count earlier ++ entries
+    pub given : AreGiven (gives outset.clock) entries
+    pub said : HasSaid (journal_of outset.count earlier) outset.log before.log → HasSaid (journal_of outset.count earlier ++ entries) outset.log now.log
+    pub links : IfSome before.visits (HasLinks (count_in (journal_of outset.count earlier)) before.board)
+        → IfSome now.visits (HasLinks (count_in (journal_of outset.count earlier ++ entries)) now.board)
+    pub leaves : Leaves before now
+    pub slots : length now.board.slots ≡ length before.board.slots
+
+  pub holds_on : (outset : Outset D C) (earlier more : List Move) (entries : List PmEvent) (before now : View D C) → GoesBy outset earlier more entries before now
+      → Holds gives outset earlier before → Holds gives outset (earlier ++ more) now
+  holds_on outset earlier more entries before now by was = record {
+    stays = stays_on outset before now by.leaves was.stays;
+    slots = by.slots ∙ was.slots;
+    tells = by.leaves.tells ∙ was.tells;
+    times = subst (AreGiven (gives outset.clock)) (sym by.journal) (all_given (gives outset.clock) (journal_of outset.count earlier) entries was.times by.given);
+    said = subst (λ (es : List PmEvent). HasSaid es outset.log now.log) (sym by.journal) (by.said was.said);
+    links = subst (λ (es : List PmEvent). IfSome now.visits (HasLinks (count_in es) now.board)) (sym by.journal) (by.links was.links);
+  }
+
+  -- it goes on serving
+  pub serves_on : (outset : Outset D C) (more : List Move) (entries : List PmEvent) (before now : View D C) → (was : IsServing gives outset before)
+      → GoesBy outset was.moves more entries before now → IsAt outset.limits outset.count (was.moves ++ more) (view now.work now.board) → Moments (gives outset.clock) now.work.standing
+      → now.shared.generation ≡ now.work.standing.generation → AreQuiet entries → TellNone more → LeavesStore before now → IsServing gives outset now
+  serves_on outset more entries before now was by at moments generation quiet none leaves = record {
+    moves = was.moves ++ more;
+    at = at;
+    holds = holds_on outset was.moves more entries before now by was.holds;
+    moments = moments;
+    generation = generation;
+    renews = subst (λ (es : List PmEvent). Renews es now.lost now.shared.own) (sym by.journal) (renews_on (journal_of outset.count was.moves) entries before now quiet leaves was.renews);
+    redos = redos_still was.moves more before.board now.board none leaves.past was.redos;
+    came = came_on before now leaves was.came;
+  }
+
+  -- a server at any moment may end, where its end is right
+  pub stopped_at : MayEndAnywhere MailTold → KeepsALegalJournal → (outset : Outset D C) (end : ServerEnd) (v : View D C) (was : IsServing gives outset v)
+      → IsEndBehind outset.limits end (journal_of outset.count was.moves) → IsCausedBehind end (slot_at v.board 0).past → HasStopped gives outset end v
+  stopped_at may legal outset end v was by cause =
+      let ends = may.at outset.limits outset.count was.moves v.work v.board was.at in
+      record {
+        moves = was.moves;
+        ending = ends.0;
+        pids = ends.1;
+        legal = legal.legal outset.limits (journal_of outset.count was.moves) v.work.standing was.at.past was.at.stands;
+        drawn = drawn_at legal outset.limits (journal_of outset.count was.moves) v.work.standing was.at.past was.at.stands;
+        told = was.at.told;
+        holds = was.holds;
+        ends = by;
+        cause = cause;
+        renews = renews_as_told (journal_of outset.count was.moves) v.lost v.shared.own was.renews;
+        redos = redos_told was.moves v.board was.redos;
+      }
+
+  pub goes_on : {T : Type 0} (result : Result T ServerEnd) (a b c : View D C) → Keeps gives a b → Goes gives result b c → Goes gives result a c
+  goes_on (Ok done) a b c one two = λ outset was. two outset (one outset was)
+  goes_on (Err end) a b c one two = λ outset was. two outset (one outset was)
+
+  pub none_done : (v : View D C) → Keeps gives v v
+  none_done v = λ outset was. was
+
+  pub both_done : (a b c : View D C) → Keeps gives a b → Keeps gives b c → Keeps gives a c
+  both_done a b c one two = λ outset was. two outset (one outset was)
+
+  -- it went on, and ended then
+  pub stops_on : (end : ServerEnd) (a b c : View D C) → Keeps gives a b → Stops gives end b c → Stops gives end a c
+  stops_on end a b c one two = λ outset was. two outset (one outset was)
+
+  pub alive_on : (a b : View D C) → Keeps gives a b → IsAlive gives a → IsAlive gives b
+  alive_on a b one alive = (alive.0, one alive.0 alive.1)
+
+  -- there are as many slots
+  pub slots_kept : (a b : View D C) → Keeps gives a b → IsAlive gives a → length b.board.slots ≡ length a.board.slots
+  slots_kept a b one alive = (one alive.0 alive.1).holds.slots ∙ sym alive.1.holds.slots
+
+  -- it has come to where it is from its start
+  pub running : (v : View D C) → IsAlive gives v → IsRunning (view v.work v.board)
+  running v alive = (alive.0.limits, alive.0.count, alive.1.moves, alive.1.at)

@@ -1,0 +1,124 @@
+-- Each link came back once.
+use Rattle.std.proofs.Common.{◌≡◌, ◌≢◌, ◌⊎◌, inl, inr, ℕ, zero, suc, ◌+◌, ◌<◌, ◌≤◌, List, [], ◌∷◌, ◌++◌, refl, sym, ap, subst, ◌∙◌, length, map, arith, get_or, nat_eq}
+use Rattle.std.proofs.lemmas.List.{length-map}
+use Rattle.std.proofs.lemmas.List.Elements.{Contains-append_left}
+use Rattle.std.proofs.lemmas.Option.{slice_get-get_or}
+use Rattle.std.specs.Prelude.{Bool, true, false, ◌==◌, if◌then◌else◌, Option, None, Some, IfSome, nat_lt}
+use Rattle.std.specs.List.{AllByRecursion, Contains}
+use Rattle.pm_board.specs.declared.views.PastChild.{PastChild}
+use Rattle.pm_board.specs.declared.views.RosterView.{RosterView}
+use Rattle.pm_board.specs.declared.views.Sight.TheVariants.{Assigned, Unused}
+use Rattle.pm_board.specs.Places.{slot_at, slot_view}
+use Rattle.pm_chain.specs.Chain.{IsPidOf}
+use Rattle.pm_crew.specs.Left.{AreLeft, IsWorked, Manner}
+use Rattle.pm_outside.specs.Visits.{Visit, Visits}
+use Rattle.pm_query.specs.declared.book.BookEntry.{BookEntry}
+use Rattle.pm_seating.specs.Chained.{LinksCameBack, accepted_in}
+use Rattle.pm_shared.specs.declared.views.Noted.{Noted}
+use Rattle.pm_state.specs.declared.event.PmEvent.{PmEvent}
+use Rattle.pm_state.specs.Restarts.{without_pid}
+use Rattle.pm_worker.specs.declared.mail.MailTold.{MailTold}
+use Rattle.pm_worker.specs.declared.mail.MailTold.TheVariants as mail
+use Rattle.pm_worker.specs.Runs.{Does, IsRun, Run}
+use Rattle.pm_postmaster.specs.Links.{BackIn, GivesLink, HasLink, HasLinks}
+use Rattle.pm_postmaster.proofs.Linking.{by_test}
+
+-- ---- as many as there are
+
+shorter : (i : ℕ) (xs : List ℕ) → IsPidOf i xs → length (without_pid i xs) + 1 ≡ length xs
+shorter i [] there = absurd there
+shorter i (x ∷ xs) there = by (shorter i xs) (x == i) refl there
+  where
+    by : (IsPidOf i xs → length (without_pid i xs) + 1 ≡ length xs) → (b : Bool) → (x == i) ≡ b → (i ≡ x) ⊎ IsPidOf i xs
+        → length (if b then xs else x ∷ without_pid i xs) + 1 ≡ length (x ∷ xs)
+    by rest true is has = omega arith
+    by rest false isnt (inl same) = absurd (grind (arith, isnt, same))
+    by rest false isnt (inr more) = (let less = rest more in omega (arith, less))
+
+kept : (i j : ℕ) (xs : List ℕ) → j ≢ i → IsPidOf j xs → IsPidOf j (without_pid i xs)
+kept i j [] other there = absurd there
+kept i j (x ∷ xs) other there = by (kept i j xs other) (x == i) refl there
+  where
+    by : (IsPidOf j xs → IsPidOf j (without_pid i xs)) → (b : Bool) → (x == i) ≡ b → (j ≡ x) ⊎ IsPidOf j xs → IsPidOf j (if b then xs else x ∷ without_pid i xs)
+    by rest true is (inl same) = absurd (other (let one : x ≡ i = grind (arith, is) in same ∙ one))
+    by rest true is (inr more) = more
+    by rest false isnt (inl same) = inl same
+    by rest false isnt (inr more) = inr (rest more)
+
+-- a list that has each number up to this one is as long
+as_many : (n : ℕ) (xs : List ℕ) → ((i : ℕ) → 1 ≤ i → i ≤ n → IsPidOf i xs) → n ≤ length xs
+as_many zero xs has = omega arith
+as_many (suc n) xs has =
+    let last : IsPidOf (suc n) xs = has (suc n) (omega arith) (omega arith) in
+    let less = shorter (suc n) xs last in
+    let rest = as_many n (without_pid (suc n) xs) (λ i from to. kept (suc n) i xs (λ same. absurd (omega (arith, same, to))) (has i from (omega (arith, to)))) in
+    omega (arith, less, rest)
+
+in_numbers : (xs : List Visit) (k : ℕ) (visit : Visit) → k < length xs → get_or xs k visit ≡ visit → IsPidOf visit.number (map (λ v. v.number) xs)
+in_numbers [] k visit near is = absurd (omega (arith, near))
+in_numbers (x ∷ xs) zero visit near is = inl (ap (λ v. v.number) (sym is))
+in_numbers (x ∷ xs) (suc k) visit near is = inr (in_numbers xs k visit (omega (arith, near)) is)
+
+-- ---- the runs
+
+-- a run that was given a link gives it back
+gives_back : (gives : ℕ → Type 0) (seed : List ℕ) (limit n : ℕ) (given : MailTold) (run : Run) (visits : Visits) → Does None seed limit gives given run → GivesLink n given
+    → BackIn visits.back run.child.back → (visit : Visit) × Contains visits.back visit × (visit.number ≡ n)
+gives_back gives seed limit n (mail.Serve link decision) run visits does number back =
+    let home = subst (λ (m : MailTold). BackIn visits.back m) does.back_is back in (home.0, home.1, home.2 ∙ (does.number ∙ number))
+gives_back gives seed limit n mail.Startup run visits does number back = absurd number
+gives_back gives seed limit n mail.Checkpointer run visits does number back = absurd number
+gives_back gives seed limit n mail.Writer run visits does number back = absurd number
+gives_back gives seed limit n mail.Close run visits does number back = absurd number
+gives_back gives seed limit n (mail.Served link) run visits does number back = absurd number
+gives_back gives seed limit n (mail.Aux fault fate) run visits does number back = absurd number
+
+-- the run of a child
+run_of : (P : Run → Type 0) (runs : List Run) (k : ℕ) (child : PastChild MailTold) → AllByRecursion P runs → k < length (map (λ run. run.child) runs)
+    → get_or (map (λ run. run.child) runs) k child ≡ child → (run : Run) × P run × (run.child ≡ child)
+run_of P [] k child each near is = absurd (omega (arith, near))
+run_of P (x ∷ runs) zero child each near is = (x, each.0, is)
+run_of P (x ∷ runs) (suc k) child each near is = run_of P runs k child each.1 (omega (arith, near)) is
+
+module _ (manner : Manner) (count : ℕ) (before after : RosterView MailTold) (own : List Noted) (book : List BookEntry) (left : AreLeft manner count after own book)
+    (free : (k : ℕ) → (slot_at before k).sight ≡ Unused) (more : (k : ℕ) → k < count → (others : List (PastChild MailTold)) × ((slot_at after k).past ≡ (slot_at before k).past ++ others))
+    (wide : (k : ℕ) → count ≤ k → (slot_at before k).past ≡ []) where
+  home_at : (n k : ℕ) (visits : Visits) (child : PastChild MailTold) → Contains (slot_at before k).past child → GivesLink n child.offer.given → BackIn visits.back child.back
+      → (visit : Visit) × Contains visits.back visit × (visit.number ≡ n)
+  home_at n k visits child has number back = by_test (nat_lt k count) inside outside
+    where
+      inside : nat_lt k count ≡ true → (visit : Visit) × Contains visits.back visit × (visit.number ≡ n)
+      inside is =
+          let less : k < count = grind (arith, is) in
+          let worked = left.each k (get_or left.lists k []) (slice_get-get_or left.lists k [] (let all = left.all in omega (arith, less, all))) in
+          let there : Contains (map (λ run. run.child) (left.runs k)) child =
+          subst (λ (xs : List (PastChild MailTold)). Contains xs child) ((sym (more k less).1) ∙ worked.children)
+          (Contains-append_left (slot_at before k).past (more k less).0 child has) in
+          let run = run_of (IsRun None manner.seed manner.limit manner.gives) (left.runs k) there.0 child worked.each there.1 there.2 in
+          gives_back manner.gives manner.seed manner.limit n run.0.child.offer.given run.0 visits run.1.does
+          (subst (λ (c : PastChild MailTold). GivesLink n c.offer.given) (sym run.2) number) (subst (λ (c : PastChild MailTold). BackIn visits.back c.back) (sym run.2) back)
+
+      outside : nat_lt k count ≡ false → (visit : Visit) × Contains visits.back visit × (visit.number ≡ n)
+      outside isnt =
+          let none : Contains [] child = subst (λ (xs : List (PastChild MailTold)). Contains xs child) (wide k (grind (arith, isnt))) has in
+          absurd (let near = none.1 in omega (arith, near))
+
+  came_back : (n : ℕ) (visits : Visits) → HasLinks n before visits → (i : ℕ) → 1 ≤ i → i ≤ n → (visit : Visit) × Contains visits.back visit × (visit.number ≡ i)
+  came_back n visits was i from to = by (was.each i from to)
+    where
+      by : (k : ℕ) × HasLink i (slot_at before k) → (visit : Visit) × Contains visits.back visit × (visit.number ≡ i)
+      by (k, inl sits) = absurd (let both : Unused ≡ Assigned sits.0 = sym (free k) ∙ sits.1 in cc)
+      by (k, inr gone) = home_at i k visits gone.0 gone.1 gone.2 (was.back k gone.0 gone.1)
+
+  pub links_home : (journal : List PmEvent) (visits : Visits) → HasLinks (length (accepted_in journal)) before visits → LinksCameBack journal visits
+  links_home journal visits was =
+      let each = came_back (length (accepted_in journal)) visits was in
+      let long = as_many (length (accepted_in journal)) (map (λ v. v.number) visits.back)
+      (λ i from to. (let home = each i from to in subst (λ (m : ℕ). IsPidOf m (map (λ v. v.number) visits.back)) home.2 (in_numbers visits.back home.1.0 home.0 home.1.1 home.1.2))) in
+      let same = length-map visits.back (λ (v : Visit). v.number) in
+      let out = was.out in let given = was.given in
+      record {
+        given = given;
+        back = omega (arith, long, same, out, given);
+        each = λ n from to. each n from (omega (arith, to, given));
+      }

@@ -1,0 +1,17 @@
+pub mod Linking
+pub mod Moments
+pub mod Renewing
+pub mod Redoing
+pub mod Going
+pub mod Steps
+pub mod Acted
+pub mod Reaped
+pub mod Admitted
+pub mod Performed
+pub mod Cleared
+pub mod Beginning
+pub mod Home
+pub mod Finished
+pub mod Calling
+pub mod Closing
+pub mod Ran

@@ -1,0 +1,397 @@
+-- What an act comes to.
+use Rattle.std.proofs.Common.{◌≡◌, ◌⊎◌, inl, inr, ℕ, ◌+◌, ◌≤◌, List, [], ◌∷◌, ◌++◌, refl, sym, ap, subst, ◌∙◌, length, arith, append-nil}
+use Rattle.std.specs.Prelude.{Bool, true, false, if◌then◌else◌, Option, None, Some, IfSome, Result, Ok, Err, is_some, option_map}
+use Rattle.pm_exit.specs.declared.child.Kind.{Kind}
+use Rattle.pm_exit.specs.declared.child.Status.{Status}
+use Rattle.pm_board.specs.declared.views.PastChild.{PastChild}
+use Rattle.pm_board.specs.declared.views.RosterView.{RosterView}
+use Rattle.pm_board.specs.Children.{CountsChildren}
+use Rattle.pm_board.specs.Places.{slot_at}
+use Rattle.pm_acts.specs.Acts.{LogBehind}
+use Rattle.pm_acts.specs.EndsLaws.{last_set, spent_next}
+use Rattle.pm_acts.specs.NextsLaws.{ended_kept, generation_kept, next_given, next_spent}
+use Rattle.pm_journal.specs.declared.act.Act.{Act}
+use Rattle.pm_journal.specs.declared.act.Act.TheVariants as act
+use Rattle.pm_journal.specs.declared.roll.Enrolled.{Enrolled}
+use Rattle.pm_journal.specs.Laws.{KeepsALegalJournal}
+use Rattle.pm_journal.specs.Standing.{Standing, act_for, done, entry_for, first_due, next_of}
+use Rattle.pm_journal.specs.Stands.{any_moment}
+use Rattle.pm_lines.specs.Log.{LogView}
+use Rattle.pm_outside.specs.Visits.{Visits}
+use Rattle.pm_seating.specs.Acts.{IsDone as IsDoneAtBoard, MayPerform, Performs as PerformsAtBoard}
+use Rattle.pm_seating.specs.Board.{seats_of}
+use Rattle.pm_seating.specs.Calls.{slot_for}
+use Rattle.pm_seating.specs.Final.{MayEndAnywhere}
+use Rattle.pm_seating.specs.FoldingLaws.{journal-more}
+use Rattle.pm_seating.specs.Seating.{Move, Notes, journal_of}
+use Rattle.pm_seating.specs.Sitting.{KeepsPast}
+use Rattle.pm_seating.specs.Standing.{view}
+use Rattle.pm_seating.specs.Standing as seating
+use Rattle.pm_server.specs.declared.end.ServerEnd.{ServerEnd}
+use Rattle.pm_server.specs.declared.end.ServerEnd.TheVariants.{Clean, Abnormal, NoMemory}
+use Rattle.pm_server.specs.declared.end.StartWhy.TheVariants.{Redo, Killed}
+use Rattle.pm_server.specs.declared.end.Why.TheVariants.{StartupFailed}
+use Rattle.pm_server.specs.declared.end.Why.TheVariants as whys
+use Rattle.pm_journal.specs.declared.act.GenerationsSpent.{GenerationsSpent}
+use Rattle.pm_seating.specs.Calls.{DoesNext, StandsStill}
+use Rattle.pm_query.specs.declared.store.StoreNo.{StoreNo}
+use Rattle.pm_query.specs.declared.store.StoreNo.TheVariants as nos
+use Rattle.pm_exit.specs.declared.child.Status.TheVariants.{Code, Signal}
+use Rattle.pm_crew.specs.Renewals.{RenewsAsTold}
+use Rattle.pm_shared.specs.declared.views.Noted.{Noted}
+use Rattle.pm_shared.specs.Log.{noted_from}
+use Rattle.pm_state.specs.Journal.{all_replayed, replay_begun}
+use Rattle.pm_shared.specs.Renewed.{AreApart, renewal}
+use Rattle.pm_shared.specs.Told.{HasRenewed, SharedModel}
+use Rattle.pm_state.specs.Laws.{RestartsSafely}
+use Rattle.pm_state.specs.Restarts.{AreAsSet}
+use Rattle.pm_state.specs.declared.action.Action.{Action}
+use Rattle.pm_state.specs.declared.action.Action.TheVariants as action
+use Rattle.pm_state.specs.declared.event.PmEvent.{PmEvent}
+use Rattle.pm_state.specs.declared.event.PmEvent.TheVariants as entry
+use Rattle.pm_supervisor.specs.declared.Ending.{Ending}
+use Rattle.pm_supervisor.specs.declared.Ending.TheVariants as endings
+use Rattle.pm_supervisor.specs.declared.Limits.{Limits}
+use Rattle.pm_worker.specs.declared.mail.MailTold.{MailTold}
+use Rattle.pm_postmaster.specs.declared.server.Came.{Came}
+use Rattle.pm_postmaster.specs.Acting.{EndBehind, Performs, StoreBehind, end_by, failed_by, is_killed, is_short, refused_by}
+use Rattle.pm_postmaster.specs.Links.{HasLinks}
+use Rattle.pm_postmaster.specs.Looking.{came_of}
+use Rattle.pm_postmaster.specs.Serving.{EndsWith, Goes, HasStopped, IsCausedBehind, IsEndBehind, IsServing, Outset, Renews, Stops}
+use Rattle.pm_postmaster.specs.View.{View}
+use Rattle.pm_postmaster.proofs.Acted.{Acts, Stands, acted, links_acted, slots_acted}
+use Rattle.pm_postmaster.proofs.Calling.{IsBeside, still}
+use Rattle.pm_postmaster.proofs.Going.{Leaves, LeavesStore, came_on, drawn_at, renews_on, stopped_at}
+use Rattle.pm_postmaster.proofs.Redoing.{acts_tell_none, redos_still, redos_told}
+use Rattle.pm_postmaster.proofs.Renewing.{AreQuiet, renews_as_told, renews_reset, renews_short}
+
+-- an act tells of no loss, and of no generation but a reset
+quiet_act : (a : Action) (s : Standing) → (a ≡ action.Reset → ⊥) → AreQuiet (entry_for a s ∷ [])
+quiet_act (action.Start k) s other = record { since = λ so. refl; lost = λ so. refl; resets = refl }
+quiet_act (action.Quit why) s other = record { since = λ so. refl; lost = λ so. refl; resets = refl }
+quiet_act action.Terminate s other = record { since = λ so. refl; lost = λ so. refl; resets = refl }
+quiet_act action.KillAll s other = record { since = λ so. refl; lost = λ so. refl; resets = refl }
+quiet_act action.AskCheckpoint s other = record { since = λ so. refl; lost = λ so. refl; resets = refl }
+quiet_act action.Ready s other = record { since = λ so. refl; lost = λ so. refl; resets = refl }
+quiet_act action.Reset s other = absurd (other refl)
+quiet_act (action.Say line) s other = record { since = λ so. refl; lost = λ so. refl; resets = refl }
+quiet_act (action.End how) s other = record { since = λ so. refl; lost = λ so. refl; resets = refl }
+
+-- the answer of the act
+abbrev pub answer_of : Result (Unit {0}) ServerEnd → Result Bool ServerEnd
+answer_of (Ok ok) = Ok true
+answer_of (Err end) = Err end
+
+-- the machine has ended
+ended_so : (limits : Limits) (how : Ending) (came : Option Came) (journal : List PmEvent) → EndsWith (entry.Ended how) journal → AreAsSet limits journal
+    → IsEndBehind limits (end_by how came) journal
+ended_so limits endings.Clean came journal ends set = ends
+ended_so limits endings.AfterCrash came journal ends set = ends
+ended_so limits endings.RestartOff came journal ends set =
+    (ends, (last_set limits ends.0 (entry.Ended endings.RestartOff ∷ []) (subst (AreAsSet limits) ends.1 set)).0)
+ended_so limits endings.StartupFailed None journal ends set = tt
+ended_so limits endings.StartupFailed (Some came) journal ends set = by (is_killed came.status) came.fault
+  where
+    by : (killed : Bool) (fault : Option StoreNo) → IsEndBehind limits (if killed then Abnormal (StartupFailed Killed) else refused_by fault) journal
+    by true fault = ends
+    by false None = tt
+    by false (Some (nos.Redo fault)) = short (is_short fault)
+      where
+        short : (b : Bool) → IsEndBehind limits (if b then NoMemory else Abnormal (StartupFailed (Redo fault))) journal
+        short true = tt
+        short false = ends
+    by false (Some (nos.Stale mine found)) = tt
+    by false (Some nos.Disk) = tt
+    by false (Some (nos.Broken since)) = tt
+    by false (Some (nos.Full need room)) = tt
+    by false (Some nos.NoMemory) = tt
+
+killed_by : (status : Status) → is_killed status ≡ true → status ≡ Signal 9
+killed_by (Signal number) is = ap Signal (let same : number ≡ 9 = grind (arith, is) in same)
+killed_by (Code code) is = absurd (let no_ : false ≡ true = is in cc)
+
+caused_so : (how : Ending) (came : Option Came) (past : List (PastChild MailTold)) → came ≡ came_of past → IsCausedBehind (end_by how came) past
+caused_so endings.Clean came past is = tt
+caused_so endings.AfterCrash came past is = tt
+caused_so endings.RestartOff came past is = tt
+caused_so endings.StartupFailed None past is = tt
+caused_so endings.StartupFailed (Some came) past is = by (is_killed came.status) refl came.fault refl
+  where
+    by : (killed : Bool) → is_killed came.status ≡ killed → (fault : Option StoreNo) → came.fault ≡ fault
+        → IsCausedBehind (if killed then Abnormal (StartupFailed Killed) else refused_by fault) past
+    by true kill fault told = (past, [], sym (append-nil past), came, sym is, killed_by came.status kill)
+    by false kill None told = tt
+    by false kill (Some (nos.Redo fault)) told = short (is_short fault)
+      where
+        short : (b : Bool) → IsCausedBehind (if b then NoMemory else Abnormal (StartupFailed (Redo fault))) past
+        short true = tt
+        short false = (past, [], sym (append-nil past), came, sym is, told)
+    by false kill (Some (nos.Stale mine found)) told = tt
+    by false kill (Some nos.Disk) told = tt
+    by false kill (Some (nos.Broken since)) told = tt
+    by false kill (Some (nos.Full need room)) told = tt
+    by false kill (Some nos.NoMemory) told = tt
+
+module _ {D C : Type 0} (gives : C → ℕ → Type 0) (counts : CountsChildren) (may : MayEndAnywhere MailTold) (legal : KeepsALegalJournal) (safely : RestartsSafely) where
+  -- An act was noted, and done at the board.
+  pub record IsDone (a : Action) (ordered : Kind → MailTold) (before mid : View D C) : Type 0 where
+    pub first : first_due before.work.standing.due ≡ Some a
+    pub goes : seating.Goes (Notes (entry_for a before.work.standing) (slot_for a) ∷ []) (view before.work before.board) (view mid.work mid.board)
+    pub standing : mid.work.standing ≡ done a before.work.standing
+    pub board : PerformsAtBoard (act_for a before.work.standing) ordered before.board (seats_of before.board) mid.board (seats_of mid.board)
+    pub allowed : MayPerform (act_for a before.work.standing) before.board (seats_of before.board)
+    pub past : KeepsPast before.board mid.board
+    pub tells : is_some mid.work.told ≡ is_some before.work.told
+    pub table : mid.table ≡ before.table
+    pub shared : mid.shared ≡ before.shared
+    pub log : mid.log ≡ before.log
+    pub visits : mid.visits ≡ before.visits
+    pub clock : mid.clock ≡ before.clock
+    pub lost : mid.lost ≡ before.lost
+    pub came : mid.came ≡ before.came
+
+  module _ (outset : Outset D C) (a : Action) (ordered : Kind → MailTold) (before mid : View D C) (is : IsDone a ordered before mid) (was : IsServing gives outset before)
+      (log : LogView) (shared : SharedModel D) (lost : List ℕ) (said : LogBehind (act_for a before.work.standing) mid.log log) where
+    abbrev now : View D C
+    now = record mid { log = log; shared = shared; lost = lost }
+
+    -- the store's side is the same, or it was renewed
+    record SameHome : Type 0 where
+      pub table : shared.table ≡ mid.shared.table
+      pub tokens : shared.tokens ≡ mid.shared.tokens
+      pub joined : shared.joined ≡ mid.shared.joined
+      pub disk : shared.first ≡ mid.shared.first
+
+    acts : SameHome → Acts gives a before now
+    acts home = record {
+      first = is.first;
+      goes = is.goes;
+      standing = is.standing;
+      links = λ n visits. links_acted counts n before.board mid.board (seats_of before.board) (seats_of mid.board) ordered visits (act_for a before.work.standing) is.board is.allowed;
+      log = subst (λ (l : LogView). LogBehind (act_for a before.work.standing) l log) is.log said;
+      visits = is.visits;
+      slots = slots_acted before.board mid.board (seats_of before.board) (seats_of mid.board) ordered (act_for a before.work.standing) is.board;
+      leaves = record {
+        table = is.table;
+        home = home.table ∙ ap (λ (s : SharedModel D). s.table) is.shared;
+        tokens = home.tokens ∙ ap (λ (s : SharedModel D). s.tokens) is.shared;
+        joined = home.joined ∙ ap (λ (s : SharedModel D). s.joined) is.shared;
+        disk = home.disk ∙ ap (λ (s : SharedModel D). s.first) is.shared;
+        clock = is.clock;
+        tells = is.tells;
+      };
+    }
+
+    abbrev moves_now : List Move
+    moves_now = was.moves ++ Notes (entry_for a before.work.standing) (slot_for a) ∷ []
+
+    stands_now : SameHome → Stands gives outset moves_now now
+    stands_now home = acted gives outset a before now (acts home) was
+
+    journal_now : journal_of outset.count moves_now ≡ journal_of outset.count was.moves ++ entry_for a before.work.standing ∷ []
+    journal_now = journal-more outset.count was.moves (Notes (entry_for a before.work.standing) (slot_for a))
+
+    same_home : shared ≡ mid.shared → SameHome
+    same_home same = record {
+      table = ap (λ (s : SharedModel D). s.table) same;
+      tokens = ap (λ (s : SharedModel D). s.tokens) same;
+      joined = ap (λ (s : SharedModel D). s.joined) same;
+      disk = ap (λ (s : SharedModel D). s.first) same;
+    }
+
+    -- nothing was renewed
+    pub went_on : lost ≡ mid.lost → shared ≡ mid.shared → (a ≡ action.Reset → ⊥) → IsServing gives outset now
+    went_on same_lost same other =
+        let stands = stands_now (same_home same) in
+        let leaves : LeavesStore gives before now = record {
+          lost = same_lost ∙ is.lost;
+          own = ap (λ (s : SharedModel D). s.own) same ∙ ap (λ (s : SharedModel D). s.own) is.shared;
+          came = is.came;
+          past = is.past;
+        } in
+        record {
+          moves = moves_now;
+          at = stands.at;
+          holds = stands.holds;
+          moments = stands.moments;
+          generation = ap (λ (s : SharedModel D). s.generation) same ∙ (ap (λ (s : SharedModel D). s.generation) is.shared
+              ∙ (was.generation ∙ sym (ap (λ (s : Standing). s.generation) is.standing ∙ generation_kept a before.work.standing other)));
+          renews = subst (λ (es : List PmEvent). Renews es lost shared.own) (sym journal_now)
+              (renews_on gives (journal_of outset.count was.moves) (entry_for a before.work.standing ∷ []) before now (quiet_act a before.work.standing other) leaves was.renews);
+          redos = redos_still was.moves (Notes (entry_for a before.work.standing) (slot_for a) ∷ []) before.board mid.board (acts_tell_none a before.work.standing) is.past was.redos;
+          came = came_on gives before now leaves was.came;
+        }
+
+    -- the store was renewed
+    pub renewed : a ≡ action.Reset → (others : List ℕ) → lost ≡ [] → AreApart mid.lost others
+        → HasRenewed mid.shared (before.work.standing.generation + 1) (renewal (mid.lost ++ others) (before.work.standing.generation + 1)) shared → IsServing gives outset now
+    renewed reset others none apart has =
+        let generation : ℕ = before.work.standing.generation + 1 in
+        let stands = stands_now (record {
+          table = ap (λ (s : SharedModel D). s.table) has.1;
+          tokens = ap (λ (s : SharedModel D). s.tokens) has.1;
+          joined = ap (λ (s : SharedModel D). s.joined) has.1;
+          disk = ap (λ (s : SharedModel D). s.first) has.1;
+        }) in
+        let e : entry_for a before.work.standing ≡ entry.Reset generation = ap (λ (x : Action). entry_for x before.work.standing) reset in
+        let owns : shared.own ≡ before.shared.own ++ noted_from has.0 (renewal (before.lost ++ others) generation) =
+        ap (λ (s : SharedModel D). s.own) has.1 ∙ (ap (λ (s : SharedModel D). s.own ++ noted_from has.0 (renewal (mid.lost ++ others) generation)) is.shared
+        ∙ ap (λ (l : List ℕ). before.shared.own ++ noted_from has.0 (renewal (l ++ others) generation)) is.lost) in
+        record {
+          moves = moves_now;
+          at = stands.at;
+          holds = stands.holds;
+          moments = stands.moments;
+          generation = ap (λ (s : SharedModel D). s.generation) has.1 ∙ sym (ap (λ (s : Standing). s.generation) is.standing
+              ∙ ap (λ (x : Action). (done x before.work.standing).generation) reset);
+          renews = subst (λ (es : List PmEvent). Renews es lost shared.own) (sym (journal_now ∙ ap (λ (x : PmEvent). journal_of outset.count was.moves ++ x ∷ []) e))
+              (subst (λ (l : List ℕ). Renews (journal_of outset.count was.moves ++ entry.Reset generation ∷ []) l shared.own) (sym none)
+              (subst (λ (own : List Noted). Renews (journal_of outset.count was.moves ++ entry.Reset generation ∷ []) [] own) (sym owns)
+              (renews_reset (journal_of outset.count was.moves) before.lost before.shared.own generation has.0 others
+              (subst (λ (l : List ℕ). AreApart l others) is.lost apart) was.renews)));
+          redos = redos_still was.moves (Notes (entry_for a before.work.standing) (slot_for a) ∷ []) before.board mid.board (acts_tell_none a before.work.standing) is.past was.redos;
+          came = is.came ∙ (was.came ∙ ap came_of (sym (is.past 0)));
+        }
+
+    -- there was no memory to renew it
+    pub unrenewed : a ≡ action.Reset → shared ≡ mid.shared → HasStopped gives outset NoMemory now
+    unrenewed reset same =
+        let stands = stands_now (same_home same) in
+        let ends = may.at outset.limits outset.count moves_now mid.work mid.board stands.at in
+        let e : entry_for a before.work.standing ≡ entry.Reset (before.work.standing.generation + 1) = ap (λ (x : Action). entry_for x before.work.standing) reset in
+        record {
+          moves = moves_now;
+          ending = ends.0;
+          pids = ends.1;
+          legal = legal.legal outset.limits (journal_of outset.count moves_now) mid.work.standing stands.at.past stands.at.stands;
+          drawn = drawn_at legal outset.limits (journal_of outset.count moves_now) mid.work.standing stands.at.past stands.at.stands;
+          told = stands.at.told;
+          holds = stands.holds;
+          ends = tt;
+          cause = tt;
+          renews = subst (λ (es : List PmEvent). RenewsAsTold es shared.own) (sym (journal_now ∙ ap (λ (x : PmEvent). journal_of outset.count was.moves ++ x ∷ []) e))
+              (subst (λ (own : List Noted). RenewsAsTold (journal_of outset.count was.moves ++ entry.Reset (before.work.standing.generation + 1) ∷ []) own)
+              (sym (ap (λ (s : SharedModel D). s.own) same ∙ ap (λ (s : SharedModel D). s.own) is.shared))
+              (renews_short (journal_of outset.count was.moves) before.lost before.shared.own (before.work.standing.generation + 1) was.renews));
+          redos = redos_told moves_now mid.board
+              (redos_still was.moves (Notes (entry_for a before.work.standing) (slot_for a) ∷ []) before.board mid.board (acts_tell_none a before.work.standing) is.past was.redos);
+        }
+
+  -- what the answer says
+  abbrev pub Comes : Outset D C → Result (Unit {0}) ServerEnd → View D C → Type 0
+  Comes outset (Ok ok) now = IsServing gives outset now
+  Comes outset (Err end) now = HasStopped gives outset end now
+
+  module _ (outset : Outset D C) (ordered : Kind → MailTold) (before mid : View D C) (was : IsServing gives outset before) (log : LogView) (shared : SharedModel D) (lost : List ℕ) where
+    abbrev behind : View D C
+    behind = record mid { log = log; shared = shared; lost = lost }
+
+    plain : (a : Action) (result : Result (Unit {0}) ServerEnd) → IsDone a ordered before mid → LogBehind (act_for a before.work.standing) mid.log log
+        → (lost ≡ mid.lost) × (shared ≡ mid.shared) → result ≡ Ok tt → (a ≡ action.Reset → ⊥) → Comes outset result behind
+    plain a result is said same ok other =
+        subst (λ (r : Result (Unit {0}) ServerEnd). Comes outset r behind) (sym ok) (went_on outset a ordered before mid is was log shared lost said same.0 same.1 other)
+
+    pub performed : (a : Action) (result : Result (Unit {0}) ServerEnd) → IsDone a ordered before mid → Performs (act_for a before.work.standing) result mid behind → Comes outset result behind
+    unfolding went_on
+    performed (action.Start k) result is by = plain (action.Start k) result is by.log by.store by.ends (λ e. absurd (cc))
+    performed (action.Quit why) result is by = plain (action.Quit why) result is by.log by.store by.ends (λ e. absurd (cc))
+    performed action.Terminate result is by = plain action.Terminate result is by.log by.store by.ends (λ e. absurd (cc))
+    performed action.KillAll result is by = plain action.KillAll result is by.log by.store by.ends (λ e. absurd (cc))
+    performed action.AskCheckpoint result is by = plain action.AskCheckpoint result is by.log by.store by.ends (λ e. absurd (cc))
+    performed action.Ready result is by = plain action.Ready result is by.log by.store by.ends (λ e. absurd (cc))
+    performed (action.Say line) result is by = plain (action.Say line) result is by.log by.store by.ends (λ e. absurd (cc))
+    performed action.Reset (Ok ok) is by =
+        renewed outset action.Reset ordered before mid is was log shared lost by.log refl by.store.1 by.store.0 by.store.2 by.store.3
+    performed action.Reset (Err end) is by =
+        subst (λ (x : ServerEnd). HasStopped gives outset x behind) (sym by.ends) (unrenewed outset action.Reset ordered before mid is was log shared lost by.log refl by.store.1)
+    performed (action.End how) result is by =
+        let now = went_on outset (action.End how) ordered before mid is was log shared lost by.log by.store.0 by.store.1 (λ e. absurd (cc)) in
+        let journal : List PmEvent = journal_of outset.count now.moves in
+        let last : EndsWith (entry.Ended how) journal = (journal_of outset.count was.moves, journal-more outset.count was.moves (Notes (entry.Ended how) (slot_for (action.End how)))) in
+        let set = (safely.in_order outset.limits any_moment journal (legal.legal outset.limits journal mid.work.standing now.at.past now.at.stands)).as_set in
+        subst (λ (r : Result (Unit {0}) ServerEnd). Comes outset r behind) (sym by.ends)
+        (stopped_at gives may legal outset (end_by how mid.came) behind now (ended_so outset.limits how mid.came journal last set) (caused_so how mid.came (slot_at mid.board 0).past now.came))
+
+  -- there is no further generation, and nothing was noted
+  pub spent : (outset : Outset D C) (v : View D C) → IsServing gives outset v → v.work.standing.generation ≡ 4294967295 → first_due v.work.standing.due ≡ Some action.Reset
+      → HasStopped gives outset (Abnormal whys.GenerationsSpent) v
+  spent outset v was last first =
+      let journal : List PmEvent = journal_of outset.count was.moves in
+      stopped_at gives may legal outset (Abnormal whys.GenerationsSpent) v was (
+        ap (λ (js : List PmEvent). (all_replayed (replay_begun outset.limits) js).shown.generation) was.at.stands.told_is ∙ (sym was.at.stands.remembers.generation ∙ last),
+        spent_next outset.limits journal v.work.standing was.at.past was.at.stands last first,
+      ) tt
+
+  -- ---- the next act
+
+  -- what was due first, where the supervisor gives this act
+  pub done_next : (ordered : Kind → MailTold) (before mid : View D C) (a : Act) → (next_of before.work.standing).answer ≡ Ok (Some a)
+      → mid.work.standing ≡ (next_of before.work.standing).after → DoesNext (Ok (Some a)) (view before.work before.board) (view mid.work mid.board)
+      → PerformsAtBoard a ordered before.board (seats_of before.board) mid.board (seats_of mid.board) → MayPerform a before.board (seats_of before.board)
+      → KeepsPast before.board mid.board → IsBeside gives before mid
+      → (x : Action) × (a ≡ act_for x before.work.standing) × IsDone x ordered before mid
+  done_next ordered before mid a answer standing does board allowed past beside =
+      let s : Standing = before.work.standing in
+      let n = next_given s a answer in
+      let x : Action = n.0 in
+      let same : does.0 ≡ x = (let one : Some does.0 ≡ Some x = sym does.1 ∙ n.1.first in cc) in (
+        x,
+        n.1.act_is,
+        record {
+          first = n.1.first;
+          goes = subst (λ (y : Action). seating.Goes (Notes (entry_for y s) (slot_for y) ∷ []) (view before.work before.board) (view mid.work mid.board)) same does.2;
+          standing = standing ∙ n.1.after;
+          board = subst (λ (y : Act). PerformsAtBoard y ordered before.board (seats_of before.board) mid.board (seats_of mid.board)) n.1.act_is board;
+          allowed = subst (λ (y : Act). MayPerform y before.board (seats_of before.board)) n.1.act_is allowed;
+          past = past;
+          tells = beside.tells;
+          table = beside.table;
+          shared = beside.shared;
+          log = beside.log;
+          visits = beside.visits;
+          clock = beside.clock;
+          lost = beside.lost;
+          came = beside.came;
+        },
+      )
+
+  pub acts_on : (outset : Outset D C) (ordered : Kind → MailTold) (before mid now : View D C) (a : Act) (result : Result (Unit {0}) ServerEnd)
+      → (next_of before.work.standing).answer ≡ Ok (Some a) → mid.work.standing ≡ (next_of before.work.standing).after
+      → DoesNext (Ok (Some a)) (view before.work before.board) (view mid.work mid.board)
+      → PerformsAtBoard a ordered before.board (seats_of before.board) mid.board (seats_of mid.board) → MayPerform a before.board (seats_of before.board)
+      → KeepsPast before.board mid.board → IsBeside gives before mid → Performs a result mid now → IsServing gives outset before → Comes outset result now
+  acts_on outset ordered before mid now a result answer standing does board allowed past beside performs was =
+      let d = done_next ordered before mid a answer standing does board allowed past beside in
+      let literal : Performs (act_for d.0 before.work.standing) result mid (record mid { log = now.log; shared = now.shared; lost = now.lost }) =
+      subst (λ (v : View D C). Performs (act_for d.0 before.work.standing) result mid v) performs.rests (subst (λ (y : Act). Performs y result mid now) d.1 performs) in
+      subst (Comes outset result) (sym performs.rests) (performed outset ordered before mid was now.log now.shared now.lost d.0 result d.2 literal)
+
+  -- the same, of an answer by its parts
+  pub acts_of : (outset : Outset D C) (ordered : Kind → MailTold) (before mid now : View D C) (next : Result (Option Act) GenerationsSpent) (given : Option Act) (a : Act)
+      (result : Result (Unit {0}) ServerEnd) → next ≡ Ok given → given ≡ Some a → next ≡ (next_of before.work.standing).answer
+      → mid.work.standing ≡ (next_of before.work.standing).after → DoesNext next (view before.work before.board) (view mid.work mid.board)
+      → IsDoneAtBoard next ordered before.board mid.board → ((x : Act) → next ≡ Ok (Some x) → MayPerform x before.board (seats_of before.board))
+      → KeepsPast before.board mid.board → IsBeside gives before mid → Performs a result mid now → IsServing gives outset before → Comes outset result now
+  acts_of outset ordered before mid now next given a result one two answer standing does board allowed past beside performs was =
+      let is : next ≡ Ok (Some a) = one ∙ ap (λ (o : Option Act). Ok o) two in
+      acts_on outset ordered before mid now a result (sym answer ∙ is) standing
+      (subst (λ (r : Result (Option Act) GenerationsSpent). DoesNext r (view before.work before.board) (view mid.work mid.board)) is does)
+      (subst (λ (r : Result (Option Act) GenerationsSpent). IsDoneAtBoard r ordered before.board mid.board) is board) (allowed a is) past beside performs was
+
+  -- an act that isn't the end leaves that it goes on
+  pub goes_on_behind : (before mid now : View D C) (a : Act) → (next_of before.work.standing).answer ≡ Ok (Some a)
+      → mid.work.standing ≡ (next_of before.work.standing).after → Performs a (Ok tt) mid now → now.work.standing.ended ≡ before.work.standing.ended
+  goes_on_behind before mid now a answer standing performs =
+      let s : Standing = before.work.standing in
+      let n = next_given s a answer in
+      let ends : EndBehind (act_for n.0 s) (Ok tt) mid = subst (λ (y : Act). EndBehind y (Ok tt) mid) n.1.act_is performs.ends in
+      ap (λ (v : View D C). v.work.standing.ended) performs.rests ∙ (ap (λ (t : Standing). t.ended) (standing ∙ n.1.after)
+      ∙ ended_kept n.0 s (λ how is. (let no_ : ◌≡◌ {A = Result (Unit {0}) ServerEnd} (Ok tt) (Err (end_by how mid.came)) = subst (λ (y : Action). EndBehind (act_for y s) (Ok tt) mid) is ends in absurd (cc))))
+
+  -- there is no further generation
+  pub spends : (before now : View D C) (none : GenerationsSpent) → IsBeside gives before now → (next_of before.work.standing).answer ≡ Err none
+      → StandsStill (view before.work before.board) (view now.work now.board) → Stops gives (Abnormal whys.GenerationsSpent) before now
+  spends before now none beside answer same = λ outset was.
+      let n = next_spent before.work.standing none answer in
+      spent outset now (still gives before now beside same.0 same.1 same.2 outset was) (ap (λ (t : Standing). t.generation) same.0 ∙ n.generation)
+      (ap (λ (t : Standing). first_due t.due) same.0 ∙ n.reset)

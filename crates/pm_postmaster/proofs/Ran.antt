@@ -1,0 +1,86 @@
+-- What a server leaves that has ended.
+use Rattle.std.proofs.Common.{◌≡◌, ℕ, ◌<◌, ◌≤◌, List, ◌++◌, refl, sym, ap, subst, ◌∙◌, length, append_assoc}
+use Rattle.std.specs.Prelude.{Bool, Option, IfSome}
+use Rattle.atomic_table.specs.Seated.{TableId}
+use Rattle.pm_board.specs.declared.views.PastChild.{PastChild}
+use Rattle.pm_board.specs.declared.views.RosterView.{RosterView}
+use Rattle.pm_board.specs.Places.{slot_at}
+use Rattle.pm_crew.specs.Left.{AreLeft, Manner}
+use Rattle.pm_crew.specs.Pids.{AreUsedOnce}
+use Rattle.pm_crew.specs.Redos.{RedosAreThose}
+use Rattle.pm_journal.specs.Stands.{highest_pid}
+use Rattle.pm_outside.specs.Visits.{Visits}
+use Rattle.pm_pool.specs.Closing.{HasHadLast, KeepsBoard, MayClose}
+use Rattle.pm_query.specs.declared.book.BookEntry.{BookEntry}
+use Rattle.pm_seating.specs.Chained.{LinksCameBack}
+use Rattle.pm_seating.specs.Final.{EndsWithNobody, IsEndingAt, NobodySits}
+use Rattle.pm_seating.specs.Seating.{journal_of}
+use Rattle.pm_seating.specs.Standing.{IsBoardOf}
+use Rattle.pm_server.specs.declared.end.ServerEnd.{ServerEnd}
+use Rattle.pm_shared.specs.declared.views.Noted.{Noted}
+use Rattle.pm_worker.specs.declared.mail.MailTold.{MailTold}
+use Rattle.pm_postmaster.specs.Clearing.{Clears, MayClear}
+use Rattle.pm_postmaster.specs.Serving.{HasStopped, IsCausedBehind, Outset}
+use Rattle.pm_postmaster.specs.View.{View}
+use Rattle.pm_postmaster.proofs.Finished.{caused_more, home_if, none_behind, once_after, past_after}
+use Rattle.pm_postmaster.proofs.Redoing.{redos_behind}
+
+pub clears_at : (t u w : TableId) (d e f : RosterView MailTold) (a b : Option Visits) → t ≡ u → d ≡ e → Clears t d a w f b → Clears u e a w f b
+clears_at t u w d e f a b table board clears =
+    subst (λ (x : RosterView MailTold). Clears u x a w f b) board (subst (λ (x : TableId). Clears x d a w f b) table clears)
+
+pub may_clear_at : (d e : RosterView MailTold) (visits : Option Visits) → d ≡ e → MayClear e visits → MayClear d visits
+may_clear_at d e visits board may = subst (λ (x : RosterView MailTold). MayClear x visits) (sym board) may
+
+pub may_close_at : (n m : ℕ) (d : RosterView MailTold) → n ≡ m → MayClose m d → MayClose n d
+may_close_at n m d is may = subst (λ (x : ℕ). MayClose x d) (sym is) may
+
+pub last_at : (n m : ℕ) (d e : RosterView MailTold) → n ≡ m → ((k : ℕ) → k < n → HasHadLast k d e) → (k : ℕ) → k < m → HasHadLast k d e
+last_at n m d e is last = subst (λ (x : ℕ). (k : ℕ) → k < x → HasHadLast k d e) is last
+
+module _ {D C : Type 0} (gives : C → ℕ → Type 0) (outset : Outset D C) (end : ServerEnd) (v : View D C) (stopped : HasStopped gives outset end v)
+    (nobody : EndsWithNobody MailTold) (table : TableId) (cleared : RosterView MailTold) (visits : Option Visits)
+    (clears : Clears v.table v.board v.visits table cleared visits) (gone : NobodySits cleared) where
+  slots : length cleared.slots ≡ outset.count
+  slots = clears.slots ∙ stopped.holds.slots
+
+  ending : IsEndingAt outset.count stopped.moves cleared
+  ending = clears.ending.ending outset.count stopped.moves stopped.ending
+
+  -- its workers may be closed
+  pub may_close : MayClose outset.count cleared
+  may_close = record {
+    slots = slots;
+    free = nobody.unused outset.count stopped.moves cleared ending gone;
+    pids = subst (λ (n : ℕ). n ≤ highest_pid) (sym clears.ending.last_pid) stopped.pids;
+  }
+
+  module _ (manner : Manner) (closed : RosterView MailTold) (own : List Noted) (book : List BookEntry) (keeps : KeepsBoard cleared closed)
+      (last : (k : ℕ) → k < outset.count → HasHadLast k cleared closed) (left : AreLeft manner outset.count closed own book) where
+    -- each slot has had the children that it had before, and others
+    past : (k : ℕ) → (others : List (PastChild MailTold)) × ((slot_at closed k).past ≡ (slot_at v.board k).past ++ others)
+    past k =
+        let one = clears.past k in
+        let two = past_after outset.limits outset.count stopped.moves cleared closed nobody ending gone slots left.slots stopped.legal stopped.drawn last k in (
+          one.0 ++ two.0,
+          two.1 ∙ (ap (λ (l : List (PastChild MailTold)). l ++ two.0) one.1 ∙ append_assoc (slot_at v.board k).past one.0 two.0),
+        )
+
+    pub board_is : IsBoardOf outset.count stopped.moves closed
+    board_is = keeps outset.count stopped.moves (nobody.board outset.count stopped.moves cleared ending gone)
+
+    pub once : AreUsedOnce closed
+    once = once_after outset.limits outset.count stopped.moves cleared closed nobody ending gone slots left.slots stopped.legal stopped.drawn last
+
+    pub cause : IsCausedBehind end (slot_at closed 0).past
+    cause = let more = past 0 in caused_more end (slot_at v.board 0).past more.0 (slot_at closed 0).past more.1 stopped.cause
+
+    pub redos : RedosAreThose stopped.moves closed
+    redos = redos_behind stopped.moves v.board closed past stopped.redos
+
+    pub links : IfSome visits (LinksCameBack (journal_of outset.count stopped.moves))
+    links =
+        home_if manner outset.count cleared closed own book left (nobody.unused outset.count stopped.moves cleared ending gone)
+        (λ k near. past_after outset.limits outset.count stopped.moves cleared closed nobody ending gone slots left.slots stopped.legal stopped.drawn last k)
+        (λ k far. none_behind cleared k (subst (λ (n : ℕ). n ≤ k) (sym slots) far))
+        (journal_of outset.count stopped.moves) visits (clears.links _ stopped.holds.links)

@@ -1,0 +1,226 @@
+-- The calls of a turn that tell of no child.
+use Rattle.std.proofs.Common.{◌≡◌, ◌⊎◌, inl, inr, ℕ, ◌+◌, ◌≤◌, List, [], ◌∷◌, ◌++◌, refl, sym, ap, subst, ◌∙◌, length, arith, append-nil}
+use Rattle.std.specs.Prelude.{Bool, true, false, if◌then◌else◌, Option, None, Some, IfSome, Result, Ok, Err, is_some, option_map}
+use Rattle.pm_board.specs.declared.views.RosterView.{RosterView}
+use Rattle.pm_acts.specs.NextsLaws.{same_work}
+use Rattle.pm_journal.specs.declared.roll.Enrolled.{Enrolled}
+use Rattle.pm_journal.specs.Moments.{AreGiven}
+use Rattle.pm_journal.specs.Standing.{Making, Standing, asking, later, made, ticking, turning}
+use Rattle.pm_journal.specs.Stands.{AtWork}
+use Rattle.pm_lines.specs.Log.{HasSaid}
+use Rattle.pm_lines.specs.LogLaws.{said_same}
+use Rattle.pm_modes.specs.declared.Mode.{Mode}
+use Rattle.pm_outside.specs.Visits.{Visits}
+use Rattle.pm_seating.specs.Board.{seats_of}
+use Rattle.pm_seating.specs.Chained.{accepted_in}
+use Rattle.pm_seating.specs.FoldingLaws.{journal-more}
+use Rattle.pm_seating.specs.Seating.{Kill, Move, Reads, Seating, asked_by, entries_by, is_seated, journal_of, seating_of}
+use Rattle.pm_seating.specs.Standing.{view}
+use Rattle.pm_seating.specs.Standing as seating
+use Rattle.pm_state.specs.declared.event.PmEvent.{PmEvent}
+use Rattle.pm_state.specs.declared.event.PmEvent.TheVariants as entry
+use Rattle.pm_state.specs.Journal.{lines_of}
+use Rattle.pm_worker.specs.declared.mail.MailTold.{MailTold}
+use Rattle.pm_postmaster.specs.Links.{HasLinks}
+use Rattle.pm_postmaster.specs.Serving.{IsServing, Moments, Outset}
+use Rattle.pm_postmaster.specs.View.{View}
+use Rattle.pm_postmaster.proofs.Going.{GoesBy, Leaves, LeavesStore, serves_on}
+use Rattle.pm_postmaster.proofs.Redoing.{TellNone}
+use Rattle.pm_postmaster.proofs.Renewing.{AreQuiet}
+use Rattle.pm_postmaster.proofs.Linking.{links_same}
+use Rattle.pm_postmaster.proofs.Moments.{asked_moments, later_given, ticked_moments, turned_moments}
+
+pub accepted-append : (xs ys : List PmEvent) → accepted_in (xs ++ ys) ≡ accepted_in xs ++ accepted_in ys
+accepted-append [] ys = refl
+accepted-append (entry.Accepted pid decision ∷ xs) ys = ap (λ (l : List ℕ). pid ∷ l) (accepted-append xs ys)
+accepted-append (entry.Started pid kind ∷ xs) ys = accepted-append xs ys
+accepted-append (entry.Exited pid kind status was_active at ∷ xs) ys = accepted-append xs ys
+accepted-append (entry.Asked mode at ∷ xs) ys = accepted-append xs ys
+accepted-append (entry.KillAsked pid ∷ xs) ys = accepted-append xs ys
+accepted-append (entry.QuitSent why ∷ xs) ys = accepted-append xs ys
+accepted-append (entry.TerminateSent ∷ xs) ys = accepted-append xs ys
+accepted-append (entry.KillSent at ∷ xs) ys = accepted-append xs ys
+accepted-append (entry.CheckpointAsked ∷ xs) ys = accepted-append xs ys
+accepted-append (entry.RedoEnded generation kept ∷ xs) ys = accepted-append xs ys
+accepted-append (entry.Ready generation ∷ xs) ys = accepted-append xs ys
+accepted-append (entry.Reset generation ∷ xs) ys = accepted-append xs ys
+accepted-append (entry.Said line ∷ xs) ys = accepted-append xs ys
+accepted-append (entry.Ended how ∷ xs) ys = accepted-append xs ys
+
+pub count_more : (journal more : List PmEvent) → accepted_in more ≡ [] → length (accepted_in (journal ++ more)) ≡ length (accepted_in journal)
+count_more journal more none =
+    ap length (accepted-append journal more ∙ (ap (λ (l : List ℕ). accepted_in journal ++ l) none ∙ append-nil (accepted_in journal)))
+
+pub none_more : (count : ℕ) (earlier : List Move) → journal_of count (earlier ++ []) ≡ journal_of count earlier ++ []
+none_more count earlier = ap (journal_of count) (append-nil earlier) ∙ sym (append-nil (journal_of count earlier))
+
+pub quiet_none : AreQuiet []
+quiet_none = record { since = λ so. refl; lost = λ so. refl; resets = refl }
+
+same_links : (n m : ℕ) (d e : RosterView MailTold) (visits now : Option Visits) → now ≡ visits → e.slots ≡ d.slots → m ≡ n
+    → IfSome visits (HasLinks n d) → IfSome now (HasLinks m e)
+same_links n m d e visits now is slots count was = subst (λ (v : Option Visits). IfSome v (HasLinks m e)) (sym is) (by visits was)
+  where
+    by : (v : Option Visits) → IfSome v (HasLinks n d) → IfSome v (HasLinks m e)
+    by None has = tt
+    by (Some its) has = subst (λ (x : ℕ). HasLinks x e its) (sym count) (links_same n d e its slots has)
+
+module _ {D C : Type 0} (gives : C → ℕ → Type 0) where
+  -- One thing more was done by the supervisor and its board, which accepts nobody and says nothing.
+  pub record WorksOn (outset : Outset D C) (more : List Move) (entries : List PmEvent) (before now : View D C) : Type 0 where
+    pub leaves : Leaves gives before now
+    pub shared : now.shared.generation ≡ before.shared.generation
+    pub log : now.log ≡ before.log
+    pub visits : now.visits ≡ before.visits
+    pub slots : now.board.slots ≡ before.board.slots
+    pub goes : seating.Goes more (view before.work before.board) (view now.work now.board)
+    pub journal : (earlier : List Move) → seating.IsAt outset.limits outset.count earlier (view before.work before.board)
+        → journal_of outset.count (earlier ++ more) ≡ journal_of outset.count earlier ++ entries
+    pub given : AreGiven (gives outset.clock) entries
+    pub unsaid : lines_of entries ≡ []
+    pub alone : accepted_in entries ≡ []
+    pub moments : Moments (gives outset.clock) now.work.standing
+    pub generation : now.work.standing.generation ≡ before.work.standing.generation
+    pub quiet : AreQuiet entries
+    pub none : TellNone more
+    pub store : LeavesStore gives before now
+
+  pub works_on : (outset : Outset D C) (more : List Move) (entries : List PmEvent) (before now : View D C) → WorksOn outset more entries before now
+      → IsServing gives outset before → IsServing gives outset now
+  works_on outset more entries before now by was =
+      let journal = by.journal was.moves was.at in
+      let goes : GoesBy gives outset was.moves more entries before now = record {
+        journal = journal;
+        given = by.given;
+        said = λ said. subst (HasSaid (journal_of outset.count was.moves ++ entries) outset.log) (sym by.log) (said_same (journal_of outset.count was.moves) entries outset.log before.log by.unsaid said);
+        links = same_links _ _ before.board now.board before.visits now.visits by.visits by.slots (count_more (journal_of outset.count was.moves) entries by.alone);
+        leaves = by.leaves;
+        slots = ap length by.slots;
+      } in
+      serves_on gives outset more entries before now was goes (by.goes outset.limits outset.count was.moves was.at) by.moments
+      (by.shared ∙ (was.generation ∙ sym by.generation)) by.quiet by.none by.store
+
+  -- nothing was done
+  pub still_on : (outset : Outset D C) (before now : View D C) → Leaves gives before now → now.shared.generation ≡ before.shared.generation → now.log ≡ before.log
+      → now.visits ≡ before.visits → now.work.standing ≡ before.work.standing → now.work.told ≡ before.work.told → now.board ≡ before.board
+      → LeavesStore gives before now → IsServing gives outset before → IsServing gives outset now
+  still_on outset before now leaves shared log visits standing told board store was =
+      let same : view now.work now.board ≡ view before.work before.board =
+      ap (λ (w : AtWork). view w now.board) (same_work before.work now.work standing told) ∙ ap (λ (b : RosterView MailTold). view before.work b) board in
+      works_on outset [] [] before now (record {
+        leaves = leaves;
+        shared = shared;
+        log = log;
+        visits = visits;
+        slots = ap (λ (b : RosterView MailTold). b.slots) board;
+        goes = λ limits count earlier is. subst (λ (ms : List Move). seating.IsAt limits count ms (view now.work now.board)) (sym (append-nil earlier))
+            (subst (seating.IsAt limits count earlier) (sym same) is);
+        journal = λ earlier is. none_more outset.count earlier;
+        given = tt;
+        unsaid = refl;
+        alone = refl;
+        moments = subst (Moments (gives outset.clock)) (sym standing) was.moments;
+        generation = ap (λ (s : Standing). s.generation) standing;
+        quiet = quiet_none;
+        none = λ k. refl;
+        store = store;
+      }) was
+
+  -- the calls that tell of no child
+  module _ (outset : Outset D C) (before now : View D C) (leaves : Leaves gives before now) (shared : now.shared.generation ≡ before.shared.generation)
+      (log : now.log ≡ before.log) (visits : now.visits ≡ before.visits) (store : LeavesStore gives before now) where
+    -- a call with these entries
+    called_on : (making : Making) (more : List Move) → seating.Goes more (view before.work before.board) (view now.work now.board)
+        → now.work.standing ≡ made making before.work.standing → now.board ≡ before.board
+        → ((earlier : List Move) → journal_of outset.count (earlier ++ more) ≡ journal_of outset.count earlier ++ making.entries)
+        → AreGiven (gives outset.clock) making.entries → lines_of making.entries ≡ [] → accepted_in making.entries ≡ [] → AreQuiet making.entries → TellNone more
+        → (made making before.work.standing).generation ≡ before.work.standing.generation
+        → Moments (gives outset.clock) (made making before.work.standing)
+        → IsServing gives outset before → IsServing gives outset now
+    called_on making more goes standing board journal given unsaid alone quiet none generation moments was =
+        works_on outset more making.entries before now (record {
+          leaves = leaves;
+          shared = shared;
+          log = log;
+          visits = visits;
+          slots = ap (λ (b : RosterView MailTold). b.slots) board;
+          goes = goes;
+          journal = λ earlier is. journal earlier;
+          given = given;
+          unsaid = unsaid;
+          alone = alone;
+          moments = subst (Moments (gives outset.clock)) (sym standing) moments;
+          generation = ap (λ (s : Standing). s.generation) standing ∙ generation;
+          quiet = quiet;
+          none = none;
+          store = store;
+        }) was
+
+    pub ticked_on : (at : ℕ) → gives before.clock at → seating.Goes [] (view before.work before.board) (view now.work now.board)
+        → now.work.standing ≡ made (ticking at before.work.standing) before.work.standing → now.board ≡ before.board
+        → IsServing gives outset before → IsServing gives outset now
+    ticked_on at given goes standing board was =
+        let its : gives outset.clock at = subst (λ (c : C). gives c at) was.holds.stays.clock given in
+        called_on (ticking at before.work.standing) [] goes standing board (none_more outset.count) tt refl refl quiet_none (λ k. refl) refl
+        (ticked_moments (gives outset.clock) at before.work.standing (later_given (gives outset.clock) at before.work.standing its was.moments) was.moments) was
+
+    pub turned_on : seating.Goes [] (view before.work before.board) (view now.work now.board)
+        → now.work.standing ≡ made turning before.work.standing → now.board ≡ before.board
+        → IsServing gives outset before → IsServing gives outset now
+    turned_on goes standing board was =
+        called_on turning [] goes standing board (none_more outset.count) tt refl refl quiet_none (λ k. refl) refl (turned_moments (gives outset.clock) before.work.standing was.moments) was
+
+    -- a shutdown is asked for, by a move that is for that
+    pub asked_on : (how : Mode) (at : ℕ) (move : Move) → gives before.clock at
+        → ((s : Seating) → entries_by s move ≡ (asking how at before.work.standing).entries) → TellNone (move ∷ [])
+        → seating.Goes (move ∷ []) (view before.work before.board) (view now.work now.board)
+        → now.work.standing ≡ made (asking how at before.work.standing) before.work.standing → now.board ≡ before.board
+        → IsServing gives outset before → IsServing gives outset now
+    asked_on how at move given entries none goes standing board was =
+        let its : gives outset.clock at = subst (λ (c : C). gives c at) was.holds.stays.clock given in
+        let late = later_given (gives outset.clock) at before.work.standing its was.moments in
+        called_on (asking how at before.work.standing) (move ∷ []) goes standing board
+        (λ earlier. journal-more outset.count earlier move ∙ ap (λ (es : List PmEvent). journal_of outset.count earlier ++ es) (entries (seating_of outset.count earlier)))
+        (late, tt) refl refl (record { since = λ so. refl; lost = λ so. refl; resets = refl }) none refl (asked_moments (gives outset.clock) how at before.work.standing late) was
+
+    -- a child is asked to be killed, where it is there
+    pub killed_on : (line : List ℕ) (pid at : ℕ) → seating.Goes (Reads line (Kill pid) at ∷ []) (view before.work before.board) (view now.work now.board)
+        → now.work.standing ≡ before.work.standing → now.board.slots ≡ before.board.slots
+        → IsServing gives outset before → IsServing gives outset now
+    killed_on line pid at goes standing slots was =
+        let seats = seats_of before.board in
+        works_on outset (Reads line (Kill pid) at ∷ []) (asked_by (Kill pid) at seats) before now (record {
+          leaves = leaves;
+          shared = shared;
+          log = log;
+          visits = visits;
+          slots = slots;
+          goes = goes;
+          journal = λ earlier is. journal-more outset.count earlier (Reads line (Kill pid) at)
+              ∙ ap (λ (x : List (Option Enrolled)). journal_of outset.count earlier ++ asked_by (Kill pid) at x)
+              (sym (is.seated.at_hand ∙ ap (λ (s : Seating). s.seats) is.seated.is_that));
+          given = given_by (is_seated pid seats);
+          unsaid = unsaid_by (is_seated pid seats);
+          alone = alone_by (is_seated pid seats);
+          moments = subst (Moments (gives outset.clock)) (sym standing) was.moments;
+          generation = ap (λ (s : Standing). s.generation) standing;
+          quiet = quiet_by (is_seated pid seats);
+          none = λ k. refl;
+          store = store;
+        }) was
+      where
+        quiet_by : (b : Bool) → AreQuiet (if b then entry.KillAsked pid ∷ [] else [])
+        quiet_by true = record { since = λ so. refl; lost = λ so. refl; resets = refl }
+        quiet_by false = quiet_none
+
+        given_by : (b : Bool) → AreGiven (gives outset.clock) (if b then entry.KillAsked pid ∷ [] else [])
+        given_by true = (tt, tt)
+        given_by false = tt
+
+        unsaid_by : (b : Bool) → lines_of (if b then entry.KillAsked pid ∷ [] else []) ≡ []
+        unsaid_by true = refl
+        unsaid_by false = refl
+
+        alone_by : (b : Bool) → accepted_in (if b then entry.KillAsked pid ∷ [] else []) ≡ []
+        alone_by true = refl
+        alone_by false = refl

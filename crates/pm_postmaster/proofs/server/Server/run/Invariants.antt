@@ -1,0 +1,10 @@
+use Rattle.pm_acts.specs.Acts.{IsIdle}
+use Rattle.pm_postmaster.specs.Serving.{Keeps}
+use Rattle.pm_postmaster.specs.View.{view_of}
+use Rattle.pm_postmaster.proofs.server.Server.run.Given as goal
+
+abbrev pub invariant-turns : goal.invariant-turns
+invariant-turns g l = record {
+  keeps : Keeps g.C.Clock.gives (view_of l.initial.self) (view_of l.self);
+  idle : IsIdle (view_of l.self).work.standing;
+}

@@ -1,0 +1,15 @@
+use Rattle.std.proofs.Common.{◌≡◌, ℕ}
+use Rattle.std.specs.Prelude.{false, true}
+use Rattle.pm_journal.specs.Stands.{IsSettled}
+use Rattle.pm_seating.specs.Sitting.{AreReaped}
+use Rattle.pm_postmaster.specs.Serving.{Keeps}
+use Rattle.pm_postmaster.specs.View.{view_of}
+use Rattle.pm_postmaster.proofs.server.Server.settle.Given as goal
+
+abbrev pub invariant-acts : goal.invariant-acts
+invariant-acts g l = record {
+  keeps : Keeps g.C.Clock.gives (view_of l.initial.self) (view_of l.self);
+  goes_on : (view_of l.self).work.standing.ended ≡ false;
+  settled : IsSettled (view_of l.initial.self).work.standing → l.self.listens ≡ true → IsSettled (view_of l.self).work.standing;
+  reaped : (n : ℕ) → AreReaped n (view_of l.initial.self).board → AreReaped n (view_of l.self).board;
+}

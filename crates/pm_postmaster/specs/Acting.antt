@@ -1,0 +1,68 @@
+-- What an act does that was noted and done at the board.
+use Rattle.std.specs.Prelude.{◌≡◌, ◌==◌, ℕ, ◌++◌, Bool, true, false, if◌then◌else◌, List, [], Option, None, Some, Result, Ok, Err, IfErr}
+use Rattle.pm_exit.specs.declared.child.Status.{Status}
+use Rattle.pm_exit.specs.declared.child.Status.TheVariants.{Code, Signal}
+use Rattle.pm_journal.specs.declared.act.Act.{Act}
+use Rattle.pm_journal.specs.declared.act.Act.TheVariants as act
+use Rattle.pm_acts.specs.Acts.{LogBehind}
+use Rattle.pm_query.specs.declared.store.StoreNo.{StoreNo}
+use Rattle.pm_query.specs.declared.store.StoreNo.TheVariants.{Redo as RedoNo}
+use Rattle.pm_record.specs.declared.fault.RedoFault.{RedoFault}
+use Rattle.pm_record.specs.declared.fault.RedoFault.TheVariants.{NoMemory as ShortOfMemory}
+use Rattle.pm_server.specs.declared.end.ServerEnd.{ServerEnd}
+use Rattle.pm_server.specs.declared.end.ServerEnd.TheVariants.{Clean, Abnormal, NoMemory}
+use Rattle.pm_server.specs.declared.end.StartWhy.TheVariants.{Redo, Killed}
+use Rattle.pm_server.specs.declared.end.Why.TheVariants.{AfterCrash, StartupFailed, RestartOff}
+use Rattle.pm_shared.specs.Renewed.{AreApart, renewal}
+use Rattle.pm_shared.specs.Told.{HasRenewed}
+use Rattle.pm_supervisor.specs.declared.Ending.{Ending}
+use Rattle.pm_supervisor.specs.declared.Ending.TheVariants as endings
+use Rattle.pm_postmaster.specs.declared.server.Came.{Came}
+use Rattle.pm_postmaster.specs.View.{View}
+
+abbrev pub is_short : RedoFault → Bool
+is_short ShortOfMemory = true
+is_short _ = false
+
+abbrev pub is_killed : Status → Bool
+is_killed (Signal number) = number == 9
+is_killed (Code code) = false
+
+-- by the refusal of the store that a startup child told
+abbrev pub refused_by : Option StoreNo → ServerEnd
+refused_by (Some (RedoNo fault)) = if is_short fault then NoMemory else Abnormal (StartupFailed (Redo fault))
+refused_by _ = NoMemory
+
+-- how a server ends whose startup child came out so
+abbrev pub failed_by : Came → ServerEnd
+failed_by came = if is_killed came.status then Abnormal (StartupFailed Killed) else refused_by came.fault
+
+-- how it ends where its machine does
+abbrev pub end_by : Ending → Option Came → ServerEnd
+end_by endings.Clean came = Clean
+end_by endings.AfterCrash came = Abnormal AfterCrash
+end_by endings.RestartOff came = Abnormal RestartOff
+end_by endings.StartupFailed None = NoMemory
+end_by endings.StartupFailed (Some came) = failed_by came
+
+module _ {D C : Type 0} where
+  -- all but the log, the store and those that were lost is as it was
+  abbrev pub Rests : View D C → View D C → Type 0
+  Rests before now = now ≡ record before { log = now.log; shared = now.shared; lost = now.lost }
+
+  -- the store, and those that were lost
+  abbrev pub StoreBehind : Act → Result (Unit {0}) ServerEnd → View D C → View D C → Type 0
+  StoreBehind (act.Reset generation) (Ok done) before now =
+      (now.lost ≡ []) × (others : List ℕ) × AreApart before.lost others × HasRenewed before.shared generation (renewal (before.lost ++ others) generation) now.shared
+  StoreBehind _ result before now = (now.lost ≡ before.lost) × (now.shared ≡ before.shared)
+
+  abbrev pub EndBehind : Act → Result (Unit {0}) ServerEnd → View D C → Type 0
+  EndBehind (act.Reset generation) result before = IfErr result (λ end. end ≡ NoMemory)
+  EndBehind (act.End ending) result before = result ≡ Err (end_by ending before.came)
+  EndBehind _ result before = result ≡ Ok tt
+
+  pub record Performs (a : Act) (result : Result (Unit {0}) ServerEnd) (before now : View D C) : Type 0 where
+    pub rests : Rests before now
+    pub log : LogBehind a before.log now.log
+    pub store : StoreBehind a result before now
+    pub ends : EndBehind a result before

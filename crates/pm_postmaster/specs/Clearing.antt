@@ -1,0 +1,27 @@
+-- What the clearing of a board keeps.
+use Rattle.std.specs.Prelude.{◌≡◌, ℕ, List, ◌++◌, Option, IfSome, length}
+use Rattle.atomic_table.specs.Seated.{TableId}
+use Rattle.pm_board.specs.declared.views.PastChild.{PastChild}
+use Rattle.pm_board.specs.declared.views.RosterView.{RosterView}
+use Rattle.pm_board.specs.Places.{slot_at}
+use Rattle.pm_outside.specs.Visits.{Visits}
+use Rattle.pm_seating.specs.Final.{IsEndingAt, KeepsEnding}
+use Rattle.pm_seating.specs.Seating.{Move}
+use Rattle.pm_worker.specs.declared.mail.MailTold.{MailTold}
+use Rattle.pm_postmaster.specs.Links.{HasLinks}
+
+-- behind these moves nothing is noted any more, and the links that are out are those of children
+pub record MayClear (d : RosterView MailTold) (visits : Option Visits) : Type 0 where
+  pub count : ℕ
+  pub moves : List Move
+  pub ending : IsEndingAt count moves d
+  pub accepted : ℕ
+  pub links : IfSome visits (HasLinks accepted d)
+
+-- Behind the last entry children were killed and released. Each slot has had those that it had before, and perhaps others.
+pub record Clears (table_before : TableId) (before : RosterView MailTold) (visits_before : Option Visits) (table_now : TableId) (now : RosterView MailTold) (visits_now : Option Visits) : Type 0 where
+  pub table : table_now ≡ table_before
+  pub slots : length now.slots ≡ length before.slots
+  pub ending : KeepsEnding before now
+  pub links : (accepted : ℕ) → IfSome visits_before (HasLinks accepted before) → IfSome visits_now (HasLinks accepted now)
+  pub past : (k : ℕ) → (others : List (PastChild MailTold)) × ((slot_at now k).past ≡ (slot_at before k).past ++ others)

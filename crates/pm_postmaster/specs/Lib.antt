@@ -1,0 +1,9 @@
+pub mod View
+pub mod Links
+pub mod Serving
+pub mod Acting
+pub mod Looking
+pub mod Accepting
+pub mod Clearing
+pub mod Outside
+pub mod Served

@@ -1,0 +1,58 @@
+-- What is taken in of a child that was released.
+use Rattle.std.specs.Prelude.{◌≡◌, ℕ, ◌<◌, Bool, if◌then◌else◌, List, [], ◌∷◌, ◌++◌, Option, None, Some, IfSome, option_map, length}
+use Rattle.pm_exit.specs.declared.child.Kind.{Kind}
+use Rattle.pm_exit.specs.declared.child.Status.{Status}
+use Rattle.pm_board.specs.declared.views.PastChild.{PastChild}
+use Rattle.pm_outside.specs.Visits.{Visits, after_done}
+use Rattle.pm_query.specs.declared.store.StoreNo.{StoreNo}
+use Rattle.pm_supervisor.specs.Children.{is_startup_child}
+use Rattle.pm_worker.specs.declared.mail.MailTold.{MailTold}
+use Rattle.pm_worker.specs.declared.mail.MailTold.TheVariants as mail
+use Rattle.pm_worker.specs.Mails.{traffic_in}
+use Rattle.pm_postmaster.specs.declared.server.Came.{Came}
+use Rattle.pm_postmaster.specs.View.{View}
+
+-- a link is out, where the mail has one
+abbrev pub MayComeBack : MailTold → Option Visits → Type 0
+MayComeBack (mail.Served link) visits = IfSome visits (λ v. length v.back < length v.given)
+MayComeBack _ visits = Unit {0}
+
+-- the link of the mail is back, where it has one
+abbrev pub opened : MailTold → Visits → Visits
+opened (mail.Served link) visits = after_done visits link.number (traffic_in link) link.faults
+opened _ visits = visits
+
+abbrev pub IsOpened : MailTold → Option Visits → Option Visits → Type 0
+IsOpened back before now = now ≡ option_map (opened back) before
+
+-- the refusal of the store that a mail tells
+abbrev pub fault_in : MailTold → Option StoreNo
+fault_in (mail.Aux fault kept) = fault
+fault_in _ = None
+
+-- how the last startup child came out
+abbrev pub came_by : Kind → Status → MailTold → Option Came → Option Came
+came_by kind status back before = if is_startup_child kind then Some (record { status = status; fault = fault_in back }) else before
+
+-- so it is behind these children of a slot, where it was so before them
+abbrev pub came_from : Option Came → List (PastChild MailTold) → Option Came
+came_from before [] = before
+came_from before (child ∷ past) = came_from (came_by child.offer.kind child.status child.back before) past
+
+-- how the last startup child of a slot came out, of those that were released
+abbrev pub came_of : List (PastChild MailTold) → Option Came
+came_of past = came_from None past
+
+-- the lost ones, with this child where its slot was active
+abbrev pub lost_with : ℕ → Bool → List ℕ → List ℕ
+lost_with pid was_active lost = if was_active then lost ++ pid ∷ [] else lost
+
+module _ {D C : Type 0} where
+  -- the child was taken in: its link went back, and all else is as it was
+  abbrev pub TakesIn : MailTold → ℕ → Kind → Status → Bool → View D C → View D C → Type 0
+  TakesIn back pid kind status was_active before now =
+      now ≡ record before {
+        visits = option_map (opened back) before.visits;
+        lost = lost_with pid was_active before.lost;
+        came = came_by kind status back before.came;
+      }

@@ -1,0 +1,96 @@
+-- What a run of a server of many connections leaves.
+use Rattle.std.specs.Prelude.{◌≡◌, ◌⊎◌, ◌+◌, ◌*◌, ℕ, Bool, List, [], ◌∷◌, ◌++◌, Option, Some, IfSome, is_some}
+use Rattle.pm_board.specs.declared.views.RosterView.{RosterView}
+use Rattle.pm_board.specs.Places.{slot_at}
+use Rattle.pm_crew.specs.Left.{AreLeft, Manner}
+use Rattle.pm_crew.specs.Pids.{AreUsedOnce}
+use Rattle.pm_crew.specs.Redos.{RedosAreThose}
+use Rattle.pm_crew.specs.Renewals.{RenewsAsTold}
+use Rattle.pm_disk.specs.Cause.{Rose}
+use Rattle.pm_lines.specs.Log.{HasLogged, LogView, Says, log_of}
+use Rattle.pm_pool.specs.declared.pool.NoPool.{NoPool}
+use Rattle.pm_pool.specs.declared.pool.NoPool.TheVariants as pools
+use Rattle.pm_record.specs.OnDisk.{GoesOn}
+use Rattle.pm_query.specs.declared.book.BookEntry.{BookEntry}
+use Rattle.pm_query.specs.declared.book.BookEntry.TheVariants.{Opened}
+use Rattle.pm_remains.specs.Remains.{Remains}
+use Rattle.pm_seating.specs.Chained.{LinksCameBack}
+use Rattle.pm_seating.specs.Seating.{Move, journal_of}
+use Rattle.pm_seating.specs.Standing.{IsBoardOf}
+use Rattle.pm_server.specs.declared.conf.Conf.{Conf}
+use Rattle.pm_server.specs.declared.end.ServerEnd.{ServerEnd}
+use Rattle.pm_server.specs.declared.end.ServerEnd.TheVariants.{NoThread, NoMemory}
+use Rattle.pm_server.specs.Ends.{end_line}
+use Rattle.pm_server.specs.Journal.{IsJournal}
+use Rattle.pm_server.specs.Views.{DiskView}
+use Rattle.pm_shared.specs.declared.views.Noted.{Noted}
+use Rattle.pm_supervisor.specs.declared.Limits.{Limits}
+use Rattle.pm_worker.specs.declared.mail.MailTold.{MailTold}
+use Rattle.pm_postmaster.specs.Outside.{ServeView}
+use Rattle.pm_postmaster.specs.Serving.{IsCausedBehind, IsEndBehind}
+
+-- how many slots the board of a server has
+abbrev pub slots_by : Limits → ℕ
+slots_by limits = 3 + 2 * (limits.max_connections + limits.max_worker_processes) + 4
+
+-- what its workers go by
+abbrev pub manner_by : Conf → ServeView → Manner
+manner_by conf before = record {
+  seed = before.outside.seed;
+  limit = conf.session.authentication_ms;
+  gives = before.outside.gives;
+}
+
+-- how a server ends for which no pool was made
+abbrev pub unmade_by : NoPool → ServerEnd
+unmade_by pools.NoThread = NoThread
+unmade_by pools.NoMemory = NoMemory
+
+-- the line was given to a log, whose sink has come back
+abbrev pub IsEnded : List ℕ → LogView → (written : Option (List ℕ)) → (faults : ℕ) → Type 0
+IsEnded line before written faults = (now : LogView) × Says line before now × (now.written ≡ written) × (now.faults ≡ faults)
+
+-- The pool was made. These are the moves of the supervisor, what its side of the board knew at the end, the entries that its side
+-- of the store noted, and all that the store noted.
+pub record IsServed (conf : Conf) (end : ServerEnd) (before now : ServeView) : Type 0 where
+  pub moves : List Move
+  pub board : RosterView MailTold
+  pub own : List Noted
+  pub book : List BookEntry
+  pub journal : IsJournal conf.limits before.outside.gives (journal_of (slots_by conf.limits) moves) before.outside.journal now.outside.journal
+  -- the steps at the board are those of the moves
+  pub board_is : IsBoardOf (slots_by conf.limits) moves board
+  -- each worker's runs, one for one, are the children of its slot, and the book is what they and the supervisor noted
+  pub left : AreLeft (manner_by conf before) (slots_by conf.limits) board own book
+  pub once : AreUsedOnce board
+  -- the files, at every tick
+  pub remains : Remains before.outside.disk now.outside.disk now.outside.book book
+  -- it ended as its machine did, or for want of memory or of a generation
+  pub ends : IsEndBehind conf.limits end (journal_of (slots_by conf.limits) moves)
+  pub cause : IsCausedBehind end (slot_at board 0).past
+  -- the store's generations are those that the journal begins, each behind the children that were lost before it
+  pub renewals : RenewsAsTold (journal_of (slots_by conf.limits) moves) own
+  -- the ends of redo are those that startup children told
+  pub redos : RedosAreThose moves board
+  -- each link that was given came back once
+  pub links : IfSome now.outside.visits (LinksCameBack (journal_of (slots_by conf.limits) moves))
+  pub logged :
+      HasLogged (log_of (journal_of (slots_by conf.limits) moves) ++ end_line end) before.outside.written now.outside.written before.outside.sink_faults
+      now.outside.sink_faults
+
+-- No pool was made, for want of a thread, which the spawner has counted, or of memory. Nothing was accepted, read or noted but,
+-- perhaps, the opening of the store.
+pub record IsUnmade (end : ServerEnd) (refused_before refused_now : ℕ) (before now : ServeView) : Type 0 where
+  pub why : (end ≡ NoMemory) ⊎ ((end ≡ NoThread) × Rose refused_before refused_now)
+  pub journal : now.outside.journal ≡ before.outside.journal
+  pub visits : now.outside.visits ≡ before.outside.visits
+  pub lines : now.lines ≡ before.lines
+  pub book : (now.outside.book ≡ before.outside.book) ⊎ IfSome now.outside.book (λ book. book ≡ Opened 1 ∷ [])
+  pub files : now.outside.disk.files ≡ before.outside.disk.files
+  pub time : GoesOn before.outside.disk.ticks now.outside.disk.ticks before.outside.disk.images now.outside.disk.images
+  pub logged : HasLogged (end_line end) before.outside.written now.outside.written before.outside.sink_faults now.outside.sink_faults
+
+-- A run of a server that ended so, whose spawner had refused so many threads before and so many at its end.
+abbrev pub IsServeRun : Conf → ServerEnd → (refused_before refused_now : ℕ) → (before now : ServeView) → Type 0
+IsServeRun conf end refused_before refused_now before now =
+    IsServed conf end before now ⊎ IsUnmade end refused_before refused_now before now

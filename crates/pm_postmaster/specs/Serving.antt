@@ -1,0 +1,170 @@
+-- What holds of a server at every moment.
+use Rattle.std.specs.Prelude.{◌≡◌, ◌⊎◌, ℕ, ◌≤◌, Bool, List, [], ◌∷◌, ◌++◌, Option, Some, IfSome, Result, Ok, Err, length, is_some}
+use Rattle.std.specs.List.{AllByRecursion, flat_map}
+use Rattle.atomic_table.specs.Seated.{TableId}
+use Rattle.pm_admit.specs.declared.Cac.{Cac}
+use Rattle.pm_board.specs.declared.views.RosterView.{RosterView}
+use Rattle.pm_board.specs.Places.{slot_at}
+use Rattle.pm_chain.specs.Chain.{gone_from, lost_from, opened_of, resets_of}
+use Rattle.pm_crew.specs.Redos.{redo_ends_at, redo_told}
+use Rattle.pm_crew.specs.Renewals.{EachBeginsSo, RenewsAsTold, lost_since}
+use Rattle.pm_crew.specs.Redos.{RedosAreThose}
+use Rattle.pm_journal.specs.Moments.{AreGiven}
+use Rattle.pm_journal.specs.Standing.{Standing}
+use Rattle.pm_journal.specs.Stands.{any_moment, highest_pid}
+use Rattle.pm_lines.specs.Log.{HasSaid, LogView}
+use Rattle.pm_query.specs.declared.book.BookEntry.{BookEntry}
+use Rattle.pm_query.specs.declared.book.BookEntry.TheVariants as noted
+use Rattle.pm_seating.specs.Chained.{accepted_in}
+use Rattle.pm_seating.specs.Final.{IsEndingAt}
+use Rattle.pm_seating.specs.Runs.{IsOnBoard}
+use Rattle.pm_seating.specs.Seating.{Move, journal_of}
+use Rattle.pm_seating.specs.Standing.{IsAt, view}
+use Rattle.pm_server.specs.declared.end.ServerEnd.{ServerEnd}
+use Rattle.pm_server.specs.declared.end.ServerEnd.TheVariants.{Abnormal}
+use Rattle.pm_server.specs.declared.end.StartWhy.{StartWhy}
+use Rattle.pm_server.specs.declared.end.StartWhy.TheVariants as why
+use Rattle.pm_server.specs.declared.end.Why.TheVariants.{StartupFailed}
+use Rattle.pm_exit.specs.declared.child.Status.TheVariants.{Signal}
+use Rattle.pm_query.specs.declared.store.StoreNo.TheVariants.{Redo as RedoNo}
+use Rattle.pm_board.specs.declared.views.PastChild.{PastChild}
+use Rattle.pm_postmaster.specs.declared.server.Came.{Came}
+use Rattle.pm_postmaster.specs.Looking.{came_of}
+use Rattle.pm_shared.specs.Log.{entries_of}
+use Rattle.pm_shared.specs.Told.{SharedModel}
+use Rattle.pm_shared.specs.declared.views.Noted.{Noted}
+use Rattle.pm_state.specs.declared.action.Action.{Action}
+use Rattle.pm_state.specs.declared.action.Action.TheVariants as act
+use Rattle.pm_state.specs.declared.event.PmEvent.{PmEvent}
+use Rattle.pm_state.specs.declared.event.PmEvent.TheVariants as entry
+use Rattle.pm_server.specs.Ends.{IsEndBy}
+use Rattle.pm_state.specs.Journal.{IsLegal, all_replayed, replay_begun}
+use Rattle.pm_supervisor.specs.declared.Limits.{Limits}
+use Rattle.pm_worker.specs.declared.mail.MailTold.{MailTold}
+use Rattle.pm_postmaster.specs.Links.{HasLinks}
+use Rattle.pm_postmaster.specs.View.{View}
+
+-- How a server began: by what limits, on what board of so many slots, with what side of its store, log and clock, and whether its
+-- journal tells.
+pub record Outset (D C : Type 0) : Type 0 where
+  pub limits : Limits
+  pub count : ℕ
+  pub table : TableId
+  pub shared : SharedModel D
+  pub log : LogView
+  pub clock : C
+  pub tells : Bool
+
+-- all are to be killed among these acts
+abbrev pub KillsAll : List Action → Type 0
+KillsAll [] = ⊥
+KillsAll (act.KillAll ∷ acts) = Unit {0}
+KillsAll (_ ∷ acts) = KillsAll acts
+
+-- the moment of the last entry, and that of a killing that is due, are given, but for the first of all
+pub record Moments (gives : ℕ → Type 0) (s : Standing) : Type 0 where
+  pub last : (s.moment ≡ 0) ⊎ gives s.moment
+  pub called : KillsAll s.due → gives s.called_at
+
+-- those that are gone behind the last generation that was opened, behind those so far
+abbrev pub gone_since : List ℕ → List BookEntry → List ℕ
+gone_since so_far [] = so_far
+gone_since so_far (noted.Gone pid ∷ book) = gone_since (so_far ++ pid ∷ []) book
+gone_since so_far (noted.Opened generation ∷ book) = gone_since [] book
+gone_since so_far (_ ∷ book) = gone_since so_far book
+
+-- Those that were lost in this generation are at hand. The shared side opened the generations that the journal begins, each behind
+-- those that were lost before it.
+pub record Renews (journal : List PmEvent) (lost : List ℕ) (own : List Noted) : Type 0 where
+  pub lost_is : lost ≡ lost_since [] journal
+  pub opened : opened_of (entries_of own) ≡ 1 ∷ resets_of journal
+  pub gone : EachBeginsSo (gone_from [] (entries_of own)) ([] ∷ lost_from [] journal)
+  pub fresh : gone_since [] (entries_of own) ≡ []
+
+-- each end of redo that the moves tell of is that of a released child of its slot, and no others have told of one
+abbrev pub TellsRedos : List Move → RosterView MailTold → Type 0
+TellsRedos moves d = (k : ℕ) → flat_map redo_told (slot_at d k).past ≡ redo_ends_at k moves
+
+-- the store and its tokens, and the clock, are those of the outset
+pub record StaysWith {D C : Type 0} (outset : Outset D C) (v : View D C) : Type 0 where
+  pub table : v.table ≡ outset.table
+  pub home : v.shared.table ≡ outset.shared.table
+  pub tokens : v.shared.tokens ≡ outset.shared.tokens
+  pub joined : v.shared.joined ≡ outset.shared.joined
+  pub disk : v.shared.first ≡ outset.shared.first
+  pub clock : v.clock ≡ outset.clock
+
+-- the journal ends with this entry
+abbrev pub EndsWith : PmEvent → List PmEvent → Type 0
+EndsWith last journal = (front : List PmEvent) × (journal ≡ front ++ last ∷ [])
+
+-- the last pid that a journal tells of
+abbrev pub last_pid_in : Limits → List PmEvent → ℕ
+last_pid_in limits journal = (all_replayed (replay_begun limits) journal).shown.last_pid
+
+-- a server may end so behind this journal
+abbrev pub IsEndBehind : Limits → ServerEnd → List PmEvent → Type 0
+IsEndBehind limits end journal = IsEndBy (λ how. EndsWith (entry.Ended how) journal) limits end journal
+
+-- a startup child came out so that a server ends for this reason
+abbrev pub IsReason : StartWhy → Came → Type 0
+IsReason why.Killed came = came.status ≡ Signal 9
+IsReason (why.Redo fault) came = came.fault ≡ Some (RedoNo fault)
+
+-- where no startup child brought the data up to date, the last one of its slot by then came out for the reason that is told
+abbrev pub IsCausedBehind : ServerEnd → List (PastChild MailTold) → Type 0
+IsCausedBehind (Abnormal (StartupFailed reason)) past =
+    (front others : List (PastChild MailTold)) × (past ≡ front ++ others) × (came : Came) × (came_of front ≡ Some came) × IsReason reason came
+IsCausedBehind end past = Unit {0}
+
+module _ {D C : Type 0} (gives : C → ℕ → Type 0) where
+  -- behind these moves, while entries are noted and behind the last one
+  pub record Holds (outset : Outset D C) (moves : List Move) (v : View D C) : Type 0 where
+    pub stays : StaysWith outset v
+    pub slots : length v.board.slots ≡ outset.count
+    pub tells : is_some v.work.told ≡ outset.tells
+    pub times : AreGiven (gives outset.clock) (journal_of outset.count moves)
+    pub said : HasSaid (journal_of outset.count moves) outset.log v.log
+    pub links : IfSome v.visits (HasLinks (length (accepted_in (journal_of outset.count moves))) v.board)
+
+  -- at every moment, these are the moves so far
+  pub record IsServing (outset : Outset D C) (v : View D C) : Type 0 where
+    pub moves : List Move
+    pub at : IsAt outset.limits outset.count moves (view v.work v.board)
+    pub holds : Holds outset moves v
+    pub moments : Moments (gives outset.clock) v.work.standing
+    pub generation : v.shared.generation ≡ v.work.standing.generation
+    pub renews : Renews (journal_of outset.count moves) v.lost v.shared.own
+    pub redos : TellsRedos moves v.board
+    pub came : v.came ≡ came_of (slot_at v.board 0).past
+
+  -- behind the last entry, of a server that ends so
+  pub record HasStopped (outset : Outset D C) (end : ServerEnd) (v : View D C) : Type 0 where
+    pub moves : List Move
+    pub ending : IsEndingAt outset.count moves v.board
+    pub pids : v.board.notes.last_pid ≤ highest_pid
+    pub legal : IsLegal outset.limits any_moment (journal_of outset.count moves)
+    pub drawn : last_pid_in outset.limits (journal_of outset.count moves) ≤ highest_pid
+    pub told : IfSome v.work.told (λ entries. entries ≡ journal_of outset.count moves)
+    pub holds : Holds outset moves v
+    pub ends : IsEndBehind outset.limits end (journal_of outset.count moves)
+    pub cause : IsCausedBehind end (slot_at v.board 0).past
+    pub renews : RenewsAsTold (journal_of outset.count moves) v.shared.own
+    pub redos : RedosAreThose moves v.board
+
+  -- it goes on serving, whatever its outset was
+  abbrev pub Keeps : View D C → View D C → Type 0
+  Keeps before now = (outset : Outset D C) → IsServing outset before → IsServing outset now
+
+  -- it has ended so
+  abbrev pub Stops : ServerEnd → View D C → View D C → Type 0
+  Stops end before now = (outset : Outset D C) → IsServing outset before → HasStopped outset end now
+
+  -- it goes on, or it has ended by the answer
+  abbrev pub Goes : {T : Type 0} → Result T ServerEnd → View D C → View D C → Type 0
+  Goes (Ok done) before now = Keeps before now
+  Goes (Err end) before now = Stops end before now
+
+  -- it has come to where it is from some outset
+  abbrev pub IsAlive : View D C → Type 0
+  IsAlive v = (outset : Outset D C) × IsServing outset v

@@ -1,0 +1,33 @@
+//! The laws on which a server of many connections stands.
+
+ghost use Rattle.pm_board.specs.Children.{CountsChildren};
+ghost use Rattle.pm_journal.specs.Laws.{GoesOnOverItsJournal, KeepsALegalJournal};
+ghost use Rattle.pm_seating.specs.Final.{EndsWithNobody, MayEndAnywhere};
+ghost use Rattle.pm_seating.specs.Laws.{LinesMayAskForNothing};
+ghost use Rattle.pm_state.specs.Laws.{RestartsSafely};
+ghost use Rattle.pm_worker.specs.declared.mail.MailTold.{MailTold};
+
+use pm_board::counts_children;
+use pm_journal::{goes_on_over_its_journal, keeps_a_legal_journal};
+use pm_outside::Link;
+use pm_seating::{ends_with_nobody, lines_may_ask_for_nothing, may_end_anywhere};
+use pm_state::restarts_safely;
+use pm_worker::Mail;
+
+pub(crate) fn laws<L: Link + Drop>()
+    ensures work { GoesOnOverItsJournal }
+    ensures journal { KeepsALegalJournal }
+    ensures may_end { MayEndAnywhere MailTold }
+    ensures nobody { EndsWithNobody MailTold }
+    ensures lines { LinesMayAskForNothing MailTold }
+    ensures counts { CountsChildren }
+    ensures safely { RestartsSafely }
+{
+    counts_children();
+    restarts_safely();
+    goes_on_over_its_journal();
+    keeps_a_legal_journal();
+    may_end_anywhere::<Mail<L>>();
+    ends_with_nobody::<Mail<L>>();
+    lines_may_ask_for_nothing::<Mail<L>>();
+}

@@ -1,0 +1,189 @@
+//! A whole run of a server.
+ghost use Rattle.std.specs.Prelude.{◌≡◌, ◌≤◌, ◌+◌, [], IfSome, option_map};
+ghost use Rattle.pm_outside.specs.Visits.{no_visits};
+ghost use Rattle.pm_postmaster.specs.Outside.{serve_view};
+ghost use Rattle.pm_postmaster.specs.Served.{IsEnded, IsServeRun, unmade_by};
+ghost use Rattle.pm_lines.specs.Log.{view_of};
+ghost use Rattle.pm_server.specs.Ends.{end_line};
+
+use crate::clearing::clear;
+use crate::laws::laws;
+use crate::server::Server;
+use pm_disk::Disk;
+use pm_journal::Supervision;
+use pm_lines::Log;
+use pm_once::Outside;
+use pm_outside::{Chronicle, Clock, Console, Link, Port, Sink};
+use pm_pool::{Made, NoPool, Plan, Unmade, make};
+use pm_query::BookEntry;
+use pm_remains::part;
+use pm_seating::Desk;
+use pm_server::{Conf, ServerEnd, say_end};
+use pm_spawn::Spawner;
+use pm_state::PmEvent;
+use std::alloc::Global;
+use std::sync::Wait;
+use std::thread::Threads;
+
+// How a server ends for which no pool was made.
+fn unmade_end(why: NoPool) -> ServerEnd
+    ensures { result ≡ unmade_by why }
+{
+    match why {
+        NoPool::NoThread => ServerEnd::NoThread,
+        NoPool::NoMemory => ServerEnd::NoMemory,
+    }
+}
+
+// Writes the line of an end, and gives the sink back.
+fn ended<O: Sink>(log: Log<O>, end: ServerEnd) -> O
+    ensures { IsEnded (end_line end) (view_of log) (O.written result) (O.faults result) }
+{
+    let mut log = log;
+    say_end(&mut log, end);
+    log.into_sink()
+}
+
+/// How a server ended, and what it worked on.
+#[derive(Debug, Drop)]
+pub struct Served<
+    P: Port,
+    K: Console,
+    O: Sink,
+    D: Disk,
+    C: Clock,
+    J: Chronicle<PmEvent>,
+    B: Chronicle<BookEntry>,
+> {
+    pub end: ServerEnd,
+    pub outside: Outside<P, O, D, C, J, B>,
+    pub console: K,
+}
+
+/// Runs a server over the disk until it ends: it accepts the port's links, each of which has a child in a thread of its own, does
+/// what the console's lines ask for, and goes through a crash cycle where a child crashes.
+///
+/// What it is handed is new: its journal and its book have no entries, its port has given no link, and its console no line. It
+/// takes a thread for each slot of its board, and takes all memory for these before the first starts.
+pub fn supervise<S, R, L, P, K, O, D, C, J, B>(
+    spawner: &mut S,
+    rt: R,
+    alloc: Global,
+    conf: &Conf,
+    outside: Outside<P, O, D, C, J, B>,
+    console: K,
+) -> Served<P, K, O, D, C, J, B>
+where
+    S: Spawner<Runtime = R>,
+    R: Threads + Wait + Copy + Drop + Send + 'static,
+    L: Link + Drop + Send + 'static,
+    P: Port<Link = L>,
+    K: Console,
+    O: Sink,
+    D: Disk + Drop + Send + 'static,
+    C: Clock + Drop + Send + 'static,
+    J: Chronicle<PmEvent>,
+    B: Chronicle<BookEntry> + Drop + Send + 'static,
+    requires some { 1 ≤ conf.now.limits.max_connections + conf.now.limits.max_worker_processes }
+    requires within { conf.now.limits.max_connections + conf.now.limits.max_worker_processes ≤ 200 }
+    requires journal { IfSome (J.entries outside.journal) (λ entries. entries ≡ []) }
+    requires book { IfSome (B.entries outside.book) (λ entries. entries ≡ []) }
+    requires port { IfSome (P.visits outside.port) (λ visits. visits ≡ no_visits) }
+    requires console { IfSome (K.lines console) (λ lines. lines ≡ []) }
+    ensures run { IsServeRun conf.now result.end (S.faults spawner.old) (S.faults spawner.new)
+        (serve_view K.Console outside console)
+        (serve_view K.Console result.outside result.console) }
+    ensures rest { (result.outside.clock ≡ outside.clock)
+        × (result.outside.seed ≡ outside.seed) }
+{
+    laws::<L>();
+    let plan = Plan {
+        max_connections: conf.limits.max_connections,
+        max_worker_processes: conf.limits.max_worker_processes,
+        conf: conf.session,
+        seed: outside.seed,
+    };
+    let Outside {
+        port,
+        sink,
+        disk,
+        clock,
+        journal,
+        book,
+        seed,
+    } = outside;
+    let log = Log::new(sink);
+    match make(spawner, rt, alloc, &clock, &plan, disk, book) {
+        Ok(made) => {
+            let Made {
+                roster,
+                shared,
+                pool,
+            } = made;
+            let supervision = Supervision::new(alloc, conf.limits, journal);
+            let desk = Desk::new(supervision, roster);
+            let lost = Vec::new(alloc);
+            let mut server = Server {
+                desk,
+                shared,
+                log,
+                port,
+                console,
+                clock,
+                lost,
+                came: None,
+                listens: true,
+                hears: true,
+            };
+            let end = server.run(&rt);
+            let Server {
+                desk,
+                shared,
+                log,
+                mut port,
+                console,
+                clock,
+                ..
+            } = server;
+            let (supervision, mut roster) = desk.into_parts();
+            clear(&rt, &mut roster, &mut port, &clock);
+            let store = pool.close(&rt, &mut roster, shared);
+            let (disk, book) = part(store);
+            let sink = ended(log, end);
+            let journal = supervision.into_journal();
+            let outside = Outside {
+                port,
+                sink,
+                disk,
+                clock,
+                journal,
+                book,
+                seed,
+            };
+            Served {
+                end,
+                outside,
+                console,
+            }
+        }
+        Err(unmade) => {
+            let Unmade { why, disk, book } = unmade;
+            let end = unmade_end(why);
+            let sink = ended(log, end);
+            let outside = Outside {
+                port,
+                sink,
+                disk,
+                clock,
+                journal,
+                book,
+                seed,
+            };
+            Served {
+                end,
+                outside,
+                console,
+            }
+        }
+    }
+}
