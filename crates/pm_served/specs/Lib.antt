@@ -1,3 +1,4 @@
 pub mod Promises
 pub mod PromisesLaws
 pub mod ClosingLaws
+pub mod PromisedServe

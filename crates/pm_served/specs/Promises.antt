@@ -1,5 +1,5 @@
 -- What a user counts on of a server of many connections, by what it leaves.
-use Rattle.std.specs.Prelude.{◌≡◌, ◌<◌, ℕ, List}
+use Rattle.std.specs.Prelude.{◌<◌, ℕ, List}
 use Rattle.pm_query.specs.declared.book.BookEntry.{BookEntry}
 use Rattle.pm_query.specs.Book.{Base, history_of}
 use Rattle.pm_state.specs.declared.event.PmEvent.{PmEvent}

@@ -1,9 +1,9 @@
 -- A server of many connections keeps what a user counts on.
-use Rattle.std.proofs.Common.{◌≡◌, ◌⊎◌, inl, inr, ℕ, ◌<◌, List, [], Some, None, refl, ap, subst, arith}
+use Rattle.std.proofs.Common.{◌≡◌, ◌⊎◌, inl, inr, ℕ, ◌<◌, List, [], Some, None, arith}
 use Rattle.std.specs.List.{AllByRecursion}
 use Rattle.std.proofs.lemmas.List.Elements.{All-from_recursion}
 use Rattle.std.proofs.lemmas.Option.{slice_get-get_or}
-use Rattle.std.specs.Prelude.{get_or, length}
+use Rattle.std.specs.Prelude.{get_or}
 use Rattle.pm_disk.specs.Files.{Files}
 use Rattle.pm_board.specs.declared.views.RosterView.{RosterView}
 use Rattle.pm_query.specs.declared.book.BookEntry.{BookEntry}
@@ -23,12 +23,12 @@ use Rattle.pm_server.specs.Story.{HoldsHistory, KeepsMeaning}
 use Rattle.pm_server.specs.Views.{DiskView}
 use Rattle.pm_shared.specs.declared.views.Noted.{Noted}
 use Rattle.pm_worker.specs.declared.mail.MailTold.{MailTold}
-use Rattle.pm_worker.specs.Runs.{IsRun, Run}
+use Rattle.pm_worker.specs.Runs.{IsRun}
 use Rattle.pm_crew.specs.EntriesLaws.{entries_of_runs}
-use Rattle.pm_crew.specs.Left.{AreLeft, IsWorked, Manner}
+use Rattle.pm_crew.specs.Left.{AreLeft, Manner}
 use Rattle.pm_crew.specs.Pids.{AreUsedOnce}
 use Rattle.pm_crew.specs.TalksLaws.{FineTalks, fine_talks}
-use Rattle.pm_served.specs.Promises.{AllAnswersAreRight, Crew, IsPromised}
+use Rattle.pm_served.specs.Promises.{AllAnswersAreRight, IsPromised}
 
 base_is : (base : Base) (book : List BookEntry) (before now : DiskView) → KeepsMeaning book before now ⊎ HoldsHistory base book before now → IsBaseOf base book before
 base_is base book before now (inl keeps) = inl keeps.unanswered

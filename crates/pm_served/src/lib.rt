@@ -1,2 +1,6 @@
-//! A server of many connections with what a user counts on.
+//! A server of many connections with what a user counts on: four of the five promises, over what a whole run leaves.
 #![tactic(auto)]
+
+mod served;
+
+pub use served::serve_as_promised;

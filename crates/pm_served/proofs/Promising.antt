@@ -1,0 +1,43 @@
+-- A run of a server of many connections keeps the promises.
+use Rattle.std.proofs.Common.{◌≡◌, inl, inr, ℕ, List, Option, Some, sym, subst}
+use Rattle.std.specs.Prelude.{IfSome}
+use Rattle.pm_answers.specs.Laws.{OwnEntriesStand, RepliesAreRight}
+use Rattle.pm_journal.specs.Stands.{any_moment}
+use Rattle.pm_query.specs.declared.book.BookEntry.{BookEntry}
+use Rattle.pm_query.specs.Book.{Base}
+use Rattle.pm_query.specs.BookLaws.{AckedNeverFalls}
+use Rattle.pm_postmaster.specs.Outside.{ServeView}
+use Rattle.pm_postmaster.specs.Served.{IsServed, IsServeRun, manner_by, slots_by}
+use Rattle.pm_remains.specs.Remains.{IsLeft}
+use Rattle.pm_server.specs.declared.conf.Conf.{Conf}
+use Rattle.pm_server.specs.declared.end.ServerEnd.{ServerEnd}
+use Rattle.pm_state.specs.Laws.{RestartsSafely}
+use Rattle.pm_state.specs.Restarts.{RestartsInOrder}
+use Rattle.pm_served.specs.PromisedServe.{IsPromisedRun, IsPromisedServe, IsTold, crew_in, journal_in}
+use Rattle.pm_served.specs.Promises.{IsPromised}
+use Rattle.pm_served.specs.PromisesLaws.{promised}
+
+-- what is told of the book is said of these entries
+said_of : (T : List BookEntry → Type 0) (told : Option (List BookEntry)) (book : List BookEntry) → told ≡ Some book → IfSome told T → T book
+said_of T told book is said = subst (λ (o : Option (List BookEntry)). IfSome o T) is said
+
+module _ (right : RepliesAreRight) (own : OwnEntriesStand) (never : AckedNeverFalls) (safely : RestartsSafely) where
+  module _ (conf : Conf) (end : ServerEnd) (before now : ServeView) (run : IsServed conf end before now) where
+    restarts_of : RestartsInOrder conf.limits (journal_in run)
+    restarts_of = safely.in_order conf.limits any_moment (journal_in run) run.journal.legal
+
+    promised_of : (book : List BookEntry) → IsTold now.outside book → (base : Base) × IsPromised conf.limits (journal_in run) base book (crew_in run) before.outside.disk now.outside.disk
+    promised_of book told =
+        let said : (book ≡ run.book) × IsLeft before.outside.disk now.outside.disk run.book =
+        said_of (λ (its : List BookEntry). (its ≡ run.book) × IsLeft before.outside.disk now.outside.disk run.book) now.outside.book book told.book_is run.remains.told in
+        let kept : IsPromised conf.limits (journal_in run) said.1.base run.book (crew_in run) before.outside.disk now.outside.disk =
+        promised right own never (manner_by conf before) (slots_by conf.limits) run.board run.own run.book run.left run.once conf.limits (journal_in run) before.outside.disk now.outside.disk told.files told.files_are restarts_of said.1 in
+        (said.1.base, subst (λ (b : List BookEntry). IsPromised conf.limits (journal_in run) said.1.base b (crew_in run) before.outside.disk now.outside.disk) (sym said.0) kept)
+
+    promised_run : IsPromisedRun conf end before now
+    promised_run = record { run = run; restarts = restarts_of; promised = promised_of }
+
+  pub promised_serve : (conf : Conf) (end : ServerEnd) (refused_before refused_now : ℕ) (before now : ServeView) → IsServeRun conf end refused_before refused_now before now
+      → IsPromisedServe conf end refused_before refused_now before now
+  promised_serve conf end refused_before refused_now before now (inl run) = inl (promised_run conf end before now run)
+  promised_serve conf end refused_before refused_now before now (inr unmade) = inr unmade
