@@ -22,7 +22,7 @@ abbrev pub status_by : Cause → Status
 status_by (Redone kept) = Code 0
 status_by Flushed = Code 0
 status_by Closed = Code 0
-status_by LeftOut = Code 1
+status_by LeftOut = Code 0
 status_by (Refused refusal) = status_refused refusal
 status_by (TurnedAway refusal) = Code 2
 status_by ToldToTerminate = Code 1

@@ -33,11 +33,11 @@ impl Cause {
         ensures { result ≡ status_by self }
     {
         match self {
-            Cause::Redone { .. } | Cause::Flushed | Cause::Closed => Status::Code(0),
+            Cause::Redone { .. } | Cause::Flushed | Cause::Closed | Cause::LeftOut => Status::Code(0),
             Cause::Refused(StoreNo::Stale { .. } | StoreNo::Disk | StoreNo::Broken { .. }) => {
                 Status::Signal(6)
             }
-            Cause::Refused(_) | Cause::LeftOut | Cause::ToldToTerminate => Status::Code(1),
+            Cause::Refused(_) | Cause::ToldToTerminate => Status::Code(1),
             Cause::TurnedAway(_) | Cause::ToldToQuit(_) => Status::Code(2),
             Cause::Killed => Status::Signal(9),
         }

@@ -240,7 +240,6 @@ fn a_checkpointer_ends_so(rt: HostRuntime) -> Result<(), Fail> {
             name: "before the end of redo",
             before: Before::Unread,
             signals: &[LAST],
-            done: ended(Status::Code(1)),
             noted: "AlD",
             ..CHECKPOINTER
         },

@@ -47,7 +47,7 @@ well_by : (cause : Cause) (gate : Option (Result ℕ GateNo)) → is_some (attac
 well_by (Redone kept) gate is = absurd (true_false is)
 well_by Flushed gate is = absurd (true_false is)
 well_by Closed gate is = absurd (true_false is)
-well_by LeftOut gate is = refl
+well_by LeftOut gate is = absurd (true_false is)
 well_by (Refused (stores.Stale mine found)) gate is = refl
 well_by (Refused stores.Disk) gate is = refl
 well_by (Refused (stores.Broken since)) gate is = refl
@@ -102,6 +102,12 @@ not_closed who (Some (Err refusal)) noted h = let no_ : Closed ≡ TurnedAway re
 not_closed who (Some (Ok generation)) noted (inl h) = elim h [ ]
 not_closed who (Some (Ok generation)) noted (inr w) = elim w.worked.does [ ]
 
+not_left_out : (who : Runner) (gate : Option (Result ℕ GateNo)) (noted : List BookEntry) → NotesBehind kinds.Startup who gate LeftOut noted → ⊥
+not_left_out who None noted h = elim h.0 [ ]
+not_left_out who (Some (Err refusal)) noted h = let no_ : LeftOut ≡ TurnedAway refusal = h.0 in absurd (cc)
+not_left_out who (Some (Ok generation)) noted (inl h) = elim h [ ]
+not_left_out who (Some (Ok generation)) noted (inr w) = elim w.worked.does [ ]
+
 kept_first : (kind : Kind) (who : Runner) (gate : Option (Result ℕ GateNo)) (cause : Cause) (noted : List BookEntry) → NotesBehind kind who gate cause noted
     → is_some (kept_by cause) ≡ true → kind ≡ kinds.Startup
 kept_first kind who gate (Redone kept) noted h is = reads kind who gate kept noted h
@@ -134,7 +140,7 @@ kept_told : (who : Runner) (gate : Option (Result ℕ GateNo)) (cause : Cause) (
 kept_told who gate (Redone kept) noted h e = refl
 kept_told who gate Flushed noted h e = absurd (not_flushed who gate noted h)
 kept_told who gate Closed noted h e = absurd (not_closed who gate noted h)
-kept_told who gate LeftOut noted h e = other _ (Code 1) refl e
+kept_told who gate LeftOut noted h e = absurd (not_left_out who gate noted h)
 kept_told who gate (Refused (stores.Stale mine found)) noted h e = other _ (Signal 6) refl e
 kept_told who gate (Refused stores.Disk) noted h e = other _ (Signal 6) refl e
 kept_told who gate (Refused (stores.Broken since)) noted h e = other _ (Signal 6) refl e
