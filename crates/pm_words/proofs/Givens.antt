@@ -4,7 +4,7 @@ use Rattle.std.proofs.lemmas.List.{take_all}
 use Rattle.std.specs.Prelude.{◌⊎◌, codes, nat_eq, not, IfSome, IfNone}
 use Rattle.std.specs.List.{list_all}
 use Rattle.pm_words.specs.declared.words.Verb.{Verb}
-use Rattle.pm_words.specs.Words.{Choice, Data, MaxConnections, RestartAfterCrash, AuthenticationTimeout, Number, Choose, Chosen, MayChoose, Says, Spells, option_name, with_choice}
+use Rattle.pm_words.specs.Words.{Choice, Data, Port, MaxConnections, RestartAfterCrash, AuthenticationTimeout, Number, Choose, Chosen, MayChoose, Says, Spells, option_name, with_choice}
 use Rattle.pm_words.specs.Options.{BeginsWith, BeginsWithOption, IsName, IsPlain, Leaves}
 
 -- ---- names
@@ -15,6 +15,7 @@ by_test (byte ∷ name) all = (grind arith, by_test name (grind arith))
 
 pub is_name : (choice : Choice) → IsName (option_name choice)
 is_name (Data dir) = by_test (codes "--data") refl
+is_name (Port port) = by_test (codes "--port") refl
 is_name (MaxConnections count) = by_test (codes "--max-connections") refl
 is_name (RestartAfterCrash restarts) = by_test (codes "--restart-after-crash") refl
 is_name (AuthenticationTimeout seconds) = by_test (codes "--authentication-timeout") refl
@@ -110,30 +111,15 @@ same-flag false false value first second = refl
 
 same-choice : (one two : Choice) (value : List ℕ) → option_name one ≡ option_name two → Says one value → Says two value → one ≡ two
 same-choice (Data dir) (Data other) value name first second = ap Data (sym first ∙ second)
-same-choice (Data dir) (MaxConnections count) value name first second = absurd (omega (arith, ap (λ (l : List ℕ). length l) name))
-same-choice (Data dir) (RestartAfterCrash restarts) value name first second = absurd (omega (arith, ap (λ (l : List ℕ). length l) name))
-same-choice (Data dir) (AuthenticationTimeout seconds) value name first second = absurd (omega (arith, ap (λ (l : List ℕ). length l) name))
-same-choice (Data dir) (Number number) value name first second = absurd (omega (arith, ap (λ (l : List ℕ). length l) name))
-same-choice (MaxConnections count) (Data dir) value name first second = absurd (omega (arith, ap (λ (l : List ℕ). length l) name))
+same-choice (Port port) (Port other) value name first second = ap Port (first.number_is ∙ sym second.number_is)
 same-choice (MaxConnections count) (MaxConnections other) value name first second = ap MaxConnections (first.number_is ∙ sym second.number_is)
-same-choice (MaxConnections count) (RestartAfterCrash restarts) value name first second = absurd (omega (arith, ap (λ (l : List ℕ). length l) name))
-same-choice (MaxConnections count) (AuthenticationTimeout seconds) value name first second = absurd (omega (arith, ap (λ (l : List ℕ). length l) name))
-same-choice (MaxConnections count) (Number number) value name first second = absurd (omega (arith, ap (λ (l : List ℕ). length l) name))
-same-choice (RestartAfterCrash restarts) (Data dir) value name first second = absurd (omega (arith, ap (λ (l : List ℕ). length l) name))
-same-choice (RestartAfterCrash restarts) (MaxConnections count) value name first second = absurd (omega (arith, ap (λ (l : List ℕ). length l) name))
 same-choice (RestartAfterCrash restarts) (RestartAfterCrash other) value name first second = ap RestartAfterCrash (same-flag restarts other value first second)
-same-choice (RestartAfterCrash restarts) (AuthenticationTimeout seconds) value name first second = absurd (omega (arith, ap (λ (l : List ℕ). length l) name))
-same-choice (RestartAfterCrash restarts) (Number number) value name first second = absurd (omega (arith, ap (λ (l : List ℕ). length l) name))
-same-choice (AuthenticationTimeout seconds) (Data dir) value name first second = absurd (omega (arith, ap (λ (l : List ℕ). length l) name))
-same-choice (AuthenticationTimeout seconds) (MaxConnections count) value name first second = absurd (omega (arith, ap (λ (l : List ℕ). length l) name))
-same-choice (AuthenticationTimeout seconds) (RestartAfterCrash restarts) value name first second = absurd (omega (arith, ap (λ (l : List ℕ). length l) name))
-same-choice (AuthenticationTimeout seconds) (AuthenticationTimeout other) value name first second = ap AuthenticationTimeout (first.number_is ∙ sym second.number_is)
-same-choice (AuthenticationTimeout seconds) (Number number) value name first second = absurd (omega (arith, ap (λ (l : List ℕ). length l) name))
-same-choice (Number number) (Data dir) value name first second = absurd (omega (arith, ap (λ (l : List ℕ). length l) name))
-same-choice (Number number) (MaxConnections count) value name first second = absurd (omega (arith, ap (λ (l : List ℕ). length l) name))
-same-choice (Number number) (RestartAfterCrash restarts) value name first second = absurd (omega (arith, ap (λ (l : List ℕ). length l) name))
-same-choice (Number number) (AuthenticationTimeout seconds) value name first second = absurd (omega (arith, ap (λ (l : List ℕ). length l) name))
+same-choice (AuthenticationTimeout seconds) (AuthenticationTimeout other) value name first second =
+    ap AuthenticationTimeout (first.number_is ∙ sym second.number_is)
 same-choice (Number number) (Number other) value name first second = ap Number (first.number_is ∙ sym second.number_is)
+-- by the length of the names and, for those of two options, by their third byte
+same-choice one two value name first second =
+    absurd (omega (arith, ap (λ (l : List ℕ). length l) name, ap (λ (l : List ℕ). get_or l 2 0) name))
 
 -- the words begin with one option
 same-option : (words : List (List ℕ)) (one two : Choice) (behind rest : List (List ℕ)) → BeginsWithOption words one behind → BeginsWithOption words two rest

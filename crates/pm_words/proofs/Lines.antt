@@ -3,28 +3,18 @@ use Rattle.std.proofs.Common.{◌≡◌, ℕ, List, ◌∷◌, Some, None, lengt
 use Rattle.pm_server.specs.declared.conf.Conf.{Conf}
 use Rattle.pm_words.specs.declared.words.Command.{Command}
 use Rattle.pm_words.specs.declared.words.Verb.{Verb}
-use Rattle.pm_words.specs.declared.words.Verb.TheVariants.{Initdb, Once, Controldata, Workload}
+use Rattle.pm_words.specs.declared.words.Verb.TheVariants.{Initdb, Once, Serve, Controldata, Workload}
 use Rattle.pm_words.specs.Words.{Choose, Chosen, IsLineWith, command_of, conf_of, folder_of, nothing, verb_word}
 use Rattle.pm_words.specs.Options.{Leaves}
 
--- the verbs' words are of four lengths
+-- the verbs' words are of five lengths
 by_length : (one two : Verb) → length (verb_word one) ≡ length (verb_word two) → one ≡ two
 by_length Initdb Initdb same = refl
-by_length Initdb Once same = absurd (omega (arith, same))
-by_length Initdb Controldata same = absurd (omega (arith, same))
-by_length Initdb Workload same = absurd (omega (arith, same))
-by_length Once Initdb same = absurd (omega (arith, same))
 by_length Once Once same = refl
-by_length Once Controldata same = absurd (omega (arith, same))
-by_length Once Workload same = absurd (omega (arith, same))
-by_length Controldata Initdb same = absurd (omega (arith, same))
-by_length Controldata Once same = absurd (omega (arith, same))
+by_length Serve Serve same = refl
 by_length Controldata Controldata same = refl
-by_length Controldata Workload same = absurd (omega (arith, same))
-by_length Workload Initdb same = absurd (omega (arith, same))
-by_length Workload Once same = absurd (omega (arith, same))
-by_length Workload Controldata same = absurd (omega (arith, same))
 by_length Workload Workload same = refl
+by_length one two same = absurd (omega (arith, same))
 
 -- what the words behind the verb leave
 pub record Given (verb : Verb) (tail : List (List ℕ)) (command : Command) (dir : List ℕ) (conf : Conf) : Type 0 where

@@ -5,11 +5,12 @@ use Rattle.pm_words.specs.declared.options.Setting.{Setting}
 use Rattle.pm_words.specs.declared.options.Setting.TheVariants as setting
 use Rattle.pm_words.specs.declared.options.Settings.{Settings}
 use Rattle.pm_words.specs.declared.words.Verb.{Verb}
-use Rattle.pm_words.specs.Words.{Choice, Data, MaxConnections, RestartAfterCrash, AuthenticationTimeout, Number, Choose, Chosen, IsGiven, Spells}
+use Rattle.pm_words.specs.Words.{Choice, Data, Port, MaxConnections, RestartAfterCrash, AuthenticationTimeout, Number, Choose, Chosen, IsGiven, Spells}
 
 -- what the code has of an option
 abbrev pub choice_of : Setting → Choice
 choice_of (setting.Data dir) = Data dir.now
+choice_of (setting.Port port) = Port port
 choice_of (setting.MaxConnections count) = MaxConnections count
 choice_of (setting.RestartAfterCrash restarts) = RestartAfterCrash restarts
 choice_of (setting.AuthenticationTimeout seconds) = AuthenticationTimeout seconds
@@ -20,6 +21,7 @@ abbrev pub chosen_of : Settings → Chosen
 chosen_of settings =
     record {
       dir = option_map (λ dir. dir.now) settings.dir;
+      port = settings.port;
       max_connections = settings.max_connections;
       restart_after_crash = settings.restart_after_crash;
       authentication_seconds = settings.authentication_seconds;

@@ -5,11 +5,12 @@ use Rattle.pm_server.specs.declared.conf.Conf.{Conf}
 use Rattle.pm_words.specs.declared.words.Command.{Command}
 use Rattle.pm_words.specs.declared.words.Command.TheVariants as command
 use Rattle.pm_words.specs.declared.words.Verb.{Verb}
-use Rattle.pm_words.specs.declared.words.Verb.TheVariants.{Initdb, Once, Controldata, Workload}
+use Rattle.pm_words.specs.declared.words.Verb.TheVariants.{Initdb, Once, Serve, Controldata, Workload}
 
 abbrev pub verb_word : Verb → List ℕ
 verb_word Initdb = codes "initdb"
 verb_word Once = codes "once"
+verb_word Serve = codes "serve"
 verb_word Controldata = codes "controldata"
 verb_word Workload = codes "workload"
 
@@ -19,6 +20,7 @@ verb_word Workload = codes "workload"
 pub data Choice : Type 0 where
   -- the folder of the cluster
   Data : (dir : List ℕ) → Choice
+  Port : (port : ℕ) → Choice
   MaxConnections : (count : ℕ) → Choice
   RestartAfterCrash : (restarts : Bool) → Choice
   AuthenticationTimeout : (seconds : ℕ) → Choice
@@ -26,6 +28,7 @@ pub data Choice : Type 0 where
 
 abbrev pub option_name : Choice → List ℕ
 option_name (Data dir) = codes "--data"
+option_name (Port port) = codes "--port"
 option_name (MaxConnections count) = codes "--max-connections"
 option_name (RestartAfterCrash restarts) = codes "--restart-after-crash"
 option_name (AuthenticationTimeout seconds) = codes "--authentication-timeout"
@@ -42,6 +45,7 @@ pub record IsNumberIn (least most number : ℕ) (value : List ℕ) : Type 0 wher
 -- the value says it
 abbrev pub Says : Choice → (value : List ℕ) → Type 0
 Says (Data dir) value = value ≡ dir
+Says (Port port) value = IsNumberIn 1 65535 port value
 Says (MaxConnections count) value = IsNumberIn 1 64 count value
 Says (RestartAfterCrash true) value = value ≡ codes "on"
 Says (RestartAfterCrash false) value = value ≡ codes "off"
@@ -58,12 +62,15 @@ IsGiven name value words =
 abbrev pub Spells : Choice → (words : List (List ℕ)) → Type 0
 Spells choice words = (value : List ℕ) × Says choice value × IsGiven (option_name choice) value words
 
--- a workload has its number alone, `once` all others, and the rest the folder
+-- A workload has its number alone. All others have the folder, `once` and `serve` what a server goes by, and `serve` alone has
+-- the port.
 abbrev pub IsFor : Verb → Choice → Type 0
 IsFor Workload (Number number) = Unit {0}
 IsFor Workload choice = ⊥
 IsFor verb (Number number) = ⊥
 IsFor verb (Data dir) = Unit {0}
+IsFor Serve choice = Unit {0}
+IsFor verb (Port port) = ⊥
 IsFor Once choice = Unit {0}
 IsFor verb choice = ⊥
 
@@ -72,6 +79,7 @@ IsFor verb choice = ⊥
 -- by each option that was given
 pub record Chosen : Type 0 where
   pub dir : Option (List ℕ)
+  pub port : Option ℕ
   pub max_connections : Option ℕ
   pub restart_after_crash : Option Bool
   pub authentication_seconds : Option ℕ
@@ -81,6 +89,7 @@ abbrev pub nothing : Chosen
 nothing =
     record {
       dir = None;
+      port = None;
       max_connections = None;
       restart_after_crash = None;
       authentication_seconds = None;
@@ -90,6 +99,7 @@ nothing =
 -- this option wasn't given yet
 abbrev pub IsOpen : Choice → Chosen → Type 0
 IsOpen (Data dir) chosen = chosen.dir ≡ None
+IsOpen (Port port) chosen = chosen.port ≡ None
 IsOpen (MaxConnections count) chosen = chosen.max_connections ≡ None
 IsOpen (RestartAfterCrash restarts) chosen = chosen.restart_after_crash ≡ None
 IsOpen (AuthenticationTimeout seconds) chosen = chosen.authentication_seconds ≡ None
@@ -97,6 +107,7 @@ IsOpen (Number number) chosen = chosen.number ≡ None
 
 abbrev pub with_choice : Choice → Chosen → Chosen
 with_choice (Data dir) chosen = record chosen { dir = Some dir }
+with_choice (Port port) chosen = record chosen { port = Some port }
 with_choice (MaxConnections count) chosen = record chosen { max_connections = Some count }
 with_choice (RestartAfterCrash restarts) chosen = record chosen { restart_after_crash = Some restarts }
 with_choice (AuthenticationTimeout seconds) chosen = record chosen { authentication_seconds = Some seconds }
@@ -129,6 +140,7 @@ conf_of chosen =
 abbrev pub command_of : Verb → Chosen → Option Command
 command_of Initdb chosen = Some command.Initdb
 command_of Once chosen = Some command.Once
+command_of Serve chosen = option_map command.Serve chosen.port
 command_of Controldata chosen = Some command.Controldata
 command_of Workload chosen = option_map command.Workload chosen.number
 

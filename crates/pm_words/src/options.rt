@@ -10,6 +10,9 @@ use pm_server::Conf;
 use pm_session::SessionConf;
 use pm_supervisor::Limits;
 
+/// The last port that there is.
+const LAST_PORT: u32 = 65_535;
+
 /// How many sessions may be attached at once, by default.
 const DEFAULT_CONNECTIONS: u32 = 20;
 
@@ -29,6 +32,7 @@ const MOST_QUERIES: u32 = 100_000;
 #[derive(Clone, Copy)]
 pub(crate) enum Setting<'a> {
     Data(&'a str),
+    Port(u16),
     MaxConnections(u32),
     RestartAfterCrash(bool),
     AuthenticationTimeout(u32),
@@ -39,6 +43,7 @@ pub(crate) enum Setting<'a> {
 #[derive(Clone, Copy)]
 pub(crate) struct Settings<'a> {
     pub(crate) dir: Option<&'a str>,
+    pub(crate) port: Option<u16>,
     pub(crate) max_connections: Option<u32>,
     pub(crate) restart_after_crash: Option<bool>,
     pub(crate) authentication_seconds: Option<u32>,
@@ -51,6 +56,7 @@ impl<'a> Settings<'a> {
     {
         Settings {
             dir: None,
+            port: None,
             max_connections: None,
             restart_after_crash: None,
             authentication_seconds: None,
@@ -62,13 +68,14 @@ impl<'a> Settings<'a> {
     fn may_take(&self, verb: Verb, setting: Setting<'a>) -> bool
         ensures { IsTrue result ↔ MayChoose verb (choice_of setting.entry) (chosen_of self.now) }
     {
-        let of_once = verb == Verb::Once;
+        let of_server = verb == Verb::Once || verb == Verb::Serve;
         match setting {
             Setting::Data(_) => verb != Verb::Workload && self.dir.is_none(),
-            Setting::MaxConnections(_) => of_once && self.max_connections.is_none(),
-            Setting::RestartAfterCrash(_) => of_once && self.restart_after_crash.is_none(),
+            Setting::Port(_) => verb == Verb::Serve && self.port.is_none(),
+            Setting::MaxConnections(_) => of_server && self.max_connections.is_none(),
+            Setting::RestartAfterCrash(_) => of_server && self.restart_after_crash.is_none(),
             Setting::AuthenticationTimeout(_) => {
-                of_once && self.authentication_seconds.is_none()
+                of_server && self.authentication_seconds.is_none()
             }
             Setting::Number(_) => verb == Verb::Workload && self.number.is_none(),
         }
@@ -80,6 +87,7 @@ impl<'a> Settings<'a> {
     {
         match setting {
             Setting::Data(dir) => self.dir = Some(dir),
+            Setting::Port(port) => self.port = Some(port),
             Setting::MaxConnections(count) => self.max_connections = Some(count),
             Setting::RestartAfterCrash(restarts) => self.restart_after_crash = Some(restarts),
             Setting::AuthenticationTimeout(seconds) => {
@@ -97,6 +105,10 @@ impl<'a> Settings<'a> {
         match verb {
             Verb::Initdb => Some(Command::Initdb),
             Verb::Once => Some(Command::Once),
+            Verb::Serve => match self.port {
+                Some(port) => Some(Command::Serve { port }),
+                None => None,
+            },
             Verb::Controldata => Some(Command::Controldata),
             Verb::Workload => match self.number {
                 Some(number) => Some(Command::Workload { number }),
@@ -111,7 +123,7 @@ impl<'a> Settings<'a> {
     {
         match verb {
             Verb::Workload => Some(""),
-            Verb::Initdb | Verb::Once | Verb::Controldata => self.dir,
+            Verb::Initdb | Verb::Once | Verb::Serve | Verb::Controldata => self.dir,
         }
     }
 
@@ -266,6 +278,10 @@ fn setting_named<'a>(name: &str, value: &'a str) -> Option<Setting<'a>>
 {
     match name {
         "--data" => Some(Setting::Data(value)),
+        "--port" => match number(value, 1, LAST_PORT) {
+            Some(port) => Some(Setting::Port(port as u16)),
+            None => None,
+        },
         "--max-connections" => match number(value, 1, MOST_CONNECTIONS) {
             Some(count) => Some(Setting::MaxConnections(count)),
             None => None,

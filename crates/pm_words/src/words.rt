@@ -14,6 +14,7 @@ use thiserror::Error;
 pub enum Verb {
     Initdb,
     Once,
+    Serve,
     Controldata,
     Workload,
 }
@@ -25,6 +26,8 @@ pub enum Command {
     Initdb,
     /// Serves one connection after another.
     Once,
+    /// Serves many connections at once, at this port.
+    Serve { port: u16 },
     /// Tells what the files of a cluster stand for.
     Controldata,
     /// Asks a server in memory so many queries, and checks its answers.
@@ -47,16 +50,17 @@ pub enum WordsNo {
     Usage,
 }
 
-/// Reads `initdb`, `once`, `controldata` or `workload` and then options in any order, each at most once, as `--name value` or
-/// `--name=value`. A value isn't empty, and as a word of its own it doesn't begin with `-`.
+/// Reads `initdb`, `once`, `serve`, `controldata` or `workload` and then options in any order, each at most once, as
+/// `--name value` or `--name=value`. A value isn't empty, and as a word of its own it doesn't begin with `-`.
 ///
 /// - `--data`: the folder of the cluster. Each command wants it but `workload`, which has none.
+/// - `--port`: 1 to 65535. For `serve` alone, which wants it.
 /// - `--max-connections`: 1 to 64, and 20 by default.
 /// - `--restart-after-crash`: `on`, the default, or `off`.
 /// - `--authentication-timeout`: 1 to 600 seconds, and 60 by default.
 /// - `--number`: 0 to 100000. For `workload` alone, which wants it.
 ///
-/// The second to fourth are for `once` alone. A number has one to ten digits.
+/// The third to fifth are for `once` and `serve` alone. A number has one to ten digits.
 pub fn read_words<'a>(words: &'a [Text]) -> Result<Line<'a>, WordsNo>
     ensures line { IfOk result (λ line. IsLineWith words.now line.command line.dir.now line.conf) }
     ensures only { IfOk result (λ line. IsOnlyLine words.now line.command line.dir.now line.conf) }
@@ -91,6 +95,7 @@ fn verb_named(word: &str) -> Option<Verb>
     match word {
         "initdb" => Some(Verb::Initdb),
         "once" => Some(Verb::Once),
+        "serve" => Some(Verb::Serve),
         "controldata" => Some(Verb::Controldata),
         "workload" => Some(Verb::Workload),
         _ => None,

@@ -1,8 +1,7 @@
-use Rattle.std.proofs.Common.{◌≡◌, ◌-◌, ℕ, List, ◌∷◌, None, Some, length, take, drop, sym, ◌∙◌, ap}
+use Rattle.std.proofs.Common.{◌≡◌, ◌-◌, ℕ, List, ◌∷◌, Some, length, take, drop, sym, ◌∙◌, ap}
 use Rattle.std.specs.Borrow.{Bor}
 use Rattle.std.specs.Prelude.{option_map}
-use Rattle.pm_words.specs.declared.words.Command.{Command}
-use Rattle.pm_words.specs.Words.{Chosen, command_of, conf_of, folder_of}
+use Rattle.pm_words.specs.Words.{command_of, conf_of, folder_of}
 use Rattle.pm_words.proofs.Givens.{cons_words}
 use Rattle.pm_words.proofs.Lines.{given, not_none, same_some}
 use Rattle.pm_words.proofs.words.read_words.Goals as goal
