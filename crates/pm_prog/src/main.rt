@@ -1,9 +1,16 @@
 //! The program `pg_postmaster`: its words, and the outside that they are run over.
 #![tactic(auto)]
 
+ghost use Rattle.std.specs.Prelude.{◌≡◌, [], IfSome};
+ghost use Rattle.pm_outside.specs.MemConsole.{lines_given};
+ghost use Rattle.pm_outside.specs.Visits.{no_visits};
+
+mod network;
+
+use crate::network::{Network, StartFault, open};
 use pm_disk::{Disk, MemDisk};
 use pm_files::LogFiles;
-use pm_outside::{Forgotten, MemClock, MemPort, Port, Sink};
+use pm_outside::{Console, Forgotten, Link, MemClock, MemConsole, MemPort, Port, Sink};
 use pm_rows::Text;
 use pm_standard::{StandardPort, StandardSink, SystemClock, fill_standard_streams};
 use pm_top::{Command, Ended, Outside, Top, read_words, run};
@@ -11,9 +18,11 @@ use std::alloc::{AllocError, Global};
 use std::env::{self, Env};
 use std::fs;
 use std::io::{ErrorKind, Write};
+use std::net::Net;
 use std::process::ExitCode;
 use std::random::RandomSource;
 use std::sync::Wait;
+use std::thread::Threads;
 use std::time::Clock;
 
 /// The exit code where the program can't start.
@@ -24,18 +33,22 @@ fn main(rt: HostRuntime) -> ExitCode {
         return could_not_start(&rt);
     }
     if is_server(&rt) {
-        start(rt, &rt, StandardSink::new(rt.stderr()))
+        start(rt, rt, StandardSink::new(rt.stderr()))
     } else {
-        start(rt, &rt, StandardSink::new(rt.stdout()))
+        start(rt, rt, StandardSink::new(rt.stdout()))
     }
 }
 
 fn could_not_start(rt: &HostRuntime) -> ExitCode {
-    let _ = eprintln!(rt; "could not start");
+    not_started(rt, StartFault::System)
+}
+
+fn not_started(rt: &HostRuntime, fault: StartFault) -> ExitCode {
+    let _ = eprintln!(rt; "{fault}");
     ExitCode::from(COULD_NOT_START)
 }
 
-// Whether the first word asks for a server. Its standard output is then the link's.
+// Whether the first word asks for a server. The standard output of `once` is the link's, and both print their lines as errors.
 fn is_server(rt: &HostRuntime) -> bool {
     let mut word = [0; 6];
     match rt.arg(1, &mut word) {
@@ -45,9 +58,9 @@ fn is_server(rt: &HostRuntime) -> bool {
 }
 
 // Reads the words, and hands their command what it uses of the real outside.
-fn start<R, W>(rt: HostRuntime, wait: &R, sink: StandardSink<W>) -> ExitCode
+fn start<R, W>(rt: HostRuntime, host: R, sink: StandardSink<W>) -> ExitCode
 where
-    R: Wait + Clock + Copy + Drop,
+    R: Threads + Wait + Net + Clock + Copy + Drop + Send + 'static,
     W: Write + Drop,
 {
     let Ok(words) = words(&rt) else {
@@ -55,20 +68,21 @@ where
     };
     let alloc = rt.alloc();
     let Ok(line) = read_words(&words) else {
-        return over_disk(wait, alloc, &words, MemDisk::new(alloc), sink);
+        return over_disk(host, alloc, &words, MemDisk::new(alloc), sink);
     };
     let Ok(disk) = LogFiles::of(rt, alloc, line.dir) else {
         return out_of_memory();
     };
     match line.command {
-        Command::Once => over_all(rt, wait, &words, disk, sink),
+        Command::Once => over_streams(rt, host, &words, disk, sink),
+        Command::Serve { port } => over_network(rt, host, &words, port, disk, sink),
         Command::Initdb => {
             // Where the folder can't be made its files can't either, and then that is told.
             let _ = fs::create_dir_all(&rt, line.dir);
-            over_disk(wait, alloc, &words, disk, sink)
+            over_disk(host, alloc, &words, disk, sink)
         }
         Command::Controldata | Command::Workload { .. } => {
-            over_disk(wait, alloc, &words, disk, sink)
+            over_disk(host, alloc, &words, disk, sink)
         }
     }
 }
@@ -79,18 +93,18 @@ fn out_of_memory() -> ExitCode {
 
 // Runs `once`, over files, standard streams and the system's clock. A link may keep it waiting
 // forever. Its journal and its book aren't kept.
-fn over_all<R, W>(
+fn over_streams<R, W>(
     rt: HostRuntime,
-    wait: &R,
+    host: R,
     words: &[Text],
     disk: LogFiles,
     sink: StandardSink<W>,
 ) -> ExitCode
 where
-    R: Wait + Clock + Copy + Drop,
+    R: Threads + Wait + Clock + Copy + Drop + Send + 'static,
     W: Write + Drop,
 {
-    let Ok(clock) = SystemClock::new(*wait) else {
+    let Ok(clock) = SystemClock::new(host) else {
         return could_not_start(&rt);
     };
     let mut seed = [0; 32];
@@ -106,52 +120,105 @@ where
         book: Forgotten::new(),
         seed,
     };
-    end_of(wait, rt.alloc(), words, outside)
+    let alloc = rt.alloc();
+    end_of(host, alloc, words, outside, no_console(alloc))
+}
+
+// Runs `serve`, over files, a port over TCP, standard input as its console, and a clock whose pauses these end. Its journal and its
+// book aren't kept.
+fn over_network<R, W>(
+    rt: HostRuntime,
+    host: R,
+    words: &[Text],
+    port: u16,
+    disk: LogFiles,
+    sink: StandardSink<W>,
+) -> ExitCode
+where
+    R: Threads + Wait + Net + Clock + Copy + Drop + Send + 'static,
+    W: Write + Drop,
+{
+    let mut seed = [0; 32];
+    if rt.fill_bytes(&mut seed).is_err() {
+        return could_not_start(&rt);
+    }
+    let Network {
+        port,
+        clock,
+        console,
+    } = match open(host, rt.alloc(), rt.stdin(), port) {
+        Ok(network) => network,
+        Err(fault) => return not_started(&rt, fault),
+    };
+    let outside = Outside {
+        port,
+        sink,
+        disk,
+        clock,
+        journal: Forgotten::new(),
+        book: Forgotten::new(),
+        seed,
+    };
+    end_of(host, rt.alloc(), words, outside, console)
+}
+
+// A console that gives no line.
+fn no_console(alloc: Global) -> MemConsole
+    ensures { lines_given result ≡ [] }
+{
+    MemConsole::new(Vec::new(alloc), Vec::new(alloc), None)
 }
 
 // Runs words whose command uses a disk and a sink at most. The rest of the outside is in memory.
 fn over_disk<R, D, W>(
-    wait: &R,
+    host: R,
     alloc: Global,
     words: &[Text],
     disk: D,
     sink: StandardSink<W>,
 ) -> ExitCode
 where
-    R: Wait + Clock + Copy + Drop,
-    D: Disk + Drop,
+    R: Threads + Wait + Clock + Copy + Drop + Send + 'static,
+    D: Disk + Drop + Send + 'static,
     W: Write + Drop,
 {
     let outside = Outside {
         port: MemPort::new(alloc, Vec::new(alloc), Vec::new(alloc)),
         sink,
         disk,
-        clock: MemClock::still(0, *wait),
+        clock: MemClock::still(0, host),
         journal: Forgotten::new(),
         book: Forgotten::new(),
         seed: [0; 32],
     };
-    end_of(wait, alloc, words, outside)
+    end_of(host, alloc, words, outside, no_console(alloc))
 }
 
 // Runs the words, and lets go of what they were run over.
-fn end_of<R, P, O, D, C>(
-    wait: &R,
+fn end_of<R, L, P, K, O, D, C>(
+    host: R,
     alloc: Global,
     words: &[Text],
     outside: Outside<P, O, D, C, Forgotten, Forgotten>,
+    console: K,
 ) -> ExitCode
 where
-    R: Wait + Clock + Copy + Drop,
-    P: Port + Drop,
+    R: Threads + Wait + Clock + Copy + Drop + Send + 'static,
+    L: Link + Drop + Send + 'static,
+    P: Port<Link = L> + Drop,
+    K: Console + Drop,
     O: Sink + Drop,
-    D: Disk + Drop,
-    C: pm_outside::Clock + Drop,
+    D: Disk + Drop + Send + 'static,
+    C: pm_outside::Clock + Drop + Send + 'static,
+    requires port { IfSome (P.visits outside.port) (λ visits. visits ≡ no_visits) }
+    requires console { IfSome (K.lines console) (λ lines. lines ≡ []) }
 {
+    let mut spawner = pm_spawn::Threads::new(host);
     let Ended {
         status,
         outside: _outside,
-    } = run(wait, alloc, words, outside);
+        console: _console,
+    } = run(&mut spawner, host, alloc, words, outside, console);
     ExitCode::from(status.code())
 }
 

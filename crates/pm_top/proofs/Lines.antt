@@ -1,5 +1,7 @@
 -- Words are one line alone.
 use Rattle.std.proofs.Common.{◌≡◌, ℕ, List}
+use Rattle.pm_words.specs.declared.words.Command.TheVariants.{Serve}
+use Rattle.pm_top.specs.Serve.{IsServeLine}
 use Rattle.pm_server.specs.declared.conf.Conf.{Conf}
 use Rattle.pm_words.specs.declared.words.Command.{Command}
 use Rattle.pm_words.specs.Words.{AreNoLine, IsLine, IsOnlyLine}
@@ -10,3 +12,7 @@ no_line words command dir none line = absurd (none command dir line.0 line.1)
 pub another_line : {C : Type 0} (words : List (List ℕ)) (read command : Command) (folder dir : List ℕ) (conf : Conf)
     → IsOnlyLine words read folder conf → IsLine words command dir → (command ≡ read → ⊥) → C
 another_line words read command folder dir conf only line differ = absurd (differ (only command dir line.0 line.1).0)
+
+pub not_of_serve : {C : Type 0} (words : List (List ℕ)) (conf : Conf) (command : Command) (dir : List ℕ) → IsServeLine words conf → IsLine words command dir
+    → ((port : ℕ) → command ≡ Serve port → ⊥) → C
+not_of_serve words conf command dir its line differ = another_line words (Serve its.port) command its.dir dir conf its.only line (differ its.port)

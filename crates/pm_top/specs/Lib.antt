@@ -3,3 +3,4 @@ pub mod Cluster
 pub mod Control
 pub mod Once
 pub mod Load
+pub mod Serve

@@ -9,7 +9,7 @@ ghost use Rattle.pm_top.specs.Cluster.{IsLeftAlone};
 ghost use Rattle.pm_top.specs.Control.{HasTold};
 ghost use Rattle.pm_top.specs.Ends.{HasAnswer, IsControldataEnd};
 
-use crate::outside::Ended;
+use crate::outside::Worked;
 use crate::print::print_found;
 use crate::status::Top;
 use pm_disk::Disk;
@@ -23,10 +23,10 @@ use std::alloc::Global;
 
 /// Prints what the files stand for. It changes neither, and takes memory and time of the order of
 /// their lengths.
-pub fn controldata<P, O, D, C, J, B>(
+pub(crate) fn controldata<P, O, D, C, J, B>(
     alloc: Global,
     outside: Outside<P, O, D, C, J, B>,
-) -> Ended<P, O, D, C, J, B>
+) -> Worked<P, O, D, C, J, B>
 where
     P: Port,
     O: Sink,
@@ -60,5 +60,5 @@ where
         Err(RedoFault::NoMemory) => Top::NoMemory,
         Err(fault) => Top::Unreadable(fault),
     };
-    Ended { status, outside }
+    Worked { status, outside }
 }

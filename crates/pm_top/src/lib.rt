@@ -1,7 +1,9 @@
 //! The top call of the program: the words of the command line, and the commands over the outside
-//! that they are handed. `pm_words` reads the words, and `pm_once` is the server of `once`.
+//! that they are handed. `pm_words` reads the words, `pm_once` is the server of `once`, and
+//! `pm_postmaster` that of `serve`. All commands but `serve` run in one thread (`alone`).
 #![tactic(auto)]
 
+mod alone;
 mod control;
 mod load;
 mod outside;

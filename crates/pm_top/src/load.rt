@@ -6,7 +6,7 @@ ghost use Rattle.pm_workload.specs.Worked.{HasTold};
 ghost use Rattle.pm_top.specs.Ends.{HasAnswer};
 ghost use Rattle.pm_top.specs.Load.{IsWorkloadEnd};
 
-use crate::outside::Ended;
+use crate::outside::Worked;
 use crate::status::Top;
 use pm_disk::Disk;
 use pm_once::Outside;
@@ -25,7 +25,7 @@ pub(crate) fn load<R, P, O, D, C, J, B>(
     alloc: Global,
     number: u32,
     outside: Outside<P, O, D, C, J, B>,
-) -> Ended<P, O, D, C, J, B>
+) -> Worked<P, O, D, C, J, B>
 where
     R: Wait + time::Clock + Copy + Drop,
     P: Port,
@@ -51,5 +51,5 @@ where
         Err(WorkloadNo::SinkFailed) => Top::OutFault,
         Err(WorkloadNo::NoMemory) => Top::NoMemory,
     };
-    Ended { status, outside }
+    Worked { status, outside }
 }

@@ -3,7 +3,7 @@
 use crate::status::Top;
 use pm_disk::Disk;
 use pm_once::Outside;
-use pm_outside::{Chronicle, Clock, Port, Sink};
+use pm_outside::{Chronicle, Clock, Console, Port, Sink};
 use pm_query::BookEntry;
 use pm_state::PmEvent;
 
@@ -11,6 +11,7 @@ use pm_state::PmEvent;
 #[derive(Debug, Drop)]
 pub struct Ended<
     P: Port,
+    K: Console,
     O: Sink,
     D: Disk,
     C: Clock,
@@ -19,4 +20,19 @@ pub struct Ended<
 > {
     pub status: Top,
     pub outside: Outside<P, O, D, C, J, B>,
+    pub console: K,
+}
+
+/// The same of a command that has no console.
+#[derive(Debug, Drop)]
+pub(crate) struct Worked<
+    P: Port,
+    O: Sink,
+    D: Disk,
+    C: Clock,
+    J: Chronicle<PmEvent>,
+    B: Chronicle<BookEntry>,
+> {
+    pub(crate) status: Top,
+    pub(crate) outside: Outside<P, O, D, C, J, B>,
 }

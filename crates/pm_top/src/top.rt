@@ -1,10 +1,11 @@
 //! The top call: all that the program does, over the outside that it is handed.
 
 ghost use Rattle.std.specs.Prelude.{◌≡◌, ◌≢◌, ◌+◌, ◌≤◌, ◌++◌, ℕ, [], List};
-ghost use Rattle.std.specs.Prelude.{codes, option_map, IfSome};
-ghost use Rattle.pm_disk.specs.Cause.{IsCounted, Rose};
+ghost use Rattle.std.specs.Prelude.{codes, option_map, IfNone, IfSome};
+ghost use Rattle.pm_disk.specs.Cause.{Rose};
 ghost use Rattle.pm_once.specs.Outside.{outside_view};
-ghost use Rattle.pm_lines.specs.Print.{IsPrinted};
+ghost use Rattle.pm_outside.specs.Visits.{no_visits};
+ghost use Rattle.pm_postmaster.specs.Outside.{serve_view};
 ghost use Rattle.pm_record.specs.declared.fault.RedoFault.{RedoFault};
 ghost use Rattle.pm_redo.specs.Found.{IsReason};
 ghost use Rattle.pm_top.specs.Cluster.{HasNewCluster, IsFree, IsLeftAlone, IsTaken, KeepsTaken};
@@ -13,46 +14,56 @@ ghost use Rattle.pm_top.specs.Ends.{HasAnswer, HasSaid, IsControldataEnd, IsInit
 ghost use Rattle.pm_top.specs.Ends.{initdb_line, line_of};
 ghost use Rattle.pm_top.specs.Load.{IsWorkloadEnd};
 ghost use Rattle.pm_top.specs.Once.{RunsOnce};
+ghost use Rattle.pm_top.specs.Serve.{IsNoServeLine, IsServeLine, IsServer, RunsServe};
 ghost use Rattle.pm_workload.specs.Worked.{HasTold as HasWorked};
 ghost use Rattle.pm_words.specs.Words.{IsLine, IsLineWith};
 ghost use Rattle.pm_server.specs.declared.conf.Conf.{Conf};
 ghost use Rattle.pm_words.specs.declared.words.Command.{Command};
 
-use crate::control::controldata;
-use crate::load::load;
-use crate::outside::Ended;
+use crate::alone::run_alone;
+use crate::outside::{Ended, Worked};
 use crate::status::Top;
 use pm_disk::Disk;
-use pm_lines::{print, print_redo};
-use pm_log::InitNo;
 use pm_once::Outside;
-use pm_outside::{Chronicle, Clock, Port, Sink};
-use pm_promises::once_as_promised;
+use pm_outside::{Chronicle, Clock, Console, Link, Port, Sink};
+use pm_postmaster::Served;
 use pm_query::BookEntry;
 use pm_rows::Text;
+use pm_served::serve_as_promised;
 use pm_server::Conf;
+use pm_spawn::Spawner;
 use pm_state::PmEvent;
 use pm_words::{Command, read_words};
 use std::alloc::Global;
 use std::sync::Wait;
+use std::thread::Threads;
 use std::time;
 
-/// Does what the words ask. The journal that it is given has no entries.
-pub fn run<R, P, O, D, C, J, B>(
-    rt: &R,
+/// Does what the words ask. What it is handed is new: its journal and its book have no entries, its port has given no link, and
+/// its console no line. Threads and lines of the console are for `serve` alone.
+pub fn run<S, R, L, P, K, O, D, C, J, B>(
+    spawner: &mut S,
+    rt: R,
     alloc: Global,
     words: &[Text],
     outside: Outside<P, O, D, C, J, B>,
-) -> Ended<P, O, D, C, J, B>
+    console: K,
+) -> Ended<P, K, O, D, C, J, B>
 where
-    R: Wait + time::Clock + Copy + Drop,
-    P: Port,
+    S: Spawner<Runtime = R>,
+    R: Threads + Wait + time::Clock + Copy + Drop + Send + 'static,
+    L: Link + Drop + Send + 'static,
+    P: Port<Link = L>,
+    K: Console,
     O: Sink,
-    D: Disk,
-    C: Clock,
+    D: Disk + Drop + Send + 'static,
+    C: Clock + Drop + Send + 'static,
     J: Chronicle<PmEvent>,
-    B: Chronicle<BookEntry>,
-    requires empty { IfSome (J.entries outside.journal) (λ entries. entries ≡ []) }
+    B: Chronicle<BookEntry> + Drop + Send + 'static,
+    requires journal { IfSome (J.entries outside.journal) (λ entries. entries ≡ []) }
+    requires book { IfSome (B.entries outside.book) (λ entries. entries ≡ []) }
+    requires port { IfSome (P.visits outside.port) (λ visits. visits ≡ no_visits) }
+    requires console { IfSome (K.lines console) (λ lines. lines ≡ []) }
     // The usage is told exactly where the words are no command line. Each command has its own ends.
     ensures usage { result.status ≡ Top.Usage
         → (command : Command) (dir : List ℕ) → ¬ (IsLine words.now command dir) }
@@ -77,6 +88,12 @@ where
     // `once`: a run of the server, by the options of the line, with what a user counts on.
     ensures once { (dir : List ℕ) (conf : Conf) → IsLineWith words.now Command.Once dir conf
         → RunsOnce conf result.status (outside_view outside) (outside_view result.outside) }
+    // `serve`: a run of the server of many connections, likewise.
+    ensures serve { (port : ℕ) (dir : List ℕ) (conf : Conf)
+        → IsLineWith words.now (Command.Serve port) dir conf
+        → RunsServe conf result.status (S.faults spawner.old) (S.faults spawner.new)
+        (serve_view K.Console outside console)
+        (serve_view K.Console result.outside result.console) }
     // `controldata`: what the files stand for is told, or why they stand for nothing. They stay so.
     ensures told { (dir : List ℕ) → IsLine words.now Command.Controldata dir
         → HasAnswer result.status → HasTold (result.status ≡ Top.OutFault)
@@ -110,110 +127,79 @@ where
         × (result.outside.disk ≡ outside.disk) × (result.outside.journal ≡ outside.journal)
         × (result.outside.book ≡ outside.book) }
     ensures unasked { (command : Command) (dir : List ℕ) → IsLine words.now command dir
-        → command ≢ Command.Once → (result.outside.port ≡ outside.port)
+        → ¬ (IsServer command) → (result.outside.port ≡ outside.port)
         × (result.outside.journal ≡ outside.journal) × (result.outside.book ≡ outside.book) }
+    ensures unserved { IsNoServeLine words.now
+        → (spawner.new ≡ spawner.old) × (result.console ≡ console) }
     ensures clock { (result.outside.clock ≡ outside.clock) × (result.outside.seed ≡ outside.seed) }
 {
-    let Ended {
-        status,
-        mut outside,
-    } = match read_words(words) {
-        Err(_) => Ended {
-            status: Top::Usage,
-            outside,
-        },
-        Ok(line) => match line.command {
-            Command::Initdb => initdb(outside),
-            Command::Once => return run_server(rt, alloc, &line.conf, outside),
-            Command::Controldata => controldata(alloc, outside),
-            Command::Workload { number } => load(rt, alloc, number, outside),
-        },
-    };
-    tell(&mut outside.sink, status);
-    Ended { status, outside }
-}
-
-// Runs the server, which prints its lines itself.
-fn run_server<R, P, O, D, C, J, B>(
-    rt: &R,
-    alloc: Global,
-    conf: &Conf,
-    outside: Outside<P, O, D, C, J, B>,
-) -> Ended<P, O, D, C, J, B>
-where
-    R: Wait,
-    P: Port,
-    O: Sink,
-    D: Disk,
-    C: Clock,
-    J: Chronicle<PmEvent>,
-    B: Chronicle<BookEntry>,
-    requires within { conf.now.limits.max_connections + conf.now.limits.max_worker_processes ≤ 200 }
-    requires empty { IfSome (J.entries outside.journal) (λ entries. entries ≡ []) }
-    ensures run { RunsOnce conf.now result.status (outside_view outside)
-        (outside_view result.outside) }
-    ensures rest { (result.outside.clock ≡ outside.clock) × (result.outside.seed ≡ outside.seed) }
-{
-    let pm_once::Ended { end, outside } = once_as_promised(rt, alloc, conf, outside);
-    Ended {
-        status: Top::from(end),
-        outside,
+    match serve_line(words) {
+        Some(conf) => serve(spawner, rt, alloc, &conf, outside, console),
+        None => {
+            let Worked { status, outside } = run_alone(&rt, alloc, words, outside);
+            Ended {
+                status,
+                outside,
+                console,
+            }
+        }
     }
 }
 
-fn initdb<P, O, D, C, J, B>(outside: Outside<P, O, D, C, J, B>) -> Ended<P, O, D, C, J, B>
-where
-    P: Port,
-    O: Sink,
-    D: Disk,
-    C: Clock,
-    J: Chronicle<PmEvent>,
-    B: Chronicle<BookEntry>,
-    ensures kind { IsInitdbEnd result.status }
-    ensures made { HasAnswer result.status → HasNewCluster (outside_view result.outside).disk }
-    ensures fresh { HasAnswer result.status → IsFree (outside_view outside).disk }
-    ensures exists { result.status ≡ Top.Exists → IsTaken (outside_view outside).disk }
-    ensures kept { KeepsTaken (outside_view outside).disk (outside_view result.outside).disk }
-    ensures disk_cause { IsCounted (D.faults outside.disk) (D.faults result.outside.disk)
-        (result.status ≡ Top.DiskFault) }
-    ensures said { HasAnswer result.status → IsPrinted (codes "initialized\n")
-        (result.status ≡ Top.OutFault) (O.written outside.sink) (O.written result.outside.sink) }
-    ensures silent { ¬ (HasAnswer result.status) → result.outside.sink ≡ outside.sink }
-    ensures out_cause { IsCounted (O.faults outside.sink) (O.faults result.outside.sink)
-        (result.status ≡ Top.OutFault) }
-    ensures rest { (result.outside.port ≡ outside.port) × (result.outside.clock ≡ outside.clock)
-        × (result.outside.journal ≡ outside.journal) × (result.outside.book ≡ outside.book)
-        × (result.outside.seed ≡ outside.seed) }
+// What a server of many connections goes by, where the words ask for one.
+fn serve_line(words: &[Text]) -> Option<Conf>
+    ensures found { IfSome result (λ conf. IsServeLine words.now conf) }
+    ensures none { IfNone result (IsNoServeLine words.now) }
 {
-    let mut outside = outside;
-    let status = match pm_log::init(&mut outside.disk) {
-        Ok(()) => match print(&mut outside.sink, b"initialized\n") {
-            Ok(()) => Top::Done,
-            Err(_) => Top::OutFault,
+    match read_words(words) {
+        Ok(line) => match line.command {
+            Command::Serve { .. } => Some(line.conf),
+            Command::Initdb | Command::Once | Command::Controldata | Command::Workload { .. } =>
+                None,
         },
-        Err(InitNo::Disk) => Top::DiskFault,
-        Err(InitNo::Exists) => Top::Exists,
-    };
-    Ended { status, outside }
+        Err(_) => None,
+    }
 }
 
-// Prints the line of a status, while the sink works.
-fn tell<O: Sink>(sink: &mut O, status: Top)
-    ensures said { IsPrinted (line_of status) (Rose (O.faults sink.old) (O.faults sink.new))
-        (O.written sink.old) (O.written sink.new) }
-    ensures silent { line_of status ≡ [] → sink.new ≡ sink.old }
-    ensures later { O.faults sink.old ≤ O.faults sink.new }
+// Runs the server of many connections, which prints its lines itself.
+fn serve<S, R, L, P, K, O, D, C, J, B>(
+    spawner: &mut S,
+    rt: R,
+    alloc: Global,
+    conf: &Conf,
+    outside: Outside<P, O, D, C, J, B>,
+    console: K,
+) -> Ended<P, K, O, D, C, J, B>
+where
+    S: Spawner<Runtime = R>,
+    R: Threads + Wait + Copy + Drop + Send + 'static,
+    L: Link + Drop + Send + 'static,
+    P: Port<Link = L>,
+    K: Console,
+    O: Sink,
+    D: Disk + Drop + Send + 'static,
+    C: Clock + Drop + Send + 'static,
+    J: Chronicle<PmEvent>,
+    B: Chronicle<BookEntry> + Drop + Send + 'static,
+    requires some { 1 ≤ conf.now.limits.max_connections + conf.now.limits.max_worker_processes }
+    requires within { conf.now.limits.max_connections + conf.now.limits.max_worker_processes ≤ 200 }
+    requires journal { IfSome (J.entries outside.journal) (λ entries. entries ≡ []) }
+    requires book { IfSome (B.entries outside.book) (λ entries. entries ≡ []) }
+    requires port { IfSome (P.visits outside.port) (λ visits. visits ≡ no_visits) }
+    requires console { IfSome (K.lines console) (λ lines. lines ≡ []) }
+    ensures run { RunsServe conf.now result.status (S.faults spawner.old) (S.faults spawner.new)
+        (serve_view K.Console outside console)
+        (serve_view K.Console result.outside result.console) }
+    ensures rest { (result.outside.clock ≡ outside.clock) × (result.outside.seed ≡ outside.seed) }
 {
-    let told = match status {
-        Top::Done | Top::Abnormal(_) | Top::OutFault | Top::NoThread => return,
-        Top::Usage => print(
-            sink,
-            b"usage: initdb | once | serve | controldata | workload\n",
-        ),
-        Top::Exists => print(sink, b"a cluster exists\n"),
-        Top::DiskFault => print(sink, b"disk fault\n"),
-        Top::NoMemory => print(sink, b"out of memory\n"),
-        Top::Unreadable(fault) => print_redo(sink, fault),
-    };
-    let _ = told;
+    let Served {
+        end,
+        outside,
+        console,
+    } = serve_as_promised(spawner, rt, alloc, conf, outside, console);
+    Ended {
+        status: Top::from(end),
+        outside,
+        console,
+    }
 }

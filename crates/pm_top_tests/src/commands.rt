@@ -23,6 +23,18 @@ says USAGE
 $ serve
 ends Usage 2
 says USAGE
+$ serve --data x
+ends Usage 2
+says USAGE
+$ serve --data x --port 0
+ends Usage 2
+says USAGE
+$ serve --data x --port 65536
+ends Usage 2
+says USAGE
+$ once --data x --port 5432
+ends Usage 2
+says USAGE
 $ once --data
 ends Usage 2
 says USAGE
@@ -63,6 +75,14 @@ says queries\x2010\ncommits\x208\nrows\x208\nkey\x20sum\x208340\nlast\x20key\x20
 fail line 1
 $ workload --number 5
 ends OutFault 1
+# a server without a thread for its first worker
+files NEW | CLOSED
+$ serve --data folder --port 5432 < PACKET
+ends NoThread 4
+says no\x20thread\n
+links 0
+a NEW
+b CLOSED
 # what the files stand for: behind `initdb`, a kill, a checkpoint, and a kill before the old file was closed
 files NEW | CLOSED
 $ controldata --data=folder

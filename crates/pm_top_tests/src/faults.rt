@@ -5,6 +5,7 @@ use std::alloc::Global;
 use std::process::Abort;
 use std::sync::Wait;
 use std::test::Fail;
+use std::thread::Threads;
 use std::time::Clock;
 
 /// The call that fails, and what is answered, noted and left.
@@ -503,7 +504,7 @@ fn each_fault_is_answered(rt: HostRuntime) -> Result<(), Fail> {
 
 // How much the sink has where its write with this number fails, in a run with a crash and a next generation, which go on as
 // ever.
-fn written<R: Wait + Clock + Copy + Drop + Abort>(
+fn written<R: Threads + Wait + Clock + Copy + Drop + Send + Abort + 'static>(
     rt: &R,
     alloc: Global,
     line: u64,

@@ -15,19 +15,29 @@
 //! | `a`, `b` | that file |
 use crate::names::{number, spelled};
 use pm_disk::{Disk, FailingDisk, MemDisk, Which};
-use pm_outside::{Kept, LinkScript, MemClock, MemPort, MemSink};
+use pm_outside::{Kept, LinkScript, MemClock, MemConsole, MemPort, MemSink};
 use pm_rows::Text;
+use pm_spawn::FewThreads;
 use pm_top::{BookEntry, Ended, Outside, PmEvent, run};
 use std::alloc::Global;
 use std::process::Abort;
 use std::sync::Wait;
 use std::test::Fail;
+use std::thread::Threads;
 use std::time::Clock;
 
 type Failing = FailingDisk<MemDisk>;
 
 /// What a command left.
-pub type Left<R> = Ended<MemPort, MemSink, Failing, MemClock<R>, Kept<PmEvent>, Kept<BookEntry>>;
+pub type Left<R> = Ended<
+    MemPort,
+    MemConsole,
+    MemSink,
+    Failing,
+    MemClock<R>,
+    Kept<PmEvent>,
+    Kept<BookEntry>,
+>;
 
 // Which accept, read and write of the port and its links fails, and which write of the sink. They count from 1, so at 0 none
 // does.
@@ -85,8 +95,8 @@ fn links_of(alloc: Global, words: &str, faults: Faults) -> Result<Vec<LinkScript
     Ok(links)
 }
 
-// A call of the sink moves at most five bytes, and the clock stands still.
-fn ran<R: Wait + Clock + Copy + Drop>(
+// A call of the sink moves at most five bytes, the clock stands still, no line comes from the console, and no thread is made.
+fn ran<R: Threads + Wait + Clock + Copy + Drop + Send + 'static>(
     rt: &R,
     alloc: Global,
     disk: Failing,
@@ -110,7 +120,9 @@ fn ran<R: Wait + Clock + Copy + Drop>(
         book: Kept::new(alloc),
         seed: [0; 32],
     };
-    Ok(run(rt, alloc, &words, outside))
+    let console = MemConsole::new(Vec::new(alloc), Vec::new(alloc), None);
+    let mut spawner = FewThreads::new(*rt, 0);
+    Ok(run(&mut spawner, *rt, alloc, &words, outside, console))
 }
 
 // What was sent on each link, with `&` between two.
@@ -145,7 +157,7 @@ fn generations(alloc: Global, journal: &Kept<PmEvent>) -> Result<Vec<u8>, Fail> 
     Ok(all)
 }
 
-fn told<R: Wait + Clock + Copy + Drop>(
+fn told<R: Threads + Wait + Clock + Copy + Drop + Send + 'static>(
     alloc: Global,
     left: &Left<R>,
     what: &str,
@@ -164,7 +176,7 @@ fn told<R: Wait + Clock + Copy + Drop>(
     Ok(all)
 }
 
-fn check<R: Wait + Clock + Copy + Drop + Abort>(
+fn check<R: Threads + Wait + Clock + Copy + Drop + Send + Abort + 'static>(
     rt: &R,
     alloc: Global,
     left: &Left<R>,
@@ -189,7 +201,7 @@ fn check<R: Wait + Clock + Copy + Drop + Abort>(
 }
 
 /// Goes through the lines, and answers what the last command left.
-pub fn play<R: Wait + Clock + Copy + Drop + Abort>(
+pub fn play<R: Threads + Wait + Clock + Copy + Drop + Send + Abort + 'static>(
     rt: &R,
     alloc: Global,
     scenes: &str,

@@ -1,4 +1,4 @@
-use Rattle.std.proofs.Common.{◌≡◌, ℕ, List, Option, subst}
+use Rattle.std.proofs.Common.{ℕ, List, Option, subst}
 use Rattle.pm_lines.specs.PrintLaws.{printed_weaker}
 use Rattle.pm_workload.specs.Worked.{HasTold}
 use Rattle.pm_top.specs.Ends.{HasAnswer}

@@ -1,94 +1,199 @@
-use Rattle.std.proofs.Common.{◌≡◌, ℕ, List, [], refl, subst}
-use Rattle.pm_server.specs.declared.conf.Conf.{Conf}
-use Rattle.pm_words.specs.Words.{IsLine, IsOnlyLine}
+use Rattle.std.proofs.Common.{◌≡◌, refl, sym, subst}
+use Rattle.pm_server.specs.declared.end.ServerEnd.{ServerEnd}
+use Rattle.pm_server.specs.declared.end.ServerEnd.TheVariants as ends
+use Rattle.pm_words.specs.declared.words.Command.TheVariants.{Initdb, Once, Serve, Controldata, Workload}
 use Rattle.pm_top.specs.declared.status.Top.{Top}
 use Rattle.pm_top.specs.declared.status.Top.TheVariants.{Done, Abnormal, OutFault, DiskFault, Exists, Unreadable, Usage, NoMemory, NoThread}
-use Rattle.pm_top.specs.Ends.{HasAnswer, IsControldataEnd, IsInitdbEnd, line_of}
-use Rattle.pm_top.specs.Load.{IsWorkloadEnd}
-use Rattle.pm_words.specs.declared.words.Command.TheVariants.{Initdb, Once, Controldata, Workload}
-use Rattle.pm_top.proofs.Lines.{another_line, no_line}
-use Rattle.pm_top.proofs.Within.{number_within, within}
+use Rattle.pm_top.specs.Ends.{status_of}
+use Rattle.pm_top.specs.Serve.{IsServer}
+use Rattle.pm_top.proofs.Lines.{not_of_serve}
+use Rattle.pm_top.proofs.Within.{some, within}
 use Rattle.pm_top.proofs.top.run.Goals as goal
-use Rattle.pm_top.proofs.top.run.Goals.{in-Err, in-Ok+in-Initdb, in-Ok+in-Controldata, in-Ok+in-Workload}
 
-pub run_server-requires-clause-within : goal.run_server-requires-clause-within
-run_server-requires-clause-within g c = within _ _ _ _ c.in-Ok.ensures.line
+-- a status by which a server's end is told
+abbrev IsServerStatus : Top → Type 0
+IsServerStatus Done = Unit {0}
+IsServerStatus (Abnormal why) = Unit {0}
+IsServerStatus OutFault = ⊥
+IsServerStatus DiskFault = ⊥
+IsServerStatus Exists = ⊥
+IsServerStatus (Unreadable fault) = ⊥
+IsServerStatus Usage = ⊥
+IsServerStatus NoMemory = Unit {0}
+IsServerStatus NoThread = Unit {0}
 
-pub returns-in-Once-clause-once : goal.returns-in-Once-clause-once
-returns-in-Once-clause-once g c = λ dir conf line.
-    rw (c.in-Ok.ensures.only Once dir conf line).2 c.run_server.ensures.run
+of_end : (end : ServerEnd) → IsServerStatus (status_of end)
+of_end ends.Clean = tt
+of_end (ends.Abnormal why) = tt
+of_end ends.NoThread = tt
+of_end ends.NoMemory = tt
 
-pub returns-clause-usage : goal.returns-clause-usage
-returns-clause-usage g c = λ is command dir line. elim c.match-read_words.branch [
-  | in-Err w ↦ no_line _ command dir (rw w.in-Err.is at c.read_words.ensures.usage) line
-  | in-Ok+in-Initdb w ↦ absurd (subst IsInitdbEnd (rw w.status-is at is) w.initdb.ensures.kind)
-  | in-Ok+in-Controldata w ↦ absurd (subst IsControldataEnd (rw w.status-is at is) w.controldata.ensures.kind)
-  | in-Ok+in-Workload w ↦ absurd (subst IsWorkloadEnd (rw w.status-is at is) w.load.ensures.kind)
-]
+-- no other status is told of a server
+never : {C : Type 0} (status other : Top) (end : ServerEnd) → status ≡ status_of end → status ≡ other → (IsServerStatus other → ⊥) → C
+never status other end told is not = absurd (not (subst IsServerStatus is (subst IsServerStatus (sym told) (of_end end))))
 
-pub returns-clause-initdb_ends : goal.returns-clause-initdb_ends
-returns-clause-initdb_ends g c = λ dir line. elim c.match-read_words.branch [
-  | in-Err w ↦ no_line _ Initdb dir (rw w.in-Err.is at c.read_words.ensures.usage) line
-  | in-Ok+in-Initdb w ↦ rw w.status-is w.initdb.ensures.kind
-  | in-Ok+in-Controldata w ↦ another_line _ Controldata Initdb _ dir _ (rw w.in-Controldata.is at w.in-Ok.ensures.only) line (λ e. cc)
-  | in-Ok+in-Workload w ↦ another_line _ (Workload w.in-Workload.number) Initdb _ dir _ (rw w.in-Workload.is at w.in-Ok.ensures.only) line (λ e. cc)
-]
+pub serve-requires-clause-some : goal.serve-requires-clause-some
+serve-requires-clause-some g c κs bounds = some _ _ _ _ c.in-Some.ensures.found.line
 
-pub returns-clause-controldata_ends : goal.returns-clause-controldata_ends
-returns-clause-controldata_ends g c = λ dir line. elim c.match-read_words.branch [
-  | in-Err w ↦ no_line _ Controldata dir (rw w.in-Err.is at c.read_words.ensures.usage) line
-  | in-Ok+in-Initdb w ↦ another_line _ Initdb Controldata _ dir _ (rw w.in-Initdb.is at w.in-Ok.ensures.only) line (λ e. cc)
-  | in-Ok+in-Controldata w ↦ rw w.status-is w.controldata.ensures.kind
-  | in-Ok+in-Workload w ↦ another_line _ (Workload w.in-Workload.number) Controldata _ dir _ (rw w.in-Workload.is at w.in-Ok.ensures.only) line (λ e. cc)
-]
+pub serve-requires-clause-within : goal.serve-requires-clause-within
+serve-requires-clause-within g c κs bounds = within _ _ _ _ c.in-Some.ensures.found.line
 
-pub returns-clause-once : goal.returns-clause-once
-returns-clause-once g c = λ dir conf line. elim c.match-read_words.branch [
-  | in-Err w ↦ no_line _ Once dir (rw w.in-Err.is at c.read_words.ensures.usage) (conf, line)
-  | in-Ok+in-Initdb w ↦ another_line _ Initdb Once _ dir _ (rw w.in-Initdb.is at w.in-Ok.ensures.only) (conf, line) (λ e. cc)
-  | in-Ok+in-Controldata w ↦ another_line _ Controldata Once _ dir _ (rw w.in-Controldata.is at w.in-Ok.ensures.only) (conf, line) (λ e. cc)
-  | in-Ok+in-Workload w ↦ another_line _ (Workload w.in-Workload.number) Once _ dir _ (rw w.in-Workload.is at w.in-Ok.ensures.only) (conf, line) (λ e. cc)
-]
+-- ---- a line of `serve`
 
--- a command that has done its work has no line of a status
-made_silent : (status : Top) → HasAnswer status → line_of status ≡ []
-made_silent Done made = refl
-made_silent OutFault made = refl
-made_silent (Abnormal why) made = absurd made
-made_silent DiskFault made = absurd made
-made_silent Exists made = absurd made
-made_silent (Unreadable fault) made = absurd made
-made_silent Usage made = absurd made
-made_silent NoMemory made = absurd made
-made_silent NoThread made = absurd made
+pub returns-in-Some-clause-usage : goal.returns-in-Some-clause-usage
+returns-in-Some-clause-usage g c = λ is command dir line. never _ Usage c.serve.ensures.run.0 c.serve.ensures.run.1 is (λ no. no)
 
-pub returns-clause-told : goal.returns-clause-told
-returns-clause-told g c = λ dir line made. elim c.match-read_words.branch [
-  | in-Err w ↦ no_line _ Controldata dir (rw w.in-Err.is at c.read_words.ensures.usage) line
-  | in-Ok+in-Initdb w ↦ another_line _ Initdb Controldata _ dir _ (rw w.in-Initdb.is at w.in-Ok.ensures.only) line (λ e. cc)
-  | in-Ok+in-Controldata w ↦ rw (c.tell.ensures.silent (made_silent _ made)) (rw w.status-is (w.controldata.ensures.told (rw w.status-is at made)))
-  | in-Ok+in-Workload w ↦ another_line _ (Workload w.in-Workload.number) Controldata _ dir _ (rw w.in-Workload.is at w.in-Ok.ensures.only) line (λ e. cc)
-]
+pub returns-in-Some-clause-words : goal.returns-in-Some-clause-words
+returns-in-Some-clause-words g c = λ _. (Serve c.in-Some.ensures.found.port, c.in-Some.ensures.found.dir, (_, c.in-Some.ensures.found.line))
 
-pub load-requires : goal.load-requires
-load-requires g c = number_within _ _ _ _ (rw c.in-Workload.is at c.in-Ok.ensures.line)
+pub returns-in-Some-clause-initdb_ends : goal.returns-in-Some-clause-initdb_ends
+returns-in-Some-clause-initdb_ends g c = λ dir line. not_of_serve _ _ Initdb dir c.in-Some.ensures.found line (λ port e. cc)
 
-pub returns-clause-workload_ends : goal.returns-clause-workload_ends
-returns-clause-workload_ends g c = λ number dir line. elim c.match-read_words.branch [
-  | in-Err w ↦ no_line _ (Workload number) dir (rw w.in-Err.is at c.read_words.ensures.usage) line
-  | in-Ok+in-Initdb w ↦ another_line _ Initdb (Workload number) _ dir _ (rw w.in-Initdb.is at w.in-Ok.ensures.only) line (λ e. cc)
-  | in-Ok+in-Controldata w ↦ another_line _ Controldata (Workload number) _ dir _ (rw w.in-Controldata.is at w.in-Ok.ensures.only) line (λ e. cc)
-  | in-Ok+in-Workload w ↦ rw w.status-is w.load.ensures.kind
-]
+pub returns-in-Some-clause-controldata_ends : goal.returns-in-Some-clause-controldata_ends
+returns-in-Some-clause-controldata_ends g c = λ dir line. not_of_serve _ _ Controldata dir c.in-Some.ensures.found line (λ port e. cc)
 
--- the number that was read is that of the line
-same_number : (words : List (List ℕ)) (read number : ℕ) (folder dir : List ℕ) (conf : Conf) → IsOnlyLine words (Workload read) folder conf → IsLine words (Workload number) dir → read ≡ number
-same_number words read number folder dir conf only line = let same = (only (Workload number) dir line.0 line.1).0 in cc
+pub returns-in-Some-clause-made : goal.returns-in-Some-clause-made
+returns-in-Some-clause-made g c = λ dir line made. not_of_serve _ _ Initdb dir c.in-Some.ensures.found line (λ port e. cc)
 
-pub returns-clause-worked : goal.returns-clause-worked
-returns-clause-worked g c = λ number dir line made. elim c.match-read_words.branch [
-  | in-Err w ↦ no_line _ (Workload number) dir (rw w.in-Err.is at c.read_words.ensures.usage) line
-  | in-Ok+in-Initdb w ↦ another_line _ Initdb (Workload number) _ dir _ (rw w.in-Initdb.is at w.in-Ok.ensures.only) line (λ e. cc)
-  | in-Ok+in-Controldata w ↦ another_line _ Controldata (Workload number) _ dir _ (rw w.in-Controldata.is at w.in-Ok.ensures.only) line (λ e. cc)
-  | in-Ok+in-Workload w ↦ rw (← same_number _ w.in-Workload.number number _ dir _ (rw w.in-Workload.is at w.in-Ok.ensures.only) line, c.tell.ensures.silent (made_silent _ made)) (rw w.status-is (w.load.ensures.told (rw w.status-is at made)))
-]
+pub returns-in-Some-clause-fresh : goal.returns-in-Some-clause-fresh
+returns-in-Some-clause-fresh g c = λ dir line made. not_of_serve _ _ Initdb dir c.in-Some.ensures.found line (λ port e. cc)
+
+pub returns-in-Some-clause-exists : goal.returns-in-Some-clause-exists
+returns-in-Some-clause-exists g c = λ is. never _ Exists c.serve.ensures.run.0 c.serve.ensures.run.1 is (λ no. no)
+
+pub returns-in-Some-clause-kept : goal.returns-in-Some-clause-kept
+returns-in-Some-clause-kept g c = λ dir line. not_of_serve _ _ Initdb dir c.in-Some.ensures.found line (λ port e. cc)
+
+pub returns-in-Some-clause-disk_fault : goal.returns-in-Some-clause-disk_fault
+returns-in-Some-clause-disk_fault g c = λ is. never _ DiskFault c.serve.ensures.run.0 c.serve.ensures.run.1 is (λ no. no)
+
+pub returns-in-Some-clause-out_fault : goal.returns-in-Some-clause-out_fault
+returns-in-Some-clause-out_fault g c = λ is. never _ OutFault c.serve.ensures.run.0 c.serve.ensures.run.1 is (λ no. no)
+
+pub returns-in-Some-clause-once : goal.returns-in-Some-clause-once
+returns-in-Some-clause-once g c = λ dir conf line. not_of_serve _ _ Once dir c.in-Some.ensures.found (conf, line) (λ port e. cc)
+
+pub returns-in-Some-clause-serve : goal.returns-in-Some-clause-serve
+returns-in-Some-clause-serve g c = λ port dir conf line. rw (c.in-Some.ensures.found.only (Serve port) dir conf line).2 c.serve.ensures.run
+
+pub returns-in-Some-clause-told : goal.returns-in-Some-clause-told
+returns-in-Some-clause-told g c = λ dir line made. not_of_serve _ _ Controldata dir c.in-Some.ensures.found line (λ port e. cc)
+
+pub returns-in-Some-clause-unreadable : goal.returns-in-Some-clause-unreadable
+returns-in-Some-clause-unreadable g c = λ fault is. never _ (Unreadable fault) c.serve.ensures.run.0 c.serve.ensures.run.1 is (λ no. no)
+
+pub returns-in-Some-clause-untouched : goal.returns-in-Some-clause-untouched
+returns-in-Some-clause-untouched g c = λ dir line. not_of_serve _ _ Controldata dir c.in-Some.ensures.found line (λ port e. cc)
+
+pub returns-in-Some-clause-workload_ends : goal.returns-in-Some-clause-workload_ends
+returns-in-Some-clause-workload_ends g c = λ number dir line. not_of_serve _ _ (Workload number) dir c.in-Some.ensures.found line (λ port e. cc)
+
+pub returns-in-Some-clause-worked : goal.returns-in-Some-clause-worked
+returns-in-Some-clause-worked g c = λ number dir line made. not_of_serve _ _ (Workload number) dir c.in-Some.ensures.found line (λ port e. cc)
+
+pub returns-in-Some-clause-initdb_says : goal.returns-in-Some-clause-initdb_says
+returns-in-Some-clause-initdb_says g c = λ dir line. not_of_serve _ _ Initdb dir c.in-Some.ensures.found line (λ port e. cc)
+
+pub returns-in-Some-clause-initialized : goal.returns-in-Some-clause-initialized
+returns-in-Some-clause-initialized g c = λ dir line done. not_of_serve _ _ Initdb dir c.in-Some.ensures.found line (λ port e. cc)
+
+pub returns-in-Some-clause-controldata_says : goal.returns-in-Some-clause-controldata_says
+returns-in-Some-clause-controldata_says g c = λ dir line none. not_of_serve _ _ Controldata dir c.in-Some.ensures.found line (λ port e. cc)
+
+pub returns-in-Some-clause-workload_says : goal.returns-in-Some-clause-workload_says
+returns-in-Some-clause-workload_says g c = λ number dir line none. not_of_serve _ _ (Workload number) dir c.in-Some.ensures.found line (λ port e. cc)
+
+pub returns-in-Some-clause-usage_says : goal.returns-in-Some-clause-usage_says
+returns-in-Some-clause-usage_says g c = λ is. never _ Usage c.serve.ensures.run.0 c.serve.ensures.run.1 is (λ no. no)
+
+pub returns-in-Some-clause-unused : goal.returns-in-Some-clause-unused
+returns-in-Some-clause-unused g c = λ is. never _ Usage c.serve.ensures.run.0 c.serve.ensures.run.1 is (λ no. no)
+
+pub returns-in-Some-clause-unasked : goal.returns-in-Some-clause-unasked
+returns-in-Some-clause-unasked g c = λ command dir line not. absurd (not (subst IsServer (sym (c.in-Some.ensures.found.only command dir line.0 line.1).0) tt))
+
+pub returns-in-Some-clause-unserved : goal.returns-in-Some-clause-unserved
+returns-in-Some-clause-unserved g c = λ none. absurd (none c.in-Some.ensures.found.port c.in-Some.ensures.found.dir (_, c.in-Some.ensures.found.line))
+
+pub returns-in-Some-clause-clock : goal.returns-in-Some-clause-clock
+returns-in-Some-clause-clock g c = c.serve.ensures.rest
+
+-- ---- any other words
+
+pub returns-in-None-clause-usage : goal.returns-in-None-clause-usage
+returns-in-None-clause-usage g c = c.run_alone-status.ensures.usage
+
+pub returns-in-None-clause-words : goal.returns-in-None-clause-words
+returns-in-None-clause-words g c = c.run_alone-status.ensures.words
+
+pub returns-in-None-clause-initdb_ends : goal.returns-in-None-clause-initdb_ends
+returns-in-None-clause-initdb_ends g c = c.run_alone-status.ensures.initdb_ends
+
+pub returns-in-None-clause-controldata_ends : goal.returns-in-None-clause-controldata_ends
+returns-in-None-clause-controldata_ends g c = c.run_alone-status.ensures.controldata_ends
+
+pub returns-in-None-clause-made : goal.returns-in-None-clause-made
+returns-in-None-clause-made g c = c.run_alone-status.ensures.made
+
+pub returns-in-None-clause-fresh : goal.returns-in-None-clause-fresh
+returns-in-None-clause-fresh g c = c.run_alone-status.ensures.fresh
+
+pub returns-in-None-clause-exists : goal.returns-in-None-clause-exists
+returns-in-None-clause-exists g c = c.run_alone-status.ensures.exists
+
+pub returns-in-None-clause-kept : goal.returns-in-None-clause-kept
+returns-in-None-clause-kept g c = c.run_alone-status.ensures.kept
+
+pub returns-in-None-clause-disk_fault : goal.returns-in-None-clause-disk_fault
+returns-in-None-clause-disk_fault g c = c.run_alone-status.ensures.disk_fault
+
+pub returns-in-None-clause-out_fault : goal.returns-in-None-clause-out_fault
+returns-in-None-clause-out_fault g c = c.run_alone-status.ensures.out_fault
+
+pub returns-in-None-clause-once : goal.returns-in-None-clause-once
+returns-in-None-clause-once g c = c.run_alone-status.ensures.once
+
+pub returns-in-None-clause-serve : goal.returns-in-None-clause-serve
+returns-in-None-clause-serve g c = λ port dir conf line. absurd (c.in-None.ensures.none port dir (conf, line))
+
+pub returns-in-None-clause-told : goal.returns-in-None-clause-told
+returns-in-None-clause-told g c = c.run_alone-status.ensures.told
+
+pub returns-in-None-clause-unreadable : goal.returns-in-None-clause-unreadable
+returns-in-None-clause-unreadable g c = c.run_alone-status.ensures.unreadable
+
+pub returns-in-None-clause-untouched : goal.returns-in-None-clause-untouched
+returns-in-None-clause-untouched g c = c.run_alone-status.ensures.untouched
+
+pub returns-in-None-clause-workload_ends : goal.returns-in-None-clause-workload_ends
+returns-in-None-clause-workload_ends g c = c.run_alone-status.ensures.workload_ends
+
+pub returns-in-None-clause-worked : goal.returns-in-None-clause-worked
+returns-in-None-clause-worked g c = c.run_alone-status.ensures.worked
+
+pub returns-in-None-clause-initdb_says : goal.returns-in-None-clause-initdb_says
+returns-in-None-clause-initdb_says g c = c.run_alone-status.ensures.initdb_says
+
+pub returns-in-None-clause-initialized : goal.returns-in-None-clause-initialized
+returns-in-None-clause-initialized g c = c.run_alone-status.ensures.initialized
+
+pub returns-in-None-clause-controldata_says : goal.returns-in-None-clause-controldata_says
+returns-in-None-clause-controldata_says g c = c.run_alone-status.ensures.controldata_says
+
+pub returns-in-None-clause-workload_says : goal.returns-in-None-clause-workload_says
+returns-in-None-clause-workload_says g c = c.run_alone-status.ensures.workload_says
+
+pub returns-in-None-clause-usage_says : goal.returns-in-None-clause-usage_says
+returns-in-None-clause-usage_says g c = c.run_alone-status.ensures.usage_says
+
+pub returns-in-None-clause-unused : goal.returns-in-None-clause-unused
+returns-in-None-clause-unused g c = c.run_alone-status.ensures.unused
+
+pub returns-in-None-clause-unasked : goal.returns-in-None-clause-unasked
+returns-in-None-clause-unasked g c = λ command dir line not. c.run_alone-status.ensures.unasked command dir line (λ is. not (subst IsServer (sym is) tt))
+
+pub returns-in-None-clause-unserved : goal.returns-in-None-clause-unserved
+returns-in-None-clause-unserved g c = λ none. (refl, refl)
+
+pub returns-in-None-clause-clock : goal.returns-in-None-clause-clock
+returns-in-None-clause-clock g c = c.run_alone-status.ensures.clock

@@ -1,0 +1,65 @@
+//! The parts of a server's outside whose waits end one another: its port over TCP, its clock and its console.
+use pm_net::{Bells, BindFault, ServerClock, StandardConsole, TcpPort, standard_console};
+use std::alloc::{AllocError, Global};
+use std::io::{self, Stdin};
+use std::net::Net;
+use std::sync::{Arc, Wait};
+use std::thread::Threads;
+use std::time::Clock;
+use thiserror::Error;
+
+/// Why the program can't start.
+#[derive(Clone, Copy, Debug, Error)]
+pub enum StartFault {
+    /// The system refused something, or there was no memory.
+    #[error("could not start")]
+    System,
+    #[error("could not start: {0}")]
+    Port(BindFault),
+}
+
+impl From<io::Error> for StartFault {
+    fn from(_error: io::Error) -> StartFault {
+        StartFault::System
+    }
+}
+
+impl From<AllocError> for StartFault {
+    fn from(_error: AllocError) -> StartFault {
+        StartFault::System
+    }
+}
+
+impl From<BindFault> for StartFault {
+    fn from(fault: BindFault) -> StartFault {
+        StartFault::Port(fault)
+    }
+}
+
+/// What a server of many connections waits for, and the clock by which it does.
+#[derive(Drop)]
+pub struct Network<R> {
+    pub port: TcpPort<R>,
+    pub clock: ServerClock<R>,
+    pub console: StandardConsole<R>,
+}
+
+/// Listens on a port of 127.0.0.1, and begins to read the console.
+pub fn open<R>(rt: R, alloc: Global, stdin: Stdin, port: u16) -> Result<Network<R>, StartFault>
+where
+    R: Threads + Wait + Net + Clock + Copy + Drop + Send + 'static,
+{
+    let bells = bells(alloc)?;
+    let port = TcpPort::new(rt, alloc, Arc::try_clone(&bells)?, port)?;
+    let clock = ServerClock::new(rt, &rt, alloc, Arc::try_clone(&bells)?, port.descriptor())?;
+    let console = standard_console(rt, alloc, stdin, bells)?;
+    Ok(Network {
+        port,
+        clock,
+        console,
+    })
+}
+
+fn bells(alloc: Global) -> io::Result<Arc<Bells, Global>> {
+    Ok(Arc::new(alloc, Bells::new()?)?)
+}

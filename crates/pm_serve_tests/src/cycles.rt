@@ -1,0 +1,128 @@
+//! Children that crash: the others are told, and the next generation redoes the log.
+use crate::play::play;
+use std::test::Fail;
+
+const SCENES: &str = r"
+# a session is killed: the other one is told, and the next reads the row
+files NEW | CLOSED
+link @log>READY : PACKET INSERT_SEVEN @never
+link @1>GREETING,KEY_OF_4,INSERTED : PACKET SELECT_SEVEN @never
+link @log>READY,KILLED_4,NEXT : PACKET SELECT_SEVEN TERMINATE
+line @2>GREETING,KEY_OF_5,COLUMNS,SEVEN,FOUND : kill 4
+serve
+ends Done
+says READY KILLED_4 NEXT SMART DOWN
+links 3
+sends 1 GREETING KEY_OF_4 INSERTED
+sends 2 GREETING KEY_OF_5 COLUMNS SEVEN FOUND CRASHED
+sends 3 GREETING KEY_OF_9 COLUMNS SEVEN FOUND
+notes Started { pid: 1, kind: Startup } ; RedoEnded { generation: 1, kept: 0 } ; Ready { generation: 1 } ; Started { pid: 2, kind: Checkpointer } ; Started { pid: 3, kind: Writer } ; Said(Ready) ; Accepted { pid: 4, decision: Ok } ; Accepted { pid: 5, decision: Ok } ; KillAsked { pid: 4 } ; Exited { pid: 4, kind: Backend, status: Signal(9), was_active: true, at: 0 } ; QuitSent(Crash) ; Reset { generation: 2 } ; Started { pid: 6, kind: Startup } ; RedoEnded { generation: 2, kept: 1 } ; Ready { generation: 2 } ; Started { pid: 7, kind: Checkpointer } ; Started { pid: 8, kind: Writer } ; Said(Ready) ; Accepted { pid: 9, decision: Ok } ; Asked { mode: Smart, at: 0 } ; Said(Down) ; Ended(Clean)
+# a child that refuses a connection is killed, while the startup child reads the disk
+files NEW | CLOSED
+read @log>KILLED_2,TERMINATING
+link : @never PACKET
+link : @reads>1 PACKET
+link @log>KILLED_2,TERMINATING,READY : PACKET SELECT_SEVEN TERMINATE
+line @2>STARTING : kill 2
+serve
+ends Done
+says KILLED_2 TERMINATING READY SMART DOWN
+links 3
+sends 1
+sends 2 STARTING
+sends 3 GREETING KEY_OF_6 COLUMNS ABSENT
+notes Accepted { pid: 2, decision: Startup } ; Accepted { pid: 3, decision: Startup } ; KillAsked { pid: 2 } ; Exited { pid: 2, kind: DeadEnd, status: Signal(9), was_active: false, at: 0 } ; QuitSent(Crash) ; RedoEnded { generation: 1, kept: 0 } ; Ready { generation: 1 }
+# the checkpointer is killed
+files NEW | CLOSED
+link @log>READY : PACKET INSERT_SEVEN @never
+link @log>READY,CHECKPOINTER_KILLED,NEXT : PACKET SELECT_SEVEN TERMINATE
+line @1>GREETING,KEY_OF_4,INSERTED : kill 2
+serve
+ends Done
+says READY CHECKPOINTER_KILLED NEXT SMART DOWN
+links 2
+sends 1 GREETING KEY_OF_4 INSERTED CRASHED
+sends 2 GREETING KEY_OF_8 COLUMNS SEVEN FOUND
+# a server that isn't to restart
+files NEW | CLOSED
+with restart off
+link @log>READY : PACKET INSERT_SEVEN @never
+end @never
+line @1>GREETING,KEY_OF_4,INSERTED : kill 4
+serve
+ends Abnormal(RestartOff)
+says READY KILLED_4 TERMINATING RESTART_OFF
+links 1
+sends 1 GREETING KEY_OF_4 INSERTED
+a ONE_ROW
+b CLOSED
+link @log>READY : PACKET SELECT_SEVEN TERMINATE
+once
+ends Done
+sends 1 GREETING KEY_OF_4 COLUMNS SEVEN FOUND
+# the sync of a commit's body fails: none of three is answered, and none stands. Whoever meets it first crashes
+files NEW | CLOSED
+fails 8
+with connections 3
+link @log>READY : PACKET @3>GREETING,KEY_OF_6 INSERT_SEVEN @never
+link @1>GREETING,KEY_OF_4 : PACKET @3>GREETING,KEY_OF_6 INSERT_EIGHT @never
+link @2>GREETING,KEY_OF_5 : PACKET INSERT_NINE @never
+link @log>READY,FAILED_3,NEXT : PACKET COUNT TERMINATE
+serve
+ends Done
+says READY FAILED_2 NEXT SMART DOWN | READY FAILED_3 NEXT SMART DOWN | READY FAILED_4 NEXT SMART DOWN | READY FAILED_5 NEXT SMART DOWN | READY FAILED_6 NEXT SMART DOWN
+links 4
+sends 1 GREETING KEY_OF_4 PANIC | GREETING KEY_OF_4 CRASHED
+sends 2 GREETING KEY_OF_5 PANIC | GREETING KEY_OF_5 CRASHED
+sends 3 GREETING KEY_OF_6 PANIC | GREETING KEY_OF_6 CRASHED
+sends 4 GREETING KEY_OF_10 NO_ROWS
+notes QuitSent(Crash) ; Reset { generation: 2 } ; RedoEnded { generation: 2, kept: 0 }
+# the sync of its gate fails: it isn't answered, and it stands
+files NEW | CLOSED
+fails 10
+link @log>READY : PACKET @never
+link @1>GREETING,KEY_OF_4 : PACKET INSERT_SEVEN @never
+link @log>READY,FAILED_3,NEXT : PACKET SELECT_SEVEN SELECT_SEVEN TERMINATE
+serve
+ends Done
+says READY FAILED_2 NEXT SMART DOWN | READY FAILED_3 NEXT SMART DOWN | READY FAILED_5 NEXT SMART DOWN
+links 3
+sends 1 GREETING KEY_OF_4 CRASHED
+sends 2 GREETING KEY_OF_5 PANIC | GREETING KEY_OF_5 CRASHED
+sends 3 GREETING KEY_OF_9 COLUMNS SEVEN FOUND COLUMNS SEVEN FOUND
+notes QuitSent(Crash) ; Reset { generation: 2 } ; RedoEnded { generation: 2, kept: 1 }
+# the disk fails for good: the next generation can't read it
+files NEW | CLOSED
+breaks 8
+link @log>READY : PACKET INSERT_SEVEN @never
+end @never
+serve
+ends Abnormal(StartupFailed(Redo(Disk)))
+says READY FAILED_2 TERMINATING REINITIALIZING STARTUP_5_FAILED ABORTING DISK_FAULT | READY FAILED_3 TERMINATING REINITIALIZING STARTUP_5_FAILED ABORTING DISK_FAULT | READY FAILED_4 TERMINATING REINITIALIZING STARTUP_5_FAILED ABORTING DISK_FAULT
+links 1
+a OPEN HEADER CLOSED PUT_SEVEN CLOSED
+b CLOSED
+# it fails under the last checkpoint
+files NEW | CLOSED
+fails 7
+end @log>READY
+serve
+ends Abnormal(AfterCrash)
+says READY SMART FAILED_2 TERMINATING ABNORMAL
+# a session is killed in a shutdown
+files NEW | CLOSED
+link @log>READY : PACKET INSERT_SEVEN @never
+end @never
+line @1>GREETING,KEY_OF_4,INSERTED : smart
+line @lines>1 : kill 4
+serve
+ends Abnormal(AfterCrash)
+says READY SMART KILLED_4 TERMINATING ABNORMAL
+sends 1 GREETING KEY_OF_4 INSERTED
+a ONE_ROW
+b CLOSED";
+
+#[test]
+fn a_crash_ends_a_generation(rt: HostRuntime) -> Result<(), Fail> {
+    play(rt, rt.alloc(), SCENES)
+}

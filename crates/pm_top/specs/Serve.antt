@@ -1,0 +1,35 @@
+-- A run of `serve`.
+use Rattle.std.specs.Prelude.{◌≡◌, ℕ, List}
+use Rattle.pm_postmaster.specs.Outside.{ServeView}
+use Rattle.pm_served.specs.PromisedServe.{IsPromisedServe}
+use Rattle.pm_server.specs.declared.conf.Conf.{Conf}
+use Rattle.pm_server.specs.declared.end.ServerEnd.{ServerEnd}
+use Rattle.pm_words.specs.declared.words.Command.{Command}
+use Rattle.pm_words.specs.declared.words.Command.TheVariants.{Initdb, Once, Serve, Controldata, Workload}
+use Rattle.pm_words.specs.Words.{IsLine, IsLineWith, IsOnlyLine}
+use Rattle.pm_top.specs.Ends.{status_of}
+use Rattle.pm_top.specs.declared.status.Top.{Top}
+
+-- a command that serves, one connection at a time or many
+abbrev pub IsServer : Command → Type 0
+IsServer Once = Unit {0}
+IsServer (Serve port) = Unit {0}
+IsServer Initdb = ⊥
+IsServer Controldata = ⊥
+IsServer (Workload number) = ⊥
+
+-- the words are this line of `serve` alone
+pub record IsServeLine (words : List (List ℕ)) (conf : Conf) : Type 0 where
+  pub port : ℕ
+  pub dir : List ℕ
+  pub line : IsLineWith words (Serve port) dir conf
+  pub only : IsOnlyLine words (Serve port) dir conf
+
+-- they are none of `serve`
+abbrev pub IsNoServeLine : List (List ℕ) → Type 0
+IsNoServeLine words = (port : ℕ) (dir : List ℕ) → ¬ (IsLine words (Serve port) dir)
+
+-- It is a run of the server of many connections, whose end is told by the status, and it keeps what a user counts on.
+abbrev pub RunsServe : Conf → Top → (refused_before refused_now : ℕ) → (before now : ServeView) → Type 0
+RunsServe conf status refused_before refused_now before now =
+    (end : ServerEnd) × (status ≡ status_of end) × IsPromisedServe conf end refused_before refused_now before now
