@@ -33,9 +33,11 @@ use Rattle.pm_worker.specs.declared.mail.MailTold.TheVariants as mail
 use Rattle.pm_postmaster.specs.Links.{GivesLink, HasLinks}
 use Rattle.pm_postmaster.specs.Serving.{IsServing, Moments, Outset}
 use Rattle.pm_postmaster.specs.View.{View}
-use Rattle.pm_postmaster.proofs.Going.{GoesBy, Leaves, LeavesStore, count_in, serves_on}
+use Rattle.pm_postmaster.specs.Requests.{ended_in}
+use Rattle.pm_postmaster.proofs.Going.{GoesBy, Leaves, LeavesStore, asks_nothing, count_in, serves_on}
 use Rattle.pm_postmaster.proofs.Linking.{links_accepted}
 use Rattle.pm_postmaster.proofs.Moments.{accepted_moments}
+use Rattle.pm_postmaster.proofs.Owed.{owes_accepted}
 use Rattle.pm_postmaster.proofs.Steps.{accepted-append}
 
 -- the port has answered without a link
@@ -59,29 +61,10 @@ connects decisions.Recovery = (refl, λ is. absurd (cc))
 connects decisions.Shutdown = (refl, λ is. absurd (cc))
 connects decisions.TooMany = (refl, λ is. absurd (cc))
 
--- the links of a port are as they were, but for how it stands itself
-pub unlinked : {D C : Type 0} (gives : C → ℕ → Type 0) (outset : Outset D C) (before : View D C) (visits : Option Visits) (listens : Bool)
-    → ((n : ℕ) → IfSome before.visits (HasLinks n before.board) → IfSome visits (HasLinks n before.board))
-    → IsServing gives outset before → IsServing gives outset (record before { visits = visits; listens = listens })
-unlinked gives outset before visits listens links was =
-    let stays = was.holds.stays in
-    record {
-      moves = was.moves;
-      at = was.at;
-      holds = record {
-        stays = record { table = stays.table; home = stays.home; tokens = stays.tokens; joined = stays.joined; disk = stays.disk; clock = stays.clock };
-        slots = was.holds.slots;
-        tells = was.holds.tells;
-        times = was.holds.times;
-        said = was.holds.said;
-        links = links _ was.holds.links;
-      };
-      moments = was.moments;
-      generation = was.generation;
-      renews = was.renews;
-      redos = was.redos;
-      came = was.came;
-    }
+-- a link is no end
+pub ended_given : (faults : ℕ) (visits : Option Visits) → ended_in (option_map (with_given faults) visits) ≡ ended_in visits
+ended_given faults None = refl
+ended_given faults (Some its) = refl
 
 module _ {D C : Type 0} (gives : C → ℕ → Type 0) (counts : CountsChildren) where
   -- nobody sits at the board where the supervisor sees nobody
@@ -99,8 +82,9 @@ module _ {D C : Type 0} (gives : C → ℕ → Type 0) (counts : CountsChildren)
       → now.visits ≡ option_map (with_given faults) before.visits → IfSome before.visits (λ v. GivesLink (length v.given + 1) given)
       → seating.Goes (accepts k before.work.standing) (view before.work before.board) (view now.work now.board)
       → now.work.standing ≡ made (accepting before.work.standing) before.work.standing
-      → LeavesStore gives before now → IsServing gives outset before → IsServing gives outset now
-  admitted_on outset before now k faults given leaves shared log near free has visits number goes standing store was =
+      → LeavesStore gives before now → now.lines ≡ before.lines → now.listens ≡ before.listens → before.work.standing.machine.ended ≡ false
+      → IsServing gives outset before → IsServing gives outset now
+  admitted_on outset before now k faults given leaves shared log near free has visits number goes standing store lines listens goes_on was =
       let s : Standing = before.work.standing in
       let e : List PmEvent = entry.Accepted (next_pid s) (decision_on s) ∷ [] in
       let journal : List PmEvent = journal_of outset.count was.moves in
@@ -118,6 +102,8 @@ module _ {D C : Type 0} (gives : C → ℕ → Type 0) (counts : CountsChildren)
       (subst (Moments (gives outset.clock)) (sym standing) (accepted_moments (gives outset.clock) s was.moments))
       (shared ∙ (was.generation ∙ sym (ap (λ (x : Standing). x.generation) standing)))
       (record { since = λ so. refl; lost = λ so. refl; resets = refl }) (λ j. refl) store
+      (asks_nothing gives (accepts k s) before now (record { read = (tt, tt); alone = (tt, tt); lines_are = refl; ends_are = refl; pids_are = refl })
+      (record { lines = lines; ended = ap ended_in visits ∙ ended_given faults before.visits; listens = listens }) (owes_accepted s now.work.standing standing goes_on))
     where
       by_visits : (n : ℕ) (v : Option Visits) → IfSome v (λ its. GivesLink (length its.given + 1) given) → IfSome v (HasLinks n before.board)
           → IfSome (option_map (with_given faults) v) (HasLinks (n + 1) now.board)

@@ -11,7 +11,7 @@ use Rattle.pm_board.specs.Children.{children_of, count_of}
 use Rattle.pm_board.specs.Places.{is_connection, slot_at, slot_view}
 use Rattle.pm_board.specs.Told.{new_roster}
 use Rattle.pm_crew.specs.Redos.{redo_told}
-use Rattle.pm_journal.specs.Standing.{nothing_done}
+use Rattle.pm_journal.specs.Standing.{Standing, nothing_done}
 use Rattle.pm_lines.specs.Log.{HasSaid}
 use Rattle.pm_lines.specs.LogLaws.{said_first}
 use Rattle.pm_outside.specs.Visits.{Visits, no_visits}
@@ -23,6 +23,9 @@ use Rattle.pm_supervisor.specs.declared.Limits.{Limits}
 use Rattle.pm_worker.specs.declared.mail.MailTold.{MailTold}
 use Rattle.pm_postmaster.specs.Links.{HasLinks}
 use Rattle.pm_postmaster.specs.Looking.{came_of}
+use Rattle.pm_postmaster.specs.Requests.{MayOwe, ended_in}
+use Rattle.pm_supervisor.specs.Children.{one_if}
+use Rattle.pm_acts.specs.Acts.{is_last_drawn}
 use Rattle.pm_postmaster.specs.Serving.{IsAlive, IsServing, KillsAll, Outset, Renews}
 use Rattle.pm_postmaster.specs.View.{View}
 
@@ -78,8 +81,8 @@ module _ {D C : Type 0} (gives : C → ℕ → Type 0) where
       → v.work.standing ≡ nothing_done outset.limits → v.board ≡ new_roster outset.count limit posts
       → v.table ≡ outset.table → v.shared ≡ outset.shared → v.clock ≡ outset.clock → v.log ≡ outset.log → outset.log.is_cut ≡ false
       → is_some v.work.told ≡ outset.tells → IfSome v.visits (λ visits. visits ≡ no_visits)
-      → v.shared.generation ≡ 1 → v.shared.own ≡ noted 0 (Opened 1) ∷ [] → v.lost ≡ [] → v.came ≡ None → IsServing gives outset v
-  begins outset v limit posts at standing board table shared clock log uncut tells visits generation own lost came = record {
+      → v.shared.generation ≡ 1 → v.shared.own ≡ noted 0 (Opened 1) ∷ [] → v.lost ≡ [] → v.came ≡ None → IfSome v.lines (λ lines. lines ≡ []) → IsServing gives outset v
+  begins outset v limit posts at standing board table shared clock log uncut tells visits generation own lost came lines = record {
     moves = [];
     at = at;
     holds = record {
@@ -102,20 +105,38 @@ module _ {D C : Type 0} (gives : C → ℕ → Type 0) where
     renews = subst (λ (l : List ℕ). Renews [] l v.shared.own) (sym lost) (new_renews v.shared.own own);
     redos = λ k. ap (λ (d : RosterView MailTold). flat_map redo_told (slot_at d k).past) board ∙ new_redos outset.count limit posts k;
     came = came ∙ sym (ap (λ (d : RosterView MailTold). came_of (slot_at d 0).past) board ∙ ap came_of (new_past outset.count limit posts 0));
+    asks = record {
+      read = tt;
+      alone = tt;
+      lines_are = lines;
+      port = unended v.visits visits;
+      before_end = (let few = at_most_one v.listens in omega (arith, few));
+      pids = (let none : one_if v.work.standing.owes_smart ≡ one_if (is_last_drawn v.work.standing.last_pid) =
+          subst (λ (s : Standing). one_if s.owes_smart ≡ one_if (is_last_drawn s.last_pid)) (sym standing) refl in omega (arith, none));
+      owed = subst (λ (s : Standing). s.owes_smart ≡ true → MayOwe s) (sym standing) (λ owes. absurd (let no_ : false ≡ true = owes in cc));
+    };
   }
     where
+      at_most_one : (b : Bool) → one_if b ≤ 1
+      at_most_one true = omega arith
+      at_most_one false = omega arith
+
+      unended : (its : Option Visits) → IfSome its (λ visits. visits ≡ no_visits) → IfSome (ended_in its) (λ it. one_if it ≡ 0)
+      unended None new = tt
+      unended (Some its) new = ap (λ (x : Visits). one_if (is_some x.ended_behind)) new
+
       by : (its : Option Visits) → IfSome its (λ visits. visits ≡ no_visits) → IfSome its (HasLinks 0 v.board)
       by None new = tt
       by (Some its) new = subst (λ (x : Visits). HasLinks 0 v.board x) (sym new) (subst (λ (d : RosterView MailTold). HasLinks 0 d no_visits) (sym board) (new_links outset.count limit posts))
 
   pub begun : (limits : Limits) (count : ℕ) (v : View D C) (limit posts : ℕ) → IsAt limits count [] (view v.work v.board)
       → v.work.standing ≡ nothing_done limits → v.board ≡ new_roster count limit posts → v.log.is_cut ≡ false → IfSome v.visits (λ visits. visits ≡ no_visits)
-      → v.shared.generation ≡ 1 → v.shared.own ≡ noted 0 (Opened 1) ∷ [] → v.lost ≡ [] → v.came ≡ None → IsServing gives (outset_of limits count v) v
-  begun limits count v limit posts at standing board uncut visits generation own lost came =
-      begins (outset_of limits count v) v limit posts at standing board refl refl refl refl uncut refl visits generation own lost came
+      → v.shared.generation ≡ 1 → v.shared.own ≡ noted 0 (Opened 1) ∷ [] → v.lost ≡ [] → v.came ≡ None → IfSome v.lines (λ lines. lines ≡ []) → IsServing gives (outset_of limits count v) v
+  begun limits count v limit posts at standing board uncut visits generation own lost came lines =
+      begins (outset_of limits count v) v limit posts at standing board refl refl refl refl uncut refl visits generation own lost came lines
 
   pub begun_alive : (limits : Limits) (count : ℕ) (v : View D C) (limit posts : ℕ) → IsAt limits count [] (view v.work v.board)
       → v.work.standing ≡ nothing_done limits → v.board ≡ new_roster count limit posts → v.log.is_cut ≡ false → IfSome v.visits (λ visits. visits ≡ no_visits)
-      → v.shared.generation ≡ 1 → v.shared.own ≡ noted 0 (Opened 1) ∷ [] → v.lost ≡ [] → v.came ≡ None → IsAlive gives v
-  begun_alive limits count v limit posts at standing board uncut visits generation own lost came =
-      (outset_of limits count v, begun limits count v limit posts at standing board uncut visits generation own lost came)
+      → v.shared.generation ≡ 1 → v.shared.own ≡ noted 0 (Opened 1) ∷ [] → v.lost ≡ [] → v.came ≡ None → IfSome v.lines (λ lines. lines ≡ []) → IsAlive gives v
+  begun_alive limits count v limit posts at standing board uncut visits generation own lost came lines =
+      (outset_of limits count v, begun limits count v limit posts at standing board uncut visits generation own lost came lines)

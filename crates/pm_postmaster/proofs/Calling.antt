@@ -1,17 +1,25 @@
 -- The calls of a desk, as a server makes them.
-use Rattle.std.proofs.Common.{◌≡◌, ℕ, List, [], ◌∷◌, refl, ap}
-use Rattle.std.specs.Prelude.{is_some}
+use Rattle.std.proofs.Common.{◌≡◌, ℕ, ◌+◌, ◌≤◌, List, [], ◌∷◌, refl, ap, sym, subst, ◌∙◌, arith}
+use Rattle.std.specs.Prelude.{Bool, true, false, Option, IfSome, is_some, option_map}
 use Rattle.pm_board.specs.declared.views.RosterView.{RosterView}
 use Rattle.pm_board.specs.Places.{slot_at}
 use Rattle.pm_journal.specs.Laws.{KeepsALegalJournal}
+use Rattle.pm_outside.specs.Visits.{Visits}
+use Rattle.pm_requests.specs.Requests.{IsNumber}
+use Rattle.pm_seating.specs.Chained.{AsksFor}
 use Rattle.pm_seating.specs.Final.{MayEndAnywhere}
+use Rattle.pm_seating.specs.Seating.{Move, PidsEnd, PortEnds, Reads, Request}
 use Rattle.pm_seating.specs.Sitting.{KeepsPast}
 use Rattle.pm_server.specs.declared.end.ServerEnd.TheVariants.{NoMemory}
+use Rattle.pm_supervisor.specs.Children.{one_if}
 use Rattle.pm_worker.specs.declared.mail.MailTold.{MailTold}
+use Rattle.pm_postmaster.specs.Asking.{GivesLine}
+use Rattle.pm_postmaster.specs.Requests.{AsksSoFar, IsAsked, ended_in}
 use Rattle.pm_postmaster.specs.Serving.{Keeps, Stops}
 use Rattle.pm_postmaster.specs.View.{View}
-use Rattle.pm_postmaster.proofs.Going.{Leaves, LeavesStore, stopped_at}
-use Rattle.pm_postmaster.proofs.Steps.{still_on}
+use Rattle.pm_postmaster.proofs.Asked.{OwesOn, asked_all, asked_but_end, asked_but_line, asks_on, ends_now, ends_still, none_read}
+use Rattle.pm_postmaster.proofs.Going.{AsksOn, Leaves, LeavesAsking, LeavesOutside, LeavesStore, stopped_as}
+use Rattle.pm_postmaster.proofs.Steps.{LinksStay, links_stay, still_on}
 
 module _ {D C : Type 0} (gives : C → ℕ → Type 0) (before now : View D C) where
   -- all but the supervisor, its board, and where links and lines come from is as it was
@@ -20,7 +28,6 @@ module _ {D C : Type 0} (gives : C → ℕ → Type 0) (before now : View D C) w
     pub shared : now.shared ≡ before.shared
     pub clock : now.clock ≡ before.clock
     pub log : now.log ≡ before.log
-    pub visits : now.visits ≡ before.visits
     pub lost : now.lost ≡ before.lost
     pub came : now.came ≡ before.came
     pub tells : is_some now.work.told ≡ is_some before.work.told
@@ -44,11 +51,81 @@ module _ {D C : Type 0} (gives : C → ℕ → Type 0) (before now : View D C) w
     same_past board k = ap (λ (d : RosterView MailTold). (slot_at d k).past) board
 
     -- nothing was done
-    pub still : now.work.standing ≡ before.work.standing → now.work.told ≡ before.work.told → now.board ≡ before.board → Keeps gives before now
-    still standing told board = λ outset was.
-        still_on gives outset before now leaves (ap (λ s. s.generation) beside.shared) beside.log beside.visits standing told board (leaves_store (same_past board)) was
+    pub still : LeavesOutside gives before now → now.work.standing ≡ before.work.standing → now.work.told ≡ before.work.told → now.board ≡ before.board → Keeps gives before now
+    still outside standing told board = λ outset was.
+        still_on gives outset before now leaves outside (ap (λ s. s.generation) beside.shared) beside.log standing told board (leaves_store (same_past board)) was
 
-    -- and there was no memory for what was to be done
-    pub short : MayEndAnywhere MailTold → KeepsALegalJournal → now.work.standing ≡ before.work.standing → now.work.told ≡ before.work.told → now.board ≡ before.board
-        → Stops gives NoMemory before now
-    short may legal standing told board = λ outset was. stopped_at gives may legal outset NoMemory now (still standing told board outset was) tt tt
+-- A server ends for want of memory where nothing was done, and this was asked of it.
+module _ {D C : Type 0} (gives : C → ℕ → Type 0) (before now : View D C) (beside : IsBeside gives before now) (may : MayEndAnywhere MailTold) (legal : KeepsALegalJournal)
+    (standing : now.work.standing ≡ before.work.standing) (told : now.work.told ≡ before.work.told) (board : now.board ≡ before.board) where
+  -- but for console and port
+  abbrev mid : View D C
+  mid = record now { visits = before.visits; lines = before.lines; listens = before.listens }
+
+  to_mid : IsBeside gives before mid
+  to_mid = record { table = beside.table; shared = beside.shared; clock = beside.clock; log = beside.log; lost = beside.lost; came = beside.came; tells = beside.tells }
+
+  pub stops_as : LinksStay now.board before.visits now.visits
+      → ((moves : List Move) → AsksSoFar moves before.lines (ended_in before.visits) before.listens now.work.standing
+      → IsAsked NoMemory moves now.lines (ended_in now.visits) now.work.standing.last_pid)
+      → Stops gives NoMemory before now
+  stops_as stay asked = λ outset was.
+      let at = still gives before mid to_mid (record { visits = refl; lines = refl; listens = refl }) standing told board outset was in
+      stopped_as gives may legal outset NoMemory mid now.visits now.lines now.listens at tt tt (stay _ at.holds.links) (asked at.moves at.asks)
+
+  -- for a shutdown that is owed, whether links are asked for or not
+  pub short_owed : now.visits ≡ before.visits → now.lines ≡ before.lines → Stops gives NoMemory before now
+  short_owed visits lines =
+      stops_as (links_stay now.board before.visits now.visits visits) (λ moves asks.
+      subst (λ (l : Option (List (List ℕ))). IsAsked NoMemory moves l (ended_in now.visits) now.work.standing.last_pid) (sym lines)
+      (subst (λ (v : Option Visits). IsAsked NoMemory moves before.lines (ended_in v) now.work.standing.last_pid) (sym visits)
+      (asked_all NoMemory moves before.lines (ended_in before.visits) before.listens now.work.standing asks (λ owes. refl))))
+
+  -- for what was to be done
+  pub short : LeavesOutside gives before now → Stops gives NoMemory before now
+  short outside = short_owed outside.visits outside.lines
+
+  -- for what a line asks for that was read
+  pub short_line : (line : List ℕ) → GivesLine line before.lines now.lines → now.visits ≡ before.visits → now.work.standing.owes_smart ≡ false → Stops gives NoMemory before now
+  short_line line given visits unowed =
+      stops_as (links_stay now.board before.visits now.visits visits) (λ moves asks.
+      subst (λ (v : Option Visits). IsAsked NoMemory moves now.lines (ended_in v) now.work.standing.last_pid) (sym visits)
+      (asked_but_line NoMemory moves before.lines (ended_in before.visits) before.listens now.work.standing asks unowed line now.lines given))
+
+  -- for the shutdown behind the port's end
+  pub short_end : LinksStay now.board before.visits now.visits → before.listens ≡ true → IfSome (ended_in now.visits) (λ it. it ≡ true) → now.lines ≡ before.lines
+      → now.work.standing.owes_smart ≡ false → Stops gives NoMemory before now
+  short_end stay hears came lines unowed =
+      stops_as stay (λ moves asks.
+      subst (λ (l : Option (List (List ℕ))). IsAsked NoMemory moves l (ended_in now.visits) now.work.standing.last_pid) (sym lines)
+      (asked_but_end NoMemory moves before.lines (ended_in before.visits) before.listens now.work.standing asks unowed (ended_in now.visits) hears came))
+
+-- ---- requests
+
+module _ {D C : Type 0} (gives : C → ℕ → Type 0) (now : View D C) where
+  -- a line was read
+  pub asks_line : (v : View D C) (line : List ℕ) (lines : Option (List (List ℕ))) (asks : Request) (at : ℕ) → GivesLine line lines v.lines → AsksFor IsNumber line asks → LeavesAsking gives v now
+      → OwesOn 0 v.work.standing now.work.standing → AsksOn gives (Reads line asks at ∷ []) (record v { lines = lines }) now
+  asks_line v line lines asks at given asked leaves owes earlier was =
+      asks_on earlier (Reads line asks at ∷ []) lines now.lines (ended_in v.visits) (ended_in now.visits) v.listens now.listens v.work.standing now.work.standing (line ∷ []) 0 0
+      (record { read = (asked, tt); alone = (tt, tt); lines_are = refl; ends_are = refl; pids_are = refl }) (leaves.lines ∙ given)
+      (ends_still earlier (Reads line asks at ∷ []) lines now.lines (ended_in v.visits) (ended_in now.visits) v.listens now.listens v.work.standing now.work.standing leaves.ended)
+      (let a = ap one_if leaves.listens in omega (arith, a)) owes was
+
+  -- the port's end has come
+  pub asks_end : (before : View D C) (at : ℕ) → now.lines ≡ before.lines → ended_in now.visits ≡ option_map (λ it. true) (ended_in before.visits) → before.listens ≡ true → now.listens ≡ false
+      → OwesOn 0 before.work.standing now.work.standing → AsksOn gives (PortEnds at ∷ []) before now
+  asks_end before at lines ended hears deaf owes earlier was =
+      asks_on earlier (PortEnds at ∷ []) before.lines now.lines (ended_in before.visits) (ended_in now.visits) before.listens now.listens before.work.standing now.work.standing [] 1 0
+      (record { read = (tt, tt); alone = (tt, tt); lines_are = refl; ends_are = refl; pids_are = refl }) (lines ∙ none_read before.lines)
+      (ends_now earlier (PortEnds at ∷ []) before.lines now.lines (ended_in before.visits) (ended_in now.visits) before.listens now.listens before.work.standing now.work.standing hears ended)
+      (let a = ap one_if hears in let b = ap one_if deaf in omega (arith, a, b)) owes was
+
+  -- the last pid was drawn
+  pub asks_pids : (before : View D C) (at : ℕ) → now.lines ≡ before.lines → ended_in now.visits ≡ ended_in before.visits → now.listens ≡ false
+      → OwesOn 1 before.work.standing now.work.standing → AsksOn gives (PidsEnd at ∷ []) before now
+  asks_pids before at lines ended deaf owes earlier was =
+      asks_on earlier (PidsEnd at ∷ []) before.lines now.lines (ended_in before.visits) (ended_in now.visits) before.listens now.listens before.work.standing now.work.standing [] 0 1
+      (record { read = (tt, tt); alone = (tt, tt); lines_are = refl; ends_are = refl; pids_are = refl }) (lines ∙ none_read before.lines)
+      (ends_still earlier (PidsEnd at ∷ []) before.lines now.lines (ended_in before.visits) (ended_in now.visits) before.listens now.listens before.work.standing now.work.standing ended)
+      (let b = ap one_if deaf in omega (arith, b)) owes was

@@ -20,6 +20,8 @@ use Rattle.pm_worker.specs.declared.mail.MailTold.{MailTold}
 use Rattle.pm_postmaster.specs.Clearing.{Clears, MayClear}
 use Rattle.pm_postmaster.specs.Links.{HasLinks}
 use Rattle.pm_postmaster.specs.Looking.{opened}
+use Rattle.pm_postmaster.specs.Requests.{ended_in}
+use Rattle.pm_postmaster.proofs.Asked.{ended_opened}
 use Rattle.pm_postmaster.proofs.Linking.{by_test, links_same}
 use Rattle.pm_postmaster.proofs.Reaped.{Leaving, links_back, links_still, past_more, slots_found}
 
@@ -30,6 +32,7 @@ clears_same t u d e visits now table ending slots is = record {
   slots = ap length slots;
   ending = ending;
   links = λ n had. subst (λ (v : Option Visits). IfSome v (HasLinks n e)) (sym is) (by n visits had);
+  ended = ap ended_in is;
   past = λ k. ([], ap (λ (xs : List (SlotView MailTold)). (get_or xs k (slot_view [] Unused)).past) slots ∙ sym (append-nil (slot_at d k).past));
 }
   where
@@ -45,6 +48,7 @@ clears_found k t u d e visits now table ending near found past is = record {
   slots = slots_found k d e found;
   ending = ending;
   links = λ n had. links_still n n k d e visits now near found is refl had;
+  ended = ap ended_in is;
   past = λ j. ([], past j ∙ sym (append-nil (slot_at d j).past));
 }
 
@@ -56,6 +60,7 @@ clears_released counts k kind status active back t u d e visits now table ending
   slots = has.became.count;
   ending = ending;
   links = λ n had. links_back counts n n k kind status active back d e visits now has is refl had;
+  ended = ap ended_in is ∙ ended_opened back visits;
   past = past_more k kind status active back d e has;
 }
 
@@ -65,6 +70,7 @@ clears_none t d visits = record {
   slots = refl;
   ending = record { ending = λ count moves was. was; last_pid = refl };
   links = λ n had. had;
+  ended = refl;
   past = λ k. ([], sym (append-nil (slot_at d k).past));
 }
 
@@ -77,6 +83,7 @@ clears_both t u w d e f a b c one two = record {
     last_pid = two.ending.last_pid ∙ one.ending.last_pid;
   };
   links = λ n had. two.links n (one.links n had);
+  ended = two.ended ∙ one.ended;
   past = λ k. (let p = one.past k in let q = two.past k in
       (p.0 ++ q.0, q.1 ∙ (ap (λ (xs : List (PastChild MailTold)). xs ++ q.0) p.1 ∙ append_assoc (slot_at d k).past p.0 q.0)));
 }

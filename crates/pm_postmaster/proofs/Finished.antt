@@ -36,6 +36,7 @@ use Rattle.pm_state.specs.Journal.{IsLegal}
 use Rattle.pm_supervisor.specs.declared.Limits.{Limits}
 use Rattle.pm_worker.specs.declared.mail.MailTold.{MailTold}
 use Rattle.pm_postmaster.specs.Links.{HasLinks}
+use Rattle.pm_postmaster.specs.Requests.{IsAsked}
 use Rattle.pm_postmaster.specs.Serving.{IsCausedBehind, last_pid_in}
 use Rattle.pm_postmaster.proofs.Closing.{still_once}
 use Rattle.pm_postmaster.proofs.Home.{links_home}
@@ -94,15 +95,27 @@ given_back g h first disk given book (inl same) =
 given_back g h first disk given book (inr alone) = let it = opened_alone g h first disk book alone in (inr it.0, it.1, it.2)
 
 -- a cause stays one behind children that were released later
-pub caused_more : (end : ServerEnd) (past more now : List (PastChild MailTold)) → now ≡ past ++ more → IsCausedBehind end past → IsCausedBehind end now
-caused_more (Abnormal (StartupFailed reason)) past more now is cause =
-    (cause.0, cause.1 ++ more, is ∙ (ap (λ (l : List (PastChild MailTold)). l ++ more) cause.2 ∙ append_assoc cause.0 cause.1 more), cause.3, cause.4, cause.5)
-caused_more (Abnormal AfterCrash) past more now is cause = tt
-caused_more (Abnormal RestartOff) past more now is cause = tt
-caused_more (Abnormal GenerationsSpent) past more now is cause = tt
-caused_more Clean past more now is cause = tt
-caused_more NoThread past more now is cause = tt
-caused_more NoMemory past more now is cause = tt
+pub caused_more : (end : ServerEnd) (moves : List Move) (past more now : List (PastChild MailTold)) → now ≡ past ++ more → IsCausedBehind end moves past → IsCausedBehind end moves now
+caused_more (Abnormal (StartupFailed reason)) moves past more now is cause = record {
+  front = cause.front;
+  others = cause.others ++ more;
+  past_is = is ∙ (ap (λ (l : List (PastChild MailTold)). l ++ more) cause.past_is ∙ append_assoc cause.front cause.others more);
+  told = cause.told;
+  came = cause.came;
+  came_is = cause.came_is;
+  reason_is = cause.reason_is;
+}
+caused_more (Abnormal AfterCrash) moves past more now is cause = tt
+caused_more (Abnormal RestartOff) moves past more now is cause = tt
+caused_more (Abnormal GenerationsSpent) moves past more now is cause = tt
+caused_more Clean moves past more now is cause = tt
+caused_more NoThread moves past more now is cause = tt
+caused_more NoMemory moves past more now is cause = tt
+
+-- what was asked of a server stays so while its children are cleared
+pub asked_behind : (end : ServerEnd) (moves : List Move) (lines : Option (List (List ℕ))) (before now : Option Bool) (last_pid : ℕ) → now ≡ before → IsAsked end moves lines before last_pid
+    → IsAsked end moves lines now last_pid
+asked_behind end moves lines before now last_pid is asked = subst (λ (o : Option Bool). IsAsked end moves lines o last_pid) (sym is) asked
 
 -- behind all slots there is nobody
 pub none_behind : (d : RosterView MailTold) (k : ℕ) → length d.slots ≤ k → (slot_at d k).past ≡ []

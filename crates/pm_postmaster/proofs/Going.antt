@@ -24,16 +24,21 @@ use Rattle.pm_worker.specs.declared.mail.MailTold.{MailTold}
 use Rattle.pm_postmaster.specs.Links.{HasLinks}
 use Rattle.pm_postmaster.specs.Serving.{Goes, HasStopped, Holds, IsAlive, IsCausedBehind, IsEndBehind, IsServing, Keeps, Moments, Outset, Renews, StaysWith, Stops, last_pid_in}
 use Rattle.pm_postmaster.specs.Looking.{came_of}
+use Rattle.pm_postmaster.specs.Requests.{AsksSoFar, IsAsked, ended_in, ended_short}
 use Rattle.pm_postmaster.specs.View.{View}
+use Rattle.pm_outside.specs.Visits.{Visits}
+use Rattle.pm_postmaster.proofs.Asked.{AsksNone, OwesOn, asked_all, asks_none}
 use Rattle.pm_postmaster.proofs.Redoing.{TellNone, redos_still, redos_told}
 use Rattle.pm_postmaster.proofs.Renewing.{AreQuiet, renews_as_told, renews_quiet}
+
+-- the last pid of a journal is that of who stands behind it
+pub pid_at : (limits : Limits) (journal : List PmEvent) (s : Standing) (h : Trace) → Stands limits (Some journal) s h → s.last_pid ≡ last_pid_in limits journal
+pid_at limits journal s h stands = stands.remembers.last_pid ∙ ap (last_pid_in limits) (sym stands.told_is)
 
 -- no pid was drawn above the highest
 pub drawn_at : KeepsALegalJournal → (limits : Limits) (journal : List PmEvent) (s : Standing) (h : Trace) → Stands limits (Some journal) s h → last_pid_in limits journal ≤ highest_pid
 drawn_at legal limits journal s h stands =
-    let low : s.last_pid ≤ highest_pid = legal.pids limits (Some journal) s h stands in
-    let same : s.last_pid ≡ last_pid_in limits stands.journal = stands.remembers.last_pid in
-    subst (λ (n : ℕ). n ≤ highest_pid) (same ∙ ap (last_pid_in limits) (sym stands.told_is)) low
+    subst (λ (n : ℕ). n ≤ highest_pid) (pid_at limits journal s h stands) (legal.pids limits (Some journal) s h stands)
 
 -- the connections of a journal
 abbrev pub count_in : List PmEvent → ℕ
@@ -56,6 +61,33 @@ module _ {D C : Type 0} (gives : C → ℕ → Type 0) where
     pub own : now.shared.own ≡ before.shared.own
     pub came : now.came ≡ before.came
     pub past : KeepsPast before.board now.board
+
+  -- console and port are asked for nothing, but for a link
+  pub record LeavesAsking (before now : View D C) : Type 0 where
+    pub lines : now.lines ≡ before.lines
+    pub ended : ended_in now.visits ≡ ended_in before.visits
+    pub listens : now.listens ≡ before.listens
+
+  -- and not for one either
+  pub record LeavesOutside (before now : View D C) : Type 0 where
+    pub visits : now.visits ≡ before.visits
+    pub lines : now.lines ≡ before.lines
+    pub listens : now.listens ≡ before.listens
+
+  pub leaves_asking : (before now : View D C) → LeavesOutside before now → LeavesAsking before now
+  leaves_asking before now leaves = record { lines = leaves.lines; ended = ap ended_in leaves.visits; listens = leaves.listens }
+
+  abbrev pub AsksAt : List Move → View D C → Type 0
+  AsksAt moves v = AsksSoFar moves v.lines (ended_in v.visits) v.listens v.work.standing
+
+  -- whatever was asked for before, it is so behind these moves too
+  abbrev pub AsksOn : List Move → View D C → View D C → Type 0
+  AsksOn more before now = (earlier : List Move) → AsksAt earlier before → AsksAt (earlier ++ more) now
+
+  pub asks_nothing : (more : List Move) (before now : View D C) → AsksNone more → LeavesAsking before now → OwesOn 0 before.work.standing now.work.standing → AsksOn more before now
+  asks_nothing more before now none leaves owes earlier was =
+      asks_none earlier more before.lines now.lines (ended_in before.visits) (ended_in now.visits) before.listens now.listens before.work.standing now.work.standing
+      none leaves.lines leaves.ended leaves.listens owes was
 
   -- where these entries tell of no loss, and these moves of no end of redo
   pub renews_on : (journal entries : List PmEvent) (before now : View D C) → AreQuiet entries → LeavesStore before now
@@ -101,8 +133,8 @@ module _ {D C : Type 0} (gives : C → ℕ → Type 0) where
   -- it goes on serving
   pub serves_on : (outset : Outset D C) (more : List Move) (entries : List PmEvent) (before now : View D C) → (was : IsServing gives outset before)
       → GoesBy outset was.moves more entries before now → IsAt outset.limits outset.count (was.moves ++ more) (view now.work now.board) → Moments (gives outset.clock) now.work.standing
-      → now.shared.generation ≡ now.work.standing.generation → AreQuiet entries → TellNone more → LeavesStore before now → IsServing gives outset now
-  serves_on outset more entries before now was by at moments generation quiet none leaves = record {
+      → now.shared.generation ≡ now.work.standing.generation → AreQuiet entries → TellNone more → LeavesStore before now → AsksOn more before now → IsServing gives outset now
+  serves_on outset more entries before now was by at moments generation quiet none leaves asks = record {
     moves = was.moves ++ more;
     at = at;
     holds = holds_on outset was.moves more entries before now by was.holds;
@@ -111,13 +143,17 @@ module _ {D C : Type 0} (gives : C → ℕ → Type 0) where
     renews = subst (λ (es : List PmEvent). Renews es now.lost now.shared.own) (sym by.journal) (renews_on (journal_of outset.count was.moves) entries before now quiet leaves was.renews);
     redos = redos_still was.moves more before.board now.board none leaves.past was.redos;
     came = came_on before now leaves was.came;
+    asks = asks was.moves was.asks;
   }
 
-  -- a server at any moment may end, where its end is right
-  pub stopped_at : MayEndAnywhere MailTold → KeepsALegalJournal → (outset : Outset D C) (end : ServerEnd) (v : View D C) (was : IsServing gives outset v)
-      → IsEndBehind outset.limits end (journal_of outset.count was.moves) → IsCausedBehind end (slot_at v.board 0).past → HasStopped gives outset end v
-  stopped_at may legal outset end v was by cause =
+  -- A server at any moment may end, where its end is right, and where this was asked of it.
+  pub stopped_as : MayEndAnywhere MailTold → KeepsALegalJournal → (outset : Outset D C) (end : ServerEnd) (v : View D C) (visits : Option Visits) (lines : Option (List (List ℕ))) (listens : Bool)
+      → (was : IsServing gives outset v) → IsEndBehind outset.limits end (journal_of outset.count was.moves) → IsCausedBehind end was.moves (slot_at v.board 0).past
+      → IfSome visits (HasLinks (count_in (journal_of outset.count was.moves)) v.board) → IsAsked end was.moves lines (ended_in visits) v.work.standing.last_pid
+      → HasStopped gives outset end (record v { visits = visits; lines = lines; listens = listens })
+  stopped_as may legal outset end v visits lines listens was by cause links asked =
       let ends = may.at outset.limits outset.count was.moves v.work v.board was.at in
+      let stays = was.holds.stays in
       record {
         moves = was.moves;
         ending = ends.0;
@@ -125,12 +161,28 @@ module _ {D C : Type 0} (gives : C → ℕ → Type 0) where
         legal = legal.legal outset.limits (journal_of outset.count was.moves) v.work.standing was.at.past was.at.stands;
         drawn = drawn_at legal outset.limits (journal_of outset.count was.moves) v.work.standing was.at.past was.at.stands;
         told = was.at.told;
-        holds = was.holds;
+        holds = record {
+          stays = record { table = stays.table; home = stays.home; tokens = stays.tokens; joined = stays.joined; disk = stays.disk; clock = stays.clock };
+          slots = was.holds.slots;
+          tells = was.holds.tells;
+          times = was.holds.times;
+          said = was.holds.said;
+          links = links;
+        };
         ends = by;
         cause = cause;
+        asked = subst (λ (n : ℕ). IsAsked end was.moves lines (ended_in visits) n) (pid_at outset.limits (journal_of outset.count was.moves) v.work.standing was.at.past was.at.stands) asked;
         renews = renews_as_told (journal_of outset.count was.moves) v.lost v.shared.own was.renews;
         redos = redos_told was.moves v.board was.redos;
       }
+
+  -- the same where all was asked for that was to be, but for a smart shutdown that is owed where memory is short
+  pub stopped_at : MayEndAnywhere MailTold → KeepsALegalJournal → (outset : Outset D C) (end : ServerEnd) (v : View D C) (was : IsServing gives outset v)
+      → IsEndBehind outset.limits end (journal_of outset.count was.moves) → IsCausedBehind end was.moves (slot_at v.board 0).past
+      → (v.work.standing.owes_smart ≡ true → ended_short end ≡ true) → HasStopped gives outset end v
+  stopped_at may legal outset end v was by cause short =
+      stopped_as may legal outset end v v.visits v.lines v.listens was by cause was.holds.links
+      (asked_all end was.moves v.lines (ended_in v.visits) v.listens v.work.standing was.asks short)
 
   pub goes_on : {T : Type 0} (result : Result T ServerEnd) (a b c : View D C) → Keeps gives a b → Goes gives result b c → Goes gives result a c
   goes_on (Ok done) a b c one two = λ outset was. two outset (one outset was)

@@ -1,3 +1,5 @@
+pub mod Owed
+pub mod Asked
 pub mod Linking
 pub mod Moments
 pub mod Renewing

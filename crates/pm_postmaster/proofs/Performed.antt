@@ -1,5 +1,5 @@
 -- What an act comes to.
-use Rattle.std.proofs.Common.{◌≡◌, ◌⊎◌, inl, inr, ℕ, ◌+◌, ◌≤◌, List, [], ◌∷◌, ◌++◌, refl, sym, ap, subst, ◌∙◌, length, arith, append-nil}
+use Rattle.std.proofs.Common.{◌≡◌, ◌⊎◌, inl, inr, ℕ, ◌+◌, ◌≤◌, List, [], ◌∷◌, ◌++◌, refl, sym, ap, subst, ◌∙◌, length, map, arith, append-nil}
 use Rattle.std.specs.Prelude.{Bool, true, false, if◌then◌else◌, Option, None, Some, IfSome, Result, Ok, Err, is_some, option_map}
 use Rattle.pm_exit.specs.declared.child.Kind.{Kind}
 use Rattle.pm_exit.specs.declared.child.Status.{Status}
@@ -23,7 +23,12 @@ use Rattle.pm_seating.specs.Board.{seats_of}
 use Rattle.pm_seating.specs.Calls.{slot_for}
 use Rattle.pm_seating.specs.Final.{MayEndAnywhere}
 use Rattle.pm_seating.specs.FoldingLaws.{journal-more}
-use Rattle.pm_seating.specs.Seating.{Move, Notes, journal_of}
+use Rattle.pm_seating.specs.Acts.{MayDo}
+use Rattle.pm_board.specs.Gate.{gate_of}
+use Rattle.pm_acts.specs.ActsLaws.{first_is}
+use Rattle.pm_state.specs.Starts.{has_end}
+use Rattle.pm_seating.specs.Board.{ended_of}
+use Rattle.pm_seating.specs.Seating.{Move, Notes, ended_at, journal_of}
 use Rattle.pm_seating.specs.Sitting.{KeepsPast}
 use Rattle.pm_seating.specs.Standing.{view}
 use Rattle.pm_seating.specs.Standing as seating
@@ -61,7 +66,10 @@ use Rattle.pm_postmaster.specs.Serving.{EndsWith, Goes, HasStopped, IsCausedBehi
 use Rattle.pm_postmaster.specs.View.{View}
 use Rattle.pm_postmaster.proofs.Acted.{Acts, Stands, acted, links_acted, slots_acted}
 use Rattle.pm_postmaster.proofs.Calling.{IsBeside, still}
-use Rattle.pm_postmaster.proofs.Going.{Leaves, LeavesStore, came_on, drawn_at, renews_on, stopped_at}
+use Rattle.pm_postmaster.specs.Requests.{IsAsked, ended_in}
+use Rattle.pm_postmaster.proofs.Asked.{asked_all}
+use Rattle.pm_postmaster.proofs.Owed.{acts_ask_none, end_due, owes_acted}
+use Rattle.pm_postmaster.proofs.Going.{AsksAt, Leaves, LeavesOutside, LeavesStore, asks_nothing, came_on, drawn_at, pid_at, renews_on, stopped_at}
 use Rattle.pm_postmaster.proofs.Redoing.{acts_tell_none, redos_still, redos_told}
 use Rattle.pm_postmaster.proofs.Renewing.{AreQuiet, renews_as_told, renews_reset, renews_short}
 
@@ -110,27 +118,28 @@ killed_by : (status : Status) → is_killed status ≡ true → status ≡ Signa
 killed_by (Signal number) is = ap Signal (let same : number ≡ 9 = grind (arith, is) in same)
 killed_by (Code code) is = absurd (let no_ : false ≡ true = is in cc)
 
-caused_so : (how : Ending) (came : Option Came) (past : List (PastChild MailTold)) → came ≡ came_of past → IsCausedBehind (end_by how came) past
-caused_so endings.Clean came past is = tt
-caused_so endings.AfterCrash came past is = tt
-caused_so endings.RestartOff came past is = tt
-caused_so endings.StartupFailed None past is = tt
-caused_so endings.StartupFailed (Some came) past is = by (is_killed came.status) refl came.fault refl
+caused_so : (how : Ending) (came : Option Came) (moves : List Move) (past : List (PastChild MailTold)) → map ended_of past ≡ ended_at 0 moves → came ≡ came_of past
+    → IsCausedBehind (end_by how came) moves past
+caused_so endings.Clean came moves past told is = tt
+caused_so endings.AfterCrash came moves past told is = tt
+caused_so endings.RestartOff came moves past told is = tt
+caused_so endings.StartupFailed None moves past told is = tt
+caused_so endings.StartupFailed (Some came) moves past told is = by (is_killed came.status) refl came.fault refl
   where
     by : (killed : Bool) → is_killed came.status ≡ killed → (fault : Option StoreNo) → came.fault ≡ fault
-        → IsCausedBehind (if killed then Abnormal (StartupFailed Killed) else refused_by fault) past
-    by true kill fault told = (past, [], sym (append-nil past), came, sym is, killed_by came.status kill)
-    by false kill None told = tt
-    by false kill (Some (nos.Redo fault)) told = short (is_short fault)
+        → IsCausedBehind (if killed then Abnormal (StartupFailed Killed) else refused_by fault) moves past
+    by true kill fault faulted = record { front = past; others = []; past_is = sym (append-nil past); told = told; came = came; came_is = sym is; reason_is = killed_by came.status kill }
+    by false kill None faulted = tt
+    by false kill (Some (nos.Redo fault)) faulted = short (is_short fault)
       where
-        short : (b : Bool) → IsCausedBehind (if b then NoMemory else Abnormal (StartupFailed (Redo fault))) past
+        short : (b : Bool) → IsCausedBehind (if b then NoMemory else Abnormal (StartupFailed (Redo fault))) moves past
         short true = tt
-        short false = (past, [], sym (append-nil past), came, sym is, told)
-    by false kill (Some (nos.Stale mine found)) told = tt
-    by false kill (Some nos.Disk) told = tt
-    by false kill (Some (nos.Broken since)) told = tt
-    by false kill (Some (nos.Full need room)) told = tt
-    by false kill (Some nos.NoMemory) told = tt
+        short false = record { front = past; others = []; past_is = sym (append-nil past); told = told; came = came; came_is = sym is; reason_is = faulted }
+    by false kill (Some (nos.Stale mine found)) faulted = tt
+    by false kill (Some nos.Disk) faulted = tt
+    by false kill (Some (nos.Broken since)) faulted = tt
+    by false kill (Some (nos.Full need room)) faulted = tt
+    by false kill (Some nos.NoMemory) faulted = tt
 
 module _ {D C : Type 0} (gives : C → ℕ → Type 0) (counts : CountsChildren) (may : MayEndAnywhere MailTold) (legal : KeepsALegalJournal) (safely : RestartsSafely) where
   -- An act was noted, and done at the board.
@@ -149,6 +158,8 @@ module _ {D C : Type 0} (gives : C → ℕ → Type 0) (counts : CountsChildren)
     pub clock : mid.clock ≡ before.clock
     pub lost : mid.lost ≡ before.lost
     pub came : mid.came ≡ before.came
+    pub lines : mid.lines ≡ before.lines
+    pub listens : mid.listens ≡ before.listens
 
   module _ (outset : Outset D C) (a : Action) (ordered : Kind → MailTold) (before mid : View D C) (is : IsDone a ordered before mid) (was : IsServing gives outset before)
       (log : LogView) (shared : SharedModel D) (lost : List ℕ) (said : LogBehind (act_for a before.work.standing) mid.log log) where
@@ -199,6 +210,13 @@ module _ {D C : Type 0} (gives : C → ℕ → Type 0) (counts : CountsChildren)
       disk = ap (λ (s : SharedModel D). s.first) same;
     }
 
+    -- and nothing was asked for
+    asks_now : AsksAt gives moves_now now
+    asks_now =
+        asks_nothing gives (Notes (entry_for a before.work.standing) (slot_for a) ∷ []) before now (acts_ask_none a before.work.standing)
+        (record { lines = is.lines; ended = ap ended_in is.visits; listens = is.listens })
+        (owes_acted a before.work.standing mid.work.standing is.standing is.first was.at.stands.coming.owes) was.moves was.asks
+
     -- nothing was renewed
     pub went_on : lost ≡ mid.lost → shared ≡ mid.shared → (a ≡ action.Reset → ⊥) → IsServing gives outset now
     went_on same_lost same other =
@@ -220,6 +238,7 @@ module _ {D C : Type 0} (gives : C → ℕ → Type 0) (counts : CountsChildren)
               (renews_on gives (journal_of outset.count was.moves) (entry_for a before.work.standing ∷ []) before now (quiet_act a before.work.standing other) leaves was.renews);
           redos = redos_still was.moves (Notes (entry_for a before.work.standing) (slot_for a) ∷ []) before.board mid.board (acts_tell_none a before.work.standing) is.past was.redos;
           came = came_on gives before now leaves was.came;
+          asks = asks_now;
         }
 
     -- the store was renewed
@@ -251,6 +270,7 @@ module _ {D C : Type 0} (gives : C → ℕ → Type 0) (counts : CountsChildren)
               (subst (λ (l : List ℕ). AreApart l others) is.lost apart) was.renews)));
           redos = redos_still was.moves (Notes (entry_for a before.work.standing) (slot_for a) ∷ []) before.board mid.board (acts_tell_none a before.work.standing) is.past was.redos;
           came = is.came ∙ (was.came ∙ ap came_of (sym (is.past 0)));
+          asks = asks_now;
         }
 
     -- there was no memory to renew it
@@ -269,6 +289,9 @@ module _ {D C : Type 0} (gives : C → ℕ → Type 0) (counts : CountsChildren)
           holds = stands.holds;
           ends = tt;
           cause = tt;
+          asked = subst (λ (n : ℕ). IsAsked NoMemory moves_now mid.lines (ended_in mid.visits) n)
+              (pid_at outset.limits (journal_of outset.count moves_now) mid.work.standing stands.at.past stands.at.stands)
+              (asked_all NoMemory moves_now mid.lines (ended_in mid.visits) mid.listens mid.work.standing asks_now (λ owes. refl));
           renews = subst (λ (es : List PmEvent). RenewsAsTold es shared.own) (sym (journal_now ∙ ap (λ (x : PmEvent). journal_of outset.count was.moves ++ x ∷ []) e))
               (subst (λ (own : List Noted). RenewsAsTold (journal_of outset.count was.moves ++ entry.Reset (before.work.standing.generation + 1) ∷ []) own)
               (sym (ap (λ (s : SharedModel D). s.own) same ∙ ap (λ (s : SharedModel D). s.own) is.shared))
@@ -291,6 +314,15 @@ module _ {D C : Type 0} (gives : C → ℕ → Type 0) (counts : CountsChildren)
     plain a result is said same ok other =
         subst (λ (r : Result (Unit {0}) ServerEnd). Comes outset r behind) (sym ok) (went_on outset a ordered before mid is was log shared lost said same.0 same.1 other)
 
+    -- where the end is due nothing is owed
+    paid : (how : Ending) → IsDone (action.End how) ordered before mid → mid.work.standing.owes_smart ≡ true → ⊥
+    paid how is owes =
+        let s : Standing = before.work.standing in
+        let due : has_end s.due ≡ true = ap has_end (first_is s.due (action.End how) is.first) in
+        let ended : s.machine.ended ≡ true = end_due s.ended s.due s.machine was.at.stands.coming.ended due in
+        let goes = (was.asks.owed (sym (ap (λ (t : Standing). t.owes_smart) is.standing) ∙ owes)).goes_on in
+        (let no_ : true ≡ false = sym ended ∙ goes in cc)
+
     pub performed : (a : Action) (result : Result (Unit {0}) ServerEnd) → IsDone a ordered before mid → Performs (act_for a before.work.standing) result mid behind → Comes outset result behind
     unfolding went_on
     performed (action.Start k) result is by = plain (action.Start k) result is by.log by.store by.ends (λ e. absurd (cc))
@@ -310,7 +342,8 @@ module _ {D C : Type 0} (gives : C → ℕ → Type 0) (counts : CountsChildren)
         let last : EndsWith (entry.Ended how) journal = (journal_of outset.count was.moves, journal-more outset.count was.moves (Notes (entry.Ended how) (slot_for (action.End how)))) in
         let set = (safely.in_order outset.limits any_moment journal (legal.legal outset.limits journal mid.work.standing now.at.past now.at.stands)).as_set in
         subst (λ (r : Result (Unit {0}) ServerEnd). Comes outset r behind) (sym by.ends)
-        (stopped_at gives may legal outset (end_by how mid.came) behind now (ended_so outset.limits how mid.came journal last set) (caused_so how mid.came (slot_at mid.board 0).past now.came))
+        (stopped_at gives may legal outset (end_by how mid.came) behind now (ended_so outset.limits how mid.came journal last set) (caused_so how mid.came now.moves (slot_at mid.board 0).past (now.at.seated.had.ended 0) now.came)
+        (λ owes. absurd (paid how is owes)))
 
   -- there is no further generation, and nothing was noted
   pub spent : (outset : Outset D C) (v : View D C) → IsServing gives outset v → v.work.standing.generation ≡ 4294967295 → first_due v.work.standing.due ≡ Some action.Reset
@@ -320,7 +353,11 @@ module _ {D C : Type 0} (gives : C → ℕ → Type 0) (counts : CountsChildren)
       stopped_at gives may legal outset (Abnormal whys.GenerationsSpent) v was (
         ap (λ (js : List PmEvent). (all_replayed (replay_begun outset.limits) js).shown.generation) was.at.stands.told_is ∙ (sym was.at.stands.remembers.generation ∙ last),
         spent_next outset.limits journal v.work.standing was.at.past was.at.stands last first,
-      ) tt
+      ) tt (λ owes. absurd ((was.asks.owed owes).someone nobody))
+    where
+      -- where a reset is due nobody is there
+      nobody : v.work.standing.children ≡ []
+      nobody = (subst (λ (acts : List Action). MayDo acts (gate_of v.board) v.work.standing.children) (first_is v.work.standing.due action.Reset first) was.at.may).0
 
   -- ---- the next act
 
@@ -328,9 +365,9 @@ module _ {D C : Type 0} (gives : C → ℕ → Type 0) (counts : CountsChildren)
   pub done_next : (ordered : Kind → MailTold) (before mid : View D C) (a : Act) → (next_of before.work.standing).answer ≡ Ok (Some a)
       → mid.work.standing ≡ (next_of before.work.standing).after → DoesNext (Ok (Some a)) (view before.work before.board) (view mid.work mid.board)
       → PerformsAtBoard a ordered before.board (seats_of before.board) mid.board (seats_of mid.board) → MayPerform a before.board (seats_of before.board)
-      → KeepsPast before.board mid.board → IsBeside gives before mid
+      → KeepsPast before.board mid.board → IsBeside gives before mid → LeavesOutside gives before mid
       → (x : Action) × (a ≡ act_for x before.work.standing) × IsDone x ordered before mid
-  done_next ordered before mid a answer standing does board allowed past beside =
+  done_next ordered before mid a answer standing does board allowed past beside outside =
       let s : Standing = before.work.standing in
       let n = next_given s a answer in
       let x : Action = n.0 in
@@ -348,7 +385,9 @@ module _ {D C : Type 0} (gives : C → ℕ → Type 0) (counts : CountsChildren)
           table = beside.table;
           shared = beside.shared;
           log = beside.log;
-          visits = beside.visits;
+          visits = outside.visits;
+          lines = outside.lines;
+          listens = outside.listens;
           clock = beside.clock;
           lost = beside.lost;
           came = beside.came;
@@ -359,9 +398,9 @@ module _ {D C : Type 0} (gives : C → ℕ → Type 0) (counts : CountsChildren)
       → (next_of before.work.standing).answer ≡ Ok (Some a) → mid.work.standing ≡ (next_of before.work.standing).after
       → DoesNext (Ok (Some a)) (view before.work before.board) (view mid.work mid.board)
       → PerformsAtBoard a ordered before.board (seats_of before.board) mid.board (seats_of mid.board) → MayPerform a before.board (seats_of before.board)
-      → KeepsPast before.board mid.board → IsBeside gives before mid → Performs a result mid now → IsServing gives outset before → Comes outset result now
-  acts_on outset ordered before mid now a result answer standing does board allowed past beside performs was =
-      let d = done_next ordered before mid a answer standing does board allowed past beside in
+      → KeepsPast before.board mid.board → IsBeside gives before mid → LeavesOutside gives before mid → Performs a result mid now → IsServing gives outset before → Comes outset result now
+  acts_on outset ordered before mid now a result answer standing does board allowed past beside outside performs was =
+      let d = done_next ordered before mid a answer standing does board allowed past beside outside in
       let literal : Performs (act_for d.0 before.work.standing) result mid (record mid { log = now.log; shared = now.shared; lost = now.lost }) =
       subst (λ (v : View D C). Performs (act_for d.0 before.work.standing) result mid v) performs.rests (subst (λ (y : Act). Performs y result mid now) d.1 performs) in
       subst (Comes outset result) (sym performs.rests) (performed outset ordered before mid was now.log now.shared now.lost d.0 result d.2 literal)
@@ -371,12 +410,12 @@ module _ {D C : Type 0} (gives : C → ℕ → Type 0) (counts : CountsChildren)
       (result : Result (Unit {0}) ServerEnd) → next ≡ Ok given → given ≡ Some a → next ≡ (next_of before.work.standing).answer
       → mid.work.standing ≡ (next_of before.work.standing).after → DoesNext next (view before.work before.board) (view mid.work mid.board)
       → IsDoneAtBoard next ordered before.board mid.board → ((x : Act) → next ≡ Ok (Some x) → MayPerform x before.board (seats_of before.board))
-      → KeepsPast before.board mid.board → IsBeside gives before mid → Performs a result mid now → IsServing gives outset before → Comes outset result now
-  acts_of outset ordered before mid now next given a result one two answer standing does board allowed past beside performs was =
+      → KeepsPast before.board mid.board → IsBeside gives before mid → LeavesOutside gives before mid → Performs a result mid now → IsServing gives outset before → Comes outset result now
+  acts_of outset ordered before mid now next given a result one two answer standing does board allowed past beside outside performs was =
       let is : next ≡ Ok (Some a) = one ∙ ap (λ (o : Option Act). Ok o) two in
       acts_on outset ordered before mid now a result (sym answer ∙ is) standing
       (subst (λ (r : Result (Option Act) GenerationsSpent). DoesNext r (view before.work before.board) (view mid.work mid.board)) is does)
-      (subst (λ (r : Result (Option Act) GenerationsSpent). IsDoneAtBoard r ordered before.board mid.board) is board) (allowed a is) past beside performs was
+      (subst (λ (r : Result (Option Act) GenerationsSpent). IsDoneAtBoard r ordered before.board mid.board) is board) (allowed a is) past beside outside performs was
 
   -- an act that isn't the end leaves that it goes on
   pub goes_on_behind : (before mid now : View D C) (a : Act) → (next_of before.work.standing).answer ≡ Ok (Some a)
@@ -389,9 +428,9 @@ module _ {D C : Type 0} (gives : C → ℕ → Type 0) (counts : CountsChildren)
       ∙ ended_kept n.0 s (λ how is. (let no_ : ◌≡◌ {A = Result (Unit {0}) ServerEnd} (Ok tt) (Err (end_by how mid.came)) = subst (λ (y : Action). EndBehind (act_for y s) (Ok tt) mid) is ends in absurd (cc))))
 
   -- there is no further generation
-  pub spends : (before now : View D C) (none : GenerationsSpent) → IsBeside gives before now → (next_of before.work.standing).answer ≡ Err none
+  pub spends : (before now : View D C) (none : GenerationsSpent) → IsBeside gives before now → LeavesOutside gives before now → (next_of before.work.standing).answer ≡ Err none
       → StandsStill (view before.work before.board) (view now.work now.board) → Stops gives (Abnormal whys.GenerationsSpent) before now
-  spends before now none beside answer same = λ outset was.
+  spends before now none beside outside answer same = λ outset was.
       let n = next_spent before.work.standing none answer in
-      spent outset now (still gives before now beside same.0 same.1 same.2 outset was) (ap (λ (t : Standing). t.generation) same.0 ∙ n.generation)
+      spent outset now (still gives before now beside outside same.0 same.1 same.2 outset was) (ap (λ (t : Standing). t.generation) same.0 ∙ n.generation)
       (ap (λ (t : Standing). first_due t.due) same.0 ∙ n.reset)

@@ -20,9 +20,10 @@ use Rattle.pm_server.specs.declared.end.ServerEnd.{ServerEnd}
 use Rattle.pm_shared.specs.declared.views.Noted.{Noted}
 use Rattle.pm_worker.specs.declared.mail.MailTold.{MailTold}
 use Rattle.pm_postmaster.specs.Clearing.{Clears, MayClear}
-use Rattle.pm_postmaster.specs.Serving.{HasStopped, IsCausedBehind, Outset}
+use Rattle.pm_postmaster.specs.Requests.{IsAsked, ended_in}
+use Rattle.pm_postmaster.specs.Serving.{HasStopped, IsCausedBehind, Outset, last_pid_in}
 use Rattle.pm_postmaster.specs.View.{View}
-use Rattle.pm_postmaster.proofs.Finished.{caused_more, home_if, none_behind, once_after, past_after}
+use Rattle.pm_postmaster.proofs.Finished.{asked_behind, caused_more, home_if, none_behind, once_after, past_after}
 use Rattle.pm_postmaster.proofs.Redoing.{redos_behind}
 
 pub clears_at : (t u w : TableId) (d e f : RosterView MailTold) (a b : Option Visits) → t ≡ u → d ≡ e → Clears t d a w f b → Clears u e a w f b
@@ -72,8 +73,11 @@ module _ {D C : Type 0} (gives : C → ℕ → Type 0) (outset : Outset D C) (en
     pub once : AreUsedOnce closed
     once = once_after outset.limits outset.count stopped.moves cleared closed nobody ending gone slots left.slots stopped.legal stopped.drawn last
 
-    pub cause : IsCausedBehind end (slot_at closed 0).past
-    cause = let more = past 0 in caused_more end (slot_at v.board 0).past more.0 (slot_at closed 0).past more.1 stopped.cause
+    pub cause : IsCausedBehind end stopped.moves (slot_at closed 0).past
+    cause = let more = past 0 in caused_more end stopped.moves (slot_at v.board 0).past more.0 (slot_at closed 0).past more.1 stopped.cause
+
+    pub asked : IsAsked end stopped.moves v.lines (ended_in visits) (last_pid_in outset.limits (journal_of outset.count stopped.moves))
+    asked = asked_behind end stopped.moves v.lines (ended_in v.visits) (ended_in visits) (last_pid_in outset.limits (journal_of outset.count stopped.moves)) clears.ended stopped.asked
 
     pub redos : RedosAreThose stopped.moves closed
     redos = redos_behind stopped.moves v.board closed past stopped.redos

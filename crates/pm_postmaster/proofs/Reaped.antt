@@ -52,7 +52,10 @@ use Rattle.pm_postmaster.proofs.Calling.{IsBeside}
 use Rattle.pm_postmaster.specs.Looking.{MayComeBack, TakesIn, came_by, came_from, came_of, fault_in, lost_with, opened}
 use Rattle.pm_postmaster.specs.Serving.{HasStopped, Holds, IsServing, Moments, Outset, Renews}
 use Rattle.pm_postmaster.specs.View.{View}
-use Rattle.pm_postmaster.proofs.Going.{GoesBy, Leaves, LeavesStore, drawn_at, holds_on, serves_on}
+use Rattle.pm_postmaster.specs.Requests.{IsAsked, ended_in}
+use Rattle.pm_postmaster.proofs.Asked.{asked_all, ended_opened, none_asked, owes_same}
+use Rattle.pm_postmaster.proofs.Owed.{exits_ask_none, owes_exited}
+use Rattle.pm_postmaster.proofs.Going.{GoesBy, Leaves, LeavesAsking, LeavesOutside, LeavesStore, asks_nothing, drawn_at, holds_on, pid_at, serves_on}
 use Rattle.pm_postmaster.proofs.Linking.{by_test, is_out, links_released, links_running, links_same}
 use Rattle.pm_postmaster.proofs.Moments.{exited_given, exited_moments, later_given}
 use Rattle.pm_postmaster.proofs.Redoing.{redos_behind, redos_exited, redos_told}
@@ -235,8 +238,8 @@ module _ {D C : Type 0} (gives : C → ℕ → Type 0) (counts : CountsChildren)
   -- no end was found
   pub found_on : (k : ℕ) → k < length before.board.slots → seating.Goes [] (view before.work before.board) (view now.work now.board) → now.work ≡ before.work
       → HasFoundNone k before.board now.board → now.visits ≡ before.visits
-      → LeavesStore gives before now → IsServing gives outset before → IsServing gives outset now
-  found_on k near goes work found visits store was =
+      → LeavesStore gives before now → LeavesAsking gives before now → IsServing gives outset before → IsServing gives outset now
+  found_on k near goes work found visits store asking was =
       let by : GoesBy gives outset was.moves [] [] before now = record {
         journal = none_more outset.count was.moves;
         given = tt;
@@ -248,6 +251,7 @@ module _ {D C : Type 0} (gives : C → ℕ → Type 0) (counts : CountsChildren)
       serves_on gives outset [] [] before now was by (goes outset.limits outset.count was.moves was.at)
       (subst (λ (w : AtWork). Moments (gives outset.clock) w.standing) (sym work) was.moments)
       (shared ∙ (was.generation ∙ ap (λ (w : AtWork). w.standing.generation) (sym work))) quiet_none (λ j. refl) store
+      (asks_nothing gives [] before now none_asked asking (owes_same before.work.standing now.work.standing (ap (λ (w : AtWork). w.standing) work)))
 
   -- a child has ended, which was noted
   pub reaped_on : (k at : ℕ) (exit : ChildExit) (kind : Kind) (status : Status) (active : Bool) (back : MailTold) → gives before.clock at → (has : Leaving k kind status active back before.board now.board)
@@ -255,8 +259,9 @@ module _ {D C : Type 0} (gives : C → ℕ → Type 0) (counts : CountsChildren)
       → exit.kept ≡ kept_by has.offer.kind status (kept_in back) → now.lost ≡ lost_with exit.pid active before.lost
       → now.came ≡ came_by has.offer.kind status back before.came → now.shared.own ≡ before.shared.own
       → seating.Goes (exits k exit at before.work.standing) (view before.work before.board) (view now.work now.board)
-      → now.work.standing ≡ made (exiting exit at before.work.standing) before.work.standing → IsServing gives outset before → IsServing gives outset now
-  reaped_on k at exit kind status active back given released visits same_kind is_status is_active kept lost came own goes standing was =
+      → now.work.standing ≡ made (exiting exit at before.work.standing) before.work.standing → LeavesAsking gives before now → before.work.standing.owes_smart ≡ false
+      → IsServing gives outset before → IsServing gives outset now
+  reaped_on k at exit kind status active back given released visits same_kind is_status is_active kept lost came own goes standing asking unowed was =
       let s : Standing = before.work.standing in
       let its : gives outset.clock at = subst (λ (c : C). gives c at) was.holds.stays.clock given in
       let late = later_given (gives outset.clock) at s its was.moments in
@@ -284,13 +289,14 @@ module _ {D C : Type 0} (gives : C → ℕ → Type 0) (counts : CountsChildren)
             (released.generation ∙ (was.at.seated.shows.generation ∙ sym was.at.seated.generation)) was.redos;
         came = came_reaped k kind status active back before.came now.came before.board now.board released
             (startup_first outset.count was.moves before.board (seats_of before.board) before.work.standing k released.offer was.at.seated released.near released.sight) came was.came;
+        asks = asks_nothing gives (exits k exit at s) before now (exits_ask_none k at exit s) asking (owes_exited s now.work.standing exit at standing unowed) was.moves was.asks;
       }
 
   -- a child has ended, and there was no memory to note it
   pub cut_on : MayEndAnywhere MailTold → KeepsALegalJournal → (k : ℕ) (kind : Kind) (status : Status) (active : Bool) (back : MailTold) → Leaving k kind status active back before.board now.board
       → now.visits ≡ option_map (opened back) before.visits → now.shared.own ≡ before.shared.own → IsCutOff (view before.work before.board) (view now.work now.board)
-      → IsServing gives outset before → HasStopped gives outset NoMemory now
-  cut_on may legal k kind status active back released visits own cut was =
+      → LeavesAsking gives before now → IsServing gives outset before → HasStopped gives outset NoMemory now
+  cut_on may legal k kind status active back released visits own cut asking was =
       let by : GoesBy gives outset was.moves [] [] before now = record {
         journal = none_more outset.count was.moves;
         given = tt;
@@ -311,6 +317,11 @@ module _ {D C : Type 0} (gives : C → ℕ → Type 0) (counts : CountsChildren)
         holds = subst (λ (ms : List Move). Holds gives outset ms now) (append-nil was.moves) (holds_on gives outset was.moves [] [] before now by was.holds);
         ends = tt;
         cause = tt;
+        asked = subst (λ (n : ℕ). IsAsked NoMemory was.moves now.lines (ended_in now.visits) n)
+            (pid_at outset.limits (journal_of outset.count was.moves) before.work.standing was.at.past was.at.stands)
+            (subst (λ (l : Option (List (List ℕ))). IsAsked NoMemory was.moves l (ended_in now.visits) before.work.standing.last_pid) (sym asking.lines)
+            (subst (λ (e : Option Bool). IsAsked NoMemory was.moves before.lines e before.work.standing.last_pid) (sym asking.ended)
+            (asked_all NoMemory was.moves before.lines (ended_in before.visits) before.listens before.work.standing was.asks (λ owes. refl))));
         renews = subst (λ (x : List Noted). RenewsAsTold (journal_of outset.count was.moves) x) (sym own)
             (renews_as_told (journal_of outset.count was.moves) before.lost before.shared.own was.renews);
         redos = redos_behind was.moves before.board now.board (past_more k kind status active back before.board now.board released) (redos_told was.moves before.board was.redos);
@@ -330,7 +341,7 @@ same_kept (mail.Aux fault kept) = refl
 module _ {D C J : Type 0} (gives : C → ℕ → Type 0) (counts : CountsChildren) (letter : Letter.Ghosts J MailTold) (k : ℕ) (c : Enrolled) (released : Released J)
     (before mid now : View D C) (near : k < length before.board.slots) (beside : IsBeside gives before mid) (has : HasReaped letter k c released before.board mid.board)
     (comes : ComesBack (letter.told released.job) released.kind released.status)
-    (takes : TakesIn (letter.told released.job) released.pid released.kind released.status released.was_active mid now) where
+    (takes : TakesIn (letter.told released.job) released.pid released.kind released.status released.was_active mid now) (outside : LeavesOutside gives before mid) where
   leaving : Leaving k released.kind released.status released.was_active (letter.told released.job) before.board now.board
   leaving = subst (λ (d : RosterView MailTold). Leaving k released.kind released.status released.was_active (letter.told released.job) before.board d) (sym (ap (λ (v : View D C). v.board) takes))
       (released_by letter k c released before.board mid.board near has comes)
@@ -347,7 +358,14 @@ module _ {D C J : Type 0} (gives : C → ℕ → Type 0) (counts : CountsChildre
   }
 
   visits_so : now.visits ≡ option_map (opened (letter.told released.job)) before.visits
-  visits_so = ap (λ (v : View D C). v.visits) takes ∙ ap (option_map (opened (letter.told released.job))) beside.visits
+  visits_so = ap (λ (v : View D C). v.visits) takes ∙ ap (option_map (opened (letter.told released.job))) outside.visits
+
+  asking_so : LeavesAsking gives before now
+  asking_so = record {
+    lines = ap (λ (v : View D C). v.lines) takes ∙ outside.lines;
+    ended = ap ended_in visits_so ∙ ended_opened (letter.told released.job) before.visits;
+    listens = ap (λ (v : View D C). v.listens) takes ∙ outside.listens;
+  }
 
   own_so : now.shared.own ≡ before.shared.own
   own_so = ap (λ (v : View D C). v.shared.own) takes ∙ ap (λ s. s.own) beside.shared
@@ -356,8 +374,8 @@ module _ {D C J : Type 0} (gives : C → ℕ → Type 0) (counts : CountsChildre
   pub ended_on : (outset : Outset D C) (at : ℕ) → gives before.clock at
       → seating.Goes (exits k (exit_of (kept_told (letter.told released.job)) released) at before.work.standing) (view before.work before.board) (view mid.work mid.board)
       → mid.work.standing ≡ made (exiting (exit_of (kept_told (letter.told released.job)) released) at before.work.standing) before.work.standing
-      → IsServing gives outset before → IsServing gives outset now
-  ended_on outset at given goes standing was =
+      → before.work.standing.owes_smart ≡ false → IsServing gives outset before → IsServing gives outset now
+  ended_on outset at given goes standing unowed was =
       let exit : ChildExit = exit_of (kept_told (letter.told released.job)) released in
       let kind : released.kind ≡ leaving.offer.kind = sym leaving.kind_is in
       reaped_on gives counts outset before now left_so (ap (λ (v : View D C). v.shared.generation) takes ∙ ap (λ s. s.generation) beside.shared)
@@ -369,7 +387,7 @@ module _ {D C J : Type 0} (gives : C → ℕ → Type 0) (counts : CountsChildre
       ∙ ap (came_by leaving.offer.kind released.status (letter.told released.job)) beside.came))
       own_so
       (subst (λ (v : View D C). seating.Goes (exits k exit at before.work.standing) (view before.work before.board) (view v.work v.board)) (sym takes) goes)
-      (ap (λ (v : View D C). v.work.standing) takes ∙ standing) was
+      (ap (λ (v : View D C). v.work.standing) takes ∙ standing) asking_so unowed was
 
   -- there was no memory to note it
   pub short_on : (outset : Outset D C) → MayEndAnywhere MailTold → KeepsALegalJournal → IsCutOff (view before.work before.board) (view mid.work mid.board)
@@ -377,4 +395,4 @@ module _ {D C J : Type 0} (gives : C → ℕ → Type 0) (counts : CountsChildre
   short_on outset may legal cut was =
       cut_on gives counts outset before now left_so (ap (λ (v : View D C). v.shared.generation) takes ∙ ap (λ s. s.generation) beside.shared)
       (ap (λ (v : View D C). v.log) takes ∙ beside.log) may legal k released.kind released.status released.was_active (letter.told released.job) leaving visits_so own_so
-      (subst (λ (v : View D C). IsCutOff (view before.work before.board) (view v.work v.board)) (sym takes) cut) was
+      (subst (λ (v : View D C). IsCutOff (view before.work before.board) (view v.work v.board)) (sym takes) cut) asking_so was

@@ -14,7 +14,7 @@ use Rattle.pm_outside.specs.Visits.{Visits}
 use Rattle.pm_seating.specs.Board.{seats_of}
 use Rattle.pm_seating.specs.Chained.{accepted_in}
 use Rattle.pm_seating.specs.FoldingLaws.{journal-more}
-use Rattle.pm_seating.specs.Seating.{Kill, Move, Reads, Seating, asked_by, entries_by, is_seated, journal_of, seating_of}
+use Rattle.pm_seating.specs.Seating.{Kill, Move, Reads, Request, Seating, asked_by, entries_by, is_seated, journal_of, seating_of}
 use Rattle.pm_seating.specs.Standing.{view}
 use Rattle.pm_seating.specs.Standing as seating
 use Rattle.pm_state.specs.declared.event.PmEvent.{PmEvent}
@@ -24,7 +24,8 @@ use Rattle.pm_worker.specs.declared.mail.MailTold.{MailTold}
 use Rattle.pm_postmaster.specs.Links.{HasLinks}
 use Rattle.pm_postmaster.specs.Serving.{IsServing, Moments, Outset}
 use Rattle.pm_postmaster.specs.View.{View}
-use Rattle.pm_postmaster.proofs.Going.{GoesBy, Leaves, LeavesStore, serves_on}
+use Rattle.pm_postmaster.proofs.Asked.{none_asked, owes_none, owes_same}
+use Rattle.pm_postmaster.proofs.Going.{AsksOn, GoesBy, Leaves, LeavesAsking, LeavesOutside, LeavesStore, asks_nothing, leaves_asking, serves_on}
 use Rattle.pm_postmaster.proofs.Redoing.{TellNone}
 use Rattle.pm_postmaster.proofs.Renewing.{AreQuiet}
 use Rattle.pm_postmaster.proofs.Linking.{links_same}
@@ -57,9 +58,16 @@ none_more count earlier = ap (journal_of count) (append-nil earlier) ∙ sym (ap
 pub quiet_none : AreQuiet []
 quiet_none = record { since = λ so. refl; lost = λ so. refl; resets = refl }
 
-same_links : (n m : ℕ) (d e : RosterView MailTold) (visits now : Option Visits) → now ≡ visits → e.slots ≡ d.slots → m ≡ n
+-- links stay where they are, whatever else the port tells
+abbrev pub LinksStay : RosterView MailTold → (before now : Option Visits) → Type 0
+LinksStay d before now = (n : ℕ) → IfSome before (HasLinks n d) → IfSome now (HasLinks n d)
+
+pub links_stay : (d : RosterView MailTold) (before now : Option Visits) → now ≡ before → LinksStay d before now
+links_stay d before now is n has = subst (λ (v : Option Visits). IfSome v (HasLinks n d)) (sym is) has
+
+same_links : (n m : ℕ) (d e : RosterView MailTold) (visits now : Option Visits) → LinksStay d visits now → e.slots ≡ d.slots → m ≡ n
     → IfSome visits (HasLinks n d) → IfSome now (HasLinks m e)
-same_links n m d e visits now is slots count was = subst (λ (v : Option Visits). IfSome v (HasLinks m e)) (sym is) (by visits was)
+same_links n m d e visits now stay slots count was = by now (stay n was)
   where
     by : (v : Option Visits) → IfSome v (HasLinks n d) → IfSome v (HasLinks m e)
     by None has = tt
@@ -71,7 +79,7 @@ module _ {D C : Type 0} (gives : C → ℕ → Type 0) where
     pub leaves : Leaves gives before now
     pub shared : now.shared.generation ≡ before.shared.generation
     pub log : now.log ≡ before.log
-    pub visits : now.visits ≡ before.visits
+    pub visits : LinksStay before.board before.visits now.visits
     pub slots : now.board.slots ≡ before.board.slots
     pub goes : seating.Goes more (view before.work before.board) (view now.work now.board)
     pub journal : (earlier : List Move) → seating.IsAt outset.limits outset.count earlier (view before.work before.board)
@@ -84,6 +92,7 @@ module _ {D C : Type 0} (gives : C → ℕ → Type 0) where
     pub quiet : AreQuiet entries
     pub none : TellNone more
     pub store : LeavesStore gives before now
+    pub asks : AsksOn gives more before now
 
   pub works_on : (outset : Outset D C) (more : List Move) (entries : List PmEvent) (before now : View D C) → WorksOn outset more entries before now
       → IsServing gives outset before → IsServing gives outset now
@@ -98,20 +107,20 @@ module _ {D C : Type 0} (gives : C → ℕ → Type 0) where
         slots = ap length by.slots;
       } in
       serves_on gives outset more entries before now was goes (by.goes outset.limits outset.count was.moves was.at) by.moments
-      (by.shared ∙ (was.generation ∙ sym by.generation)) by.quiet by.none by.store
+      (by.shared ∙ (was.generation ∙ sym by.generation)) by.quiet by.none by.store by.asks
 
   -- nothing was done
-  pub still_on : (outset : Outset D C) (before now : View D C) → Leaves gives before now → now.shared.generation ≡ before.shared.generation → now.log ≡ before.log
-      → now.visits ≡ before.visits → now.work.standing ≡ before.work.standing → now.work.told ≡ before.work.told → now.board ≡ before.board
+  pub still_on : (outset : Outset D C) (before now : View D C) → Leaves gives before now → LeavesOutside gives before now → now.shared.generation ≡ before.shared.generation → now.log ≡ before.log
+      → now.work.standing ≡ before.work.standing → now.work.told ≡ before.work.told → now.board ≡ before.board
       → LeavesStore gives before now → IsServing gives outset before → IsServing gives outset now
-  still_on outset before now leaves shared log visits standing told board store was =
+  still_on outset before now leaves outside shared log standing told board store was =
       let same : view now.work now.board ≡ view before.work before.board =
       ap (λ (w : AtWork). view w now.board) (same_work before.work now.work standing told) ∙ ap (λ (b : RosterView MailTold). view before.work b) board in
       works_on outset [] [] before now (record {
         leaves = leaves;
         shared = shared;
         log = log;
-        visits = visits;
+        visits = links_stay before.board before.visits now.visits outside.visits;
         slots = ap (λ (b : RosterView MailTold). b.slots) board;
         goes = λ limits count earlier is. subst (λ (ms : List Move). seating.IsAt limits count ms (view now.work now.board)) (sym (append-nil earlier))
             (subst (seating.IsAt limits count earlier) (sym same) is);
@@ -124,20 +133,21 @@ module _ {D C : Type 0} (gives : C → ℕ → Type 0) where
         quiet = quiet_none;
         none = λ k. refl;
         store = store;
+        asks = asks_nothing gives [] before now none_asked (leaves_asking gives before now outside) (owes_same before.work.standing now.work.standing standing);
       }) was
 
   -- the calls that tell of no child
   module _ (outset : Outset D C) (before now : View D C) (leaves : Leaves gives before now) (shared : now.shared.generation ≡ before.shared.generation)
-      (log : now.log ≡ before.log) (visits : now.visits ≡ before.visits) (store : LeavesStore gives before now) where
+      (log : now.log ≡ before.log) (visits : LinksStay before.board before.visits now.visits) (store : LeavesStore gives before now) where
     -- a call with these entries
     called_on : (making : Making) (more : List Move) → seating.Goes more (view before.work before.board) (view now.work now.board)
         → now.work.standing ≡ made making before.work.standing → now.board ≡ before.board
         → ((earlier : List Move) → journal_of outset.count (earlier ++ more) ≡ journal_of outset.count earlier ++ making.entries)
-        → AreGiven (gives outset.clock) making.entries → lines_of making.entries ≡ [] → accepted_in making.entries ≡ [] → AreQuiet making.entries → TellNone more
+        → AreGiven (gives outset.clock) making.entries → lines_of making.entries ≡ [] → accepted_in making.entries ≡ [] → AreQuiet making.entries → TellNone more → AsksOn gives more before now
         → (made making before.work.standing).generation ≡ before.work.standing.generation
         → Moments (gives outset.clock) (made making before.work.standing)
         → IsServing gives outset before → IsServing gives outset now
-    called_on making more goes standing board journal given unsaid alone quiet none generation moments was =
+    called_on making more goes standing board journal given unsaid alone quiet none asks generation moments was =
         works_on outset more making.entries before now (record {
           leaves = leaves;
           shared = shared;
@@ -154,40 +164,49 @@ module _ {D C : Type 0} (gives : C → ℕ → Type 0) where
           quiet = quiet;
           none = none;
           store = store;
+          asks = asks;
         }) was
 
-    pub ticked_on : (at : ℕ) → gives before.clock at → seating.Goes [] (view before.work before.board) (view now.work now.board)
+    -- nothing is asked for and no pid drawn, where none is owed
+    unasked : LeavesAsking gives before now → before.work.standing.owes_smart ≡ false → now.work.standing.owes_smart ≡ before.work.standing.owes_smart
+        → now.work.standing.last_pid ≡ before.work.standing.last_pid → AsksOn gives [] before now
+    unasked asking unowed still pid = asks_nothing gives [] before now none_asked asking (owes_none before.work.standing now.work.standing unowed (still ∙ unowed) pid)
+
+    pub ticked_on : (at : ℕ) → gives before.clock at → LeavesAsking gives before now → before.work.standing.owes_smart ≡ false → seating.Goes [] (view before.work before.board) (view now.work now.board)
         → now.work.standing ≡ made (ticking at before.work.standing) before.work.standing → now.board ≡ before.board
         → IsServing gives outset before → IsServing gives outset now
-    ticked_on at given goes standing board was =
+    ticked_on at given asking unowed goes standing board was =
         let its : gives outset.clock at = subst (λ (c : C). gives c at) was.holds.stays.clock given in
-        called_on (ticking at before.work.standing) [] goes standing board (none_more outset.count) tt refl refl quiet_none (λ k. refl) refl
+        called_on (ticking at before.work.standing) [] goes standing board (none_more outset.count) tt refl refl quiet_none (λ k. refl)
+        (unasked asking unowed (ap (λ (s : Standing). s.owes_smart) standing) (ap (λ (s : Standing). s.last_pid) standing)) refl
         (ticked_moments (gives outset.clock) at before.work.standing (later_given (gives outset.clock) at before.work.standing its was.moments) was.moments) was
 
-    pub turned_on : seating.Goes [] (view before.work before.board) (view now.work now.board)
+    pub turned_on : LeavesAsking gives before now → before.work.standing.owes_smart ≡ false → seating.Goes [] (view before.work before.board) (view now.work now.board)
         → now.work.standing ≡ made turning before.work.standing → now.board ≡ before.board
         → IsServing gives outset before → IsServing gives outset now
-    turned_on goes standing board was =
-        called_on turning [] goes standing board (none_more outset.count) tt refl refl quiet_none (λ k. refl) refl (turned_moments (gives outset.clock) before.work.standing was.moments) was
+    turned_on asking unowed goes standing board was =
+        called_on turning [] goes standing board (none_more outset.count) tt refl refl quiet_none (λ k. refl)
+        (unasked asking unowed (ap (λ (s : Standing). s.owes_smart) standing) (ap (λ (s : Standing). s.last_pid) standing)) refl (turned_moments (gives outset.clock) before.work.standing was.moments) was
 
     -- a shutdown is asked for, by a move that is for that
     pub asked_on : (how : Mode) (at : ℕ) (move : Move) → gives before.clock at
-        → ((s : Seating) → entries_by s move ≡ (asking how at before.work.standing).entries) → TellNone (move ∷ [])
+        → ((s : Seating) → entries_by s move ≡ (asking how at before.work.standing).entries) → TellNone (move ∷ []) → AsksOn gives (move ∷ []) before now
         → seating.Goes (move ∷ []) (view before.work before.board) (view now.work now.board)
         → now.work.standing ≡ made (asking how at before.work.standing) before.work.standing → now.board ≡ before.board
         → IsServing gives outset before → IsServing gives outset now
-    asked_on how at move given entries none goes standing board was =
+    asked_on how at move given entries none asks goes standing board was =
         let its : gives outset.clock at = subst (λ (c : C). gives c at) was.holds.stays.clock given in
         let late = later_given (gives outset.clock) at before.work.standing its was.moments in
         called_on (asking how at before.work.standing) (move ∷ []) goes standing board
         (λ earlier. journal-more outset.count earlier move ∙ ap (λ (es : List PmEvent). journal_of outset.count earlier ++ es) (entries (seating_of outset.count earlier)))
-        (late, tt) refl refl (record { since = λ so. refl; lost = λ so. refl; resets = refl }) none refl (asked_moments (gives outset.clock) how at before.work.standing late) was
+        (late, tt) refl refl (record { since = λ so. refl; lost = λ so. refl; resets = refl }) none asks refl (asked_moments (gives outset.clock) how at before.work.standing late) was
 
     -- a child is asked to be killed, where it is there
-    pub killed_on : (line : List ℕ) (pid at : ℕ) → seating.Goes (Reads line (Kill pid) at ∷ []) (view before.work before.board) (view now.work now.board)
+    pub killed_on : (line : List ℕ) (pid at : ℕ) → AsksOn gives (Reads line (Kill pid) at ∷ []) before now
+        → seating.Goes (Reads line (Kill pid) at ∷ []) (view before.work before.board) (view now.work now.board)
         → now.work.standing ≡ before.work.standing → now.board.slots ≡ before.board.slots
         → IsServing gives outset before → IsServing gives outset now
-    killed_on line pid at goes standing slots was =
+    killed_on line pid at asks goes standing slots was =
         let seats = seats_of before.board in
         works_on outset (Reads line (Kill pid) at ∷ []) (asked_by (Kill pid) at seats) before now (record {
           leaves = leaves;
@@ -207,6 +226,7 @@ module _ {D C : Type 0} (gives : C → ℕ → Type 0) where
           quiet = quiet_by (is_seated pid seats);
           none = λ k. refl;
           store = store;
+          asks = asks;
         }) was
       where
         quiet_by : (b : Bool) → AreQuiet (if b then entry.KillAsked pid ∷ [] else [])
@@ -224,3 +244,30 @@ module _ {D C : Type 0} (gives : C → ℕ → Type 0) where
         alone_by : (b : Bool) → accepted_in (if b then entry.KillAsked pid ∷ [] else []) ≡ []
         alone_by true = refl
         alone_by false = refl
+
+    -- a line is read that asks for nothing
+    pub unheeded_on : (line : List ℕ) (asks : Request) (at : ℕ) → asked_by asks at (seats_of before.board) ≡ [] → AsksOn gives (Reads line asks at ∷ []) before now
+        → seating.Goes (Reads line asks at ∷ []) (view before.work before.board) (view now.work now.board)
+        → now.work.standing ≡ before.work.standing → now.board.slots ≡ before.board.slots
+        → IsServing gives outset before → IsServing gives outset now
+    unheeded_on line request at nothing asks goes standing slots was =
+        works_on outset (Reads line request at ∷ []) [] before now (record {
+          leaves = leaves;
+          shared = shared;
+          log = log;
+          visits = visits;
+          slots = slots;
+          goes = goes;
+          journal = λ earlier is. journal-more outset.count earlier (Reads line request at)
+              ∙ ap (λ (es : List PmEvent). journal_of outset.count earlier ++ es)
+              (ap (λ (x : List (Option Enrolled)). asked_by request at x) (sym (is.seated.at_hand ∙ ap (λ (s : Seating). s.seats) is.seated.is_that)) ∙ nothing);
+          given = tt;
+          unsaid = refl;
+          alone = refl;
+          moments = subst (Moments (gives outset.clock)) (sym standing) was.moments;
+          generation = ap (λ (s : Standing). s.generation) standing;
+          quiet = quiet_none;
+          none = λ k. refl;
+          store = store;
+          asks = asks;
+        }) was

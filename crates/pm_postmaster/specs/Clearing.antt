@@ -9,6 +9,7 @@ use Rattle.pm_seating.specs.Final.{IsEndingAt, KeepsEnding}
 use Rattle.pm_seating.specs.Seating.{Move}
 use Rattle.pm_worker.specs.declared.mail.MailTold.{MailTold}
 use Rattle.pm_postmaster.specs.Links.{HasLinks}
+use Rattle.pm_postmaster.specs.Requests.{ended_in}
 
 -- behind these moves nothing is noted any more, and the links that are out are those of children
 pub record MayClear (d : RosterView MailTold) (visits : Option Visits) : Type 0 where
@@ -24,4 +25,5 @@ pub record Clears (table_before : TableId) (before : RosterView MailTold) (visit
   pub slots : length now.slots ≡ length before.slots
   pub ending : KeepsEnding before now
   pub links : (accepted : ℕ) → IfSome visits_before (HasLinks accepted before) → IfSome visits_now (HasLinks accepted now)
+  pub ended : ended_in visits_now ≡ ended_in visits_before
   pub past : (k : ℕ) → (others : List (PastChild MailTold)) × ((slot_at now k).past ≡ (slot_at before k).past ++ others)

@@ -1,7 +1,9 @@
 pub mod View
 pub mod Links
+pub mod Requests
 pub mod Serving
 pub mod Acting
+pub mod Asking
 pub mod Looking
 pub mod Accepting
 pub mod Clearing

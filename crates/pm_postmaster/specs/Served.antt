@@ -27,7 +27,8 @@ use Rattle.pm_shared.specs.declared.views.Noted.{Noted}
 use Rattle.pm_supervisor.specs.declared.Limits.{Limits}
 use Rattle.pm_worker.specs.declared.mail.MailTold.{MailTold}
 use Rattle.pm_postmaster.specs.Outside.{ServeView}
-use Rattle.pm_postmaster.specs.Serving.{IsCausedBehind, IsEndBehind}
+use Rattle.pm_postmaster.specs.Requests.{IsAsked, ended_in}
+use Rattle.pm_postmaster.specs.Serving.{IsCausedBehind, IsEndBehind, last_pid_in}
 
 -- how many slots the board of a server has
 abbrev pub slots_by : Limits → ℕ
@@ -67,11 +68,13 @@ pub record IsServed (conf : Conf) (end : ServerEnd) (before now : ServeView) : T
   pub remains : Remains before.outside.disk now.outside.disk now.outside.book book
   -- it ended as its machine did, or for want of memory or of a generation
   pub ends : IsEndBehind conf.limits end (journal_of (slots_by conf.limits) moves)
-  pub cause : IsCausedBehind end (slot_at board 0).past
+  pub cause : IsCausedBehind end moves (slot_at board 0).past
   -- the store's generations are those that the journal begins, each behind the children that were lost before it
   pub renewals : RenewsAsTold (journal_of (slots_by conf.limits) moves) own
   -- the ends of redo are those that startup children told
   pub redos : RedosAreThose moves board
+  -- its requests are those of the lines that it read, of the port's end and of the last pid
+  pub asked : IsAsked end moves now.lines (ended_in now.outside.visits) (last_pid_in conf.limits (journal_of (slots_by conf.limits) moves))
   -- each link that was given came back once
   pub links : IfSome now.outside.visits (LinksCameBack (journal_of (slots_by conf.limits) moves))
   pub logged :

@@ -1,5 +1,5 @@
 -- What holds of a server at every moment.
-use Rattle.std.specs.Prelude.{◌≡◌, ◌⊎◌, ℕ, ◌≤◌, Bool, List, [], ◌∷◌, ◌++◌, Option, Some, IfSome, Result, Ok, Err, length, is_some}
+use Rattle.std.specs.Prelude.{◌≡◌, ◌⊎◌, ℕ, ◌≤◌, Bool, List, [], ◌∷◌, ◌++◌, Option, Some, IfSome, Result, Ok, Err, length, map, is_some}
 use Rattle.std.specs.List.{AllByRecursion, flat_map}
 use Rattle.atomic_table.specs.Seated.{TableId}
 use Rattle.pm_admit.specs.declared.Cac.{Cac}
@@ -18,7 +18,8 @@ use Rattle.pm_query.specs.declared.book.BookEntry.TheVariants as noted
 use Rattle.pm_seating.specs.Chained.{accepted_in}
 use Rattle.pm_seating.specs.Final.{IsEndingAt}
 use Rattle.pm_seating.specs.Runs.{IsOnBoard}
-use Rattle.pm_seating.specs.Seating.{Move, journal_of}
+use Rattle.pm_seating.specs.Board.{ended_of}
+use Rattle.pm_seating.specs.Seating.{Move, ended_at, journal_of}
 use Rattle.pm_seating.specs.Standing.{IsAt, view}
 use Rattle.pm_server.specs.declared.end.ServerEnd.{ServerEnd}
 use Rattle.pm_server.specs.declared.end.ServerEnd.TheVariants.{Abnormal}
@@ -42,6 +43,7 @@ use Rattle.pm_state.specs.Journal.{IsLegal, all_replayed, replay_begun}
 use Rattle.pm_supervisor.specs.declared.Limits.{Limits}
 use Rattle.pm_worker.specs.declared.mail.MailTold.{MailTold}
 use Rattle.pm_postmaster.specs.Links.{HasLinks}
+use Rattle.pm_postmaster.specs.Requests.{AsksSoFar, IsAsked, ended_in}
 use Rattle.pm_postmaster.specs.View.{View}
 
 -- How a server began: by what limits, on what board of so many slots, with what side of its store, log and clock, and whether its
@@ -111,11 +113,21 @@ abbrev pub IsReason : StartWhy → Came → Type 0
 IsReason why.Killed came = came.status ≡ Signal 9
 IsReason (why.Redo fault) came = came.fault ≡ Some (RedoNo fault)
 
--- where no startup child brought the data up to date, the last one of its slot by then came out for the reason that is told
-abbrev pub IsCausedBehind : ServerEnd → List (PastChild MailTold) → Type 0
-IsCausedBehind (Abnormal (StartupFailed reason)) past =
-    (front others : List (PastChild MailTold)) × (past ≡ front ++ others) × (came : Came) × (came_of front ≡ Some came) × IsReason reason came
-IsCausedBehind end past = Unit {0}
+-- The last startup child came out for this reason, of the children of its slot whose ends the moves tell of. The others were released
+-- behind the last entry.
+pub record FailsFor (reason : StartWhy) (moves : List Move) (past : List (PastChild MailTold)) : Type 0 where
+  pub front : List (PastChild MailTold)
+  pub others : List (PastChild MailTold)
+  pub past_is : past ≡ front ++ others
+  pub told : map ended_of front ≡ ended_at 0 moves
+  pub came : Came
+  pub came_is : came_of front ≡ Some came
+  pub reason_is : IsReason reason came
+
+-- where no startup child brought the data up to date, the last one came out for the reason that is told
+abbrev pub IsCausedBehind : ServerEnd → List Move → List (PastChild MailTold) → Type 0
+IsCausedBehind (Abnormal (StartupFailed reason)) moves past = FailsFor reason moves past
+IsCausedBehind end moves past = Unit {0}
 
 module _ {D C : Type 0} (gives : C → ℕ → Type 0) where
   -- behind these moves, while entries are noted and behind the last one
@@ -137,6 +149,7 @@ module _ {D C : Type 0} (gives : C → ℕ → Type 0) where
     pub renews : Renews (journal_of outset.count moves) v.lost v.shared.own
     pub redos : TellsRedos moves v.board
     pub came : v.came ≡ came_of (slot_at v.board 0).past
+    pub asks : AsksSoFar moves v.lines (ended_in v.visits) v.listens v.work.standing
 
   -- behind the last entry, of a server that ends so
   pub record HasStopped (outset : Outset D C) (end : ServerEnd) (v : View D C) : Type 0 where
@@ -148,7 +161,8 @@ module _ {D C : Type 0} (gives : C → ℕ → Type 0) where
     pub told : IfSome v.work.told (λ entries. entries ≡ journal_of outset.count moves)
     pub holds : Holds outset moves v
     pub ends : IsEndBehind outset.limits end (journal_of outset.count moves)
-    pub cause : IsCausedBehind end (slot_at v.board 0).past
+    pub cause : IsCausedBehind end moves (slot_at v.board 0).past
+    pub asked : IsAsked end moves v.lines (ended_in v.visits) (last_pid_in outset.limits (journal_of outset.count moves))
     pub renews : RenewsAsTold (journal_of outset.count moves) v.shared.own
     pub redos : RedosAreThose moves v.board
 

@@ -76,6 +76,7 @@ impl<
         requires alive { IsAlive C.gives (view_of self.old) }
         requires idle { IsIdle (view_of self.old).work.standing }
         requires settled { IsSettled (view_of self.old).work.standing }
+        requires listens { self.old.listens ≡ true }
         requires may { MayTake (view_of self.old).work.standing }
         requires room { HasRoom 1 self.old.desk.supervision }
         requires decision { decision ≡ decision_on (view_of self.old).work.standing }

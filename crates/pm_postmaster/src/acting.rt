@@ -128,6 +128,7 @@ impl<
     fn ask_owed(&mut self) -> Result<(), ServerEnd>
         requires alive { IsAlive C.gives (view_of self.old) }
         requires rests { IsAtRest (view_of self.old).work.standing }
+        requires owed { (view_of self.old).work.standing.owes_smart ≡ true }
         ensures goes { Goes C.gives result (view_of self.old) (view_of self.new) }
         ensures ended { OnOk result ((view_of self.new).work.standing.ended ≡ false) }
         ensures reaped { (n : ℕ) → AreReaped n (view_of self.old).board

@@ -1,7 +1,10 @@
 //! What the operator asks for.
 ghost use Rattle.std.specs.Prelude.{◌≡◌, ◌+◌, ◌≤◌, ℕ, List, false, IfOk, OnOk, take, option_map};
 ghost use Rattle.pm_acts.specs.Acts.{IsIdle};
+ghost use Rattle.pm_requests.specs.Requests.{meant};
+ghost use Rattle.pm_seating.specs.Seating.{Kill};
 ghost use Rattle.pm_seating.specs.Sitting.{AreReaped};
+ghost use Rattle.pm_postmaster.specs.Asking.{HasRead, Heeds};
 ghost use Rattle.pm_postmaster.specs.Serving.{Goes, IsAlive};
 ghost use Rattle.pm_postmaster.specs.View.{view_of};
 
@@ -27,9 +30,9 @@ impl<
 > Server<L, P, K, O, D, C, J, B> {
     // Kills a child, where it is there.
     fn kill(&mut self, pid: u32) -> Result<(), ServerEnd>
-        requires alive { IsAlive C.gives (view_of self.old) }
+        requires read { HasRead C.gives (Kill pid) (view_of self.old) }
         requires idle { IsIdle (view_of self.old).work.standing }
-        ensures goes { Goes C.gives result (view_of self.old) (view_of self.new) }
+        ensures heeds { Heeds C.gives (Kill pid) result (view_of self.old) (view_of self.new) }
         ensures ended { OnOk result ((view_of self.new).work.standing.ended ≡ false) }
         ensures reaped { (n : ℕ) → AreReaped n (view_of self.old).board
             → AreReaped n (view_of self.new).board }
@@ -46,9 +49,9 @@ impl<
 
     // Does what a line asks for: a shutdown is asked for, or a child is killed, where it is there.
     fn heed(&mut self, request: Request) -> Result<(), ServerEnd>
-        requires alive { IsAlive C.gives (view_of self.old) }
+        requires read { HasRead C.gives (meant request) (view_of self.old) }
         requires idle { IsIdle (view_of self.old).work.standing }
-        ensures goes { Goes C.gives result (view_of self.old) (view_of self.new) }
+        ensures heeds { Heeds C.gives (meant request) result (view_of self.old) (view_of self.new) }
         ensures ended { OnOk result ((view_of self.new).work.standing.ended ≡ false) }
         ensures reaped { (n : ℕ) → AreReaped n (view_of self.old).board
             → AreReaped n (view_of self.new).board }

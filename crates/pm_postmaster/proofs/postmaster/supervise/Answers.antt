@@ -22,7 +22,7 @@ use Rattle.pm_worker.specs.declared.mail.MailTold.{MailTold}
 use Rattle.pm_postmaster.specs.Served.{slots_by, unmade_by}
 use Rattle.pm_postmaster.proofs.Beginning.{begun, begun_alive}
 use Rattle.pm_postmaster.proofs.Finished.{adds_new, given_back, logged_whole, told_at}
-use Rattle.pm_postmaster.proofs.Ran.{board_is, cause, clears_at, last_at, links, may_clear_at, may_close, may_close_at, once, redos}
+use Rattle.pm_postmaster.proofs.Ran.{asked, board_is, cause, clears_at, last_at, links, may_clear_at, may_close, may_close_at, once, redos}
 use Rattle.pm_postmaster.proofs.postmaster.supervise.Goals as goal
 
 -- why no pool was made
@@ -63,7 +63,7 @@ run-end-requires-clause-alive g c =
     }))
     (ap (λ s. standing s) c.new-desk.ensures.supervision ∙ c.new-supervision.ensures.standing)
     (ap (λ r. r.knows) c.new-desk.ensures.roster ∙ c.in-Ok.ensures.roster)
-    (ap (λ l. l.is_cut) c.new-log.ensures) c.requires.port c.in-Ok.ensures.shared.generation c.in-Ok.ensures.shared.own c.new-lost.ensures.items refl
+    (ap (λ l. l.is_cut) c.new-log.ensures) c.requires.port c.in-Ok.ensures.shared.generation c.in-Ok.ensures.shared.own c.new-lost.ensures.items refl c.requires.console
 
 -- ---- its end
 
@@ -81,7 +81,7 @@ clear-requires g c =
     }))
     (ap (λ s. standing s) c.new-desk.ensures.supervision ∙ c.new-supervision.ensures.standing)
     (ap (λ r. r.knows) c.new-desk.ensures.roster ∙ c.in-Ok.ensures.roster)
-    (ap (λ l. l.is_cut) c.new-log.ensures) c.requires.port c.in-Ok.ensures.shared.generation c.in-Ok.ensures.shared.own c.new-lost.ensures.items refl) in
+    (ap (λ l. l.is_cut) c.new-log.ensures) c.requires.port c.in-Ok.ensures.shared.generation c.in-Ok.ensures.shared.own c.new-lost.ensures.items refl c.requires.console) in
     record {
       may = may_clear_at _ _ _ (ap (λ r. r.knows) c.into_parts-supervision.ensures.roster)
           (record { count = (slots_by c.args.conf.now.limits); moves = stopped.moves; ending = stopped.ending; accepted = _; links = stopped.holds.links });
@@ -101,7 +101,7 @@ close-store-requires-clause-pool g c =
     }))
     (ap (λ s. standing s) c.new-desk.ensures.supervision ∙ c.new-supervision.ensures.standing)
     (ap (λ r. r.knows) c.new-desk.ensures.roster ∙ c.in-Ok.ensures.roster)
-    (ap (λ l. l.is_cut) c.new-log.ensures) c.requires.port c.in-Ok.ensures.shared.generation c.in-Ok.ensures.shared.own c.new-lost.ensures.items refl) in
+    (ap (λ l. l.is_cut) c.new-log.ensures) c.requires.port c.in-Ok.ensures.shared.generation c.in-Ok.ensures.shared.own c.new-lost.ensures.items refl c.requires.console) in
     let parts = c.into_parts-supervision.ensures.roster in
     let clears = clears_at _ _ _ _ _ _ _ _ (ap (λ r. r.table) parts) (ap (λ r. r.knows) parts) c.clear.ensures.clears in
     pool_at g.C.Clock.gives c.in-Ok.made.pool _ _ _ _ (clears.table ∙ (stopped.holds.stays.table ∙ ap (λ r. r.table) c.new-desk.ensures.roster))
@@ -121,7 +121,7 @@ close-store-requires-clause-board g c =
     }))
     (ap (λ s. standing s) c.new-desk.ensures.supervision ∙ c.new-supervision.ensures.standing)
     (ap (λ r. r.knows) c.new-desk.ensures.roster ∙ c.in-Ok.ensures.roster)
-    (ap (λ l. l.is_cut) c.new-log.ensures) c.requires.port c.in-Ok.ensures.shared.generation c.in-Ok.ensures.shared.own c.new-lost.ensures.items refl) in
+    (ap (λ l. l.is_cut) c.new-log.ensures) c.requires.port c.in-Ok.ensures.shared.generation c.in-Ok.ensures.shared.own c.new-lost.ensures.items refl c.requires.console) in
     let parts = c.into_parts-supervision.ensures.roster in
     let clears = clears_at _ _ _ _ _ _ _ _ (ap (λ r. r.table) parts) (ap (λ r. r.knows) parts) c.clear.ensures.clears in
     may_close_at _ _ _ (ap slots_of c.in-Ok.ensures.terms.0) (may_close g.C.Clock.gives _ _ _ stopped c.laws.ensures.nobody _ _ _ clears c.clear.ensures.gone)
@@ -140,7 +140,7 @@ close-store-requires-clause-shared g c =
     }))
     (ap (λ s. standing s) c.new-desk.ensures.supervision ∙ c.new-supervision.ensures.standing)
     (ap (λ r. r.knows) c.new-desk.ensures.roster ∙ c.in-Ok.ensures.roster)
-    (ap (λ l. l.is_cut) c.new-log.ensures) c.requires.port c.in-Ok.ensures.shared.generation c.in-Ok.ensures.shared.own c.new-lost.ensures.items refl) in
+    (ap (λ l. l.is_cut) c.new-log.ensures) c.requires.port c.in-Ok.ensures.shared.generation c.in-Ok.ensures.shared.own c.new-lost.ensures.items refl c.requires.console) in
     let stays = stopped.holds.stays in
     (stays.tokens ∙ (c.in-Ok.ensures.shared.tokens_are ∙ ap slots_of (sym c.in-Ok.ensures.terms.0)), stays.joined ∙ c.in-Ok.ensures.shared.none_joined)
 
@@ -158,7 +158,7 @@ returns-in-Ok-clause-run g c =
     }))
     (ap (λ s. standing s) c.new-desk.ensures.supervision ∙ c.new-supervision.ensures.standing)
     (ap (λ r. r.knows) c.new-desk.ensures.roster ∙ c.in-Ok.ensures.roster)
-    (ap (λ l. l.is_cut) c.new-log.ensures) c.requires.port c.in-Ok.ensures.shared.generation c.in-Ok.ensures.shared.own c.new-lost.ensures.items refl) in
+    (ap (λ l. l.is_cut) c.new-log.ensures) c.requires.port c.in-Ok.ensures.shared.generation c.in-Ok.ensures.shared.own c.new-lost.ensures.items refl c.requires.console) in
     let parts = c.into_parts-supervision.ensures.roster in
     let clears = clears_at _ _ _ _ _ _ _ _ (ap (λ r. r.table) parts) (ap (λ r. r.knows) parts) c.clear.ensures.clears in
     let stays = stopped.holds.stays in
@@ -187,6 +187,7 @@ returns-in-Ok-clause-run g c =
       cause = cause g.C.Clock.gives _ _ _ stopped c.laws.ensures.nobody _ _ _ clears c.clear.ensures.gone _ _ _ _ c.close-store.ensures.board last left;
       renewals = stopped.renews;
       redos = redos g.C.Clock.gives _ _ _ stopped c.laws.ensures.nobody _ _ _ clears c.clear.ensures.gone _ _ _ _ c.close-store.ensures.board last left;
+      asked = asked g.C.Clock.gives _ _ _ stopped c.laws.ensures.nobody _ _ _ clears c.clear.ensures.gone _ _ _ _ c.close-store.ensures.board last left;
       links = links g.C.Clock.gives _ _ _ stopped c.laws.ensures.nobody _ _ _ clears c.clear.ensures.gone _ _ _ _ c.close-store.ensures.board last left;
       logged = logged_whole _ _ _ _ _ _ _ c.new-log.ensures stopped.holds.said c.ended-sink.ensures;
     })
@@ -205,7 +206,7 @@ returns-in-Ok-clause-rest g c =
     }))
     (ap (λ s. standing s) c.new-desk.ensures.supervision ∙ c.new-supervision.ensures.standing)
     (ap (λ r. r.knows) c.new-desk.ensures.roster ∙ c.in-Ok.ensures.roster)
-    (ap (λ l. l.is_cut) c.new-log.ensures) c.requires.port c.in-Ok.ensures.shared.generation c.in-Ok.ensures.shared.own c.new-lost.ensures.items refl) in
+    (ap (λ l. l.is_cut) c.new-log.ensures) c.requires.port c.in-Ok.ensures.shared.generation c.in-Ok.ensures.shared.own c.new-lost.ensures.items refl c.requires.console) in
     (stopped.holds.stays.clock, refl)
 
 -- ---- no pool was made

@@ -17,12 +17,12 @@ returns-then-is_err-clause-goes g c =
       shared = refl;
       clock = refl;
       log = refl;
-      visits = refl;
       lost = refl;
       came = refl;
       tells = ap (λ t. is_some t) c.make_room.ensures.told;
     } in
     short g.C.Clock.gives before _ room c.laws.ensures.may_end c.laws.ensures.journal c.make_room.ensures.standing c.make_room.ensures.told (ap (λ r. r.knows) c.make_room.ensures.roster)
+    (record { visits = refl; lines = refl; listens = refl })
 
 pub ask_port-requires-clause-alive : goal.ask_port-requires-clause-alive
 ask_port-requires-clause-alive g c =
@@ -32,12 +32,11 @@ ask_port-requires-clause-alive g c =
       shared = refl;
       clock = refl;
       log = refl;
-      visits = refl;
       lost = refl;
       came = refl;
       tells = ap (λ t. is_some t) c.make_room.ensures.told;
     } in
-    let keeps = still g.C.Clock.gives before _ room c.make_room.ensures.standing c.make_room.ensures.told (ap (λ r. r.knows) c.make_room.ensures.roster) in
+    let keeps = still g.C.Clock.gives before _ room (record { visits = refl; lines = refl; listens = refl }) c.make_room.ensures.standing c.make_room.ensures.told (ap (λ r. r.knows) c.make_room.ensures.roster) in
     alive_on g.C.Clock.gives _ _ keeps c.requires.alive
 
 pub settle-requires-clause-alive : goal.settle-requires-clause-alive
@@ -48,12 +47,11 @@ settle-requires-clause-alive g c =
       shared = refl;
       clock = refl;
       log = refl;
-      visits = refl;
       lost = refl;
       came = refl;
       tells = ap (λ t. is_some t) c.make_room.ensures.told;
     } in
-    let keeps = still g.C.Clock.gives before _ room c.make_room.ensures.standing c.make_room.ensures.told (ap (λ r. r.knows) c.make_room.ensures.roster) in
+    let keeps = still g.C.Clock.gives before _ room (record { visits = refl; lines = refl; listens = refl }) c.make_room.ensures.standing c.make_room.ensures.told (ap (λ r. r.knows) c.make_room.ensures.roster) in
     alive_on g.C.Clock.gives _ _ c.in-Ok-true.ensures.goes (alive_on g.C.Clock.gives _ _ keeps c.requires.alive)
 
 pub returns-in-Ok-false-clause-goes : goal.returns-in-Ok-false-clause-goes
@@ -64,12 +62,11 @@ returns-in-Ok-false-clause-goes g c =
       shared = refl;
       clock = refl;
       log = refl;
-      visits = refl;
       lost = refl;
       came = refl;
       tells = ap (λ t. is_some t) c.make_room.ensures.told;
     } in
-    let keeps = still g.C.Clock.gives before _ room c.make_room.ensures.standing c.make_room.ensures.told (ap (λ r. r.knows) c.make_room.ensures.roster) in
+    let keeps = still g.C.Clock.gives before _ room (record { visits = refl; lines = refl; listens = refl }) c.make_room.ensures.standing c.make_room.ensures.told (ap (λ r. r.knows) c.make_room.ensures.roster) in
     λ outset was. c.in-Ok-false.ensures.goes outset (keeps outset was)
 
 pub returns-in-Err-clause-goes : goal.returns-in-Err-clause-goes
@@ -80,12 +77,11 @@ returns-in-Err-clause-goes g c =
       shared = refl;
       clock = refl;
       log = refl;
-      visits = refl;
       lost = refl;
       came = refl;
       tells = ap (λ t. is_some t) c.make_room.ensures.told;
     } in
-    let keeps = still g.C.Clock.gives before _ room c.make_room.ensures.standing c.make_room.ensures.told (ap (λ r. r.knows) c.make_room.ensures.roster) in
+    let keeps = still g.C.Clock.gives before _ room (record { visits = refl; lines = refl; listens = refl }) c.make_room.ensures.standing c.make_room.ensures.told (ap (λ r. r.knows) c.make_room.ensures.roster) in
     λ outset was. c.in-Err.ensures.goes outset (keeps outset was)
 
 pub returns-in-Ok-true-clause-goes : goal.returns-in-Ok-true-clause-goes
@@ -96,10 +92,9 @@ returns-in-Ok-true-clause-goes g c =
       shared = refl;
       clock = refl;
       log = refl;
-      visits = refl;
       lost = refl;
       came = refl;
       tells = ap (λ t. is_some t) c.make_room.ensures.told;
     } in
-    let keeps = still g.C.Clock.gives before _ room c.make_room.ensures.standing c.make_room.ensures.told (ap (λ r. r.knows) c.make_room.ensures.roster) in
+    let keeps = still g.C.Clock.gives before _ room (record { visits = refl; lines = refl; listens = refl }) c.make_room.ensures.standing c.make_room.ensures.told (ap (λ r. r.knows) c.make_room.ensures.roster) in
     goes_on g.C.Clock.gives c.settle.result before _ _ (both_done g.C.Clock.gives _ _ _ keeps c.in-Ok-true.ensures.goes) c.settle.ensures.goes

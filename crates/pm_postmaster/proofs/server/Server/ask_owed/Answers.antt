@@ -1,23 +1,28 @@
-use Rattle.std.proofs.Common.{◌≡◌, refl, subst, sym}
+use Rattle.std.proofs.Common.{◌≡◌, ap, refl, subst, sym}
 use Rattle.std.specs.Prelude.{false}
 use Rattle.pm_modes.specs.declared.Mode.TheVariants.{Smart}
-use Rattle.pm_journal.specs.Standing.{later}
+use Rattle.pm_journal.specs.Standing.{Standing, later}
+use Rattle.pm_journal.specs.Supervision.{at_work}
 use Rattle.pm_seating.specs.Seating.{PidsEnd}
 use Rattle.pm_seating.specs.Sitting.{AreReaped}
 use Rattle.pm_postmaster.specs.View.{view_of}
-use Rattle.pm_postmaster.proofs.Calling.{IsBeside, leaves, leaves_store, same_past, short}
+use Rattle.pm_postmaster.proofs.Calling.{IsBeside, asks_pids, leaves, leaves_store, same_past, short_owed}
+use Rattle.pm_postmaster.proofs.Asked.{owes_paid}
 use Rattle.pm_postmaster.proofs.Steps.{asked_on}
 use Rattle.pm_postmaster.proofs.server.Server.ask_owed.Goals as goal
 
 pub returns-in-Ok-clause-goes : goal.returns-in-Ok-clause-goes
 returns-in-Ok-clause-goes g c =
     let before = view_of c.args.self.now in
-    let beside : IsBeside g.C.Clock.gives before _ = record { table = c.ask.ensures.table; shared = refl; clock = refl; log = refl; visits = refl; lost = refl; came = refl; tells = c.ask.ensures.tells } in
+    let now = record before { work = at_work c.ask.new.self.supervision; table = c.ask.new.self.roster.table; board = c.ask.new.self.roster.knows; listens = false; } in
+    let beside : IsBeside g.C.Clock.gives before now = record { table = c.ask.ensures.table; shared = refl; clock = refl; log = refl; lost = refl; came = refl; tells = c.ask.ensures.tells } in
     let at = later c.now.result before.work.standing in
     let made = c.in-Ok.ensures.asks (PidsEnd at) (refl, refl) in
     λ outset was.
-    asked_on g.C.Clock.gives outset before _ (leaves g.C.Clock.gives _ _ beside) refl refl refl (leaves_store g.C.Clock.gives _ _ beside (same_past g.C.Clock.gives _ _ beside made.2))
-    Smart c.now.result (PidsEnd at) c.now.ensures (λ s. refl) (λ k. refl) made.0 made.1 made.2 was
+    asked_on g.C.Clock.gives outset before now (leaves g.C.Clock.gives _ _ beside) refl refl (λ n has. has) (leaves_store g.C.Clock.gives _ _ beside (same_past g.C.Clock.gives _ _ beside made.2))
+    Smart c.now.result (PidsEnd at) c.now.ensures (λ s. refl) (λ k. refl)
+    (asks_pids g.C.Clock.gives now before at refl refl refl (owes_paid _ _ c.requires.owed (ap (λ (s : Standing). s.owes_smart) made.1) (ap (λ (s : Standing). s.last_pid) made.1)))
+    made.0 made.1 made.2 was
 
 pub returns-in-Ok-clause-ended : goal.returns-in-Ok-clause-ended
 returns-in-Ok-clause-ended g c =
@@ -32,9 +37,9 @@ returns-in-Ok-clause-reaped g c = λ n were.
 pub returns-in-Err-clause-goes : goal.returns-in-Err-clause-goes
 returns-in-Err-clause-goes g c =
     let before = view_of c.args.self.now in
-    let beside : IsBeside g.C.Clock.gives before _ = record { table = c.ask.ensures.table; shared = refl; clock = refl; log = refl; visits = refl; lost = refl; came = refl; tells = c.ask.ensures.tells } in
+    let beside : IsBeside g.C.Clock.gives before _ = record { table = c.ask.ensures.table; shared = refl; clock = refl; log = refl; lost = refl; came = refl; tells = c.ask.ensures.tells } in
     let made = c.in-Err.ensures.asks (PidsEnd (later c.now.result before.work.standing)) (refl, refl) in
-    short g.C.Clock.gives before _ beside c.laws.ensures.may_end c.laws.ensures.journal made.0 made.1 made.2
+    short_owed g.C.Clock.gives before _ beside c.laws.ensures.may_end c.laws.ensures.journal made.0 made.1 made.2 refl refl
 
 pub returns-in-Err-clause-reaped : goal.returns-in-Err-clause-reaped
 returns-in-Err-clause-reaped g c = λ n were.

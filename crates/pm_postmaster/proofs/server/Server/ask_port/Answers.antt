@@ -1,16 +1,21 @@
-use Rattle.std.proofs.Common.{◌≡◌, ◌+◌, Option, length, refl, subst, sym}
-use Rattle.std.specs.Prelude.{IfSome, false}
-use Rattle.pm_journal.specs.Standing.{later}
+use Rattle.std.proofs.Common.{◌≡◌, ◌∙◌, ℕ, ◌+◌, Option, None, Some, ap, length, refl, subst, sym}
+use Rattle.std.specs.Prelude.{Bool, IfSome, false, option_map, true}
+use Rattle.pm_board.specs.declared.views.RosterView.{RosterView}
+use Rattle.pm_journal.specs.Standing.{Standing, later}
 use Rattle.pm_modes.specs.declared.Mode.TheVariants.{Smart}
-use Rattle.pm_outside.specs.Visits.{Visits}
+use Rattle.pm_outside.specs.Visits.{Visits, after_accept}
 use Rattle.pm_outside.specs.declared.port.Accepted.TheVariants as answers
+use Rattle.pm_journal.specs.Supervision.{at_work}
 use Rattle.pm_seating.specs.Seating.{PortEnds}
+use Rattle.pm_worker.specs.declared.mail.MailTold.{MailTold}
 use Rattle.pm_postmaster.specs.Links.{HasLinks}
+use Rattle.pm_postmaster.specs.Requests.{ended_in}
 use Rattle.pm_postmaster.specs.View.{view_of}
-use Rattle.pm_postmaster.proofs.Admitted.{admitted_on, no_link, unlinked, unused_at}
-use Rattle.pm_postmaster.proofs.Calling.{IsBeside, leaves, leaves_store, same_past, short}
+use Rattle.pm_postmaster.proofs.Admitted.{admitted_on, no_link, unused_at}
+use Rattle.pm_postmaster.proofs.Asked.{owes_none}
+use Rattle.pm_postmaster.proofs.Calling.{IsBeside, asks_end, leaves, leaves_store, same_past, short_end, still}
 use Rattle.pm_postmaster.proofs.Cleared.{near_slots}
-use Rattle.pm_postmaster.proofs.Steps.{asked_on}
+use Rattle.pm_postmaster.proofs.Steps.{LinksStay, asked_on}
 use Rattle.pm_postmaster.proofs.server.Server.ask_port.Goals as goal
 
 pub returns-in-Link-clause-goes : goal.returns-in-Link-clause-goes
@@ -23,20 +28,44 @@ returns-in-Link-clause-goes g c =
     (unused_at g.C.Clock.gives c.laws.ensures.counts outset before c.args.slot c.requires.free.0 c.requires.free.1 was)
     c.admit.ensures.assigned (rw c.in-Link.is at c.accept.ensures.visits)
     (subst (λ l. IfSome before.visits (λ v. g.L.Link.number l ≡ length v.given + 1)) (sym c.new-link.ensures) (rw c.in-Link.is at c.accept.ensures.number))
-    c.admit.ensures.goes c.admit.ensures.standing (record { lost = refl; own = refl; came = refl; past = c.admit.ensures.past }) was
+    c.admit.ensures.goes c.admit.ensures.standing (record { lost = refl; own = refl; came = refl; past = c.admit.ensures.past }) refl refl c.requires.may.machine.0 was
+
+-- links stay where they are where the port's end has come
+stay_so : {L : Type 0} (faults : L → ℕ) (d : RosterView MailTold) (before now : Option Visits) → now ≡ option_map (λ v. after_accept faults v answers.End) before → LinksStay d before now
+stay_so faults d before now is n has =
+    subst (λ (x : Option Visits). IfSome x (HasLinks n d)) (sym is) (no_link faults n d before answers.End (λ link same. absurd (cc)) has)
+
+-- and that is told
+ended_so : {L : Type 0} (faults : L → ℕ) (before now : Option Visits) → now ≡ option_map (λ v. after_accept faults v answers.End) before
+    → ended_in now ≡ option_map (λ it. true) (ended_in before)
+ended_so faults before now is = ap ended_in is ∙ by before
+  where
+    by : (v : Option Visits) → ended_in (option_map (λ v. after_accept faults v answers.End) v) ≡ option_map (λ it. true) (ended_in v)
+    by None = refl
+    by (Some its) = refl
+
+has_come : (before now : Option Bool) → now ≡ option_map (λ it. true) before → IfSome now (λ it. it ≡ true)
+has_come before now is = subst (λ (o : Option Bool). IfSome o (λ it. it ≡ true)) (sym is) (by before)
+  where
+    by : (o : Option Bool) → IfSome (option_map (λ it. true) o) (λ it. it ≡ true)
+    by None = tt
+    by (Some it) = refl
 
 pub returns-in-Ok-clause-goes : goal.returns-in-Ok-clause-goes
 returns-in-Ok-clause-goes g c =
     let before = view_of c.args.self.now in
-    let mid = record before { visits = g.P.Port.visits c.accept.new.self; listens = false } in
-    let beside : IsBeside g.C.Clock.gives mid _ = record { table = c.ask.ensures.table; shared = refl; clock = refl; log = refl; visits = refl; lost = refl; came = refl; tells = c.ask.ensures.tells } in
+    let now = record before { work = at_work c.ask.new.self.supervision; table = c.ask.new.self.roster.table; board = c.ask.new.self.roster.knows; visits = g.P.Port.visits c.accept.new.self; listens = false; } in
+    let beside : IsBeside g.C.Clock.gives before now = record { table = c.ask.ensures.table; shared = refl; clock = refl; log = refl; lost = refl; came = refl; tells = c.ask.ensures.tells } in
     let at = later c.now.result before.work.standing in
     let made = c.in-Ok.ensures.asks (PortEnds at) (refl, refl) in
+    let visits = rw c.in-End.is at c.accept.ensures.visits in
     λ outset was.
-    asked_on g.C.Clock.gives outset mid _ (leaves g.C.Clock.gives _ _ beside) refl refl refl (leaves_store g.C.Clock.gives _ _ beside (same_past g.C.Clock.gives _ _ beside made.2))
-    Smart c.now.result (PortEnds at) c.now.ensures (λ s. refl) (λ k. refl) made.0 made.1 made.2
-    (unlinked g.C.Clock.gives outset before _ false (λ n has. subst (λ (x : Option Visits). IfSome x (HasLinks n before.board)) (sym (rw c.in-End.is at c.accept.ensures.visits))
-    (no_link g.L.Link.faults n before.board before.visits answers.End (λ link is. absurd (cc)) has)) was)
+    asked_on g.C.Clock.gives outset before now (leaves g.C.Clock.gives _ _ beside) refl refl (stay_so g.L.Link.faults before.board _ _ visits)
+    (leaves_store g.C.Clock.gives _ _ beside (same_past g.C.Clock.gives _ _ beside made.2))
+    Smart c.now.result (PortEnds at) c.now.ensures (λ s. refl) (λ k. refl)
+    (asks_end g.C.Clock.gives now before at refl (ended_so g.L.Link.faults _ _ visits) c.requires.listens refl
+    (owes_none _ _ c.requires.idle.unowed (ap (λ (s : Standing). s.owes_smart) made.1) (ap (λ (s : Standing). s.last_pid) made.1)))
+    made.0 made.1 made.2 was
 
 pub returns-in-Ok-clause-ended : goal.returns-in-Ok-clause-ended
 returns-in-Ok-clause-ended g c =
@@ -46,10 +75,18 @@ returns-in-Ok-clause-ended g c =
 pub returns-in-Err-clause-goes : goal.returns-in-Err-clause-goes
 returns-in-Err-clause-goes g c =
     let before = view_of c.args.self.now in
-    let mid = record before { visits = g.P.Port.visits c.accept.new.self; listens = false } in
-    let beside : IsBeside g.C.Clock.gives mid _ = record { table = c.ask.ensures.table; shared = refl; clock = refl; log = refl; visits = refl; lost = refl; came = refl; tells = c.ask.ensures.tells } in
+    let beside : IsBeside g.C.Clock.gives before _ = record { table = c.ask.ensures.table; shared = refl; clock = refl; log = refl; lost = refl; came = refl; tells = c.ask.ensures.tells } in
     let made = c.in-Err.ensures.asks (PortEnds (later c.now.result before.work.standing)) (refl, refl) in
-    λ outset was.
-    short g.C.Clock.gives mid _ beside c.laws.ensures.may_end c.laws.ensures.journal made.0 made.1 made.2 outset
-    (unlinked g.C.Clock.gives outset before _ false (λ n has. subst (λ (x : Option Visits). IfSome x (HasLinks n before.board)) (sym (rw c.in-End.is at c.accept.ensures.visits))
-    (no_link g.L.Link.faults n before.board before.visits answers.End (λ link is. absurd (cc)) has)) was)
+    let visits = rw c.in-End.is at c.accept.ensures.visits in
+    short_end g.C.Clock.gives before _ beside c.laws.ensures.may_end c.laws.ensures.journal made.0 made.1 made.2
+    (stay_so g.L.Link.faults _ _ _ visits) c.requires.listens (has_come _ _ (ended_so g.L.Link.faults _ _ visits)) refl
+    (ap (λ (s : Standing). s.owes_smart) made.0 ∙ c.requires.idle.unowed)
+
+pub returns-in-NotYet-clause-goes : goal.returns-in-NotYet-clause-goes
+returns-in-NotYet-clause-goes g c =
+    still g.C.Clock.gives (view_of c.args.self.now) _ (record { table = refl; shared = refl; clock = refl; log = refl; lost = refl; came = refl; tells = refl })
+    (record { visits = (rw c.in-NotYet.is at c.accept.ensures.visits) ∙ as_it_was _; lines = refl; listens = refl }) refl refl refl
+  where
+    as_it_was : (v : Option Visits) → option_map (λ x. x) v ≡ v
+    as_it_was None = refl
+    as_it_was (Some its) = refl

@@ -18,20 +18,20 @@ perform-requires g c = λ generation is.
 pub returns-in-Ok-perform-clause-goes : goal.returns-in-Ok-perform-clause-goes
 returns-in-Ok-perform-clause-goes g c =
     let before = view_of c.args.self.now in
-    let beside : IsBeside g.C.Clock.gives before _ = record { table = c.do_next-next.ensures.table; shared = refl; clock = refl; log = refl; visits = refl; lost = refl; came = refl; tells = c.do_next-next.ensures.tells } in
+    let beside : IsBeside g.C.Clock.gives before _ = record { table = c.do_next-next.ensures.table; shared = refl; clock = refl; log = refl; lost = refl; came = refl; tells = c.do_next-next.ensures.tells } in
     λ outset was.
     acts_of g.C.Clock.gives c.laws.ensures.counts c.laws.ensures.may_end c.laws.ensures.journal c.laws.ensures.safely outset aux_mail before _ _ c.do_next-next.result c.in-Ok.given c.in-Some.act _
     c.in-Ok.is c.in-Some.is c.do_next-next.ensures.answer c.do_next-next.ensures.standing c.do_next-next.ensures.act c.do_next-next.ensures.performs c.do_next-next.ensures.may
-    c.do_next-next.ensures.past beside c.in-Ok-perform.ensures.performs was
+    c.do_next-next.ensures.past beside (record { visits = refl; lines = refl; listens = refl }) c.in-Ok-perform.ensures.performs was
 
 pub returns-in-Err-perform-clause-goes : goal.returns-in-Err-perform-clause-goes
 returns-in-Err-perform-clause-goes g c =
     let before = view_of c.args.self.now in
-    let beside : IsBeside g.C.Clock.gives before _ = record { table = c.do_next-next.ensures.table; shared = refl; clock = refl; log = refl; visits = refl; lost = refl; came = refl; tells = c.do_next-next.ensures.tells } in
+    let beside : IsBeside g.C.Clock.gives before _ = record { table = c.do_next-next.ensures.table; shared = refl; clock = refl; log = refl; lost = refl; came = refl; tells = c.do_next-next.ensures.tells } in
     λ outset was.
     acts_of g.C.Clock.gives c.laws.ensures.counts c.laws.ensures.may_end c.laws.ensures.journal c.laws.ensures.safely outset aux_mail before _ _ c.do_next-next.result c.in-Ok.given c.in-Some.act _
     c.in-Ok.is c.in-Some.is c.do_next-next.ensures.answer c.do_next-next.ensures.standing c.do_next-next.ensures.act c.do_next-next.ensures.performs c.do_next-next.ensures.may
-    c.do_next-next.ensures.past beside c.in-Err-perform.ensures.performs was
+    c.do_next-next.ensures.past beside (record { visits = refl; lines = refl; listens = refl }) c.in-Err-perform.ensures.performs was
 
 pub returns-in-Ok-perform-clause-ended : goal.returns-in-Ok-perform-clause-ended
 returns-in-Ok-perform-clause-ended g c =
@@ -41,8 +41,8 @@ returns-in-Ok-perform-clause-ended g c =
 pub returns-in-Err-clause-goes : goal.returns-in-Err-clause-goes
 returns-in-Err-clause-goes g c =
     let before = view_of c.args.self.now in
-    let beside : IsBeside g.C.Clock.gives before _ = record { table = c.do_next-next.ensures.table; shared = refl; clock = refl; log = refl; visits = refl; lost = refl; came = refl; tells = c.do_next-next.ensures.tells } in
-    spends g.C.Clock.gives c.laws.ensures.counts c.laws.ensures.may_end c.laws.ensures.journal c.laws.ensures.safely before _ _ beside
+    let beside : IsBeside g.C.Clock.gives before _ = record { table = c.do_next-next.ensures.table; shared = refl; clock = refl; log = refl; lost = refl; came = refl; tells = c.do_next-next.ensures.tells } in
+    spends g.C.Clock.gives c.laws.ensures.counts c.laws.ensures.may_end c.laws.ensures.journal c.laws.ensures.safely before _ _ beside (record { visits = refl; lines = refl; listens = refl })
     (sym c.do_next-next.ensures.answer ∙ c.in-Err.is) (subst (λ r. DoesNext r (view before.work before.board) (view (at_work c.do_next-next.new.self.supervision) c.do_next-next.new.self.roster.knows)) c.in-Err.is c.do_next-next.ensures.act)
 
 pub returns-in-None-clause-none_due : goal.returns-in-None-clause-none_due

@@ -1,23 +1,51 @@
-use Rattle.std.proofs.Common.{◌≡◌, [], refl, subst, sym}
-use Rattle.std.specs.Prelude.{false}
-use Rattle.pm_journal.specs.Standing.{later}
-use Rattle.pm_seating.specs.Seating.{Reads, Stop}
+use Rattle.std.proofs.Common.{◌≡◌, ℕ, ◌<◌, ◌≤◌, [], ◌∙◌, ap, arith, refl, subst, sym}
+use Rattle.std.specs.Prelude.{false, nat_lt}
+use Rattle.pm_journal.specs.Standing.{Standing, later}
+use Rattle.pm_journal.specs.Stands.{highest_pid}
+use Rattle.pm_journal.specs.Supervision.{at_work}
+use Rattle.pm_requests.specs.Requests.{IsNumber, meant}
+use Rattle.pm_seating.specs.Chained.{AsksFor}
+use Rattle.pm_seating.specs.Board.{seats_of}
+use Rattle.pm_seating.specs.Seating.{Kill, Nothing, Reads, Stop, asked_by}
 use Rattle.pm_seating.specs.Sitting.{AreReaped}
 use Rattle.pm_postmaster.specs.View.{view_of}
-use Rattle.pm_postmaster.proofs.Calling.{IsBeside, leaves, leaves_store, same_past, short}
-use Rattle.pm_postmaster.proofs.Steps.{asked_on}
+use Rattle.pm_postmaster.proofs.Asked.{owes_none, owes_same}
+use Rattle.pm_postmaster.proofs.Calling.{IsBeside, asks_line, leaves, leaves_store, same_past, short_line}
+use Rattle.pm_postmaster.proofs.Linking.{by_test}
+use Rattle.pm_postmaster.proofs.Owed.{none_killed}
+use Rattle.pm_postmaster.proofs.Steps.{asked_on, unheeded_on}
 use Rattle.pm_postmaster.proofs.server.Server.heed.Goals as goal
 
-pub returns-in-Ok-clause-goes : goal.returns-in-Ok-clause-goes
-returns-in-Ok-clause-goes g c =
-    let before = view_of c.args.self.now in
-    let beside : IsBeside g.C.Clock.gives before _ = record { table = c.ask.ensures.table; shared = refl; clock = refl; log = refl; visits = refl; lost = refl; came = refl; tells = c.ask.ensures.tells } in
-    let at = later c.now.result before.work.standing in
-    let how = c.in-Stop.mode in
-    let made = c.in-Ok.ensures.asks (Reads [] (Stop how) at) (refl, refl) in
+-- such a pid is above the highest
+far_off : (last pid : ℕ) → last ≤ highest_pid → (pid < 4294967296 → ⊥) → last < pid
+far_off last pid low far = by_test (nat_lt last pid) (λ is. grind (arith, is)) (λ isnt. absurd (far (let above : pid ≤ last = grind (arith, isnt) in omega (arith, low, above))))
+
+pub returns-in-Nothing-clause-heeds : goal.returns-in-Nothing-clause-heeds
+returns-in-Nothing-clause-heeds g c = λ line lines given asked.
+    let v = view_of c.args.self.now in
+    let before = record v { lines = lines } in
+    let at = v.work.standing.moment in
+    let beside : IsBeside g.C.Clock.gives before v = record { table = refl; shared = refl; clock = refl; log = refl; lost = refl; came = refl; tells = refl } in
     λ outset was.
-    asked_on g.C.Clock.gives outset before _ (leaves g.C.Clock.gives _ _ beside) refl refl refl (leaves_store g.C.Clock.gives _ _ beside (same_past g.C.Clock.gives _ _ beside made.2))
-    how c.now.result (Reads [] (Stop how) at) c.now.ensures (λ s. refl) (λ k. refl) made.0 made.1 made.2 was
+    unheeded_on g.C.Clock.gives outset before v (leaves g.C.Clock.gives _ _ beside) refl refl (λ n has. has) (leaves_store g.C.Clock.gives _ _ beside (same_past g.C.Clock.gives _ _ beside refl))
+    line Nothing at refl (asks_line g.C.Clock.gives v v line lines Nothing at given (subst (λ r. AsksFor IsNumber line (meant r)) c.in-Nothing.is asked) (record { lines = refl; ended = refl; listens = refl }) (owes_same _ _ refl))
+    (c.laws.ensures.lines _ line Nothing at refl) refl refl was
+
+pub returns-in-Ok-clause-heeds : goal.returns-in-Ok-clause-heeds
+returns-in-Ok-clause-heeds g c = λ line lines given asked.
+    let v = view_of c.args.self.now in
+    let before = record v { lines = lines } in
+    let now = record v { work = at_work c.ask.new.self.supervision; table = c.ask.new.self.roster.table; board = c.ask.new.self.roster.knows; } in
+    let beside : IsBeside g.C.Clock.gives before now = record { table = c.ask.ensures.table; shared = refl; clock = refl; log = refl; lost = refl; came = refl; tells = c.ask.ensures.tells } in
+    let at = later c.now.result v.work.standing in
+    let how = c.in-Stop.mode in
+    let made = c.in-Ok.ensures.asks (Reads line (Stop how) at) (refl, refl) in
+    λ outset was.
+    asked_on g.C.Clock.gives outset before now (leaves g.C.Clock.gives _ _ beside) refl refl (λ n has. has) (leaves_store g.C.Clock.gives _ _ beside (same_past g.C.Clock.gives _ _ beside made.2))
+    how c.now.result (Reads line (Stop how) at) c.now.ensures (λ s. refl) (λ k. refl)
+    (asks_line g.C.Clock.gives now v line lines (Stop how) at given (subst (λ r. AsksFor IsNumber line (meant r)) c.in-Stop.is asked) (record { lines = refl; ended = refl; listens = refl })
+    (owes_none _ _ c.requires.idle.unowed (ap (λ (s : Standing). s.owes_smart) made.1) (ap (λ (s : Standing). s.last_pid) made.1)))
+    made.0 made.1 made.2 was
 
 pub returns-in-Ok-clause-ended : goal.returns-in-Ok-clause-ended
 returns-in-Ok-clause-ended g c =
@@ -29,14 +57,44 @@ returns-in-Ok-clause-reaped g c = λ n were.
     let made = c.in-Ok.ensures.asks (Reads [] (Stop c.in-Stop.mode) (later c.now.result (view_of c.args.self.now).work.standing)) (refl, refl) in
     subst (AreReaped n) (sym made.2) were
 
-pub returns-in-Err-clause-goes : goal.returns-in-Err-clause-goes
-returns-in-Err-clause-goes g c =
-    let before = view_of c.args.self.now in
-    let beside : IsBeside g.C.Clock.gives before _ = record { table = c.ask.ensures.table; shared = refl; clock = refl; log = refl; visits = refl; lost = refl; came = refl; tells = c.ask.ensures.tells } in
-    let made = c.in-Err.ensures.asks (Reads [] (Stop c.in-Stop.mode) (later c.now.result before.work.standing)) (refl, refl) in
-    short g.C.Clock.gives before _ beside c.laws.ensures.may_end c.laws.ensures.journal made.0 made.1 made.2
+pub returns-in-Err-clause-heeds : goal.returns-in-Err-clause-heeds
+returns-in-Err-clause-heeds g c = λ line lines given asked.
+    let v = view_of c.args.self.now in
+    let before = record v { lines = lines } in
+    let now = record v { work = at_work c.ask.new.self.supervision; table = c.ask.new.self.roster.table; board = c.ask.new.self.roster.knows; } in
+    let beside : IsBeside g.C.Clock.gives before now = record { table = c.ask.ensures.table; shared = refl; clock = refl; log = refl; lost = refl; came = refl; tells = c.ask.ensures.tells } in
+    let made = c.in-Err.ensures.asks (Reads line (Stop c.in-Stop.mode) (later c.now.result v.work.standing)) (refl, refl) in
+    short_line g.C.Clock.gives before now beside c.laws.ensures.may_end c.laws.ensures.journal made.0 made.1 made.2 line given refl (ap (λ (s : Standing). s.owes_smart) made.0 ∙ c.requires.idle.unowed)
 
 pub returns-in-Err-clause-reaped : goal.returns-in-Err-clause-reaped
 returns-in-Err-clause-reaped g c = λ n were.
     let made = c.in-Err.ensures.asks (Reads [] (Stop c.in-Stop.mode) (later c.now.result (view_of c.args.self.now).work.standing)) (refl, refl) in
     subst (AreReaped n) (sym made.2) were
+
+-- the pid is above all that were drawn
+pub returns-in-Err-try_from-clause-heeds : goal.returns-in-Err-try_from-clause-heeds
+returns-in-Err-try_from-clause-heeds g c = λ line lines given asked.
+    let v = view_of c.args.self.now in
+    let before = record v { lines = lines } in
+    let at = v.work.standing.moment in
+    let pid = c.in-Kill.pid in
+    let beside : IsBeside g.C.Clock.gives before v = record { table = refl; shared = refl; clock = refl; log = refl; lost = refl; came = refl; tells = refl } in
+    λ outset was.
+    let seated = was.at.seated in
+    let low = c.laws.ensures.journal.pids outset.limits _ v.work.standing was.at.past was.at.stands in
+    let nobody : asked_by (Kill pid) at (seats_of v.board) ≡ [] =
+    subst (λ seats. asked_by (Kill pid) at seats ≡ []) (sym seated.at_hand)
+    (none_killed pid at v.work.standing.last_pid seated.seating.seats seated.roll.below (far_off _ pid low (λ less. c.in-Err-try_from.ensures less))) in
+    unheeded_on g.C.Clock.gives outset before v (leaves g.C.Clock.gives _ _ beside) refl refl (λ n has. has) (leaves_store g.C.Clock.gives _ _ beside (same_past g.C.Clock.gives _ _ beside refl))
+    line (Kill pid) at nobody (asks_line g.C.Clock.gives v v line lines (Kill pid) at given (subst (λ r. AsksFor IsNumber line (meant r)) c.in-Kill.is asked) (record { lines = refl; ended = refl; listens = refl }) (owes_same _ _ refl))
+    (c.laws.ensures.lines _ line (Kill pid) at nobody) refl refl was
+
+pub kill-requires-clause-read : goal.kill-requires-clause-read
+kill-requires-clause-read g c = record {
+  line = c.requires.read.line;
+  lines = c.requires.read.lines;
+  given = c.requires.read.given;
+  asked = subst (λ (pid : ℕ). AsksFor IsNumber c.requires.read.line (Kill pid)) (sym c.in-Ok-try_from.ensures.1)
+      (subst (λ r. AsksFor IsNumber c.requires.read.line (meant r)) c.in-Kill.is c.requires.read.asked);
+  alive = c.requires.read.alive;
+}

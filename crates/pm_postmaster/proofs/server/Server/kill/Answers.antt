@@ -1,22 +1,30 @@
-use Rattle.std.proofs.Common.{◌≡◌, [], ap, refl, subst, sym}
-use Rattle.std.specs.Prelude.{false}
-use Rattle.pm_seating.specs.Sitting.{AreReaped}
+use Rattle.std.proofs.Common.{◌≡◌, ◌∙◌, ap, refl}
+use Rattle.pm_journal.specs.Standing.{Standing}
+use Rattle.pm_journal.specs.Supervision.{at_work}
+use Rattle.pm_seating.specs.Seating.{Kill}
 use Rattle.pm_postmaster.specs.View.{view_of}
-use Rattle.pm_postmaster.proofs.Calling.{IsBeside, leaves, leaves_store, short}
+use Rattle.pm_postmaster.proofs.Asked.{owes_same}
+use Rattle.pm_postmaster.proofs.Calling.{IsBeside, asks_line, leaves, leaves_store, short_line}
 use Rattle.pm_postmaster.proofs.Steps.{killed_on}
 use Rattle.pm_postmaster.proofs.server.Server.kill.Goals as goal
 
-pub returns-in-Ok-clause-goes : goal.returns-in-Ok-clause-goes
-returns-in-Ok-clause-goes g c =
-    let before = view_of c.args.self.now in
-    let beside : IsBeside g.C.Clock.gives before _ = record { table = c.kill.ensures.table; shared = refl; clock = refl; log = refl; visits = refl; lost = refl; came = refl; tells = c.kill.ensures.tells } in
+pub returns-in-Ok-clause-heeds : goal.returns-in-Ok-clause-heeds
+returns-in-Ok-clause-heeds g c = λ line lines given asked.
+    let v = view_of c.args.self.now in
+    let before = record v { lines = lines } in
+    let now = record v { work = at_work c.kill.new.self.supervision; table = c.kill.new.self.roster.table; board = c.kill.new.self.roster.knows; } in
+    let at = v.work.standing.moment in
+    let beside : IsBeside g.C.Clock.gives before now = record { table = c.kill.ensures.table; shared = refl; clock = refl; log = refl; lost = refl; came = refl; tells = c.kill.ensures.tells } in
     λ outset was.
-    killed_on g.C.Clock.gives outset before _ (leaves g.C.Clock.gives _ _ beside) refl refl refl (leaves_store g.C.Clock.gives _ _ beside c.kill.ensures.past)
-    [] c.args.pid 0 (c.in-Ok.ensures.kills [] 0) c.kill.ensures.standing c.kill.ensures.slots was
+    killed_on g.C.Clock.gives outset before now (leaves g.C.Clock.gives _ _ beside) refl refl (λ n has. has) (leaves_store g.C.Clock.gives _ _ beside c.kill.ensures.past)
+    line c.args.pid at (asks_line g.C.Clock.gives now v line lines (Kill c.args.pid) at given asked (record { lines = refl; ended = refl; listens = refl }) (owes_same _ _ c.kill.ensures.standing))
+    (c.in-Ok.ensures.kills line at) c.kill.ensures.standing c.kill.ensures.slots was
 
-pub returns-in-Err-clause-goes : goal.returns-in-Err-clause-goes
-returns-in-Err-clause-goes g c =
-    let before = view_of c.args.self.now in
-    let beside : IsBeside g.C.Clock.gives before _ = record { table = c.kill.ensures.table; shared = refl; clock = refl; log = refl; visits = refl; lost = refl; came = refl; tells = c.kill.ensures.tells } in
+pub returns-in-Err-clause-heeds : goal.returns-in-Err-clause-heeds
+returns-in-Err-clause-heeds g c = λ line lines given asked.
+    let v = view_of c.args.self.now in
+    let before = record v { lines = lines } in
+    let now = record v { work = at_work c.kill.new.self.supervision; table = c.kill.new.self.roster.table; board = c.kill.new.self.roster.knows; } in
+    let beside : IsBeside g.C.Clock.gives before now = record { table = c.kill.ensures.table; shared = refl; clock = refl; log = refl; lost = refl; came = refl; tells = c.kill.ensures.tells } in
     let made = c.in-Err.ensures.refused in
-    short g.C.Clock.gives before _ beside c.laws.ensures.may_end c.laws.ensures.journal made.0 made.1 made.2
+    short_line g.C.Clock.gives before now beside c.laws.ensures.may_end c.laws.ensures.journal made.0 made.1 made.2 line given refl (ap (λ (s : Standing). s.owes_smart) made.0 ∙ c.requires.idle.unowed)
