@@ -14,7 +14,7 @@ use Rattle.pm_postmaster.proofs.server.Server.ask_owed.Goals as goal
 pub returns-in-Ok-clause-goes : goal.returns-in-Ok-clause-goes
 returns-in-Ok-clause-goes g c =
     let before = view_of c.args.self.now in
-    let now = record before { work = at_work c.ask.new.self.supervision; table = c.ask.new.self.roster.table; board = c.ask.new.self.roster.knows; listens = false; } in
+    let now = record before { work = at_work c.ask.new.self.supervision; table = c.ask.new.self.roster.table; board = c.ask.new.self.roster.knows; listens = false } in
     let beside : IsBeside g.C.Clock.gives before now = record { table = c.ask.ensures.table; shared = refl; clock = refl; log = refl; lost = refl; came = refl; tells = c.ask.ensures.tells } in
     let at = later c.now.result before.work.standing in
     let made = c.in-Ok.ensures.asks (PidsEnd at) (refl, refl) in

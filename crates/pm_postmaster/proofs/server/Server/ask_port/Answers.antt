@@ -1,9 +1,10 @@
-use Rattle.std.proofs.Common.{◌≡◌, ◌∙◌, ℕ, ◌+◌, Option, None, Some, ap, length, refl, subst, sym}
+use Rattle.std.proofs.Common.{◌≡◌, ◌⊎◌, inl, inr, ◌∙◌, ℕ, ◌+◌, Option, None, Some, ap, length, refl, subst, sym}
 use Rattle.std.specs.Prelude.{Bool, IfSome, false, option_map, true}
 use Rattle.pm_board.specs.declared.views.RosterView.{RosterView}
 use Rattle.pm_journal.specs.Standing.{Standing, later}
 use Rattle.pm_modes.specs.declared.Mode.TheVariants.{Smart}
 use Rattle.pm_outside.specs.Visits.{Visits, after_accept}
+use Rattle.pm_outside.specs.declared.port.Accepted.{Accepted}
 use Rattle.pm_outside.specs.declared.port.Accepted.TheVariants as answers
 use Rattle.pm_journal.specs.Supervision.{at_work}
 use Rattle.pm_seating.specs.Seating.{PortEnds}
@@ -54,7 +55,7 @@ has_come before now is = subst (λ (o : Option Bool). IfSome o (λ it. it ≡ tr
 pub returns-in-Ok-clause-goes : goal.returns-in-Ok-clause-goes
 returns-in-Ok-clause-goes g c =
     let before = view_of c.args.self.now in
-    let now = record before { work = at_work c.ask.new.self.supervision; table = c.ask.new.self.roster.table; board = c.ask.new.self.roster.knows; visits = g.P.Port.visits c.accept.new.self; listens = false; } in
+    let now = record before { work = at_work c.ask.new.self.supervision; table = c.ask.new.self.roster.table; board = c.ask.new.self.roster.knows; visits = g.P.Port.visits c.accept.new.self; listens = false } in
     let beside : IsBeside g.C.Clock.gives before now = record { table = c.ask.ensures.table; shared = refl; clock = refl; log = refl; lost = refl; came = refl; tells = c.ask.ensures.tells } in
     let at = later c.now.result before.work.standing in
     let made = c.in-Ok.ensures.asks (PortEnds at) (refl, refl) in
@@ -82,11 +83,19 @@ returns-in-Err-clause-goes g c =
     (stay_so g.L.Link.faults _ _ _ visits) c.requires.listens (has_come _ _ (ended_so g.L.Link.faults _ _ visits)) refl
     (ap (λ (s : Standing). s.owes_smart) made.0 ∙ c.requires.idle.unowed)
 
-pub returns-in-NotYet-clause-goes : goal.returns-in-NotYet-clause-goes
-returns-in-NotYet-clause-goes g c =
-    still g.C.Clock.gives (view_of c.args.self.now) _ (record { table = refl; shared = refl; clock = refl; log = refl; lost = refl; came = refl; tells = refl })
-    (record { visits = (rw c.in-NotYet.is at c.accept.ensures.visits) ∙ as_it_was _; lines = refl; listens = refl }) refl refl refl
+-- the port gave none, and hasn't ended
+none_given : {L : Type 0} (faults : L → ℕ) (answer : Accepted L) (before now : Option Visits) → (answer ≡ answers.NotYet) ⊎ (answer ≡ answers.Failed)
+    → now ≡ option_map (λ v. after_accept faults v answer) before → now ≡ before
+none_given faults answer before now none is = elim none [
+  | inl not_yet ↦ is ∙ (ap (λ a. option_map (λ v. after_accept faults v a) before) not_yet ∙ as_it_was before)
+  | inr failed ↦ is ∙ (ap (λ a. option_map (λ v. after_accept faults v a) before) failed ∙ as_it_was before)
+]
   where
     as_it_was : (v : Option Visits) → option_map (λ x. x) v ≡ v
     as_it_was None = refl
     as_it_was (Some its) = refl
+
+pub returns-in-NotYet-clause-goes : goal.returns-in-NotYet-clause-goes
+returns-in-NotYet-clause-goes g c =
+    still g.C.Clock.gives (view_of c.args.self.now) _ (record { table = refl; shared = refl; clock = refl; log = refl; lost = refl; came = refl; tells = refl })
+    (record { visits = none_given g.L.Link.faults c.accept.result _ _ c.in-NotYet.is c.accept.ensures.visits; lines = refl; listens = refl }) refl refl refl

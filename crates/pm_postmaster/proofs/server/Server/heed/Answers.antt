@@ -35,7 +35,7 @@ pub returns-in-Ok-clause-heeds : goal.returns-in-Ok-clause-heeds
 returns-in-Ok-clause-heeds g c = λ line lines given asked.
     let v = view_of c.args.self.now in
     let before = record v { lines = lines } in
-    let now = record v { work = at_work c.ask.new.self.supervision; table = c.ask.new.self.roster.table; board = c.ask.new.self.roster.knows; } in
+    let now = record v { work = at_work c.ask.new.self.supervision; table = c.ask.new.self.roster.table; board = c.ask.new.self.roster.knows } in
     let beside : IsBeside g.C.Clock.gives before now = record { table = c.ask.ensures.table; shared = refl; clock = refl; log = refl; lost = refl; came = refl; tells = c.ask.ensures.tells } in
     let at = later c.now.result v.work.standing in
     let how = c.in-Stop.mode in
@@ -61,7 +61,7 @@ pub returns-in-Err-clause-heeds : goal.returns-in-Err-clause-heeds
 returns-in-Err-clause-heeds g c = λ line lines given asked.
     let v = view_of c.args.self.now in
     let before = record v { lines = lines } in
-    let now = record v { work = at_work c.ask.new.self.supervision; table = c.ask.new.self.roster.table; board = c.ask.new.self.roster.knows; } in
+    let now = record v { work = at_work c.ask.new.self.supervision; table = c.ask.new.self.roster.table; board = c.ask.new.self.roster.knows } in
     let beside : IsBeside g.C.Clock.gives before now = record { table = c.ask.ensures.table; shared = refl; clock = refl; log = refl; lost = refl; came = refl; tells = c.ask.ensures.tells } in
     let made = c.in-Err.ensures.asks (Reads line (Stop c.in-Stop.mode) (later c.now.result v.work.standing)) (refl, refl) in
     short_line g.C.Clock.gives before now beside c.laws.ensures.may_end c.laws.ensures.journal made.0 made.1 made.2 line given refl (ap (λ (s : Standing). s.owes_smart) made.0 ∙ c.requires.idle.unowed)

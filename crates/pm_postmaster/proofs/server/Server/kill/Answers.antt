@@ -12,7 +12,7 @@ pub returns-in-Ok-clause-heeds : goal.returns-in-Ok-clause-heeds
 returns-in-Ok-clause-heeds g c = λ line lines given asked.
     let v = view_of c.args.self.now in
     let before = record v { lines = lines } in
-    let now = record v { work = at_work c.kill.new.self.supervision; table = c.kill.new.self.roster.table; board = c.kill.new.self.roster.knows; } in
+    let now = record v { work = at_work c.kill.new.self.supervision; table = c.kill.new.self.roster.table; board = c.kill.new.self.roster.knows } in
     let at = v.work.standing.moment in
     let beside : IsBeside g.C.Clock.gives before now = record { table = c.kill.ensures.table; shared = refl; clock = refl; log = refl; lost = refl; came = refl; tells = c.kill.ensures.tells } in
     λ outset was.
@@ -24,7 +24,7 @@ pub returns-in-Err-clause-heeds : goal.returns-in-Err-clause-heeds
 returns-in-Err-clause-heeds g c = λ line lines given asked.
     let v = view_of c.args.self.now in
     let before = record v { lines = lines } in
-    let now = record v { work = at_work c.kill.new.self.supervision; table = c.kill.new.self.roster.table; board = c.kill.new.self.roster.knows; } in
+    let now = record v { work = at_work c.kill.new.self.supervision; table = c.kill.new.self.roster.table; board = c.kill.new.self.roster.knows } in
     let beside : IsBeside g.C.Clock.gives before now = record { table = c.kill.ensures.table; shared = refl; clock = refl; log = refl; lost = refl; came = refl; tells = c.kill.ensures.tells } in
     let made = c.in-Err.ensures.refused in
     short_line g.C.Clock.gives before now beside c.laws.ensures.may_end c.laws.ensures.journal made.0 made.1 made.2 line given refl (ap (λ (s : Standing). s.owes_smart) made.0 ∙ c.requires.idle.unowed)
