@@ -16,9 +16,12 @@ use Rattle.pm_lines.specs.Log.{HasSaid}
 use Rattle.pm_lines.specs.LogLaws.{said_first}
 use Rattle.pm_outside.specs.Visits.{Visits, no_visits}
 use Rattle.pm_query.specs.declared.book.BookEntry.TheVariants.{Opened}
-use Rattle.pm_seating.specs.Standing.{IsAt, view}
+use Rattle.pm_journal.specs.Stands.{AtWork}
+use Rattle.pm_postmaster.specs.Served.{slots_by}
+use Rattle.pm_seating.specs.Standing.{IsAt, IsUnbegun, view}
 use Rattle.pm_shared.specs.declared.views.Noted.{Noted}
 use Rattle.pm_shared.specs.Log.{noted}
+use Rattle.pm_state.specs.declared.event.PmEvent.{PmEvent}
 use Rattle.pm_supervisor.specs.declared.Limits.{Limits}
 use Rattle.pm_worker.specs.declared.mail.MailTold.{MailTold}
 use Rattle.pm_postmaster.specs.Links.{HasLinks}
@@ -129,14 +132,23 @@ module _ {D C : Type 0} (gives : C → ℕ → Type 0) where
       by None new = tt
       by (Some its) new = subst (λ (x : Visits). HasLinks 0 v.board x) (sym new) (subst (λ (d : RosterView MailTold). HasLinks 0 d no_visits) (sym board) (new_links outset.count limit posts))
 
-  pub begun : (limits : Limits) (count : ℕ) (v : View D C) (limit posts : ℕ) → IsAt limits count [] (view v.work v.board)
-      → v.work.standing ≡ nothing_done limits → v.board ≡ new_roster count limit posts → v.log.is_cut ≡ false → IfSome v.visits (λ visits. visits ≡ no_visits)
-      → v.shared.generation ≡ 1 → v.shared.own ≡ noted 0 (Opened 1) ∷ [] → v.lost ≡ [] → v.came ≡ None → IfSome v.lines (λ lines. lines ≡ []) → IsServing gives (outset_of limits count v) v
-  begun limits count v limit posts at standing board uncut visits generation own lost came lines =
-      begins (outset_of limits count v) v limit posts at standing board refl refl refl refl uncut refl visits generation own lost came lines
-
-  pub begun_alive : (limits : Limits) (count : ℕ) (v : View D C) (limit posts : ℕ) → IsAt limits count [] (view v.work v.board)
-      → v.work.standing ≡ nothing_done limits → v.board ≡ new_roster count limit posts → v.log.is_cut ≡ false → IfSome v.visits (λ visits. visits ≡ no_visits)
-      → v.shared.generation ≡ 1 → v.shared.own ≡ noted 0 (Opened 1) ∷ [] → v.lost ≡ [] → v.came ≡ None → IfSome v.lines (λ lines. lines ≡ []) → IsAlive gives v
-  begun_alive limits count v limit posts at standing board uncut visits generation own lost came lines =
-      (outset_of limits count v, begun limits count v limit posts at standing board uncut visits generation own lost came lines)
+  -- a new server serves
+  pub begun : (limits : Limits) (v : View D C) (work : AtWork) (board : RosterView MailTold)
+      → 1 ≤ limits.max_connections + limits.max_worker_processes → limits.max_connections + limits.max_worker_processes ≤ 200
+      → work.standing ≡ nothing_done limits → (told : Option (List PmEvent)) → work.told ≡ told → IfSome told (λ entries. entries ≡ []) → board ≡ new_roster (slots_by limits) limits.max_connections (slots_by limits)
+      → v.work ≡ work → v.board ≡ board → ((count : ℕ) → IsUnbegun limits count (view work board) → IsAt limits count [] (view v.work v.board))
+      → v.log.is_cut ≡ false → IfSome v.visits (λ visits. visits ≡ no_visits) → v.shared.generation ≡ 1 → v.shared.own ≡ noted 0 (Opened 1) ∷ [] → v.lost ≡ [] → v.came ≡ None
+      → IfSome v.lines (λ lines. lines ≡ []) → IsServing gives (outset_of limits (slots_by limits) v) v
+  begun limits v work board some within standing told tells empty new same_work same_board stands uncut visits generation own lost came lines =
+      let slots : ℕ = slots_by limits in
+      let at = stands slots (record {
+        standing = standing;
+        told = subst (λ (t : Option (List PmEvent)). IfSome t (λ entries. entries ≡ [])) (sym tells) empty;
+        session_limit = limits.max_connections;
+        posts = slots;
+        board = new;
+        many = omega (arith, some);
+        few = omega (arith, within);
+      }) in
+      begins (outset_of limits slots v) v limits.max_connections slots at (ap (λ (w : AtWork). w.standing) same_work ∙ standing) (same_board ∙ new) refl refl refl refl uncut refl
+      visits generation own lost came lines

@@ -4,7 +4,7 @@ use Rattle.atomic_table.specs.Seated.{TableId}
 use Rattle.pm_board.specs.declared.views.RosterView.{RosterView}
 use Rattle.pm_crew.specs.Left.{AreLeft, Manner}
 use Rattle.pm_disk.specs.Cause.{Rose}
-use Rattle.pm_journal.specs.Supervision.{standing, told}
+use Rattle.pm_journal.specs.Supervision.{at_work, standing, told}
 use Rattle.pm_lines.specs.LogLaws.{said_first}
 use Rattle.pm_pool.specs.declared.plan.Plan.{Plan}
 use Rattle.pm_pool.specs.declared.plan.Terms.{Terms}
@@ -20,7 +20,7 @@ use Rattle.pm_shared.specs.declared.views.Noted.{Noted}
 use Rattle.pm_state.specs.declared.event.PmEvent.{PmEvent}
 use Rattle.pm_worker.specs.declared.mail.MailTold.{MailTold}
 use Rattle.pm_postmaster.specs.Served.{slots_by, unmade_by}
-use Rattle.pm_postmaster.proofs.Beginning.{begun, begun_alive}
+use Rattle.pm_postmaster.proofs.Beginning.{begun}
 use Rattle.pm_postmaster.proofs.Finished.{adds_new, given_back, logged_whole, told_at}
 use Rattle.pm_postmaster.proofs.Ran.{asked, board_is, cause, clears_at, last_at, links, may_clear_at, may_close, may_close_at, once, redos}
 use Rattle.pm_postmaster.proofs.postmaster.supervise.Goals as goal
@@ -51,36 +51,16 @@ pool_at gives pool board home b h table store was =
 
 pub run-end-requires-clause-alive : goal.run-end-requires-clause-alive
 run-end-requires-clause-alive g c =
-    begun_alive g.C.Clock.gives c.args.conf.now.limits (slots_by c.args.conf.now.limits) _ c.args.conf.now.limits.max_connections (slots_by c.args.conf.now.limits)
-    (c.new-desk.ensures.begins c.args.conf.now.limits (slots_by c.args.conf.now.limits) (record {
-      standing = c.new-supervision.ensures.standing;
-      told = subst (λ (t : Option (List PmEvent)). IfSome t (λ entries. entries ≡ [])) (sym c.new-supervision.ensures.told) c.requires.journal;
-      session_limit = c.args.conf.now.limits.max_connections;
-      posts = (slots_by c.args.conf.now.limits);
-      board = c.in-Ok.ensures.roster;
-      many = (let some = c.requires.some in omega (arith, some));
-      few = (let within = c.requires.within in omega (arith, within));
-    }))
-    (ap (λ s. standing s) c.new-desk.ensures.supervision ∙ c.new-supervision.ensures.standing)
-    (ap (λ r. r.knows) c.new-desk.ensures.roster ∙ c.in-Ok.ensures.roster)
-    (ap (λ l. l.is_cut) c.new-log.ensures) c.requires.port c.in-Ok.ensures.shared.generation c.in-Ok.ensures.shared.own c.new-lost.ensures.items refl c.requires.console
+    (_, begun g.C.Clock.gives c.args.conf.now.limits _ _ _ c.requires.some c.requires.within c.new-supervision.ensures.standing
+    _ c.new-supervision.ensures.told c.requires.journal c.in-Ok.ensures.roster (ap (λ s. at_work s) c.new-desk.ensures.supervision) (ap (λ r. r.knows) c.new-desk.ensures.roster) (c.new-desk.ensures.begins c.args.conf.now.limits)
+    (ap (λ l. l.is_cut) c.new-log.ensures) c.requires.port c.in-Ok.ensures.shared.generation c.in-Ok.ensures.shared.own c.new-lost.ensures.items refl c.requires.console)
 
 -- ---- its end
 
 pub clear-requires : goal.clear-requires
 clear-requires g c =
-    let stopped = c.run-end.ensures _ (begun g.C.Clock.gives c.args.conf.now.limits (slots_by c.args.conf.now.limits) _ c.args.conf.now.limits.max_connections (slots_by c.args.conf.now.limits)
-    (c.new-desk.ensures.begins c.args.conf.now.limits (slots_by c.args.conf.now.limits) (record {
-      standing = c.new-supervision.ensures.standing;
-      told = subst (λ (t : Option (List PmEvent)). IfSome t (λ entries. entries ≡ [])) (sym c.new-supervision.ensures.told) c.requires.journal;
-      session_limit = c.args.conf.now.limits.max_connections;
-      posts = (slots_by c.args.conf.now.limits);
-      board = c.in-Ok.ensures.roster;
-      many = (let some = c.requires.some in omega (arith, some));
-      few = (let within = c.requires.within in omega (arith, within));
-    }))
-    (ap (λ s. standing s) c.new-desk.ensures.supervision ∙ c.new-supervision.ensures.standing)
-    (ap (λ r. r.knows) c.new-desk.ensures.roster ∙ c.in-Ok.ensures.roster)
+    let stopped = c.run-end.ensures _ (begun g.C.Clock.gives c.args.conf.now.limits _ _ _ c.requires.some c.requires.within c.new-supervision.ensures.standing
+    _ c.new-supervision.ensures.told c.requires.journal c.in-Ok.ensures.roster (ap (λ s. at_work s) c.new-desk.ensures.supervision) (ap (λ r. r.knows) c.new-desk.ensures.roster) (c.new-desk.ensures.begins c.args.conf.now.limits)
     (ap (λ l. l.is_cut) c.new-log.ensures) c.requires.port c.in-Ok.ensures.shared.generation c.in-Ok.ensures.shared.own c.new-lost.ensures.items refl c.requires.console) in
     record {
       may = may_clear_at _ _ _ (ap (λ r. r.knows) c.into_parts-supervision.ensures.roster)
@@ -89,18 +69,8 @@ clear-requires g c =
 
 pub close-store-requires-clause-pool : goal.close-store-requires-clause-pool
 close-store-requires-clause-pool g c =
-    let stopped = c.run-end.ensures _ (begun g.C.Clock.gives c.args.conf.now.limits (slots_by c.args.conf.now.limits) _ c.args.conf.now.limits.max_connections (slots_by c.args.conf.now.limits)
-    (c.new-desk.ensures.begins c.args.conf.now.limits (slots_by c.args.conf.now.limits) (record {
-      standing = c.new-supervision.ensures.standing;
-      told = subst (λ (t : Option (List PmEvent)). IfSome t (λ entries. entries ≡ [])) (sym c.new-supervision.ensures.told) c.requires.journal;
-      session_limit = c.args.conf.now.limits.max_connections;
-      posts = (slots_by c.args.conf.now.limits);
-      board = c.in-Ok.ensures.roster;
-      many = (let some = c.requires.some in omega (arith, some));
-      few = (let within = c.requires.within in omega (arith, within));
-    }))
-    (ap (λ s. standing s) c.new-desk.ensures.supervision ∙ c.new-supervision.ensures.standing)
-    (ap (λ r. r.knows) c.new-desk.ensures.roster ∙ c.in-Ok.ensures.roster)
+    let stopped = c.run-end.ensures _ (begun g.C.Clock.gives c.args.conf.now.limits _ _ _ c.requires.some c.requires.within c.new-supervision.ensures.standing
+    _ c.new-supervision.ensures.told c.requires.journal c.in-Ok.ensures.roster (ap (λ s. at_work s) c.new-desk.ensures.supervision) (ap (λ r. r.knows) c.new-desk.ensures.roster) (c.new-desk.ensures.begins c.args.conf.now.limits)
     (ap (λ l. l.is_cut) c.new-log.ensures) c.requires.port c.in-Ok.ensures.shared.generation c.in-Ok.ensures.shared.own c.new-lost.ensures.items refl c.requires.console) in
     let parts = c.into_parts-supervision.ensures.roster in
     let clears = clears_at _ _ _ _ _ _ _ _ (ap (λ r. r.table) parts) (ap (λ r. r.knows) parts) c.clear.ensures.clears in
@@ -109,18 +79,8 @@ close-store-requires-clause-pool g c =
 
 pub close-store-requires-clause-board : goal.close-store-requires-clause-board
 close-store-requires-clause-board g c =
-    let stopped = c.run-end.ensures _ (begun g.C.Clock.gives c.args.conf.now.limits (slots_by c.args.conf.now.limits) _ c.args.conf.now.limits.max_connections (slots_by c.args.conf.now.limits)
-    (c.new-desk.ensures.begins c.args.conf.now.limits (slots_by c.args.conf.now.limits) (record {
-      standing = c.new-supervision.ensures.standing;
-      told = subst (λ (t : Option (List PmEvent)). IfSome t (λ entries. entries ≡ [])) (sym c.new-supervision.ensures.told) c.requires.journal;
-      session_limit = c.args.conf.now.limits.max_connections;
-      posts = (slots_by c.args.conf.now.limits);
-      board = c.in-Ok.ensures.roster;
-      many = (let some = c.requires.some in omega (arith, some));
-      few = (let within = c.requires.within in omega (arith, within));
-    }))
-    (ap (λ s. standing s) c.new-desk.ensures.supervision ∙ c.new-supervision.ensures.standing)
-    (ap (λ r. r.knows) c.new-desk.ensures.roster ∙ c.in-Ok.ensures.roster)
+    let stopped = c.run-end.ensures _ (begun g.C.Clock.gives c.args.conf.now.limits _ _ _ c.requires.some c.requires.within c.new-supervision.ensures.standing
+    _ c.new-supervision.ensures.told c.requires.journal c.in-Ok.ensures.roster (ap (λ s. at_work s) c.new-desk.ensures.supervision) (ap (λ r. r.knows) c.new-desk.ensures.roster) (c.new-desk.ensures.begins c.args.conf.now.limits)
     (ap (λ l. l.is_cut) c.new-log.ensures) c.requires.port c.in-Ok.ensures.shared.generation c.in-Ok.ensures.shared.own c.new-lost.ensures.items refl c.requires.console) in
     let parts = c.into_parts-supervision.ensures.roster in
     let clears = clears_at _ _ _ _ _ _ _ _ (ap (λ r. r.table) parts) (ap (λ r. r.knows) parts) c.clear.ensures.clears in
@@ -128,36 +88,16 @@ close-store-requires-clause-board g c =
 
 pub close-store-requires-clause-shared : goal.close-store-requires-clause-shared
 close-store-requires-clause-shared g c =
-    let stopped = c.run-end.ensures _ (begun g.C.Clock.gives c.args.conf.now.limits (slots_by c.args.conf.now.limits) _ c.args.conf.now.limits.max_connections (slots_by c.args.conf.now.limits)
-    (c.new-desk.ensures.begins c.args.conf.now.limits (slots_by c.args.conf.now.limits) (record {
-      standing = c.new-supervision.ensures.standing;
-      told = subst (λ (t : Option (List PmEvent)). IfSome t (λ entries. entries ≡ [])) (sym c.new-supervision.ensures.told) c.requires.journal;
-      session_limit = c.args.conf.now.limits.max_connections;
-      posts = (slots_by c.args.conf.now.limits);
-      board = c.in-Ok.ensures.roster;
-      many = (let some = c.requires.some in omega (arith, some));
-      few = (let within = c.requires.within in omega (arith, within));
-    }))
-    (ap (λ s. standing s) c.new-desk.ensures.supervision ∙ c.new-supervision.ensures.standing)
-    (ap (λ r. r.knows) c.new-desk.ensures.roster ∙ c.in-Ok.ensures.roster)
+    let stopped = c.run-end.ensures _ (begun g.C.Clock.gives c.args.conf.now.limits _ _ _ c.requires.some c.requires.within c.new-supervision.ensures.standing
+    _ c.new-supervision.ensures.told c.requires.journal c.in-Ok.ensures.roster (ap (λ s. at_work s) c.new-desk.ensures.supervision) (ap (λ r. r.knows) c.new-desk.ensures.roster) (c.new-desk.ensures.begins c.args.conf.now.limits)
     (ap (λ l. l.is_cut) c.new-log.ensures) c.requires.port c.in-Ok.ensures.shared.generation c.in-Ok.ensures.shared.own c.new-lost.ensures.items refl c.requires.console) in
     let stays = stopped.holds.stays in
     (stays.tokens ∙ (c.in-Ok.ensures.shared.tokens_are ∙ ap slots_of (sym c.in-Ok.ensures.terms.0)), stays.joined ∙ c.in-Ok.ensures.shared.none_joined)
 
 pub returns-in-Ok-clause-run : goal.returns-in-Ok-clause-run
 returns-in-Ok-clause-run g c =
-    let stopped = c.run-end.ensures _ (begun g.C.Clock.gives c.args.conf.now.limits (slots_by c.args.conf.now.limits) _ c.args.conf.now.limits.max_connections (slots_by c.args.conf.now.limits)
-    (c.new-desk.ensures.begins c.args.conf.now.limits (slots_by c.args.conf.now.limits) (record {
-      standing = c.new-supervision.ensures.standing;
-      told = subst (λ (t : Option (List PmEvent)). IfSome t (λ entries. entries ≡ [])) (sym c.new-supervision.ensures.told) c.requires.journal;
-      session_limit = c.args.conf.now.limits.max_connections;
-      posts = (slots_by c.args.conf.now.limits);
-      board = c.in-Ok.ensures.roster;
-      many = (let some = c.requires.some in omega (arith, some));
-      few = (let within = c.requires.within in omega (arith, within));
-    }))
-    (ap (λ s. standing s) c.new-desk.ensures.supervision ∙ c.new-supervision.ensures.standing)
-    (ap (λ r. r.knows) c.new-desk.ensures.roster ∙ c.in-Ok.ensures.roster)
+    let stopped = c.run-end.ensures _ (begun g.C.Clock.gives c.args.conf.now.limits _ _ _ c.requires.some c.requires.within c.new-supervision.ensures.standing
+    _ c.new-supervision.ensures.told c.requires.journal c.in-Ok.ensures.roster (ap (λ s. at_work s) c.new-desk.ensures.supervision) (ap (λ r. r.knows) c.new-desk.ensures.roster) (c.new-desk.ensures.begins c.args.conf.now.limits)
     (ap (λ l. l.is_cut) c.new-log.ensures) c.requires.port c.in-Ok.ensures.shared.generation c.in-Ok.ensures.shared.own c.new-lost.ensures.items refl c.requires.console) in
     let parts = c.into_parts-supervision.ensures.roster in
     let clears = clears_at _ _ _ _ _ _ _ _ (ap (λ r. r.table) parts) (ap (λ r. r.knows) parts) c.clear.ensures.clears in
@@ -194,18 +134,8 @@ returns-in-Ok-clause-run g c =
 
 pub returns-in-Ok-clause-rest : goal.returns-in-Ok-clause-rest
 returns-in-Ok-clause-rest g c =
-    let stopped = c.run-end.ensures _ (begun g.C.Clock.gives c.args.conf.now.limits (slots_by c.args.conf.now.limits) _ c.args.conf.now.limits.max_connections (slots_by c.args.conf.now.limits)
-    (c.new-desk.ensures.begins c.args.conf.now.limits (slots_by c.args.conf.now.limits) (record {
-      standing = c.new-supervision.ensures.standing;
-      told = subst (λ (t : Option (List PmEvent)). IfSome t (λ entries. entries ≡ [])) (sym c.new-supervision.ensures.told) c.requires.journal;
-      session_limit = c.args.conf.now.limits.max_connections;
-      posts = (slots_by c.args.conf.now.limits);
-      board = c.in-Ok.ensures.roster;
-      many = (let some = c.requires.some in omega (arith, some));
-      few = (let within = c.requires.within in omega (arith, within));
-    }))
-    (ap (λ s. standing s) c.new-desk.ensures.supervision ∙ c.new-supervision.ensures.standing)
-    (ap (λ r. r.knows) c.new-desk.ensures.roster ∙ c.in-Ok.ensures.roster)
+    let stopped = c.run-end.ensures _ (begun g.C.Clock.gives c.args.conf.now.limits _ _ _ c.requires.some c.requires.within c.new-supervision.ensures.standing
+    _ c.new-supervision.ensures.told c.requires.journal c.in-Ok.ensures.roster (ap (λ s. at_work s) c.new-desk.ensures.supervision) (ap (λ r. r.knows) c.new-desk.ensures.roster) (c.new-desk.ensures.begins c.args.conf.now.limits)
     (ap (λ l. l.is_cut) c.new-log.ensures) c.requires.port c.in-Ok.ensures.shared.generation c.in-Ok.ensures.shared.own c.new-lost.ensures.items refl c.requires.console) in
     (stopped.holds.stays.clock, refl)
 
