@@ -38,7 +38,7 @@ use Rattle.pm_postmaster.proofs.Going.{GoesBy, Leaves, LeavesStore, asks_nothing
 use Rattle.pm_postmaster.proofs.Linking.{links_accepted}
 use Rattle.pm_postmaster.proofs.Moments.{accepted_moments}
 use Rattle.pm_postmaster.proofs.Owed.{owes_accepted}
-use Rattle.pm_postmaster.proofs.Steps.{accepted-append}
+use Rattle.pm_postmaster.proofs.Asked.{accepted-append}
 
 -- the port has answered without a link
 pub no_link : {L : Type 0} (faults : L → ℕ) (n : ℕ) (d : RosterView MailTold) (visits : Option Visits) (answer : Accepted L) → ((link : L) → answer ≡ answers.Link link → ⊥)
@@ -102,7 +102,7 @@ module _ {D C : Type 0} (gives : C → ℕ → Type 0) (counts : CountsChildren)
       (subst (Moments (gives outset.clock)) (sym standing) (accepted_moments (gives outset.clock) s was.moments))
       (shared ∙ (was.generation ∙ sym (ap (λ (x : Standing). x.generation) standing)))
       (record { since = λ so. refl; lost = λ so. refl; resets = refl }) (λ j. refl) store
-      (asks_nothing gives (accepts k s) before now (record { read = (tt, tt); alone = (tt, tt); lines_are = refl; ends_are = refl; pids_are = refl })
+      (asks_nothing gives outset (accepts k s) before now (record { read = (tt, tt); alone = (tt, tt); lines_are = refl; ends_are = refl; pids_are = refl })
       (record { lines = lines; ended = ap ended_in visits ∙ ended_given faults before.visits; listens = listens }) (owes_accepted s now.work.standing standing goes_on))
     where
       by_visits : (n : ℕ) (v : Option Visits) → IfSome v (λ its. GivesLink (length its.given + 1) given) → IfSome v (HasLinks n before.board)

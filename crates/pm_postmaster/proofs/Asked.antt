@@ -1,23 +1,44 @@
 -- What a server was asked for, as its moves go on.
-use Rattle.std.proofs.Common.{◌≡◌, ◌⊎◌, inl, inr, ℕ, zero, suc, ◌+◌, ◌<◌, ◌≤◌, List, [], ◌∷◌, ◌++◌, refl, sym, ap, subst, ◌∙◌, length, arith, append-nil, append_assoc}
+use Rattle.std.proofs.Common.{◌≡◌, ◌⊎◌, inl, inr, ℕ, zero, suc, ◌+◌, ◌<◌, ◌≤◌, List, [], ◌∷◌, ◌++◌, refl, sym, ap, subst, ◌∙◌, length, arith, append-nil, append_assoc, length-append}
 use Rattle.std.proofs.lemmas.List.{length_push}
-use Rattle.std.specs.Prelude.{◌≢◌, Bool, true, false, ◌==◌, ◌||◌, Option, None, Some, IfSome, is_some, nat_le, option_map}
+use Rattle.std.specs.Prelude.{◌≢◌, Bool, true, false, ◌==◌, ◌||◌, if◌then◌else◌, Option, None, Some, IfSome, is_some, nat_le, option_map, unwrap_or}
 use Rattle.std.specs.List.{AllByRecursion}
 use Rattle.pm_acts.specs.Acts.{is_last_drawn}
 use Rattle.pm_journal.specs.Standing.{Standing}
-use Rattle.pm_outside.specs.Visits.{Visits}
+use Rattle.pm_outside.specs.Visits.{Visits, after_accept}
+use Rattle.pm_outside.specs.declared.port.Accepted.TheVariants.{End}
 use Rattle.pm_requests.specs.Requests.{IsNumber}
-use Rattle.pm_seating.specs.Chained.{AsksAsTold, IsReadAs, IsUnasked, lines_in, pids_end_in, port_ends_in}
-use Rattle.pm_seating.specs.Seating.{Move, Notes, Reads, PortEnds, PidsEnd}
+use Rattle.pm_journal.specs.declared.roll.Enrolled.{Enrolled}
+use Rattle.pm_seating.specs.Chained.{AsksAsTold, IsReadAs, IsUnasked, accepted_in, lines_in, pids_end_in, port_ends_in}
+use Rattle.pm_seating.specs.Seating.{Kill, Move, Nothing, Notes, PidsEnd, PortEnds, Reads, Request, Seating, Stop, asked_by, empty, entries_from, is_seated, journal_of, seating_by}
+use Rattle.pm_state.specs.declared.event.PmEvent.{PmEvent}
+use Rattle.pm_state.specs.declared.event.PmEvent.TheVariants as entry
 use Rattle.pm_server.specs.declared.end.ServerEnd.{ServerEnd}
 use Rattle.pm_server.specs.declared.end.ServerEnd.TheVariants.{NoMemory}
 use Rattle.pm_supervisor.specs.Children.{one_if}
 use Rattle.pm_worker.specs.declared.mail.MailTold.{MailTold}
 use Rattle.pm_worker.specs.declared.mail.MailTold.TheVariants as mail
 use Rattle.pm_postmaster.specs.Looking.{opened}
-use Rattle.pm_postmaster.specs.Requests.{AsksSoFar, IsAsked, MayOwe, ended_in, ended_short}
+use Rattle.pm_postmaster.specs.Requests.{AsksSoFar, IsAsked, MayOwe, end_from, ended_in, ended_short}
 
 -- ---- moves more
+
+pub accepted-append : (xs ys : List PmEvent) → accepted_in (xs ++ ys) ≡ accepted_in xs ++ accepted_in ys
+accepted-append [] ys = refl
+accepted-append (entry.Accepted pid decision ∷ xs) ys = ap (λ (l : List ℕ). pid ∷ l) (accepted-append xs ys)
+accepted-append (entry.Started pid kind ∷ xs) ys = accepted-append xs ys
+accepted-append (entry.Exited pid kind status was_active at ∷ xs) ys = accepted-append xs ys
+accepted-append (entry.Asked mode at ∷ xs) ys = accepted-append xs ys
+accepted-append (entry.KillAsked pid ∷ xs) ys = accepted-append xs ys
+accepted-append (entry.QuitSent why ∷ xs) ys = accepted-append xs ys
+accepted-append (entry.TerminateSent ∷ xs) ys = accepted-append xs ys
+accepted-append (entry.KillSent at ∷ xs) ys = accepted-append xs ys
+accepted-append (entry.CheckpointAsked ∷ xs) ys = accepted-append xs ys
+accepted-append (entry.RedoEnded generation kept ∷ xs) ys = accepted-append xs ys
+accepted-append (entry.Ready generation ∷ xs) ys = accepted-append xs ys
+accepted-append (entry.Reset generation ∷ xs) ys = accepted-append xs ys
+accepted-append (entry.Said line ∷ xs) ys = accepted-append xs ys
+accepted-append (entry.Ended how ∷ xs) ys = accepted-append xs ys
 
 all_more : {X : Type 0} (P : X → Type 0) (xs ys : List X) → AllByRecursion P xs → AllByRecursion P ys → AllByRecursion P (xs ++ ys)
 all_more P [] ys one two = two
@@ -36,6 +57,57 @@ port_more (Notes noted slot ∷ xs) ys = port_more xs ys
 port_more (Reads line asks at ∷ xs) ys = port_more xs ys
 port_more (PortEnds at ∷ xs) ys = omega (arith, port_more xs ys)
 port_more (PidsEnd at ∷ xs) ys = port_more xs ys
+
+-- moves that tell of no end
+no_end : (n : ℕ) (moves : List Move) → port_ends_in moves ≡ 0 → end_from n moves ≡ None
+no_end n [] none = refl
+no_end n (Notes noted slot ∷ moves) none = no_end (n + length (accepted_in (noted ∷ []))) moves none
+no_end n (Reads line asks at ∷ moves) none = no_end n moves none
+no_end n (PortEnds at ∷ moves) none = absurd (omega (arith, none))
+no_end n (PidsEnd at ∷ moves) none = no_end n moves none
+
+-- they leave the end where it was
+end_still : (n : ℕ) (xs ys : List Move) → port_ends_in ys ≡ 0 → end_from n (xs ++ ys) ≡ end_from n xs
+end_still n [] ys none = no_end n ys none
+end_still n (Notes noted slot ∷ xs) ys none = end_still (n + length (accepted_in (noted ∷ []))) xs ys none
+end_still n (Reads line asks at ∷ xs) ys none = end_still n xs ys none
+end_still n (PortEnds at ∷ xs) ys none = refl
+end_still n (PidsEnd at ∷ xs) ys none = end_still n xs ys none
+
+-- there is one end or none
+so_many_ends : (n : ℕ) (moves : List Move) → port_ends_in moves ≤ 1 → one_if (is_some (end_from n moves)) ≡ port_ends_in moves
+so_many_ends n [] few = refl
+so_many_ends n (Notes noted slot ∷ moves) few = so_many_ends (n + length (accepted_in (noted ∷ []))) moves few
+so_many_ends n (Reads line asks at ∷ moves) few = so_many_ends n moves few
+so_many_ends n (PortEnds at ∷ moves) few = omega (arith, few)
+so_many_ends n (PidsEnd at ∷ moves) few = so_many_ends n moves few
+
+none_accepted : (asks : Request) (at : ℕ) (seats : List (Option Enrolled)) → accepted_in (asked_by asks at seats) ≡ []
+none_accepted Nothing at seats = refl
+none_accepted (Stop how) at seats = refl
+none_accepted (Kill pid) at seats = by (is_seated pid seats)
+  where
+    by : (b : Bool) → accepted_in (if b then entry.KillAsked pid ∷ [] else []) ≡ []
+    by true = refl
+    by false = refl
+
+-- the first end stands behind all that were accepted
+end_behind : (n at : ℕ) (s : Seating) (moves : List Move) → port_ends_in moves ≡ 0
+    → end_from n (moves ++ PortEnds at ∷ []) ≡ Some (n + length (accepted_in (entries_from s moves)))
+end_behind n at s [] none = ap (λ (k : ℕ). Some k) (omega arith)
+end_behind n at s (Notes noted slot ∷ moves) none =
+    let rest : List PmEvent = entries_from (seating_by s (Notes noted slot)) moves in
+    let both = ap length (accepted-append (noted ∷ []) rest) in
+    let long = length-append (accepted_in (noted ∷ [])) (accepted_in rest) in
+    end_behind (n + length (accepted_in (noted ∷ []))) at (seating_by s (Notes noted slot)) moves none ∙ ap (λ (k : ℕ). Some k) (omega (arith, both, long))
+end_behind n at s (Reads line asks now ∷ moves) none =
+    let rest : List PmEvent = entries_from s moves in
+    let both = ap length (accepted-append (asked_by asks now s.seats) rest) in
+    let long = length-append (accepted_in (asked_by asks now s.seats)) (accepted_in rest) in
+    let nobody = ap length (none_accepted asks now s.seats) in
+    end_behind n at s moves none ∙ ap (λ (k : ℕ). Some k) (omega (arith, both, long, nobody))
+end_behind n at s (PortEnds now ∷ moves) none = absurd (omega (arith, none))
+end_behind n at s (PidsEnd now ∷ moves) none = end_behind n at s moves none
 
 pids_more : (xs ys : List Move) → pids_end_in (xs ++ ys) ≡ pids_end_in xs + pids_end_in ys
 pids_more [] ys = omega arith
@@ -137,17 +209,17 @@ pub none_read : (l : Option (List (List ℕ))) → l ≡ option_map (λ ls. ls +
 none_read None = refl
 none_read (Some its) = ap (λ (x : List (List ℕ)). Some x) (sym (append-nil its))
 
-module _ (earlier more : List Move) (lines lines_now : Option (List (List ℕ))) (ended ended_now : Option Bool) (listens listens_now : Bool) (s t : Standing) where
+module _ (earlier more : List Move) (lines lines_now : Option (List (List ℕ))) (ended ended_now : Option (Option ℕ)) (listens listens_now : Bool) (s t : Standing) where
   -- whatever they ask for, told so by console and port
   pub asks_on : (read : List (List ℕ)) (ends pids : ℕ) → Adds more read ends pids → lines_now ≡ option_map (λ ls. ls ++ read) lines
-      → (port_ends_in earlier + one_if listens ≤ 1 → IfSome ended (λ it. one_if it ≡ port_ends_in earlier) → IfSome ended_now (λ it. one_if it ≡ port_ends_in earlier + ends))
+      → (port_ends_in earlier + one_if listens ≤ 1 → IfSome ended (λ it. it ≡ end_from 0 earlier) → IfSome ended_now (λ it. it ≡ end_from 0 (earlier ++ more)))
       → ends + one_if listens_now ≤ one_if listens → OwesOn pids s t
       → AsksSoFar earlier lines ended listens s → AsksSoFar (earlier ++ more) lines_now ended_now listens_now t
   asks_on read ends pids adds given port fewer owes was = record {
     read = all_more (IsReadAs IsNumber) earlier more was.read adds.read;
     alone = all_more IsUnasked earlier more was.alone adds.alone;
     lines_are = subst (λ (l : Option (List (List ℕ))). IfSome l (λ its. its ≡ lines_in (earlier ++ more))) (sym given) (by_lines lines was.lines_are);
-    port = subst (λ (n : ℕ). IfSome ended_now (λ it. one_if it ≡ n)) (sym so_many) (port was.before_end was.port);
+    port = port was.before_end was.port;
     before_end = (let a = so_many in let b = was.before_end in omega (arith, a, b, fewer));
     pids = subst (λ (n : ℕ). n + one_if t.owes_smart ≡ one_if (is_last_drawn t.last_pid)) (sym (pids_more earlier more ∙ ap (λ (n : ℕ). pids_end_in earlier + n) adds.pids_are))
         (owes.pids (pids_end_in earlier) was.pids);
@@ -162,97 +234,103 @@ module _ (earlier more : List Move) (lines lines_now : Option (List (List ℕ)))
       by_lines (Some its) are =
           ap (λ (l : List (List ℕ)). l ++ read) are ∙ sym (lines_more earlier more ∙ ap (λ (l : List (List ℕ)). lines_in earlier ++ l) adds.lines_are)
 
-  -- the port's end stays as it was
-  pub ends_still : ended_now ≡ ended → port_ends_in earlier + one_if listens ≤ 1 → IfSome ended (λ it. one_if it ≡ port_ends_in earlier)
-      → IfSome ended_now (λ it. one_if it ≡ port_ends_in earlier + 0)
-  ends_still still few are = subst (λ (o : Option Bool). IfSome o (λ it. one_if it ≡ port_ends_in earlier + 0)) (sym still) (by ended are)
-    where
-      by : (o : Option Bool) → IfSome o (λ it. one_if it ≡ port_ends_in earlier) → IfSome o (λ it. one_if it ≡ port_ends_in earlier + 0)
-      by None are = tt
-      by (Some it) are = omega (arith, are)
-
-  -- it came, where links were asked for
-  pub ends_now : listens ≡ true → ended_now ≡ option_map (λ it. true) ended → port_ends_in earlier + one_if listens ≤ 1
-      → IfSome ended (λ it. one_if it ≡ port_ends_in earlier) → IfSome ended_now (λ it. one_if it ≡ port_ends_in earlier + 1)
-  ends_now hears comes few are = subst (λ (o : Option Bool). IfSome o (λ it. one_if it ≡ port_ends_in earlier + 1)) (sym comes) (by ended)
-    where
-      by : (o : Option Bool) → IfSome (option_map (λ it. true) o) (λ it. one_if it ≡ port_ends_in earlier + 1)
-      by None = tt
-      by (Some it) = (let one = ap one_if hears in omega (arith, few, one))
+  -- the port's end stays where it was
+  pub ends_still : port_ends_in more ≡ 0 → ended_now ≡ ended → port_ends_in earlier + one_if listens ≤ 1 → IfSome ended (λ it. it ≡ end_from 0 earlier)
+      → IfSome ended_now (λ it. it ≡ end_from 0 (earlier ++ more))
+  ends_still none still few are = subst (λ (e : Option ℕ). IfSome ended_now (λ it. it ≡ e)) (sym (end_still 0 earlier more none))
+      (subst (λ (o : Option (Option ℕ)). IfSome o (λ it. it ≡ end_from 0 earlier)) (sym still) are)
 
   -- nothing was asked for here
   pub asks_none : AsksNone more → lines_now ≡ lines → ended_now ≡ ended → listens_now ≡ listens → OwesOn 0 s t
       → AsksSoFar earlier lines ended listens s → AsksSoFar (earlier ++ more) lines_now ended_now listens_now t
   asks_none adds same still hears owes was =
       asks_on [] 0 0 adds (same ∙ none_read lines)
-      (ends_still still) (let a = ap one_if hears in omega (arith, a)) owes was
+      (ends_still adds.ends_are still) (let a = ap one_if hears in omega (arith, a)) owes was
+
+-- ---- the port's end
+
+module _ {L : Type 0} (faults : L → ℕ) (visits now : Option Visits) (is : now ≡ option_map (λ v. after_accept faults v End) visits) where
+  -- it comes, where links were asked for
+  pub ends_now : (earlier : List Move) (at count : ℕ) → port_ends_in earlier + 1 ≤ 1 → IfSome (ended_in visits) (λ it. it ≡ end_from 0 earlier)
+      → IfSome visits (λ v. length v.given ≡ length (accepted_in (journal_of count earlier))) → IfSome (ended_in now) (λ it. it ≡ end_from 0 (earlier ++ PortEnds at ∷ []))
+  ends_now earlier at count few are given = subst (λ (o : Option Visits). IfSome (ended_in o) (λ it. it ≡ end_from 0 (earlier ++ PortEnds at ∷ []))) (sym is) (by visits are given)
+    where
+      none : port_ends_in earlier ≡ 0
+      none = omega (arith, few)
+
+      behind : end_from 0 (earlier ++ PortEnds at ∷ []) ≡ Some (length (accepted_in (journal_of count earlier)))
+      behind = end_behind 0 at (empty count) earlier none ∙ ap (λ (k : ℕ). Some k) (omega arith)
+
+      by : (o : Option Visits) → IfSome (ended_in o) (λ it. it ≡ end_from 0 earlier) → IfSome o (λ v. length v.given ≡ length (accepted_in (journal_of count earlier)))
+          → IfSome (ended_in (option_map (λ v. after_accept faults v End) o)) (λ it. it ≡ end_from 0 (earlier ++ PortEnds at ∷ []))
+      by None are given = tt
+      by (Some its) are given =
+          ap (λ (e : Option ℕ). Some (unwrap_or e (length its.given))) (are ∙ no_end 0 earlier none) ∙ (ap (λ (k : ℕ). Some k) given ∙ sym behind)
+
+  -- so it has come behind some link
+  pub has_come : (n : ℕ) × IfSome (ended_in now) (λ it. it ≡ Some n)
+  has_come = subst (λ (o : Option Visits). (n : ℕ) × IfSome (ended_in o) (λ it. it ≡ Some n)) (sym is) (by visits)
+    where
+      by : (o : Option Visits) → (n : ℕ) × IfSome (ended_in (option_map (λ v. after_accept faults v End) o)) (λ it. it ≡ Some n)
+      by None = (0, tt)
+      by (Some its) = (unwrap_or its.ended_behind (length its.given), refl)
 
 -- ---- what is asked at the end
 
--- one or none
-which : (n : ℕ) → n ≤ 1 → (b : Bool) × (one_if b ≡ n)
-which zero few = (false, refl)
-which (suc zero) few = (true, refl)
-which (suc (suc n)) few = absurd (omega (arith, few))
-
-module _ (end : ServerEnd) (moves : List Move) (lines : Option (List (List ℕ))) (ended : Option Bool) (listens : Bool) (s : Standing) (was : AsksSoFar moves lines ended listens s) where
-  -- the port's end has come, or it hasn't
-  port_said : (b : Bool) × (one_if b ≡ port_ends_in moves) × IfSome ended (λ it. it ≡ b)
-  port_said = by ended was.port
-    where
-      by : (o : Option Bool) → IfSome o (λ it. one_if it ≡ port_ends_in moves) → (b : Bool) × (one_if b ≡ port_ends_in moves) × IfSome o (λ it. it ≡ b)
-      by None are = let one = which (port_ends_in moves) (let few = was.before_end in omega (arith, few)) in (one.0, one.1, tt)
-      by (Some it) are = (it, are, refl)
+module _ (end : ServerEnd) (moves : List Move) (lines : Option (List (List ℕ))) (ended : Option (Option ℕ)) (listens : Bool) (s : Standing) (was : AsksSoFar moves lines ended listens s) where
+  -- there is one end or none
+  ends : one_if (is_some (end_from 0 moves)) ≡ port_ends_in moves
+  ends = so_many_ends 0 moves (let few = was.before_end in omega (arith, few))
 
   -- all that was to be asked for was, but for a smart shutdown that is owed
   pub asked_all : (s.owes_smart ≡ true → ended_short end ≡ true) → IsAsked end moves lines ended s.last_pid
   asked_all short =
-      let said = port_said in
-      let ends = said.1 in
+      let said = ends in
       let pids = was.pids in
       record {
         given = lines_in moves;
         lines_are = was.lines_are;
-        has_ended = said.0;
-        ended_is = said.2;
+        ended_behind = end_from 0 moves;
+        ended_is = was.port;
         asks = record {
           unread = [];
           lines_are = sym (append-nil (lines_in moves));
           read = was.read;
           alone = was.alone;
           missing = s.owes_smart;
-          port = omega (arith, ends);
+          port = omega (arith, said);
           pids = omega (arith, pids);
-          all = omega (arith, ends, pids);
+          all = omega (arith, said, pids);
           why = short;
         };
+        place = λ n is. is;
       }
 
   module _ (unowed : s.owes_smart ≡ false) where
     -- a line was read, and there was no memory for what it asks for
     pub asked_but_line : (line : List ℕ) (now : Option (List (List ℕ))) → now ≡ option_map (λ ls. ls ++ line ∷ []) lines → IsAsked NoMemory moves now ended s.last_pid
     asked_but_line line now is =
-        let said = port_said in
-        let ends = said.1 in
+        let said = ends in
         let pids = was.pids in
         let none = ap one_if unowed in
         let long = length_push (lines_in moves) line in
         record {
           given = lines_in moves ++ line ∷ [];
           lines_are = subst (λ (l : Option (List (List ℕ))). IfSome l (λ its. its ≡ lines_in moves ++ line ∷ [])) (sym is) (by lines was.lines_are);
-          has_ended = said.0;
-          ended_is = said.2;
+          ended_behind = end_from 0 moves;
+          ended_is = was.port;
           asks = record {
             unread = line ∷ [];
             lines_are = refl;
             read = was.read;
             alone = was.alone;
             missing = true;
-            port = omega (arith, ends);
+            port = omega (arith, said);
             pids = omega (arith, pids);
-            all = omega (arith, ends, pids, none, long);
+            all = omega (arith, said, pids, none, long);
             why = λ is. refl;
           };
+          place = λ n is. is;
         }
       where
         by : (l : Option (List (List ℕ))) → IfSome l (λ its. its ≡ lines_in moves) → IfSome (option_map (λ ls. ls ++ line ∷ []) l) (λ its. its ≡ lines_in moves ++ line ∷ [])
@@ -260,8 +338,8 @@ module _ (end : ServerEnd) (moves : List Move) (lines : Option (List (List ℕ))
         by (Some its) are = ap (λ (l : List (List ℕ)). l ++ line ∷ []) are
 
     -- the port's end came, and there was no memory to ask for a shutdown
-    pub asked_but_end : (now : Option Bool) → listens ≡ true → IfSome now (λ it. it ≡ true) → IsAsked NoMemory moves lines now s.last_pid
-    asked_but_end now hears came =
+    pub asked_but_end : (now : Option (Option ℕ)) (n : ℕ) → listens ≡ true → IfSome now (λ it. it ≡ Some n) → IsAsked NoMemory moves lines now s.last_pid
+    asked_but_end now n hears came =
         let few = was.before_end in
         let one = ap one_if hears in
         let pids = was.pids in
@@ -269,7 +347,7 @@ module _ (end : ServerEnd) (moves : List Move) (lines : Option (List (List ℕ))
         record {
           given = lines_in moves;
           lines_are = was.lines_are;
-          has_ended = true;
+          ended_behind = Some n;
           ended_is = came;
           asks = record {
             unread = [];
@@ -282,6 +360,7 @@ module _ (end : ServerEnd) (moves : List Move) (lines : Option (List (List ℕ))
             all = omega (arith, few, one, pids, none);
             why = λ is. refl;
           };
+          place = λ k is. absurd (let no_ : None ≡ Some k = sym (no_end 0 moves (omega (arith, few, one))) ∙ is in cc);
         }
 
 -- ---- the port

@@ -124,9 +124,9 @@ module _ {D C : Type 0} (gives : C → ℕ → Type 0) where
       at_most_one true = omega arith
       at_most_one false = omega arith
 
-      unended : (its : Option Visits) → IfSome its (λ visits. visits ≡ no_visits) → IfSome (ended_in its) (λ it. one_if it ≡ 0)
+      unended : (its : Option Visits) → IfSome its (λ visits. visits ≡ no_visits) → IfSome (ended_in its) (λ it. it ≡ None)
       unended None new = tt
-      unended (Some its) new = ap (λ (x : Visits). one_if (is_some x.ended_behind)) new
+      unended (Some its) new = ap (λ (x : Visits). x.ended_behind) new
 
       by : (its : Option Visits) → IfSome its (λ visits. visits ≡ no_visits) → IfSome its (HasLinks 0 v.board)
       by None new = tt

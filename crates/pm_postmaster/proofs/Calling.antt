@@ -1,10 +1,11 @@
 -- The calls of a desk, as a server makes them.
 use Rattle.std.proofs.Common.{◌≡◌, ℕ, ◌+◌, ◌≤◌, List, [], ◌∷◌, refl, ap, sym, subst, ◌∙◌, arith}
-use Rattle.std.specs.Prelude.{Bool, true, false, Option, IfSome, is_some, option_map}
+use Rattle.std.specs.Prelude.{Bool, true, false, Option, None, Some, IfSome, is_some, length, option_map}
 use Rattle.pm_board.specs.declared.views.RosterView.{RosterView}
 use Rattle.pm_board.specs.Places.{slot_at}
 use Rattle.pm_journal.specs.Laws.{KeepsALegalJournal}
-use Rattle.pm_outside.specs.Visits.{Visits}
+use Rattle.pm_outside.specs.Visits.{Visits, after_accept}
+use Rattle.pm_outside.specs.declared.port.Accepted.TheVariants.{End}
 use Rattle.pm_requests.specs.Requests.{IsNumber}
 use Rattle.pm_seating.specs.Chained.{AsksFor}
 use Rattle.pm_seating.specs.Final.{MayEndAnywhere}
@@ -15,7 +16,8 @@ use Rattle.pm_supervisor.specs.Children.{one_if}
 use Rattle.pm_worker.specs.declared.mail.MailTold.{MailTold}
 use Rattle.pm_postmaster.specs.Asking.{GivesLine}
 use Rattle.pm_postmaster.specs.Requests.{AsksSoFar, IsAsked, ended_in}
-use Rattle.pm_postmaster.specs.Serving.{Keeps, Stops}
+use Rattle.pm_postmaster.specs.Links.{HasLinks}
+use Rattle.pm_postmaster.specs.Serving.{Keeps, Outset, Stops}
 use Rattle.pm_postmaster.specs.View.{View}
 use Rattle.pm_postmaster.proofs.Asked.{OwesOn, asked_all, asked_but_end, asked_but_line, asks_on, ends_now, ends_still, none_read}
 use Rattle.pm_postmaster.proofs.Going.{AsksOn, Leaves, LeavesAsking, LeavesOutside, LeavesStore, stopped_as}
@@ -93,39 +95,43 @@ module _ {D C : Type 0} (gives : C → ℕ → Type 0) (before now : View D C) (
       (asked_but_line NoMemory moves before.lines (ended_in before.visits) before.listens now.work.standing asks unowed line now.lines given))
 
   -- for the shutdown behind the port's end
-  pub short_end : LinksStay now.board before.visits now.visits → before.listens ≡ true → IfSome (ended_in now.visits) (λ it. it ≡ true) → now.lines ≡ before.lines
+  pub short_end : (n : ℕ) → LinksStay now.board before.visits now.visits → before.listens ≡ true → IfSome (ended_in now.visits) (λ it. it ≡ Some n) → now.lines ≡ before.lines
       → now.work.standing.owes_smart ≡ false → Stops gives NoMemory before now
-  short_end stay hears came lines unowed =
+  short_end n stay hears came lines unowed =
       stops_as stay (λ moves asks.
       subst (λ (l : Option (List (List ℕ))). IsAsked NoMemory moves l (ended_in now.visits) now.work.standing.last_pid) (sym lines)
-      (asked_but_end NoMemory moves before.lines (ended_in before.visits) before.listens now.work.standing asks unowed (ended_in now.visits) hears came))
+      (asked_but_end NoMemory moves before.lines (ended_in before.visits) before.listens now.work.standing asks unowed (ended_in now.visits) n hears came))
 
 -- ---- requests
 
-module _ {D C : Type 0} (gives : C → ℕ → Type 0) (now : View D C) where
+module _ {D C : Type 0} (gives : C → ℕ → Type 0) (outset : Outset D C) (now : View D C) where
   -- a line was read
   pub asks_line : (v : View D C) (line : List ℕ) (lines : Option (List (List ℕ))) (asks : Request) (at : ℕ) → GivesLine line lines v.lines → AsksFor IsNumber line asks → LeavesAsking gives v now
-      → OwesOn 0 v.work.standing now.work.standing → AsksOn gives (Reads line asks at ∷ []) (record v { lines = lines }) now
-  asks_line v line lines asks at given asked leaves owes earlier was =
-      asks_on earlier (Reads line asks at ∷ []) lines now.lines (ended_in v.visits) (ended_in now.visits) v.listens now.listens v.work.standing now.work.standing (line ∷ []) 0 0
+      → OwesOn 0 v.work.standing now.work.standing → AsksOn gives outset (Reads line asks at ∷ []) (record v { lines = lines }) now
+  asks_line v line lines asks at given asked leaves owes was =
+      asks_on was.moves (Reads line asks at ∷ []) lines now.lines (ended_in v.visits) (ended_in now.visits) v.listens now.listens v.work.standing now.work.standing (line ∷ []) 0 0
       (record { read = (asked, tt); alone = (tt, tt); lines_are = refl; ends_are = refl; pids_are = refl }) (leaves.lines ∙ given)
-      (ends_still earlier (Reads line asks at ∷ []) lines now.lines (ended_in v.visits) (ended_in now.visits) v.listens now.listens v.work.standing now.work.standing leaves.ended)
-      (let a = ap one_if leaves.listens in omega (arith, a)) owes was
+      (ends_still was.moves (Reads line asks at ∷ []) lines now.lines (ended_in v.visits) (ended_in now.visits) v.listens now.listens v.work.standing now.work.standing refl leaves.ended)
+      (let a = ap one_if leaves.listens in omega (arith, a)) owes was.asks
 
   -- the port's end has come
-  pub asks_end : (before : View D C) (at : ℕ) → now.lines ≡ before.lines → ended_in now.visits ≡ option_map (λ it. true) (ended_in before.visits) → before.listens ≡ true → now.listens ≡ false
-      → OwesOn 0 before.work.standing now.work.standing → AsksOn gives (PortEnds at ∷ []) before now
-  asks_end before at lines ended hears deaf owes earlier was =
-      asks_on earlier (PortEnds at ∷ []) before.lines now.lines (ended_in before.visits) (ended_in now.visits) before.listens now.listens before.work.standing now.work.standing [] 1 0
+  pub asks_end : {L : Type 0} (faults : L → ℕ) (before : View D C) (at : ℕ) → now.lines ≡ before.lines → now.visits ≡ option_map (λ v. after_accept faults v End) before.visits
+      → before.listens ≡ true → now.listens ≡ false → OwesOn 0 before.work.standing now.work.standing → AsksOn gives outset (PortEnds at ∷ []) before now
+  asks_end faults before at lines visits hears deaf owes was =
+      asks_on was.moves (PortEnds at ∷ []) before.lines now.lines (ended_in before.visits) (ended_in now.visits) before.listens now.listens before.work.standing now.work.standing [] 1 0
       (record { read = (tt, tt); alone = (tt, tt); lines_are = refl; ends_are = refl; pids_are = refl }) (lines ∙ none_read before.lines)
-      (ends_now earlier (PortEnds at ∷ []) before.lines now.lines (ended_in before.visits) (ended_in now.visits) before.listens now.listens before.work.standing now.work.standing hears ended)
-      (let a = ap one_if hears in let b = ap one_if deaf in omega (arith, a, b)) owes was
+      (λ few are. ends_now faults before.visits now.visits visits was.moves at outset.count (let one = ap one_if hears in omega (arith, few, one)) are (so_many _ before.board before.visits was.holds.links))
+      (let a = ap one_if hears in let b = ap one_if deaf in omega (arith, a, b)) owes was.asks
+    where
+      so_many : (n : ℕ) (d : RosterView MailTold) (v : Option Visits) → IfSome v (HasLinks n d) → IfSome v (λ its. length its.given ≡ n)
+      so_many n d None has = tt
+      so_many n d (Some its) has = has.given
 
   -- the last pid was drawn
   pub asks_pids : (before : View D C) (at : ℕ) → now.lines ≡ before.lines → ended_in now.visits ≡ ended_in before.visits → now.listens ≡ false
-      → OwesOn 1 before.work.standing now.work.standing → AsksOn gives (PidsEnd at ∷ []) before now
-  asks_pids before at lines ended deaf owes earlier was =
-      asks_on earlier (PidsEnd at ∷ []) before.lines now.lines (ended_in before.visits) (ended_in now.visits) before.listens now.listens before.work.standing now.work.standing [] 0 1
+      → OwesOn 1 before.work.standing now.work.standing → AsksOn gives outset (PidsEnd at ∷ []) before now
+  asks_pids before at lines ended deaf owes was =
+      asks_on was.moves (PidsEnd at ∷ []) before.lines now.lines (ended_in before.visits) (ended_in now.visits) before.listens now.listens before.work.standing now.work.standing [] 0 1
       (record { read = (tt, tt); alone = (tt, tt); lines_are = refl; ends_are = refl; pids_are = refl }) (lines ∙ none_read before.lines)
-      (ends_still earlier (PidsEnd at ∷ []) before.lines now.lines (ended_in before.visits) (ended_in now.visits) before.listens now.listens before.work.standing now.work.standing ended)
-      (let b = ap one_if deaf in omega (arith, b)) owes was
+      (ends_still was.moves (PidsEnd at ∷ []) before.lines now.lines (ended_in before.visits) (ended_in now.visits) before.listens now.listens before.work.standing now.work.standing refl ended)
+      (let b = ap one_if deaf in omega (arith, b)) owes was.asks

@@ -113,9 +113,9 @@ caused_more NoThread moves past more now is cause = tt
 caused_more NoMemory moves past more now is cause = tt
 
 -- what was asked of a server stays so while its children are cleared
-pub asked_behind : (end : ServerEnd) (moves : List Move) (lines : Option (List (List ℕ))) (before now : Option Bool) (last_pid : ℕ) → now ≡ before → IsAsked end moves lines before last_pid
+pub asked_behind : (end : ServerEnd) (moves : List Move) (lines : Option (List (List ℕ))) (before now : Option (Option ℕ)) (last_pid : ℕ) → now ≡ before → IsAsked end moves lines before last_pid
     → IsAsked end moves lines now last_pid
-asked_behind end moves lines before now last_pid is asked = subst (λ (o : Option Bool). IsAsked end moves lines o last_pid) (sym is) asked
+asked_behind end moves lines before now last_pid is asked = subst (λ (o : Option (Option ℕ)). IsAsked end moves lines o last_pid) (sym is) asked
 
 -- behind all slots there is nobody
 pub none_behind : (d : RosterView MailTold) (k : ℕ) → length d.slots ≤ k → (slot_at d k).past ≡ []

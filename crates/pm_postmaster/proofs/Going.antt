@@ -81,13 +81,14 @@ module _ {D C : Type 0} (gives : C → ℕ → Type 0) where
   AsksAt moves v = AsksSoFar moves v.lines (ended_in v.visits) v.listens v.work.standing
 
   -- whatever was asked for before, it is so behind these moves too
-  abbrev pub AsksOn : List Move → View D C → View D C → Type 0
-  AsksOn more before now = (earlier : List Move) → AsksAt earlier before → AsksAt (earlier ++ more) now
+  abbrev pub AsksOn : Outset D C → List Move → View D C → View D C → Type 0
+  AsksOn outset more before now = (was : IsServing gives outset before) → AsksAt (was.moves ++ more) now
 
-  pub asks_nothing : (more : List Move) (before now : View D C) → AsksNone more → LeavesAsking before now → OwesOn 0 before.work.standing now.work.standing → AsksOn more before now
-  asks_nothing more before now none leaves owes earlier was =
-      asks_none earlier more before.lines now.lines (ended_in before.visits) (ended_in now.visits) before.listens now.listens before.work.standing now.work.standing
-      none leaves.lines leaves.ended leaves.listens owes was
+  pub asks_nothing : (outset : Outset D C) (more : List Move) (before now : View D C) → AsksNone more → LeavesAsking before now → OwesOn 0 before.work.standing now.work.standing
+      → AsksOn outset more before now
+  asks_nothing outset more before now none leaves owes was =
+      asks_none was.moves more before.lines now.lines (ended_in before.visits) (ended_in now.visits) before.listens now.listens before.work.standing now.work.standing
+      none leaves.lines leaves.ended leaves.listens owes was.asks
 
   -- where these entries tell of no loss, and these moves of no end of redo
   pub renews_on : (journal entries : List PmEvent) (before now : View D C) → AreQuiet entries → LeavesStore before now
@@ -133,7 +134,7 @@ module _ {D C : Type 0} (gives : C → ℕ → Type 0) where
   -- it goes on serving
   pub serves_on : (outset : Outset D C) (more : List Move) (entries : List PmEvent) (before now : View D C) → (was : IsServing gives outset before)
       → GoesBy outset was.moves more entries before now → IsAt outset.limits outset.count (was.moves ++ more) (view now.work now.board) → Moments (gives outset.clock) now.work.standing
-      → now.shared.generation ≡ now.work.standing.generation → AreQuiet entries → TellNone more → LeavesStore before now → AsksOn more before now → IsServing gives outset now
+      → now.shared.generation ≡ now.work.standing.generation → AreQuiet entries → TellNone more → LeavesStore before now → AsksOn outset more before now → IsServing gives outset now
   serves_on outset more entries before now was by at moments generation quiet none leaves asks = record {
     moves = was.moves ++ more;
     at = at;
@@ -143,7 +144,7 @@ module _ {D C : Type 0} (gives : C → ℕ → Type 0) where
     renews = subst (λ (es : List PmEvent). Renews es now.lost now.shared.own) (sym by.journal) (renews_on (journal_of outset.count was.moves) entries before now quiet leaves was.renews);
     redos = redos_still was.moves more before.board now.board none leaves.past was.redos;
     came = came_on before now leaves was.came;
-    asks = asks was.moves was.asks;
+    asks = asks was;
   }
 
   -- A server at any moment may end, where its end is right, and where this was asked of it.

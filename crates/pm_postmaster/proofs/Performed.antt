@@ -213,9 +213,9 @@ module _ {D C : Type 0} (gives : C → ℕ → Type 0) (counts : CountsChildren)
     -- and nothing was asked for
     asks_now : AsksAt gives moves_now now
     asks_now =
-        asks_nothing gives (Notes (entry_for a before.work.standing) (slot_for a) ∷ []) before now (acts_ask_none a before.work.standing)
+        asks_nothing gives outset (Notes (entry_for a before.work.standing) (slot_for a) ∷ []) before now (acts_ask_none a before.work.standing)
         (record { lines = is.lines; ended = ap ended_in is.visits; listens = is.listens })
-        (owes_acted a before.work.standing mid.work.standing is.standing is.first was.at.stands.coming.owes) was.moves was.asks
+        (owes_acted a before.work.standing mid.work.standing is.standing is.first was.at.stands.coming.owes) was
 
     -- nothing was renewed
     pub went_on : lost ≡ mid.lost → shared ≡ mid.shared → (a ≡ action.Reset → ⊥) → IsServing gives outset now

@@ -251,7 +251,7 @@ module _ {D C : Type 0} (gives : C → ℕ → Type 0) (counts : CountsChildren)
       serves_on gives outset [] [] before now was by (goes outset.limits outset.count was.moves was.at)
       (subst (λ (w : AtWork). Moments (gives outset.clock) w.standing) (sym work) was.moments)
       (shared ∙ (was.generation ∙ ap (λ (w : AtWork). w.standing.generation) (sym work))) quiet_none (λ j. refl) store
-      (asks_nothing gives [] before now none_asked asking (owes_same before.work.standing now.work.standing (ap (λ (w : AtWork). w.standing) work)))
+      (asks_nothing gives outset [] before now none_asked asking (owes_same before.work.standing now.work.standing (ap (λ (w : AtWork). w.standing) work)))
 
   -- a child has ended, which was noted
   pub reaped_on : (k at : ℕ) (exit : ChildExit) (kind : Kind) (status : Status) (active : Bool) (back : MailTold) → gives before.clock at → (has : Leaving k kind status active back before.board now.board)
@@ -289,7 +289,7 @@ module _ {D C : Type 0} (gives : C → ℕ → Type 0) (counts : CountsChildren)
             (released.generation ∙ (was.at.seated.shows.generation ∙ sym was.at.seated.generation)) was.redos;
         came = came_reaped k kind status active back before.came now.came before.board now.board released
             (startup_first outset.count was.moves before.board (seats_of before.board) before.work.standing k released.offer was.at.seated released.near released.sight) came was.came;
-        asks = asks_nothing gives (exits k exit at s) before now (exits_ask_none k at exit s) asking (owes_exited s now.work.standing exit at standing unowed) was.moves was.asks;
+        asks = asks_nothing gives outset (exits k exit at s) before now (exits_ask_none k at exit s) asking (owes_exited s now.work.standing exit at standing unowed) was;
       }
 
   -- a child has ended, and there was no memory to note it
@@ -320,7 +320,7 @@ module _ {D C : Type 0} (gives : C → ℕ → Type 0) (counts : CountsChildren)
         asked = subst (λ (n : ℕ). IsAsked NoMemory was.moves now.lines (ended_in now.visits) n)
             (pid_at outset.limits (journal_of outset.count was.moves) before.work.standing was.at.past was.at.stands)
             (subst (λ (l : Option (List (List ℕ))). IsAsked NoMemory was.moves l (ended_in now.visits) before.work.standing.last_pid) (sym asking.lines)
-            (subst (λ (e : Option Bool). IsAsked NoMemory was.moves before.lines e before.work.standing.last_pid) (sym asking.ended)
+            (subst (λ (e : Option (Option ℕ)). IsAsked NoMemory was.moves before.lines e before.work.standing.last_pid) (sym asking.ended)
             (asked_all NoMemory was.moves before.lines (ended_in before.visits) before.listens before.work.standing was.asks (λ owes. refl))));
         renews = subst (λ (x : List Noted). RenewsAsTold (journal_of outset.count was.moves) x) (sym own)
             (renews_as_told (journal_of outset.count was.moves) before.lost before.shared.own was.renews);

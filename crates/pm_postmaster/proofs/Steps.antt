@@ -24,29 +24,12 @@ use Rattle.pm_worker.specs.declared.mail.MailTold.{MailTold}
 use Rattle.pm_postmaster.specs.Links.{HasLinks}
 use Rattle.pm_postmaster.specs.Serving.{IsServing, Moments, Outset}
 use Rattle.pm_postmaster.specs.View.{View}
-use Rattle.pm_postmaster.proofs.Asked.{none_asked, owes_none, owes_same}
+use Rattle.pm_postmaster.proofs.Asked.{accepted-append, none_asked, owes_none, owes_same}
 use Rattle.pm_postmaster.proofs.Going.{AsksOn, GoesBy, Leaves, LeavesAsking, LeavesOutside, LeavesStore, asks_nothing, leaves_asking, serves_on}
 use Rattle.pm_postmaster.proofs.Redoing.{TellNone}
 use Rattle.pm_postmaster.proofs.Renewing.{AreQuiet}
 use Rattle.pm_postmaster.proofs.Linking.{links_same}
 use Rattle.pm_postmaster.proofs.Moments.{asked_moments, later_given, ticked_moments, turned_moments}
-
-pub accepted-append : (xs ys : List PmEvent) → accepted_in (xs ++ ys) ≡ accepted_in xs ++ accepted_in ys
-accepted-append [] ys = refl
-accepted-append (entry.Accepted pid decision ∷ xs) ys = ap (λ (l : List ℕ). pid ∷ l) (accepted-append xs ys)
-accepted-append (entry.Started pid kind ∷ xs) ys = accepted-append xs ys
-accepted-append (entry.Exited pid kind status was_active at ∷ xs) ys = accepted-append xs ys
-accepted-append (entry.Asked mode at ∷ xs) ys = accepted-append xs ys
-accepted-append (entry.KillAsked pid ∷ xs) ys = accepted-append xs ys
-accepted-append (entry.QuitSent why ∷ xs) ys = accepted-append xs ys
-accepted-append (entry.TerminateSent ∷ xs) ys = accepted-append xs ys
-accepted-append (entry.KillSent at ∷ xs) ys = accepted-append xs ys
-accepted-append (entry.CheckpointAsked ∷ xs) ys = accepted-append xs ys
-accepted-append (entry.RedoEnded generation kept ∷ xs) ys = accepted-append xs ys
-accepted-append (entry.Ready generation ∷ xs) ys = accepted-append xs ys
-accepted-append (entry.Reset generation ∷ xs) ys = accepted-append xs ys
-accepted-append (entry.Said line ∷ xs) ys = accepted-append xs ys
-accepted-append (entry.Ended how ∷ xs) ys = accepted-append xs ys
 
 pub count_more : (journal more : List PmEvent) → accepted_in more ≡ [] → length (accepted_in (journal ++ more)) ≡ length (accepted_in journal)
 count_more journal more none =
@@ -92,7 +75,7 @@ module _ {D C : Type 0} (gives : C → ℕ → Type 0) where
     pub quiet : AreQuiet entries
     pub none : TellNone more
     pub store : LeavesStore gives before now
-    pub asks : AsksOn gives more before now
+    pub asks : AsksOn gives outset more before now
 
   pub works_on : (outset : Outset D C) (more : List Move) (entries : List PmEvent) (before now : View D C) → WorksOn outset more entries before now
       → IsServing gives outset before → IsServing gives outset now
@@ -133,7 +116,7 @@ module _ {D C : Type 0} (gives : C → ℕ → Type 0) where
         quiet = quiet_none;
         none = λ k. refl;
         store = store;
-        asks = asks_nothing gives [] before now none_asked (leaves_asking gives before now outside) (owes_same before.work.standing now.work.standing standing);
+        asks = asks_nothing gives outset [] before now none_asked (leaves_asking gives before now outside) (owes_same before.work.standing now.work.standing standing);
       }) was
 
   -- the calls that tell of no child
@@ -143,7 +126,7 @@ module _ {D C : Type 0} (gives : C → ℕ → Type 0) where
     called_on : (making : Making) (more : List Move) → seating.Goes more (view before.work before.board) (view now.work now.board)
         → now.work.standing ≡ made making before.work.standing → now.board ≡ before.board
         → ((earlier : List Move) → journal_of outset.count (earlier ++ more) ≡ journal_of outset.count earlier ++ making.entries)
-        → AreGiven (gives outset.clock) making.entries → lines_of making.entries ≡ [] → accepted_in making.entries ≡ [] → AreQuiet making.entries → TellNone more → AsksOn gives more before now
+        → AreGiven (gives outset.clock) making.entries → lines_of making.entries ≡ [] → accepted_in making.entries ≡ [] → AreQuiet making.entries → TellNone more → AsksOn gives outset more before now
         → (made making before.work.standing).generation ≡ before.work.standing.generation
         → Moments (gives outset.clock) (made making before.work.standing)
         → IsServing gives outset before → IsServing gives outset now
@@ -169,8 +152,8 @@ module _ {D C : Type 0} (gives : C → ℕ → Type 0) where
 
     -- nothing is asked for and no pid drawn, where none is owed
     unasked : LeavesAsking gives before now → before.work.standing.owes_smart ≡ false → now.work.standing.owes_smart ≡ before.work.standing.owes_smart
-        → now.work.standing.last_pid ≡ before.work.standing.last_pid → AsksOn gives [] before now
-    unasked asking unowed still pid = asks_nothing gives [] before now none_asked asking (owes_none before.work.standing now.work.standing unowed (still ∙ unowed) pid)
+        → now.work.standing.last_pid ≡ before.work.standing.last_pid → AsksOn gives outset [] before now
+    unasked asking unowed still pid = asks_nothing gives outset [] before now none_asked asking (owes_none before.work.standing now.work.standing unowed (still ∙ unowed) pid)
 
     pub ticked_on : (at : ℕ) → gives before.clock at → LeavesAsking gives before now → before.work.standing.owes_smart ≡ false → seating.Goes [] (view before.work before.board) (view now.work now.board)
         → now.work.standing ≡ made (ticking at before.work.standing) before.work.standing → now.board ≡ before.board
@@ -190,7 +173,7 @@ module _ {D C : Type 0} (gives : C → ℕ → Type 0) where
 
     -- a shutdown is asked for, by a move that is for that
     pub asked_on : (how : Mode) (at : ℕ) (move : Move) → gives before.clock at
-        → ((s : Seating) → entries_by s move ≡ (asking how at before.work.standing).entries) → TellNone (move ∷ []) → AsksOn gives (move ∷ []) before now
+        → ((s : Seating) → entries_by s move ≡ (asking how at before.work.standing).entries) → TellNone (move ∷ []) → AsksOn gives outset (move ∷ []) before now
         → seating.Goes (move ∷ []) (view before.work before.board) (view now.work now.board)
         → now.work.standing ≡ made (asking how at before.work.standing) before.work.standing → now.board ≡ before.board
         → IsServing gives outset before → IsServing gives outset now
@@ -202,7 +185,7 @@ module _ {D C : Type 0} (gives : C → ℕ → Type 0) where
         (late, tt) refl refl (record { since = λ so. refl; lost = λ so. refl; resets = refl }) none asks refl (asked_moments (gives outset.clock) how at before.work.standing late) was
 
     -- a child is asked to be killed, where it is there
-    pub killed_on : (line : List ℕ) (pid at : ℕ) → AsksOn gives (Reads line (Kill pid) at ∷ []) before now
+    pub killed_on : (line : List ℕ) (pid at : ℕ) → AsksOn gives outset (Reads line (Kill pid) at ∷ []) before now
         → seating.Goes (Reads line (Kill pid) at ∷ []) (view before.work before.board) (view now.work now.board)
         → now.work.standing ≡ before.work.standing → now.board.slots ≡ before.board.slots
         → IsServing gives outset before → IsServing gives outset now
@@ -246,7 +229,7 @@ module _ {D C : Type 0} (gives : C → ℕ → Type 0) where
         alone_by false = refl
 
     -- a line is read that asks for nothing
-    pub unheeded_on : (line : List ℕ) (asks : Request) (at : ℕ) → asked_by asks at (seats_of before.board) ≡ [] → AsksOn gives (Reads line asks at ∷ []) before now
+    pub unheeded_on : (line : List ℕ) (asks : Request) (at : ℕ) → asked_by asks at (seats_of before.board) ≡ [] → AsksOn gives outset (Reads line asks at ∷ []) before now
         → seating.Goes (Reads line asks at ∷ []) (view before.work before.board) (view now.work now.board)
         → now.work.standing ≡ before.work.standing → now.board.slots ≡ before.board.slots
         → IsServing gives outset before → IsServing gives outset now

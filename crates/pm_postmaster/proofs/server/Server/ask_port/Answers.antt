@@ -10,10 +10,9 @@ use Rattle.pm_journal.specs.Supervision.{at_work}
 use Rattle.pm_seating.specs.Seating.{PortEnds}
 use Rattle.pm_worker.specs.declared.mail.MailTold.{MailTold}
 use Rattle.pm_postmaster.specs.Links.{HasLinks}
-use Rattle.pm_postmaster.specs.Requests.{ended_in}
 use Rattle.pm_postmaster.specs.View.{view_of}
 use Rattle.pm_postmaster.proofs.Admitted.{admitted_on, no_link, unused_at}
-use Rattle.pm_postmaster.proofs.Asked.{owes_none}
+use Rattle.pm_postmaster.proofs.Asked.{has_come, owes_none}
 use Rattle.pm_postmaster.proofs.Calling.{IsBeside, asks_end, leaves, leaves_store, same_past, short_end, still}
 use Rattle.pm_postmaster.proofs.Cleared.{near_slots}
 use Rattle.pm_postmaster.proofs.Steps.{LinksStay, asked_on}
@@ -36,22 +35,6 @@ stay_so : {L : Type 0} (faults : L → ℕ) (d : RosterView MailTold) (before no
 stay_so faults d before now is n has =
     subst (λ (x : Option Visits). IfSome x (HasLinks n d)) (sym is) (no_link faults n d before answers.End (λ link same. absurd (cc)) has)
 
--- and that is told
-ended_so : {L : Type 0} (faults : L → ℕ) (before now : Option Visits) → now ≡ option_map (λ v. after_accept faults v answers.End) before
-    → ended_in now ≡ option_map (λ it. true) (ended_in before)
-ended_so faults before now is = ap ended_in is ∙ by before
-  where
-    by : (v : Option Visits) → ended_in (option_map (λ v. after_accept faults v answers.End) v) ≡ option_map (λ it. true) (ended_in v)
-    by None = refl
-    by (Some its) = refl
-
-has_come : (before now : Option Bool) → now ≡ option_map (λ it. true) before → IfSome now (λ it. it ≡ true)
-has_come before now is = subst (λ (o : Option Bool). IfSome o (λ it. it ≡ true)) (sym is) (by before)
-  where
-    by : (o : Option Bool) → IfSome (option_map (λ it. true) o) (λ it. it ≡ true)
-    by None = tt
-    by (Some it) = refl
-
 pub returns-in-Ok-clause-goes : goal.returns-in-Ok-clause-goes
 returns-in-Ok-clause-goes g c =
     let before = view_of c.args.self.now in
@@ -64,7 +47,7 @@ returns-in-Ok-clause-goes g c =
     asked_on g.C.Clock.gives outset before now (leaves g.C.Clock.gives _ _ beside) refl refl (stay_so g.L.Link.faults before.board _ _ visits)
     (leaves_store g.C.Clock.gives _ _ beside (same_past g.C.Clock.gives _ _ beside made.2))
     Smart c.now.result (PortEnds at) c.now.ensures (λ s. refl) (λ k. refl)
-    (asks_end g.C.Clock.gives now before at refl (ended_so g.L.Link.faults _ _ visits) c.requires.listens refl
+    (asks_end g.C.Clock.gives outset now g.L.Link.faults before at refl visits c.requires.listens refl
     (owes_none _ _ c.requires.idle.unowed (ap (λ (s : Standing). s.owes_smart) made.1) (ap (λ (s : Standing). s.last_pid) made.1)))
     made.0 made.1 made.2 was
 
@@ -79,8 +62,9 @@ returns-in-Err-clause-goes g c =
     let beside : IsBeside g.C.Clock.gives before _ = record { table = c.ask.ensures.table; shared = refl; clock = refl; log = refl; lost = refl; came = refl; tells = c.ask.ensures.tells } in
     let made = c.in-Err.ensures.asks (PortEnds (later c.now.result before.work.standing)) (refl, refl) in
     let visits = rw c.in-End.is at c.accept.ensures.visits in
-    short_end g.C.Clock.gives before _ beside c.laws.ensures.may_end c.laws.ensures.journal made.0 made.1 made.2
-    (stay_so g.L.Link.faults _ _ _ visits) c.requires.listens (has_come _ _ (ended_so g.L.Link.faults _ _ visits)) refl
+    let come = has_come g.L.Link.faults _ _ visits in
+    short_end g.C.Clock.gives before _ beside c.laws.ensures.may_end c.laws.ensures.journal made.0 made.1 made.2 come.0
+    (stay_so g.L.Link.faults _ _ _ visits) c.requires.listens come.1 refl
     (ap (λ (s : Standing). s.owes_smart) made.0 ∙ c.requires.idle.unowed)
 
 -- the port gave none, and hasn't ended

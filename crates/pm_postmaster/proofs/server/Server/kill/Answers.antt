@@ -17,7 +17,7 @@ returns-in-Ok-clause-heeds g c = λ line lines given asked.
     let beside : IsBeside g.C.Clock.gives before now = record { table = c.kill.ensures.table; shared = refl; clock = refl; log = refl; lost = refl; came = refl; tells = c.kill.ensures.tells } in
     λ outset was.
     killed_on g.C.Clock.gives outset before now (leaves g.C.Clock.gives _ _ beside) refl refl (λ n has. has) (leaves_store g.C.Clock.gives _ _ beside c.kill.ensures.past)
-    line c.args.pid at (asks_line g.C.Clock.gives now v line lines (Kill c.args.pid) at given asked (record { lines = refl; ended = refl; listens = refl }) (owes_same _ _ c.kill.ensures.standing))
+    line c.args.pid at (asks_line g.C.Clock.gives outset now v line lines (Kill c.args.pid) at given asked (record { lines = refl; ended = refl; listens = refl }) (owes_same _ _ c.kill.ensures.standing))
     (c.in-Ok.ensures.kills line at) c.kill.ensures.standing c.kill.ensures.slots was
 
 pub returns-in-Err-clause-heeds : goal.returns-in-Err-clause-heeds
