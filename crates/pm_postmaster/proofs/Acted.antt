@@ -1,20 +1,18 @@
 -- The acts of the machine.
-use Rattle.std.proofs.Common.{◌≡◌, ◌⊎◌, inl, inr, ℕ, ◌+◌, ◌≤◌, List, [], ◌∷◌, ◌++◌, refl, sym, ap, subst, ◌∙◌, length, arith, append-nil}
-use Rattle.std.specs.Prelude.{Bool, true, false, if◌then◌else◌, Option, None, Some, IfSome, Result, Ok, Err, is_some, option_map}
+use Rattle.std.proofs.Common.{◌≡◌, ℕ, List, [], ◌∷◌, ◌++◌, refl, sym, ap, subst, ◌∙◌, length}
+use Rattle.std.specs.Prelude.{true, false, Option, None, Some, IfSome}
 use Rattle.pm_exit.specs.declared.child.Kind.{Kind}
 use Rattle.pm_exit.specs.declared.child.Kind.TheVariants as kinds
 use Rattle.pm_board.specs.declared.views.RosterStep.{RosterStep}
 use Rattle.pm_board.specs.declared.views.RosterView.{RosterView}
-use Rattle.pm_board.specs.declared.views.SlotView.{SlotView}
 use Rattle.pm_board.specs.Children.{CountsChildren}
 use Rattle.pm_board.specs.Places.{is_auxiliary, is_connection}
 use Rattle.pm_acts.specs.Acts.{LogBehind}
 use Rattle.pm_acts.specs.ActsLaws.{said_acted}
-use Rattle.pm_acts.specs.NextsLaws.{generation_kept}
 use Rattle.pm_journal.specs.declared.act.Act.{Act}
 use Rattle.pm_journal.specs.declared.act.Act.TheVariants as act
 use Rattle.pm_journal.specs.declared.roll.Enrolled.{Enrolled}
-use Rattle.pm_journal.specs.Standing.{Standing, act_for, done, entry_for, first_due, next_pid}
+use Rattle.pm_journal.specs.Standing.{Standing, act_for, done, entry_for, first_due}
 use Rattle.pm_outside.specs.Visits.{Visits}
 use Rattle.pm_seating.specs.Acts.{MayPerform, Performs, slot_of, steps_for}
 use Rattle.pm_seating.specs.Board.{after_steps}

@@ -1,10 +1,9 @@
 -- A connection is taken.
-use Rattle.std.proofs.Common.{◌≡◌, ◌⊎◌, inl, inr, ℕ, ◌+◌, ◌<◌, ◌≤◌, List, [], ◌∷◌, ◌++◌, refl, sym, ap, subst, ◌∙◌, length, arith}
+use Rattle.std.proofs.Common.{◌≡◌, ℕ, ◌+◌, ◌<◌, List, [], ◌∷◌, ◌++◌, refl, sym, ap, subst, ◌∙◌, length}
 use Rattle.std.proofs.lemmas.List.{length_push}
-use Rattle.std.specs.Prelude.{Bool, true, false, Option, None, Some, IfSome, is_some, option_map}
+use Rattle.std.specs.Prelude.{true, false, Option, None, Some, IfSome, option_map}
 use Rattle.pm_admit.specs.declared.Cac.{Cac}
 use Rattle.pm_admit.specs.declared.Cac.TheVariants as decisions
-use Rattle.pm_exit.specs.declared.child.Kind.{Kind}
 use Rattle.pm_exit.specs.declared.child.Kind.TheVariants as kinds
 use Rattle.pm_board.specs.declared.views.RosterView.{RosterView}
 use Rattle.pm_board.specs.declared.views.Sight.TheVariants.{Unused}
@@ -22,14 +21,13 @@ use Rattle.pm_seating.specs.Board.{SeenAs, seat_at, seats_of}
 use Rattle.pm_seating.specs.Calls.{accepts}
 use Rattle.pm_seating.specs.Chained.{accepted_in}
 use Rattle.pm_seating.specs.FoldingLaws.{journal-more}
-use Rattle.pm_seating.specs.Seating.{Move, Notes, Seating, journal_of}
+use Rattle.pm_seating.specs.Seating.{Notes, journal_of}
 use Rattle.pm_seating.specs.Standing.{view}
 use Rattle.pm_seating.specs.Standing as seating
 use Rattle.pm_state.specs.declared.event.PmEvent.{PmEvent}
 use Rattle.pm_state.specs.declared.event.PmEvent.TheVariants as entry
 use Rattle.pm_supervisor.specs.Steps.{kind_for}
 use Rattle.pm_worker.specs.declared.mail.MailTold.{MailTold}
-use Rattle.pm_worker.specs.declared.mail.MailTold.TheVariants as mail
 use Rattle.pm_postmaster.specs.Links.{GivesLink, HasLinks}
 use Rattle.pm_postmaster.specs.Serving.{IsServing, Moments, Outset}
 use Rattle.pm_postmaster.specs.View.{View}

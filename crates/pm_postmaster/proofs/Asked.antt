@@ -1,7 +1,7 @@
 -- What a server was asked for, as its moves go on.
-use Rattle.std.proofs.Common.{◌≡◌, ◌⊎◌, inl, inr, ℕ, zero, suc, ◌+◌, ◌<◌, ◌≤◌, List, [], ◌∷◌, ◌++◌, refl, sym, ap, subst, ◌∙◌, length, arith, append-nil, append_assoc, length-append}
+use Rattle.std.proofs.Common.{◌≡◌, ℕ, ◌+◌, ◌≤◌, List, [], ◌∷◌, ◌++◌, refl, sym, ap, subst, ◌∙◌, length, arith, append-nil, length-append}
 use Rattle.std.proofs.lemmas.List.{length_push}
-use Rattle.std.specs.Prelude.{◌≢◌, Bool, true, false, ◌==◌, ◌||◌, if◌then◌else◌, Option, None, Some, IfSome, is_some, nat_le, option_map, unwrap_or}
+use Rattle.std.specs.Prelude.{Bool, true, false, ◌==◌, ◌||◌, if◌then◌else◌, Option, None, Some, IfSome, is_some, nat_le, option_map, unwrap_or}
 use Rattle.std.specs.List.{AllByRecursion}
 use Rattle.pm_acts.specs.Acts.{is_last_drawn}
 use Rattle.pm_journal.specs.Standing.{Standing}
@@ -9,7 +9,7 @@ use Rattle.pm_outside.specs.Visits.{Visits, after_accept}
 use Rattle.pm_outside.specs.declared.port.Accepted.TheVariants.{End}
 use Rattle.pm_requests.specs.Requests.{IsNumber}
 use Rattle.pm_journal.specs.declared.roll.Enrolled.{Enrolled}
-use Rattle.pm_seating.specs.Chained.{AsksAsTold, IsReadAs, IsUnasked, accepted_in, lines_in, pids_end_in, port_ends_in}
+use Rattle.pm_seating.specs.Chained.{IsReadAs, IsUnasked, accepted_in, lines_in, pids_end_in, port_ends_in}
 use Rattle.pm_seating.specs.Seating.{Kill, Move, Nothing, Notes, PidsEnd, PortEnds, Reads, Request, Seating, Stop, asked_by, empty, entries_from, is_seated, journal_of, seating_by}
 use Rattle.pm_state.specs.declared.event.PmEvent.{PmEvent}
 use Rattle.pm_state.specs.declared.event.PmEvent.TheVariants as entry

@@ -1,7 +1,7 @@
 -- A server begins.
-use Rattle.std.proofs.Common.{◌≡◌, ◌⊎◌, inl, inr, ℕ, zero, suc, ◌+◌, ◌<◌, ◌≤◌, List, [], ◌∷◌, ◌++◌, refl, sym, ap, subst, ◌∙◌, length, arith, get_or, replicate}
+use Rattle.std.proofs.Common.{◌≡◌, inl, ℕ, zero, suc, ◌+◌, ◌≤◌, List, [], ◌∷◌, refl, sym, ap, subst, ◌∙◌, length, arith, get_or, replicate}
 use Rattle.std.proofs.lemmas.List.{length-replicate}
-use Rattle.std.specs.Prelude.{Bool, true, false, cond, nat_eq, Option, None, Some, IfSome, is_some}
+use Rattle.std.specs.Prelude.{Bool, true, false, Option, None, Some, IfSome, is_some}
 use Rattle.std.specs.List.{Contains, flat_map}
 use Rattle.pm_board.specs.declared.views.PastChild.{PastChild}
 use Rattle.pm_board.specs.declared.views.RosterView.{RosterView}
@@ -29,7 +29,7 @@ use Rattle.pm_postmaster.specs.Looking.{came_of}
 use Rattle.pm_postmaster.specs.Requests.{MayOwe, ended_in}
 use Rattle.pm_supervisor.specs.Children.{one_if}
 use Rattle.pm_acts.specs.Acts.{is_last_drawn}
-use Rattle.pm_postmaster.specs.Serving.{IsAlive, IsServing, KillsAll, Outset, Renews}
+use Rattle.pm_postmaster.specs.Serving.{IsServing, KillsAll, Outset, Renews}
 use Rattle.pm_postmaster.specs.View.{View}
 
 abbrev no_slot : SlotView MailTold

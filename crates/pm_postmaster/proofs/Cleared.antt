@@ -1,5 +1,5 @@
 -- The clearing of a board.
-use Rattle.std.proofs.Common.{◌≡◌, ◌⊎◌, inl, inr, ℕ, ◌<◌, List, [], ◌∷◌, ◌++◌, refl, sym, ap, subst, ◌∙◌, length, get_or, append-nil, append_assoc, arith, nat_eq}
+use Rattle.std.proofs.Common.{◌≡◌, ℕ, ◌<◌, List, [], ◌++◌, refl, sym, ap, subst, ◌∙◌, length, get_or, append-nil, append_assoc, arith, nat_eq}
 use Rattle.std.proofs.lemmas.List.{length-map}
 use Rattle.std.specs.Prelude.{Bool, Option, None, Some, IfSome, option_map}
 use Rattle.atomic_table.specs.Seated.{TableId}

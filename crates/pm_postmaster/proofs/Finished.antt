@@ -1,7 +1,7 @@
 -- What a run leaves, by its parts.
-use Rattle.std.proofs.Common.{◌≡◌, ◌⊎◌, inl, inr, ℕ, ◌+◌, ◌<◌, ◌≤◌, List, [], ◌∷◌, ◌++◌, refl, sym, ap, subst, ◌∙◌, length, map, arith, append-nil, append_assoc}
+use Rattle.std.proofs.Common.{◌≡◌, ◌⊎◌, inl, inr, ℕ, ◌<◌, ◌≤◌, List, [], ◌∷◌, ◌++◌, refl, sym, ap, subst, ◌∙◌, length, map, arith, append-nil, append_assoc}
 use Rattle.std.proofs.lemmas.List.{get_or_past}
-use Rattle.std.specs.Prelude.{Bool, true, false, Option, None, Some, IfSome, is_some, nat_lt, option_map}
+use Rattle.std.specs.Prelude.{true, false, Option, None, Some, IfSome, is_some, nat_lt}
 use Rattle.pm_disk.specs.declared.disk.Disk as Disk
 use Rattle.pm_journal.specs.Standing.{Adds}
 use Rattle.pm_outside.specs.declared.chronicle.Chronicle as Chronicle
@@ -12,7 +12,7 @@ use Rattle.pm_record.specs.OnDisk.{GoesOn}
 use Rattle.pm_segment.specs.Moment.{moment}
 use Rattle.pm_segment.specs.MovesLaws.{time_still}
 use Rattle.pm_segment.specs.Unread.{has_break}
-use Rattle.pm_lines.specs.Log.{HasLogged, HasPrinted, LogView, Says, log_of}
+use Rattle.pm_lines.specs.Log.{HasLogged, HasPrinted, LogView}
 use Rattle.pm_lines.specs.LogLaws.{logged_by, printed_more}
 use Rattle.pm_board.specs.declared.views.PastChild.{PastChild}
 use Rattle.pm_board.specs.declared.views.RosterView.{RosterView}

@@ -1,16 +1,15 @@
 -- A server goes on, and ends.
-use Rattle.std.proofs.Common.{◌≡◌, ◌⊎◌, inl, inr, ℕ, ◌+◌, ◌≤◌, List, [], ◌∷◌, ◌++◌, refl, sym, ap, subst, ◌∙◌, length, arith, append-nil}
-use Rattle.std.specs.Prelude.{Bool, true, false, if◌then◌else◌, Option, None, Some, IfSome, Result, Ok, Err, is_some, option_map}
-use Rattle.pm_board.specs.declared.views.RosterView.{RosterView}
+use Rattle.std.proofs.Common.{◌≡◌, ℕ, ◌≤◌, List, ◌++◌, sym, ap, subst, ◌∙◌, length}
+use Rattle.std.specs.Prelude.{Bool, true, Option, Some, IfSome, Result, Ok, Err, is_some}
 use Rattle.pm_journal.specs.Laws.{KeepsALegalJournal}
 use Rattle.pm_journal.specs.Moments.{AreGiven}
 use Rattle.pm_journal.specs.Standing.{Standing}
-use Rattle.pm_journal.specs.Stands.{Stands, any_moment, highest_pid}
+use Rattle.pm_journal.specs.Stands.{Stands, highest_pid}
 use Rattle.pm_supervisor.specs.declared.Limits.{Limits}
 use Rattle.pm_supervisor.specs.Steps.{Trace}
 use Rattle.pm_lines.specs.Log.{HasSaid}
 use Rattle.pm_seating.specs.Chained.{accepted_in}
-use Rattle.pm_seating.specs.Final.{IsEndingAt, MayEndAnywhere}
+use Rattle.pm_seating.specs.Final.{MayEndAnywhere}
 use Rattle.pm_seating.specs.Seating.{Move, journal_of}
 use Rattle.pm_seating.specs.Sitting.{KeepsPast}
 use Rattle.pm_shared.specs.declared.views.Noted.{Noted}
@@ -19,7 +18,6 @@ use Rattle.pm_seating.specs.Standing.{IsAt, IsRunning, view}
 use Rattle.pm_server.specs.JournalLaws.{all_given}
 use Rattle.pm_server.specs.declared.end.ServerEnd.{ServerEnd}
 use Rattle.pm_state.specs.declared.event.PmEvent.{PmEvent}
-use Rattle.pm_state.specs.Journal.{IsLegal}
 use Rattle.pm_worker.specs.declared.mail.MailTold.{MailTold}
 use Rattle.pm_postmaster.specs.Links.{HasLinks}
 use Rattle.pm_postmaster.specs.Serving.{Goes, HasStopped, Holds, IsAlive, IsCausedBehind, IsEndBehind, IsServing, Keeps, Moments, Outset, Renews, StaysWith, Stops, last_pid_in}

@@ -1,8 +1,8 @@
 -- What the steps of a supervisor leave of the links that are out.
-use Rattle.std.proofs.Common.{◌≡◌, ◌≢◌, ◌⊎◌, inl, inr, ℕ, ◌+◌, ◌<◌, ◌≤◌, List, [], ◌∷◌, ◌++◌, refl, sym, ap, subst, ◌∙◌, length, set, get_or, map, arith, nat_eq}
+use Rattle.std.proofs.Common.{◌≡◌, ◌⊎◌, inl, inr, ℕ, ◌+◌, ◌<◌, ◌≤◌, List, [], ◌∷◌, refl, sym, ap, subst, ◌∙◌, length, set, get_or, arith, nat_eq}
 use Rattle.std.proofs.lemmas.List.{get_or-map, length-map, length_push, map-set, set-get_or}
 use Rattle.std.proofs.lemmas.List.Elements.{Contains-append_left, Contains-push, Contains-push_cases}
-use Rattle.std.specs.Prelude.{Bool, true, false, Option, Some, None, nat_le}
+use Rattle.std.specs.Prelude.{Bool, true, false, Option, None, nat_le}
 use Rattle.std.specs.List.{Contains}
 use Rattle.pm_exit.specs.declared.child.Kind.{Kind}
 use Rattle.pm_exit.specs.declared.child.Status.{Status}
@@ -11,7 +11,6 @@ use Rattle.pm_board.specs.declared.views.PastChild.{PastChild}
 use Rattle.pm_board.specs.declared.views.RosterNotes.{RosterNotes}
 use Rattle.pm_board.specs.declared.views.RosterStep.{RosterStep}
 use Rattle.pm_board.specs.declared.views.RosterView.{RosterView}
-use Rattle.pm_board.specs.declared.views.Sight.{Sight}
 use Rattle.pm_board.specs.declared.views.Sight.TheVariants.{Assigned, Unused}
 use Rattle.pm_board.specs.declared.views.SlotView.{SlotView}
 use Rattle.pm_board.specs.Children.{CountsChildren, child_in_slot, child_seen, children_of, count_of}

@@ -1,9 +1,8 @@
 -- The moments of a supervisor at work.
-use Rattle.std.proofs.Common.{◌≡◌, ◌⊎◌, inl, inr, ℕ, ◌≤◌, max, List, [], ◌∷◌, ◌++◌, refl, sym, ap, subst, ◌∙◌, arith}
+use Rattle.std.proofs.Common.{◌≡◌, inl, inr, ℕ, max, List, [], ◌∷◌, refl, subst, arith}
 use Rattle.std.specs.Prelude.{Bool, true, false, if◌then◌else◌, is_some, nat_le, unwrap_or}
 use Rattle.pm_state.specs.declared.action.Action.{Action}
 use Rattle.pm_state.specs.declared.action.Action.TheVariants as act
-use Rattle.pm_state.specs.declared.event.PmEvent.{PmEvent}
 use Rattle.pm_state.specs.declared.event.PmEvent.TheVariants as entry
 use Rattle.pm_state.specs.Journal.{acts_of_call, without_first}
 use Rattle.pm_state.specs.Shows.{TakesTurn}
@@ -14,7 +13,6 @@ use Rattle.pm_modes.specs.declared.Mode.{Mode}
 use Rattle.pm_supervisor.specs.declared.Ending.TheVariants as endings
 use Rattle.pm_acts.specs.Acts.{AreOurs}
 use Rattle.pm_acts.specs.RulesLaws.{turn_rule}
-use Rattle.pm_acts.specs.ActsLaws.{due_kept}
 use Rattle.pm_postmaster.specs.Serving.{KillsAll, Moments}
 use Rattle.pm_postmaster.proofs.Linking.{by_test}
 

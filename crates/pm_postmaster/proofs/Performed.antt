@@ -1,23 +1,19 @@
 -- What an act comes to.
-use Rattle.std.proofs.Common.{◌≡◌, ◌⊎◌, inl, inr, ℕ, ◌+◌, ◌≤◌, List, [], ◌∷◌, ◌++◌, refl, sym, ap, subst, ◌∙◌, length, map, arith, append-nil}
-use Rattle.std.specs.Prelude.{Bool, true, false, if◌then◌else◌, Option, None, Some, IfSome, Result, Ok, Err, is_some, option_map}
+use Rattle.std.proofs.Common.{◌≡◌, ℕ, ◌+◌, List, [], ◌∷◌, ◌++◌, refl, sym, ap, subst, ◌∙◌, map, arith, append-nil}
+use Rattle.std.specs.Prelude.{Bool, true, false, if◌then◌else◌, Option, None, Some, Result, Ok, Err, is_some}
 use Rattle.pm_exit.specs.declared.child.Kind.{Kind}
 use Rattle.pm_exit.specs.declared.child.Status.{Status}
 use Rattle.pm_board.specs.declared.views.PastChild.{PastChild}
-use Rattle.pm_board.specs.declared.views.RosterView.{RosterView}
 use Rattle.pm_board.specs.Children.{CountsChildren}
 use Rattle.pm_board.specs.Places.{slot_at}
 use Rattle.pm_acts.specs.Acts.{LogBehind}
 use Rattle.pm_acts.specs.EndsLaws.{last_set, spent_next}
 use Rattle.pm_acts.specs.NextsLaws.{ended_kept, generation_kept, next_given, next_spent}
 use Rattle.pm_journal.specs.declared.act.Act.{Act}
-use Rattle.pm_journal.specs.declared.act.Act.TheVariants as act
-use Rattle.pm_journal.specs.declared.roll.Enrolled.{Enrolled}
 use Rattle.pm_journal.specs.Laws.{KeepsALegalJournal}
 use Rattle.pm_journal.specs.Standing.{Standing, act_for, done, entry_for, first_due, next_of}
 use Rattle.pm_journal.specs.Stands.{any_moment}
 use Rattle.pm_lines.specs.Log.{LogView}
-use Rattle.pm_outside.specs.Visits.{Visits}
 use Rattle.pm_seating.specs.Acts.{IsDone as IsDoneAtBoard, MayPerform, Performs as PerformsAtBoard}
 use Rattle.pm_seating.specs.Board.{seats_of}
 use Rattle.pm_seating.specs.Calls.{slot_for}
@@ -33,7 +29,7 @@ use Rattle.pm_seating.specs.Sitting.{KeepsPast}
 use Rattle.pm_seating.specs.Standing.{view}
 use Rattle.pm_seating.specs.Standing as seating
 use Rattle.pm_server.specs.declared.end.ServerEnd.{ServerEnd}
-use Rattle.pm_server.specs.declared.end.ServerEnd.TheVariants.{Clean, Abnormal, NoMemory}
+use Rattle.pm_server.specs.declared.end.ServerEnd.TheVariants.{Abnormal, NoMemory}
 use Rattle.pm_server.specs.declared.end.StartWhy.TheVariants.{Redo, Killed}
 use Rattle.pm_server.specs.declared.end.Why.TheVariants.{StartupFailed}
 use Rattle.pm_server.specs.declared.end.Why.TheVariants as whys
@@ -59,19 +55,18 @@ use Rattle.pm_supervisor.specs.declared.Ending.TheVariants as endings
 use Rattle.pm_supervisor.specs.declared.Limits.{Limits}
 use Rattle.pm_worker.specs.declared.mail.MailTold.{MailTold}
 use Rattle.pm_postmaster.specs.declared.server.Came.{Came}
-use Rattle.pm_postmaster.specs.Acting.{EndBehind, Performs, StoreBehind, end_by, failed_by, is_killed, is_short, refused_by}
-use Rattle.pm_postmaster.specs.Links.{HasLinks}
+use Rattle.pm_postmaster.specs.Acting.{EndBehind, Performs, end_by, is_killed, is_short, refused_by}
 use Rattle.pm_postmaster.specs.Looking.{came_of}
-use Rattle.pm_postmaster.specs.Serving.{EndsWith, Goes, HasStopped, IsCausedBehind, IsEndBehind, IsServing, Outset, Renews, Stops}
+use Rattle.pm_postmaster.specs.Serving.{EndsWith, HasStopped, IsCausedBehind, IsEndBehind, IsServing, Outset, Renews, Stops}
 use Rattle.pm_postmaster.specs.View.{View}
 use Rattle.pm_postmaster.proofs.Acted.{Acts, Stands, acted, links_acted, slots_acted}
 use Rattle.pm_postmaster.proofs.Calling.{IsBeside, still}
 use Rattle.pm_postmaster.specs.Requests.{IsAsked, ended_in}
 use Rattle.pm_postmaster.proofs.Asked.{asked_all}
 use Rattle.pm_postmaster.proofs.Owed.{acts_ask_none, end_due, owes_acted}
-use Rattle.pm_postmaster.proofs.Going.{AsksAt, Leaves, LeavesOutside, LeavesStore, asks_nothing, came_on, drawn_at, pid_at, renews_on, stopped_at}
+use Rattle.pm_postmaster.proofs.Going.{AsksAt, LeavesOutside, LeavesStore, asks_nothing, came_on, drawn_at, pid_at, renews_on, stopped_at}
 use Rattle.pm_postmaster.proofs.Redoing.{acts_tell_none, redos_still, redos_told}
-use Rattle.pm_postmaster.proofs.Renewing.{AreQuiet, renews_as_told, renews_reset, renews_short}
+use Rattle.pm_postmaster.proofs.Renewing.{AreQuiet, renews_reset, renews_short}
 
 -- an act tells of no loss, and of no generation but a reset
 quiet_act : (a : Action) (s : Standing) → (a ≡ action.Reset → ⊥) → AreQuiet (entry_for a s ∷ [])

@@ -1,6 +1,6 @@
 -- A look at a slot.
-use Rattle.std.proofs.Common.{◌≡◌, ◌⊎◌, inl, inr, ℕ, ◌+◌, ◌<◌, ◌≤◌, List, [], ◌∷◌, ◌++◌, refl, sym, ap, subst, ◌∙◌, length, arith, append-nil, nat_eq}
-use Rattle.std.specs.Prelude.{Bool, true, false, if◌then◌else◌, Option, None, Some, IfSome, Result, Ok, Err, is_some, option_map, unwrap_or}
+use Rattle.std.proofs.Common.{◌≡◌, inl, inr, ℕ, ◌<◌, List, [], ◌∷◌, ◌++◌, refl, sym, ap, subst, ◌∙◌, length, arith, append-nil, nat_eq}
+use Rattle.std.specs.Prelude.{Bool, true, false, if◌then◌else◌, Option, None, Some, IfSome, is_some, option_map, unwrap_or}
 use Rattle.pm_exit.specs.declared.child.Kind.{Kind}
 use Rattle.pm_exit.specs.declared.child.Kind.TheVariants as kinds
 use Rattle.pm_exit.specs.declared.child.Status.{Status}
@@ -31,10 +31,10 @@ use Rattle.pm_seating.specs.Board.{SeenAs, seat_at, seats_of}
 use Rattle.pm_seating.specs.Calls.{IsCutOff, exit_of, exits, kept_by}
 use Rattle.pm_seating.specs.Mails.{kept_told}
 use Rattle.pm_seating.specs.Chained.{accepted_in}
-use Rattle.pm_seating.specs.Final.{IsEndingAt, MayEndAnywhere}
+use Rattle.pm_seating.specs.Final.{MayEndAnywhere}
 use Rattle.pm_seating.specs.FoldingLaws.{journal-notes}
 use Rattle.pm_seating.specs.Seating.{Move, journal_of}
-use Rattle.pm_seating.specs.Sitting.{HasFoundNone, HasReaped, StillRuns}
+use Rattle.pm_seating.specs.Sitting.{HasFoundNone, HasReaped}
 use Rattle.pm_seating.specs.Standing.{view}
 use Rattle.pm_seating.specs.Standing as seating
 use Rattle.pm_server.specs.declared.end.ServerEnd.TheVariants.{NoMemory}

@@ -1,5 +1,5 @@
 -- The ends of redo that the supervisor tells of, beside what its startup children kept.
-use Rattle.std.proofs.Common.{◌≡◌, ◌≢◌, ◌⊎◌, inl, inr, ℕ, ◌+◌, ◌<◌, List, [], ◌∷◌, ◌++◌, refl, sym, ap, subst, ◌∙◌, length, arith, append-nil, append_assoc, nat_eq}
+use Rattle.std.proofs.Common.{◌≡◌, ◌≢◌, ℕ, List, [], ◌∷◌, ◌++◌, refl, sym, ap, ◌∙◌, arith, append-nil, append_assoc}
 use Rattle.std.proofs.lemmas.Grind.{flat_map-append}
 use Rattle.std.specs.List.{flat_map}
 use Rattle.std.specs.Prelude.{Bool, true, false, ◌==◌, ◌&&◌, if◌then◌else◌, Option, None, Some, unwrap_or}
@@ -17,13 +17,12 @@ use Rattle.pm_board.specs.Places.{slot_at}
 use Rattle.pm_chain.specs.Chain.{InGeneration}
 use Rattle.pm_crew.specs.Redos.{RedosAreThose, kept_in, redo_ends_at, redo_ends_by, redo_told, told_if}
 use Rattle.pm_journal.specs.declared.exit.ChildExit.{ChildExit}
-use Rattle.pm_journal.specs.Standing.{Standing, ends_redo, entry_for, exit_entry, exiting, later}
+use Rattle.pm_journal.specs.Standing.{Standing, ends_redo, entry_for, exit_entry, later}
 use Rattle.pm_seating.specs.Calls.{exits, kept_by, notes_in, slot_for}
 use Rattle.pm_seating.specs.Seating.{Move, Notes}
 use Rattle.pm_seating.specs.Sitting.{KeepsPast}
 use Rattle.pm_state.specs.declared.action.Action.{Action}
 use Rattle.pm_state.specs.declared.action.Action.TheVariants as action
-use Rattle.pm_state.specs.declared.event.PmEvent.{PmEvent}
 use Rattle.pm_state.specs.declared.event.PmEvent.TheVariants as entry
 use Rattle.pm_supervisor.specs.Children.{is_startup_child}
 use Rattle.pm_worker.specs.declared.mail.MailTold.{MailTold}

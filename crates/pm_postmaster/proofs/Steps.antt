@@ -1,11 +1,11 @@
 -- The calls of a turn that tell of no child.
-use Rattle.std.proofs.Common.{◌≡◌, ◌⊎◌, inl, inr, ℕ, ◌+◌, ◌≤◌, List, [], ◌∷◌, ◌++◌, refl, sym, ap, subst, ◌∙◌, length, arith, append-nil}
-use Rattle.std.specs.Prelude.{Bool, true, false, if◌then◌else◌, Option, None, Some, IfSome, Result, Ok, Err, is_some, option_map}
+use Rattle.std.proofs.Common.{◌≡◌, ℕ, List, [], ◌∷◌, ◌++◌, refl, sym, ap, subst, ◌∙◌, length, append-nil}
+use Rattle.std.specs.Prelude.{Bool, true, false, if◌then◌else◌, Option, None, Some, IfSome}
 use Rattle.pm_board.specs.declared.views.RosterView.{RosterView}
 use Rattle.pm_acts.specs.NextsLaws.{same_work}
 use Rattle.pm_journal.specs.declared.roll.Enrolled.{Enrolled}
 use Rattle.pm_journal.specs.Moments.{AreGiven}
-use Rattle.pm_journal.specs.Standing.{Making, Standing, asking, later, made, ticking, turning}
+use Rattle.pm_journal.specs.Standing.{Making, Standing, asking, made, ticking, turning}
 use Rattle.pm_journal.specs.Stands.{AtWork}
 use Rattle.pm_lines.specs.Log.{HasSaid}
 use Rattle.pm_lines.specs.LogLaws.{said_same}

@@ -1,5 +1,5 @@
 -- What a run of a server of many connections leaves.
-use Rattle.std.specs.Prelude.{◌≡◌, ◌⊎◌, ◌+◌, ◌*◌, ℕ, Bool, List, [], ◌∷◌, ◌++◌, Option, Some, IfSome, is_some}
+use Rattle.std.specs.Prelude.{◌≡◌, ◌⊎◌, ◌+◌, ◌*◌, ℕ, List, [], ◌∷◌, ◌++◌, Option, IfSome}
 use Rattle.pm_board.specs.declared.views.RosterView.{RosterView}
 use Rattle.pm_board.specs.Places.{slot_at}
 use Rattle.pm_crew.specs.Left.{AreLeft, Manner}
@@ -22,7 +22,6 @@ use Rattle.pm_server.specs.declared.end.ServerEnd.{ServerEnd}
 use Rattle.pm_server.specs.declared.end.ServerEnd.TheVariants.{NoThread, NoMemory}
 use Rattle.pm_server.specs.Ends.{end_line}
 use Rattle.pm_server.specs.Journal.{IsJournal}
-use Rattle.pm_server.specs.Views.{DiskView}
 use Rattle.pm_shared.specs.declared.views.Noted.{Noted}
 use Rattle.pm_supervisor.specs.declared.Limits.{Limits}
 use Rattle.pm_worker.specs.declared.mail.MailTold.{MailTold}

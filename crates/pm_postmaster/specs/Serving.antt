@@ -1,8 +1,7 @@
 -- What holds of a server at every moment.
-use Rattle.std.specs.Prelude.{◌≡◌, ◌⊎◌, ℕ, ◌≤◌, Bool, List, [], ◌∷◌, ◌++◌, Option, Some, IfSome, Result, Ok, Err, length, map, is_some}
-use Rattle.std.specs.List.{AllByRecursion, flat_map}
+use Rattle.std.specs.Prelude.{◌≡◌, ◌⊎◌, ℕ, ◌≤◌, Bool, List, [], ◌∷◌, ◌++◌, Some, IfSome, Result, Ok, Err, length, map, is_some}
+use Rattle.std.specs.List.{flat_map}
 use Rattle.atomic_table.specs.Seated.{TableId}
-use Rattle.pm_admit.specs.declared.Cac.{Cac}
 use Rattle.pm_board.specs.declared.views.RosterView.{RosterView}
 use Rattle.pm_board.specs.Places.{slot_at}
 use Rattle.pm_chain.specs.Chain.{gone_from, lost_from, opened_of, resets_of}
@@ -17,7 +16,6 @@ use Rattle.pm_query.specs.declared.book.BookEntry.{BookEntry}
 use Rattle.pm_query.specs.declared.book.BookEntry.TheVariants as noted
 use Rattle.pm_seating.specs.Chained.{accepted_in}
 use Rattle.pm_seating.specs.Final.{IsEndingAt}
-use Rattle.pm_seating.specs.Runs.{IsOnBoard}
 use Rattle.pm_seating.specs.Board.{ended_of}
 use Rattle.pm_seating.specs.Seating.{Move, ended_at, journal_of}
 use Rattle.pm_seating.specs.Standing.{IsAt, view}

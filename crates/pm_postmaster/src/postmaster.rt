@@ -61,7 +61,8 @@ pub struct Served<
 }
 
 /// Runs a server over the disk until it ends: it accepts the port's links, each of which has a child in a thread of its own, does
-/// what the console's lines ask for, and goes through a crash cycle where a child crashes.
+/// what the console's lines ask for, and goes through a crash cycle where a child crashes. It is asked for a shutdown by these lines,
+/// by the port's end, and where it draws its last pid, and by nothing else.
 ///
 /// What it is handed is new: its journal and its book have no entries, its port has given no link, and its console no line. It
 /// takes a thread for each slot of its board, and takes all memory for these before the first starts.

@@ -1,10 +1,10 @@
-use Rattle.std.proofs.Common.{◌≡◌, ◌⊎◌, inl, inr, ℕ, ◌+◌, ◌<◌, ◌≤◌, List, [], ◌∷◌, refl, sym, ap, subst, ◌∙◌, arith}
-use Rattle.std.specs.Prelude.{Bool, Some, Option, IfSome, is_some, option_map}
+use Rattle.std.proofs.Common.{◌≡◌, ◌⊎◌, inl, inr, ℕ, List, [], refl, sym, ap, subst, ◌∙◌}
+use Rattle.std.specs.Prelude.{Some, Option, IfSome, is_some}
 use Rattle.atomic_table.specs.Seated.{TableId}
 use Rattle.pm_board.specs.declared.views.RosterView.{RosterView}
-use Rattle.pm_crew.specs.Left.{AreLeft, Manner}
+use Rattle.pm_crew.specs.Left.{AreLeft}
 use Rattle.pm_disk.specs.Cause.{Rose}
-use Rattle.pm_journal.specs.Supervision.{at_work, standing, told}
+use Rattle.pm_journal.specs.Supervision.{at_work, told}
 use Rattle.pm_lines.specs.LogLaws.{said_first}
 use Rattle.pm_pool.specs.declared.plan.Plan.{Plan}
 use Rattle.pm_pool.specs.declared.plan.Terms.{Terms}
@@ -17,7 +17,6 @@ use Rattle.pm_query.specs.declared.book.BookEntry.{BookEntry}
 use Rattle.pm_server.specs.declared.end.ServerEnd.{ServerEnd}
 use Rattle.pm_server.specs.declared.end.ServerEnd.TheVariants.{NoThread, NoMemory}
 use Rattle.pm_shared.specs.declared.views.Noted.{Noted}
-use Rattle.pm_state.specs.declared.event.PmEvent.{PmEvent}
 use Rattle.pm_worker.specs.declared.mail.MailTold.{MailTold}
 use Rattle.pm_postmaster.specs.Served.{slots_by, unmade_by}
 use Rattle.pm_postmaster.proofs.Beginning.{begun}
@@ -50,10 +49,12 @@ pool_at gives pool board home b h table store was =
 -- ---- it begins
 
 pub run-end-requires-clause-alive : goal.run-end-requires-clause-alive
-run-end-requires-clause-alive g c =
-    (_, begun g.C.Clock.gives c.args.conf.now.limits _ _ _ c.requires.some c.requires.within c.new-supervision.ensures.standing
-    _ c.new-supervision.ensures.told c.requires.journal c.in-Ok.ensures.roster (ap (λ s. at_work s) c.new-desk.ensures.supervision) (ap (λ r. r.knows) c.new-desk.ensures.roster) (c.new-desk.ensures.begins c.args.conf.now.limits)
-    (ap (λ l. l.is_cut) c.new-log.ensures) c.requires.port c.in-Ok.ensures.shared.generation c.in-Ok.ensures.shared.own c.new-lost.ensures.items refl c.requires.console)
+run-end-requires-clause-alive g c = (
+  _,
+  begun g.C.Clock.gives c.args.conf.now.limits _ _ _ c.requires.some c.requires.within c.new-supervision.ensures.standing
+      _ c.new-supervision.ensures.told c.requires.journal c.in-Ok.ensures.roster (ap (λ s. at_work s) c.new-desk.ensures.supervision) (ap (λ r. r.knows) c.new-desk.ensures.roster) (c.new-desk.ensures.begins c.args.conf.now.limits)
+      (ap (λ l. l.is_cut) c.new-log.ensures) c.requires.port c.in-Ok.ensures.shared.generation c.in-Ok.ensures.shared.own c.new-lost.ensures.items refl c.requires.console,
+)
 
 -- ---- its end
 

@@ -1,5 +1,5 @@
 use Rattle.std.proofs.Common.{◌≡◌, ◌⊎◌, inl, inr, ◌∙◌, ℕ, ◌+◌, Option, None, Some, ap, length, refl, subst, sym}
-use Rattle.std.specs.Prelude.{Bool, IfSome, false, option_map, true}
+use Rattle.std.specs.Prelude.{IfSome, false, option_map}
 use Rattle.pm_board.specs.declared.views.RosterView.{RosterView}
 use Rattle.pm_journal.specs.Standing.{Standing, later}
 use Rattle.pm_modes.specs.declared.Mode.TheVariants.{Smart}

@@ -1,4 +1,4 @@
-use Rattle.std.proofs.Common.{◌≡◌, ◌+◌, ℕ, refl, sym, ap, subst, ◌∙◌, Ok}
+use Rattle.std.proofs.Common.{◌+◌, ℕ, refl, sym, ap, subst, ◌∙◌, Ok}
 use Rattle.pm_seating.specs.Calls.{DoesNext}
 use Rattle.pm_seating.specs.Standing.{view}
 use Rattle.pm_journal.specs.Supervision.{at_work}

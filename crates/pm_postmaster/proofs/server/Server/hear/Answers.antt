@@ -1,6 +1,4 @@
-use Rattle.std.proofs.Common.{◌≡◌, List, ℕ, ◌∙◌, ap, refl}
 use Rattle.std.proofs.lemmas.Result.{err_from_is_err_and}
-use Rattle.pm_postmaster.specs.View.{view_of}
 use Rattle.pm_postmaster.proofs.server.Server.hear.Goals as goal
 
 pub heed-requires-clause-read : goal.heed-requires-clause-read

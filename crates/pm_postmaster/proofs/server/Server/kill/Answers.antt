@@ -1,4 +1,4 @@
-use Rattle.std.proofs.Common.{◌≡◌, ◌∙◌, ap, refl}
+use Rattle.std.proofs.Common.{◌∙◌, ap, refl}
 use Rattle.pm_journal.specs.Standing.{Standing}
 use Rattle.pm_journal.specs.Supervision.{at_work}
 use Rattle.pm_seating.specs.Seating.{Kill}

@@ -1,7 +1,5 @@
-use Rattle.std.proofs.Common.{◌≡◌, ℕ, [], refl, sym, ap, subst, ◌∙◌}
-use Rattle.pm_exit.specs.declared.child.Kind.{Kind}
-use Rattle.pm_postmaster.specs.Looking.{came_by, lost_with}
-use Rattle.pm_postmaster.specs.View.{View, view_of}
+use Rattle.std.proofs.Common.{refl}
+use Rattle.pm_postmaster.specs.View.{view_of}
 use Rattle.pm_postmaster.proofs.Calling.{IsBeside, leaves, leaves_store, short}
 use Rattle.pm_postmaster.proofs.Cleared.{near_slots}
 use Rattle.pm_postmaster.proofs.Reaped.{ended_on, found_on, may_come, released_by, short_on}

@@ -1,4 +1,4 @@
-use Rattle.std.proofs.Common.{ap, refl}
+use Rattle.std.proofs.Common.{refl}
 use Rattle.pm_postmaster.specs.View.{view_of}
 use Rattle.pm_postmaster.proofs.Calling.{IsBeside, leaves, leaves_store, same_past, short}
 use Rattle.pm_postmaster.proofs.Steps.{turned_on}
