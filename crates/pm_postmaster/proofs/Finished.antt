@@ -35,11 +35,11 @@ use Rattle.pm_shared.specs.declared.views.Noted.{Noted}
 use Rattle.pm_state.specs.Journal.{IsLegal}
 use Rattle.pm_supervisor.specs.declared.Limits.{Limits}
 use Rattle.pm_worker.specs.declared.mail.MailTold.{MailTold}
-use Rattle.pm_postmaster.specs.Links.{HasLinks}
+use Rattle.pm_postmaster.specs.Links.{AreBackIn, HasLinks}
 use Rattle.pm_postmaster.specs.Requests.{IsAsked}
 use Rattle.pm_postmaster.specs.Serving.{IsCausedBehind, last_pid_in}
 use Rattle.pm_postmaster.proofs.Closing.{still_once}
-use Rattle.pm_postmaster.proofs.Home.{links_home}
+use Rattle.pm_postmaster.proofs.Home.{back_home, links_home}
 use Rattle.pm_postmaster.proofs.Linking.{by_test}
 use Rattle.pm_state.specs.declared.event.PmEvent.{PmEvent}
 use Rattle.pm_postmaster.specs.Served.{IsEnded}
@@ -147,3 +147,11 @@ pub home_if : (manner : Manner) (count : ℕ) (before after : RosterView MailTol
     → IfSome visits (HasLinks (length (accepted_in journal)) before) → IfSome visits (LinksCameBack journal)
 home_if manner count before after own book left free more wide journal None was = tt
 home_if manner count before after own book left free more wide journal (Some visits) was = links_home manner count before after own book left free more wide journal visits was
+
+-- and what came back to it
+pub back_if : (manner : Manner) (count : ℕ) (before after : RosterView MailTold) (own : List Noted) (book : List BookEntry) → AreLeft manner count after own book
+    → ((k : ℕ) → k < count → HasHadLast k before after) → (visits : Option Visits) (accepted : ℕ) → IfSome visits (HasLinks accepted before)
+    → IfSome visits (AreBackIn after)
+back_if manner count before after own book left last None accepted was = tt
+back_if manner count before after own book left last (Some visits) accepted was =
+    back_home manner count before after own book left last (λ k far. none_behind after k (subst (λ (n : ℕ). n ≤ k) (sym left.slots) far)) visits was.back

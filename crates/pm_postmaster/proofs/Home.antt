@@ -1,7 +1,7 @@
 -- Each link came back once.
 use Rattle.std.proofs.Common.{◌≡◌, ◌≢◌, ◌⊎◌, inl, inr, ℕ, zero, suc, ◌+◌, ◌<◌, ◌≤◌, List, [], ◌∷◌, ◌++◌, refl, sym, ap, subst, ◌∙◌, length, map, arith, get_or}
 use Rattle.std.proofs.lemmas.List.{length-map}
-use Rattle.std.proofs.lemmas.List.Elements.{Contains-append_left}
+use Rattle.std.proofs.lemmas.List.Elements.{Contains-append_left, Contains-push, Contains-push_cases}
 use Rattle.std.proofs.lemmas.Option.{slice_get-get_or}
 use Rattle.std.specs.Prelude.{Bool, true, false, ◌==◌, if◌then◌else◌, None, nat_lt}
 use Rattle.std.specs.List.{AllByRecursion, Contains}
@@ -12,6 +12,7 @@ use Rattle.pm_board.specs.Places.{slot_at}
 use Rattle.pm_chain.specs.Chain.{IsPidOf}
 use Rattle.pm_crew.specs.Left.{AreLeft, Manner}
 use Rattle.pm_outside.specs.Visits.{Visit, Visits}
+use Rattle.pm_pool.specs.Closing.{HasHadLast}
 use Rattle.pm_query.specs.declared.book.BookEntry.{BookEntry}
 use Rattle.pm_seating.specs.Chained.{LinksCameBack, accepted_in}
 use Rattle.pm_shared.specs.declared.views.Noted.{Noted}
@@ -20,7 +21,7 @@ use Rattle.pm_state.specs.Restarts.{without_pid}
 use Rattle.pm_worker.specs.declared.mail.MailTold.{MailTold}
 use Rattle.pm_worker.specs.declared.mail.MailTold.TheVariants as mail
 use Rattle.pm_worker.specs.Runs.{Does, IsRun, Run}
-use Rattle.pm_postmaster.specs.Links.{BackIn, GivesLink, HasLink, HasLinks}
+use Rattle.pm_postmaster.specs.Links.{AreBackIn, BackIn, GivesLink, HasLink, HasLinks, IsBackIn}
 use Rattle.pm_postmaster.proofs.Linking.{by_test}
 
 -- ---- as many as there are
@@ -122,3 +123,42 @@ module _ (manner : Manner) (count : ℕ) (before after : RosterView MailTold) (o
         back = omega (arith, long, same, out, given);
         each = λ n from to. each n from (omega (arith, to, given));
       }
+
+-- ---- what came back is what the children gave
+
+-- a run that closes its worker gives no link back
+closes_back : (gives : ℕ → Type 0) (seed : List ℕ) (limit : ℕ) (run : Run) (back : List Visit) → run.child.offer.given ≡ mail.Close
+    → Does None seed limit gives run.child.offer.given run → BackIn back run.child.back
+closes_back gives seed limit run back closes does =
+    let is : Does None seed limit gives mail.Close run = subst (λ (m : MailTold). Does None seed limit gives m run) closes does in
+    subst (λ (r : Run). BackIn back r.child.back) (sym is) tt
+
+module _ (manner : Manner) (count : ℕ) (before after : RosterView MailTold) (own : List Noted) (book : List BookEntry) (left : AreLeft manner count after own book)
+    (last : (k : ℕ) → k < count → HasHadLast k before after) (wide : (k : ℕ) → count ≤ k → (slot_at after k).past ≡ []) where
+  -- the last child of a slot gives none back
+  last_back : (k : ℕ) (visits : Visits) → (less : k < count) → IsBackIn visits (last k less).child.back
+  last_back k visits less =
+      let closed = last k less in
+      let worked = left.each k (get_or left.lists k []) (slice_get-get_or left.lists k [] (let all = left.all in omega (arith, less, all))) in
+      let there : Contains (map (λ run. run.child) (left.runs k)) closed.child =
+      subst (λ (xs : List (PastChild MailTold)). Contains xs closed.child) (sym closed.past ∙ worked.children) (Contains-push (slot_at before k).past closed.child) in
+      let run = run_of (IsRun None manner.seed manner.limit manner.gives) (left.runs k) there.0 closed.child worked.each there.1 there.2 in
+      subst (λ (c : PastChild MailTold). IsBackIn visits c.back) run.2
+      (closes_back manner.gives manner.seed manner.limit run.0 visits.back (ap (λ (c : PastChild MailTold). c.offer.given) run.2 ∙ closed.closes) run.1.does)
+
+  pub back_home : (visits : Visits) → AreBackIn before visits → AreBackIn after visits
+  back_home visits was k child has = by_test (nat_lt k count) inside outside
+    where
+      inside : nat_lt k count ≡ true → IsBackIn visits child.back
+      inside is =
+          let less : k < count = grind (arith, is) in
+          let closed = last k less in
+          elim (Contains-push_cases (slot_at before k).past closed.child child (subst (λ (xs : List (PastChild MailTold)). Contains xs child) closed.past has)) [
+            | inl old ↦ was k child old
+            | inr same ↦ subst (λ (c : PastChild MailTold). IsBackIn visits c.back) same (last_back k visits less)
+          ]
+
+      outside : nat_lt k count ≡ false → IsBackIn visits child.back
+      outside isnt =
+          let none : Contains [] child = subst (λ (xs : List (PastChild MailTold)). Contains xs child) (wide k (grind (arith, isnt))) has in
+          absurd (let near = none.1 in omega (arith, near))

@@ -61,7 +61,7 @@ counted d = count_of is_connection (children_of d.slots)
 
 -- a visit that came back is still back
 opened_more : (back m : MailTold) (visits : Visits) → IsBackIn visits m → IsBackIn (opened back visits) m
-opened_more (mail.Served link) (mail.Served other) visits has = (has.0, Contains-append_left visits.back _ has.0 has.1, has.2)
+opened_more (mail.Served link) (mail.Served other) visits has = (has.0, Contains-append_left visits.back _ has.0 has.1, has.2, has.3)
 opened_more (mail.Serve link decision) m visits has = has
 opened_more mail.Startup m visits has = has
 opened_more mail.Checkpointer m visits has = has
@@ -76,7 +76,7 @@ opened_more (mail.Served link) mail.Close visits has = has
 opened_more (mail.Served link) (mail.Aux fault kept) visits has = has
 
 opened_itself : (back : MailTold) (visits : Visits) → IsBackIn (opened back visits) back
-opened_itself (mail.Served link) visits = (_, Contains-push visits.back _, refl)
+opened_itself (mail.Served link) visits = (_, Contains-push visits.back _, refl, refl)
 opened_itself (mail.Serve link decision) visits = tt
 opened_itself mail.Startup visits = tt
 opened_itself mail.Checkpointer visits = tt

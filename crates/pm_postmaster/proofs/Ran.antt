@@ -20,10 +20,11 @@ use Rattle.pm_server.specs.declared.end.ServerEnd.{ServerEnd}
 use Rattle.pm_shared.specs.declared.views.Noted.{Noted}
 use Rattle.pm_worker.specs.declared.mail.MailTold.{MailTold}
 use Rattle.pm_postmaster.specs.Clearing.{Clears, MayClear}
+use Rattle.pm_postmaster.specs.Links.{AreBackIn}
 use Rattle.pm_postmaster.specs.Requests.{IsAsked, ended_in}
 use Rattle.pm_postmaster.specs.Serving.{HasStopped, IsCausedBehind, Outset, last_pid_in}
 use Rattle.pm_postmaster.specs.View.{View}
-use Rattle.pm_postmaster.proofs.Finished.{asked_behind, caused_more, home_if, none_behind, once_after, past_after}
+use Rattle.pm_postmaster.proofs.Finished.{asked_behind, back_if, caused_more, home_if, none_behind, once_after, past_after}
 use Rattle.pm_postmaster.proofs.Redoing.{redos_behind}
 
 pub clears_at : (t u w : TableId) (d e f : RosterView MailTold) (a b : Option Visits) → t ≡ u → d ≡ e → Clears t d a w f b → Clears u e a w f b
@@ -88,3 +89,6 @@ module _ {D C : Type 0} (gives : C → ℕ → Type 0) (outset : Outset D C) (en
         (λ k near. past_after outset.limits outset.count stopped.moves cleared closed nobody ending gone slots left.slots stopped.legal stopped.drawn last k)
         (λ k far. none_behind cleared k (subst (λ (n : ℕ). n ≤ k) (sym slots) far))
         (journal_of outset.count stopped.moves) visits (clears.links _ stopped.holds.links)
+
+    pub returned : IfSome visits (AreBackIn closed)
+    returned = back_if manner outset.count cleared closed own book left last visits _ (clears.links _ stopped.holds.links)

@@ -25,6 +25,7 @@ use Rattle.pm_server.specs.Journal.{IsJournal}
 use Rattle.pm_shared.specs.declared.views.Noted.{Noted}
 use Rattle.pm_supervisor.specs.declared.Limits.{Limits}
 use Rattle.pm_worker.specs.declared.mail.MailTold.{MailTold}
+use Rattle.pm_postmaster.specs.Links.{AreBackIn}
 use Rattle.pm_postmaster.specs.Outside.{ServeView}
 use Rattle.pm_postmaster.specs.Requests.{IsAsked, ended_in}
 use Rattle.pm_postmaster.specs.Serving.{IsCausedBehind, IsEndBehind, last_pid_in}
@@ -76,6 +77,8 @@ pub record IsServed (conf : Conf) (end : ServerEnd) (before now : ServeView) : T
   pub asked : IsAsked end moves now.lines (ended_in now.outside.visits) (last_pid_in conf.limits (journal_of (slots_by conf.limits) moves))
   -- each link that was given came back once
   pub links : IfSome now.outside.visits (LinksCameBack (journal_of (slots_by conf.limits) moves))
+  -- with what had passed on it when its child gave it back, and no more
+  pub returned : IfSome now.outside.visits (AreBackIn board)
   pub logged :
       HasLogged (log_of (journal_of (slots_by conf.limits) moves) ++ end_line end) before.outside.written now.outside.written before.outside.sink_faults
       now.outside.sink_faults

@@ -21,7 +21,7 @@ use Rattle.pm_worker.specs.declared.mail.MailTold.{MailTold}
 use Rattle.pm_postmaster.specs.Served.{slots_by, unmade_by}
 use Rattle.pm_postmaster.proofs.Beginning.{begun}
 use Rattle.pm_postmaster.proofs.Finished.{adds_new, given_back, logged_whole, told_at}
-use Rattle.pm_postmaster.proofs.Ran.{asked, board_is, cause, clears_at, last_at, links, may_clear_at, may_close, may_close_at, once, redos}
+use Rattle.pm_postmaster.proofs.Ran.{asked, board_is, cause, clears_at, last_at, links, may_clear_at, may_close, may_close_at, once, redos, returned}
 use Rattle.pm_postmaster.proofs.postmaster.supervise.Goals as goal
 
 -- why no pool was made
@@ -130,6 +130,7 @@ returns-in-Ok-clause-run g c =
       redos = redos g.C.Clock.gives _ _ _ stopped c.laws.ensures.nobody _ _ _ clears c.clear.ensures.gone _ _ _ _ c.close-store.ensures.board last left;
       asked = asked g.C.Clock.gives _ _ _ stopped c.laws.ensures.nobody _ _ _ clears c.clear.ensures.gone _ _ _ _ c.close-store.ensures.board last left;
       links = links g.C.Clock.gives _ _ _ stopped c.laws.ensures.nobody _ _ _ clears c.clear.ensures.gone _ _ _ _ c.close-store.ensures.board last left;
+      returned = returned g.C.Clock.gives _ _ _ stopped c.laws.ensures.nobody _ _ _ clears c.clear.ensures.gone _ _ _ _ c.close-store.ensures.board last left;
       logged = logged_whole _ _ _ _ _ _ _ c.new-log.ensures stopped.holds.said c.ended-sink.ensures;
     })
 
