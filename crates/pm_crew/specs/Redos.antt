@@ -1,15 +1,14 @@
 -- The ends of redo that a supervisor told of, beside what its startup children kept.
-use Rattle.std.specs.Prelude.{◌≡◌, ◌==◌, ℕ, if◌then◌else◌, List, [], ◌∷◌, ◌++◌, Option, None, Some}
+use Rattle.std.specs.Prelude.{◌≡◌, ◌==◌, ℕ, if◌then◌else◌, List, [], ◌∷◌, ◌++◌, map, Option, None, Some}
 use Rattle.std.specs.List.{flat_map}
-use Rattle.pm_exit.specs.declared.child.Kind.{Kind}
-use Rattle.pm_exit.specs.declared.child.Status.{Status}
 use Rattle.pm_state.specs.declared.event.PmEvent.TheVariants as entry
 use Rattle.pm_board.specs.declared.views.PastChild.{PastChild}
 use Rattle.pm_board.specs.declared.views.RosterView.{RosterView}
 use Rattle.pm_board.specs.Places.{slot_at}
 use Rattle.pm_chain.specs.Chain.{InGeneration}
+use Rattle.pm_seating.specs.Board.{ended_of}
 use Rattle.pm_seating.specs.Calls.{kept_by}
-use Rattle.pm_seating.specs.Seating.{Move, Notes}
+use Rattle.pm_seating.specs.Seating.{Move, Notes, ended_at}
 use Rattle.pm_worker.specs.declared.mail.MailTold.{MailTold}
 use Rattle.pm_worker.specs.declared.mail.MailTold.TheVariants as mail
 
@@ -35,8 +34,16 @@ redo_ends_by k _ = []
 abbrev pub redo_ends_at : ℕ → List Move → List InGeneration
 redo_ends_at k moves = flat_map (redo_ends_by k) moves
 
--- Each end of redo that the moves tell of is that of a child of its slot, with the number that this child told, in order; others
--- were never told of, since the run ended.
+-- The first children of the slot k are those whose ends these moves tell of, and the ends of redo that the moves tell of are those
+-- that these children told of, in order.
+pub record AreRedosOf (k : ℕ) (moves : List Move) (past : List (PastChild MailTold)) : Type 0 where
+  pub front : List (PastChild MailTold)
+  pub others : List (PastChild MailTold)
+  pub is : past ≡ front ++ others
+  pub ended : map ended_of front ≡ ended_at k moves
+  pub redos : flat_map redo_told front ≡ redo_ends_at k moves
+
+-- Each end of redo that the moves tell of is that of a child of its slot, with the number that this child told, and stands there
+-- where the child's end does; others were never told of, since the run ended.
 abbrev pub RedosAreThose : List Move → RosterView MailTold → Type 0
-RedosAreThose moves d =
-    (k : ℕ) → (others : List InGeneration) × (flat_map redo_told (slot_at d k).past ≡ redo_ends_at k moves ++ others)
+RedosAreThose moves d = (k : ℕ) → AreRedosOf k moves (slot_at d k).past

@@ -172,7 +172,7 @@ module _ {D C : Type 0} (gives : C → ℕ → Type 0) where
         cause = cause;
         asked = subst (λ (n : ℕ). IsAsked end was.moves lines (ended_in visits) n) (pid_at outset.limits (journal_of outset.count was.moves) v.work.standing was.at.past was.at.stands) asked;
         renews = renews_as_told (journal_of outset.count was.moves) v.lost v.shared.own was.renews;
-        redos = redos_told was.moves v.board was.redos;
+        redos = redos_told was.moves v.board was.at.seated.had.ended was.redos;
       }
 
   -- the same where all was asked for that was to be, but for a smart shutdown that is owed where memory is short

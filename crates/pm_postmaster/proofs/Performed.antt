@@ -291,7 +291,7 @@ module _ {D C : Type 0} (gives : C → ℕ → Type 0) (counts : CountsChildren)
               (subst (λ (own : List Noted). RenewsAsTold (journal_of outset.count was.moves ++ entry.Reset (before.work.standing.generation + 1) ∷ []) own)
               (sym (ap (λ (s : SharedModel D). s.own) same ∙ ap (λ (s : SharedModel D). s.own) is.shared))
               (renews_short (journal_of outset.count was.moves) before.lost before.shared.own (before.work.standing.generation + 1) was.renews));
-          redos = redos_told moves_now mid.board
+          redos = redos_told moves_now mid.board stands.at.seated.had.ended
               (redos_still was.moves (Notes (entry_for a before.work.standing) (slot_for a) ∷ []) before.board mid.board (acts_tell_none a before.work.standing) is.past was.redos);
         }
 

@@ -324,7 +324,7 @@ module _ {D C : Type 0} (gives : C → ℕ → Type 0) (counts : CountsChildren)
             (asked_all NoMemory was.moves before.lines (ended_in before.visits) before.listens before.work.standing was.asks (λ owes. refl))));
         renews = subst (λ (x : List Noted). RenewsAsTold (journal_of outset.count was.moves) x) (sym own)
             (renews_as_told (journal_of outset.count was.moves) before.lost before.shared.own was.renews);
-        redos = redos_behind was.moves before.board now.board (past_more k kind status active back before.board now.board released) (redos_told was.moves before.board was.redos);
+        redos = redos_behind was.moves before.board now.board (past_more k kind status active back before.board now.board released) (redos_told was.moves before.board was.at.seated.had.ended was.redos);
       }
 
 -- ---- with what it leaves

@@ -2,7 +2,7 @@
 use Rattle.std.proofs.Common.{◌≡◌, ◌≢◌, ℕ, List, [], ◌∷◌, ◌++◌, refl, sym, ap, ◌∙◌, arith, append-nil, append_assoc}
 use Rattle.std.proofs.lemmas.Grind.{flat_map-append}
 use Rattle.std.specs.List.{flat_map}
-use Rattle.std.specs.Prelude.{Bool, true, false, ◌==◌, ◌&&◌, if◌then◌else◌, Option, None, Some, unwrap_or}
+use Rattle.std.specs.Prelude.{Bool, true, false, ◌==◌, ◌&&◌, if◌then◌else◌, map, Option, None, Some, unwrap_or}
 use Rattle.pm_exit.specs.declared.child.Kind.{Kind}
 use Rattle.pm_exit.specs.declared.child.Status.{Status}
 use Rattle.pm_exit.specs.Ends.{is_exit_0}
@@ -18,8 +18,9 @@ use Rattle.pm_chain.specs.Chain.{InGeneration}
 use Rattle.pm_crew.specs.Redos.{RedosAreThose, kept_in, redo_ends_at, redo_ends_by, redo_told, told_if}
 use Rattle.pm_journal.specs.declared.exit.ChildExit.{ChildExit}
 use Rattle.pm_journal.specs.Standing.{Standing, ends_redo, entry_for, exit_entry, later}
+use Rattle.pm_seating.specs.Board.{ended_of}
 use Rattle.pm_seating.specs.Calls.{exits, kept_by, notes_in, slot_for}
-use Rattle.pm_seating.specs.Seating.{Move, Notes}
+use Rattle.pm_seating.specs.Seating.{Move, Notes, ended_at}
 use Rattle.pm_seating.specs.Sitting.{KeepsPast}
 use Rattle.pm_state.specs.declared.action.Action.{Action}
 use Rattle.pm_state.specs.declared.action.Action.TheVariants as action
@@ -124,11 +125,14 @@ redos_exited earlier slot at exit s o status active back notes d e became kind i
 pub redos_behind : (moves : List Move) (d e : RosterView MailTold) → ((k : ℕ) → (others : List (PastChild MailTold)) × ((slot_at e k).past ≡ (slot_at d k).past ++ others))
     → RedosAreThose moves d → RedosAreThose moves e
 redos_behind moves d e more were k =
-    let m = more k in let w = were k in (
-      w.0 ++ flat_map redo_told m.0,
-      ap (λ (xs : List (PastChild MailTold)). flat_map redo_told xs) m.1 ∙ (flat_map-append redo_told (slot_at d k).past m.0
-          ∙ (ap (λ (l : List InGeneration). l ++ flat_map redo_told m.0) w.1 ∙ append_assoc (redo_ends_at k moves) w.0 (flat_map redo_told m.0))),
-    )
+    let m = more k in let w = were k in record {
+      front = w.front;
+      others = w.others ++ m.0;
+      is = m.1 ∙ (ap (λ (xs : List (PastChild MailTold)). xs ++ m.0) w.is ∙ append_assoc w.front w.others m.0);
+      ended = w.ended;
+      redos = w.redos;
+    }
 
-pub redos_told : (moves : List Move) (d : RosterView MailTold) → TellsRedos moves d → RedosAreThose moves d
-redos_told moves d were k = ([], were k ∙ sym (append-nil (redo_ends_at k moves)))
+pub redos_told : (moves : List Move) (d : RosterView MailTold) → ((k : ℕ) → map ended_of (slot_at d k).past ≡ ended_at k moves) → TellsRedos moves d → RedosAreThose moves d
+redos_told moves d had were k =
+    record { front = (slot_at d k).past; others = []; is = sym (append-nil (slot_at d k).past); ended = had k; redos = were k }
