@@ -1,7 +1,7 @@
 -- Behind the join the book has of each child what its run noted.
-use Rattle.std.proofs.Common.{◌≡◌, ◌≢◌, ◌⊎◌, inl, inr, ℕ, ◌+◌, ◌<◌, Bool, true, false, List, [], ◌∷◌, ◌++◌, None, Some, get_or, length, refl, sym, ap, subst, ◌∙◌, arith, append-nil}
-use Rattle.std.specs.Prelude.{cond, map, nat_eq, slice_get, ◌&&◌, ◌==◌}
-use Rattle.std.specs.List.{AllByRecursion, filter, flat_map}
+use Rattle.std.proofs.Common.{◌≡◌, ◌≢◌, inl, inr, ℕ, ◌+◌, ◌<◌, Bool, true, false, List, [], ◌∷◌, ◌++◌, None, Some, get_or, refl, sym, ap, subst, ◌∙◌, arith, append-nil}
+use Rattle.std.specs.Prelude.{cond, map, slice_get, ◌&&◌, ◌==◌}
+use Rattle.std.specs.List.{AllByRecursion}
 use Rattle.std.proofs.lemmas.List.Elements.{filter-append}
 use Rattle.std.proofs.lemmas.Option.{slice_get-get_or}
 use Rattle.pm_board.specs.declared.views.RosterView.{RosterView}
@@ -15,8 +15,10 @@ use Rattle.pm_shared.specs.Log.{AllBelow, Line, book_of, entries_of, is_own, not
 use Rattle.pm_worker.specs.declared.mail.MailTold.{MailTold}
 use Rattle.pm_worker.specs.Runs.{IsRun, Run, noted_by}
 use Rattle.pm_crew.specs.Left.{AreLeft, IsWorked, Manner}
-use Rattle.pm_crew.specs.OwnLaws.{AllBy, of_run}
 use Rattle.pm_crew.specs.Pids.{AreEntriesOf, AreUsedOnce, pids_at}
+use Rattle.pm_crew.specs.PidsLaws.{differs}
+use Rattle.pm_crew.specs.Uses.{AllBy, UsesStore}
+use Rattle.pm_crew.specs.UsesLaws.{own_entries, uses}
 
 abbrev NoneBy : ℕ → List BookEntry → Type 0
 NoneBy pid entries = AllByRecursion (λ entry. is_by pid entry ≡ false) entries
@@ -167,31 +169,35 @@ same_pids runs past is = ap (λ p. map (λ child. child.offer.pid) p) is ∙ twi
     twice (run ∷ rs) = ap (λ (ps : List ℕ). run.child.offer.pid ∷ ps) (twice rs)
 
 module _ (manner : Manner) (count : ℕ) (d : RosterView MailTold) (own : List Noted) (book : List BookEntry) (left : AreLeft manner count d own book) (once : AreUsedOnce d) where
-  its_list : (k : ℕ) → k < count → (list : List Noted) × (slice_get left.lists k ≡ Some list)
+  pub its_list : (k : ℕ) → k < count → (list : List Noted) × (slice_get left.lists k ≡ Some list)
   its_list k less = (get_or left.lists k [], slice_get-get_or left.lists k [] (omega (arith, less, left.all)))
 
-  worked : (k : ℕ) (less : k < count) → IsWorked manner d k (left.runs k) (its_list k less).0
+  pub worked : (k : ℕ) (less : k < count) → IsWorked manner d k (left.runs k) (its_list k less).0
   worked k less = left.each k (its_list k less).0 (its_list k less).1
 
-  all_own : (runs : List Run) → AllByRecursion (IsRun None manner.seed manner.limit manner.gives) runs → AllOwn runs
-  all_own [] each = tt
-  all_own (run ∷ runs) each = (of_run None manner.seed manner.limit manner.gives run each.0, all_own runs each.1)
+  all_use : (runs : List Run) → AllByRecursion (IsRun None manner.seed manner.limit manner.gives) runs → AllByRecursion (λ run. UsesStore run.child run.noted) runs
+  all_use [] each = tt
+  all_use (run ∷ runs) each = (uses None manner.seed manner.limit manner.gives run each.0, all_use runs each.1)
 
-  entries_at : (k : ℕ) (less : k < count) → entries_of (placed k 0 left.shuffle.log) ≡ noted_by (left.runs k)
+  -- each run used the store once, or not at all
+  pub runs_use : (k : ℕ) → k < count → AllByRecursion (λ run. UsesStore run.child run.noted) (left.runs k)
+  runs_use k less = all_use (left.runs k) (worked k less).each
+
+  all_own : (runs : List Run) → AllByRecursion (λ run. UsesStore run.child run.noted) runs → AllOwn runs
+  all_own [] each = tt
+  all_own (run ∷ runs) each = (own_entries run.child run.noted each.0, all_own runs each.1)
+
+  pub entries_at : (k : ℕ) (less : k < count) → entries_of (placed k 0 left.shuffle.log) ≡ noted_by (left.runs k)
   entries_at k less = ap entries_of (sym (left.shuffle.each_list k (its_list k less).0 (its_list k less).1)) ∙ (worked k less).entries
 
   pids_are : (k : ℕ) (less : k < count) → pids_at d k ≡ run_pids (left.runs k)
   pids_are k less = same_pids (left.runs k) (slot_at d k).past (worked k less).children
 
-  differs : (pid : ℕ) (pids : List ℕ) → (IsPidOf pid pids → ⊥) → AllByRecursion (λ other. pid ≢ other) pids
-  differs pid [] never = tt
-  differs pid (other ∷ pids) never = ((λ is. never (inl is)), differs pid pids (λ is. never (inr is)))
-
   others_none : (k pid : ℕ) → k < count → IsPidOf pid (pids_at d k) → OthersAre k pid left.shuffle.log
   others_none k pid less its =
       others_are k pid 0 count left.shuffle.log left.shuffle.below (λ j below other.
       subst (NoneBy pid) (sym (entries_at j below))
-      (none_of_runs pid (left.runs j) (all_own (left.runs j) (worked j below).each)
+      (none_of_runs pid (left.runs j) (all_own (left.runs j) (runs_use j below))
       (differs pid (run_pids (left.runs j)) (λ there. once.across j k pid other (subst (IsPidOf pid) (sym (pids_are j below)) there) its))))
 
   -- the entries of a child in the book are those that its run noted
@@ -219,4 +225,4 @@ module _ (manner : Manner) (count : ℕ) (d : RosterView MailTold) (own : List N
   entries_of_runs k less =
       one_by_one k less (left.runs k)
       (subst (λ (pids : List ℕ). AllByRecursion (λ run. IsPidOf run.child.offer.pid pids) (left.runs k)) (sym (pids_are k less)) (all_there (left.runs k)))
-      (of_slot (left.runs k) (all_own (left.runs k) (worked k less).each) (subst AreDistinct (pids_are k less) (once.within k)))
+      (of_slot (left.runs k) (all_own (left.runs k) (runs_use k less)) (subst AreDistinct (pids_are k less) (once.within k)))

@@ -1,5 +1,5 @@
 -- What the workers of a board leave once they were joined.
-use Rattle.std.specs.Prelude.{◌≡◌, ◌<◌, ℕ, List, map, Option, None, Some, length, slice_get}
+use Rattle.std.specs.Prelude.{◌≡◌, ℕ, List, map, None, Some, length, slice_get}
 use Rattle.std.specs.List.{AllByRecursion}
 use Rattle.pm_board.specs.declared.views.PostNotes.{PostNotes}
 use Rattle.pm_board.specs.declared.views.RosterView.{RosterView}

@@ -2,7 +2,8 @@ pub mod Left
 pub mod Redos
 pub mod Renewals
 pub mod Pids
-pub mod OwnLaws
+pub mod Uses
+pub mod UsesLaws
 pub mod EntriesLaws
 pub mod PidsLaws
 pub mod Talks

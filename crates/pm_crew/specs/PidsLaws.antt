@@ -11,13 +11,13 @@ use Rattle.pm_state.specs.declared.action.Action.{Action}
 use Rattle.pm_state.specs.declared.action.Action.TheVariants as act
 use Rattle.pm_state.specs.declared.event.PmEvent.{PmEvent}
 use Rattle.pm_state.specs.declared.event.PmEvent.TheVariants as entry
-use Rattle.pm_state.specs.Journal.{AreLegal, Do, Due, EndRedo, Fits, FitsFirst, Follows, FollowsIn, IsLegal, Replay, all_replayed, replay_begun, replayed}
+use Rattle.pm_state.specs.Journal.{AreLegal, Do, Due, EndRedo, Fits, FitsFirst, FollowsIn, IsLegal, Replay, all_replayed, replay_begun, replayed}
 use Rattle.pm_board.specs.declared.views.PastChild.{PastChild}
 use Rattle.pm_board.specs.declared.views.RosterView.{RosterView}
 use Rattle.pm_board.specs.Places.{slot_at}
 use Rattle.pm_chain.specs.Chain.{AreDistinct, IsPidOf}
 use Rattle.pm_seating.specs.Board.{begun_of}
-use Rattle.pm_seating.specs.Seating.{Begun, Kill, Move, Nothing, Notes, PidsEnd, PortEnds, Reads, Request, Seating, Stop, asked_by, begins, begun_at, begun_by, begun_from, empty, entries_by, entries_from, is_seated, journal_of, seating_by}
+use Rattle.pm_seating.specs.Seating.{Begun, Kill, Move, Nothing, Notes, PidsEnd, PortEnds, Reads, Seating, Stop, begun_at, begun_by, begun_from, empty, entries_by, entries_from, is_seated, journal_of, seating_by}
 use Rattle.pm_worker.specs.declared.mail.MailTold.{MailTold}
 use Rattle.pm_crew.specs.Pids.{AreUsedOnce, pids_at}
 
@@ -271,7 +271,12 @@ used_once limits gives count moves d legal begun = record {
 
 -- ---- the last pid
 
-pid_either : (pid : ℕ) (xs ys : List ℕ) → IsPidOf pid xs ⊎ IsPidOf pid ys → IsPidOf pid (xs ++ ys)
+-- whoever is none of these differs from each
+pub differs : (pid : ℕ) (pids : List ℕ) → (IsPidOf pid pids → ⊥) → AllByRecursion (λ other. pid ≢ other) pids
+differs pid [] never = tt
+differs pid (other ∷ pids) never = ((λ is. never (inl is)), differs pid pids (λ there. never (inr there)))
+
+pub pid_either : (pid : ℕ) (xs ys : List ℕ) → IsPidOf pid xs ⊎ IsPidOf pid ys → IsPidOf pid (xs ++ ys)
 pid_either pid [] ys (inl there) = absurd there
 pid_either pid [] ys (inr there) = there
 pid_either pid (x ∷ xs) ys (inl (inl is)) = inl is

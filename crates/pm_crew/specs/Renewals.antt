@@ -1,11 +1,8 @@
 -- Whom the supervisor gave up before each generation that it began.
-use Rattle.std.specs.Prelude.{◌≡◌, ℕ, true, Bool, List, [], ◌∷◌, ◌++◌}
-use Rattle.pm_exit.specs.declared.child.Kind.{Kind}
-use Rattle.pm_exit.specs.declared.child.Status.{Status}
+use Rattle.std.specs.Prelude.{◌≡◌, ℕ, true, List, [], ◌∷◌, ◌++◌}
 use Rattle.pm_state.specs.declared.event.PmEvent.{PmEvent}
 use Rattle.pm_state.specs.declared.event.PmEvent.TheVariants as event
 use Rattle.pm_chain.specs.Chain.{AgreeOnGenerations, gone_from, lost_from}
-use Rattle.pm_query.specs.declared.book.BookEntry.{BookEntry}
 use Rattle.pm_shared.specs.declared.views.Noted.{Noted}
 use Rattle.pm_shared.specs.Log.{entries_of}
 use Rattle.pm_shared.specs.Renewed.{AreApart}

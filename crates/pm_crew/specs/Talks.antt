@@ -1,5 +1,5 @@
 -- The connections of a server as their clients saw them, by the runs of its children.
-use Rattle.std.specs.Prelude.{◌≡◌, ◌<◌, ◌+◌, ℕ, List, [], ◌∷◌, ◌++◌}
+use Rattle.std.specs.Prelude.{◌≡◌, ◌<◌, ℕ, List, [], ◌∷◌}
 use Rattle.pm_admit.specs.declared.Cac.{Cac}
 use Rattle.pm_keys.specs.CancelKey.{cancel_key}
 use Rattle.pm_session.specs.Session.{status_of}

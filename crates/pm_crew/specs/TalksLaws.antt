@@ -1,12 +1,11 @@
 -- Each reply that a server of many connections sent is right.
-use Rattle.std.proofs.Common.{◌≡◌, ◌⊎◌, inl, inr, ℕ, ◌<◌, ◌≤◌, List, [], ◌∷◌, ◌++◌, None, Option, refl, sym, ap, subst, ◌∙◌, arith}
+use Rattle.std.proofs.Common.{◌≡◌, ◌⊎◌, inl, inr, ℕ, List, [], ◌∷◌, None, refl, sym, subst}
 use Rattle.std.specs.List.{AllByRecursion}
 use Rattle.pm_admit.specs.declared.Cac.{Cac}
-use Rattle.pm_keys.specs.CancelKey.{cancel_key}
 use Rattle.pm_query.specs.declared.book.BookEntry.{BookEntry}
 use Rattle.pm_query.specs.Book.{Base, IsLegal, history_of}
 use Rattle.pm_query.specs.Calls.{newcomer}
-use Rattle.pm_answers.specs.Laws.{IsSessionOf, OwnEntriesStand, RepliesAreRight}
+use Rattle.pm_answers.specs.Laws.{OwnEntriesStand, RepliesAreRight}
 use Rattle.pm_answers.specs.Own.{entries_by}
 use Rattle.pm_answers.specs.Replies.{IsAnswered, IsTurnedOff, Talk}
 use Rattle.pm_worker.specs.declared.mail.LinkTold.{LinkTold}
@@ -15,7 +14,7 @@ use Rattle.pm_worker.specs.declared.mail.MailTold.TheVariants as mail
 use Rattle.pm_worker.specs.Mails.{traffic_in}
 use Rattle.pm_worker.specs.Runs.{Does, IsRun, IsSessionRun, Run}
 use Rattle.pm_crew.specs.Pids.{AreEntriesOf}
-use Rattle.pm_crew.specs.Talks.{AreTalksOf, IsOrNot, IsTalkOf}
+use Rattle.pm_crew.specs.Talks.{AreTalksOf, IsOrNot}
 
 -- the client was turned away, or its replies are right
 abbrev pub IsFine : Base → List BookEntry → Talk → Type 0
