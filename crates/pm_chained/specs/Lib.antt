@@ -1,0 +1,5 @@
+pub mod OnceLaws
+pub mod BookLaws
+pub mod JournalLaws
+pub mod RunsLaws
+pub mod ChainedLaws
