@@ -2,6 +2,7 @@
 use Rattle.std.proofs.Common.{◌≡◌, inl, inr, ℕ, List, Option, Some, sym, subst}
 use Rattle.std.specs.Prelude.{IfSome}
 use Rattle.pm_answers.specs.Laws.{OwnEntriesStand, RepliesAreRight}
+use Rattle.pm_chained.specs.ChainedLaws.{chained}
 use Rattle.pm_journal.specs.Stands.{any_moment}
 use Rattle.pm_query.specs.declared.book.BookEntry.{BookEntry}
 use Rattle.pm_query.specs.Book.{Base}
@@ -9,6 +10,7 @@ use Rattle.pm_query.specs.BookLaws.{AckedNeverFalls}
 use Rattle.pm_postmaster.specs.Outside.{ServeView}
 use Rattle.pm_postmaster.specs.Served.{IsServed, IsServeRun, manner_by, slots_by}
 use Rattle.pm_remains.specs.Remains.{IsLeft}
+use Rattle.pm_seating.specs.Chained.{IsChainedLoosely}
 use Rattle.pm_server.specs.declared.conf.Conf.{Conf}
 use Rattle.pm_server.specs.declared.end.ServerEnd.{ServerEnd}
 use Rattle.pm_state.specs.Laws.{RestartsSafely}
@@ -34,8 +36,11 @@ module _ (right : RepliesAreRight) (own : OwnEntriesStand) (never : AckedNeverFa
         promised right own never (manner_by conf before) (slots_by conf.limits) run.board run.own run.book run.left run.once conf.limits (journal_in run) before.outside.disk now.outside.disk told.files told.files_are restarts_of said.1 in
         (said.1.base, subst (λ (b : List BookEntry). IsPromised conf.limits (journal_in run) said.1.base b (crew_in run) before.outside.disk now.outside.disk) (sym said.0) kept)
 
+    chained_of : IsChainedLoosely (journal_in run) run.book
+    chained_of = chained (manner_by conf before) (slots_by conf.limits) run.moves run.board run.own run.book run.board_is run.left run.once run.renewals run.redos
+
     promised_run : IsPromisedRun conf end before now
-    promised_run = record { run = run; restarts = restarts_of; promised = promised_of }
+    promised_run = record { run = run; restarts = restarts_of; chained = chained_of; promised = promised_of }
 
   pub promised_serve : (conf : Conf) (end : ServerEnd) (refused_before refused_now : ℕ) (before now : ServeView) → IsServeRun conf end refused_before refused_now before now
       → IsPromisedServe conf end refused_before refused_now before now

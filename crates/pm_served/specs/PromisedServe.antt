@@ -6,6 +6,7 @@ use Rattle.pm_query.specs.Book.{Base}
 use Rattle.pm_once.specs.Outside.{OutsideView}
 use Rattle.pm_postmaster.specs.Outside.{ServeView}
 use Rattle.pm_postmaster.specs.Served.{IsServed, IsUnmade, slots_by}
+use Rattle.pm_seating.specs.Chained.{IsChainedLoosely}
 use Rattle.pm_seating.specs.Seating.{journal_of}
 use Rattle.pm_server.specs.declared.conf.Conf.{Conf}
 use Rattle.pm_server.specs.declared.end.ServerEnd.{ServerEnd}
@@ -28,10 +29,11 @@ module _ {conf : Conf} {end : ServerEnd} {before now : ServeView} (run : IsServe
   abbrev pub crew_in : Crew
   crew_in = record { count = slots_by conf.limits; seed = before.outside.seed; runs = run.left.runs }
 
--- A run whose pool was made keeps them where book and disk tell. What the journal says needs neither.
+-- A run whose pool was made keeps them where book and disk tell. What the journal says, and the chain of journal and book, need neither.
 pub record IsPromisedRun (conf : Conf) (end : ServerEnd) (before now : ServeView) : Type 0 where
   pub run : IsServed conf end before now
   pub restarts : RestartsInOrder conf.limits (journal_in run)
+  pub chained : IsChainedLoosely (journal_in run) run.book
   pub promised :
       (book : List BookEntry) → IsTold now.outside book
       → (base : Base) × IsPromised conf.limits (journal_in run) base book (crew_in run) before.outside.disk now.outside.disk
