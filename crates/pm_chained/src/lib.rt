@@ -1,5 +1,5 @@
-//! The chain of journal and book of a server of many connections, by what its runs leave.
+//! The chain of journal and book of a server of many connections, by the parts that a run leaves.
 //!
-//! `specs/Uses` says what the run of a child is to the chain, `specs/Told` which children's ends of redo were told;
-//! `specs/ChainedLaws` is the law: journal and book are chained.
+//! These are laws alone. `specs/ChainedLaws` has the chain, over what `specs/JournalLaws` says of a journal by its moves, slot by slot,
+//! `specs/BookLaws` of a book by those who noted its entries, and `specs/RunsLaws` of the runs of one slot.
 #![tactic(auto)]
