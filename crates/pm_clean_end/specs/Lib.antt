@@ -1,0 +1,4 @@
+pub mod Latest
+pub mod Seen
+pub mod MachineLaws
+pub mod JournalLaws
