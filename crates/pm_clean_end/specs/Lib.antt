@@ -5,3 +5,5 @@ pub mod MachineLaws
 pub mod JournalLaws
 pub mod EndsLaws
 pub mod MovesLaws
+pub mod RunsLaws
+pub mod BooksLaws
