@@ -5,11 +5,11 @@ use Rattle.std.specs.List.{AllByRecursion, list_any}
 use Rattle.std.proofs.lemmas.List.Sums.{fold-append}
 use Rattle.pm_query.specs.declared.book.BookEntry.{BookEntry}
 use Rattle.pm_query.specs.declared.book.BookEntry.TheVariants.{Opened, Redone, Attached, Answered, Released, Detached, Gone, CheckpointEnded, Broke, LogFull}
-use Rattle.pm_query.specs.Book.{Base, IsLegal, MayFollow, MayGoOn, ends_checkpoint, ends_cleanly, fault_here, faults_here, generation_after, generation_of, has_checkpoint, history_of, is_closed, kept_after, kept_by_redo, present, present_after, times_after, times_attached}
+use Rattle.pm_query.specs.Book.{Base, IsLegal, KeepsNumber, MayFollow, MayGoOn, ends_checkpoint, ends_cleanly, fault_here, faults_here, generation_after, generation_of, has_checkpoint, history_of, is_closed, kept_after, kept_by_redo, present, present_after, times_after, times_attached}
 use Rattle.pm_answers.specs.HistoryLaws.{going-append}
 use Rattle.pm_chain.specs.Chain.{opened_of}
 use Rattle.pm_segment.specs.Unread.{is_break}
-use Rattle.pm_clean_end.specs.Among.{IsAt, IsIn, Passes, from_any, in_back, in_either, in_front, to_any}
+use Rattle.pm_clean_end.specs.Among.{IsIn, in_back, in_either, in_front, of_all, to_any}
 
 -- ---- generations
 
@@ -170,8 +170,10 @@ none_cond true n some = absurd (omega (arith, some))
 none_cond false n some = some
 
 attached_more : (base : Base) (pid : ℕ) (book : List BookEntry) (entry : BookEntry) → MayFollow base book entry → HasAttached pid book → HasAttached pid (book ++ entry ∷ [])
-attached_more base pid book (Opened generation) may has attached =
-    absurd (let none = may.empty pid in let some : 1 ≤ times_attached book pid = subst (λ (n : ℕ). 1 ≤ n) (times_push pid book (Opened generation)) attached in omega (arith, none, some))
+attached_more base pid book (Opened generation) may has = λ attached.
+    (let none = may.empty pid in
+    let some : 1 ≤ times_attached book pid = subst (λ (n : ℕ). 1 ≤ n) (times_push pid book (Opened generation)) attached in
+    absurd (omega (arith, none, some)))
 attached_more base pid book (Attached who generation) may has = attach_more pid who generation book may.present has
 attached_more base pid book (Detached who) may has = kept_attached pid book (Detached who) refl (less_cond (nat_eq pid who) (times_attached book pid)) has
 attached_more base pid book (Gone who) may has = kept_attached pid book (Gone who) refl (none_cond (nat_eq pid who) (times_attached book pid)) has
@@ -230,13 +232,138 @@ kept_done book entry same one done has some =
     let before : is_some (kept_by_redo book) ≡ true = sym (ap (λ (k : Option ℕ). is_some k) (kept_push book entry ∙ same (kept_by_redo book))) ∙ some in
     subst (AllByRecursion IsDone) (sym (present_push book entry ∙ one)) (all_push (present book) entry (has before) (done before))
 
-same_kept : (entry : BookEntry) → ((kept : Option ℕ) → Type 0)
-same_kept entry kept = kept_after kept entry ≡ kept
-
 redone_more : (base : Base) (book : List BookEntry) (pid generation count : ℕ) (kept : Option ℕ) → kept_by_redo book ≡ kept → MayFollow base book (Redone pid generation count) → AreDone book
     → AllByRecursion IsDone (present book)
 redone_more base book pid generation count (Some first) is may has = has (ap (λ (k : Option ℕ). is_some k) is)
-redone_more base book pid generation count None is may has = none_ended (present book) (by (kept_by_redo book) is may.number)
+redone_more base book pid generation count None is may has =
+    none_ended (present book) (subst (λ (k : Option ℕ). KeepsNumber book k (history_of base book) count) is may.number).2
+
+done_more : (base : Base) (book : List BookEntry) (entry : BookEntry) → MayFollow base book entry → AreDone book → AreDone (book ++ entry ∷ [])
+done_more base book (Opened generation) may has = λ some. subst (AllByRecursion IsDone) (sym (present_push book (Opened generation))) tt
+done_more base book (Redone pid generation count) may has = λ some.
+    subst (AllByRecursion IsDone) (sym (present_push book (Redone pid generation count)))
+    (all_push (present book) (Redone pid generation count) (redone_more base book pid generation count (kept_by_redo book) refl may has) tt)
+done_more base book (CheckpointEnded pid done clean) may has =
+    kept_done book (CheckpointEnded pid done clean) (λ kept. refl) refl (λ some. may.made ∙ some) has
+done_more base book (Attached pid generation) may has = kept_done book (Attached pid generation) (λ kept. refl) refl (λ some. tt) has
+done_more base book (Answered pid script reply commit front tick) may has = kept_done book (Answered pid script reply commit front tick) (λ kept. refl) refl (λ some. tt) has
+done_more base book (Released pid front tick) may has = kept_done book (Released pid front tick) (λ kept. refl) refl (λ some. tt) has
+done_more base book (Detached pid) may has = kept_done book (Detached pid) (λ kept. refl) refl (λ some. tt) has
+done_more base book (Gone pid) may has = kept_done book (Gone pid) (λ kept. refl) refl (λ some. tt) has
+done_more base book (Broke pid since faults) may has = kept_done book (Broke pid since faults) (λ kept. refl) refl (λ some. tt) has
+done_more base book (LogFull pid script need room) may has = kept_done book (LogFull pid script need room) (λ kept. refl) refl (λ some. tt) has
+
+done_on : (base : Base) (before entries : List BookEntry) → MayGoOn base before entries → AreDone before → AreDone (before ++ entries)
+done_on base before [] may has = subst AreDone (nil before) has
   where
-    by : (k : Option ℕ) → k ≡ None → _ → list_any ends_checkpoint (present book) ≡ false
-    by k none number = ?
+    nil : (es : List BookEntry) → es ≡ es ++ []
+    nil [] = refl
+    nil (x ∷ es) = ap (λ (l : List BookEntry). x ∷ l) (nil es)
+done_on base before (entry ∷ entries) may has =
+    subst AreDone (append_assoc before (entry ∷ []) entries) (done_on base (before ++ entry ∷ []) entries may.1 (done_more base before entry may.0 has))
+
+-- ---- a redo, and no fault behind it
+
+no_openings_here : (so_far entries : List BookEntry) → NoOpenings so_far → NoOpenings (fold present_after so_far entries)
+no_openings_here so_far [] none = none
+no_openings_here so_far (Opened generation ∷ entries) none = no_openings_here [] entries tt
+no_openings_here so_far (entry ∷ entries) none = no_openings_here (so_far ++ entry ∷ []) entries (more so_far entry none tt)
+  where
+    more : (xs : List BookEntry) (x : BookEntry) → NoOpenings xs → IsNoOpening x → NoOpenings (xs ++ x ∷ [])
+    more [] x all plain = (plain, tt)
+    more (y ∷ xs) x all plain = (all.0, more xs x all.1 plain)
+
+-- what begins anew with each opening is what the last generation leaves of it
+by_present : {X : Type 0} (step : X → BookEntry → X) (begins : X) → ((before : X) (generation : ℕ) → step before (Opened generation) ≡ begins) → (so_far entries : List BookEntry)
+    → fold step (fold step begins so_far) entries ≡ fold step begins (fold present_after so_far entries)
+by_present step begins anew so_far [] = refl
+by_present step begins anew so_far (Opened generation ∷ entries) =
+    ap (λ x. fold step x entries) (anew (fold step begins so_far) generation) ∙ by_present step begins anew [] entries
+by_present step begins anew so_far (entry ∷ entries) =
+    ap (λ x. fold step x entries) (sym (fold-append step begins so_far (entry ∷ []))) ∙ by_present step begins anew (so_far ++ entry ∷ []) entries
+
+kept_anew : (before : Option ℕ) (generation : ℕ) → kept_after before (Opened generation) ≡ None
+kept_anew before generation = refl
+
+fault_anew : (before : Option (List (ℕ × ℕ))) (generation : ℕ) → fault_here before (Opened generation) ≡ None
+fault_anew before generation = refl
+
+kept_stays : (kept : Option ℕ) (entry : BookEntry) → IsNoOpening entry → is_some kept ≡ true → is_some (kept_after kept entry) ≡ true
+kept_stays kept (Opened generation) plain some = absurd plain
+kept_stays (Some first) (Redone pid generation count) plain some = refl
+kept_stays None (Redone pid generation count) plain some = refl
+kept_stays kept entry plain some = some
+
+kept_all : (kept : Option ℕ) (entries : List BookEntry) → NoOpenings entries → is_some kept ≡ true → is_some (fold kept_after kept entries) ≡ true
+kept_all kept [] none some = some
+kept_all kept (entry ∷ entries) none some = kept_all (kept_after kept entry) entries none.1 (kept_stays kept entry none.0 some)
+
+redone_some : (kept : Option ℕ) (pid generation count : ℕ) → is_some (kept_after kept (Redone pid generation count)) ≡ true
+redone_some None pid generation count = refl
+redone_some (Some first) pid generation count = refl
+
+has_kept : (kept : Option ℕ) (pid generation count : ℕ) (entries : List BookEntry) → NoOpenings entries → IsIn (Redone pid generation count) entries → is_some (fold kept_after kept entries) ≡ true
+has_kept kept pid generation count [] none there = absurd there
+has_kept kept pid generation count (entry ∷ entries) none (inl is) =
+    kept_all (kept_after kept entry) entries none.1 (subst (λ (e : BookEntry). is_some (kept_after kept e) ≡ true) is (redone_some kept pid generation count))
+has_kept kept pid generation count (entry ∷ entries) none (inr there) = has_kept (kept_after kept entry) pid generation count entries none.1 there
+
+-- no fault: none was told of yet, or a redo came
+abbrev IsCalm : Option (List (ℕ × ℕ)) → Type 0
+IsCalm here = (here ≡ None) ⊎ (here ≡ Some [])
+
+calm_after : (here : Option (List (ℕ × ℕ))) (entry : BookEntry) → IsNoOpening entry → is_break entry ≡ false → here ≡ Some [] → fault_here here entry ≡ Some []
+calm_after here (Opened generation) plain whole is = absurd plain
+calm_after here (Broke pid since faults) plain whole is = absurd cc
+calm_after here (Redone pid generation count) plain whole is = ap (λ h. fault_here h (Redone pid generation count)) is
+calm_after here entry plain whole is = is
+
+stays_calm : (here : Option (List (ℕ × ℕ))) (entries : List BookEntry) → NoOpenings entries → AllByRecursion (λ e. is_break e ≡ false) entries → here ≡ Some [] → fold fault_here here entries ≡ Some []
+stays_calm here [] none whole is = is
+stays_calm here (entry ∷ entries) none whole is = stays_calm (fault_here here entry) entries none.1 whole.1 (calm_after here entry none.0 whole.0 is)
+
+before_redo : (here : Option (List (ℕ × ℕ))) (entry : BookEntry) → IsNoOpening entry → is_break entry ≡ false → IsCalm here → IsCalm (fault_here here entry)
+before_redo here entry plain whole (inr is) = inr (calm_after here entry plain whole is)
+before_redo here (Opened generation) plain whole (inl is) = absurd plain
+before_redo here (Broke pid since faults) plain whole (inl is) = absurd cc
+before_redo here (Redone pid generation count) plain whole (inl is) = inr (ap (λ h. fault_here h (Redone pid generation count)) is)
+before_redo here entry plain whole (inl is) = inl is
+
+redo_calms : (here : Option (List (ℕ × ℕ))) (pid generation count : ℕ) → IsCalm here → fault_here here (Redone pid generation count) ≡ Some []
+redo_calms here pid generation count (inl is) = ap (λ h. fault_here h (Redone pid generation count)) is
+redo_calms here pid generation count (inr is) = ap (λ h. fault_here h (Redone pid generation count)) is
+
+calm_on : (here : Option (List (ℕ × ℕ))) (pid generation count : ℕ) (entries : List BookEntry) → NoOpenings entries → AllByRecursion (λ e. is_break e ≡ false) entries → IsCalm here
+    → IsIn (Redone pid generation count) entries → fold fault_here here entries ≡ Some []
+calm_on here pid generation count [] none whole calm there = absurd there
+calm_on here pid generation count (entry ∷ entries) none whole calm (inl is) =
+    stays_calm (fault_here here entry) entries none.1 whole.1 (subst (λ (e : BookEntry). fault_here here e ≡ Some []) is (redo_calms here pid generation count calm))
+calm_on here pid generation count (entry ∷ entries) none whole calm (inr there) =
+    calm_on (fault_here here entry) pid generation count entries none.1 whole.1 (before_redo here entry none.0 whole.0 calm) there
+
+unbroken : (entries : List BookEntry) → ((entry : BookEntry) → IsIn entry entries → is_break entry ≡ true → ⊥) → AllByRecursion (λ e. is_break e ≡ false) entries
+unbroken [] never = tt
+unbroken (entry ∷ entries) never = (by (is_break entry) refl (never entry (inl refl)), unbroken entries (λ e there breaks. never e (inr there) breaks))
+  where
+    by : (b : Bool) → is_break entry ≡ b → (is_break entry ≡ true → ⊥) → is_break entry ≡ false
+    by true is not_so = absurd (not_so is)
+    by false is not_so = is
+
+-- A book whose last generation has a redo, a last checkpoint and no fault: the log was left clean, and the disk hasn't failed since the
+-- redo.
+pub record IsWhole (book : List BookEntry) : Type 0 where
+  pub closed : is_closed book ≡ true
+  pub faults : faults_here book ≡ Some []
+
+pub whole : (base : Base) (book : List BookEntry) (pid generation count who : ℕ) (done : Bool) → IsLegal base book → IsIn (Redone pid generation count) (present book)
+    → IsIn (CheckpointEnded who done true) (present book) → ((entry : BookEntry) → IsIn entry (present book) → is_break entry ≡ true → ⊥) → IsWhole book
+whole base book pid generation count who done legal redo last never =
+    let none : NoOpenings (present book) = no_openings_here [] book tt in
+    let kept : is_some (kept_by_redo book) ≡ true =
+    ap (λ (k : Option ℕ). is_some k) (by_present kept_after None kept_anew [] book) ∙ has_kept None pid generation count (present book) none redo in
+    let all : AllByRecursion IsDone (present book) = done_on base [] book legal.entries (λ some. tt) kept in
+    let made : done ≡ true = of_all IsDone (CheckpointEnded who done true) (present book) all last in
+    record {
+      closed = to_any ends_cleanly (CheckpointEnded who done true) (present book) last (ap (λ (b : Bool). b && true) made);
+      faults = by_present fault_here None fault_anew [] book ∙ calm_on None pid generation count (present book) none (unbroken (present book) never) (inl refl) redo;
+    }

@@ -1,4 +1,5 @@
 pub mod Latest
+pub mod CleanEnd
 pub mod Seen
 pub mod Among
 pub mod MachineLaws
@@ -7,3 +8,4 @@ pub mod EndsLaws
 pub mod MovesLaws
 pub mod RunsLaws
 pub mod BooksLaws
+pub mod CleanEndLaws
