@@ -1,12 +1,11 @@
 -- What a legal book tells of its last generation.
-use Rattle.std.proofs.Common.{◌≡◌, ◌≢◌, ◌⊎◌, inl, inr, ℕ, ◌+◌, ◌-◌, ◌≤◌, Bool, true, false, not, ◌&&◌, ◌||◌, cond, fold, length, Option, None, Some, List, [], ◌∷◌, ◌++◌, refl, sym, ap, subst, ◌∙◌, arith, append_assoc}
-use Rattle.std.specs.Prelude.{is_some, nat_eq, IsSome}
+use Rattle.std.proofs.Common.{◌≡◌, ◌⊎◌, inl, inr, ℕ, ◌+◌, ◌-◌, ◌≤◌, Bool, true, false, ◌&&◌, cond, fold, length, Option, None, Some, List, [], ◌∷◌, ◌++◌, refl, sym, ap, subst, ◌∙◌, arith, append_assoc, append-nil}
+use Rattle.std.specs.Prelude.{is_some, nat_eq}
 use Rattle.std.specs.List.{AllByRecursion, list_any}
 use Rattle.std.proofs.lemmas.List.Sums.{fold-append}
 use Rattle.pm_query.specs.declared.book.BookEntry.{BookEntry}
 use Rattle.pm_query.specs.declared.book.BookEntry.TheVariants.{Opened, Redone, Attached, Answered, Released, Detached, Gone, CheckpointEnded, Broke, LogFull}
-use Rattle.pm_query.specs.Book.{Base, IsLegal, KeepsNumber, MayFollow, MayGoOn, ends_checkpoint, ends_cleanly, fault_here, faults_here, generation_after, generation_of, has_checkpoint, history_of, is_closed, kept_after, kept_by_redo, present, present_after, times_after, times_attached}
-use Rattle.pm_answers.specs.HistoryLaws.{going-append}
+use Rattle.pm_query.specs.Book.{Base, IsLegal, KeepsNumber, MayFollow, MayGoOn, ends_checkpoint, ends_cleanly, fault_here, faults_here, generation_after, generation_of, history_of, is_closed, kept_after, kept_by_redo, present, present_after, times_after, times_attached}
 use Rattle.pm_chain.specs.Chain.{opened_of}
 use Rattle.pm_segment.specs.Unread.{is_break}
 use Rattle.pm_clean_end.specs.Among.{IsIn, in_back, in_either, in_front, of_all, to_any}
@@ -64,11 +63,7 @@ generation_up before entries = (let more = up (generation_of before) entries in 
 -- ---- the entries of the last one
 
 present_all : (so_far entries : List BookEntry) → NoOpenings entries → fold present_after so_far entries ≡ so_far ++ entries
-present_all so_far [] none = nil so_far
-  where
-    nil : (es : List BookEntry) → es ≡ es ++ []
-    nil [] = refl
-    nil (x ∷ es) = ap (λ (l : List BookEntry). x ∷ l) (nil es)
+present_all so_far [] none = sym (append-nil so_far)
 present_all so_far (entry ∷ entries) none =
     ap (λ (l : List BookEntry). fold present_after l entries) (one entry none.0)
     ∙ present_all (so_far ++ entry ∷ []) entries none.1
@@ -180,11 +175,7 @@ attached_more base pid book (Gone who) may has = kept_attached pid book (Gone wh
 attached_more base pid book entry may has = kept_attached pid book entry refl (λ some. some) has
 
 attached_on : (base : Base) (pid : ℕ) (before entries : List BookEntry) → MayGoOn base before entries → HasAttached pid before → HasAttached pid (before ++ entries)
-attached_on base pid before [] may has = subst (HasAttached pid) (nil before) has
-  where
-    nil : (es : List BookEntry) → es ≡ es ++ []
-    nil [] = refl
-    nil (x ∷ es) = ap (λ (l : List BookEntry). x ∷ l) (nil es)
+attached_on base pid before [] may has = subst (HasAttached pid) (sym (append-nil before)) has
 attached_on base pid before (entry ∷ entries) may has =
     subst (HasAttached pid) (append_assoc before (entry ∷ []) entries) (attached_on base pid (before ++ entry ∷ []) entries may.1 (attached_more base pid before entry may.0 has))
 
@@ -254,11 +245,7 @@ done_more base book (Broke pid since faults) may has = kept_done book (Broke pid
 done_more base book (LogFull pid script need room) may has = kept_done book (LogFull pid script need room) (λ kept. refl) refl (λ some. tt) has
 
 done_on : (base : Base) (before entries : List BookEntry) → MayGoOn base before entries → AreDone before → AreDone (before ++ entries)
-done_on base before [] may has = subst AreDone (nil before) has
-  where
-    nil : (es : List BookEntry) → es ≡ es ++ []
-    nil [] = refl
-    nil (x ∷ es) = ap (λ (l : List BookEntry). x ∷ l) (nil es)
+done_on base before [] may has = subst AreDone (sym (append-nil before)) has
 done_on base before (entry ∷ entries) may has =
     subst AreDone (append_assoc before (entry ∷ []) entries) (done_on base (before ++ entry ∷ []) entries may.1 (done_more base before entry may.0 has))
 

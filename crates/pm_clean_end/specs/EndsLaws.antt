@@ -1,9 +1,8 @@
 -- Who began in the last generation of a journal, and that each of them has ended.
-use Rattle.std.proofs.Common.{◌≡◌, ◌≢◌, ◌⊎◌, inl, inr, ℕ, ◌+◌, ◌≤◌, Bool, true, false, cond, fold, length, map, List, [], ◌∷◌, ◌++◌, refl, sym, ap, subst, ◌∙◌, arith, append_assoc}
-use Rattle.std.specs.Prelude.{is_none, nat_eq, ◌==◌}
-use Rattle.std.specs.List.{AllByRecursion, list_any}
+use Rattle.std.proofs.Common.{◌≡◌, ◌⊎◌, inl, inr, ℕ, ◌+◌, ◌≤◌, Bool, true, false, cond, fold, length, map, List, [], ◌∷◌, ◌++◌, refl, sym, ap, subst, ◌∙◌, arith, append_assoc, append-nil}
+use Rattle.std.specs.Prelude.{is_none, nat_eq}
+use Rattle.std.specs.List.{AllByRecursion}
 use Rattle.pm_exit.specs.declared.child.Kind.{Kind}
-use Rattle.pm_exit.specs.declared.child.Kind.TheVariants as kind
 use Rattle.pm_exit.specs.declared.child.Status.{Status}
 use Rattle.pm_supervisor.specs.Children.{Child, without}
 use Rattle.pm_supervisor.specs.Steps.{shared_after}
@@ -16,9 +15,8 @@ use Rattle.pm_state.specs.declared.event.PmEvent.TheVariants as entry
 use Rattle.pm_state.specs.Journal.{AreLegal, Do, Due, EndRedo, Fits, FitsFirst, Follows, FollowsIn, Replay, all_replayed, replayed}
 use Rattle.pm_chain.specs.Chain.{resets_of}
 use Rattle.pm_seating.specs.Seating.{Begun, begins}
-use Rattle.pm_clean_end.specs.Among.{IsIn, Passes, at_place, from_any, in_back, in_either, in_front}
+use Rattle.pm_clean_end.specs.Among.{IsIn, in_back, in_either, in_front}
 use Rattle.pm_clean_end.specs.Latest.{latest, latest_after}
-use Rattle.pm_clean_end.specs.Seen.{checks}
 
 -- ---- generations
 
@@ -196,11 +194,7 @@ must_end pid r (e ∷ journal) nobody there = by (ends_or_stays pid r e there) (
 -- ---- in the last generation
 
 latest_all : (entries journal : List PmEvent) → NoResets journal → fold latest_after entries journal ≡ entries ++ journal
-latest_all entries [] none = nil entries
-  where
-    nil : (es : List PmEvent) → es ≡ es ++ []
-    nil [] = refl
-    nil (x ∷ es) = ap (λ (l : List PmEvent). x ∷ l) (nil es)
+latest_all entries [] none = sym (append-nil entries)
 latest_all entries (e ∷ journal) none =
     ap (λ (l : List PmEvent). fold latest_after l journal) (one e none.0)
     ∙ latest_all (entries ++ e ∷ []) journal none.1
@@ -311,7 +305,7 @@ names_all : (gives : ℕ → Bool) (r : Replay) (journal : List PmEvent) → Are
 names_all gives r [] legal = refl
 names_all gives r (e ∷ journal) legal = ap (λ (g : ℕ). fold generation_after g journal) (names gives r e legal.0) ∙ names_all gives (replayed r e) journal legal.1
 
-begun_append : (generation : ℕ) (xs ys : List PmEvent) → begun_in generation (xs ++ ys) ≡ begun_in generation xs ++ begun_in (fold generation_after generation xs) ys
+pub begun_append : (generation : ℕ) (xs ys : List PmEvent) → begun_in generation (xs ++ ys) ≡ begun_in generation xs ++ begun_in (fold generation_after generation xs) ys
 begun_append generation [] ys = refl
 begun_append generation (x ∷ xs) ys =
     ap (λ (l : List Begun). begins generation x ++ l) (begun_append (generation_after generation x) xs ys)

@@ -1,16 +1,12 @@
 -- What a legal journal tells that ends clean.
 use Rattle.std.proofs.Common.{◌≡◌, ◌≢◌, ℕ, ◌+◌, Bool, true, false, not, ◌&&◌, ◌||◌, cond, fold, List, [], ◌∷◌, ◌++◌, refl, sym, ap, subst, ◌∙◌, arith, append_assoc}
-use Rattle.std.specs.Prelude.{◌==◌}
 use Rattle.std.specs.List.{AllByRecursion, list_any}
 use Rattle.std.proofs.lemmas.List.Folds.{list_any-append}
 use Rattle.std.proofs.lemmas.List.Sums.{fold-append}
 use Rattle.pm_exit.specs.declared.child.Kind.{Kind}
 use Rattle.pm_exit.specs.declared.child.Kind.TheVariants as kind
-use Rattle.pm_modes.specs.declared.Mode.{Mode}
 use Rattle.pm_modes.specs.declared.Mode.TheVariants.{Immediate}
 use Rattle.pm_modes.specs.Strength.{strengthen_of}
-use Rattle.pm_admit.specs.declared.Cac.{Cac}
-use Rattle.pm_admit.specs.Admission.{decide_of}
 use Rattle.pm_supervisor.specs.declared.Ending.TheVariants as ending
 use Rattle.pm_supervisor.specs.declared.Limits.{Limits}
 use Rattle.pm_supervisor.specs.Children.{Child, count_of, is_checkpointer, is_dead_end, is_session, is_startup_child, is_writer, one_if}
@@ -21,12 +17,11 @@ use Rattle.pm_state.specs.declared.event.PmEvent.{PmEvent}
 use Rattle.pm_state.specs.declared.event.PmEvent.TheVariants as entry
 use Rattle.pm_state.specs.declared.machine.Machine.{Machine}
 use Rattle.pm_state.specs.Laws.{RestartsSafely}
-use Rattle.pm_state.specs.Machine.{Exited, accepted_as, step, view_of}
+use Rattle.pm_state.specs.Machine.{Exited, step}
 use Rattle.pm_state.specs.Promises.{has_act}
 use Rattle.pm_state.specs.Requests.{asked_with}
 use Rattle.pm_state.specs.Restarts.{Counts}
-use Rattle.pm_state.specs.TurnRules.{is_not_running}
-use Rattle.pm_state.specs.Journal.{AreLegal, Do, Due, EndRedo, Fits, FitsFirst, Follows, FollowsIn, IsLegal, MayCome, Replay, all_replayed, caused, dues, dues_after, replay_begun, replayed, reported, row_of, without_first}
+use Rattle.pm_state.specs.Journal.{AreLegal, Do, Due, EndRedo, Fits, FitsFirst, FollowsIn, IsLegal, MayCome, Replay, all_replayed, caused, dues, dues_after, replay_begun, replayed, reported, row_of, without_first}
 use Rattle.pm_clean_end.specs.Latest.{latest, latest_after}
 use Rattle.pm_clean_end.specs.Seen.{Seen, checks, harms, is_clean_end, redoes, seen_after, undoes}
 use Rattle.pm_clean_end.specs.MachineLaws.{IsSo, accepted_so, act_so, asked_so, begun_so, exited_so, has_nobody, is_clean_act, is_deserted, row_so, settled_so, ticked_so}

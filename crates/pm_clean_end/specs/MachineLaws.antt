@@ -1,6 +1,6 @@
 -- What the machine keeps on the way to a clean end.
 use Rattle.std.proofs.Common.{◌≡◌, ◌≢◌, ℕ, ◌+◌, ◌<◌, ◌≤◌, Bool, true, false, not, ◌&&◌, ◌||◌, List, [], ◌∷◌, refl, sym, ap, subst, ◌∙◌, arith}
-use Rattle.std.specs.Prelude.{◌==◌, cond, if◌then◌else◌, is_some, nat_eq, IsSomeAnd, Some, None}
+use Rattle.std.specs.Prelude.{◌==◌, cond, if◌then◌else◌, nat_eq, IsSomeAnd, Some}
 use Rattle.pm_exit.specs.declared.child.Kind.{Kind}
 use Rattle.pm_exit.specs.declared.child.Kind.TheVariants as kind
 use Rattle.pm_exit.specs.declared.child.Status.{Status}
@@ -11,7 +11,7 @@ use Rattle.pm_modes.specs.declared.Mode.TheVariants as mode
 use Rattle.pm_modes.specs.Strength.{is_immediate, strengthen_of}
 use Rattle.pm_admit.specs.declared.PmState.{PmState}
 use Rattle.pm_admit.specs.declared.PmState.TheVariants as state
-use Rattle.pm_admit.specs.Admission.{decide_of, is_run, is_startup}
+use Rattle.pm_admit.specs.Admission.{decide_of, is_startup}
 use Rattle.pm_supervisor.specs.declared.Ending.{Ending}
 use Rattle.pm_supervisor.specs.declared.Ending.TheVariants as ending
 use Rattle.pm_supervisor.specs.declared.Limits.{Limits}
@@ -27,7 +27,7 @@ use Rattle.pm_state.specs.Restarts.{Counts}
 use Rattle.pm_state.specs.Machine.{Exited, MayAccept, accepted_as, begun, started_as, step, view_of}
 use Rattle.pm_state.specs.Promises.{has_act}
 use Rattle.pm_state.specs.Requests.{asked_with, ticked_at}
-use Rattle.pm_state.specs.TurnRules.{are_backends_gone, backends_gone, children_gone, dead_ends_gone, end_smart, is_not_running, restart_writer, start_recovery, stop_backends}
+use Rattle.pm_state.specs.TurnRules.{backends_gone, children_gone, dead_ends_gone, end_smart, is_not_running, restart_writer, start_recovery, stop_backends}
 use Rattle.pm_state.specs.Journal.{Do, Fits, reported, row_of, settled}
 use Rattle.pm_clean_end.specs.Seen.{Seen, nothing_seen, seen_after}
 

@@ -1,14 +1,11 @@
 -- From the entries of a journal to the children of the slots, and to the runs of their workers.
-use Rattle.std.proofs.Common.{◌≡◌, ◌≢◌, ◌⊎◌, inl, inr, ℕ, zero, suc, ◌+◌, ◌<◌, ◌≤◌, Bool, true, false, cond, fold, get_or, length, map, Option, None, Some, List, [], ◌∷◌, ◌++◌, refl, sym, ap, subst, ◌∙◌, arith, append_assoc}
+use Rattle.std.proofs.Common.{◌≡◌, ◌≢◌, ◌⊎◌, inl, inr, ℕ, zero, suc, ◌<◌, Bool, true, false, fold, get_or, length, map, Option, None, Some, List, [], ◌∷◌, ◌++◌, refl, sym, ap, subst, ◌∙◌, arith}
 use Rattle.std.specs.Prelude.{◌==◌, if◌then◌else◌, unwrap_or}
 use Rattle.std.specs.List.{AllByRecursion, flat_map}
 use Rattle.std.proofs.lemmas.Option.{slice_get-get_or}
-use Rattle.pm_exit.specs.declared.child.Kind.{Kind}
 use Rattle.pm_exit.specs.declared.child.Kind.TheVariants as kind
-use Rattle.pm_exit.specs.declared.child.Status.{Status}
 use Rattle.pm_exit.specs.Ends.{is_exit_0}
-use Rattle.pm_supervisor.specs.Children.{is_checkpointer, is_startup_child}
-use Rattle.pm_supervisor.specs.Steps.{kind_for}
+use Rattle.pm_supervisor.specs.Children.{is_startup_child}
 use Rattle.pm_state.specs.declared.event.PmEvent.{PmEvent}
 use Rattle.pm_state.specs.declared.event.PmEvent.TheVariants as entry
 use Rattle.pm_board.specs.declared.views.PastChild.{PastChild}
@@ -18,7 +15,7 @@ use Rattle.pm_board.specs.Places.{slot_at}
 use Rattle.pm_chain.specs.Chain.{AreDistinct, InGeneration, IsPidOf}
 use Rattle.pm_seating.specs.Board.{begun_of, ended_of}
 use Rattle.pm_seating.specs.Calls.{kept_by}
-use Rattle.pm_seating.specs.Seating.{Begun, Ended, Kill, Move, Nothing, Notes, PidsEnd, PortEnds, Reads, Request, Seating, Stop, asked_by, begins, begun_at, begun_by, begun_from, empty, ended_at, ended_by, ends, entries_by, entries_from, is_seated, journal_of, seating_by}
+use Rattle.pm_seating.specs.Seating.{Begun, Ended, Kill, Move, Nothing, Notes, PidsEnd, PortEnds, Reads, Request, Seating, Stop, asked_by, begins, begun_at, begun_by, begun_from, empty, ended_at, ended_by, entries_by, entries_from, is_seated, journal_of, seating_by}
 use Rattle.pm_seating.specs.Standing.{IsBoardOf}
 use Rattle.pm_shared.specs.declared.views.Noted.{Noted}
 use Rattle.pm_query.specs.declared.book.BookEntry.{BookEntry}
@@ -28,7 +25,7 @@ use Rattle.pm_crew.specs.Left.{AreLeft, IsWorked, Manner}
 use Rattle.pm_crew.specs.Pids.{AreUsedOnce, pids_at}
 use Rattle.pm_crew.specs.Redos.{RedosAreThose, kept_in, redo_ends_at, redo_ends_by, redo_told, told_if}
 use Rattle.pm_clean_end.specs.Among.{IsGiven, IsImage, IsIn, from_flat_map, from_map, in_back, in_either, in_flat_map, in_front, in_map, of_all}
-use Rattle.pm_clean_end.specs.EndsLaws.{begun_in, generation_after}
+use Rattle.pm_clean_end.specs.EndsLaws.{begun_append, begun_in, generation_after}
 
 same : (n : ℕ) → (n == n) ≡ true
 same n = grind arith
@@ -102,12 +99,6 @@ none_begin generation s (Kill pid) at = by (is_seated pid s.seats)
     by true = refl
     by false = refl
 
-begun_append : (generation : ℕ) (xs ys : List PmEvent) → begun_in generation (xs ++ ys) ≡ begun_in generation xs ++ begun_in (fold generation_after generation xs) ys
-begun_append generation [] ys = refl
-begun_append generation (x ∷ xs) ys =
-    ap (λ (l : List Begun). begins generation x ++ l) (begun_append (generation_after generation x) xs ys)
-    ∙ sym (append_assoc (begins generation x) (begun_in (generation_after generation x) xs) (begun_in (fold generation_after (generation_after generation x) xs) ys))
-
 begun_step : (s : Seating) (move : Move) (moves : List Move)
     → begun_in s.generation (entries_from s (move ∷ moves)) ≡ begun_in s.generation (entries_by s move) ++ begun_in (seating_by s move).generation (entries_from (seating_by s move) moves)
 begun_step s move moves =
@@ -128,12 +119,12 @@ begins_here s k b (PidsEnd at) there = absurd there
 pub begun_told : (s : Seating) (k : ℕ) (b : Begun) (moves : List Move) → IsIn b (begun_from k s moves) → IsIn b (begun_in s.generation (entries_from s moves))
 begun_told s k b [] there = absurd there
 begun_told s k b (move ∷ moves) there = subst (IsIn b) (sym (begun_step s move moves)) (
-  elim (in_either b (begun_by k s move) (begun_from k (seating_by s move) moves) there) as
-      (λ _. IsIn b (begun_in s.generation (entries_by s move) ++ begun_in (seating_by s move).generation (entries_from (seating_by s move) moves))) [
-        | inl here ↦ in_front b (begun_in s.generation (entries_by s move)) _ (begins_here s k b move here)
-        | inr more ↦ in_back b (begun_in s.generation (entries_by s move)) _ (begun_told (seating_by s move) k b moves more)
-      ]
-)
+    elim (in_either b (begun_by k s move) (begun_from k (seating_by s move) moves) there) as
+    (λ _. IsIn b (begun_in s.generation (entries_by s move) ++ begun_in (seating_by s move).generation (entries_from (seating_by s move) moves))) [
+      | inl here ↦ in_front b (begun_in s.generation (entries_by s move)) _ (begins_here s k b move here)
+      | inr more ↦ in_back b (begun_in s.generation (entries_by s move)) _ (begun_told (seating_by s move) k b moves more)
+    ]
+    )
 
 -- it began in some slot
 pub record BeganIn (b : Begun) (s : Seating) (moves : List Move) : Type 0 where

@@ -1,5 +1,5 @@
 -- What a run notes, by how it ended.
-use Rattle.std.proofs.Common.{◌≡◌, ◌≢◌, ◌⊎◌, inl, inr, ℕ, Bool, true, false, not, ◌&&◌, ◌||◌, List, [], ◌∷◌, ◌++◌, Option, Some, None, Result, Ok, Err, refl, sym, subst, ap, ◌∙◌, arith}
+use Rattle.std.proofs.Common.{◌≡◌, ◌⊎◌, inl, inr, ℕ, Bool, true, false, not, ◌&&◌, ◌||◌, List, [], ◌∷◌, ◌++◌, Option, Some, None, Result, Ok, Err, refl, sym, subst, ap, ◌∙◌, arith}
 use Rattle.std.specs.List.{AllByRecursion}
 use Rattle.std.proofs.lemmas.List.Elements.{recursion_from_All}
 use Rattle.pm_exit.specs.declared.child.Kind.{Kind}
@@ -12,7 +12,6 @@ use Rattle.pm_admit.specs.declared.Cac.TheVariants as decisions
 use Rattle.pm_supervisor.specs.Children.{is_checkpointer, is_startup_child}
 use Rattle.pm_query.specs.declared.book.BookEntry.{BookEntry}
 use Rattle.pm_query.specs.declared.book.BookEntry.TheVariants.{Attached, Answered, Released, Detached, Redone, Broke, LogFull, CheckpointEnded}
-use Rattle.pm_query.specs.declared.store.StoreNo.{StoreNo}
 use Rattle.pm_query.specs.declared.store.StoreNo.TheVariants.{Stale, Disk, Broken, Full, Redo, NoMemory}
 use Rattle.pm_record.specs.declared.fault.RedoFault.TheVariants as redo
 use Rattle.pm_query.specs.Calls.{User, LeaveNotes, NotesFault}
@@ -30,7 +29,7 @@ use Rattle.pm_post_life.specs.Lives.{MetRightly}
 use Rattle.pm_aux.specs.declared.cause.Cause.{Cause}
 use Rattle.pm_aux.specs.declared.cause.Cause.TheVariants.{Redone as HasRedone, Flushed, Closed, LeftOut, Refused, TurnedAway, ToldToTerminate, ToldToQuit, Killed}
 use Rattle.pm_aux.specs.Runs.{NotesBehind, Runner, user_in}
-use Rattle.pm_aux.specs.Work.{Checkpoints, ClosesBy, Does as DoesWork, Flushes, HasEntered, IsKeptOut, IsPassing, LeavesIf, ReadsLog}
+use Rattle.pm_aux.specs.Work.{ClosesBy, Does as DoesWork, Flushes, HasEntered, IsKeptOut, IsPassing, LeavesIf, ReadsLog}
 use Rattle.pm_aux.specs.Ends.{lets_go, status_by}
 use Rattle.pm_worker.specs.declared.mail.MailTold.{MailTold}
 use Rattle.pm_worker.specs.declared.mail.MailTold.TheVariants as mail
