@@ -24,7 +24,7 @@ use Rattle.pm_state.specs.Restarts.{Counts}
 use Rattle.pm_state.specs.Journal.{AreLegal, Do, Due, EndRedo, Fits, FitsFirst, FollowsIn, IsLegal, MayCome, Replay, all_replayed, caused, dues, dues_after, replay_begun, replayed, reported, row_of, without_first}
 use Rattle.pm_clean_end.specs.Latest.{latest, latest_after}
 use Rattle.pm_clean_end.specs.Seen.{Seen, checks, harms, is_clean_end, redoes, seen_after, undoes}
-use Rattle.pm_clean_end.specs.MachineLaws.{IsSo, accepted_so, act_so, asked_so, begun_so, exited_so, has_nobody, is_clean_act, is_deserted, row_so, settled_so, ticked_so}
+use Rattle.pm_clean_end.specs.MachineLaws.{IsInOrder, accepted_so, act_so, asked_so, begun_so, exited_so, has_nobody, is_clean_act, is_deserted, row_so, settled_so, ticked_so}
 
 -- no shutdown that it asks for is an immediate one
 abbrev pub IsMild : PmEvent → Type 0
@@ -59,29 +59,29 @@ row_entry s (act.Say line) (entry.Said written) m fits = (refl, refl)
 row_entry s (act.End how) (entry.Ended given) m fits = (refl, refl)
 row_entry s a e m fits = absurd fits
 
-abbrev So : Seen → Replay → Type 0
-So s r = IsSo s (acts_in r.due) r.machine
+abbrev InOrder : Seen → Replay → Type 0
+InOrder s r = IsInOrder s (acts_in r.due) r.machine
 
-at_rest : (s : Seen) (r : Replay) → r.due ≡ [] → So s r → IsSo s [] r.machine
-at_rest s r none so = subst (λ (ds : List Due). IsSo s (acts_in ds) r.machine) none so
+at_rest : (s : Seen) (r : Replay) → r.due ≡ [] → InOrder s r → IsInOrder s [] r.machine
+at_rest s r none so = subst (λ (ds : List Due). IsInOrder s (acts_in ds) r.machine) none so
 
 -- where nothing was due
 rested : (s : Seen) (r : Replay) (e : PmEvent) (acts : List Action) → r.due ≡ [] → acts_in (dues_after r.machine e) ≡ acts
-    → IsSo s acts (reported e (caused r.machine e).after) → So s (replayed r e)
+    → IsInOrder s acts (reported e (caused r.machine e).after) → InOrder s (replayed r e)
 rested s r e acts none is so = rw (none, is) (settled_so s acts (reported e (caused r.machine e).after) so)
 
 first_on : (s : Seen) (r : Replay) (e : PmEvent) (acts : List Action) → r.due ≡ [] → r.machine.ended ≡ false → (row_of r.machine).acts ≡ acts → FitsFirst r.shown acts e
-    → IsSo s [] r.machine → So (seen_after s e) (replayed r e)
+    → IsInOrder s [] r.machine → InOrder (seen_after s e) (replayed r e)
 first_on s r e [] none on is fits so = absurd fits
 first_on s r e (a ∷ rest) none on is fits so =
-    let begun : IsSo s (a ∷ rest) (row_of r.machine).after = subst (λ (acts : List Action). IsSo s acts (row_of r.machine).after) is (row_so s r.machine on so) in
+    let begun : IsInOrder s (a ∷ rest) (row_of r.machine).after = subst (λ (acts : List Action). IsInOrder s acts (row_of r.machine).after) is (row_so s r.machine on so) in
     let cause = row_entry r.shown a e r.machine fits in
-    let done : IsSo (seen_after s e) rest (reported e (row_of r.machine).after) = act_so s r.shown a rest e (row_of r.machine).after fits begun in
+    let done : IsInOrder (seen_after s e) rest (reported e (row_of r.machine).after) = act_so s r.shown a rest e (row_of r.machine).after fits begun in
     rested (seen_after s e) r e rest none (ap acts_in (cause.1 ∙ ap (λ (acts : List Action). dues (without_first acts)) is) ∙ acts_in_dues rest)
-    (subst (λ (o : _). IsSo (seen_after s e) rest (reported e o.after)) (sym cause.0) done)
+    (subst (λ (o : _). IsInOrder (seen_after s e) rest (reported e o.after)) (sym cause.0) done)
 
 come_on : (gives : ℕ → Bool) (s : Seen) (r : Replay) (e : PmEvent) → r.due ≡ [] → r.machine.ended ≡ false → Counts r.machine r.shown.children → MayCome gives r e → IsMild e
-    → IsSo s [] r.machine → So (seen_after s e) (replayed r e)
+    → IsInOrder s [] r.machine → InOrder (seen_after s e) (replayed r e)
 come_on gives s r (entry.Accepted pid decision) none on counts may mild so =
     rested s r (entry.Accepted pid decision) [] none refl
     (accepted_so s r.machine may.0 so)
@@ -97,15 +97,15 @@ come_on gives s r (entry.KillSent at) none on counts may mild so = rested s r (e
 come_on gives s r e none on counts may mild so = first_on s r e (row_of r.machine).acts none on refl may so
 
 -- an act that is due is done
-due_on : (s : Seen) (r : Replay) (d : Due) (ds : List Due) (e : PmEvent) → r.due ≡ d ∷ ds → Fits r.shown d e → IsSo s (acts_in (d ∷ ds)) r.machine → So (seen_after s e) (replayed r e)
+due_on : (s : Seen) (r : Replay) (d : Due) (ds : List Due) (e : PmEvent) → r.due ≡ d ∷ ds → Fits r.shown d e → IsInOrder s (acts_in (d ∷ ds)) r.machine → InOrder (seen_after s e) (replayed r e)
 due_on s r (Do a) ds e is fits so = rw is (settled_so (seen_after s e) (acts_in ds) (reported e r.machine) (act_so s r.shown a (acts_in ds) e r.machine fits so))
 due_on s r EndRedo ds (entry.RedoEnded generation kept) is fits so = rw is (settled_so s (acts_in ds) r.machine so)
 due_on s r d ds e is fits so = absurd fits
 
-follows_on : (gives : ℕ → Bool) (s : Seen) (r : Replay) (e : PmEvent) (ds : List Due) → r.due ≡ ds → FollowsIn ds gives r e → Counts r.machine r.shown.children → IsMild e → So s r
-    → So (seen_after s e) (replayed r e)
+follows_on : (gives : ℕ → Bool) (s : Seen) (r : Replay) (e : PmEvent) (ds : List Due) → r.due ≡ ds → FollowsIn ds gives r e → Counts r.machine r.shown.children → IsMild e → InOrder s r
+    → InOrder (seen_after s e) (replayed r e)
 follows_on gives s r e [] is may counts mild so = come_on gives s r e is may.0 counts may.2 mild (at_rest s r is so)
-follows_on gives s r e (d ∷ ds) is fits counts mild so = due_on s r d ds e is fits (subst (λ (due : List Due). IsSo s (acts_in due) r.machine) is so)
+follows_on gives s r e (d ∷ ds) is fits counts mild so = due_on s r d ds e is fits (subst (λ (due : List Due). IsInOrder s (acts_in due) r.machine) is so)
 
 -- ---- what was seen, by the entries of the last generation
 
@@ -162,11 +162,11 @@ are_counted safely limits gives before (e ∷ journal) legal = (
 )
 
 so_on : (gives : ℕ → Bool) (r : Replay) (entries : List PmEvent) (clean : Bool) (journal : List PmEvent) → AreLegal gives r journal → AreCounted r journal → AllByRecursion IsMild journal
-    → So (seen_by entries clean) r → So (seen_by (fold latest_after entries journal) (fold clean_after clean journal)) (all_replayed r journal)
+    → InOrder (seen_by entries clean) r → InOrder (seen_by (fold latest_after entries journal) (fold clean_after clean journal)) (all_replayed r journal)
 so_on gives r entries clean [] legal counted mild so = so
 so_on gives r entries clean (e ∷ journal) legal counted mild so =
     so_on gives (replayed r e) (latest_after entries e) (clean_after clean e) journal legal.1 counted.1 mild.1
-    (subst (λ (s : Seen). So s (replayed r e)) (seen_next entries clean e)
+    (subst (λ (s : Seen). InOrder s (replayed r e)) (seen_next entries clean e)
     (follows_on gives (seen_by entries clean) r e r.due refl legal.0 counted.0 mild.0 so))
 
 -- ---- behind a clean end
@@ -217,7 +217,7 @@ pub ends_well : RestartsSafely → (limits : Limits) (gives : ℕ → Bool) (fro
     → AllByRecursion IsMild journal → EndsWell limits journal
 ends_well safely limits gives front journal is legal mild =
     let r : Replay = all_replayed (replay_begun limits) journal in
-    let so : So (seen_by (latest journal) (fold clean_after false journal)) r =
+    let so : InOrder (seen_by (latest journal) (fold clean_after false journal)) r =
     so_on gives (replay_begun limits) [] false journal legal (are_counted safely limits gives [] journal legal) mild (begun_so limits) in
     let clean : fold clean_after false journal ≡ true = ap (fold clean_after false) is ∙ clean_at_last front in
     let over : IsOver (list_any harms (latest journal)) (list_any checks (latest journal)) (has_nobody r.machine) =

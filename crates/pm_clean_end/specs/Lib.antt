@@ -9,3 +9,4 @@ pub mod MovesLaws
 pub mod RunsLaws
 pub mod BooksLaws
 pub mod CleanEndLaws
+pub mod WorkedCleanEnds

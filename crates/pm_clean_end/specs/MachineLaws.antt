@@ -82,7 +82,7 @@ has_started s = s.harm || (s.undone || s.redone)
 
 -- No immediate shutdown was asked for. A crash is noted where there was harm; the startup child comes first, alone and once; and
 -- the server ends clean only where there was no harm, with a checkpointer in the present generation, and with nobody left.
-pub record IsSo (s : Seen) (acts : List Action) (m : Machine) : Type 0 where
+pub record IsInOrder (s : Seen) (acts : List Action) (m : Machine) : Type 0 where
   pub not_immediate : is_immediate m.shutdown ≡ false
   pub fatal : not s.harm || m.fatal ≡ true
   pub rests : not (has_started s) || (is_not_running m.startup || has_act is_reset_act acts) ≡ true
@@ -97,7 +97,7 @@ pub record IsSo (s : Seen) (acts : List Action) (m : Machine) : Type 0 where
   pub late : not (is_late m.state) || (m.fatal || s.checkpointer) ≡ true
   pub over : not (s.clean || has_act is_clean_act acts) || ((m.ended && is_deserted m.state) && (not s.harm && (s.checkpointer && has_nobody m))) ≡ true
 
-pub settled_so : (s : Seen) (acts : List Action) (m : Machine) → IsSo s acts m → IsSo s acts (settled m)
+pub settled_so : (s : Seen) (acts : List Action) (m : Machine) → IsInOrder s acts m → IsInOrder s acts (settled m)
 unfolding settled backends_gone dead_ends_gone
 settled_so s acts m so = record {
   not_immediate = grind (arith, so.not_immediate);
@@ -115,7 +115,7 @@ settled_so s acts m so = record {
   over = grind (arith, so.over);
 }
 
-pub row_so : (s : Seen) (m : Machine) → m.ended ≡ false → IsSo s [] m → IsSo s (row_of m).acts (row_of m).after
+pub row_so : (s : Seen) (m : Machine) → m.ended ≡ false → IsInOrder s [] m → IsInOrder s (row_of m).acts (row_of m).after
 unfolding row_of start_recovery restart_writer end_smart stop_backends backends_gone dead_ends_gone children_gone
 row_so s m on so = record {
   not_immediate = grind (arith, so.not_immediate);
@@ -133,7 +133,7 @@ row_so s m on so = record {
   over = grind (arith, so.over, so.fatal, so.late, so.deserted, on);
 }
 
-pub accepted_so : (s : Seen) (m : Machine) → MayAccept m → IsSo s [] m → IsSo s [] (accepted_as (decide_of (view_of m)) m)
+pub accepted_so : (s : Seen) (m : Machine) → MayAccept m → IsInOrder s [] m → IsInOrder s [] (accepted_as (decide_of (view_of m)) m)
 accepted_so s m may so = record {
   not_immediate = grind (arith, so.not_immediate);
   fatal = grind (arith, so.fatal);
@@ -150,8 +150,8 @@ accepted_so s m may so = record {
   over = grind (arith, so.over, may.0);
 }
 
-pub asked_so : (s : Seen) (given : Mode) (at : ℕ) (m : Machine) → given ≢ mode.Immediate → m.ended ≡ false → IsSo s [] m
-    → IsSo s (asked_with (strengthen_of m.shutdown given) m at).acts (asked_with (strengthen_of m.shutdown given) m at).after
+pub asked_so : (s : Seen) (given : Mode) (at : ℕ) (m : Machine) → given ≢ mode.Immediate → m.ended ≡ false → IsInOrder s [] m
+    → IsInOrder s (asked_with (strengthen_of m.shutdown given) m at).acts (asked_with (strengthen_of m.shutdown given) m at).after
 asked_so s mode.Immediate at m other on so = absurd (other refl)
 asked_so s mode.Smart at m other on so = record {
   not_immediate = grind (arith, so.not_immediate);
@@ -184,7 +184,7 @@ asked_so s mode.Fast at m other on so = record {
   over = grind (arith, so.over, on);
 }
 
-pub ticked_so : (s : Seen) (at : ℕ) (m : Machine) → m.ended ≡ false → IsSo s [] m → IsSo s [] (ticked_at m.abort_at m at).after
+pub ticked_so : (s : Seen) (at : ℕ) (m : Machine) → m.ended ≡ false → IsInOrder s [] m → IsInOrder s [] (ticked_at m.abort_at m at).after
 ticked_so s at m on so = record {
   not_immediate = grind (arith, so.not_immediate);
   fatal = grind (arith, so.fatal);
@@ -203,7 +203,7 @@ ticked_so s at m on so = record {
 
 -- ---- an act is done
 
-less_so : (s : Seen) (a : Action) (acts : List Action) (m : Machine) → is_reset_act a ≡ false → IsSo s (a ∷ acts) m → IsSo s acts m
+less_so : (s : Seen) (a : Action) (acts : List Action) (m : Machine) → is_reset_act a ≡ false → IsInOrder s (a ∷ acts) m → IsInOrder s acts m
 less_so s a acts m other so = record {
   not_immediate = so.not_immediate;
   fatal = so.fatal;
@@ -220,7 +220,7 @@ less_so s a acts m other so = record {
   over = grind (arith, so.over);
 }
 
-reset_so : (s : Seen) (generation : ℕ) (acts : List Action) (m : Machine) → IsSo s (act.Reset ∷ acts) m → IsSo (seen_after s (entry.Reset generation)) acts m
+reset_so : (s : Seen) (generation : ℕ) (acts : List Action) (m : Machine) → IsInOrder s (act.Reset ∷ acts) m → IsInOrder (seen_after s (entry.Reset generation)) acts m
 reset_so s generation acts m so = record {
   not_immediate = so.not_immediate;
   fatal = refl;
@@ -237,7 +237,7 @@ reset_so s generation acts m so = record {
   over = grind (arith, so.over, so.resets);
 }
 
-started_so : (k : Kind) (s : Seen) (pid : ℕ) (acts : List Action) (m : Machine) → IsSo s (act.Start k ∷ acts) m → IsSo (seen_after s (entry.Started pid k)) acts (started_as k m)
+started_so : (k : Kind) (s : Seen) (pid : ℕ) (acts : List Action) (m : Machine) → IsInOrder s (act.Start k ∷ acts) m → IsInOrder (seen_after s (entry.Started pid k)) acts (started_as k m)
 started_so kind.Startup s pid acts m so = record {
   not_immediate = so.not_immediate;
   fatal = so.fatal;
@@ -287,7 +287,7 @@ started_so kind.Worker s pid acts m so = less_so s (act.Start kind.Worker) acts 
 started_so kind.Backend s pid acts m so = less_so s (act.Start kind.Backend) acts m refl so
 started_so kind.DeadEnd s pid acts m so = less_so s (act.Start kind.DeadEnd) acts m refl so
 
-ended_so : (how : Ending) (s : Seen) (acts : List Action) (m : Machine) → IsSo s (act.End how ∷ acts) m → IsSo (seen_after s (entry.Ended how)) acts m
+ended_so : (how : Ending) (s : Seen) (acts : List Action) (m : Machine) → IsInOrder s (act.End how ∷ acts) m → IsInOrder (seen_after s (entry.Ended how)) acts m
 ended_so ending.Clean s acts m so = record {
   not_immediate = so.not_immediate;
   fatal = so.fatal;
@@ -307,10 +307,10 @@ ended_so ending.AfterCrash s acts m so = less_so s (act.End ending.AfterCrash) a
 ended_so ending.StartupFailed s acts m so = less_so s (act.End ending.StartupFailed) acts m refl so
 ended_so ending.RestartOff s acts m so = less_so s (act.End ending.RestartOff) acts m refl so
 
-pub act_so : (s : Seen) (shown : Shared) (a : Action) (acts : List Action) (e : PmEvent) (m : Machine) → Fits shown (Do a) e → IsSo s (a ∷ acts) m
-    → IsSo (seen_after s e) acts (reported e m)
+pub act_so : (s : Seen) (shown : Shared) (a : Action) (acts : List Action) (e : PmEvent) (m : Machine) → Fits shown (Do a) e → IsInOrder s (a ∷ acts) m
+    → IsInOrder (seen_after s e) acts (reported e m)
 act_so s shown (act.Start k) acts (entry.Started pid given) m fits so =
-    subst (λ (x : Kind). IsSo (seen_after s (entry.Started pid x)) acts (started_as x m)) (sym fits.1) (started_so k s pid acts m so)
+    subst (λ (x : Kind). IsInOrder (seen_after s (entry.Started pid x)) acts (started_as x m)) (sym fits.1) (started_so k s pid acts m so)
 act_so s shown (act.Quit why) acts (entry.QuitSent reason) m fits so = less_so s (act.Quit why) acts m refl so
 act_so s shown act.Terminate acts entry.TerminateSent m fits so = less_so s act.Terminate acts m refl so
 act_so s shown act.AskCheckpoint acts entry.CheckpointAsked m fits so = less_so s act.AskCheckpoint acts m refl so
@@ -318,13 +318,13 @@ act_so s shown act.Ready acts (entry.Ready generation) m fits so = less_so s act
 act_so s shown act.Reset acts (entry.Reset generation) m fits so = reset_so s generation acts m so
 act_so s shown (act.Say line) acts (entry.Said written) m fits so = less_so s (act.Say line) acts m refl so
 act_so s shown (act.End how) acts (entry.Ended given) m fits so =
-    subst (λ (x : Ending). IsSo (seen_after s (entry.Ended x)) acts m) (sym fits) (ended_so how s acts m so)
+    subst (λ (x : Ending). IsInOrder (seen_after s (entry.Ended x)) acts m) (sym fits) (ended_so how s acts m so)
 act_so s shown a acts e m fits so = absurd fits
 
 -- ---- the end of a child
 
-startup_so : (s : Seen) (m : Machine) (pid : ℕ) (status : Status) (now : ℕ) (was_active : Bool) → m.ended ≡ false → is_not_running m.startup ≡ false → IsSo s [] m
-    → IsSo (seen_after s (entry.Exited pid kind.Startup status was_active now))
+startup_so : (s : Seen) (m : Machine) (pid : ℕ) (status : Status) (now : ℕ) (was_active : Bool) → m.ended ≡ false → is_not_running m.startup ≡ false → IsInOrder s [] m
+    → IsInOrder (seen_after s (entry.Exited pid kind.Startup status was_active now))
     (startup_exited m (record { pid = pid; kind = kind.Startup; status = status; now = now })).acts
     (startup_exited m (record { pid = pid; kind = kind.Startup; status = status; now = now })).after
 unfolding startup_exited crash_rule
@@ -346,9 +346,9 @@ startup_so s m pid status now was_active on there so = record {
 
 abbrev Behind : Seen → Kind → Machine → ℕ → Status → ℕ → Bool → Type 0
 Behind s k m pid status now was_active =
-    IsSo (seen_after s (entry.Exited pid k status was_active now)) (step m (Exited pid k status was_active now)).acts (step m (Exited pid k status was_active now)).after
+    IsInOrder (seen_after s (entry.Exited pid k status was_active now)) (step m (Exited pid k status was_active now)).acts (step m (Exited pid k status was_active now)).after
 
-checkpointer_so : (s : Seen) (m : Machine) (pid : ℕ) (status : Status) (now : ℕ) (was_active : Bool) → m.ended ≡ false → m.checkpointer ≡ true → IsSo s [] m
+checkpointer_so : (s : Seen) (m : Machine) (pid : ℕ) (status : Status) (now : ℕ) (was_active : Bool) → m.ended ≡ false → m.checkpointer ≡ true → IsInOrder s [] m
     → Behind s kind.Checkpointer m pid status now was_active
 unfolding crash_rule
 checkpointer_so s m pid status now was_active on there so = record {
@@ -367,7 +367,7 @@ checkpointer_so s m pid status now was_active on there so = record {
   over = grind (arith, so.over, on);
 }
 
-writer_so : (s : Seen) (m : Machine) (pid : ℕ) (status : Status) (now : ℕ) (was_active : Bool) → m.ended ≡ false → m.writer ≡ true → IsSo s [] m
+writer_so : (s : Seen) (m : Machine) (pid : ℕ) (status : Status) (now : ℕ) (was_active : Bool) → m.ended ≡ false → m.writer ≡ true → IsInOrder s [] m
     → Behind s kind.Writer m pid status now was_active
 unfolding crash_rule
 writer_so s m pid status now was_active on there so = record {
@@ -387,7 +387,7 @@ writer_so s m pid status now was_active on there so = record {
 }
 
 -- one of the sessions is there no more, or a child that refused a connection
-less_child_so : (s : Seen) (m : Machine) → 0 < m.children → IsSo s [] m → IsSo s [] (less_one kind.Backend m)
+less_child_so : (s : Seen) (m : Machine) → 0 < m.children → IsInOrder s [] m → IsInOrder s [] (less_one kind.Backend m)
 less_child_so s m there so = record {
   not_immediate = so.not_immediate;
   fatal = so.fatal;
@@ -404,7 +404,7 @@ less_child_so s m there so = record {
   over = grind (arith, so.over);
 }
 
-less_dead_end_so : (s : Seen) (m : Machine) → 0 < m.dead_ends → IsSo s [] m → IsSo s [] (less_one kind.DeadEnd m)
+less_dead_end_so : (s : Seen) (m : Machine) → 0 < m.dead_ends → IsInOrder s [] m → IsInOrder s [] (less_one kind.DeadEnd m)
 less_dead_end_so s m there so = record {
   not_immediate = so.not_immediate;
   fatal = so.fatal;
@@ -425,8 +425,8 @@ abbrev with_harm : Bool → Seen → Seen
 with_harm harm s = record s { harm = harm || s.harm }
 
 -- a crash of a child that isn't the startup child; where there was harm, that isn't there
-crash_so : (harm : Bool) (s : Seen) (m : Machine) (exit : _) → m.ended ≡ false → not harm || (is_not_running m.startup && not (is_begin m.state)) ≡ true → IsSo s [] m
-    → IsSo (with_harm harm s) (crash_rule m exit).acts (crash_rule m exit).after
+crash_so : (harm : Bool) (s : Seen) (m : Machine) (exit : _) → m.ended ≡ false → not harm || (is_not_running m.startup && not (is_begin m.state)) ≡ true → IsInOrder s [] m
+    → IsInOrder (with_harm harm s) (crash_rule m exit).acts (crash_rule m exit).after
 unfolding crash_rule
 crash_so harm s m exit on apart so = record {
   not_immediate = so.not_immediate;
@@ -445,35 +445,35 @@ crash_so harm s m exit on apart so = record {
 }
 
 -- by whether it ended by itself, and whether its slot was active
-child_so : (well was_active : Bool) (s : Seen) (m : Machine) (exit : _) → m.ended ≡ false → (is_not_running m.startup && not (is_begin m.state)) ≡ true → IsSo s [] m
-    → IsSo (with_harm (not well) s) (unless_normal (if well && not was_active then class.Normal else class.Crash) m exit).acts
+child_so : (well was_active : Bool) (s : Seen) (m : Machine) (exit : _) → m.ended ≡ false → (is_not_running m.startup && not (is_begin m.state)) ≡ true → IsInOrder s [] m
+    → IsInOrder (with_harm (not well) s) (unless_normal (if well && not was_active then class.Normal else class.Crash) m exit).acts
     (unless_normal (if well && not was_active then class.Normal else class.Crash) m exit).after
 child_so true true s m exit on apart so = crash_so false s m exit on refl so
 child_so true false s m exit on apart so = so
 child_so false true s m exit on apart so = crash_so true s m exit on apart so
 child_so false false s m exit on apart so = crash_so true s m exit on apart so
 
-refused_so : (normal : Bool) (s : Seen) (m : Machine) (exit : _) → m.ended ≡ false → IsSo s [] m
-    → IsSo s (unless_normal (if normal then class.Normal else class.Crash) m exit).acts (unless_normal (if normal then class.Normal else class.Crash) m exit).after
+refused_so : (normal : Bool) (s : Seen) (m : Machine) (exit : _) → m.ended ≡ false → IsInOrder s [] m
+    → IsInOrder s (unless_normal (if normal then class.Normal else class.Crash) m exit).acts (unless_normal (if normal then class.Normal else class.Crash) m exit).after
 refused_so true s m exit on so = so
 refused_so false s m exit on so = crash_so false s m exit on refl so
 
-served_apart : (s : Seen) (m : Machine) → 0 < m.children → IsSo s [] m → (is_not_running m.startup && not (is_begin m.state)) ≡ true
+served_apart : (s : Seen) (m : Machine) → 0 < m.children → IsInOrder s [] m → (is_not_running m.startup && not (is_begin m.state)) ≡ true
 served_apart s m there so = grind (arith, so.alone, so.deserted, there)
 
-backend_so : (s : Seen) (m : Machine) (pid : ℕ) (status : Status) (now : ℕ) (was_active : Bool) → m.ended ≡ false → 0 < m.children → IsSo s [] m
+backend_so : (s : Seen) (m : Machine) (pid : ℕ) (status : Status) (now : ℕ) (was_active : Bool) → m.ended ≡ false → 0 < m.children → IsInOrder s [] m
     → Behind s kind.Backend m pid status now was_active
 backend_so s m pid status now was_active on there so =
     child_so (is_exit_0 status || is_exit_1 status) was_active s (less_one kind.Backend m) (record { pid = pid; kind = kind.Backend; status = status; now = now }) on
     (served_apart s m there so) (less_child_so s m there so)
 
-worker_so : (s : Seen) (m : Machine) (pid : ℕ) (status : Status) (now : ℕ) (was_active : Bool) → m.ended ≡ false → 0 < m.children → IsSo s [] m
+worker_so : (s : Seen) (m : Machine) (pid : ℕ) (status : Status) (now : ℕ) (was_active : Bool) → m.ended ≡ false → 0 < m.children → IsInOrder s [] m
     → Behind s kind.Worker m pid status now was_active
 worker_so s m pid status now was_active on there so =
     child_so (is_exit_0 status || is_exit_1 status) was_active s (less_one kind.Worker m) (record { pid = pid; kind = kind.Worker; status = status; now = now }) on
     (served_apart s m there so) (less_child_so s m there so)
 
-dead_end_so : (s : Seen) (m : Machine) (pid : ℕ) (status : Status) (now : ℕ) (was_active : Bool) → m.ended ≡ false → 0 < m.dead_ends → IsSo s [] m
+dead_end_so : (s : Seen) (m : Machine) (pid : ℕ) (status : Status) (now : ℕ) (was_active : Bool) → m.ended ≡ false → 0 < m.dead_ends → IsInOrder s [] m
     → Behind s kind.DeadEnd m pid status now was_active
 dead_end_so s m pid status now was_active on there so =
     refused_so ((is_exit_0 status || is_exit_1 status) && not was_active) s (less_one kind.DeadEnd m) (record { pid = pid; kind = kind.DeadEnd; status = status; now = now }) on
@@ -501,7 +501,7 @@ startup_there n false b one is = refl
 
 -- a child that is there ends
 pub exited_so : (k : Kind) (s : Seen) (m : Machine) (cs : List Child) (pid : ℕ) (status : Status) (now : ℕ) (was_active : Bool) → m.ended ≡ false → Counts m cs
-    → IsSomeAnd (child_of pid cs) (λ c. c.kind ≡ k) → IsSo s [] m → Behind s k m pid status now was_active
+    → IsSomeAnd (child_of pid cs) (λ c. c.kind ≡ k) → IsInOrder s [] m → Behind s k m pid status now was_active
 exited_so kind.Startup s m cs pid status now was_active on counts there so =
     startup_so s m pid status now was_active on
     (startup_there (count_of is_startup_child cs) (is_not_running m.startup) m.startup_due (there_counts is_startup_child pid kind.Startup cs there refl) counts.startup) so
@@ -518,7 +518,7 @@ exited_so kind.Backend s m cs pid status now was_active on counts there so =
 exited_so kind.DeadEnd s m cs pid status now was_active on counts there so =
     dead_end_so s m pid status now was_active on (omega (arith, there_counts is_dead_end pid kind.DeadEnd cs there refl, counts.dead_ends)) so
 
-pub begun_so : (limits : Limits) → IsSo nothing_seen [] (begun limits)
+pub begun_so : (limits : Limits) → IsInOrder nothing_seen [] (begun limits)
 begun_so limits = record {
   not_immediate = refl;
   fatal = refl;

@@ -1,0 +1,52 @@
+-- A journal that ended clean with all that the law asks for, and two that didn't.
+use Rattle.std.proofs.Common.{◌≡◌, ◌≢◌, Bool, true, false, List, [], ◌∷◌, ◌++◌, refl, sym, ◌∙◌}
+use Rattle.std.specs.Prelude.{All}
+use Rattle.std.proofs.lemmas.List.Elements.{All-from_recursion, All-head}
+use Rattle.pm_exit.specs.declared.child.Kind.TheVariants.{Backend, Checkpointer, DeadEnd, Startup, Writer}
+use Rattle.pm_exit.specs.declared.child.Status.TheVariants.{Code, Signal}
+use Rattle.pm_admit.specs.declared.Cac.TheVariants as decision
+use Rattle.pm_modes.specs.declared.Mode.{Mode}
+use Rattle.pm_modes.specs.declared.Mode.TheVariants.{Immediate, Smart}
+use Rattle.pm_supervisor.specs.declared.Reason.TheVariants.{Stop}
+use Rattle.pm_supervisor.specs.declared.Ending.TheVariants.{Clean}
+use Rattle.pm_state.specs.declared.action.Line.TheVariants as line
+use Rattle.pm_state.specs.declared.event.PmEvent.{PmEvent}
+use Rattle.pm_state.specs.declared.event.PmEvent.TheVariants.{Accepted, Asked, CheckpointAsked, Ended, Exited, QuitSent, Said, Started, TerminateSent}
+use Rattle.pm_chain.specs.WorkedChains.{clean_journal, started}
+use Rattle.pm_clean_end.specs.CleanEnd.{HasEndedClean}
+
+-- a session comes and goes, a connection is refused behind a smart request, and the last checkpoint is written
+abbrev pub up_to_its_end : List PmEvent
+up_to_its_end =
+    started
+    ++ (Accepted 4 decision.Ok ∷ Exited 4 Backend (Code 0) false 20 ∷ Asked Smart 30 ∷ Said line.Smart ∷ Accepted 5 decision.Shutdown
+    ∷ Exited 5 DeadEnd (Code 0) false 31 ∷ TerminateSent ∷ Exited 3 Writer (Code 0) false 32 ∷ CheckpointAsked
+    ∷ Exited 2 Checkpointer (Code 0) false 40 ∷ Said line.Down ∷ [])
+
+-- the shutdown was asked for before redo had ended: there is no content to checkpoint
+abbrev pub unread_journal : List PmEvent
+unread_journal =
+    Started 1 Startup ∷ Asked Smart 2 ∷ Said line.Smart ∷ TerminateSent ∷ Exited 1 Startup (Code 1) false 3 ∷ Started 2 Checkpointer
+    ∷ CheckpointAsked ∷ Exited 2 Checkpointer (Code 0) false 4 ∷ Said line.Down ∷ Ended Clean ∷ []
+
+-- nobody waits for a checkpoint
+abbrev pub immediate_journal : List PmEvent
+immediate_journal =
+    started
+    ++ (Asked Immediate 20 ∷ Said line.Immediate ∷ QuitSent Stop ∷ Exited 2 Checkpointer (Code 2) true 21 ∷ Exited 3 Writer (Code 2) true 22
+    ∷ Said line.Down ∷ Ended Clean ∷ [])
+
+pub takes_clean : HasEndedClean clean_journal
+takes_clean =
+    record {
+      front = up_to_its_end;
+      last = refl;
+      not_immediate = All-from_recursion (λ (mode : Mode). mode ≢ Immediate) (Smart ∷ []) ((λ is. cc), tt);
+      redone = refl;
+    }
+
+pub refuses_unread : ¬ (HasEndedClean unread_journal)
+refuses_unread ended = (let never : false ≡ true = ended.redone in cc)
+
+pub refuses_immediate : ¬ (HasEndedClean immediate_journal)
+refuses_immediate ended = All-head (λ (mode : Mode). mode ≢ Immediate) Immediate [] ended.not_immediate refl
