@@ -1,9 +1,8 @@
 -- A journal that ended clean with all that the law asks for, and two that didn't.
-use Rattle.std.proofs.Common.{◌≡◌, ◌≢◌, Bool, true, false, List, [], ◌∷◌, ◌++◌, refl, sym, ◌∙◌}
-use Rattle.std.specs.Prelude.{All}
+use Rattle.std.proofs.Common.{◌≡◌, ◌≢◌, ℕ, ◌+◌, ◌≤◌, true, false, List, [], ◌∷◌, ◌++◌, refl, arith}
 use Rattle.std.proofs.lemmas.List.Elements.{All-from_recursion, All-head}
 use Rattle.pm_exit.specs.declared.child.Kind.TheVariants.{Backend, Checkpointer, DeadEnd, Startup, Writer}
-use Rattle.pm_exit.specs.declared.child.Status.TheVariants.{Code, Signal}
+use Rattle.pm_exit.specs.declared.child.Status.TheVariants.{Code}
 use Rattle.pm_admit.specs.declared.Cac.TheVariants as decision
 use Rattle.pm_modes.specs.declared.Mode.{Mode}
 use Rattle.pm_modes.specs.declared.Mode.TheVariants.{Immediate, Smart}
@@ -12,7 +11,12 @@ use Rattle.pm_supervisor.specs.declared.Ending.TheVariants.{Clean}
 use Rattle.pm_state.specs.declared.action.Line.TheVariants as line
 use Rattle.pm_state.specs.declared.event.PmEvent.{PmEvent}
 use Rattle.pm_state.specs.declared.event.PmEvent.TheVariants.{Accepted, Asked, CheckpointAsked, Ended, Exited, QuitSent, Said, Started, TerminateSent}
+use Rattle.pm_state.specs.Exits.{crash_rule, startup_exited}
+use Rattle.pm_state.specs.Journal.{IsLegal, row_of, settled}
+use Rattle.pm_state.specs.TurnRules.{backends_gone, children_gone, dead_ends_gone, end_smart, restart_writer, start_recovery, stop_backends}
+use Rattle.pm_journal.specs.Stands.{any_moment}
 use Rattle.pm_chain.specs.WorkedChains.{clean_journal, started}
+use Rattle.pm_chain.specs.WorkedSteps.{limits}
 use Rattle.pm_clean_end.specs.CleanEnd.{HasEndedClean}
 
 -- a session comes and goes, a connection is refused behind a smart request, and the last checkpoint is written
@@ -50,3 +54,58 @@ refuses_unread ended = (let never : false ≡ true = ended.redone in cc)
 
 pub refuses_immediate : ¬ (HasEndedClean immediate_journal)
 refuses_immediate ended = All-head (λ (mode : Mode). mode ≢ Immediate) Immediate [] ended.not_immediate refl
+
+-- ---- they are legal; that the first is one `worked_steps` of `pm_chain` has
+
+none : {P : Type 0} → false ≡ true → P
+none is = cc
+
+later : (n m : ℕ) → n ≤ n + m
+later n m = omega arith
+
+pub unread_is_legal : IsLegal limits any_moment unread_journal
+unfolding settled row_of crash_rule startup_exited start_recovery restart_writer end_smart stop_backends backends_gone dead_ends_gone children_gone
+unread_is_legal = (
+  (refl, none, (refl, refl)),
+  (
+    (refl, none, (later 0 2, refl)),
+    (
+      refl,
+      (
+        (refl, none, tt),
+        (
+          (refl, none, (refl, (later 2 1, refl))),
+          ((refl, none, (refl, refl)), (tt, ((refl, none, (refl, (later 3 1, refl))), ((refl, none, refl), (refl, tt))))),
+        ),
+      ),
+    ),
+  ),
+)
+
+pub immediate_is_legal : IsLegal limits any_moment immediate_journal
+unfolding settled row_of crash_rule startup_exited start_recovery restart_writer end_smart stop_backends backends_gone dead_ends_gone children_gone
+immediate_is_legal = (
+  (refl, none, (refl, refl)),
+  (
+    (refl, none, (refl, (later 0 5, refl))),
+    (
+      refl,
+      (
+        refl,
+        (
+          (refl, refl),
+          (
+            (refl, refl),
+            (
+              refl,
+              (
+                (refl, none, (later 5 15, refl)),
+                (refl, (refl, ((refl, none, (refl, (later 20 1, refl))), ((refl, none, (refl, (later 21 1, refl))), ((refl, none, refl), (refl, tt)))))),
+              ),
+            ),
+          ),
+        ),
+      ),
+    ),
+  ),
+)
