@@ -15,6 +15,7 @@ use Rattle.pm_server.specs.declared.conf.Conf.{Conf}
 use Rattle.pm_server.specs.declared.end.ServerEnd.{ServerEnd}
 use Rattle.pm_state.specs.Laws.{RestartsSafely}
 use Rattle.pm_state.specs.Restarts.{RestartsInOrder}
+use Rattle.pm_clean_end.specs.CleanEnd.{IsLeftBy}
 use Rattle.pm_served.specs.PromisedServe.{IsPromisedRun, IsPromisedServe, IsTold, crew_in, journal_in}
 use Rattle.pm_served.specs.Promises.{IsPromised}
 use Rattle.pm_served.specs.PromisesLaws.{promised}
@@ -28,12 +29,25 @@ module _ (right : RepliesAreRight) (own : OwnEntriesStand) (never : AckedNeverFa
     restarts_of : RestartsInOrder conf.limits (journal_in run)
     restarts_of = safely.in_order conf.limits any_moment (journal_in run) run.journal.legal
 
+    abbrev left_by : IsLeft before.outside.disk now.outside.disk run.book
+        → IsLeftBy conf.limits (manner_by conf before) (slots_by conf.limits) run.moves run.board run.own run.book before.outside.disk now.outside.disk
+    left_by remains = record {
+      legal = run.journal.legal;
+      board = run.board_is;
+      left = run.left;
+      once = run.once;
+      renewals = run.renewals;
+      redos = run.redos;
+      remains = remains;
+    }
+
     promised_of : (book : List BookEntry) → IsTold now.outside book → (base : Base) × IsPromised conf.limits (journal_in run) base book (crew_in run) before.outside.disk now.outside.disk
     promised_of book told =
         let said : (book ≡ run.book) × IsLeft before.outside.disk now.outside.disk run.book =
         said_of (λ (its : List BookEntry). (its ≡ run.book) × IsLeft before.outside.disk now.outside.disk run.book) now.outside.book book told.book_is run.remains.told in
         let kept : IsPromised conf.limits (journal_in run) said.1.base run.book (crew_in run) before.outside.disk now.outside.disk =
-        promised right own never (manner_by conf before) (slots_by conf.limits) run.board run.own run.book run.left run.once conf.limits (journal_in run) before.outside.disk now.outside.disk told.files told.files_are restarts_of said.1 in
+        promised right own never safely conf.limits (manner_by conf before) (slots_by conf.limits) run.moves run.board run.own run.book before.outside.disk now.outside.disk (left_by said.1)
+        told.files told.files_are in
         (said.1.base, subst (λ (b : List BookEntry). IsPromised conf.limits (journal_in run) said.1.base b (crew_in run) before.outside.disk now.outside.disk) (sym said.0) kept)
 
     chained_of : IsChainedLoosely (journal_in run) run.book

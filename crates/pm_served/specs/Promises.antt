@@ -12,6 +12,7 @@ use Rattle.pm_promises.specs.Stops.{AcknowledgedStays, WholeOrNot}
 use Rattle.pm_server.specs.Views.{DiskView}
 use Rattle.pm_worker.specs.Runs.{Run}
 use Rattle.pm_crew.specs.Talks.{AreTalksOf}
+use Rattle.pm_clean_end.specs.CleanEnd.{EndsClean}
 
 -- The runs of the workers of so many slots, and the seed of their keys.
 pub record Crew : Type 0 where
@@ -24,7 +25,7 @@ abbrev pub AllAnswersAreRight : Base → List BookEntry → Crew → Type 0
 AllAnswersAreRight base book crew =
     (k : ℕ) → k < crew.count → (talks : List Talk) × AreTalksOf crew.seed (crew.runs k) talks × AnswersAreRight (history_of base book) talks
 
--- The promises, of one history.
+-- The five, of one history.
 pub record IsPromised (limits : Limits) (journal : List PmEvent) (base : Base) (book : List BookEntry) (crew : Crew) (before now : DiskView) : Type 0 where
   pub base_is : IsBaseOf base book before
   -- every reply that was sent is right
@@ -36,3 +37,5 @@ pub record IsPromised (limits : Limits) (journal : List PmEvent) (base : Base) (
   -- from an abnormal exit until redo has ended no session is admitted, and a generation begins with nobody left
   pub admits_none_until_redo : RestartsInOrder limits journal
   pub opens_empty : OpensEmpty book
+  -- a clean end leaves files of all commits
+  pub ends_clean : EndsClean journal base book now

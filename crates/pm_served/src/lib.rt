@@ -1,4 +1,4 @@
-//! A server of many connections with what a user counts on: four of the five promises, over what a whole run leaves.
+//! A server of many connections with what a user counts on: the five promises, over what a whole run leaves.
 #![tactic(auto)]
 
 mod served;
