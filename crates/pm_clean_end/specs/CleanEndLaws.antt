@@ -36,7 +36,7 @@ use Rattle.pm_worker.specs.declared.mail.MailTold.{MailTold}
 use Rattle.pm_worker.specs.Runs.{IsRun, Run, noted_by}
 use Rattle.pm_crew.specs.EntriesLaws.{entries_of_runs}
 use Rattle.pm_crew.specs.Left.{Manner}
-use Rattle.pm_crew.specs.OwnLaws.{of_run}
+use Rattle.pm_crew.specs.UsesLaws.{own_entries, uses}
 use Rattle.pm_remains.specs.Remains.{AreClean}
 use Rattle.pm_clean_end.specs.Among.{IsAt, IsGiven, IsImage, IsIn, Passes, at_place, from_any, from_filter, from_flat_map, from_map, in_back, in_filter, in_front, of_all, to_any}
 use Rattle.pm_clean_end.specs.BooksLaws.{IsPresent, IsWhole, generation_counted, generation_up, has_attached, in_present, present_last, present_place, whole}
@@ -371,7 +371,7 @@ module _ (safely : RestartsSafely) (limits : Limits) (manner : Manner) (count : 
       let run : Run = by.run in
       let right : IsRun None manner.seed manner.limit manner.gives run = its_run by.slot run by.less by.there in
       let own_entry : nat_eq run.child.offer.pid fault.pid ≡ true =
-      of_all (λ (x : BookEntry). is_by run.child.offer.pid x ≡ true) broke run.noted (of_run None manner.seed manner.limit manner.gives run right) by.noted in
+      of_all (λ (x : BookEntry). is_by run.child.offer.pid x ≡ true) broke run.noted (own_entries run.child run.noted (uses None manner.seed manner.limit manner.gives run right)) by.noted in
       let attached : 1 ≤ times_attached place.before run.child.offer.pid =
       subst (λ (pid : ℕ). 1 ≤ times_attached place.before pid) (pid_is run.child.offer.pid fault.pid own_entry) (going place.before broke place.behind place.is).1.0.attached in
       let last : run.child.offer.generation ≡ N =

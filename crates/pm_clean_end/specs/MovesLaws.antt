@@ -1,5 +1,6 @@
 -- From the entries of a journal to the children of the slots, and to the runs of their workers.
 use Rattle.std.proofs.Common.{◌≡◌, ◌≢◌, ◌⊎◌, inl, inr, ℕ, zero, suc, ◌<◌, Bool, true, false, fold, get_or, length, map, Option, None, Some, List, [], ◌∷◌, ◌++◌, refl, sym, ap, subst, ◌∙◌, arith}
+use Rattle.std.proofs.lemmas.Grind.{flat_map-append}
 use Rattle.std.specs.Prelude.{◌==◌, if◌then◌else◌, unwrap_or}
 use Rattle.std.specs.List.{AllByRecursion, flat_map}
 use Rattle.std.proofs.lemmas.Option.{slice_get-get_or}
@@ -23,7 +24,7 @@ use Rattle.pm_worker.specs.declared.mail.MailTold.{MailTold}
 use Rattle.pm_worker.specs.Runs.{IsRun, Run}
 use Rattle.pm_crew.specs.Left.{AreLeft, IsWorked, Manner}
 use Rattle.pm_crew.specs.Pids.{AreUsedOnce, pids_at}
-use Rattle.pm_crew.specs.Redos.{RedosAreThose, kept_in, redo_ends_at, redo_ends_by, redo_told, told_if}
+use Rattle.pm_crew.specs.Redos.{AreRedosOf, RedosAreThose, kept_in, redo_ends_at, redo_ends_by, redo_told, told_if}
 use Rattle.pm_clean_end.specs.Among.{IsGiven, IsImage, IsIn, from_flat_map, from_map, in_back, in_either, in_flat_map, in_front, in_map, of_all}
 use Rattle.pm_clean_end.specs.EndsLaws.{begun_append, begun_in, generation_after}
 
@@ -308,8 +309,10 @@ module _ (manner : Manner) (count : ℕ) (moves : List Move) (d : RosterView Mai
   redo_run redos generation kept noted =
       let move : IsMoveOf (entry.RedoEnded generation kept) moves = move_of (empty count) _ moves tt noted in
       let y : InGeneration = record { number = kept; generation = generation } in
+      let its_redos : AreRedosOf move.slot moves (slot_at d move.slot).past = redos move.slot in
       let told : IsIn y (flat_map redo_told (slot_at d move.slot).past) =
-      subst (IsIn y) (sym (redos move.slot).1) (in_front y (redo_ends_at move.slot moves) (redos move.slot).0 (redo_at generation kept move.slot moves move.there)) in
+      subst (IsIn y) (sym (ap (flat_map redo_told) its_redos.is ∙ flat_map-append redo_told its_redos.front its_redos.others))
+      (in_front y (flat_map redo_told its_redos.front) (flat_map redo_told its_redos.others) (subst (IsIn y) (sym its_redos.redos) (redo_at generation kept move.slot moves move.there))) in
       let given : IsGiven redo_told y (slot_at d move.slot).past = from_flat_map redo_told y (slot_at d move.slot).past told in
       let its : RunOf given.by = run_of move.slot given.by given.there in
       let so = told_by given.by.offer.generation (kept_by given.by.offer.kind given.by.status (kept_in given.by.back)) y given.gives in
