@@ -1,4 +1,5 @@
 // One file of a folder: found where it is there, made by the first write.
+use crate::fault::{FileFault, Step};
 use std::alloc::{AllocError, Global};
 use std::fs::{File, OpenOptions, TryLockError};
 use std::io;
@@ -13,6 +14,7 @@ const OWNER_ALONE: u32 = 0o600;
 #[derive(Drop)]
 pub struct LogFile {
     rt: HostRuntime,
+    name: &'static str,
     folder: String,
     path: String,
     is_lock: bool,
@@ -28,11 +30,12 @@ impl LogFile {
         rt: HostRuntime,
         alloc: Global,
         folder: &str,
-        name: &str,
+        name: &'static str,
         is_lock: bool,
     ) -> Result<LogFile, AllocError> {
         Ok(LogFile {
             rt,
+            name,
             folder: String::from_str(alloc, folder)?,
             path: format!(in alloc; "{folder}/{name}")?,
             is_lock,
@@ -42,58 +45,77 @@ impl LogFile {
     }
 
     /// Its length, in bytes.
-    pub fn len(&mut self) -> io::Result<u64> {
+    pub fn len(&mut self) -> Result<u64, FileFault> {
         self.find()?;
         match &self.handle {
-            Some(file) => Ok(file.metadata()?.len()),
+            Some(file) => match file.metadata() {
+                Ok(metadata) => Ok(metadata.len()),
+                Err(reason) => Err(self.fault(Step::Length, reason)),
+            },
             None => Ok(0),
         }
     }
 
     /// Fills the slice with the bytes from this place on. All of them must be there.
-    pub fn read(&mut self, at: u64, into: &mut [u8]) -> io::Result<()> {
+    pub fn read(&mut self, at: u64, into: &mut [u8]) -> Result<(), FileFault> {
         self.find()?;
-        match &self.handle {
+        let done = match &self.handle {
             Some(file) => file.read_exact_at(into, at),
             None if into.is_empty() => Ok(()),
             None => Err(io::Error::from(io::ErrorKind::UnexpectedEof)),
-        }
+        };
+        self.told(Step::Read, done)
     }
 
     /// Writes all of the bytes, from this place on.
-    pub fn write(&mut self, at: u64, bytes: &[u8]) -> io::Result<()> {
+    pub fn write(&mut self, at: u64, bytes: &[u8]) -> Result<(), FileFault> {
         self.find()?;
         if self.handle.is_none() {
-            let file = OpenOptions::new()
+            let made = OpenOptions::new()
                 .read(true)
                 .write(true)
                 .create_new(true)
                 .mode(OWNER_ALONE)
-                .open(&self.rt, self.path.as_str())?;
+                .open(&self.rt, self.path.as_str());
+            let file = self.told(Step::Open, made)?;
             self.keep(file)?;
         }
-        match &self.handle {
+        let done = match &self.handle {
             Some(file) => file.write_all_at(bytes, at),
             None => Err(io::Error::from(io::ErrorKind::NotFound)),
-        }
+        };
+        self.told(Step::Write, done)
     }
 
     /// Makes durable what was written, with the length that it gave the file, by the call that PostgreSQL uses on this
     /// system unless it is told otherwise. Behind a sync that failed every call of the file fails.
-    pub fn sync(&mut self) -> io::Result<()> {
+    pub fn sync(&mut self) -> Result<(), FileFault> {
         self.find()?;
         let Some(file) = &self.handle else {
             return Ok(());
         };
         let synced = file.sync_data();
         self.is_lost = synced.is_err();
-        synced
+        self.told(Step::Sync, synced)
+    }
+
+    /// What failed of this file.
+    pub fn fault(&self, step: Step, reason: io::Error) -> FileFault {
+        FileFault {
+            file: self.name,
+            step,
+            reason,
+        }
+    }
+
+    fn told<T: Drop>(&self, step: Step, done: io::Result<T>) -> Result<T, FileFault> {
+        done.map_err(|reason| self.fault(step, reason))
     }
 
     // Opens the file, where it is there and isn't open yet.
-    fn find(&mut self) -> io::Result<()> {
+    fn find(&mut self) -> Result<(), FileFault> {
         if self.is_lost {
-            return Err(io::Error::from(io::ErrorKind::Other));
+            return Err(self.fault(Step::Sync, io::Error::other("it has failed before")));
         }
         if self.handle.is_some() {
             return Ok(());
@@ -105,19 +127,20 @@ impl LogFile {
         match found {
             Ok(file) => self.keep(file),
             Err(error) if error.kind() == io::ErrorKind::NotFound => Ok(()),
-            Err(error) => Err(error),
+            Err(error) => Err(self.fault(Step::Open, error)),
         }
     }
 
     // Keeps the file open, once it is settled.
-    fn keep(&mut self, file: File) -> io::Result<()> {
+    fn keep(&mut self, file: File) -> Result<(), FileFault> {
         if self.is_lock {
-            lock(&file)?;
+            self.told(Step::Lock, lock(&file))?;
         }
-        let folder = File::open(&self.rt, self.folder.as_str())?;
+        let folder = File::open(&self.rt, self.folder.as_str());
+        let folder = self.told(Step::Settle, folder)?;
         let settled = settle(&file, &folder);
         self.is_lost = settled.is_err();
-        settled?;
+        self.told(Step::Settle, settled)?;
         self.handle = Some(file);
         Ok(())
     }
@@ -139,7 +162,10 @@ fn settle(file: &File, folder: &File) -> io::Result<()> {
 fn lock(file: &File) -> io::Result<()> {
     match file.try_lock() {
         Ok(()) => Ok(()),
-        Err(TryLockError::WouldBlock) => Err(io::Error::from(io::ErrorKind::WouldBlock)),
+        Err(TryLockError::WouldBlock) => Err(io::Error::new(
+            io::ErrorKind::WouldBlock,
+            "another program works on this folder",
+        )),
         Err(TryLockError::Error(error)) => Err(error),
     }
 }

@@ -1,11 +1,18 @@
--- How often a port, a link and a console have failed, up to the last number, and which of its port's links a link is.
-use Rattle.std.specs.Prelude.{ℕ}
+-- How often a port, a link and a console have failed, up to the last number, what failed first of a port and of a console, and
+-- which of its port's links a link is.
+use Rattle.std.specs.Prelude.{ℕ, Option}
+use Rattle.pm_faults.specs.Faults.{count_of, first_of}
+use Rattle.pm_net.specs.declared.console.ConsoleFault.{ConsoleFault}
 use Rattle.pm_net.specs.declared.console.StandardConsole.{StandardConsole}
 use Rattle.pm_net.specs.declared.link.TcpLink.{TcpLink}
+use Rattle.pm_net.specs.declared.port.AcceptFault.{AcceptFault}
 use Rattle.pm_net.specs.declared.port.TcpPort.{TcpPort}
 
 abbrev pub console_faults : {R : Type 0} → StandardConsole R → ℕ
-console_faults console = console.faults
+console_faults console = count_of console.faults
+
+abbrev pub first_console_fault : {R : Type 0} → StandardConsole R → Option ConsoleFault
+first_console_fault console = first_of console.faults
 
 abbrev pub link_faults : TcpLink → ℕ
 link_faults link = link.faults
@@ -14,7 +21,14 @@ abbrev pub link_number : TcpLink → ℕ
 link_number link = link.number
 
 abbrev pub port_faults : {N : Type 0} → TcpPort N → ℕ
-port_faults port = port.faults
+port_faults port = count_of port.faults
+
+abbrev pub first_port_fault : {N : Type 0} → TcpPort N → Option AcceptFault
+first_port_fault port = first_of port.faults
+
+-- the number that was asked for
+abbrev pub asked_port : {N : Type 0} → TcpPort N → ℕ
+asked_port port = port.asked
 
 -- how many links it has given
 abbrev pub links_given : {N : Type 0} → TcpPort N → ℕ

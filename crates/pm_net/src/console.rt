@@ -2,18 +2,27 @@
 use crate::bells::Bells;
 use crate::input::{ForegroundInput, read_lines};
 use crate::mailbox::{Left, Mailbox};
+use pm_faults::Faults;
 use pm_outside::{Asked, Console};
 use std::alloc::Global;
 use std::io::{self, ErrorKind, Stdin};
 use std::sync::{Arc, Wait};
 use std::thread::{self, Threads};
 use std::time;
+use thiserror::Error;
+
+/// Standard input couldn't be read.
+#[derive(Clone, Copy, Debug, Error)]
+#[error("standard input: read: {reason}")]
+pub struct ConsoleFault {
+    pub reason: io::Error,
+}
 
 /// The console of a server.
 #[derive(Drop)]
 pub struct StandardConsole<R> {
     mailbox: Arc<Mailbox, Global>,
-    faults: u64,
+    faults: Faults<ConsoleFault>,
     rt: R,
 }
 
@@ -27,9 +36,22 @@ impl<R: Wait + Drop> StandardConsole<R> {
     {
         StandardConsole {
             mailbox,
-            faults: 0,
+            faults: Faults::new(),
             rt,
         }
+    }
+}
+
+impl<R> StandardConsole<R> {
+    ghost use Rattle.std.specs.Prelude.{◌≡◌, ◌↔◌, ◌<◌, IsSome};
+    ghost use Rattle.pm_net.specs.Counts.{console_faults, first_console_fault};
+
+    /// What failed first.
+    pub fn first_fault(&self) -> Option<ConsoleFault>
+        ensures first { result ≡ first_console_fault self.now }
+        ensures some { IsSome result ↔ (0 < console_faults self.now) }
+    {
+        self.faults.first()
     }
 }
 
@@ -52,15 +74,23 @@ pub fn standard_console<R: Wait + Threads + time::Clock + Copy + Drop + Send + '
 }
 
 impl<R: Wait + Drop> Console for StandardConsole<R> {
-    ghost use Rattle.std.specs.Prelude.{None};
-    ghost use Rattle.pm_net.specs.Counts.{console_faults};
+    ghost use Rattle.std.specs.Prelude.{◌≡◌, None};
+    ghost use Rattle.pm_disk.specs.Cause.{IsCounted};
+    ghost use Rattle.pm_faults.specs.Faults.{StaysFirst};
+    ghost use Rattle.pm_outside.specs.Lines.{AskedWithin};
+    ghost use Rattle.pm_net.specs.Counts.{console_faults, first_console_fault};
 
     // It doesn't tell its lines.
     ghost lines = { λ _. None };
 
     ghost faults = { console_faults };
 
-    fn next(&mut self, into: &mut [u8; 64]) -> Asked {
+    fn next(&mut self, into: &mut [u8; 64]) -> Asked
+        ensures within { AskedWithin result }
+        ensures cause { IsCounted (console_faults self.old) (console_faults self.new)
+            (result ≡ Asked.Failed) }
+        ensures first { StaysFirst (first_console_fault self.old) (first_console_fault self.new) }
+    {
         match self.mailbox.take(&self.rt) {
             Left::Nothing => Asked::NotYet,
             Left::Line(line) => {
@@ -68,8 +98,8 @@ impl<R: Wait + Drop> Console for StandardConsole<R> {
                 *into = bytes;
                 Asked::Line(line.length)
             }
-            Left::Fault => {
-                self.faults = self.faults.saturating_add(1);
+            Left::Fault(reason) => {
+                self.faults.note(ConsoleFault { reason });
                 Asked::Failed
             }
             Left::End => Asked::End,
@@ -77,6 +107,6 @@ impl<R: Wait + Drop> Console for StandardConsole<R> {
     }
 
     fn faults(&self) -> u64 {
-        self.faults
+        self.faults.count()
     }
 }

@@ -20,9 +20,9 @@ pub fn read_lines<R: Wait, I: Read>(rt: &R, input: &mut I, mailbox: &Mailbox, be
         match input.read(&mut chunk) {
             Ok(0) => break,
             Ok(count) => line = leave_lines(rt, line, &chunk[..count], mailbox, bells),
-            Err(error) => {
-                if error.kind() != ErrorKind::Interrupted {
-                    leave(rt, Left::Fault, mailbox, bells);
+            Err(reason) => {
+                if reason.kind() != ErrorKind::Interrupted {
+                    leave(rt, Left::Fault(reason), mailbox, bells);
                     break;
                 }
             }

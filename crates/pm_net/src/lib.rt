@@ -13,8 +13,8 @@ mod port;
 
 pub use bells::{Bell, Bells};
 pub use clock::ServerClock;
-pub use console::{StandardConsole, standard_console};
+pub use console::{ConsoleFault, StandardConsole, standard_console};
 pub use input::{ForegroundInput, read_lines};
 pub use link::TcpLink;
 pub use mailbox::Mailbox;
-pub use port::{BindFault, TcpPort};
+pub use port::{AcceptFault, BindFault, TcpPort};

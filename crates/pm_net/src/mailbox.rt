@@ -1,6 +1,7 @@
 // Lines on their way from who reads them to the console.
 ghost use Rattle.std.specs.Prelude.{◌≤◌};
 
+use std::io;
 use std::sync::{Condvar, Mutex, Wait};
 
 /// A line without its line feed, cut at 64 bytes.
@@ -44,7 +45,7 @@ impl Line {
 pub(crate) enum Left {
     Nothing,
     Line(Line),
-    Fault,
+    Fault(io::Error),
     End,
 }
 

@@ -1,7 +1,12 @@
 // A port over TCP.
+ghost use Rattle.std.specs.Prelude.{◌≡◌};
+ghost use Rattle.std.specs.Option.{ForSome};
+ghost use Rattle.pm_faults.specs.Faults.{first_of};
+
 use crate::bells::Bells;
 use crate::link::TcpLink;
 use mio::net::TcpListener;
+use pm_faults::Faults;
 use pm_outside::{Accepted, Port};
 use std::alloc::Global;
 use std::io::{self, ErrorKind};
@@ -21,20 +26,30 @@ pub struct BindFault {
     pub reason: io::Error,
 }
 
+/// A connection to a port of this machine couldn't be taken.
+#[derive(Clone, Copy, Debug, Error)]
+#[error("127.0.0.1:{port}: accept: {reason}")]
+pub struct AcceptFault {
+    pub port: u16,
+    pub reason: io::Error,
+}
+
 /// A port of this machine, which serves its own address alone.
 #[derive(Drop)]
 pub struct TcpPort<N> {
     listener: TcpListener,
+    asked: u16,
     bells: Arc<Bells, Global>,
     given: u64,
-    faults: u64,
+    faults: Faults<AcceptFault>,
     alloc: Global,
     net: N,
+    ghost named: { ForSome (first_of faults) (λ fault. fault.port ≡ asked) },
 }
 
 impl<N: Net + Drop> TcpPort<N> {
-    ghost use Rattle.std.specs.Prelude.{◌≡◌, IfErr, IfOk};
-    ghost use Rattle.pm_net.specs.Counts.{link_number, links_given, port_faults};
+    ghost use Rattle.std.specs.Prelude.{◌↔◌, ◌<◌, IfErr, IfOk, IfSome, IsSome};
+    ghost use Rattle.pm_net.specs.Counts.{asked_port, first_port_fault, link_number, links_given, port_faults};
 
     /// Listens on this port of 127.0.0.1, or on a free one at 0. A port whose connections were broken off may be taken
     /// again at once.
@@ -45,6 +60,7 @@ impl<N: Net + Drop> TcpPort<N> {
         port: u16,
     ) -> Result<Self, BindFault>
         ensures given { IfOk result (λ port. links_given port ≡ 0) }
+        ensures asked { IfOk result (λ own. asked_port own ≡ port) }
         ensures faults { IfOk result (λ port. port_faults port ≡ 0) }
         ensures refused { IfErr result (λ fault. fault.port ≡ port) }
     {
@@ -52,9 +68,10 @@ impl<N: Net + Drop> TcpPort<N> {
         match TcpListener::bind(&net, address) {
             Ok(listener) => Ok(TcpPort {
                 listener,
+                asked: port,
                 bells,
                 given: 0,
-                faults: 0,
+                faults: Faults::new(),
                 alloc,
                 net,
             }),
@@ -70,6 +87,15 @@ impl<N: Net + Drop> TcpPort<N> {
     /// The number of the port.
     pub fn number(&self) -> io::Result<u16> {
         Ok(self.listener.local_addr()?.port())
+    }
+
+    /// What failed first.
+    pub fn first_fault(&self) -> Option<AcceptFault>
+        ensures first { result ≡ first_port_fault self.now }
+        ensures some { IsSome result ↔ (0 < port_faults self.now) }
+        ensures named { IfSome result (λ fault. fault.port ≡ asked_port self.now) }
+    {
+        self.faults.first()
     }
 
     // The next connection that is still there, as the link of this number.
@@ -94,10 +120,11 @@ impl<N: Net + Drop> TcpPort<N> {
 impl<N: Net + Drop> Port for TcpPort<N> {
     type Link = TcpLink;
 
-    ghost use Rattle.std.specs.Prelude.{◌≡◌, None, min, ◌+◌, ◌-◌, ◌^◌};
+    ghost use Rattle.std.specs.Prelude.{None, min, ◌+◌, ◌-◌, ◌^◌};
     ghost use Rattle.pm_disk.specs.Cause.{IsCounted};
+    ghost use Rattle.pm_faults.specs.Faults.{StaysFirst};
     ghost use Rattle.pm_outside.specs.Visits.{IfLink};
-    ghost use Rattle.pm_net.specs.Counts.{link_number, links_given, port_faults};
+    ghost use Rattle.pm_net.specs.Counts.{asked_port, first_port_fault, link_number, links_given, port_faults};
 
     // It doesn't tell its links.
     ghost visits = { λ _. None };
@@ -109,6 +136,8 @@ impl<N: Net + Drop> Port for TcpPort<N> {
     fn accept(&mut self) -> Accepted<TcpLink>
         ensures cause { IsCounted (port_faults self.old) (port_faults self.new)
             (result ≡ Accepted.Failed) }
+        ensures first { StaysFirst (first_port_fault self.old) (first_port_fault self.new) }
+        ensures asked { asked_port self.new ≡ asked_port self.old }
         ensures number { IfLink result (λ link. link_number link ≡ links_given self.new) }
         ensures next { IfLink result (λ link. links_given self.new ≡ min (links_given self.old + 1)
             (2 ^ 64 - 1)) }
@@ -119,11 +148,12 @@ impl<N: Net + Drop> Port for TcpPort<N> {
                 self.given = next;
                 Accepted::Link(link)
             }
-            Err(error) => {
-                if error.kind() == ErrorKind::WouldBlock {
+            Err(reason) => {
+                if reason.kind() == ErrorKind::WouldBlock {
                     return Accepted::NotYet;
                 }
-                self.faults = self.faults.saturating_add(1);
+                let port = self.asked;
+                self.faults.note(AcceptFault { port, reason });
                 Accepted::Failed
             }
         }
@@ -134,6 +164,6 @@ impl<N: Net + Drop> Port for TcpPort<N> {
     }
 
     fn faults(&self) -> u64 {
-        self.faults
+        self.faults.count()
     }
 }

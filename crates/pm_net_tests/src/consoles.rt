@@ -10,7 +10,8 @@ use std::test::Fail;
 use std::thread::{self, Threads};
 use std::time::{self, Instant};
 
-// What a console gives to its end: each line with a line feed, `!` for a failure, and `.` for the end.
+// What a console gives to its end: each line with a line feed, `!` for a failure, and `.` for the end. Behind it what failed
+// first.
 fn heard<R: Wait + time::Clock + Copy + Drop>(
     rt: &R,
     alloc: Global,
@@ -32,6 +33,9 @@ fn heard<R: Wait + time::Clock + Copy + Drop>(
                 break;
             }
         }
+    }
+    if let Some(fault) = console.first_fault() {
+        all.extend_from_slice(format!(in alloc; "{fault}")?.as_bytes())?;
     }
     Ok(all)
 }
@@ -88,10 +92,13 @@ fn a_long_line_and_many_empty_ones_are_passed(rt: HostRuntime) -> Result<(), Fai
 #[test]
 fn an_empty_input_ends_and_a_folder_fails_once(rt: HostRuntime) -> Result<(), Fail> {
     let alloc = rt.alloc();
-    for (path, want) in [("/dev/null", ".".as_bytes()), ("/", "!.".as_bytes())] {
+    for (path, want) in [
+        ("/dev/null", "."),
+        ("/", "!.standard input: read: Is a directory (os error 21)"),
+    ] {
         let mut file = File::open(&rt, path)?;
         let all = console_over(&rt, alloc, &mut file)?;
-        assert_eq!(rt; all.as_slice(), want, "{path}");
+        assert_eq!(rt; all.as_slice(), want.as_bytes(), "{path}");
     }
     Ok(())
 }

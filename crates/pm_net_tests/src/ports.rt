@@ -2,6 +2,7 @@
 use crate::world::{linked, open};
 use pm_net::TcpPort;
 use pm_outside::{Accepted, Port};
+use std::fs::File;
 use std::sync::Arc;
 use std::test::Fail;
 
@@ -36,5 +37,27 @@ fn a_port_is_taken_again_behind_open_links(rt: HostRuntime) -> Result<(), Fail> 
     };
     assert!(rt; matches!(port.accept(), Accepted::NotYet));
     linked(&rt, &mut port)?;
+    Ok(())
+}
+
+#[test]
+fn the_first_fault_of_a_port_is_told(rt: HostRuntime) -> Result<(), Fail> {
+    let alloc = rt.alloc();
+    let (port, bells) = open(&rt, alloc)?;
+    let number = port.number()?;
+    drop(port);
+    let Ok(mut port) = TcpPort::new(rt, alloc, bells, number) else {
+        panic!(rt; "port {number} isn't free");
+    };
+    assert!(rt; port.first_fault().is_none());
+    // The listener is closed under the port, and then a file has its descriptor.
+    libc::close(port.descriptor());
+    assert!(rt; matches!(port.accept(), Accepted::Failed));
+    let _file = File::open(&rt, "/dev/null")?;
+    assert!(rt; matches!(port.accept(), Accepted::Failed));
+    assert_eq!(rt; port.faults(), 2);
+    let fault = port.first_fault().ok_or("nothing failed")?;
+    let want = format!(in alloc; "127.0.0.1:{number}: accept: Bad file descriptor (os error 9)")?;
+    assert_eq!(rt; format!(in alloc; "{fault}")?, want);
     Ok(())
 }

@@ -6,8 +6,10 @@ ghost use Rattle.pm_outside.specs.MemConsole.{lines_given};
 ghost use Rattle.pm_outside.specs.Visits.{no_visits};
 
 mod network;
+mod reports;
 
 use crate::network::{Network, StartFault, open};
+use crate::reports::Reports;
 use pm_disk::{Disk, MemDisk};
 use pm_files::LogFiles;
 use pm_outside::{Console, Forgotten, Link, MemClock, MemConsole, MemPort, Port, Sink};
@@ -33,9 +35,9 @@ fn main(rt: HostRuntime) -> ExitCode {
         return could_not_start(&rt);
     }
     if is_server(&rt) {
-        start(rt, rt, StandardSink::new(rt.stderr()))
+        start(rt, rt, StandardSink::new(rt.stderr(), "standard error"))
     } else {
-        start(rt, rt, StandardSink::new(rt.stdout()))
+        start(rt, rt, StandardSink::new(rt.stdout(), "standard output"))
     }
 }
 
@@ -68,7 +70,7 @@ where
     };
     let alloc = rt.alloc();
     let Ok(line) = read_words(&words) else {
-        return over_disk(host, alloc, &words, MemDisk::new(alloc), sink);
+        return over_disk(rt, host, &words, MemDisk::new(alloc), sink);
     };
     let Ok(disk) = LogFiles::of(rt, alloc, line.dir) else {
         return out_of_memory();
@@ -79,10 +81,10 @@ where
         Command::Initdb => {
             // Where the folder can't be made its files can't either, and then that is told.
             let _ = fs::create_dir_all(&rt, line.dir);
-            over_disk(host, alloc, &words, disk, sink)
+            over_disk(rt, host, &words, disk, sink)
         }
         Command::Controldata | Command::Workload { .. } => {
-            over_disk(host, alloc, &words, disk, sink)
+            over_disk(rt, host, &words, disk, sink)
         }
     }
 }
@@ -120,8 +122,7 @@ where
         book: Forgotten::new(),
         seed,
     };
-    let alloc = rt.alloc();
-    end_of(host, alloc, words, outside, no_console(alloc))
+    end_of(rt, host, words, outside, no_console(rt.alloc()))
 }
 
 // Runs `serve`, over files, a port over TCP, standard input as its console, and a clock whose pauses these end. Its journal and its
@@ -159,7 +160,7 @@ where
         book: Forgotten::new(),
         seed,
     };
-    end_of(host, rt.alloc(), words, outside, console)
+    end_of(rt, host, words, outside, console)
 }
 
 // A console that gives no line.
@@ -171,17 +172,18 @@ fn no_console(alloc: Global) -> MemConsole
 
 // Runs words whose command uses a disk and a sink at most. The rest of the outside is in memory.
 fn over_disk<R, D, W>(
+    rt: HostRuntime,
     host: R,
-    alloc: Global,
     words: &[Text],
     disk: D,
     sink: StandardSink<W>,
 ) -> ExitCode
 where
     R: Threads + Wait + Clock + Copy + Drop + Send + 'static,
-    D: Disk + Drop + Send + 'static,
+    D: Disk + Reports + Drop + Send + 'static,
     W: Write + Drop,
 {
+    let alloc = rt.alloc();
     let outside = Outside {
         port: MemPort::new(alloc, Vec::new(alloc), Vec::new(alloc)),
         sink,
@@ -191,13 +193,13 @@ where
         book: Forgotten::new(),
         seed: [0; 32],
     };
-    end_of(host, alloc, words, outside, no_console(alloc))
+    end_of(rt, host, words, outside, no_console(alloc))
 }
 
-// Runs the words, and lets go of what they were run over.
+// Runs the words, and lets go of what they were run over, once it is told what of it failed.
 fn end_of<R, L, P, K, O, D, C>(
+    rt: HostRuntime,
     host: R,
-    alloc: Global,
     words: &[Text],
     outside: Outside<P, O, D, C, Forgotten, Forgotten>,
     console: K,
@@ -205,10 +207,10 @@ fn end_of<R, L, P, K, O, D, C>(
 where
     R: Threads + Wait + Clock + Copy + Drop + Send + 'static,
     L: Link + Drop + Send + 'static,
-    P: Port<Link = L> + Drop,
-    K: Console + Drop,
-    O: Sink + Drop,
-    D: Disk + Drop + Send + 'static,
+    P: Port<Link = L> + Reports + Drop,
+    K: Console + Reports + Drop,
+    O: Sink + Reports + Drop,
+    D: Disk + Reports + Drop + Send + 'static,
     C: pm_outside::Clock + Drop + Send + 'static,
     requires port { IfSome (P.visits outside.port) (λ visits. visits ≡ no_visits) }
     requires console { IfSome (K.lines console) (λ lines. lines ≡ []) }
@@ -216,9 +218,13 @@ where
     let mut spawner = pm_spawn::Threads::new(host);
     let Ended {
         status,
-        outside: _outside,
-        console: _console,
-    } = run(&mut spawner, host, alloc, words, outside, console);
+        outside,
+        console,
+    } = run(&mut spawner, host, rt.alloc(), words, outside, console);
+    outside.disk.report(&rt);
+    outside.port.report(&rt);
+    console.report(&rt);
+    outside.sink.report(&rt);
     ExitCode::from(status.code())
 }
 

@@ -9,4 +9,4 @@ mod tests;
 
 pub use clock::SystemClock;
 pub use descriptors::fill_standard_streams;
-pub use streams::{StandardLink, StandardPort, StandardSink};
+pub use streams::{SinkFault, StandardLink, StandardPort, StandardSink};

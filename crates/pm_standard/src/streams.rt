@@ -1,10 +1,12 @@
 //! Readers and writers as links, a port and a sink.
-ghost use Rattle.std.specs.Prelude.{◌≡◌, ◌<◌, None, length};
-ghost use Rattle.pm_disk.specs.Cause.{IsCounted};
-ghost use Rattle.pm_outside.specs.Traffic.{PutWithin};
+ghost use Rattle.std.specs.Prelude.{◌≡◌, ◌<◌, ◌≤◌, None, IfOk, length};
+ghost use Rattle.std.specs.Option.{ForSome};
+ghost use Rattle.pm_faults.specs.Faults.{first_of};
 
+use pm_faults::Faults;
 use pm_outside::{Accepted, Got, Link, Port, Put, Sink};
-use std::io::{Read, Write};
+use std::io::{self, ErrorKind, Read, Write};
+use thiserror::Error;
 
 /// A link over a reader and a writer, as standard input and standard output, or the two sides of a connection. A read waits for
 /// bytes.
@@ -46,7 +48,13 @@ impl<R: Read, W: Write> Link for StandardLink<R, W> {
     }
 
     fn write(&mut self, from: &[u8]) -> Put {
-        written(&mut self.writer, from, &mut self.faults)
+        match written(&mut self.writer, from) {
+            Ok(count) => Put::Count(count),
+            Err(_) => {
+                self.faults = self.faults.saturating_add(1);
+                Put::Failed
+            }
+        }
     }
 
     fn faults(&self) -> u64 {
@@ -93,46 +101,91 @@ impl<R: Read + Drop, W: Write + Drop> Port for StandardPort<R, W> {
     }
 }
 
+/// A write of a sink failed, over this stream, with the system's reason.
+#[derive(Clone, Copy, Debug, Error)]
+#[error("{stream}: write: {reason}")]
+pub struct SinkFault {
+    pub stream: &'static str,
+    pub reason: io::Error,
+}
+
 /// A sink over a writer, as standard error or standard output.
 #[derive(Debug, Drop)]
 pub struct StandardSink<W> {
     writer: W,
-    faults: u64,
+    stream: &'static str,
+    faults: Faults<SinkFault>,
+    ghost named: { ForSome (first_of faults) (λ fault. fault.stream.now ≡ stream.now) },
 }
 
 impl<W: Write> StandardSink<W> {
-    /// The sink over this writer.
-    pub fn new(writer: W) -> Self {
-        StandardSink { writer, faults: 0 }
+    ghost use Rattle.std.specs.Prelude.{◌↔◌, IfSome, IsSome};
+    ghost use Rattle.pm_standard.specs.Faults.{first_sink_fault, sink_faults, stream_name};
+
+    /// The sink over this writer, of this name.
+    pub fn new(writer: W, stream: &'static str) -> Self
+        ensures name { stream_name result ≡ stream.now }
+        ensures faults { sink_faults result ≡ 0 }
+    {
+        StandardSink {
+            writer,
+            stream,
+            faults: Faults::new(),
+        }
+    }
+
+    /// What failed first.
+    pub fn first_fault(&self) -> Option<SinkFault>
+        ensures first { result ≡ first_sink_fault self.now }
+        ensures some { IsSome result ↔ (0 < sink_faults self.now) }
+        ensures named { IfSome result (λ fault. fault.stream.now ≡ stream_name self.now) }
+    {
+        self.faults.first()
     }
 }
 
 impl<W: Write> Sink for StandardSink<W> {
+    ghost use Rattle.pm_disk.specs.Cause.{IsCounted};
+    ghost use Rattle.pm_outside.specs.Traffic.{PutWithin};
+    ghost use Rattle.pm_faults.specs.Faults.{StaysFirst};
+    ghost use Rattle.pm_standard.specs.Faults.{first_sink_fault, sink_faults, stream_name};
+
     // It doesn't tell what was written.
     ghost written = { λ _. None };
 
-    ghost faults = { λ sink. sink.faults };
+    ghost faults = { sink_faults };
 
-    fn write(&mut self, from: &[u8]) -> Put {
-        written(&mut self.writer, from, &mut self.faults)
+    fn write(&mut self, from: &[u8]) -> Put
+        requires { 0 < length from.now }
+        ensures within { PutWithin result (length from.now) }
+        ensures cause { IsCounted (sink_faults self.old) (sink_faults self.new)
+            (result ≡ Put.Failed) }
+        ensures first { StaysFirst (first_sink_fault self.old) (first_sink_fault self.new) }
+        ensures name { stream_name self.new ≡ stream_name self.old }
+    {
+        match written(&mut self.writer, from) {
+            Ok(count) => Put::Count(count),
+            Err(reason) => {
+                let stream = self.stream;
+                self.faults.note(SinkFault { stream, reason });
+                Put::Failed
+            }
+        }
     }
 
     fn faults(&self) -> u64 {
-        self.faults
+        self.faults.count()
     }
 }
 
-// Writes from the front of the slice. A writer that takes nothing has failed, which is counted.
-fn written<W: Write>(writer: &mut W, from: &[u8], faults: &mut u64) -> Put
+// Writes from the front of the slice. A writer that takes nothing has failed.
+fn written<W: Write>(writer: &mut W, from: &[u8]) -> io::Result<usize>
     requires { 0 < length from.now }
-    ensures within { PutWithin result (length from.now) }
-    ensures cause { IsCounted faults.old faults.new (result ≡ Put.Failed) }
+    ensures some { IfOk result (λ count. 0 < count) }
+    ensures within { IfOk result (λ count. count ≤ length from.now) }
 {
     match writer.write(from) {
-        Ok(0) | Err(_) => {
-            *faults = faults.saturating_add(1);
-            Put::Failed
-        }
-        Ok(count) => Put::Count(count),
+        Ok(0) => Err(io::Error::from(ErrorKind::WriteZero)),
+        done => done,
     }
 }

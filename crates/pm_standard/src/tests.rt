@@ -28,10 +28,16 @@ fn the_port_gives_its_link_once(rt: HostRuntime) -> Result<(), Fail> {
 #[test]
 fn the_sink_writes_until_its_writer_is_full(rt: HostRuntime) -> Result<(), Fail> {
     let mut line = [0; 3];
-    let mut sink = StandardSink::new(line.as_mut_slice());
+    let mut sink = StandardSink::new(line.as_mut_slice(), "standard error");
     assert_eq!(rt; sink.write(b"down"), Put::Count(3));
+    assert!(rt; sink.first_fault().is_none());
     assert_eq!(rt; sink.write(b"n"), Put::Failed);
     assert_eq!(rt; sink.faults(), 1);
+    let fault = sink.first_fault().ok_or("nothing failed")?;
+    assert_eq!(rt;
+        format!(in rt.alloc(); "{fault}")?.as_str(),
+        "standard error: write: write zero"
+    );
     drop(sink);
     assert_eq!(rt; line, *b"dow");
     Ok(())

@@ -45,7 +45,7 @@ where
         clock: &clock,
     };
     let mut link = StandardLink::new(&stream, &stream);
-    let mut out = StandardSink::new(rt.stdout());
+    let mut out = StandardSink::new(rt.stdout(), "standard output");
     match play(&means, &mut link, asked.user, &texts, &mut out) {
         Played::Done { link_ended: false } => Ok(()),
         Played::Done { link_ended: true } => Err(Fault::LinkEnded),
