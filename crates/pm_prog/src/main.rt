@@ -7,19 +7,21 @@ ghost use Rattle.pm_outside.specs.Visits.{no_visits};
 
 mod network;
 mod reports;
+mod words;
 
 use crate::network::{Network, StartFault, open};
 use crate::reports::Reports;
+use crate::words::{given_words, print_misfit};
 use pm_disk::{Disk, MemDisk};
 use pm_files::LogFiles;
 use pm_outside::{Console, Forgotten, Link, MemClock, MemConsole, MemPort, Port, Sink};
 use pm_rows::Text;
 use pm_standard::{StandardPort, StandardSink, SystemClock, fill_standard_streams};
 use pm_top::{Command, Ended, Outside, Top, read_words, run};
-use std::alloc::{AllocError, Global};
-use std::env::{self, Env};
+use std::alloc::Global;
+use std::env::Env;
 use std::fs;
-use std::io::{ErrorKind, Write};
+use std::io::Write;
 use std::net::Net;
 use std::process::ExitCode;
 use std::random::RandomSource;
@@ -65,11 +67,12 @@ where
     R: Threads + Wait + Net + Clock + Copy + Drop + Send + 'static,
     W: Write + Drop,
 {
-    let Ok(words) = words(&rt) else {
+    let Ok(words) = given_words(&rt) else {
         return out_of_memory();
     };
     let alloc = rt.alloc();
     let Ok(line) = read_words(&words) else {
+        print_misfit(&rt, &words);
         return over_disk(rt, host, &words, MemDisk::new(alloc), sink);
     };
     let Ok(disk) = LogFiles::of(rt, alloc, line.dir) else {
@@ -226,18 +229,4 @@ where
     console.report(&rt);
     outside.sink.report(&rt);
     ExitCode::from(status.code())
-}
-
-// The words behind the program's name. Where one isn't UTF-8 there are none, which is no command line either.
-fn words(rt: &HostRuntime) -> Result<Vec<Text>, AllocError> {
-    let mut words = Vec::new(rt.alloc());
-    let given = match env::args(rt) {
-        Ok(given) => given,
-        Err(error) if error.kind() == ErrorKind::OutOfMemory => return Err(AllocError),
-        Err(_) => return Ok(words),
-    };
-    for word in given.skip(1) {
-        words.push(Text::of(rt.alloc(), word.as_str())?)?;
-    }
-    Ok(words)
 }

@@ -17,6 +17,6 @@ pub use pm_query::BookEntry;
 pub use pm_record::RedoFault;
 pub use pm_server::{Conf, ServerEnd, StartWhy, Why};
 pub use pm_state::PmEvent;
-pub use pm_words::{Command, Line, WordsNo, read_words};
+pub use pm_words::{Command, Line, WordsNo, misfit, read_words};
 pub use status::Top;
 pub use top::run;

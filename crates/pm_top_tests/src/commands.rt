@@ -1,5 +1,7 @@
 //! What the commands say of files, and of words that are no command line.
 use crate::play::play;
+use pm_rows::Text;
+use pm_top::misfit;
 use std::test::Fail;
 
 /// Commands over files, where nothing fails.
@@ -213,6 +215,45 @@ ends Unreadable(SameEpoch { epoch: 1 }) 1
 says two\x20files\x20of\x20epoch\x201\n
 a ONE_ROW
 b OPEN HEADER CLOSED";
+
+/// Words behind the place of the first one that doesn't fit, from 0 on.
+const MISFITS: &str = r"
+None:
+None: once
+None: once --data
+None: serve --port 5432 --data
+None: serve --port 5432 --data=folder
+Some(0): server
+Some(0): --data folder
+Some(1): initdb folder
+Some(1): initdb --port 5432
+Some(1): workload --data folder
+Some(1): once --data=
+Some(2): once --data --port
+Some(3): initdb --data folder --data other
+Some(3): serve --data folder --prot 5432
+Some(4): serve --data folder --port 0
+Some(2): serve --port=5432 --max-connections=65
+Some(4): once --data folder --restart-after-crash maybe
+Some(3): once --data folder -- --restart-after-crash";
+
+#[test]
+fn the_first_word_that_does_not_fit_is_found(rt: HostRuntime) -> Result<(), Fail> {
+    let alloc = rt.alloc();
+    for line in MISFITS.lines() {
+        let (want, rest) = line.split_once(':').unwrap_or(("None", ""));
+        let mut words = Vec::new(alloc);
+        for word in rest.split_whitespace() {
+            words.push(Text::of(alloc, word)?)?;
+        }
+        assert_eq!(rt;
+            format!(in alloc; "{:?}", misfit(&words))?.as_str(),
+            want,
+            "{line}"
+        );
+    }
+    Ok(())
+}
 
 #[test]
 fn commands_tell_what_they_find(rt: HostRuntime) -> Result<(), Fail> {

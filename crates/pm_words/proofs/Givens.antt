@@ -36,7 +36,7 @@ same_front (byte ∷ name) (first ∷ other) value more is_name is_other same =
     let both : (name ≡ other) × (value ≡ more) = same_front name other value more is_name.1 is_other.1 rest in
     (ap (λ b. b ∷ name) e ∙ ap (λ l. first ∷ l) both.0, both.1)
 
-no_cut : (name other value : List ℕ) → IsName name → name ≡ other ++ 61 ∷ value → ⊥
+pub no_cut : (name other value : List ℕ) → IsName name → name ≡ other ++ 61 ∷ value → ⊥
 no_cut [] [] value is_name same = absurd cc
 no_cut [] (byte ∷ other) value is_name same = absurd cc
 no_cut (byte ∷ name) [] value is_name same = is_name.0 cc
@@ -122,7 +122,7 @@ same-choice one two value name first second =
     absurd (omega (arith, ap (λ (l : List ℕ). length l) name, ap (λ (l : List ℕ). get_or l 2 0) name))
 
 -- the words begin with one option
-same-option : (words : List (List ℕ)) (one two : Choice) (behind rest : List (List ℕ)) → BeginsWithOption words one behind → BeginsWithOption words two rest
+pub same-option : (words : List (List ℕ)) (one two : Choice) (behind rest : List (List ℕ)) → BeginsWithOption words one behind → BeginsWithOption words two rest
     → (one ≡ two) × (behind ≡ rest)
 same-option [] one two behind rest first second = absurd (not-none (option_name one) first.spells.0 behind (option-begins [] one behind first))
 same-option (word ∷ words) one two behind rest first second =

@@ -1,2 +1,3 @@
+pub mod Fronts
 pub mod Givens
 pub mod Lines

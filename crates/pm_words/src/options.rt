@@ -51,7 +51,7 @@ pub(crate) struct Settings<'a> {
 }
 
 impl<'a> Settings<'a> {
-    fn new() -> Self
+    pub(crate) fn new() -> Self
         ensures { chosen_of result ≡ nothing }
     {
         Settings {
@@ -65,7 +65,7 @@ impl<'a> Settings<'a> {
     }
 
     // Whether this option may come next: it is one of the command, and wasn't given yet.
-    fn may_take(&self, verb: Verb, setting: Setting<'a>) -> bool
+    pub(crate) fn may_take(&self, verb: Verb, setting: Setting<'a>) -> bool
         ensures { IsTrue result ↔ MayChoose verb (choice_of setting.entry) (chosen_of self.now) }
     {
         let of_server = verb == Verb::Once || verb == Verb::Serve;
@@ -82,7 +82,7 @@ impl<'a> Settings<'a> {
     }
 
     // With one option more.
-    fn with(mut self, setting: Setting<'a>) -> Settings<'a>
+    pub(crate) fn with(mut self, setting: Setting<'a>) -> Settings<'a>
         ensures { chosen_of result ≡ with_choice (choice_of setting.entry) (chosen_of self.entry) }
     {
         match setting {
@@ -180,12 +180,12 @@ fn read_on<'a>(verb: Verb, before: Settings<'a>, words: &'a [Text]) -> Option<Se
 
 // The first option of some words, and the words behind it.
 #[derive(Clone, Copy)]
-struct Next<'a> {
-    setting: Setting<'a>,
-    behind: &'a [Text],
+pub(crate) struct Next<'a> {
+    pub(crate) setting: Setting<'a>,
+    pub(crate) behind: &'a [Text],
 }
 
-fn next_option<'a>(words: &'a [Text]) -> Option<Next<'a>>
+pub(crate) fn next_option<'a>(words: &'a [Text]) -> Option<Next<'a>>
     ensures found { IfSome result (λ next. BeginsWithOption words.now (choice_of next.setting)
         next.behind.now) }
     ensures none { IfNone result ((choice : Choice) (behind : List (List ℕ))

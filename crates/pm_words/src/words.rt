@@ -88,7 +88,7 @@ pub fn read_words<'a>(words: &'a [Text]) -> Result<Line<'a>, WordsNo>
     }
 }
 
-fn verb_named(word: &str) -> Option<Verb>
+pub(crate) fn verb_named(word: &str) -> Option<Verb>
     ensures found { IfSome result (λ verb. word.now ≡ verb_word verb) }
     ensures none { IfNone result ((verb : Verb) → word.now ≢ verb_word verb) }
 {
