@@ -1,5 +1,5 @@
 -- How a command ends, and what it says.
-use Rattle.std.specs.Prelude.{ℕ, List, [], codes}
+use Rattle.std.specs.Prelude.{ℕ, List, [], ◌++◌, codes}
 use Rattle.pm_disk.specs.Cause.{Rose}
 use Rattle.pm_record.specs.declared.fault.RedoFault.TheVariants as redo
 use Rattle.pm_once.specs.Outside.{OutsideView}
@@ -55,6 +55,13 @@ status_of ends.NoMemory = NoMemory
 
 -- ---- what is printed
 
+-- the commands, each with its options
+abbrev pub usage_lines : List ℕ
+usage_lines =
+    codes "usage: initdb --data D | controldata --data D | workload --number N\n"
+    ++ codes "       once --data D [OPTIONS] | serve --data D --port P [OPTIONS]\n"
+    ++ codes "options: --max-connections 1..64, --restart-after-crash on|off, --authentication-timeout 1..600\n"
+
 -- The line of a status. A server prints its lines itself.
 abbrev pub line_of : Top → List ℕ
 line_of Done = []
@@ -63,7 +70,7 @@ line_of OutFault = []
 line_of DiskFault = codes "disk fault\n"
 line_of Exists = codes "a cluster exists\n"
 line_of (Unreadable fault) = redo_line fault
-line_of Usage = codes "usage: initdb | once | serve | controldata | workload\n"
+line_of Usage = usage_lines
 line_of NoMemory = codes "out of memory\n"
 line_of NoThread = []
 

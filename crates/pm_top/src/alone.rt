@@ -38,6 +38,12 @@ use std::alloc::Global;
 use std::sync::Wait;
 use std::time;
 
+/// The commands, each with its options.
+const USAGE: &[u8] = b"usage: initdb --data D | controldata --data D | workload --number N
+       once --data D [OPTIONS] | serve --data D --port P [OPTIONS]
+options: --max-connections 1..64, --restart-after-crash on|off, --authentication-timeout 1..600
+";
+
 /// Does what the words ask, where they don't ask for a server of many connections. The journal that it is given has no
 /// entries.
 pub(crate) fn run_alone<R, P, O, D, C, J, B>(
@@ -210,10 +216,7 @@ fn tell<O: Sink>(sink: &mut O, status: Top)
 {
     let told = match status {
         Top::Done | Top::Abnormal(_) | Top::OutFault | Top::NoThread => return,
-        Top::Usage => print(
-            sink,
-            b"usage: initdb | once | serve | controldata | workload\n",
-        ),
+        Top::Usage => print(sink, USAGE),
         Top::Exists => print(sink, b"a cluster exists\n"),
         Top::DiskFault => print(sink, b"disk fault\n"),
         Top::NoMemory => print(sink, b"out of memory\n"),

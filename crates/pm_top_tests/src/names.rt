@@ -99,7 +99,7 @@ NO_CLUSTER = no readable cluster\n
 PLAIN := READY SMART DOWN
 CRASH_CYCLE := READY SESSION_CRASHED TERMINATING REINITIALIZING READY SMART DOWN
 # what commands say
-USAGE = usage: initdb | once | serve | controldata | workload\n
+USAGE = usage: initdb --data D | controldata --data D | workload --number N\n       once --data D [OPTIONS] | serve --data D --port P [OPTIONS]\noptions: --max-connections 1..64, --restart-after-crash on|off, --authentication-timeout 1..600\n
 DISK_FAULT = disk fault\n
 OF_NEW = file: A\nepoch: 1\nclean: yes\ncommits: 0\nrows: 0\nbatches: 0\n
 OF_ONE_ROW = file: A\nepoch: 1\nclean: no\ncommits: 1\nrows: 1\nbatches: 1\n
