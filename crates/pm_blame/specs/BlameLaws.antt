@@ -1,0 +1,374 @@
+-- The laws: the first crash of a server's journal has a cause, and a server that ends behind a crash has had one.
+use Rattle.std.proofs.Common.{◌≡◌, ◌≢◌, ◌⊎◌, inl, inr, ℕ, ◌+◌, ◌<◌, ◌≤◌, Bool, true, false, not, cond, ◌&&◌, ◌||◌, List, [], ◌∷◌, ◌++◌, Option, None, Some, Err, nat_eq, refl, sym, ap, subst, ◌∙◌, arith, append_assoc}
+use Rattle.std.specs.Prelude.{is_some}
+use Rattle.std.specs.List.{AllByRecursion, fold}
+use Rattle.std.proofs.lemmas.List.Elements.{recursion_from_All}
+use Rattle.pm_disk.specs.Cause.{Rose}
+use Rattle.pm_exit.specs.declared.child.Class.TheVariants as class
+use Rattle.pm_exit.specs.declared.child.Kind.{Kind}
+use Rattle.pm_exit.specs.declared.child.Kind.TheVariants as kinds
+use Rattle.pm_exit.specs.declared.child.Status.{Status}
+use Rattle.pm_exit.specs.declared.child.Status.TheVariants.{Code, Signal}
+use Rattle.pm_exit.specs.Ends.{is_exit_0, is_exit_1}
+use Rattle.pm_supervisor.specs.declared.Ending.{Ending}
+use Rattle.pm_supervisor.specs.declared.Ending.TheVariants as endings
+use Rattle.pm_supervisor.specs.declared.Limits.{Limits}
+use Rattle.pm_supervisor.specs.declared.Reason.{Reason}
+use Rattle.pm_supervisor.specs.declared.Reason.TheVariants.{Crash, Stop}
+use Rattle.pm_supervisor.specs.Steps.{is_normal}
+use Rattle.pm_state.specs.declared.action.Action.{Action}
+use Rattle.pm_state.specs.declared.event.PmEvent.{PmEvent}
+use Rattle.pm_state.specs.declared.event.PmEvent.TheVariants as entry
+use Rattle.pm_state.specs.declared.machine.Machine.{Machine}
+use Rattle.pm_state.specs.Exits.{is_shutdown}
+use Rattle.pm_state.specs.Laws.{RestartsSafely}
+use Rattle.pm_state.specs.Promises.{has_act, is_ask_checkpoint, is_terminate}
+use Rattle.pm_state.specs.TurnRules.{are_backends_gone}
+use Rattle.pm_state.specs.Journal.{AreLegal, IsLegal, Replay, all_replayed, replay_begun, replayed}
+use Rattle.pm_life.specs.declared.life.GateNo.TheVariants as gate_no
+use Rattle.pm_life.specs.Life.{Checkpoint, Kill, Quit, Terminate, Told, was_told}
+use Rattle.pm_journal.specs.Stands.{any_moment}
+use Rattle.pm_board.specs.declared.views.RosterStep.{RosterStep}
+use Rattle.pm_board.specs.declared.views.RosterStep.TheVariants as step
+use Rattle.pm_board.specs.declared.views.RosterView.{RosterView}
+use Rattle.pm_board.specs.Heard.{IsKnownAtLast}
+use Rattle.pm_board.specs.Latches.{HeardRightly, NoticedBefore, times_given, times_sent}
+use Rattle.pm_query.specs.declared.book.BookEntry.{BookEntry}
+use Rattle.pm_query.specs.declared.book.BookEntry.TheVariants.{Broke}
+use Rattle.pm_segment.specs.Moves.{IsShown}
+use Rattle.pm_server.specs.Views.{DiskView}
+use Rattle.pm_remains.specs.Remains.{Remains}
+use Rattle.pm_seating.specs.Board.{ended_of}
+use Rattle.pm_seating.specs.FoldingLaws.{steps-append}
+use Rattle.pm_seating.specs.Seating.{Ended, Move, Notes, Seating, board_steps, empty, entries_from, journal_of, seating_by, seating_from, steps_from}
+use Rattle.pm_shared.specs.declared.views.Noted.{Noted}
+use Rattle.pm_worker.specs.declared.mail.MailTold.{MailTold}
+use Rattle.pm_worker.specs.Runs.{Run, told_in}
+use Rattle.pm_crew.specs.Left.{Manner}
+use Rattle.pm_crew.specs.PidsLaws.{pids_in}
+use Rattle.pm_chain.specs.Chain.{IsPidOf}
+use Rattle.pm_blame.specs.Crashes.{EndsAs, HasNoCrash, IsFirstCrash, IsUnasked, is_crash, stands_behind}
+use Rattle.pm_blame.specs.Causes.{HasCause, IsBlamed, IsUnbroken, IsUnprovoked, is_broke}
+use Rattle.pm_blame.specs.CalmLaws.{IsCalm, IsHarmless, SoFar, is_closing, nothing_so_far, told_after}
+use Rattle.pm_blame.specs.JournalLaws.{StaysCalm, acts_in, checkpointer_there, ends_at, legal_behind, legal_front, never_again, stays_calm}
+use Rattle.pm_blame.specs.RunsLaws.{Outcome, EndedFine, WasKilled, WasToldToQuit, MetNotice, GaveUp, DiskFailed, HadNoRedo, WasShort, WasSpent, FoundOther, IsFineAs, outcome}
+use Rattle.pm_blame.specs.GivenLaws.{checkpoint_given, kill_given, number_of, quit_given, terminate_given}
+use Rattle.pm_blame.specs.SendsLaws.{final_sends, may_send, not_noticed, quiet, sent_append, unreached, unsent}
+use Rattle.pm_blame.specs.FindLaws.{IsKnownRun, NotedAt, RunOf, gone, its_run, noted_at}
+
+-- ---- which signals were sent before the first crash
+
+no_kills : (es : List PmEvent) → AllByRecursion IsHarmless es → AllByRecursion IsUnasked es → AllByRecursion (λ e. may_send 3 e ≡ false) es
+no_kills [] harmless unasked = tt
+no_kills (e ∷ es) harmless unasked = (one e harmless.0 unasked.0, no_kills es harmless.1 unasked.1)
+  where
+    one : (e : PmEvent) → IsHarmless e → IsUnasked e → may_send 3 e ≡ false
+    one (entry.QuitSent why) none unasked = absurd none
+    one (entry.KillSent at) none unasked = absurd none
+    one (entry.KillAsked pid) none unasked = absurd unasked
+    one e none unasked = refl
+
+no_quits : (reason : Reason) (es : List PmEvent) → AllByRecursion IsHarmless es → AllByRecursion (λ e. may_send (number_of (Quit reason)) e ≡ false) es
+no_quits reason [] harmless = tt
+no_quits reason (e ∷ es) harmless = (one reason e harmless.0, no_quits reason es harmless.1)
+  where
+    one : (reason : Reason) (e : PmEvent) → IsHarmless e → may_send (number_of (Quit reason)) e ≡ false
+    one reason (entry.QuitSent why) none = absurd none
+    one Crash e none = refl
+    one Stop e none = refl
+
+never : (b : Bool) → b ≡ true → b ≡ false → ⊥
+never b one two = cc
+
+-- that sessions were told to end is remembered
+terminate_before : (h : SoFar) (es : List PmEvent) → (fold told_after h es).terminate ≡ false → h.terminate ≡ false
+terminate_before h [] none = none
+terminate_before h (e ∷ es) none = one e (terminate_before (told_after h e) es none)
+  where
+    one : (e : PmEvent) → (told_after h e).terminate ≡ false → h.terminate ≡ false
+    one entry.TerminateSent is = absurd (never true refl is)
+    one entry.CheckpointAsked is = is
+    one e is = is
+
+no_terminates : (h : SoFar) (es : List PmEvent) → AllByRecursion IsHarmless es → (fold told_after h es).terminate ≡ false → AllByRecursion (λ e. may_send 2 e ≡ false) es
+no_terminates h [] harmless none = tt
+no_terminates h (e ∷ es) harmless none = (one e harmless.0 (terminate_before (told_after h e) es none), no_terminates (told_after h e) es harmless.1 none)
+  where
+    one : (e : PmEvent) → IsHarmless e → (told_after h e).terminate ≡ false → may_send 2 e ≡ false
+    one entry.TerminateSent harmless is = absurd (never true refl is)
+    one (entry.QuitSent why) harmless is = absurd harmless
+    one e harmless is = refl
+
+checkpoint_before : (h : SoFar) (es : List PmEvent) → (fold told_after h es).checkpoint ≡ false → h.checkpoint ≡ false
+checkpoint_before h [] none = none
+checkpoint_before h (e ∷ es) none = one e (checkpoint_before (told_after h e) es none)
+  where
+    one : (e : PmEvent) → (told_after h e).checkpoint ≡ false → h.checkpoint ≡ false
+    one entry.CheckpointAsked is = absurd (never true refl is)
+    one entry.TerminateSent is = is
+    one e is = is
+
+no_checkpoints : (h : SoFar) (es : List PmEvent) → AllByRecursion IsHarmless es → (fold told_after h es).checkpoint ≡ false → AllByRecursion (λ e. may_send 4 e ≡ false) es
+no_checkpoints h [] harmless none = tt
+no_checkpoints h (e ∷ es) harmless none = (one e harmless.0 (checkpoint_before (told_after h e) es none), no_checkpoints (told_after h e) es harmless.1 none)
+  where
+    one : (e : PmEvent) → IsHarmless e → (told_after h e).checkpoint ≡ false → may_send 4 e ≡ false
+    one entry.CheckpointAsked harmless is = absurd (never true refl is)
+    one (entry.QuitSent why) harmless is = absurd harmless
+    one e harmless is = refl
+
+-- ---- a first crash
+
+-- the last checkpoint was asked for, and the checkpointer is there
+shuts : (m : Machine) → is_closing m ≡ true → m.checkpointer ≡ true → is_shutdown m.state ≡ true
+shuts m closing there = grind (arith, closing, there)
+
+-- who ended fine is no crash
+fine_ends : (end : Ended) (m : Machine) (told : Told) (at : ℕ) → IsFineAs end.kind end.status end.was_active told → (was_told Checkpoint told → end.kind ≡ kinds.Checkpointer → is_shutdown m.state ≡ true)
+    → is_crash m (entry.Exited end.pid end.kind end.status end.was_active at) ≡ false
+fine_ends end m told at fine last = by end.kind refl fine
+  where
+    session : (code : Bool) → code ≡ true → end.was_active ≡ false → not (is_normal (cond (code && not end.was_active) class.Normal class.Crash) || false) ≡ false
+    session code is out = rw (is, out) refl
+
+    by : (k : Kind) → end.kind ≡ k → IsFineAs k end.status end.was_active told → is_crash m (entry.Exited end.pid k end.status end.was_active at) ≡ false
+    by kinds.Startup is its = rw its refl
+    by kinds.Checkpointer is its = rw (its.0, last its.1 is) refl
+    by kinds.Writer is its = rw its refl
+    by kinds.Worker is its = session (is_exit_0 end.status || is_exit_1 end.status) its.0 its.1
+    by kinds.Backend is its = session (is_exit_0 end.status || is_exit_1 end.status) its.0 its.1
+    by kinds.DeadEnd is its = session (is_exit_0 end.status || is_exit_1 end.status) its.0 its.1
+
+gave_up : (end : Ended) (m : Machine) (at : ℕ) → end.kind ≡ kinds.Startup → end.status ≡ Code 1 → is_some m.shutdown ≡ true
+    → is_crash m (entry.Exited end.pid end.kind end.status end.was_active at) ≡ false
+gave_up end m at kind status asked = rw (kind, status, asked) refl
+
+either : (b : Bool) → (b ≡ true) ⊎ (b ≡ false)
+either true = inl refl
+either false = inr refl
+
+-- the first crash among these entries, behind what those before them leave
+record FirstFrom (r : Replay) (journal : List PmEvent) : Type 0 where
+  pub before : List PmEvent
+  pub entry : PmEvent
+  pub behind : List PmEvent
+  pub is : journal ≡ before ++ entry ∷ behind
+  pub none : HasNoCrash r before
+  pub crash : is_crash (all_replayed r before).machine entry ≡ true
+
+first_or_none : (r : Replay) (journal : List PmEvent) → FirstFrom r journal ⊎ HasNoCrash r journal
+first_or_none r [] = inr tt
+first_or_none r (e ∷ journal) = by (either (is_crash r.machine e)) (first_or_none (replayed r e) journal)
+  where
+    by : (is_crash r.machine e ≡ true) ⊎ (is_crash r.machine e ≡ false) → FirstFrom (replayed r e) journal ⊎ HasNoCrash (replayed r e) journal
+        → FirstFrom r (e ∷ journal) ⊎ HasNoCrash r (e ∷ journal)
+    by (inl crash) rest = inl (record { before = []; entry = e; behind = journal; is = refl; none = tt; crash = crash })
+    by (inr fine) (inr none) = inr (fine, none)
+    by (inr fine) (inl f) =
+        inl (record { before = e ∷ f.before; entry = f.entry; behind = f.behind; is = ap (λ (es : List PmEvent). e ∷ es) f.is; none = (fine, f.none); crash = f.crash })
+
+-- a server ends so behind a crash alone
+abbrev pub ComesOfCrash : Ending → Type 0
+ComesOfCrash endings.AfterCrash = Unit {0}
+ComesOfCrash endings.RestartOff = Unit {0}
+ComesOfCrash _ = ⊥
+
+harmful : (how : Ending) → ComesOfCrash how → IsHarmless (entry.Ended how) → ⊥
+harmful endings.AfterCrash comes harmless = harmless
+harmful endings.RestartOff comes harmless = harmless
+harmful endings.Clean comes harmless = comes
+harmful endings.StartupFailed comes harmless = comes
+
+within : (front : List PmEvent) (e : PmEvent) (behind : List PmEvent) → AllByRecursion IsHarmless (front ++ e ∷ behind) → IsHarmless e
+within [] e behind all = all.0
+within (x ∷ front) e behind all = within front e behind all.1
+
+module _ (safely : RestartsSafely) (limits : Limits) (manner : Manner) (count : ℕ) (moves : List Move) (board : RosterView MailTold) (own : List Noted) (book : List BookEntry) (u : IsUnprovoked limits manner count moves board own book) where
+  module _ (end : Ended) (at : ℕ) (first : IsFirstCrash limits (journal_of count moves) (entry.Exited end.pid end.kind end.status end.was_active at)) where
+    abbrev e : PmEvent
+    e = entry.Exited end.pid end.kind end.status end.was_active at
+
+    abbrev met : Replay
+    met = all_replayed (replay_begun limits) first.before
+
+    abbrev m : Machine
+    m = stands_behind limits first.before
+
+    legal : IsLegal limits any_moment (first.before ++ e ∷ first.behind)
+    legal = subst (IsLegal limits any_moment) first.is u.legal
+
+    unasked : AllByRecursion IsUnasked first.before
+    unasked = front_of first.before (e ∷ first.behind) (subst (AllByRecursion IsUnasked) first.is u.unasked)
+      where
+        front_of : (xs ys : List PmEvent) → AllByRecursion IsUnasked (xs ++ ys) → AllByRecursion IsUnasked xs
+        front_of [] ys all = tt
+        front_of (x ∷ xs) ys all = (all.0, front_of xs ys all.1)
+
+    calm : StaysCalm nothing_so_far (replay_begun limits) first.before
+    calm = stays_calm safely limits any_moment first.before (legal_front any_moment (replay_begun limits) first.before (e ∷ first.behind) legal) unasked first.none
+
+    found : NotedAt (empty count) moves first.before e first.behind
+    found = noted_at (empty count) moves first.before e first.behind refl first.is
+
+    abbrev behind_front : Seating
+    behind_front = seating_from (empty count) found.front
+
+    abbrev behind_it : Seating
+    behind_it = seating_by behind_front (Notes e found.slot)
+
+    -- the steps of the board
+    abbrev front_steps : List RosterStep
+    front_steps = steps_from (empty count) found.front
+
+    abbrev rest_steps : List RosterStep
+    rest_steps = steps_from behind_it found.rest
+
+    steps : board.notes.steps ≡ front_steps ++ step.Release end.pid end.kind behind_front.generation ∷ (rest_steps ++ u.board_is.last)
+    steps =
+        u.board_is.steps
+        ∙ ap (λ (ms : List Move). board_steps count ms ++ u.board_is.last) found.is
+        ∙ ap (λ (ss : List RosterStep). ss ++ u.board_is.last) (steps-append (empty count) found.front (Notes e found.slot ∷ found.rest))
+        ∙ append_assoc front_steps (step.Release end.pid end.kind behind_front.generation ∷ rest_steps) u.board_is.last
+
+    -- behind its end nothing was sent to it before the last entry
+    none_behind : (n : ℕ) → times_sent n end.pid rest_steps ≡ 0
+    none_behind n =
+        unreached n end.pid behind_it found.rest
+        (λ its. never_again limits any_moment first.before first.behind end.pid end.kind end.status end.was_active at legal
+        (subst (λ (es : List PmEvent). IsPidOf end.pid (pids_in es)) found.rest_is its))
+        (gone manner count moves board own book u.board_is u.left u.once u.unbroken end e refl found.slot found.front found.rest found.is refl)
+
+    -- so it was sent before it, or behind the last entry
+    sent : (n : ℕ) → AllByRecursion (λ x. may_send n x ≡ false) first.before → times_sent n end.pid board.notes.steps ≡ times_sent n end.pid u.board_is.last
+    sent n others =
+        ap (times_sent n end.pid) steps
+        ∙ sent_append n end.pid front_steps (step.Release end.pid end.kind behind_front.generation ∷ (rest_steps ++ u.board_is.last))
+        ∙ (let front : times_sent n end.pid front_steps ≡ 0 = unsent n end.pid (empty count) found.front (subst (AllByRecursion (λ x. may_send n x ≡ false)) (sym found.front_is) others) in
+        let rest : times_sent n end.pid (rest_steps ++ u.board_is.last) ≡ times_sent n end.pid rest_steps + times_sent n end.pid u.board_is.last = sent_append n end.pid rest_steps u.board_is.last in
+        let none : times_sent n end.pid rest_steps ≡ 0 = none_behind n in
+        (let all : times_sent n end.pid front_steps + (0 + times_sent n end.pid (rest_steps ++ u.board_is.last)) ≡ times_sent n end.pid u.board_is.last = omega (arith, front, rest, none) in all))
+
+    last_asked : (checkpoint terminate : Bool) (acts : List Action) → IsCalm (record { checkpoint = checkpoint; terminate = terminate }) acts m → (terminate ≡ true → is_some m.shutdown ≡ true) × (checkpoint ≡ true → is_closing m ≡ true)
+    last_asked checkpoint terminate acts its = (
+      (λ is. subst (λ (b : Bool). not (b || has_act is_terminate acts) || is_some m.shutdown ≡ true) is its.ending),
+      (λ is. subst (λ (b : Bool). not (b || has_act is_ask_checkpoint acts) || is_closing m ≡ true) is its.closing),
+    )
+
+    asks : ((fold told_after nothing_so_far first.before).terminate ≡ true → is_some m.shutdown ≡ true) × ((fold told_after nothing_so_far first.before).checkpoint ≡ true → is_closing m ≡ true)
+    asks = last_asked (fold told_after nothing_so_far first.before).checkpoint (fold told_after nothing_so_far first.before).terminate (acts_in met.due) calm.calm
+
+    -- who was told to end by itself was told so in a shutdown
+    asked : 0 < times_sent 2 end.pid board.notes.steps → is_some m.shutdown ≡ true
+    asked some = by (either (fold told_after nothing_so_far first.before).terminate)
+      where
+        by : ((fold told_after nothing_so_far first.before).terminate ≡ true) ⊎ ((fold told_after nothing_so_far first.before).terminate ≡ false) → is_some m.shutdown ≡ true
+        by (inl told) = asks.0 told
+        by (inr untold) =
+            let none : times_sent 2 end.pid board.notes.steps ≡ 0 =
+            sent 2 (no_terminates nothing_so_far first.before calm.harmless untold) ∙ final_sends 2 end.pid u.board_is.last refl u.board_is.final in
+            absurd (omega (arith, some, none))
+
+    -- and a checkpointer for the last checkpoint where the server waits for that
+    closes : 0 < times_sent 4 end.pid board.notes.steps → end.kind ≡ kinds.Checkpointer → is_shutdown m.state ≡ true
+    closes some kind = by (either (fold told_after nothing_so_far first.before).checkpoint)
+      where
+        by : ((fold told_after nothing_so_far first.before).checkpoint ≡ true) ⊎ ((fold told_after nothing_so_far first.before).checkpoint ≡ false) → is_shutdown m.state ≡ true
+        by (inl told) =
+            shuts m (asks.1 told)
+            (checkpointer_there met end.pid end.kind kind
+            (ends_at any_moment met end.pid end.kind end.status end.was_active at first.behind (legal_behind any_moment (replay_begun limits) first.before (e ∷ first.behind) legal))
+            (safely.counts limits any_moment first.before (legal_front any_moment (replay_begun limits) first.before (e ∷ first.behind) legal)))
+        by (inr untold) =
+            let none : times_sent 4 end.pid board.notes.steps ≡ 0 =
+            sent 4 (no_checkpoints nothing_so_far first.before calm.harmless untold) ∙ final_sends 4 end.pid u.board_is.last refl u.board_is.final in
+            absurd (omega (arith, some, none))
+
+    -- nobody was told to end at once
+    unquit : (reason : Reason) → times_sent (number_of (Quit reason)) end.pid board.notes.steps ≡ 0
+    unquit Crash = sent 0 (no_quits Crash first.before calm.harmless) ∙ final_sends 0 end.pid u.board_is.last refl u.board_is.final
+    unquit Stop = sent 1 (no_quits Stop first.before calm.harmless) ∙ final_sends 1 end.pid u.board_is.last refl u.board_is.final
+
+    -- nor met a notice at the gate
+    unnoticed : (reason : Reason) (generation : ℕ) → NoticedBefore board.notes.steps end.pid reason generation → ⊥
+    unnoticed reason generation (before, after, is, none) =
+        not_noticed front_steps end.pid end.kind behind_front.generation (rest_steps ++ u.board_is.last) before after reason generation (sym steps ∙ is)
+        (quiet (empty count) found.front (subst (AllByRecursion IsHarmless) (sym found.front_is) calm.harmless)) none
+
+    fine_never : is_crash m e ≡ false → ⊥
+    fine_never fine = never (is_crash m e) first.crash fine
+
+    its : RunOf (IsKnownRun manner count moves board own book u.board_is u.left u.once u.unbroken) (u.left.runs found.slot) end
+    its = its_run manner count moves board own book u.board_is u.left u.once u.unbroken end e refl found.slot found.front found.rest found.is
+
+    -- what its run heard was meant for its pid
+    heard : HeardRightly board.notes.steps (IsKnownAtLast board) end.pid its.run.child.offer.generation its.run.heard
+    heard = subst (λ (pid : ℕ). HeardRightly board.notes.steps (IsKnownAtLast board) pid its.run.child.offer.generation its.run.heard) (ap (λ (x : Ended). x.pid) its.ended) its.holds.1
+
+    was_sent : (n : ℕ) → 0 < times_given n its.run.heard.given → 0 < times_sent n end.pid board.notes.steps
+    was_sent n some = (let all : times_given n its.run.heard.given ≤ times_sent n end.pid board.notes.steps = heard.sent n in omega (arith, some, all))
+
+    blame : Outcome manner its.run → IsBlamed manner m u.board_is.last its.run
+    blame (EndedFine fine) =
+        absurd (fine_never (fine_ends end m (told_in its.run) at (subst (λ (x : Ended). IsFineAs x.kind x.status x.was_active (told_in its.run)) its.ended fine)
+        (λ told kind. closes (was_sent 4 (checkpoint_given its.run.heard its.run.asked told)) kind)))
+    blame (WasKilled status told) = inr (inr (inr (record {
+      status = status;
+      sent = subst (λ (pid : ℕ). 0 < times_sent 3 pid u.board_is.last) (sym (ap (λ (x : Ended). x.pid) its.ended))
+          (subst (λ (n : ℕ). 0 < n) (sent 3 (no_kills first.before calm.harmless unasked)) (was_sent 3 (kill_given its.run.heard its.run.asked told)));
+    })))
+    blame (WasToldToQuit reason told) =
+        (let some : 0 < times_sent (number_of (Quit reason)) end.pid board.notes.steps = was_sent (number_of (Quit reason)) (quit_given reason its.run.heard its.run.asked told) in
+        absurd (omega (arith, some, unquit reason)))
+    blame (MetNotice generation reason met_it) = absurd (unnoticed reason its.run.child.offer.generation (heard.met generation reason met_it).1)
+    blame (GaveUp kind status told) =
+        absurd (fine_never (gave_up end m at (sym (ap (λ (x : Ended). x.kind) its.ended) ∙ kind) (sym (ap (λ (x : Ended). x.status) its.ended) ∙ status)
+        (asked (was_sent 2 (terminate_given its.run.heard its.run.asked told)))))
+    blame (DiskFailed breaks) = absurd (breaks its.holds.2)
+    blame (HadNoRedo cannot) = inl cannot
+    blame (WasShort kind status refused told) = inr (inl (record {
+      kind = kind;
+      status = status;
+      why = inl (closes (was_sent 4 (checkpoint_given its.run.heard its.run.asked told)) (sym (ap (λ (x : Ended). x.kind) its.ended) ∙ kind), refused);
+    }))
+    blame (WasSpent kind status need refused) = inr (inl (record { kind = kind; status = status; why = inr (need, refused) }))
+    blame (FoundOther another) = inr (inr (inl another))
+
+    caused : HasCause manner m u.left.runs u.board_is.last e
+    caused = record {
+      slot = found.slot;
+      run = its.run;
+      its = its.its;
+      ended = ap (λ (x : Ended). x ∷ []) (sym its.ended);
+      blamed = blame (outcome manner its.run its.holds.0);
+    }
+
+  -- The first crash of the journal is the end of a run that has one of these causes, and no other.
+  pub has_cause : (e : PmEvent) (first : IsFirstCrash limits (journal_of count moves) e) → HasCause manner (stands_behind limits first.before) u.left.runs u.board_is.last e
+  has_cause (entry.Exited pid kind status was_active at) first = caused (record { pid = pid; kind = kind; status = status; was_active = was_active }) at first
+  has_cause other first = absurd (never false first.crash refl)
+
+  -- A server that ends behind a crash has had a first one, with such a cause.
+  pub has_crashed : (how : Ending) → ComesOfCrash how → EndsAs how (journal_of count moves)
+      → (e : PmEvent) × (first : IsFirstCrash limits (journal_of count moves) e) × HasCause manner (stands_behind limits first.before) u.left.runs u.board_is.last e
+  has_crashed how comes ended = by (first_or_none (replay_begun limits) (journal_of count moves))
+    where
+      by : FirstFrom (replay_begun limits) (journal_of count moves) ⊎ HasNoCrash (replay_begun limits) (journal_of count moves)
+          → (e : PmEvent) × (first : IsFirstCrash limits (journal_of count moves) e) × HasCause manner (stands_behind limits first.before) u.left.runs u.board_is.last e
+      by (inl f) =
+          let first : IsFirstCrash limits (journal_of count moves) f.entry = record { before = f.before; behind = f.behind; is = f.is; none = f.none; crash = f.crash } in
+          (f.entry, first, has_cause f.entry first)
+      by (inr none) = absurd (harmful how comes (within ended.0 (entry.Ended how) ended.1 (subst (AllByRecursion IsHarmless) ended.2 (stays_calm safely limits any_moment (journal_of count moves) u.legal u.unasked none).harmless)))
+
+-- ---- over a disk that didn't fail
+
+-- no fault of the disk is noted whose count hasn't risen
+pub unfailed_unbroken : (before now : DiskView) (told : Option (List BookEntry)) (book : List BookEntry) → Remains before now told book → ¬ (Rose before.faults now.faults) → IsUnbroken book
+unfailed_unbroken before now told book remains unfailed = each book (recursion_from_All (IsShown before.faults now.faults) book remains.faults)
+  where
+    one : (e : BookEntry) → IsShown before.faults now.faults e → is_broke e ≡ false
+    one (Broke pid since faults) shown = absurd (unfailed shown)
+    one e shown = refl
+
+    each : (es : List BookEntry) → AllByRecursion (IsShown before.faults now.faults) es → IsUnbroken es
+    each [] all = tt
+    each (e ∷ es) all = (one e all.0, each es all.1)

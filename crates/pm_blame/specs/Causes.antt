@@ -1,0 +1,102 @@
+-- What the first crash of a server's journal is due to.
+use Rattle.std.specs.Prelude.{◌≡◌, ◌≢◌, ◌⊎◌, ◌<◌, ℕ, Bool, true, false, List, [], ◌∷◌, Option, Some, None}
+use Rattle.std.specs.List.{AllByRecursion, Contains}
+use Rattle.pm_exit.specs.declared.child.Kind.TheVariants as kinds
+use Rattle.pm_exit.specs.declared.child.Status.TheVariants.{Code, Signal}
+use Rattle.pm_admit.specs.declared.Cac.{Cac}
+use Rattle.pm_supervisor.specs.declared.Limits.{Limits}
+use Rattle.pm_state.specs.declared.event.PmEvent.{PmEvent}
+use Rattle.pm_state.specs.declared.machine.Machine.{Machine}
+use Rattle.pm_state.specs.Exits.{is_shutdown}
+use Rattle.pm_state.specs.Journal.{IsLegal}
+use Rattle.pm_journal.specs.Stands.{any_moment}
+use Rattle.pm_board.specs.declared.views.RosterStep.{RosterStep}
+use Rattle.pm_board.specs.declared.views.RosterView.{RosterView}
+use Rattle.pm_board.specs.declared.views.Signal.TheVariants as signal
+use Rattle.pm_board.specs.Latch.{signal_number}
+use Rattle.pm_board.specs.Latches.{times_sent}
+use Rattle.pm_record.specs.declared.fault.RedoFault.{RedoFault}
+use Rattle.pm_record.specs.declared.fault.RedoFault.TheVariants as redo
+use Rattle.pm_query.specs.declared.book.BookEntry.{BookEntry}
+use Rattle.pm_query.specs.declared.book.BookEntry.TheVariants.{Broke}
+use Rattle.pm_query.specs.declared.store.StoreNo.{StoreNo}
+use Rattle.pm_query.specs.declared.store.StoreNo.TheVariants.{Stale, Full, Redo, NoMemory}
+use Rattle.pm_exchange.specs.declared.ending.Cause.TheVariants.{Overtaken}
+use Rattle.pm_seating.specs.Board.{ended_of}
+use Rattle.pm_seating.specs.Seating.{Move, ends, journal_of}
+use Rattle.pm_seating.specs.Standing.{IsBoardOf}
+use Rattle.pm_shared.specs.declared.views.Noted.{Noted}
+use Rattle.pm_worker.specs.declared.mail.LinkTold.{LinkTold}
+use Rattle.pm_worker.specs.declared.mail.MailTold.{MailTold}
+use Rattle.pm_worker.specs.declared.mail.MailTold.TheVariants as mail
+use Rattle.pm_worker.specs.Runs.{IsSessionRun, Run}
+use Rattle.pm_crew.specs.Left.{AreLeft, Manner}
+use Rattle.pm_crew.specs.Pids.{AreUsedOnce}
+use Rattle.pm_blame.specs.Crashes.{IsUnasked}
+
+-- ---- by what a child crashes
+
+-- the store refused it this, as its mail tells that came back
+abbrev pub WasRefused : StoreNo → Run → Type 0
+WasRefused refusal run = run.child.back ≡ mail.Aux (Some refusal) None
+
+-- A startup child with code 1: its files weren't read, by no fault of the disk, or memory was short.
+pub record CannotRedo (run : Run) : Type 0 where
+  pub kind : run.child.offer.kind ≡ kinds.Startup
+  pub status : run.child.status ≡ Code 1
+  pub why : ((fault : RedoFault) × (fault ≢ redo.Disk) × WasRefused (Redo fault) run) ⊎ WasRefused NoMemory run
+
+-- A checkpointer with code 1: memory was short for the last checkpoint of a shutdown, or the log's epochs are spent.
+pub record CannotClose (m : Machine) (run : Run) : Type 0 where
+  pub kind : run.child.offer.kind ≡ kinds.Checkpointer
+  pub status : run.child.status ≡ Code 1
+  pub why : ((is_shutdown m.state ≡ true) × WasRefused NoMemory run) ⊎ ((need : ℕ) × WasRefused (Full need 0) run)
+
+-- it was a session that exits as one whose store is in another generation
+pub record IsOvertaken (manner : Manner) (run : Run) : Type 0 where
+  pub link : LinkTold
+  pub decision : Cac
+  pub session : IsSessionRun None manner.seed manner.limit manner.gives link decision run
+  pub exit : session.ending.exit ≡ Overtaken
+
+-- A child with signal 6: it found the store in another generation than its own.
+pub record FoundAnother (manner : Manner) (run : Run) : Type 0 where
+  pub status : run.child.status ≡ Signal 6
+  pub why : ((mine : ℕ) × (found : ℕ) × WasRefused (Stale mine found) run) ⊎ IsOvertaken manner run
+
+-- A child with signal 9, to which a Kill was sent behind the last entry of the journal.
+pub record IsKilledAtLast (last : List RosterStep) (run : Run) : Type 0 where
+  pub status : run.child.status ≡ Signal 9
+  pub sent : 0 < times_sent (signal_number signal.Kill) run.child.offer.pid last
+
+-- these and no others
+abbrev pub IsBlamed : Manner → Machine → List RosterStep → Run → Type 0
+IsBlamed manner m last run = CannotRedo run ⊎ (CannotClose m run ⊎ (FoundAnother manner run ⊎ IsKilledAtLast last run))
+
+-- The entry tells of the end of one of these runs, slot by slot, that has such a cause.
+pub record HasCause (manner : Manner) (m : Machine) (runs : ℕ → List Run) (last : List RosterStep) (e : PmEvent) : Type 0 where
+  pub slot : ℕ
+  pub run : Run
+  pub its : Contains (runs slot) run
+  pub ended : ends e ≡ ended_of run.child ∷ []
+  pub blamed : IsBlamed manner m last run
+
+-- ---- where
+
+abbrev pub is_broke : BookEntry → Bool
+is_broke (Broke pid since faults) = true
+is_broke _ = false
+
+-- no fault of the disk was noted
+abbrev pub IsUnbroken : List BookEntry → Type 0
+IsUnbroken book = AllByRecursion (λ entry. is_broke entry ≡ false) book
+
+-- What a run of a server left, that nobody asked to kill a child or to stop at once, over a disk that didn't fail: its moves, its
+-- board, and what its workers and its own side noted.
+pub record IsUnprovoked (limits : Limits) (manner : Manner) (count : ℕ) (moves : List Move) (board : RosterView MailTold) (own : List Noted) (book : List BookEntry) : Type 0 where
+  pub legal : IsLegal limits any_moment (journal_of count moves)
+  pub unasked : AllByRecursion IsUnasked (journal_of count moves)
+  pub unbroken : IsUnbroken book
+  pub board_is : IsBoardOf count moves board
+  pub left : AreLeft manner count board own book
+  pub once : AreUsedOnce board

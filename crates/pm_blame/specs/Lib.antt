@@ -1,0 +1,9 @@
+pub mod Crashes
+pub mod Causes
+pub mod CalmLaws
+pub mod JournalLaws
+pub mod RunsLaws
+pub mod GivenLaws
+pub mod SendsLaws
+pub mod FindLaws
+pub mod BlameLaws

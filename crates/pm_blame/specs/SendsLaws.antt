@@ -1,0 +1,374 @@
+-- Which signals the moves of a supervisor send to a child, and whom they reach.
+use Rattle.std.proofs.Common.{◌≡◌, ◌≢◌, ◌⊎◌, inl, inr, ℕ, zero, suc, ◌+◌, ◌<◌, Bool, true, false, cond, List, [], ◌∷◌, ◌++◌, Option, None, Some, length, refl, sym, ap, subst, ◌∙◌, arith, set, append_assoc}
+use Rattle.std.specs.Prelude.{IfSome, nat_eq, ◌&&◌, slice_index_or, map}
+use Rattle.std.specs.List.{AllByRecursion, Contains, flat_map}
+use Rattle.pm_exit.specs.declared.child.Kind.{Kind}
+use Rattle.pm_exit.specs.declared.child.Kind.TheVariants as kind
+use Rattle.pm_supervisor.specs.declared.Reason.{Reason}
+use Rattle.pm_supervisor.specs.declared.Reason.TheVariants.{Crash, Stop}
+use Rattle.pm_supervisor.specs.Steps.{kind_for}
+use Rattle.pm_state.specs.declared.event.PmEvent.{PmEvent}
+use Rattle.pm_state.specs.declared.event.PmEvent.TheVariants as entry
+use Rattle.pm_board.specs.declared.views.RosterStep.{RosterStep}
+use Rattle.pm_board.specs.declared.views.RosterStep.TheVariants as step
+use Rattle.pm_board.specs.declared.views.Signal.{Signal}
+use Rattle.pm_board.specs.declared.views.Signal.TheVariants as signal
+use Rattle.pm_board.specs.Latch.{signal_number}
+use Rattle.pm_board.specs.Latches.{NotReleased, NoticedBefore, is_send, times_sent}
+use Rattle.pm_board.specs.Words.{bit}
+use Rattle.pm_chain.specs.Chain.{IsPidOf}
+use Rattle.pm_journal.specs.declared.roll.Enrolled.{Enrolled}
+use Rattle.pm_seating.specs.declared.audience.Audience.{Audience}
+use Rattle.pm_seating.specs.declared.audience.Audience.TheVariants.{Everyone, Stoppable, Checkpointer, One}
+use Rattle.pm_seating.specs.Board.{seat_at}
+use Rattle.pm_seating.specs.Seating.{Kill, Move, Nothing, Notes, PidsEnd, PortEnds, Reads, Request, Seating, Stop, asked_by, begins, begun_by, begun_from, child, entries_by, entries_from, is_meant, is_seated, seated, seating_by, seating_from, with_seat, Begun, send_to, sends_from, slot_in, steps_by, steps_from, steps_of}
+use Rattle.pm_seating.specs.Standing.{IsFinal}
+use Rattle.pm_crew.specs.PidsLaws.{pids_by, pids_in}
+use Rattle.pm_blame.specs.CalmLaws.{IsHarmless}
+
+-- ---- how often
+
+add_none : (a b : ℕ) → a ≡ 0 → b ≡ 0 → a + b ≡ 0
+add_none a b one two = omega (arith, one, two)
+
+pub sent_append : (n pid : ℕ) (xs ys : List RosterStep) → times_sent n pid (xs ++ ys) ≡ times_sent n pid xs + times_sent n pid ys
+sent_append n pid [] ys = (let z : times_sent n pid ys ≡ 0 + times_sent n pid ys = omega arith in z)
+sent_append n pid (x ∷ xs) ys =
+    let rest = sent_append n pid xs ys in
+    (let z : bit (is_send n pid x) + times_sent n pid (xs ++ ys) ≡ bit (is_send n pid x) + times_sent n pid xs + times_sent n pid ys = omega (arith, rest) in z)
+
+none_append : (n pid : ℕ) (xs ys : List RosterStep) → times_sent n pid xs ≡ 0 → times_sent n pid ys ≡ 0 → times_sent n pid (xs ++ ys) ≡ 0
+none_append n pid xs ys one two = sent_append n pid xs ys ∙ add_none (times_sent n pid xs) (times_sent n pid ys) one two
+
+-- ---- by the signal
+
+-- such an entry sends the signal of this number
+abbrev pub may_send : ℕ → PmEvent → Bool
+may_send n (entry.QuitSent why) = nat_eq (signal_number (signal.Quit why)) n
+may_send n entry.TerminateSent = nat_eq 2 n
+may_send n (entry.KillSent at) = nat_eq 3 n
+may_send n (entry.KillAsked pid) = nat_eq 3 n
+may_send n entry.CheckpointAsked = nat_eq 4 n
+may_send n _ = false
+
+other_signal : (b : Bool) (a n : ℕ) → nat_eq a n ≡ false → bit (b && nat_eq a n) ≡ 0
+other_signal true a n other = ap bit other
+other_signal false a n other = refl
+
+sends_other_signal : (n pid : ℕ) (who : Audience) (what : Signal) (g k : ℕ) (seats : List (Option Enrolled)) → nat_eq (signal_number what) n ≡ false
+    → times_sent n pid (sends_from who what g k seats) ≡ 0
+sends_other_signal n pid who what g k [] other = refl
+sends_other_signal n pid who what g k (None ∷ seats) other = sends_other_signal n pid who what g (k + 1) seats other
+sends_other_signal n pid who what g k (Some c ∷ seats) other = by (is_meant who c) (sends_other_signal n pid who what g (k + 1) seats other)
+  where
+    by : (b : Bool) → times_sent n pid (sends_from who what g (k + 1) seats) ≡ 0
+        → times_sent n pid (cond b (step.Send k c.pid c.kind what g ∷ []) [] ++ sends_from who what g (k + 1) seats) ≡ 0
+    by false rest = rest
+    by true rest = add_none _ _ (other_signal (nat_eq c.pid pid) (signal_number what) n other) rest
+
+entry_other_signal : (n pid k : ℕ) (s : Seating) (e : PmEvent) → may_send n e ≡ false → times_sent n pid (steps_of k s e) ≡ 0
+entry_other_signal n pid k s (entry.QuitSent why) other = add_none 0 _ refl (sends_other_signal n pid Everyone (signal.Quit why) s.generation 0 s.seats other)
+entry_other_signal n pid k s entry.TerminateSent other = sends_other_signal n pid Stoppable signal.Terminate s.generation 0 s.seats other
+entry_other_signal n pid k s (entry.KillSent at) other = sends_other_signal n pid Everyone signal.Kill s.generation 0 s.seats other
+entry_other_signal n pid k s (entry.KillAsked who) other = sends_other_signal n pid (One who) signal.Kill s.generation 0 s.seats other
+entry_other_signal n pid k s entry.CheckpointAsked other = sends_other_signal n pid Checkpointer signal.Checkpoint s.generation 0 s.seats other
+entry_other_signal n pid k s (entry.Started who kind) other = refl
+entry_other_signal n pid k s (entry.Accepted who decision) other = refl
+entry_other_signal n pid k s (entry.Exited who kind status was_active at) other = refl
+entry_other_signal n pid k s (entry.Asked mode at) other = refl
+entry_other_signal n pid k s (entry.RedoEnded generation kept) other = refl
+entry_other_signal n pid k s (entry.Ready generation) other = refl
+entry_other_signal n pid k s (entry.Reset generation) other = refl
+entry_other_signal n pid k s (entry.Said line) other = refl
+entry_other_signal n pid k s (entry.Ended how) other = refl
+
+front_all : {X : Type 0} (P : X → Type 0) (xs ys : List X) → AllByRecursion P (xs ++ ys) → AllByRecursion P xs
+front_all P [] ys all = tt
+front_all P (x ∷ xs) ys all = (all.0, front_all P xs ys all.1)
+
+rest_all : {X : Type 0} (P : X → Type 0) (xs ys : List X) → AllByRecursion P (xs ++ ys) → AllByRecursion P ys
+rest_all P [] ys all = all
+rest_all P (x ∷ xs) ys all = rest_all P xs ys all.1
+
+entries_other_signal : (n pid k : ℕ) (s : Seating) (es : List PmEvent) → AllByRecursion (λ e. may_send n e ≡ false) es → times_sent n pid (flat_map (steps_of k s) es) ≡ 0
+entries_other_signal n pid k s [] others = refl
+entries_other_signal n pid k s (e ∷ es) others =
+    none_append n pid (steps_of k s e) (flat_map (steps_of k s) es) (entry_other_signal n pid k s e others.0) (entries_other_signal n pid k s es others.1)
+
+-- moves whose entries don't send it
+pub unsent : (n pid : ℕ) (s : Seating) (moves : List Move) → AllByRecursion (λ e. may_send n e ≡ false) (entries_from s moves) → times_sent n pid (steps_from s moves) ≡ 0
+unsent n pid s [] others = refl
+unsent n pid s (move ∷ moves) others =
+    none_append n pid (steps_by s move) (steps_from (seating_by s move) moves)
+    (entries_other_signal n pid (slot_in move) s (entries_by s move) (front_all (λ e. may_send n e ≡ false) (entries_by s move) (entries_from (seating_by s move) moves) others))
+    (unsent n pid (seating_by s move) moves (rest_all (λ e. may_send n e ≡ false) (entries_by s move) (entries_from (seating_by s move) moves) others))
+
+-- behind the last entry only kills are sent
+pub final_sends : (n pid : ℕ) (last : List RosterStep) → nat_eq 3 n ≡ false → AllByRecursion IsFinal last → times_sent n pid last ≡ 0
+final_sends n pid [] other final = refl
+final_sends n pid (step.Send k who kind signal.Kill g ∷ last) other final =
+    add_none _ _ (other_signal (nat_eq who pid) 3 n other) (final_sends n pid last other final.1)
+final_sends n pid (step.Send k who kind signal.Terminate g ∷ last) other final = absurd final.0
+final_sends n pid (step.Send k who kind signal.Checkpoint g ∷ last) other final = absurd final.0
+final_sends n pid (step.Send k who kind (signal.Quit why) g ∷ last) other final = absurd final.0
+final_sends n pid (step.Release who kind g ∷ last) other final = add_none 0 _ refl (final_sends n pid last other final.1)
+final_sends n pid (step.Assign k who kind g ∷ last) other final = add_none 0 _ refl (final_sends n pid last other final.1)
+final_sends n pid (step.Quit why g ∷ last) other final = absurd final.0
+final_sends n pid (step.Ready g ∷ last) other final = absurd final.0
+final_sends n pid (step.Reset g ∷ last) other final = absurd final.0
+
+-- ---- by the child
+
+-- nobody of this pid sits anywhere
+abbrev pub SitsNowhere : ℕ → List (Option Enrolled) → Type 0
+SitsNowhere pid seats = AllByRecursion (λ seat. IfSome seat (λ c. c.pid ≢ pid)) seats
+
+unlike : (a b : ℕ) → a ≢ b → nat_eq a b ≡ false
+unlike a b differ = grind (arith, differ)
+
+sends_other_child : (n pid : ℕ) (who : Audience) (what : Signal) (g k : ℕ) (seats : List (Option Enrolled)) → SitsNowhere pid seats
+    → times_sent n pid (sends_from who what g k seats) ≡ 0
+sends_other_child n pid who what g k [] none = refl
+sends_other_child n pid who what g k (None ∷ seats) none = sends_other_child n pid who what g (k + 1) seats none.1
+sends_other_child n pid who what g k (Some c ∷ seats) none = by (is_meant who c) (sends_other_child n pid who what g (k + 1) seats none.1)
+  where
+    by : (b : Bool) → times_sent n pid (sends_from who what g (k + 1) seats) ≡ 0
+        → times_sent n pid (cond b (step.Send k c.pid c.kind what g ∷ []) [] ++ sends_from who what g (k + 1) seats) ≡ 0
+    by false rest = rest
+    by true rest = add_none _ _ (ap (λ (b : Bool). bit (b && nat_eq (signal_number what) n)) (unlike c.pid pid none.0)) rest
+
+entry_other_child : (n pid k : ℕ) (s : Seating) (e : PmEvent) → SitsNowhere pid s.seats → times_sent n pid (steps_of k s e) ≡ 0
+entry_other_child n pid k s (entry.QuitSent why) none = add_none 0 _ refl (sends_other_child n pid Everyone (signal.Quit why) s.generation 0 s.seats none)
+entry_other_child n pid k s entry.TerminateSent none = sends_other_child n pid Stoppable signal.Terminate s.generation 0 s.seats none
+entry_other_child n pid k s (entry.KillSent at) none = sends_other_child n pid Everyone signal.Kill s.generation 0 s.seats none
+entry_other_child n pid k s (entry.KillAsked who) none = sends_other_child n pid (One who) signal.Kill s.generation 0 s.seats none
+entry_other_child n pid k s entry.CheckpointAsked none = sends_other_child n pid Checkpointer signal.Checkpoint s.generation 0 s.seats none
+entry_other_child n pid k s (entry.Started who kind) none = refl
+entry_other_child n pid k s (entry.Accepted who decision) none = refl
+entry_other_child n pid k s (entry.Exited who kind status was_active at) none = refl
+entry_other_child n pid k s (entry.Asked mode at) none = refl
+entry_other_child n pid k s (entry.RedoEnded generation kept) none = refl
+entry_other_child n pid k s (entry.Ready generation) none = refl
+entry_other_child n pid k s (entry.Reset generation) none = refl
+entry_other_child n pid k s (entry.Said line) none = refl
+entry_other_child n pid k s (entry.Ended how) none = refl
+
+entries_other_child : (n pid k : ℕ) (s : Seating) (es : List PmEvent) → SitsNowhere pid s.seats → times_sent n pid (flat_map (steps_of k s) es) ≡ 0
+entries_other_child n pid k s [] none = refl
+entries_other_child n pid k s (e ∷ es) none =
+    none_append n pid (steps_of k s e) (flat_map (steps_of k s) es) (entry_other_child n pid k s e none) (entries_other_child n pid k s es none)
+
+nowhere_set : (pid k : ℕ) (seat : Option Enrolled) (seats : List (Option Enrolled)) → IfSome seat (λ c. c.pid ≢ pid) → SitsNowhere pid seats → SitsNowhere pid (set seats k seat)
+nowhere_set pid k seat [] here none = tt
+nowhere_set pid zero seat (x ∷ seats) here none = (here, none.1)
+nowhere_set pid (suc k) seat (x ∷ seats) here none = (none.0, nowhere_set pid k seat seats here none.1)
+
+-- unless it begins
+nowhere_behind : (pid k : ℕ) (e : PmEvent) (s : Seating) → (IsPidOf pid (pids_by e) → ⊥) → SitsNowhere pid s.seats → SitsNowhere pid (seated k e s).seats
+nowhere_behind pid k (entry.Started who kind) s fresh none = nowhere_set pid k (Some (child who kind)) s.seats (λ is. fresh (inl (sym is))) none
+nowhere_behind pid k (entry.Accepted who decision) s fresh none = nowhere_set pid k (Some (child who (kind_for decision))) s.seats (λ is. fresh (inl (sym is))) none
+nowhere_behind pid k (entry.Exited who kind status was_active at) s fresh none = nowhere_set pid k None s.seats tt none
+nowhere_behind pid k (entry.QuitSent why) s fresh none = none
+nowhere_behind pid k entry.TerminateSent s fresh none = none
+nowhere_behind pid k (entry.KillSent at) s fresh none = none
+nowhere_behind pid k (entry.KillAsked who) s fresh none = none
+nowhere_behind pid k entry.CheckpointAsked s fresh none = none
+nowhere_behind pid k (entry.Asked mode at) s fresh none = none
+nowhere_behind pid k (entry.RedoEnded generation kept) s fresh none = none
+nowhere_behind pid k (entry.Ready generation) s fresh none = none
+nowhere_behind pid k (entry.Reset generation) s fresh none = none
+nowhere_behind pid k (entry.Said line) s fresh none = none
+nowhere_behind pid k (entry.Ended how) s fresh none = none
+
+pids_append : (xs ys : List PmEvent) → pids_in (xs ++ ys) ≡ pids_in xs ++ pids_in ys
+pids_append [] ys = refl
+pids_append (x ∷ xs) ys = ap (λ (ps : List ℕ). pids_by x ++ ps) (pids_append xs ys) ∙ sym (append_assoc (pids_by x) (pids_in xs) (pids_in ys))
+
+pub pid_front : (pid : ℕ) (xs ys : List ℕ) → IsPidOf pid xs → IsPidOf pid (xs ++ ys)
+pid_front pid [] ys its = absurd its
+pid_front pid (x ∷ xs) ys (inl is) = inl is
+pid_front pid (x ∷ xs) ys (inr its) = inr (pid_front pid xs ys its)
+
+pub pid_behind : (pid : ℕ) (xs ys : List ℕ) → IsPidOf pid ys → IsPidOf pid (xs ++ ys)
+pid_behind pid [] ys its = its
+pid_behind pid (x ∷ xs) ys its = inr (pid_behind pid xs ys its)
+
+nowhere_by : (pid : ℕ) (s : Seating) (move : Move) → (IsPidOf pid (pids_in (entries_by s move)) → ⊥) → SitsNowhere pid s.seats → SitsNowhere pid (seating_by s move).seats
+nowhere_by pid s (Notes e k) fresh none = nowhere_behind pid k e s (λ its. fresh (pid_front pid (pids_by e) [] its)) none
+nowhere_by pid s (Reads line asks at) fresh none = none
+nowhere_by pid s (PortEnds at) fresh none = none
+nowhere_by pid s (PidsEnd at) fresh none = none
+
+-- moves that begin no child of this pid, where none sits
+pub unreached : (n pid : ℕ) (s : Seating) (moves : List Move) → (IsPidOf pid (pids_in (entries_from s moves)) → ⊥) → SitsNowhere pid s.seats → times_sent n pid (steps_from s moves) ≡ 0
+unreached n pid s [] fresh none = refl
+unreached n pid s (move ∷ moves) fresh none =
+    let fresh_all = (λ (its : IsPidOf pid (pids_in (entries_by s move) ++ pids_in (entries_from (seating_by s move) moves))).
+    fresh (subst (IsPidOf pid) (sym (pids_append (entries_by s move) (entries_from (seating_by s move) moves))) its)) in
+    none_append n pid (steps_by s move) (steps_from (seating_by s move) moves) (entries_other_child n pid (slot_in move) s (entries_by s move) none)
+    (unreached n pid (seating_by s move) moves
+    (λ its. fresh_all (pid_behind pid (pids_in (entries_by s move)) (pids_in (entries_from (seating_by s move) moves)) its))
+    (nowhere_by pid s move (λ its. fresh_all (pid_front pid (pids_in (entries_by s move)) (pids_in (entries_from (seating_by s move) moves)) its)) none))
+
+-- ---- where a child sits
+
+abbrev pub pids_of : List Begun → List ℕ
+pids_of begun = map (λ b. b.pid) begun
+
+pub seat_set : (k j : ℕ) (seat : Option Enrolled) (seats : List (Option Enrolled)) (c : Enrolled) → seat_at j (set seats k seat) ≡ Some c
+    → ((nat_eq k j ≡ false) × (seat_at j seats ≡ Some c)) ⊎ ((nat_eq k j ≡ true) × (seat ≡ Some c))
+seat_set k j seat [] c is = absurd (let none : None ≡ Some c = is in cc)
+seat_set zero zero seat (x ∷ seats) c is = inr (refl, is)
+seat_set zero (suc j) seat (x ∷ seats) c is = inl ((let e : nat_eq 0 (suc j) ≡ false = grind arith in e), is)
+seat_set (suc k) zero seat (x ∷ seats) c is = inl ((let e : nat_eq (suc k) 0 ≡ false = grind arith in e), is)
+seat_set (suc k) (suc j) seat (x ∷ seats) c is = by (seat_set k j seat seats c is)
+  where
+    by : ((nat_eq k j ≡ false) × (seat_at j seats ≡ Some c)) ⊎ ((nat_eq k j ≡ true) × (seat ≡ Some c))
+        → ((nat_eq (suc k) (suc j) ≡ false) × (seat_at j seats ≡ Some c)) ⊎ ((nat_eq (suc k) (suc j) ≡ true) × (seat ≡ Some c))
+    by (inl same) = inl ((let e : nat_eq k j ≡ false = same.0 in grind (arith, e)), same.1)
+    by (inr new) = inr ((let e : nat_eq k j ≡ true = new.0 in grind (arith, e)), new.1)
+
+module _ (j pid : ℕ) where
+  abbrev Sits : Seating → Type 0
+  Sits s = (c : Enrolled) × (seat_at j s.seats ≡ Some c) × (c.pid ≡ pid)
+
+  -- where a child sits down
+  sat_down : (k who : ℕ) (kind : Kind) (s : Seating) → Sits (with_seat k (Some (child who kind)) s) → Sits s ⊎ IsPidOf pid (pids_of (cond (nat_eq k j) (record { pid = who; kind = kind; generation = s.generation } ∷ []) []))
+  sat_down k who kind s (c, is, its) = by (seat_set k j (Some (child who kind)) s.seats c is)
+    where
+      by : ((nat_eq k j ≡ false) × (seat_at j s.seats ≡ Some c)) ⊎ ((nat_eq k j ≡ true) × (Some (child who kind) ≡ Some c))
+          → Sits s ⊎ IsPidOf pid (pids_of (cond (nat_eq k j) (record { pid = who; kind = kind; generation = s.generation } ∷ []) []))
+      by (inl same) = inl (c, same.1, its)
+      by (inr new) =
+          inr (subst (λ (b : Bool). IsPidOf pid (pids_of (cond b (record { pid = who; kind = kind; generation = s.generation } ∷ []) []))) (sym new.0)
+          (inl (sym its ∙ ap (λ (o : Option Enrolled). pid_in o) (sym new.1))))
+        where
+          pid_in : Option Enrolled → ℕ
+          pid_in None = 0
+          pid_in (Some x) = x.pid
+
+  stood_up : (k : ℕ) (s : Seating) → Sits (with_seat k None s) → Sits s
+  stood_up k s (c, is, its) = by (seat_set k j None s.seats c is)
+    where
+      by : ((nat_eq k j ≡ false) × (seat_at j s.seats ≡ Some c)) ⊎ ((nat_eq k j ≡ true) × (None ≡ Some c)) → Sits s
+      by (inl same) = (c, same.1, its)
+      by (inr new) = absurd (let none : None ≡ Some c = new.1 in cc)
+
+  one_move : (s : Seating) (move : Move) → Sits (seating_by s move) → Sits s ⊎ IsPidOf pid (pids_of (begun_by j s move))
+  one_move s (Notes (entry.Started who kind) k) sits = sat_down k who kind s sits
+  one_move s (Notes (entry.Accepted who decision) k) sits = sat_down k who (kind_for decision) s sits
+  one_move s (Notes (entry.Exited who kind status was_active at) k) sits = inl (stood_up k s sits)
+  one_move s (Notes (entry.QuitSent why) k) sits = inl sits
+  one_move s (Notes entry.TerminateSent k) sits = inl sits
+  one_move s (Notes (entry.KillSent at) k) sits = inl sits
+  one_move s (Notes (entry.KillAsked who) k) sits = inl sits
+  one_move s (Notes entry.CheckpointAsked k) sits = inl sits
+  one_move s (Notes (entry.Asked mode at) k) sits = inl sits
+  one_move s (Notes (entry.RedoEnded generation kept) k) sits = inl sits
+  one_move s (Notes (entry.Ready generation) k) sits = inl sits
+  one_move s (Notes (entry.Reset generation) k) sits = inl sits
+  one_move s (Notes (entry.Said line) k) sits = inl sits
+  one_move s (Notes (entry.Ended how) k) sits = inl sits
+  one_move s (Reads line asks at) sits = inl sits
+  one_move s (PortEnds at) sits = inl sits
+  one_move s (PidsEnd at) sits = inl sits
+
+  pids_of_append : (xs ys : List Begun) → pids_of (xs ++ ys) ≡ pids_of xs ++ pids_of ys
+  pids_of_append [] ys = refl
+  pids_of_append (x ∷ xs) ys = ap (λ (ps : List ℕ). x.pid ∷ ps) (pids_of_append xs ys)
+
+  pub sat_or_began : (s : Seating) (moves : List Move) → Sits (seating_from s moves) → Sits s ⊎ IsPidOf pid (pids_of (begun_from j s moves))
+  sat_or_began s [] sits = inl sits
+  sat_or_began s (move ∷ moves) sits = by (sat_or_began (seating_by s move) moves sits)
+    where
+      add : {A : Type 0} → A ⊎ IsPidOf pid (pids_of (begun_by j s move) ++ pids_of (begun_from j (seating_by s move) moves))
+          → A ⊎ IsPidOf pid (pids_of (begun_by j s move ++ begun_from j (seating_by s move) moves))
+      add (inl a) = inl a
+      add (inr its) = inr (subst (IsPidOf pid) (sym (pids_of_append (begun_by j s move) (begun_from j (seating_by s move) moves))) its)
+
+      first : Sits s ⊎ IsPidOf pid (pids_of (begun_by j s move)) → Sits s ⊎ IsPidOf pid (pids_of (begun_by j s move) ++ pids_of (begun_from j (seating_by s move) moves))
+      first (inl sat) = inl sat
+      first (inr its) = inr (pid_front pid (pids_of (begun_by j s move)) (pids_of (begun_from j (seating_by s move) moves)) its)
+
+      by : Sits (seating_by s move) ⊎ IsPidOf pid (pids_of (begun_from j (seating_by s move) moves)) → Sits s ⊎ IsPidOf pid (pids_of (begun_by j s move ++ begun_from j (seating_by s move) moves))
+      by (inl sat) = add (first (one_move s move sat))
+      by (inr its) = add (inr (pid_behind pid (pids_of (begun_by j s move)) (pids_of (begun_from j (seating_by s move) moves)) its))
+
+-- none of this pid sits in any slot
+pub nowhere : (pid : ℕ) (seats : List (Option Enrolled)) → ((j : ℕ) (c : Enrolled) → seat_at j seats ≡ Some c → c.pid ≡ pid → ⊥) → SitsNowhere pid seats
+nowhere pid [] none = tt
+nowhere pid (None ∷ seats) none = (tt, nowhere pid seats (λ j. none (suc j)))
+nowhere pid (Some c ∷ seats) none = (none 0 c refl, nowhere pid seats (λ j. none (suc j)))
+
+-- ---- notices
+
+abbrev is_notice : RosterStep → Bool
+is_notice (step.Quit why g) = true
+is_notice _ = false
+
+-- no notice is given among these
+abbrev pub AreQuiet : List RosterStep → Type 0
+AreQuiet steps = AllByRecursion (λ s. is_notice s ≡ false) steps
+
+both : {X : Type 0} (P : X → Type 0) (xs ys : List X) → AllByRecursion P xs → AllByRecursion P ys → AllByRecursion P (xs ++ ys)
+both P [] ys one two = two
+both P (x ∷ xs) ys one two = (one.0, both P xs ys one.1 two)
+
+sends_quiet : (who : Audience) (what : Signal) (g k : ℕ) (seats : List (Option Enrolled)) → AreQuiet (sends_from who what g k seats)
+sends_quiet who what g k [] = tt
+sends_quiet who what g k (None ∷ seats) = sends_quiet who what g (k + 1) seats
+sends_quiet who what g k (Some c ∷ seats) = by (is_meant who c) (sends_quiet who what g (k + 1) seats)
+  where
+    by : (b : Bool) → AreQuiet (sends_from who what g (k + 1) seats) → AreQuiet (cond b (step.Send k c.pid c.kind what g ∷ []) [] ++ sends_from who what g (k + 1) seats)
+    by true rest = (refl, rest)
+    by false rest = rest
+
+entry_quiet : (k : ℕ) (s : Seating) (e : PmEvent) → IsHarmless e → AreQuiet (steps_of k s e)
+entry_quiet k s (entry.QuitSent why) harmless = absurd harmless
+entry_quiet k s entry.TerminateSent harmless = sends_quiet Stoppable signal.Terminate s.generation 0 s.seats
+entry_quiet k s (entry.KillSent at) harmless = sends_quiet Everyone signal.Kill s.generation 0 s.seats
+entry_quiet k s (entry.KillAsked who) harmless = sends_quiet (One who) signal.Kill s.generation 0 s.seats
+entry_quiet k s entry.CheckpointAsked harmless = sends_quiet Checkpointer signal.Checkpoint s.generation 0 s.seats
+entry_quiet k s (entry.Started who kind) harmless = (refl, tt)
+entry_quiet k s (entry.Accepted who decision) harmless = (refl, tt)
+entry_quiet k s (entry.Exited who kind status was_active at) harmless = (refl, tt)
+entry_quiet k s (entry.Asked mode at) harmless = tt
+entry_quiet k s (entry.RedoEnded generation kept) harmless = tt
+entry_quiet k s (entry.Ready generation) harmless = (refl, tt)
+entry_quiet k s (entry.Reset generation) harmless = (refl, tt)
+entry_quiet k s (entry.Said line) harmless = tt
+entry_quiet k s (entry.Ended how) harmless = tt
+
+entries_quiet : (k : ℕ) (s : Seating) (es : List PmEvent) → AllByRecursion IsHarmless es → AreQuiet (flat_map (steps_of k s) es)
+entries_quiet k s [] harmless = tt
+entries_quiet k s (e ∷ es) harmless =
+    both (λ s. is_notice s ≡ false) (steps_of k s e) (flat_map (steps_of k s) es) (entry_quiet k s e harmless.0) (entries_quiet k s es harmless.1)
+
+pub quiet : (s : Seating) (moves : List Move) → AllByRecursion IsHarmless (entries_from s moves) → AreQuiet (steps_from s moves)
+quiet s [] harmless = tt
+quiet s (move ∷ moves) harmless =
+    both (λ s. is_notice s ≡ false) (steps_by s move) (steps_from (seating_by s move) moves)
+    (entries_quiet (slot_in move) s (entries_by s move) (front_all IsHarmless (entries_by s move) (entries_from (seating_by s move) moves) harmless))
+    (quiet (seating_by s move) moves (rest_all IsHarmless (entries_by s move) (entries_from (seating_by s move) moves) harmless))
+
+head_of : RosterStep → List RosterStep → RosterStep
+head_of none [] = none
+head_of none (x ∷ xs) = x
+
+tail_of : List RosterStep → List RosterStep
+tail_of [] = []
+tail_of (x ∷ xs) = xs
+
+-- the child was released before any notice was given
+pub not_noticed : (front : List RosterStep) (pid : ℕ) (kind : Kind) (g : ℕ) (rest before after : List RosterStep) (why : Reason) (generation : ℕ)
+    → front ++ step.Release pid kind g ∷ rest ≡ before ++ step.Quit why generation ∷ after → AreQuiet front → NotReleased pid before → ⊥
+unfolding head_of tail_of
+not_noticed [] pid kind g rest [] after why generation is quiet none =
+    absurd (let never : step.Release pid kind g ≡ step.Quit why generation = ap (head_of (step.Release pid kind g)) is in cc)
+not_noticed [] pid kind g rest (x ∷ before) after why generation is quiet none =
+    none kind g (0, (let near : 0 < length (x ∷ before) = omega arith in near), sym (ap (head_of (step.Release pid kind g)) is))
+not_noticed (x ∷ front) pid kind g rest [] after why generation is quiet none =
+    absurd (let never : true ≡ false = sym (ap is_notice (ap (head_of x) is)) ∙ quiet.0 in cc)
+not_noticed (x ∷ front) pid kind g rest (y ∷ before) after why generation is quiet none =
+    not_noticed front pid kind g rest before after why generation (ap tail_of is) quiet.1
+    (λ other gen there. none other gen (suc there.0, (let near : there.0 < length before = there.1 in omega arith), there.2))
