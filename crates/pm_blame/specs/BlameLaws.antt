@@ -1,5 +1,5 @@
 -- The laws: the first crash of a server's journal has a cause, and a server that ends behind a crash has had one.
-use Rattle.std.proofs.Common.{◌≡◌, ◌≢◌, ◌⊎◌, inl, inr, ℕ, ◌+◌, ◌<◌, ◌≤◌, Bool, true, false, not, cond, ◌&&◌, ◌||◌, List, [], ◌∷◌, ◌++◌, Option, None, Some, Err, nat_eq, refl, sym, ap, subst, ◌∙◌, arith, append_assoc}
+use Rattle.std.proofs.Common.{◌≡◌, ◌⊎◌, inl, inr, ℕ, ◌+◌, ◌<◌, ◌≤◌, Bool, true, false, not, cond, ◌&&◌, ◌||◌, List, [], ◌∷◌, ◌++◌, Option, refl, sym, ap, subst, ◌∙◌, arith, append_assoc}
 use Rattle.std.specs.Prelude.{is_some}
 use Rattle.std.specs.List.{AllByRecursion, fold}
 use Rattle.std.proofs.lemmas.List.Elements.{recursion_from_All}
@@ -7,8 +7,7 @@ use Rattle.pm_disk.specs.Cause.{Rose}
 use Rattle.pm_exit.specs.declared.child.Class.TheVariants as class
 use Rattle.pm_exit.specs.declared.child.Kind.{Kind}
 use Rattle.pm_exit.specs.declared.child.Kind.TheVariants as kinds
-use Rattle.pm_exit.specs.declared.child.Status.{Status}
-use Rattle.pm_exit.specs.declared.child.Status.TheVariants.{Code, Signal}
+use Rattle.pm_exit.specs.declared.child.Status.TheVariants.{Code}
 use Rattle.pm_exit.specs.Ends.{is_exit_0, is_exit_1}
 use Rattle.pm_supervisor.specs.declared.Ending.{Ending}
 use Rattle.pm_supervisor.specs.declared.Ending.TheVariants as endings
@@ -23,10 +22,8 @@ use Rattle.pm_state.specs.declared.machine.Machine.{Machine}
 use Rattle.pm_state.specs.Exits.{is_shutdown}
 use Rattle.pm_state.specs.Laws.{RestartsSafely}
 use Rattle.pm_state.specs.Promises.{has_act, is_ask_checkpoint, is_terminate}
-use Rattle.pm_state.specs.TurnRules.{are_backends_gone}
-use Rattle.pm_state.specs.Journal.{AreLegal, IsLegal, Replay, all_replayed, replay_begun, replayed}
-use Rattle.pm_life.specs.declared.life.GateNo.TheVariants as gate_no
-use Rattle.pm_life.specs.Life.{Checkpoint, Kill, Quit, Terminate, Told, was_told}
+use Rattle.pm_state.specs.Journal.{IsLegal, Replay, all_replayed, replay_begun, replayed}
+use Rattle.pm_life.specs.Life.{Checkpoint, Quit, Told, was_told}
 use Rattle.pm_journal.specs.Stands.{any_moment}
 use Rattle.pm_board.specs.declared.views.RosterStep.{RosterStep}
 use Rattle.pm_board.specs.declared.views.RosterStep.TheVariants as step
@@ -38,12 +35,11 @@ use Rattle.pm_query.specs.declared.book.BookEntry.TheVariants.{Broke}
 use Rattle.pm_segment.specs.Moves.{IsShown}
 use Rattle.pm_server.specs.Views.{DiskView}
 use Rattle.pm_remains.specs.Remains.{Remains}
-use Rattle.pm_seating.specs.Board.{ended_of}
 use Rattle.pm_seating.specs.FoldingLaws.{steps-append}
-use Rattle.pm_seating.specs.Seating.{Ended, Move, Notes, Seating, board_steps, empty, entries_from, journal_of, seating_by, seating_from, steps_from}
+use Rattle.pm_seating.specs.Seating.{Ended, Move, Notes, Seating, board_steps, empty, journal_of, seating_by, seating_from, steps_from}
 use Rattle.pm_shared.specs.declared.views.Noted.{Noted}
 use Rattle.pm_worker.specs.declared.mail.MailTold.{MailTold}
-use Rattle.pm_worker.specs.Runs.{Run, told_in}
+use Rattle.pm_worker.specs.Runs.{told_in}
 use Rattle.pm_crew.specs.Left.{Manner}
 use Rattle.pm_crew.specs.PidsLaws.{pids_in}
 use Rattle.pm_chain.specs.Chain.{IsPidOf}

@@ -1,8 +1,7 @@
 -- Before the first crash of a journal that nobody outside disturbs, no child is told to end at once and none is killed, no other
 -- generation begins, and the last checkpoint and the end of sessions are asked for in a shutdown alone.
-use Rattle.std.proofs.Common.{◌≡◌, ◌⊎◌, inl, inr, ℕ, ◌≤◌, Bool, true, false, not, cond, ◌&&◌, ◌||◌, List, [], ◌∷◌, ◌++◌, refl, sym, ◌∙◌, ap, subst, arith, append_assoc}
-use Rattle.std.specs.Prelude.{IsSomeAnd, Some, is_some, nat_eq}
-use Rattle.std.specs.List.{AllByRecursion, fold}
+use Rattle.std.proofs.Common.{◌≡◌, ◌⊎◌, inl, inr, ℕ, Bool, true, false, not, cond, ◌&&◌, ◌||◌, List, [], ◌∷◌, refl, sym, ap, subst, arith}
+use Rattle.std.specs.Prelude.{is_some}
 use Rattle.pm_exit.specs.declared.child.Kind.{Kind}
 use Rattle.pm_exit.specs.declared.child.Kind.TheVariants as kind
 use Rattle.pm_exit.specs.declared.child.Status.{Status}
@@ -11,13 +10,10 @@ use Rattle.pm_exit.specs.Ends.{is_exit_0, is_exit_1}
 use Rattle.pm_modes.specs.declared.Mode.{Mode}
 use Rattle.pm_modes.specs.declared.Mode.TheVariants.{Smart, Fast, Immediate}
 use Rattle.pm_modes.specs.Strength.{is_immediate, strengthen_of}
-use Rattle.pm_admit.specs.declared.Cac.{Cac}
 use Rattle.pm_admit.specs.declared.PmState.{PmState}
 use Rattle.pm_admit.specs.declared.PmState.TheVariants as state
 use Rattle.pm_admit.specs.Admission.{decide_of, is_run}
 use Rattle.pm_supervisor.specs.declared.Ending.TheVariants as ending
-use Rattle.pm_supervisor.specs.declared.Limits.{Limits}
-use Rattle.pm_supervisor.specs.Children.{Child, child_of, count_of, is_checkpointer, is_startup_child, one_if}
 use Rattle.pm_supervisor.specs.Steps.{is_normal}
 use Rattle.pm_supervisor.specs.Supervisor.{Shared}
 use Rattle.pm_state.specs.declared.action.Action.{Action}
@@ -26,14 +22,12 @@ use Rattle.pm_state.specs.declared.event.PmEvent.{PmEvent}
 use Rattle.pm_state.specs.declared.event.PmEvent.TheVariants as entry
 use Rattle.pm_state.specs.declared.machine.Machine.{Machine}
 use Rattle.pm_state.specs.Exits.{crash_rule, is_shutdown, startup_exited}
-use Rattle.pm_state.specs.Laws.{RestartsSafely}
-use Rattle.pm_state.specs.Machine.{Exited, accepted_as, begun, started_as, step, view_of}
+use Rattle.pm_state.specs.Machine.{Exited, accepted_as, started_as, step, view_of}
 use Rattle.pm_state.specs.Promises.{has_act, is_ask_checkpoint, is_terminate}
 use Rattle.pm_state.specs.Requests.{asked_with, ticked_at}
-use Rattle.pm_state.specs.Restarts.{Counts}
 use Rattle.pm_state.specs.TurnRules.{are_backends_gone, backends_gone, children_gone, dead_ends_gone, end_smart, is_not_running, restart_writer, start_recovery, stop_backends}
-use Rattle.pm_state.specs.Journal.{AreLegal, Do, Due, EndRedo, Fits, FitsFirst, Follows, FollowsIn, IsLegal, MayCome, Replay, all_replayed, caused, dues, dues_after, replay_begun, replayed, reported, row_of, settled, without_first}
-use Rattle.pm_blame.specs.Crashes.{HasNoCrash, IsUnasked, is_crash}
+use Rattle.pm_state.specs.Journal.{Do, Fits, reported, row_of, settled}
+use Rattle.pm_blame.specs.Crashes.{IsUnasked, is_crash}
 
 -- ---- what holds
 
@@ -407,6 +401,7 @@ left_calm kind.Checkpointer h m pid status was_active at calm there none =
     first : (a b : Bool) → a && b ≡ true → a ≡ true
     first true b is = refl
     first false b is = is
+
     second : (a b : Bool) → a && b ≡ true → b ≡ true
     second true b is = is
     second false b is = absurd (never false is refl)

@@ -1,11 +1,9 @@
 -- The move that notes the end of a child, and the run that this is the end of.
-use Rattle.std.proofs.Common.{◌≡◌, ◌≢◌, ◌⊎◌, inl, inr, ℕ, zero, suc, ◌+◌, ◌<◌, Bool, true, false, cond, List, [], ◌∷◌, ◌++◌, Option, None, Some, get_or, length, map, nat_eq, refl, set, sym, ap, subst, ◌∙◌, arith, append_assoc}
-use Rattle.std.specs.Prelude.{slice_get, slice_index_or, replicate}
+use Rattle.std.proofs.Common.{◌≡◌, ◌≢◌, ◌⊎◌, inl, inr, ℕ, zero, suc, ◌<◌, Bool, true, false, cond, List, [], ◌∷◌, ◌++◌, Option, None, Some, get_or, length, map, nat_eq, refl, set, sym, ap, subst, ◌∙◌, arith}
+use Rattle.std.specs.Prelude.{slice_index_or, replicate}
 use Rattle.std.specs.List.{AllByRecursion, Contains, flat_map}
 use Rattle.std.proofs.lemmas.Grind.{flat_map-append}
 use Rattle.std.proofs.lemmas.Option.{slice_get-get_or}
-use Rattle.pm_exit.specs.declared.child.Kind.{Kind}
-use Rattle.pm_exit.specs.declared.child.Status.{Status}
 use Rattle.pm_state.specs.declared.event.PmEvent.{PmEvent}
 use Rattle.pm_state.specs.declared.event.PmEvent.TheVariants as entry
 use Rattle.pm_board.specs.declared.views.Heard.{Heard}
@@ -22,15 +20,15 @@ use Rattle.pm_query.specs.declared.book.BookEntry.{BookEntry}
 use Rattle.pm_answers.specs.Own.{entries_by as own_entries, is_by}
 use Rattle.pm_seating.specs.Board.{begun_of, ended_of, seat_at}
 use Rattle.pm_seating.specs.FoldingLaws.{begun-append}
-use Rattle.pm_seating.specs.Seating.{Begun, Ended, Kill, Move, Nothing, Notes, PidsEnd, PortEnds, Reads, Request, Seating, Stop, asked_by, begun_at, begun_from, empty, ended_at, ended_by, ends, entries_by, entries_from, is_seated, journal_of, seating_by, seating_from}
+use Rattle.pm_seating.specs.Seating.{Begun, Ended, Kill, Move, Nothing, Notes, PidsEnd, PortEnds, Reads, Request, Seating, Stop, asked_by, begun_at, begun_from, empty, ended_at, ended_by, ends, entries_by, entries_from, is_seated, seating_by, seating_from}
 use Rattle.pm_seating.specs.Standing.{IsBoardOf}
 use Rattle.pm_shared.specs.declared.views.Noted.{Noted}
 use Rattle.pm_worker.specs.declared.mail.MailTold.{MailTold}
 use Rattle.pm_worker.specs.Runs.{IsRun, Run}
 use Rattle.pm_crew.specs.EntriesLaws.{entries_of_runs}
 use Rattle.pm_crew.specs.Left.{AreLeft, IsWorked, Manner}
-use Rattle.pm_crew.specs.Pids.{AreEntriesOf, AreUsedOnce, pids_at}
-use Rattle.pm_blame.specs.Causes.{IsUnbroken, is_broke}
+use Rattle.pm_crew.specs.Pids.{AreEntriesOf, AreUsedOnce}
+use Rattle.pm_blame.specs.Causes.{IsUnbroken}
 use Rattle.pm_blame.specs.SendsLaws.{SitsNowhere, nowhere, pid_front, pids_of, sat_or_began, seat_set}
 
 -- ---- the move

@@ -1,5 +1,5 @@
 -- Before its first crash a whole journal is calm, and who is there was begun before.
-use Rattle.std.proofs.Common.{◌≡◌, ◌⊎◌, inl, inr, ℕ, ◌+◌, ◌≤◌, Bool, true, false, not, cond, ◌&&◌, ◌||◌, List, [], ◌∷◌, ◌++◌, refl, sym, ◌∙◌, ap, subst, arith, append_assoc}
+use Rattle.std.proofs.Common.{◌≡◌, ◌⊎◌, inl, inr, ℕ, ◌+◌, ◌≤◌, Bool, true, false, not, cond, ◌&&◌, List, [], ◌∷◌, ◌++◌, refl, sym, ◌∙◌, ap, subst, arith, append_assoc}
 use Rattle.std.specs.Prelude.{IsSomeAnd, Some, is_none, nat_eq}
 use Rattle.std.specs.List.{AllByRecursion, fold}
 use Rattle.pm_exit.specs.declared.child.Kind.{Kind}
@@ -24,7 +24,7 @@ use Rattle.pm_state.specs.Restarts.{Counts}
 use Rattle.pm_state.specs.TurnRules.{is_not_running}
 use Rattle.pm_state.specs.Journal.{AreLegal, Do, Due, EndRedo, Fits, FitsFirst, FollowsIn, IsLegal, MayCome, Replay, all_replayed, caused, dues, dues_after, replay_begun, replayed, reported, row_of, without_first}
 use Rattle.pm_chain.specs.Chain.{IsPidOf}
-use Rattle.pm_crew.specs.PidsLaws.{AreBelow, RiseAbove, pids_by, pids_below, pids_in, pids_rise}
+use Rattle.pm_crew.specs.PidsLaws.{RiseAbove, pids_by, pids_below, pids_in, pids_rise}
 use Rattle.pm_blame.specs.Crashes.{HasNoCrash, IsUnasked, is_crash}
 use Rattle.pm_blame.specs.CalmLaws.{IsCalm, IsHarmless, SoFar, accepted_calm, act_calm, asked_calm, left_calm, no_kill, nothing_so_far, row_calm, settled_calm, told_after}
 

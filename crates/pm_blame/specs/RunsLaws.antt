@@ -1,7 +1,6 @@
 -- What a run of a child came to: it ended as it should, or by one of these causes.
-use Rattle.std.proofs.Common.{◌≡◌, ◌≢◌, ◌⊎◌, inl, inr, ℕ, Bool, true, false, not, ◌&&◌, ◌||◌, List, [], ◌∷◌, ◌++◌, Option, Some, None, Result, Ok, Err, refl, sym, ap, subst, ◌∙◌, arith}
-use Rattle.std.specs.Prelude.{IfSome, is_some}
-use Rattle.std.specs.List.{AllByRecursion}
+use Rattle.std.proofs.Common.{◌≡◌, ◌⊎◌, inl, inr, ℕ, Bool, true, false, ◌||◌, List, [], ◌∷◌, ◌++◌, Option, Some, None, Result, Ok, Err, refl, sym, ap, subst, ◌∙◌}
+use Rattle.std.specs.Prelude.{is_some}
 use Rattle.pm_disk.specs.Cause.{Rose}
 use Rattle.pm_exit.specs.declared.child.Kind.{Kind}
 use Rattle.pm_exit.specs.declared.child.Kind.TheVariants as kinds
@@ -14,7 +13,6 @@ use Rattle.pm_supervisor.specs.Children.{is_session}
 use Rattle.pm_life.specs.declared.life.GateNo.{GateNo}
 use Rattle.pm_life.specs.declared.life.GateNo.TheVariants as gate_no
 use Rattle.pm_life.specs.Life.{Told, Kill, Quit, Terminate, Checkpoint, was_told}
-use Rattle.pm_record.specs.declared.fault.RedoFault.{RedoFault}
 use Rattle.pm_record.specs.declared.fault.RedoFault.TheVariants as redo
 use Rattle.pm_query.specs.declared.book.BookEntry.{BookEntry}
 use Rattle.pm_query.specs.declared.book.BookEntry.TheVariants.{Attached, Broke}
@@ -26,7 +24,6 @@ use Rattle.pm_exchange.specs.declared.ending.Cause.TheVariants as why
 use Rattle.pm_exchange.specs.declared.ending.Stage.{Stage}
 use Rattle.pm_exchange.specs.declared.ending.Stage.TheVariants.{Outside, Entering, Greeted}
 use Rattle.pm_exchange.specs.Ends.{LetsGo, status_by as session_status}
-use Rattle.pm_startup.specs.declared.packet.StartFault.{StartFault}
 use Rattle.pm_startup.specs.declared.packet.StartFault.TheVariants as start
 use Rattle.pm_exchange.specs.Sent.{Turn}
 use Rattle.pm_session.specs.Session.{CausedBy, Ending, EndsAt, IsAttachedAt, IsText, TurnsAway}
@@ -34,7 +31,7 @@ use Rattle.pm_aux.specs.declared.aux_done.AuxDone.{AuxDone}
 use Rattle.pm_aux.specs.declared.cause.Cause.{Cause}
 use Rattle.pm_aux.specs.declared.cause.Cause.TheVariants.{Redone, Flushed, Closed, LeftOut, Refused, TurnedAway, ToldToTerminate, ToldToQuit, Killed}
 use Rattle.pm_aux.specs.Ends.{fault_by, kept_by, status_by}
-use Rattle.pm_aux.specs.Runs.{EndsOutside, MayBeShort, NotesBehind, Runner, runner, user_in}
+use Rattle.pm_aux.specs.Runs.{EndsOutside, MayBeShort, NotesBehind, Runner, user_in}
 use Rattle.pm_aux.specs.Signals.{IsToldTo}
 use Rattle.pm_aux.specs.Work.{HasEntered, IsKeptOut}
 use Rattle.pm_board.specs.Places.{is_connection}

@@ -1,11 +1,9 @@
 -- Which signals the moves of a supervisor send to a child, and whom they reach.
 use Rattle.std.proofs.Common.{◌≡◌, ◌≢◌, ◌⊎◌, inl, inr, ℕ, zero, suc, ◌+◌, ◌<◌, Bool, true, false, cond, List, [], ◌∷◌, ◌++◌, Option, None, Some, length, refl, sym, ap, subst, ◌∙◌, arith, set, append_assoc}
-use Rattle.std.specs.Prelude.{IfSome, nat_eq, ◌&&◌, slice_index_or, map}
-use Rattle.std.specs.List.{AllByRecursion, Contains, flat_map}
+use Rattle.std.specs.Prelude.{IfSome, nat_eq, ◌&&◌, map}
+use Rattle.std.specs.List.{AllByRecursion, flat_map}
 use Rattle.pm_exit.specs.declared.child.Kind.{Kind}
-use Rattle.pm_exit.specs.declared.child.Kind.TheVariants as kind
 use Rattle.pm_supervisor.specs.declared.Reason.{Reason}
-use Rattle.pm_supervisor.specs.declared.Reason.TheVariants.{Crash, Stop}
 use Rattle.pm_supervisor.specs.Steps.{kind_for}
 use Rattle.pm_state.specs.declared.event.PmEvent.{PmEvent}
 use Rattle.pm_state.specs.declared.event.PmEvent.TheVariants as entry
@@ -14,14 +12,14 @@ use Rattle.pm_board.specs.declared.views.RosterStep.TheVariants as step
 use Rattle.pm_board.specs.declared.views.Signal.{Signal}
 use Rattle.pm_board.specs.declared.views.Signal.TheVariants as signal
 use Rattle.pm_board.specs.Latch.{signal_number}
-use Rattle.pm_board.specs.Latches.{NotReleased, NoticedBefore, is_send, times_sent}
+use Rattle.pm_board.specs.Latches.{NotReleased, is_send, times_sent}
 use Rattle.pm_board.specs.Words.{bit}
 use Rattle.pm_chain.specs.Chain.{IsPidOf}
 use Rattle.pm_journal.specs.declared.roll.Enrolled.{Enrolled}
 use Rattle.pm_seating.specs.declared.audience.Audience.{Audience}
 use Rattle.pm_seating.specs.declared.audience.Audience.TheVariants.{Everyone, Stoppable, Checkpointer, One}
 use Rattle.pm_seating.specs.Board.{seat_at}
-use Rattle.pm_seating.specs.Seating.{Kill, Move, Nothing, Notes, PidsEnd, PortEnds, Reads, Request, Seating, Stop, asked_by, begins, begun_by, begun_from, child, entries_by, entries_from, is_meant, is_seated, seated, seating_by, seating_from, with_seat, Begun, send_to, sends_from, slot_in, steps_by, steps_from, steps_of}
+use Rattle.pm_seating.specs.Seating.{Move, Notes, PidsEnd, PortEnds, Reads, Seating, begun_by, begun_from, child, entries_by, entries_from, is_meant, seated, seating_by, seating_from, with_seat, Begun, sends_from, slot_in, steps_by, steps_from, steps_of}
 use Rattle.pm_seating.specs.Standing.{IsFinal}
 use Rattle.pm_crew.specs.PidsLaws.{pids_by, pids_in}
 use Rattle.pm_blame.specs.CalmLaws.{IsHarmless}
