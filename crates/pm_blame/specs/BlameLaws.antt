@@ -9,8 +9,6 @@ use Rattle.pm_exit.specs.declared.child.Kind.{Kind}
 use Rattle.pm_exit.specs.declared.child.Kind.TheVariants as kinds
 use Rattle.pm_exit.specs.declared.child.Status.TheVariants.{Code}
 use Rattle.pm_exit.specs.Ends.{is_exit_0, is_exit_1}
-use Rattle.pm_supervisor.specs.declared.Ending.{Ending}
-use Rattle.pm_supervisor.specs.declared.Ending.TheVariants as endings
 use Rattle.pm_supervisor.specs.declared.Limits.{Limits}
 use Rattle.pm_supervisor.specs.declared.Reason.{Reason}
 use Rattle.pm_supervisor.specs.declared.Reason.TheVariants.{Crash, Stop}
@@ -43,9 +41,9 @@ use Rattle.pm_worker.specs.Runs.{told_in}
 use Rattle.pm_crew.specs.Left.{Manner}
 use Rattle.pm_crew.specs.PidsLaws.{pids_in}
 use Rattle.pm_chain.specs.Chain.{IsPidOf}
-use Rattle.pm_blame.specs.Crashes.{EndsAs, HasNoCrash, IsFirstCrash, IsUnasked, is_crash, stands_behind}
+use Rattle.pm_blame.specs.Crashes.{HasNoCrash, IsFirstCrash, IsHarmless, IsUnasked, is_crash, stands_behind}
 use Rattle.pm_blame.specs.Causes.{HasCause, IsBlamed, IsUnbroken, IsUnprovoked, is_broke}
-use Rattle.pm_blame.specs.CalmLaws.{IsCalm, IsHarmless, SoFar, is_closing, nothing_so_far, told_after}
+use Rattle.pm_blame.specs.CalmLaws.{IsCalm, SoFar, is_closing, nothing_so_far, told_after}
 use Rattle.pm_blame.specs.JournalLaws.{StaysCalm, acts_in, checkpointer_there, ends_at, legal_behind, legal_front, never_again, stays_calm}
 use Rattle.pm_blame.specs.RunsLaws.{Outcome, EndedFine, WasKilled, WasToldToQuit, MetNotice, GaveUp, DiskFailed, HadNoRedo, WasShort, WasSpent, FoundOther, IsFineAs, outcome}
 use Rattle.pm_blame.specs.GivenLaws.{checkpoint_given, kill_given, number_of, quit_given, terminate_given}
@@ -163,21 +161,22 @@ first_or_none r (e ∷ journal) = by (either (is_crash r.machine e)) (first_or_n
     by (inr fine) (inl f) =
         inl (record { before = e ∷ f.before; entry = f.entry; behind = f.behind; is = ap (λ (es : List PmEvent). e ∷ es) f.is; none = (fine, f.none); crash = f.crash })
 
--- a server ends so behind a crash alone
-abbrev pub ComesOfCrash : Ending → Type 0
-ComesOfCrash endings.AfterCrash = Unit {0}
-ComesOfCrash endings.RestartOff = Unit {0}
-ComesOfCrash _ = ⊥
+last_of : (front : List PmEvent) (e : PmEvent) → AllByRecursion IsHarmless (front ++ e ∷ []) → IsHarmless e
+last_of [] e all = all.0
+last_of (x ∷ front) e all = last_of front e all.1
 
-harmful : (how : Ending) → ComesOfCrash how → IsHarmless (entry.Ended how) → ⊥
-harmful endings.AfterCrash comes harmless = harmless
-harmful endings.RestartOff comes harmless = harmless
-harmful endings.Clean comes harmless = comes
-harmful endings.StartupFailed comes harmless = comes
+front_of : (xs ys : List PmEvent) → AllByRecursion IsUnasked (xs ++ ys) → AllByRecursion IsUnasked xs
+front_of [] ys all = tt
+front_of (x ∷ xs) ys all = (all.0, front_of xs ys all.1)
 
-within : (front : List PmEvent) (e : PmEvent) (behind : List PmEvent) → AllByRecursion IsHarmless (front ++ e ∷ behind) → IsHarmless e
-within [] e behind all = all.0
-within (x ∷ front) e behind all = within front e behind all.1
+no_crash_more : (r : Replay) (front : List PmEvent) (e : PmEvent) → HasNoCrash r front → is_crash (all_replayed r front).machine e ≡ false → HasNoCrash r (front ++ e ∷ [])
+no_crash_more r [] e none fine = (fine, tt)
+no_crash_more r (x ∷ front) e none fine = (none.0, no_crash_more (replayed r x) front e none.1 fine)
+
+-- the end of a child is harmless
+harmful_no_crash : (e : PmEvent) → (IsHarmless e → ⊥) → (m : Machine) → is_crash m e ≡ false
+harmful_no_crash (entry.Exited pid kind status was_active at) harmful m = absurd (harmful tt)
+harmful_no_crash e harmful m = refl
 
 module _ (safely : RestartsSafely) (limits : Limits) (manner : Manner) (count : ℕ) (moves : List Move) (board : RosterView MailTold) (own : List Noted) (book : List BookEntry) (u : IsUnprovoked limits manner count moves board own book) where
   module _ (end : Ended) (at : ℕ) (first : IsFirstCrash limits (journal_of count moves) (entry.Exited end.pid end.kind end.status end.was_active at)) where
@@ -195,10 +194,6 @@ module _ (safely : RestartsSafely) (limits : Limits) (manner : Manner) (count : 
 
     unasked : AllByRecursion IsUnasked first.before
     unasked = front_of first.before (e ∷ first.behind) (subst (AllByRecursion IsUnasked) first.is u.unasked)
-      where
-        front_of : (xs ys : List PmEvent) → AllByRecursion IsUnasked (xs ++ ys) → AllByRecursion IsUnasked xs
-        front_of [] ys all = tt
-        front_of (x ∷ xs) ys all = (all.0, front_of xs ys all.1)
 
     calm : StaysCalm nothing_so_far (replay_begun limits) first.before
     calm = stays_calm safely limits any_moment first.before (legal_front any_moment (replay_begun limits) first.before (e ∷ first.behind) legal) unasked first.none
@@ -343,17 +338,29 @@ module _ (safely : RestartsSafely) (limits : Limits) (manner : Manner) (count : 
   has_cause (entry.Exited pid kind status was_active at) first = caused (record { pid = pid; kind = kind; status = status; was_active = was_active }) at first
   has_cause other first = absurd (never false first.crash refl)
 
-  -- A server that ends behind a crash has had a first one, with such a cause.
-  pub has_crashed : (how : Ending) → ComesOfCrash how → EndsAs how (journal_of count moves)
-      → (e : PmEvent) × (first : IsFirstCrash limits (journal_of count moves) e) × HasCause manner (stands_behind limits first.before) u.left.runs u.board_is.last e
-  has_crashed how comes ended = by (first_or_none (replay_begun limits) (journal_of count moves))
+  -- Before each entry that isn't harmless there is a first crash, with such a cause.
+  pub has_crashed : (front : List PmEvent) (later : PmEvent) (behind : List PmEvent) → journal_of count moves ≡ front ++ later ∷ behind → (IsHarmless later → ⊥)
+      → (e : PmEvent) × (first : IsFirstCrash limits front e) × HasCause manner (stands_behind limits first.before) u.left.runs u.board_is.last e
+  has_crashed front later behind is harmful = by (first_or_none (replay_begun limits) front)
     where
-      by : FirstFrom (replay_begun limits) (journal_of count moves) ⊎ HasNoCrash (replay_begun limits) (journal_of count moves)
-          → (e : PmEvent) × (first : IsFirstCrash limits (journal_of count moves) e) × HasCause manner (stands_behind limits first.before) u.left.runs u.board_is.last e
-      by (inl f) =
-          let first : IsFirstCrash limits (journal_of count moves) f.entry = record { before = f.before; behind = f.behind; is = f.is; none = f.none; crash = f.crash } in
-          (f.entry, first, has_cause f.entry first)
-      by (inr none) = absurd (harmful how comes (within ended.0 (entry.Ended how) ended.1 (subst (AllByRecursion IsHarmless) ended.2 (stays_calm safely limits any_moment (journal_of count moves) u.legal u.unasked none).harmless)))
+      by : FirstFrom (replay_begun limits) front ⊎ HasNoCrash (replay_begun limits) front
+          → (e : PmEvent) × (first : IsFirstCrash limits front e) × HasCause manner (stands_behind limits first.before) u.left.runs u.board_is.last e
+      by (inl f) = (
+        f.entry,
+        record { before = f.before; behind = f.behind; is = f.is; none = f.none; crash = f.crash },
+        has_cause f.entry (record {
+          before = f.before;
+          behind = f.behind ++ later ∷ behind;
+          is = is ∙ ap (λ (es : List PmEvent). es ++ later ∷ behind) f.is ∙ append_assoc f.before (f.entry ∷ f.behind) (later ∷ behind);
+          none = f.none;
+          crash = f.crash;
+        }),
+      )
+      by (inr none) =
+          absurd (harmful (last_of front later (stays_calm safely limits any_moment (front ++ later ∷ [])
+          (legal_front any_moment (replay_begun limits) (front ++ later ∷ []) behind (subst (IsLegal limits any_moment) (is ∙ sym (append_assoc front (later ∷ []) behind)) u.legal))
+          (front_of (front ++ later ∷ []) behind (subst (AllByRecursion IsUnasked) (is ∙ sym (append_assoc front (later ∷ []) behind)) u.unasked))
+          (no_crash_more (replay_begun limits) front later none (harmful_no_crash later harmful (all_replayed (replay_begun limits) front).machine))).harmless))
 
 -- ---- over a disk that didn't fail
 

@@ -27,7 +27,7 @@ use Rattle.pm_state.specs.Promises.{has_act, is_ask_checkpoint, is_terminate}
 use Rattle.pm_state.specs.Requests.{asked_with, ticked_at}
 use Rattle.pm_state.specs.TurnRules.{are_backends_gone, backends_gone, children_gone, dead_ends_gone, end_smart, is_not_running, restart_writer, start_recovery, stop_backends}
 use Rattle.pm_state.specs.Journal.{Do, Fits, reported, row_of, settled}
-use Rattle.pm_blame.specs.Crashes.{IsUnasked, is_crash}
+use Rattle.pm_blame.specs.Crashes.{IsHarmless, IsUnasked, is_crash}
 
 -- ---- what holds
 
@@ -52,15 +52,6 @@ is_harm act.Reset = true
 is_harm (act.End ending.AfterCrash) = true
 is_harm (act.End ending.RestartOff) = true
 is_harm _ = false
-
--- the same of entries
-abbrev pub IsHarmless : PmEvent → Type 0
-IsHarmless (entry.QuitSent why) = ⊥
-IsHarmless (entry.KillSent at) = ⊥
-IsHarmless (entry.Reset generation) = ⊥
-IsHarmless (entry.Ended ending.AfterCrash) = ⊥
-IsHarmless (entry.Ended ending.RestartOff) = ⊥
-IsHarmless _ = Unit {0}
 
 abbrev is_checkpointer_start : Action → Bool
 is_checkpointer_start (act.Start kind.Checkpointer) = true

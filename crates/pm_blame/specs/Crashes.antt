@@ -3,7 +3,7 @@ use Rattle.std.specs.Prelude.{◌≡◌, Bool, true, false, not, ◌&&◌, ◌||
 use Rattle.pm_exit.specs.Ends.{class_of, is_exit_1}
 use Rattle.pm_modes.specs.declared.Mode.TheVariants.{Immediate}
 use Rattle.pm_supervisor.specs.declared.Limits.{Limits}
-use Rattle.pm_supervisor.specs.declared.Ending.{Ending}
+use Rattle.pm_supervisor.specs.declared.Ending.TheVariants as endings
 use Rattle.pm_supervisor.specs.Children.{is_startup_child}
 use Rattle.pm_supervisor.specs.Steps.{is_normal}
 use Rattle.pm_state.specs.declared.event.PmEvent.{PmEvent}
@@ -41,6 +41,11 @@ IsUnasked (entry.KillAsked pid) = ⊥
 IsUnasked (entry.Asked Immediate at) = ⊥
 IsUnasked _ = Unit {0}
 
--- the server ends so
-abbrev pub EndsAs : Ending → List PmEvent → Type 0
-EndsAs how journal = (front : List PmEvent) × (behind : List PmEvent) × (journal ≡ front ++ entry.Ended how ∷ behind)
+-- It tells of no order to end at once, of no next generation, and of no end of the server behind a crash.
+abbrev pub IsHarmless : PmEvent → Type 0
+IsHarmless (entry.QuitSent why) = ⊥
+IsHarmless (entry.KillSent at) = ⊥
+IsHarmless (entry.Reset generation) = ⊥
+IsHarmless (entry.Ended endings.AfterCrash) = ⊥
+IsHarmless (entry.Ended endings.RestartOff) = ⊥
+IsHarmless _ = Unit {0}

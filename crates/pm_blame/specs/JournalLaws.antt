@@ -25,8 +25,8 @@ use Rattle.pm_state.specs.TurnRules.{is_not_running}
 use Rattle.pm_state.specs.Journal.{AreLegal, Do, Due, EndRedo, Fits, FitsFirst, FollowsIn, IsLegal, MayCome, Replay, all_replayed, caused, dues, dues_after, replay_begun, replayed, reported, row_of, without_first}
 use Rattle.pm_chain.specs.Chain.{IsPidOf}
 use Rattle.pm_crew.specs.PidsLaws.{RiseAbove, pids_by, pids_below, pids_in, pids_rise}
-use Rattle.pm_blame.specs.Crashes.{HasNoCrash, IsUnasked, is_crash}
-use Rattle.pm_blame.specs.CalmLaws.{IsCalm, IsHarmless, SoFar, accepted_calm, act_calm, asked_calm, left_calm, no_kill, nothing_so_far, row_calm, settled_calm, told_after}
+use Rattle.pm_blame.specs.Crashes.{HasNoCrash, IsHarmless, IsUnasked, is_crash}
+use Rattle.pm_blame.specs.CalmLaws.{IsCalm, SoFar, accepted_calm, act_calm, asked_calm, left_calm, no_kill, nothing_so_far, row_calm, settled_calm, told_after}
 
 -- ---- what is due
 

@@ -22,7 +22,7 @@ use Rattle.pm_seating.specs.Board.{seat_at}
 use Rattle.pm_seating.specs.Seating.{Move, Notes, PidsEnd, PortEnds, Reads, Seating, begun_by, begun_from, child, entries_by, entries_from, is_meant, seated, seating_by, seating_from, with_seat, Begun, sends_from, slot_in, steps_by, steps_from, steps_of}
 use Rattle.pm_seating.specs.Standing.{IsFinal}
 use Rattle.pm_crew.specs.PidsLaws.{pids_by, pids_in}
-use Rattle.pm_blame.specs.CalmLaws.{IsHarmless}
+use Rattle.pm_blame.specs.Crashes.{IsHarmless}
 
 -- ---- how often
 
