@@ -33,8 +33,8 @@ use Rattle.pm_query.specs.declared.book.BookEntry.TheVariants.{Broke}
 use Rattle.pm_segment.specs.Moves.{IsShown}
 use Rattle.pm_server.specs.Views.{DiskView}
 use Rattle.pm_remains.specs.Remains.{Remains}
-use Rattle.pm_seating.specs.FoldingLaws.{steps-append}
-use Rattle.pm_seating.specs.Seating.{Ended, Move, Notes, Seating, board_steps, empty, journal_of, seating_by, seating_from, steps_from}
+use Rattle.pm_seating.specs.FoldingLaws.{seating-append, steps-append}
+use Rattle.pm_seating.specs.Seating.{Ended, Move, Notes, Seating, board_steps, empty, entries_from, journal_of, seating_by, seating_from, seating_of, steps_from}
 use Rattle.pm_shared.specs.declared.views.Noted.{Noted}
 use Rattle.pm_worker.specs.declared.mail.MailTold.{MailTold}
 use Rattle.pm_worker.specs.Runs.{told_in}
@@ -47,8 +47,8 @@ use Rattle.pm_blame.specs.CalmLaws.{IsCalm, SoFar, is_closing, nothing_so_far, t
 use Rattle.pm_blame.specs.JournalLaws.{StaysCalm, acts_in, checkpointer_there, ends_at, legal_behind, legal_front, never_again, stays_calm}
 use Rattle.pm_blame.specs.RunsLaws.{Outcome, EndedFine, WasKilled, WasToldToQuit, MetNotice, GaveUp, DiskFailed, HadNoRedo, WasShort, WasSpent, FoundOther, IsFineAs, outcome}
 use Rattle.pm_blame.specs.GivenLaws.{checkpoint_given, kill_given, number_of, quit_given, terminate_given}
-use Rattle.pm_blame.specs.SendsLaws.{final_sends, may_send, not_noticed, quiet, sent_append, unreached, unsent}
-use Rattle.pm_blame.specs.FindLaws.{IsKnownRun, NotedAt, RunOf, gone, its_run, noted_at}
+use Rattle.pm_blame.specs.SendsLaws.{SitsNowhere, final_sends, may_send, not_noticed, nowhere_from, quiet, sent_append, unreached, unsent}
+use Rattle.pm_blame.specs.FindLaws.{IsKnownRun, NotedAt, RunOf, gone, its_run, near, noted_at}
 
 -- ---- which signals were sent before the first crash
 
@@ -221,23 +221,37 @@ module _ (safely : RestartsSafely) (limits : Limits) (manner : Manner) (count : 
         ∙ ap (λ (ss : List RosterStep). ss ++ u.board_is.last) (steps-append (empty count) found.front (Notes e found.slot ∷ found.rest))
         ∙ append_assoc front_steps (step.Release end.pid end.kind behind_front.generation ∷ rest_steps) u.board_is.last
 
-    -- behind its end nothing was sent to it before the last entry
-    none_behind : (n : ℕ) → times_sent n end.pid rest_steps ≡ 0
-    none_behind n =
-        unreached n end.pid behind_it found.rest
-        (λ its. never_again limits any_moment first.before first.behind end.pid end.kind end.status end.was_active at legal
-        (subst (λ (es : List PmEvent). IsPidOf end.pid (pids_in es)) found.rest_is its))
-        (gone manner count moves board own book u.board_is u.left u.once u.unbroken end e refl found.slot found.front found.rest found.is refl)
+    -- its pid is given to none behind it
+    fresh : IsPidOf end.pid (pids_in (entries_from behind_it found.rest)) → ⊥
+    fresh there =
+        never_again limits any_moment first.before first.behind end.pid end.kind end.status end.was_active at legal
+        (subst (λ (es : List PmEvent). IsPidOf end.pid (pids_in es)) found.rest_is there)
 
-    -- so it was sent before it, or behind the last entry
-    sent : (n : ℕ) → AllByRecursion (λ x. may_send n x ≡ false) first.before → times_sent n end.pid board.notes.steps ≡ times_sent n end.pid u.board_is.last
+    gone_then : SitsNowhere end.pid behind_it.seats
+    gone_then = gone manner count moves board own book u.board_is u.left u.once u.unbroken end e refl found.slot found.front found.rest found.is refl
+
+    gone_at_last : SitsNowhere end.pid (seating_of count moves).seats
+    gone_at_last =
+        subst (λ (s : Seating). SitsNowhere end.pid s.seats)
+        (sym (ap (seating_of count) found.is ∙ seating-append (empty count) found.front (Notes e found.slot ∷ found.rest)))
+        (nowhere_from end.pid behind_it found.rest fresh gone_then)
+
+    -- so nothing was sent to it behind its end
+    none_behind : (n : ℕ) → times_sent n end.pid (rest_steps ++ u.board_is.last) ≡ 0
+    none_behind n =
+        sent_append n end.pid rest_steps u.board_is.last
+        ∙ (let rest : times_sent n end.pid rest_steps ≡ 0 = unreached n end.pid behind_it found.rest fresh gone_then in
+        let last : times_sent n end.pid u.board_is.last ≡ 0 = final_sends n end.pid (seating_of count moves).seats u.board_is.last gone_at_last u.board_is.final in
+        (let none : times_sent n end.pid rest_steps + times_sent n end.pid u.board_is.last ≡ 0 = omega (arith, rest, last) in none))
+
+    -- nor before it what none of the entries sends
+    sent : (n : ℕ) → AllByRecursion (λ x. may_send n x ≡ false) first.before → times_sent n end.pid board.notes.steps ≡ 0
     sent n others =
         ap (times_sent n end.pid) steps
         ∙ sent_append n end.pid front_steps (step.Release end.pid end.kind behind_front.generation ∷ (rest_steps ++ u.board_is.last))
         ∙ (let front : times_sent n end.pid front_steps ≡ 0 = unsent n end.pid (empty count) found.front (subst (AllByRecursion (λ x. may_send n x ≡ false)) (sym found.front_is) others) in
-        let rest : times_sent n end.pid (rest_steps ++ u.board_is.last) ≡ times_sent n end.pid rest_steps + times_sent n end.pid u.board_is.last = sent_append n end.pid rest_steps u.board_is.last in
-        let none : times_sent n end.pid rest_steps ≡ 0 = none_behind n in
-        (let all : times_sent n end.pid front_steps + (0 + times_sent n end.pid (rest_steps ++ u.board_is.last)) ≡ times_sent n end.pid u.board_is.last = omega (arith, front, rest, none) in all))
+        let none : times_sent n end.pid (rest_steps ++ u.board_is.last) ≡ 0 = none_behind n in
+        (let all : times_sent n end.pid front_steps + (0 + times_sent n end.pid (rest_steps ++ u.board_is.last)) ≡ 0 = omega (arith, front, none) in all))
 
     last_asked : (checkpoint terminate : Bool) (acts : List Action) → IsCalm (record { checkpoint = checkpoint; terminate = terminate }) acts m → (terminate ≡ true → is_some m.shutdown ≡ true) × (checkpoint ≡ true → is_closing m ≡ true)
     last_asked checkpoint terminate acts its = (
@@ -256,7 +270,7 @@ module _ (safely : RestartsSafely) (limits : Limits) (manner : Manner) (count : 
         by (inl told) = asks.0 told
         by (inr untold) =
             let none : times_sent 2 end.pid board.notes.steps ≡ 0 =
-            sent 2 (no_terminates nothing_so_far first.before calm.harmless untold) ∙ final_sends 2 end.pid u.board_is.last refl u.board_is.final in
+            sent 2 (no_terminates nothing_so_far first.before calm.harmless untold) in
             absurd (omega (arith, some, none))
 
     -- and a checkpointer for the last checkpoint where the server waits for that
@@ -271,13 +285,13 @@ module _ (safely : RestartsSafely) (limits : Limits) (manner : Manner) (count : 
             (safely.counts limits any_moment first.before (legal_front any_moment (replay_begun limits) first.before (e ∷ first.behind) legal)))
         by (inr untold) =
             let none : times_sent 4 end.pid board.notes.steps ≡ 0 =
-            sent 4 (no_checkpoints nothing_so_far first.before calm.harmless untold) ∙ final_sends 4 end.pid u.board_is.last refl u.board_is.final in
+            sent 4 (no_checkpoints nothing_so_far first.before calm.harmless untold) in
             absurd (omega (arith, some, none))
 
     -- nobody was told to end at once
     unquit : (reason : Reason) → times_sent (number_of (Quit reason)) end.pid board.notes.steps ≡ 0
-    unquit Crash = sent 0 (no_quits Crash first.before calm.harmless) ∙ final_sends 0 end.pid u.board_is.last refl u.board_is.final
-    unquit Stop = sent 1 (no_quits Stop first.before calm.harmless) ∙ final_sends 1 end.pid u.board_is.last refl u.board_is.final
+    unquit Crash = sent 0 (no_quits Crash first.before calm.harmless)
+    unquit Stop = sent 1 (no_quits Stop first.before calm.harmless)
 
     -- nor met a notice at the gate
     unnoticed : (reason : Reason) (generation : ℕ) → NoticedBefore board.notes.steps end.pid reason generation → ⊥
@@ -298,15 +312,13 @@ module _ (safely : RestartsSafely) (limits : Limits) (manner : Manner) (count : 
     was_sent : (n : ℕ) → 0 < times_given n its.run.heard.given → 0 < times_sent n end.pid board.notes.steps
     was_sent n some = (let all : times_given n its.run.heard.given ≤ times_sent n end.pid board.notes.steps = heard.sent n in omega (arith, some, all))
 
-    blame : Outcome manner its.run → IsBlamed manner m u.board_is.last its.run
+    blame : Outcome manner its.run → IsBlamed manner m its.run
     blame (EndedFine fine) =
         absurd (fine_never (fine_ends end m (told_in its.run) at (subst (λ (x : Ended). IsFineAs x.kind x.status x.was_active (told_in its.run)) its.ended fine)
         (λ told kind. closes (was_sent 4 (checkpoint_given its.run.heard its.run.asked told)) kind)))
-    blame (WasKilled status told) = inr (inr (inr (record {
-      status = status;
-      sent = subst (λ (pid : ℕ). 0 < times_sent 3 pid u.board_is.last) (sym (ap (λ (x : Ended). x.pid) its.ended))
-          (subst (λ (n : ℕ). 0 < n) (sent 3 (no_kills first.before calm.harmless unasked)) (was_sent 3 (kill_given its.run.heard its.run.asked told)));
-    })))
+    blame (WasKilled status told) =
+        (let some : 0 < times_sent 3 end.pid board.notes.steps = was_sent 3 (kill_given its.run.heard its.run.asked told) in
+        absurd (omega (arith, some, sent 3 (no_kills first.before calm.harmless unasked))))
     blame (WasToldToQuit reason told) =
         (let some : 0 < times_sent (number_of (Quit reason)) end.pid board.notes.steps = was_sent (number_of (Quit reason)) (quit_given reason its.run.heard its.run.asked told) in
         absurd (omega (arith, some, unquit reason)))
@@ -322,11 +334,12 @@ module _ (safely : RestartsSafely) (limits : Limits) (manner : Manner) (count : 
       why = inl (closes (was_sent 4 (checkpoint_given its.run.heard its.run.asked told)) (sym (ap (λ (x : Ended). x.kind) its.ended) ∙ kind), refused);
     }))
     blame (WasSpent kind status need refused) = inr (inl (record { kind = kind; status = status; why = inr (need, refused) }))
-    blame (FoundOther another) = inr (inr (inl another))
+    blame (FoundOther another) = inr (inr another)
 
-    caused : HasCause manner m u.left.runs u.board_is.last e
+    caused : HasCause manner m count u.left.runs e
     caused = record {
       slot = found.slot;
+      near = near manner count moves board own book u.board_is u.left u.once u.unbroken end e refl found.slot found.front found.rest found.is;
       run = its.run;
       its = its.its;
       ended = ap (λ (x : Ended). x ∷ []) (sym its.ended);
@@ -334,17 +347,17 @@ module _ (safely : RestartsSafely) (limits : Limits) (manner : Manner) (count : 
     }
 
   -- The first crash of the journal is the end of a run that has one of these causes, and no other.
-  pub has_cause : (e : PmEvent) (first : IsFirstCrash limits (journal_of count moves) e) → HasCause manner (stands_behind limits first.before) u.left.runs u.board_is.last e
+  pub has_cause : (e : PmEvent) (first : IsFirstCrash limits (journal_of count moves) e) → HasCause manner (stands_behind limits first.before) count u.left.runs e
   has_cause (entry.Exited pid kind status was_active at) first = caused (record { pid = pid; kind = kind; status = status; was_active = was_active }) at first
   has_cause other first = absurd (never false first.crash refl)
 
   -- Before each entry that isn't harmless there is a first crash, with such a cause.
   pub has_crashed : (front : List PmEvent) (later : PmEvent) (behind : List PmEvent) → journal_of count moves ≡ front ++ later ∷ behind → (IsHarmless later → ⊥)
-      → (e : PmEvent) × (first : IsFirstCrash limits front e) × HasCause manner (stands_behind limits first.before) u.left.runs u.board_is.last e
+      → (e : PmEvent) × (first : IsFirstCrash limits front e) × HasCause manner (stands_behind limits first.before) count u.left.runs e
   has_crashed front later behind is harmful = by (first_or_none (replay_begun limits) front)
     where
       by : FirstFrom (replay_begun limits) front ⊎ HasNoCrash (replay_begun limits) front
-          → (e : PmEvent) × (first : IsFirstCrash limits front e) × HasCause manner (stands_behind limits first.before) u.left.runs u.board_is.last e
+          → (e : PmEvent) × (first : IsFirstCrash limits front e) × HasCause manner (stands_behind limits first.before) count u.left.runs e
       by (inl f) = (
         f.entry,
         record { before = f.before; behind = f.behind; is = f.is; none = f.none; crash = f.crash },

@@ -10,11 +10,7 @@ use Rattle.pm_state.specs.declared.machine.Machine.{Machine}
 use Rattle.pm_state.specs.Exits.{is_shutdown}
 use Rattle.pm_state.specs.Journal.{IsLegal}
 use Rattle.pm_journal.specs.Stands.{any_moment}
-use Rattle.pm_board.specs.declared.views.RosterStep.{RosterStep}
 use Rattle.pm_board.specs.declared.views.RosterView.{RosterView}
-use Rattle.pm_board.specs.declared.views.Signal.TheVariants as signal
-use Rattle.pm_board.specs.Latch.{signal_number}
-use Rattle.pm_board.specs.Latches.{times_sent}
 use Rattle.pm_record.specs.declared.fault.RedoFault.{RedoFault}
 use Rattle.pm_record.specs.declared.fault.RedoFault.TheVariants as redo
 use Rattle.pm_query.specs.declared.book.BookEntry.{BookEntry}
@@ -64,22 +60,18 @@ pub record FoundAnother (manner : Manner) (run : Run) : Type 0 where
   pub status : run.child.status ≡ Signal 6
   pub why : ((mine : ℕ) × (found : ℕ) × WasRefused (Stale mine found) run) ⊎ IsOvertaken manner run
 
--- A child with signal 9, to which a Kill was sent behind the last entry of the journal.
-pub record IsKilledAtLast (last : List RosterStep) (run : Run) : Type 0 where
-  pub status : run.child.status ≡ Signal 9
-  pub sent : 0 < times_sent (signal_number signal.Kill) run.child.offer.pid last
-
 -- these and no others
-abbrev pub IsBlamed : Manner → Machine → List RosterStep → Run → Type 0
-IsBlamed manner m last run = CannotRedo run ⊎ (CannotClose m run ⊎ (FoundAnother manner run ⊎ IsKilledAtLast last run))
+abbrev pub IsBlamed : Manner → Machine → Run → Type 0
+IsBlamed manner m run = CannotRedo run ⊎ (CannotClose m run ⊎ FoundAnother manner run)
 
--- The entry tells of the end of one of these runs, slot by slot, that has such a cause.
-pub record HasCause (manner : Manner) (m : Machine) (runs : ℕ → List Run) (last : List RosterStep) (e : PmEvent) : Type 0 where
+-- The entry, as this machine meets it, tells of the end of one of these runs, on a board of so many slots, that has such a cause.
+pub record HasCause (manner : Manner) (m : Machine) (count : ℕ) (runs : ℕ → List Run) (e : PmEvent) : Type 0 where
   pub slot : ℕ
+  pub near : slot < count
   pub run : Run
   pub its : Contains (runs slot) run
   pub ended : ends e ≡ ended_of run.child ∷ []
-  pub blamed : IsBlamed manner m last run
+  pub blamed : IsBlamed manner m run
 
 -- ---- where
 

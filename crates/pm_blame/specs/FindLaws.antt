@@ -221,7 +221,7 @@ module _ (manner : Manner) (count : ℕ) (moves : List Move) (board : RosterView
         subst (Among end) (sym (board_is.ended slot).1)
         (among_front end (ended_at slot moves) (board_is.ended slot).0 (subst (λ (ms : List Move). Among end (ended_at slot ms)) (sym moves_are) (ended_there end e slot front rest is)))
 
-    near : slot < count
+    pub near : slot < count
     near = subst (λ (n : ℕ). slot < n) left.slots (near_by end board.slots slot in_past)
 
     noted : List Noted

@@ -1,3 +1,4 @@
+pub mod WorkedFirsts
 pub mod Crashes
 pub mod Causes
 pub mod CalmLaws

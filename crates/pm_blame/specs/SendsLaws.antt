@@ -101,20 +101,6 @@ unsent n pid s (move ∷ moves) others =
     (entries_other_signal n pid (slot_in move) s (entries_by s move) (front_all (λ e. may_send n e ≡ false) (entries_by s move) (entries_from (seating_by s move) moves) others))
     (unsent n pid (seating_by s move) moves (rest_all (λ e. may_send n e ≡ false) (entries_by s move) (entries_from (seating_by s move) moves) others))
 
--- behind the last entry only kills are sent
-pub final_sends : (n pid : ℕ) (last : List RosterStep) → nat_eq 3 n ≡ false → AllByRecursion IsFinal last → times_sent n pid last ≡ 0
-final_sends n pid [] other final = refl
-final_sends n pid (step.Send k who kind signal.Kill g ∷ last) other final =
-    add_none _ _ (other_signal (nat_eq who pid) 3 n other) (final_sends n pid last other final.1)
-final_sends n pid (step.Send k who kind signal.Terminate g ∷ last) other final = absurd final.0
-final_sends n pid (step.Send k who kind signal.Checkpoint g ∷ last) other final = absurd final.0
-final_sends n pid (step.Send k who kind (signal.Quit why) g ∷ last) other final = absurd final.0
-final_sends n pid (step.Release who kind g ∷ last) other final = add_none 0 _ refl (final_sends n pid last other final.1)
-final_sends n pid (step.Assign k who kind g ∷ last) other final = add_none 0 _ refl (final_sends n pid last other final.1)
-final_sends n pid (step.Quit why g ∷ last) other final = absurd final.0
-final_sends n pid (step.Ready g ∷ last) other final = absurd final.0
-final_sends n pid (step.Reset g ∷ last) other final = absurd final.0
-
 -- ---- by the child
 
 -- nobody of this pid sits anywhere
@@ -207,6 +193,37 @@ unreached n pid s (move ∷ moves) fresh none =
     (unreached n pid (seating_by s move) moves
     (λ its. fresh_all (pid_behind pid (pids_in (entries_by s move)) (pids_in (entries_from (seating_by s move) moves)) its))
     (nowhere_by pid s move (λ its. fresh_all (pid_front pid (pids_in (entries_by s move)) (pids_in (entries_from (seating_by s move) moves)) its)) none))
+
+-- so none sits there behind them either
+pub nowhere_from : (pid : ℕ) (s : Seating) (moves : List Move) → (IsPidOf pid (pids_in (entries_from s moves)) → ⊥) → SitsNowhere pid s.seats → SitsNowhere pid (seating_from s moves).seats
+nowhere_from pid s [] fresh none = none
+nowhere_from pid s (move ∷ moves) fresh none =
+    let fresh_all = (λ (its : IsPidOf pid (pids_in (entries_by s move) ++ pids_in (entries_from (seating_by s move) moves))).
+    fresh (subst (IsPidOf pid) (sym (pids_append (entries_by s move) (entries_from (seating_by s move) moves))) its)) in
+    nowhere_from pid (seating_by s move) moves
+    (λ its. fresh_all (pid_behind pid (pids_in (entries_by s move)) (pids_in (entries_from (seating_by s move) moves)) its))
+    (nowhere_by pid s move (λ its. fresh_all (pid_front pid (pids_in (entries_by s move)) (pids_in (entries_from (seating_by s move) moves)) its)) none)
+
+-- ---- behind the last entry
+
+not_sitting : (pid k : ℕ) (c : Enrolled) (seats : List (Option Enrolled)) → SitsNowhere pid seats → seat_at k seats ≡ Some c → c.pid ≢ pid
+not_sitting pid k c [] none sits = (let never : None ≡ Some c = sits in absurd cc)
+not_sitting pid zero c (x ∷ seats) none sits = subst (λ (seat : Option Enrolled). IfSome seat (λ y. y.pid ≢ pid)) sits none.0
+not_sitting pid (suc k) c (x ∷ seats) none sits = not_sitting pid k c seats none.1 sits
+
+-- nothing is sent to who doesn't sit there
+pub final_sends : (n pid : ℕ) (seats : List (Option Enrolled)) (last : List RosterStep) → SitsNowhere pid seats → AllByRecursion (IsFinal seats) last → times_sent n pid last ≡ 0
+final_sends n pid seats [] none final = refl
+final_sends n pid seats (step.Send k who kind signal.Kill g ∷ last) none final =
+    add_none _ _ (ap (λ (b : Bool). bit (b && nat_eq 3 n)) (unlike who pid (not_sitting pid k (child who kind) seats none final.0))) (final_sends n pid seats last none final.1)
+final_sends n pid seats (step.Send k who kind signal.Terminate g ∷ last) none final = absurd final.0
+final_sends n pid seats (step.Send k who kind signal.Checkpoint g ∷ last) none final = absurd final.0
+final_sends n pid seats (step.Send k who kind (signal.Quit why) g ∷ last) none final = absurd final.0
+final_sends n pid seats (step.Release who kind g ∷ last) none final = add_none 0 _ refl (final_sends n pid seats last none final.1)
+final_sends n pid seats (step.Assign k who kind g ∷ last) none final = add_none 0 _ refl (final_sends n pid seats last none final.1)
+final_sends n pid seats (step.Quit why g ∷ last) none final = absurd final.0
+final_sends n pid seats (step.Ready g ∷ last) none final = absurd final.0
+final_sends n pid seats (step.Reset g ∷ last) none final = absurd final.0
 
 -- ---- where a child sits
 

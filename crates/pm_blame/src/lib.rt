@@ -4,3 +4,7 @@
 //! `specs/Crashes` says which ends of children are crashes, `specs/Causes` what a child can crash by, and `specs/BlameLaws` takes it
 //! to what a server leaves.
 #![tactic(auto)]
+
+mod laws;
+
+pub use laws::worked_firsts;

@@ -2,13 +2,15 @@
 use Rattle.std.proofs.Common.{◌≡◌, ◌≢◌, ℕ, List, [], ◌∷◌, ◌++◌, map, sym, ap, ◌∙◌, subst, append_assoc}
 use Rattle.std.proofs.lemmas.List.{map-append}
 use Rattle.std.specs.List.{AllByRecursion}
+use Rattle.std.specs.Prelude.{Option}
 use native.Mathlib.Decide.{ℕ_discrete}
 use Rattle.pm_exit.specs.declared.child.Kind.TheVariants.{DeadEnd}
 use Rattle.pm_board.specs.declared.views.RosterStep.{RosterStep}
 use Rattle.pm_board.specs.declared.views.RosterView.{RosterView}
 use Rattle.pm_board.specs.Places.{slot_at}
+use Rattle.pm_journal.specs.declared.roll.Enrolled.{Enrolled}
 use Rattle.pm_seating.specs.Board.{begun_of, ended_of}
-use Rattle.pm_seating.specs.Seating.{Begun, Ended, begun_at, board_steps, ended_at}
+use Rattle.pm_seating.specs.Seating.{Begun, Ended, begun_at, board_steps, ended_at, seating_of}
 use Rattle.pm_seating.specs.Standing.{AreClosing, IsFinal}
 use Rattle.pm_worker.specs.declared.mail.MailTold.{MailTold}
 use Rattle.pm_pool.specs.Closing.{HasHadLast, KeepsBoard}
@@ -21,13 +23,13 @@ all_append P (x ∷ xs) ys a b = (a.0, all_append P xs ys a.1 b)
 one_behind : {A B : Type 0} (f : A → B) (past past' : List A) (x : A) (told others : List B) → past' ≡ past ++ x ∷ [] → map f past ≡ told ++ others → map f past' ≡ told ++ (others ++ f x ∷ [])
 one_behind f past past' x told others is so = ap (map f) is ∙ map-append f past (x ∷ []) ∙ ap (λ xs. xs ++ f x ∷ []) so ∙ append_assoc told others (f x ∷ [])
 
-pub keeps_board : (k : ℕ) (before after : RosterView MailTold) (more : List RosterStep) → after.notes.steps ≡ before.notes.steps ++ more → AllByRecursion IsFinal more → (last : HasHadLast k before after) → last.child.offer.kind ≡ DeadEnd
+pub keeps_board : (k : ℕ) (before after : RosterView MailTold) (more : List RosterStep) → after.notes.steps ≡ before.notes.steps ++ more → ((seats : List (Option Enrolled)) → AllByRecursion (IsFinal seats) more) → (last : HasHadLast k before after) → last.child.offer.kind ≡ DeadEnd
     → ((j : ℕ) → j ≢ k → slot_at after j ≡ slot_at before j) → KeepsBoard before after
 keeps_board k before after more steps final last dead others count moves is =
     record {
       last = is.last ++ more;
       steps = steps ∙ ap (λ xs. xs ++ more) is.steps ∙ append_assoc (board_steps count moves) is.last more;
-      final = all_append IsFinal is.last more is.final final;
+      final = all_append (IsFinal (seating_of count moves).seats) is.last more is.final (final (seating_of count moves).seats);
       begun = λ j. begun j (ℕ_discrete j k);
       ended = λ j. ended j (ℕ_discrete j k);
     }

@@ -1,6 +1,6 @@
 -- One slot, while its worker is closed.
 use Rattle.std.proofs.Common.{◌≡◌, ◌≢◌, ◌⊎◌, inl, inr, ℕ, ◌+◌, ◌<◌, ◌≤◌, [], ◌∷◌, ◌++◌, length, refl, sym, ap, ◌∙◌, subst, arith, append_assoc}
-use Rattle.std.specs.Prelude.{true}
+use Rattle.std.specs.Prelude.{true, List, Option}
 use Rattle.std.proofs.lemmas.Bool.{cases_lt}
 use Rattle.atomic_table.specs.Seated.{TableId}
 use native.Mathlib.Decide.{ℕ_discrete}
@@ -20,6 +20,7 @@ use Rattle.pm_board.specs.Models.{HasAssigned, HasGathered, PostModel, SlotBecam
 use Rattle.pm_board.specs.Places.{AllReaped, IsReaped, slot_at}
 use Rattle.pm_board.specs.Seats.{is_gathered}
 use Rattle.pm_board.specs.Told.{past_child, released_slot, noted_release, noted_look}
+use Rattle.pm_journal.specs.declared.roll.Enrolled.{Enrolled}
 use Rattle.pm_journal.specs.Stands.{highest_pid}
 use Rattle.pm_seating.specs.Standing.{IsFinal}
 use Rattle.pm_shared.specs.Told.{SharedModel, TokenModel, shared_with}
@@ -116,8 +117,8 @@ shut_more k before after shut gathered others last =
     free : (j : ℕ) → k + 1 ≤ j → (slot_at after j).sight ≡ Unused
     free j behind = ap (λ x. x.sight) (others j (λ (same : j ≡ k). absurd (omega arith))) ∙ shut.free j (omega arith)
 
-final_steps : (k pid : ℕ) (kind : Kind) (generation : ℕ) → kind ≡ DeadEnd → AllByRecursion IsFinal (Assign k pid kind generation ∷ Release pid kind generation ∷ [])
-final_steps k pid kind generation is = subst (λ (kind : Kind). AllByRecursion IsFinal (Assign k pid kind generation ∷ Release pid kind generation ∷ [])) (sym is) (tt, (tt, tt))
+final_steps : (k pid : ℕ) (kind : Kind) (generation : ℕ) → kind ≡ DeadEnd → (seats : List (Option Enrolled)) → AllByRecursion (IsFinal seats) (Assign k pid kind generation ∷ Release pid kind generation ∷ [])
+final_steps k pid kind generation is seats = subst (λ (kind : Kind). AllByRecursion (IsFinal seats) (Assign k pid kind generation ∷ Release pid kind generation ∷ [])) (sym is) (tt, (tt, tt))
 
 pub same_offer : (o p : Offer MailTold) → Assigned o ≡ Assigned p → o ≡ p
 same_offer o p is = cc

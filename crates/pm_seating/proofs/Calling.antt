@@ -25,7 +25,7 @@ use Rattle.pm_journal.specs.Laws.{GoesOnOverItsJournal, KeepsALegalJournal}
 use Rattle.pm_journal.specs.Roll.{kind_in, without}
 use Rattle.pm_journal.specs.Standing.{Adds, IsAtRest, MayTake, Standing, accepting, exiting, made, next_pid, decision_on, all_noted, called, ends_redo, exit_call, exit_entry, later, noted}
 use Rattle.pm_journal.specs.Stands.{HasPast, IsSettled, Stands, behind}
-use Rattle.pm_seating.specs.Seating.{Seating, Move, Notes, Begun, Ended, child, with_seat, seated, steps_of, begins, ends, begun_by, ended_by, steps_by, begun_at, ended_at, seating_of, board_steps, journal_of}
+use Rattle.pm_seating.specs.Seating.{Seating, Move, Notes, Begun, Ended, child, with_seat, seated, steps_of, begins, ends, ended_by, steps_by, begun_at, ended_at, seating_of, board_steps, journal_of}
 use Rattle.pm_state.specs.declared.action.Action.{Action}
 use Rattle.pm_state.specs.Journal.{acts_of_call}
 use Rattle.pm_board.specs.Gate.{Gate, gate_of}
@@ -39,7 +39,7 @@ use Rattle.pm_seating.specs.Standing.{View, IsAt, IsRunning, IsEnding, Goes, IsS
 use Rattle.pm_seating.specs.Calls.{accepts, exits, exit_of, notes_in, EndsBehind, IsCutOff}
 use Rattle.pm_board.specs.declared.views.PastChild.{PastChild}
 use Rattle.pm_seating.specs.FoldingLaws.{journal-more, journal-notes, seating-more, steps-more, begun-more, ended-more}
-use Rattle.pm_seating.proofs.Rolls.{on_roll_more, on_roll_less, found_kind, cases, same_pid, other_pid}
+use Rattle.pm_seating.proofs.Rolls.{on_roll_more, on_roll_less, found_kind, cases, same_pid, other_pid, stood_before}
 use Rattle.pm_seating.proofs.Sitting.{shows_set, had_begun, had_ended}
 
 tells : (told : Option (List PmEvent)) (journal other : List PmEvent) → IfSome told (λ es. es ≡ journal) → journal ≡ other → IfSome told (λ es. es ≡ other)
@@ -375,6 +375,7 @@ module _ {D : Type 0} where
             last = steps_by (seating_of count moves) (Notes noted_end k);
             steps = now.steps ∙ steps-more count moves (Notes noted_end k);
             final = (tt, tt);
+            stay = λ j x still. stood_before k j x (seating_of count moves).seats (subst (λ (y : Seating). seat_at j y.seats ≡ Some x) (now.is_that ∙ seating-more count moves (Notes noted_end k)) still);
             shows = now.shows;
             begun = λ j. now.had.begun j ∙ (begun-more count j moves (Notes noted_end k) ∙ (ap (λ (bs : List Begun). begun_at count j moves ++ bs) (none_begun (seating_of count moves).generation (nat_eq k j)) ∙ append-nil (begun_at count j moves)));
             ended = λ j. (ended_by j (Notes noted_end k), now.had.ended j ∙ ended-more j moves (Notes noted_end k));

@@ -1,5 +1,5 @@
 -- Behind the last entry.
-use Rattle.std.proofs.Common.{◌≡◌, ◌≢◌, ℕ, ◌+◌, ◌<◌, ◌≤◌, List, [], ◌∷◌, ◌++◌, refl, sym, ap, subst, ◌∙◌, length, set, get_or, map, arith, nat_eq, append-nil, append_assoc}
+use Rattle.std.proofs.Common.{◌≡◌, ◌≢◌, ℕ, suc, ◌+◌, ◌<◌, ◌≤◌, List, [], ◌∷◌, ◌++◌, refl, sym, ap, subst, ◌∙◌, length, set, get_or, map, arith, nat_eq, append-nil, append_assoc}
 use Rattle.std.proofs.lemmas.List.{get_or-set_same, get_or-set_other, get_or_past, map-append, set-get_or}
 use Rattle.std.specs.Prelude.{nat_lt, Option, Some, None}
 use Rattle.std.specs.List.{AllByRecursion}
@@ -23,21 +23,29 @@ use Rattle.pm_journal.specs.Stands.{AtWork, highest_pid}
 use Rattle.pm_seating.specs.declared.audience.Audience.TheVariants.{Everyone}
 use Rattle.pm_seating.specs.Board.{SeenAs, Shows, after_steps, begun_of, ended_of, seat_at, seats_of, sitting}
 use Rattle.pm_seating.specs.Final.{EndsWithNobody, IsEndingAt, KeepsEnding, MayEndAnywhere, NobodySits, seen}
-use Rattle.pm_seating.specs.Seating.{Begun, Ended, Move, Seating, begun_at, board_steps, ended_at, sends, sends_from, with_seat}
+use Rattle.pm_seating.specs.Seating.{Begun, Ended, Move, Seating, begun_at, board_steps, ended_at, seating_of, sends, sends_from, with_seat}
 use Rattle.pm_seating.specs.Sitting.{HasReaped, StillRuns}
 use Rattle.pm_seating.specs.Standing.{IsAt, IsEnding, IsFinal, view}
 use Rattle.pm_seating.proofs.Acting.{same-numbers}
-use Rattle.pm_seating.proofs.Rolls.{cases, other_pid, same_pid}
+use Rattle.pm_seating.proofs.Rolls.{cases, other_pid, same_pid, stood_before}
 use Rattle.pm_seating.proofs.Runs.{all_append}
 use Rattle.pm_seating.proofs.Seen.{as_many}
 use Rattle.pm_seating.proofs.Sends.{noted-steps, same-generation, same-slots, seats_kept, shows_sends}
 use Rattle.pm_seating.proofs.Sitting.{shows_set}
 
--- a Kill may be sent behind the last entry
-kills_final : (g k : ℕ) (seats : List (Option Enrolled)) → AllByRecursion IsFinal (sends_from Everyone signal.Kill g k seats)
-kills_final g k [] = tt
-kills_final g k (None ∷ seats) = kills_final g (k + 1) seats
-kills_final g k (Some c ∷ seats) = (tt, kills_final g (k + 1) seats)
+-- who sits in these seats sits there in those too, that many seats further
+abbrev StayAt : ℕ → List (Option Enrolled) → List (Option Enrolled) → Type 0
+StayAt k seats among = (j : ℕ) (c : Enrolled) → seat_at j seats ≡ Some c → seat_at (j + k) among ≡ Some c
+
+stay_next : (k : ℕ) (seat : Option Enrolled) (seats among : List (Option Enrolled)) → StayAt k (seat ∷ seats) among → StayAt (k + 1) seats among
+stay_next k seat seats among stay j c sits = subst (λ (n : ℕ). seat_at n among ≡ Some c) (let same : suc j + k ≡ j + (k + 1) = omega arith in same) (stay (suc j) c sits)
+
+-- a Kill may be sent behind the last entry to who sits there
+kills_final : (g k : ℕ) (seats among : List (Option Enrolled)) → StayAt k seats among → AllByRecursion (IsFinal among) (sends_from Everyone signal.Kill g k seats)
+kills_final g k [] among stay = tt
+kills_final g k (None ∷ seats) among stay = kills_final g (k + 1) seats among (stay_next k None seats among stay)
+kills_final g k (Some c ∷ seats) among stay =
+    (subst (λ (n : ℕ). seat_at n among ≡ Some c) (let same : 0 + k ≡ k = omega arith in same) (stay 0 c refl), kills_final g (k + 1) seats among (stay_next k (Some c) seats among stay))
 
 -- ---- what is left
 
@@ -49,13 +57,22 @@ module _ {D : Type 0} where
   abbrev EndedBehind : RosterView D → RosterView D → ℕ → Type 0
   EndedBehind d e k = (gone : List (PastChild D)) × (map ended_of (slot_at e k).past ≡ map ended_of (slot_at d k).past ++ map ended_of gone)
 
-  keeps_ending : (more : List RosterStep) (d e : RosterView D) → e.notes.steps ≡ d.notes.steps ++ more → AllByRecursion IsFinal more → (Shows d (seen d) → Shows e (seen e))
+  -- who sits there behind it sat there before
+  abbrev Stays : RosterView D → RosterView D → Type 0
+  Stays d e = (k : ℕ) (c : Enrolled) → seat_at k (seats_of e) ≡ Some c → seat_at k (seats_of d) ≡ Some c
+
+  -- final, for whoever these are that sit there
+  abbrev AreFinal : RosterView D → List RosterStep → Type 0
+  AreFinal d more = (among : List (Option Enrolled)) → ((k : ℕ) (c : Enrolled) → seat_at k (seats_of d) ≡ Some c → seat_at k among ≡ Some c) → AllByRecursion (IsFinal among) more
+
+  keeps_ending : (more : List RosterStep) (d e : RosterView D) → e.notes.steps ≡ d.notes.steps ++ more → AreFinal d more → Stays d e → (Shows d (seen d) → Shows e (seen e))
       → ((k : ℕ) → had_in e k ≡ had_in d k) → ((k : ℕ) → EndedBehind d e k) → e.notes.last_pid ≡ d.notes.last_pid → KeepsEnding d e
-  keeps_ending more d e steps final shows begun ended last = record {
+  keeps_ending more d e steps final stays shows begun ended last = record {
     ending = λ count moves was. record {
       last = was.last ++ more;
       steps = steps ∙ (ap (λ (xs : List RosterStep). xs ++ more) was.steps ∙ append_assoc (board_steps count moves) was.last more);
-      final = all_append IsFinal was.last more was.final final;
+      final = all_append (IsFinal (seating_of count moves).seats) was.last more was.final (final (seating_of count moves).seats was.stay);
+      stay = λ k c sits. was.stay k c (stays k c sits);
       shows = shows was.shows;
       begun = λ k. begun k ∙ was.begun k;
       ended = λ k.
@@ -85,7 +102,8 @@ module _ {D : Type 0} where
       let generation : e.generation ≡ d.generation = ap (λ (v : RosterView D). v.generation) is ∙ same-generation d Everyone signal.Kill d.generation (seats_of d) in
       let past : (k : ℕ) → (slot_at e k).past ≡ (slot_at d k).past = (λ k. ap (λ (xs : List (SlotView D)). (get_or xs k (slot_view [] Unused)).past) slots) in
       let same : seen e ≡ seen d = (λ i. record { seats = seats i; generation = generation i }) in
-      keeps_ending ss d e (ap (λ (v : RosterView D). v.notes.steps) is ∙ noted-steps d ss) (kills_final d.generation 0 (seats_of d))
+      keeps_ending ss d e (ap (λ (v : RosterView D). v.notes.steps) is ∙ noted-steps d ss) (λ among stay. kills_final d.generation 0 (seats_of d) among (λ j c sits. subst (λ (n : ℕ). seat_at n among ≡ Some c) (let same : j ≡ j + 0 = omega arith in same) (stay j c sits)))
+      (λ k c sits. sym (ap (seat_at k) seats) ∙ sits)
       (λ shows. subst (Shows e) (sym same) (shows_sends d e (seen d) Everyone signal.Kill d.generation (seats_of d) shows is))
       (λ k. (λ i. map begun_of (past k i) ++ sitting (generation i) (seat_at k (seats i))))
       (λ k. none_ended d e k (past k))
@@ -101,7 +119,7 @@ module _ {D : Type 0} where
       let past : (j : ℕ) → (slot_at e j).past ≡ (slot_at d j).past = (λ j. cases (nat_eq j k)
       (λ is. subst (λ (i : ℕ). (slot_at e i).past ≡ (slot_at d i).past) (sym (same_pid j k is)) (ap (λ (y : SlotView D). y.past) still.became.here))
       (λ isnt. ap (λ (y : SlotView D). y.past) (still.became.others j (other_pid j k isnt)))) in
-      keeps_ending [] d e (ap (λ (n : RosterNotes). n.steps) still.became.notes_are ∙ sym (append-nil d.notes.steps)) tt
+      keeps_ending [] d e (ap (λ (n : RosterNotes). n.steps) still.became.notes_are ∙ sym (append-nil d.notes.steps)) (λ among stay. tt) (λ k c sits. sym (ap (seat_at k) seats) ∙ sits)
       (λ shows. subst (Shows e) (as_before ∙ sym same) (shows_set d e (seen d) k _ _ (Some c) shows near still.became
       (still.sits.offer, refl, still.sits.pid, still.sits.kind, still.sits.generation)))
       (λ j. (λ i. map begun_of (past j i) ++ sitting (generation i) (seat_at j (seats i))))
@@ -112,7 +130,8 @@ module _ {D : Type 0} where
   pub released_keeps : {J : Type 0} (letter : Letter.Ghosts J D) (k : ℕ) (c : Enrolled) (released : Released J) (d e : RosterView D)
       → k < length (seats_of d) → seat_at k (seats_of d) ≡ Some c → HasReaped letter k c released d e → seats_of e ≡ set (seats_of d) k None → KeepsEnding d e
   released_keeps letter k c released d e near sits has seats =
-      keeps_ending (Release o.pid o.kind o.generation ∷ []) d e (ap (λ (n : RosterNotes). n.steps) has.became.notes_are) (tt, tt)
+      keeps_ending (Release o.pid o.kind o.generation ∷ []) d e (ap (λ (n : RosterNotes). n.steps) has.became.notes_are) (λ among stay. (tt, tt))
+      (λ j x there_. stood_before k j x (seats_of d) (sym (ap (seat_at j) seats) ∙ there_))
       (λ shows. subst (Shows e) (λ i. record { seats = sym seats i; generation = sym generation i }) (shows_set d e (seen d) k _ _ None shows near has.became refl))
       (λ j. cases (nat_eq j k)
       (λ is. subst (λ (i : ℕ). had_in e i ≡ had_in d i) (sym (same_pid j k is)) here)
@@ -162,6 +181,7 @@ module _ {D : Type 0} where
             last = [];
             steps = is.seated.steps ∙ sym (append-nil (board_steps count moves));
             final = tt;
+            stay = λ k c sits. subst (λ (x : Seating). seat_at k x.seats ≡ Some c) is.seated.is_that sits;
             shows = is.seated.shows;
             begun = is.seated.had.begun;
             ended = λ k. ([], is.seated.had.ended k ∙ sym (append-nil (ended_at k moves)));

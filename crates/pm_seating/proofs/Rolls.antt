@@ -80,6 +80,14 @@ seated_others (suc k) p c (None ∷ seats) is ne = seated_others k p c seats is 
 seated_others (suc k) p c (Some d ∷ seats) is ne =
     ap (λ (o : Option Kind). if nat_eq d.pid p then Some d.kind else o) (seated_others k p c seats is ne)
 
+-- who still sits there sat there before somebody stood up
+pub stood_before : (k j : ℕ) (c : Enrolled) (seats : List (Option Enrolled)) → seat_at j (set seats k None) ≡ Some c → seat_at j seats ≡ Some c
+stood_before k j c [] sits = sits
+stood_before zero zero c (x ∷ seats) sits = absurd (let none : None ≡ Some c = sits in cc)
+stood_before zero (suc j) c (x ∷ seats) sits = sits
+stood_before (suc k) zero c (x ∷ seats) sits = sits
+stood_before (suc k) (suc j) c (x ∷ seats) sits = stood_before k j c seats sits
+
 -- ---- the roll
 
 pub without_others : (pid p : ℕ) (cs : List Enrolled) → pid ≢ p → kind_in p (without pid cs) ≡ kind_in p cs

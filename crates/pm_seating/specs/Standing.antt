@@ -15,7 +15,7 @@ use Rattle.pm_journal.specs.declared.roll.Enrolled.{Enrolled}
 use Rattle.pm_journal.specs.Roll.{kind_in}
 use Rattle.pm_journal.specs.Standing.{Standing, nothing_done}
 use Rattle.pm_journal.specs.Stands.{AtWork, Stands}
-use Rattle.pm_seating.specs.Seating.{Move, Seating, Begun, Ended, journal_of, seating_of, board_steps, begun_at, ended_at}
+use Rattle.pm_seating.specs.Seating.{Move, Seating, Begun, Ended, child, journal_of, seating_of, board_steps, begun_at, ended_at}
 use Rattle.pm_board.specs.Gate.{gate_of}
 use Rattle.pm_seating.specs.Acts.{MayDo, StartsAfresh, gate_by, gate_shown}
 use Rattle.pm_seating.specs.Board.{Shows, begun_of, ended_of, seat_at, seats_of, sitting}
@@ -59,12 +59,12 @@ pub record View (D : Type 0) : Type 0 where
   pub board : RosterView D
   pub seats : List (Option Enrolled)
 
--- the final kill, releases, and the closing of the workers
-abbrev pub IsFinal : RosterStep → Type 0
-IsFinal (step.Send slot pid kind signal.Kill generation) = Unit {0}
-IsFinal (step.Release pid kind generation) = Unit {0}
-IsFinal (step.Assign slot pid kind.DeadEnd generation) = Unit {0}
-IsFinal _ = ⊥
+-- the final kill of a child that sits here, releases, and the closing of the workers
+abbrev pub IsFinal : List (Option Enrolled) → RosterStep → Type 0
+IsFinal seats (step.Send slot pid kind signal.Kill generation) = seat_at slot seats ≡ Some (child pid kind)
+IsFinal seats (step.Release pid kind generation) = Unit {0}
+IsFinal seats (step.Assign slot pid kind.DeadEnd generation) = Unit {0}
+IsFinal seats _ = ⊥
 
 -- these children closed their workers
 abbrev pub AreClosing : List Begun → Type 0
@@ -128,12 +128,13 @@ module _ {D : Type 0} where
 
   -- ---- behind the last entry
 
-  -- Nothing is noted any more. The steps of the roster are those of these moves, and behind them there are only final ones; the
-  -- children of each slot are those that the moves tell of, and no others; these sit there now.
+  -- Nothing is noted any more. The steps of the roster are those of these moves, and behind them there are only final ones, for
+  -- those that the moves leave; the children of each slot are those that the moves tell of, and no others; these sit there now.
   pub record IsEnding (count : ℕ) (moves : List Move) (d : RosterView D) (s : Seating) : Type 0 where
     pub last : List RosterStep
     pub steps : d.notes.steps ≡ board_steps count moves ++ last
-    pub final : AllByRecursion IsFinal last
+    pub final : AllByRecursion (IsFinal (seating_of count moves).seats) last
+    pub stay : (k : ℕ) (c : Enrolled) → seat_at k s.seats ≡ Some c → seat_at k (seating_of count moves).seats ≡ Some c
     pub shows : Shows d s
     pub begun : (k : ℕ) → map begun_of (slot_at d k).past ++ sitting s.generation (seat_at k s.seats) ≡ begun_at count k moves
     pub ended : (k : ℕ) → (others : List Ended) × (map ended_of (slot_at d k).past ≡ ended_at k moves ++ others)
@@ -142,6 +143,6 @@ module _ {D : Type 0} where
   pub record IsBoardOf (count : ℕ) (moves : List Move) (d : RosterView D) : Type 0 where
     pub last : List RosterStep
     pub steps : d.notes.steps ≡ board_steps count moves ++ last
-    pub final : AllByRecursion IsFinal last
+    pub final : AllByRecursion (IsFinal (seating_of count moves).seats) last
     pub begun : (k : ℕ) → (others : List Begun) × AreClosing others × (map begun_of (slot_at d k).past ≡ begun_at count k moves ++ others)
     pub ended : (k : ℕ) → (others : List Ended) × (map ended_of (slot_at d k).past ≡ ended_at k moves ++ others)
