@@ -43,9 +43,10 @@ use Rattle.pm_crew.specs.PidsLaws.{pids_in}
 use Rattle.pm_chain.specs.Chain.{IsPidOf}
 use Rattle.pm_blame.specs.Crashes.{HasNoCrash, IsFirstCrash, IsHarmless, IsUnasked, is_crash, stands_behind}
 use Rattle.pm_blame.specs.Causes.{HasCause, IsBlamed, IsUnbroken, IsUnprovoked, is_broke}
-use Rattle.pm_blame.specs.CalmLaws.{IsCalm, SoFar, is_closing, nothing_so_far, told_after}
+use Rattle.pm_blame.specs.CalmLaws.{IsCalm, SoFar, is_closing, never, nothing_so_far, told_after}
 use Rattle.pm_blame.specs.JournalLaws.{StaysCalm, acts_in, checkpointer_there, ends_at, legal_behind, legal_front, never_again, stays_calm}
 use Rattle.pm_blame.specs.RunsLaws.{Outcome, EndedFine, WasKilled, WasToldToQuit, MetNotice, GaveUp, DiskFailed, HadNoRedo, WasShort, WasSpent, FoundOther, IsFineAs, outcome}
+use Rattle.pm_blame.specs.ListsLaws.{front_all}
 use Rattle.pm_blame.specs.GivenLaws.{checkpoint_given, kill_given, number_of, quit_given, terminate_given}
 use Rattle.pm_blame.specs.SendsLaws.{SitsNowhere, final_sends, may_send, not_noticed, nowhere_from, quiet, sent_append, unreached, unsent}
 use Rattle.pm_blame.specs.FindLaws.{IsKnownRun, NotedAt, RunOf, gone, its_run, near, noted_at}
@@ -70,9 +71,6 @@ no_quits reason (e ∷ es) harmless = (one reason e harmless.0, no_quits reason 
     one reason (entry.QuitSent why) none = absurd none
     one Crash e none = refl
     one Stop e none = refl
-
-never : (b : Bool) → b ≡ true → b ≡ false → ⊥
-never b one two = cc
 
 -- that sessions were told to end is remembered
 terminate_before : (h : SoFar) (es : List PmEvent) → (fold told_after h es).terminate ≡ false → h.terminate ≡ false
@@ -165,10 +163,6 @@ last_of : (front : List PmEvent) (e : PmEvent) → AllByRecursion IsHarmless (fr
 last_of [] e all = all.0
 last_of (x ∷ front) e all = last_of front e all.1
 
-front_of : (xs ys : List PmEvent) → AllByRecursion IsUnasked (xs ++ ys) → AllByRecursion IsUnasked xs
-front_of [] ys all = tt
-front_of (x ∷ xs) ys all = (all.0, front_of xs ys all.1)
-
 no_crash_more : (r : Replay) (front : List PmEvent) (e : PmEvent) → HasNoCrash r front → is_crash (all_replayed r front).machine e ≡ false → HasNoCrash r (front ++ e ∷ [])
 no_crash_more r [] e none fine = (fine, tt)
 no_crash_more r (x ∷ front) e none fine = (none.0, no_crash_more (replayed r x) front e none.1 fine)
@@ -193,7 +187,7 @@ module _ (safely : RestartsSafely) (limits : Limits) (manner : Manner) (count : 
     legal = subst (IsLegal limits any_moment) first.is u.legal
 
     unasked : AllByRecursion IsUnasked first.before
-    unasked = front_of first.before (e ∷ first.behind) (subst (AllByRecursion IsUnasked) first.is u.unasked)
+    unasked = front_all IsUnasked first.before (e ∷ first.behind) (subst (AllByRecursion IsUnasked) first.is u.unasked)
 
     calm : StaysCalm nothing_so_far (replay_begun limits) first.before
     calm = stays_calm safely limits any_moment first.before (legal_front any_moment (replay_begun limits) first.before (e ∷ first.behind) legal) unasked first.none
@@ -372,7 +366,7 @@ module _ (safely : RestartsSafely) (limits : Limits) (manner : Manner) (count : 
       by (inr none) =
           absurd (harmful (last_of front later (stays_calm safely limits any_moment (front ++ later ∷ [])
           (legal_front any_moment (replay_begun limits) (front ++ later ∷ []) behind (subst (IsLegal limits any_moment) (is ∙ sym (append_assoc front (later ∷ []) behind)) u.legal))
-          (front_of (front ++ later ∷ []) behind (subst (AllByRecursion IsUnasked) (is ∙ sym (append_assoc front (later ∷ []) behind)) u.unasked))
+          (front_all IsUnasked (front ++ later ∷ []) behind (subst (AllByRecursion IsUnasked) (is ∙ sym (append_assoc front (later ∷ []) behind)) u.unasked))
           (no_crash_more (replay_begun limits) front later none (harmful_no_crash later harmful (all_replayed (replay_begun limits) front).machine))).harmless))
 
 -- ---- over a disk that didn't fail

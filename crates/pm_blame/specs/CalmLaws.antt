@@ -161,7 +161,7 @@ started_calm kind.Worker h acts m calm = less_calm h (act.Start kind.Worker) act
 started_calm kind.Backend h acts m calm = less_calm h (act.Start kind.Backend) acts m calm
 started_calm kind.DeadEnd h acts m calm = less_calm h (act.Start kind.DeadEnd) acts m calm
 
-never : (b : Bool) → b ≡ true → b ≡ false → ⊥
+pub never : (b : Bool) → b ≡ true → b ≡ false → ⊥
 never b one two = cc
 
 pub act_calm : (h : SoFar) (s : Shared) (a : Action) (acts : List Action) (e : PmEvent) (m : Machine) → Fits s (Do a) e → IsCalm h (a ∷ acts) m

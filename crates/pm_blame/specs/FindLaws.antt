@@ -20,7 +20,7 @@ use Rattle.pm_query.specs.declared.book.BookEntry.{BookEntry}
 use Rattle.pm_answers.specs.Own.{entries_by as own_entries, is_by}
 use Rattle.pm_seating.specs.Board.{begun_of, ended_of, seat_at}
 use Rattle.pm_seating.specs.FoldingLaws.{begun-append}
-use Rattle.pm_seating.specs.Seating.{Begun, Ended, Kill, Move, Nothing, Notes, PidsEnd, PortEnds, Reads, Request, Seating, Stop, asked_by, begun_at, begun_from, empty, ended_at, ended_by, ends, entries_by, entries_from, is_seated, seating_by, seating_from}
+use Rattle.pm_seating.specs.Seating.{Ended, Kill, Move, Nothing, Notes, PidsEnd, PortEnds, Reads, Request, Seating, Stop, asked_by, begun_at, begun_from, empty, ended_at, ended_by, ends, entries_by, entries_from, is_seated, seating_by, seating_from}
 use Rattle.pm_seating.specs.Standing.{IsBoardOf}
 use Rattle.pm_shared.specs.declared.views.Noted.{Noted}
 use Rattle.pm_worker.specs.declared.mail.MailTold.{MailTold}
@@ -29,7 +29,8 @@ use Rattle.pm_crew.specs.EntriesLaws.{entries_of_runs}
 use Rattle.pm_crew.specs.Left.{AreLeft, IsWorked, Manner}
 use Rattle.pm_crew.specs.Pids.{AreEntriesOf, AreUsedOnce}
 use Rattle.pm_blame.specs.Causes.{IsUnbroken}
-use Rattle.pm_blame.specs.SendsLaws.{SitsNowhere, nowhere, pid_front, pids_of, sat_or_began, seat_set}
+use Rattle.pm_blame.specs.SendsLaws.{SitsNowhere, nowhere, pids_of, pids_of_append, sat_or_began, seat_set}
+use Rattle.pm_blame.specs.ListsLaws.{pid_front}
 
 -- ---- the move
 
@@ -200,10 +201,6 @@ pids_begun : (past : List (PastChild MailTold)) → map (λ child. child.offer.p
 pids_begun [] = refl
 pids_begun (x ∷ past) = ap (λ (ps : List ℕ). x.offer.pid ∷ ps) (pids_begun past)
 
-pids_append : (xs ys : List Begun) → pids_of (xs ++ ys) ≡ pids_of xs ++ pids_of ys
-pids_append [] ys = refl
-pids_append (x ∷ xs) ys = ap (λ (ps : List ℕ). x.pid ∷ ps) (pids_append xs ys)
-
 nobody_first : (n j : ℕ) (c : Enrolled) → seat_at j (replicate n None) ≡ Some c → ⊥
 nobody_first zero j c is = (let none : None ≡ Some c = is in absurd cc)
 nobody_first (suc n) zero c is = (let none : None ≡ Some c = is in absurd cc)
@@ -246,10 +243,10 @@ module _ (manner : Manner) (count : ℕ) (moves : List Move) (board : RosterView
     alone : (j : ℕ) → j ≢ slot → IsPidOf end.pid (pids_of (begun_from j (empty count) front)) → ⊥
     alone j other began =
         once.across j slot end.pid other
-        (subst (IsPidOf end.pid) (sym (pids_begun (slot_at board j).past ∙ ap pids_of (board_is.begun j).2 ∙ pids_append (begun_at count j moves) (board_is.begun j).0))
+        (subst (IsPidOf end.pid) (sym (pids_begun (slot_at board j).past ∙ ap pids_of (board_is.begun j).2 ∙ pids_of_append (begun_at count j moves) (board_is.begun j).0))
         (pid_front end.pid (pids_of (begun_at count j moves)) (pids_of (board_is.begun j).0)
         (subst (λ (ms : List Move). IsPidOf end.pid (pids_of (begun_at count j ms))) (sym moves_are)
-        (subst (IsPidOf end.pid) (sym (ap pids_of (begun-append j (empty count) front (Notes e slot ∷ rest)) ∙ pids_append (begun_from j (empty count) front) _))
+        (subst (IsPidOf end.pid) (sym (ap pids_of (begun-append j (empty count) front (Notes e slot ∷ rest)) ∙ pids_of_append (begun_from j (empty count) front) _))
         (pid_front end.pid (pids_of (begun_from j (empty count) front)) _ began)))))
         (pid_among end (slot_at board slot).past in_past)
 

@@ -12,6 +12,7 @@ use Rattle.pm_board.specs.Latch.{is_crash, is_given, is_stop}
 use Rattle.pm_board.specs.Latches.{times_given}
 use Rattle.pm_board.specs.Words.{bit}
 use Rattle.pm_post_life.specs.Lives.{told_by}
+use Rattle.pm_blame.specs.ListsLaws.{both}
 
 -- the number of a signal that a child takes; a cancel has none of a latch
 abbrev pub number_of : Signal → ℕ
@@ -27,10 +28,6 @@ IsOther n signal = nat_eq (number_of signal) n ≡ false
 
 abbrev NoneIn : ℕ → List Signal → Type 0
 NoneIn n signals = AllByRecursion (IsOther n) signals
-
-both : {X : Type 0} (P : X → Type 0) (xs ys : List X) → AllByRecursion P xs → AllByRecursion P ys → AllByRecursion P (xs ++ ys)
-both P [] ys one two = two
-both P (x ∷ xs) ys one two = (one.0, both P xs ys one.1 two)
 
 -- a part of an answer
 part : (n : ℕ) (stands : Bool) (signal : Signal) → (stands ≡ false) ⊎ IsOther n signal → NoneIn n (one_if stands signal)

@@ -25,6 +25,7 @@ use Rattle.pm_state.specs.TurnRules.{is_not_running}
 use Rattle.pm_state.specs.Journal.{AreLegal, Do, Due, EndRedo, Fits, FitsFirst, FollowsIn, IsLegal, MayCome, Replay, all_replayed, caused, dues, dues_after, replay_begun, replayed, reported, row_of, without_first}
 use Rattle.pm_chain.specs.Chain.{IsPidOf}
 use Rattle.pm_crew.specs.PidsLaws.{RiseAbove, pids_by, pids_below, pids_in, pids_rise}
+use Rattle.pm_blame.specs.ListsLaws.{pid_behind, pid_front}
 use Rattle.pm_blame.specs.Crashes.{HasNoCrash, IsHarmless, IsUnasked, is_crash}
 use Rattle.pm_blame.specs.CalmLaws.{IsCalm, SoFar, accepted_calm, act_calm, asked_calm, left_calm, no_kill, nothing_so_far, row_calm, settled_calm, told_after}
 
@@ -261,15 +262,6 @@ there_by pid r (entry.Ready generation) there = inl there
 there_by pid r (entry.Reset generation) there = inl there
 there_by pid r (entry.Said line) there = inl there
 there_by pid r (entry.Ended how) there = inl there
-
-pid_behind : (pid : ℕ) (xs ys : List ℕ) → IsPidOf pid ys → IsPidOf pid (xs ++ ys)
-pid_behind pid [] ys its = its
-pid_behind pid (x ∷ xs) ys its = inr (pid_behind pid xs ys its)
-
-pid_front : (pid : ℕ) (xs ys : List ℕ) → IsPidOf pid xs → IsPidOf pid (xs ++ ys)
-pid_front pid [] ys its = absurd its
-pid_front pid (x ∷ xs) ys (inl is) = inl is
-pid_front pid (x ∷ xs) ys (inr its) = inr (pid_front pid xs ys its)
 
 there_began : (pid : ℕ) (r : Replay) (journal : List PmEvent) → IsThere pid (all_replayed r journal).shown.children → IsThere pid r.shown.children ⊎ IsPidOf pid (pids_in journal)
 there_began pid r [] there = inl there

@@ -22,6 +22,7 @@ use Rattle.pm_seating.specs.Board.{seat_at}
 use Rattle.pm_seating.specs.Seating.{Move, Notes, PidsEnd, PortEnds, Reads, Seating, begun_by, begun_from, child, entries_by, entries_from, is_meant, seated, seating_by, seating_from, with_seat, Begun, sends_from, slot_in, steps_by, steps_from, steps_of}
 use Rattle.pm_seating.specs.Standing.{IsFinal}
 use Rattle.pm_crew.specs.PidsLaws.{pids_by, pids_in}
+use Rattle.pm_blame.specs.ListsLaws.{both, front_all, pid_behind, pid_front, rest_all}
 use Rattle.pm_blame.specs.Crashes.{IsHarmless}
 
 -- ---- how often
@@ -79,14 +80,6 @@ entry_other_signal n pid k s (entry.Ready generation) other = refl
 entry_other_signal n pid k s (entry.Reset generation) other = refl
 entry_other_signal n pid k s (entry.Said line) other = refl
 entry_other_signal n pid k s (entry.Ended how) other = refl
-
-front_all : {X : Type 0} (P : X → Type 0) (xs ys : List X) → AllByRecursion P (xs ++ ys) → AllByRecursion P xs
-front_all P [] ys all = tt
-front_all P (x ∷ xs) ys all = (all.0, front_all P xs ys all.1)
-
-rest_all : {X : Type 0} (P : X → Type 0) (xs ys : List X) → AllByRecursion P (xs ++ ys) → AllByRecursion P ys
-rest_all P [] ys all = all
-rest_all P (x ∷ xs) ys all = rest_all P xs ys all.1
 
 entries_other_signal : (n pid k : ℕ) (s : Seating) (es : List PmEvent) → AllByRecursion (λ e. may_send n e ≡ false) es → times_sent n pid (flat_map (steps_of k s) es) ≡ 0
 entries_other_signal n pid k s [] others = refl
@@ -168,15 +161,6 @@ pids_append : (xs ys : List PmEvent) → pids_in (xs ++ ys) ≡ pids_in xs ++ pi
 pids_append [] ys = refl
 pids_append (x ∷ xs) ys = ap (λ (ps : List ℕ). pids_by x ++ ps) (pids_append xs ys) ∙ sym (append_assoc (pids_by x) (pids_in xs) (pids_in ys))
 
-pub pid_front : (pid : ℕ) (xs ys : List ℕ) → IsPidOf pid xs → IsPidOf pid (xs ++ ys)
-pid_front pid [] ys its = absurd its
-pid_front pid (x ∷ xs) ys (inl is) = inl is
-pid_front pid (x ∷ xs) ys (inr its) = inr (pid_front pid xs ys its)
-
-pub pid_behind : (pid : ℕ) (xs ys : List ℕ) → IsPidOf pid ys → IsPidOf pid (xs ++ ys)
-pid_behind pid [] ys its = its
-pid_behind pid (x ∷ xs) ys its = inr (pid_behind pid xs ys its)
-
 nowhere_by : (pid : ℕ) (s : Seating) (move : Move) → (IsPidOf pid (pids_in (entries_by s move)) → ⊥) → SitsNowhere pid s.seats → SitsNowhere pid (seating_by s move).seats
 nowhere_by pid s (Notes e k) fresh none = nowhere_behind pid k e s (λ its. fresh (pid_front pid (pids_by e) [] its)) none
 nowhere_by pid s (Reads line asks at) fresh none = none
@@ -243,6 +227,10 @@ seat_set (suc k) (suc j) seat (x ∷ seats) c is = by (seat_set k j seat seats c
     by (inl same) = inl ((let e : nat_eq k j ≡ false = same.0 in grind (arith, e)), same.1)
     by (inr new) = inr ((let e : nat_eq k j ≡ true = new.0 in grind (arith, e)), new.1)
 
+pub pids_of_append : (xs ys : List Begun) → pids_of (xs ++ ys) ≡ pids_of xs ++ pids_of ys
+pids_of_append [] ys = refl
+pids_of_append (x ∷ xs) ys = ap (λ (ps : List ℕ). x.pid ∷ ps) (pids_of_append xs ys)
+
 module _ (j pid : ℕ) where
   abbrev Sits : Seating → Type 0
   Sits s = (c : Enrolled) × (seat_at j s.seats ≡ Some c) × (c.pid ≡ pid)
@@ -288,10 +276,6 @@ module _ (j pid : ℕ) where
   one_move s (PortEnds at) sits = inl sits
   one_move s (PidsEnd at) sits = inl sits
 
-  pids_of_append : (xs ys : List Begun) → pids_of (xs ++ ys) ≡ pids_of xs ++ pids_of ys
-  pids_of_append [] ys = refl
-  pids_of_append (x ∷ xs) ys = ap (λ (ps : List ℕ). x.pid ∷ ps) (pids_of_append xs ys)
-
   pub sat_or_began : (s : Seating) (moves : List Move) → Sits (seating_from s moves) → Sits s ⊎ IsPidOf pid (pids_of (begun_from j s moves))
   sat_or_began s [] sits = inl sits
   sat_or_began s (move ∷ moves) sits = by (sat_or_began (seating_by s move) moves sits)
@@ -324,10 +308,6 @@ is_notice _ = false
 -- no notice is given among these
 abbrev pub AreQuiet : List RosterStep → Type 0
 AreQuiet steps = AllByRecursion (λ s. is_notice s ≡ false) steps
-
-both : {X : Type 0} (P : X → Type 0) (xs ys : List X) → AllByRecursion P xs → AllByRecursion P ys → AllByRecursion P (xs ++ ys)
-both P [] ys one two = two
-both P (x ∷ xs) ys one two = (one.0, both P xs ys one.1 two)
 
 sends_quiet : (who : Audience) (what : Signal) (g k : ℕ) (seats : List (Option Enrolled)) → AreQuiet (sends_from who what g k seats)
 sends_quiet who what g k [] = tt
