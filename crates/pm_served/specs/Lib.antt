@@ -1,3 +1,4 @@
 pub mod Promises
 pub mod PromisesLaws
 pub mod PromisedServe
+pub mod BlamedServe
