@@ -33,7 +33,9 @@ impl Cause {
         ensures { result ≡ status_by self }
     {
         match self {
-            Cause::Redone { .. } | Cause::Flushed | Cause::Closed | Cause::LeftOut => Status::Code(0),
+            Cause::Redone { .. } | Cause::Flushed | Cause::Closed | Cause::LeftOut => {
+                Status::Code(0)
+            }
             Cause::Refused(StoreNo::Stale { .. } | StoreNo::Disk | StoreNo::Broken { .. }) => {
                 Status::Signal(6)
             }
