@@ -4,7 +4,6 @@
 //   select    a row by its key, of the FIRST keys from 0 on
 //   insert    a row of a new key, from FIRST on, and 90,000 of them at most, since a table has its limit
 //   connect   no query: a connection, its greeting, and its end
-//   idle      no query: the connections stand, and a line is printed once all are greeted
 #include <arpa/inet.h>
 #include <netinet/tcp.h>
 #include <pthread.h>
@@ -118,13 +117,13 @@ static void *client(void *number)
     unsigned random = mine + 1;
     char text[256];
     struct line *line = malloc(sizeof *line);
-    int connects = !strcmp(kind, "connect"), inserts = !strcmp(kind, "insert"), idles = !strcmp(kind, "idle");
+    int connects = !strcmp(kind, "connect"), inserts = !strcmp(kind, "insert");
     if (!line)
         give_up("out of memory");
     if (!connects)
         open_line(line);
     pthread_barrier_wait(&begin);
-    for (double end = now() + seconds; !idles && now() < end && !(inserts && done == most); done++) {
+    for (double end = now() + seconds; now() < end && !(inserts && done == most); done++) {
         if (connects) {
             open_line(line);
             close_line(line);
@@ -137,8 +136,6 @@ static void *client(void *number)
         }
     }
     answered[mine] = done;
-    if (idles)
-        pause();
     if (!connects)
         close_line(line);
     return 0;
@@ -163,10 +160,6 @@ int main(int count, char **words)
             give_up("no thread");
     pthread_barrier_wait(&begin);
     double from = now();
-    if (!strcmp(kind, "idle")) {
-        puts("greeted");
-        fflush(stdout);
-    }
     for (long i = 0; i < clients; i++)
         pthread_join(threads[i], 0);
     double took = now() - from;
