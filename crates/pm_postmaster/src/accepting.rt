@@ -129,7 +129,10 @@ impl<
         }
         match self.ask_port(slot, decision) {
             Ok(false) => Ok(false),
-            Ok(true) => self.settle(rt),
+            Ok(true) => {
+                self.settle(rt)?;
+                Ok(true)
+            }
             Err(end) => Err(end),
         }
     }

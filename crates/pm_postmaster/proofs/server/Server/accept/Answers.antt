@@ -1,4 +1,5 @@
 use Rattle.std.proofs.Common.{◌≡◌, ℕ, ap, refl}
+use Rattle.std.proofs.lemmas.Result.{err_from_is_err_and}
 use Rattle.std.specs.Prelude.{is_some}
 use Rattle.atomic_table.specs.Seated.{TableId}
 use Rattle.pm_board.specs.declared.views.RosterView.{RosterView}
@@ -7,7 +8,7 @@ use Rattle.pm_worker.specs.declared.mail.MailTold.{MailTold}
 use Rattle.pm_postmaster.specs.Serving.{Keeps}
 use Rattle.pm_postmaster.specs.View.{View, view_of}
 use Rattle.pm_postmaster.proofs.Calling.{IsBeside, short, still}
-use Rattle.pm_postmaster.proofs.Going.{alive_on, both_done, goes_on, none_done}
+use Rattle.pm_postmaster.proofs.Going.{alive_on, both_done, none_done, stops_on}
 use Rattle.pm_postmaster.proofs.server.Server.accept.Goals as goal
 
 -- there is room for what a connection leaves, and nothing was done
@@ -56,7 +57,13 @@ returns-in-Err-clause-goes g c =
     let keeps = has_room g.C.Clock.gives (view_of c.args.self.now) _ _ _ (ap (λ r. r.table) c.make_room.ensures.roster) c.make_room.ensures.standing c.make_room.ensures.told (ap (λ r. r.knows) c.make_room.ensures.roster) in
     λ outset was. c.in-Err.ensures.goes outset (keeps outset was)
 
-pub returns-in-Ok-true-clause-goes : goal.returns-in-Ok-true-clause-goes
-returns-in-Ok-true-clause-goes g c =
+pub returns-in_err-settle-in-Ok-true-clause-goes : goal.returns-in_err-settle-in-Ok-true-clause-goes
+returns-in_err-settle-in-Ok-true-clause-goes g c =
     let keeps = has_room g.C.Clock.gives (view_of c.args.self.now) _ _ _ (ap (λ r. r.table) c.make_room.ensures.roster) c.make_room.ensures.standing c.make_room.ensures.told (ap (λ r. r.knows) c.make_room.ensures.roster) in
-    goes_on g.C.Clock.gives c.settle.result (view_of c.args.self.now) _ _ (both_done g.C.Clock.gives _ _ _ keeps c.in-Ok-true.ensures.goes) c.settle.ensures.goes
+    let p = err_from_is_err_and c.from_residual.result c.from_residual.ensures.1 in
+    rw (p.1, p.2) (stops_on g.C.Clock.gives _ _ _ _ (both_done g.C.Clock.gives _ _ _ keeps c.in-Ok-true.ensures.goes) c.in_err-settle-in-Ok-true.ensures.goes)
+
+pub returns-in_ok-settle-in-Ok-true-clause-goes : goal.returns-in_ok-settle-in-Ok-true-clause-goes
+returns-in_ok-settle-in-Ok-true-clause-goes g c =
+    let keeps = has_room g.C.Clock.gives (view_of c.args.self.now) _ _ _ (ap (λ r. r.table) c.make_room.ensures.roster) c.make_room.ensures.standing c.make_room.ensures.told (ap (λ r. r.knows) c.make_room.ensures.roster) in
+    λ outset was. c.in_ok-settle-in-Ok-true.ensures.goes outset (c.in-Ok-true.ensures.goes outset (keeps outset was))
