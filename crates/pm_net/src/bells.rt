@@ -55,6 +55,8 @@ pub struct Bells {
     pub call: Bell,
     // How often the children were called, which their pauses sleep on.
     calls: AtomicU64,
+    // The last moment that the supervisor's clock gave, in milliseconds.
+    moment: AtomicU64,
 }
 
 impl Bells {
@@ -64,6 +66,7 @@ impl Bells {
             door: Bell::new()?,
             call: Bell::new()?,
             calls: AtomicU64::new(0),
+            moment: AtomicU64::new(0),
         })
     }
 
@@ -77,6 +80,16 @@ impl Bells {
     /// How often the children were called.
     pub fn calls(&self) -> u64 {
         self.calls.load(Ordering::SeqCst)
+    }
+
+    /// Shows the moment that it is, in milliseconds.
+    pub fn show(&self, moment: u64) {
+        self.moment.store(moment, Ordering::SeqCst);
+    }
+
+    /// The moment that was shown last, in milliseconds; 0 where none was.
+    pub fn moment(&self) -> u64 {
+        self.moment.load(Ordering::SeqCst)
     }
 
     /// Waits until the children were called more often than so, for a time at most.

@@ -79,11 +79,16 @@ impl<R: Wait + time::Clock + Copy + Drop> Clock for ServerClock<R> {
     // It may give any moment.
     ghost gives = { λ _ _. ⊤ };
 
+    // Links go by what the supervisor's clock gives, which is asked in each of its turns.
     fn now(&self) -> u64 {
-        match self.start.elapsed(&self.rt) {
+        let moment = match self.start.elapsed(&self.rt) {
             Ok(passed) => u64::try_from(passed.as_millis()).unwrap_or(u64::MAX),
             Err(_) => 0,
+        };
+        if let Side::Supervisor(_) = &self.side {
+            self.bells.show(moment);
         }
+        moment
     }
 
     fn pause(&self) {

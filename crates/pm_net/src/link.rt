@@ -9,7 +9,7 @@ use std::net::{Net, Shutdown};
 use std::sync::Arc;
 use std::time::Duration;
 
-/// How long a read waits at most up to the greeting, in milliseconds. The session looks at its limit of time in between.
+/// How long a read waits at most up to the greeting, in milliseconds. The limit of time is looked at in between.
 const ENTRY_MS: u64 = 100;
 
 /// How long a read waits at most behind the greeting, in milliseconds.
@@ -32,8 +32,8 @@ const SOCKET: Token = Token(0);
 const CALL: Token = Token(1);
 
 /// A connection. A read waits for bytes or a call to all children: 100 ms at most as long as the client was only answered
-/// its requests for encryption, and a minute behind that. A write waits for a client that takes nothing: an hour at
-/// most, and a second behind a call, and then it fails.
+/// its requests for encryption, and a minute behind that. Up to then it has a limit of time, and behind it the link has ended.
+/// A write waits for a client that takes nothing: an hour at most, and a second behind a call, and then it fails.
 #[derive(Drop)]
 pub struct TcpLink {
     number: u64,
@@ -50,6 +50,9 @@ pub struct TcpLink {
     // The client sends no more, so that its end may come with no event of its own.
     has_ended: bool,
     sent: u64,
+    // When it came, and how long its client may take up to the greeting, in milliseconds.
+    came: u64,
+    entry_ms: u64,
     faults: u64,
 }
 
@@ -68,12 +71,14 @@ impl TcpLink {
     ghost use Rattle.pm_disk.specs.Cause.{Rose};
     ghost use Rattle.pm_net.specs.Counts.{link_faults, link_number};
 
-    /// The link of this number over a stream whose calls don't wait. A call from before isn't heard.
+    /// The link of this number over a stream whose calls don't wait. A call from before isn't heard. Its client may take so
+    /// many milliseconds up to the greeting.
     pub(crate) fn new<N: Net>(
         net: &N,
         alloc: Global,
         bells: &Arc<Bells, Global>,
         number: u64,
+        entry_ms: u64,
         stream: TcpStream,
     ) -> io::Result<TcpLink>
         ensures number { IfOk result (λ link. link_number link ≡ number) }
@@ -88,6 +93,7 @@ impl TcpLink {
         let events = Events::with_capacity(alloc, 2)?;
         let bells = Arc::try_clone(bells)?;
         let heard = bells.calls();
+        let came = bells.moment();
         Ok(TcpLink {
             number,
             stream,
@@ -99,13 +105,25 @@ impl TcpLink {
             is_drained: false,
             has_ended: false,
             sent: 0,
+            came,
+            entry_ms,
             faults: 0,
         })
     }
 
+    // Whether the client wasn't greeted yet.
+    fn is_entering(&self) -> bool {
+        self.sent <= ENTRY_BYTES
+    }
+
+    // Whether its time up to the greeting has passed.
+    fn is_late(&self) -> bool {
+        self.is_entering() && self.bells.moment().saturating_sub(self.came) >= self.entry_ms
+    }
+
     // How long a read waits at most.
     fn patience(&self) -> u64 {
-        if self.sent <= ENTRY_BYTES {
+        if self.is_entering() {
             ENTRY_MS
         } else {
             IDLE_MS
@@ -190,6 +208,9 @@ impl Link for TcpLink {
     ghost faults = { link_faults };
 
     fn read(&mut self, into: &mut [u8]) -> Got {
+        if self.is_late() {
+            return Got::End;
+        }
         for _ in 0..4 {
             if self.is_drained {
                 match self.wait(self.patience()) {

@@ -40,6 +40,8 @@ pub struct TcpPort<N> {
     listener: TcpListener,
     asked: u16,
     bells: Arc<Bells, Global>,
+    // How long a client may take up to the greeting, in milliseconds.
+    entry_ms: u64,
     given: u64,
     faults: Faults<AcceptFault>,
     alloc: Global,
@@ -52,7 +54,7 @@ impl<N: Net + Drop> TcpPort<N> {
     ghost use Rattle.pm_net.specs.Counts.{asked_port, first_port_fault, link_number, links_given, port_faults};
 
     /// Listens on this port of 127.0.0.1, or on a free one at 0. A port whose connections were broken off may be taken
-    /// again at once.
+    /// again at once. Its clients may take as long as they want up to the greeting.
     pub fn new(
         net: N,
         alloc: Global,
@@ -70,6 +72,7 @@ impl<N: Net + Drop> TcpPort<N> {
                 listener,
                 asked: port,
                 bells,
+                entry_ms: u64::MAX,
                 given: 0,
                 faults: Faults::new(),
                 alloc,
@@ -77,6 +80,16 @@ impl<N: Net + Drop> TcpPort<N> {
             }),
             Err(reason) => Err(BindFault { port, reason }),
         }
+    }
+
+    /// The clients that come from now on may take so many milliseconds up to the greeting, by the moments that the
+    /// supervisor's clock gives.
+    pub fn limit_entry(&mut self, entry_ms: u64)
+        ensures given { links_given self.new ≡ links_given self.old }
+        ensures asked { asked_port self.new ≡ asked_port self.old }
+        ensures faults { port_faults self.new ≡ port_faults self.old }
+    {
+        self.entry_ms = entry_ms;
     }
 
     /// The descriptor that has something new where a connection has come.
@@ -105,7 +118,14 @@ impl<N: Net + Drop> TcpPort<N> {
         for _ in 0..GONE {
             match self.listener.accept() {
                 Ok((stream, _)) => {
-                    return TcpLink::new(&self.net, self.alloc, &self.bells, number, stream);
+                    return TcpLink::new(
+                        &self.net,
+                        self.alloc,
+                        &self.bells,
+                        number,
+                        self.entry_ms,
+                        stream,
+                    );
                 }
                 Err(error) => match error.kind() {
                     ErrorKind::ConnectionAborted | ErrorKind::Interrupted => {}

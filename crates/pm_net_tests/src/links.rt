@@ -1,7 +1,7 @@
 // What ends a link's waits, and what its client gets at the end.
 use crate::world::{accept, connect, linked, open, since_ms, wait_ms};
-use pm_net::Bells;
-use pm_outside::{Got, Link, Port, Put};
+use pm_net::{Bells, ServerClock};
+use pm_outside::{Clock as _, Got, Link, Port, Put};
 use std::io::{Read, Write};
 use std::net::Shutdown;
 use std::test::Fail;
@@ -123,5 +123,34 @@ fn a_client_that_has_gone_leaves_an_end(rt: HostRuntime) -> Result<(), Fail> {
         port.done(link);
     }
     assert_eq!(rt; port.faults(), 0);
+    Ok(())
+}
+
+#[test]
+fn a_client_that_isnt_greeted_in_time_is_given_up(rt: HostRuntime) -> Result<(), Fail> {
+    let alloc = rt.alloc();
+    let (mut port, bells) = open(&rt, alloc)?;
+    port.limit_entry(150);
+    let clock = ServerClock::new(rt, &rt, alloc, bells, port.descriptor())?;
+    clock.now();
+    let (mut late, mut slow) = linked(&rt, &mut port)?;
+    let (mut greeted, _client) = linked(&rt, &mut port)?;
+    assert_eq!(rt; greeted.write(b"greeting"), Put::Count(8));
+    let mut into = [0; 8];
+    slow.write_all(b"ab")?;
+    wait_ms(&rt, 20);
+    assert_eq!(rt; late.read(&mut into), Got::Bytes(2));
+    clock.now();
+    assert_eq!(rt; late.read(&mut into), Got::NotYet);
+    // Bytes that come too late change nothing.
+    wait_ms(&rt, 60);
+    slow.write_all(b"c")?;
+    clock.now();
+    assert_eq!(rt; late.read(&mut into), Got::End);
+    assert_eq!(rt; late.faults(), 0);
+    clock.ring();
+    assert_eq!(rt; greeted.read(&mut into), Got::NotYet);
+    port.done(late);
+    assert_eq!(rt; slow.read(&mut into)?, 0);
     Ok(())
 }

@@ -9,7 +9,7 @@ mod network;
 mod reports;
 mod words;
 
-use crate::network::{Network, StartFault, open};
+use crate::network::{Door, Network, StartFault, open};
 use crate::reports::Reports;
 use crate::words::{given_words, print_misfit};
 use pm_disk::{Disk, MemDisk};
@@ -80,7 +80,10 @@ where
     };
     match line.command {
         Command::Once => over_streams(rt, host, &words, disk, sink),
-        Command::Serve { port } => over_network(rt, host, &words, port, disk, sink),
+        Command::Serve { port } => {
+            let entry_ms = line.conf.session.authentication_ms;
+            over_network(rt, host, &words, Door { port, entry_ms }, disk, sink)
+        }
         Command::Initdb => {
             // Where the folder can't be made its files can't either, and then that is told.
             let _ = fs::create_dir_all(&rt, line.dir);
@@ -134,7 +137,7 @@ fn over_network<R, W>(
     rt: HostRuntime,
     host: R,
     words: &[Text],
-    port: u16,
+    door: Door,
     disk: LogFiles,
     sink: StandardSink<W>,
 ) -> ExitCode
@@ -150,7 +153,7 @@ where
         port,
         clock,
         console,
-    } = match open(host, rt.alloc(), rt.stdin(), port) {
+    } = match open(host, rt.alloc(), rt.stdin(), door) {
         Ok(network) => network,
         Err(fault) => return not_started(&rt, fault),
     };
