@@ -33,3 +33,11 @@ asked_port port = port.asked
 -- how many links it has given
 abbrev pub links_given : {N : Type 0} → TcpPort N → ℕ
 links_given port = port.given
+
+-- how long its clients may take up to the greeting, in milliseconds
+abbrev pub entry_limit : {N : Type 0} → TcpPort N → ℕ
+entry_limit port = port.entry_ms
+
+-- and the client of a link
+abbrev pub link_limit : TcpLink → ℕ
+link_limit link = link.entry_ms

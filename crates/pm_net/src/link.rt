@@ -69,7 +69,7 @@ enum Waited {
 impl TcpLink {
     ghost use Rattle.std.specs.Prelude.{◌≡◌, ◌≤◌, IfOk};
     ghost use Rattle.pm_disk.specs.Cause.{Rose};
-    ghost use Rattle.pm_net.specs.Counts.{link_faults, link_number};
+    ghost use Rattle.pm_net.specs.Counts.{link_faults, link_limit, link_number};
 
     /// The link of this number over a stream whose calls don't wait. A call from before isn't heard. Its client may take so
     /// many milliseconds up to the greeting.
@@ -83,6 +83,7 @@ impl TcpLink {
     ) -> io::Result<TcpLink>
         ensures number { IfOk result (λ link. link_number link ≡ number) }
         ensures faults { IfOk result (λ link. link_faults link ≡ 0) }
+        ensures limit { IfOk result (λ link. link_limit link ≡ entry_ms) }
     {
         let mut stream = stream;
         let _ = stream.set_nodelay(true);

@@ -51,7 +51,7 @@ pub struct TcpPort<N> {
 
 impl<N: Net + Drop> TcpPort<N> {
     ghost use Rattle.std.specs.Prelude.{◌↔◌, ◌<◌, IfErr, IfOk, IfSome, IsSome};
-    ghost use Rattle.pm_net.specs.Counts.{asked_port, first_port_fault, link_number, links_given, port_faults};
+    ghost use Rattle.pm_net.specs.Counts.{asked_port, entry_limit, first_port_fault, link_limit, link_number, links_given, port_faults};
 
     /// Listens on this port of 127.0.0.1, or on a free one at 0. A port whose connections were broken off may be taken
     /// again at once. Its clients may take as long as they want up to the greeting.
@@ -85,6 +85,7 @@ impl<N: Net + Drop> TcpPort<N> {
     /// The clients that come from now on may take so many milliseconds up to the greeting, by the moments that the
     /// supervisor's clock gives.
     pub fn limit_entry(&mut self, entry_ms: u64)
+        ensures limit { entry_limit self.new ≡ entry_ms }
         ensures given { links_given self.new ≡ links_given self.old }
         ensures asked { asked_port self.new ≡ asked_port self.old }
         ensures faults { port_faults self.new ≡ port_faults self.old }
@@ -113,7 +114,8 @@ impl<N: Net + Drop> TcpPort<N> {
 
     // The next connection that is still there, as the link of this number.
     fn take(&self, number: u64) -> io::Result<TcpLink>
-        ensures { IfOk result (λ link. link_number link ≡ number) }
+        ensures number { IfOk result (λ link. link_number link ≡ number) }
+        ensures limit { IfOk result (λ link. link_limit link ≡ entry_limit self.now) }
     {
         for _ in 0..GONE {
             match self.listener.accept() {

@@ -9,7 +9,7 @@ mod network;
 mod reports;
 mod words;
 
-use crate::network::{Door, Network, StartFault, open};
+use crate::network::{Endpoint, Network, StartFault, open};
 use crate::reports::Reports;
 use crate::words::{given_words, print_misfit};
 use pm_disk::{Disk, MemDisk};
@@ -82,7 +82,7 @@ where
         Command::Once => over_streams(rt, host, &words, disk, sink),
         Command::Serve { port } => {
             let entry_ms = line.conf.session.authentication_ms;
-            over_network(rt, host, &words, Door { port, entry_ms }, disk, sink)
+            over_network(rt, host, &words, Endpoint { port, entry_ms }, disk, sink)
         }
         Command::Initdb => {
             // Where the folder can't be made its files can't either, and then that is told.
@@ -137,7 +137,7 @@ fn over_network<R, W>(
     rt: HostRuntime,
     host: R,
     words: &[Text],
-    door: Door,
+    endpoint: Endpoint,
     disk: LogFiles,
     sink: StandardSink<W>,
 ) -> ExitCode
@@ -153,7 +153,7 @@ where
         port,
         clock,
         console,
-    } = match open(host, rt.alloc(), rt.stdin(), door) {
+    } = match open(host, rt.alloc(), rt.stdin(), endpoint) {
         Ok(network) => network,
         Err(fault) => return not_started(&rt, fault),
     };

@@ -46,19 +46,24 @@ pub struct Network<R> {
 
 /// Where clients come in: a port of 127.0.0.1, and how long each may take up to its greeting, in milliseconds.
 #[derive(Clone, Copy)]
-pub struct Door {
+pub struct Endpoint {
     pub port: u16,
     pub entry_ms: u64,
 }
 
 /// Listens there, and begins to read the console.
-pub fn open<R>(rt: R, alloc: Global, stdin: Stdin, door: Door) -> Result<Network<R>, StartFault>
+pub fn open<R>(
+    rt: R,
+    alloc: Global,
+    stdin: Stdin,
+    endpoint: Endpoint,
+) -> Result<Network<R>, StartFault>
 where
     R: Threads + Wait + Net + Clock + Copy + Drop + Send + 'static,
 {
     let bells = bells(alloc)?;
-    let mut port = TcpPort::new(rt, alloc, Arc::try_clone(&bells)?, door.port)?;
-    port.limit_entry(door.entry_ms);
+    let mut port = TcpPort::new(rt, alloc, Arc::try_clone(&bells)?, endpoint.port)?;
+    port.limit_entry(endpoint.entry_ms);
     let clock = ServerClock::new(rt, &rt, alloc, Arc::try_clone(&bells)?, port.descriptor())?;
     let console = standard_console(rt, alloc, stdin, bells)?;
     Ok(Network {
