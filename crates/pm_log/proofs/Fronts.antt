@@ -12,7 +12,8 @@ use Rattle.pm_record.specs.Spelling.{base_bytes, batch_bytes}
 use Rattle.pm_rows.specs.Standing.{Standing, after}
 use Rattle.pm_rows.specs.Limits.{IsWithinRowLimits}
 use Rattle.pm_record.specs.GateLaws.{same_standing}
-use Rattle.pm_record.specs.StandsFor.{AreBatches, Content, IsBatch, IsContent, MayAppend, MayFollow, Spells, StandsFor, base_of, commits_of, standing_of, with_batch}
+use Rattle.pm_rows.specs.Batch.{IsBatch}
+use Rattle.pm_record.specs.StandsFor.{AreBatches, Content, IsContent, MayAppend, MayFollow, Spells, StandsFor, base_of, commits_of, standing_of, with_batch}
 
 -- one batch more
 AreBatches-push : (bytes : List ℕ) (batches : List (List (List Change))) (batch : List (List Change)) (gate : ℕ) → gate ≢ 0 → AreBatches bytes batches

@@ -9,7 +9,7 @@ use Rattle.std.proofs.lemmas.List.Concat.{flat_map-cons}
 use Rattle.pm_rows.specs.declared.commit.Change.{Change}
 use Rattle.pm_rows.specs.declared.commit.Change.TheVariants.{Put, Del}
 use Rattle.pm_record.specs.Spelling.{change_bytes, commit_bytes, body_bytes}
-use Rattle.pm_record.specs.StandsFor.{IsChange, IsCommit}
+use Rattle.pm_rows.specs.Batch.{IsChange, IsCommit}
 use Rattle.pm_record.specs.Changes.{least, most, change_at}
 use Rattle.std.proofs.lemmas.List.Elements.{All-from_recursion, recursion_from_All}
 use Rattle.pm_rows.specs.Limits.{max_changes, max_commits}

@@ -13,7 +13,7 @@ use Rattle.pm_rows.specs.Limits.{max_value_bytes}
 use Rattle.pm_rows.specs.Longest.{max_change_bytes}
 use Rattle.pm_record.proofs.Words.{Begins}
 use Rattle.pm_record.specs.Spelling.{change_bytes}
-use Rattle.pm_record.specs.StandsFor.{IsChange}
+use Rattle.pm_rows.specs.Batch.{IsChange}
 use Rattle.pm_record.specs.Changes.{least, most, fills, key_at, string_at, put_at, del_at, change_at, value_ranges, may_tag}
 use Rattle.pm_record.specs.Reading.{Read, ◌>>=◌, byte_at, IsWithin}
 use Rattle.pm_record.proofs.Readers.{Reading, Behind, Spelled, same_words, field_then, made_reads, one_word, byte_reads}

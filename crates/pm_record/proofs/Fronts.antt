@@ -8,7 +8,8 @@ use Rattle.pm_rows.specs.Fold.{RowMap, committed, folded}
 use Rattle.pm_rows.specs.Limits.{IsWithinRowLimits, max_commits}
 use Rattle.pm_record.specs.Spelling.{commit_bytes, body_bytes, batch_bytes}
 use Rattle.pm_rows.specs.Standing.{Standing}
-use Rattle.pm_record.specs.StandsFor.{IsCommit, AreBatches}
+use Rattle.pm_rows.specs.Batch.{IsCommit}
+use Rattle.pm_record.specs.StandsFor.{AreBatches}
 use Rattle.pm_record.specs.Damage.{IsFrontOf, first_bytes, BeginsNext}
 use Rattle.pm_record.specs.Bodies.{commit_left}
 use Rattle.pm_record.specs.File.{State, is_within, made, room_for, top_for}

@@ -8,7 +8,7 @@ use Rattle.pm_rows.specs.declared.commit.Change.TheVariants.{Put, Del}
 use Rattle.pm_rows.specs.LogSize.{change_length, commit_length, body_length, need_of}
 use Rattle.pm_rows.specs.Longest.{max_change_bytes}
 use Rattle.pm_record.specs.Spelling.{change_bytes, commit_bytes, body_bytes, batch_bytes}
-use Rattle.pm_record.specs.StandsFor.{IsChange}
+use Rattle.pm_rows.specs.Batch.{IsChange}
 
 -- pieces are as long together as their lengths say
 flat_long : {A : Type 0} (spell : A → List ℕ) (size : A → ℕ) → ((x : A) → length (spell x) ≡ size x) → (xs : List A) → length (flat_map spell xs) ≡ sum_by size xs

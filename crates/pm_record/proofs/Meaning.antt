@@ -12,7 +12,8 @@ use Rattle.pm_rows.specs.Size.{size_of}
 use Rattle.pm_rows.specs.Limits.{IsWithinRowLimits, max_commits, max_rows, max_rows_bytes}
 use Rattle.pm_record.specs.Spelling.{commit_bytes, body_bytes, batch_bytes}
 use Rattle.pm_rows.specs.Standing.{Standing}
-use Rattle.pm_record.specs.StandsFor.{IsCommit, IsBatch, AreBatches}
+use Rattle.pm_rows.specs.Batch.{IsCommit, IsBatch}
+use Rattle.pm_record.specs.StandsFor.{AreBatches}
 use Rattle.pm_record.specs.Bodies.{commit_left}
 use Rattle.pm_record.specs.File.{State, is_within, made, room_for, top_for}
 use Rattle.pm_record.proofs.Readers.{IsBytes, bytes_behind}

@@ -7,7 +7,8 @@ use Rattle.pm_rows.specs.Fold.{RowMap, folded}
 use Rattle.pm_rows.specs.Limits.{max_rows, IsWithinRowLimits}
 use Rattle.pm_record.specs.Spelling.{base_bytes, batch_bytes, commit_bytes}
 use Rattle.pm_rows.specs.Standing.{Standing}
-use Rattle.pm_record.specs.StandsFor.{Content, StandsFor, Spells, IsContent, IsBatch, IsRow, standing_of}
+use Rattle.pm_rows.specs.Batch.{IsBatch}
+use Rattle.pm_record.specs.StandsFor.{Content, StandsFor, Spells, IsContent, IsRow, standing_of}
 
 -- the bytes are those of the whole up to some byte of it
 abbrev pub IsFrontOf : List ℕ → List ℕ → Type 0

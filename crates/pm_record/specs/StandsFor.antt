@@ -5,10 +5,10 @@ use Rattle.std.specs.List.{flat_map}
 use Rattle.std.specs.Str.{IsUtf8}
 use Rattle.std.specs.FinMap as map
 use Rattle.pm_rows.specs.declared.commit.Change.{Change}
-use Rattle.pm_rows.specs.declared.commit.Change.TheVariants.{Put, Del}
+use Rattle.pm_rows.specs.Batch.{IsBatch}
 use Rattle.pm_rows.specs.Fold.{RowMap, folded}
 use Rattle.pm_rows.specs.Standing.{Standing, after}
-use Rattle.pm_rows.specs.Limits.{max_value_bytes, max_changes, max_commits, IsWithinRowLimits}
+use Rattle.pm_rows.specs.Limits.{max_value_bytes, IsWithinRowLimits}
 use Rattle.pm_record.specs.Spelling.{base_bytes, batch_bytes}
 
 -- ---- what a file may stand for
@@ -47,21 +47,6 @@ checkpointed content clean = record {
 }
 
 -- ---- the limits
-
--- a key is an i64, and a value is UTF-8 and short enough
-abbrev pub IsChange : Change → Type 0
-IsChange (Put key value) = FitsSigned w64 key × IsUtf8 value × (length value ≤ max_value_bytes)
-IsChange (Del key) = FitsSigned w64 key
-
-pub record IsCommit (commit : List Change) : Type 0 where
-  pub some : 1 ≤ length commit
-  pub few : length commit ≤ max_changes
-  pub changes : All IsChange commit
-
-pub record IsBatch (batch : List (List Change)) : Type 0 where
-  pub some : 1 ≤ length batch
-  pub few : length batch ≤ max_commits
-  pub commits : All IsCommit batch
 
 -- a row of a base
 abbrev pub IsRow : ℤ × List ℕ → Type 0

@@ -16,7 +16,8 @@ use Rattle.pm_disk.specs.Files.{Files, file_of}
 use Rattle.pm_record.specs.Found.{IsFound}
 use Rattle.pm_redo.specs.Found.{Finds}
 use Rattle.pm_record.specs.declared.found.Found.{Found}
-use Rattle.pm_record.specs.StandsFor.{Content, IsBatch, IsChange, IsCommit, IsContent, IsRow, StandsFor, commits_of, standing_of}
+use Rattle.pm_rows.specs.Batch.{IsBatch, IsChange, IsCommit}
+use Rattle.pm_record.specs.StandsFor.{Content, IsContent, IsRow, StandsFor, commits_of, standing_of}
 
 -- ---- one change
 

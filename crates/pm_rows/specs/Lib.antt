@@ -1,3 +1,4 @@
+pub mod Batch
 pub mod Fold
 pub mod Limits
 pub mod LogSize

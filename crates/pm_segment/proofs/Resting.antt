@@ -15,7 +15,8 @@ use Rattle.pm_rows.specs.Limits.{IsWithinRowLimits}
 use Rattle.pm_rows.specs.LogSize as log
 use Rattle.pm_rows.specs.Standing.{Standing, after}
 use Rattle.pm_rows.specs.Typed.{IsTypedChange}
-use Rattle.pm_record.specs.StandsFor.{Content, IsBatch, IsChange, IsCommit, MayAppend, StandsFor, commits_of, standing_of, with_batch}
+use Rattle.pm_rows.specs.Batch.{IsBatch, IsChange, IsCommit}
+use Rattle.pm_record.specs.StandsFor.{Content, MayAppend, StandsFor, commits_of, standing_of, with_batch}
 use Rattle.pm_record.specs.Pair.{MeansIn}
 use Rattle.pm_record.specs.OnDisk.{Rests as LogRests, Throughout}
 use Rattle.pm_log.specs.Append.{MeansOneOf}

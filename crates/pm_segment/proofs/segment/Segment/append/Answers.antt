@@ -4,7 +4,7 @@ use Rattle.pm_rows.specs.declared.commit.Change.{Change}
 use Rattle.pm_rows.specs.Fold.{RowMap, committed}
 use Rattle.pm_rows.specs.Limits.{IsWithinRowLimits}
 use Rattle.pm_rows.specs.LogSize as log
-use Rattle.pm_record.specs.StandsFor.{IsBatch}
+use Rattle.pm_rows.specs.Batch.{IsBatch}
 use Rattle.pm_disk.specs.Disk.{TellsStill}
 use Rattle.pm_query.specs.Limits.{HasShortRows}
 use Rattle.pm_query.specs.declared.book.BookEntry.{BookEntry}
