@@ -5,7 +5,8 @@ use Rattle.std.proofs.lemmas.Bool.{eqb-true}
 use Rattle.pm_state.specs.declared.action.Action.{Action}
 use Rattle.pm_state.specs.declared.action.Action.TheVariants as act
 use Rattle.pm_journal.specs.declared.act.Act.{Act}
-use Rattle.pm_journal.specs.Standing.{Next, Standing, act_for, done, entry_for, first_due, is_spent, next_in, next_of, Adds}
+use Rattle.pm_outside.specs.Added.{Added}
+use Rattle.pm_journal.specs.Standing.{Next, Standing, act_for, done, entry_for, first_due, is_spent, next_in, next_of}
 use Rattle.pm_journal.specs.declared.act.GenerationsSpent.{GenerationsSpent}
 use Rattle.pm_journal.specs.Moments.{AreGiven}
 use Rattle.pm_acts.specs.Acts.{AreOurs, AreSays, Keeps, is_last_drawn, IsPresent}
@@ -137,7 +138,7 @@ moment_kept asked act.Reset s rest ours = refl
 moment_kept asked (act.Say line) s rest ours = refl
 moment_kept asked (act.End how) s rest ours = refl
 
-pub told_more : (told now : Option (List PmEvent)) (journal more : List PmEvent) → IfSome told (λ es. es ≡ journal) → Adds more told now → IfSome now (λ es. es ≡ journal ++ more)
+pub told_more : (told now : Option (List PmEvent)) (journal more : List PmEvent) → IfSome told (λ es. es ≡ journal) → Added more told now → IfSome now (λ es. es ≡ journal ++ more)
 told_more None now journal more is adds = subst (λ (t : Option (List PmEvent)). IfSome t (λ es. es ≡ journal ++ more)) (sym adds) tt
 told_more (Some before) now journal more is adds = subst (λ (t : Option (List PmEvent)). IfSome t (λ es. es ≡ journal ++ more)) (sym adds) (ap (λ (j : List PmEvent). j ++ more) is)
 
@@ -218,7 +219,7 @@ keeps_done a s t is settled = record {
 
 -- ---- nothing is done
 
-pub same_told : (told now : Option (List PmEvent)) → Adds [] told now → now ≡ told
+pub same_told : (told now : Option (List PmEvent)) → Added [] told now → now ≡ told
 same_told None now adds = adds
 same_told (Some j) now adds = adds ∙ ap (λ (l : List PmEvent). Some l) (append-nil j)
 

@@ -8,14 +8,15 @@ use Rattle.pm_outside.specs.declared.link.Got.{Got}
 use Rattle.pm_outside.specs.declared.link.Got.TheVariants.{Bytes, NotYet, End, Failed}
 use Rattle.pm_outside.specs.declared.link.Put.{Put}
 use Rattle.pm_outside.specs.declared.link.Put.TheVariants.{Count, Failed as PutFailed}
-use Rattle.pm_client.specs.Sides.{Appended, Carries, HasEnded, LinkView, Prints, Sends, Shows, SinkView, came_in_of, went_out_of}
+use Rattle.pm_outside.specs.Added.{Added}
+use Rattle.pm_client.specs.Sides.{Carries, HasEnded, LinkView, Prints, Sends, Shows, SinkView, came_in_of, went_out_of}
 use Rattle.pm_client.specs.declared.played.Played.TheVariants.{LinkFault, OutFault}
 
-pub appended_none : (before : Option (List ℕ)) → Appended [] before before
+pub appended_none : (before : Option (List ℕ)) → Added [] before before
 appended_none None = refl
 appended_none (Some bytes) = ap (λ (l : List ℕ). Some l) (sym (append-nil bytes))
 
-pub appended_then : (xs ys : List ℕ) (first second third : Option (List ℕ)) → Appended xs first second → Appended ys second third → Appended (xs ++ ys) first third
+pub appended_then : (xs ys : List ℕ) (first second third : Option (List ℕ)) → Added xs first second → Added ys second third → Added (xs ++ ys) first third
 appended_then xs ys None second third one two = two ∙ ap (λ o. option_map (λ l. l ++ ys) o) one
 appended_then xs ys (Some l) second third one two = two ∙ ap (λ o. option_map (λ m. m ++ ys) o) one ∙ ap (λ m. Some m) (append_assoc l xs ys)
 
@@ -53,15 +54,15 @@ rose_since a b c early rose = omega arith
 
 -- ---- one write
 
-wrote_in : (before now : Option Traffic) (put : Put) (from : List ℕ) → now ≡ option_map (λ t. after_write t put from) before → Appended [] (came_in_of before) (came_in_of now)
+wrote_in : (before now : Option Traffic) (put : Put) (from : List ℕ) → now ≡ option_map (λ t. after_write t put from) before → Added [] (came_in_of before) (came_in_of now)
 wrote_in None now put from is = ap came_in_of is
 wrote_in (Some t) now put from is = ap came_in_of is ∙ appended_none (Some t.came_in)
 
-wrote_out : (before now : Option Traffic) (count : ℕ) (from : List ℕ) → now ≡ option_map (λ t. after_write t (Count count) from) before → Appended (take count from) (went_out_of before) (went_out_of now)
+wrote_out : (before now : Option Traffic) (count : ℕ) (from : List ℕ) → now ≡ option_map (λ t. after_write t (Count count) from) before → Added (take count from) (went_out_of before) (went_out_of now)
 wrote_out None now count from is = ap went_out_of is
 wrote_out (Some t) now count from is = ap went_out_of is
 
-wrote_none : (before now : Option Traffic) (from : List ℕ) → now ≡ option_map (λ t. after_write t PutFailed from) before → Appended [] (went_out_of before) (went_out_of now)
+wrote_none : (before now : Option Traffic) (from : List ℕ) → now ≡ option_map (λ t. after_write t PutFailed from) before → Added [] (went_out_of before) (went_out_of now)
 wrote_none None now from is = ap went_out_of is
 wrote_none (Some t) now from is = ap went_out_of is ∙ appended_none (Some t.went_out)
 
@@ -79,11 +80,11 @@ write_failed before now from is later = record {
   later = later;
 }
 
-printed_count : (before now : Option (List ℕ)) (count : ℕ) (from : List ℕ) → now ≡ option_map (λ w. put_behind w (Count count) from) before → Appended (take count from) before now
+printed_count : (before now : Option (List ℕ)) (count : ℕ) (from : List ℕ) → now ≡ option_map (λ w. put_behind w (Count count) from) before → Added (take count from) before now
 printed_count None now count from is = is
 printed_count (Some w) now count from is = is
 
-printed_none : (before now : Option (List ℕ)) (from : List ℕ) → now ≡ option_map (λ w. put_behind w PutFailed from) before → Appended [] before now
+printed_none : (before now : Option (List ℕ)) (from : List ℕ) → now ≡ option_map (λ w. put_behind w PutFailed from) before → Added [] before now
 printed_none None now from is = is
 printed_none (Some w) now from is = is ∙ appended_none (Some w)
 
@@ -99,18 +100,18 @@ rest_of xs n = take_all _ _ (omega (arith, length-drop n xs))
 
 -- ---- one read
 
-got_in : (before now : Option Traffic) (count : ℕ) (into : List ℕ) → now ≡ option_map (λ t. after_read t (Bytes count) into) before → Appended (take count into) (came_in_of before) (came_in_of now)
+got_in : (before now : Option Traffic) (count : ℕ) (into : List ℕ) → now ≡ option_map (λ t. after_read t (Bytes count) into) before → Added (take count into) (came_in_of before) (came_in_of now)
 got_in None now count into is = ap came_in_of is
 got_in (Some t) now count into is = ap came_in_of is
 
-got_out : (before now : Option Traffic) (result : Got) (into : List ℕ) → now ≡ option_map (λ t. after_read t result into) before → Appended [] (went_out_of before) (went_out_of now)
+got_out : (before now : Option Traffic) (result : Got) (into : List ℕ) → now ≡ option_map (λ t. after_read t result into) before → Added [] (went_out_of before) (went_out_of now)
 got_out None now result into is = ap went_out_of is
 got_out (Some t) now (Bytes count) into is = ap went_out_of is ∙ appended_none (Some t.went_out)
 got_out (Some t) now NotYet into is = ap went_out_of is ∙ appended_none (Some t.went_out)
 got_out (Some t) now End into is = ap went_out_of is ∙ appended_none (Some t.went_out)
 got_out (Some t) now Failed into is = ap went_out_of is ∙ appended_none (Some t.went_out)
 
-got_none : (before now : Option Traffic) (result : Got) (into : List ℕ) → ((t : Traffic) → (after_read t result into).came_in ≡ t.came_in) → now ≡ option_map (λ t. after_read t result into) before → Appended [] (came_in_of before) (came_in_of now)
+got_none : (before now : Option Traffic) (result : Got) (into : List ℕ) → ((t : Traffic) → (after_read t result into).came_in ≡ t.came_in) → now ≡ option_map (λ t. after_read t result into) before → Added [] (came_in_of before) (came_in_of now)
 got_none None now result into keeps is = ap came_in_of is
 got_none (Some t) now result into keeps is = ap came_in_of is ∙ ap (λ (l : List ℕ). Some l) (keeps t) ∙ appended_none (Some t.came_in)
 

@@ -1,5 +1,6 @@
 -- What passes on a client's link, and to where it shows what it reads.
 use Rattle.std.specs.Prelude.{◌≡◌, ◌≤◌, ℕ, true, List, [], ◌++◌, Option, IfSome, option_map, Result, Ok, Err}
+use Rattle.pm_outside.specs.Added.{Added}
 use Rattle.pm_disk.specs.Cause.{Rose}
 use Rattle.pm_outside.specs.Traffic.{Traffic}
 use Rattle.pm_client.specs.declared.played.Played.{Played}
@@ -29,10 +30,6 @@ pub record Sides : Type 0 where
 abbrev pub sides : LinkView → SinkView → Sides
 sides link sink = record { link = link; sink = sink }
 
--- this was added behind what stood, where it is told
-abbrev pub Appended : List ℕ → Option (List ℕ) → Option (List ℕ) → Type 0
-Appended more before now = now ≡ option_map (λ bytes. bytes ++ more) before
-
 abbrev pub came_in_of : Option Traffic → Option (List ℕ)
 came_in_of traffic = option_map (λ t. t.came_in) traffic
 
@@ -41,13 +38,13 @@ went_out_of traffic = option_map (λ t. t.went_out) traffic
 
 -- between two moments these bytes came in, and these went out
 pub record Carries (came went : List ℕ) (before now : LinkView) : Type 0 where
-  pub came_in : Appended came (came_in_of before.traffic) (came_in_of now.traffic)
-  pub went_out : Appended went (went_out_of before.traffic) (went_out_of now.traffic)
+  pub came_in : Added came (came_in_of before.traffic) (came_in_of now.traffic)
+  pub went_out : Added went (went_out_of before.traffic) (went_out_of now.traffic)
   pub later : before.faults ≤ now.faults
 
 -- and these were written
 pub record Prints (shown : List ℕ) (before now : SinkView) : Type 0 where
-  pub written : Appended shown before.written now.written
+  pub written : Added shown before.written now.written
   pub later : before.faults ≤ now.faults
 
 -- the link has given its end, or doesn't tell

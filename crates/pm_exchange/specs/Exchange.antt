@@ -1,5 +1,6 @@
 -- What passes on a link between two moments.
 use Rattle.std.specs.Prelude.{◌≡◌, ◌≢◌, ◌≤◌, ℕ, Bool, true, false, List, [], ◌++◌, Option, None, Some, IfSome, Result, Ok, Err, option_map}
+use Rattle.pm_outside.specs.Added.{Added}
 use Rattle.pm_disk.specs.Cause.{Rose}
 use Rattle.pm_outside.specs.Traffic.{Traffic}
 use Rattle.pm_outside.specs.declared.link.Got.{Got}
@@ -21,10 +22,6 @@ link_view traffic number faults = record { traffic = traffic; number = number; f
 abbrev pub seen : {L : Type 0} → Link.Ghosts L → L → LinkView
 seen its link = link_view (its.traffic link) (its.number link) (its.faults link)
 
--- this was added behind what stood, where it is told
-abbrev pub Appended : List ℕ → Option (List ℕ) → Option (List ℕ) → Type 0
-Appended more before now = now ≡ option_map (λ bytes. bytes ++ more) before
-
 abbrev pub came_in_of : Option Traffic → Option (List ℕ)
 came_in_of traffic = option_map (λ t. t.came_in) traffic
 
@@ -38,8 +35,8 @@ HasEnded (Some traffic) = traffic.ended ≡ true
 
 -- these bytes came in, and these went out
 pub record Passes (came went : List ℕ) (before now : LinkView) : Type 0 where
-  pub came_in : Appended came (came_in_of before.traffic) (came_in_of now.traffic)
-  pub went_out : Appended went (went_out_of before.traffic) (went_out_of now.traffic)
+  pub came_in : Added came (came_in_of before.traffic) (came_in_of now.traffic)
+  pub went_out : Added went (went_out_of before.traffic) (went_out_of now.traffic)
   pub ended : HasEnded before.traffic → HasEnded now.traffic
   pub number : now.number ≡ before.number
   pub later : before.faults ≤ now.faults

@@ -21,7 +21,8 @@ use Rattle.pm_state.specs.Laws.{TellsOfEachStart, WritesALegalJournal}
 use Rattle.pm_journal.specs.declared.roll.Enrolled.{Enrolled}
 use Rattle.pm_journal.specs.Doing.{MayReport}
 use Rattle.pm_journal.specs.Roll.{roll_of, without}
-use Rattle.pm_journal.specs.Standing.{Standing, Adds, children_after, last_pid_after, generation_after, noted, entry_for, reported, done}
+use Rattle.pm_outside.specs.Added.{Added}
+use Rattle.pm_journal.specs.Standing.{Standing, children_after, last_pid_after, generation_after, noted, entry_for, reported, done}
 use Rattle.pm_journal.specs.Stands.{Remembers, IsComing, Stands, HasPids, IsSettled, any_kind, any_moment, starts_left}
 use Rattle.pm_journal.proofs.Rolls.{roll-without}
 
@@ -271,7 +272,7 @@ entry-is (act.Say line) s r was = refl
 entry-is (act.End how) s r was = refl
 
 pub told-more : (told now : Option (List PmEvent)) (journal entries : List PmEvent) → IfSome told (λ es. es ≡ journal)
-    → Adds entries told now → IfSome now (λ es. es ≡ journal ++ entries)
+    → Added entries told now → IfSome now (λ es. es ≡ journal ++ entries)
 told-more None now journal entries is adds = subst (λ (t : Option (List PmEvent)). IfSome t (λ es. es ≡ journal ++ entries)) (sym adds) tt
 told-more (Some es) now journal entries is adds =
     subst (λ (t : Option (List PmEvent)). IfSome t (λ xs. xs ≡ journal ++ entries)) (sym adds) (ap (λ xs. xs ++ entries) is)
@@ -309,7 +310,7 @@ coming-next tells limits s r h a rest due was coming =
 
 -- an act is done
 pub stands-next : WritesALegalJournal → TellsOfEachStart → (limits : Limits) (told now : Option (List PmEvent)) (s : Standing) (h : Trace) (a : Action)
-    (rest : List Action) → s.due ≡ a ∷ rest → Adds (entry_for a s ∷ []) told now → Stands limits told s h → Stands limits now (done a s) h
+    (rest : List Action) → s.due ≡ a ∷ rest → Added (entry_for a s ∷ []) told now → Stands limits told s h → Stands limits now (done a s) h
 stands-next writes tells limits told now s h a rest due adds was =
     let e : PmEvent = entry_for a s in
     let r : Replay = all_replayed (replay_begun limits) was.journal in

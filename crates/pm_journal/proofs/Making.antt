@@ -1,5 +1,5 @@
 -- A call that is made, and the entries that stand before those of its acts.
-use Rattle.std.proofs.Common.{◌≡◌, ℕ, ◌+◌, ◌≤◌, Bool, true, false, ◌||◌, cond, List, [], ◌∷◌, ◌++◌, Some, None, refl, ap, sym, ◌∙◌, subst, arith, append-nil}
+use Rattle.std.proofs.Common.{◌≡◌, ℕ, ◌+◌, ◌≤◌, Bool, true, false, ◌||◌, cond, List, [], ◌∷◌, ◌++◌, Some, None, refl, ap, sym, ◌∙◌, subst, arith}
 use Rattle.std.specs.Prelude.{Option, IfSome, IsSomeAnd, is_some, is_none}
 use Rattle.pm_exit.specs.declared.child.Kind.{Kind}
 use Rattle.pm_modes.specs.declared.Mode.{Mode}
@@ -23,7 +23,9 @@ use Rattle.pm_state.specs.Laws.{StaysInStep, TellsOfEachStart, WritesALegalJourn
 use Rattle.pm_supervisor.specs.Laws.{TakesChildStepsBetween}
 use Rattle.std.specs.Option.{unwrap_or}
 use Rattle.pm_journal.specs.declared.exit.ChildExit.{ChildExit}
-use Rattle.pm_journal.specs.Standing.{Standing, Adds, IsAtRest, noted, nothing_done, called, later, made, ticking, turning, asking, accepting, all_noted, ends_redo, exit_call, exit_entry, exiting, next_pid, decision_on, killed, kill_entry, MayAsk, MayTake}
+use Rattle.pm_outside.specs.Added.{Added}
+use Rattle.pm_outside.specs.AddedLaws.{added_none}
+use Rattle.pm_journal.specs.Standing.{Standing, IsAtRest, noted, nothing_done, called, later, made, ticking, turning, asking, accepting, all_noted, ends_redo, exit_call, exit_entry, exiting, next_pid, decision_on, killed, kill_entry, MayAsk, MayTake}
 use Rattle.pm_journal.specs.Stands.{Remembers, IsComing, Stands, HasPids, HasRun, IsSettled, any_moment, behind}
 use Rattle.pm_journal.proofs.Acting.{told-more, remembers-noted}
 use Rattle.pm_journal.proofs.Pids.{unowed-before, pids-called, pids-asked, pids-accepted, pids-kept, tick-left, tick-asked, turn-left, turn-asked, asked-some, asked-none, asked-left, exit-left, exit-asked, may-end-startup}
@@ -107,7 +109,7 @@ pub stands-call : StaysInStep → WritesALegalJournal → (limits : Limits) (tol
     → entries_of_call kept (replay_by limits was.journal) s.machine call
     ≡ first ++ entries_of kept at (all_replayed (replay_by limits was.journal) first) (dues (acts_of_call s.machine call))
     → Makes s t call at → Owes t.due t.machine → (t.ended || has_end t.due) ≡ t.machine.ended
-    → Remembers t (all_replayed (replay_by limits was.journal) first) → HasPids t → Adds first told now
+    → Remembers t (all_replayed (replay_by limits was.journal) first) → HasPids t → Added first told now
     → Stands limits now t (behind s.machine call h)
 stands-call steps writes limits told now s t h call kept at first was none fit timely entries makes owes ended remembers pids adds =
     let r : Replay = replay_by limits was.journal in
@@ -137,11 +139,6 @@ stands-call steps writes limits told now s t h call kept at first was none fit t
       past = goes-on limits h (events_in s.machine (with_reports (server_state r s.machine h) call)) was.past keeps.run;
       pids = pids;
     }
-
--- nothing is noted
-pub adds-none : (told : Option (List PmEvent)) → Adds [] told told
-adds-none None = refl
-adds-none (Some es) = ap Some (sym (append-nil es))
 
 later-after : (at : ℕ) (s : Standing) → s.moment ≤ later at s
 later-after at s = omega arith
@@ -191,7 +188,7 @@ stands-ticked steps writes tells limits told now s t h at rest unowed is same wa
     (as-called (Ticks then) s r was.remembers)
     (pids-called s (made (ticking at s) s) was.pids rest.none_due unowed refl refl (tells.few s.machine (Ticked then))
     (λ some. ap is_some (tick-asked s.machine s.machine.abort_at then) ∙ some) (λ some. tick-left s.machine s.machine.abort_at then))
-    (same ∙ adds-none told))
+    (same ∙ added_none told))
 
 closed : (asked : Option Mode) → is_some asked ≡ true → is_none asked ≡ false
 closed None some = absurd cc
@@ -215,7 +212,7 @@ stands-turned steps writes tells facts limits told now s t h rest unowed is same
     (as-called TakesTurn s r was.remembers)
     (pids-called s (made turning s) was.pids rest.none_due unowed refl refl (tells.few s.machine Turned)
     (λ some. ap is_some (turn-asked s.machine) ∙ some) (λ some. turn-left s.machine (λ run. (known.in_run run).connections ∙ closed s.machine.shutdown some) some))
-    (same ∙ adds-none told))
+    (same ∙ added_none told))
 
 may-ask : (asked : Mode) (s : Standing) (at : ℕ) → MayAsk asked s → s.owes_smart ≡ true → AsksSmart (entry.Asked asked at)
 may-ask mode.Smart s at may owes = tt
@@ -224,7 +221,7 @@ may-ask mode.Immediate s at may owes = absurd (let both : true ≡ false = sym o
 
 -- a shutdown was asked for
 pub stands-asked : StaysInStep → WritesALegalJournal → TellsOfEachStart → (limits : Limits) (told now : Option (List PmEvent)) (s t : Standing)
-    (h : Trace) (asked : Mode) (at : ℕ) → IsAtRest s → MayAsk asked s → t ≡ made (asking asked at s) s → Adds (asking asked at s).entries told now
+    (h : Trace) (asked : Mode) (at : ℕ) → IsAtRest s → MayAsk asked s → t ≡ made (asking asked at s) s → Added (asking asked at s).entries told now
     → Stands limits told s h → Stands limits now t (behind s.machine (asking asked at s).call h)
 stands-asked steps writes tells limits told now s t h asked at rest may is adds was =
     let r : Replay = replay_by limits was.journal in
@@ -244,7 +241,7 @@ stands-asked steps writes tells limits told now s t h asked at rest may is adds 
 
 -- a connection was accepted
 pub stands-accepted : StaysInStep → WritesALegalJournal → TellsOfEachStart → (limits : Limits) (told now : Option (List PmEvent)) (s t : Standing)
-    (h : Trace) → IsAtRest s → IsSettled s → MayTake s → t ≡ made (accepting s) s → Adds (accepting s).entries told now
+    (h : Trace) → IsAtRest s → IsSettled s → MayTake s → t ≡ made (accepting s) s → Added (accepting s).entries told now
     → Stands limits told s h → Stands limits now t (behind s.machine (accepting s).call h)
 stands-accepted steps writes tells limits told now s t h rest still may is adds was =
     let r : Replay = replay_by limits was.journal in
@@ -285,7 +282,7 @@ counted-now facts between limits told s h pid k none was is =
 -- a child that is there is asked to be killed
 pub stands-killed : StaysInStep → WritesALegalJournal → TellsOfEachStart → (limits : Limits) (told now : Option (List PmEvent)) (s t : Standing)
     (h : Trace) (pid : ℕ) → IsAtRest s → s.owes_smart ≡ false → is_some (kind_in pid s.children) ≡ true → t ≡ killed pid s
-    → Adds (kill_entry pid ∷ []) told now → Stands limits told s h → Stands limits now t h
+    → Added (kill_entry pid ∷ []) told now → Stands limits told s h → Stands limits now t h
 stands-killed steps writes tells limits told now s t h pid rest unowed there is adds was =
     let r : Replay = replay_by limits was.journal in
     let on = ready tells limits s r h rest was.coming in
@@ -353,7 +350,7 @@ exit-entries false e kept now generation r acts is = refl
 -- a child has ended
 pub stands-exited : StaysInStep → WritesALegalJournal → TellsOfEachStart → KeepsItsFacts → TakesChildStepsBetween → (limits : Limits)
     (told now : Option (List PmEvent)) (s t : Standing) (h : Trace) (exit : ChildExit) (at : ℕ) → IsAtRest s → s.owes_smart ≡ false
-    → kind_in exit.pid s.children ≡ Some exit.kind → t ≡ made (exiting exit at s) s → Adds (exiting exit at s).entries told now
+    → kind_in exit.pid s.children ≡ Some exit.kind → t ≡ made (exiting exit at s) s → Added (exiting exit at s).entries told now
     → Stands limits told s h → Stands limits now t (behind s.machine (exiting exit at s).call h)
 stands-exited steps writes tells facts between limits told now s t h exit at rest unowed there is adds was =
     let r : Replay = replay_by limits was.journal in

@@ -10,7 +10,8 @@ use Rattle.pm_state.specs.Starts.{Owes}
 use Rattle.pm_state.specs.Journal.{without_first}
 use Rattle.pm_state.specs.Laws.{TellsOfEachStart, WritesALegalJournal}
 use Rattle.pm_journal.specs.Doing.{HasNumbers, MayReport}
-use Rattle.pm_journal.specs.Standing.{Standing, Adds, act_for, done, entry_for, first_due, is_spent, last_generation, next_in, next_of}
+use Rattle.pm_outside.specs.Added.{Added}
+use Rattle.pm_journal.specs.Standing.{Standing, act_for, done, entry_for, first_due, is_spent, last_generation, next_in, next_of}
 use Rattle.pm_journal.specs.Stands.{HasPids, IsSettled, Stands}
 use Rattle.pm_journal.proofs.Acting.{may-report, settled-next, stands-next}
 
@@ -67,7 +68,7 @@ shorter [] a is = absurd cc
 shorter (b ∷ acts) a is = omega arith
 
 pub stands-done : WritesALegalJournal → TellsOfEachStart → (limits : Limits) (told now : Option (List PmEvent)) (s t : Standing) (h : Trace) (a : Action)
-    → first_due s.due ≡ Some a → t ≡ done a s → Adds (entry_for a s ∷ []) told now → Stands limits told s h → Stands limits now t h
+    → first_due s.due ≡ Some a → t ≡ done a s → Added (entry_for a s ∷ []) told now → Stands limits told s h → Stands limits now t h
 stands-done writes tells limits told now s t h a is same adds was =
     subst (λ x. Stands limits now x h) (sym same) (stands-next writes tells limits told now s h a (without_first s.due) (first-some s.due a is) adds was)
 

@@ -1,5 +1,6 @@
 -- Where a supervisor at work stands, and what its calls and acts leave.
-use Rattle.std.specs.Prelude.{◌≡◌, ℕ, ◌+◌, ◌<◌, max, Bool, false, ◌==◌, ◌&&◌, ◌||◌, if◌then◌else◌, List, [], ◌∷◌, ◌++◌, Option, Some, None, option_map, Result, Ok, Err, unwrap_or}
+use Rattle.std.specs.Prelude.{◌≡◌, ℕ, ◌+◌, ◌<◌, max, Bool, false, ◌==◌, ◌&&◌, ◌||◌, if◌then◌else◌, List, [], ◌∷◌, Option, Some, None, Result, Ok, Err, unwrap_or}
+use Rattle.pm_outside.specs.Added.{Added}
 use Rattle.pm_exit.specs.declared.child.Kind.{Kind}
 use Rattle.pm_exit.specs.Ends.{is_exit_0}
 use Rattle.pm_modes.specs.declared.Mode.{Mode}
@@ -72,10 +73,6 @@ standing_of m =
     }
 
 -- entries
-
--- the journal, where it tells, has these entries more
-abbrev pub Adds : List PmEvent → Option (List PmEvent) → Option (List PmEvent) → Type 0
-Adds entries before now = now ≡ option_map (λ journal. journal ++ entries) before
 
 abbrev pub children_after : PmEvent → List Enrolled → List Enrolled
 children_after (entry.Started pid kind) cs = record { pid = pid; kind = kind } ∷ cs

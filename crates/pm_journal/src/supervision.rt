@@ -43,7 +43,8 @@ impl<J: Chronicle<PmEvent>> Supervision<J> {
     ghost use Rattle.pm_supervisor.specs.Steps.{empty_trace};
     ghost use Rattle.pm_journal.specs.declared.act.Act.TheVariants.{Start};
     ghost use Rattle.pm_journal.specs.Roll.{kind_in};
-    ghost use Rattle.pm_journal.specs.Standing.{Adds, IsAtRest, MayTake, MayAsk, accepting, all_noted, exit_entry, redo_entries, asking, decision_on, ends_redo, exiting, made, next_of, next_pid, killed, kill_entry, nothing_done, ticking, turning};
+    ghost use Rattle.pm_outside.specs.Added.{Added};
+    ghost use Rattle.pm_journal.specs.Standing.{IsAtRest, MayTake, MayAsk, accepting, all_noted, exit_entry, redo_entries, asking, decision_on, ends_redo, exiting, made, next_of, next_pid, killed, kill_entry, nothing_done, ticking, turning};
     ghost use Rattle.pm_journal.specs.Supervision.{HasRoom, at_work, standing, told};
     ghost use Rattle.pm_journal.specs.Stands.{GoesOn, GoesOnBy, HasPast, IsSettled, Stands};
 
@@ -168,7 +169,7 @@ impl<J: Chronicle<PmEvent>> Supervision<J> {
         requires may { MayAsk mode (standing self.old) }
         ensures standing { OnOk result (standing self.new ≡ made
             (asking mode at (standing self.old)) (standing self.old)) }
-        ensures told { OnOk result (Adds (asking mode at (standing self.old)).entries
+        ensures told { OnOk result (Added (asking mode at (standing self.old)).entries
             (told self.old) (told self.new)) }
         ensures refused { OnErr result ((standing self.new ≡ standing self.old)
             × (told self.new ≡ told self.old)) }
@@ -192,7 +193,7 @@ impl<J: Chronicle<PmEvent>> Supervision<J> {
         requires unowed { (standing self.old).owes_smart ≡ false }
         requires there { IsSome (kind_in pid (standing self.old).children) }
         ensures standing { OnOk result (standing self.new ≡ killed pid (standing self.old)) }
-        ensures told { OnOk result (Adds (kill_entry pid ∷ []) (told self.old) (told self.new)) }
+        ensures told { OnOk result (Added (kill_entry pid ∷ []) (told self.old) (told self.new)) }
         ensures refused { OnErr result ((standing self.new ≡ standing self.old)
             × (told self.new ≡ told self.old)) }
         ensures stands { OnOk result (GoesOn (at_work self.old) (at_work self.new)) }
@@ -232,7 +233,7 @@ impl<J: Chronicle<PmEvent>> Supervision<J> {
         ensures decision { result.decision ≡ decision_on (standing self.old) }
         ensures standing { standing self.new ≡ made (accepting (standing self.old))
             (standing self.old) }
-        ensures told { Adds (accepting (standing self.old)).entries (told self.old)
+        ensures told { Added (accepting (standing self.old)).entries (told self.old)
             (told self.new) }
         ensures stands { GoesOnBy (accepting (standing self.old)).call (at_work self.old)
             (at_work self.new) }
@@ -256,7 +257,7 @@ impl<J: Chronicle<PmEvent>> Supervision<J> {
         ensures decision { IfOk result (λ taken. taken.decision ≡ decision_on (standing self.old)) }
         ensures standing { OnOk result (standing self.new ≡ made (accepting (standing self.old))
             (standing self.old)) }
-        ensures told { OnOk result (Adds (accepting (standing self.old)).entries (told self.old)
+        ensures told { OnOk result (Added (accepting (standing self.old)).entries (told self.old)
             (told self.new)) }
         ensures refused { OnErr result ((standing self.new ≡ standing self.old)
             × (told self.new ≡ told self.old)) }
@@ -277,7 +278,7 @@ impl<J: Chronicle<PmEvent>> Supervision<J> {
         requires kept { ends_redo exit ≡ true → IsSome exit.kept }
         ensures standing { OnOk result (standing self.new ≡ made
             (exiting exit at (standing self.old)) (standing self.old)) }
-        ensures told { OnOk result (Adds (exiting exit at (standing self.old)).entries
+        ensures told { OnOk result (Added (exiting exit at (standing self.old)).entries
             (told self.old) (told self.new)) }
         ensures refused { OnErr result ((standing self.new ≡ standing self.old)
             × (told self.new ≡ told self.old)) }
@@ -298,7 +299,7 @@ impl<J: Chronicle<PmEvent>> Supervision<J> {
         requires kept { ends_redo exit ≡ true → IsSome exit.kept }
         ensures standing { standing self.new ≡ all_noted
             (exit_entry exit at ∷ redo_entries exit (standing self.old)) (standing self.old) }
-        ensures told { Adds (exit_entry exit at ∷ redo_entries exit (standing self.old))
+        ensures told { Added (exit_entry exit at ∷ redo_entries exit (standing self.old))
             (told self.old) (told self.new) }
     {
         let generation = self.memory.generation;
@@ -324,7 +325,7 @@ impl<J: Chronicle<PmEvent>> Supervision<J> {
         requires stands { HasPast (at_work self.old) }
         ensures act { result ≡ (next_of (standing self.old)).answer }
         ensures standing { standing self.new ≡ (next_of (standing self.old)).after }
-        ensures told { Adds (next_of (standing self.old)).entries (told self.old) (told self.new) }
+        ensures told { Added (next_of (standing self.old)).entries (told self.old) (told self.new) }
         ensures pids { (pid : ℕ) (kind : Kind) → result ≡ Ok (Some (Start pid kind))
             → pid < 2 ^ 31 }
         ensures stands { GoesOn (at_work self.old) (at_work self.new) }

@@ -1,5 +1,6 @@
 -- What is written to a sink.
-use Rattle.std.specs.Prelude.{◌≡◌, ◌⊎◌, ℕ, List, [], ◌++◌, codes, decimal, Option, option_map}
+use Rattle.std.specs.Prelude.{◌≡◌, ◌⊎◌, ℕ, List, [], ◌++◌, codes, decimal, Option}
+use Rattle.pm_outside.specs.Added.{Added}
 use Rattle.pm_disk.specs.declared.disk.Which.{Which}
 use Rattle.pm_disk.specs.declared.disk.Which.TheVariants.{A, B}
 use Rattle.pm_record.specs.declared.fault.RedoFault.{RedoFault}
@@ -10,7 +11,7 @@ pub record IsPrinted (text : List ℕ) (cut : Type 0) (before now : Option (List
   pub front : List ℕ
   pub rest : List ℕ
   pub parts : text ≡ front ++ rest
-  pub written : now ≡ option_map (λ written. written ++ front) before
+  pub written : Added front before now
   pub whole : (rest ≡ []) ⊎ cut
 
 abbrev pub file_letter : Which → List ℕ

@@ -3,15 +3,13 @@ use Rattle.std.proofs.Common.{◌≡◌, inl, inr, ℕ, ◌-◌, List, [], ◌++
 use Rattle.std.specs.Option.{option_map}
 use Rattle.std.specs.Prelude.{true, false}
 use Rattle.std.proofs.lemmas.List.{take_all}
+use Rattle.pm_outside.specs.Added.{Added}
+use Rattle.pm_outside.specs.AddedLaws.{added_none}
 use Rattle.pm_lines.specs.Print.{IsPrinted}
 
 -- what is left behind the first n, as the code takes it
 pub rest_of : (xs : List ℕ) (n : ℕ) → take (length xs - n) (drop n xs) ≡ drop n xs
 rest_of xs n = take_all _ _ (omega (arith, length-drop n xs))
-
-none_added : (told : Option (List ℕ)) → told ≡ option_map (λ w. w ++ []) told
-none_added None = refl
-none_added (Some w) = ap (λ (l : List ℕ). Some l) (sym (append-nil w))
 
 nothing_put : (told : Option (List ℕ)) → option_map (λ w. w) told ≡ told
 nothing_put None = refl
@@ -27,10 +25,10 @@ two_added a b (Some w) = ap (λ (l : List ℕ). Some l) (append_assoc w a b)
 pub record IsUpTo (text rest : List ℕ) (before now : Option (List ℕ)) : Type 0 where
   pub front : List ℕ
   pub parts : text ≡ front ++ rest
-  pub written : now ≡ option_map (λ w. w ++ front) before
+  pub written : Added front before now
 
 pub nothing_yet : (text : List ℕ) (told : Option (List ℕ)) → IsUpTo text text told told
-nothing_yet text told = record { front = []; parts = refl; written = none_added told }
+nothing_yet text told = record { front = []; parts = refl; written = added_none told }
 
 -- n bytes more
 pub further : (text rest : List ℕ) (n : ℕ) (before mid now : Option (List ℕ)) → IsUpTo text rest before mid → now ≡ option_map (λ w. w ++ take n rest) mid → IsUpTo text (take (length rest - n) (drop n rest)) before now
@@ -50,7 +48,7 @@ cut_off text rest cut before mid now up none failed = record { front = up.front;
 -- ---- texts one behind the other
 
 pub nothing_printed : (cut : Type 0) (told : Option (List ℕ)) → IsPrinted [] cut told told
-nothing_printed cut told = record { front = []; rest = []; parts = refl; written = none_added told; whole = inl refl }
+nothing_printed cut told = record { front = []; rest = []; parts = refl; written = added_none told; whole = inl refl }
 
 -- the sink didn't fail
 pub printed_whole : (text : List ℕ) (before now : Option (List ℕ)) → IsPrinted text (false ≡ true) before now → now ≡ option_map (λ w. w ++ text) before

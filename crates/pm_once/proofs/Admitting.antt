@@ -16,7 +16,8 @@ use Rattle.pm_chain.specs.Laws.{StepsGoOn}
 use Rattle.pm_chain.specs.Steps.{ChildRun, Notes, Runs, RunsOn, Step, journal_of}
 use Rattle.pm_journal.specs.Laws.{GoesOnOverItsJournal, KeepsALegalJournal}
 use Rattle.pm_journal.specs.declared.supervision.Taken.{Taken}
-use Rattle.pm_journal.specs.Standing.{Adds, IsAtRest, MayTake, Standing, accepting, decision_on, later, made, next_pid}
+use Rattle.pm_outside.specs.Added.{Added}
+use Rattle.pm_journal.specs.Standing.{IsAtRest, MayTake, Standing, accepting, decision_on, later, made, next_pid}
 use Rattle.pm_journal.specs.Stands.{AtWork, IsSettled}
 use Rattle.pm_once.specs.Calls.{Admits, Asks, Finishes, HasRun}
 use Rattle.pm_duties.specs.Outcomes.{ComesTo}
@@ -53,7 +54,7 @@ pub record HasTaken (before : View) (w : AtWork) : Type 0 where
   pub may : MayTake before.work.standing
   pub ok : decision_on before.work.standing ≡ decisions.Ok
   pub standing : w.standing ≡ made (accepting before.work.standing) before.work.standing
-  pub told : Adds (accepting before.work.standing).entries before.work.told w.told
+  pub told : Added (accepting before.work.standing).entries before.work.told w.told
 
 abbrev pub accepted_step : View → Step
 accepted_step v = Notes (entry.Accepted (next_pid v.work.standing) (decision_on v.work.standing))

@@ -15,7 +15,8 @@ use Rattle.pm_state.specs.declared.event.PmEvent.TheVariants as entry
 use Rattle.pm_chain.specs.Laws.{StepsGoOn}
 use Rattle.pm_chain.specs.Steps.{Step, Notes, journal_of}
 use Rattle.pm_journal.specs.Laws.{GoesOnOverItsJournal}
-use Rattle.pm_journal.specs.Standing.{Adds, IsAtRest, Standing, asking, later, made, turning}
+use Rattle.pm_outside.specs.Added.{Added}
+use Rattle.pm_journal.specs.Standing.{IsAtRest, Standing, asking, later, made, turning}
 use Rattle.pm_journal.specs.Stands.{AtWork, Stands, behind}
 use Rattle.pm_acts.specs.Acts.{AreOurs, AsksAsDue, IsIdle, is_last_drawn}
 use Rattle.pm_once.specs.Goes.{Does, IsAt, IsOpen}
@@ -26,7 +27,8 @@ use Rattle.pm_lines.specs.Log.{HasSaid}
 use Rattle.pm_once.specs.View.{View}
 use Rattle.pm_acts.specs.RunsLaws.{notes_follow}
 use Rattle.pm_duties.specs.CausesLaws.{caused_entry}
-use Rattle.pm_server.specs.JournalLaws.{asked_in-append, adds_none}
+use Rattle.pm_outside.specs.AddedLaws.{added_none}
+use Rattle.pm_server.specs.JournalLaws.{asked_in-append}
 use Rattle.pm_acts.specs.StepsLaws.{serves_nothing}
 use Rattle.pm_acts.specs.NextsLaws.{told_more}
 use Rattle.pm_acts.specs.RulesLaws.{ask_says, says_ours, turn_rule}
@@ -78,7 +80,7 @@ asks_more asked listens s t due pid unowed asks = record {
 
 pub asked : StepsGoOn → GoesOnOverItsJournal → (gives : ℕ → Type 0) (at : ℕ) (before : View) (w : AtWork) → gives at → IsAtRest before.work.standing
     → (before.listens ≡ true) ⊎ (before.work.standing.owes_smart ≡ true) → w.standing ≡ made (asking Smart at before.work.standing) before.work.standing
-    → Adds (asking Smart at before.work.standing).entries before.work.told w.told
+    → Added (asking Smart at before.work.standing).entries before.work.told w.told
     → Does gives (Ok tt) (Notes (entry.Asked Smart (later at before.work.standing)) ∷ []) before (deaf before w)
 asked goes work gives at before w given rests due standing told =
     let s = before.work.standing in
@@ -151,7 +153,7 @@ turned work gives before w idle standing told =
               disturbed = turned_disturbed outset.faults earlier before (record before { work = w }) refl refl (goes_on_so s outset.limits (journal_of earlier) is.past is.stands idle.rests)
                   (ap (λ (t : Standing). t.machine) standing) (ap (λ (t : Standing). t.due) standing) rule.shutdown_is is.disturbed;
             });
-        journal = subst (λ (t : Option (List PmEvent)). Adds [] before.work.told t) (sym told) (adds_none before.work.told);
+        journal = subst (λ (t : Option (List PmEvent)). Added [] before.work.told t) (sym told) (added_none before.work.told);
         times = record { each = tt; last = inl (ap (λ (t : Standing). t.moment) standing) };
         store = spans_none before.store;
         still = λ none. refl;

@@ -22,7 +22,8 @@ use Rattle.pm_chain.specs.Steps.{ChildRun, Notes, Step, Runs, RunsOn, redo_end, 
 use Rattle.pm_journal.specs.Laws.{GoesOnOverItsJournal, KeepsALegalJournal}
 use Rattle.pm_journal.specs.Roll.{kind_in, without}
 use Rattle.pm_journal.specs.declared.exit.ChildExit.{ChildExit}
-use Rattle.pm_journal.specs.Standing.{Adds, IsAtRest, MayTake, Standing, accepting, all_noted, called, decision_on, exit_call, exit_entry, exiting, later, made, next_pid, ends_redo}
+use Rattle.pm_outside.specs.Added.{Added}
+use Rattle.pm_journal.specs.Standing.{IsAtRest, MayTake, Standing, accepting, all_noted, called, decision_on, exit_call, exit_entry, exiting, later, made, next_pid, ends_redo}
 use Rattle.pm_journal.specs.Stands.{AtWork, IsSettled, Stands, behind}
 use Rattle.pm_duties.specs.Outcomes.{ComesTo}
 use Rattle.pm_once.specs.Calls.{HasRun, NotesExit, NotesNoExit}
@@ -40,7 +41,8 @@ use Rattle.pm_acts.specs.ActsLaws.{asks_drawn}
 use Rattle.pm_acts.specs.RunsLaws.{notes_follow, run_follows, runs_on_follows, exit_entries, lost_more, more_inside, no_asks, no_lines, run_inside, there_in}
 use Rattle.pm_once.proofs.Calling.{as_last, later_moment}
 use Rattle.pm_duties.specs.CausesLaws.{caused_entry, caused_on, caused_run}
-use Rattle.pm_server.specs.JournalLaws.{asked_in-append, adds_none}
+use Rattle.pm_outside.specs.AddedLaws.{added_none}
+use Rattle.pm_server.specs.JournalLaws.{asked_in-append}
 use Rattle.pm_acts.specs.NextsLaws.{told_more}
 use Rattle.pm_acts.specs.RulesLaws.{exit_ours}
 use Rattle.pm_duties.specs.AuxiliariesLaws.{auxiliaries_without, off_startup, auxiliaries_beside}
@@ -110,8 +112,8 @@ ran_noted goes work legal gives run at before mid now running idle had ran noted
     let left : HasExited exit at s (made (exiting exit at s) s) = exited_so (ends_it run) (unwrap_kept run) exit at s in
     let generation : run.generation ≡ s.generation = ran.generation ∙ running.3.same in
     let es : (exiting exit at s).entries ≡ journal_by step = exit_entries run at s ran.is_run generation in
-    let told : Adds (journal_by step) before.work.told now.work.told =
-    subst (λ (l : List PmEvent). Adds l before.work.told now.work.told) es (subst (λ (w : AtWork). Adds (exiting exit at w.standing).entries w.told now.work.told) ran.work noted.told) in
+    let told : Added (journal_by step) before.work.told now.work.told =
+    subst (λ (l : List PmEvent). Added l before.work.told now.work.told) es (subst (λ (w : AtWork). Added (exiting exit at w.standing).entries w.told now.work.told) ran.work noted.told) in
     let moment : IsMoment gives s.moment when = later_moment gives at s.moment noted.given in
     let store : Moves run.noted before.store now.store = subst (λ (l : List BookEntry). Moves l before.store now.store) (append-nil run.noted) (moves_on run.noted [] before.store mid.store now.store ran.store noted.store.moves) in
     let lost : now.lost ≡ (if run.was_active then before.lost ++ run.pid ∷ [] else before.lost) = noted.lost ∙ ap (λ (l : List ℕ). if run.was_active then l ++ run.pid ∷ [] else l) ran.lost in
@@ -152,7 +154,7 @@ ran_noted goes work legal gives run at before mid now running idle had ran noted
                 goes_on = goes_on_so s outset.limits (journal_of earlier) is.past is.stands idle.rests;
               }) noted.auxiliaries (ap (λ (t : Standing). t.machine) standing ∙ left.machine) (ap (λ (t : Standing). t.due) standing ∙ left.due) is.disturbed;
             };
-        journal = subst (λ (l : List PmEvent). Adds l before.work.told now.work.told) (sym (append-nil (journal_by step))) told;
+        journal = subst (λ (l : List PmEvent). Added l before.work.told now.work.told) (sym (append-nil (journal_by step))) told;
         times = record {
           each = times_of gives s.moment when run.pid run.kind run.status run.was_active run.kept run.generation moment;
           last = subst (λ (t : Standing). (t.moment ≡ s.moment) ⊎ gives t.moment) (sym standing) (subst (λ (n : ℕ). (n ≡ s.moment) ⊎ gives n) (sym left.moment) (as_last gives s.moment when moment));
@@ -209,7 +211,7 @@ ran_on goes legal gives run before mid now running rests ran noted =
             disturbed = ran_on_disturbed outset.faults earlier run before now (moved_on outset.faults run before now store) standing
                 (subst (λ (h : Auxiliaries). HasLess before.auxiliaries h) (sym noted.auxiliaries) ran.less) is.disturbed;
           };
-      journal = subst (λ (t : Option (List PmEvent)). Adds [] before.work.told t) (sym told) (adds_none before.work.told);
+      journal = subst (λ (t : Option (List PmEvent)). Added [] before.work.told t) (sym told) (added_none before.work.told);
       times = record { each = tt; last = inl (ap (λ (t : Standing). t.moment) standing) };
       store = subst (λ (l : List BookEntry). Spans l before.store now.store) (sym (append-nil run.noted)) (spans_moves run.noted before.store now.store store);
       still = λ none. store.generation;
@@ -225,7 +227,7 @@ pub record IsTaken (gives : ℕ → Type 0) (before now : View) : Type 0 where
   pub there : kind_in (next_pid before.work.standing) now.work.standing.children ≡ Some (kind_for (decision_on before.work.standing))
 
 pub taken : StepsGoOn → GoesOnOverItsJournal → (gives : ℕ → Type 0) (before : View) (w : AtWork) → IsAtRest before.work.standing → IsSettled before.work.standing → MayTake before.work.standing
-    → w.standing ≡ made (accepting before.work.standing) before.work.standing → Adds (accepting before.work.standing).entries before.work.told w.told
+    → w.standing ≡ made (accepting before.work.standing) before.work.standing → Added (accepting before.work.standing).entries before.work.told w.told
     → IsTaken gives before (record before { work = w })
 taken goes work gives before w rests settled may standing told =
     let s = before.work.standing in

@@ -8,7 +8,8 @@ use Rattle.pm_state.specs.declared.event.PmEvent.TheVariants as entry
 use Rattle.pm_chain.specs.Laws.{StepsGoOn}
 use Rattle.pm_chain.specs.Steps.{Step, Notes, journal_of}
 use Rattle.pm_journal.specs.Laws.{GoesOnOverItsJournal}
-use Rattle.pm_journal.specs.Standing.{Adds, IsAtRest, Standing, asking, later, made}
+use Rattle.pm_outside.specs.Added.{Added}
+use Rattle.pm_journal.specs.Standing.{IsAtRest, Standing, asking, later, made}
 use Rattle.pm_journal.specs.Stands.{AtWork}
 use Rattle.pm_once.specs.Calls.{Acts, Asks, Finishes}
 use Rattle.pm_acts.specs.Acts.{AreSays, AsksAsDue, IsIdle, is_last_drawn}
@@ -19,7 +20,8 @@ use Rattle.pm_server.specs.declared.end.ServerEnd.{ServerEnd}
 use Rattle.pm_server.specs.declared.end.ServerEnd.TheVariants.{NoMemory}
 use Rattle.pm_once.proofs.Calling.{asked, deaf}
 use Rattle.pm_duties.specs.AuxiliariesLaws.{auxiliary_still}
-use Rattle.pm_server.specs.JournalLaws.{adds_none, times_none}
+use Rattle.pm_outside.specs.AddedLaws.{added_none}
+use Rattle.pm_server.specs.JournalLaws.{times_none}
 use Rattle.pm_once.proofs.Going.{does_any, does_then}
 use Rattle.pm_acts.specs.StepsLaws.{serves_nothing}
 use Rattle.pm_acts.specs.NextsLaws.{same_work}
@@ -36,7 +38,7 @@ never_err e (Err other) is ok = cc
 -- the request was noted, and its acts were done
 pub asks_ok : StepsGoOn → GoesOnOverItsJournal → (gives : ℕ → Type 0) (at : ℕ) (before : View) (w : AtWork) (result : Result (Unit {0}) ServerEnd) (steps : List Step) (now : View) → gives at
     → IsAtRest before.work.standing → (before.listens ≡ true) ⊎ (before.work.standing.owes_smart ≡ true) → w.standing ≡ made (asking Smart at before.work.standing) before.work.standing
-    → Adds (asking Smart at before.work.standing).entries before.work.told w.told → Acts result steps (deaf before w) now → (AreSays w.standing.due → IsOk result)
+    → Added (asking Smart at before.work.standing).entries before.work.told w.told → Acts result steps (deaf before w) now → (AreSays w.standing.due → IsOk result)
     → Asks gives result ((Notes (entry.Asked Smart (later at before.work.standing)) ∷ []) ++ steps) before now
 asks_ok goes work gives at before w result steps now given rests due standing told acts fine =
     let s = before.work.standing in
@@ -92,7 +94,7 @@ asks_err gives before w rests standing told =
             disturbed = disturbed_on outset.faults earlier earlier before (deaf before before.work) (record { later = omega arith; counts = λ counted. counted }) (no_more earlier)
                 (less_follows before (deaf before before.work) refl (still_less before.auxiliaries)) is.disturbed;
           });
-          journal = adds_none before.work.told;
+          journal = added_none before.work.told;
           times = times_none gives before.work.standing.moment;
           store = spans_none before.store;
           still = λ none. refl;

@@ -4,7 +4,7 @@ use Rattle.std.specs.Prelude.{OnOk, IfErr}
 use Rattle.pm_state.specs.declared.event.PmEvent.{PmEvent}
 use Rattle.pm_query.specs.declared.book.BookEntry.{BookEntry}
 use Rattle.pm_chain.specs.Steps.{Step, Notes, book_of, journal_of}
-use Rattle.pm_journal.specs.Standing.{Adds}
+use Rattle.pm_outside.specs.Added.{Added}
 use Rattle.pm_segment.specs.Moves.{StaysUnread}
 use Rattle.pm_segment.specs.MovesLaws.{moves_none, unread_on}
 use Rattle.pm_once.specs.Goes.{Does, Goes, IsAt, IsEndOf, IsOpen, StaysOpen}
@@ -15,14 +15,15 @@ use Rattle.pm_once.specs.View.{View}
 use Rattle.pm_server.specs.declared.end.ServerEnd.{ServerEnd}
 use Rattle.pm_server.specs.declared.end.ServerEnd.TheVariants.{Clean, Abnormal, NoThread, NoMemory}
 use Rattle.pm_server.specs.declared.end.Why.TheVariants.{AfterCrash, StartupFailed, RestartOff, GenerationsSpent}
-use Rattle.pm_server.specs.JournalLaws.{adds_both, adds_none, times_any, times_none, times_on}
+use Rattle.pm_outside.specs.AddedLaws.{added_both, added_none}
+use Rattle.pm_server.specs.JournalLaws.{times_any, times_none, times_on}
 use Rattle.pm_server.specs.SpansLaws.{spans_none, spans_on}
 use Rattle.pm_acts.specs.StepsLaws.{journal-append, book-append, each_part, serves_nothing, serves_both}
 
 pub goes_none : (gives : ℕ → Type 0) (v : View) → Goes gives [] v v
 goes_none gives v = record {
   at = λ outset earlier at opened. subst (λ (l : List Step). IsAt outset l v) (sym (append-nil earlier)) at;
-  journal = adds_none v.work.told;
+  journal = added_none v.work.told;
   times = times_none gives v.work.standing.moment;
   store = spans_none v.store;
   still = λ none. refl;
@@ -36,7 +37,7 @@ stays_none v = λ earlier opened. subst (λ (l : List Step). IsOpen l v) (sym (a
 pub goes_on : (gives : ℕ → Type 0) (one two : List Step) (a b c : View) → Goes gives one a b → StaysOpen one a b → Goes gives two b c → Goes gives (one ++ two) a c
 goes_on gives one two a b c first stays second = record {
   at = λ outset earlier at opened. subst (λ (l : List Step). IsAt outset l c) (append_assoc earlier one two) (second.at outset (earlier ++ one) (first.at outset earlier at opened) (stays earlier opened));
-  journal = subst (λ (j : List PmEvent). Adds j a.work.told c.work.told) (sym (journal-append one two)) (adds_both (journal_of one) (journal_of two) _ _ _ first.journal second.journal);
+  journal = subst (λ (j : List PmEvent). Added j a.work.told c.work.told) (sym (journal-append one two)) (added_both (journal_of one) (journal_of two) _ _ _ first.journal second.journal);
   times = subst (λ (j : List PmEvent). Times gives a.work.standing.moment j c.work.standing.moment) (sym (journal-append one two)) (times_on gives (journal_of one) (journal_of two) _ _ _ first.times second.times);
   store = subst (λ (l : List BookEntry). Spans l a.store c.store) (sym (book-append one two)) (spans_on (book_of one) (book_of two) a.store b.store c.store first.store second.store);
   still = λ none. let parts = each_part IsNoRenewal one two none in second.still parts.1 ∙ first.still parts.0;

@@ -19,7 +19,8 @@ use Rattle.pm_segment.specs.Redos.{is_broken}
 use Rattle.pm_chain.specs.Laws.{StepsGoOn}
 use Rattle.pm_chain.specs.Steps.{Step, Notes, Renews, MayFollow, book_of, journal_of}
 use Rattle.pm_journal.specs.Laws.{GoesOnOverItsJournal}
-use Rattle.pm_journal.specs.Standing.{Adds, Standing, act_for, done, entry_for, first_due}
+use Rattle.pm_outside.specs.Added.{Added}
+use Rattle.pm_journal.specs.Standing.{Standing, act_for, done, entry_for, first_due}
 use Rattle.pm_journal.specs.Stands.{AtWork, IsSettled, Stands}
 use Rattle.pm_acts.specs.Acts.{AreSays, LogBehind, AreOurs, AsksAsDue}
 use Rattle.pm_once.specs.Calls.{DoesNext, Performs, end_by, outcome}
@@ -79,7 +80,7 @@ kept_store before now kept = record {
 pub record IsActed (a : Action) (before now : View) : Type 0 where
   pub first : first_due before.work.standing.due ≡ Some a
   pub standing : now.work.standing ≡ done a before.work.standing
-  pub told : Adds (entry_for a before.work.standing ∷ []) before.work.told now.work.told
+  pub told : Added (entry_for a before.work.standing ∷ []) before.work.told now.work.told
   pub auxiliaries : now.auxiliaries ≡ auxiliaries_after (act_for a before.work.standing) before.auxiliaries
   pub log : LogBehind (act_for a before.work.standing) before.log now.log
   pub listens : now.listens ≡ before.listens
@@ -308,18 +309,18 @@ kept_of kept = record {
 }
 
 acted_of : (a : Action) (result : Result (Unit {0}) ServerEnd) (before now : View) (w : AtWork) → first_due before.work.standing.due ≡ Some a → w.standing ≡ done a before.work.standing
-    → Adds (entry_for a before.work.standing ∷ []) before.work.told w.told → now.work ≡ w → Performs (act_for a before.work.standing) result (record before { work = w }) now → IsActed a before now
+    → Added (entry_for a before.work.standing ∷ []) before.work.told w.told → now.work ≡ w → Performs (act_for a before.work.standing) result (record before { work = w }) now → IsActed a before now
 acted_of a result before now w first standing told is performs = record {
   first = first;
   standing = ap (λ (x : AtWork). x.standing) is ∙ standing;
-  told = subst (λ (x : AtWork). Adds (entry_for a before.work.standing ∷ []) before.work.told x.told) (sym is) told;
+  told = subst (λ (x : AtWork). Added (entry_for a before.work.standing ∷ []) before.work.told x.told) (sym is) told;
   auxiliaries = performs.auxiliaries;
   log = performs.log;
   listens = performs.listens;
 }
 
 pub performed : StepsGoOn → GoesOnOverItsJournal → (a : Action) (result : Result (Unit {0}) ServerEnd) (before now : View) (w : AtWork) → IsRunning before
-    → first_due before.work.standing.due ≡ Some a → w.standing ≡ done a before.work.standing → Adds (entry_for a before.work.standing ∷ []) before.work.told w.told
+    → first_due before.work.standing.due ≡ Some a → w.standing ≡ done a before.work.standing → Added (entry_for a before.work.standing ∷ []) before.work.told w.told
     → now.work ≡ w → Performs (act_for a before.work.standing) result (record before { work = w }) now → (IsSettled before.work.standing → IsSettled w.standing)
     → (steps : List Step) × DoesNext (answer_of result) steps before now
 performed goes work (act.Start k) result before now w running first standing told is performs settled =
@@ -395,7 +396,7 @@ performed goes work (act.End how) result before now w running first standing tol
 
 -- ---- nothing is done
 
-pub waits : (before : View) (w : AtWork) (r : Result Bool ServerEnd) → w.standing ≡ before.work.standing → Adds [] before.work.told w.told → IfErr (outcome r) (λ end. IsEndOf end [] before)
+pub waits : (before : View) (w : AtWork) (r : Result Bool ServerEnd) → w.standing ≡ before.work.standing → Added [] before.work.told w.told → IfErr (outcome r) (λ end. IsEndOf end [] before)
     → (r ≡ Ok false → before.work.standing.due ≡ []) → (r ≡ Ok true → ⊥) → DoesNext r [] before (record before { work = w })
 waits before w r standing told ends none never =
     subst (λ (x : AtWork). DoesNext r [] before (record before { work = x })) (sym (same_work before.work w standing (same_told before.work.told w.told told))) (record {

@@ -21,9 +21,10 @@ use Rattle.pm_state.specs.declared.action.Action.TheVariants as act
 use Rattle.pm_query.specs.declared.book.BookEntry.{BookEntry}
 use Rattle.pm_query.specs.declared.book.BookEntry.TheVariants.{Opened}
 use Rattle.pm_segment.specs.Children.{times_in}
-use Rattle.pm_segment.specs.Moves.{BreakIsShown, NotesEntries}
+use Rattle.pm_outside.specs.Added.{Added}
+use Rattle.pm_segment.specs.Moves.{BreakIsShown}
 use Rattle.pm_segment.specs.declared.live.Live.{Live}
-use Rattle.pm_segment.specs.MovesLaws.{notes_both}
+use Rattle.pm_outside.specs.AddedLaws.{added_both}
 use Rattle.pm_chain.specs.Laws.{StepsGoOn}
 use Rattle.pm_chain.specs.Steps.{AreSteps, AreStepsBehind, MayFollow, MayStep, Notes, Renews, Runs, RunsOn, Step, book_of, journal_by, journal_of, replay_of, whole_book}
 use Rattle.pm_journal.specs.Laws.{GoesOnOverItsJournal, KeepsALegalJournal}
@@ -49,7 +50,8 @@ use Rattle.pm_server.specs.declared.end.Why.TheVariants.{AfterCrash, StartupFail
 use Rattle.pm_duties.specs.AuxiliaryRuns.{AreToldBehind, nothing_heard}
 use Rattle.pm_duties.specs.declared.auxiliaries.Auxiliaries.{Auxiliaries}
 use Rattle.pm_duties.specs.declared.outcome.Outcome.{Outcome}
-use Rattle.pm_server.specs.JournalLaws.{all_weaker, adds_none}
+use Rattle.pm_outside.specs.AddedLaws.{added_none}
+use Rattle.pm_server.specs.JournalLaws.{all_weaker}
 use Rattle.pm_acts.specs.EndsLaws.{last_set, spent_next}
 use Rattle.pm_acts.specs.StepsLaws.{journal-append}
 use Rattle.pm_once.proofs.Undisturbed.{spent_disturbed}
@@ -295,21 +297,21 @@ whole_log goes work limits gives end cs ended steps v now last begun serves says
     let at : IsAt (outset_of limits v) steps now = serves.goes.at (outset_of limits v) [] (begins_at goes work limits v begun) (begins_open limits v begun) in
     logged_by (log_of (journal_of steps) ++ end_line end) v.log last (printed_more (log_of (journal_of steps)) (end_line end) v.log now.log last at.said says)
 
-book_by_end : (end : ServerEnd) (steps : List Step) (before now : Option (List BookEntry)) → NotesEntries (Opened 1 ∷ book_of steps) before now → IsBook (steps ≡ []) end (whole_book steps) before now
+book_by_end : (end : ServerEnd) (steps : List Step) (before now : Option (List BookEntry)) → Added (Opened 1 ∷ book_of steps) before now → IsBook (steps ≡ []) end (whole_book steps) before now
 book_by_end NoMemory steps before now notes = inr notes
 book_by_end NoThread steps before now notes = inr notes
 book_by_end Clean steps before now notes = notes
 book_by_end (Abnormal why) steps before now notes = notes
 
-pub whole_book_is : (gives : ℕ → Type 0) (end : ServerEnd) (cs : List Connection) (ended : Bool) (steps : List Step) (v now : View) (before : Option (List BookEntry)) → NotesEntries (Opened 1 ∷ []) before v.store.book
+pub whole_book_is : (gives : ℕ → Type 0) (end : ServerEnd) (cs : List Connection) (ended : Bool) (steps : List Step) (v now : View) (before : Option (List BookEntry)) → Added (Opened 1 ∷ []) before v.store.book
     → Serves gives (Err end) cs ended steps v now → IsBook (steps ≡ []) end (whole_book steps) before now.store.book
 whole_book_is gives end cs ended steps v now before opened serves =
-    book_by_end end steps before now.store.book (notes_both (Opened 1 ∷ []) (book_of steps) before v.store.book now.store.book opened serves.goes.store.notes)
+    book_by_end end steps before now.store.book (added_both (Opened 1 ∷ []) (book_of steps) before v.store.book now.store.book opened serves.goes.store.notes)
 
 -- ---- where the store couldn't be made
 
 pub nothing_journal : (limits : Limits) (gives : ℕ → Type 0) (told : Option (List PmEvent)) → IsJournal limits gives [] told told
-nothing_journal limits gives told = record { noted = adds_none told; legal = tt; given = tt }
+nothing_journal limits gives told = record { noted = added_none told; legal = tt; given = tt }
 
 pub nothing_asked : (limits : Limits) → IsAsked limits NoMemory false []
 nothing_asked limits = record { smart = All-nil (λ (m : Mode). m ≡ Smart); few = omega arith; cause = inl refl; heeded = λ is. inr refl }

@@ -13,7 +13,8 @@ use Rattle.pm_journal.specs.declared.act.Act.{Act}
 use Rattle.pm_journal.specs.declared.act.Act.TheVariants as act
 use Rattle.pm_journal.specs.declared.exit.ChildExit.{ChildExit}
 use Rattle.pm_journal.specs.Roll.{kind_in}
-use Rattle.pm_journal.specs.Standing.{Adds, IsAtRest, Standing, exiting, made}
+use Rattle.pm_outside.specs.Added.{Added}
+use Rattle.pm_journal.specs.Standing.{IsAtRest, Standing, exiting, made}
 use Rattle.pm_journal.specs.Stands.{IsSettled}
 use Rattle.pm_once.specs.Goes.{Does, Goes, StaysOpen}
 use Rattle.pm_acts.specs.Acts.{IsIdle, is_last_drawn, LogBehind, AreSays, Keeps, IsPresent}
@@ -127,7 +128,7 @@ pub record HasRun (run : ChildRun) (before now : View) : Type 0 where
 pub record NotesExit (gives : ℕ → Type 0) (exit : ChildExit) (at : ℕ) (before now : View) : Type 0 where
   pub given : gives at
   pub standing : now.work.standing ≡ made (exiting exit at before.work.standing) before.work.standing
-  pub told : Adds (exiting exit at before.work.standing).entries before.work.told now.work.told
+  pub told : Added (exiting exit at before.work.standing).entries before.work.told now.work.told
   pub lost : now.lost ≡ (if exit.was_active then before.lost ++ exit.pid ∷ [] else before.lost)
   pub store : Stays before.store now.store
   pub outcome : now.outcome ≡ before.outcome

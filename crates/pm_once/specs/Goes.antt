@@ -10,7 +10,8 @@ use Rattle.pm_segment.specs.Children.{times_in}
 use Rattle.pm_segment.specs.Moves.{StaysUnread}
 use Rattle.pm_segment.specs.Redos.{is_broken}
 use Rattle.pm_chain.specs.Steps.{Step, AreSteps, book_of, journal_of, lost_in}
-use Rattle.pm_journal.specs.Standing.{Adds, first_due}
+use Rattle.pm_outside.specs.Added.{Added}
+use Rattle.pm_journal.specs.Standing.{first_due}
 use Rattle.pm_journal.specs.Stands.{Stands}
 use Rattle.pm_server.specs.Journal.{Times, asked_in}
 use Rattle.pm_server.specs.Spans.{Spans}
@@ -65,7 +66,7 @@ IsRunning v = (outset : Outset) × (steps : List Step) × IsAt outset steps v ×
 -- These steps more.
 pub record Goes (gives : ℕ → Type 0) (steps : List Step) (before now : View) : Type 0 where
   pub at : (outset : Outset) (earlier : List Step) → IsAt outset earlier before → IsOpen earlier before → IsAt outset (earlier ++ steps) now
-  pub journal : Adds (journal_of steps) before.work.told now.work.told
+  pub journal : Added (journal_of steps) before.work.told now.work.told
   pub times : Times gives before.work.standing.moment (journal_of steps) now.work.standing.moment
   pub store : Spans (book_of steps) before.store now.store
   -- without a renewal the store is in its generation

@@ -9,7 +9,7 @@ use Rattle.pm_outside.specs.Traffic.{IsFresh}
 use Rattle.pm_outside.specs.Visits.{Visit, Visits}
 use Rattle.pm_query.specs.Calls.{User, newcomer}
 use Rattle.pm_query.specs.declared.book.BookEntry.{BookEntry}
-use Rattle.pm_segment.specs.Moves.{NotesEntries}
+use Rattle.pm_outside.specs.Added.{Added}
 use Rattle.pm_exchange.specs.Exchange.{LinkView, HasFailed}
 use Rattle.pm_exchange.specs.Sent.{Turn}
 use Rattle.pm_session.specs.Session.{Ending, HasAskedFor, HasCancelled, HeedsTold, IsAttachedBehind, IsSession, IsCaused, between, status_of}
@@ -58,7 +58,7 @@ pub record IsServedAs (key limit : ℕ) (gives : ℕ → Type 0) (connection : C
   pub fresh : IsFresh connection.given.traffic
   pub same : connection.back.number ≡ connection.given.number
   pub later : connection.given.faults ≤ connection.back.faults
-  pub session : IsSession NotesEntries decisions.Ok (user_in connection) key connection.turns connection.ending
+  pub session : IsSession Added decisions.Ok (user_in connection) key connection.turns connection.ending
       (HasFailed connection.given connection.back) (between connection.back.traffic (Some []) (Some connection.noted))
   pub ungiven : told.given ≡ []
   -- it asked for its signals at each turn, has heeded what it was given, and is attached only where it crashed

@@ -1,3 +1,5 @@
+pub mod Added
+pub mod AddedLaws
 pub mod Calls
 pub mod Held
 pub mod Holds

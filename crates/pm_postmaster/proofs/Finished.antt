@@ -3,7 +3,7 @@ use Rattle.std.proofs.Common.{◌≡◌, ◌⊎◌, inl, inr, ℕ, ◌<◌, ◌�
 use Rattle.std.proofs.lemmas.List.{get_or_past}
 use Rattle.std.specs.Prelude.{true, false, Option, None, Some, IfSome, is_some, nat_lt}
 use Rattle.pm_disk.specs.declared.disk.Disk as Disk
-use Rattle.pm_journal.specs.Standing.{Adds}
+use Rattle.pm_outside.specs.Added.{Added}
 use Rattle.pm_outside.specs.declared.chronicle.Chronicle as Chronicle
 use Rattle.pm_pool.specs.Given.{IsGivenBack, IsOpenedAlone}
 use Rattle.pm_query.specs.declared.book.BookEntry.{BookEntry}
@@ -46,7 +46,7 @@ use Rattle.pm_postmaster.specs.Served.{IsEnded}
 
 -- these entries were added to a new journal
 pub adds_new : (journal : List PmEvent) (before now : Option (List PmEvent)) → IfSome before (λ entries. entries ≡ []) → is_some now ≡ is_some before
-    → IfSome now (λ entries. entries ≡ journal) → Adds journal before now
+    → IfSome now (λ entries. entries ≡ journal) → Added journal before now
 adds_new journal None None new same is = refl
 adds_new journal None (Some its) new same is = absurd (let no_ : true ≡ false = same in cc)
 adds_new journal (Some first) None new same is = absurd (let no_ : false ≡ true = same in cc)

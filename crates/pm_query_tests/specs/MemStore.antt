@@ -1,5 +1,6 @@
 -- What the store in memory keeps.
-use Rattle.std.specs.Prelude.{◌≡◌, ℕ, ◌+◌, ◌≤◌, ◌++◌, List, [], ◌∷◌, Option, None, Some, option_map}
+use Rattle.std.specs.Prelude.{◌≡◌, ℕ, ◌+◌, ◌≤◌, List, [], ◌∷◌, Option, None, Some}
+use Rattle.pm_outside.specs.Added.{Added}
 use Rattle.pm_rows.specs.Fold.{RowMap}
 use Rattle.pm_rows.specs.declared.commit.Change.{Change}
 use Rattle.pm_query.specs.declared.book.BookEntry.{BookEntry}
@@ -26,7 +27,7 @@ Holds base (Some book) at = IsOf base book at.rows at.count at.redone
 
 -- These entries were noted, and rows that were those of the book's history still are.
 pub record Goes (entries : List BookEntry) (before now : Moment) : Type 0 where
-  pub notes : now.book ≡ option_map (λ book. book ++ entries) before.book
+  pub notes : Added entries before.book now.book
   pub keeps : (base : Base) → Holds base before.book before → Holds base now.book now
 
 -- one commit more where it has changes

@@ -12,7 +12,8 @@ use Rattle.pm_state.specs.Journal.{without_first, all_reported}
 use Rattle.pm_journal.specs.declared.act.Act.{Act}
 use Rattle.pm_journal.specs.declared.act.GenerationsSpent.{GenerationsSpent}
 use Rattle.pm_journal.specs.Laws.{NotesWhatIsDue, with_due}
-use Rattle.pm_journal.specs.Standing.{Standing, Adds, Next, act_for, done, entry_for, first_due, is_spent, next_in, next_of}
+use Rattle.pm_outside.specs.Added.{Added}
+use Rattle.pm_journal.specs.Standing.{Standing, Next, act_for, done, entry_for, first_due, is_spent, next_in, next_of}
 use Rattle.pm_journal.specs.Stands.{IsSettled, Stands}
 use Rattle.pm_scenario.specs.declared.server.Server.{Server}
 use Rattle.pm_scenario.specs.Server.{StaysWithin, IsOnTheWay, standing_in, told_in}
@@ -86,7 +87,7 @@ stays-within s t few after = within-in s.due s t refl few after
 
 on-in : NotesWhatIsDue → (due : List Action) (limits : Limits) (s t : Server) (h : Trace) → (standing_in s).due ≡ due
     → (standing_in s).generation ≤ 2000000000 → standing_in t ≡ (next_in due (standing_in s)).after
-    → Adds (next_in due (standing_in s)).entries (told_in s) (told_in t) → (IsSettled (standing_in s) → IsSettled (standing_in t))
+    → Added (next_in due (standing_in s)).entries (told_in s) (told_in t) → (IsSettled (standing_in s) → IsSettled (standing_in t))
     → Stands limits (told_in s) (standing_in s) h → Stands limits (told_in t) (standing_in t) h → IsOnTheWay limits s t h
 on-in law [] limits s t h is few after adds settled was now =
     record {
@@ -108,7 +109,7 @@ on-in law (a ∷ rest) limits s t h is few after adds settled was now =
       stands = now;
       journal = λ before told. (
         before ++ entry_for a s0 ∷ [],
-        subst (λ es. Adds es (told_in s) (told_in t)) entries adds ∙ ap (option_map (λ es. es ++ entry_for a s0 ∷ [])) told,
+        subst (λ es. Added es (told_in s) (told_in t)) entries adds ∙ ap (option_map (λ es. es ++ entry_for a s0 ∷ [])) told,
         ap (with_due limits (before ++ entry_for a s0 ∷ [])) same
             ∙ law.notes limits before s0 h a (subst (λ es. Stands limits es s0 h) told was) first,
       );
@@ -117,7 +118,7 @@ on-in law (a ∷ rest) limits s t h is few after adds settled was now =
     }
 
 pub on-the-way : NotesWhatIsDue → (limits : Limits) (s t : Server) (h : Trace) → (standing_in s).generation ≤ 2000000000
-    → standing_in t ≡ (next_of (standing_in s)).after → Adds (next_of (standing_in s)).entries (told_in s) (told_in t)
+    → standing_in t ≡ (next_of (standing_in s)).after → Added (next_of (standing_in s)).entries (told_in s) (told_in t)
     → (IsSettled (standing_in s) → IsSettled (standing_in t)) → Stands limits (told_in s) (standing_in s) h
     → Stands limits (told_in t) (standing_in t) h → IsOnTheWay limits s t h
 on-the-way law limits s t h few after adds settled was now =

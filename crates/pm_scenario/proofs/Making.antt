@@ -24,7 +24,8 @@ use Rattle.pm_journal.specs.Laws.{KeepsALegalJournal, replay_by, with_due}
 use Rattle.pm_journal.specs.Roll.{kind_in, roll_of}
 use Rattle.std.specs.Option.{unwrap_or}
 use Rattle.pm_journal.specs.declared.exit.ChildExit.{ChildExit}
-use Rattle.pm_journal.specs.Standing.{Standing, Adds, IsAtRest, MayAsk, MayTake, accepting, all_noted, asking, ends_redo, exit_call, exit_entry, exiting, later, made, next_pid, ticking, turning}
+use Rattle.pm_outside.specs.Added.{Added}
+use Rattle.pm_journal.specs.Standing.{Standing, IsAtRest, MayAsk, MayTake, accepting, all_noted, asking, ends_redo, exit_call, exit_entry, exiting, later, made, next_pid, ticking, turning}
 use Rattle.pm_journal.specs.Standing as standings
 use Rattle.pm_journal.specs.Stands.{IsSettled, Remembers, Stands}
 use Rattle.pm_scenario.specs.declared.server.Server.{Server}
@@ -98,7 +99,7 @@ stays-put limits s v serving = record { serving = serving; pids = omega arith; g
 
 -- an entry that tells of no call
 pub killed-on : WritesALegalJournal → (limits : Limits) (old new : Server) (v : Served) (pid : ℕ) (h : Trace) → IsServing limits old v
-    → Adds (entry.KillAsked pid ∷ []) (told_in old) (told_in new) → (standing_in new).machine ≡ (standing_in old).machine → (standing_in new).due ≡ (standing_in old).due
+    → Added (entry.KillAsked pid ∷ []) (told_in old) (told_in new) → (standing_in new).machine ≡ (standing_in old).machine → (standing_in new).due ≡ (standing_in old).due
     → (standing_in new).last_pid ≡ (standing_in old).last_pid → (standing_in new).generation ≡ (standing_in old).generation
     → Stands limits (told_in new) (standing_in new) h → GoesOn limits old new (kill_noted pid v)
 killed-on writes limits old new v pid h serving adds machine due last generation stands =

@@ -25,7 +25,8 @@ use Rattle.pm_journal.specs.declared.roll.Enrolled.{Enrolled}
 use Rattle.pm_journal.specs.Laws.{GoesOnOverItsJournal}
 use Rattle.pm_journal.specs.Roll.{kind_in}
 use Rattle.pm_journal.specs.Stands.{AtWork, Stands}
-use Rattle.pm_journal.specs.Standing.{Adds, Next, Standing, act_for, done, entry_for, first_due, is_spent, next_in, next_of, next_pid}
+use Rattle.pm_outside.specs.Added.{Added}
+use Rattle.pm_journal.specs.Standing.{Next, Standing, act_for, done, entry_for, first_due, is_spent, next_in, next_of, next_pid}
 use Rattle.pm_seating.specs.declared.audience.Audience.{Audience}
 use Rattle.pm_seating.specs.declared.audience.Audience.TheVariants.{Everyone, Stoppable, Checkpointer}
 use Rattle.pm_seating.specs.Acts.{HasLostNone, StartOnly, StartsAfresh, gate_by, gate_shown, MayDo, MayPerform, NoneIs, Performs, slot_of, steps_for}
@@ -434,7 +435,7 @@ split_due (x ∷ due) a is = ap (λ (y : Action). y ∷ due) (some_of x a is)
 module _ {D : Type 0} where
   -- the first act that was due was noted and done
   pub acted : GoesOnOverItsJournal → (v w : View D) (ordered : Kind → D) (a : Action) → first_due v.work.standing.due ≡ Some a
-      → w.work.standing ≡ done a v.work.standing → Adds (entry_for a v.work.standing ∷ []) v.work.told w.work.told
+      → w.work.standing ≡ done a v.work.standing → Added (entry_for a v.work.standing ∷ []) v.work.told w.work.told
       → Performs (act_for a v.work.standing) ordered v.board v.seats w.board w.seats
       → Goes (Notes (entry_for a v.work.standing) (slot_for a) ∷ []) v w
   acted work v w ordered a first after adds has limits count earlier at =

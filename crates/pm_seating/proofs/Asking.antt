@@ -19,7 +19,8 @@ use Rattle.pm_board.specs.Gate.{Gate, gate_of}
 use Rattle.pm_journal.specs.declared.roll.Enrolled.{Enrolled}
 use Rattle.pm_journal.specs.Laws.{GoesOnOverItsJournal, KeepsALegalJournal}
 use Rattle.pm_journal.specs.Roll.{kind_in}
-use Rattle.pm_journal.specs.Standing.{Adds, IsAtRest, Making, MayAsk, Standing, asking, called, kill_entry, killed, later, made, ticking, turning}
+use Rattle.pm_outside.specs.Added.{Added}
+use Rattle.pm_journal.specs.Standing.{IsAtRest, Making, MayAsk, Standing, asking, called, kill_entry, killed, later, made, ticking, turning}
 use Rattle.pm_journal.specs.Stands.{AtWork, Stands, behind}
 use Rattle.pm_seating.specs.declared.audience.Audience.TheVariants.{One}
 use Rattle.pm_seating.specs.Acts.{MayDo, StartsAfresh, gate_by, gate_shown, roll_behind}
@@ -40,7 +41,7 @@ use Rattle.pm_seating.proofs.Starting.{EndsOne}
 none_more : (count : ℕ) (earlier : List Move) → journal_of count (earlier ++ []) ≡ journal_of count earlier ++ []
 none_more count earlier = ap (journal_of count) (append-nil earlier) ∙ sym (append-nil (journal_of count earlier))
 
-same_told : (told now : Option (List PmEvent)) → now ≡ told → Adds [] told now
+same_told : (told now : Option (List PmEvent)) → now ≡ told → Added [] told now
 same_told None now is = is
 same_told (Some es) now is = is ∙ ap (λ (xs : List PmEvent). Some xs) (sym (append-nil es))
 
@@ -87,7 +88,7 @@ module _ {D : Type 0} where
       → ((count : ℕ) (earlier : List Move) → IsSeated count earlier v.board v.seats v.work.standing → IsSeated count (earlier ++ more) v.board v.seats (made making v.work.standing))
       → ((limits : Limits) (journal : List PmEvent) (h : Trace) → Stands limits (Some journal) v.work.standing h
       → Stands limits (Some (journal ++ making.entries)) (made making v.work.standing) (behind v.work.standing.machine making.call h))
-      → now.standing ≡ made making v.work.standing → Adds making.entries v.work.told now.told → Goes more v (record v { work = now })
+      → now.standing ≡ made making v.work.standing → Added making.entries v.work.told now.told → Goes more v (record v { work = now })
   call_goes tells keeps v now making more rest fit ends still children journal seated stands after adds limits count earlier at =
       let s : Standing = v.work.standing in
       let call : Call = making.call in
@@ -153,7 +154,7 @@ module _ {D : Type 0} where
       moved count earlier v.board v.board v.seats v.work.standing t (PidsEnd now) [] was refl refl refl (λ x. refl) (λ j x. refl) (λ j. refl) children last same
 
   pub asked_goes : GoesOnOverItsJournal → TellsOfEachStart → KeepsALegalJournal → (v : View D) (now : AtWork) (how : Mode) (at : ℕ) (move : Move) → IsAtRest v.work.standing → MayAsk how v.work.standing
-      → AsksFor how (later at v.work.standing) move → now.standing ≡ made (asking how at v.work.standing) v.work.standing → Adds (asking how at v.work.standing).entries v.work.told now.told
+      → AsksFor how (later at v.work.standing) move → now.standing ≡ made (asking how at v.work.standing) v.work.standing → Added (asking how at v.work.standing).entries v.work.told now.told
       → Goes (move ∷ []) v (record v { work = now })
   asked_goes work tells keeps v now how at move rest may is after adds =
       let s : Standing = v.work.standing in
@@ -198,7 +199,7 @@ module _ {D : Type 0} where
 
   -- and one that is
   pub killed_goes : GoesOnOverItsJournal → (v w : View D) (pid : ℕ) (line : List ℕ) (at : ℕ) → IsAtRest v.work.standing → v.work.standing.owes_smart ≡ false
-      → is_some (kind_in pid v.work.standing.children) ≡ true → w.work.standing ≡ killed pid v.work.standing → Adds (kill_entry pid ∷ []) v.work.told w.work.told
+      → is_some (kind_in pid v.work.standing.children) ≡ true → w.work.standing ≡ killed pid v.work.standing → Added (kill_entry pid ∷ []) v.work.told w.work.told
       → w.board ≡ after_steps v.board (sends (One pid) signal.Kill v.board.generation v.seats) → w.seats ≡ v.seats → Goes (Reads line (Kill pid) at ∷ []) v w
   killed_goes work v w pid line at rest unowed there after adds board same limits count earlier is =
       let s : Standing = v.work.standing in

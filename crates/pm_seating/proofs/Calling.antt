@@ -23,7 +23,8 @@ use Rattle.pm_journal.specs.declared.exit.ChildExit.{ChildExit}
 use Rattle.pm_journal.specs.declared.roll.Enrolled.{Enrolled}
 use Rattle.pm_journal.specs.Laws.{GoesOnOverItsJournal, KeepsALegalJournal}
 use Rattle.pm_journal.specs.Roll.{kind_in, without}
-use Rattle.pm_journal.specs.Standing.{Adds, IsAtRest, MayTake, Standing, accepting, exiting, made, next_pid, decision_on, all_noted, called, ends_redo, exit_call, exit_entry, later, noted}
+use Rattle.pm_outside.specs.Added.{Added}
+use Rattle.pm_journal.specs.Standing.{IsAtRest, MayTake, Standing, accepting, exiting, made, next_pid, decision_on, all_noted, called, ends_redo, exit_call, exit_entry, later, noted}
 use Rattle.pm_journal.specs.Stands.{HasPast, IsSettled, Stands, behind}
 use Rattle.pm_seating.specs.Seating.{Seating, Move, Notes, Begun, Ended, child, with_seat, seated, steps_of, begins, ends, ended_by, steps_by, begun_at, ended_at, seating_of, board_steps, journal_of}
 use Rattle.pm_state.specs.declared.action.Action.{Action}
@@ -46,7 +47,7 @@ tells : (told : Option (List PmEvent)) (journal other : List PmEvent) → IfSome
 tells None journal other is same = tt
 tells (Some es) journal other is same = is ∙ same
 
-pub told_more : (told now : Option (List PmEvent)) (journal more : List PmEvent) → IfSome told (λ es. es ≡ journal) → Adds more told now → IfSome now (λ es. es ≡ journal ++ more)
+pub told_more : (told now : Option (List PmEvent)) (journal more : List PmEvent) → IfSome told (λ es. es ≡ journal) → Added more told now → IfSome now (λ es. es ≡ journal ++ more)
 told_more None now journal more is adds = subst (λ (t : Option (List PmEvent)). IfSome t (λ es. es ≡ journal ++ more)) (sym adds) tt
 told_more (Some es) now journal more is adds = subst (λ (t : Option (List PmEvent)). IfSome t (λ es. es ≡ journal ++ more)) (sym adds) (ap (λ (es : List PmEvent). es ++ more) is)
 
@@ -192,7 +193,7 @@ module _ {D : Type 0} where
   -- a connection was taken, and its child sat down
   pub admitted : GoesOnOverItsJournal → KeepsALegalJournal → (k pid : ℕ) (kind : Kind) (given : D) (v w : View D)
       → IsAtRest v.work.standing → IsSettled v.work.standing → MayTake v.work.standing
-      → w.work.standing ≡ made (accepting v.work.standing) v.work.standing → Adds (accepting v.work.standing).entries v.work.told w.work.told
+      → w.work.standing ≡ made (accepting v.work.standing) v.work.standing → Added (accepting v.work.standing).entries v.work.told w.work.told
       → pid ≡ next_pid v.work.standing → kind ≡ kind_for (decision_on v.work.standing)
       → k < length v.seats → seat_at k v.seats ≡ None → HasAssigned k pid kind given v.board w.board → w.seats ≡ set v.seats k (Some (child pid kind))
       → SeatServes (length v.seats) k (kind_for (decision_on v.work.standing))
@@ -322,7 +323,7 @@ module _ {D : Type 0} where
       → IsAtRest v.work.standing → v.work.standing.owes_smart ≡ false → k < length v.seats → seat_at k v.seats ≡ Some c
       → HasReaped letter k c released v.board w.board → w.seats ≡ set v.seats k None
       → w.work.standing ≡ made (exiting (exit_of kept released) now v.work.standing) v.work.standing
-      → Adds (exiting (exit_of kept released) now v.work.standing).entries v.work.told w.work.told
+      → Added (exiting (exit_of kept released) now v.work.standing).entries v.work.told w.work.told
       → (IsRunning v → MayDo w.work.standing.due (gate_of w.board) w.work.standing.children)
       → ((limits : Limits) (count : ℕ) (earlier : List Move) → IsAt limits count earlier v
       → StartsAfresh w.board (called (exiting (exit_of kept released) now v.work.standing).call v.work.standing).due (called (exiting (exit_of kept released) now v.work.standing).call v.work.standing).machine)

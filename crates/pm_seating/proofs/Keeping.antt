@@ -2,7 +2,8 @@
 use Rattle.std.proofs.Common.{◌≡◌, ℕ, ◌++◌, ◌∙◌, refl, ap, append-nil, get_or}
 use Rattle.std.specs.Prelude.{List, [], Option, None, Some, Result, Ok, Err, OnErr, OnOk, is_some}
 use Rattle.pm_state.specs.declared.event.PmEvent.{PmEvent}
-use Rattle.pm_journal.specs.Standing.{Adds, Standing}
+use Rattle.pm_outside.specs.Added.{Added}
+use Rattle.pm_journal.specs.Standing.{Standing}
 use Rattle.pm_exit.specs.declared.child.Kind.{Kind}
 use Rattle.pm_board.specs.declared.views.RosterNotes.{RosterNotes}
 use Rattle.pm_board.specs.declared.views.RosterStep.{RosterStep}
@@ -20,15 +21,15 @@ use Rattle.pm_seating.specs.Sitting.{KeepsPast}
 use Rattle.pm_seating.proofs.Afresh.{became_same}
 use Rattle.pm_seating.proofs.Sends.{same-slots}
 
-pub adds_tells : (entries : List PmEvent) (before now : Option (List PmEvent)) → Adds entries before now → is_some now ≡ is_some before
+pub adds_tells : (entries : List PmEvent) (before now : Option (List PmEvent)) → Added entries before now → is_some now ≡ is_some before
 adds_tells entries None now adds = ap is_some adds
 adds_tells entries (Some es) now adds = ap is_some adds
 
-pub adds_none : (entries : List PmEvent) (before now : Option (List PmEvent)) → entries ≡ [] → Adds entries before now → now ≡ before
+pub adds_none : (entries : List PmEvent) (before now : Option (List PmEvent)) → entries ≡ [] → Added entries before now → now ≡ before
 adds_none entries None now none adds = adds
 adds_none entries (Some es) now none adds = adds ∙ ap (λ (l : List PmEvent). Some l) (ap (λ (l : List PmEvent). es ++ l) none ∙ append-nil es)
 
-pub made_tells : {T E : Type 0} (result : Result T E) (entries : List PmEvent) (before now : Option (List PmEvent)) (s t : Standing) → OnOk result (Adds entries before now) → OnErr result ((t ≡ s) × (now ≡ before)) → is_some now ≡ is_some before
+pub made_tells : {T E : Type 0} (result : Result T E) (entries : List PmEvent) (before now : Option (List PmEvent)) (s t : Standing) → OnOk result (Added entries before now) → OnErr result ((t ≡ s) × (now ≡ before)) → is_some now ≡ is_some before
 made_tells (Ok done) entries before now s t adds refused = adds_tells entries before now adds
 made_tells (Err error) entries before now s t adds refused = ap is_some refused.1
 

@@ -28,7 +28,8 @@ use Rattle.pm_segment.specs.Moment.{Moment}
 use Rattle.pm_segment.specs.MovesLaws.{ahead_still, time_still, unread_never, unread_still}
 use Rattle.pm_segment.specs.Redos.{StandsAfresh}
 use Rattle.pm_segment.specs.Rests.{HasRows, Rests}
-use Rattle.pm_segment.specs.Moves.{IsShownAt, Moves, NotesEntries}
+use Rattle.pm_outside.specs.Added.{Added}
+use Rattle.pm_segment.specs.Moves.{IsShownAt, Moves}
 use Rattle.pm_segment.specs.Children.{IsAttendedBy}
 use Rattle.pm_segment.specs.Stands.{HasGone, HasHeld, MeansWithin, Origin, TellsBreak, bytes_of_rows, most_bytes}
 use Rattle.pm_segment.proofs.Books.{any_push, any_still, attended_still, breaks_push, or_false, each_later, each_push, gone_push, renewed_push, tells_new, waited_push}
@@ -107,7 +108,7 @@ moved_held laws origin base before now live new book entry seen tells moves is a
 -- one was made
 pub checkpoints : Laws → (before now : Moment) (live new : Live) (pid : ℕ) (clean : Bool) → Checkpoints before now live new → new.log.since ≡ None → new.log.end + 1 ≡ bytes_of_rows before.rows
     → new.closed ≡ live.closed || clean → new.log.epoch ≡ live.log.epoch + 1 → Attends pid before.book
-    → NotesEntries (CheckpointEnded pid true clean ∷ []) before.book now.book → Moves (CheckpointEnded pid true clean ∷ []) before now
+    → Added (CheckpointEnded pid true clean ∷ []) before.book now.book → Moves (CheckpointEnded pid true clean ∷ []) before now
 checkpoints laws before now live new pid clean moves whole end closed next inside notes = record {
   notes = notes;
   generation = moves.generation;
@@ -155,7 +156,7 @@ checkpoints laws before now live new pid clean moves whole end closed next insid
 -- the disk failed at it
 pub checkpoint_fails : Laws → (before now : Moment) (live new : Live) (pid since : ℕ) → Checkpoints before now live new → new.log.since ≡ Some since → new.closed ≡ live.closed → new.faults ≡ now.faults
     → Rose before.faults now.faults → now.faults < 2 ^ 64 → Attends pid before.book
-    → NotesEntries (Broke pid since now.faults ∷ []) before.book now.book → Moves (Broke pid since now.faults ∷ []) before now
+    → Added (Broke pid since now.faults ∷ []) before.book now.book → Moves (Broke pid since now.faults ∷ []) before now
 checkpoint_fails laws before now live new pid since moves broke closed fault rose small inside notes = record {
   notes = notes;
   generation = moves.generation;
@@ -239,7 +240,7 @@ held_skip past present_whole origin base at book_now book pid clean alone held =
       lengths = still.lengths;
     }
 
-pub skips : PastStays → PresentIsWhole → (at : Moment) (book_now : Option (List BookEntry)) (pid : ℕ) (clean : Bool) → at.live ≡ None → Attends pid at.book → NotesEntries (CheckpointEnded pid false clean ∷ []) at.book book_now
+pub skips : PastStays → PresentIsWhole → (at : Moment) (book_now : Option (List BookEntry)) (pid : ℕ) (clean : Bool) → at.live ≡ None → Attends pid at.book → Added (CheckpointEnded pid false clean ∷ []) at.book book_now
     → Moves (CheckpointEnded pid false clean ∷ []) at (with_skip book_now at)
 skips past present_whole at book_now pid clean unread inside notes =
     let entry : BookEntry = CheckpointEnded pid false clean in record {

@@ -10,21 +10,21 @@ use Rattle.std.proofs.lemmas.List.Sums.{sum_by-append, sum_by-cons, sum_by_more}
 use Rattle.pm_query.specs.declared.book.BookEntry.{BookEntry}
 use Rattle.pm_query.specs.declared.book.BookEntry.TheVariants.{Gone}
 use Rattle.pm_segment.specs.Children.{AreOthers, once, times_in, with_other}
-use Rattle.pm_segment.specs.Moves.{NotesEntries}
-use Rattle.pm_segment.specs.MovesLaws.{notes_both}
+use Rattle.pm_outside.specs.Added.{Added}
+use Rattle.pm_outside.specs.AddedLaws.{added_both}
 
 -- ---- each of a list is noted
 
-pub gone_further : (pids : List ℕ) (at : ℕ) (before between now : Option (List BookEntry)) → at < length pids → NotesEntries (map (λ pid. Gone pid) (take at pids)) before between
-    → now ≡ option_map (λ es. es ++ Gone (slice_index_or pids at 0) ∷ []) between → NotesEntries (map (λ pid. Gone pid) (take (at + 1) pids)) before now
+pub gone_further : (pids : List ℕ) (at : ℕ) (before between now : Option (List BookEntry)) → at < length pids → Added (map (λ pid. Gone pid) (take at pids)) before between
+    → now ≡ option_map (λ es. es ++ Gone (slice_index_or pids at 0) ∷ []) between → Added (map (λ pid. Gone pid) (take (at + 1) pids)) before now
 gone_further pids at before between now lt one two =
     let one_more : at + 1 ≡ suc at = omega arith in
     let next : map (λ pid. Gone pid) (take (at + 1) pids) ≡ map (λ pid. Gone pid) (take at pids) ++ Gone (slice_index_or pids at 0) ∷ [] =
     ap (λ (n : ℕ). map (λ (pid : ℕ). Gone pid) (take n pids)) one_more ∙ ap (map (λ (pid : ℕ). Gone pid)) (take-suc pids at 0 lt) ∙ map-append (λ (pid : ℕ). Gone pid) (take at pids) (slice_index_or pids at 0 ∷ []) in
-    subst (λ (l : List BookEntry). NotesEntries l before now) (sym next) (notes_both (map (λ pid. Gone pid) (take at pids)) (Gone (slice_index_or pids at 0) ∷ []) before between now one two)
+    subst (λ (l : List BookEntry). Added l before now) (sym next) (added_both (map (λ pid. Gone pid) (take at pids)) (Gone (slice_index_or pids at 0) ∷ []) before between now one two)
 
-pub gone_whole : (pids : List ℕ) (at : ℕ) (before now : Option (List BookEntry)) → length pids ≤ at → NotesEntries (map (λ pid. Gone pid) (take at pids)) before now → NotesEntries (map (λ pid. Gone pid) pids) before now
-gone_whole pids at before now le notes = subst (λ (l : List ℕ). NotesEntries (map (λ pid. Gone pid) l) before now) (take_all at pids le) notes
+pub gone_whole : (pids : List ℕ) (at : ℕ) (before now : Option (List BookEntry)) → length pids ≤ at → Added (map (λ pid. Gone pid) (take at pids)) before now → Added (map (λ pid. Gone pid) pids) before now
+gone_whole pids at before now le notes = subst (λ (l : List ℕ). Added (map (λ pid. Gone pid) l) before now) (take_all at pids le) notes
 
 -- ---- who is among a list
 

@@ -14,7 +14,7 @@ use Rattle.pm_query.specs.Calls.{IsNoLess, IsWithin}
 use Rattle.pm_segment.specs.declared.live.Live.{Live}
 use Rattle.pm_segment.specs.declared.pass.Pass.{Pass}
 use Rattle.pm_segment.specs.Moment.{Moment}
-use Rattle.pm_segment.specs.Moves.{NotesEntries}
+use Rattle.pm_outside.specs.Added.{Added}
 use Rattle.pm_segment.specs.Passes.{Admits, HasAnswer, IsFlushed, IsInside}
 use Rattle.pm_segment.proofs.Books.{present_push, times_push}
 use Rattle.pm_segment.proofs.Steps.{Attends}
@@ -42,7 +42,7 @@ answer_still pid (Some front) book entry stays has =
     subst (Any (AnswersUpTo pid front)) (sym (present_push book entry ∙ stays.present_is (present book))) (Any-before (AnswersUpTo pid front) (present book) entry has)
 
 -- a child is still inside
-pub inside_still : (pid : ℕ) (front : Option ℕ) (entry : BookEntry) (book now : Option (List BookEntry)) → Stays pid entry → NotesEntries (entry ∷ []) book now → IfSome book (IsInside pid front) → IfSome now (IsInside pid front)
+pub inside_still : (pid : ℕ) (front : Option ℕ) (entry : BookEntry) (book now : Option (List BookEntry)) → Stays pid entry → Added (entry ∷ []) book now → IfSome book (IsInside pid front) → IfSome now (IsInside pid front)
 inside_still pid front entry None now stays notes inside = subst (λ (b : Option (List BookEntry)). IfSome b (IsInside pid front)) (sym notes) tt
 inside_still pid front entry (Some book) now stays notes inside = subst (λ (b : Option (List BookEntry)). IfSome b (IsInside pid front)) (sym notes) (record {
   attached = omega (arith, inside.attached, times_push book entry pid, stays.times (times_attached book pid));
@@ -51,7 +51,7 @@ inside_still pid front entry (Some book) now stays notes inside = subst (λ (b :
 
 -- it was answered
 pub inside_answered : (pid front tick : ℕ) (script : List Stmt) (reply : List Item) (commit : List Change) (seen : Option ℕ) (book now : Option (List BookEntry))
-    → NotesEntries (Answered pid script reply commit front tick ∷ []) book now → IfSome book (IsInside pid seen) → IfSome now (IsInside pid (Some front))
+    → Added (Answered pid script reply commit front tick ∷ []) book now → IfSome book (IsInside pid seen) → IfSome now (IsInside pid (Some front))
 inside_answered pid front tick script reply commit seen None now notes inside = subst (λ (b : Option (List BookEntry)). IfSome b (IsInside pid (Some front))) (sym notes) tt
 inside_answered pid front tick script reply commit seen (Some book) now notes inside =
     let entry : BookEntry = Answered pid script reply commit front tick in
@@ -61,7 +61,7 @@ inside_answered pid front tick script reply commit seen (Some book) now notes in
     })
 
 -- it comes in
-pub inside_entered : (pid generation : ℕ) (book now : Option (List BookEntry)) → NotesEntries (Attached pid generation ∷ []) book now → IfSome now (IsInside pid None)
+pub inside_entered : (pid generation : ℕ) (book now : Option (List BookEntry)) → Added (Attached pid generation ∷ []) book now → IfSome now (IsInside pid None)
 inside_entered pid generation None now notes = subst (λ (b : Option (List BookEntry)). IfSome b (IsInside pid None)) (sym notes) tt
 inside_entered pid generation (Some book) now notes =
     let times : times_attached (book ++ Attached pid generation ∷ []) pid ≡ times_attached book pid + 1 =

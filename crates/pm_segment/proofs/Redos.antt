@@ -32,7 +32,8 @@ use Rattle.pm_query.specs.TickLaws.{PastStays, PresentIsWhole}
 use Rattle.pm_query.specs.Durable.{HoldsFrom, IsWithin}
 use Rattle.pm_segment.specs.declared.live.Live.{Live}
 use Rattle.pm_segment.specs.Moment.{Moment}
-use Rattle.pm_segment.specs.Moves.{BreakIsShown, IsCountedFrom, IsShown, IsShownAt, Moves, NotesEntries}
+use Rattle.pm_outside.specs.Added.{Added}
+use Rattle.pm_segment.specs.Moves.{BreakIsShown, IsCountedFrom, IsShown, IsShownAt, Moves}
 use Rattle.pm_segment.specs.MovesLaws.{unread_still}
 use Rattle.pm_segment.specs.Unread.{has_break, has_redo}
 use Rattle.pm_segment.specs.UnreadLaws.{break_behind, breaks_early}
@@ -142,7 +143,7 @@ held_follows past present_whole origin base before now book unread time follows 
     }
 
 -- it was refused, and the files read as they did
-pub reads_nothing : PastStays → PresentIsWhole → (before now : Moment) → Reads before now → NotesEntries [] before.book now.book → now.files ≡ before.files → Moves [] before now
+pub reads_nothing : PastStays → PresentIsWhole → (before now : Moment) → Reads before now → Added [] before.book now.book → now.files ≡ before.files → Moves [] before now
 reads_nothing past present_whole before now reads notes same = record {
   notes = notes;
   generation = reads.generation;
@@ -204,7 +205,7 @@ reads_nothing past present_whole before now reads notes same = record {
     }
 
 -- the disk failed
-pub reads_fault : PastStays → PresentIsWhole → (before now : Moment) (pid since : ℕ) → Reads before now → Rose before.faults now.faults → now.faults < 2 ^ 64 → Attends pid before.book → NotesEntries (Broke pid since now.faults ∷ []) before.book now.book
+pub reads_fault : PastStays → PresentIsWhole → (before now : Moment) (pid since : ℕ) → Reads before now → Rose before.faults now.faults → now.faults < 2 ^ 64 → Attends pid before.book → Added (Broke pid since now.faults ∷ []) before.book now.book
     → Moves (Broke pid since now.faults ∷ []) before now
 reads_fault past present_whole before now pid since reads rose small inside notes =
     let entry : BookEntry = Broke pid since now.faults in record {
@@ -250,7 +251,7 @@ reads_fault past present_whole before now pid since reads rose small inside note
 
 -- a redo of a generation that has one already
 pub redoes_again : PastStays → PresentIsWhole → (at : Moment) (live : Live) (book_now : Option (List BookEntry)) (pid : ℕ) → at.live ≡ Some live → Attends pid at.book
-    → NotesEntries (Redone pid at.generation live.kept ∷ []) at.book book_now → Moves (Redone pid at.generation live.kept ∷ []) at (with_book book_now at)
+    → Added (Redone pid at.generation live.kept ∷ []) at.book book_now → Moves (Redone pid at.generation live.kept ∷ []) at (with_book book_now at)
 redoes_again past present_whole at live book_now pid read inside notes =
     still (entry ∷ []) at live book_now read notes (λ who n. refl) (λ from counted. no_fault_shown from at.faults entry tt) refl
     (λ base book told is.
@@ -511,7 +512,7 @@ held_later laws origin base before now found new book pid seen redoes tells rene
               ∣ (n, omega arith, counted, subst (λ (s : Standing). MeansWithin most image s) (sym (cut_number h n)) (found.end + 1, is.0.long, means image there)) ∣₁;
         }
 
-pub redoes_first : Laws → (before now : Moment) (found : Found) (new : Live) (pid : ℕ) → Redoes before now found new → Attends pid before.book → NotesEntries (Redone pid before.generation found.count ∷ []) before.book now.book
+pub redoes_first : Laws → (before now : Moment) (found : Found) (new : Live) (pid : ℕ) → Redoes before now found new → Attends pid before.book → Added (Redone pid before.generation found.count ∷ []) before.book now.book
     → Moves (Redone pid before.generation found.count ∷ []) before now
 redoes_first laws before now found new pid redoes inside notes = record {
   notes = notes;

@@ -13,7 +13,8 @@ use Rattle.pm_query.specs.Book.{Base, BeginsRenewal, IsLegal, MayGoOn, RenewsBeh
 use Rattle.pm_query.specs.TickLaws.{PastStays, PresentIsWhole}
 use Rattle.pm_segment.specs.Children.{AreOthers, IsAttendedBy, once, times_in}
 use Rattle.pm_segment.specs.Moment.{Moment}
-use Rattle.pm_segment.specs.Moves.{NotesEntries, Renews}
+use Rattle.pm_outside.specs.Added.{Added}
+use Rattle.pm_segment.specs.Moves.{Renews}
 use Rattle.pm_segment.specs.Stands.{CountsFaults, HasBegun, HasHeld, HasNoTick, HasRenewed, HasWaited, IsFaultBy, IsSure, Origin, bytes_of_rows}
 use Rattle.pm_segment.specs.Unread.{has_redo}
 use Rattle.pm_segment.specs.UnreadLaws.{redo_neither}
@@ -297,7 +298,7 @@ module _ (past : PastStays) (present_whole : PresentIsWhole) (at : Moment) (book
         lengths = still.lengths;
       }
 
-  pub renews : rows_now ≡ empty → 1 ≤ at.generation → NotesEntries (renewal pids generation) at.book book_now → Renews (renewal pids generation) at now
+  pub renews : rows_now ≡ empty → 1 ≤ at.generation → Added (renewal pids generation) at.book book_now → Renews (renewal pids generation) at now
   renews rows begins notes = record {
     notes = notes;
     generation = next;

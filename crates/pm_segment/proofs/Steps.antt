@@ -28,9 +28,11 @@ use Rattle.pm_query.specs.TickLaws.{PastStays, PresentIsWhole}
 use Rattle.pm_query.specs.Durable.{HoldsFrom, Keeps}
 use Rattle.pm_segment.specs.declared.live.Live.{Live}
 use Rattle.pm_segment.specs.Moment.{Moment}
-use Rattle.pm_segment.specs.Moves.{BreakIsShown, IsCountedFrom, IsShown, IsShownAt, Moves, NotesEntries}
+use Rattle.pm_outside.specs.Added.{Added}
+use Rattle.pm_segment.specs.Moves.{BreakIsShown, IsCountedFrom, IsShown, IsShownAt, Moves}
 use Rattle.pm_segment.specs.Epochs.{BeganIn, IsAheadBy, epochs_in}
-use Rattle.pm_segment.specs.MovesLaws.{ahead_still, moves_none, notes_none, time_still, unread_never, unread_still}
+use Rattle.pm_outside.specs.AddedLaws.{added_none}
+use Rattle.pm_segment.specs.MovesLaws.{ahead_still, moves_none, time_still, unread_never, unread_still}
 use Rattle.pm_segment.specs.Unread.{has_redo}
 use Rattle.pm_segment.specs.Children.{IsAttendedBy, once, times_behind, times_in}
 use Rattle.pm_segment.specs.Passes.{IsFlushed}
@@ -93,7 +95,7 @@ no_files files is = subst files_told is tt
 -- ---- from one moment to another: of the book wherever it tells, and of stops where the disk tells as well
 
 pub told_on : (entries : List BookEntry) (P Q S T : List BookEntry → Type 0) (book book_now : Option (List BookEntry)) (files files_now : Option Files)
-    → NotesEntries entries book book_now → (files ≡ None → files_now ≡ None)
+    → Added entries book book_now → (files ≡ None → files_now ≡ None)
     → ((list : List BookEntry) → book ≡ Some list → P list → IfSome files (λ seen. S list) → Q (list ++ entries))
     → ((list : List BookEntry) → book ≡ Some list → (seen : Files) → files ≡ Some seen → P list → S list → T (list ++ entries))
     → IfSome book P × IfSome book (λ list. IfSome files (λ seen. S list)) → IfSome book_now Q × IfSome book_now (λ list. IfSome files_now (λ seen. T list))
@@ -114,7 +116,7 @@ told_on entries P Q S T (Some list) book_now files files_now notes tells step st
     left (Some seen) tells stops held = each files_now (stops seen refl told.0 held)
 
 -- before the first redo
-pub waited_on : (entries : List BookEntry) (before now : Moment) (origin : Origin) → NotesEntries entries before.book now.book → (before.files ≡ None → now.files ≡ None)
+pub waited_on : (entries : List BookEntry) (before now : Moment) (origin : Origin) → Added entries before.book now.book → (before.files ≡ None → now.files ≡ None)
     → ((book : List BookEntry) → before.book ≡ Some book → HasWaited origin before book → HasWaited origin now (book ++ entries))
     → ((book : List BookEntry) (seen : Files) → before.files ≡ Some seen → HasWaited origin before book → IsOpening origin before.ticks before.images → IsOpening origin now.ticks now.images)
     → WaitsFrom origin before → WaitsFrom origin now
@@ -132,7 +134,7 @@ sure_before before now same tells (inr told) = each before.files refl
     each (Some files) is = inr (files, is)
 
 -- behind the first redo
-pub gone_on : (entries : List BookEntry) (before now : Moment) (origin : Origin) (base : Base) → NotesEntries entries before.book now.book → (before.files ≡ None → now.files ≡ None) → (IsSure now → IsSure before)
+pub gone_on : (entries : List BookEntry) (before now : Moment) (origin : Origin) (base : Base) → Added entries before.book now.book → (before.files ≡ None → now.files ≡ None) → (IsSure now → IsSure before)
     → ((book : List BookEntry) → before.book ≡ Some book → IsSure now → HasBegun base before book → IfSome before.files (λ seen. HasHeld origin base before book) → HasBegun base now (book ++ entries))
     → ((book : List BookEntry) (seen : Files) → before.files ≡ Some seen → HasBegun base before book → HasHeld origin base before book → HasHeld origin base now (book ++ entries))
     → GoesFrom origin base before → GoesFrom origin base now
@@ -142,7 +144,7 @@ gone_on entries before now origin base notes tells sure step stops told =
     (λ book is seen told begun held. stops book seen told (begun (inr (seen, told))) held) told
 
 -- ... where the log was read in this generation
-pub gone_read : (entries : List BookEntry) (before now : Moment) (live : Live) (origin : Origin) (base : Base) → before.live ≡ Some live → now.generation ≡ before.generation → NotesEntries entries before.book now.book
+pub gone_read : (entries : List BookEntry) (before now : Moment) (live : Live) (origin : Origin) (base : Base) → before.live ≡ Some live → now.generation ≡ before.generation → Added entries before.book now.book
     → (before.files ≡ None → now.files ≡ None)
     → ((book : List BookEntry) → before.book ≡ Some book → HasGone base before live book → (new : Live) × HasGone base now new (book ++ entries))
     → ((book : List BookEntry) (seen : Files) → before.files ≡ Some seen → HasGone base before live book → HasHeld origin base before book → HasHeld origin base now (book ++ entries))
@@ -155,7 +157,7 @@ gone_read entries before now live origin base read same notes tells step stops t
     reading book (inr renewed) = absurd (not_both before.live live renewed.unread read)
 
 -- ... where it wasn't
-pub gone_unread : (entries : List BookEntry) (before now : Moment) (origin : Origin) (base : Base) → before.live ≡ None → now.generation ≡ before.generation → NotesEntries entries before.book now.book
+pub gone_unread : (entries : List BookEntry) (before now : Moment) (origin : Origin) (base : Base) → before.live ≡ None → now.generation ≡ before.generation → Added entries before.book now.book
     → (before.files ≡ None → now.files ≡ None)
     → ((book : List BookEntry) → before.book ≡ Some book → IsSure now → HasRenewed base before book → IfSome before.files (λ seen. HasHeld origin base before book) → HasBegun base now (book ++ entries))
     → ((book : List BookEntry) (seen : Files) → before.files ≡ Some seen → HasRenewed base before book → HasHeld origin base before book → HasHeld origin base now (book ++ entries))
@@ -168,15 +170,15 @@ gone_unread entries before now origin base unread same notes tells step stops to
     waiting book (inr renewed) = renewed
 
 -- an entry was noted in room that was made
-pub notes_by : (entry : BookEntry) (book reserved now : Option (List BookEntry)) → reserved ≡ book → now ≡ option_map (λ es. es ++ entry ∷ []) reserved → NotesEntries (entry ∷ []) book now
+pub notes_by : (entry : BookEntry) (book reserved now : Option (List BookEntry)) → reserved ≡ book → now ≡ option_map (λ es. es ++ entry ∷ []) reserved → Added (entry ∷ []) book now
 notes_by entry book reserved now er en = en ∙ ap (option_map (λ es. es ++ entry ∷ [])) er
 
 -- no entry was noted
-pub notes_none_by : (book now : Option (List BookEntry)) → now ≡ book → NotesEntries [] book now
-notes_none_by book now is = is ∙ notes_none book
+pub notes_none_by : (book now : Option (List BookEntry)) → now ≡ book → Added [] book now
+notes_none_by book now is = is ∙ added_none book
 
 -- what was read doesn't wait
-pub never_waits : (entries : List BookEntry) (before now : Moment) (live : Live) → before.live ≡ Some live → NotesEntries entries before.book now.book → (before.files ≡ None → now.files ≡ None)
+pub never_waits : (entries : List BookEntry) (before now : Moment) (live : Live) → before.live ≡ Some live → Added entries before.book now.book → (before.files ≡ None → now.files ≡ None)
     → (origin : Origin) → WaitsFrom origin before → WaitsFrom origin now ⊎ Begins origin now
 never_waits entries before now live read notes tells origin told =
     inl (waited_on entries before now origin notes tells (λ book is waited. absurd (not_both before.live live waited.unread read)) (λ book seen told waited opening. absurd (not_both before.live live waited.unread read)) told)
@@ -189,7 +191,7 @@ pub nobody_moves : (entries : List BookEntry) (before now : Moment) → now.insi
 nobody_moves entries before now same none pid = ap (times_in pid) same ∙ sym (none pid (times_in pid before.inside))
 
 -- the store keeps all but its book, and who is inside
-pub still_in : (entries : List BookEntry) (at : Moment) (book_now : Option (List BookEntry)) (inside_now : List ℕ) → NotesEntries entries at.book book_now
+pub still_in : (entries : List BookEntry) (at : Moment) (book_now : Option (List BookEntry)) (inside_now : List ℕ) → Added entries at.book book_now
     → ((pid : ℕ) → times_in pid inside_now ≡ times_behind entries pid (times_in pid at.inside))
     → ((from : ℕ) → IsCountedFrom from at.faults at.live → All (IsShown from at.faults) entries)
     → epochs_in entries ≡ 0 → has_redo entries ≡ false
@@ -221,7 +223,7 @@ still_in entries at book_now inside_now notes attends shown no_epoch no_redo wai
     each base book is (inr renewed) = inr (renews base book is renewed)
 
 -- ... and the log was read in this generation
-pub still : (entries : List BookEntry) (at : Moment) (live : Live) (book_now : Option (List BookEntry)) → at.live ≡ Some live → NotesEntries entries at.book book_now
+pub still : (entries : List BookEntry) (at : Moment) (live : Live) (book_now : Option (List BookEntry)) → at.live ≡ Some live → Added entries at.book book_now
     → ((pid n : ℕ) → times_behind entries pid n ≡ n)
     → ((from : ℕ) → IsCountedFrom from at.faults at.live → All (IsShown from at.faults) entries)
     → epochs_in entries ≡ 0
@@ -373,7 +375,7 @@ once_more who pid inside = each (nat_eq who pid) (times_in who inside) ∙ sym (
     each false n = omega arith
 
 -- a child comes in
-pub enters : PastStays → PresentIsWhole → (at : Moment) (book_now : Option (List BookEntry)) (pid : ℕ) → NotesEntries (Attached pid at.generation ∷ []) at.book book_now
+pub enters : PastStays → PresentIsWhole → (at : Moment) (book_now : Option (List BookEntry)) (pid : ℕ) → Added (Attached pid at.generation ∷ []) at.book book_now
     → Moves (Attached pid at.generation ∷ []) at (with_child book_now (at.inside ++ pid ∷ []) at)
 enters past present_whole at book_now pid notes =
     still_in (entry ∷ []) at book_now (at.inside ++ pid ∷ []) notes (λ who. sym (once_more who pid at.inside)) (λ from counted. no_fault_shown from at.faults entry tt) refl refl
@@ -400,7 +402,7 @@ enters past present_whole at book_now pid notes =
 -- a child goes
 pub leaves : PastStays → PresentIsWhole → (at : Moment) (book_now : Option (List BookEntry)) (inside_now : List ℕ) (pid : ℕ) → Attends pid at.book
     → ((who : ℕ) → times_in who inside_now ≡ cond (nat_eq who pid) (times_in who at.inside - 1) (times_in who at.inside))
-    → NotesEntries (Detached pid ∷ []) at.book book_now → Moves (Detached pid ∷ []) at (with_child book_now inside_now at)
+    → Added (Detached pid ∷ []) at.book book_now → Moves (Detached pid ∷ []) at (with_child book_now inside_now at)
 leaves past present_whole at book_now inside_now pid inside once_less notes =
     still_in (Detached pid ∷ []) at book_now inside_now notes once_less (λ from counted. no_fault_shown from at.faults (Detached pid) tt) refl refl
     (λ origin book told is. waited_quiet origin at book_now inside_now book (Detached pid) tt (attended book is.attended) (λ base. attends_in pid at.book book told inside)
@@ -424,7 +426,7 @@ leaves past present_whole at book_now inside_now pid inside once_less notes =
 
 -- an answer up to what is flushed is released
 pub releases : PastStays → PresentIsWhole → (at : Moment) (live : Live) (book_now : Option (List BookEntry)) (pid front : ℕ) → at.live ≡ Some live → front ≤ live.log.count → Attends pid at.book
-    → IfSome at.book (λ list. Any (AnswersUpTo pid front) (present list)) → NotesEntries (Released pid front at.ticks ∷ []) at.book book_now → Moves (Released pid front at.ticks ∷ []) at (with_book book_now at)
+    → IfSome at.book (λ list. Any (AnswersUpTo pid front) (present list)) → Added (Released pid front at.ticks ∷ []) at.book book_now → Moves (Released pid front at.ticks ∷ []) at (with_book book_now at)
 releases past present_whole at live book_now pid front read flushed inside answered notes =
     let entry : BookEntry = Released pid front at.ticks in
     still (entry ∷ []) at live book_now read notes (λ who n. refl) (λ from counted. no_fault_shown from at.faults entry tt) refl
@@ -475,7 +477,7 @@ may_answer base at live book pid script reply commit front is attached reply_is 
 -- a script without changes is answered
 pub reads : PastStays → PresentIsWhole → (at : Moment) (live : Live) (book_now : Option (List BookEntry)) (pid : ℕ) (script : List Stmt) (reply : List Item) (commit : List Change)
     → at.live ≡ Some live → live.log.since ≡ None → Attends pid at.book → reply ≡ items_of at.rows script → commit ≡ commit_of at.rows script → commit ≡ []
-    → NotesEntries (Answered pid script reply commit live.log.count at.ticks ∷ []) at.book book_now → Moves (Answered pid script reply commit live.log.count at.ticks ∷ []) at (with_book book_now at)
+    → Added (Answered pid script reply commit live.log.count at.ticks ∷ []) at.book book_now → Moves (Answered pid script reply commit live.log.count at.ticks ∷ []) at (with_book book_now at)
 reads past present_whole at live book_now pid script reply commit read unbroken inside reply_is commit_is nothing notes =
     let entry : BookEntry = Answered pid script reply commit live.log.count at.ticks in
     let bare : BookEntry = Answered pid script reply [] live.log.count at.ticks in
@@ -700,7 +702,7 @@ pub commits : PastStays → PresentIsWhole → (before now : Moment) (live new :
     → Appends before now live new commit → new.log.since ≡ None → new.log.count ≡ live.log.count + 1 → new.log.end ≡ live.log.end + log.need_of (commit ∷ [])
     → IfSome before.files (λ files. (image : Files) → now.images now.ticks image → ∥ MeansWithin (with_need live commit) image (after (standing before.rows live.log.count) (commit ∷ [])) ∥₁)
     → Attends pid before.book → reply ≡ items_of before.rows script → commit ≡ commit_of before.rows script
-    → NotesEntries (Answered pid script reply commit new.log.count before.ticks ∷ []) before.book now.book
+    → Added (Answered pid script reply commit new.log.count before.ticks ∷ []) before.book now.book
     → Moves (Answered pid script reply commit new.log.count before.ticks ∷ []) before now
 commits past present_whole before now live new pid script reply [] some appends whole count end durable inside reply_is commit_is notes = absurd (some refl)
 commits past present_whole before now live new pid script reply (change ∷ changes) some appends whole count end durable inside reply_is commit_is notes = record {
@@ -773,7 +775,7 @@ commits past present_whole before now live new pid script reply (change ∷ chan
 pub loses : PastStays → PresentIsWhole → (before now : Moment) (live new : Live) (pid since : ℕ) (script : List Stmt) (reply : List Item) (commit : List Change) → commit ≢ []
     → Appends before now live new commit → new.log.since ≡ Some since → new.log.count ≡ live.log.count → new.faults ≡ now.faults → Rose before.faults now.faults → now.faults < 2 ^ 64
     → Attends pid before.book → reply ≡ items_of before.rows script → commit ≡ commit_of before.rows script
-    → NotesEntries (Answered pid script reply commit (live.log.count + 1) before.ticks ∷ Broke pid since now.faults ∷ []) before.book now.book
+    → Added (Answered pid script reply commit (live.log.count + 1) before.ticks ∷ Broke pid since now.faults ∷ []) before.book now.book
     → Moves (Answered pid script reply commit (live.log.count + 1) before.ticks ∷ Broke pid since now.faults ∷ []) before now
 loses past present_whole before now live new pid since script reply [] some appends broke count fault rose small inside reply_is commit_is notes = absurd (some refl)
 loses past present_whole before now live new pid since script reply (change ∷ changes) some appends broke count fault rose small inside reply_is commit_is notes = record {
@@ -868,7 +870,7 @@ loses past present_whole before now live new pid since script reply (change ∷ 
 
 -- a child finds the log broken
 pub finds_broken : PastStays → PresentIsWhole → (at : Moment) (live : Live) (book_now : Option (List BookEntry)) (pid since : ℕ) → at.live ≡ Some live → live.log.since ≡ Some since → Attends pid at.book
-    → NotesEntries (Broke pid since live.faults ∷ []) at.book book_now → Moves (Broke pid since live.faults ∷ []) at (with_book book_now at)
+    → Added (Broke pid since live.faults ∷ []) at.book book_now → Moves (Broke pid since live.faults ∷ []) at (with_book book_now at)
 finds_broken past present_whole at live book_now pid since read broke inside notes =
     let entry : BookEntry = Broke pid since live.faults in
     still (entry ∷ []) at live book_now read notes (λ who n. refl) (λ from counted. no_fault_shown from at.faults entry (shown_of from at.faults at.live live since read broke counted.shown)) refl
@@ -896,7 +898,7 @@ finds_broken past present_whole at live book_now pid since read broke inside not
 pub finds_full : PastStays → PresentIsWhole → (at : Moment) (live : Live) (book_now : Option (List BookEntry)) (pid need room : ℕ) (script : List Stmt) (commit : List Change) → at.live ≡ Some live → live.log.since ≡ None
     → Attends pid at.book → commit ≡ commit_of at.rows script → need ≡ need_of commit → room < need
     → ((live.log.count ≡ 2 ^ 64 - 1) × (room ≡ 0)) ⊎ (room ≡ live.log.limit - (live.log.end + 1))
-    → NotesEntries (LogFull pid script need room ∷ []) at.book book_now → Moves (LogFull pid script need room ∷ []) at (with_book book_now at)
+    → Added (LogFull pid script need room ∷ []) at.book book_now → Moves (LogFull pid script need room ∷ []) at (with_book book_now at)
 finds_full past present_whole at live book_now pid need room script commit read unbroken inside commit_is need_is above cause notes =
     let entry : BookEntry = LogFull pid script need room in
     still (entry ∷ []) at live book_now read notes (λ who n. refl) (λ from counted. no_fault_shown from at.faults entry tt) refl

@@ -1,6 +1,7 @@
 -- What the calls of a store do from one moment to another.
-use Rattle.std.specs.Prelude.{◌≡◌, ◌⊎◌, ℕ, ◌+◌, ◌≤◌, ◌||◌, true, false, List, [], ◌++◌, All, Option, None, Some, is_some, option_map}
+use Rattle.std.specs.Prelude.{◌≡◌, ◌⊎◌, ℕ, ◌+◌, ◌≤◌, ◌||◌, true, false, List, [], All, Option, None, Some, is_some}
 use Rattle.std.specs.FinMap.{empty}
+use Rattle.pm_outside.specs.Added.{Added}
 use Rattle.pm_disk.specs.Cause.{Rose}
 use Rattle.pm_record.specs.OnDisk.{GoesOn}
 use Rattle.pm_query.specs.declared.book.BookEntry.{BookEntry}
@@ -13,10 +14,6 @@ use Rattle.pm_segment.specs.Moment.{Moment}
 use Rattle.pm_segment.specs.Passes.{IsFlushed}
 use Rattle.pm_segment.specs.Stands.{Begins, GoesFrom, Origin, WaitsFrom}
 use Rattle.pm_segment.specs.Unread.{has_break, has_redo}
-
--- these entries were added, where the book tells
-abbrev pub NotesEntries : List BookEntry → Option (List BookEntry) → Option (List BookEntry) → Type 0
-NotesEntries entries before now = now ≡ option_map (λ book. book ++ entries) before
 
 -- all that a store keeps of its own is as it was
 pub record IsAsBefore (before now : Moment) : Type 0 where
@@ -61,7 +58,7 @@ pub record StaysUnread (entries : List BookEntry) (before now : Moment) : Type 0
 -- often it was, what was flushed is so still, and the log has come one epoch further for each checkpoint that was made,
 -- whether book and disk tell or not.
 pub record Moves (entries : List BookEntry) (before now : Moment) : Type 0 where
-  pub notes : NotesEntries entries before.book now.book
+  pub notes : Added entries before.book now.book
   pub generation : now.generation ≡ before.generation
   pub attends : (pid : ℕ) → times_in pid now.inside ≡ times_behind entries pid (times_in pid before.inside)
   pub time : GoesOn before.ticks now.ticks before.images now.images
@@ -77,7 +74,7 @@ pub record Moves (entries : List BookEntry) (before now : Moment) : Type 0 where
 -- From one generation to the next. These entries were noted, nobody is inside, there are no rows, and the log isn't read.
 -- What held from a beginning holds from it still.
 pub record Renews (entries : List BookEntry) (before now : Moment) : Type 0 where
-  pub notes : NotesEntries entries before.book now.book
+  pub notes : Added entries before.book now.book
   pub generation : now.generation ≡ before.generation + 1
   pub inside : now.inside ≡ []
   pub rows : now.rows ≡ empty

@@ -1,7 +1,6 @@
 -- The laws of what the calls of a store do.
-use Rattle.std.proofs.Common.{◌≡◌, ◌⊎◌, inl, inr, Bool, true, false, ℕ, ◌+◌, ◌≤◌, All, List, [], ◌∷◌, ◌++◌, Option, None, Some, refl, sym, ◌∙◌, ap, subst, arith, append_assoc, append-nil}
+use Rattle.std.proofs.Common.{◌≡◌, ◌⊎◌, inl, inr, Bool, true, false, ℕ, ◌+◌, ◌≤◌, All, List, [], ◌∷◌, ◌++◌, Option, None, Some, refl, sym, ◌∙◌, ap, subst, arith}
 use Rattle.std.specs.Prelude.{IfSome, is_some, ◌||◌}
-use Rattle.std.specs.Option.{option_map}
 use Rattle.std.proofs.lemmas.List.Elements.{All-nil, All-append, All-head, All-tail, All-weaker}
 use Rattle.std.proofs.lemmas.List.Folds.{list_any-append}
 use Rattle.std.proofs.lemmas.List.Sums.{fold-append, sum_by-append}
@@ -15,7 +14,9 @@ use Rattle.pm_segment.specs.Children.{times_behind, times_in}
 use Rattle.pm_segment.specs.declared.live.Live.{Live}
 use Rattle.pm_segment.specs.Epochs.{IsAheadBy, begun_by, epochs_in}
 use Rattle.pm_segment.specs.Moment.{Moment}
-use Rattle.pm_segment.specs.Moves.{IsShown, CountsEntries, Moves, NotesEntries, StaysUnread}
+use Rattle.pm_outside.specs.Added.{Added}
+use Rattle.pm_outside.specs.AddedLaws.{added_both, added_none}
+use Rattle.pm_segment.specs.Moves.{IsShown, CountsEntries, Moves, StaysUnread}
 use Rattle.pm_segment.specs.Stands.{Begins, GoesFrom, IsBaseOf, Origin, WaitsFrom}
 use Rattle.pm_segment.specs.Unread.{has_break, has_redo, is_redo}
 use Rattle.pm_segment.specs.UnreadLaws.{break_before, break_behind, breaks_on}
@@ -35,17 +36,6 @@ shown_later from before now le (Gone pid) shown = tt
 shown_later from before now le (CheckpointEnded pid done clean) shown = tt
 shown_later from before now le (LogFull pid script need room) shown = tt
 
--- no entry
-pub notes_none : (book : Option (List BookEntry)) → NotesEntries [] book book
-notes_none None = refl
-notes_none (Some book) = ap (λ (b : List BookEntry). Some b) (sym (append-nil book))
-
--- some, and then some more
-pub notes_both : (first second : List BookEntry) (before between now : Option (List BookEntry)) → NotesEntries first before between → NotesEntries second between now → NotesEntries (first ++ second) before now
-notes_both first second None between now one two = two ∙ ap (option_map (λ (b : List BookEntry). b ++ second)) one
-notes_both first second (Some book) between now one two =
-    two ∙ ap (option_map (λ (b : List BookEntry). b ++ second)) one ∙ ap (λ (b : List BookEntry). Some b) (append_assoc book first second)
-
 pub time_still : (tick : ℕ) (images : ℕ → Files → Type 0) → GoesOn tick tick images images
 time_still tick images = record { later = omega arith; past = λ t le image. (λ there. there, λ there. there) }
 
@@ -63,12 +53,12 @@ pub base_on : (origin : Origin) (base : Base) (book more : List BookEntry) → I
 base_on origin base book more (inl breaks) = inl (breaks_on book more breaks)
 base_on origin base book more (inr means) = inr means
 
-base_noted : (origin : Origin) (base : Base) (entries : List BookEntry) (before now : Option (List BookEntry)) → NotesEntries entries before now → IfSome before (IsBaseOf origin base) → IfSome now (IsBaseOf origin base)
+base_noted : (origin : Origin) (base : Base) (entries : List BookEntry) (before now : Option (List BookEntry)) → Added entries before now → IfSome before (IsBaseOf origin base) → IfSome now (IsBaseOf origin base)
 base_noted origin base entries None now notes found = subst (λ (b : Option (List BookEntry)). IfSome b (IsBaseOf origin base)) (sym notes) tt
 base_noted origin base entries (Some book) now notes found = subst (λ (b : Option (List BookEntry)). IfSome b (IsBaseOf origin base)) (sym notes) (base_on origin base book entries found)
 
 -- what has come behind its first redo stays so
-pub begins_on : (origin : Origin) (entries : List BookEntry) (before now : Moment) → NotesEntries entries before.book now.book → ((base : Base) → GoesFrom origin base before → GoesFrom origin base now) → Begins origin before → Begins origin now
+pub begins_on : (origin : Origin) (entries : List BookEntry) (before now : Moment) → Added entries before.book now.book → ((base : Base) → GoesFrom origin base before → GoesFrom origin base now) → Begins origin before → Begins origin now
 begins_on origin entries before now notes goes_on begins = record {
   base = begins.base;
   faults = begins.faults;
@@ -157,7 +147,7 @@ ahead_both first second many o is =
 
 pub moves_none : (at : Moment) → Moves [] at at
 moves_none at = record {
-  notes = notes_none at.book;
+  notes = added_none at.book;
   generation = refl;
   attends = λ pid. refl;
   time = time_still at.ticks at.images;
@@ -173,7 +163,7 @@ moves_none at = record {
 
 pub moves_on : (first second : List BookEntry) (before between now : Moment) → Moves first before between → Moves second between now → Moves (first ++ second) before now
 moves_on first second before between now one two = record {
-  notes = notes_both first second before.book between.book now.book one.notes two.notes;
+  notes = added_both first second before.book between.book now.book one.notes two.notes;
   generation = two.generation ∙ one.generation;
   attends = λ pid. two.attends pid ∙ ap (times_behind second pid) (one.attends pid) ∙ sym (fold-append (times_after pid) (times_in pid before.inside) first second);
   time = time_on before.ticks between.ticks now.ticks before.images between.images now.images one.time two.time;

@@ -4,7 +4,7 @@ ghost use Rattle.std.specs.Prelude.{◌≡◌, ◌≢◌, ◌+◌, ◌≤◌, []
 ghost use Rattle.pm_query.specs.declared.book.BookEntry.TheVariants.{Answered, Broke, LogFull};
 ghost use Rattle.pm_query.specs.declared.store.StoreNo.{StoreNo};
 ghost use Rattle.pm_query.specs.Calls.{NotesStaged};
-ghost use Rattle.pm_segment.specs.Moves.{NotesEntries};
+ghost use Rattle.pm_outside.specs.Added.{Added};
 
 use crate::live::Live;
 use crate::pass::Pass;
@@ -165,7 +165,7 @@ fn answer<B: Chronicle<BookEntry>>(
 ) -> Staged
     requires room { 1 ≤ B.spare book.old }
     requires noted { ran.noted ≡ ran.reply }
-    ensures entries { NotesEntries (Answered pass.old.pid ran.script ran.reply ran.commit front tick
+    ensures entries { Added (Answered pass.old.pid ran.script ran.reply ran.commit front tick
         ∷ []) (B.entries book.old) (B.entries book.new) }
     ensures room { B.spare book.new + 1 ≡ B.spare book.old }
     ensures staged { NotesStaged pass.old.pid ran.script result
@@ -193,7 +193,7 @@ fn note_answer<B: Chronicle<BookEntry>>(
 ) -> Reply
     requires room { 1 ≤ B.spare book.old }
     requires noted { ran.noted ≡ ran.reply }
-    ensures entries { NotesEntries (Answered pid ran.script ran.reply ran.commit front tick ∷ [])
+    ensures entries { Added (Answered pid ran.script ran.reply ran.commit front tick ∷ [])
         (B.entries book.old) (B.entries book.new) }
     ensures room { B.spare book.new + 1 ≡ B.spare book.old }
     ensures reply { result ≡ ran.reply }
@@ -218,7 +218,7 @@ fn note_answer<B: Chronicle<BookEntry>>(
 // Notes the disk's last fault.
 pub(crate) fn note_fault<D: Disk, B: Chronicle<BookEntry>>(book: &mut B, pid: u32, disk: &D)
     requires { 1 ≤ B.spare book.old }
-    ensures entries { NotesEntries (Broke pid (D.ticks disk.now) (D.faults disk.now) ∷ [])
+    ensures entries { Added (Broke pid (D.ticks disk.now) (D.faults disk.now) ∷ [])
         (B.entries book.old) (B.entries book.new) }
     ensures room { B.spare book.new + 1 ≡ B.spare book.old }
 {
@@ -238,7 +238,7 @@ fn note_full<B: Chronicle<BookEntry>>(
     room: u64,
 ) -> StoreNo
     requires { 1 ≤ B.spare book.old }
-    ensures entries { NotesEntries (LogFull pid ran.script need room ∷ [])
+    ensures entries { Added (LogFull pid ran.script need room ∷ [])
         (B.entries book.old) (B.entries book.new) }
     ensures room { B.spare book.new + 1 ≡ B.spare book.old }
     ensures full { result ≡ StoreNo.Full need room }

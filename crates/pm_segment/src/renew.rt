@@ -2,7 +2,7 @@
 
 ghost use Rattle.std.specs.Prelude.{◌≡◌, ◌+◌, ◌≤◌, length, map};
 ghost use Rattle.pm_query.specs.declared.book.BookEntry.TheVariants.{Gone};
-ghost use Rattle.pm_segment.specs.Moves.{NotesEntries};
+ghost use Rattle.pm_outside.specs.Added.{Added};
 
 use crate::children::Children;
 use crate::segment::{Segment, history_laws};
@@ -52,7 +52,7 @@ impl<D: Disk, B: Chronicle<BookEntry>> Segment<D, B> {
 // Notes that each of these children is gone.
 fn note_gone<B: Chronicle<BookEntry>>(book: &mut B, pids: &[u32])
     requires { length pids.now ≤ B.spare book.old }
-    ensures entries { NotesEntries (map Gone pids.now) (B.entries book.old) (B.entries book.new) }
+    ensures entries { Added (map Gone pids.now) (B.entries book.old) (B.entries book.new) }
     ensures room { B.spare book.new + length pids.now ≡ B.spare book.old }
 {
     for at in 0..pids.len() {

@@ -61,7 +61,7 @@ impl<D: Disk, B: Chronicle<BookEntry>> Segment<D, B> {
     ghost use Rattle.std.specs.Prelude.{[], ◌∷◌, Some, IfOk, IfErr};
     ghost use Rattle.pm_query.specs.declared.book.BookEntry.{BookEntry};
     ghost use Rattle.pm_segment.specs.Moment.{book_of, disk_of, moment};
-    ghost use Rattle.pm_segment.specs.Moves.{NotesEntries};
+    ghost use Rattle.pm_outside.specs.Added.{Added};
     ghost use Rattle.pm_segment.specs.Redos.{is_broken};
     ghost use Rattle.pm_segment.specs.Stands.{WaitsFrom};
 
@@ -69,7 +69,7 @@ impl<D: Disk, B: Chronicle<BookEntry>> Segment<D, B> {
     pub fn new(alloc: Global, disk: D, book: B) -> Result<Segment<D, B>, (D, B)>
         ensures disk { IfOk result (λ store. disk_of store ≡ disk) }
         ensures notes { IfOk result (λ store.
-            NotesEntries (BookEntry.Opened 1 ∷ []) (B.entries book) (moment store).book) }
+            Added (BookEntry.Opened 1 ∷ []) (B.entries book) (moment store).book) }
         ensures waits { IfOk result (λ store. B.entries book ≡ Some []
             → WaitsFrom (record {
               files = D.seen disk;

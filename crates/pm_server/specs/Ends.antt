@@ -13,7 +13,7 @@ use Rattle.pm_record.specs.declared.fault.RedoFault.TheVariants as redo
 use Rattle.pm_redo.specs.Found.{IsReason}
 use Rattle.pm_query.specs.declared.book.BookEntry.{BookEntry}
 use Rattle.pm_segment.specs.Moment.{Moment}
-use Rattle.pm_segment.specs.Moves.{NotesEntries}
+use Rattle.pm_outside.specs.Added.{Added}
 use Rattle.pm_segment.specs.Unread.{has_break}
 use Rattle.pm_segment.specs.Redos.{IsAtLastEpoch, IsCleanAt, SaysNothing}
 use Rattle.pm_journal.specs.Stands.{any_moment}
@@ -44,9 +44,9 @@ IsEndBy ended limits NoMemory journal = Unit {0}
 
 -- The book begins with the opening of the store, or there was no memory for that, or no thread, and nothing else was done.
 abbrev pub IsBook : (nothing_done : Type 0) → ServerEnd → (book : List BookEntry) → (before now : Option (List BookEntry)) → Type 0
-IsBook nothing_done NoMemory book before now = (nothing_done × (now ≡ before)) ⊎ NotesEntries book before now
-IsBook nothing_done NoThread book before now = (nothing_done × (now ≡ before)) ⊎ NotesEntries book before now
-IsBook nothing_done end book before now = NotesEntries book before now
+IsBook nothing_done NoMemory book before now = (nothing_done × (now ≡ before)) ⊎ Added book before now
+IsBook nothing_done NoThread book before now = (nothing_done × (now ≡ before)) ⊎ Added book before now
+IsBook nothing_done end book before now = Added book before now
 
 -- the files are those that were handed in, unless a fault of the disk was noted
 abbrev pub AreHandedIn : List BookEntry → (before now : DiskView) → Type 0

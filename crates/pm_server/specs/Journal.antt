@@ -7,12 +7,12 @@ use Rattle.pm_state.specs.declared.event.PmEvent.TheVariants as entry
 use Rattle.pm_state.specs.Journal.{IsLegal}
 use Rattle.pm_journal.specs.declared.supervision.Taken.{Taken}
 use Rattle.pm_journal.specs.Moments.{AreGiven}
-use Rattle.pm_journal.specs.Standing.{Adds}
+use Rattle.pm_outside.specs.Added.{Added}
 use Rattle.pm_journal.specs.Stands.{any_moment}
 
 -- These entries were added. They were legal at every moment, and the clock gave their moments.
 pub record IsJournal (limits : Limits) (gives : ℕ → Type 0) (journal : List PmEvent) (before now : Option (List PmEvent)) : Type 0 where
-  pub noted : Adds journal before now
+  pub noted : Added journal before now
   pub legal : IsLegal limits any_moment journal
   pub given : AreGiven gives journal
 

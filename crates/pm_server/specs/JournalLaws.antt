@@ -1,10 +1,9 @@
 -- Moments, requests and connections of a journal that is written in parts.
-use Rattle.std.proofs.Common.{◌≡◌, ◌⊎◌, inl, inr, ℕ, ◌<◌, List, [], ◌∷◌, ◌++◌, Option, None, Some, option_map, refl, sym, ◌∙◌, ap, subst, append_assoc, append-nil}
+use Rattle.std.proofs.Common.{◌≡◌, ◌⊎◌, inl, inr, ℕ, ◌<◌, List, [], ◌∷◌, ◌++◌, None, Some, refl, sym, ◌∙◌, ap, subst}
 use Rattle.pm_modes.specs.declared.Mode.{Mode}
 use Rattle.pm_state.specs.declared.event.PmEvent.{PmEvent}
 use Rattle.pm_state.specs.declared.event.PmEvent.TheVariants as entry
 use Rattle.pm_journal.specs.Moments.{AreGiven, IsGiven}
-use Rattle.pm_journal.specs.Standing.{Adds}
 use Rattle.pm_journal.specs.declared.supervision.Taken.{Taken}
 use Rattle.pm_server.specs.Journal.{IsMoment, Times, accepted_in, asked_in}
 
@@ -100,14 +99,3 @@ accepted_in-append (entry.Ready generation ∷ xs) ys = accepted_in-append xs ys
 accepted_in-append (entry.Reset generation ∷ xs) ys = accepted_in-append xs ys
 accepted_in-append (entry.Said line ∷ xs) ys = accepted_in-append xs ys
 accepted_in-append (entry.Ended how ∷ xs) ys = accepted_in-append xs ys
-
--- ---- a journal, where it is told
-
-pub adds_none : (told : Option (List PmEvent)) → Adds [] told told
-adds_none None = refl
-adds_none (Some journal) = ap (λ (j : List PmEvent). Some j) (sym (append-nil journal))
-
-pub adds_both : (one two : List PmEvent) (before between now : Option (List PmEvent)) → Adds one before between → Adds two between now → Adds (one ++ two) before now
-adds_both one two None between now first second = second ∙ ap (option_map (λ (j : List PmEvent). j ++ two)) first
-adds_both one two (Some journal) between now first second =
-    second ∙ ap (option_map (λ (j : List PmEvent). j ++ two)) first ∙ ap (λ (j : List PmEvent). Some j) (append_assoc journal one two)

@@ -6,13 +6,14 @@ use Rattle.pm_query.specs.declared.book.BookEntry.TheVariants.{Gone, Opened}
 use Rattle.pm_query.specs.Book.{Base}
 use Rattle.pm_segment.specs.Children.{AreOthers}
 use Rattle.pm_segment.specs.Moment.{Moment}
-use Rattle.pm_segment.specs.Moves.{CountsEntries, IsCountedFrom, NotesEntries, Renews}
+use Rattle.pm_outside.specs.Added.{Added}
+use Rattle.pm_segment.specs.Moves.{CountsEntries, IsCountedFrom, Renews}
 use Rattle.pm_segment.specs.Stands.{Begins, GoesFrom, Origin, WaitsFrom}
 
 -- These entries were noted. What held from a beginning holds from it still, or the first redo has come; what a stop could
 -- leave before is as it was, and each fault that was noted was counted.
 pub record Spans (entries : List BookEntry) (before now : Moment) : Type 0 where
-  pub notes : NotesEntries entries before.book now.book
+  pub notes : Added entries before.book now.book
   pub time : GoesOn before.ticks now.ticks before.images now.images
   pub later : before.faults ≤ now.faults
   pub counts : (from : ℕ) → IsCountedFrom from before.faults before.live → CountsEntries from entries now.faults now.live

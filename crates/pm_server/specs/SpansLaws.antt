@@ -6,7 +6,8 @@ use Rattle.pm_query.specs.declared.book.BookEntry.{BookEntry}
 use Rattle.pm_query.specs.declared.book.BookEntry.TheVariants.{Opened, Gone}
 use Rattle.pm_segment.specs.Moment.{Moment}
 use Rattle.pm_segment.specs.Moves.{IsShown, CountsEntries, Moves}
-use Rattle.pm_segment.specs.MovesLaws.{begins_on, moves_none, notes_both, shown_later, time_on}
+use Rattle.pm_outside.specs.AddedLaws.{added_both}
+use Rattle.pm_segment.specs.MovesLaws.{begins_on, moves_none, shown_later, time_on}
 use Rattle.pm_segment.specs.Stands.{Begins, Origin, WaitsFrom}
 use Rattle.pm_server.specs.Spans.{HasRenewed, Spans}
 
@@ -43,7 +44,7 @@ spans_renewal generation lost others before now renewed = record {
 
 pub spans_on : (first second : List BookEntry) (before between now : Moment) → Spans first before between → Spans second between now → Spans (first ++ second) before now
 spans_on first second before between now one two = record {
-  notes = notes_both first second before.book between.book now.book one.notes two.notes;
+  notes = added_both first second before.book between.book now.book one.notes two.notes;
   time = time_on before.ticks between.ticks now.ticks before.images between.images now.images one.time two.time;
   later = omega (arith, one.later, two.later);
   counts = λ from counted.

@@ -23,7 +23,8 @@ use Rattle.pm_query.specs.History.{History, count_of, number, rows_of}
 use Rattle.pm_query.specs.declared.book.BookEntry.{BookEntry}
 use Rattle.pm_query.specs.declared.book.BookEntry.TheVariants.{Opened, Attached, Redone, Answered, Released, Detached, Gone, CheckpointEnded, Broke, LogFull}
 use Rattle.pm_segment.specs.Moment.{Moment, Told}
-use Rattle.pm_segment.specs.Moves.{BreakIsShown, IsCountedFrom, IsShown, NotesEntries, StaysUnread}
+use Rattle.pm_outside.specs.Added.{Added}
+use Rattle.pm_segment.specs.Moves.{BreakIsShown, IsCountedFrom, IsShown, StaysUnread}
 use Rattle.pm_segment.specs.MovesLaws.{break_shown, time_on}
 use Rattle.pm_segment.specs.Redos.{IsAtLastEpoch, IsCleanAt, SaysNothing, StandsAfresh, is_broken}
 use Rattle.pm_segment.specs.Rests.{Rests}
@@ -58,7 +59,7 @@ where_told (Some f) P Q step told = step told
 some_same : (a b : List BookEntry) → Some a ≡ Some b → a ≡ b
 some_same a b is = cc
 
-all_noted : (entries : List BookEntry) (b0 b1 b2 : Option (List BookEntry)) → b0 ≡ Some [] → NotesEntries (Opened 1 ∷ []) b0 b1 → NotesEntries entries b1 b2 → b2 ≡ Some (Opened 1 ∷ entries)
+all_noted : (entries : List BookEntry) (b0 b1 b2 : Option (List BookEntry)) → b0 ≡ Some [] → Added (Opened 1 ∷ []) b0 b1 → Added entries b1 b2 → b2 ≡ Some (Opened 1 ∷ entries)
 all_noted entries b0 b1 b2 empty first second =
     second ∙ ap (option_map (λ (b : List BookEntry). b ++ entries)) (first ∙ ap (option_map (λ (b : List BookEntry). b ++ Opened 1 ∷ [])) empty)
 
@@ -200,7 +201,7 @@ pub record HasRunSo (before : DiskView) (first : Moment) (entries : List BookEnt
   pub files : first.files ≡ before.files
   pub faults : first.faults ≡ before.faults
 
-pub whole_story : (end : ServerEnd) (before : DiskView) (first : Moment) (entries : List BookEntry) (at : Moment) (b0 : Option (List BookEntry)) → b0 ≡ Some [] → NotesEntries (Opened 1 ∷ []) b0 first.book
+pub whole_story : (end : ServerEnd) (before : DiskView) (first : Moment) (entries : List BookEntry) (at : Moment) (b0 : Option (List BookEntry)) → b0 ≡ Some [] → Added (Opened 1 ∷ []) b0 first.book
     → WaitsFrom (origin_of before) first → HasRunSo before first entries at → IsKnownAt end before.faults at → RestsAt at → ((origin : Origin) (base : Base) → GoesFrom origin base at → Told at (IsRun origin base at))
     → IfSome at.book (IsStory end before (view_at at))
 whole_story end before first entries at b0 empty opened waits run known rests law = each_told (IsStory end before (view_at at)) at.book (λ b is_book.
@@ -279,7 +280,7 @@ those_once before first entries at run none once = elim ((run.unread once).files
 ]
 
 -- the book tells
-those_told : (fault : RedoFault) (before : DiskView) (first : Moment) (entries : List BookEntry) (at : Moment) (b0 : Option (List BookEntry)) → b0 ≡ Some [] → NotesEntries (Opened 1 ∷ []) b0 first.book → (SaysNothing fault → ⊥) → IfSome at.files (IsReason fault)
+those_told : (fault : RedoFault) (before : DiskView) (first : Moment) (entries : List BookEntry) (at : Moment) (b0 : Option (List BookEntry)) → b0 ≡ Some [] → Added (Opened 1 ∷ []) b0 first.book → (SaysNothing fault → ⊥) → IfSome at.files (IsReason fault)
     → WaitsFrom (origin_of before) first → Spans entries first at → ((origin : Origin) (base : Base) → GoesFrom origin base at → Told at (λ book. CanBeRead at)) → IfSome at.book (λ _. AreTold entries before at)
 those_told fault before first entries at b0 empty opened says reason waits spans law = each_told _ at.book (λ b is_book.
     let book_is : b ≡ Opened 1 ∷ entries = some_same b (Opened 1 ∷ entries) (sym is_book ∙ all_noted entries b0 first.book at.book empty opened spans.notes) in
@@ -298,7 +299,7 @@ told_is : (book : Option (List BookEntry)) (P : Type 0) → book ≢ None → If
 told_is None P tells holds = absurd (tells refl)
 told_is (Some b) P tells holds = holds
 
-pub whole_cause : (end : ServerEnd) (before : StoreView) (first : Moment) (entries : List BookEntry) (at : Moment) → NotesEntries (Opened 1 ∷ []) before.book first.book → (before.book ≡ Some [] → WaitsFrom (origin_of before.disk) first) → HasRunSo before.disk first entries at
+pub whole_cause : (end : ServerEnd) (before : StoreView) (first : Moment) (entries : List BookEntry) (at : Moment) → Added (Opened 1 ∷ []) before.book first.book → (before.book ≡ Some [] → WaitsFrom (origin_of before.disk) first) → HasRunSo before.disk first entries at
     → IsKnownAt end before.disk.faults at → ((origin : Origin) (base : Base) → GoesFrom origin base at → Told at (λ book. CanBeRead at)) → IsCausedBy end (Opened 1 ∷ entries) before (store_at at)
 whole_cause Clean before first entries at opened waits run known law = tt
 whole_cause NoMemory before first entries at opened waits run known law = tt

@@ -4,15 +4,16 @@ use Rattle.std.specs.Option.{option_map}
 use Rattle.std.proofs.lemmas.List.{append-nil}
 use Rattle.pm_exchange.specs.declared.ending.Cause.{Cause}
 use Rattle.pm_outside.specs.Traffic.{Traffic, IsFresh}
-use Rattle.pm_exchange.specs.Exchange.{LinkView, Appended, came_in_of, went_out_of, Passes, Holds, IsSound, IsLeftFor, Sends}
+use Rattle.pm_outside.specs.Added.{Added}
+use Rattle.pm_exchange.specs.Exchange.{LinkView, came_in_of, went_out_of, Passes, Holds, IsSound, IsLeftFor, Sends}
 
 -- ---- what passes
 
-pub appended_none : (before : Option (List ℕ)) → Appended [] before before
+pub appended_none : (before : Option (List ℕ)) → Added [] before before
 appended_none None = refl
 appended_none (Some bytes) = ap (λ (l : List ℕ). Some l) (sym (append-nil bytes))
 
-pub appended_then : (xs ys : List ℕ) (first second third : Option (List ℕ)) → Appended xs first second → Appended ys second third → Appended (xs ++ ys) first third
+pub appended_then : (xs ys : List ℕ) (first second third : Option (List ℕ)) → Added xs first second → Added ys second third → Added (xs ++ ys) first third
 appended_then xs ys None second third one two = two ∙ ap (λ o. option_map (λ l. l ++ ys) o) one
 appended_then xs ys (Some l) second third one two = two ∙ ap (λ o. option_map (λ m. m ++ ys) o) one ∙ ap (λ m. Some m) (append_assoc l xs ys)
 

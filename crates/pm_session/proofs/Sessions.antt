@@ -24,7 +24,8 @@ use Rattle.pm_exchange.specs.declared.ending.Cause.{Cause}
 use Rattle.pm_exchange.specs.declared.ending.Cause.TheVariants.{Terminated, Cancelling, LinkEnded, LinkFailed, TimedOut, PacketRefused, MessageRefused, DecisionRefused, GateRefused, ShortOfMemory, Panicked, ToldToTerminate, ToldToQuit, Killed, Overtaken}
 use Rattle.pm_exchange.specs.declared.ending.Stage.{Stage}
 use Rattle.pm_exchange.specs.declared.ending.Stage.TheVariants.{Outside, Entering, Greeted}
-use Rattle.pm_exchange.specs.Exchange.{LinkView, Appended, came_in_of, went_out_of, HasEnded, Passes, HasFailed, CutsOff, Sends, Holds, IsSound, IsLeftFor}
+use Rattle.pm_outside.specs.Added.{Added}
+use Rattle.pm_exchange.specs.Exchange.{LinkView, came_in_of, went_out_of, HasEnded, Passes, HasFailed, CutsOff, Sends, Holds, IsSound, IsLeftFor}
 use Rattle.pm_life.specs.Attention.{Attention, HasAsked, Hears, IsAttentive, KeepsCancels, was_given}
 use Rattle.pm_exchange.specs.Attention.{ends_of}
 use Rattle.pm_exchange.specs.Sent.{Turn, bytes_of, greeting, last_of}
@@ -754,12 +755,12 @@ lets_go_by Overtaken goes leaves stays is go stay = stay is
 
 -- ---- from the first byte on
 
-came_so : (before now : Option Traffic) (came : List ℕ) → IsFresh before → Appended came (came_in_of before) (came_in_of now) → IfSome now (λ t. t.came_in ≡ came)
+came_so : (before now : Option Traffic) (came : List ℕ) → IsFresh before → Added came (came_in_of before) (came_in_of now) → IfSome now (λ t. t.came_in ≡ came)
 came_so before None came fresh is = tt
 came_so None (Some t) came fresh is = absurd cc
 came_so (Some b) (Some t) came fresh is = let e : b.came_in ≡ [] = ap (λ (t : Traffic). t.came_in) fresh in let f : Some t.came_in ≡ Some (b.came_in ++ came) = is in let g : t.came_in ≡ b.came_in ++ came = cc in g ∙ ap (λ (l : List ℕ). l ++ came) e
 
-went_so : (before now : Option Traffic) (went : List ℕ) → IsFresh before → Appended went (went_out_of before) (went_out_of now) → IfSome now (λ t. t.went_out ≡ went)
+went_so : (before now : Option Traffic) (went : List ℕ) → IsFresh before → Added went (went_out_of before) (went_out_of now) → IfSome now (λ t. t.went_out ≡ went)
 went_so before None went fresh is = tt
 went_so None (Some t) went fresh is = absurd cc
 went_so (Some b) (Some t) went fresh is = let e : b.went_out ≡ [] = ap (λ (t : Traffic). t.went_out) fresh in let f : Some t.went_out ≡ Some (b.went_out ++ went) = is in let g : t.went_out ≡ b.went_out ++ went = cc in g ∙ ap (λ (l : List ℕ). l ++ went) e

@@ -11,7 +11,8 @@ use Rattle.pm_segment.specs.declared.pass.Pass.{Pass}
 use Rattle.pm_segment.specs.declared.segment.Segment.{Segment}
 use Rattle.pm_segment.specs.Children.{times_behind}
 use Rattle.pm_segment.specs.Moment.{Moment, moment}
-use Rattle.pm_segment.specs.Moves.{CountsEntries, IsShown, Moves, NotesEntries}
+use Rattle.pm_outside.specs.Added.{Added}
+use Rattle.pm_segment.specs.Moves.{CountsEntries, IsShown, Moves}
 use Rattle.pm_segment.specs.MovesLaws.{begins_on, shown_later, time_on, unread_now}
 use Rattle.pm_segment.specs.Passes.{Admits, HasAnswer, IsInside}
 use Rattle.pm_segment.specs.Stands.{Begins, Origin, WaitsFrom}
@@ -101,7 +102,7 @@ quiet_times who n (e ∷ es) q = ap (λ m. times_behind es who m) (quiet_time wh
 
 -- ---- one moment and the next
 
-pub told_on : (before now : Option (List BookEntry)) (log es : List BookEntry) → NotesEntries es before now → IfSome before (λ book. book ≡ log) → IfSome now (λ book. book ≡ log ++ es)
+pub told_on : (before now : Option (List BookEntry)) (log es : List BookEntry) → Added es before now → IfSome before (λ book. book ≡ log) → IfSome now (λ book. book ≡ log ++ es)
 told_on None now log es notes told = subst (λ (o : Option (List BookEntry)). IfSome o (λ book. book ≡ log ++ es)) (sym notes) tt
 told_on (Some book) now log es notes told = subst (λ (o : Option (List BookEntry)). IfSome o (λ book. book ≡ log ++ es)) (sym notes) (ap (λ l. l ++ es) told)
 

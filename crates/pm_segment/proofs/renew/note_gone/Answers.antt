@@ -1,10 +1,10 @@
 use Rattle.std.proofs.Common.{arith}
-use Rattle.pm_segment.specs.MovesLaws.{notes_none}
+use Rattle.pm_outside.specs.AddedLaws.{added_none}
 use Rattle.pm_segment.proofs.Others.{gone_further, gone_whole}
 use Rattle.pm_segment.proofs.renew.note_gone.Goals as goal
 
 pub loop-at-init : goal.loop-at-init
-loop-at-init g c = (notes_none (g.B.Chronicle.entries c.args.book.now), omega arith)
+loop-at-init g c = (added_none (g.B.Chronicle.entries c.args.book.now), omega arith)
 
 pub note-requires : goal.note-requires
 note-requires g c = omega (arith, c.loop-at.invariant.1, c.requires, c.loop-at-test.true)

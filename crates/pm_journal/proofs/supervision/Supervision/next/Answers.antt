@@ -1,7 +1,7 @@
 use Rattle.std.proofs.Common.{[], ◌∷◌, ◌++◌, Some, ap, sym, ◌∙◌, arith, Ok}
 use Rattle.std.specs.Option.{option_map}
 use Rattle.pm_journal.specs.Standing.{noted, reported, standing_of}
-use Rattle.pm_journal.proofs.Making.{adds-none}
+use Rattle.pm_outside.specs.AddedLaws.{added_none}
 use Rattle.pm_journal.proofs.Nexts.{has-numbers, may-do, next-done, next-none, next-spent, settled-done, shorter, stands-done}
 use Rattle.pm_journal.proofs.supervision.Supervision.next.Goals as goal
 
@@ -15,7 +15,7 @@ returns-in_default-clause-standing g c =
 
 pub returns-in_default-clause-told : goal.returns-in_default-clause-told
 returns-in_default-clause-told g c =
-    rw (next-none (standing_of c.args.self.now.memory) (sym c.first_due.ensures ∙ c.in_default.is)) (adds-none (g.J.Chronicle.entries c.args.self.now.journal))
+    rw (next-none (standing_of c.args.self.now.memory) (sym c.first_due.ensures ∙ c.in_default.is)) (added_none (g.J.Chronicle.entries c.args.self.now.journal))
 
 pub returns-then-is_spent-clause-act : goal.returns-then-is_spent-clause-act
 returns-then-is_spent-clause-act g c =
@@ -28,7 +28,7 @@ returns-then-is_spent-clause-standing g c =
 pub returns-then-is_spent-clause-told : goal.returns-then-is_spent-clause-told
 returns-then-is_spent-clause-told g c =
     rw (next-spent (standing_of c.args.self.now.memory) c.in-Some.action (sym c.first_due.ensures ∙ c.in-Some.is) (sym c.is_spent.ensures.spent ∙ c.if-is_spent.true))
-    (adds-none (g.J.Chronicle.entries c.args.self.now.journal))
+    (added_none (g.J.Chronicle.entries c.args.self.now.journal))
 
 pub act_for-act-requires : goal.act_for-act-requires
 act_for-act-requires g c =

@@ -1,7 +1,8 @@
 use Rattle.std.proofs.Common.{◌≡◌, ℕ, ◌+◌, List, [], Ok, Err, refl, sym, ap, subst, ◌∙◌}
 use Rattle.std.specs.Prelude.{Bool, Result, true, false}
 use Rattle.pm_state.specs.declared.event.PmEvent.{PmEvent}
-use Rattle.pm_journal.specs.Standing.{Adds, act_for, standing_of}
+use Rattle.pm_outside.specs.Added.{Added}
+use Rattle.pm_journal.specs.Standing.{act_for, standing_of}
 use Rattle.pm_journal.specs.Supervision.{at_work}
 use Rattle.pm_journal.specs.declared.act.Act.{Act}
 use Rattle.pm_once.specs.Calls.{Performs}
@@ -42,7 +43,7 @@ returns-in-Ok-clause-does g c =
     let w = at_work c.next.new.self in
     let one = performed c.laws.ensures.steps c.laws.ensures.work given.0 (Ok tt) v now w c.requires given.1.first
     (c.in-Ok-Some.ensures.standing ∙ given.1.after)
-    (subst (λ (es : List PmEvent). Adds es v.work.told w.told) given.1.entries c.in-Ok-Some.ensures.told)
+    (subst (λ (es : List PmEvent). Added es v.work.told w.told) given.1.entries c.in-Ok-Some.ensures.told)
     (ap at_work c.in-Ok.ensures.supervision)
     (subst (λ (a : Act). Performs a (Ok tt) (record v { work = w }) now) given.1.act_is c.in-Ok.ensures.performs)
     c.in-Ok-Some.ensures.settled in (
@@ -71,7 +72,7 @@ returns-in-Err-perform-clause-does g c =
     let performs = subst (λ (a : Act). Performs a (Err c.in-Err-perform.end) (record v { work = w }) now) given.1.act_is c.in-Err-perform.ensures.performs in
     let one = performed c.laws.ensures.steps c.laws.ensures.work given.0 (Err c.in-Err-perform.end) v now w c.requires given.1.first
     (c.in-Ok-Some.ensures.standing ∙ given.1.after)
-    (subst (λ (es : List PmEvent). Adds es v.work.told w.told) given.1.entries c.in-Ok-Some.ensures.told)
+    (subst (λ (es : List PmEvent). Added es v.work.told w.told) given.1.entries c.in-Ok-Some.ensures.told)
     (ap at_work c.in-Err-perform.ensures.supervision)
     performs
     c.in-Ok-Some.ensures.settled in (
@@ -88,7 +89,7 @@ returns-in-Ok-None-clause-does g c =
     let s = standing_of c.args.self.now.supervision.memory in
     let none = next_none s (sym (rw c.in-Ok-None.field-0-is at c.in-Ok-None.ensures.act)) in
     let w = at_work c.next.new.self in
-    ([], waits v w (Ok false) (c.in-Ok-None.ensures.standing ∙ none.after) (subst (λ (es : List PmEvent). Adds es v.work.told w.told) none.entries c.in-Ok-None.ensures.told) tt (λ is. none.none_due) (λ is. false_true _ refl is), λ says. (refl, refl))
+    ([], waits v w (Ok false) (c.in-Ok-None.ensures.standing ∙ none.after) (subst (λ (es : List PmEvent). Added es v.work.told w.told) none.entries c.in-Ok-None.ensures.told) tt (λ is. none.none_due) (λ is. false_true _ refl is), λ says. (refl, refl))
 
 pub returns-in-Err-clause-does : goal.returns-in-Err-clause-does
 returns-in-Err-clause-does g c =
@@ -97,6 +98,6 @@ returns-in-Err-clause-does g c =
     let spent = next_spent s (record {}) (sym c.in-Err.ensures.act) in
     let w = at_work c.next.new.self in (
       [],
-      waits v w (Err (Abnormal GenerationsSpent)) (c.in-Err.ensures.standing ∙ spent.after) (subst (λ (es : List PmEvent). Adds es v.work.told w.told) spent.entries c.in-Err.ensures.told) (spent.generation, spent.reset) (λ is. absurd (no_ok false _ _ refl is)) (λ is. no_ok true _ _ refl is),
+      waits v w (Err (Abnormal GenerationsSpent)) (c.in-Err.ensures.standing ∙ spent.after) (subst (λ (es : List PmEvent). Added es v.work.told w.told) spent.entries c.in-Err.ensures.told) (spent.generation, spent.reset) (λ is. absurd (no_ok false _ _ refl is)) (λ is. no_ok true _ _ refl is),
       λ says. absurd (says_unspent s.due s (record {}) says (sym c.in-Err.ensures.act)),
     )

@@ -6,7 +6,8 @@ use Rattle.pm_state.specs.Journal.{without_first}
 use Rattle.pm_board.specs.Gate.{gate_of}
 use Rattle.pm_journal.specs.declared.act.Act.{Act}
 use Rattle.pm_journal.specs.declared.act.GenerationsSpent.{GenerationsSpent}
-use Rattle.pm_journal.specs.Standing.{Adds, entry_for}
+use Rattle.pm_outside.specs.Added.{Added}
+use Rattle.pm_journal.specs.Standing.{entry_for}
 use Rattle.pm_journal.specs.Supervision.{at_work, standing, told}
 use Rattle.pm_seating.specs.Acts.{MayDo, MayPerform, Performs}
 use Rattle.pm_seating.specs.Board.{seats_of}
@@ -47,7 +48,7 @@ returns-in-Ok-Some-clause-act g c =
       given.1.first,
       acted c.laws.ensures.work v w g.M.Report.ordered given.0 given.1.first
           (ap (λ x. standing x) c.perform.ensures.supervision ∙ (c.in-Ok-Some.ensures.standing ∙ given.1.after))
-          (subst (λ (x : Option (List PmEvent)). Adds (entry_for given.0 s ∷ []) v.work.told x) (sym (ap (λ x. told x) c.perform.ensures.supervision)) (subst (λ (es : List PmEvent). Adds es v.work.told (told c.next.new.self)) given.1.entries c.in-Ok-Some.ensures.told))
+          (subst (λ (x : Option (List PmEvent)). Added (entry_for given.0 s ∷ []) v.work.told x) (sym (ap (λ x. told x) c.perform.ensures.supervision)) (subst (λ (es : List PmEvent). Added es v.work.told (told c.next.new.self)) given.1.entries c.in-Ok-Some.ensures.told))
           (subst (λ (a : Act). Performs a g.M.Report.ordered v.board v.seats w.board w.seats) given.1.act_is c.perform.ensures.performs),
     )
 

@@ -1,7 +1,8 @@
 use Rattle.std.proofs.Common.{inr, sym, ap, subst, ◌∙◌, refl, length}
 use Rattle.std.specs.Prelude.{is_some}
 use Rattle.pm_journal.specs.declared.exit.ChildExit.{ChildExit}
-use Rattle.pm_journal.specs.Standing.{Adds, exiting, made}
+use Rattle.pm_outside.specs.Added.{Added}
+use Rattle.pm_journal.specs.Standing.{exiting, made}
 use Rattle.pm_journal.specs.Supervision.{at_work, standing}
 use Rattle.pm_board.specs.Gate.{gate_of}
 use Rattle.pm_seating.specs.Standing.{view}
@@ -49,7 +50,7 @@ returns-in-Ok-clause-looks g c =
       ended.0,
       exited_goes g.M.Letter c.laws.ensures.work c.args.slot c.args.now c.in-Some.child released kept v w c.requires.rests c.requires.unowed c.requires.slot sits ended.0 ended.1
           after
-          (subst (λ (x : ChildExit). Adds (exiting x c.args.now s).entries v.work.told w.work.told) c.exit_of.ensures c.in-Ok.ensures.told)
+          (subst (λ (x : ChildExit). Added (exiting x c.args.now s).entries v.work.told w.work.told) c.exit_of.ensures c.in-Ok.ensures.told)
           (λ running. exited_may c.laws.ensures.starts c.laws.ensures.journal v w c.exit_of.result c.args.now running c.requires.rests
           (there_of g.M.Letter v c.args.slot c.in-Some.child released c.exit_of.result kept c.args.self.now.roster.knows c.reap.new.roster.knows running sits ended.0 c.exit_of.ensures)
           c.in-Ok.ensures.standing (ap gate_of ended.0.became.whole))

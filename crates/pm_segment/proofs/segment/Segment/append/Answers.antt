@@ -11,12 +11,12 @@ use Rattle.pm_query.specs.declared.book.BookEntry.{BookEntry}
 use Rattle.pm_query.specs.declared.book.BookEntry.TheVariants.{Answered, Broke, LogFull}
 use Rattle.pm_log.specs.declared.log.Log.{Log}
 use Rattle.pm_log.specs.declared.log.LogFault.{LogFault}
-use Rattle.pm_segment.specs.MovesLaws.{notes_both}
+use Rattle.pm_outside.specs.AddedLaws.{added_both}
 use Rattle.pm_query.specs.Answer.{commit_of}
 use Rattle.pm_query.specs.Book.{need_of}
 use Rattle.pm_segment.specs.declared.live.Live.{Live}
 use Rattle.pm_segment.specs.Moment.{Moment, moment_of}
-use Rattle.pm_segment.specs.Moves.{NotesEntries}
+use Rattle.pm_outside.specs.Added.{Added}
 use Rattle.pm_segment.specs.Rests.{Rests}
 use Rattle.pm_segment.proofs.Passing.{attends, flushed_still, inside_answered, inside_still}
 use Rattle.pm_segment.proofs.Resting.{LivesWith, StopsOneOf, batch_is, durable_of, gate_of, may_append, need_is, rests_broken, full_or_disk, rests_with, tells_nothing, through_of}
@@ -117,7 +117,7 @@ returns-in-Ok-clause-notes g c =
       through = through_of seen c.args.live rows tick then i k commit rests c.requires.unbroken may stops;
     } in
     let front = c.in-Ok.ensures.receipt.0 in
-    let notes : NotesEntries (Answered pid ran.script ran.reply commit new.log.count tick ∷ []) told (g.B.Chronicle.entries c.answer.new.book) = rw (front, c.ticks-tick.ensures) at c.answer.ensures.entries in
+    let notes : Added (Answered pid ran.script ran.reply commit new.log.count tick ∷ []) told (g.B.Chronicle.entries c.answer.new.book) = rw (front, c.ticks-tick.ensures) at c.answer.ensures.entries in
     let count : new.log.count ≡ c.args.live.log.count + 1 = ap (λ (l : Log). l.count) grown ∙ ap (λ (b : List (List Change)). c.args.live.log.count + length b) single in
     let end : new.log.end ≡ c.args.live.log.end + log.need_of (commit ∷ []) = ap (λ (l : Log). l.end) grown ∙ ap (λ (b : List (List Change)). c.args.live.log.end + log.need_of b) single in
     let moves = commits c.history_laws.ensures.past c.history_laws.ensures.present (moment_of told c.args.self.now) now c.args.live new pid ran.script ran.reply commit c.requires.some appends
@@ -180,11 +180,11 @@ returns-in-Err-Disk-clause-notes g c =
     } in
     let first : BookEntry = Answered pid ran.script ran.reply commit (c.args.live.log.count + 1) tick in
     let second : BookEntry = Broke pid then faults in
-    let one : NotesEntries (first ∷ []) told (g.B.Chronicle.entries c.note_answer.new.book) = rw c.ticks-tick.ensures at c.note_answer.ensures.entries in
+    let one : Added (first ∷ []) told (g.B.Chronicle.entries c.note_answer.new.book) = rw c.ticks-tick.ensures at c.note_answer.ensures.entries in
     let moves = loses c.history_laws.ensures.past c.history_laws.ensures.present (moment_of told c.args.self.now) now c.args.live new pid then ran.script ran.reply commit c.requires.some appends
     (ap (λ (l : Log). l.since) broken) (ap (λ (l : Log). l.count) broken) c.faults.ensures (c.append.ensures.cause.rose (search rules)) (g.met.D.Disk.counted c.append.new.disk).1
     (attends c.args.pass.now (moment_of told c.args.self.now) c.requires.admits) c.requires.answer.reply_is c.requires.answer.commit_is
-    (notes_both (first ∷ []) (second ∷ []) told (g.B.Chronicle.entries c.note_answer.new.book) (g.B.Chronicle.entries c.note_fault.new.book) one c.note_fault.ensures.entries) in (
+    (added_both (first ∷ []) (second ∷ []) told (g.B.Chronicle.entries c.note_answer.new.book) (g.B.Chronicle.entries c.note_fault.new.book) one c.note_fault.ensures.entries) in (
       first ∷ second ∷ [],
       moves,
       (

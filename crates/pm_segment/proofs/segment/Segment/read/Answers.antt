@@ -1,7 +1,7 @@
 use Rattle.std.proofs.Common.{[], ◌∷◌, Some, sym, subst, arith}
 use Rattle.pm_query.specs.declared.book.BookEntry.TheVariants.{Answered}
 use Rattle.pm_segment.specs.Moment.{moment_of}
-use Rattle.pm_segment.specs.Moves.{NotesEntries}
+use Rattle.pm_outside.specs.Added.{Added}
 use Rattle.pm_segment.specs.Passes.{IsFlushed}
 use Rattle.pm_segment.proofs.Passing.{attends, inside_answered}
 use Rattle.pm_segment.proofs.Steps.{reads}
@@ -13,7 +13,7 @@ returns-clause-notes g c =
     let ran = c.args.ran in
     let pid = c.args.pass.now.pid in
     let front = c.args.live.log.count in
-    let notes : NotesEntries (Answered pid ran.script ran.reply ran.commit front (g.D.Disk.ticks c.args.self.now.disk) ∷ []) told (g.B.Chronicle.entries c.answer.new.book) = rw c.ticks-tick.ensures at c.answer.ensures.entries in (
+    let notes : Added (Answered pid ran.script ran.reply ran.commit front (g.D.Disk.ticks c.args.self.now.disk) ∷ []) told (g.B.Chronicle.entries c.answer.new.book) = rw c.ticks-tick.ensures at c.answer.ensures.entries in (
       Answered pid ran.script ran.reply ran.commit front c.ticks-tick.result ∷ [],
       rw c.ticks-tick.ensures (reads c.history_laws.ensures.past c.history_laws.ensures.present (moment_of told c.args.self.now) c.args.live (g.B.Chronicle.entries c.answer.new.book) pid ran.script ran.reply ran.commit
           c.requires.live c.requires.unbroken (attends c.args.pass.now (moment_of told c.args.self.now) c.requires.admits) c.requires.answer.reply_is c.requires.answer.commit_is c.requires.nothing notes),

@@ -11,7 +11,7 @@ use Rattle.pm_segment.proofs.Resting.{tells_nothing}
 use Rattle.std.specs.Prelude.{IfSome}
 use Rattle.pm_segment.specs.Redos.{IsFoundIn}
 use Rattle.pm_segment.proofs.Steps.{not_both, notes_by, same_live}
-use Rattle.pm_segment.specs.MovesLaws.{notes_none}
+use Rattle.pm_outside.specs.AddedLaws.{added_none}
 use Rattle.pm_segment.specs.Passes.{view_of}
 use Rattle.pm_query.specs.Calls.{RedoNotes, user_of}
 use Rattle.pm_query.specs.declared.store.StoreNo.TheVariants.{Redo}
@@ -138,7 +138,7 @@ returns-else-eq-clause-notes g c =
       follows = c.recover.ensures.stops;
     } in (
       [],
-      reads_nothing c.history_laws.ensures.past c.history_laws.ensures.present (moment_of told c.args.self.now) now reads (notes_none told) (c.in-Err.ensures.kept c.in-Err.fault refl other),
+      reads_nothing c.history_laws.ensures.past c.history_laws.ensures.present (moment_of told c.args.self.now) now reads (added_none told) (c.in-Err.ensures.kept c.in-Err.fault refl other),
       redo_notes_none (user_of (Some c.args.self.now.generation) (view_of c.args.pass.now)) c.in-Err.fault other,
     )
 

@@ -3,8 +3,9 @@ use Rattle.std.proofs.lemmas.List.{map-append}
 use Rattle.pm_query.specs.declared.book.BookEntry.{BookEntry}
 use Rattle.pm_query.specs.declared.book.BookEntry.TheVariants.{Gone, Opened}
 use Rattle.pm_segment.specs.Moment.{moment_of}
-use Rattle.pm_segment.specs.Moves.{NotesEntries, Renews}
-use Rattle.pm_segment.specs.MovesLaws.{notes_both}
+use Rattle.pm_outside.specs.Added.{Added}
+use Rattle.pm_segment.specs.Moves.{Renews}
+use Rattle.pm_outside.specs.AddedLaws.{added_both}
 use Rattle.pm_segment.proofs.Opens.{short_empty}
 use Rattle.pm_segment.proofs.Renewals.{renewal_is, renews, with_renewal}
 use Rattle.pm_segment.proofs.segment.Segment.renew.Goals as goal
@@ -30,15 +31,15 @@ returns-clause-renews g c =
     let book_now = g.B.Chronicle.entries c.note.new.self in
     let opened : BookEntry = Opened c.args.generation in
     let named = map (λ (pid : ℕ). Gone pid) in
-    let one : NotesEntries (named gone) told first = rw c.reserve.ensures.entries at c.note_gone.ensures.entries in
-    let two : NotesEntries (named others) first second = rw c.deref.ensures.value at c.note_gone-2.ensures.entries in
-    let both : NotesEntries (named (gone ++ others)) told second =
-    subst (λ (l : List BookEntry). NotesEntries l told second) (sym (map-append (λ (pid : ℕ). Gone pid) gone others)) (notes_both (named gone) (named others) told first second one two) in
-    let all : NotesEntries (named (gone ++ others) ++ opened ∷ []) told book_now = notes_both (named (gone ++ others)) (opened ∷ []) told second book_now both c.note.ensures.entries in
+    let one : Added (named gone) told first = rw c.reserve.ensures.entries at c.note_gone.ensures.entries in
+    let two : Added (named others) first second = rw c.deref.ensures.value at c.note_gone-2.ensures.entries in
+    let both : Added (named (gone ++ others)) told second =
+    subst (λ (l : List BookEntry). Added l told second) (sym (map-append (λ (pid : ℕ). Gone pid) gone others)) (added_both (named gone) (named others) told first second one two) in
+    let all : Added (named (gone ++ others) ++ opened ∷ []) told book_now = added_both (named (gone ++ others)) (opened ∷ []) told second book_now both c.note.ensures.entries in
     let is = renewal_is (gone ++ others) c.args.generation in (
       others,
       c.in_ok-others.ensures,
       subst (λ (l : List BookEntry). Renews l at (with_renewal book_now c.args.generation c.new.result c.new-2.result at)) is
           (renews c.history_laws.ensures.past c.history_laws.ensures.present at book_now c.args.generation c.new.result c.new-2.result gone others c.requires c.new.ensures c.in_ok-others.ensures c.new-2.ensures.none old.begun
-          (subst (λ (l : List BookEntry). NotesEntries l told book_now) (sym is) all)),
+          (subst (λ (l : List BookEntry). Added l told book_now) (sym is) all)),
     )

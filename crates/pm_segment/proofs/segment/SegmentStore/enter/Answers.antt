@@ -2,7 +2,8 @@ use Rattle.std.proofs.Common.{rules, ◌≡◌, ℕ, List, [], ◌∷◌, refl, 
 use Rattle.pm_query.specs.declared.book.BookEntry.{BookEntry}
 use Rattle.pm_query.specs.declared.book.BookEntry.TheVariants.{Attached}
 use Rattle.pm_segment.specs.Moment.{moment_of}
-use Rattle.pm_segment.specs.Moves.{Moves, NotesEntries}
+use Rattle.pm_outside.specs.Added.{Added}
+use Rattle.pm_segment.specs.Moves.{Moves}
 use Rattle.pm_segment.proofs.Steps.{enters, notes_by, stays_put, with_child}
 use Rattle.pm_segment.proofs.segment.SegmentStore.enter.Goals as goal
 
@@ -12,12 +13,12 @@ returns-clause-notes g c =
     let told = g.B.Chronicle.entries c.args.self.now.book in
     let at = moment_of told c.args.self.now in
     let entry : BookEntry = Attached c.args.pid c.args.generation in
-    let notes : NotesEntries (entry ∷ []) told (g.B.Chronicle.entries c.note.new.self) = notes_by entry told _ _ c.reserve.ensures.entries c.note.ensures.entries in (
+    let notes : Added (entry ∷ []) told (g.B.Chronicle.entries c.note.new.self) = notes_by entry told _ _ c.reserve.ensures.entries c.note.ensures.entries in (
       entry ∷ [],
       subst (λ (n : ℕ). Moves (Attached c.args.pid n ∷ []) at (with_child (g.B.Chronicle.entries c.note.new.self) c.add.new.self at)) (sym present)
           (subst (λ (l : List ℕ). Moves (Attached c.args.pid at.generation ∷ []) at (with_child (g.B.Chronicle.entries c.note.new.self) l at)) (sym c.in_ok-add.ensures.ok)
           (enters c.history_laws.ensures.past c.history_laws.ensures.present at (g.B.Chronicle.entries c.note.new.self) c.args.pid
-          (subst (λ (n : ℕ). NotesEntries (Attached c.args.pid n ∷ []) told (g.B.Chronicle.entries c.note.new.self)) present notes))),
+          (subst (λ (n : ℕ). Added (Attached c.args.pid n ∷ []) told (g.B.Chronicle.entries c.note.new.self)) present notes))),
       refl,
     )
 

@@ -3,7 +3,7 @@ use Rattle.std.specs.Option.{option_map}
 use Rattle.pm_query.specs.declared.book.BookEntry.{BookEntry}
 use Rattle.pm_query.specs.declared.book.BookEntry.TheVariants.{Released}
 use Rattle.pm_segment.specs.Moment.{moment_of}
-use Rattle.pm_segment.specs.Moves.{NotesEntries}
+use Rattle.pm_outside.specs.Added.{Added}
 use Rattle.pm_segment.proofs.Passing.{attends, inside_still, reached_answer}
 use Rattle.pm_segment.proofs.Steps.{notes_by, releases, stays_put}
 use Rattle.pm_segment.proofs.segment.SegmentStore.seen.Goals as goal
@@ -17,7 +17,7 @@ returns-then-front-live-clause-notes g c =
     let told = g.B.Chronicle.entries c.args.self.now.book in
     let tick = g.D.Disk.ticks c.args.self.now.disk in
     let entry : BookEntry = Released c.args.pass.now.pid c.args.front tick in
-    let notes : NotesEntries (entry ∷ []) told (g.B.Chronicle.entries c.note.new.self) =
+    let notes : Added (entry ∷ []) told (g.B.Chronicle.entries c.note.new.self) =
     c.note.ensures.entries ∙ ap (option_map (λ (es : List BookEntry). es ++ Released c.args.pass.now.pid c.args.front c.ticks.result ∷ [])) c.reserve.ensures.entries
     ∙ ap (λ (n : ℕ). option_map (λ (es : List BookEntry). es ++ Released c.args.pass.now.pid c.args.front n ∷ []) told) c.ticks.ensures in (
       entry ∷ [],
