@@ -1,6 +1,5 @@
 -- Where a supervisor at work stands, and what its calls and acts leave.
 use Rattle.std.specs.Prelude.{◌≡◌, ℕ, ◌+◌, ◌<◌, max, Bool, false, ◌==◌, ◌&&◌, ◌||◌, if◌then◌else◌, List, [], ◌∷◌, Option, Some, None, Result, Ok, Err, unwrap_or}
-use Rattle.pm_outside.specs.Added.{Added}
 use Rattle.pm_exit.specs.declared.child.Kind.{Kind}
 use Rattle.pm_exit.specs.Ends.{is_exit_0}
 use Rattle.pm_modes.specs.declared.Mode.{Mode}

@@ -36,7 +36,7 @@ use Rattle.pm_segment.proofs.Books.{any_push, any_still, attended_still, breaks_
 use Rattle.pm_segment.proofs.Lengths.{base_size}
 use Rattle.pm_segment.proofs.Resting.{content_is}
 use Rattle.pm_segment.proofs.Runs.{goes_by, notes_another, same_standing, standing}
-use Rattle.pm_segment.proofs.Steps.{not_both, Attends, ahead_more, attends_in, began_on, counted_now, flushed_more, gone_read, gone_unread, held_alone, held_on, lengths_push, means_more, means_some, never_waits, no_fault_shown, nobody_moves, none_told, some_none, tells_none, waited_on, whole_number}
+use Rattle.pm_segment.proofs.Steps.{Attends, ahead_more, attends_in, began_on, counted_now, flushed_more, gone_read, gone_unread, held_alone, held_on, lengths_push, means_more, means_some, never_waits, no_fault_shown, nobody_moves, none_told, some_none, tells_none, waited_on, whole_number}
 
 or_true : (a : Bool) → a || true ≡ true
 or_true true = refl
