@@ -1,29 +1,11 @@
 -- What a child was told, from one moment to the next.
-use Rattle.std.proofs.Common.{◌≡◌, ℕ, ◌+◌, ◌≤◌, true, false, Option, None, Some, IfSome, Result, refl, sym, ◌∙◌, ap, subst, arith}
+use Rattle.std.proofs.Common.{◌≡◌, ℕ, ◌+◌, ◌≤◌, Option, None, Some, IfSome, Result, refl, ◌∙◌, ap, arith}
 use Rattle.std.specs.Option.{option_map}
-use Rattle.pm_life.specs.declared.standing.Standing.{Standing}
 use Rattle.pm_life.specs.declared.life.GateNo.{GateNo}
-use Rattle.pm_life.specs.Life.{Child, Told, nothing_told, met_at_gate, IsUntried}
-use Rattle.pm_life.specs.Attention.{Attention, attention, nothing_stands, IsAttentive, HasAsked, Hears}
+use Rattle.pm_life.specs.Life.{Told, nothing_told, met_at_gate, IsUntried}
+use Rattle.pm_life.specs.Attention.{Attention, IsAttentive, HasAsked, Hears}
+use Rattle.pm_life.specs.AttentionLaws.{asked_none, asked_then, asked_fewer}
 use Rattle.pm_aux.specs.Signals.{Listens}
-
-true_false : true ≡ false → ⊥
-true_false e = cc
-
-asked_none : (told : Option Told) → HasAsked 0 told told
-asked_none None = refl
-asked_none (Some told) = (omega arith, refl)
-
-pub asked_then : (m n : ℕ) (a b c : Option Told) → HasAsked m a b → HasAsked n b c → HasAsked (m + n) a c
-asked_then m n None b c one two = let e : b ≡ None = one in subst (λ (o : Option Told). HasAsked n o c) e two
-asked_then m n (Some a) None c one two = absurd one
-asked_then m n (Some a) (Some b) None one two = absurd two
-asked_then m n (Some a) (Some b) (Some c) one two = (omega (arith, one.0, two.0), two.1 ∙ one.1)
-
-asked_fewer : (m n : ℕ) (a b : Option Told) → HasAsked (m + n) a b → HasAsked m a b
-asked_fewer m n None b has = has
-asked_fewer m n (Some a) None has = absurd has
-asked_fewer m n (Some a) (Some b) has = (omega (arith, has.0), has.1)
 
 pub listens_none : (at : Attention) → IsAttentive at → Listens 0 at at
 listens_none at attentive = record { asked = asked_none at.told; child = refl; attentive = attentive }
@@ -46,18 +28,6 @@ pub listens_more : (a b c : Attention) → Listens 0 a b → Hears 1 b c → IsA
 listens_more a b c one hears attentive = listens_fewer 0 1 a c (listens_both 0 1 a b c one (heard 1 b c hears attentive))
 
 -- ---- at the start and at the gate
-
--- where nothing was told yet, nothing stands
-pub untold : (told : Option Told) (child : Child) → IfSome told (λ t. t ≡ nothing_told) → IsAttentive (attention told child nothing_stands)
-untold None child is = tt
-untold (Some told) child is = rw is (record {
-  kill = (λ e. absurd (true_false (sym e)), λ h. absurd (omega (arith, h.1.1)));
-  quit = λ reason e. absurd cc;
-  quits = λ reason h. absurd (omega (arith, h.1.1));
-  terminate = (λ e. absurd (true_false (sym e)), λ h. absurd (omega (arith, h.1.1)));
-  cancel = λ e. absurd (true_false (sym e));
-  checkpoint = (λ e. absurd (true_false (sym e)), λ h. absurd (omega (arith, h.1.1)));
-})
 
 -- it has asked once at least, and this is what it has met at the gate
 abbrev pub Tells : Option (Result ℕ GateNo) → Option Told → Type 0
@@ -91,16 +61,3 @@ tells_asked gate (Some told) tells = tells.0
 pub tells_met : (gate : Option (Result ℕ GateNo)) (told : Option Told) → Tells gate told → IfSome told (λ t. t.met ≡ gate)
 tells_met gate None tells = tt
 tells_met gate (Some told) tells = tells.1
-
--- what the gate answers changes nothing of what stands
-pub attentive_at_gate : (answer : Result ℕ GateNo) (before now : Option Told) (child_before child : Child) (standing : Standing) → now ≡ option_map (met_at_gate answer) before → IsAttentive (attention before child_before standing)
-    → IsAttentive (attention now child standing)
-attentive_at_gate answer None now child_before child standing e stands = rw e tt
-attentive_at_gate answer (Some told) now child_before child standing e stands = rw e (record {
-  kill = stands.kill;
-  quit = stands.quit;
-  quits = stands.quits;
-  terminate = stands.terminate;
-  cancel = stands.cancel;
-  checkpoint = stands.checkpoint;
-})

@@ -9,31 +9,12 @@ use Rattle.pm_query.specs.declared.store.StoreNo.{StoreNo}
 use Rattle.pm_query.specs.declared.store.StoreNo.TheVariants as stores
 use Rattle.pm_query.specs.declared.store.Checkpointed.{Checkpointed}
 use Rattle.pm_query.specs.declared.store.Checkpointed.TheVariants.{Done, Skipped, NotDue}
-use Rattle.pm_query.specs.Calls.{User, PassView, user_of, newcomer, new_pass, EnterNotes, CheckpointNotes, MetAnother, MetLater}
+use Rattle.pm_query.specs.Calls.{User, newcomer, EnterNotes, CheckpointNotes, MetAnother, MetLater}
+use Rattle.pm_query.specs.NotedLaws.{GoesInTurn, behind_none}
 use Rattle.pm_aux.specs.declared.cause.Cause.{Cause}
 use Rattle.pm_aux.specs.declared.cause.Cause.TheVariants.{Redone, Flushed, Closed, LeftOut, Refused, TurnedAway, ToldToTerminate, ToldToQuit, Killed}
 use Rattle.pm_aux.specs.Ends.{fault_by, lets_go, IsMetBehind}
 use Rattle.pm_aux.specs.Work.{IsPassing, ClosesBy, Checkpoints, Does, HasWorked, HasEntered, LeavesIf}
-
--- ---- what was noted in turn, for any store
-
-abbrev pub GoesInTurn : {S : Type 0} → (List BookEntry → S → S → Type 0) → Type 0
-GoesInTurn {S} notes = (before between now : S) (first second : List BookEntry) → notes first before between → notes second between now → notes (first ++ second) before now
-
--- nothing, and then what a call noted
-pub behind_none : {S : Type 0} (notes : List BookEntry → S → S → Type 0) (P : List BookEntry → Type 0) (before between now : S) → GoesInTurn notes → notes [] before between
-    → (entries : List BookEntry) × notes entries between now × P entries → (entries : List BookEntry) × notes entries before now × P entries
-behind_none notes P before between now in_turn none call = (call.0, in_turn before between now [] call.0 none call.1, call.2)
-
--- what a call noted, and it was nothing
-pub none_behind : {S : Type 0} (notes : List BookEntry → S → S → Type 0) (before between now : S) → GoesInTurn notes → notes [] before between
-    → (entries : List BookEntry) × notes entries between now × (entries ≡ []) → notes [] before now
-none_behind notes before between now in_turn none call = subst (λ (es : List BookEntry). notes es before now) call.2 (in_turn before between now [] call.0 none call.1)
-
--- ---- who the child is, behind a call
-
-pub same_user : (stamp_before stamp_now : Option ℕ) (before now : PassView) → stamp_now ≡ stamp_before → now ≡ before → user_of stamp_now now ≡ user_of stamp_before before
-same_user stamp_before stamp_now before now e f = rw (e, f) refl
 
 -- ---- a child's way through the store
 
@@ -94,10 +75,6 @@ met_left (TurnedAway refusal) met later is same = tt
 met_left ToldToTerminate met later is same = tt
 met_left (ToldToQuit reason) met later is same = tt
 met_left Killed met later is same = tt
-
--- whose pass it is that was just given
-pub let_in_as : (stamp_before stamp_now : Option ℕ) (now : PassView) (pid generation : ℕ) → stamp_now ≡ stamp_before → now ≡ new_pass pid generation → user_of stamp_now now ≡ newcomer stamp_before pid generation
-let_in_as stamp_before stamp_now now pid generation e f = rw (e, f) refl
 
 -- nothing, and then what a call noted under this child
 pub behind_as : {S : Type 0} (notes : List BookEntry → S → S → Type 0) (P : User → List BookEntry → Type 0) (who user : User) (before between now : S) → GoesInTurn notes → who ≡ user → notes [] before between

@@ -5,8 +5,9 @@ use Rattle.pm_exit.specs.declared.child.Kind.TheVariants as kinds
 use Rattle.pm_supervisor.specs.declared.Reason.{Reason}
 use Rattle.pm_life.specs.declared.life.GateNo.{GateNo}
 use Rattle.pm_life.specs.declared.standing.Standing.{Standing}
-use Rattle.pm_life.specs.Life.{Child, Told, Signal, Kill, Quit, Terminate, Checkpoint, was_told}
-use Rattle.pm_life.specs.Attention.{Attention, attention, Stands, IsAttentive, was_given}
+use Rattle.pm_life.specs.Life.{Child, Told, Kill, Quit, Terminate, Checkpoint, was_told}
+use Rattle.pm_life.specs.Attention.{Attention, attention, Stands, IsAttentive}
+use Rattle.pm_life.specs.AttentionLaws.{given_of}
 use Rattle.pm_query.specs.declared.book.BookEntry.{BookEntry}
 use Rattle.pm_query.specs.declared.store.StoreNo.{StoreNo}
 use Rattle.pm_query.specs.declared.store.StoreNo.TheVariants.{NoMemory}
@@ -57,13 +58,6 @@ none_stands false (Some reason) is = absurd cc
 none_stands false None is = (refl, refl)
 
 -- ---- what was told
-
-given_if : (told : Option Told) (child : Child) (standing : Standing) (signal : Signal) → ((t : Told) → Stands standing t → was_told signal t) → IsAttentive (attention told child standing) → was_given signal told
-given_if None child standing signal gives attentive = tt
-given_if (Some told) child standing signal gives attentive = gives told attentive
-
-given_of : (at : Attention) (signal : Signal) → ((t : Told) → Stands at.standing t → was_told signal t) → IsAttentive at → was_given signal at.told
-given_of at signal gives attentive = given_if at.told at.child at.standing signal gives attentive
 
 told_to : (cause : Cause) (at : Attention) → StandsAt cause at.standing → IsAttentive at → IsToldTo cause at.told
 told_to (Redone kept) at stands attentive = tt

@@ -3,30 +3,23 @@ use Rattle.std.proofs.Common.{◌≡◌, ◌∙◌, ℕ, ◌-◌, ◌≤◌, Lis
 use Rattle.std.specs.Option.{option_map}
 use Rattle.std.proofs.lemmas.List.{append-nil, take_all}
 use Rattle.pm_disk.specs.Cause.{Rose}
-use Rattle.pm_outside.specs.Traffic.{Traffic, after_read, after_write, put_behind}
+use Rattle.pm_outside.specs.Traffic.{Traffic, after_read, after_write, put_behind, came_in_of, went_out_of}
 use Rattle.pm_outside.specs.declared.link.Got.{Got}
-use Rattle.pm_outside.specs.declared.link.Got.TheVariants.{Bytes, NotYet, End, Failed}
-use Rattle.pm_outside.specs.declared.link.Put.{Put}
+use Rattle.pm_outside.specs.declared.link.Got.TheVariants.{Bytes, End}
 use Rattle.pm_outside.specs.declared.link.Put.TheVariants.{Count, Failed as PutFailed}
 use Rattle.pm_outside.specs.Added.{Added}
-use Rattle.pm_client.specs.Sides.{Carries, HasEnded, LinkView, Prints, Sends, Shows, SinkView, came_in_of, went_out_of}
+use Rattle.pm_outside.specs.AddedLaws.{added_both, added_none}
+use Rattle.pm_outside.specs.TrafficLaws.{got_in, got_none, got_out, wrote_in, wrote_none, wrote_out}
+use Rattle.pm_client.specs.Sides.{Carries, HasEnded, LinkView, Prints, Sends, Shows, SinkView}
 use Rattle.pm_client.specs.declared.played.Played.TheVariants.{LinkFault, OutFault}
 
-pub appended_none : (before : Option (List ℕ)) → Added [] before before
-appended_none None = refl
-appended_none (Some bytes) = ap (λ (l : List ℕ). Some l) (sym (append-nil bytes))
-
-pub appended_then : (xs ys : List ℕ) (first second third : Option (List ℕ)) → Added xs first second → Added ys second third → Added (xs ++ ys) first third
-appended_then xs ys None second third one two = two ∙ ap (λ o. option_map (λ l. l ++ ys) o) one
-appended_then xs ys (Some l) second third one two = two ∙ ap (λ o. option_map (λ m. m ++ ys) o) one ∙ ap (λ m. Some m) (append_assoc l xs ys)
-
 pub carries_none : (at : LinkView) → Carries [] [] at at
-carries_none at = record { came_in = appended_none (came_in_of at.traffic); went_out = appended_none (went_out_of at.traffic); later = omega arith }
+carries_none at = record { came_in = added_none (came_in_of at.traffic); went_out = added_none (went_out_of at.traffic); later = omega arith }
 
 pub carries_both : (came1 went1 came2 went2 : List ℕ) (a b c : LinkView) → Carries came1 went1 a b → Carries came2 went2 b c → Carries (came1 ++ came2) (went1 ++ went2) a c
 carries_both came1 went1 came2 went2 a b c one two = record {
-  came_in = appended_then came1 came2 (came_in_of a.traffic) (came_in_of b.traffic) (came_in_of c.traffic) one.came_in two.came_in;
-  went_out = appended_then went1 went2 (went_out_of a.traffic) (went_out_of b.traffic) (went_out_of c.traffic) one.went_out two.went_out;
+  came_in = added_both came1 came2 (came_in_of a.traffic) (came_in_of b.traffic) (came_in_of c.traffic) one.came_in two.came_in;
+  went_out = added_both went1 went2 (went_out_of a.traffic) (went_out_of b.traffic) (went_out_of c.traffic) one.went_out two.went_out;
   later = omega (arith, one.later, two.later);
 }
 
@@ -41,11 +34,11 @@ carries_out came1 went1 went2 a b c one two =
     subst (λ (i : List ℕ). Carries i (went1 ++ went2) a c) (append-nil came1) (carries_both came1 went1 [] went2 a b c one two)
 
 pub prints_none : (at : SinkView) → Prints [] at at
-prints_none at = record { written = appended_none at.written; later = omega arith }
+prints_none at = record { written = added_none at.written; later = omega arith }
 
 pub prints_both : (one two : List ℕ) (a b c : SinkView) → Prints one a b → Prints two b c → Prints (one ++ two) a c
 prints_both one two a b c first second = record {
-  written = appended_then one two a.written b.written c.written first.written second.written;
+  written = added_both one two a.written b.written c.written first.written second.written;
   later = omega (arith, first.later, second.later);
 }
 
@@ -53,18 +46,6 @@ pub rose_since : (a b c : ℕ) → a ≤ b → Rose b c → Rose a c
 rose_since a b c early rose = omega arith
 
 -- ---- one write
-
-wrote_in : (before now : Option Traffic) (put : Put) (from : List ℕ) → now ≡ option_map (λ t. after_write t put from) before → Added [] (came_in_of before) (came_in_of now)
-wrote_in None now put from is = ap came_in_of is
-wrote_in (Some t) now put from is = ap came_in_of is ∙ appended_none (Some t.came_in)
-
-wrote_out : (before now : Option Traffic) (count : ℕ) (from : List ℕ) → now ≡ option_map (λ t. after_write t (Count count) from) before → Added (take count from) (went_out_of before) (went_out_of now)
-wrote_out None now count from is = ap went_out_of is
-wrote_out (Some t) now count from is = ap went_out_of is
-
-wrote_none : (before now : Option Traffic) (from : List ℕ) → now ≡ option_map (λ t. after_write t PutFailed from) before → Added [] (went_out_of before) (went_out_of now)
-wrote_none None now from is = ap went_out_of is
-wrote_none (Some t) now from is = ap went_out_of is ∙ appended_none (Some t.went_out)
 
 pub wrote : (before now : LinkView) (count : ℕ) (from : List ℕ) → now.traffic ≡ option_map (λ t. after_write t (Count count) from) before.traffic → before.faults ≤ now.faults → Carries [] (take count from) before now
 wrote before now count from is later = record {
@@ -86,7 +67,7 @@ printed_count (Some w) now count from is = is
 
 printed_none : (before now : Option (List ℕ)) (from : List ℕ) → now ≡ option_map (λ w. put_behind w PutFailed from) before → Added [] before now
 printed_none None now from is = is
-printed_none (Some w) now from is = is ∙ appended_none (Some w)
+printed_none (Some w) now from is = is ∙ added_none (Some w)
 
 pub printed : (before now : SinkView) (count : ℕ) (from : List ℕ) → now.written ≡ option_map (λ w. put_behind w (Count count) from) before.written → before.faults ≤ now.faults → Prints (take count from) before now
 printed before now count from is later = record { written = printed_count before.written now.written count from is; later = later }
@@ -99,21 +80,6 @@ pub rest_of : (xs : List ℕ) (n : ℕ) → take (length xs - n) (drop n xs) ≡
 rest_of xs n = take_all _ _ (omega (arith, length-drop n xs))
 
 -- ---- one read
-
-got_in : (before now : Option Traffic) (count : ℕ) (into : List ℕ) → now ≡ option_map (λ t. after_read t (Bytes count) into) before → Added (take count into) (came_in_of before) (came_in_of now)
-got_in None now count into is = ap came_in_of is
-got_in (Some t) now count into is = ap came_in_of is
-
-got_out : (before now : Option Traffic) (result : Got) (into : List ℕ) → now ≡ option_map (λ t. after_read t result into) before → Added [] (went_out_of before) (went_out_of now)
-got_out None now result into is = ap went_out_of is
-got_out (Some t) now (Bytes count) into is = ap went_out_of is ∙ appended_none (Some t.went_out)
-got_out (Some t) now NotYet into is = ap went_out_of is ∙ appended_none (Some t.went_out)
-got_out (Some t) now End into is = ap went_out_of is ∙ appended_none (Some t.went_out)
-got_out (Some t) now Failed into is = ap went_out_of is ∙ appended_none (Some t.went_out)
-
-got_none : (before now : Option Traffic) (result : Got) (into : List ℕ) → ((t : Traffic) → (after_read t result into).came_in ≡ t.came_in) → now ≡ option_map (λ t. after_read t result into) before → Added [] (came_in_of before) (came_in_of now)
-got_none None now result into keeps is = ap came_in_of is
-got_none (Some t) now result into keeps is = ap came_in_of is ∙ ap (λ (l : List ℕ). Some l) (keeps t) ∙ appended_none (Some t.came_in)
 
 -- bytes were read
 pub got_bytes : (before now : LinkView) (count : ℕ) (into : List ℕ) → now.traffic ≡ option_map (λ t. after_read t (Bytes count) into) before.traffic → before.faults ≤ now.faults → Carries (take count into) [] before now

@@ -1,8 +1,8 @@
 -- What passes on a client's link, and to where it shows what it reads.
-use Rattle.std.specs.Prelude.{◌≡◌, ◌≤◌, ℕ, true, List, [], ◌++◌, Option, IfSome, option_map, Result, Ok, Err}
+use Rattle.std.specs.Prelude.{◌≡◌, ◌≤◌, ℕ, true, List, [], ◌++◌, Option, IfSome, Result, Ok, Err}
 use Rattle.pm_outside.specs.Added.{Added}
 use Rattle.pm_disk.specs.Cause.{Rose}
-use Rattle.pm_outside.specs.Traffic.{Traffic}
+use Rattle.pm_outside.specs.Traffic.{Traffic, came_in_of, went_out_of}
 use Rattle.pm_client.specs.declared.played.Played.{Played}
 use Rattle.pm_client.specs.declared.played.Played.TheVariants.{LinkFault, OutFault}
 
@@ -29,12 +29,6 @@ pub record Sides : Type 0 where
 
 abbrev pub sides : LinkView → SinkView → Sides
 sides link sink = record { link = link; sink = sink }
-
-abbrev pub came_in_of : Option Traffic → Option (List ℕ)
-came_in_of traffic = option_map (λ t. t.came_in) traffic
-
-abbrev pub went_out_of : Option Traffic → Option (List ℕ)
-went_out_of traffic = option_map (λ t. t.went_out) traffic
 
 -- between two moments these bytes came in, and these went out
 pub record Carries (came went : List ℕ) (before now : LinkView) : Type 0 where

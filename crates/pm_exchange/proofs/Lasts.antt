@@ -7,8 +7,8 @@ use Rattle.pm_exchange.specs.Exchange.{LinkView, HasFailed, CutsOff, Holds, IsSo
 use Rattle.pm_life.specs.Attention.{Attention, Hears}
 use Rattle.pm_exchange.specs.Moments.{IsBreak, ShowsCause, outside}
 use Rattle.pm_exchange.specs.Last.{SaysLast}
-use Rattle.pm_exchange.proofs.Attentions.{hears_none, hears_both, hears_fewer}
-use Rattle.pm_exchange.proofs.Links.{passes_none}
+use Rattle.pm_life.specs.AttentionLaws.{hears_none, hears_both, hears_fewer}
+use Rattle.pm_exchange.specs.LinkLaws.{passes_none}
 
 -- ---- a sound link
 

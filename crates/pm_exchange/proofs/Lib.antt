@@ -1,4 +1,3 @@
-pub mod Attending
 pub mod Attentions
 pub mod Lasts
 pub mod Links

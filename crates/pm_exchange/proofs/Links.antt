@@ -3,7 +3,6 @@ use Rattle.std.proofs.Common.{◌≡◌, ℕ, ◌+◌, ◌≤◌, ◌||◌, Bool
 use Rattle.std.specs.Option.{option_map}
 use Rattle.std.proofs.lemmas.List.{append-nil, take-append-le, drop-append-le, length-take-le, take-take}
 use Rattle.std.proofs.Math.Seq.{take-append-add}
-use Rattle.pm_exchange.specs.declared.ending.Cause.{Cause}
 use Rattle.pm_exchange.specs.declared.ending.Cause.TheVariants.{LinkFailed}
 use Rattle.pm_outside.specs.Traffic.{Traffic, GotWithin, after_read, after_write}
 use Rattle.pm_outside.specs.declared.link.Got.{Got}
@@ -11,44 +10,11 @@ use Rattle.pm_outside.specs.declared.link.Got.TheVariants.{Bytes, NotYet, End, F
 use Rattle.pm_outside.specs.declared.link.Put.{Put}
 use Rattle.pm_outside.specs.declared.link.Put.TheVariants.{Count, Failed as PutFailed}
 use Rattle.pm_disk.specs.Cause.{IsCounted}
-use Rattle.pm_outside.specs.Added.{Added}
-use Rattle.pm_exchange.specs.Exchange.{LinkView, came_in_of, went_out_of, HasEnded, Passes, HoldsReading, IsSound, IsLeftFor, Reads, ReceivesNothing, SentAllBut}
-
--- ---- what passes
-
-pub appended_none : (before : Option (List ℕ)) → Added [] before before
-appended_none None = refl
-appended_none (Some bytes) = ap (λ (l : List ℕ). Some l) (sym (append-nil bytes))
-
-pub appended_then : (xs ys : List ℕ) (first second third : Option (List ℕ)) → Added xs first second → Added ys second third → Added (xs ++ ys) first third
-appended_then xs ys None second third one two = two ∙ ap (λ o. option_map (λ l. l ++ ys) o) one
-appended_then xs ys (Some l) second third one two = two ∙ ap (λ o. option_map (λ m. m ++ ys) o) one ∙ ap (λ m. Some m) (append_assoc l xs ys)
-
-pub passes_none : (at : LinkView) → Passes [] [] at at
-passes_none at = record { came_in = appended_none (came_in_of at.traffic); went_out = appended_none (went_out_of at.traffic); ended = λ e. e; number = refl; later = omega arith }
-
-pub passes_both : (came1 went1 came2 went2 : List ℕ) (a b c : LinkView) → Passes came1 went1 a b → Passes came2 went2 b c → Passes (came1 ++ came2) (went1 ++ went2) a c
-passes_both came1 went1 came2 went2 a b c one two = record {
-  came_in = appended_then came1 came2 (came_in_of a.traffic) (came_in_of b.traffic) (came_in_of c.traffic) one.came_in two.came_in;
-  went_out = appended_then went1 went2 (went_out_of a.traffic) (went_out_of b.traffic) (went_out_of c.traffic) one.went_out two.went_out;
-  ended = λ e. two.ended (one.ended e);
-  number = two.number ∙ one.number;
-  later = omega (arith, one.later, two.later);
-}
+use Rattle.pm_outside.specs.TrafficLaws.{got_in, got_none, got_out, wrote_in, wrote_none, wrote_out}
+use Rattle.pm_exchange.specs.Exchange.{LinkView, HasEnded, Passes, HoldsReading, IsSound, IsLeftFor, Reads, ReceivesNothing, SentAllBut}
+use Rattle.pm_exchange.specs.LinkLaws.{passes_both}
 
 -- ---- one write
-
-wrote_in : (before now : Option Traffic) (put : Put) (from : List ℕ) → now ≡ option_map (λ t. after_write t put from) before → Added [] (came_in_of before) (came_in_of now)
-wrote_in None now put from is = ap came_in_of is
-wrote_in (Some t) now put from is = ap came_in_of is ∙ appended_none (Some t.came_in)
-
-wrote_out : (before now : Option Traffic) (count : ℕ) (from : List ℕ) → now ≡ option_map (λ t. after_write t (Count count) from) before → Added (take count from) (went_out_of before) (went_out_of now)
-wrote_out None now count from is = ap went_out_of is
-wrote_out (Some t) now count from is = ap went_out_of is
-
-wrote_none : (before now : Option Traffic) (from : List ℕ) → now ≡ option_map (λ t. after_write t PutFailed from) before → Added [] (went_out_of before) (went_out_of now)
-wrote_none None now from is = ap went_out_of is
-wrote_none (Some t) now from is = ap went_out_of is ∙ appended_none (Some t.went_out)
 
 end_stays : (before now : Option Traffic) (put : Put) (from : List ℕ) → now ≡ option_map (λ t. after_write t put from) before → HasEnded before → HasEnded now
 end_stays None now put from is ended = subst HasEnded (sym is) tt
@@ -83,27 +49,12 @@ sends_more bytes rest left count a b c is so_far more = record {
 
 -- ---- one read
 
-got_in : (before now : Option Traffic) (count : ℕ) (into : List ℕ) → now ≡ option_map (λ t. after_read t (Bytes count) into) before → Added (take count into) (came_in_of before) (came_in_of now)
-got_in None now count into is = ap came_in_of is
-got_in (Some t) now count into is = ap came_in_of is
-
-got_out : (before now : Option Traffic) (result : Got) (into : List ℕ) → now ≡ option_map (λ t. after_read t result into) before → Added [] (went_out_of before) (went_out_of now)
-got_out None now result into is = ap went_out_of is
-got_out (Some t) now (Bytes count) into is = ap went_out_of is ∙ appended_none (Some t.went_out)
-got_out (Some t) now NotYet into is = ap went_out_of is ∙ appended_none (Some t.went_out)
-got_out (Some t) now End into is = ap went_out_of is ∙ appended_none (Some t.went_out)
-got_out (Some t) now Failed into is = ap went_out_of is ∙ appended_none (Some t.went_out)
-
 end_behind : (before now : Option Traffic) (result : Got) (into : List ℕ) → now ≡ option_map (λ t. after_read t result into) before → HasEnded before → HasEnded now
 end_behind None now result into is ended = subst HasEnded (sym is) tt
 end_behind (Some t) now (Bytes count) into is ended = subst HasEnded (sym is) ended
 end_behind (Some t) now NotYet into is ended = subst HasEnded (sym is) ended
 end_behind (Some t) now End into is ended = subst HasEnded (sym is) refl
 end_behind (Some t) now Failed into is ended = subst HasEnded (sym is) ended
-
-got_none : (before now : Option Traffic) (result : Got) (into : List ℕ) → ((t : Traffic) → (after_read t result into).came_in ≡ t.came_in) → now ≡ option_map (λ t. after_read t result into) before → Added [] (came_in_of before) (came_in_of now)
-got_none None now result into keeps is = ap came_in_of is
-got_none (Some t) now result into keeps is = ap came_in_of is ∙ ap (λ (l : List ℕ). Some l) (keeps t) ∙ appended_none (Some t.came_in)
 
 -- the bytes that a read gave
 abbrev pub got_bytes : Got → List ℕ → List ℕ
@@ -168,16 +119,8 @@ stands_behind start have count size xs ys post rest order within fits room =
 
 -- ---- sound links
 
-true_false : true ≡ false → ⊥
-true_false e = cc
-
 neither : (a b : Bool) → a ≡ false → b ≡ false → (a || b) ≡ false
 neither a b one two = rw (one, two) refl
-
--- a link that is sound is left for any cause
-pub sound_left : (ended : Bool) (cause : Cause) (traffic : Option Traffic) → IsSound ended traffic → IsLeftFor cause traffic
-sound_left ended cause None sound = tt
-sound_left ended cause (Some t) sound = (sound.1, λ failed. absurd (true_false (sym failed ∙ sound.0)))
 
 pub wrote_sound : (ended : Bool) (before now : Option Traffic) (count : ℕ) (from : List ℕ) → now ≡ option_map (λ t. after_write t (Count count) from) before → IsSound ended before → IsSound ended now
 wrote_sound ended None now count from is sound = subst (IsSound ended) (sym is) tt

@@ -9,7 +9,8 @@ use Rattle.pm_query.specs.declared.book.BookEntry.TheVariants.{Released}
 use Rattle.pm_query.specs.declared.store.Staged.{Staged}
 use Rattle.pm_query.specs.declared.store.StoreNo.{StoreNo}
 use Rattle.pm_query.specs.declared.store.StoreNo.TheVariants as nos
-use Rattle.pm_query.specs.Calls.{User, PassView, user_of, with_front, NotesAnswer, NotesStaged, RunNotes, SeenNotes, FlushNotes}
+use Rattle.pm_query.specs.Calls.{User, NotesAnswer, NotesStaged, RunNotes, SeenNotes, FlushNotes}
+use Rattle.pm_query.specs.NotedLaws.{GoesInTurn, behind_none}
 use Rattle.pm_query.specs.Limits.{HasShortValues}
 use Rattle.pm_exchange.specs.declared.ending.Cause.{Cause}
 use Rattle.pm_exchange.specs.declared.ending.Cause.TheVariants.{Terminated, Cancelling, LinkEnded, LinkFailed, TimedOut, PacketRefused, MessageRefused, DecisionRefused, GateRefused, ShortOfMemory, Panicked, ToldToTerminate, ToldToQuit, Killed, Overtaken}
@@ -17,33 +18,10 @@ use Rattle.pm_exchange.specs.declared.release.Answer.{Answer}
 use Rattle.pm_exchange.specs.declared.release.Answer.TheVariants as answers
 use Rattle.pm_life.specs.Life.{Told, Cancel}
 use Rattle.pm_life.specs.Attention.{HasAsked}
-use Rattle.pm_exchange.proofs.Attentions.{since_earlier}
+use Rattle.pm_life.specs.AttentionLaws.{since_earlier}
 use Rattle.pm_exchange.specs.Queries.{IsUnreleased}
 use Rattle.pm_exchange.specs.Answers.{EndNotes, ScriptNotes, CanRefuseRun, refusal_of, no_release, CanEndWait, WaitNotes, ReleaseNotes, FitsScript}
 use Rattle.pm_exchange.specs.Moments.{IsSignal, IsWaitEnd}
-
--- ---- what was noted in turn, for any store
-
-abbrev pub GoesInTurn : {S : Type 0} → (List BookEntry → S → S → Type 0) → Type 0
-GoesInTurn {S} notes = (before between now : S) (first second : List BookEntry) → notes first before between → notes second between now → notes (first ++ second) before now
-
--- nothing, and then what a call noted
-pub behind_none : {S : Type 0} (notes : List BookEntry → S → S → Type 0) (P : List BookEntry → Type 0) (before between now : S) → GoesInTurn notes → notes [] before between
-    → (entries : List BookEntry) × notes entries between now × P entries → (entries : List BookEntry) × notes entries before now × P entries
-behind_none notes P before between now in_turn none call = (call.0, in_turn before between now [] call.0 none call.1, call.2)
-
--- what a call noted, and it was nothing
-pub none_behind : {S : Type 0} (notes : List BookEntry → S → S → Type 0) (before between now : S) → GoesInTurn notes → notes [] before between
-    → (entries : List BookEntry) × notes entries between now × (entries ≡ []) → notes [] before now
-none_behind notes before between now in_turn none call = subst (λ (es : List BookEntry). notes es before now) call.2 (in_turn before between now [] call.0 none call.1)
-
--- ---- who the child is, behind a call
-
-pub same_user : (stamp_before stamp_now : Option ℕ) (before now : PassView) → stamp_now ≡ stamp_before → now ≡ before → user_of stamp_now now ≡ user_of stamp_before before
-same_user stamp_before stamp_now before now e f = rw (e, f) refl
-
-pub same_user_at : (front : ℕ) (stamp_before stamp_now : Option ℕ) (before now : PassView) → stamp_now ≡ stamp_before → now ≡ with_front front before → user_of stamp_now now ≡ user_of stamp_before before
-same_user_at front stamp_before stamp_now before now e f = rw (e, f) refl
 
 -- ---- a release
 

@@ -7,7 +7,7 @@ use Rattle.pm_exchange.specs.declared.ending.Cause.TheVariants.{ToldToTerminate,
 use Rattle.pm_life.specs.Attention.{Attention, Hears, GivenSince, IsAttentive}
 use Rattle.pm_exchange.specs.Attention.{ends_by, ends_of}
 use Rattle.pm_exchange.specs.Moments.{IsSignal, IsHeeded, IsWaitEnd}
-use Rattle.pm_exchange.proofs.Attentions.{told_cause}
+use Rattle.pm_exchange.specs.MomentLaws.{told_cause}
 
 ended_by : (kill : Bool) (quit : Option Reason) (terminate : Bool) (cause : Cause) → ends_by kill quit terminate ≡ Some cause → IsSignal cause
 ended_by true quit terminate cause is = let same : Killed ≡ cause = cc in subst IsSignal same tt

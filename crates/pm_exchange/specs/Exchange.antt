@@ -1,8 +1,8 @@
 -- What passes on a link between two moments.
-use Rattle.std.specs.Prelude.{◌≡◌, ◌≢◌, ◌≤◌, ℕ, Bool, true, false, List, [], ◌++◌, Option, None, Some, IfSome, Result, Ok, Err, option_map}
+use Rattle.std.specs.Prelude.{◌≡◌, ◌≢◌, ◌≤◌, ℕ, Bool, true, false, List, [], ◌++◌, Option, None, Some, IfSome, Result, Ok, Err}
 use Rattle.pm_outside.specs.Added.{Added}
 use Rattle.pm_disk.specs.Cause.{Rose}
-use Rattle.pm_outside.specs.Traffic.{Traffic}
+use Rattle.pm_outside.specs.Traffic.{Traffic, came_in_of, went_out_of}
 use Rattle.pm_outside.specs.declared.link.Got.{Got}
 use Rattle.pm_outside.specs.declared.link.Got.TheVariants.{Bytes, NotYet, End, Failed}
 use Rattle.pm_exchange.specs.declared.ending.Cause.{Cause}
@@ -21,12 +21,6 @@ link_view traffic number faults = record { traffic = traffic; number = number; f
 -- a link as it tells this of itself
 abbrev pub seen : {L : Type 0} → Link.Ghosts L → L → LinkView
 seen its link = link_view (its.traffic link) (its.number link) (its.faults link)
-
-abbrev pub came_in_of : Option Traffic → Option (List ℕ)
-came_in_of traffic = option_map (λ t. t.came_in) traffic
-
-abbrev pub went_out_of : Option Traffic → Option (List ℕ)
-went_out_of traffic = option_map (λ t. t.went_out) traffic
 
 -- the link has given its end, or doesn't tell
 abbrev pub HasEnded : Option Traffic → Type 0

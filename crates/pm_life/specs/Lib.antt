@@ -1,3 +1,4 @@
 pub mod Attention
+pub mod AttentionLaws
 pub mod Life
 pub mod Scripted

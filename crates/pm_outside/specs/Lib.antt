@@ -11,4 +11,5 @@ pub mod MemLink
 pub mod MemPort
 pub mod MemSink
 pub mod Traffic
+pub mod TrafficLaws
 pub mod Visits

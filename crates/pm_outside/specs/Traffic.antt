@@ -1,5 +1,5 @@
 -- What passes on a link, and what one read or one write adds to it.
-use Rattle.std.specs.Prelude.{◌≡◌, ℕ, ◌≤◌, Bool, true, false, ◌||◌, List, [], ◌++◌, take, Option, None, Some}
+use Rattle.std.specs.Prelude.{◌≡◌, ℕ, ◌≤◌, Bool, true, false, ◌||◌, List, [], ◌++◌, take, Option, None, Some, option_map}
 use Rattle.pm_outside.specs.declared.link.Got.{Got}
 use Rattle.pm_outside.specs.declared.link.Got.TheVariants.{Bytes, NotYet, End, Failed}
 use Rattle.pm_outside.specs.declared.link.Put.{Put}
@@ -23,6 +23,13 @@ no_traffic = record { came_in = []; went_out = []; ended = false; waits = false;
 abbrev pub IsFresh : Option Traffic → Type 0
 IsFresh None = Unit {0}
 IsFresh (Some t) = t ≡ no_traffic
+
+-- the bytes each way, where the link tells
+abbrev pub came_in_of : Option Traffic → Option (List ℕ)
+came_in_of traffic = option_map (λ t. t.came_in) traffic
+
+abbrev pub went_out_of : Option Traffic → Option (List ℕ)
+went_out_of traffic = option_map (λ t. t.went_out) traffic
 
 -- whether a write, and whether a read, has gone on once it is made
 abbrev pub goes_on_writing : Traffic → Bool

@@ -10,6 +10,7 @@ pub mod History
 pub mod Laws
 pub mod Limits
 pub mod Merge
+pub mod NotedLaws
 pub mod Run
 pub mod TickLaws
 pub mod WorkedBooks

@@ -1,26 +1,15 @@
 -- One question of a child, put together from what the calls of any store note.
-use Rattle.std.proofs.Common.{◌≡◌, ℕ, Bool, List, [], ◌∷◌, ◌++◌, Option, None, Some, Result, Ok, Err, inl, inr, refl, ap, subst}
+use Rattle.std.proofs.Common.{◌≡◌, ℕ, Bool, List, ◌++◌, Option, Result, Ok, Err, inl, refl, ap, subst}
 use Rattle.pm_sql.specs.declared.stmt.Stmt.{Stmt}
 use Rattle.pm_query.specs.declared.item.Item.{Item}
 use Rattle.pm_query.specs.declared.book.BookEntry.{BookEntry}
 use Rattle.pm_query.specs.declared.store.Staged.{Staged}
 use Rattle.pm_query.specs.declared.store.Seen.{Seen}
 use Rattle.pm_query.specs.declared.store.StoreNo.{StoreNo}
-use Rattle.pm_query.specs.Calls.{EnterNotes, FlushNotes, LeaveNotes, NotesStaged, PassView, RedoNotes, SeenNotes, User, new_pass, newcomer, user_of, with_front}
+use Rattle.pm_query.specs.Calls.{EnterNotes, FlushNotes, LeaveNotes, NotesStaged, RedoNotes, SeenNotes, User}
+use Rattle.pm_query.specs.NotedLaws.{GoesInTurn}
 use Rattle.pm_query_tests.specs.declared.tending.Tended.{Tended}
 use Rattle.pm_query_tests.specs.Asking.{AnsweredThen, RedoneThen, ReplyNotes, TendNotes, TendingNotes, VisitNotes, Visits}
-
-abbrev pub GoesInTurn : {S : Type 0} → (List BookEntry → S → S → Type 0) → Type 0
-GoesInTurn {S} notes = (before between now : S) (first second : List BookEntry) → notes first before between → notes second between now → notes (first ++ second) before now
-
-pub same_user : (stamp_before stamp_now : Option ℕ) (before now : PassView) → stamp_now ≡ stamp_before → now ≡ before → user_of stamp_now now ≡ user_of stamp_before before
-same_user stamp_before stamp_now before now e f = rw (e, f) refl
-
-pub same_user_at : (front : ℕ) (stamp_before stamp_now : Option ℕ) (before now : PassView) → stamp_now ≡ stamp_before → now ≡ with_front front before → user_of stamp_now now ≡ user_of stamp_before before
-same_user_at front stamp_before stamp_now before now e f = rw (e, f) refl
-
-pub newcomer_is : (pid generation : ℕ) (stamp_before stamp_now : Option ℕ) (now : PassView) → stamp_now ≡ stamp_before → now ≡ new_pass pid generation → user_of stamp_now now ≡ newcomer stamp_before pid generation
-newcomer_is pid generation stamp_before stamp_now now e f = rw (e, f) refl
 
 -- an answer, and a look behind it
 pub answered_then : {S : Type 0} (notes : List BookEntry → S → S → Type 0) (user who : User) (script : List Stmt) (staged : Staged) (result looked : Result Seen StoreNo) (before between now : S) → GoesInTurn notes → who ≡ user → result ≡ looked

@@ -21,7 +21,8 @@ use Rattle.pm_exchange.specs.Ends.{status_by}
 use Rattle.pm_exchange.specs.Moments.{Moment, ShowsCause, outside}
 use Rattle.pm_exchange.specs.Last.{SaysLast, IsLastCause}
 use Rattle.pm_session.specs.Entry.{IsTold, EndsBy, Closes}
-use Rattle.pm_session.proofs.Attentions.{hears_both, told_cause}
+use Rattle.pm_life.specs.AttentionLaws.{hears_both}
+use Rattle.pm_exchange.specs.MomentLaws.{told_cause}
 use Rattle.pm_session.proofs.Said.{bytes_of-none, bytes_of-one, bytes_of-append}
 
 -- one more message

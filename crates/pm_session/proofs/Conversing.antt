@@ -25,11 +25,12 @@ use Rattle.pm_session.specs.Turns.{desk, Says, Answered, BrokenOff, ReplyGoes, R
 use Rattle.pm_exchange.specs.Answers.{EndNotes, turn_of, piece_of, IsFit}
 use Rattle.pm_exchange.specs.Attention.{ends_of}
 use Rattle.pm_session.specs.Heeding.{AllRead}
-use Rattle.pm_session.proofs.Attentions.{hears_none, hears_both, hears_fewer, since_given, since_later}
+use Rattle.pm_life.specs.AttentionLaws.{hears_none, hears_both, hears_fewer, since_later}
+use Rattle.pm_session.proofs.Attentions.{since_given}
 use Rattle.pm_session.proofs.Heeding.{heed_none, heed_then, turn_heeds}
-use Rattle.pm_session.proofs.Links.{passes_none, passes_both}
+use Rattle.pm_exchange.specs.LinkLaws.{passes_none, passes_both}
 use Rattle.pm_session.proofs.Said.{bytes_of-append, bytes_of-none}
-use Rattle.pm_session.proofs.Noted.{GoesInTurn}
+use Rattle.pm_query.specs.NotedLaws.{GoesInTurn}
 
 -- ---- lists of turns
 

@@ -1,5 +1,5 @@
 -- The packets before a session, one behind the other.
-use Rattle.std.proofs.Common.{if◌then◌else◌, ◌≡◌, inl, inr, ℕ, Bool, true, false, List, [], ◌∷◌, ◌++◌, map, take, drop, take-append-drop, Option, None, Some, Result, Ok, Err, refl, sym, ◌∙◌, ap, subst, arith, append_assoc}
+use Rattle.std.proofs.Common.{if◌then◌else◌, ◌≡◌, inl, inr, ℕ, Bool, true, false, List, [], ◌∷◌, ◌++◌, map, take, drop, take-append-drop, Option, Result, Ok, Err, refl, sym, ◌∙◌, ap, subst, arith, append_assoc}
 use Rattle.std.specs.List.{flat_map}
 use Rattle.std.proofs.lemmas.Grind.{flat_map-append}
 use Rattle.std.proofs.lemmas.List.{append-nil, map-append, take_all}
@@ -13,15 +13,15 @@ use Rattle.pm_startup.specs.Phases.{step_of}
 use Rattle.pm_exchange.specs.declared.ending.Cause.{Cause}
 use Rattle.pm_exchange.specs.declared.ending.Cause.TheVariants.{Terminated, Cancelling, LinkEnded, LinkFailed, TimedOut, PacketRefused, MessageRefused, DecisionRefused, GateRefused, ShortOfMemory, Panicked, ToldToTerminate, ToldToQuit, Killed, Overtaken}
 use Rattle.pm_exchange.specs.Exchange.{LinkView, Passes, CutsOff, Holds, Sends, Receives, ReceivesNothing}
-use Rattle.std.specs.Option.{option_map}
-use Rattle.pm_life.specs.declared.standing.Standing.{Standing}
-use Rattle.pm_life.specs.Life.{Child, Told, asked_cancel}
-use Rattle.pm_life.specs.Attention.{Attention, attention, Hears, KeepsCancels}
+use Rattle.pm_life.specs.Life.{Told}
+use Rattle.pm_life.specs.Attention.{Attention, Hears, KeepsCancels}
 use Rattle.pm_session.specs.Session.{AskInTurn, StopsAt, MayPassOver, first_phase}
 use Rattle.pm_exchange.specs.Moments.{IsBreak, ShowsCause, outside, Attends}
+use Rattle.pm_exchange.specs.MomentLaws.{attends_of, attends_none}
 use Rattle.pm_session.specs.Entry.{Asked, GoesOn, AsksToCancel, Enters}
-use Rattle.pm_session.proofs.Attentions.{hears_none, hears_both, hears_fewer, asked_then, cancels_none}
-use Rattle.pm_session.proofs.Links.{passes_none, passes_both, passes_no_more, holds_then, holds_still, sound_left}
+use Rattle.pm_life.specs.AttentionLaws.{hears_none, hears_both, hears_fewer, asked_then, cancels_none}
+use Rattle.pm_exchange.specs.LinkLaws.{passes_none, passes_both, sound_left}
+use Rattle.pm_session.proofs.Links.{passes_no_more, holds_then, holds_still}
 use Rattle.pm_session.proofs.Said.{shows_since}
 
 -- ---- what a step means
@@ -120,12 +120,6 @@ asked_front requests before came unread used is =
 
 -- ---- heeding, up to a cancel
 
-attends_of : (before now : Attention) → Hears 0 before now → Attends before now
-attends_of before now hears = record { asked = hears.asked; child = hears.child; given = hears.given; stands = hears.stands }
-
-pub attends_none : (at : Attention) → Attends at at
-attends_none at = attends_of at at (hears_none at)
-
 attends_then : (a b c : Attention) → Attends a b → Attends b c → Attends a c
 attends_then a b c one two = record {
   asked = asked_then 0 0 a.told b.told c.told one.asked two.asked;
@@ -133,24 +127,6 @@ attends_then a b c one two = record {
   given = λ signal given. two.given signal (one.given signal given);
   stands = λ stands. two.stands (one.stands stands);
 }
-
-cancel_attends : (pid key : ℕ) (told : Option Told) (child : Child) (standing : Standing) → Attends (attention told child standing) (attention (option_map (asked_cancel pid key) told) child standing)
-cancel_attends pid key None child standing = attends_none (attention None child standing)
-cancel_attends pid key (Some told) child standing = record {
-  asked = (omega arith, refl);
-  child = refl;
-  given = λ signal given. given;
-  stands = λ stands. record { kill = stands.kill; quit = stands.quit; quits = stands.quits; terminate = stands.terminate; cancel = stands.cancel; checkpoint = stands.checkpoint };
-}
-
--- a cancel that was asked for changes nothing else
-pub attends_cancel : (pid key : ℕ) (before now : Attention) → now.told ≡ option_map (asked_cancel pid key) before.told → now.child ≡ before.child → now.standing ≡ before.standing → Attends before now
-attends_cancel pid key before now is same stands =
-    attends_as (attention (option_map (asked_cancel pid key) before.told) before.child before.standing) before now is same stands (cancel_attends pid key before.told before.child before.standing)
-  where
-    attends_as : (at before now : Attention) → now.told ≡ at.told → now.child ≡ at.child → now.standing ≡ at.standing → Attends before at → Attends before now
-    attends_as at before now is same stands attends =
-        subst (λ (a : Attention). Attends before a) (sym (ap (λ (t : Option Told). attention t now.child now.standing) is ∙ ap (λ (c : Child). attention at.told c now.standing) same ∙ ap (λ (s : Standing). attention at.told at.child s) stands)) attends
 
 breaks_asks : (cause : Cause) (last : List ℕ) (before now : Option Told) → IsBreak cause → KeepsCancels before now → AsksToCancel (Err cause) last before now
 breaks_asks Cancelling last before now breaks keeps = absurd breaks

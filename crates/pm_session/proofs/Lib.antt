@@ -5,7 +5,6 @@ pub mod Conversing
 pub mod Entries
 pub mod Heeding
 pub mod Links
-pub mod Noted
 pub mod Said
 pub mod Sessions
 pub mod Steps

@@ -22,8 +22,9 @@ use Rattle.pm_life.specs.Attention.{Attention, Hears}
 use Rattle.pm_exchange.specs.Moments.{ShowsCause, IsBreak}
 use Rattle.pm_exchange.specs.Sent.{bytes_of, item_messages}
 use Rattle.pm_session.specs.Turns.{Desk, desk, Says}
-use Rattle.pm_session.proofs.Attentions.{hears_none, hears_both}
-use Rattle.pm_session.proofs.Links.{passes_none, passes_both, holds_then}
+use Rattle.pm_life.specs.AttentionLaws.{hears_none, hears_both}
+use Rattle.pm_exchange.specs.LinkLaws.{passes_none, passes_both}
+use Rattle.pm_session.proofs.Links.{holds_then}
 
 -- ---- bytes of messages
 

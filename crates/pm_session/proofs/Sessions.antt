@@ -4,7 +4,7 @@ use Rattle.std.specs.List.{flat_map, Contains}
 use Rattle.std.specs.Option.{option_map}
 use Rattle.std.proofs.lemmas.List.{append-nil}
 use Rattle.std.proofs.lemmas.List.Elements.{Contains-append_right}
-use Rattle.pm_outside.specs.Traffic.{Traffic, IsFresh}
+use Rattle.pm_outside.specs.Traffic.{Traffic, IsFresh, came_in_of, went_out_of}
 use Rattle.pm_admit.specs.declared.Cac.{Cac}
 use Rattle.pm_admit.specs.declared.Cac.TheVariants as decisions
 use Rattle.pm_exit.specs.declared.child.Status.{Status}
@@ -25,7 +25,7 @@ use Rattle.pm_exchange.specs.declared.ending.Cause.TheVariants.{Terminated, Canc
 use Rattle.pm_exchange.specs.declared.ending.Stage.{Stage}
 use Rattle.pm_exchange.specs.declared.ending.Stage.TheVariants.{Outside, Entering, Greeted}
 use Rattle.pm_outside.specs.Added.{Added}
-use Rattle.pm_exchange.specs.Exchange.{LinkView, came_in_of, went_out_of, HasEnded, Passes, HasFailed, CutsOff, Sends, Holds, IsSound, IsLeftFor}
+use Rattle.pm_exchange.specs.Exchange.{LinkView, HasEnded, Passes, HasFailed, CutsOff, Sends, Holds, IsSound, IsLeftFor}
 use Rattle.pm_life.specs.Attention.{Attention, HasAsked, Hears, IsAttentive, KeepsCancels, was_given}
 use Rattle.pm_exchange.specs.Attention.{ends_of}
 use Rattle.pm_exchange.specs.Sent.{Turn, bytes_of, greeting, last_of}
@@ -37,9 +37,11 @@ use Rattle.pm_session.specs.Conversation.{Conversed}
 use Rattle.pm_session.specs.declared.session.Admission.{Admission}
 use Rattle.pm_session.specs.Entry.{ClosesBy, Connected, Enters, AsksToCancel, IsTold, EndsBy, Closes, Serves, IsTextBehind, IsTextInside, CanRefuseEntry, refusal_cause}
 use Rattle.pm_session.specs.Heeding.{TurnsHeed, HeedInTurn, AllRead}
-use Rattle.pm_session.proofs.Attentions.{untried_still, new_untried, new_no_cancel, hears_both, hears_fewer, cancels_then, cancels_still, HasCancels}
+use Rattle.pm_life.specs.AttentionLaws.{hears_both, hears_fewer, cancels_then}
+use Rattle.pm_session.proofs.Attentions.{untried_still, new_untried, new_no_cancel, cancels_still, HasCancels}
 use Rattle.pm_session.proofs.Heeding.{heed_none, heed_all, heed_later, heed_earlier}
-use Rattle.pm_session.proofs.Links.{passes_both, sound_left, fresh_sound}
+use Rattle.pm_exchange.specs.LinkLaws.{passes_both, sound_left}
+use Rattle.pm_session.proofs.Links.{fresh_sound}
 use Rattle.pm_session.proofs.Closings.{told_status, told_still, told_now}
 use Rattle.pm_session.proofs.Said.{bytes_of-none, bytes_of-append, shows_since}
 use Rattle.pm_session.proofs.Conversing.{nothing_yet}

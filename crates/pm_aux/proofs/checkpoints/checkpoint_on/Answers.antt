@@ -6,7 +6,8 @@ use Rattle.pm_query.specs.Calls.{user_of, CheckpointNotes}
 use Rattle.pm_aux.specs.Signals.{ends_of}
 use Rattle.pm_aux.specs.Work.{IsPassing}
 use Rattle.pm_aux.proofs.Listening.{listens_fewer, listens_both}
-use Rattle.pm_aux.proofs.Noting.{closes, closes_refused, passes_more, passes_still, same_user, met_later}
+use Rattle.pm_query.specs.NotedLaws.{same_user}
+use Rattle.pm_aux.proofs.Noting.{closes, closes_refused, passes_more, passes_still, met_later}
 use Rattle.pm_aux.proofs.Reasons.{refused_inside}
 use Rattle.pm_aux.proofs.checkpoints.checkpoint_on.Goals as goal
 

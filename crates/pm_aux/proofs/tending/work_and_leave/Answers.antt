@@ -1,4 +1,5 @@
-use Rattle.pm_aux.proofs.Noting.{same_user, worked}
+use Rattle.pm_query.specs.NotedLaws.{same_user}
+use Rattle.pm_aux.proofs.Noting.{worked}
 use Rattle.pm_aux.proofs.tending.work_and_leave.Goals as goal
 
 pub returns-clause-notes : goal.returns-clause-notes

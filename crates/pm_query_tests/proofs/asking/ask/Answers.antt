@@ -1,6 +1,7 @@
 use Rattle.std.proofs.Common.{◌∙◌}
 use Rattle.pm_query_tests.specs.Asking.{ReplyNotes}
-use Rattle.pm_query_tests.proofs.Askings.{newcomer_is, visits, visit_notes}
+use Rattle.pm_query.specs.NotedLaws.{newcomer_is}
+use Rattle.pm_query_tests.proofs.Askings.{visits, visit_notes}
 use Rattle.pm_query_tests.proofs.asking.ask.Goals as goal
 
 pub returns : goal.returns

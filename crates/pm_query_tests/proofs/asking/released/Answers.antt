@@ -1,6 +1,7 @@
-use Rattle.std.proofs.Common.{Ok, Err, inl, inr, refl, ap, ◌∙◌}
+use Rattle.std.proofs.Common.{Ok, Err, inr, refl, ap}
 use Rattle.pm_query.specs.declared.store.Seen.TheVariants.{Released, NotFlushed}
-use Rattle.pm_query_tests.proofs.Askings.{answered_then, same_user_at}
+use Rattle.pm_query.specs.NotedLaws.{same_user_at}
+use Rattle.pm_query_tests.proofs.Askings.{answered_then}
 use Rattle.pm_query_tests.proofs.asking.released.Goals as goal
 
 pub returns-in-Released-clause-notes : goal.returns-in-Released-clause-notes

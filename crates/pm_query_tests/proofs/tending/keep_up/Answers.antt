@@ -1,6 +1,7 @@
 use Rattle.std.proofs.Common.{Ok, Err, inl, inr, ◌⊎◌}
 use Rattle.pm_query.specs.Calls.{CheckpointNotes, FlushNotes}
-use Rattle.pm_query_tests.proofs.Askings.{flushed_then, redone_then, same_user}
+use Rattle.pm_query.specs.NotedLaws.{same_user}
+use Rattle.pm_query_tests.proofs.Askings.{flushed_then, redone_then}
 use Rattle.pm_query_tests.proofs.tending.keep_up.Goals as goal
 
 pub returns-in-Err-clause-notes : goal.returns-in-Err-clause-notes

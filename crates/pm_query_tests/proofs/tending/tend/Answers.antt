@@ -1,6 +1,7 @@
 use Rattle.std.proofs.Common.{◌∙◌}
 use Rattle.pm_query_tests.specs.Asking.{TendNotes}
-use Rattle.pm_query_tests.proofs.Askings.{newcomer_is, tending_notes, visits}
+use Rattle.pm_query.specs.NotedLaws.{newcomer_is}
+use Rattle.pm_query_tests.proofs.Askings.{tending_notes, visits}
 use Rattle.pm_query_tests.proofs.tending.tend.Goals as goal
 
 pub returns : goal.returns

@@ -1,8 +1,10 @@
 use Rattle.std.proofs.Common.{inl, false, [], Ok, refl}
 use Rattle.std.proofs.lemmas.Result.{err_from_is_err_and}
-use Rattle.pm_session.proofs.Attentions.{cancels_none, cancels_still}
+use Rattle.pm_life.specs.AttentionLaws.{cancels_none}
+use Rattle.pm_session.proofs.Attentions.{cancels_still}
 use Rattle.pm_session.proofs.Links.{sent_all}
-use Rattle.pm_session.proofs.Entries.{asked_none, asked_received, asked_more, attends_none, attends_cancel, enters_by, enters_broken, enters_cut}
+use Rattle.pm_exchange.specs.MomentLaws.{attends_none, attends_cancel}
+use Rattle.pm_session.proofs.Entries.{asked_none, asked_received, asked_more, enters_by, enters_broken, enters_cut}
 use Rattle.pm_session.proofs.startup.startup.Goals as goal
 
 pub loop-init : goal.loop-init

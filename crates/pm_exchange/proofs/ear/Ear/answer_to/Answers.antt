@@ -1,7 +1,8 @@
 use Rattle.std.proofs.Common.{ℕ, List, subst}
 use Rattle.pm_exchange.specs.Queries.{Sleeps}
 use Rattle.pm_exchange.specs.Answers.{turn_of}
-use Rattle.pm_exchange.proofs.Attentions.{hears_both, hears_dropped}
+use Rattle.pm_life.specs.AttentionLaws.{hears_both}
+use Rattle.pm_exchange.proofs.Attentions.{hears_dropped}
 use Rattle.pm_exchange.proofs.Sleeping.{fit_as, sleeps_unnoted, all_spelled}
 use Rattle.pm_exchange.proofs.ear.Ear.answer_to.Goals as goal
 

@@ -1,4 +1,4 @@
-use Rattle.pm_exchange.proofs.Attentions.{attentive_at_gate}
+use Rattle.pm_life.specs.AttentionLaws.{attentive_at_gate}
 use Rattle.pm_exchange.proofs.ear.Ear.attach.Goals as goal
 
 pub invariant_of-self : goal.invariant_of-self

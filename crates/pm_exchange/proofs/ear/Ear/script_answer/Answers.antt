@@ -1,4 +1,4 @@
-use Rattle.pm_exchange.proofs.Attentions.{hears_both, hears_fewer}
+use Rattle.pm_life.specs.AttentionLaws.{hears_both, hears_fewer}
 use Rattle.pm_exchange.proofs.Sleeping.{all_slept}
 use Rattle.pm_exchange.proofs.Noted.{fits_earlier}
 use Rattle.pm_exchange.proofs.ear.Ear.script_answer.Goals as goal

@@ -1,6 +1,6 @@
 use Rattle.std.proofs.Common.{◌∙◌, sym}
 use Rattle.std.proofs.lemmas.Result.{err_from_is_err_and}
-use Rattle.pm_exchange.proofs.Attentions.{hears_none, hears_both, hears_fewer}
+use Rattle.pm_life.specs.AttentionLaws.{hears_none, hears_both, hears_fewer}
 use Rattle.pm_exchange.proofs.Signals.{cancel_since}
 use Rattle.pm_exchange.proofs.ear.Ear.sleep.Goals as goal
 

@@ -1,6 +1,6 @@
 use Rattle.std.proofs.Common.{◌∙◌, ◌++◌, [], ℕ, List, ap, append_assoc}
-use Rattle.pm_exchange.proofs.Attentions.{hears_both, hears_fewer}
-use Rattle.pm_exchange.proofs.Links.{passes_both}
+use Rattle.pm_life.specs.AttentionLaws.{hears_both, hears_fewer}
+use Rattle.pm_exchange.specs.LinkLaws.{passes_both}
 use Rattle.pm_exchange.proofs.line.Line.await_bytes.Goals as goal
 
 pub returns-in-Err-clause-hears : goal.returns-in-Err-clause-hears

@@ -1,7 +1,8 @@
 use Rattle.std.proofs.Common.{◌∙◌, [], true, false, sym}
 use Rattle.pm_exchange.specs.declared.ending.Cause.TheVariants.{LinkEnded}
-use Rattle.pm_exchange.proofs.Attentions.{hears_both, hears_fewer, told_cause}
-use Rattle.pm_exchange.proofs.Links.{passes_both, sound_left}
+use Rattle.pm_life.specs.AttentionLaws.{hears_both, hears_fewer}
+use Rattle.pm_exchange.specs.MomentLaws.{told_cause}
+use Rattle.pm_exchange.specs.LinkLaws.{passes_both, sound_left}
 use Rattle.pm_exchange.proofs.line.Line.receive.Goals as goal
 
 pub returns-in-Some-ends-clause-cause : goal.returns-in-Some-ends-clause-cause

@@ -1,8 +1,9 @@
 use Rattle.std.proofs.Common.{◌≡◌, ℕ, ◌-◌, List, length, take, drop, arith, length-drop}
 use Rattle.std.proofs.lemmas.List.{take_all}
 use Rattle.pm_exchange.specs.declared.ending.Cause.TheVariants.{Killed}
-use Rattle.pm_exchange.proofs.Attentions.{hears_both, hears_fewer}
-use Rattle.pm_exchange.proofs.Links.{sends_more, wrote, sound_left, wrote_sound, write_left}
+use Rattle.pm_life.specs.AttentionLaws.{hears_both, hears_fewer}
+use Rattle.pm_exchange.specs.LinkLaws.{sound_left}
+use Rattle.pm_exchange.proofs.Links.{sends_more, wrote, wrote_sound, write_left}
 use Rattle.pm_exchange.proofs.line.Line.send.Goals as goal
 
 -- what is left behind the first n, as the code takes it

@@ -9,7 +9,8 @@ use Rattle.pm_exchange.specs.Ends.{LetsGo}
 use Rattle.pm_exchange.specs.Sent.{Turn}
 use Rattle.pm_exchange.specs.Moments.{moment}
 use Rattle.pm_session.specs.Entry.{Serves, IsTextBehind}
-use Rattle.pm_session.proofs.Attentions.{cancels_at_gate, cancels_then, hears_both, untried_still}
+use Rattle.pm_life.specs.AttentionLaws.{cancels_then, hears_both}
+use Rattle.pm_session.proofs.Attentions.{cancels_at_gate, untried_still}
 use Rattle.pm_session.proofs.Sessions.{at_outside, told_away, turned_away, asked_for, asked_at_gate, met_now, met_still, served_since, lets_go_by, attached_outside, attached_inside, out_untried, out_refused}
 use Rattle.pm_session.proofs.desk.Desk.admit.Goals as goal
 

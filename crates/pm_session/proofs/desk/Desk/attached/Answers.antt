@@ -10,7 +10,7 @@ use Rattle.pm_session.specs.Session.{Leaves, IsInside}
 use Rattle.pm_exchange.specs.Moments.{moment}
 use Rattle.pm_exchange.specs.Moments.{outside}
 use Rattle.pm_session.specs.Entry.{Closes, Serves, IsTextInside, refusal_cause}
-use Rattle.pm_session.proofs.Attentions.{hears_both}
+use Rattle.pm_life.specs.AttentionLaws.{hears_both}
 use Rattle.pm_session.proofs.Sessions.{enter_can, at_entering, told_away, turned_away, refused_notes, refusal_fails, refusal_stops, refusal_over, refusal_caused, met_still, asked_for, user_is, served_left, lets_go_by, inside_at, out_inside}
 use Rattle.pm_session.proofs.desk.Desk.attached.Goals as goal
 
