@@ -6,7 +6,7 @@ use Rattle.pm_exit.specs.declared.child.Kind.{Kind}
 use Rattle.pm_state.specs.declared.action.Action.{Action}
 use Rattle.pm_state.specs.declared.action.Action.TheVariants as act
 use Rattle.pm_journal.specs.Roll.{kind_in}
-use Rattle.pm_journal.specs.Standing.{Standing, done, next_pid, entry_for, first_due, act_for}
+use Rattle.pm_journal.specs.Standing.{Standing, done, next_pid, entry_for, act_for}
 use Rattle.pm_acts.specs.Acts.{IsPresent, is_last_drawn, AsksAsDue, AreOurs, Keeps, LogBehind}
 use Rattle.pm_server.specs.Journal.{asked_in, accepted_in}
 use Rattle.pm_supervisor.specs.Children.{one_if}
@@ -28,14 +28,7 @@ other_pid pid last within = ne_eqb (last + 1) pid (λ is. omega (arith, is, with
 -- a child stays
 pub auxiliary_kept : (a : Action) (s : Standing) (pid : ℕ) (k' : Kind) → IsPresent (Some pid) k' s → IsPresent (Some pid) k' (done a s)
 auxiliary_kept (act.Start k) s pid k' there = (ap (λ (b : Bool). cond b (Some k) (kind_in pid s.children)) (other_pid pid s.last_pid there.1) ∙ there.0, omega (arith, there.1))
-auxiliary_kept (act.Quit why) s pid k' there = there
-auxiliary_kept act.Terminate s pid k' there = there
-auxiliary_kept act.KillAll s pid k' there = there
-auxiliary_kept act.AskCheckpoint s pid k' there = there
-auxiliary_kept act.Ready s pid k' there = there
-auxiliary_kept act.Reset s pid k' there = there
-auxiliary_kept (act.Say line) s pid k' there = there
-auxiliary_kept (act.End how) s pid k' there = there
+auxiliary_kept _ s pid k' there = there
 
 -- and one is started
 pub auxiliary_started : (k : Kind) (s : Standing) → IsPresent (Some (next_pid s)) k (done (act.Start k) s)
@@ -45,25 +38,11 @@ auxiliary_started k s = (ap (λ (b : Bool). cond b (Some k) (kind_in (next_pid s
 
 pub not_asked : (a : Action) (s : Standing) → asked_in (entry_for a s ∷ []) ≡ []
 not_asked (act.Start k) s = refl
-not_asked (act.Quit why) s = refl
-not_asked act.Terminate s = refl
-not_asked act.KillAll s = refl
-not_asked act.AskCheckpoint s = refl
-not_asked act.Ready s = refl
-not_asked act.Reset s = refl
-not_asked (act.Say line) s = refl
-not_asked (act.End how) s = refl
+not_asked _ s = refl
 
 pub not_accepted : (a : Action) (s : Standing) → accepted_in (entry_for a s ∷ []) ≡ []
 not_accepted (act.Start k) s = refl
-not_accepted (act.Quit why) s = refl
-not_accepted act.Terminate s = refl
-not_accepted act.KillAll s = refl
-not_accepted act.AskCheckpoint s = refl
-not_accepted act.Ready s = refl
-not_accepted act.Reset s = refl
-not_accepted (act.Say line) s = refl
-not_accepted (act.End how) s = refl
+not_accepted _ s = refl
 
 drawn_test : (last : ℕ) → (last + 1 == 2147480000) ≡ true → one_if (is_last_drawn last) ≡ 0
 drawn_test last is = ap one_if (not_yet last is)
@@ -106,52 +85,24 @@ asks_drawn asked listens s t pid owes asks = record {
 
 pub asks_acted : (a : Action) (s : Standing) (asked : List Mode) (listens : Bool) → AsksAsDue asked listens s → AsksAsDue asked listens (done a s)
 asks_acted (act.Start k) s asked listens asks = asks_drawn asked listens s (done (act.Start k) s) refl refl asks
-asks_acted (act.Quit why) s asked listens asks = record { smart = asks.smart; few = asks.few }
-asks_acted act.Terminate s asked listens asks = record { smart = asks.smart; few = asks.few }
-asks_acted act.KillAll s asked listens asks = record { smart = asks.smart; few = asks.few }
-asks_acted act.AskCheckpoint s asked listens asks = record { smart = asks.smart; few = asks.few }
-asks_acted act.Ready s asked listens asks = record { smart = asks.smart; few = asks.few }
-asks_acted act.Reset s asked listens asks = record { smart = asks.smart; few = asks.few }
-asks_acted (act.Say line) s asked listens asks = record { smart = asks.smart; few = asks.few }
-asks_acted (act.End how) s asked listens asks = record { smart = asks.smart; few = asks.few }
+asks_acted _ s asked listens asks = record { smart = asks.smart; few = asks.few }
 
 pub drawn_kept : (a : Action) (s : Standing) → is_last_drawn s.last_pid ≡ true → is_last_drawn (done a s).last_pid ≡ true
 drawn_kept (act.Start k) s drawn = le-leb 2147480000 (s.last_pid + 1) (omega (arith, leb-true 2147480000 s.last_pid drawn))
-drawn_kept (act.Quit why) s drawn = drawn
-drawn_kept act.Terminate s drawn = drawn
-drawn_kept act.KillAll s drawn = drawn
-drawn_kept act.AskCheckpoint s drawn = drawn
-drawn_kept act.Ready s drawn = drawn
-drawn_kept act.Reset s drawn = drawn
-drawn_kept (act.Say line) s drawn = drawn
-drawn_kept (act.End how) s drawn = drawn
+drawn_kept _ s drawn = drawn
 
 not_last : (last : ℕ) → nat_le 2147480000 last ≡ true → (last + 1 == 2147480000) ≡ false
 not_last last drawn = ne_eqb (last + 1) 2147480000 (λ is. omega (arith, is, leb-true 2147480000 last drawn))
 
 pub unowed_kept : (a : Action) (s : Standing) → is_last_drawn s.last_pid ≡ true → s.owes_smart ≡ false → (done a s).owes_smart ≡ false
 unowed_kept (act.Start k) s drawn unowed = ap (λ (b : Bool). b || (s.last_pid + 1 == 2147480000)) unowed ∙ not_last s.last_pid drawn
-unowed_kept (act.Quit why) s drawn unowed = unowed
-unowed_kept act.Terminate s drawn unowed = unowed
-unowed_kept act.KillAll s drawn unowed = unowed
-unowed_kept act.AskCheckpoint s drawn unowed = unowed
-unowed_kept act.Ready s drawn unowed = unowed
-unowed_kept act.Reset s drawn unowed = unowed
-unowed_kept (act.Say line) s drawn unowed = unowed
-unowed_kept (act.End how) s drawn unowed = unowed
+unowed_kept _ s drawn unowed = unowed
 
 -- ---- the acts that are left
 
 pub due_kept : (a : Action) (s : Standing) → (done a s).due ≡ without_first s.due
 due_kept (act.Start k) s = refl
-due_kept (act.Quit why) s = refl
-due_kept act.Terminate s = refl
-due_kept act.KillAll s = refl
-due_kept act.AskCheckpoint s = refl
-due_kept act.Ready s = refl
-due_kept act.Reset s = refl
-due_kept (act.Say line) s = refl
-due_kept (act.End how) s = refl
+due_kept _ s = refl
 
 pub ours_tail : (asked : Bool) (a : Action) (rest : List Action) → AreOurs asked (a ∷ rest) → AreOurs asked rest
 ours_tail asked (act.Start k) rest ours = ours
@@ -169,10 +120,6 @@ ours_tail asked (act.End endings.RestartOff) rest ours = ours.1
 
 pub none_is_killed : (asked : Bool) (rest : List Action) → AreOurs asked (act.KillAll ∷ rest) → ⊥
 none_is_killed asked rest ours = ours
-
-pub first_is : (acts : List Action) (a : Action) → first_due acts ≡ Some a → acts ≡ a ∷ without_first acts
-first_is [] a is = absurd cc
-first_is (b ∷ acts) a is = cc
 
 pub keeps_on : (a b c : Standing) → Keeps a b → Keeps b c → Keeps a c
 keeps_on a b c one two = record {

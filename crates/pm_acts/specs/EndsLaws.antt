@@ -9,7 +9,7 @@ use Rattle.pm_state.specs.Journal.{AreLegal, Follows, all_replayed, dues, entrie
 use Rattle.pm_state.specs.Restarts.{AreAsSet}
 use Rattle.pm_journal.specs.Standing.{Standing, first_due}
 use Rattle.pm_journal.specs.Stands.{Stands, any_moment}
-use Rattle.pm_acts.specs.ActsLaws.{first_is}
+use Rattle.pm_journal.specs.NextsLaws.{first_is}
 
 -- the last entries are as the options say, where all are
 pub last_set : (limits : Limits) (xs ys : List PmEvent) → AreAsSet limits (xs ++ ys) → AreAsSet limits ys

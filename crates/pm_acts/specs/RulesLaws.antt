@@ -26,13 +26,7 @@ use Rattle.pm_state.specs.TurnRules.{start_recovery_in, start_recovery, restart_
 
 asked_says : (s : PmState) (m : Machine) (now : ℕ) → AreSays (asked_in Smart s m now).acts
 asked_says state.Init m now = tt
-asked_says state.Startup m now = tt
-asked_says state.Run m now = tt
-asked_says state.StopBackends m now = tt
-asked_says state.WaitBackends m now = tt
-asked_says state.Shutdown m now = tt
-asked_says state.WaitDeadEnd m now = tt
-asked_says state.NoChildren m now = tt
+asked_says _ m now = tt
 
 says_by : (before : Option Mode) (m : Machine) (now : ℕ) → AreSays (asked_with (strengthen_of before Smart) m now).acts
 says_by None m now = asked_says m.state (record m { shutdown = Some Smart }) now
@@ -45,15 +39,8 @@ ask_says m now = says_by m.shutdown m now
 
 pub says_ours : (asked : Bool) (acts : List Action) → AreSays acts → AreOurs asked acts
 says_ours asked [] says = tt
-says_ours asked (act.Start k ∷ acts) says = absurd says
-says_ours asked (act.Quit why ∷ acts) says = absurd says
-says_ours asked (act.Terminate ∷ acts) says = absurd says
-says_ours asked (act.KillAll ∷ acts) says = absurd says
-says_ours asked (act.AskCheckpoint ∷ acts) says = absurd says
-says_ours asked (act.Ready ∷ acts) says = absurd says
-says_ours asked (act.Reset ∷ acts) says = absurd says
 says_ours asked (act.Say line ∷ acts) says = says_ours asked acts says
-says_ours asked (act.End how ∷ acts) says = absurd says
+says_ours asked (_ ∷ acts) says = absurd says
 
 -- ---- the end of a child
 
@@ -100,18 +87,10 @@ exit_ours asked kind.DeadEnd m exit active = normal_ours asked (class_of kind.De
 
 both_ours : (asked : Bool) (xs ys : List Action) → AreOurs asked xs → AreOurs asked ys → AreOurs asked (xs ++ ys)
 both_ours asked [] ys one two = two
-both_ours asked (act.Start k ∷ xs) ys one two = both_ours asked xs ys one two
-both_ours asked (act.Quit why ∷ xs) ys one two = both_ours asked xs ys one two
-both_ours asked (act.Terminate ∷ xs) ys one two = both_ours asked xs ys one two
 both_ours asked (act.KillAll ∷ xs) ys one two = absurd one
-both_ours asked (act.AskCheckpoint ∷ xs) ys one two = both_ours asked xs ys one two
-both_ours asked (act.Ready ∷ xs) ys one two = both_ours asked xs ys one two
 both_ours asked (act.Reset ∷ xs) ys one two = (one.0, both_ours asked xs ys one.1 two)
-both_ours asked (act.Say line ∷ xs) ys one two = both_ours asked xs ys one two
-both_ours asked (act.End endings.Clean ∷ xs) ys one two = both_ours asked xs ys one two
-both_ours asked (act.End endings.AfterCrash ∷ xs) ys one two = both_ours asked xs ys one two
-both_ours asked (act.End endings.StartupFailed ∷ xs) ys one two = both_ours asked xs ys one two
 both_ours asked (act.End endings.RestartOff ∷ xs) ys one two = (one.0, both_ours asked xs ys one.1 two)
+both_ours asked (_ ∷ xs) ys one two = both_ours asked xs ys one two
 
 -- a machine that was asked to shut down, or not
 abbrev pub IsOf : Bool → Machine → Type 0
@@ -128,41 +107,23 @@ rule_by asked m false one two first second = second refl
 
 start_recovery_case : (asked : Bool) (st : PmState) (m : Machine) → IsOf asked m → IsRule asked m (start_recovery_in st m)
 start_recovery_case asked state.Init m same = record { acts = tt; shutdown_is = refl }
-start_recovery_case asked state.Startup m same = record { acts = tt; shutdown_is = refl }
-start_recovery_case asked state.Run m same = record { acts = tt; shutdown_is = refl }
-start_recovery_case asked state.StopBackends m same = record { acts = tt; shutdown_is = refl }
-start_recovery_case asked state.WaitBackends m same = record { acts = tt; shutdown_is = refl }
-start_recovery_case asked state.Shutdown m same = record { acts = tt; shutdown_is = refl }
-start_recovery_case asked state.WaitDeadEnd m same = record { acts = tt; shutdown_is = refl }
-start_recovery_case asked state.NoChildren m same = record { acts = tt; shutdown_is = refl }
+start_recovery_case asked _ m same = record { acts = tt; shutdown_is = refl }
 
 pub start_recovery_rule : (asked : Bool) (m : Machine) → IsOf asked m → IsRule asked m (start_recovery m)
 unfolding start_recovery
 start_recovery_rule asked m same = start_recovery_case asked m.state m same
 
 restart_writer_case : (asked : Bool) (st : PmState) (m : Machine) → IsOf asked m → IsRule asked m (restart_writer_in st m)
-restart_writer_case asked state.Init m same = record { acts = tt; shutdown_is = refl }
-restart_writer_case asked state.Startup m same = record { acts = tt; shutdown_is = refl }
 restart_writer_case asked state.Run m same = rule_by asked m (m.conns && not m.writer) _ _ (λ is. record { acts = tt; shutdown_is = refl }) (λ is. record { acts = tt; shutdown_is = refl })
-restart_writer_case asked state.StopBackends m same = record { acts = tt; shutdown_is = refl }
-restart_writer_case asked state.WaitBackends m same = record { acts = tt; shutdown_is = refl }
-restart_writer_case asked state.Shutdown m same = record { acts = tt; shutdown_is = refl }
-restart_writer_case asked state.WaitDeadEnd m same = record { acts = tt; shutdown_is = refl }
-restart_writer_case asked state.NoChildren m same = record { acts = tt; shutdown_is = refl }
+restart_writer_case asked _ m same = record { acts = tt; shutdown_is = refl }
 
 pub restart_writer_rule : (asked : Bool) (m : Machine) → IsOf asked m → IsRule asked m (restart_writer m)
 unfolding restart_writer
 restart_writer_rule asked m same = restart_writer_case asked m.state m same
 
 end_smart_case : (asked : Bool) (st : PmState) (m : Machine) → IsOf asked m → IsRule asked m (end_smart_in st m)
-end_smart_case asked state.Init m same = record { acts = tt; shutdown_is = refl }
-end_smart_case asked state.Startup m same = record { acts = tt; shutdown_is = refl }
 end_smart_case asked state.Run m same = rule_by asked m (not m.conns && (m.children == 0)) _ _ (λ is. record { acts = tt; shutdown_is = refl }) (λ is. record { acts = tt; shutdown_is = refl })
-end_smart_case asked state.StopBackends m same = record { acts = tt; shutdown_is = refl }
-end_smart_case asked state.WaitBackends m same = record { acts = tt; shutdown_is = refl }
-end_smart_case asked state.Shutdown m same = record { acts = tt; shutdown_is = refl }
-end_smart_case asked state.WaitDeadEnd m same = record { acts = tt; shutdown_is = refl }
-end_smart_case asked state.NoChildren m same = record { acts = tt; shutdown_is = refl }
+end_smart_case asked _ m same = record { acts = tt; shutdown_is = refl }
 
 pub end_smart_rule : (asked : Bool) (m : Machine) → IsOf asked m → IsRule asked m (end_smart m)
 unfolding end_smart
@@ -170,55 +131,31 @@ end_smart_rule asked m same = end_smart_case asked m.state m same
 
 stop_backends_case : (asked : Bool) (st : PmState) (m : Machine) → IsOf asked m → IsRule asked m (stop_backends_in st m)
 stop_backends_case asked state.Init m same = record { acts = tt; shutdown_is = refl }
-stop_backends_case asked state.Startup m same = record { acts = tt; shutdown_is = refl }
-stop_backends_case asked state.Run m same = record { acts = tt; shutdown_is = refl }
-stop_backends_case asked state.StopBackends m same = record { acts = tt; shutdown_is = refl }
-stop_backends_case asked state.WaitBackends m same = record { acts = tt; shutdown_is = refl }
-stop_backends_case asked state.Shutdown m same = record { acts = tt; shutdown_is = refl }
-stop_backends_case asked state.WaitDeadEnd m same = record { acts = tt; shutdown_is = refl }
-stop_backends_case asked state.NoChildren m same = record { acts = tt; shutdown_is = refl }
+stop_backends_case asked _ m same = record { acts = tt; shutdown_is = refl }
 
 pub stop_backends_rule : (asked : Bool) (m : Machine) → IsOf asked m → IsRule asked m (stop_backends m)
 unfolding stop_backends
 stop_backends_rule asked m same = stop_backends_case asked m.state m same
 
 backends_gone_case : (asked : Bool) (st : PmState) (m : Machine) → IsOf asked m → IsRule asked m (backends_gone_in st m)
-backends_gone_case asked state.Init m same = record { acts = tt; shutdown_is = refl }
-backends_gone_case asked state.Startup m same = record { acts = tt; shutdown_is = refl }
-backends_gone_case asked state.Run m same = record { acts = tt; shutdown_is = refl }
-backends_gone_case asked state.StopBackends m same = record { acts = tt; shutdown_is = refl }
 backends_gone_case asked state.WaitBackends m same = rule_by asked m (not (are_backends_gone m)) _ _ (λ is. record { acts = tt; shutdown_is = refl }) (λ is. rule_by asked m (m.fatal || is_immediate m.shutdown) _ _ (λ other. rule_by asked m (m.checkpointer) _ _ (λ is. record { acts = tt; shutdown_is = refl }) (λ is. record { acts = tt; shutdown_is = refl })) (λ other. rule_by asked m (m.checkpointer) _ _ (λ is. record { acts = tt; shutdown_is = refl }) (λ is. record { acts = tt; shutdown_is = refl })))
-backends_gone_case asked state.Shutdown m same = record { acts = tt; shutdown_is = refl }
-backends_gone_case asked state.WaitDeadEnd m same = record { acts = tt; shutdown_is = refl }
-backends_gone_case asked state.NoChildren m same = record { acts = tt; shutdown_is = refl }
+backends_gone_case asked _ m same = record { acts = tt; shutdown_is = refl }
 
 pub backends_gone_rule : (asked : Bool) (m : Machine) → IsOf asked m → IsRule asked m (backends_gone m)
 unfolding backends_gone
 backends_gone_rule asked m same = backends_gone_case asked m.state m same
 
 dead_ends_gone_case : (asked : Bool) (st : PmState) (m : Machine) → IsOf asked m → IsRule asked m (dead_ends_gone_in st m)
-dead_ends_gone_case asked state.Init m same = record { acts = tt; shutdown_is = refl }
-dead_ends_gone_case asked state.Startup m same = record { acts = tt; shutdown_is = refl }
-dead_ends_gone_case asked state.Run m same = record { acts = tt; shutdown_is = refl }
-dead_ends_gone_case asked state.StopBackends m same = record { acts = tt; shutdown_is = refl }
-dead_ends_gone_case asked state.WaitBackends m same = record { acts = tt; shutdown_is = refl }
-dead_ends_gone_case asked state.Shutdown m same = record { acts = tt; shutdown_is = refl }
 dead_ends_gone_case asked state.WaitDeadEnd m same = rule_by asked m (are_backends_gone m && not m.checkpointer && (m.dead_ends == 0)) _ _ (λ is. record { acts = tt; shutdown_is = refl }) (λ is. record { acts = tt; shutdown_is = refl })
-dead_ends_gone_case asked state.NoChildren m same = record { acts = tt; shutdown_is = refl }
+dead_ends_gone_case asked _ m same = record { acts = tt; shutdown_is = refl }
 
 pub dead_ends_gone_rule : (asked : Bool) (m : Machine) → IsOf asked m → IsRule asked m (dead_ends_gone m)
 unfolding dead_ends_gone
 dead_ends_gone_rule asked m same = dead_ends_gone_case asked m.state m same
 
 children_gone_case : (asked : Bool) (st : PmState) (m : Machine) → IsOf asked m → IsRule asked m (children_gone_in st m)
-children_gone_case asked state.Init m same = record { acts = tt; shutdown_is = refl }
-children_gone_case asked state.Startup m same = record { acts = tt; shutdown_is = refl }
-children_gone_case asked state.Run m same = record { acts = tt; shutdown_is = refl }
-children_gone_case asked state.StopBackends m same = record { acts = tt; shutdown_is = refl }
-children_gone_case asked state.WaitBackends m same = record { acts = tt; shutdown_is = refl }
-children_gone_case asked state.Shutdown m same = record { acts = tt; shutdown_is = refl }
-children_gone_case asked state.WaitDeadEnd m same = record { acts = tt; shutdown_is = refl }
 children_gone_case asked state.NoChildren m same = rule_by asked m (is_some m.shutdown && m.fatal) _ _ (λ is. record { acts = tt; shutdown_is = refl }) (λ is. rule_by asked m (is_some m.shutdown) _ _ (λ is. record { acts = tt; shutdown_is = refl }) (λ other. rule_by asked m (not m.limits.restart_after_crash) _ _ (λ off. record { acts = (sym same ∙ other, tt); shutdown_is = refl }) (λ is. record { acts = (sym same ∙ other, tt); shutdown_is = refl })))
+children_gone_case asked _ m same = record { acts = tt; shutdown_is = refl }
 
 pub children_gone_rule : (asked : Bool) (m : Machine) → IsOf asked m → IsRule asked m (children_gone m)
 unfolding children_gone

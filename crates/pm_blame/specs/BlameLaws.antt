@@ -2,6 +2,7 @@
 use Rattle.std.proofs.Common.{◌≡◌, ◌⊎◌, inl, inr, ℕ, ◌+◌, ◌<◌, ◌≤◌, Bool, true, false, not, cond, ◌&&◌, ◌||◌, List, [], ◌∷◌, ◌++◌, Option, refl, sym, ap, subst, ◌∙◌, arith, append_assoc}
 use Rattle.std.specs.Prelude.{is_some}
 use Rattle.std.specs.List.{AllByRecursion, fold}
+use Rattle.std.proofs.lemmas.Bool.{both_ways, false≢true, true≢false}
 use Rattle.std.proofs.lemmas.List.Elements.{recursion_from_All}
 use Rattle.pm_disk.specs.Cause.{Rose}
 use Rattle.pm_exit.specs.declared.child.Class.TheVariants as class
@@ -31,6 +32,9 @@ use Rattle.pm_board.specs.Latches.{HeardRightly, NoticedBefore, times_given, tim
 use Rattle.pm_query.specs.declared.book.BookEntry.{BookEntry}
 use Rattle.pm_query.specs.declared.book.BookEntry.TheVariants.{Broke}
 use Rattle.pm_segment.specs.Moves.{IsShown}
+use Rattle.pm_segment.specs.Unread.{is_break}
+use Rattle.pm_server.specs.CalmLaws.{is_closing, shuts}
+use Rattle.pm_server.specs.ReplayLaws.{acts_in, ends_at, legal_behind, legal_front}
 use Rattle.pm_server.specs.Views.{DiskView}
 use Rattle.pm_remains.specs.Remains.{Remains}
 use Rattle.pm_seating.specs.FoldingLaws.{seating-append, steps-append}
@@ -38,15 +42,15 @@ use Rattle.pm_seating.specs.Seating.{Ended, Move, Notes, Seating, board_steps, e
 use Rattle.pm_shared.specs.declared.views.Noted.{Noted}
 use Rattle.pm_worker.specs.declared.mail.MailTold.{MailTold}
 use Rattle.pm_worker.specs.Runs.{told_in}
+use Rattle.pm_crew.specs.EachLaws.{each_first}
 use Rattle.pm_crew.specs.Left.{Manner}
 use Rattle.pm_crew.specs.PidsLaws.{pids_in}
 use Rattle.pm_chain.specs.Chain.{IsPidOf}
 use Rattle.pm_blame.specs.Crashes.{HasNoCrash, IsFirstCrash, IsHarmless, IsUnasked, is_crash, stands_behind}
-use Rattle.pm_blame.specs.Causes.{HasCause, IsBlamed, IsUnbroken, IsUnprovoked, is_broke}
-use Rattle.pm_blame.specs.CalmLaws.{IsCalm, SoFar, is_closing, never, nothing_so_far, told_after}
-use Rattle.pm_blame.specs.JournalLaws.{StaysCalm, acts_in, checkpointer_there, ends_at, legal_behind, legal_front, never_again, stays_calm}
+use Rattle.pm_blame.specs.Causes.{HasCause, IsBlamed, IsUnbroken, IsUnprovoked}
+use Rattle.pm_blame.specs.CalmLaws.{IsCalm, SoFar, nothing_so_far, told_after}
+use Rattle.pm_blame.specs.JournalLaws.{StaysCalm, checkpointer_there, never_again, stays_calm}
 use Rattle.pm_blame.specs.RunsLaws.{Outcome, EndedFine, WasKilled, WasToldToQuit, MetNotice, GaveUp, DiskFailed, HadNoRedo, WasShort, WasSpent, FoundOther, IsFineAs, outcome}
-use Rattle.pm_blame.specs.ListsLaws.{front_all}
 use Rattle.pm_blame.specs.GivenLaws.{checkpoint_given, kill_given, number_of, quit_given, terminate_given}
 use Rattle.pm_blame.specs.SendsLaws.{SitsNowhere, final_sends, may_send, not_noticed, nowhere_from, quiet, sent_append, unreached, unsent}
 use Rattle.pm_blame.specs.FindLaws.{IsKnownRun, NotedAt, RunOf, gone, its_run, near, noted_at}
@@ -78,7 +82,7 @@ terminate_before h [] none = none
 terminate_before h (e ∷ es) none = one e (terminate_before (told_after h e) es none)
   where
     one : (e : PmEvent) → (told_after h e).terminate ≡ false → h.terminate ≡ false
-    one entry.TerminateSent is = absurd (never true refl is)
+    one entry.TerminateSent is = absurd (true≢false is)
     one entry.CheckpointAsked is = is
     one e is = is
 
@@ -87,7 +91,7 @@ no_terminates h [] harmless none = tt
 no_terminates h (e ∷ es) harmless none = (one e harmless.0 (terminate_before (told_after h e) es none), no_terminates (told_after h e) es harmless.1 none)
   where
     one : (e : PmEvent) → IsHarmless e → (told_after h e).terminate ≡ false → may_send 2 e ≡ false
-    one entry.TerminateSent harmless is = absurd (never true refl is)
+    one entry.TerminateSent harmless is = absurd (true≢false is)
     one (entry.QuitSent why) harmless is = absurd harmless
     one e harmless is = refl
 
@@ -96,7 +100,7 @@ checkpoint_before h [] none = none
 checkpoint_before h (e ∷ es) none = one e (checkpoint_before (told_after h e) es none)
   where
     one : (e : PmEvent) → (told_after h e).checkpoint ≡ false → h.checkpoint ≡ false
-    one entry.CheckpointAsked is = absurd (never true refl is)
+    one entry.CheckpointAsked is = absurd (true≢false is)
     one entry.TerminateSent is = is
     one e is = is
 
@@ -105,15 +109,11 @@ no_checkpoints h [] harmless none = tt
 no_checkpoints h (e ∷ es) harmless none = (one e harmless.0 (checkpoint_before (told_after h e) es none), no_checkpoints (told_after h e) es harmless.1 none)
   where
     one : (e : PmEvent) → IsHarmless e → (told_after h e).checkpoint ≡ false → may_send 4 e ≡ false
-    one entry.CheckpointAsked harmless is = absurd (never true refl is)
+    one entry.CheckpointAsked harmless is = absurd (true≢false is)
     one (entry.QuitSent why) harmless is = absurd harmless
     one e harmless is = refl
 
 -- ---- a first crash
-
--- the last checkpoint was asked for, and the checkpointer is there
-shuts : (m : Machine) → is_closing m ≡ true → m.checkpointer ≡ true → is_shutdown m.state ≡ true
-shuts m closing there = grind (arith, closing, there)
 
 -- who ended fine is no crash
 fine_ends : (end : Ended) (m : Machine) (told : Told) (at : ℕ) → IsFineAs end.kind end.status end.was_active told → (was_told Checkpoint told → end.kind ≡ kinds.Checkpointer → is_shutdown m.state ≡ true)
@@ -187,7 +187,7 @@ module _ (safely : RestartsSafely) (limits : Limits) (manner : Manner) (count : 
     legal = subst (IsLegal limits any_moment) first.is u.legal
 
     unasked : AllByRecursion IsUnasked first.before
-    unasked = front_all IsUnasked first.before (e ∷ first.behind) (subst (AllByRecursion IsUnasked) first.is u.unasked)
+    unasked = each_first IsUnasked first.before (e ∷ first.behind) (subst (AllByRecursion IsUnasked) first.is u.unasked)
 
     calm : StaysCalm nothing_so_far (replay_begun limits) first.before
     calm = stays_calm safely limits any_moment first.before (legal_front any_moment (replay_begun limits) first.before (e ∷ first.behind) legal) unasked first.none
@@ -250,7 +250,7 @@ module _ (safely : RestartsSafely) (limits : Limits) (manner : Manner) (count : 
     last_asked : (checkpoint terminate : Bool) (acts : List Action) → IsCalm (record { checkpoint = checkpoint; terminate = terminate }) acts m → (terminate ≡ true → is_some m.shutdown ≡ true) × (checkpoint ≡ true → is_closing m ≡ true)
     last_asked checkpoint terminate acts its = (
       (λ is. subst (λ (b : Bool). not (b || has_act is_terminate acts) || is_some m.shutdown ≡ true) is its.ending),
-      (λ is. subst (λ (b : Bool). not (b || has_act is_ask_checkpoint acts) || is_closing m ≡ true) is its.closing),
+      (λ is. subst (λ (b : Bool). not (b || has_act is_ask_checkpoint acts) || is_closing m ≡ true) is its.calm.closing),
     )
 
     asks : ((fold told_after nothing_so_far first.before).terminate ≡ true → is_some m.shutdown ≡ true) × ((fold told_after nothing_so_far first.before).checkpoint ≡ true → is_closing m ≡ true)
@@ -294,7 +294,7 @@ module _ (safely : RestartsSafely) (limits : Limits) (manner : Manner) (count : 
         (quiet (empty count) found.front (subst (AllByRecursion IsHarmless) (sym found.front_is) calm.harmless)) none
 
     fine_never : is_crash m e ≡ false → ⊥
-    fine_never fine = never (is_crash m e) first.crash fine
+    fine_never fine = both_ways (is_crash m e) fine first.crash
 
     its : RunOf (IsKnownRun manner count moves board own book u.board_is u.left u.once u.unbroken) (u.left.runs found.slot) end
     its = its_run manner count moves board own book u.board_is u.left u.once u.unbroken end e refl found.slot found.front found.rest found.is
@@ -343,7 +343,7 @@ module _ (safely : RestartsSafely) (limits : Limits) (manner : Manner) (count : 
   -- The first crash of the journal is the end of a run that has one of these causes, and no other.
   pub has_cause : (e : PmEvent) (first : IsFirstCrash limits (journal_of count moves) e) → HasCause manner (stands_behind limits first.before) count u.left.runs e
   has_cause (entry.Exited pid kind status was_active at) first = caused (record { pid = pid; kind = kind; status = status; was_active = was_active }) at first
-  has_cause other first = absurd (never false first.crash refl)
+  has_cause other first = absurd (false≢true first.crash)
 
   -- Before each entry that isn't harmless there is a first crash, with such a cause.
   pub has_crashed : (front : List PmEvent) (later : PmEvent) (behind : List PmEvent) → journal_of count moves ≡ front ++ later ∷ behind → (IsHarmless later → ⊥)
@@ -366,7 +366,7 @@ module _ (safely : RestartsSafely) (limits : Limits) (manner : Manner) (count : 
       by (inr none) =
           absurd (harmful (last_of front later (stays_calm safely limits any_moment (front ++ later ∷ [])
           (legal_front any_moment (replay_begun limits) (front ++ later ∷ []) behind (subst (IsLegal limits any_moment) (is ∙ sym (append_assoc front (later ∷ []) behind)) u.legal))
-          (front_all IsUnasked (front ++ later ∷ []) behind (subst (AllByRecursion IsUnasked) (is ∙ sym (append_assoc front (later ∷ []) behind)) u.unasked))
+          (each_first IsUnasked (front ++ later ∷ []) behind (subst (AllByRecursion IsUnasked) (is ∙ sym (append_assoc front (later ∷ []) behind)) u.unasked))
           (no_crash_more (replay_begun limits) front later none (harmful_no_crash later harmful (all_replayed (replay_begun limits) front).machine))).harmless))
 
 -- ---- over a disk that didn't fail
@@ -375,7 +375,7 @@ module _ (safely : RestartsSafely) (limits : Limits) (manner : Manner) (count : 
 pub unfailed_unbroken : (before now : DiskView) (told : Option (List BookEntry)) (book : List BookEntry) → Remains before now told book → ¬ (Rose before.faults now.faults) → IsUnbroken book
 unfailed_unbroken before now told book remains unfailed = each book (recursion_from_All (IsShown before.faults now.faults) book remains.faults)
   where
-    one : (e : BookEntry) → IsShown before.faults now.faults e → is_broke e ≡ false
+    one : (e : BookEntry) → IsShown before.faults now.faults e → is_break e ≡ false
     one (Broke pid since faults) shown = absurd (unfailed shown)
     one e shown = refl
 

@@ -1,5 +1,5 @@
 -- What the first crash of a server's journal is due to.
-use Rattle.std.specs.Prelude.{◌≡◌, ◌≢◌, ◌⊎◌, ◌<◌, ℕ, Bool, true, false, List, [], ◌∷◌, Some, None}
+use Rattle.std.specs.Prelude.{◌≡◌, ◌≢◌, ◌⊎◌, ◌<◌, ℕ, true, false, List, [], ◌∷◌, Some, None}
 use Rattle.std.specs.List.{AllByRecursion, Contains}
 use Rattle.pm_exit.specs.declared.child.Kind.TheVariants as kinds
 use Rattle.pm_exit.specs.declared.child.Status.TheVariants.{Code, Signal}
@@ -14,10 +14,10 @@ use Rattle.pm_board.specs.declared.views.RosterView.{RosterView}
 use Rattle.pm_record.specs.declared.fault.RedoFault.{RedoFault}
 use Rattle.pm_record.specs.declared.fault.RedoFault.TheVariants as redo
 use Rattle.pm_query.specs.declared.book.BookEntry.{BookEntry}
-use Rattle.pm_query.specs.declared.book.BookEntry.TheVariants.{Broke}
 use Rattle.pm_query.specs.declared.store.StoreNo.{StoreNo}
 use Rattle.pm_query.specs.declared.store.StoreNo.TheVariants.{Stale, Full, Redo, NoMemory}
 use Rattle.pm_exchange.specs.declared.ending.Cause.TheVariants.{Overtaken}
+use Rattle.pm_segment.specs.Unread.{is_break}
 use Rattle.pm_seating.specs.Board.{ended_of}
 use Rattle.pm_seating.specs.Seating.{Move, ends, journal_of}
 use Rattle.pm_seating.specs.Standing.{IsBoardOf}
@@ -75,13 +75,9 @@ pub record HasCause (manner : Manner) (m : Machine) (count : ℕ) (runs : ℕ �
 
 -- ---- where
 
-abbrev pub is_broke : BookEntry → Bool
-is_broke (Broke pid since faults) = true
-is_broke _ = false
-
 -- no fault of the disk was noted
 abbrev pub IsUnbroken : List BookEntry → Type 0
-IsUnbroken book = AllByRecursion (λ entry. is_broke entry ≡ false) book
+IsUnbroken book = AllByRecursion (λ entry. is_break entry ≡ false) book
 
 -- What a run of a server left, that nobody asked to kill a child or to stop at once, over a disk that didn't fail: its moves, its
 -- board, and what its workers and its own side noted.

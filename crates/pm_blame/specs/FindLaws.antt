@@ -18,7 +18,7 @@ use Rattle.pm_chain.specs.Chain.{IsPidOf}
 use Rattle.pm_journal.specs.declared.roll.Enrolled.{Enrolled}
 use Rattle.pm_query.specs.declared.book.BookEntry.{BookEntry}
 use Rattle.pm_answers.specs.Own.{entries_by as own_entries, is_by}
-use Rattle.pm_seating.specs.Board.{begun_of, ended_of, seat_at}
+use Rattle.pm_seating.specs.Board.{ended_of, seat_at}
 use Rattle.pm_seating.specs.FoldingLaws.{begun-append}
 use Rattle.pm_seating.specs.Seating.{Ended, Kill, Move, Nothing, Notes, PidsEnd, PortEnds, Reads, Request, Seating, Stop, asked_by, begun_at, begun_from, empty, ended_at, ended_by, ends, entries_by, entries_from, is_seated, seating_by, seating_from}
 use Rattle.pm_seating.specs.Standing.{IsBoardOf}
@@ -29,8 +29,8 @@ use Rattle.pm_crew.specs.EntriesLaws.{entries_of_runs}
 use Rattle.pm_crew.specs.Left.{AreLeft, IsWorked, Manner}
 use Rattle.pm_crew.specs.Pids.{AreEntriesOf, AreUsedOnce}
 use Rattle.pm_blame.specs.Causes.{IsUnbroken}
-use Rattle.pm_blame.specs.SendsLaws.{SitsNowhere, nowhere, pids_of, pids_of_append, sat_or_began, seat_set}
-use Rattle.pm_blame.specs.ListsLaws.{pid_front}
+use Rattle.pm_crew.specs.PidsLaws.{begun_pids, pid_either, pids_of_past}
+use Rattle.pm_blame.specs.SendsLaws.{SitsNowhere, nowhere, pids_of_append, sat_or_began, seat_set}
 
 -- ---- the move
 
@@ -197,10 +197,6 @@ none_broke : (book : List BookEntry) (runs : List Run) → IsUnbroken book → A
 none_broke book [] all its = tt
 none_broke book (run ∷ runs) all its = (subst IsUnbroken its.0 (unbroken_by run.child.offer.pid book all), none_broke book runs all its.1)
 
-pids_begun : (past : List (PastChild MailTold)) → map (λ child. child.offer.pid) past ≡ pids_of (map begun_of past)
-pids_begun [] = refl
-pids_begun (x ∷ past) = ap (λ (ps : List ℕ). x.offer.pid ∷ ps) (pids_begun past)
-
 nobody_first : (n j : ℕ) (c : Enrolled) → seat_at j (replicate n None) ≡ Some c → ⊥
 nobody_first zero j c is = (let none : None ≡ Some c = is in absurd cc)
 nobody_first (suc n) zero c is = (let none : None ≡ Some c = is in absurd cc)
@@ -240,14 +236,14 @@ module _ (manner : Manner) (count : ℕ) (moves : List Move) (board : RosterView
         (none_broke book (left.runs slot) unbroken (entries_of_runs manner count board own book left once slot near)))
 
     -- no child of its pid began in another slot
-    alone : (j : ℕ) → j ≢ slot → IsPidOf end.pid (pids_of (begun_from j (empty count) front)) → ⊥
+    alone : (j : ℕ) → j ≢ slot → IsPidOf end.pid (begun_pids (begun_from j (empty count) front)) → ⊥
     alone j other began =
         once.across j slot end.pid other
-        (subst (IsPidOf end.pid) (sym (pids_begun (slot_at board j).past ∙ ap pids_of (board_is.begun j).2 ∙ pids_of_append (begun_at count j moves) (board_is.begun j).0))
-        (pid_front end.pid (pids_of (begun_at count j moves)) (pids_of (board_is.begun j).0)
-        (subst (λ (ms : List Move). IsPidOf end.pid (pids_of (begun_at count j ms))) (sym moves_are)
-        (subst (IsPidOf end.pid) (sym (ap pids_of (begun-append j (empty count) front (Notes e slot ∷ rest)) ∙ pids_of_append (begun_from j (empty count) front) _))
-        (pid_front end.pid (pids_of (begun_from j (empty count) front)) _ began)))))
+        (subst (IsPidOf end.pid) (sym (pids_of_past (slot_at board j).past ∙ ap begun_pids (board_is.begun j).2 ∙ pids_of_append (begun_at count j moves) (board_is.begun j).0))
+        (pid_either end.pid (begun_pids (begun_at count j moves)) (begun_pids (board_is.begun j).0)
+        (inl (subst (λ (ms : List Move). IsPidOf end.pid (begun_pids (begun_at count j ms))) (sym moves_are)
+        (subst (IsPidOf end.pid) (sym (ap begun_pids (begun-append j (empty count) front (Notes e slot ∷ rest)) ∙ pids_of_append (begun_from j (empty count) front) _))
+        (pid_either end.pid (begun_pids (begun_from j (empty count) front)) _ (inl began)))))))
         (pid_among end (slot_at board slot).past in_past)
 
     apart : (a b : ℕ) → nat_eq a b ≡ false → b ≢ a
@@ -265,6 +261,6 @@ module _ (manner : Manner) (count : ℕ) (moves : List Move) (board : RosterView
         by j c its (inr new) = (let none : None ≡ Some c = new.1 in absurd cc)
         by j c its (inl same) = began (sat_or_began j end.pid (empty count) front (c, same.1, its))
           where
-            began : ((x : Enrolled) × (seat_at j (empty count).seats ≡ Some x) × (x.pid ≡ end.pid)) ⊎ IsPidOf end.pid (pids_of (begun_from j (empty count) front)) → ⊥
+            began : ((x : Enrolled) × (seat_at j (empty count).seats ≡ Some x) × (x.pid ≡ end.pid)) ⊎ IsPidOf end.pid (begun_pids (begun_from j (empty count) front)) → ⊥
             began (inl first) = nobody_first count j first.0 first.1
             began (inr there) = alone j (apart slot j same.0) there

@@ -12,7 +12,7 @@ use Rattle.pm_board.specs.Latch.{is_crash, is_given, is_stop}
 use Rattle.pm_board.specs.Latches.{times_given}
 use Rattle.pm_board.specs.Words.{bit}
 use Rattle.pm_post_life.specs.Lives.{told_by}
-use Rattle.pm_blame.specs.ListsLaws.{both}
+use Rattle.pm_crew.specs.EachLaws.{each_both}
 
 -- the number of a signal that a child takes; a cancel has none of a latch
 abbrev pub number_of : Signal → ℕ
@@ -46,10 +46,10 @@ answer n s kill quit terminate cancel checkpoint =
     let b : List Signal = quit_in s.quit in
     let c : List Signal = one_if s.terminate Terminate in
     let d : List Signal = one_if s.cancel Cancel in
-    both (IsOther n) (((a ++ b) ++ c) ++ d) (one_if s.checkpoint Checkpoint)
-    (both (IsOther n) ((a ++ b) ++ c) d
-    (both (IsOther n) (a ++ b) c
-    (both (IsOther n) a b (part n s.kill Kill kill) (quit_part n s.quit quit))
+    each_both (IsOther n) (((a ++ b) ++ c) ++ d) (one_if s.checkpoint Checkpoint)
+    (each_both (IsOther n) ((a ++ b) ++ c) d
+    (each_both (IsOther n) (a ++ b) c
+    (each_both (IsOther n) a b (part n s.kill Kill kill) (quit_part n s.quit quit))
     (part n s.terminate Terminate terminate))
     (part n s.cancel Cancel (inr cancel)))
     (part n s.checkpoint Checkpoint checkpoint)
@@ -104,7 +104,7 @@ none_told n gives [] told none so_far = so_far
 none_told n gives (s ∷ answers) told none so_far =
     let parts = first_zero (is_given n s) (times_given n answers) none in
     none_told n gives answers (asked_again s told) parts.1
-    (both (λ x. IsOther n x.1) told.given (map (λ signal. ((asked_again s told).asked, signal)) (signals_in s)) so_far (numbered_none n (asked_again s told).asked (signals_in s) (gives s parts.0)))
+    (each_both (λ x. IsOther n x.1) told.given (map (λ signal. ((asked_again s told).asked, signal)) (signals_in s)) so_far (numbered_none n (asked_again s told).asked (signals_in s) (gives s parts.0)))
 
 above : (n : ℕ) → (n ≡ 0 → ⊥) → 0 < n
 above zero not_none = absurd (not_none refl)

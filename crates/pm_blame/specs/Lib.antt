@@ -1,7 +1,6 @@
 pub mod WorkedFirsts
 pub mod Crashes
 pub mod Causes
-pub mod ListsLaws
 pub mod CalmLaws
 pub mod JournalLaws
 pub mod RunsLaws

@@ -1,6 +1,6 @@
 -- Which signals the moves of a supervisor send to a child, and whom they reach.
-use Rattle.std.proofs.Common.{◌≡◌, ◌≢◌, ◌⊎◌, inl, inr, ℕ, zero, suc, ◌+◌, ◌<◌, Bool, true, false, cond, List, [], ◌∷◌, ◌++◌, Option, None, Some, length, refl, sym, ap, subst, ◌∙◌, arith, set, append_assoc}
-use Rattle.std.specs.Prelude.{IfSome, nat_eq, ◌&&◌, map}
+use Rattle.std.proofs.Common.{◌≡◌, ◌≢◌, ◌⊎◌, inl, inr, ℕ, zero, suc, ◌+◌, ◌<◌, Bool, true, false, cond, List, [], ◌∷◌, ◌++◌, Option, None, Some, length, refl, sym, ap, subst, ◌∙◌, arith, set}
+use Rattle.std.specs.Prelude.{IfSome, nat_eq, ◌&&◌}
 use Rattle.std.specs.List.{AllByRecursion, flat_map}
 use Rattle.pm_exit.specs.declared.child.Kind.{Kind}
 use Rattle.pm_supervisor.specs.declared.Reason.{Reason}
@@ -21,8 +21,8 @@ use Rattle.pm_seating.specs.declared.audience.Audience.TheVariants.{Everyone, St
 use Rattle.pm_seating.specs.Board.{seat_at}
 use Rattle.pm_seating.specs.Seating.{Move, Notes, PidsEnd, PortEnds, Reads, Seating, begun_by, begun_from, child, entries_by, entries_from, is_meant, seated, seating_by, seating_from, with_seat, Begun, sends_from, slot_in, steps_by, steps_from, steps_of}
 use Rattle.pm_seating.specs.Standing.{IsFinal}
-use Rattle.pm_crew.specs.PidsLaws.{pids_by, pids_in}
-use Rattle.pm_blame.specs.ListsLaws.{both, front_all, pid_behind, pid_front, rest_all}
+use Rattle.pm_crew.specs.EachLaws.{each_both, each_first, each_second}
+use Rattle.pm_crew.specs.PidsLaws.{begun_pids, pid_either, pids_append, pids_by, pids_in}
 use Rattle.pm_blame.specs.Crashes.{IsHarmless}
 
 -- ---- how often
@@ -71,15 +71,7 @@ entry_other_signal n pid k s entry.TerminateSent other = sends_other_signal n pi
 entry_other_signal n pid k s (entry.KillSent at) other = sends_other_signal n pid Everyone signal.Kill s.generation 0 s.seats other
 entry_other_signal n pid k s (entry.KillAsked who) other = sends_other_signal n pid (One who) signal.Kill s.generation 0 s.seats other
 entry_other_signal n pid k s entry.CheckpointAsked other = sends_other_signal n pid Checkpointer signal.Checkpoint s.generation 0 s.seats other
-entry_other_signal n pid k s (entry.Started who kind) other = refl
-entry_other_signal n pid k s (entry.Accepted who decision) other = refl
-entry_other_signal n pid k s (entry.Exited who kind status was_active at) other = refl
-entry_other_signal n pid k s (entry.Asked mode at) other = refl
-entry_other_signal n pid k s (entry.RedoEnded generation kept) other = refl
-entry_other_signal n pid k s (entry.Ready generation) other = refl
-entry_other_signal n pid k s (entry.Reset generation) other = refl
-entry_other_signal n pid k s (entry.Said line) other = refl
-entry_other_signal n pid k s (entry.Ended how) other = refl
+entry_other_signal n pid k s _ other = refl
 
 entries_other_signal : (n pid k : ℕ) (s : Seating) (es : List PmEvent) → AllByRecursion (λ e. may_send n e ≡ false) es → times_sent n pid (flat_map (steps_of k s) es) ≡ 0
 entries_other_signal n pid k s [] others = refl
@@ -91,8 +83,8 @@ pub unsent : (n pid : ℕ) (s : Seating) (moves : List Move) → AllByRecursion 
 unsent n pid s [] others = refl
 unsent n pid s (move ∷ moves) others =
     none_append n pid (steps_by s move) (steps_from (seating_by s move) moves)
-    (entries_other_signal n pid (slot_in move) s (entries_by s move) (front_all (λ e. may_send n e ≡ false) (entries_by s move) (entries_from (seating_by s move) moves) others))
-    (unsent n pid (seating_by s move) moves (rest_all (λ e. may_send n e ≡ false) (entries_by s move) (entries_from (seating_by s move) moves) others))
+    (entries_other_signal n pid (slot_in move) s (entries_by s move) (each_first (λ e. may_send n e ≡ false) (entries_by s move) (entries_from (seating_by s move) moves) others))
+    (unsent n pid (seating_by s move) moves (each_second (λ e. may_send n e ≡ false) (entries_by s move) (entries_from (seating_by s move) moves) others))
 
 -- ---- by the child
 
@@ -120,15 +112,7 @@ entry_other_child n pid k s entry.TerminateSent none = sends_other_child n pid S
 entry_other_child n pid k s (entry.KillSent at) none = sends_other_child n pid Everyone signal.Kill s.generation 0 s.seats none
 entry_other_child n pid k s (entry.KillAsked who) none = sends_other_child n pid (One who) signal.Kill s.generation 0 s.seats none
 entry_other_child n pid k s entry.CheckpointAsked none = sends_other_child n pid Checkpointer signal.Checkpoint s.generation 0 s.seats none
-entry_other_child n pid k s (entry.Started who kind) none = refl
-entry_other_child n pid k s (entry.Accepted who decision) none = refl
-entry_other_child n pid k s (entry.Exited who kind status was_active at) none = refl
-entry_other_child n pid k s (entry.Asked mode at) none = refl
-entry_other_child n pid k s (entry.RedoEnded generation kept) none = refl
-entry_other_child n pid k s (entry.Ready generation) none = refl
-entry_other_child n pid k s (entry.Reset generation) none = refl
-entry_other_child n pid k s (entry.Said line) none = refl
-entry_other_child n pid k s (entry.Ended how) none = refl
+entry_other_child n pid k s _ none = refl
 
 entries_other_child : (n pid k : ℕ) (s : Seating) (es : List PmEvent) → SitsNowhere pid s.seats → times_sent n pid (flat_map (steps_of k s) es) ≡ 0
 entries_other_child n pid k s [] none = refl
@@ -145,24 +129,10 @@ nowhere_behind : (pid k : ℕ) (e : PmEvent) (s : Seating) → (IsPidOf pid (pid
 nowhere_behind pid k (entry.Started who kind) s fresh none = nowhere_set pid k (Some (child who kind)) s.seats (λ is. fresh (inl (sym is))) none
 nowhere_behind pid k (entry.Accepted who decision) s fresh none = nowhere_set pid k (Some (child who (kind_for decision))) s.seats (λ is. fresh (inl (sym is))) none
 nowhere_behind pid k (entry.Exited who kind status was_active at) s fresh none = nowhere_set pid k None s.seats tt none
-nowhere_behind pid k (entry.QuitSent why) s fresh none = none
-nowhere_behind pid k entry.TerminateSent s fresh none = none
-nowhere_behind pid k (entry.KillSent at) s fresh none = none
-nowhere_behind pid k (entry.KillAsked who) s fresh none = none
-nowhere_behind pid k entry.CheckpointAsked s fresh none = none
-nowhere_behind pid k (entry.Asked mode at) s fresh none = none
-nowhere_behind pid k (entry.RedoEnded generation kept) s fresh none = none
-nowhere_behind pid k (entry.Ready generation) s fresh none = none
-nowhere_behind pid k (entry.Reset generation) s fresh none = none
-nowhere_behind pid k (entry.Said line) s fresh none = none
-nowhere_behind pid k (entry.Ended how) s fresh none = none
-
-pids_append : (xs ys : List PmEvent) → pids_in (xs ++ ys) ≡ pids_in xs ++ pids_in ys
-pids_append [] ys = refl
-pids_append (x ∷ xs) ys = ap (λ (ps : List ℕ). pids_by x ++ ps) (pids_append xs ys) ∙ sym (append_assoc (pids_by x) (pids_in xs) (pids_in ys))
+nowhere_behind pid k _ s fresh none = none
 
 nowhere_by : (pid : ℕ) (s : Seating) (move : Move) → (IsPidOf pid (pids_in (entries_by s move)) → ⊥) → SitsNowhere pid s.seats → SitsNowhere pid (seating_by s move).seats
-nowhere_by pid s (Notes e k) fresh none = nowhere_behind pid k e s (λ its. fresh (pid_front pid (pids_by e) [] its)) none
+nowhere_by pid s (Notes e k) fresh none = nowhere_behind pid k e s (λ its. fresh (pid_either pid (pids_by e) [] (inl its))) none
 nowhere_by pid s (Reads line asks at) fresh none = none
 nowhere_by pid s (PortEnds at) fresh none = none
 nowhere_by pid s (PidsEnd at) fresh none = none
@@ -175,8 +145,8 @@ unreached n pid s (move ∷ moves) fresh none =
     fresh (subst (IsPidOf pid) (sym (pids_append (entries_by s move) (entries_from (seating_by s move) moves))) its)) in
     none_append n pid (steps_by s move) (steps_from (seating_by s move) moves) (entries_other_child n pid (slot_in move) s (entries_by s move) none)
     (unreached n pid (seating_by s move) moves
-    (λ its. fresh_all (pid_behind pid (pids_in (entries_by s move)) (pids_in (entries_from (seating_by s move) moves)) its))
-    (nowhere_by pid s move (λ its. fresh_all (pid_front pid (pids_in (entries_by s move)) (pids_in (entries_from (seating_by s move) moves)) its)) none))
+    (λ its. fresh_all (pid_either pid (pids_in (entries_by s move)) (pids_in (entries_from (seating_by s move) moves)) (inr its)))
+    (nowhere_by pid s move (λ its. fresh_all (pid_either pid (pids_in (entries_by s move)) (pids_in (entries_from (seating_by s move) moves)) (inl its))) none))
 
 -- so none sits there behind them either
 pub nowhere_from : (pid : ℕ) (s : Seating) (moves : List Move) → (IsPidOf pid (pids_in (entries_from s moves)) → ⊥) → SitsNowhere pid s.seats → SitsNowhere pid (seating_from s moves).seats
@@ -185,8 +155,8 @@ nowhere_from pid s (move ∷ moves) fresh none =
     let fresh_all = (λ (its : IsPidOf pid (pids_in (entries_by s move) ++ pids_in (entries_from (seating_by s move) moves))).
     fresh (subst (IsPidOf pid) (sym (pids_append (entries_by s move) (entries_from (seating_by s move) moves))) its)) in
     nowhere_from pid (seating_by s move) moves
-    (λ its. fresh_all (pid_behind pid (pids_in (entries_by s move)) (pids_in (entries_from (seating_by s move) moves)) its))
-    (nowhere_by pid s move (λ its. fresh_all (pid_front pid (pids_in (entries_by s move)) (pids_in (entries_from (seating_by s move) moves)) its)) none)
+    (λ its. fresh_all (pid_either pid (pids_in (entries_by s move)) (pids_in (entries_from (seating_by s move) moves)) (inr its)))
+    (nowhere_by pid s move (λ its. fresh_all (pid_either pid (pids_in (entries_by s move)) (pids_in (entries_from (seating_by s move) moves)) (inl its))) none)
 
 -- ---- behind the last entry
 
@@ -211,9 +181,6 @@ final_sends n pid seats (step.Reset g ∷ last) none final = absurd final.0
 
 -- ---- where a child sits
 
-abbrev pub pids_of : List Begun → List ℕ
-pids_of begun = map (λ b. b.pid) begun
-
 pub seat_set : (k j : ℕ) (seat : Option Enrolled) (seats : List (Option Enrolled)) (c : Enrolled) → seat_at j (set seats k seat) ≡ Some c
     → ((nat_eq k j ≡ false) × (seat_at j seats ≡ Some c)) ⊎ ((nat_eq k j ≡ true) × (seat ≡ Some c))
 seat_set k j seat [] c is = absurd (let none : None ≡ Some c = is in cc)
@@ -227,7 +194,7 @@ seat_set (suc k) (suc j) seat (x ∷ seats) c is = by (seat_set k j seat seats c
     by (inl same) = inl ((let e : nat_eq k j ≡ false = same.0 in grind (arith, e)), same.1)
     by (inr new) = inr ((let e : nat_eq k j ≡ true = new.0 in grind (arith, e)), new.1)
 
-pub pids_of_append : (xs ys : List Begun) → pids_of (xs ++ ys) ≡ pids_of xs ++ pids_of ys
+pub pids_of_append : (xs ys : List Begun) → begun_pids (xs ++ ys) ≡ begun_pids xs ++ begun_pids ys
 pids_of_append [] ys = refl
 pids_of_append (x ∷ xs) ys = ap (λ (ps : List ℕ). x.pid ∷ ps) (pids_of_append xs ys)
 
@@ -236,14 +203,14 @@ module _ (j pid : ℕ) where
   Sits s = (c : Enrolled) × (seat_at j s.seats ≡ Some c) × (c.pid ≡ pid)
 
   -- where a child sits down
-  sat_down : (k who : ℕ) (kind : Kind) (s : Seating) → Sits (with_seat k (Some (child who kind)) s) → Sits s ⊎ IsPidOf pid (pids_of (cond (nat_eq k j) (record { pid = who; kind = kind; generation = s.generation } ∷ []) []))
+  sat_down : (k who : ℕ) (kind : Kind) (s : Seating) → Sits (with_seat k (Some (child who kind)) s) → Sits s ⊎ IsPidOf pid (begun_pids (cond (nat_eq k j) (record { pid = who; kind = kind; generation = s.generation } ∷ []) []))
   sat_down k who kind s (c, is, its) = by (seat_set k j (Some (child who kind)) s.seats c is)
     where
       by : ((nat_eq k j ≡ false) × (seat_at j s.seats ≡ Some c)) ⊎ ((nat_eq k j ≡ true) × (Some (child who kind) ≡ Some c))
-          → Sits s ⊎ IsPidOf pid (pids_of (cond (nat_eq k j) (record { pid = who; kind = kind; generation = s.generation } ∷ []) []))
+          → Sits s ⊎ IsPidOf pid (begun_pids (cond (nat_eq k j) (record { pid = who; kind = kind; generation = s.generation } ∷ []) []))
       by (inl same) = inl (c, same.1, its)
       by (inr new) =
-          inr (subst (λ (b : Bool). IsPidOf pid (pids_of (cond b (record { pid = who; kind = kind; generation = s.generation } ∷ []) []))) (sym new.0)
+          inr (subst (λ (b : Bool). IsPidOf pid (begun_pids (cond b (record { pid = who; kind = kind; generation = s.generation } ∷ []) []))) (sym new.0)
           (inl (sym its ∙ ap (λ (o : Option Enrolled). pid_in o) (sym new.1))))
         where
           pid_in : Option Enrolled → ℕ
@@ -257,7 +224,7 @@ module _ (j pid : ℕ) where
       by (inl same) = (c, same.1, its)
       by (inr new) = absurd (let none : None ≡ Some c = new.1 in cc)
 
-  one_move : (s : Seating) (move : Move) → Sits (seating_by s move) → Sits s ⊎ IsPidOf pid (pids_of (begun_by j s move))
+  one_move : (s : Seating) (move : Move) → Sits (seating_by s move) → Sits s ⊎ IsPidOf pid (begun_pids (begun_by j s move))
   one_move s (Notes (entry.Started who kind) k) sits = sat_down k who kind s sits
   one_move s (Notes (entry.Accepted who decision) k) sits = sat_down k who (kind_for decision) s sits
   one_move s (Notes (entry.Exited who kind status was_active at) k) sits = inl (stood_up k s sits)
@@ -276,22 +243,22 @@ module _ (j pid : ℕ) where
   one_move s (PortEnds at) sits = inl sits
   one_move s (PidsEnd at) sits = inl sits
 
-  pub sat_or_began : (s : Seating) (moves : List Move) → Sits (seating_from s moves) → Sits s ⊎ IsPidOf pid (pids_of (begun_from j s moves))
+  pub sat_or_began : (s : Seating) (moves : List Move) → Sits (seating_from s moves) → Sits s ⊎ IsPidOf pid (begun_pids (begun_from j s moves))
   sat_or_began s [] sits = inl sits
   sat_or_began s (move ∷ moves) sits = by (sat_or_began (seating_by s move) moves sits)
     where
-      add : {A : Type 0} → A ⊎ IsPidOf pid (pids_of (begun_by j s move) ++ pids_of (begun_from j (seating_by s move) moves))
-          → A ⊎ IsPidOf pid (pids_of (begun_by j s move ++ begun_from j (seating_by s move) moves))
+      add : {A : Type 0} → A ⊎ IsPidOf pid (begun_pids (begun_by j s move) ++ begun_pids (begun_from j (seating_by s move) moves))
+          → A ⊎ IsPidOf pid (begun_pids (begun_by j s move ++ begun_from j (seating_by s move) moves))
       add (inl a) = inl a
       add (inr its) = inr (subst (IsPidOf pid) (sym (pids_of_append (begun_by j s move) (begun_from j (seating_by s move) moves))) its)
 
-      first : Sits s ⊎ IsPidOf pid (pids_of (begun_by j s move)) → Sits s ⊎ IsPidOf pid (pids_of (begun_by j s move) ++ pids_of (begun_from j (seating_by s move) moves))
+      first : Sits s ⊎ IsPidOf pid (begun_pids (begun_by j s move)) → Sits s ⊎ IsPidOf pid (begun_pids (begun_by j s move) ++ begun_pids (begun_from j (seating_by s move) moves))
       first (inl sat) = inl sat
-      first (inr its) = inr (pid_front pid (pids_of (begun_by j s move)) (pids_of (begun_from j (seating_by s move) moves)) its)
+      first (inr its) = inr (pid_either pid (begun_pids (begun_by j s move)) (begun_pids (begun_from j (seating_by s move) moves)) (inl its))
 
-      by : Sits (seating_by s move) ⊎ IsPidOf pid (pids_of (begun_from j (seating_by s move) moves)) → Sits s ⊎ IsPidOf pid (pids_of (begun_by j s move ++ begun_from j (seating_by s move) moves))
+      by : Sits (seating_by s move) ⊎ IsPidOf pid (begun_pids (begun_from j (seating_by s move) moves)) → Sits s ⊎ IsPidOf pid (begun_pids (begun_by j s move ++ begun_from j (seating_by s move) moves))
       by (inl sat) = add (first (one_move s move sat))
-      by (inr its) = add (inr (pid_behind pid (pids_of (begun_by j s move)) (pids_of (begun_from j (seating_by s move) moves)) its))
+      by (inr its) = add (inr (pid_either pid (begun_pids (begun_by j s move)) (begun_pids (begun_from j (seating_by s move) moves)) (inr its)))
 
 -- none of this pid sits in any slot
 pub nowhere : (pid : ℕ) (seats : List (Option Enrolled)) → ((j : ℕ) (c : Enrolled) → seat_at j seats ≡ Some c → c.pid ≡ pid → ⊥) → SitsNowhere pid seats
@@ -324,27 +291,23 @@ entry_quiet k s entry.TerminateSent harmless = sends_quiet Stoppable signal.Term
 entry_quiet k s (entry.KillSent at) harmless = sends_quiet Everyone signal.Kill s.generation 0 s.seats
 entry_quiet k s (entry.KillAsked who) harmless = sends_quiet (One who) signal.Kill s.generation 0 s.seats
 entry_quiet k s entry.CheckpointAsked harmless = sends_quiet Checkpointer signal.Checkpoint s.generation 0 s.seats
-entry_quiet k s (entry.Started who kind) harmless = (refl, tt)
-entry_quiet k s (entry.Accepted who decision) harmless = (refl, tt)
-entry_quiet k s (entry.Exited who kind status was_active at) harmless = (refl, tt)
 entry_quiet k s (entry.Asked mode at) harmless = tt
 entry_quiet k s (entry.RedoEnded generation kept) harmless = tt
-entry_quiet k s (entry.Ready generation) harmless = (refl, tt)
-entry_quiet k s (entry.Reset generation) harmless = (refl, tt)
 entry_quiet k s (entry.Said line) harmless = tt
 entry_quiet k s (entry.Ended how) harmless = tt
+entry_quiet k s _ harmless = (refl, tt)
 
 entries_quiet : (k : ℕ) (s : Seating) (es : List PmEvent) → AllByRecursion IsHarmless es → AreQuiet (flat_map (steps_of k s) es)
 entries_quiet k s [] harmless = tt
 entries_quiet k s (e ∷ es) harmless =
-    both (λ s. is_notice s ≡ false) (steps_of k s e) (flat_map (steps_of k s) es) (entry_quiet k s e harmless.0) (entries_quiet k s es harmless.1)
+    each_both (λ s. is_notice s ≡ false) (steps_of k s e) (flat_map (steps_of k s) es) (entry_quiet k s e harmless.0) (entries_quiet k s es harmless.1)
 
 pub quiet : (s : Seating) (moves : List Move) → AllByRecursion IsHarmless (entries_from s moves) → AreQuiet (steps_from s moves)
 quiet s [] harmless = tt
 quiet s (move ∷ moves) harmless =
-    both (λ s. is_notice s ≡ false) (steps_by s move) (steps_from (seating_by s move) moves)
-    (entries_quiet (slot_in move) s (entries_by s move) (front_all IsHarmless (entries_by s move) (entries_from (seating_by s move) moves) harmless))
-    (quiet (seating_by s move) moves (rest_all IsHarmless (entries_by s move) (entries_from (seating_by s move) moves) harmless))
+    each_both (λ s. is_notice s ≡ false) (steps_by s move) (steps_from (seating_by s move) moves)
+    (entries_quiet (slot_in move) s (entries_by s move) (each_first IsHarmless (entries_by s move) (entries_from (seating_by s move) moves) harmless))
+    (quiet (seating_by s move) moves (each_second IsHarmless (entries_by s move) (entries_from (seating_by s move) moves) harmless))
 
 head_of : RosterStep → List RosterStep → RosterStep
 head_of none [] = none

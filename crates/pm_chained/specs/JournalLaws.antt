@@ -11,22 +11,11 @@ use Rattle.pm_state.specs.declared.event.PmEvent.{PmEvent}
 use Rattle.pm_state.specs.declared.event.PmEvent.TheVariants as entry
 use Rattle.pm_seating.specs.Seating.{Begun, Ended, Kill, Move, Nothing, Notes, PidsEnd, PortEnds, Reads, Seating, Stop, begins, begun_by, begun_from, ended_at, ended_by, entries_by, entries_from, is_seated, seating_by}
 use Rattle.pm_supervisor.specs.Children.{is_dead_end}
+use Rattle.pm_crew.specs.EachLaws.{each_both, each_second}
 use Rattle.pm_crew.specs.PidsLaws.{differs}
 use Rattle.pm_chained.specs.OnceLaws.{AreSplit, never, split, without_one}
 
 module _ {X : Type 0} (P : X → Type 0) where
-  pub each_both : (xs ys : List X) → AllByRecursion P xs → AllByRecursion P ys → AllByRecursion P (xs ++ ys)
-  each_both [] ys one two = two
-  each_both (x ∷ xs) ys one two = (one.0, each_both xs ys one.1 two)
-
-  pub each_first : (xs ys : List X) → AllByRecursion P (xs ++ ys) → AllByRecursion P xs
-  each_first [] ys all = tt
-  each_first (x ∷ xs) ys all = (all.0, each_first xs ys all.1)
-
-  pub each_second : (xs ys : List X) → AllByRecursion P (xs ++ ys) → AllByRecursion P ys
-  each_second [] ys all = all
-  each_second (x ∷ xs) ys all = each_second xs ys all.1
-
   pub each_so : (Q : X → Type 0) → ((x : X) → P x → Q x) → (xs : List X) → AllByRecursion P xs → AllByRecursion Q xs
   each_so Q so [] all = tt
   each_so Q so (x ∷ xs) all = (so x all.0, each_so Q so xs all.1)
@@ -130,9 +119,7 @@ ends_here : (k : ℕ) (s : Seating) (move : Move) (rest : List PmEvent) → AllB
 ends_here k s (Notes (entry.RedoEnded generation kept) slot) rest =
     each_if (λ x. IsAmong x (redo_ends_of (entry.RedoEnded generation kept ∷ rest))) (slot == k) (record { number = kept; generation = generation } ∷ []) (inl (refl, refl), tt)
 ends_here k s (Notes _ slot) rest = tt
-ends_here k s (Reads line asks at) rest = tt
-ends_here k s (PortEnds at) rest = tt
-ends_here k s (PidsEnd at) rest = tt
+ends_here k s _ rest = tt
 
 -- those of each slot's children are among all
 pub ends_among : (k : ℕ) (s : Seating) (moves : List Move) → AllByRecursion (λ x. IsAmong x (redo_ends_of (entries_from s moves))) (redo_ends_at k moves)

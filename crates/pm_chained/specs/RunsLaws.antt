@@ -14,7 +14,8 @@ use Rattle.pm_seating.specs.Board.{begun_of}
 use Rattle.pm_worker.specs.declared.mail.MailTold.{MailTold}
 use Rattle.pm_worker.specs.Runs.{Run, noted_by}
 use Rattle.pm_chained.specs.BookLaws.{AttachedOnce, OfRedo, OfUser, redos_by}
-use Rattle.pm_chained.specs.JournalLaws.{MayUse, each_both, each_so}
+use Rattle.pm_crew.specs.EachLaws.{each_both}
+use Rattle.pm_chained.specs.JournalLaws.{MayUse, each_so}
 
 -- the facts of a run beside the chain: it may use the store, and its entries in the book are those that it noted
 pub record IsIn (users : List InGeneration) (book : List BookEntry) (run : Run) : Type 0 where

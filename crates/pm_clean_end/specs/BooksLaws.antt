@@ -8,13 +8,10 @@ use Rattle.pm_query.specs.declared.book.BookEntry.TheVariants.{Opened, Redone, A
 use Rattle.pm_query.specs.Book.{Base, IsLegal, KeepsNumber, MayFollow, MayGoOn, ends_checkpoint, ends_cleanly, fault_here, faults_here, generation_after, generation_of, history_of, is_closed, kept_after, kept_by_redo, present, present_after, times_after, times_attached}
 use Rattle.pm_chain.specs.Chain.{opened_of}
 use Rattle.pm_segment.specs.Unread.{is_break}
+use Rattle.pm_server.specs.Story.{IsNoOpening}
 use Rattle.pm_clean_end.specs.Among.{IsIn, in_back, in_either, in_front, of_all, to_any}
 
 -- ---- generations
-
-abbrev IsNoOpening : BookEntry → Type 0
-IsNoOpening (Opened generation) = ⊥
-IsNoOpening _ = Unit {0}
 
 abbrev NoOpenings : List BookEntry → Type 0
 NoOpenings entries = AllByRecursion IsNoOpening entries
@@ -206,15 +203,7 @@ all_push (x ∷ entries) entry all done = (all.0, all_push entries entry all.1 d
 none_ended : (entries : List BookEntry) → list_any ends_checkpoint entries ≡ false → AllByRecursion IsDone entries
 none_ended [] none = tt
 none_ended (CheckpointEnded pid done clean ∷ entries) none = absurd cc
-none_ended (Opened generation ∷ entries) none = (tt, none_ended entries none)
-none_ended (Attached pid generation ∷ entries) none = (tt, none_ended entries none)
-none_ended (Redone pid generation kept ∷ entries) none = (tt, none_ended entries none)
-none_ended (Answered pid script reply commit front tick ∷ entries) none = (tt, none_ended entries none)
-none_ended (Released pid front tick ∷ entries) none = (tt, none_ended entries none)
-none_ended (Detached pid ∷ entries) none = (tt, none_ended entries none)
-none_ended (Gone pid ∷ entries) none = (tt, none_ended entries none)
-none_ended (Broke pid since faults ∷ entries) none = (tt, none_ended entries none)
-none_ended (LogFull pid script need room ∷ entries) none = (tt, none_ended entries none)
+none_ended (_ ∷ entries) none = (tt, none_ended entries none)
 
 -- an entry that is no opening and no redo
 kept_done : (book : List BookEntry) (entry : BookEntry) → ((kept : Option ℕ) → kept_after kept entry ≡ kept) → present_after (present book) entry ≡ present book ++ entry ∷ []

@@ -1,7 +1,8 @@
 -- A server of many connections that ended clean leaves its files clean.
-use Rattle.std.proofs.Common.{◌≡◌, ◌≢◌, ◌⊎◌, inl, inr, ℕ, ◌+◌, ◌<◌, ◌≤◌, Bool, true, false, not, ◌&&◌, ◌||◌, cond, get_or, length, Option, None, Some, List, [], ◌∷◌, ◌++◌, refl, sym, ap, subst, ◌∙◌, arith, length-append}
+use Rattle.std.proofs.Common.{◌≡◌, ◌≢◌, ◌⊎◌, inl, inr, ℕ, ◌+◌, ◌<◌, ◌≤◌, Bool, true, false, not, ◌&&◌, cond, get_or, length, Option, None, Some, List, [], ◌∷◌, ◌++◌, refl, sym, ap, subst, ◌∙◌, arith, length-append}
 use Rattle.std.specs.Prelude.{◌==◌, All, IfSome, nat_eq, slice_get}
 use Rattle.std.specs.List.{AllByRecursion, list_any}
+use Rattle.std.proofs.lemmas.Bool.{or_cases}
 use Rattle.std.proofs.lemmas.Option.{slice_get-get_or}
 use Rattle.std.proofs.lemmas.List.Elements.{All-head, All-tail}
 use Rattle.pm_disk.specs.Files.{Files}
@@ -65,11 +66,7 @@ record IsCheckpointerStart (e : PmEvent) : Type 0 where
 
 is_that : (k : Kind) → is_checkpointer k ≡ true → k ≡ kinds.Checkpointer
 is_that kinds.Checkpointer is = refl
-is_that kinds.Startup is = absurd cc
-is_that kinds.Writer is = absurd cc
-is_that kinds.Worker is = absurd cc
-is_that kinds.Backend is = absurd cc
-is_that kinds.DeadEnd is = absurd cc
+is_that _ is = absurd cc
 
 starts_checkpointer : (e : PmEvent) → checks e ≡ true → IsCheckpointerStart e
 starts_checkpointer (entry.Started pid k) is = record { pid = pid; is = ap (entry.Started pid) (is_that k is) }
@@ -140,10 +137,6 @@ at_most opened resets (inl is) = (let same = ap (λ (l : List ℕ). length l) is
 at_most opened resets (inr (last, is)) = (let same = ap (λ (l : List ℕ). length l) is in omega (arith, same, length-append opened (last ∷ [])))
 
 -- ---- the law
-
-either : (a b : Bool) → a || b ≡ true → (a ≡ true) ⊎ (b ≡ true)
-either true b is = inl refl
-either false b is = inr is
 
 not_both : (a b : Bool) → not (a && b) ≡ true → b ≡ true → a ≡ true → ⊥
 not_both a b is one two = (let never : false ≡ true = grind (arith, is, one, two) in cc)
@@ -379,7 +372,7 @@ module _ (safely : RestartsSafely) (limits : Limits) (manner : Manner) (count : 
       let bad : is_bad run.child.offer.kind run.child.status ≡ true =
       of_all (May run.child.offer.generation (is_bad run.child.offer.kind run.child.status ≡ true)) broke run.noted (may_run manner.seed manner.limit manner.gives run right) by.noted in
       let other : run.child.offer.kind ≢ kinds.DeadEnd = bad_is_no_dead_end run.child.offer.kind run.child.status bad in
-      which by.slot run by.less by.there last other (either (is_harm run.child.offer.kind run.child.status) (is_startup_child run.child.offer.kind && not (is_exit_0 run.child.status)) bad)
+      which by.slot run by.less by.there last other (or_cases (is_harm run.child.offer.kind run.child.status) (is_startup_child run.child.offer.kind && not (is_exit_0 run.child.status)) bad)
     where
       which : (k : ℕ) (run : Run) → k < count → IsIn run (its.left.runs k) → run.child.offer.generation ≡ N → run.child.offer.kind ≢ kinds.DeadEnd
           → (is_harm run.child.offer.kind run.child.status ≡ true) ⊎ (is_startup_child run.child.offer.kind && not (is_exit_0 run.child.status) ≡ true) → ⊥

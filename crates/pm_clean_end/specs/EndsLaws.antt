@@ -13,6 +13,7 @@ use Rattle.pm_state.specs.declared.action.Action.TheVariants as act
 use Rattle.pm_state.specs.declared.event.PmEvent.{PmEvent}
 use Rattle.pm_state.specs.declared.event.PmEvent.TheVariants as entry
 use Rattle.pm_state.specs.Journal.{AreLegal, Do, Due, EndRedo, Fits, FitsFirst, Follows, FollowsIn, Replay, all_replayed, replayed}
+use Rattle.pm_server.specs.ReplayLaws.{legal_behind, legal_front, replayed_append}
 use Rattle.pm_chain.specs.Chain.{resets_of}
 use Rattle.pm_seating.specs.Seating.{Begun, begins}
 use Rattle.pm_clean_end.specs.Among.{IsIn, in_back, in_either, in_front}
@@ -293,14 +294,6 @@ none_counted (e ∷ journal) none = none_counted journal none.1
 none_behind : (r : Replay) (journal : List PmEvent) → NoResets journal → generation_behind r journal ≡ r.shown.generation
 none_behind r journal none = (let counted = generations_counted r journal in omega (arith, counted, none_counted journal none))
 
-replayed_append : (r : Replay) (xs ys : List PmEvent) → all_replayed r (xs ++ ys) ≡ all_replayed (all_replayed r xs) ys
-replayed_append r [] ys = refl
-replayed_append r (x ∷ xs) ys = replayed_append (replayed r x) xs ys
-
-legal_parts : (gives : ℕ → Bool) (r : Replay) (xs ys : List PmEvent) → AreLegal gives r (xs ++ ys) → AreLegal gives r xs × AreLegal gives (all_replayed r xs) ys
-legal_parts gives r [] ys legal = (tt, legal)
-legal_parts gives r (x ∷ xs) ys legal = (let rest = legal_parts gives (replayed r x) xs ys legal.1 in ((legal.0, rest.0), rest.1))
-
 names_all : (gives : ℕ → Bool) (r : Replay) (journal : List PmEvent) → AreLegal gives r journal → fold generation_after r.shown.generation journal ≡ generation_behind r journal
 names_all gives r [] legal = refl
 names_all gives r (e ∷ journal) legal = ap (λ (g : ℕ). fold generation_after g journal) (names gives r e legal.0) ∙ names_all gives (replayed r e) journal legal.1
@@ -323,9 +316,9 @@ pub began_in_last : (gives : ℕ → Bool) (r : Replay) (journal : List PmEvent)
     → IsIn (record { pid = pid; kind = k; generation = generation_behind r journal }) (begun_in r.shown.generation journal)
 began_in_last gives r journal pid k legal there =
     let place : IsLatest (entry.Started pid k) journal = latest_place (entry.Started pid k) journal there in
-    let parts = legal_parts gives r place.before (entry.Started pid k ∷ place.behind) (subst (AreLegal gives r) place.is legal) in
+    let front : AreLegal gives r place.before = legal_front gives r place.before (entry.Started pid k ∷ place.behind) (subst (AreLegal gives r) place.is legal) in
     let same : generation_behind r journal ≡ fold generation_after r.shown.generation place.before =
-    at_last r (entry.Started pid k) journal place tt ∙ sym (names_all gives r place.before parts.0) in
+    at_last r (entry.Started pid k) journal place tt ∙ sym (names_all gives r place.before front) in
     subst (λ (l : List PmEvent). IsIn (record { pid = pid; kind = k; generation = generation_behind r journal }) (begun_in r.shown.generation l)) (sym place.is)
     (subst (IsIn (record { pid = pid; kind = k; generation = generation_behind r journal })) (sym (begun_append r.shown.generation place.before (entry.Started pid k ∷ place.behind)))
     (in_back _ (begun_in r.shown.generation place.before) _ (inl (ap (λ (g : ℕ). record { pid = pid; kind = k; generation = g }) same))))
@@ -335,7 +328,7 @@ pub redo_in_last : (gives : ℕ → Bool) (r : Replay) (journal : List PmEvent) 
     → generation ≡ generation_behind r journal
 redo_in_last gives r journal generation kept legal there =
     let place : IsLatest (entry.RedoEnded generation kept) journal = latest_place (entry.RedoEnded generation kept) journal there in
-    let parts = legal_parts gives r place.before (entry.RedoEnded generation kept ∷ place.behind) (subst (AreLegal gives r) place.is legal) in
+    let on = legal_behind gives r place.before (entry.RedoEnded generation kept ∷ place.behind) (subst (AreLegal gives r) place.is legal) in
     let here : generation ≡ generation_behind r place.before =
-    follows_here gives (all_replayed r place.before) (all_replayed r place.before).due (entry.RedoEnded generation kept) parts.1.0 in
+    follows_here gives (all_replayed r place.before) (all_replayed r place.before).due (entry.RedoEnded generation kept) on.0 in
     here ∙ sym (at_last r (entry.RedoEnded generation kept) journal place tt)

@@ -1,5 +1,5 @@
 -- What a legal journal tells that ends clean.
-use Rattle.std.proofs.Common.{◌≡◌, ◌≢◌, ℕ, ◌+◌, Bool, true, false, not, ◌&&◌, ◌||◌, cond, fold, List, [], ◌∷◌, ◌++◌, refl, sym, ap, subst, ◌∙◌, arith, append_assoc}
+use Rattle.std.proofs.Common.{◌≡◌, ◌≢◌, ℕ, ◌+◌, Bool, true, false, not, ◌&&◌, ◌||◌, fold, List, [], ◌∷◌, ◌++◌, refl, ap, subst, ◌∙◌, arith}
 use Rattle.std.specs.List.{AllByRecursion, list_any}
 use Rattle.std.proofs.lemmas.List.Folds.{list_any-append}
 use Rattle.std.proofs.lemmas.List.Sums.{fold-append}
@@ -10,9 +10,7 @@ use Rattle.pm_modes.specs.Strength.{strengthen_of}
 use Rattle.pm_supervisor.specs.declared.Ending.TheVariants as ending
 use Rattle.pm_supervisor.specs.declared.Limits.{Limits}
 use Rattle.pm_supervisor.specs.Children.{Child, count_of, is_checkpointer, is_dead_end, is_session, is_startup_child, is_writer, one_if}
-use Rattle.pm_supervisor.specs.Supervisor.{Shared}
 use Rattle.pm_state.specs.declared.action.Action.{Action}
-use Rattle.pm_state.specs.declared.action.Action.TheVariants as act
 use Rattle.pm_state.specs.declared.event.PmEvent.{PmEvent}
 use Rattle.pm_state.specs.declared.event.PmEvent.TheVariants as entry
 use Rattle.pm_state.specs.declared.machine.Machine.{Machine}
@@ -21,7 +19,8 @@ use Rattle.pm_state.specs.Machine.{Exited, step}
 use Rattle.pm_state.specs.Promises.{has_act}
 use Rattle.pm_state.specs.Requests.{asked_with}
 use Rattle.pm_state.specs.Restarts.{Counts}
-use Rattle.pm_state.specs.Journal.{AreLegal, Do, Due, EndRedo, Fits, FitsFirst, FollowsIn, IsLegal, MayCome, Replay, all_replayed, caused, dues, dues_after, replay_begun, replayed, reported, row_of, without_first}
+use Rattle.pm_state.specs.Journal.{AreLegal, Follows, IsLegal, MayCome, Replay, all_replayed, caused, dues_after, replay_begun, replayed, reported}
+use Rattle.pm_server.specs.ReplayLaws.{AreCounted, Keeps, acts_behind_redo, acts_in, acts_in_dues, are_counted, first_on, follows_on, rested}
 use Rattle.pm_clean_end.specs.Latest.{latest, latest_after}
 use Rattle.pm_clean_end.specs.Seen.{Seen, checks, harms, is_clean_end, redoes, seen_after, undoes}
 use Rattle.pm_clean_end.specs.MachineLaws.{IsInOrder, accepted_so, act_so, asked_so, begun_so, exited_so, has_nobody, is_clean_act, is_deserted, row_so, settled_so, ticked_so}
@@ -33,79 +32,46 @@ IsMild _ = Unit {0}
 
 -- ---- an entry more
 
--- what is due, without the end of redo
-abbrev acts_in : List Due → List Action
-acts_in [] = []
-acts_in (Do a ∷ ds) = a ∷ acts_in ds
-acts_in (EndRedo ∷ ds) = acts_in ds
-
-acts_in_dues : (acts : List Action) → acts_in (dues acts) ≡ acts
-acts_in_dues [] = refl
-acts_in_dues (a ∷ acts) = ap (λ (others : List Action). a ∷ others) (acts_in_dues acts)
-
-acts_behind_redo : (b : Bool) (acts : List Action) → acts_in (cond b (EndRedo ∷ []) [] ++ dues acts) ≡ acts
-acts_behind_redo true acts = acts_in_dues acts
-acts_behind_redo false acts = acts_in_dues acts
-
--- the entry of an act that a row begins with is caused by the row
-row_entry : (s : Shared) (a : Action) (e : PmEvent) (m : Machine) → Fits s (Do a) e → (caused m e ≡ row_of m) × (dues_after m e ≡ dues (without_first (row_of m).acts))
-row_entry s (act.Start k) (entry.Started pid given) m fits = (refl, refl)
-row_entry s (act.Quit why) (entry.QuitSent reason) m fits = (refl, refl)
-row_entry s act.Terminate entry.TerminateSent m fits = (refl, refl)
-row_entry s act.AskCheckpoint entry.CheckpointAsked m fits = (refl, refl)
-row_entry s act.Ready (entry.Ready generation) m fits = (refl, refl)
-row_entry s act.Reset (entry.Reset generation) m fits = (refl, refl)
-row_entry s (act.Say line) (entry.Said written) m fits = (refl, refl)
-row_entry s (act.End how) (entry.Ended given) m fits = (refl, refl)
-row_entry s a e m fits = absurd fits
-
 abbrev InOrder : Seen → Replay → Type 0
 InOrder s r = IsInOrder s (acts_in r.due) r.machine
 
-at_rest : (s : Seen) (r : Replay) → r.due ≡ [] → InOrder s r → IsInOrder s [] r.machine
-at_rest s r none so = subst (λ (ds : List Due). IsInOrder s (acts_in ds) r.machine) none so
+-- of an entry itself nothing is said
+abbrev IsAny : PmEvent → Type 0
+IsAny e = Unit {0}
+
+keeps_order : Keeps Seen seen_after IsInOrder IsAny
+keeps_order = record {
+  acted = λ s shown a acts e m fits so. (tt, act_so s shown a acts e m fits so);
+  redo = λ s generation kept acts m so. (tt, so);
+  row = row_so;
+  settled = settled_so;
+}
 
 -- where nothing was due
-rested : (s : Seen) (r : Replay) (e : PmEvent) (acts : List Action) → r.due ≡ [] → acts_in (dues_after r.machine e) ≡ acts
+order_rested : (s : Seen) (r : Replay) (e : PmEvent) (acts : List Action) → r.due ≡ [] → acts_in (dues_after r.machine e) ≡ acts
     → IsInOrder s acts (reported e (caused r.machine e).after) → InOrder s (replayed r e)
-rested s r e acts none is so = rw (none, is) (settled_so s acts (reported e (caused r.machine e).after) so)
-
-first_on : (s : Seen) (r : Replay) (e : PmEvent) (acts : List Action) → r.due ≡ [] → r.machine.ended ≡ false → (row_of r.machine).acts ≡ acts → FitsFirst r.shown acts e
-    → IsInOrder s [] r.machine → InOrder (seen_after s e) (replayed r e)
-first_on s r e [] none on is fits so = absurd fits
-first_on s r e (a ∷ rest) none on is fits so =
-    let begun : IsInOrder s (a ∷ rest) (row_of r.machine).after = subst (λ (acts : List Action). IsInOrder s acts (row_of r.machine).after) is (row_so s r.machine on so) in
-    let cause = row_entry r.shown a e r.machine fits in
-    let done : IsInOrder (seen_after s e) rest (reported e (row_of r.machine).after) = act_so s r.shown a rest e (row_of r.machine).after fits begun in
-    rested (seen_after s e) r e rest none (ap acts_in (cause.1 ∙ ap (λ (acts : List Action). dues (without_first acts)) is) ∙ acts_in_dues rest)
-    (subst (λ (o : _). IsInOrder (seen_after s e) rest (reported e o.after)) (sym cause.0) done)
+order_rested s r e acts none is so = rested Seen seen_after IsInOrder IsAny keeps_order s r e acts none is so
 
 come_on : (gives : ℕ → Bool) (s : Seen) (r : Replay) (e : PmEvent) → r.due ≡ [] → r.machine.ended ≡ false → Counts r.machine r.shown.children → MayCome gives r e → IsMild e
     → IsInOrder s [] r.machine → InOrder (seen_after s e) (replayed r e)
 come_on gives s r (entry.Accepted pid decision) none on counts may mild so =
-    rested s r (entry.Accepted pid decision) [] none refl
+    order_rested s r (entry.Accepted pid decision) [] none refl
     (accepted_so s r.machine may.0 so)
 come_on gives s r (entry.Exited pid k status was_active at) none on counts may mild so =
-    rested (seen_after s (entry.Exited pid k status was_active at)) r (entry.Exited pid k status was_active at) (step r.machine (Exited pid k status was_active at)).acts none
+    order_rested (seen_after s (entry.Exited pid k status was_active at)) r (entry.Exited pid k status was_active at) (step r.machine (Exited pid k status was_active at)).acts none
     (acts_behind_redo _ (step r.machine (Exited pid k status was_active at)).acts)
     (exited_so k s r.machine r.shown.children pid status at was_active on counts may.0 so)
 come_on gives s r (entry.Asked given at) none on counts may mild so =
-    rested s r (entry.Asked given at) (asked_with (strengthen_of r.machine.shutdown given) r.machine at).acts none (acts_in_dues _)
+    order_rested s r (entry.Asked given at) (asked_with (strengthen_of r.machine.shutdown given) r.machine at).acts none (acts_in_dues _)
     (asked_so s given at r.machine mild on so)
-come_on gives s r (entry.KillAsked pid) none on counts may mild so = rested s r (entry.KillAsked pid) [] none refl so
-come_on gives s r (entry.KillSent at) none on counts may mild so = rested s r (entry.KillSent at) [] none refl (ticked_so s at r.machine on so)
-come_on gives s r e none on counts may mild so = first_on s r e (row_of r.machine).acts none on refl may so
+come_on gives s r (entry.KillAsked pid) none on counts may mild so = order_rested s r (entry.KillAsked pid) [] none refl so
+come_on gives s r (entry.KillSent at) none on counts may mild so = order_rested s r (entry.KillSent at) [] none refl (ticked_so s at r.machine on so)
+come_on gives s r e none on counts may mild so = (first_on Seen seen_after IsInOrder IsAny keeps_order s r e none on may so).1
 
--- an act that is due is done
-due_on : (s : Seen) (r : Replay) (d : Due) (ds : List Due) (e : PmEvent) → r.due ≡ d ∷ ds → Fits r.shown d e → IsInOrder s (acts_in (d ∷ ds)) r.machine → InOrder (seen_after s e) (replayed r e)
-due_on s r (Do a) ds e is fits so = rw is (settled_so (seen_after s e) (acts_in ds) (reported e r.machine) (act_so s r.shown a (acts_in ds) e r.machine fits so))
-due_on s r EndRedo ds (entry.RedoEnded generation kept) is fits so = rw is (settled_so s (acts_in ds) r.machine so)
-due_on s r d ds e is fits so = absurd fits
-
-follows_on : (gives : ℕ → Bool) (s : Seen) (r : Replay) (e : PmEvent) (ds : List Due) → r.due ≡ ds → FollowsIn ds gives r e → Counts r.machine r.shown.children → IsMild e → InOrder s r
+entry_on : (gives : ℕ → Bool) (s : Seen) (r : Replay) (e : PmEvent) → Follows gives r e → Counts r.machine r.shown.children → IsMild e → InOrder s r
     → InOrder (seen_after s e) (replayed r e)
-follows_on gives s r e [] is may counts mild so = come_on gives s r e is may.0 counts may.2 mild (at_rest s r is so)
-follows_on gives s r e (d ∷ ds) is fits counts mild so = due_on s r d ds e is fits (subst (λ (due : List Due). IsInOrder s (acts_in due) r.machine) is so)
+entry_on gives s r e may counts mild so =
+    (follows_on Seen seen_after IsInOrder IsAny keeps_order gives s r e r.due refl may (λ none free rests. (tt, come_on gives s r e none free.0 counts free.2 mild rests)) so).1
 
 -- ---- what was seen, by the entries of the last generation
 
@@ -139,35 +105,13 @@ clean_after clean e = is_clean_end e || clean
 
 -- ---- whole journals
 
-legal_front : (gives : ℕ → Bool) (r : Replay) (xs ys : List PmEvent) → AreLegal gives r (xs ++ ys) → AreLegal gives r xs
-legal_front gives r [] ys legal = tt
-legal_front gives r (x ∷ xs) ys legal = (legal.0, legal_front gives (replayed r x) xs ys legal.1)
-
-replayed_one : (r : Replay) (xs : List PmEvent) (e : PmEvent) → all_replayed r (xs ++ e ∷ []) ≡ replayed (all_replayed r xs) e
-replayed_one r [] e = refl
-replayed_one r (x ∷ xs) e = replayed_one (replayed r x) xs e
-
--- the machine counts the children, at each entry
-abbrev AreCounted : Replay → List PmEvent → Type 0
-AreCounted r [] = Unit {0}
-AreCounted r (e ∷ journal) = Counts r.machine r.shown.children × AreCounted (replayed r e) journal
-
-are_counted : RestartsSafely → (limits : Limits) (gives : ℕ → Bool) (before journal : List PmEvent) → IsLegal limits gives (before ++ journal)
-    → AreCounted (all_replayed (replay_begun limits) before) journal
-are_counted safely limits gives before [] legal = tt
-are_counted safely limits gives before (e ∷ journal) legal = (
-  safely.counts limits gives before (legal_front gives (replay_begun limits) before (e ∷ journal) legal),
-  subst (λ (r : Replay). AreCounted r journal) (replayed_one (replay_begun limits) before e)
-      (are_counted safely limits gives (before ++ e ∷ []) journal (subst (IsLegal limits gives) (sym (append_assoc before (e ∷ []) journal)) legal)),
-)
-
 so_on : (gives : ℕ → Bool) (r : Replay) (entries : List PmEvent) (clean : Bool) (journal : List PmEvent) → AreLegal gives r journal → AreCounted r journal → AllByRecursion IsMild journal
     → InOrder (seen_by entries clean) r → InOrder (seen_by (fold latest_after entries journal) (fold clean_after clean journal)) (all_replayed r journal)
 so_on gives r entries clean [] legal counted mild so = so
 so_on gives r entries clean (e ∷ journal) legal counted mild so =
     so_on gives (replayed r e) (latest_after entries e) (clean_after clean e) journal legal.1 counted.1 mild.1
     (subst (λ (s : Seen). InOrder s (replayed r e)) (seen_next entries clean e)
-    (follows_on gives (seen_by entries clean) r e r.due refl legal.0 counted.0 mild.0 so))
+    (entry_on gives (seen_by entries clean) r e legal.0 counted.0 mild.0 so))
 
 -- ---- behind a clean end
 

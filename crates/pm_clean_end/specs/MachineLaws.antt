@@ -1,6 +1,6 @@
 -- What the machine keeps on the way to a clean end.
-use Rattle.std.proofs.Common.{◌≡◌, ◌≢◌, ℕ, ◌+◌, ◌<◌, ◌≤◌, Bool, true, false, not, ◌&&◌, ◌||◌, List, [], ◌∷◌, refl, sym, ap, subst, ◌∙◌, arith}
-use Rattle.std.specs.Prelude.{◌==◌, cond, if◌then◌else◌, nat_eq, IsSomeAnd, Some}
+use Rattle.std.proofs.Common.{◌≡◌, ◌≢◌, ℕ, ◌<◌, Bool, true, false, not, ◌&&◌, ◌||◌, List, [], ◌∷◌, refl, sym, subst, arith}
+use Rattle.std.specs.Prelude.{◌==◌, if◌then◌else◌, IsSomeAnd}
 use Rattle.pm_exit.specs.declared.child.Kind.{Kind}
 use Rattle.pm_exit.specs.declared.child.Kind.TheVariants as kind
 use Rattle.pm_exit.specs.declared.child.Status.{Status}
@@ -15,7 +15,7 @@ use Rattle.pm_admit.specs.Admission.{decide_of, is_startup}
 use Rattle.pm_supervisor.specs.declared.Ending.{Ending}
 use Rattle.pm_supervisor.specs.declared.Ending.TheVariants as ending
 use Rattle.pm_supervisor.specs.declared.Limits.{Limits}
-use Rattle.pm_supervisor.specs.Children.{Child, child_of, count_of, is_checkpointer, is_dead_end, is_session, is_startup_child, is_writer, one_if}
+use Rattle.pm_supervisor.specs.Children.{Child, child_of, count_of, is_checkpointer, is_dead_end, is_session, is_startup_child, is_writer}
 use Rattle.pm_supervisor.specs.Supervisor.{Shared}
 use Rattle.pm_state.specs.declared.action.Action.{Action}
 use Rattle.pm_state.specs.declared.action.Action.TheVariants as act
@@ -29,6 +29,8 @@ use Rattle.pm_state.specs.Promises.{has_act}
 use Rattle.pm_state.specs.Requests.{asked_with, ticked_at}
 use Rattle.pm_state.specs.TurnRules.{backends_gone, children_gone, dead_ends_gone, end_smart, is_not_running, restart_writer, start_recovery, stop_backends}
 use Rattle.pm_state.specs.Journal.{Do, Fits, reported, row_of, settled}
+use Rattle.pm_server.specs.CalmLaws.{is_late}
+use Rattle.pm_server.specs.ReplayLaws.{startup_there, there_counts, was_there}
 use Rattle.pm_clean_end.specs.Seen.{Seen, nothing_seen, seen_after}
 
 -- ---- what is due
@@ -61,12 +63,6 @@ abbrev pub is_deserted : PmState → Bool
 is_deserted state.Init = true
 is_deserted state.NoChildren = true
 is_deserted _ = false
-
--- the last checkpoint was made, or a crash left none to make
-abbrev pub is_late : PmState → Bool
-is_late state.WaitDeadEnd = true
-is_late state.NoChildren = true
-is_late _ = false
 
 abbrev pub is_begin : PmState → Bool
 is_begin state.Init = true
@@ -153,22 +149,7 @@ accepted_so s m may so = record {
 pub asked_so : (s : Seen) (given : Mode) (at : ℕ) (m : Machine) → given ≢ mode.Immediate → m.ended ≡ false → IsInOrder s [] m
     → IsInOrder s (asked_with (strengthen_of m.shutdown given) m at).acts (asked_with (strengthen_of m.shutdown given) m at).after
 asked_so s mode.Immediate at m other on so = absurd (other refl)
-asked_so s mode.Smart at m other on so = record {
-  not_immediate = grind (arith, so.not_immediate);
-  fatal = grind (arith, so.fatal);
-  rests = grind (arith, so.rests);
-  once = so.once;
-  alone = grind (arith, so.alone);
-  fresh = grind (arith, so.fresh);
-  deserted = grind (arith, so.deserted);
-  starts = grind arith;
-  runs = grind (arith, so.runs);
-  resets = grind arith;
-  checks = grind (arith, so.checks);
-  late = grind (arith, so.late);
-  over = grind (arith, so.over, on);
-}
-asked_so s mode.Fast at m other on so = record {
+asked_so s given at m other on so = record {
   not_immediate = grind (arith, so.not_immediate);
   fatal = grind (arith, so.fatal);
   rests = grind (arith, so.rests);
@@ -253,39 +234,24 @@ started_so kind.Startup s pid acts m so = record {
   late = so.late;
   over = so.over;
 }
-started_so kind.Checkpointer s pid acts m so = record {
-  not_immediate = so.not_immediate;
-  fatal = so.fatal;
-  rests = so.rests;
-  once = so.once;
-  alone = grind (arith, so.starts, so.runs);
-  fresh = so.fresh;
-  deserted = grind (arith, so.starts);
-  starts = grind (arith, so.starts);
-  runs = so.runs;
-  resets = so.resets;
-  checks = grind arith;
-  late = grind (arith, so.late);
-  over = grind (arith, so.over, so.starts, so.runs);
-}
-started_so kind.Writer s pid acts m so = record {
-  not_immediate = so.not_immediate;
-  fatal = so.fatal;
-  rests = so.rests;
-  once = so.once;
-  alone = grind (arith, so.starts, so.runs);
-  fresh = so.fresh;
-  deserted = grind (arith, so.starts);
-  starts = grind (arith, so.starts);
-  runs = so.runs;
-  resets = so.resets;
-  checks = so.checks;
-  late = so.late;
-  over = grind (arith, so.over, so.starts, so.runs);
-}
 started_so kind.Worker s pid acts m so = less_so s (act.Start kind.Worker) acts m refl so
 started_so kind.Backend s pid acts m so = less_so s (act.Start kind.Backend) acts m refl so
 started_so kind.DeadEnd s pid acts m so = less_so s (act.Start kind.DeadEnd) acts m refl so
+started_so k s pid acts m so = record {
+  not_immediate = so.not_immediate;
+  fatal = so.fatal;
+  rests = so.rests;
+  once = so.once;
+  alone = grind (arith, so.starts, so.runs);
+  fresh = so.fresh;
+  deserted = grind (arith, so.starts);
+  starts = grind (arith, so.starts);
+  runs = so.runs;
+  resets = so.resets;
+  checks = grind (arith, so.checks);
+  late = grind (arith, so.late);
+  over = grind (arith, so.over, so.starts, so.runs);
+}
 
 ended_so : (how : Ending) (s : Seen) (acts : List Action) (m : Machine) → IsInOrder s (act.End how ∷ acts) m → IsInOrder (seen_after s (entry.Ended how)) acts m
 ended_so ending.Clean s acts m so = record {
@@ -478,26 +444,6 @@ dead_end_so : (s : Seen) (m : Machine) (pid : ℕ) (status : Status) (now : ℕ)
 dead_end_so s m pid status now was_active on there so =
     refused_so ((is_exit_0 status || is_exit_1 status) && not was_active) s (less_one kind.DeadEnd m) (record { pid = pid; kind = kind.DeadEnd; status = status; now = now }) on
     (less_dead_end_so s m there so)
-
--- ---- who is there
-
-there_counts : (test : Kind → Bool) (pid : ℕ) (k : Kind) (cs : List Child) → IsSomeAnd (child_of pid cs) (λ c. c.kind ≡ k) → test k ≡ true → 1 ≤ count_of test cs
-there_counts test pid k [] there is = absurd there
-there_counts test pid k (c ∷ cs) there is =
-    elim (nat_eq c.pid pid) as
-    (λ v. IsSomeAnd (cond v (Some c) (child_of pid cs)) (λ x. x.kind ≡ k) → 1 ≤ one_if (test c.kind) + count_of test cs) [
-      | true ↦ λ found. omega (arith, ap one_if (ap test found ∙ is))
-      | false ↦ λ later. omega (arith, there_counts test pid k cs later is)
-    ]
-    there
-
-was_there : (n : ℕ) (b : Bool) → 1 ≤ n → n ≡ one_if b → b ≡ true
-was_there n true one is = refl
-was_there n false one is = absurd (omega (arith, one, is))
-
-startup_there : (n : ℕ) (a b : Bool) → 1 ≤ n → n ≡ one_if (not a && not b) → a ≡ false
-startup_there n true b one is = absurd (omega (arith, one, is))
-startup_there n false b one is = refl
 
 -- a child that is there ends
 pub exited_so : (k : Kind) (s : Seen) (m : Machine) (cs : List Child) (pid : ℕ) (status : Status) (now : ℕ) (was_active : Bool) → m.ended ≡ false → Counts m cs

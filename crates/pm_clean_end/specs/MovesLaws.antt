@@ -15,6 +15,7 @@ use Rattle.pm_board.specs.declared.views.SlotView.{SlotView}
 use Rattle.pm_board.specs.Places.{slot_at}
 use Rattle.pm_chain.specs.Chain.{AreDistinct, InGeneration, IsPidOf}
 use Rattle.pm_seating.specs.Board.{begun_of, ended_of}
+use Rattle.pm_seating.specs.Mails.{kept_told}
 use Rattle.pm_seating.specs.Calls.{kept_by}
 use Rattle.pm_seating.specs.Seating.{Begun, Ended, Kill, Move, Nothing, Notes, PidsEnd, PortEnds, Reads, Request, Seating, Stop, asked_by, begins, begun_at, begun_by, begun_from, empty, ended_at, ended_by, entries_by, entries_from, is_seated, journal_of, seating_by}
 use Rattle.pm_seating.specs.Standing.{IsBoardOf}
@@ -24,7 +25,7 @@ use Rattle.pm_worker.specs.declared.mail.MailTold.{MailTold}
 use Rattle.pm_worker.specs.Runs.{IsRun, Run}
 use Rattle.pm_crew.specs.Left.{AreLeft, IsWorked, Manner}
 use Rattle.pm_crew.specs.Pids.{AreUsedOnce, pids_at}
-use Rattle.pm_crew.specs.Redos.{AreRedosOf, RedosAreThose, kept_in, redo_ends_at, redo_ends_by, redo_told, told_if}
+use Rattle.pm_crew.specs.Redos.{AreRedosOf, RedosAreThose, redo_ends_at, redo_ends_by, redo_told, told_if}
 use Rattle.pm_clean_end.specs.Among.{IsGiven, IsImage, IsIn, from_flat_map, from_map, in_back, in_either, in_flat_map, in_front, in_map, of_all}
 use Rattle.pm_clean_end.specs.EndsLaws.{begun_append, begun_in, generation_after}
 
@@ -315,8 +316,8 @@ module _ (manner : Manner) (count : ℕ) (moves : List Move) (d : RosterView Mai
       (in_front y (flat_map redo_told its_redos.front) (flat_map redo_told its_redos.others) (subst (IsIn y) (sym its_redos.redos) (redo_at generation kept move.slot moves move.there))) in
       let given : IsGiven redo_told y (slot_at d move.slot).past = from_flat_map redo_told y (slot_at d move.slot).past told in
       let its : RunOf given.by = run_of move.slot given.by given.there in
-      let so = told_by given.by.offer.generation (kept_by given.by.offer.kind given.by.status (kept_in given.by.back)) y given.gives in
-      let ends = kept_so (is_startup_child given.by.offer.kind) (is_exit_0 given.by.status) (kept_in given.by.back) so.1.0 so.1.1 in
+      let so = told_by given.by.offer.generation (kept_by given.by.offer.kind given.by.status (kept_told given.by.back)) y given.gives in
+      let ends = kept_so (is_startup_child given.by.offer.kind) (is_exit_0 given.by.status) (kept_told given.by.back) so.1.0 so.1.1 in
       record {
         slot = its.slot;
         less = its.less;

@@ -131,17 +131,7 @@ module _ (generation : ℕ) (bad : Type 0) where
   of_leaves user (why.ToldToQuit reason) left is = none left is
   of_leaves user why.Killed left is = none left is
   of_leaves user why.Overtaken left is = none left is
-  of_leaves user why.Terminated left is = of_leave user left is
-  of_leaves user why.Cancelling left is = of_leave user left is
-  of_leaves user why.LinkEnded left is = of_leave user left is
-  of_leaves user why.LinkFailed left is = of_leave user left is
-  of_leaves user why.TimedOut left is = of_leave user left is
-  of_leaves user (why.PacketRefused fault) left is = of_leave user left is
-  of_leaves user (why.MessageRefused fault) left is = of_leave user left is
-  of_leaves user why.DecisionRefused left is = of_leave user left is
-  of_leaves user (why.GateRefused refusal) left is = of_leave user left is
-  of_leaves user why.ShortOfMemory left is = of_leave user left is
-  of_leaves user why.ToldToTerminate left is = of_leave user left is
+  of_leaves user _ left is = of_leave user left is
 
   -- what the gate let it into is this generation
   abbrev LetIn : ℕ → Told → Type 0
@@ -446,12 +436,9 @@ module _ (seed : List ℕ) (limit : ℕ) (gives : ℕ → Type 0) where
 
   -- no child of a connection is a startup child or a checkpointer
   apart : (kind : Kind) → is_connection kind ≡ true → is_startup_child kind || is_checkpointer kind ≡ false
-  apart kinds.Startup is = absurd cc
-  apart kinds.Checkpointer is = absurd cc
-  apart kinds.Writer is = absurd cc
-  apart kinds.Worker is = absurd cc
   apart kinds.Backend is = refl
   apart kinds.DeadEnd is = refl
+  apart _ is = absurd cc
 
   no_startup : (kind : Kind) → is_startup_child kind || is_checkpointer kind ≡ false → is_startup_child kind ≡ true → ⊥
   no_startup kind neither is = grind (arith, neither, is)

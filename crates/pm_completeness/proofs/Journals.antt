@@ -1,7 +1,8 @@
 -- A whole journal: no child crashes, but for one that left its work undone.
-use Rattle.std.proofs.Common.{◌≡◌, ◌⊎◌, inl, inr, ℕ, ◌+◌, ◌≤◌, Bool, true, false, not, cond, ◌&&◌, ◌||◌, List, [], ◌∷◌, ◌++◌, Option, Some, None, refl, sym, ◌∙◌, ap, subst, arith, append_assoc}
-use Rattle.std.specs.Prelude.{IsSomeAnd, All, fold, is_some, nat_eq}
+use Rattle.std.proofs.Common.{◌≡◌, ◌⊎◌, inl, inr, ℕ, ◌+◌, Bool, true, false, not, ◌&&◌, ◌||◌, List, [], ◌∷◌, ◌++◌, Option, Some, None, refl, sym, ◌∙◌, ap, subst, arith}
+use Rattle.std.specs.Prelude.{IsSomeAnd, All, fold, is_some}
 use Rattle.std.specs.List.{AllByRecursion}
+use Rattle.std.proofs.lemmas.Bool.{both_ways, or_cases}
 use Rattle.std.proofs.lemmas.Grind.{flat_map-append}
 use Rattle.std.proofs.lemmas.List.Elements.{All-head, All-tail}
 use Rattle.pm_exit.specs.declared.child.Kind.{Kind}
@@ -10,7 +11,7 @@ use Rattle.pm_exit.specs.declared.child.Status.{Status}
 use Rattle.pm_exit.specs.Ends.{is_exit_0, is_exit_1}
 use Rattle.pm_modes.specs.declared.Mode.{Mode}
 use Rattle.pm_modes.specs.declared.Mode.TheVariants.{Smart}
-use Rattle.pm_supervisor.specs.Children.{Child, child_of, count_of, is_checkpointer, is_session, is_startup_child, is_writer, one_if}
+use Rattle.pm_supervisor.specs.Children.{child_of, count_of, is_checkpointer, is_session, is_startup_child, is_writer}
 use Rattle.pm_supervisor.specs.declared.Limits.{Limits}
 use Rattle.pm_supervisor.specs.declared.Ending.TheVariants as endings
 use Rattle.pm_state.specs.declared.action.Action.{Action}
@@ -21,54 +22,18 @@ use Rattle.pm_state.specs.Laws.{RestartsSafely}
 use Rattle.pm_state.specs.Restarts.{Counts}
 use Rattle.pm_state.specs.Machine.{Exited, begun, step}
 use Rattle.pm_state.specs.TurnRules.{is_not_running}
-use Rattle.pm_state.specs.Journal.{AreLegal, Due, FollowsIn, IsLegal, Replay, all_replayed, replay_begun, replayed}
+use Rattle.pm_state.specs.Journal.{AreLegal, Due, IsLegal, Replay, replay_begun, replayed}
 use Rattle.pm_chain.specs.Steps.{AreSteps, AreStepsBehind, ChildRun, Notes, Renews, Runs, RunsOn, StandsByItself, Step, journal_by, journal_of, redo_end}
 use Rattle.pm_journal.specs.Stands.{any_moment}
+use Rattle.pm_server.specs.CalmLaws as machine
 use Rattle.pm_server.specs.Journal.{asked_in}
+use Rattle.pm_server.specs.ReplayLaws.{AreCounted, acts_behind_redo, acts_in, are_counted, ends_in, rested, startup_there, there_counts, was_there}
 use Rattle.pm_duties.specs.AuxiliaryRuns.{AreToldBehind, Heard, IsRunAs, heard_after, nothing_heard}
 use Rattle.pm_completeness.specs.Crashes.{AreOrderly, AreOrderlySoFar, CompletesItsRuns, IsBehindUndone, is_undone}
 use Rattle.pm_duties.specs.Calm.{EndThemselves, EndsItself, IsFineExit}
 use Rattle.pm_acts.specs.Steps.{EndsWith}
-use Rattle.pm_completeness.proofs.Replaying.{IsPlain, acts_behind_redo, acts_in, entry_on, goes_on_at, rested, rests_at}
+use Rattle.pm_completeness.proofs.Replaying.{IsPlain, entry_on}
 use Rattle.pm_completeness.proofs.Crashing.{EndsCalm, IsCalmSo, IsLost, IsAlwaysOrderly, checkpointer_calm, checkpointer_lost, keeps_calm, keeps_lost, nobody_left, session_calm, startup_calm, startup_lost, writer_calm}
-
--- ---- who is there
-
-there_counts : (test : Kind → Bool) (pid : ℕ) (k : Kind) (cs : List Child) → IsSomeAnd (child_of pid cs) (λ c. c.kind ≡ k) → test k ≡ true → 1 ≤ count_of test cs
-there_counts test pid k [] there is = absurd there
-there_counts test pid k (c ∷ cs) there is =
-    elim (nat_eq c.pid pid) as
-    (λ v. IsSomeAnd (cond v (Some c) (child_of pid cs)) (λ x. x.kind ≡ k) → 1 ≤ one_if (test c.kind) + count_of test cs) [
-      | true ↦ λ found. omega (arith, ap one_if (ap test found ∙ is))
-      | false ↦ λ later. omega (arith, there_counts test pid k cs later is)
-    ]
-    there
-
-was_there : (n : ℕ) (b : Bool) → 1 ≤ n → n ≡ one_if b → b ≡ true
-was_there n true one is = refl
-was_there n false one is = absurd (omega (arith, one, is))
-
--- the machine counts the children, at each entry
-abbrev AreCounted : Replay → List PmEvent → Type 0
-AreCounted r [] = Unit {0}
-AreCounted r (e ∷ journal) = Counts r.machine r.shown.children × AreCounted (replayed r e) journal
-
-legal_front : (gives : ℕ → Bool) (r : Replay) (xs ys : List PmEvent) → AreLegal gives r (xs ++ ys) → AreLegal gives r xs
-legal_front gives r [] ys legal = tt
-legal_front gives r (x ∷ xs) ys legal = (legal.0, legal_front gives (replayed r x) xs ys legal.1)
-
-replayed_one : (r : Replay) (xs : List PmEvent) (e : PmEvent) → all_replayed r (xs ++ e ∷ []) ≡ replayed (all_replayed r xs) e
-replayed_one r [] e = refl
-replayed_one r (x ∷ xs) e = replayed_one (replayed r x) xs e
-
-are_counted : RestartsSafely → (limits : Limits) (gives : ℕ → Bool) (before journal : List PmEvent) → IsLegal limits gives (before ++ journal)
-    → AreCounted (all_replayed (replay_begun limits) before) journal
-are_counted safely limits gives before [] legal = tt
-are_counted safely limits gives before (e ∷ journal) legal = (
-  safely.counts limits gives before (legal_front gives (replay_begun limits) before (e ∷ journal) legal),
-  subst (λ (r : Replay). AreCounted r journal) (replayed_one (replay_begun limits) before e)
-      (are_counted safely limits gives (before ++ e ∷ []) journal (subst (IsLegal limits gives) (sym (append_assoc before (e ∷ []) journal)) legal)),
-)
 
 -- ---- requests
 
@@ -91,34 +56,17 @@ by_itself_plain e journal stands smart = tt
 
 -- ---- the end of a child
 
-never : (b : Bool) → b ≡ true → b ≡ false → ⊥
-never b one two = cc
-
 itself : (h : Heard) (run : ChildRun) (at : ℕ) → h.quit ≡ false → EndsItself h (Runs run at) → IsFineExit run
 itself h run at unquit (inl fine) = fine
-itself h run at unquit (inr quit) = absurd (never h.quit quit.0 unquit)
+itself h run at unquit (inr quit) = absurd (both_ways h.quit unquit quit.0)
 
 by_itself : (a b c : Bool) → ((a || b) && not c) ≡ true → a || b ≡ true
 by_itself a b c is = grind arith
-
-one_of : (a b : Bool) → a || b ≡ true → (a ≡ true) ⊎ (b ≡ true)
-one_of true b is = inl refl
-one_of false b is = inr is
 
 done_or : (zero one asked : Bool) → zero || one ≡ true → (zero || asked ≡ true) ⊎ ((one ≡ true) × (asked ≡ false))
 done_or true one asked is = inl refl
 done_or false one true is = inl refl
 done_or false one false is = inr (is, refl)
-
-startup_there : (n : ℕ) (a b : Bool) → 1 ≤ n → n ≡ one_if (not a && not b) → a ≡ false
-startup_there n true b one is = absurd (omega (arith, one, is))
-startup_there n false b one is = refl
-
--- the child was there
-there_at : (ds : List Due) (gives : ℕ → Bool) (r : Replay) (run : ChildRun) (at : ℕ) → ds ≡ [] → FollowsIn ds gives r (entry.Exited run.pid run.kind run.status run.was_active at)
-    → IsSomeAnd (child_of run.pid r.shown.children) (λ c. c.kind ≡ run.kind)
-there_at [] gives r run at none may = may.2.0
-there_at (d ∷ ds) gives r run at none may = absurd cc
 
 -- ---- behind a child that left its work undone
 
@@ -127,11 +75,13 @@ none_ends : (gives : ℕ → Bool) (h : Heard) (r : Replay) (run : ChildRun) (at
     → Counts r.machine r.shown.children → r.machine.ended ≡ false → IsLost h [] r.machine → ⊥
 none_ends gives h r run at kind.Startup told there counts on lost =
     let was = startup_there (count_of is_startup_child r.shown.children) (is_not_running r.machine.startup) r.machine.startup_due (there_counts is_startup_child run.pid kind.Startup r.shown.children there refl) counts.startup in
-    never (is_not_running r.machine.startup) (nobody_left h r.machine on lost).1 was
+    both_ways (is_not_running r.machine.startup) was (nobody_left h r.machine on lost).1
 none_ends gives h r run at kind.Checkpointer told there counts on lost =
-    never r.machine.checkpointer (was_there (count_of is_checkpointer r.shown.children) r.machine.checkpointer (there_counts is_checkpointer run.pid kind.Checkpointer r.shown.children there refl) counts.checkpointer) (nobody_left h r.machine on lost).2
+    both_ways r.machine.checkpointer (nobody_left h r.machine on lost).2
+    (was_there (count_of is_checkpointer r.shown.children) r.machine.checkpointer (there_counts is_checkpointer run.pid kind.Checkpointer r.shown.children there refl) counts.checkpointer)
 none_ends gives h r run at kind.Writer told there counts on lost =
-    never r.machine.writer (was_there (count_of is_writer r.shown.children) r.machine.writer (there_counts is_writer run.pid kind.Writer r.shown.children there refl) counts.writer) (nobody_left h r.machine on lost).3
+    both_ways r.machine.writer (nobody_left h r.machine on lost).3
+    (was_there (count_of is_writer r.shown.children) r.machine.writer (there_counts is_writer run.pid kind.Writer r.shown.children there refl) counts.writer)
 none_ends gives h r run at kind.Worker told there counts on lost = told
 none_ends gives h r run at kind.Backend told there counts on lost =
     omega (arith, there_counts is_session run.pid kind.Backend r.shown.children there refl, counts.sessions, (nobody_left h r.machine on lost).0)
@@ -145,10 +95,9 @@ lost_on limits gives before (Notes e ∷ steps) h r legal are smart told counted
     let on = entry_on IsLost IsBehindUndone keeps_lost gives h r e legal.0 (by_itself_plain e (journal_of steps) are.0.fits smart) lost in
     (on.0, lost_on limits gives (before ++ Notes e ∷ []) steps (heard_after h e) (replayed r e) legal.1 are.1 (smart_rest e (journal_of steps) smart) told.1 counted.1 on.1)
 lost_on limits gives before (Runs run at ∷ steps) h r legal are smart told counted lost =
-    let e : PmEvent = entry.Exited run.pid run.kind run.status run.was_active at in
-    let none = rests_at r.due gives r run.pid run.kind run.status run.was_active at legal.0 in
-    absurd (none_ends gives h r run at run.kind told.0 (there_at r.due gives r run at none legal.0) counted.0 (goes_on_at r.due gives r e none legal.0)
-    (subst (λ (ds : List Due). IsLost h (acts_in ds) r.machine) none lost))
+    let its = ends_in gives r r.due run.pid run.kind run.status run.was_active at refl legal.0 in
+    absurd (none_ends gives h r run at run.kind told.0 its.there counted.0 its.goes_on
+    (subst (λ (ds : List Due). IsLost h (acts_in ds) r.machine) its.rests lost))
 lost_on limits gives before (RunsOn run ∷ steps) h r legal are smart told counted lost =
     lost_on limits gives (before ++ RunsOn run ∷ []) steps h r legal are.1 smart told.1 counted lost
 lost_on limits gives before (Renews generation gone ∷ steps) h r legal are smart told counted lost =
@@ -172,9 +121,9 @@ run_ended h kind.Startup run r at is told fine counts there calm =
       | inl done ↦ inr (startup_calm h r.machine run.pid run.status at run.was_active calm was ends done)
       | inr undone ↦ inl (undone.0, startup_lost h r.machine run.pid run.status at run.was_active calm was undone.0 undone.1)
     ]
-run_ended h kind.Checkpointer run r at is (inl quit) fine counts there calm = absurd (never h.quit quit.0 calm.unquit)
+run_ended h kind.Checkpointer run r at is (inl quit) fine counts there calm = absurd (both_ways h.quit calm.unquit quit.0)
 run_ended h kind.Checkpointer run r at is (inr closes) fine counts there calm =
-    elim (one_of (is_exit_0 run.status) (is_exit_1 run.status) (by_itself (is_exit_0 run.status) (is_exit_1 run.status) run.was_active fine)) [
+    elim (or_cases (is_exit_0 run.status) (is_exit_1 run.status) (by_itself (is_exit_0 run.status) (is_exit_1 run.status) run.was_active fine)) [
       | inl zero ↦ inr (checkpointer_calm h r.machine run.pid run.status at run.was_active calm closes.1
           (was_there (count_of is_checkpointer r.shown.children) r.machine.checkpointer (there_counts is_checkpointer run.pid kind.Checkpointer r.shown.children there refl) counts.checkpointer) zero)
       | inr one ↦ inl (
@@ -183,7 +132,7 @@ run_ended h kind.Checkpointer run r at is (inr closes) fine counts there calm =
             (was_there (count_of is_checkpointer r.shown.children) r.machine.checkpointer (there_counts is_checkpointer run.pid kind.Checkpointer r.shown.children there refl) counts.checkpointer) one,
       )
     ]
-run_ended h kind.Writer run r at is (inl quit) fine counts there calm = absurd (never h.quit quit.0 calm.unquit)
+run_ended h kind.Writer run r at is (inl quit) fine counts there calm = absurd (both_ways h.quit calm.unquit quit.0)
 run_ended h kind.Writer run r at is (inr ends) fine counts there calm = inr (writer_calm h r.machine run.pid run.status at run.was_active calm (ap (λ (x : ChildRun). is_exit_0 x.status) ends.2))
 run_ended h kind.Worker run r at is told fine counts there calm = absurd told
 run_ended h kind.Backend run r at is told fine counts there calm = inr (session_calm h r.machine run.pid run.status at run.was_active calm fine)
@@ -222,18 +171,18 @@ run_on : (gives : ℕ → Bool) (h : Heard) (r : Replay) (run : ChildRun) (at : 
     → IsRunAs h run.kind run → IsFineExit run → IsCalmSo h (acts_in r.due) r.machine → AreOrderlySoFar r (journal_by (Runs run at) ++ journal)
 run_on gives h r run at journal on behind legal counted told fine calm =
     let e : PmEvent = entry.Exited run.pid run.kind run.status run.was_active at in
-    let none = rests_at r.due gives r run.pid run.kind run.status run.was_active at legal.0 in
-    let rests : IsCalmSo h [] r.machine = subst (λ (ds : List Due). IsCalmSo h (acts_in ds) r.machine) none calm in
+    let its = ends_in gives r r.due run.pid run.kind run.status run.was_active at refl legal.0 in
+    let rests : IsCalmSo h [] r.machine = subst (λ (ds : List Due). IsCalmSo h (acts_in ds) r.machine) its.rests calm in
     let acts : List Action = (step r.machine (Exited run.pid run.kind run.status run.was_active at)).acts in
     let dues = acts_behind_redo (is_startup_child run.kind && is_exit_0 run.status) acts in
-    elim (run_ended h run.kind run r at refl told fine counted.0 (there_at r.due gives r run at none legal.0) rests) [
+    elim (run_ended h run.kind run r at refl told fine counted.0 its.there rests) [
       | inl undone ↦ inl (
         undone.0,
-        redo_lost gives h (replayed r e) run.generation run.kept journal behind legal.1 counted.1 (rested IsLost IsBehindUndone keeps_lost h r e acts none dues undone.1),
+        redo_lost gives h (replayed r e) run.generation run.kept journal behind legal.1 counted.1 (rested Heard heard_after IsLost IsBehindUndone keeps_lost.due h r e acts its.rests dues undone.1),
       )
       | inr ended ↦ inr (
         ended.orderly,
-        redo_on gives h (replayed r e) run.generation run.kept journal on legal.1 counted.1 (rested IsCalmSo IsAlwaysOrderly keeps_calm h r e acts none dues ended.calm),
+        redo_on gives h (replayed r e) run.generation run.kept journal on legal.1 counted.1 (rested Heard heard_after IsCalmSo IsAlwaysOrderly keeps_calm.due h r e acts its.rests dues ended.calm),
       )
     ]
 
@@ -259,18 +208,7 @@ orderly_on limits gives before (Renews generation gone ∷ steps) h r legal are 
     orderly_on limits gives (before ++ Renews generation gone ∷ []) steps h r legal are.1 smart told.1 ends.1 counted calm
 
 begun_calm : (limits : Limits) → IsCalmSo nothing_heard [] (begun limits)
-begun_calm limits = record {
-  unquit = refl;
-  no_crash = refl;
-  not_immediate = refl;
-  not_told = refl;
-  starting = refl;
-  no_quit = refl;
-  asked = refl;
-  closing = refl;
-  starts = refl;
-  writers = refl;
-}
+begun_calm limits = record { calm = machine.begun_calm limits; unquit = refl; not_told = refl; starting = refl; no_quit = refl }
 
 pub orderly_so_far : RestartsSafely → (limits : Limits) (gives : ℕ → Bool) (steps : List Step) → IsLegal limits gives (journal_of steps) → AreSteps limits steps
     → AreSmart (journal_of steps) → AreToldBehind nothing_heard steps → EndThemselves nothing_heard steps → AreOrderlySoFar (replay_begun limits) (journal_of steps)

@@ -8,8 +8,8 @@ use Rattle.pm_board.specs.declared.views.RosterView.{RosterView}
 use Rattle.pm_board.specs.Places.{slot_at}
 use Rattle.pm_chain.specs.Chain.{AreDistinct, IsPidOf}
 use Rattle.pm_query.specs.declared.book.BookEntry.{BookEntry}
-use Rattle.pm_query.specs.declared.book.BookEntry.TheVariants.{Opened, Attached, Redone, Answered, Released, Detached, Gone, CheckpointEnded, Broke, LogFull}
-use Rattle.pm_answers.specs.Own.{entries_by, is_by}
+use Rattle.pm_query.specs.declared.book.BookEntry.TheVariants.{Opened, Gone}
+use Rattle.pm_answers.specs.Own.{NoneBy, entries_by, is_by}
 use Rattle.pm_shared.specs.declared.views.Noted.{Noted}
 use Rattle.pm_shared.specs.Log.{AllBelow, Line, book_of, entries_of, is_own, noted as noted_at, placed}
 use Rattle.pm_worker.specs.declared.mail.MailTold.{MailTold}
@@ -19,9 +19,6 @@ use Rattle.pm_crew.specs.Pids.{AreEntriesOf, AreUsedOnce, pids_at}
 use Rattle.pm_crew.specs.PidsLaws.{differs}
 use Rattle.pm_crew.specs.Uses.{AllBy, UsesStore}
 use Rattle.pm_crew.specs.UsesLaws.{own_entries, uses}
-
-abbrev NoneBy : ℕ → List BookEntry → Type 0
-NoneBy pid entries = AllByRecursion (λ entry. is_by pid entry ≡ false) entries
 
 -- ---- filters
 
@@ -37,15 +34,8 @@ filter_all pid (entry ∷ entries) all =
 -- an entry of one child is none of another
 apart_at : (pid other : ℕ) (entry : BookEntry) → pid ≢ other → is_by other entry ≡ true → is_by pid entry ≡ false
 apart_at pid other (Opened generation) differ own = refl
-apart_at pid other (Attached who generation) differ own = grind (arith, differ, own)
-apart_at pid other (Redone who generation kept) differ own = grind (arith, differ, own)
-apart_at pid other (Answered who script reply commit front tick) differ own = grind (arith, differ, own)
-apart_at pid other (Released who front tick) differ own = grind (arith, differ, own)
-apart_at pid other (Detached who) differ own = grind (arith, differ, own)
 apart_at pid other (Gone who) differ own = refl
-apart_at pid other (CheckpointEnded who done clean) differ own = grind (arith, differ, own)
-apart_at pid other (Broke who since faults) differ own = grind (arith, differ, own)
-apart_at pid other (LogFull who script need room) differ own = grind (arith, differ, own)
+apart_at pid other _ differ own = grind (arith, differ, own)
 
 apart : (pid other : ℕ) (entries : List BookEntry) → pid ≢ other → AllBy other entries → NoneBy pid entries
 apart pid other [] differ all = tt
@@ -104,14 +94,7 @@ OthersAre k pid log = AllByRecursion (λ (l : Line). is_own l.entry ≡ true →
 not_own : (pid : ℕ) (entry : BookEntry) → is_own entry ≡ false → is_by pid entry ≡ false
 not_own pid (Opened generation) is = refl
 not_own pid (Gone who) is = refl
-not_own pid (Attached who generation) is = absurd cc
-not_own pid (Redone who generation kept) is = absurd cc
-not_own pid (Answered who script reply commit front tick) is = absurd cc
-not_own pid (Released who front tick) is = absurd cc
-not_own pid (Detached who) is = absurd cc
-not_own pid (CheckpointEnded who done clean) is = absurd cc
-not_own pid (Broke who since faults) is = absurd cc
-not_own pid (LogFull who script need room) is = absurd cc
+not_own pid _ is = absurd cc
 
 of_log : (k pid n : ℕ) (log : List Line) → OthersAre k pid log → entries_by pid (book_of log) ≡ entries_by pid (entries_of (placed k n log))
 of_log k pid n [] others = refl

@@ -44,14 +44,7 @@ lower low high (pid ∷ pids) le rise = (omega (arith, le, rise.0), rise.1)
 
 starts_next : (s : Shared) (action : Action) (pid : ℕ) (kind : Kind) → Fits s (Do action) (entry.Started pid kind) → pid ≡ s.last_pid + 1
 starts_next s (act.Start kind) pid its fits = fits.0
-starts_next s (act.Quit why) pid its fits = absurd fits
-starts_next s act.Terminate pid its fits = absurd fits
-starts_next s act.KillAll pid its fits = absurd fits
-starts_next s act.AskCheckpoint pid its fits = absurd fits
-starts_next s act.Ready pid its fits = absurd fits
-starts_next s act.Reset pid its fits = absurd fits
-starts_next s (act.Say line) pid its fits = absurd fits
-starts_next s (act.End how) pid its fits = absurd fits
+starts_next s _ pid its fits = absurd fits
 
 first_starts : (s : Shared) (acts : List Action) (pid : ℕ) (kind : Kind) → FitsFirst s acts (entry.Started pid kind) → pid ≡ s.last_pid + 1
 first_starts s [] pid kind fits = absurd fits
@@ -64,14 +57,7 @@ started_next gives r (EndRedo ∷ due) pid kind follows = absurd follows
 
 never_due : (s : Shared) (action : Action) (pid : ℕ) (decision : _) → Fits s (Do action) (entry.Accepted pid decision) → ⊥
 never_due s (act.Start kind) pid decision fits = fits
-never_due s (act.Quit why) pid decision fits = fits
-never_due s act.Terminate pid decision fits = fits
-never_due s act.KillAll pid decision fits = fits
-never_due s act.AskCheckpoint pid decision fits = fits
-never_due s act.Ready pid decision fits = fits
-never_due s act.Reset pid decision fits = fits
-never_due s (act.Say line) pid decision fits = fits
-never_due s (act.End how) pid decision fits = fits
+never_due s _ pid decision fits = fits
 
 accepted_next : (gives : ℕ → Bool) (r : Replay) (due : List Due) (pid : ℕ) (decision : _) → FollowsIn due gives r (entry.Accepted pid decision) → pid ≡ r.shown.last_pid + 1
 accepted_next gives r [] pid decision follows = follows.2.1
@@ -141,7 +127,7 @@ pids_below gives r (entry.Ended how ∷ journal) legal = pids_below gives (repla
 
 -- ---- in the slots
 
-abbrev begun_pids : List Begun → List ℕ
+abbrev pub begun_pids : List Begun → List ℕ
 begun_pids begun = map (λ b. b.pid) begun
 
 all_above : (low pid : ℕ) (pids : List ℕ) → RiseAbove low pids → IsPidOf pid pids → low + 1 ≤ pid
@@ -183,7 +169,7 @@ beginning s (Reads line (Kill pid) at) = Nobody (kills (is_seated pid s.seats)) 
 beginning s (PortEnds at) = Nobody refl (λ k. refl)
 beginning s (PidsEnd at) = Nobody refl (λ k. refl)
 
-pids_append : (first second : List PmEvent) → pids_in (first ++ second) ≡ pids_in first ++ pids_in second
+pub pids_append : (first second : List PmEvent) → pids_in (first ++ second) ≡ pids_in first ++ pids_in second
 pids_append [] second = refl
 pids_append (e ∷ first) second = ap (λ (l : List ℕ). pids_by e ++ l) (pids_append first second) ∙ sym (append_assoc (pids_by e) (pids_in first) (pids_in second))
 
@@ -251,7 +237,7 @@ distinct : (low : ℕ) (pids : List ℕ) → RiseAbove low pids → AreDistinct 
 distinct low [] rise = tt
 distinct low (pid ∷ pids) rise = (not_below pid pid pids (omega arith) rise.1, distinct pid pids rise.1)
 
-pids_of_past : (past : List (PastChild MailTold)) → map (λ child. child.offer.pid) past ≡ begun_pids (map begun_of past)
+pub pids_of_past : (past : List (PastChild MailTold)) → map (λ child. child.offer.pid) past ≡ begun_pids (map begun_of past)
 pids_of_past [] = refl
 pids_of_past (x ∷ past) = ap (λ (l : List ℕ). x.offer.pid ∷ l) (pids_of_past past)
 

@@ -8,14 +8,9 @@ use Rattle.pm_board.specs.Places.{slot_at}
 use Rattle.pm_chain.specs.Chain.{InGeneration}
 use Rattle.pm_seating.specs.Board.{ended_of}
 use Rattle.pm_seating.specs.Calls.{kept_by}
+use Rattle.pm_seating.specs.Mails.{kept_told}
 use Rattle.pm_seating.specs.Seating.{Move, Notes, ended_at}
 use Rattle.pm_worker.specs.declared.mail.MailTold.{MailTold}
-use Rattle.pm_worker.specs.declared.mail.MailTold.TheVariants as mail
-
--- the number of commits that a mail tells of which came back
-abbrev pub kept_in : MailTold → Option ℕ
-kept_in (mail.Aux fault kept) = kept
-kept_in _ = None
 
 abbrev pub told_if : ℕ → Option ℕ → List InGeneration
 told_if generation None = []
@@ -23,7 +18,7 @@ told_if generation (Some kept) = record { number = kept; generation = generation
 
 -- the end of redo that a child tells of, which only a startup child does that exits with code 0
 abbrev pub redo_told : PastChild MailTold → List InGeneration
-redo_told child = told_if child.offer.generation (kept_by child.offer.kind child.status (kept_in child.back))
+redo_told child = told_if child.offer.generation (kept_by child.offer.kind child.status (kept_told child.back))
 
 abbrev pub redo_ends_by : ℕ → Move → List InGeneration
 redo_ends_by k (Notes (entry.RedoEnded generation kept) slot) =

@@ -16,7 +16,7 @@ use Rattle.pm_answers.specs.Own.{is_by}
 use Rattle.pm_board.specs.declared.views.PastChild.{PastChild}
 use Rattle.pm_board.specs.Places.{is_connection}
 use Rattle.pm_chain.specs.Chain.{InGeneration, IsAmong, kept_of, redos_of}
-use Rattle.pm_crew.specs.Redos.{kept_in, redo_told, told_if}
+use Rattle.pm_crew.specs.Redos.{redo_told, told_if}
 use Rattle.pm_exchange.specs.declared.ending.Cause.{Cause as SessionCause}
 use Rattle.pm_exchange.specs.declared.ending.Cause.TheVariants as why
 use Rattle.pm_exchange.specs.declared.ending.Stage.{Stage}
@@ -37,6 +37,7 @@ use Rattle.pm_query.specs.declared.store.StoreNo.{StoreNo}
 use Rattle.pm_query.specs.declared.store.StoreNo.TheVariants.{Stale, Disk, Broken, Full, Redo, NoMemory}
 use Rattle.pm_record.specs.declared.fault.RedoFault.TheVariants as redo
 use Rattle.pm_seating.specs.Calls.{kept_by}
+use Rattle.pm_seating.specs.Mails.{kept_told}
 use Rattle.pm_session.specs.Session.{AllNotes, BreaksOff, EndsAt, Ending, IsAdmitted, IsInside, IsServed, IsText, IsTurnedAway, Leaves, NotesOutside, StopsInside}
 use Rattle.pm_session.specs.Session as session
 use Rattle.pm_supervisor.specs.Children.{is_dead_end, is_startup_child}
@@ -272,11 +273,7 @@ module _ (child : PastChild MailTold) where
 
   refused_redo : (generation : ℕ) (refusal : StoreNo) → redo_by generation kinds.Startup (Refused refusal) ≡ []
   refused_redo generation (Stale mine found) = refl
-  refused_redo generation Disk = refl
-  refused_redo generation (Broken since) = refl
-  refused_redo generation (Full need room) = refl
-  refused_redo generation (Redo fault) = refl
-  refused_redo generation NoMemory = refl
+  refused_redo generation _ = refl
 
   kept_out_redo : (generation : ℕ) (user : User) (cause : Cause) (noted : List BookEntry) → IsKeptOut kinds.Startup user cause noted → redo_by generation kinds.Startup cause ≡ []
   kept_out_redo generation user (Refused refusal) noted is = refused_redo generation refusal
@@ -308,14 +305,14 @@ module _ (child : PastChild MailTold) where
 told_by_cause : (child : PastChild MailTold) (kind : Kind) (cause : Cause) (fault : Option StoreNo) (kept : Option ℕ) → child.offer.kind ≡ kind → child.status ≡ status_by cause
     → child.back ≡ mail.Aux fault kept → kept ≡ ends.kept_by cause → redo_told child ≡ redo_by child.offer.generation kind cause
 told_by_cause child kind cause fault kept is_kind status back is_kept =
-    ap (λ (k : Kind). told_if child.offer.generation (kept_by k child.status (kept_in child.back))) is_kind
-    ∙ (ap (λ (s : Status). told_if child.offer.generation (kept_by kind s (kept_in child.back))) status
-    ∙ (ap (λ (m : MailTold). told_if child.offer.generation (kept_by kind (status_by cause) (kept_in m))) back
+    ap (λ (k : Kind). told_if child.offer.generation (kept_by k child.status (kept_told child.back))) is_kind
+    ∙ (ap (λ (s : Status). told_if child.offer.generation (kept_by kind s (kept_told child.back))) status
+    ∙ (ap (λ (m : MailTold). told_if child.offer.generation (kept_by kind (status_by cause) (kept_told m))) back
     ∙ ap (λ (n : Option ℕ). told_if child.offer.generation (kept_by kind (status_by cause) n)) is_kept))
 
 no_startup : (child : PastChild MailTold) → is_startup_child child.offer.kind ≡ false → redo_told child ≡ []
 no_startup child is =
-    ap (λ (b : Bool). told_if child.offer.generation (if b then (if is_exit_0 child.status then Some (unwrap_or (kept_in child.back) 0) else None) else None)) is
+    ap (λ (b : Bool). told_if child.offer.generation (if b then (if is_exit_0 child.status then Some (unwrap_or (kept_told child.back) 0) else None) else None)) is
 
 serves_none : (kind : Kind) → is_connection kind ≡ true → is_startup_child kind ≡ false
 serves_none kinds.Startup is = absurd cc

@@ -17,7 +17,8 @@ use Rattle.pm_journal.specs.Standing.{Standing, done, act_for, first_due, IsAtRe
 use Rattle.pm_duties.specs.Auxiliaries.{heard_of, auxiliaries_after, HasLess}
 use Rattle.pm_duties.specs.AuxiliaryRuns.{nothing_heard, start_status, Heard, IsCheckpointerRun, IsWriterRun, IsRunAs}
 use Rattle.pm_duties.specs.declared.auxiliaries.Auxiliaries.{Auxiliaries}
-use Rattle.pm_acts.specs.ActsLaws.{due_kept, first_is}
+use Rattle.pm_journal.specs.NextsLaws.{first_is}
+use Rattle.pm_acts.specs.ActsLaws.{due_kept}
 use Rattle.pm_modes.specs.declared.Mode.TheVariants.{Smart, Fast, Immediate}
 use Rattle.pm_state.specs.declared.machine.Machine.{Machine}
 use Rattle.pm_state.specs.Requests.{asked_in, asked_with}

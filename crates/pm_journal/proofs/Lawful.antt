@@ -20,7 +20,7 @@ use Rattle.pm_journal.specs.Standing.{Standing, asking, called, done, ends_redo,
 use Rattle.pm_journal.specs.Stands.{HasPids, Remembers, Stands, any_moment, entries_due, highest_pid}
 use Rattle.pm_journal.proofs.Acting.{entry-is, report-one}
 use Rattle.pm_journal.proofs.Making.{entries-kept, exit-entries, goes-on, noted-at, noted-due, redo_if, rests}
-use Rattle.pm_journal.proofs.Nexts.{first-some}
+use Rattle.pm_journal.specs.NextsLaws.{first_is}
 
 abbrev IsTold : (ℕ → Bool) → ℕ → Type 0
 IsTold gives at = gives at ≡ true
@@ -115,7 +115,7 @@ due-next writes limits journal s a rest due was =
 reports-next : (s : Standing) (a : Action) → first_due s.due ≡ Some a
     → all_reported (done a s).due (done a s).machine ≡ all_reported s.due s.machine
 reports-next s a is =
-    report-one a (without_first s.due) s.machine ∙ ap (λ d. all_reported d s.machine) (sym (first-some s.due a is))
+    report-one a (without_first s.due) s.machine ∙ ap (λ d. all_reported d s.machine) (sym (first_is s.due a is))
 
 asks-as : WritesALegalJournal → (limits : Limits) (journal : List PmEvent) (s : Standing) (asked : Mode) (at : ℕ)
     → with_call limits journal s (asking asked at s) ≡ journal ++ entries_of_call 0 (replay_by limits journal) s.machine (asking asked at s).call
@@ -151,7 +151,7 @@ exits-as writes limits journal s h exit at was =
 pub notes-what-is-due : WritesALegalJournal → NotesWhatIsDue
 notes-what-is-due writes =
     record {
-      notes = λ limits journal s h a was is. due-next writes limits journal s a (without_first s.due) (first-some s.due a is) (told-as was);
+      notes = λ limits journal s h a was is. due-next writes limits journal s a (without_first s.due) (first_is s.due a is) (told-as was);
       reports = reports-next;
       asks = asks-as writes;
       exits = exits-as writes;

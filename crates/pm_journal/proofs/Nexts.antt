@@ -1,5 +1,5 @@
 -- The next act.
-use Rattle.std.proofs.Common.{◌≡◌, ◌+◌, ◌-◌, ◌^◌, true, false, List, [], ◌∷◌, Some, None, refl, ap, sym, ◌∙◌, subst, arith, length}
+use Rattle.std.proofs.Common.{◌≡◌, ◌-◌, ◌^◌, true, false, List, [], ◌∷◌, Some, None, refl, ap, sym, ◌∙◌, subst, arith}
 use Rattle.std.specs.Prelude.{Option, Ok, Err, ◌<◌, is_some}
 use Rattle.pm_supervisor.specs.declared.Limits.{Limits}
 use Rattle.pm_supervisor.specs.Steps.{Trace}
@@ -10,6 +10,7 @@ use Rattle.pm_state.specs.Starts.{Owes}
 use Rattle.pm_state.specs.Journal.{without_first}
 use Rattle.pm_state.specs.Laws.{TellsOfEachStart, WritesALegalJournal}
 use Rattle.pm_journal.specs.Doing.{HasNumbers, MayReport}
+use Rattle.pm_journal.specs.NextsLaws.{first_is}
 use Rattle.pm_outside.specs.Added.{Added}
 use Rattle.pm_journal.specs.Standing.{Standing, act_for, done, entry_for, first_due, is_spent, last_generation, next_in, next_of}
 use Rattle.pm_journal.specs.Stands.{HasPids, IsSettled, Stands}
@@ -19,10 +20,6 @@ first-none : (acts : List Action) → first_due acts ≡ None → acts ≡ []
 first-none [] is = refl
 first-none (a ∷ acts) is = absurd cc
 
-pub first-some : (acts : List Action) (a : Action) → first_due acts ≡ Some a → acts ≡ a ∷ without_first acts
-first-some [] a is = absurd cc
-first-some (b ∷ acts) a is = cc
-
 -- nothing is due
 pub next-none : (s : Standing) → first_due s.due ≡ None → next_of s ≡ record { answer = Ok None; entries = []; after = s }
 next-none s is = ap (λ d. next_in d s) (first-none s.due is)
@@ -30,12 +27,12 @@ next-none s is = ap (λ d. next_in d s) (first-none s.due is)
 -- the next generation is due, and there is none
 pub next-spent : (s : Standing) (a : Action) → first_due s.due ≡ Some a → is_spent a s ≡ true
     → next_of s ≡ record { answer = Err (record {}); entries = []; after = s }
-next-spent s a is spent = ap (λ d. next_in d s) (first-some s.due a is) ∙ rw spent refl
+next-spent s a is spent = ap (λ d. next_in d s) (first_is s.due a is) ∙ rw spent refl
 
 -- an act is done
 pub next-done : (s : Standing) (a : Action) → first_due s.due ≡ Some a → is_spent a s ≡ false
     → next_of s ≡ record { answer = Ok (Some (act_for a s)); entries = entry_for a s ∷ []; after = done a s }
-next-done s a is unspent = ap (λ d. next_in d s) (first-some s.due a is) ∙ rw unspent refl
+next-done s a is unspent = ap (λ d. next_in d s) (first_is s.due a is) ∙ rw unspent refl
 
 below-all : (s : Standing) → HasPids s → s.last_pid < 2 ^ 32 - 1
 below-all s pids =
@@ -61,16 +58,12 @@ has-numbers (act.End how) s is pids further = tt
 pub may-do : TellsOfEachStart → (limits : Limits) (told : Option (List PmEvent)) (s : Standing) (h : Trace) (a : Action) → first_due s.due ≡ Some a
     → Stands limits told s h → MayReport a s.machine
 may-do tells limits told s h a is was =
-    may-report tells a (without_first s.due) s.machine (subst (λ d. Owes d s.machine) (first-some s.due a is) was.coming.owes)
-
-pub shorter : (acts : List Action) (a : Action) → first_due acts ≡ Some a → length (without_first acts) + 1 ≡ length acts
-shorter [] a is = absurd cc
-shorter (b ∷ acts) a is = omega arith
+    may-report tells a (without_first s.due) s.machine (subst (λ d. Owes d s.machine) (first_is s.due a is) was.coming.owes)
 
 pub stands-done : WritesALegalJournal → TellsOfEachStart → (limits : Limits) (told now : Option (List PmEvent)) (s t : Standing) (h : Trace) (a : Action)
     → first_due s.due ≡ Some a → t ≡ done a s → Added (entry_for a s ∷ []) told now → Stands limits told s h → Stands limits now t h
 stands-done writes tells limits told now s t h a is same adds was =
-    subst (λ x. Stands limits now x h) (sym same) (stands-next writes tells limits told now s h a (without_first s.due) (first-some s.due a is) adds was)
+    subst (λ x. Stands limits now x h) (sym same) (stands-next writes tells limits told now s h a (without_first s.due) (first_is s.due a is) adds was)
 
 pub settled-done : (s t : Standing) (a : Action) → first_due s.due ≡ Some a → t ≡ done a s → IsSettled s → IsSettled t
-settled-done s t a is same was = subst IsSettled (sym same) (settled-next s a (without_first s.due) (first-some s.due a is) was)
+settled-done s t a is same was = subst IsSettled (sym same) (settled-next s a (without_first s.due) (first_is s.due a is) was)

@@ -1,7 +1,9 @@
 pub mod Doing
 pub mod Laws
 pub mod Moments
+pub mod NextsLaws
 pub mod Roll
 pub mod Standing
 pub mod Stands
 pub mod Supervision
+pub mod ToldLaws

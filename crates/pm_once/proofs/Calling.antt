@@ -30,7 +30,7 @@ use Rattle.pm_duties.specs.CausesLaws.{caused_entry}
 use Rattle.pm_outside.specs.AddedLaws.{added_none}
 use Rattle.pm_server.specs.JournalLaws.{asked_in-append}
 use Rattle.pm_acts.specs.StepsLaws.{serves_nothing}
-use Rattle.pm_acts.specs.NextsLaws.{told_more}
+use Rattle.pm_journal.specs.ToldLaws.{told_more}
 use Rattle.pm_acts.specs.RulesLaws.{ask_says, says_ours, turn_rule}
 use Rattle.pm_once.proofs.Undisturbed.{asked_disturbed, turned_disturbed}
 use Rattle.pm_duties.specs.CalmLaws.{asked_stands, goes_on_so}

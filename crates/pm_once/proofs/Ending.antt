@@ -43,7 +43,7 @@ use Rattle.pm_once.proofs.Calling.{as_last, later_moment}
 use Rattle.pm_duties.specs.CausesLaws.{caused_entry, caused_on, caused_run}
 use Rattle.pm_outside.specs.AddedLaws.{added_none}
 use Rattle.pm_server.specs.JournalLaws.{asked_in-append}
-use Rattle.pm_acts.specs.NextsLaws.{told_more}
+use Rattle.pm_journal.specs.ToldLaws.{told_more}
 use Rattle.pm_acts.specs.RulesLaws.{exit_ours}
 use Rattle.pm_duties.specs.AuxiliariesLaws.{auxiliaries_without, off_startup, auxiliaries_beside}
 use Rattle.pm_lines.specs.LogLaws.{said_same}

@@ -38,7 +38,7 @@ use Rattle.pm_server.specs.declared.end.ServerEnd.TheVariants.{NoMemory}
 use Rattle.pm_duties.specs.declared.checkpointer.Closed.TheVariants.{Made, Crashed, Full, Short}
 use Rattle.pm_duties.specs.declared.outcome.Outcome.{Outcome}
 use Rattle.pm_duties.specs.declared.outcome.Outcome.TheVariants.{Closed, Refused}
-use Rattle.pm_acts.specs.ActsLaws.{asks_acted, due_kept, first_is, not_accepted, not_asked, ours_tail, said_acted}
+use Rattle.pm_acts.specs.ActsLaws.{asks_acted, due_kept, not_accepted, not_asked, ours_tail, said_acted}
 use Rattle.pm_duties.specs.AuxiliariesLaws.{auxiliaries_acted}
 use Rattle.pm_acts.specs.RunsLaws.{notes_follow, stands_by_itself}
 use Rattle.pm_duties.specs.CausesLaws.{acted_heard, caused_entry, caused_renewal}
@@ -49,7 +49,9 @@ use Rattle.pm_once.proofs.Knowing.{known_still}
 use Rattle.pm_server.specs.SpansLaws.{spans_moves, spans_renewal}
 use Rattle.pm_once.proofs.Undisturbed.{GoesOnDisk, acted_disturbed, renewed_disturbed}
 use Rattle.pm_duties.specs.CalmLaws.{shutdown_done}
-use Rattle.pm_acts.specs.NextsLaws.{no_moment, moment_kept, told_more, entry_free, generation_kept, ended_kept, says_tail, says_owes, shorter, keeps_done, same_told, same_work, still_keeps, IsLine}
+use Rattle.pm_journal.specs.NextsLaws.{first_is, shorter}
+use Rattle.pm_journal.specs.ToldLaws.{told_more}
+use Rattle.pm_acts.specs.NextsLaws.{no_moment, moment_kept, entry_free, generation_kept, ended_kept, says_tail, says_owes, keeps_done, same_told, same_work, still_keeps, IsLine}
 
 -- ---- its entry
 

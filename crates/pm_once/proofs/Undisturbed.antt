@@ -29,7 +29,7 @@ use Rattle.pm_duties.specs.Calm.{AreCalm, HasFineSession, IsCalm, IsFineExit, is
 use Rattle.pm_once.specs.Undisturbed.{IsDisturbedAt, IsDisturbedSo}
 use Rattle.pm_once.specs.View.{View}
 use Rattle.pm_duties.specs.declared.auxiliaries.Auxiliaries.{Auxiliaries}
-use Rattle.pm_acts.specs.ActsLaws.{first_is}
+use Rattle.pm_journal.specs.NextsLaws.{first_is}
 use Rattle.pm_acts.specs.StepsLaws.{journal-append}
 use Rattle.pm_duties.specs.CalmLaws.{acted_calm, shutdown_done, accepted_same, IsQuiet, quiet_of, calm_of, accepted_quiet, still_less, less_startup, never, exited_quiet, exit_keeps, turned_quiet, HasNotCrashed, no_more, all_more, sessions_on, or_none, later_one, one_more, ended_run}
 

@@ -3,7 +3,7 @@ use Rattle.std.proofs.Common.{◌≡◌, ℕ, ◌<◌, ◌≤◌, List, [], ◌�
 use Rattle.std.specs.Prelude.{Bool, true, false, ◌==◌, ◌||◌, not, if◌then◌else◌, Option, None, Some, unwrap_or}
 use Rattle.pm_admit.specs.declared.Cac.{Cac}
 use Rattle.pm_admit.specs.declared.Cac.TheVariants as decisions
-use Rattle.pm_acts.specs.ActsLaws.{first_is}
+use Rattle.pm_journal.specs.NextsLaws.{first_is}
 use Rattle.pm_exit.specs.declared.child.Kind.{Kind}
 use Rattle.pm_exit.specs.declared.child.Kind.TheVariants as kinds
 use Rattle.pm_journal.specs.declared.exit.ChildExit.{ChildExit}

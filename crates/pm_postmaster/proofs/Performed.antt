@@ -8,7 +8,8 @@ use Rattle.pm_board.specs.Children.{CountsChildren}
 use Rattle.pm_board.specs.Places.{slot_at}
 use Rattle.pm_acts.specs.Acts.{LogBehind}
 use Rattle.pm_acts.specs.EndsLaws.{last_set, spent_next}
-use Rattle.pm_acts.specs.NextsLaws.{ended_kept, generation_kept, next_given, next_spent}
+use Rattle.pm_journal.specs.NextsLaws.{first_is, next_given, next_spent}
+use Rattle.pm_acts.specs.NextsLaws.{ended_kept, generation_kept}
 use Rattle.pm_journal.specs.declared.act.Act.{Act}
 use Rattle.pm_journal.specs.Laws.{KeepsALegalJournal}
 use Rattle.pm_journal.specs.Standing.{Standing, act_for, done, entry_for, first_due, next_of}
@@ -21,7 +22,6 @@ use Rattle.pm_seating.specs.Final.{MayEndAnywhere}
 use Rattle.pm_seating.specs.FoldingLaws.{journal-more}
 use Rattle.pm_seating.specs.Acts.{MayDo}
 use Rattle.pm_board.specs.Gate.{gate_of}
-use Rattle.pm_acts.specs.ActsLaws.{first_is}
 use Rattle.pm_state.specs.Starts.{has_end}
 use Rattle.pm_seating.specs.Board.{ended_of}
 use Rattle.pm_seating.specs.Seating.{Move, Notes, ended_at, journal_of}

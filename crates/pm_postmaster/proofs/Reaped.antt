@@ -25,7 +25,6 @@ use Rattle.pm_lines.specs.Log.{HasSaid}
 use Rattle.pm_lines.specs.LogLaws.{said_same}
 use Rattle.pm_outside.specs.Visits.{Visits}
 use Rattle.pm_chain.specs.Chain.{lost_from, resets_of}
-use Rattle.pm_crew.specs.Redos.{kept_in}
 use Rattle.pm_crew.specs.Renewals.{RenewsAsTold, lost_since}
 use Rattle.pm_seating.specs.Board.{SeenAs, seat_at, seats_of}
 use Rattle.pm_seating.specs.Calls.{IsCutOff, exit_of, exits, kept_by}
@@ -256,7 +255,7 @@ module _ {D C : Type 0} (gives : C → ℕ → Type 0) (counts : CountsChildren)
   -- a child has ended, which was noted
   pub reaped_on : (k at : ℕ) (exit : ChildExit) (kind : Kind) (status : Status) (active : Bool) (back : MailTold) → gives before.clock at → (has : Leaving k kind status active back before.board now.board)
       → now.visits ≡ option_map (opened back) before.visits → exit.kind ≡ has.offer.kind → exit.status ≡ status → exit.was_active ≡ active
-      → exit.kept ≡ kept_by has.offer.kind status (kept_in back) → now.lost ≡ lost_with exit.pid active before.lost
+      → exit.kept ≡ kept_by has.offer.kind status (kept_told back) → now.lost ≡ lost_with exit.pid active before.lost
       → now.came ≡ came_by has.offer.kind status back before.came → now.shared.own ≡ before.shared.own
       → seating.Goes (exits k exit at before.work.standing) (view before.work before.board) (view now.work now.board)
       → now.work.standing ≡ made (exiting exit at before.work.standing) before.work.standing → LeavesAsking gives before now → before.work.standing.owes_smart ≡ false
@@ -329,15 +328,6 @@ module _ {D C : Type 0} (gives : C → ℕ → Type 0) (counts : CountsChildren)
 
 -- ---- with what it leaves
 
-same_kept : (m : MailTold) → kept_told m ≡ kept_in m
-same_kept (mail.Serve link decision) = refl
-same_kept mail.Startup = refl
-same_kept mail.Checkpointer = refl
-same_kept mail.Writer = refl
-same_kept mail.Close = refl
-same_kept (mail.Served link) = refl
-same_kept (mail.Aux fault kept) = refl
-
 module _ {D C J : Type 0} (gives : C → ℕ → Type 0) (counts : CountsChildren) (letter : Letter.Ghosts J MailTold) (k : ℕ) (c : Enrolled) (released : Released J)
     (before mid now : View D C) (near : k < length before.board.slots) (beside : IsBeside gives before mid) (has : HasReaped letter k c released before.board mid.board)
     (comes : ComesBack (letter.told released.job) released.kind released.status)
@@ -380,8 +370,7 @@ module _ {D C J : Type 0} (gives : C → ℕ → Type 0) (counts : CountsChildre
       let kind : released.kind ≡ leaving.offer.kind = sym leaving.kind_is in
       reaped_on gives counts outset before now left_so (ap (λ (v : View D C). v.shared.generation) takes ∙ ap (λ s. s.generation) beside.shared)
       (ap (λ (v : View D C). v.log) takes ∙ beside.log) k at exit released.kind released.status released.was_active (letter.told released.job) given leaving visits_so kind refl refl
-      (ap (λ (x : Kind). kept_by x released.status (kept_told (letter.told released.job))) kind
-      ∙ ap (λ (n : Option ℕ). kept_by leaving.offer.kind released.status n) (same_kept (letter.told released.job)))
+      (ap (λ (x : Kind). kept_by x released.status (kept_told (letter.told released.job))) kind)
       (ap (λ (v : View D C). v.lost) takes ∙ ap (lost_with released.pid released.was_active) beside.lost)
       (ap (λ (v : View D C). v.came) takes ∙ (ap (λ (x : Kind). came_by x released.status (letter.told released.job) mid.came) kind
       ∙ ap (came_by leaving.offer.kind released.status (letter.told released.job)) beside.came))

@@ -15,10 +15,11 @@ use Rattle.pm_board.specs.declared.views.RosterView.{RosterView}
 use Rattle.pm_board.specs.declared.views.SlotView.{SlotView}
 use Rattle.pm_board.specs.Places.{slot_at}
 use Rattle.pm_chain.specs.Chain.{InGeneration}
-use Rattle.pm_crew.specs.Redos.{RedosAreThose, kept_in, redo_ends_at, redo_ends_by, redo_told, told_if}
+use Rattle.pm_crew.specs.Redos.{RedosAreThose, redo_ends_at, redo_ends_by, redo_told, told_if}
 use Rattle.pm_journal.specs.declared.exit.ChildExit.{ChildExit}
 use Rattle.pm_journal.specs.Standing.{Standing, ends_redo, entry_for, exit_entry, later}
 use Rattle.pm_seating.specs.Board.{ended_of}
+use Rattle.pm_seating.specs.Mails.{kept_told}
 use Rattle.pm_seating.specs.Calls.{exits, kept_by, notes_in, slot_for}
 use Rattle.pm_seating.specs.Seating.{Move, Notes, ended_at}
 use Rattle.pm_seating.specs.Sitting.{KeepsPast}
@@ -69,11 +70,11 @@ exit_ends slot k at exit s = by (ends_redo exit)
 
 -- what such a child tells
 told_exit : (o : Offer MailTold) (status : Status) (active : Bool) (back : MailTold) (exit : ChildExit) (s : Standing) → exit.kind ≡ o.kind → exit.status ≡ status
-    → exit.kept ≡ kept_by o.kind status (kept_in back) → o.generation ≡ s.generation
+    → exit.kept ≡ kept_by o.kind status (kept_told back) → o.generation ≡ s.generation
     → redo_told (past_child o status active back) ≡ (if ends_redo exit then ended (unwrap_or exit.kept 0) s.generation else [])
 told_exit o status active back exit s kind is_status kept generation =
-    both (is_startup_child o.kind) (is_exit_0 status) o.generation (kept_in back)
-    ∙ (ap (λ (g : ℕ). if is_startup_child o.kind && is_exit_0 status then ended (unwrap_or (kept_by o.kind status (kept_in back)) 0) g else []) generation
+    both (is_startup_child o.kind) (is_exit_0 status) o.generation (kept_told back)
+    ∙ (ap (λ (g : ℕ). if is_startup_child o.kind && is_exit_0 status then ended (unwrap_or (kept_by o.kind status (kept_told back)) 0) g else []) generation
     ∙ (ap (λ (n : Option ℕ). if is_startup_child o.kind && is_exit_0 status then ended (unwrap_or n 0) s.generation else []) (sym kept)
     ∙ (ap (λ (x : Kind). if is_startup_child x && is_exit_0 status then ended (unwrap_or exit.kept 0) s.generation else []) (sym kind)
     ∙ ap (λ (x : Status). if is_startup_child exit.kind && is_exit_0 x then ended (unwrap_or exit.kept 0) s.generation else []) (sym is_status))))
@@ -116,7 +117,7 @@ module _ (earlier : List Move) (slot at : ℕ) (exit : ChildExit) (s : Standing)
 
 pub redos_exited : (earlier : List Move) (slot at : ℕ) (exit : ChildExit) (s : Standing) (o : Offer MailTold) (status : Status) (active : Bool) (back : MailTold) (notes : RosterNotes)
     (d e : RosterView MailTold) → SlotBecame slot (released_slot (slot_at d slot) (past_child o status active back)) notes d e
-    → exit.kind ≡ o.kind → exit.status ≡ status → exit.kept ≡ kept_by o.kind status (kept_in back) → o.generation ≡ s.generation
+    → exit.kind ≡ o.kind → exit.status ≡ status → exit.kept ≡ kept_by o.kind status (kept_told back) → o.generation ≡ s.generation
     → TellsRedos earlier d → TellsRedos (earlier ++ exits slot exit at s) e
 redos_exited earlier slot at exit s o status active back notes d e became kind is_status kept generation were =
     redos_push earlier slot at exit s o status active back notes d e became (told_exit o status active back exit s kind is_status kept generation) were

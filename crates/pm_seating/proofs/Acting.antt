@@ -1,6 +1,6 @@
 -- The acts at the board.
-use Rattle.std.proofs.Common.{◌≡◌, ℕ, suc, ◌+◌, ◌^◌, ◌<◌, ◌≤◌, List, [], ◌∷◌, ◌++◌, refl, sym, ap, subst, ◌∙◌, length, map, get_or, arith, nat_eq, append-nil, length-set, Ok, Err}
-use Rattle.std.specs.Prelude.{Bool, true, false, if◌then◌else◌, Option, Some, None, Result, IfSome}
+use Rattle.std.proofs.Common.{◌≡◌, ℕ, suc, ◌+◌, ◌^◌, ◌<◌, ◌≤◌, List, [], ◌∷◌, ◌++◌, refl, sym, ap, subst, ◌∙◌, length, map, get_or, arith, nat_eq, append-nil, length-set, Ok}
+use Rattle.std.specs.Prelude.{Bool, true, false, if◌then◌else◌, Option, Some, None, IfSome}
 use Rattle.pm_exit.specs.declared.child.Kind.{Kind}
 use Rattle.pm_exit.specs.declared.child.Kind.TheVariants as kind
 use Rattle.pm_state.specs.declared.action.Action.{Action}
@@ -20,13 +20,13 @@ use Rattle.pm_board.specs.Places.{SlotServes, is_auxiliary, is_connection, slot_
 use Rattle.pm_board.specs.Told.{after_step}
 use Rattle.pm_journal.specs.declared.act.Act.{Act}
 use Rattle.pm_journal.specs.declared.act.Act.TheVariants as act
-use Rattle.pm_journal.specs.declared.act.GenerationsSpent.{GenerationsSpent}
 use Rattle.pm_journal.specs.declared.roll.Enrolled.{Enrolled}
 use Rattle.pm_journal.specs.Laws.{GoesOnOverItsJournal}
+use Rattle.pm_journal.specs.NextsLaws.{first_is, next_given}
 use Rattle.pm_journal.specs.Roll.{kind_in}
 use Rattle.pm_journal.specs.Stands.{AtWork, Stands}
 use Rattle.pm_outside.specs.Added.{Added}
-use Rattle.pm_journal.specs.Standing.{Next, Standing, act_for, done, entry_for, first_due, is_spent, next_in, next_of, next_pid}
+use Rattle.pm_journal.specs.Standing.{Standing, act_for, done, entry_for, first_due, next_of, next_pid}
 use Rattle.pm_seating.specs.declared.audience.Audience.{Audience}
 use Rattle.pm_seating.specs.declared.audience.Audience.TheVariants.{Everyone, Stoppable, Checkpointer}
 use Rattle.pm_seating.specs.Acts.{HasLostNone, StartOnly, StartsAfresh, gate_by, gate_shown, MayDo, MayPerform, NoneIs, Performs, slot_of, steps_for}
@@ -35,86 +35,11 @@ use Rattle.pm_seating.specs.Calls.{slot_for}
 use Rattle.pm_seating.specs.Seating.{Seating, Move, Notes, Begun, Ended, begins, ends, begun_at, ended_at, board_steps, begun_by, ended_by, journal_of, seating_by, steps_by, is_meant, seated, seating_of, sends, sends_from, steps_of}
 use Rattle.pm_seating.specs.Standing.{AreOnRoll, View, IsRunning, IsSeated, Goes, SeatServes, view}
 use Rattle.pm_seating.proofs.Afresh.{afresh_acted, own_kind}
-use Rattle.pm_seating.proofs.Calling.{sat_down, told_more}
+use Rattle.pm_journal.specs.ToldLaws.{told_more}
+use Rattle.pm_seating.proofs.Calling.{sat_down}
 use Rattle.pm_seating.specs.FoldingLaws.{journal-more, seating-more, steps-more, begun-more, ended-more}
 use Rattle.pm_seating.proofs.Rolls.{cases, found_kind}
 use Rattle.pm_seating.proofs.Sends.{noted-steps, same-slots, same-generation, shows_same}
-
--- ---- what `next` answers
-
-pub record IsGivenNext (a : Action) (given : Act) (s : Standing) (n : Next) : Type 0 where
-  pub first : first_due s.due ≡ Some a
-  pub act_is : given ≡ act_for a s
-  pub entries : n.entries ≡ entry_for a s ∷ []
-  pub after : n.after ≡ done a s
-
-given_in : (due : List Action) (s : Standing) (given : Act) → s.due ≡ due → (next_in due s).answer ≡ Ok (Some given) → (a : Action) × IsGivenNext a given s (next_in due s)
-given_in [] s given is answer = absurd cc
-given_in (a ∷ rest) s given is answer =
-    elim (is_spent a s) as (λ (b : Bool). is_spent a s ≡ b → (next_in (a ∷ rest) s).answer ≡ Ok (Some given) → (x : Action) × IsGivenNext x given s (next_in (a ∷ rest) s)) [
-      | true ↦ λ spent answer'. absurd (let e : (next_in (a ∷ rest) s).answer ≡ Err (record {}) = rw spent refl in cc)
-      | false ↦ λ unspent answer'.
-          let done_is : next_in (a ∷ rest) s ≡ record { answer = Ok (Some (act_for a s)); entries = entry_for a s ∷ []; after = done a s } = rw unspent refl in (
-            a,
-            record {
-              first = ap first_due is;
-              act_is = some_of given (act_for a s) (sym answer' ∙ ap (λ (n : Next). n.answer) done_is);
-              entries = ap (λ (n : Next). n.entries) done_is;
-              after = ap (λ (n : Next). n.after) done_is;
-            },
-          )
-    ] refl answer
-  where
-    some_of : (x y : Act) → (let r : Result (Option Act) GenerationsSpent = Ok (Some x) in r ≡ Ok (Some y)) → x ≡ y
-    some_of x y e = cc
-
-pub next_given : (s : Standing) (given : Act) → (next_of s).answer ≡ Ok (Some given) → (a : Action) × IsGivenNext a given s (next_of s)
-next_given s given answer = given_in s.due s given refl answer
-
-none_in : (due : List Action) (s : Standing) → (next_in due s).answer ≡ Ok None → (next_in due s).after ≡ s
-none_in [] s answer = refl
-none_in (a ∷ rest) s answer =
-    elim (is_spent a s) as (λ (b : Bool). is_spent a s ≡ b → (next_in (a ∷ rest) s).answer ≡ Ok None → (next_in (a ∷ rest) s).after ≡ s) [
-      | true ↦ λ spent answer'. absurd (let e : (next_in (a ∷ rest) s).answer ≡ Err (record {}) = rw spent refl in cc)
-      | false ↦ λ unspent answer'. absurd (let e : (next_in (a ∷ rest) s).answer ≡ Ok (Some (act_for a s)) = rw unspent refl in cc)
-    ] refl answer
-
-pub next_none : (s : Standing) → (next_of s).answer ≡ Ok None → (next_of s).after ≡ s
-next_none s answer = none_in s.due s answer
-
-spent_in : (due : List Action) (s : Standing) (e : GenerationsSpent) → (next_in due s).answer ≡ Err e → (next_in due s).after ≡ s
-spent_in [] s e answer = absurd cc
-spent_in (a ∷ rest) s e answer =
-    elim (is_spent a s) as (λ (b : Bool). is_spent a s ≡ b → (next_in (a ∷ rest) s).answer ≡ Err e → (next_in (a ∷ rest) s).after ≡ s) [
-      | true ↦ λ spent answer'. (let is : next_in (a ∷ rest) s ≡ record { answer = Err (record {}); entries = []; after = s } = rw spent refl in ap (λ (n : Next). n.after) is)
-      | false ↦ λ unspent answer'. absurd (let x : (next_in (a ∷ rest) s).answer ≡ Ok (Some (act_for a s)) = rw unspent refl in cc)
-    ] refl answer
-
-pub next_spent : (s : Standing) (e : GenerationsSpent) → (next_of s).answer ≡ Err e → (next_of s).after ≡ s
-next_spent s e answer = spent_in s.due s e answer
-
--- and nothing is noted
-none_noted_in : (due : List Action) (s : Standing) → (next_in due s).answer ≡ Ok None → (next_in due s).entries ≡ []
-none_noted_in [] s answer = refl
-none_noted_in (a ∷ rest) s answer =
-    elim (is_spent a s) as (λ (b : Bool). is_spent a s ≡ b → (next_in (a ∷ rest) s).answer ≡ Ok None → (next_in (a ∷ rest) s).entries ≡ []) [
-      | true ↦ λ spent answer'. absurd (let e : (next_in (a ∷ rest) s).answer ≡ Err (record {}) = rw spent refl in cc)
-      | false ↦ λ unspent answer'. absurd (let e : (next_in (a ∷ rest) s).answer ≡ Ok (Some (act_for a s)) = rw unspent refl in cc)
-    ] refl answer
-
-pub none_noted : (s : Standing) → (next_of s).answer ≡ Ok None → (next_of s).entries ≡ []
-none_noted s answer = none_noted_in s.due s answer
-
-spent_noted_in : (due : List Action) (s : Standing) (e : GenerationsSpent) → (next_in due s).answer ≡ Err e → (next_in due s).entries ≡ []
-spent_noted_in [] s e answer = refl
-spent_noted_in (a ∷ rest) s e answer =
-    elim (is_spent a s) as (λ (b : Bool). is_spent a s ≡ b → (next_in (a ∷ rest) s).answer ≡ Err e → (next_in (a ∷ rest) s).entries ≡ []) [
-      | true ↦ λ spent answer'. (let is : next_in (a ∷ rest) s ≡ record { answer = Err (record {}); entries = []; after = s } = rw spent refl in ap (λ (n : Next). n.entries) is)
-      | false ↦ λ unspent answer'. absurd (let x : (next_in (a ∷ rest) s).answer ≡ Ok (Some (act_for a s)) = rw unspent refl in cc)
-    ] refl answer
-
-pub spent_noted : (s : Standing) (e : GenerationsSpent) → (next_of s).answer ≡ Err e → (next_of s).entries ≡ []
-spent_noted s e answer = spent_noted_in s.due s e answer
 
 -- ---- who is there
 
@@ -425,13 +350,6 @@ module _ {D : Type 0} where
   same-count d e seats seats' s ordered (action.Say line) has = ap length has.1
   same-count d e seats seats' s ordered (action.End how) has = ap length has.1
 
-pub split_due : (due : List Action) (a : Action) → first_due due ≡ Some a → due ≡ a ∷ without_first due
-split_due [] a is = absurd (let no_ : ◌≡◌ {A = Option Action} None (Some a) = is in cc)
-split_due (x ∷ due) a is = ap (λ (y : Action). y ∷ due) (some_of x a is)
-  where
-    some_of : (x y : Action) → Some x ≡ Some y → x ≡ y
-    some_of x y e = cc
-
 module _ {D : Type 0} where
   -- the first act that was due was noted and done
   pub acted : GoesOnOverItsJournal → (v w : View D) (ordered : Kind → D) (a : Action) → first_due v.work.standing.due ≡ Some a
@@ -441,7 +359,7 @@ module _ {D : Type 0} where
   acted work v w ordered a first after adds has limits count earlier at =
       let s : Standing = v.work.standing in
       let e : PmEvent = entry_for a s in
-      let may' : MayDo (a ∷ without_first s.due) (gate_of v.board) s.children = subst (λ (due : List Action). MayDo due (gate_of v.board) s.children) (split_due s.due a first) at.may in
+      let may' : MayDo (a ∷ without_first s.due) (gate_of v.board) s.children = subst (λ (due : List Action). MayDo due (gate_of v.board) s.children) (first_is s.due a first) at.may in
       record {
         past = at.past;
         stands = subst (λ (x : Standing). Stands limits (Some (journal_of count (earlier ++ Notes e (slot_for a) ∷ []))) x at.past) (sym after)
@@ -449,7 +367,7 @@ module _ {D : Type 0} where
             (work.acts limits (journal_of count earlier) s at.past a at.stands first));
         gate = subst (λ (x : Standing). gate_by x.due (gate_of w.board) ≡ gate_shown at.past.now.shared) (sym after)
             (acted_gate v.board w.board v.seats w.seats s ordered a (without_first s.due) has
-            ∙ (sym (ap (λ (due : List Action). gate_by due (gate_of v.board)) (split_due s.due a first)) ∙ at.gate));
+            ∙ (sym (ap (λ (due : List Action). gate_by due (gate_of v.board)) (first_is s.due a first)) ∙ at.gate));
         told = subst (λ (es : List PmEvent). IfSome w.work.told (λ xs. xs ≡ es)) (sym (journal-more count earlier (Notes e (slot_for a)))) (told_more v.work.told w.work.told (journal_of count earlier) (e ∷ []) at.told adds);
         seated = subst (λ (x : Standing). IsSeated count (earlier ++ Notes e (slot_for a) ∷ []) w.board w.seats x) (sym after)
             (acted_seated count earlier v.board w.board v.seats w.seats s ordered a (without_first s.due) at.seated may' at.many has);
@@ -457,7 +375,7 @@ module _ {D : Type 0} where
         many = subst (λ (n : ℕ). 7 < n) (sym (same-count v.board w.board v.seats w.seats s ordered a has)) at.many;
         afresh = subst (λ (x : Standing). StartsAfresh w.board x.due x.machine) (sym after)
             (afresh_acted v.board w.board v.seats w.seats s ordered a (without_first s.due) has
-            (subst (λ (due : List Action). StartsAfresh v.board due s.machine) (split_due s.due a first) at.afresh));
+            (subst (λ (due : List Action). StartsAfresh v.board due s.machine) (first_is s.due a first) at.afresh));
       }
 
   -- and before that it might be done
@@ -466,7 +384,7 @@ module _ {D : Type 0} where
   may_next work d given run answer pids =
       let s : Standing = work.standing in
       let next = next_given s given answer in
-      let due : s.due ≡ next.0 ∷ without_first s.due = split_due s.due next.0 next.1.first in
+      let due : s.due ≡ next.0 ∷ without_first s.due = first_is s.due next.0 next.1.first in
       subst (λ (a : Act). MayPerform a d (seats_of d)) (sym next.1.act_is)
       (may_perform run.1 run.2 d (seats_of d) s next.0 (without_first s.due) run.3.seated
       (subst (λ (acts : List Action). MayDo acts (gate_of d) s.children) due run.3.may)

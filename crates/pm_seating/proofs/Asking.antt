@@ -31,7 +31,8 @@ use Rattle.pm_seating.specs.Seating.{Move, Notes, Reads, PortEnds, PidsEnd, Kill
 use Rattle.pm_seating.specs.Standing.{AreOnRoll, Goes, IsAt, IsSeated, View, kind_seated}
 use Rattle.pm_seating.proofs.Acting.{moved, same-gate}
 use Rattle.pm_seating.proofs.Afresh.{afresh_called, afresh_still, stepped_same}
-use Rattle.pm_seating.proofs.Calling.{afresh_noted, due_noted, rested, told_more}
+use Rattle.pm_journal.specs.ToldLaws.{told_more}
+use Rattle.pm_seating.proofs.Calling.{afresh_noted, due_noted, rested}
 use Rattle.pm_seating.specs.FoldingLaws.{journal-more}
 use Rattle.pm_seating.proofs.Gating.{calls_leave}
 use Rattle.pm_seating.proofs.Resting.{call_may}

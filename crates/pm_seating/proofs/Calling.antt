@@ -26,6 +26,7 @@ use Rattle.pm_journal.specs.Roll.{kind_in, without}
 use Rattle.pm_outside.specs.Added.{Added}
 use Rattle.pm_journal.specs.Standing.{IsAtRest, MayTake, Standing, accepting, exiting, made, next_pid, decision_on, all_noted, called, ends_redo, exit_call, exit_entry, later, noted}
 use Rattle.pm_journal.specs.Stands.{HasPast, IsSettled, Stands, behind}
+use Rattle.pm_journal.specs.ToldLaws.{stands_told, told_more}
 use Rattle.pm_seating.specs.Seating.{Seating, Move, Notes, Begun, Ended, child, with_seat, seated, steps_of, begins, ends, ended_by, steps_by, begun_at, ended_at, seating_of, board_steps, journal_of}
 use Rattle.pm_state.specs.declared.action.Action.{Action}
 use Rattle.pm_state.specs.Journal.{acts_of_call}
@@ -42,26 +43,6 @@ use Rattle.pm_board.specs.declared.views.PastChild.{PastChild}
 use Rattle.pm_seating.specs.FoldingLaws.{journal-more, journal-notes, seating-more, steps-more, begun-more, ended-more}
 use Rattle.pm_seating.proofs.Rolls.{on_roll_more, on_roll_less, found_kind, cases, same_pid, other_pid, stood_before}
 use Rattle.pm_seating.proofs.Sitting.{shows_set, had_begun, had_ended}
-
-tells : (told : Option (List PmEvent)) (journal other : List PmEvent) → IfSome told (λ es. es ≡ journal) → journal ≡ other → IfSome told (λ es. es ≡ other)
-tells None journal other is same = tt
-tells (Some es) journal other is same = is ∙ same
-
-pub told_more : (told now : Option (List PmEvent)) (journal more : List PmEvent) → IfSome told (λ es. es ≡ journal) → Added more told now → IfSome now (λ es. es ≡ journal ++ more)
-told_more None now journal more is adds = subst (λ (t : Option (List PmEvent)). IfSome t (λ es. es ≡ journal ++ more)) (sym adds) tt
-told_more (Some es) now journal more is adds = subst (λ (t : Option (List PmEvent)). IfSome t (λ es. es ≡ journal ++ more)) (sym adds) (ap (λ (es : List PmEvent). es ++ more) is)
-
--- over its journal, whether it is told or not
-pub stands_told : (limits : Limits) (told : Option (List PmEvent)) (journal : List PmEvent) (s : Standing) (h : Trace) → IfSome told (λ es. es ≡ journal) → Stands limits (Some journal) s h → Stands limits told s h
-stands_told limits told journal s h is stands = record {
-  journal = stands.journal;
-  told_is = tells told journal stands.journal is stands.told_is;
-  legal = stands.legal;
-  remembers = stands.remembers;
-  coming = stands.coming;
-  past = stands.past;
-  pids = stands.pids;
-}
 
 pub past_of : {D : Type 0} (v : View D) → IsRunning v → HasPast v.work
 past_of v running = (running.0, running.3.past, stands_told running.0 v.work.told (journal_of running.1 running.2) v.work.standing running.3.past running.3.told running.3.stands)

@@ -68,34 +68,10 @@ times_any gives es before now times = record {
 
 pub asked_in-append : (xs ys : List PmEvent) → asked_in (xs ++ ys) ≡ asked_in xs ++ asked_in ys
 asked_in-append [] ys = refl
-asked_in-append (entry.Started pid kind ∷ xs) ys = asked_in-append xs ys
-asked_in-append (entry.Accepted pid decision ∷ xs) ys = asked_in-append xs ys
-asked_in-append (entry.Exited pid kind status was_active at ∷ xs) ys = asked_in-append xs ys
 asked_in-append (entry.Asked mode at ∷ xs) ys = ap (λ (l : List Mode). mode ∷ l) (asked_in-append xs ys)
-asked_in-append (entry.KillAsked pid ∷ xs) ys = asked_in-append xs ys
-asked_in-append (entry.QuitSent why ∷ xs) ys = asked_in-append xs ys
-asked_in-append (entry.TerminateSent ∷ xs) ys = asked_in-append xs ys
-asked_in-append (entry.KillSent at ∷ xs) ys = asked_in-append xs ys
-asked_in-append (entry.CheckpointAsked ∷ xs) ys = asked_in-append xs ys
-asked_in-append (entry.RedoEnded generation kept ∷ xs) ys = asked_in-append xs ys
-asked_in-append (entry.Ready generation ∷ xs) ys = asked_in-append xs ys
-asked_in-append (entry.Reset generation ∷ xs) ys = asked_in-append xs ys
-asked_in-append (entry.Said line ∷ xs) ys = asked_in-append xs ys
-asked_in-append (entry.Ended how ∷ xs) ys = asked_in-append xs ys
+asked_in-append (_ ∷ xs) ys = asked_in-append xs ys
 
 pub accepted_in-append : (xs ys : List PmEvent) → accepted_in (xs ++ ys) ≡ accepted_in xs ++ accepted_in ys
 accepted_in-append [] ys = refl
-accepted_in-append (entry.Started pid kind ∷ xs) ys = accepted_in-append xs ys
 accepted_in-append (entry.Accepted pid decision ∷ xs) ys = ap (λ (l : List Taken). record { pid = pid; decision = decision } ∷ l) (accepted_in-append xs ys)
-accepted_in-append (entry.Exited pid kind status was_active at ∷ xs) ys = accepted_in-append xs ys
-accepted_in-append (entry.Asked mode at ∷ xs) ys = accepted_in-append xs ys
-accepted_in-append (entry.KillAsked pid ∷ xs) ys = accepted_in-append xs ys
-accepted_in-append (entry.QuitSent why ∷ xs) ys = accepted_in-append xs ys
-accepted_in-append (entry.TerminateSent ∷ xs) ys = accepted_in-append xs ys
-accepted_in-append (entry.KillSent at ∷ xs) ys = accepted_in-append xs ys
-accepted_in-append (entry.CheckpointAsked ∷ xs) ys = accepted_in-append xs ys
-accepted_in-append (entry.RedoEnded generation kept ∷ xs) ys = accepted_in-append xs ys
-accepted_in-append (entry.Ready generation ∷ xs) ys = accepted_in-append xs ys
-accepted_in-append (entry.Reset generation ∷ xs) ys = accepted_in-append xs ys
-accepted_in-append (entry.Said line ∷ xs) ys = accepted_in-append xs ys
-accepted_in-append (entry.Ended how ∷ xs) ys = accepted_in-append xs ys
+accepted_in-append (_ ∷ xs) ys = accepted_in-append xs ys

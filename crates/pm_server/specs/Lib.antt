@@ -1,6 +1,8 @@
 pub mod Views
 pub mod Journal
 pub mod JournalLaws
+pub mod ReplayLaws
+pub mod CalmLaws
 pub mod Story
 pub mod Ends
 pub mod Spans

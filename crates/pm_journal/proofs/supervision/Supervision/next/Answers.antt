@@ -2,7 +2,8 @@ use Rattle.std.proofs.Common.{[], ◌∷◌, ◌++◌, Some, ap, sym, ◌∙◌,
 use Rattle.std.specs.Option.{option_map}
 use Rattle.pm_journal.specs.Standing.{noted, reported, standing_of}
 use Rattle.pm_outside.specs.AddedLaws.{added_none}
-use Rattle.pm_journal.proofs.Nexts.{has-numbers, may-do, next-done, next-none, next-spent, settled-done, shorter, stands-done}
+use Rattle.pm_journal.specs.NextsLaws.{shorter}
+use Rattle.pm_journal.proofs.Nexts.{has-numbers, may-do, next-done, next-none, next-spent, settled-done, stands-done}
 use Rattle.pm_journal.proofs.supervision.Supervision.next.Goals as goal
 
 pub returns-in_default-clause-act : goal.returns-in_default-clause-act

@@ -6,13 +6,14 @@ use Rattle.pm_state.specs.Journal.{without_first}
 use Rattle.pm_board.specs.Gate.{gate_of}
 use Rattle.pm_journal.specs.declared.act.Act.{Act}
 use Rattle.pm_journal.specs.declared.act.GenerationsSpent.{GenerationsSpent}
+use Rattle.pm_journal.specs.NextsLaws.{first_is, next_given, next_none, next_spent}
 use Rattle.pm_outside.specs.Added.{Added}
 use Rattle.pm_journal.specs.Standing.{entry_for}
 use Rattle.pm_journal.specs.Supervision.{at_work, standing, told}
 use Rattle.pm_seating.specs.Acts.{MayDo, MayPerform, Performs}
 use Rattle.pm_seating.specs.Board.{seats_of}
 use Rattle.pm_seating.specs.Standing.{view}
-use Rattle.pm_seating.proofs.Acting.{next_given, next_none, next_spent, none_noted, spent_noted, may_next, acted, split_due}
+use Rattle.pm_seating.proofs.Acting.{may_next, acted}
 use Rattle.pm_seating.proofs.Keeping.{adds_none, adds_tells, keeps_acted}
 use Rattle.pm_seating.proofs.Reaping.{reaped_acted}
 use Rattle.pm_seating.proofs.desk.Desk.do_next.Goals as goal
@@ -60,19 +61,19 @@ returns-in-Ok-Some-clause-reaped g c =
     let run = c.requires.running in
     let given = next_given s c.in-Ok-Some.act (sym (rw c.in-Ok-Some.field-0-is at c.in-Ok-Some.ensures.act)) in
     λ n were. reaped_acted n run.1 run.2 d e (seats_of d) (seats_of e) s g.M.Report.ordered given.0 (without_first s.due) run.3.seated
-    (subst (λ (due : List Action). MayDo due (gate_of d) s.children) (split_due s.due given.0 given.1.first) run.3.may)
+    (subst (λ (due : List Action). MayDo due (gate_of d) s.children) (first_is s.due given.0 given.1.first) run.3.may)
     (subst (λ (a : Act). Performs a g.M.Report.ordered d (seats_of d) e (seats_of e)) given.1.act_is c.perform.ensures.performs) were
 
 pub returns-in-Ok-None-clause-act : goal.returns-in-Ok-None-clause-act
 returns-in-Ok-None-clause-act g c =
     let answer = sym (rw c.in-Ok-None.field-0-is at c.in-Ok-None.ensures.act) in
-    let s = standing c.args.self.now.supervision in
-    (c.in-Ok-None.ensures.standing ∙ next_none s answer, adds_none _ _ _ (none_noted s answer) c.in-Ok-None.ensures.told, refl, refl)
+    let none = next_none (standing c.args.self.now.supervision) answer in
+    (c.in-Ok-None.ensures.standing ∙ none.after, adds_none _ _ _ none.entries c.in-Ok-None.ensures.told, refl, refl)
 
 pub returns-in-Err-clause-act : goal.returns-in-Err-clause-act
 returns-in-Err-clause-act g c =
-    let s = standing c.args.self.now.supervision in
-    (c.in-Err.ensures.standing ∙ next_spent s _ (sym c.in-Err.ensures.act), adds_none _ _ _ (spent_noted s _ (sym c.in-Err.ensures.act)) c.in-Err.ensures.told, refl, refl)
+    let spent = next_spent (standing c.args.self.now.supervision) _ (sym c.in-Err.ensures.act) in
+    (c.in-Err.ensures.standing ∙ spent.after, adds_none _ _ _ spent.entries c.in-Err.ensures.told, refl, refl)
 
 pub returns-in-Ok-Some-clause-tells : goal.returns-in-Ok-Some-clause-tells
 returns-in-Ok-Some-clause-tells g c = ap (λ x. is_some (told x)) c.perform.ensures.supervision ∙ adds_tells _ _ _ c.in-Ok-Some.ensures.told

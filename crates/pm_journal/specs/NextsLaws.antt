@@ -1,0 +1,100 @@
+-- What the next act is that is due, and what it leaves.
+use Rattle.std.proofs.Common.{◌≡◌, ◌+◌, List, [], ◌∷◌, Option, None, Some, Result, Ok, Err, refl, sym, ap, ◌∙◌, arith, length}
+use Rattle.std.specs.Prelude.{Bool, true, false}
+use Rattle.std.proofs.lemmas.Bool.{eqb-true}
+use Rattle.pm_state.specs.declared.action.Action.{Action}
+use Rattle.pm_state.specs.declared.action.Action.TheVariants as act
+use Rattle.pm_state.specs.Journal.{without_first}
+use Rattle.pm_journal.specs.declared.act.Act.{Act}
+use Rattle.pm_journal.specs.declared.act.GenerationsSpent.{GenerationsSpent}
+use Rattle.pm_journal.specs.Standing.{Next, Standing, act_for, done, entry_for, first_due, is_spent, next_in, next_of}
+
+-- ---- the first act
+
+pub first_is : (acts : List Action) (a : Action) → first_due acts ≡ Some a → acts ≡ a ∷ without_first acts
+first_is [] a is = absurd cc
+first_is (b ∷ acts) a is = cc
+
+pub shorter : (acts : List Action) (a : Action) → first_due acts ≡ Some a → length (without_first acts) + 1 ≡ length acts
+shorter [] a is = absurd cc
+shorter (b ∷ acts) a is = omega arith
+
+-- ---- what `next` answers
+
+-- an act was given
+pub record IsGivenNext (a : Action) (act : Act) (s : Standing) (n : Next) : Type 0 where
+  pub first : first_due s.due ≡ Some a
+  pub act_is : act ≡ act_for a s
+  pub entries : n.entries ≡ entry_for a s ∷ []
+  pub after : n.after ≡ done a s
+
+given_in : (due : List Action) (s : Standing) (act : Act) → s.due ≡ due → (next_in due s).answer ≡ Ok (Some act) → (a : Action) × IsGivenNext a act s (next_in due s)
+given_in [] s act is answer = absurd cc
+given_in (a ∷ rest) s act is answer =
+    elim (is_spent a s) as (λ (b : Bool). is_spent a s ≡ b → (next_in (a ∷ rest) s).answer ≡ Ok (Some act) → (x : Action) × IsGivenNext x act s (next_in (a ∷ rest) s)) [
+      | true ↦ λ spent answer'. absurd (let e : (next_in (a ∷ rest) s).answer ≡ Err (record {}) = rw spent refl in cc)
+      | false ↦ λ unspent answer'.
+          let done_is : next_in (a ∷ rest) s ≡ record { answer = Ok (Some (act_for a s)); entries = entry_for a s ∷ []; after = done a s } = rw unspent refl in (
+            a,
+            record {
+              first = ap first_due is;
+              act_is = some_of act (act_for a s) (sym answer' ∙ ap (λ (n : Next). n.answer) done_is);
+              entries = ap (λ (n : Next). n.entries) done_is;
+              after = ap (λ (n : Next). n.after) done_is;
+            },
+          )
+    ] refl answer
+  where
+    some_of : (x y : Act) → (let r : Result (Option Act) GenerationsSpent = Ok (Some x) in r ≡ Ok (Some y)) → x ≡ y
+    some_of x y e = cc
+
+pub next_given : (s : Standing) (act : Act) → (next_of s).answer ≡ Ok (Some act) → (a : Action) × IsGivenNext a act s (next_of s)
+next_given s act answer = given_in s.due s act refl answer
+
+pub record IsNone (s : Standing) (n : Next) : Type 0 where
+  pub none_due : s.due ≡ []
+  pub after : n.after ≡ s
+  pub entries : n.entries ≡ []
+
+none_in : (due : List Action) (s : Standing) → s.due ≡ due → (next_in due s).answer ≡ Ok None → IsNone s (next_in due s)
+none_in [] s is answer = record { none_due = is; after = refl; entries = refl }
+none_in (a ∷ rest) s is answer =
+    elim (is_spent a s) as (λ (b : Bool). is_spent a s ≡ b → (next_in (a ∷ rest) s).answer ≡ Ok None → IsNone s (next_in (a ∷ rest) s)) [
+      | true ↦ λ spent answer'. absurd (let e : (next_in (a ∷ rest) s).answer ≡ Err (record {}) = rw spent refl in cc)
+      | false ↦ λ unspent answer'. absurd (let e : (next_in (a ∷ rest) s).answer ≡ Ok (Some (act_for a s)) = rw unspent refl in cc)
+    ] refl answer
+
+pub next_none : (s : Standing) → (next_of s).answer ≡ Ok None → IsNone s (next_of s)
+next_none s answer = none_in s.due s refl answer
+
+pub record IsSpentNext (s : Standing) (n : Next) : Type 0 where
+  pub generation : s.generation ≡ 4294967295
+  pub reset : first_due s.due ≡ Some act.Reset
+  pub after : n.after ≡ s
+  pub entries : n.entries ≡ []
+
+spent_at : (a : Action) (s : Standing) → is_spent a s ≡ true → s.generation ≡ 4294967295
+spent_at act.Reset s spent = eqb-true s.generation 4294967295 spent
+spent_at _ s spent = absurd cc
+
+spent_first : (a : Action) (s : Standing) → is_spent a s ≡ true → a ≡ act.Reset
+spent_first act.Reset s spent = refl
+spent_first _ s spent = absurd cc
+
+spent_in : (due : List Action) (s : Standing) (e : GenerationsSpent) → s.due ≡ due → (next_in due s).answer ≡ Err e → IsSpentNext s (next_in due s)
+spent_in [] s e is answer = absurd cc
+spent_in (a ∷ rest) s e is answer =
+    elim (is_spent a s) as (λ (b : Bool). is_spent a s ≡ b → (next_in (a ∷ rest) s).answer ≡ Err e → IsSpentNext s (next_in (a ∷ rest) s)) [
+      | true ↦ λ spent answer'.
+          let next_is : next_in (a ∷ rest) s ≡ record { answer = Err (record {}); entries = []; after = s } = rw spent refl in
+          record {
+            generation = spent_at a s spent;
+            reset = ap first_due is ∙ ap (λ (x : Action). Some x) (spent_first a s spent);
+            after = ap (λ (n : Next). n.after) next_is;
+            entries = ap (λ (n : Next). n.entries) next_is;
+          }
+      | false ↦ λ unspent answer'. absurd (let x : (next_in (a ∷ rest) s).answer ≡ Ok (Some (act_for a s)) = rw unspent refl in cc)
+    ] refl answer
+
+pub next_spent : (s : Standing) (e : GenerationsSpent) → (next_of s).answer ≡ Err e → IsSpentNext s (next_of s)
+next_spent s e answer = spent_in s.due s e refl answer
