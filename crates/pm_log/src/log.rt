@@ -107,7 +107,8 @@ impl Log {
         self.end.saturating_sub(self.base_end)
     }
 
-    fn room(&self) -> u64
+    /// For how many bytes there is room in front of the gate that closes the file.
+    pub fn room(&self) -> u64
         ensures { result ≡ room_of self.now }
     {
         self.limit.saturating_sub(self.end.saturating_add(1))

@@ -13,7 +13,7 @@ use pm_journal::Supervision;
 use pm_lines::Log;
 use pm_outside::{Chronicle, Clock, Port, Sink};
 use pm_query::BookEntry;
-use pm_segment::Sole;
+use pm_segment::{Commits, Sole};
 use pm_server::{Conf, ServerEnd, say_end};
 use pm_state::PmEvent;
 use std::alloc::Global;
@@ -53,7 +53,7 @@ where
     } = outside;
     let supervision = Supervision::new(alloc, conf.limits, journal);
     let mut log = Log::new(sink);
-    let store = match Sole::new(alloc, disk, book) {
+    let store = match Sole::new(alloc, Commits::AtOnce, disk, book) {
         Ok(store) => store,
         Err((disk, book)) => {
             say_end(&mut log, ServerEnd::NoMemory);

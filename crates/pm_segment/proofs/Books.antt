@@ -1,5 +1,5 @@
 -- Books of a store that go on by an entry.
-use Rattle.std.proofs.Common.{◌≡◌, Bool, true, false, ◌||◌, ◌⊎◌, inl, inr, ℕ, ◌+◌, ◌-◌, ◌^◌, ◌<◌, ◌≤◌, List, [], ◌∷◌, ◌++◌, All, Option, None, Some, refl, sym, ◌∙◌, ap, subst, arith, append_assoc, append-nil, length-append}
+use Rattle.std.proofs.Common.{◌≡◌, Bool, true, false, ◌||◌, ◌⊎◌, inl, inr, ℕ, ◌+◌, ◌-◌, ◌^◌, ◌<◌, ◌≤◌, List, [], ◌∷◌, ◌++◌, drop, All, Option, None, Some, refl, sym, ◌∙◌, ap, subst, arith, append_assoc, append-nil, length-append}
 use Rattle.std.specs.List.{list_any}
 use Rattle.std.proofs.lemmas.Bool.{cases_lt}
 use Rattle.std.proofs.lemmas.List.Sums.{fold-append}
@@ -150,24 +150,27 @@ pub most_grows : (base : Base) (book : List BookEntry) (entry : BookEntry) → m
 most_grows base book entry = omega (arith, need_grows (needs_of book) entry, needs_push book entry)
 
 -- the tallies that an entry leaves, where redo has ended: how they are read off the entry
-pub record Tallies (base : Base) (at : Moment) (book : List BookEntry) (entry : BookEntry) (kept : ℕ) (closed : Bool) (history : History) : Type 0 where
+pub record Tallies (base : Base) (at : Moment) (book : List BookEntry) (entry : BookEntry) (live : Live) (history : History) : Type 0 where
   pub not_gone : IsNotGone entry
   pub may : MayFollow base book entry
   pub begun : 1 ≤ at.generation
   pub generation : (n : ℕ) → generation_after n entry ≡ n
   pub attended : IsAttendedBy at.inside (book ++ entry ∷ [])
-  pub redone : kept_after (kept_by_redo book) entry ≡ Some kept
-  pub closed_is : list_any ends_cleanly (present_after (present book) entry) ≡ closed
+  pub redone : kept_after (kept_by_redo book) entry ≡ Some live.kept
+  pub closed_is : list_any ends_cleanly (present_after (present book) entry) ≡ live.closed
   pub history_is : history_after (kept_by_redo book) (history_of base book) entry ≡ history
-  pub in_time : tick_after (last_tick book) entry ≤ at.ticks
+  pub in_time : tick_after (last_tick book) entry ≤ live.mark
+  pub marked : live.mark ≤ at.ticks
+  pub based : base.count ≤ live.log.count
+  pub behind : live.log.since ≡ None → drop (live.log.count - base.count) history.commits ≡ at.staged
   pub each : All (IsFaultBy at.faults) (faults_after (faults_of book) entry)
   pub base_fits : bytes_of_rows base.rows ≤ base.bytes
 
 pub gone_push : (base : Base) (at : Moment) (live : Live) (book : List BookEntry) (entry : BookEntry) (history : History)
-    → at.live ≡ Some live → IsLegal base book → generation_of book ≡ at.generation → Tallies base at book entry live.kept live.closed history
+    → at.live ≡ Some live → IsLegal base book → generation_of book ≡ at.generation → Tallies base at book entry live history
     → TellsBreak live.log.since live.faults (fault_here (faults_here book) entry) → ((since : ℕ) → live.log.since ≡ Some since → live.faults ≤ at.faults)
-    → at.rows ≡ rows_of history → (live.log.since ≡ None → live.log.count ≡ count_of history) → history.base ≡ standing_of base
-    → (live.log.since ≡ None → live.log.end + 1 ≤ base.bytes + 1024 + need_after (needs_of book) entry)
+    → at.rows ≡ rows_of history → (live.log.since ≡ None → live.front ≡ count_of history) → history.base ≡ standing_of base
+    → (live.log.since ≡ None → live.log.end + 1 + live.needs ≤ base.bytes + 1024 + need_after (needs_of book) entry)
     → live.log.limit ≡ max_file_bytes → base.faults ≤ at.faults → HasGone base at live (book ++ entry ∷ [])
 gone_push base at live book entry history read legal generation tallies broken known rows count base_is fits limit later =
     let is : history_of base (book ++ entry ∷ []) ≡ history = history_push base book entry ∙ tallies.history_is in
@@ -183,11 +186,14 @@ gone_push base at live book entry history read legal generation tallies broken k
       known = known;
       rows_are = rows ∙ sym (ap rows_of is);
       count_is = λ unbroken. count unbroken ∙ sym (ap count_of is);
+      behind = λ unbroken. ap (λ (h : History). drop (live.log.count - base.count) h.commits) is ∙ tallies.behind unbroken;
       base_is = ap (λ (h : History). h.base) is ∙ base_is;
       base_fits = tallies.base_fits;
-      fits = λ unbroken. subst (λ (n : ℕ). live.log.end + 1 ≤ base.bytes + 1024 + n) (sym (needs_push book entry)) (fits unbroken);
+      based = tallies.based;
+      fits = λ unbroken. subst (λ (n : ℕ). live.log.end + 1 + live.needs ≤ base.bytes + 1024 + n) (sym (needs_push book entry)) (fits unbroken);
       limit = limit;
-      in_time = subst (λ (n : ℕ). n ≤ at.ticks) (sym (tick_push book entry)) tallies.in_time;
+      in_time = subst (λ (n : ℕ). n ≤ live.mark) (sym (tick_push book entry)) tallies.in_time;
+      marked = tallies.marked;
       counted = record { later = later; each = subst (All (IsFaultBy at.faults)) (sym (faults_push book entry)) tallies.each };
     }
 

@@ -45,11 +45,11 @@ is_replay at origin base told = book_then at.book (λ book. IsSure at → HasBeg
 
 pub is_run : PastStays → PresentIsWhole → (at : Moment) (origin : Origin) (base : Base) → GoesFrom origin base at → Told at (IsRun origin base at)
 is_run past present_whole at origin base told = told_then at.book at.files (λ book. IsSure at → HasBegun base at book) (HasHeld origin base at) (IsRun origin base at) (λ book gone held.
-    durable past present_whole base book origin.tick held.start at.ticks at.ticks held.flushed at.images at.images held.keeps held.begun held.opening) told
+    durable past present_whole base book origin.tick held.start held.mark at.ticks held.flushed at.images at.images held.keeps held.begun held.opening) told
 
 left_now : (at : Moment) (origin : Origin) (base : Base) (book : List BookEntry) → HasHeld origin base at book → (image : Files) → at.images at.ticks image → HoldsAcknowledged Means (history_of base book) image
 left_now at origin base book held image there =
-    ∥∥₁_map (held.keeps.since at.ticks (omega arith) (omega arith) image there) (λ h. (h.0, omega (arith, h.1, held.keeps.acked), h.2, h.3))
+    ∥∥₁_map (held.keeps.since at.ticks held.keeps.marked (omega arith) image there) (λ h. (h.0, omega (arith, h.1, held.keeps.acked), h.2, h.3))
 
 pub leaves_acknowledged : (at : Moment) (origin : Origin) (base : Base) → IfSome at.files (at.images at.ticks) → GoesFrom origin base at → Told at (LeavesAcknowledged base at)
 leaves_acknowledged at origin base reads told = told_then at.book at.files (λ book. IsSure at → HasBegun base at book) (HasHeld origin base at) (LeavesAcknowledged base at) (λ book gone held. record {
@@ -68,7 +68,7 @@ unbroken_of (Some since) count here none (first, rest, is, there) =
 
 -- a log that is closed, and goes on, is clean
 pub stays_clean : (at : Moment)
-    → ((live : Live) → at.live ≡ Some live → live.closed ≡ true → live.log.since ≡ None → IfSome at.files (λ files. ∥ StandsAfresh live.log.epoch true live.log at.rows files ∥₁))
+    → ((live : Live) → at.live ≡ Some live → live.closed ≡ true → live.log.since ≡ None → IfSome at.files (λ files. ∥ StandsAfresh live.log.epoch true live at.rows files ∥₁))
     → (origin : Origin) (base : Base) → GoesFrom origin base at → IfSome at.book (λ book. IsSure at → StaysClean at book)
 stays_clean at stands origin base told = book_then at.book (λ book. IsSure at → HasBegun base at book) (λ book. IsSure at → StaysClean at book) (λ book begun sure. each book (begun sure)) told.0
   where

@@ -8,7 +8,9 @@ pub mod Reading
 pub mod Redos
 pub mod Resting
 pub mod Runs
+pub mod Staging
 pub mod Steps
+pub mod Waiting
 pub mod Removals
 pub mod Renewals
 pub mod Others

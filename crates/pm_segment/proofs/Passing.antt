@@ -15,7 +15,7 @@ use Rattle.pm_segment.specs.declared.live.Live.{Live}
 use Rattle.pm_segment.specs.declared.pass.Pass.{Pass}
 use Rattle.pm_segment.specs.Moment.{Moment}
 use Rattle.pm_outside.specs.Added.{Added}
-use Rattle.pm_segment.specs.Passes.{Admits, HasAnswer, IsFlushed, IsInside}
+use Rattle.pm_segment.specs.Passes.{Admits, HasAnswer, IsStaged, IsInside}
 use Rattle.pm_segment.proofs.Books.{present_push, times_push}
 use Rattle.pm_segment.proofs.Steps.{Attends}
 
@@ -89,18 +89,20 @@ pub reached_answer : (pid : ℕ) (seen : Option ℕ) (front : ℕ) (book : Optio
 reached_answer pid seen front None within inside = tt
 reached_answer pid seen front (Some book) within inside = reached_in pid seen front book within inside.answered
 
--- what it has seen isn't above the log
-pub not_above : (seen : Option ℕ) (live : Option Live) (its : Live) → live ≡ Some its → IsFlushed seen live → IsNoLess seen its.log.count
-not_above None live its is flushed = tt
-not_above (Some front) live its is flushed = subst (IsFlushed (Some front)) is flushed
+-- what it has seen isn't above what was taken
+pub no_less : (seen : Option ℕ) (live : Option Live) (its : Live) (front : ℕ) → live ≡ Some its → its.front ≤ front → IsStaged seen live → IsNoLess seen front
+no_less None live its front is le staged = tt
+no_less (Some reached) live its front is le staged =
+    let within : reached ≤ its.front = subst (IsStaged (Some reached)) is staged in
+    omega (arith, within, le)
 
-pub flushed_still : (seen : Option ℕ) (live now : Option Live) (its new : Live) → live ≡ Some its → now ≡ Some new → its.log.count ≤ new.log.count → IsFlushed seen live → IsFlushed seen now
-flushed_still None live now its new was is le flushed = tt
-flushed_still (Some front) live now its new was is le flushed =
-    let within : front ≤ its.log.count = subst (IsFlushed (Some front)) was flushed in
-    subst (IsFlushed (Some front)) (sym is) (omega (arith, within, le))
+pub staged_still : (seen : Option ℕ) (live now : Option Live) (its new : Live) → live ≡ Some its → now ≡ Some new → its.front ≤ new.front → IsStaged seen live → IsStaged seen now
+staged_still None live now its new was is le staged = tt
+staged_still (Some front) live now its new was is le staged =
+    let within : front ≤ its.front = subst (IsStaged (Some front)) was staged in
+    subst (IsStaged (Some front)) (sym is) (omega (arith, within, le))
 
 -- before redo it has seen nothing
-pub none_flushed : (seen : Option ℕ) (live now : Option Live) → live ≡ None → IsFlushed seen live → IsFlushed seen now
-none_flushed None live now none flushed = tt
-none_flushed (Some front) live now none flushed = absurd (subst (IsFlushed (Some front)) none flushed)
+pub none_staged : (seen : Option ℕ) (live now : Option Live) → live ≡ None → IsStaged seen live → IsStaged seen now
+none_staged None live now none staged = tt
+none_staged (Some front) live now none staged = absurd (subst (IsStaged (Some front)) none staged)

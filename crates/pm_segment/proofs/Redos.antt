@@ -14,7 +14,7 @@ use Rattle.pm_disk.specs.Cause.{Rose}
 use Rattle.pm_disk.specs.Disk.{TellsStill}
 use Rattle.pm_disk.specs.Files.{Files}
 use Rattle.pm_rows.specs.Fold.{RowMap}
-use Rattle.pm_rows.specs.Limits.{max_file_bytes}
+use Rattle.pm_rows.specs.Limits.{IsWithinRowLimits, max_file_bytes}
 use Rattle.pm_rows.specs.Standing.{Standing}
 use Rattle.pm_record.specs.StandsFor as record_specs
 use Rattle.pm_record.specs.Pair.{Means, MeansIn, MeansWhat}
@@ -44,13 +44,14 @@ use Rattle.pm_record.specs.declared.fault.RedoFault.TheVariants as fault
 use Rattle.pm_query.specs.declared.store.StoreNo.TheVariants.{Redo}
 use Rattle.std.specs.Prelude.{Err}
 use Rattle.pm_segment.specs.Children.{IsAttendedBy}
-use Rattle.pm_segment.specs.Stands.{Begins, HasBegun, HasGone, HasHeld, HasRenewed, HasWaited, IsBaseOf, IsOpening, IsSure, MeansWithin, Origin, WaitsFrom, bytes_of_rows, most_bytes}
+use Rattle.pm_segment.specs.Stands.{Begins, HasBegun, HasGone, HasHeld, HasRenewed, HasWaited, IsAnchored, IsBaseOf, IsOpening, IsSure, MeansWithin, Origin, WaitsFrom, bytes_of_rows, most_bytes}
 use Rattle.pm_segment.proofs.Books.{any_still, attended_still, each_later, each_push, gone_push, or_false, renewed_push, tells_new, waited_push}
-use Rattle.pm_segment.proofs.Resting.{means_now, tells_nothing}
+use Rattle.pm_segment.proofs.Resting.{limits_bare, means_now, tells_nothing}
 use Rattle.pm_segment.proofs.Runs.{beginning_kept, beginning_number, cut_count, cut_number, goes_by, notes_cut, history_push, opens, same_standing, standing}
 use Rattle.pm_record.specs.Pair.{PairStandsFor}
+use Rattle.pm_segment.specs.Fronts.{flushed_of, whole_of}
 use Rattle.pm_segment.specs.Redos.{IsFoundIn}
-use Rattle.pm_segment.proofs.Steps.{Attends, IsQuiet, ahead_found, ahead_unread, attends_in, began_unread, counted_now, flushed_unread, gone_quiet, gone_unread, held_alone, held_quiet, lengths_push, means_some, no_fault_shown, no_files, nobody_moves, not_both, opening_on, same_live, some_none, still, tells_none, waited_on, with_book}
+use Rattle.pm_segment.proofs.Steps.{Attends, IsQuiet, ahead_found, ahead_unread, anchored_unread, anchored_whole, attends_in, began_unread, counted_now, drop_none, gone_quiet, gone_unread, held_alone, held_quiet, lengths_push, means_some, no_fault_shown, no_files, nobody_moves, not_both, opening_on, same_live, some_none, up_to_unread, still, tells_none, waited_on, with_book}
 
 -- the laws of books that a redo keeps: of ticks, and of what is acknowledged
 pub record Laws : Type 0 where
@@ -96,6 +97,7 @@ opening_follows origin before now i k reached opening time follows = λ t le ge 
 -- what a call that finds nothing says of two moments
 pub record Reads (before now : Moment) : Type 0 where
   pub generation : now.generation ≡ before.generation
+  pub commits : now.commits ≡ before.commits
   pub inside : now.inside ≡ before.inside
   pub unread : before.live ≡ None
   pub unread_now : now.live ≡ None
@@ -133,13 +135,16 @@ held_follows past present_whole origin base before now book unread time follows 
     record {
       start = held.start;
       begun = held.begun;
-      opening = opening_on origin held.start before.ticks now.ticks before.images now.images held.begun held.keeps.begun time held.opening;
+      opening = opening_on origin held.start before.ticks now.ticks before.images now.images held.begun (omega (arith, held.keeps.begun, held.keeps.marked)) time held.opening;
+      mark = now.ticks;
+      mark_is = λ live is. absurd (not_both now.live live unread is);
       flushed = held.flushed;
       flushed_is = λ live is. absurd (not_both now.live live unread is);
-      keeps = goes_by past present_whole base book held.start before.ticks held.flushed now.ticks held.flushed before.images now.images held.keeps time
+      keeps = goes_by past present_whole base book held.start held.mark before.ticks held.flushed now.ticks held.flushed before.images now.images held.keeps time
           (λ t le ge image there. means_some most h held.flushed image (holds t le ge image there)) (omega arith) held.keeps.whole
           (λ image there. means_some most h held.flushed image (holds now.ticks time.later (omega arith) image there));
       lengths = λ image there. holds now.ticks time.later (omega arith) image there;
+      anchored = anchored_unread now h unread;
     }
 
 -- it was refused, and the files read as they did
@@ -147,12 +152,14 @@ pub reads_nothing : PastStays → PresentIsWhole → (before now : Moment) → R
 reads_nothing past present_whole before now reads notes same = record {
   notes = notes;
   generation = reads.generation;
+  commits = reads.commits;
   attends = nobody_moves [] before now reads.inside (λ who n. refl);
   time = reads.time;
   later = reads.later;
   counts = λ from counted. record { counted = counts_unread from before.faults now.faults before.live now.live reads.later reads.unread_now counted; each = All-nil (IsShown from now.faults) };
   unread = unread_still [] before now refl (ap is_some (reads.unread_now ∙ sym reads.unread)) same;
-  flushed = flushed_unread before.live now.live reads.unread;
+  staged = up_to_unread whole_of before.live now.live reads.unread;
+  flushed = up_to_unread flushed_of before.live now.live reads.unread;
   began = began_unread before.live now.live reads.unread;
   ahead = ahead_unread [] before.live now.live reads.unread reads.unread_now refl;
   waits = λ origin told. inl (waited_on [] before now origin notes reads.tells (λ book is waited. subst (HasWaited origin now) (sym (append-nil book)) (waits origin book waited)) (opening_read before now origin reads) told);
@@ -211,6 +218,7 @@ reads_fault past present_whole before now pid since reads rose small inside note
     let entry : BookEntry = Broke pid since now.faults in record {
       notes = notes;
       generation = reads.generation;
+      commits = reads.commits;
       attends = nobody_moves (entry ∷ []) before now reads.inside (λ who n. refl);
       time = reads.time;
       later = reads.later;
@@ -219,7 +227,8 @@ reads_fault past present_whole before now pid since reads rose small inside note
         each = no_fault_shown from now.faults entry (omega (arith, counted.later, rose));
       };
       unread = record { read = ap is_some (reads.unread_now ∙ sym reads.unread) ∙ sym (or_false (is_some before.live)); files = λ none. inl refl };
-      flushed = flushed_unread before.live now.live reads.unread;
+      staged = up_to_unread whole_of before.live now.live reads.unread;
+      flushed = up_to_unread flushed_of before.live now.live reads.unread;
       began = began_unread before.live now.live reads.unread;
       ahead = ahead_unread (entry ∷ []) before.live now.live reads.unread reads.unread_now refl;
       waits = λ origin told. inl (waited_on (entry ∷ []) before now origin notes reads.tells (λ book is waited.
@@ -277,6 +286,7 @@ FindsNow found images files now = FindsPair found files (λ content. LogRests fo
 
 pub record Redoes (before now : Moment) (found : Found) (new : Live) : Type 0 where
   pub generation : now.generation ≡ before.generation
+  pub commits : now.commits ≡ before.commits
   pub inside : now.inside ≡ before.inside
   pub unread : before.live ≡ None
   pub unskipped : before.skipped ≡ false
@@ -285,6 +295,11 @@ pub record Redoes (before now : Moment) (found : Found) (new : Live) : Type 0 wh
   pub kept : new.kept ≡ found.count
   pub first : new.epoch ≡ found.epoch
   pub closed : new.closed ≡ false
+  pub front : new.front ≡ found.count
+  pub needs : new.needs ≡ 0
+  pub mark : new.mark ≡ now.ticks
+  pub unstaged : now.staged ≡ []
+  pub rests : ∥ Rests now.live now.rows now.staged now.files (now.images now.ticks) ∥₁
   pub rows : now.rows ≡ found.rows
   pub fits : bytes_of_rows found.rows ≤ found.end + 1
   pub time : GoesOn before.ticks now.ticks before.images now.images
@@ -331,12 +346,15 @@ redone_gone origin before now found new book pid redoes told inside waited =
       closed_is = any_still ends_cleanly (present book) entry false waited.unclosed refl ∙ sym redoes.closed;
       history_is = begun_at base book pid before.generation fresh waited.unredone;
       in_time = omega (arith, waited.no_time);
+      marked = omega (arith, redoes.mark);
+      based = omega (arith, count);
+      behind = λ open_log. drop_none (beginning (standing_of base)) base.count new.log.count refl (omega (arith, count)) ∙ sym redoes.unstaged;
       each = each_later before.faults now.faults (faults_of book) redoes.later waited.counted.each;
     })
     (tells_none new.log.since new.faults (fault_here (faults_here book) entry) whole (ap (λ (f : Option (List (ℕ × ℕ))). fault_here f entry) waited.none_here))
     (λ since broke. absurd (some_none since (sym broke ∙ whole)))
-    redoes.rows (λ open_log. omega (arith, count)) refl
-    (λ open_log. omega (arith, ap (λ (l : Log). l.end) redoes.log)) (ap (λ (l : Log). l.limit) redoes.log)
+    redoes.rows (λ open_log. omega (arith, redoes.front)) refl
+    (λ open_log. omega (arith, redoes.needs, ap (λ (l : Log). l.end) redoes.log)) (ap (λ (l : Log). l.limit) redoes.log)
     (omega (arith, waited.counted.later, redoes.later))
 
 -- the base itself is a number of a history that begins with it
@@ -361,12 +379,16 @@ redone_held origin before now found new book pid files files_now redoes follows 
       start = now.ticks;
       begun = omega (arith, waited.reached, redoes.time.later);
       opening = opening_follows origin before.ticks now.ticks before.images now.images waited.reached opening redoes.time follows;
+      mark = now.ticks;
+      mark_is = λ live is. sym (ap (λ (l : Live). l.mark) (same_live now.live live new is redoes.read_now) ∙ redoes.mark);
       flushed = found.count;
       flushed_is = λ live is. sym (ap (λ (l : Live). l.log.count) (same_live now.live live new is redoes.read_now) ∙ ap (λ (l : Log). l.count) redoes.log);
       keeps = opens base (book ++ entry ∷ []) now.ticks now.images history
           (All-push (IsWithin now.ticks now.ticks) book entry (λ k d lt. waited.no_ticks k d lt now.ticks now.ticks) tt)
           (λ image there. (found.end + 1, means image there));
       lengths = λ image there. begins_within base (book ++ entry ∷ []) (found.end + 1) image history (omega arith) (means image there);
+      anchored = subst (IsAnchored now) (sym history)
+          (anchored_whole now (beginning (standing_of base)) new redoes.read_now redoes.unstaged redoes.rows (omega (arith, ap (λ (l : Log). l.count) redoes.log)) redoes.rests);
     }
 
 -- the files that were read at first mean it, where they are told
@@ -451,14 +473,17 @@ redone_later laws base before now found new book pid redoes told inside renewed 
       redone = ap (λ (r : Option ℕ). kept_after r entry) renewed.unredone ∙ ap (λ (n : ℕ). Some n) (sym redoes.kept);
       closed_is = any_still ends_cleanly (present book) entry false renewed.unclosed refl ∙ sym redoes.closed;
       history_is = ap (λ (r : Option ℕ). history_after r h entry) renewed.unredone;
-      in_time = omega (arith, renewed.in_time, redoes.time.later);
+      in_time = omega (arith, renewed.in_time, redoes.time.later, redoes.mark);
+      marked = omega (arith, redoes.mark);
+      based = omega (arith, count, least, ap (λ (s : Standing). s.count) renewed.base_is);
+      behind = λ open_log. drop_none (kept h found.count) base.count new.log.count (ap (λ (s : Standing). s.count) renewed.base_is) (count ∙ sym (cut_count h found.count least is.whole)) ∙ sym redoes.unstaged;
       each = each_later before.faults now.faults (faults_of book) redoes.later renewed.counted.each;
       base_fits = renewed.base_fits;
     })
     (tells_none new.log.since new.faults (fault_here (faults_here book) entry) whole (ap (λ (f : Option (List (ℕ × ℕ))). fault_here f entry) renewed.none_here))
     (λ since broke. absurd (some_none since (sym broke ∙ whole)))
-    (redoes.rows ∙ sym is.rows) (λ open_log. count ∙ sym (cut_count h found.count least is.whole)) renewed.base_is
-    (λ open_log. omega (arith, ap (λ (l : Log). l.end) redoes.log, is.long)) (ap (λ (l : Log). l.limit) redoes.log)
+    (redoes.rows ∙ sym is.rows) (λ open_log. redoes.front ∙ sym (cut_count h found.count least is.whole)) renewed.base_is
+    (λ open_log. omega (arith, redoes.needs, ap (λ (l : Log). l.end) redoes.log, is.long)) (ap (λ (l : Log). l.limit) redoes.log)
     (omega (arith, renewed.counted.later, redoes.later))
 
 held_later : Laws → (origin : Origin) (base : Base) (before now : Moment) (found : Found) (new : Live) (book : List BookEntry) (pid : ℕ) (seen : Files) → Redoes before now found new → before.files ≡ Some seen
@@ -496,20 +521,24 @@ held_later laws origin base before now found new book pid seen redoes tells rene
         let means : (image : Files) → now.images now.ticks image → MeansIn image (number h n) (found.end + 1) =
         λ image there. subst (λ (s : Standing). MeansIn image s (found.end + 1)) standing_is (means_now found.file finds.content found.end files_now (now.images now.ticks) finds.besides image there) in
         let holds = follows_holds base before now book held.flushed follows held.lengths in
-        let run = goes_by laws.past laws.present base book held.start before.ticks held.flushed now.ticks n before.images now.images held.keeps redoes.time
+        let run = goes_by laws.past laws.present base book held.start held.mark before.ticks held.flushed now.ticks n before.images now.images held.keeps redoes.time
         (λ t le ge image there. means_some most h held.flushed image (holds t le ge image there)) is.0.least is.0.whole
         (λ image there. ∣ (n, omega arith, is.0.whole, (found.end + 1, means image there)) ∣₁) in
         let history : history_after (kept_by_redo book) h entry ≡ kept h n = ap (λ (r : Option ℕ). history_after r h entry) renewed.unredone in
         record {
           start = held.start;
           begun = held.begun;
-          opening = opening_on origin held.start before.ticks now.ticks before.images now.images held.begun held.keeps.begun redoes.time held.opening;
+          opening = opening_on origin held.start before.ticks now.ticks before.images now.images held.begun (omega (arith, held.keeps.begun, held.keeps.marked)) redoes.time held.opening;
+          mark = now.ticks;
+          mark_is = λ live read. sym (ap (λ (l : Live). l.mark) (same_live now.live live new read redoes.read_now) ∙ redoes.mark);
           flushed = n;
           flushed_is = λ live read. sym (ap (λ (l : Live). l.log.count) (same_live now.live live new read redoes.read_now) ∙ ap (λ (l : Log). l.count) redoes.log);
           keeps = notes_cut laws.past laws.present base book held.start now.ticks n now.images run pid before.generation renewed.unredone counted
               (λ image there. subst (λ (s : Standing). Means image s) (sym (cut_number h n)) (found.end + 1, means image there));
           lengths = λ image there. lengths_push base book entry (kept h n) n image history
               ∣ (n, omega arith, counted, subst (λ (s : Standing). MeansWithin most image s) (sym (cut_number h n)) (found.end + 1, is.0.long, means image there)) ∣₁;
+          anchored = subst (IsAnchored now) (sym (history_push base book entry ∙ history))
+              (anchored_whole now (kept h n) new redoes.read_now redoes.unstaged (redoes.rows ∙ sym is.0.rows) (ap (λ (l : Log). l.count) redoes.log ∙ sym count) redoes.rests);
         }
 
 pub redoes_first : Laws → (before now : Moment) (found : Found) (new : Live) (pid : ℕ) → Redoes before now found new → Attends pid before.book → Added (Redone pid before.generation found.count ∷ []) before.book now.book
@@ -517,6 +546,7 @@ pub redoes_first : Laws → (before now : Moment) (found : Found) (new : Live) (
 redoes_first laws before now found new pid redoes inside notes = record {
   notes = notes;
   generation = redoes.generation;
+  commits = redoes.commits;
   attends = nobody_moves (entry ∷ []) before now redoes.inside (λ who n. refl);
   time = redoes.time;
   later = redoes.later;
@@ -525,7 +555,8 @@ redoes_first laws before now found new pid redoes inside notes = record {
     each = no_fault_shown from now.faults entry tt;
   };
   unread = record { read = ap is_some redoes.read_now ∙ sym (ap (λ (l : Option Live). is_some l || true) redoes.unread); files = λ none. absurd (not_both now.live new none redoes.read_now) };
-  flushed = flushed_unread before.live now.live redoes.unread;
+  staged = up_to_unread whole_of before.live now.live redoes.unread;
+  flushed = up_to_unread flushed_of before.live now.live redoes.unread;
   began = began_unread before.live now.live redoes.unread;
   ahead = ahead_found (entry ∷ []) before.live now.live new redoes.unread redoes.read_now (ap (λ (l : Log). l.epoch) redoes.log ∙ sym redoes.first) refl;
   waits = λ origin told. begins origin before.book refl told;
@@ -583,11 +614,12 @@ goes_on_found (Some files) (Some files_now) found limit new behind log first fin
 }
 
 -- the log that goes on with what was found rests on the disk
-pub rests_found : (seen now : Option Files) (found : Found) (limit : ℕ) (new : Live) (behind : Files → Type 0) → new.log ≡ resumed found limit → new.closed ≡ false → TellsStill (FindsNow found behind) seen now → ∥ Rests (Some new) found.rows now behind ∥₁
-rests_found seen now found limit new behind log unclosed finds = ∣ (λ whole. each seen now finds) ∣₁
+pub rests_found : (seen now : Option Files) (found : Found) (limit : ℕ) (new : Live) (behind : Files → Type 0) → new.log ≡ resumed found limit → new.closed ≡ false → IsWithinRowLimits found.rows → TellsStill (FindsNow found behind) seen now
+    → ∥ Rests (Some new) found.rows [] now behind ∥₁
+rests_found seen now found limit new behind log unclosed within finds = ∣ (λ whole. each seen now finds) ∣₁
   where
-    each : (seen now : Option Files) → TellsStill (FindsNow found behind) seen now → IfSome now (λ files. HasRows new found.rows files behind)
-    each None now finds = subst (λ (f : Option Files). IfSome f (λ files. HasRows new found.rows files behind)) (sym finds) tt
+    each : (seen now : Option Files) → TellsStill (FindsNow found behind) seen now → IfSome now (λ files. HasRows new found.rows [] files behind)
+    each None now finds = subst (λ (f : Option Files). IfSome f (λ files. HasRows new found.rows [] files behind)) (sym finds) tt
     each (Some files) None finds = absurd finds
     each (Some files) (Some files_now) finds = record {
       content = finds.content;
@@ -599,6 +631,7 @@ rests_found seen now found limit new behind log unclosed finds = ∣ (λ whole. 
         rests = finds.besides;
       });
       rows_are = finds.is.rows;
+      limits = limits_bare (record_specs.standing_of finds.content).rows (subst IsWithinRowLimits finds.is.rows within);
       closed = λ closed. absurd (true≢false (sym closed ∙ unclosed));
     }
 

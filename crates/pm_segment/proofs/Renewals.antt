@@ -5,6 +5,7 @@ use Rattle.std.specs.FinMap.{empty}
 use Rattle.std.proofs.lemmas.Bool.Decides.{nat_tests}
 use Rattle.std.proofs.lemmas.List.Elements.{All-append, All-nil, All-push}
 use Rattle.std.proofs.lemmas.List.Sums.{fold-append, sum_by-append, sum_by-cons}
+use Rattle.pm_rows.specs.declared.commit.Change.{Change}
 use Rattle.pm_rows.specs.Fold.{RowMap}
 use Rattle.pm_query.specs.declared.book.BookEntry.{BookEntry}
 use Rattle.pm_query.specs.declared.book.BookEntry.TheVariants.{Opened, Attached, Redone, Answered, Released, Detached, Gone, CheckpointEnded, Broke, LogFull}
@@ -200,14 +201,16 @@ no_redo (pid ∷ pids) generation = no_redo pids generation
 -- ---- the store goes on
 
 -- the moment behind a renewal
-abbrev pub with_renewal : Option (List BookEntry) → ℕ → List ℕ → RowMap → Moment → Moment
-with_renewal book generation inside rows at = record {
+abbrev pub with_renewal : Option (List BookEntry) → ℕ → List ℕ → RowMap → List (List Change) → Moment → Moment
+with_renewal book generation inside rows staged at = record {
   book = book;
   generation = generation;
   inside = inside;
   rows = rows;
   live = None;
   skipped = false;
+  commits = at.commits;
+  staged = staged;
   files = at.files;
   images = at.images;
   ticks = at.ticks;
@@ -223,13 +226,13 @@ held_gone past present_whole origin base at (pid ∷ pids) generation book held 
     (held_gone past present_whole origin base at pids generation (book ++ Gone pid ∷ [])
     (held_alone past present_whole origin base at book (Gone pid) (sym (history_push base book (Gone pid)) ∙ gone_history base book pid) (λ start mark. tt) (λ t. refl) held))
 
-module _ (past : PastStays) (present_whole : PresentIsWhole) (at : Moment) (book_now : Option (List BookEntry)) (generation : ℕ) (inside_now : List ℕ) (rows_now : RowMap) (gone others : List ℕ)
+module _ (past : PastStays) (present_whole : PresentIsWhole) (at : Moment) (book_now : Option (List BookEntry)) (generation : ℕ) (inside_now : List ℕ) (rows_now : RowMap) (staged_now : List (List Change)) (gone others : List ℕ)
     (next : generation ≡ at.generation + 1) (nobody_now : inside_now ≡ []) (are : AreOthers at.inside gone others) where
   abbrev pub pids : List ℕ
   pids = gone ++ others
 
   abbrev pub now : Moment
-  now = with_renewal book_now generation inside_now rows_now at
+  now = with_renewal book_now generation inside_now rows_now staged_now at
 
   empty_behind : (book : List BookEntry) → IsAttendedBy at.inside book → (who : ℕ) → times_attached (book ++ map (λ pid. Gone pid) pids) who ≡ 0
   empty_behind book attended who = left_over who pids book (all_named at.inside gone others book are attended who)
@@ -283,7 +286,7 @@ module _ (past : PastStays) (present_whole : PresentIsWhole) (at : Moment) (book
       }
 
   begun : (base : Base) (book : List BookEntry) → HasBegun base at book → HasRenewed base now (book ++ renewal pids generation)
-  begun base book (inl (live, is)) = renewed base book is.legal is.begun is.generation is.attended is.base_is is.base_fits is.in_time is.counted
+  begun base book (inl (live, is)) = renewed base book is.legal is.begun is.generation is.attended is.base_is is.base_fits (omega (arith, is.in_time, is.marked)) is.counted
   begun base book (inr is) = renewed base book is.legal (omega (arith, is.later)) is.generation is.attended is.base_is is.base_fits is.in_time is.counted
 
   held : (origin : Origin) (base : Base) (book : List BookEntry) → HasHeld origin base at book → HasHeld origin base now (book ++ renewal pids generation)
@@ -292,20 +295,25 @@ module _ (past : PastStays) (present_whole : PresentIsWhole) (at : Moment) (book
         start = still.start;
         begun = still.begun;
         opening = still.opening;
+        mark = still.mark;
+        mark_is = λ live read. absurd (not_both None live refl read);
         flushed = still.flushed;
         flushed_is = λ live read. absurd (not_both None live refl read);
         keeps = still.keeps;
         lengths = still.lengths;
+        anchored = λ live read. absurd (not_both None live refl read);
       }
 
-  pub renews : rows_now ≡ empty → 1 ≤ at.generation → Added (renewal pids generation) at.book book_now → Renews (renewal pids generation) at now
-  renews rows begins notes = record {
+  pub renews : rows_now ≡ empty → staged_now ≡ [] → 1 ≤ at.generation → Added (renewal pids generation) at.book book_now → Renews (renewal pids generation) at now
+  renews rows unstaged begins notes = record {
     notes = notes;
     generation = next;
     inside = nobody_now;
     rows = rows;
     unread = refl;
     unskipped = refl;
+    commits = refl;
+    unstaged = unstaged;
     counts = λ from counted. record { later = counted.later; shown = tt };
     waits = λ origin told. waited_on (renewal pids generation) at now origin notes (λ none. none) (λ book is w. waited origin book w) (λ book seen told w opening. opening) told;
     goes_on = λ origin base told. gone_on (renewal pids generation) at now origin base notes (λ none. none) surely (λ book is sure b h. inr (begun base book b)) (λ book seen told b h. held origin base book h) told;

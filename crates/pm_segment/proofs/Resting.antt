@@ -1,9 +1,10 @@
 -- How the log of a store rests on its disk, from call to call.
-use Rattle.std.proofs.Common.{◌≡◌, ◌≢◌, ◌⊎◌, inl, inr, ℕ, zero, suc, ◌+◌, ◌^◌, ◌<◌, List, [], ◌∷◌, ◌++◌, length, get_or, take, All, Option, None, Some, refl, sym, ◌∙◌, ap, subst, arith, append-nil, length-append, false, true≢false}
+use Rattle.std.proofs.Common.{◌≡◌, ◌≢◌, ◌⊎◌, inl, inr, ℕ, zero, suc, ◌+◌, ◌^◌, ◌<◌, ◌≤◌, List, [], ◌∷◌, ◌++◌, length, get_or, take, All, Option, None, Some, refl, sym, ◌∙◌, ap, subst, arith, append-nil, length-append, false, true≢false}
 use Rattle.std.specs.Prelude.{IfSome}
 use Rattle.std.proofs.Math.Logic.{∥∥₁_map, ∥∥₁_elim}
 use Rattle.std.proofs.Math.Bridge.{le_prop}
 use Rattle.std.proofs.lemmas.Grind.{flat_map-append}
+use Rattle.std.proofs.lemmas.List.{take_all}
 use Rattle.std.proofs.lemmas.List.Elements.{All-nil, All-push}
 use Rattle.std.proofs.lemmas.List.Sums.{fold-append}
 use Rattle.pm_disk.specs.Disk.{TellsStill}
@@ -77,9 +78,13 @@ may_append rows count commit batch within behind small = record { batch_is = bat
     each (suc zero) = behind
     each (suc (suc n)) = behind
 
+-- where nothing is staged the rows alone keep the limits
+pub limits_bare : (base : RowMap) → IsWithinRowLimits base → (n : ℕ) → n ≤ 0 → IsWithinRowLimits (folded base (take n []))
+limits_bare base within n few = subst (λ (l : List (List Change)). IsWithinRowLimits (folded base l)) (sym (take_all n [] (omega arith))) within
+
 -- ---- what the log's append says, for rows and count
 
-pub content_is : (live : Live) (rows : RowMap) (files : Files) (images : Files → Type 0) (h : HasRows live rows files images) → standing_of h.content ≡ standing rows live.log.count
+pub content_is : (live : Live) (rows : RowMap) (files : Files) (images : Files → Type 0) (h : HasRows live rows [] files images) → standing_of h.content ≡ standing rows live.log.count
 content_is live rows files images h = same_standing (standing_of h.content).rows rows (standing_of h.content).count live.log.count (sym h.rows_are) (sym h.lives.count)
 
 one_of : (one two : Standing) (bytes need : ℕ) (commit : List Change) (image : Files) → one ≡ two → MeansOneOf one bytes (after one (commit ∷ [])) (bytes + need) image
@@ -94,7 +99,7 @@ StopsOneOf live batch from to before now files =
     → Throughout from to now (MeansOneOf (standing_of content) (live.log.end + 1) (after (standing_of content) batch) (live.log.end + 1 + log.need_of batch))
 
 pub through_of : (seen : Option Files) (live : Live) (rows : RowMap) (from to : ℕ) (i k : ℕ → Files → Type 0) (commit : List Change)
-    → ∥ Rests (Some live) rows seen (i from) ∥₁ → live.log.since ≡ None → MayAppend (standing rows live.log.count) (commit ∷ [])
+    → ∥ Rests (Some live) rows [] seen (i from) ∥₁ → live.log.since ≡ None → MayAppend (standing rows live.log.count) (commit ∷ [])
     → IfSome seen (StopsOneOf live (commit ∷ []) from to (i from) k) → IfSome seen (λ files. Throughout from to k (OneOf (with_need live commit) (standing rows live.log.count) commit))
 through_of None live rows from to i k commit rests unbroken may stops = tt
 through_of (Some files) live rows from to i k commit rests unbroken may stops = λ t le ge image there.
@@ -110,7 +115,7 @@ LivesWith live new batch before now files files_now =
     (content : Content) → Lives live.log content files before → MayAppend (standing_of content) batch → Lives new.log (with_batch content batch) files_now now
 
 pub durable_of : (seen now : Option Files) (live new : Live) (rows : RowMap) (before behind : Files → Type 0) (commit : List Change) → new.log.end ≡ live.log.end + log.need_of (commit ∷ [])
-    → ∥ Rests (Some live) rows seen before ∥₁ → live.log.since ≡ None → MayAppend (standing rows live.log.count) (commit ∷ [])
+    → ∥ Rests (Some live) rows [] seen before ∥₁ → live.log.since ≡ None → MayAppend (standing rows live.log.count) (commit ∷ [])
     → TellsStill (LivesWith live new (commit ∷ []) before behind) seen now
     → IfSome seen (λ files. (image : Files) → behind image → ∥ MeansWithin (with_need live commit) image (after (standing rows live.log.count) (commit ∷ [])) ∥₁)
 durable_of None now live new rows before behind commit end rests unbroken may lives = tt
@@ -125,35 +130,38 @@ durable_of (Some files) (Some files_now) live new rows before behind commit end 
     (new.log.end + 1, omega (arith, end), means_now new.log.file with_it new.log.end files_now behind its.rests image there))
 
 pub rests_with : (seen now : Option Files) (live new : Live) (rows : RowMap) (before behind : Files → Type 0) (commit : List Change)
-    → new.closed ≡ false → ∥ Rests (Some live) rows seen before ∥₁ → live.log.since ≡ None → MayAppend (standing rows live.log.count) (commit ∷ [])
-    → TellsStill (LivesWith live new (commit ∷ []) before behind) seen now → ∥ Rests (Some new) (committed rows commit) now behind ∥₁
-rests_with seen now live new rows before behind commit unclosed rests unbroken may lives = ∥∥₁_map rests (λ r whole. each seen now (r unbroken) lives)
+    → new.closed ≡ false → IsWithinRowLimits (committed rows commit) → ∥ Rests (Some live) rows [] seen before ∥₁ → live.log.since ≡ None → MayAppend (standing rows live.log.count) (commit ∷ [])
+    → TellsStill (LivesWith live new (commit ∷ []) before behind) seen now → ∥ Rests (Some new) (committed rows commit) [] now behind ∥₁
+rests_with seen now live new rows before behind commit unclosed within rests unbroken may lives = ∥∥₁_map rests (λ r whole. each seen now (r unbroken) lives)
   where
-    each : (seen now : Option Files) → IfSome seen (λ files. HasRows live rows files before) → TellsStill (LivesWith live new (commit ∷ []) before behind) seen now
-        → IfSome now (λ files. HasRows new (committed rows commit) files behind)
-    each None now r lives = subst (λ (f : Option Files). IfSome f (λ files. HasRows new (committed rows commit) files behind)) (sym lives) tt
+    each : (seen now : Option Files) → IfSome seen (λ files. HasRows live rows [] files before) → TellsStill (LivesWith live new (commit ∷ []) before behind) seen now
+        → IfSome now (λ files. HasRows new (committed rows commit) [] files behind)
+    each None now r lives = subst (λ (f : Option Files). IfSome f (λ files. HasRows new (committed rows commit) [] files behind)) (sym lives) tt
     each (Some files) None r lives = absurd lives
     each (Some files) (Some files_now) h lives =
-        let same = content_is live rows files before h in record {
+        let same = content_is live rows files before h in
+        let grown : committed rows commit ≡ (standing_of (with_batch h.content (commit ∷ []))).rows =
+        ap (λ (r : RowMap). committed r commit) h.rows_are ∙ sym (ap (λ (s : Standing). s.rows) (standing-push h.content (commit ∷ []))) in record {
           content = with_batch h.content (commit ∷ []);
           lives = lives h.content h.lives (subst (λ (s : Standing). MayAppend s (commit ∷ [])) (sym same) may);
-          rows_are = ap (λ (r : RowMap). committed r commit) h.rows_are ∙ sym (ap (λ (s : Standing). s.rows) (standing-push h.content (commit ∷ [])));
+          rows_are = grown;
+          limits = limits_bare (standing_of (with_batch h.content (commit ∷ []))).rows (subst IsWithinRowLimits grown within);
           closed = λ closed. absurd (true≢false (sym closed ∙ unclosed));
         }
 
 -- a log that is broken claims nothing
-pub rests_broken : (new : Live) (rows : RowMap) (now : Option Files) (behind : Files → Type 0) (since : ℕ) → new.log.since ≡ Some since → ∥ Rests (Some new) rows now behind ∥₁
-rests_broken new rows now behind since broke = ∣ (λ whole. absurd (some_none since (sym broke ∙ whole))) ∣₁
+pub rests_broken : (new : Live) (rows : RowMap) (staged : List (List Change)) (now : Option Files) (behind : Files → Type 0) (since : ℕ) → new.log.since ≡ Some since → ∥ Rests (Some new) rows staged now behind ∥₁
+rests_broken new rows staged now behind since broke = ∣ (λ whole. absurd (some_none since (sym broke ∙ whole))) ∣₁
 
 -- ---- the places of its gates
 
 end_within : (bytes : List ℕ) (content : Content) (end : ℕ) → StandsFor bytes content end → end < length bytes
 end_within bytes content end stands = omega (arith, ap length stands.parts, length-append stands.front (0 ∷ stands.free), stands.place)
 
-pub gate_of : (seen : Option Files) (live : Live) (rows : RowMap) (images : Files → Type 0) → ∥ Rests (Some live) rows seen images ∥₁ → live.log.since ≡ None
+pub gate_of : (seen : Option Files) (live : Live) (rows : RowMap) (staged : List (List Change)) (images : Files → Type 0) → ∥ Rests (Some live) rows staged seen images ∥₁ → live.log.since ≡ None
     → IfSome seen (λ files. live.log.end < length (file_of files live.log.file))
-gate_of None live rows images rests unbroken = tt
-gate_of (Some files) live rows images rests unbroken =
+gate_of None live rows staged images rests unbroken = tt
+gate_of (Some files) live rows staged images rests unbroken =
     ∥∥₁_elim rests (hlevel le_prop) (λ r. let h = r unbroken in end_within (file_of files live.log.file) h.content live.log.end h.lives.rests.stands)
 
 abbrev files_there : Option Files → Type 0
@@ -180,3 +188,11 @@ is_full _ = ⊥
 
 pub full_or_disk : (need room : ℕ) → fault.Full need room ≡ fault.Disk → ⊥
 full_or_disk need room is = subst is_full is tt
+
+-- nor has one that is short of memory
+abbrev is_short : LogFault → Type 0
+is_short fault.NoMemory = Unit {0}
+is_short _ = ⊥
+
+pub short_or_disk : fault.NoMemory ≡ fault.Disk → ⊥
+short_or_disk is = subst is_short is tt

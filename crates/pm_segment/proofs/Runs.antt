@@ -18,7 +18,7 @@ use Rattle.pm_query.specs.declared.book.BookEntry.{BookEntry}
 use Rattle.pm_query.specs.declared.book.BookEntry.TheVariants.{Opened, Attached, Redone, Answered, Released, Detached, Gone, CheckpointEnded, Broke, LogFull}
 use Rattle.pm_sql.specs.declared.stmt.Stmt.{Stmt}
 use Rattle.pm_query.specs.declared.item.Item.{Item}
-use Rattle.pm_query.specs.History.{History, acknowledged, beginning, count_of, kept, number, with_commit}
+use Rattle.pm_query.specs.History.{History, acknowledged, beginning, count_of, kept, number, rows_of, with_commit}
 use Rattle.pm_query.specs.Book.{Base, Course, course_after, history_after, history_of, kept_after, kept_by_redo, standing_of}
 use Rattle.pm_query.specs.AtTick.{history_at, is_by}
 use Rattle.pm_query.specs.TickLaws.{PastStays, PresentIsWhole}
@@ -162,7 +162,7 @@ module _ (past : PastStays) (present : PresentIsWhole) (base : Base) (book : Lis
   ]
 
   -- device calls went by, in which a stop left numbers of the history
-  later : (then : ℕ) (images_then : ℕ → Files → Type 0) → GoesOn now then images images_then
+  pub later : (then : ℕ) (images_then : ℕ → Files → Type 0) → GoesOn now then images images_then
       → Throughout now then images_then (HoldsFrom Means flushed (history_of base book)) → Keeps Means base book start mark then flushed images_then
   later then images_then time through = record {
     begun = keeps.begun;
@@ -178,7 +178,7 @@ module _ (past : PastStays) (present : PresentIsWhole) (base : Base) (book : Lis
   }
 
   -- the mark moves to now, where a stop leaves numbers from this one on
-  marks : (least : ℕ) → flushed ≤ least → least ≤ count_of (history_of base book)
+  pub marks : (least : ℕ) → flushed ≤ least → least ≤ count_of (history_of base book)
       → ((image : Files) → images now image → HoldsFrom Means least (history_of base book) image) → Keeps Means base book start now now least images
   marks least le ge holds = record {
     begun = omega (arith, keeps.begun, keeps.marked);
@@ -209,7 +209,7 @@ module _ (past : PastStays) (present : PresentIsWhole) (base : Base) (book : Lis
       }
 
   -- an answer, with the mark for its tick
-  answered : (pid front : ℕ) (script : List Stmt) (reply : List Item) (commit : List Change) → Keeps Means base (book ++ Answered pid script reply commit front mark ∷ []) start mark now flushed images
+  pub answered : (pid front : ℕ) (script : List Stmt) (reply : List Item) (commit : List Change) → Keeps Means base (book ++ Answered pid script reply commit front mark ∷ []) start mark now flushed images
   answered pid front script reply commit =
       let h = history_of base book in
       let covers = covers_commit h commit in
@@ -218,19 +218,19 @@ module _ (past : PastStays) (present : PresentIsWhole) (base : Base) (book : Lis
       (λ t after upto image there. holds_in Means (with_commit h commit) h flushed flushed image covers (omega arith) (keeps.since t after upto image there))
 
   -- a release of what is flushed, with the mark for its tick
-  released : (pid front : ℕ) → front ≤ flushed → Keeps Means base (book ++ Released pid front mark ∷ []) start mark now flushed images
+  pub released : (pid front : ℕ) → front ≤ flushed → Keeps Means base (book ++ Released pid front mark ∷ []) start mark now flushed images
   released pid front le =
       let h = history_of base book in
       pushed (Released pid front mark) (acknowledged h front) refl (keeps.begun, omega arith) (λ t lt. not_yet mark t lt)
       (omega (arith, keeps.acked, le)) keeps.whole (λ t after upto image there. keeps.since t after upto image there)
 
   -- an entry that leaves the history alone
-  another : (entry : BookEntry) → history_after (kept_by_redo book) (history_of base book) entry ≡ history_of base book → IsWithin start mark entry → ((t : ℕ) → is_by t entry ≡ false)
+  pub another : (entry : BookEntry) → history_after (kept_by_redo book) (history_of base book) entry ≡ history_of base book → IsWithin start mark entry → ((t : ℕ) → is_by t entry ≡ false)
       → Keeps Means base (book ++ entry ∷ []) start mark now flushed images
   another entry is within none = pushed entry (history_of base book) is within (λ t lt. none t) keeps.acked keeps.whole keeps.since
 
   -- a later redo, behind which a stop leaves the number that it kept
-  cut : (pid generation : ℕ) → kept_by_redo book ≡ None → flushed ≤ count_of (kept (history_of base book) flushed)
+  pub cut : (pid generation : ℕ) → kept_by_redo book ≡ None → flushed ≤ count_of (kept (history_of base book) flushed)
       → ((t : ℕ) → mark ≤ t → t ≤ now → (image : Files) → images t image → Means image (number (kept (history_of base book) flushed) flushed))
       → Keeps Means base (book ++ Redone pid generation flushed ∷ []) start mark now flushed images
   cut pid generation unredone whole means =
@@ -239,28 +239,15 @@ module _ (past : PastStays) (present : PresentIsWhole) (base : Base) (book : Lis
       pushed (Redone pid generation flushed) then (ap (λ (r : Option ℕ). history_after r h (Redone pid generation flushed)) unredone) tt (λ t lt. refl) keeps.acked whole
       (λ t after upto image there. ∣ (flushed, omega arith, whole, means t after upto image there) ∣₁)
 
--- ---- the store's steps: the mark is now
+-- ---- the mark is now
 
 -- device calls went by, and now a stop leaves numbers from this one on
-pub goes_by : (past : PastStays) (present : PresentIsWhole) (base : Base) (book : List BookEntry) (start now flushed then least : ℕ) (images images_then : ℕ → Files → Type 0)
-    → Keeps Means base book start now now flushed images → GoesOn now then images images_then → Throughout now then images_then (HoldsFrom Means flushed (history_of base book))
+pub goes_by : (past : PastStays) (present : PresentIsWhole) (base : Base) (book : List BookEntry) (start mark now flushed then least : ℕ) (images images_then : ℕ → Files → Type 0)
+    → Keeps Means base book start mark now flushed images → GoesOn now then images images_then → Throughout now then images_then (HoldsFrom Means flushed (history_of base book))
     → flushed ≤ least → least ≤ count_of (history_of base book) → ((image : Files) → images_then then image → HoldsFrom Means least (history_of base book) image)
     → Keeps Means base book start then then least images_then
-goes_by past present base book start now flushed then least images images_then keeps time through le ge holds =
-    marks past present base book start now then flushed images_then (later past present base book start now now flushed images keeps then images_then time through) least le ge holds
-
-pub notes_answer : (past : PastStays) (present : PresentIsWhole) (base : Base) (book : List BookEntry) (start now flushed : ℕ) (images : ℕ → Files → Type 0) → Keeps Means base book start now now flushed images
-    → (pid front : ℕ) (script : List Stmt) (reply : List Item) (commit : List Change) → Keeps Means base (book ++ Answered pid script reply commit front now ∷ []) start now now flushed images
-notes_answer past present base book start now flushed images keeps pid front script reply commit = answered past present base book start now now flushed images keeps pid front script reply commit
-
-pub notes_release : (past : PastStays) (present : PresentIsWhole) (base : Base) (book : List BookEntry) (start now flushed : ℕ) (images : ℕ → Files → Type 0) → Keeps Means base book start now now flushed images
-    → (pid front : ℕ) → front ≤ flushed → Keeps Means base (book ++ Released pid front now ∷ []) start now now flushed images
-notes_release past present base book start now flushed images keeps pid front le = released past present base book start now now flushed images keeps pid front le
-
-pub notes_another : (past : PastStays) (present : PresentIsWhole) (base : Base) (book : List BookEntry) (start now flushed : ℕ) (images : ℕ → Files → Type 0) → Keeps Means base book start now now flushed images
-    → (entry : BookEntry) → history_after (kept_by_redo book) (history_of base book) entry ≡ history_of base book → IsWithin start now entry → ((t : ℕ) → is_by t entry ≡ false)
-    → Keeps Means base (book ++ entry ∷ []) start now now flushed images
-notes_another past present base book start now flushed images keeps entry is within none = another past present base book start now now flushed images keeps entry is within none
+goes_by past present base book start mark now flushed then least images images_then keeps time through le ge holds =
+    marks past present base book start mark then flushed images_then (later past present base book start mark now flushed images keeps then images_then time through) least le ge holds
 
 pub notes_cut : (past : PastStays) (present : PresentIsWhole) (base : Base) (book : List BookEntry) (start now flushed : ℕ) (images : ℕ → Files → Type 0) → Keeps Means base book start now now flushed images
     → (pid generation : ℕ) → kept_by_redo book ≡ None → flushed ≤ count_of (kept (history_of base book) flushed)
@@ -313,6 +300,10 @@ next_commit history change changes =
     ∙ sym (fold-append committed history.base.rows history.commits (commit ∷ []))
     ∙ ap (λ (l : List (List Change)). folded history.base.rows l) (sym there) in
     same_standing _ _ _ _ rows refl
+
+-- its last number has all commits
+pub whole_number : (h : History) → standing (rows_of h) (count_of h) ≡ number h (count_of h)
+whole_number h = sym (ap (of_rows h.base.rows (count_of h)) (take_all (count_of h - h.base.count) h.commits (omega arith)))
 
 -- ---- a history that is cut
 

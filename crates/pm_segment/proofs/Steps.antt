@@ -1,20 +1,21 @@
 -- What each step of a store keeps.
-use Rattle.std.proofs.Common.{◌≡◌, ◌≢◌, Bool, true, false, ◌⊎◌, inl, inr, ℕ, ◌+◌, ◌-◌, ◌^◌, ◌<◌, ◌≤◌, List, [], ◌∷◌, ◌++◌, All, Option, None, Some, refl, sym, ◌∙◌, ap, subst, arith, append_assoc, true≢false}
+use Rattle.std.proofs.Common.{◌≡◌, ◌≢◌, Bool, true, false, ◌⊎◌, inl, inr, ℕ, ◌+◌, ◌-◌, ◌^◌, ◌<◌, ◌≤◌, List, [], ◌∷◌, ◌++◌, All, drop, Option, None, Some, refl, sym, ◌∙◌, ap, subst, arith, append_assoc, true≢false}
 use Rattle.std.specs.Prelude.{IfSome, is_some, Any, unwrap_or, cond, nat_eq}
 use Rattle.std.specs.List.{list_any}
 use Rattle.std.specs.Option.{option_map}
 use Rattle.std.proofs.Math.Logic.{∥∥₁_map}
-use Rattle.std.proofs.lemmas.List.{take_all}
+use Rattle.std.proofs.lemmas.List.{drop_all}
 use Rattle.std.proofs.lemmas.List.Elements.{All-nil, All-push, Contains-append_left}
 use Rattle.std.proofs.lemmas.List.Sums.{sum_by-append, sum_by-cons}
 use Rattle.pm_disk.specs.Cause.{Rose}
 use Rattle.pm_disk.specs.Files.{Files}
 use Rattle.pm_rows.specs.declared.commit.Change.{Change}
-use Rattle.pm_rows.specs.Fold.{RowMap, committed}
+use Rattle.pm_rows.specs.Fold.{RowMap, committed, folded}
 use Rattle.pm_rows.specs.Limits.{max_file_bytes}
 use Rattle.pm_rows.specs.LogSize as log
 use Rattle.pm_rows.specs.Standing.{Standing, after}
 use Rattle.pm_record.specs.Pair.{Means}
+use Rattle.pm_record.specs.StandsFor.{standing_of as content_standing}
 use Rattle.pm_record.specs.OnDisk.{GoesOn, Throughout}
 use Rattle.pm_sql.specs.declared.stmt.Stmt.{Stmt}
 use Rattle.pm_query.specs.declared.item.Item.{Item}
@@ -35,10 +36,12 @@ use Rattle.pm_outside.specs.AddedLaws.{added_none}
 use Rattle.pm_segment.specs.MovesLaws.{ahead_still, moves_none, time_still, unread_never, unread_still}
 use Rattle.pm_segment.specs.Unread.{has_redo}
 use Rattle.pm_segment.specs.Children.{IsAttendedBy, once, times_behind, times_in}
-use Rattle.pm_segment.specs.Passes.{IsFlushed}
-use Rattle.pm_segment.specs.Stands.{Begins, GoesFrom, HasBegun, HasGone, HasHeld, HasNoTick, HasRenewed, HasWaited, IsFaultBy, IsOpening, IsSure, MeansWithin, Origin, TellsBreak, WaitsFrom, most_bytes}
+use Rattle.pm_segment.specs.Fronts.{flushed_of, whole_of}
+use Rattle.pm_segment.specs.Passes.{IsUpTo}
+use Rattle.pm_segment.specs.Rests.{Rests, RestsAt}
+use Rattle.pm_segment.specs.Stands.{Begins, GoesFrom, HasBegun, HasGone, HasHeld, HasNoTick, HasRenewed, HasWaited, IsAnchored, IsFaultBy, IsOpening, IsSure, MeansWithin, Origin, TellsBreak, WaitsFrom, most_bytes}
 use Rattle.pm_segment.proofs.Books.{IsNotGone, any_still, attended_push, attended_still, base-with_commit, breaks_push, closed_push, count-with_commit, each_later, each_push, faults_push, generation_push, gone_push, here_push, legal_push, most_grows, needs_push, redone_push, renewed_push, rows-with_commit, tells_new, tick_push, times_push, waited_push}
-use Rattle.pm_segment.proofs.Runs.{covers_commit, covers_number, goes_by, history_push, holds_in, holds_so, next_commit, notes_another, notes_answer, notes_release, of_rows, same_standing, standing}
+use Rattle.pm_segment.proofs.Runs.{another, answered, covers_commit, covers_number, goes_by, history_push, holds_in, holds_so, later, next_commit, released, same_standing, standing, whole_number}
 
 -- the moment with another book, and other children inside
 abbrev pub with_child : Option (List BookEntry) → List ℕ → Moment → Moment
@@ -49,6 +52,8 @@ with_child book inside at = record {
   rows = at.rows;
   live = at.live;
   skipped = at.skipped;
+  commits = at.commits;
+  staged = at.staged;
   files = at.files;
   images = at.images;
   ticks = at.ticks;
@@ -91,6 +96,40 @@ files_told (Some files) = Unit {0}
 
 pub no_files : (files : Files) → Some files ≡ None → ⊥
 no_files files is = subst files_told is tt
+
+-- ---- what the log lives with
+
+-- numbers that stay, up to the flushed one
+pub anchored_push : (at : Moment) (h then : History) → ((live : Live) → at.live ≡ Some live → number h (flushed_of live) ≡ number then (flushed_of live)) → IsAnchored at h → IsAnchored at then
+anchored_push at h then same is = λ live read whole.
+    subst (λ (s : Standing). IfSome at.files (λ files. ∥ RestsAt live at.rows at.staged files (at.images at.ticks) s ∥₁)) (same live read) (is live read whole)
+
+-- one that wasn't read, or is broken, claims nothing
+pub anchored_unread : (at : Moment) (h : History) → at.live ≡ None → IsAnchored at h
+anchored_unread at h unread = λ live read whole. absurd (not_both at.live live unread read)
+
+pub anchored_broken : (at : Moment) (h : History) (new : Live) (since : ℕ) → at.live ≡ Some new → new.log.since ≡ Some since → IsAnchored at h
+anchored_broken at h new since read broke = λ live is whole.
+    absurd (some_none since (sym broke ∙ ap (λ (l : Live). l.log.since) (same_live at.live new live read is) ∙ whole))
+
+-- where nothing is staged it lives with the whole history
+pub anchored_whole : (at : Moment) (h : History) (new : Live) → at.live ≡ Some new → at.staged ≡ [] → at.rows ≡ rows_of h → new.log.count ≡ count_of h
+    → ∥ Rests at.live at.rows at.staged at.files (at.images at.ticks) ∥₁ → IsAnchored at h
+anchored_whole at h new read unstaged rows count rests = λ live is whole.
+    each live (same_live at.live live new is read) whole at.files (subst (λ (l : Option Live). ∥ Rests l at.rows at.staged at.files (at.images at.ticks) ∥₁) is rests)
+  where
+    each : (live : Live) → live ≡ new → live.log.since ≡ None → (files : Option Files) → ∥ Rests (Some live) at.rows at.staged files (at.images at.ticks) ∥₁
+        → IfSome files (λ f. ∥ RestsAt live at.rows at.staged f (at.images at.ticks) (number h (flushed_of live)) ∥₁)
+    each live same whole None r = tt
+    each live same whole (Some f) r = ∥∥₁_map r (λ rests.
+        let has = rests whole in
+        let counted : live.log.count ≡ count_of h = ap (λ (l : Live). l.log.count) same ∙ count in
+        record {
+          has = has;
+          is = same_standing (content_standing has.content).rows (rows_of h) (content_standing has.content).count (count_of h)
+              (sym (has.rows_are ∙ ap (λ (l : List (List Change)). folded (content_standing has.content).rows l) unstaged) ∙ rows) (sym has.lives.count ∙ counted)
+              ∙ whole_number h ∙ ap (number h) (sym counted);
+        })
 
 -- ---- from one moment to another: of the book wherever it tells, and of stops where the disk tells as well
 
@@ -203,11 +242,13 @@ pub still_in : (entries : List BookEntry) (at : Moment) (book_now : Option (List
 still_in entries at book_now inside_now notes attends shown no_epoch no_redo waits goes renews holds = record {
   notes = notes;
   generation = refl;
+  commits = refl;
   attends = attends;
   time = time_still at.ticks at.images;
   later = omega arith;
   counts = λ from counted. record { counted = counted; each = shown from counted };
   unread = unread_still entries at now no_redo refl refl;
+  staged = λ front is. is;
   flushed = λ front is. is;
   began = λ first is. is;
   ahead = λ many is. ahead_still entries many at.live no_epoch is;
@@ -233,11 +274,13 @@ pub still : (entries : List BookEntry) (at : Moment) (live : Live) (book_now : O
 still entries at live book_now read notes none shown no_epoch goes holds = record {
   notes = notes;
   generation = refl;
+  commits = refl;
   attends = nobody_moves entries at (with_book book_now at) refl none;
   time = time_still at.ticks at.images;
   later = omega arith;
   counts = λ from counted. record { counted = counted; each = shown from counted };
   unread = unread_never entries at (with_book book_now at) live live read read;
+  staged = λ front is. is;
   flushed = λ front is. is;
   began = λ first is. is;
   ahead = λ many is. ahead_still entries many at.live no_epoch is;
@@ -279,12 +322,15 @@ gone_quiet base at live book_now inside_now book entry quiet may attended is =
       redone = ap (λ (r : Option ℕ). kept_after r entry) is.redone ∙ quiet.redone;
       closed_is = ap (list_any ends_cleanly) (quiet.present_is (present book)) ∙ any_still ends_cleanly (present book) entry live.closed is.closed quiet.unclean;
       history_is = ap (λ (r : Option ℕ). history_after r (history_of base book) entry) is.redone ∙ quiet.history (history_of base book);
-      in_time = subst (λ (n : ℕ). n ≤ at.ticks) (sym (quiet.tick (last_tick book))) is.in_time;
+      in_time = subst (λ (n : ℕ). n ≤ live.mark) (sym (quiet.tick (last_tick book))) is.in_time;
+      marked = is.marked;
+      based = is.based;
+      behind = is.behind;
       each = subst (All (IsFaultBy at.faults)) (sym (quiet.faults (faults_of book))) is.counted.each;
       base_fits = is.base_fits;
     })
     (breaks_still live.log.since live.faults (faults_here book) entry quiet.here is.broken) is.known is.rows_are is.count_is is.base_is
-    (λ unbroken. subst (λ (n : ℕ). live.log.end + 1 ≤ base.bytes + 1024 + n) (sym (quiet.need (needs_of book))) (is.fits unbroken))
+    (λ unbroken. subst (λ (n : ℕ). live.log.end + 1 + live.needs ≤ base.bytes + 1024 + n) (sym (quiet.need (needs_of book))) (is.fits unbroken))
     is.limit is.counted.later
 
 -- how long an image is, behind an entry that leaves this history
@@ -303,10 +349,13 @@ held_still past present_whole origin base at book_now inside_now book entry hist
   start = held.start;
   begun = held.begun;
   opening = held.opening;
+  mark = held.mark;
+  mark_is = held.mark_is;
   flushed = held.flushed;
   flushed_is = held.flushed_is;
-  keeps = notes_another past present_whole base book held.start at.ticks held.flushed at.images held.keeps entry history (no_tick held.start at.ticks) hidden;
+  keeps = another past present_whole base book held.start held.mark at.ticks held.flushed at.images held.keeps entry history (no_tick held.start held.mark) hidden;
   lengths = λ image there. lengths_push base book entry (history_of base book) held.flushed image history (held.lengths image there);
+  anchored = subst (IsAnchored (with_child book_now inside_now at)) (sym (history_push base book entry ∙ history)) held.anchored;
 }
 
 -- ... whatever the book tells by then
@@ -318,10 +367,13 @@ held_alone past present_whole origin base at book entry alone no_tick hidden hel
       start = still.start;
       begun = still.begun;
       opening = still.opening;
+      mark = still.mark;
+      mark_is = still.mark_is;
       flushed = still.flushed;
       flushed_is = still.flushed_is;
       keeps = still.keeps;
       lengths = still.lengths;
+      anchored = still.anchored;
     }
 
 pub held_quiet : PastStays → PresentIsWhole → (origin : Origin) (base : Base) (at : Moment) (live : Live) (book_now : Option (List BookEntry)) (inside_now : List ℕ) (book : List BookEntry) (entry : BookEntry)
@@ -422,13 +474,48 @@ leaves past present_whole at book_now inside_now pid inside once_less notes =
     quiet : (live : Live) → IsQuiet live.kept (Detached pid)
     quiet live = record { not_gone = tt; generation = λ n. refl; redone = refl; present_is = λ es. refl; unclean = refl; history = λ h. refl; tick = λ n. refl; faults = λ fs. refl; here = λ fs. refl; need = λ n. refl; no_tick = λ start mark. tt; hidden = λ t. refl }
 
+-- ---- what is kept, by the log's own mark and number
+
+pub keeps_by : (origin : Origin) (base : Base) (at : Moment) (live : Live) (book : List BookEntry) → at.live ≡ Some live → (held : HasHeld origin base at book)
+    → Keeps Means base book held.start live.mark at.ticks live.log.count at.images
+keeps_by origin base at live book read held =
+    subst (λ (n : ℕ). Keeps Means base book held.start live.mark at.ticks n at.images) (held.flushed_is live read)
+    (subst (λ (m : ℕ). Keeps Means base book held.start m at.ticks held.flushed at.images) (held.mark_is live read) held.keeps)
+
+pub lengths_by : (origin : Origin) (base : Base) (at : Moment) (live : Live) (book : List BookEntry) → at.live ≡ Some live → HasHeld origin base at book
+    → (image : Files) → at.images at.ticks image → HoldsFrom (MeansWithin (most_bytes base book)) live.log.count (history_of base book) image
+lengths_by origin base at live book read held image there =
+    subst (λ (n : ℕ). HoldsFrom (MeansWithin (most_bytes base book)) n (history_of base book) image) (held.flushed_is live read) (held.lengths image there)
+
+pub opening_on : (origin : Origin) (start before now : ℕ) (i k : ℕ → Files → Type 0) → origin.tick ≤ start → start ≤ before → GoesOn before now i k → IsOpening origin start i → IsOpening origin start k
+opening_on origin start before now i k begun within time opening = λ t le ge image there.
+    ∥∥₁_map (opening t le ge image ((time.past t (omega (arith, ge, within)) image).0 there)) (λ e. (e.0, (time.past origin.tick (omega (arith, begun, within)) e.0).1 e.1, e.2))
+
+-- what a stop leaves goes on, with the log as it is now
+pub held_on : (origin : Origin) (base : Base) (before now : Moment) (new : Live) (book book_now : List BookEntry) → now.live ≡ Some new → GoesOn before.ticks now.ticks before.images now.images
+    → (held : HasHeld origin base before book) → Keeps Means base book_now held.start new.mark now.ticks new.log.count now.images
+    → ((image : Files) → now.images now.ticks image → HoldsFrom (MeansWithin (most_bytes base book_now)) new.log.count (history_of base book_now) image)
+    → IsAnchored now (history_of base book_now) → HasHeld origin base now book_now
+held_on origin base before now new book book_now read time held keeps lengths anchored = record {
+  start = held.start;
+  begun = held.begun;
+  opening = opening_on origin held.start before.ticks now.ticks before.images now.images held.begun (omega (arith, held.keeps.begun, held.keeps.marked)) time held.opening;
+  mark = new.mark;
+  mark_is = λ live is. ap (λ (l : Live). l.mark) (same_live now.live new live read is);
+  flushed = new.log.count;
+  flushed_is = λ live is. ap (λ (l : Live). l.log.count) (same_live now.live new live read is);
+  keeps = keeps;
+  lengths = lengths;
+  anchored = anchored;
+}
+
 -- ---- entries without a commit
 
 -- an answer up to what is flushed is released
 pub releases : PastStays → PresentIsWhole → (at : Moment) (live : Live) (book_now : Option (List BookEntry)) (pid front : ℕ) → at.live ≡ Some live → front ≤ live.log.count → Attends pid at.book
-    → IfSome at.book (λ list. Any (AnswersUpTo pid front) (present list)) → Added (Released pid front at.ticks ∷ []) at.book book_now → Moves (Released pid front at.ticks ∷ []) at (with_book book_now at)
+    → IfSome at.book (λ list. Any (AnswersUpTo pid front) (present list)) → Added (Released pid front live.mark ∷ []) at.book book_now → Moves (Released pid front live.mark ∷ []) at (with_book book_now at)
 releases past present_whole at live book_now pid front read flushed inside answered notes =
-    let entry : BookEntry = Released pid front at.ticks in
+    let entry : BookEntry = Released pid front live.mark in
     still (entry ∷ []) at live book_now read notes (λ who n. refl) (λ from counted. no_fault_shown from at.faults entry tt) refl
     (λ base book told is.
     gone_push base (with_book book_now at) live book entry (acknowledged (history_of base book) front) is.read is.legal is.generation
@@ -447,23 +534,22 @@ releases past present_whole at live book_now pid front read flushed inside answe
       closed_is = any_still ends_cleanly (present book) entry live.closed is.closed refl;
       history_is = refl;
       in_time = omega (arith, is.in_time);
+      marked = is.marked;
+      based = is.based;
+      behind = is.behind;
       each = is.counted.each;
     })
     (breaks_still live.log.since live.faults (faults_here book) entry (λ fs. refl) is.broken) is.known is.rows_are is.count_is is.base_is is.fits is.limit is.counted.later)
-    (λ origin base book is held. record {
-      start = held.start;
-      begun = held.begun;
-      opening = held.opening;
-      flushed = held.flushed;
-      flushed_is = held.flushed_is;
-      keeps = notes_release past present_whole base book held.start at.ticks held.flushed at.images held.keeps pid front (omega (arith, flushed, held.flushed_is live read));
-      lengths = λ image there. lengths_push base book entry (acknowledged (history_of base book) front) held.flushed image refl (held.lengths image there);
-    })
+    (λ origin base book is held.
+    held_on origin base at (with_book book_now at) live book (book ++ entry ∷ []) read (time_still at.ticks at.images) held
+    (released past present_whole base book held.start live.mark at.ticks live.log.count at.images (keeps_by origin base at live book read held) pid front flushed)
+    (λ image there. lengths_push base book entry (acknowledged (history_of base book) front) live.log.count image refl (lengths_by origin base at live book read held image there))
+    (subst (IsAnchored (with_book book_now at)) (sym (history_push base book entry)) (anchored_push (with_book book_now at) (history_of base book) (acknowledged (history_of base book) front) (λ l r. refl) held.anchored)))
 
 -- an answer that may follow
-may_answer : (base : Base) (at : Moment) (live : Live) (book : List BookEntry) (pid : ℕ) (script : List Stmt) (reply : List Item) (commit : List Change) (front : ℕ)
+pub may_answer : (base : Base) (at : Moment) (live : Live) (book : List BookEntry) (pid : ℕ) (script : List Stmt) (reply : List Item) (commit : List Change) (front : ℕ)
     → HasGone base at live book → IsAttached book pid → reply ≡ items_of at.rows script → commit ≡ commit_of at.rows script → front ≡ count_of (with_commit (history_of base book) commit)
-    → (live.closed ≡ true → commit ≡ []) → MayAnswer base book pid script reply commit front at.ticks
+    → (live.closed ≡ true → commit ≡ []) → MayAnswer base book pid script reply commit front live.mark
 may_answer base at live book pid script reply commit front is attached reply_is commit_is front_is unclosed = record {
   redone = ap is_some is.redone;
   attached = attached;
@@ -474,13 +560,20 @@ may_answer base at live book pid script reply commit front is attached reply_is 
   unclosed = λ closed. unclosed (sym is.closed ∙ closed);
 }
 
+-- the flushed number of a history is that of the history with a commit more
+pub flushed_number : (origin : Origin) (base : Base) (at : Moment) (book : List BookEntry) (commit : List Change) → HasHeld origin base at book
+    → (live : Live) → at.live ≡ Some live → number (history_of base book) (flushed_of live) ≡ number (with_commit (history_of base book) commit) (flushed_of live)
+flushed_number origin base at book commit held live read =
+    let h = history_of base book in
+    sym (covers_number (with_commit h commit) h (covers_commit h commit) live.log.count (keeps_by origin base at live book read held).whole)
+
 -- a script without changes is answered
 pub reads : PastStays → PresentIsWhole → (at : Moment) (live : Live) (book_now : Option (List BookEntry)) (pid : ℕ) (script : List Stmt) (reply : List Item) (commit : List Change)
     → at.live ≡ Some live → live.log.since ≡ None → Attends pid at.book → reply ≡ items_of at.rows script → commit ≡ commit_of at.rows script → commit ≡ []
-    → Added (Answered pid script reply commit live.log.count at.ticks ∷ []) at.book book_now → Moves (Answered pid script reply commit live.log.count at.ticks ∷ []) at (with_book book_now at)
+    → Added (Answered pid script reply commit live.front live.mark ∷ []) at.book book_now → Moves (Answered pid script reply commit live.front live.mark ∷ []) at (with_book book_now at)
 reads past present_whole at live book_now pid script reply commit read unbroken inside reply_is commit_is nothing notes =
-    let entry : BookEntry = Answered pid script reply commit live.log.count at.ticks in
-    let bare : BookEntry = Answered pid script reply [] live.log.count at.ticks in
+    let entry : BookEntry = Answered pid script reply commit live.front live.mark in
+    let bare : BookEntry = Answered pid script reply [] live.front live.mark in
     still (entry ∷ []) at live book_now read notes (λ who n. refl) (λ from counted. no_fault_shown from at.faults entry tt) refl
     (λ base book told is.
     let done : HasGone base (with_book book_now at) live (book ++ bare ∷ []) =
@@ -490,29 +583,28 @@ reads past present_whole at live book_now pid script reply commit read unbroken 
       begun = is.begun;
       attended = attended_still at.inside book bare (λ who n. refl) is.attended;
       base_fits = is.base_fits;
-      may = may_answer base at live book pid script reply [] live.log.count is (attends_in pid at.book book told inside) reply_is (sym nothing ∙ commit_is) (is.count_is unbroken) (λ closed. refl);
+      may = may_answer base at live book pid script reply [] live.front is (attends_in pid at.book book told inside) reply_is (sym nothing ∙ commit_is) (is.count_is unbroken) (λ closed. refl);
       generation = λ n. refl;
       redone = ap (λ (r : Option ℕ). kept_after r bare) is.redone;
       closed_is = any_still ends_cleanly (present book) bare live.closed is.closed refl;
       history_is = refl;
       in_time = omega (arith, is.in_time);
+      marked = is.marked;
+      based = is.based;
+      behind = is.behind;
       each = is.counted.each;
     })
     (breaks_still live.log.since live.faults (faults_here book) bare (λ fs. refl) is.broken) is.known is.rows_are is.count_is is.base_is
     (λ open_log. omega (arith, is.fits open_log)) is.limit is.counted.later in
-    subst (λ (k : List Change). HasGone base (with_book book_now at) live (book ++ Answered pid script reply k live.log.count at.ticks ∷ [])) (sym nothing) done)
-    (λ origin base book is held. record {
-      start = held.start;
-      begun = held.begun;
-      opening = held.opening;
-      flushed = held.flushed;
-      flushed_is = held.flushed_is;
-      keeps = notes_answer past present_whole base book held.start at.ticks held.flushed at.images held.keeps pid live.log.count script reply commit;
-      lengths = λ image there.
-          let h = history_of base book in
-          lengths_push base book entry (with_commit h commit) held.flushed image refl
-          (holds_in (MeansWithin (most_bytes base book)) (with_commit h commit) h held.flushed held.flushed image (covers_commit h commit) (omega arith) (held.lengths image there));
-    })
+    subst (λ (k : List Change). HasGone base (with_book book_now at) live (book ++ Answered pid script reply k live.front live.mark ∷ [])) (sym nothing) done)
+    (λ origin base book is held.
+    let h = history_of base book in
+    held_on origin base at (with_book book_now at) live book (book ++ entry ∷ []) read (time_still at.ticks at.images) held
+    (answered past present_whole base book held.start live.mark at.ticks live.log.count at.images (keeps_by origin base at live book read held) pid live.front script reply commit)
+    (λ image there. lengths_push base book entry (with_commit h commit) live.log.count image refl
+    (holds_in (MeansWithin (most_bytes base book)) (with_commit h commit) h live.log.count live.log.count image (covers_commit h commit) (omega arith) (lengths_by origin base at live book read held image there)))
+    (subst (IsAnchored (with_book book_now at)) (sym (history_push base book entry))
+    (anchored_push (with_book book_now at) h (with_commit h commit) (flushed_number origin base at book commit held) held.anchored)))
 
 -- a fault that broke the log is told again
 may_repeat : (since count : ℕ) (base : Base) (book : List BookEntry) (here : Option (List (ℕ × ℕ))) → TellsBreak (Some since) count here → TellsFault base book here since count
@@ -532,9 +624,6 @@ shown_of from faults o live since read broken shown =
 -- the commits before it, or these with the commit, in at most so many bytes
 abbrev pub OneOf : ℕ → Standing → List Change → Files → Type 0
 OneOf most one commit image = ∥ MeansWithin most image one ⊎ MeansWithin most image (after one (commit ∷ [])) ∥₁
-
-pub whole_number : (h : History) → standing (rows_of h) (count_of h) ≡ number h (count_of h)
-whole_number h = sym (ap (of_rows h.base.rows (count_of h)) (take_all (count_of h - h.base.count) h.commits (omega arith)))
 
 -- a number of the history with the commit
 holds_one : (h : History) (change : Change) (changes : List Change) (most : ℕ) (one : Standing) (flushed : ℕ) (image : Files) → one ≡ standing (rows_of h) (count_of h) → flushed ≡ count_of h
@@ -573,25 +662,21 @@ means_some most h least image holds = holds_so (MeansWithin most) Means h least 
 pub means_more : (most more : ℕ) (h : History) (least : ℕ) (image : Files) → most ≤ more → HoldsFrom (MeansWithin most) least h image → HoldsFrom (MeansWithin more) least h image
 means_more most more h least image le holds = holds_so (MeansWithin most) (MeansWithin more) h least image (λ s m. (m.0, omega (arith, m.1, le), m.2)) holds
 
-pub opening_on : (origin : Origin) (start before now : ℕ) (i k : ℕ → Files → Type 0) → origin.tick ≤ start → start ≤ before → GoesOn before now i k → IsOpening origin start i → IsOpening origin start k
-opening_on origin start before now i k begun within time opening = λ t le ge image there.
-    ∥∥₁_map (opening t le ge image ((time.past t (omega (arith, ge, within)) image).0 there)) (λ e. (e.0, (time.past origin.tick (omega (arith, begun, within)) e.0).1 e.1, e.2))
-
 -- how long the log is with a commit behind it
 abbrev pub with_need : Live → List Change → ℕ
 with_need live commit = live.log.end + 1 + log.need_of (commit ∷ [])
 
--- what is flushed is so still where the log has no fewer commits
-pub flushed_more : (o o_now : Option Live) (live new : Live) → o ≡ Some live → o_now ≡ Some new → live.log.count ≤ new.log.count → (front : Option ℕ) → IsFlushed front o → IsFlushed front o_now
-flushed_more o o_now live new read read_now le None is = tt
-flushed_more o o_now live new read read_now le (Some front) is =
-    let was : front ≤ live.log.count = subst (IsFlushed (Some front)) read is in
-    subst (IsFlushed (Some front)) (sym read_now) (omega (arith, was, le))
+-- what was taken or flushed is so still, where no fewer commits were
+pub up_to_more : (count : Live → ℕ) (o o_now : Option Live) (live new : Live) → o ≡ Some live → o_now ≡ Some new → count live ≤ count new → (front : Option ℕ) → IsUpTo count front o → IsUpTo count front o_now
+up_to_more count o o_now live new read read_now le None is = tt
+up_to_more count o o_now live new read read_now le (Some front) is =
+    let was : front ≤ count live = subst (IsUpTo count (Some front)) read is in
+    subst (IsUpTo count (Some front)) (sym read_now) (omega (arith, was, le))
 
--- nothing is where the log wasn't read
-pub flushed_unread : (o o_now : Option Live) → o ≡ None → (front : Option ℕ) → IsFlushed front o → IsFlushed front o_now
-flushed_unread o o_now unread None is = tt
-flushed_unread o o_now unread (Some front) is = absurd (subst (IsFlushed (Some front)) unread is)
+-- nothing was where the log wasn't read
+pub up_to_unread : (count : Live → ℕ) (o o_now : Option Live) → o ≡ None → (front : Option ℕ) → IsUpTo count front o → IsUpTo count front o_now
+up_to_unread count o o_now unread None is = tt
+up_to_unread count o o_now unread (Some front) is = absurd (subst (IsUpTo count (Some front)) unread is)
 
 -- the log that was read goes on in the generation
 pub began_on : (o o_now : Option Live) (live new : Live) → o ≡ Some live → o_now ≡ Some new → new.epoch ≡ live.epoch → (first : ℕ) → BeganIn first o → BeganIn first o_now
@@ -616,13 +701,17 @@ ahead_found entries o o_now new unread read_now found none many is =
     let first : many ≡ 0 = subst (IsAheadBy many) unread is in
     subst (IsAheadBy (many + epochs_in entries)) (sym read_now) (λ whole. omega (arith, first, none, found))
 
--- all that an append says, for the history
+-- all that an append at once says, for the history: nothing is staged
 pub record Appends (before now : Moment) (live new : Live) (commit : List Change) : Type 0 where
   pub generation : now.generation ≡ before.generation
+  pub commits : now.commits ≡ before.commits
   pub inside : now.inside ≡ before.inside
   pub read : before.live ≡ Some live
   pub unbroken : live.log.since ≡ None
   pub unclosed : live.closed ≡ false
+  pub unstaged_now : now.staged ≡ []
+  pub front : live.front ≡ live.log.count
+  pub needs : new.needs ≡ live.needs
   pub read_now : now.live ≡ Some new
   pub kept : new.kept ≡ live.kept
   pub closed : new.closed ≡ live.closed
@@ -635,54 +724,38 @@ pub record Appends (before now : Moment) (live new : Live) (commit : List Change
   pub tells : before.files ≡ None → now.files ≡ None
   pub through : IfSome before.files (λ files. Throughout before.ticks now.ticks now.images (OneOf (with_need live commit) (standing before.rows live.log.count) commit))
 
--- the run with the answer, where the log holds at least so many commits
-appended_run : PastStays → PresentIsWhole → (base : Base) (before now : Moment) (live : Live) (book : List BookEntry) (pid front : ℕ) (script : List Stmt) (reply : List Item) (change : Change) (changes : List Change)
-    (flushed least start : ℕ) → live.log.since ≡ None → flushed ≡ live.log.count → GoesOn before.ticks now.ticks before.images now.images
-    → Throughout before.ticks now.ticks now.images (OneOf (with_need live (change ∷ changes)) (standing before.rows live.log.count) (change ∷ changes)) → live.log.count ≤ least → least ≤ live.log.count + 1
-    → ((image : Files) → now.images now.ticks image → HoldsFrom (MeansWithin (with_need live (change ∷ changes))) least (with_commit (history_of base book) (change ∷ changes)) image)
-    → HasGone base before live book → Keeps Means base book start before.ticks before.ticks flushed before.images
-    → Keeps Means base (book ++ Answered pid script reply (change ∷ changes) front before.ticks ∷ []) start now.ticks now.ticks least now.images
-appended_run past present_whole base before now live book pid front script reply change changes flushed least start unbroken flushed_is time through le ge holds is keeps =
+-- all commits are flushed
+counted_by : (base : Base) (at : Moment) (live : Live) (book : List BookEntry) → live.log.since ≡ None → live.front ≡ live.log.count → HasGone base at live book → live.log.count ≡ count_of (history_of base book)
+counted_by base at live book unbroken front is = sym front ∙ is.count_is unbroken
+
+-- inside it a stop leaves numbers of the history with the answer
+appended_stops : (base : Base) (before now : Moment) (live : Live) (book : List BookEntry) (pid front : ℕ) (script : List Stmt) (reply : List Item) (change : Change) (changes : List Change)
+    → live.log.count ≡ count_of (history_of base book) → before.rows ≡ rows_of (history_of base book)
+    → Throughout before.ticks now.ticks now.images (OneOf (with_need live (change ∷ changes)) (standing before.rows live.log.count) (change ∷ changes))
+    → Throughout before.ticks now.ticks now.images (HoldsFrom Means live.log.count (history_of base (book ++ Answered pid script reply (change ∷ changes) front live.mark ∷ [])))
+appended_stops base before now live book pid front script reply change changes counted rows through = λ t after_it upto image there.
     let commit = change ∷ changes in
     let most = with_need live commit in
-    let entry : BookEntry = Answered pid script reply commit front before.ticks in
     let h = history_of base book in
-    let counted : live.log.count ≡ count_of h = is.count_is unbroken in
-    let grown : history_of base (book ++ entry ∷ []) ≡ with_commit h commit = history_push base book entry in
-    let one : standing before.rows live.log.count ≡ standing (rows_of h) (count_of h) = same_standing _ _ _ _ is.rows_are counted in
-    let whole = subst (λ (n : ℕ). Keeps Means base book start before.ticks before.ticks n before.images) flushed_is keeps in
-    goes_by past present_whole base (book ++ entry ∷ []) start before.ticks live.log.count now.ticks least before.images now.images
-    (notes_answer past present_whole base book start before.ticks live.log.count before.images whole pid front script reply commit) time
-    (λ t after_it upto image there. subst (λ (x : History). HoldsFrom Means live.log.count x image) (sym grown)
-    (means_some most (with_commit h commit) live.log.count image (holds_one h change changes most (standing before.rows live.log.count) live.log.count image one counted (through t after_it upto image there))))
-    le (subst (λ (x : History). least ≤ count_of x) (sym grown) (omega (arith, ge, counted, count-with_commit h change changes)))
-    (λ image there. subst (λ (x : History). HoldsFrom Means least x image) (sym grown) (means_some most (with_commit h commit) least image (holds image there)))
+    let one : standing before.rows live.log.count ≡ standing (rows_of h) (count_of h) = same_standing _ _ _ _ rows counted in
+    subst (λ (x : History). HoldsFrom Means live.log.count x image) (sym (history_push base book (Answered pid script reply commit front live.mark)))
+    (means_some most (with_commit h commit) live.log.count image (holds_one h change changes most (standing before.rows live.log.count) live.log.count image one counted (through t after_it upto image there)))
 
 -- how long an image is, behind an append and the answer
 appended_lengths : (base : Base) (before now : Moment) (live : Live) (book : List BookEntry) (pid front : ℕ) (script : List Stmt) (reply : List Item) (change : Change) (changes : List Change) (least : ℕ)
     → live.log.since ≡ None → ((image : Files) → now.images now.ticks image → HoldsFrom (MeansWithin (with_need live (change ∷ changes))) least (with_commit (history_of base book) (change ∷ changes)) image)
     → HasGone base before live book → (image : Files) → now.images now.ticks image
-    → HoldsFrom (MeansWithin (most_bytes base (book ++ Answered pid script reply (change ∷ changes) front before.ticks ∷ []))) least (history_of base (book ++ Answered pid script reply (change ∷ changes) front before.ticks ∷ [])) image
+    → HoldsFrom (MeansWithin (most_bytes base (book ++ Answered pid script reply (change ∷ changes) front live.mark ∷ []))) least (history_of base (book ++ Answered pid script reply (change ∷ changes) front live.mark ∷ [])) image
 appended_lengths base before now live book pid front script reply change changes least unbroken holds is image there =
     let commit = change ∷ changes in
-    let entry : BookEntry = Answered pid script reply commit front before.ticks in
+    let entry : BookEntry = Answered pid script reply commit front live.mark in
     let grown : history_of base (book ++ entry ∷ []) ≡ with_commit (history_of base book) commit = history_push base book entry in
     subst (λ (x : History). HoldsFrom (MeansWithin (most_bytes base (book ++ entry ∷ []))) least x image) (sym grown)
     (means_more (with_need live commit) (most_bytes base (book ++ entry ∷ [])) (with_commit (history_of base book) commit) least image (omega (arith, is.fits unbroken, needs_push book entry)) (holds image there))
 
--- what a stop leaves, behind calls of the disk
-pub held_on : (origin : Origin) (base : Base) (before now : Moment) (new : Live) (book book_now : List BookEntry) → now.live ≡ Some new → GoesOn before.ticks now.ticks before.images now.images
-    → (held : HasHeld origin base before book) → Keeps Means base book_now held.start now.ticks now.ticks new.log.count now.images
-    → ((image : Files) → now.images now.ticks image → HoldsFrom (MeansWithin (most_bytes base book_now)) new.log.count (history_of base book_now) image) → HasHeld origin base now book_now
-held_on origin base before now new book book_now read time held keeps lengths = record {
-  start = held.start;
-  begun = held.begun;
-  opening = opening_on origin held.start before.ticks now.ticks before.images now.images held.begun held.keeps.begun time held.opening;
-  flushed = new.log.count;
-  flushed_is = λ live is. ap (λ (l : Live). l.log.count) (same_live now.live new live read is);
-  keeps = keeps;
-  lengths = lengths;
-}
+-- no commit is behind the last one
+pub drop_none : (h : History) (first n : ℕ) → h.base.count ≡ first → n ≡ count_of h → drop (n - first) h.commits ≡ []
+drop_none h first n same is = drop_all (n - first) h.commits (omega (arith, same, is))
 
 pub none_told : (since : Option ℕ) (count : ℕ) (here : Option (List (ℕ × ℕ))) → since ≡ None → TellsBreak since count here → here ≡ Some []
 none_told since count here unbroken tells = subst (λ (s : Option ℕ). TellsBreak s count here) unbroken tells
@@ -699,15 +772,17 @@ counted_now from before now since_count o o_now new le read shown counted = reco
 
 -- a commit is durable, and answered
 pub commits : PastStays → PresentIsWhole → (before now : Moment) (live new : Live) (pid : ℕ) (script : List Stmt) (reply : List Item) (commit : List Change) → commit ≢ []
-    → Appends before now live new commit → new.log.since ≡ None → new.log.count ≡ live.log.count + 1 → new.log.end ≡ live.log.end + log.need_of (commit ∷ [])
+    → Appends before now live new commit → new.log.since ≡ None → new.log.count ≡ live.log.count + 1 → new.front ≡ new.log.count → new.mark ≡ now.ticks → new.log.end ≡ live.log.end + log.need_of (commit ∷ [])
     → IfSome before.files (λ files. (image : Files) → now.images now.ticks image → ∥ MeansWithin (with_need live commit) image (after (standing before.rows live.log.count) (commit ∷ [])) ∥₁)
+    → ∥ Rests now.live now.rows now.staged now.files (now.images now.ticks) ∥₁
     → Attends pid before.book → reply ≡ items_of before.rows script → commit ≡ commit_of before.rows script
-    → Added (Answered pid script reply commit new.log.count before.ticks ∷ []) before.book now.book
-    → Moves (Answered pid script reply commit new.log.count before.ticks ∷ []) before now
-commits past present_whole before now live new pid script reply [] some appends whole count end durable inside reply_is commit_is notes = absurd (some refl)
-commits past present_whole before now live new pid script reply (change ∷ changes) some appends whole count end durable inside reply_is commit_is notes = record {
+    → Added (Answered pid script reply commit new.log.count live.mark ∷ []) before.book now.book
+    → Moves (Answered pid script reply commit new.log.count live.mark ∷ []) before now
+commits past present_whole before now live new pid script reply [] some appends whole count front mark end durable rests inside reply_is commit_is notes = absurd (some refl)
+commits past present_whole before now live new pid script reply (change ∷ changes) some appends whole count front mark end durable rests inside reply_is commit_is notes = record {
   notes = notes;
   generation = appends.generation;
+  commits = appends.commits;
   attends = nobody_moves (entry ∷ []) before now appends.inside (λ who n. refl);
   time = appends.time;
   later = appends.later;
@@ -716,7 +791,8 @@ commits past present_whole before now live new pid script reply (change ∷ chan
     each = no_fault_shown from now.faults entry tt;
   };
   unread = unread_never (entry ∷ []) before now live new appends.read appends.read_now;
-  flushed = flushed_more before.live now.live live new appends.read appends.read_now (omega (arith, count));
+  staged = up_to_more whole_of before.live now.live live new appends.read appends.read_now (omega (arith, appends.front, front, count));
+  flushed = up_to_more flushed_of before.live now.live live new appends.read appends.read_now (omega (arith, count));
   began = began_on before.live now.live live new appends.read appends.read_now appends.first;
   ahead = ahead_more before.live now.live live new 0 appends.read appends.read_now appends.first (λ whole. (appends.unbroken, omega (arith, appends.epoch)));
   waits = never_waits (entry ∷ []) before now live appends.read notes appends.tells;
@@ -725,62 +801,76 @@ commits past present_whole before now live new pid script reply (change ∷ chan
 }
   where
     entry : BookEntry
-    entry = Answered pid script reply (change ∷ changes) new.log.count before.ticks
+    entry = Answered pid script reply (change ∷ changes) new.log.count live.mark
+
+    last : (base : Base) (book : List BookEntry) → HasGone base before live book → new.log.count ≡ count_of (with_commit (history_of base book) (change ∷ changes))
+    last base book is = omega (arith, count, counted_by base before live book appends.unbroken appends.front is, count-with_commit (history_of base book) change changes)
+
+    rows_then : (base : Base) (book : List BookEntry) → HasGone base before live book → now.rows ≡ rows_of (with_commit (history_of base book) (change ∷ changes))
+    rows_then base book is = appends.rows ∙ ap (λ (r : RowMap). committed r (change ∷ changes)) is.rows_are ∙ sym (rows-with_commit (history_of base book) (change ∷ changes))
 
     goes : (base : Base) (book : List BookEntry) → before.book ≡ Some book → HasGone base before live book → HasGone base now new (book ++ entry ∷ [])
     goes base book told is =
         let h = history_of base book in
         let commit = change ∷ changes in
-        let counted : live.log.count ≡ count_of h = is.count_is appends.unbroken in
-        let front : new.log.count ≡ count_of (with_commit h commit) = omega (arith, count, counted, count-with_commit h change changes) in
+        let all = last base book is in
         gone_push base now new book entry (with_commit h commit) appends.read_now is.legal (is.generation ∙ sym appends.generation)
         (record {
           not_gone = tt;
           begun = subst (λ (n : ℕ). 1 ≤ n) (sym appends.generation) is.begun;
           attended = subst (λ (l : List ℕ). IsAttendedBy l (book ++ entry ∷ [])) (sym appends.inside) (attended_still before.inside book entry (λ who n. refl) is.attended);
           base_fits = is.base_fits;
-          may = may_answer base before live book pid script reply commit new.log.count is (attends_in pid before.book book told inside) reply_is commit_is front (λ closed. absurd (true≢false (sym closed ∙ appends.unclosed)));
+          may = may_answer base before live book pid script reply commit new.log.count is (attends_in pid before.book book told inside) reply_is commit_is all (λ closed. absurd (true≢false (sym closed ∙ appends.unclosed)));
           generation = λ n. refl;
           redone = ap (λ (r : Option ℕ). kept_after r entry) is.redone ∙ ap (λ (n : ℕ). Some n) (sym appends.kept);
           closed_is = any_still ends_cleanly (present book) entry live.closed is.closed refl ∙ sym appends.closed;
           history_is = refl;
-          in_time = omega (arith, is.in_time, appends.time.later);
+          in_time = omega (arith, is.in_time, is.marked, appends.time.later, mark);
+          marked = omega (arith, mark);
+          based = omega (arith, is.based, count);
+          behind = λ open_log. drop_none (with_commit h commit) base.count new.log.count (ap (λ (s : Standing). s.count) (base-with_commit h commit ∙ is.base_is)) all ∙ sym appends.unstaged_now;
           each = each_later before.faults now.faults (faults_of book) appends.later is.counted.each;
         })
         (tells_none new.log.since new.faults (fault_here (faults_here book) entry) whole (ap (λ (f : Option (List (ℕ × ℕ))). fault_here f entry) (none_told live.log.since live.faults (faults_here book) appends.unbroken is.broken)))
         (λ since broke. absurd (some_none since (sym broke ∙ whole)))
-        (appends.rows ∙ ap (λ (r : RowMap). committed r commit) is.rows_are ∙ sym (rows-with_commit h commit))
-        (λ open_log. front) (base-with_commit h commit ∙ is.base_is)
-        (λ open_log. omega (arith, end, is.fits appends.unbroken)) (appends.limit ∙ is.limit) (omega (arith, is.counted.later, appends.later))
+        (rows_then base book is)
+        (λ open_log. front ∙ all) (base-with_commit h commit ∙ is.base_is)
+        (λ open_log. omega (arith, end, appends.needs, is.fits appends.unbroken)) (appends.limit ∙ is.limit) (omega (arith, is.counted.later, appends.later))
 
     holds : (origin : Origin) (base : Base) (book : List BookEntry) (seen : Files) → before.files ≡ Some seen → HasGone base before live book → HasHeld origin base before book → HasHeld origin base now (book ++ entry ∷ [])
     holds origin base book seen tells is held =
         let h = history_of base book in
         let commit = change ∷ changes in
         let most = with_need live commit in
-        let counted : live.log.count ≡ count_of h = is.count_is appends.unbroken in
+        let counted = counted_by base before live book appends.unbroken appends.front is in
         let through = subst (λ (f : Option Files). IfSome f (λ files. Throughout before.ticks now.ticks now.images (OneOf most (standing before.rows live.log.count) commit))) tells appends.through in
         let behind = subst (λ (f : Option Files). IfSome f (λ files. (image : Files) → now.images now.ticks image → ∥ MeansWithin most image (after (standing before.rows live.log.count) (commit ∷ [])) ∥₁)) tells durable in
         let one : standing before.rows live.log.count ≡ standing (rows_of h) (count_of h) = same_standing _ _ _ _ is.rows_are counted in
-        let next : (image : Files) → now.images now.ticks image → HoldsFrom (MeansWithin most) (live.log.count + 1) (with_commit h commit) image =
-        λ image there. holds_next h change changes most (standing before.rows live.log.count) (live.log.count + 1) image one (omega (arith, counted)) (behind image there) in
+        let grown : history_of base (book ++ entry ∷ []) ≡ with_commit h commit = history_push base book entry in
+        let next : (image : Files) → now.images now.ticks image → HoldsFrom (MeansWithin most) new.log.count (with_commit h commit) image =
+        λ image there. holds_next h change changes most (standing before.rows live.log.count) new.log.count image one (omega (arith, counted, count)) (behind image there) in
+        let run : Keeps Means base (book ++ entry ∷ []) held.start now.ticks now.ticks new.log.count now.images =
+        goes_by past present_whole base (book ++ entry ∷ []) held.start live.mark before.ticks live.log.count now.ticks new.log.count before.images now.images
+        (answered past present_whole base book held.start live.mark before.ticks live.log.count before.images (keeps_by origin base before live book appends.read held) pid new.log.count script reply commit) appends.time
+        (appended_stops base before now live book pid new.log.count script reply change changes counted is.rows_are through)
+        (omega (arith, count)) (subst (λ (x : History). new.log.count ≤ count_of x) (sym grown) (omega (arith, last base book is)))
+        (λ image there. subst (λ (x : History). HoldsFrom Means new.log.count x image) (sym grown) (means_some most (with_commit h commit) new.log.count image (next image there))) in
         held_on origin base before now new book (book ++ entry ∷ []) appends.read_now appends.time held
-        (subst (λ (n : ℕ). Keeps Means base (book ++ entry ∷ []) held.start now.ticks now.ticks n now.images) (sym count)
-        (appended_run past present_whole base before now live book pid new.log.count script reply change changes held.flushed (live.log.count + 1) held.start appends.unbroken (held.flushed_is live appends.read) appends.time through
-        (omega arith) (omega arith) next is held.keeps))
-        (λ image there. subst (λ (n : ℕ). HoldsFrom (MeansWithin (most_bytes base (book ++ entry ∷ []))) n (history_of base (book ++ entry ∷ [])) image) (sym count)
-        (appended_lengths base before now live book pid new.log.count script reply change changes (live.log.count + 1) appends.unbroken next is image there))
+        (subst (λ (m : ℕ). Keeps Means base (book ++ entry ∷ []) held.start m now.ticks new.log.count now.images) (sym mark) run)
+        (appended_lengths base before now live book pid new.log.count script reply change changes new.log.count appends.unbroken next is)
+        (subst (IsAnchored now) (sym grown) (anchored_whole now (with_commit h commit) new appends.read_now appends.unstaged_now (rows_then base book is) (last base book is) rests))
 
 -- the disk failed at a commit, which may stand or not
 pub loses : PastStays → PresentIsWhole → (before now : Moment) (live new : Live) (pid since : ℕ) (script : List Stmt) (reply : List Item) (commit : List Change) → commit ≢ []
-    → Appends before now live new commit → new.log.since ≡ Some since → new.log.count ≡ live.log.count → new.faults ≡ now.faults → Rose before.faults now.faults → now.faults < 2 ^ 64
+    → Appends before now live new commit → new.log.since ≡ Some since → new.log.count ≡ live.log.count → new.front ≡ live.front → new.mark ≡ live.mark → new.faults ≡ now.faults → Rose before.faults now.faults → now.faults < 2 ^ 64
     → Attends pid before.book → reply ≡ items_of before.rows script → commit ≡ commit_of before.rows script
-    → Added (Answered pid script reply commit (live.log.count + 1) before.ticks ∷ Broke pid since now.faults ∷ []) before.book now.book
-    → Moves (Answered pid script reply commit (live.log.count + 1) before.ticks ∷ Broke pid since now.faults ∷ []) before now
-loses past present_whole before now live new pid since script reply [] some appends broke count fault rose small inside reply_is commit_is notes = absurd (some refl)
-loses past present_whole before now live new pid since script reply (change ∷ changes) some appends broke count fault rose small inside reply_is commit_is notes = record {
+    → Added (Answered pid script reply commit (live.front + 1) live.mark ∷ Broke pid since now.faults ∷ []) before.book now.book
+    → Moves (Answered pid script reply commit (live.front + 1) live.mark ∷ Broke pid since now.faults ∷ []) before now
+loses past present_whole before now live new pid since script reply [] some appends broke count front mark fault rose small inside reply_is commit_is notes = absurd (some refl)
+loses past present_whole before now live new pid since script reply (change ∷ changes) some appends broke count front mark fault rose small inside reply_is commit_is notes = record {
   notes = notes;
   generation = appends.generation;
+  commits = appends.commits;
   attends = nobody_moves (first ∷ second ∷ []) before now appends.inside (λ who n. refl);
   time = appends.time;
   later = appends.later;
@@ -790,7 +880,8 @@ loses past present_whole before now live new pid since script reply (change ∷ 
         each = All-push (IsShown from now.faults) (first ∷ []) second (no_fault_shown from now.faults first tt) risen;
       };
   unread = unread_never (first ∷ second ∷ []) before now live new appends.read appends.read_now;
-  flushed = flushed_more before.live now.live live new appends.read appends.read_now (omega (arith, count));
+  staged = up_to_more whole_of before.live now.live live new appends.read appends.read_now (omega (arith, front));
+  flushed = up_to_more flushed_of before.live now.live live new appends.read appends.read_now (omega (arith, count));
   began = began_on before.live now.live live new appends.read appends.read_now appends.first;
   ahead = ahead_more before.live now.live live new 0 appends.read appends.read_now appends.first (λ whole. (appends.unbroken, omega (arith, appends.epoch)));
   waits = never_waits (first ∷ second ∷ []) before now live appends.read notes appends.tells;
@@ -800,7 +891,7 @@ loses past present_whole before now live new pid since script reply (change ∷ 
 }
   where
     first : BookEntry
-    first = Answered pid script reply (change ∷ changes) (live.log.count + 1) before.ticks
+    first = Answered pid script reply (change ∷ changes) (live.front + 1) live.mark
 
     second : BookEntry
     second = Broke pid since now.faults
@@ -813,9 +904,8 @@ loses past present_whole before now live new pid since script reply (change ∷ 
         let h = history_of base book in
         let commit = change ∷ changes in
         let answered = book ++ first ∷ [] in
-        let counted : live.log.count ≡ count_of h = is.count_is appends.unbroken in
-        let front : live.log.count + 1 ≡ count_of (with_commit h commit) = omega (arith, counted, count-with_commit h change changes) in
-        let may = may_answer base before live book pid script reply commit (live.log.count + 1) is (attends_in pid before.book book told inside) reply_is commit_is front (λ closed. absurd (true≢false (sym closed ∙ appends.unclosed))) in
+        let front_is : live.front + 1 ≡ count_of (with_commit h commit) = omega (arith, is.count_is appends.unbroken, count-with_commit h change changes) in
+        let may = may_answer base before live book pid script reply commit (live.front + 1) is (attends_in pid before.book book told inside) reply_is commit_is front_is (λ closed. absurd (true≢false (sym closed ∙ appends.unclosed))) in
         let grown : history_of base answered ≡ with_commit h commit = history_push base book first in
         let redone : kept_by_redo answered ≡ Some live.kept = redone_answered base book is in
         let here : faults_here answered ≡ Some [] = here_push book first ∙ ap (λ (f : Option (List (ℕ × ℕ))). fault_here f first) (none_told live.log.since live.faults (faults_here book) appends.unbroken is.broken) in
@@ -836,7 +926,10 @@ loses past present_whole before now live new pid since script reply (change ∷ 
           redone = ap (λ (r : Option ℕ). kept_after r second) redone ∙ ap (λ (n : ℕ). Some n) (sym appends.kept);
           closed_is = any_still ends_cleanly (present answered) second live.closed (closed_push book first ∙ any_still ends_cleanly (present book) first live.closed is.closed refl) refl ∙ sym appends.closed;
           history_is = ap (λ (r : Option ℕ). history_after r (history_of base answered) second) redone ∙ grown;
-          in_time = subst (λ (n : ℕ). n ≤ now.ticks) (sym (tick_push book first)) (omega (arith, is.in_time, appends.time.later));
+          in_time = subst (λ (n : ℕ). n ≤ new.mark) (sym (tick_push book first)) (omega (arith, is.in_time, mark));
+          marked = omega (arith, is.marked, appends.time.later, mark);
+          based = omega (arith, is.based, count);
+          behind = λ open_log. absurd (some_none since (sym broke ∙ open_log));
           each = subst (λ (fs : List (ℕ × ℕ)). All (IsFaultBy now.faults) (fs ++ (since, now.faults) ∷ [])) (sym faults) (each_push before.faults now.faults since (faults_of book) appends.later is.counted.each);
         })
         (subst (λ (s : Option ℕ). TellsBreak s new.faults (fault_here (faults_here answered) second)) (sym broke)
@@ -852,21 +945,24 @@ loses past present_whole before now live new pid since script reply (change ∷ 
         let h = history_of base book in
         let commit = change ∷ changes in
         let most = with_need live commit in
-        let answered = book ++ first ∷ [] in
-        let counted : live.log.count ≡ count_of h = is.count_is appends.unbroken in
+        let both = book ++ first ∷ [] in
+        let counted = counted_by base before live book appends.unbroken appends.front is in
         let through = subst (λ (f : Option Files). IfSome f (λ files. Throughout before.ticks now.ticks now.images (OneOf most (standing before.rows live.log.count) commit))) tells appends.through in
         let one : standing before.rows live.log.count ≡ standing (rows_of h) (count_of h) = same_standing _ _ _ _ is.rows_are counted in
         let either : (image : Files) → now.images now.ticks image → HoldsFrom (MeansWithin most) live.log.count (with_commit h commit) image =
         λ image there. holds_one h change changes most (standing before.rows live.log.count) live.log.count image one counted (through now.ticks appends.time.later (omega arith) image there) in
-        let keeps = appended_run past present_whole base before now live book pid (live.log.count + 1) script reply change changes held.flushed live.log.count held.start appends.unbroken (held.flushed_is live appends.read) appends.time through
-        (omega arith) (omega arith) either is held.keeps in
-        let alone : history_after (kept_by_redo answered) (history_of base answered) second ≡ history_of base answered = ap (λ (r : Option ℕ). history_after r (history_of base answered) second) (redone_answered base book is) in
-        held_on origin base before now new book (answered ++ second ∷ []) appends.read_now appends.time held
-        (notes_another past present_whole base answered held.start now.ticks new.log.count now.images (subst (λ (n : ℕ). Keeps Means base answered held.start now.ticks now.ticks n now.images) (sym count) keeps) second
-        alone tt (λ t. refl))
-        (λ image there. lengths_push base answered second (history_of base answered) new.log.count image alone
-        (subst (λ (n : ℕ). HoldsFrom (MeansWithin (most_bytes base answered)) n (history_of base answered) image) (sym count)
-        (appended_lengths base before now live book pid (live.log.count + 1) script reply change changes live.log.count appends.unbroken either is image there)))
+        let run = later past present_whole base both held.start live.mark before.ticks live.log.count before.images
+        (answered past present_whole base book held.start live.mark before.ticks live.log.count before.images (keeps_by origin base before live book appends.read held) pid (live.front + 1) script reply commit) now.ticks now.images appends.time
+        (appended_stops base before now live book pid (live.front + 1) script reply change changes counted is.rows_are through) in
+        let alone : history_after (kept_by_redo both) (history_of base both) second ≡ history_of base both = ap (λ (r : Option ℕ). history_after r (history_of base both) second) (redone_answered base book is) in
+        held_on origin base before now new book (both ++ second ∷ []) appends.read_now appends.time held
+        (subst (λ (m : ℕ). Keeps Means base (both ++ second ∷ []) held.start m now.ticks new.log.count now.images) (sym mark)
+        (subst (λ (n : ℕ). Keeps Means base (both ++ second ∷ []) held.start live.mark now.ticks n now.images) (sym count)
+        (another past present_whole base both held.start live.mark now.ticks live.log.count now.images run second alone tt (λ t. refl))))
+        (λ image there. lengths_push base both second (history_of base both) new.log.count image alone
+        (subst (λ (n : ℕ). HoldsFrom (MeansWithin (most_bytes base both)) n (history_of base both) image) (sym count)
+        (appended_lengths base before now live book pid (live.front + 1) script reply change changes live.log.count appends.unbroken either is image there)))
+        (anchored_broken now (history_of base (both ++ second ∷ [])) new since appends.read_now broke)
 
 -- a child finds the log broken
 pub finds_broken : PastStays → PresentIsWhole → (at : Moment) (live : Live) (book_now : Option (List BookEntry)) (pid since : ℕ) → at.live ≡ Some live → live.log.since ≡ Some since → Attends pid at.book
@@ -888,6 +984,9 @@ finds_broken past present_whole at live book_now pid since read broke inside not
       closed_is = any_still ends_cleanly (present book) entry live.closed is.closed refl;
       history_is = ap (λ (r : Option ℕ). history_after r (history_of base book) entry) is.redone;
       in_time = is.in_time;
+      marked = is.marked;
+      based = is.based;
+      behind = is.behind;
       each = All-push (IsFaultBy at.faults) (faults_of book) (since, live.faults) is.counted.each (is.known since broke);
     })
     (subst (λ (s : Option ℕ). TellsBreak s live.faults (fault_here (faults_here book) entry)) (sym broke) (breaks_again since live.faults (faults_here book) pid tells))
@@ -897,7 +996,7 @@ finds_broken past present_whole at live book_now pid since read broke inside not
 -- a commit finds no room in the log
 pub finds_full : PastStays → PresentIsWhole → (at : Moment) (live : Live) (book_now : Option (List BookEntry)) (pid need room : ℕ) (script : List Stmt) (commit : List Change) → at.live ≡ Some live → live.log.since ≡ None
     → Attends pid at.book → commit ≡ commit_of at.rows script → need ≡ need_of commit → room < need
-    → ((live.log.count ≡ 2 ^ 64 - 1) × (room ≡ 0)) ⊎ (room ≡ live.log.limit - (live.log.end + 1))
+    → ((live.front ≡ 2 ^ 64 - 1) × (room ≡ 0)) ⊎ (room ≡ live.log.limit - (live.log.end + 1) - live.needs)
     → Added (LogFull pid script need room ∷ []) at.book book_now → Moves (LogFull pid script need room ∷ []) at (with_book book_now at)
 finds_full past present_whole at live book_now pid need room script commit read unbroken inside commit_is need_is above cause notes =
     let entry : BookEntry = LogFull pid script need room in

@@ -1,5 +1,5 @@
 -- Why `run` and `seen` answer what they do.
-use Rattle.std.specs.Prelude.{◌≡◌, ◌≢◌, ◌⊎◌, ℕ, ◌^◌, ◌-◌, ◌<◌, ◌≤◌, List, [], Option, None, Some, Result, Ok, Err}
+use Rattle.std.specs.Prelude.{◌≡◌, ◌≢◌, ◌⊎◌, ℕ, ◌^◌, ◌-◌, ◌<◌, ◌≤◌, List, [], ◌∷◌, ◌++◌, Option, None, Some, Result, Ok, Err}
 use Rattle.pm_rows.specs.Fold.{RowMap}
 use Rattle.pm_rows.specs.declared.commit.Change.{Change}
 use Rattle.pm_sql.specs.declared.stmt.Stmt.{Stmt}
@@ -14,6 +14,8 @@ use Rattle.pm_query.specs.declared.store.StoreNo.TheVariants.{Broken, Disk, Full
 use Rattle.pm_segment.specs.Fronts.{flushed_of, whole_of}
 use Rattle.pm_segment.specs.Moment.{Moment}
 use Rattle.pm_segment.specs.Redos.{IsBroken}
+use Rattle.pm_segment.specs.declared.commits.Commits.{Commits}
+use Rattle.pm_segment.specs.declared.commits.Commits.TheVariants as ways
 use Rattle.pm_segment.specs.declared.live.Live.{Live}
 
 -- the log goes on behind a redo, and the disk hasn't failed since
@@ -48,26 +50,38 @@ SeenCause live front (Err _) = ⊥
 
 -- ---- `run`
 
--- A log that goes on has no room for this commit: fewer bytes than it needs, or its numbers are spent.
+-- A log that goes on has no room for this commit: fewer bytes than it needs, behind all that is staged, or its numbers are
+-- spent.
 pub record IsFull (live : Option Live) (commit : List Change) (need room : ℕ) : Type 0 where
   pub its : Live
   pub read : live ≡ Some its
   pub unbroken : its.log.since ≡ None
   pub need_is : need ≡ need_of commit
-  pub room_is : (room ≡ room_of its.log) ⊎ ((whole_of its ≡ 2 ^ 64 - 1) × (room ≡ 0))
+  pub room_is : (room ≡ room_of its.log - its.needs) ⊎ ((whole_of its ≡ 2 ^ 64 - 1) × (room ≡ 0))
 
--- The disk and the log answer a script that leaves something to commit, and only where the log wasn't broken before. One
--- that was left broken tells its fault.
+-- The disk and the log answer a script that leaves something to commit, and only where the log wasn't broken before: the
+-- disk where commits are written at once. One that was left broken tells its fault.
 abbrev pub RunCause : Moment → List Stmt → Result Staged StoreNo → Type 0
 RunCause at script (Ok staged) = IsUnbroken at.live
-RunCause at script (Err Disk) = IsUnbroken at.live × (commit_of at.rows script ≢ [])
+RunCause at script (Err Disk) = IsUnbroken at.live × (commit_of at.rows script ≢ []) × (at.commits ≡ ways.AtOnce)
 RunCause at script (Err (Broken since)) = IsBroken at.live since
 RunCause at script (Err (Full need room)) = IsFull at.live (commit_of at.rows script) need room × (commit_of at.rows script ≢ [])
 RunCause at script (Err NoMemory) = Unit {0}
 RunCause at script (Err _) = ⊥
 
--- a call of the disk is made for a commit that was taken, or at which the disk failed, alone
+-- disk and log change for a commit that was taken, or at which the disk failed, alone
 abbrev pub MakesNoCall : RowMap → List Stmt → Result Staged StoreNo → Type 0
 MakesNoCall rows script (Ok staged) = commit_of rows script ≡ []
 MakesNoCall rows script (Err Disk) = ⊥
 MakesNoCall rows script (Err _) = Unit {0}
+
+-- with a commit more, where commits are staged; one without changes is none
+abbrev pub with_staged : Commits → List (List Change) → List Change → List (List Change)
+with_staged ways.AtOnce staged commit = staged
+with_staged ways.Staged staged [] = staged
+with_staged ways.Staged staged (change ∷ changes) = staged ++ (change ∷ changes) ∷ []
+
+-- what is staged behind the call
+abbrev pub staged_behind : Moment → List Stmt → Result Staged StoreNo → List (List Change)
+staged_behind at script (Ok staged) = with_staged at.commits at.staged (commit_of at.rows script)
+staged_behind at script (Err _) = at.staged

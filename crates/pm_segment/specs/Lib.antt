@@ -2,6 +2,7 @@ pub mod Answers
 pub mod Causes
 pub mod Children
 pub mod Epochs
+pub mod Flushes
 pub mod Fronts
 pub mod Moment
 pub mod Moves
@@ -13,3 +14,4 @@ pub mod Runs
 pub mod Stands
 pub mod Unread
 pub mod UnreadLaws
+pub mod Waits

@@ -1,13 +1,15 @@
 -- A store at one moment.
 use Rattle.std.specs.Prelude.{◌≡◌, ℕ, Bool, List, Option, IfSome}
 use Rattle.pm_disk.specs.Files.{Files}
+use Rattle.pm_rows.specs.declared.commit.Change.{Change}
 use Rattle.pm_rows.specs.Fold.{RowMap}
 use Rattle.pm_query.specs.declared.book.BookEntry.{BookEntry}
+use Rattle.pm_segment.specs.declared.commits.Commits.{Commits}
 use Rattle.pm_segment.specs.declared.live.Live.{Live}
 use Rattle.pm_segment.specs.declared.segment.Segment.{Segment}
 
 -- The book where it tells, the generation, the pids of the children inside, the rows, the log behind this generation's
--- redo, and whether a checkpoint was left out before that. Of the disk: the files as they read, what a stop may leave after
+-- redo, whether a checkpoint was left out before that, when commits are written, and those that wait for that. Of the disk: the files as they read, what a stop may leave after
 -- so many calls, and its counts of calls and faults.
 pub record Moment : Type 1 where
   pub book : Option (List BookEntry)
@@ -16,6 +18,8 @@ pub record Moment : Type 1 where
   pub rows : RowMap
   pub live : Option Live
   pub skipped : Bool
+  pub commits : Commits
+  pub staged : List (List Change)
   pub files : Option Files
   pub images : ℕ → Files → Type 0
   pub ticks : ℕ
@@ -37,6 +41,8 @@ moment_of {g = g} book segment = record {
   rows = segment.rows;
   live = segment.live;
   skipped = segment.skipped;
+  commits = segment.commits;
+  staged = segment.stage.commits;
   files = g.seen segment.disk;
   images = g.images segment.disk;
   ticks = g.ticks segment.disk;
@@ -47,14 +53,16 @@ moment_of {g = g} book segment = record {
 abbrev pub moment : {D B : Type 0} {g h : _} → Segment D B g h → Moment
 moment {h = h} segment = moment_of (h.entries segment.book) segment
 
--- disk and log are as they were
+-- disk and log are as they were, and what is staged
 abbrev pub HasDiskOf : {D B : Type 0} {g h : _} → Segment D B g h → Segment D B g h → Type 0
-HasDiskOf before now = (disk_of now ≡ disk_of before) × ((moment now).live ≡ (moment before).live)
+HasDiskOf before now =
+    (disk_of now ≡ disk_of before) × ((moment now).live ≡ (moment before).live) × ((moment now).staged ≡ (moment before).staged)
 
 -- and so are the rows
 abbrev pub HasLogOf : {D B : Type 0} {g h : _} → Segment D B g h → Segment D B g h → Type 0
 HasLogOf before now =
     (disk_of now ≡ disk_of before) × ((moment now).live ≡ (moment before).live) × ((moment now).rows ≡ (moment before).rows)
+    × ((moment now).staged ≡ (moment before).staged)
 
 -- so it is of the book, where book and disk tell
 abbrev pub Told : Moment → (List BookEntry → Type 0) → Type 0

@@ -11,7 +11,7 @@ use Rattle.pm_segment.specs.declared.live.Live.{Live}
 use Rattle.pm_segment.specs.Children.{times_behind, times_in}
 use Rattle.pm_segment.specs.Epochs.{BeganIn, IsAheadBy, epochs_in}
 use Rattle.pm_segment.specs.Moment.{Moment}
-use Rattle.pm_segment.specs.Passes.{IsFlushed}
+use Rattle.pm_segment.specs.Passes.{IsFlushed, IsStaged}
 use Rattle.pm_segment.specs.Stands.{Begins, GoesFrom, Origin, WaitsFrom}
 use Rattle.pm_segment.specs.Unread.{has_break, has_redo}
 
@@ -23,6 +23,8 @@ pub record IsAsBefore (before now : Moment) : Type 0 where
   pub rows : now.rows ≡ before.rows
   pub live : now.live ≡ before.live
   pub skipped : now.skipped ≡ before.skipped
+  pub commits : now.commits ≡ before.commits
+  pub staged : now.staged ≡ before.staged
 
 -- a fault that was noted shows in the disk's count, which has risen from this one
 abbrev pub IsShown : ℕ → ℕ → BookEntry → Type 0
@@ -55,15 +57,17 @@ pub record StaysUnread (entries : List BookEntry) (before now : Moment) : Type 0
 
 -- These entries were noted. What held from a beginning holds from it still, or the first redo has come; what a stop could
 -- leave before is as it was. Each fault that was noted was counted, each child is inside as often as the entries make of how
--- often it was, what was flushed is so still, and the log has come one epoch further for each checkpoint that was made,
+-- often it was, what was taken is so still, and what was flushed, and the log has come one epoch further for each checkpoint that was made,
 -- whether book and disk tell or not.
 pub record Moves (entries : List BookEntry) (before now : Moment) : Type 0 where
   pub notes : Added entries before.book now.book
   pub generation : now.generation ≡ before.generation
+  pub commits : now.commits ≡ before.commits
   pub attends : (pid : ℕ) → times_in pid now.inside ≡ times_behind entries pid (times_in pid before.inside)
   pub time : GoesOn before.ticks now.ticks before.images now.images
   pub later : before.faults ≤ now.faults
   pub unread : StaysUnread entries before now
+  pub staged : (front : Option ℕ) → IsStaged front before.live → IsStaged front now.live
   pub flushed : (front : Option ℕ) → IsFlushed front before.live → IsFlushed front now.live
   pub began : (first : ℕ) → BeganIn first before.live → BeganIn first now.live
   pub ahead : (many : ℕ) → IsAheadBy many before.live → IsAheadBy (many + epochs_in entries) now.live
@@ -71,7 +75,8 @@ pub record Moves (entries : List BookEntry) (before now : Moment) : Type 0 where
   pub waits : (origin : Origin) → WaitsFrom origin before → WaitsFrom origin now ⊎ Begins origin now
   pub goes_on : (origin : Origin) (base : Base) → GoesFrom origin base before → GoesFrom origin base now
 
--- From one generation to the next. These entries were noted, nobody is inside, there are no rows, and the log isn't read.
+-- From one generation to the next. These entries were noted, nobody is inside, there are no rows, nothing is staged, and the
+-- log isn't read.
 -- What held from a beginning holds from it still.
 pub record Renews (entries : List BookEntry) (before now : Moment) : Type 0 where
   pub notes : Added entries before.book now.book
@@ -80,6 +85,8 @@ pub record Renews (entries : List BookEntry) (before now : Moment) : Type 0 wher
   pub rows : now.rows ≡ empty
   pub unread : now.live ≡ None
   pub unskipped : now.skipped ≡ false
+  pub commits : now.commits ≡ before.commits
+  pub unstaged : now.staged ≡ []
   pub counts : (from : ℕ) → IsCountedFrom from before.faults before.live → IsCountedFrom from now.faults now.live
   pub waits : (origin : Origin) → WaitsFrom origin before → WaitsFrom origin now
   pub goes_on : (origin : Origin) (base : Base) → GoesFrom origin base before → GoesFrom origin base now

@@ -149,11 +149,13 @@ pub moves_none : (at : Moment) → Moves [] at at
 moves_none at = record {
   notes = added_none at.book;
   generation = refl;
+  commits = refl;
   attends = λ pid. refl;
   time = time_still at.ticks at.images;
   later = omega arith;
   counts = λ from counted. record { counted = counted; each = All-nil (IsShown from at.faults) };
   unread = unread_still [] at at refl refl refl;
+  staged = λ front is. is;
   flushed = λ front is. is;
   began = λ first is. is;
   ahead = λ many is. ahead_still [] many at.live refl is;
@@ -165,10 +167,12 @@ pub moves_on : (first second : List BookEntry) (before between now : Moment) →
 moves_on first second before between now one two = record {
   notes = added_both first second before.book between.book now.book one.notes two.notes;
   generation = two.generation ∙ one.generation;
+  commits = two.commits ∙ one.commits;
   attends = λ pid. two.attends pid ∙ ap (times_behind second pid) (one.attends pid) ∙ sym (fold-append (times_after pid) (times_in pid before.inside) first second);
   time = time_on before.ticks between.ticks now.ticks before.images between.images now.images one.time two.time;
   later = omega (arith, one.later, two.later);
   unread = unread_on first second before between now one.unread two.unread;
+  staged = λ front is. two.staged front (one.staged front is);
   flushed = λ front is. two.flushed front (one.flushed front is);
   began = λ in_epoch is. two.began in_epoch (one.began in_epoch is);
   ahead = λ many is. ahead_both first second many now.live (two.ahead (many + epochs_in first) (one.ahead many is));

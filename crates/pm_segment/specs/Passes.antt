@@ -1,4 +1,4 @@
--- A pass of a store that one thread uses alone.
+-- A pass of a store.
 use Rattle.std.specs.Prelude.{◌≡◌, ℕ, ◌≤◌, List, Any, Option, None, Some, IfSome}
 use Rattle.pm_query.specs.declared.book.BookEntry.{BookEntry}
 use Rattle.pm_query.specs.Book.{AnswersUpTo, IsAttached, present}
@@ -6,7 +6,7 @@ use Rattle.pm_query.specs.Calls.{PassView, User, user_of}
 use Rattle.pm_segment.specs.declared.live.Live.{Live}
 use Rattle.pm_segment.specs.declared.pass.Pass.{Pass}
 use Rattle.pm_segment.specs.Children.{times_in}
-use Rattle.pm_segment.specs.Fronts.{flushed_of}
+use Rattle.pm_segment.specs.Fronts.{flushed_of, whole_of}
 use Rattle.pm_segment.specs.Moment.{Moment}
 
 abbrev pub view_of : Pass → PassView
@@ -26,15 +26,23 @@ pub record IsInside (pid : ℕ) (front : Option ℕ) (book : List BookEntry) : T
   pub attached : IsAttached book pid
   pub answered : HasAnswer pid front book
 
--- and what it has seen is flushed
+-- what it has seen is within this count of the log
+abbrev pub IsUpTo : (Live → ℕ) → Option ℕ → Option Live → Type 0
+IsUpTo count None live = Unit {0}
+IsUpTo count (Some front) None = ⊥
+IsUpTo count (Some front) (Some live) = front ≤ count live
+
+-- it was taken: it is flushed, or staged
+abbrev pub IsStaged : Option ℕ → Option Live → Type 0
+IsStaged front live = IsUpTo whole_of front live
+
+-- it is flushed
 abbrev pub IsFlushed : Option ℕ → Option Live → Type 0
-IsFlushed None live = Unit {0}
-IsFlushed (Some front) None = ⊥
-IsFlushed (Some front) (Some live) = front ≤ flushed_of live
+IsFlushed front live = IsUpTo flushed_of front live
 
 -- An `enter` answered the pass: it is of the present generation, and its child is inside.
 pub record Admits (pass : Pass) (at : Moment) : Type 0 where
   pub there : 1 ≤ times_in pass.pid at.inside
   pub generation_is : pass.generation ≡ at.generation
   pub inside : IfSome at.book (IsInside pass.pid pass.front)
-  pub flushed : IsFlushed pass.front at.live
+  pub staged : IsStaged pass.front at.live

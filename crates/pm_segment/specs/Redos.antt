@@ -1,4 +1,4 @@
--- What redo, flushes and checkpoints come to, and where.
+-- What redo and checkpoints come to, and where.
 use Rattle.std.specs.Prelude.{◌≡◌, ◌≢◌, ◌⊎◌, ℕ, ◌^◌, ◌-◌, ◌<◌, ◌≤◌, Bool, true, false, [], Option, None, Some, is_some, IfSome, Result, Ok, Err}
 use Rattle.pm_disk.specs.Files.{Files, file_of, other}
 use Rattle.pm_rows.specs.Fold.{RowMap}
@@ -7,14 +7,13 @@ use Rattle.pm_record.specs.Pair.{IsShut, PairStandsFor}
 use Rattle.pm_record.specs.StandsFor.{Content, StandsFor, standing_of}
 use Rattle.pm_record.specs.declared.fault.RedoFault.{RedoFault}
 use Rattle.pm_record.specs.declared.fault.RedoFault.TheVariants as reasons
-use Rattle.pm_log.specs.declared.log.Log.{Log}
 use Rattle.pm_query.specs.declared.store.Checkpointed.{Checkpointed}
 use Rattle.pm_query.specs.declared.store.Checkpointed.TheVariants.{Done, Skipped, NotDue}
 use Rattle.pm_query.specs.declared.store.StoreNo.{StoreNo}
-use Rattle.pm_query.specs.declared.store.StoreNo.TheVariants.{Disk, Broken, Full, NoMemory, Redo}
+use Rattle.pm_query.specs.declared.store.StoreNo.TheVariants.{Disk, Broken, Full, Redo}
 use Rattle.pm_query.specs.Calls.{due_bytes}
 use Rattle.pm_redo.specs.Found.{IsReason}
-use Rattle.pm_segment.specs.Fronts.{flushed_of}
+use Rattle.pm_segment.specs.Fronts.{whole_of}
 use Rattle.pm_segment.specs.Moment.{Moment}
 use Rattle.pm_segment.specs.declared.live.Live.{Live}
 
@@ -93,27 +92,20 @@ SaysNothing reasons.Disk = Unit {0}
 SaysNothing reasons.NoMemory = Unit {0}
 SaysNothing _ = ⊥
 
--- what a flush answers: nothing is staged, so all that the log has is flushed
-abbrev pub FlushCause : Option Live → Result ℕ StoreNo → Type 0
-FlushCause live (Ok flushed) = (its : Live) × (live ≡ Some its) × (its.log.since ≡ None) × (flushed ≡ flushed_of its)
-FlushCause live (Err (Broken since)) = IsBroken live since
-FlushCause live (Err NoMemory) = Unit {0}
-FlushCause live (Err _) = ⊥
-
 -- The files stand for these rows after all commits, in this epoch: a base with nothing behind it, clean or not.
-pub record StandsAfresh (epoch : ℕ) (clean : Bool) (log : Log) (rows : RowMap) (files : Files) : Type 0 where
+pub record StandsAfresh (epoch : ℕ) (clean : Bool) (its : Live) (rows : RowMap) (files : Files) : Type 0 where
   pub content : Content
-  pub stands : StandsFor (file_of files log.file) content log.end
-  pub beside : IsShut (file_of files (other log.file))
+  pub stands : StandsFor (file_of files its.log.file) content its.log.end
+  pub beside : IsShut (file_of files (other its.log.file))
   pub epoch_is : content.epoch ≡ epoch
   pub clean_is : content.clean ≡ clean
   pub no_batch : content.batches ≡ []
-  pub is : standing_of content ≡ record { rows = rows; count = log.count }
+  pub is : standing_of content ≡ record { rows = rows; count = whole_of its }
 
 -- so the log goes on behind a checkpoint
 abbrev pub IsAfreshAt : (epoch : ℕ) → (clean : Bool) → Option Live → RowMap → Option Files → Type 0
 IsAfreshAt epoch clean live rows seen =
-    (its : Live) × (live ≡ Some its) × (its.log.since ≡ None) × (its.log.epoch ≡ epoch) × IfSome seen (λ files. ∥ StandsAfresh epoch clean its.log rows files ∥₁)
+    (its : Live) × (live ≡ Some its) × (its.log.since ≡ None) × (its.log.epoch ≡ epoch) × IfSome seen (λ files. ∥ StandsAfresh epoch clean its rows files ∥₁)
 
 abbrev pub IsCleanAt : ℕ → Option Live → RowMap → Option Files → Type 0
 IsCleanAt epoch live rows seen = IsAfreshAt epoch true live rows seen

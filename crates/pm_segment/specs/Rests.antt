@@ -1,7 +1,10 @@
 -- How the rows of a store stand on its disk.
-use Rattle.std.specs.Prelude.{◌≡◌, true, [], Option, Some, None, IfSome}
+use Rattle.std.specs.Prelude.{◌≡◌, ℕ, ◌≤◌, true, List, [], length, take, Option, Some, None, IfSome}
 use Rattle.pm_disk.specs.Files.{Files}
-use Rattle.pm_rows.specs.Fold.{RowMap}
+use Rattle.pm_rows.specs.declared.commit.Change.{Change}
+use Rattle.pm_rows.specs.Fold.{RowMap, folded}
+use Rattle.pm_rows.specs.Limits.{IsWithinRowLimits}
+use Rattle.pm_rows.specs.Standing.{Standing}
 use Rattle.pm_record.specs.StandsFor.{Content, standing_of}
 use Rattle.pm_log.specs.Log.{Lives}
 use Rattle.pm_segment.specs.declared.live.Live.{Live}
@@ -11,14 +14,21 @@ pub record IsClean (content : Content) : Type 0 where
   pub clean : content.clean ≡ true
   pub bare : content.batches ≡ []
 
--- The log lives with a content of these rows, which is clean from a clean checkpoint on.
-pub record HasRows (live : Live) (rows : RowMap) (files : Files) (images : Files → Type 0) : Type 0 where
+-- The log lives with a content, and the rows are its rows with the staged commits behind it, each of which keeps the
+-- limits. From a clean checkpoint on the content is clean, and nothing is staged.
+pub record HasRows (live : Live) (rows : RowMap) (staged : List (List Change)) (files : Files) (images : Files → Type 0) : Type 0 where
   pub content : Content
   pub lives : Lives live.log content files images
-  pub rows_are : rows ≡ (standing_of content).rows
-  pub closed : live.closed ≡ true → IsClean content
+  pub rows_are : rows ≡ folded (standing_of content).rows staged
+  pub limits : (n : ℕ) → n ≤ length staged → IsWithinRowLimits (folded (standing_of content).rows (take n staged))
+  pub closed : live.closed ≡ true → IsClean content × (staged ≡ [])
 
 -- So it is behind a redo, up to a fault of the disk, where the disk tells its files.
-abbrev pub Rests : Option Live → RowMap → Option Files → (Files → Type 0) → Type 0
-Rests None rows seen images = Unit {0}
-Rests (Some live) rows seen images = live.log.since ≡ None → IfSome seen (λ files. HasRows live rows files images)
+abbrev pub Rests : Option Live → RowMap → List (List Change) → Option Files → (Files → Type 0) → Type 0
+Rests None rows staged seen images = Unit {0}
+Rests (Some live) rows staged seen images = live.log.since ≡ None → IfSome seen (λ files. HasRows live rows staged files images)
+
+-- and the content is this standing
+pub record RestsAt (live : Live) (rows : RowMap) (staged : List (List Change)) (files : Files) (images : Files → Type 0) (standing : Standing) : Type 0 where
+  pub has : HasRows live rows staged files images
+  pub is : standing_of has.content ≡ standing

@@ -14,8 +14,8 @@ use Rattle.pm_segment.specs.Moment.{Moment}
 use Rattle.pm_segment.specs.Redos.{IsCleanAt, SaysNothing}
 use Rattle.pm_segment.specs.Stands.{Origin}
 
--- The book is legal from its base. Behind a redo of this generation the rows are those of all its commits, and the log has
--- their number while the disk hasn't failed.
+-- The book is legal from its base. Behind a redo of this generation the rows are those of all its commits, and so many were
+-- taken while the disk hasn't failed.
 pub record IsReplay (base : Base) (at : Moment) (book : List BookEntry) : Type 0 where
   pub legal : IsLegal base book
   pub rows_are : (live : Live) → at.live ≡ Some live → at.rows ≡ rows_of (history_of base book)

@@ -1,5 +1,5 @@
 -- What a store keeps of its book and its disk, from the moment at which it got them.
-use Rattle.std.specs.Prelude.{◌≡◌, ◌⊎◌, ℕ, ◌+◌, ◌≤◌, true, false, List, [], ◌∷◌, All, Option, None, Some, IfSome}
+use Rattle.std.specs.Prelude.{◌≡◌, ◌⊎◌, ℕ, ◌+◌, ◌-◌, ◌≤◌, true, false, List, [], ◌∷◌, drop, All, Option, None, Some, IfSome}
 use Rattle.std.specs.List.{Contains}
 use Rattle.pm_disk.specs.Files.{Files}
 use Rattle.pm_rows.specs.Fold.{RowMap}
@@ -8,13 +8,14 @@ use Rattle.pm_rows.specs.Size.{size_of}
 use Rattle.pm_rows.specs.Standing.{Standing}
 use Rattle.pm_record.specs.Pair.{Means, MeansIn}
 use Rattle.pm_query.specs.declared.book.BookEntry.{BookEntry}
-use Rattle.pm_query.specs.History.{beginning, count_of, rows_of}
+use Rattle.pm_query.specs.History.{History, beginning, count_of, number, rows_of}
 use Rattle.pm_query.specs.Book.{Base, IsLegal, faults_here, faults_of, generation_of, has_checkpoint, history_of, is_closed, kept_by_redo, last_tick, needs_of, standing_of}
 use Rattle.pm_query.specs.Durable.{HoldsFrom, IsWithin, Keeps, MeansAsOne}
 use Rattle.pm_segment.specs.declared.live.Live.{Live}
 use Rattle.pm_segment.specs.Children.{IsAttendedBy}
 use Rattle.pm_segment.specs.Fronts.{flushed_of, whole_of}
 use Rattle.pm_segment.specs.Moment.{Moment, Told}
+use Rattle.pm_segment.specs.Rests.{RestsAt}
 use Rattle.pm_segment.specs.Unread.{breaks_unread, has_break, has_redo}
 
 -- The disk as the store got it: the files as they read, and its counts of calls and of faults.
@@ -74,12 +75,13 @@ TellsBreak (Some since) count here = (first : ℕ × ℕ) × (rest : List (ℕ �
 abbrev pub bytes_of_rows : RowMap → ℕ
 bytes_of_rows rows = 31 + size_of rows
 
--- how long the log may have become: as it was found, with all commits that were answered since, and 1,024 bytes for a
--- checkpoint
+-- how long the log may have become, with all that is staged: as it was found, with all commits that were answered since, and
+-- 1,024 bytes for a checkpoint
 abbrev pub most_bytes : Base → List BookEntry → ℕ
 most_bytes base book = base.bytes + 1024 + needs_of book
 
--- The book is legal from its base, and rows and log are its replay.
+-- The book is legal from its base, and rows and log are its replay: the rows with all of its commits, the log with those up
+-- to the flushed number, and those behind that are staged.
 pub record HasGone (base : Base) (at : Moment) (live : Live) (book : List BookEntry) : Type 0 where
   pub read : at.live ≡ Some live
   pub legal : IsLegal base book
@@ -92,11 +94,14 @@ pub record HasGone (base : Base) (at : Moment) (live : Live) (book : List BookEn
   pub known : (since : ℕ) → live.log.since ≡ Some since → live.faults ≤ at.faults
   pub rows_are : at.rows ≡ rows_of (history_of base book)
   pub count_is : live.log.since ≡ None → whole_of live ≡ count_of (history_of base book)
+  pub behind : live.log.since ≡ None → drop (flushed_of live - base.count) (history_of base book).commits ≡ at.staged
   pub base_is : (history_of base book).base ≡ standing_of base
   pub base_fits : bytes_of_rows base.rows ≤ base.bytes
-  pub fits : live.log.since ≡ None → live.log.end + 1 ≤ most_bytes base book
+  pub based : base.count ≤ flushed_of live
+  pub fits : live.log.since ≡ None → live.log.end + 1 + live.needs ≤ most_bytes base book
   pub limit : live.log.limit ≡ max_file_bytes
-  pub in_time : last_tick book ≤ at.ticks
+  pub in_time : last_tick book ≤ live.mark
+  pub marked : live.mark ≤ at.ticks
   pub counted : CountsFaults base.faults at.faults book
 
 -- It has come into a later generation behind its first redo, and its log isn't read there yet. The book is legal from its
@@ -129,16 +134,24 @@ IsSure at = (at.generation ≡ 1) ⊎ ((files : Files) × (at.files ≡ Some fil
 abbrev pub MeansWithin : ℕ → Files → Standing → Type 0
 MeansWithin most files standing = (bytes : ℕ) × (bytes ≤ most) × MeansIn files standing bytes
 
+-- a log that goes on lives with the number of the history up to which it is flushed
+abbrev pub IsAnchored : Moment → History → Type 0
+IsAnchored at history = (live : Live) → at.live ≡ Some live → live.log.since ≡ None
+    → IfSome at.files (λ files. ∥ RestsAt live at.rows at.staged files (at.images at.ticks) (number history (flushed_of live)) ∥₁)
+
 -- At every tick whatever a stop leaves is as a durable run has it, and now it is no longer than the log may have become.
 -- What is flushed are the commits that the log has made durable.
 pub record HasHeld (origin : Origin) (base : Base) (at : Moment) (book : List BookEntry) : Type 0 where
   pub start : ℕ
   pub begun : origin.tick ≤ start
   pub opening : IsOpening origin start at.images
+  pub mark : ℕ
+  pub mark_is : (live : Live) → at.live ≡ Some live → mark ≡ live.mark
   pub flushed : ℕ
   pub flushed_is : (live : Live) → at.live ≡ Some live → flushed ≡ flushed_of live
-  pub keeps : Keeps Means base book start at.ticks at.ticks flushed at.images
+  pub keeps : Keeps Means base book start mark at.ticks flushed at.images
   pub lengths : (image : Files) → at.images at.ticks image → HoldsFrom (MeansWithin (most_bytes base book)) flushed (history_of base book) image
+  pub anchored : IsAnchored at (history_of base book)
 
 -- ---- from one to the other: of the book wherever it tells, in the first generation or where the disk tells as well, and
 -- of the disk's stops where both tell

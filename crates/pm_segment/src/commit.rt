@@ -6,6 +6,7 @@ ghost use Rattle.pm_query.specs.declared.store.StoreNo.{StoreNo};
 ghost use Rattle.pm_query.specs.Calls.{NotesStaged};
 ghost use Rattle.pm_outside.specs.Added.{Added};
 
+use crate::commits::Commits;
 use crate::live::Live;
 use crate::pass::Pass;
 use crate::ran::Ran;
@@ -15,6 +16,7 @@ use pm_log::LogFault;
 use pm_outside::Chronicle;
 use pm_query::{BookEntry, Reply, Staged, StoreNo};
 use pm_record::body_length;
+use pm_stage::Stage;
 use std::slice;
 
 impl<D: Disk, B: Chronicle<BookEntry>> Segment<D, B> {
@@ -22,8 +24,8 @@ impl<D: Disk, B: Chronicle<BookEntry>> Segment<D, B> {
     ghost use Rattle.pm_query.specs.declared.book.BookEntry.{BookEntry};
     ghost use Rattle.pm_query.specs.Calls.{with_front, RunNotes, ReachesNoLess};
     ghost use Rattle.pm_segment.specs.Answers.{IsAnswerOn};
-    ghost use Rattle.pm_segment.specs.Causes.{MakesNoCall, RunCause};
-    ghost use Rattle.pm_segment.specs.Moment.{HasLogOf, moment};
+    ghost use Rattle.pm_segment.specs.Causes.{MakesNoCall, RunCause, staged_behind};
+    ghost use Rattle.pm_segment.specs.Moment.{HasLogOf, disk_of, moment};
     ghost use Rattle.pm_segment.specs.Moves.{Moves};
     ghost use Rattle.pm_segment.specs.Passes.{Admits, user_in, view_of};
 
@@ -45,8 +47,7 @@ impl<D: Disk, B: Chronicle<BookEntry>> Segment<D, B> {
         ensures rest { HasLogOf self.old self.new }
     {
         history_laws();
-        let tick = self.disk.ticks();
-        answer(&mut self.book, pass, ran, live.log.count, tick)
+        answer(&mut self.book, pass, ran, live.front, live.mark)
     }
 
     // Takes the commit of a script, and answers. Behind a clean checkpoint, and behind the last number, it is refused.
@@ -68,14 +69,20 @@ impl<D: Disk, B: Chronicle<BookEntry>> Segment<D, B> {
         ensures refused { OnErr result (view_of pass.new ≡ view_of pass.old) }
         ensures cause { RunCause (moment self.old) ran.script result }
         ensures rest { MakesNoCall self.old.rows ran.script result → HasLogOf self.old self.new }
+        ensures still { self.old.commits ≡ Commits.Staged → disk_of self.new ≡ disk_of self.old }
+        ensures staged { (moment self.new).staged
+            ≡ staged_behind (moment self.old) ran.script result }
     {
         if live.closed {
             return Err(StoreNo::NoMemory);
         }
-        if live.log.count == u64::MAX {
+        if live.front == u64::MAX {
             return Err(self.refuse_spent(*pass, live, ran));
         }
-        self.append(pass, live, ran)
+        match self.commits {
+            Commits::AtOnce => self.append(pass, live, ran),
+            Commits::Staged => self.stage(pass, live, ran),
+        }
     }
 
     // Refuses a commit behind the last number.
@@ -86,7 +93,7 @@ impl<D: Disk, B: Chronicle<BookEntry>> Segment<D, B> {
         requires unbroken { live.log.since ≡ None }
         requires answer { IsAnswerOn self.old.rows ran }
         requires some { ran.commit ≢ [] }
-        requires spent { live.log.count ≡ 2 ^ 64 - 1 }
+        requires spent { live.front ≡ 2 ^ 64 - 1 }
         ensures notes { (entries : List BookEntry)
             × Moves entries (moment self.old) (moment self.new)
             × RunNotes (user_in (moment self.old) pass) ran.script (Err result) entries }
@@ -108,7 +115,8 @@ impl<D: Disk, B: Chronicle<BookEntry>> Segment<D, B> {
         requires answer { IsAnswerOn self.old.rows ran }
         requires some { ran.commit ≢ [] }
         requires unclosed { live.closed ≡ false }
-        requires number { live.log.count + 1 < 2 ^ 64 }
+        requires number { live.front + 1 < 2 ^ 64 }
+        requires at_once { self.old.commits ≡ Commits.AtOnce }
         ensures notes { (entries : List BookEntry)
             × Moves entries (moment self.old) (moment self.new)
             × RunNotes (user_in (moment self.old) pass.old) ran.script result entries }
@@ -120,26 +128,30 @@ impl<D: Disk, B: Chronicle<BookEntry>> Segment<D, B> {
         ensures refused { OnErr result (view_of pass.new ≡ view_of pass.old) }
         ensures cause { RunCause (moment self.old) ran.script result }
         ensures rest { MakesNoCall self.old.rows ran.script result → HasLogOf self.old self.new }
+        ensures staged { (moment self.new).staged ≡ [] }
     {
         history_laws();
         let _typed = ran.commit.changes();
         let prepared = self.rows.prepare(&ran.commit)?;
-        let tick = self.disk.ticks();
+        let tick = live.mark;
         let mut grown = live;
         match grown
             .log
             .append(self.alloc, &mut self.disk, slice::from_ref(&ran.commit))
         {
             Ok(receipt) => {
+                grown.front = receipt.count;
+                grown.mark = receipt.tick;
                 self.rows = prepared.apply();
                 self.live = Some(grown);
+                self.stage = Stage::new(self.alloc, receipt.count);
                 Ok(answer(&mut self.book, pass, ran, receipt.count, tick))
             }
             Err(LogFault::Disk) => {
                 grown.faults = self.disk.faults();
                 self.rows = prepared.apply();
                 self.live = Some(grown);
-                note_answer(&mut self.book, pass.pid, ran, live.log.count + 1, tick);
+                note_answer(&mut self.book, pass.pid, ran, live.front + 1, tick);
                 note_fault(&mut self.book, pass.pid, &self.disk);
                 Err(StoreNo::Disk)
             }
@@ -156,7 +168,7 @@ impl<D: Disk, B: Chronicle<BookEntry>> Segment<D, B> {
 }
 
 // Gives an answer, which is noted. The pass has seen this front from now on.
-fn answer<B: Chronicle<BookEntry>>(
+pub(crate) fn answer<B: Chronicle<BookEntry>>(
     book: &mut B,
     pass: &mut Pass,
     ran: Ran,
@@ -230,7 +242,7 @@ pub(crate) fn note_fault<D: Disk, B: Chronicle<BookEntry>>(book: &mut B, pid: u3
 }
 
 // Notes that the log has no room for a commit, and says so.
-fn note_full<B: Chronicle<BookEntry>>(
+pub(crate) fn note_full<B: Chronicle<BookEntry>>(
     book: &mut B,
     pid: u32,
     ran: Ran,

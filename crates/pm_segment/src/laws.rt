@@ -1,15 +1,18 @@
 //! What a store keeps of its run, for the layers above. The functions make no call of the disk.
 
+use crate::commits::Commits;
 use crate::segment::{Segment, history_laws};
 use pm_disk::Disk;
 use pm_outside::Chronicle;
 use pm_query::BookEntry;
 
 impl<D: Disk, B: Chronicle<BookEntry>> Segment<D, B> {
-    ghost use Rattle.std.specs.Prelude.{IfSome};
+    ghost use Rattle.std.specs.Prelude.{◌≡◌, ◌+◌, [], length, IfSome};
     ghost use Rattle.pm_query.specs.Book.{Base};
+    ghost use Rattle.pm_segment.specs.Fronts.{flushed_of, whole_of};
     ghost use Rattle.pm_segment.specs.Moment.{Told, moment};
     ghost use Rattle.pm_segment.specs.Runs.{CanBeRead, IsReplay, IsRun, LeavesAcknowledged, StaysClean};
+    ghost use Rattle.pm_segment.specs.Waits.{needs_alone};
     ghost use Rattle.pm_segment.specs.Stands.{GoesFrom, IsSure, Origin};
 
     /// The law of a store behind its first redo, in whichever generation. Where book and disk tell, and in the first
@@ -27,6 +30,19 @@ impl<D: Disk, B: Chronicle<BookEntry>> Segment<D, B> {
             → Told (moment self.now) (LeavesAcknowledged base (moment self.now)) }
     {
         history_laws();
+        let _disk = &self.disk;
+    }
+
+    /// The law of what waits for the log. So many more commits were taken than are flushed, and so many bytes they need; there
+    /// are none where commits are written at once.
+    pub fn tells_what_waits(&self)
+        ensures fronts { IfSome (moment self.now).live (λ live.
+            whole_of live ≡ flushed_of live + length (moment self.now).staged) }
+        ensures needs { IfSome (moment self.now).live (λ live.
+            live.needs ≡ needs_alone (moment self.now).staged) }
+        ensures at_once { (moment self.now).commits ≡ Commits.AtOnce
+            → (moment self.now).staged ≡ [] }
+    {
         let _disk = &self.disk;
     }
 

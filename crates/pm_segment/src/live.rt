@@ -14,4 +14,10 @@ pub struct Live {
     pub faults: u64,
     /// Whether a clean checkpoint was made. Then nothing more is committed.
     pub closed: bool,
+    /// How many commits were taken, flushed or staged.
+    pub front: u64,
+    /// How many bytes the staged ones need in the log, each as a batch of its own.
+    pub needs: u64,
+    /// How many calls the disk had had when the log was last read, written or moved. Answers and releases are noted with it.
+    pub mark: u64,
 }

@@ -11,9 +11,10 @@ use pm_query::{BookEntry, Checkpointed, StoreNo, rows_are_within_needs};
 use pm_record::{RedoFault, lengths_are_the_numbers};
 use pm_redo::recover;
 use pm_rows::{MAX_FILE_BYTES, limits_are_the_numbers};
+use pm_stage::Stage;
 
 impl<D: Disk, B: Chronicle<BookEntry>> Segment<D, B> {
-    ghost use Rattle.std.specs.Prelude.{◌≡◌, ◌⊎◌, ◌+◌, ◌-◌, ◌≤◌, length, List, Some, None, OnOk, true, false};
+    ghost use Rattle.std.specs.Prelude.{◌≡◌, ◌⊎◌, ◌+◌, ◌-◌, ◌≤◌, [], length, List, Some, None, OnOk, true, false};
     ghost use Rattle.pm_query.specs.declared.book.BookEntry.{BookEntry};
     ghost use Rattle.pm_query.specs.declared.store.StoreNo.{StoreNo};
     ghost use Rattle.pm_query.specs.Calls.{CheckpointNotes, RedoNotes, due_bytes};
@@ -52,7 +53,11 @@ impl<D: Disk, B: Chronicle<BookEntry>> Segment<D, B> {
                     epoch: found.epoch,
                     faults: 0,
                     closed: false,
+                    front: kept,
+                    needs: 0,
+                    mark: self.disk.ticks(),
                 });
+                self.stage = Stage::new(self.alloc, kept);
                 self.rows = found.rows;
                 self.book.note(BookEntry::Redone {
                     pid: pass.pid,
@@ -82,6 +87,7 @@ impl<D: Disk, B: Chronicle<BookEntry>> Segment<D, B> {
         requires read { self.old.live ≡ Some live }
         requires unbroken { live.log.since ≡ None }
         requires due { (clean ≡ true) ⊎ (due_bytes ≤ live.log.end - live.log.base_end) }
+        requires unstaged { self.old.stage.commits ≡ [] }
         ensures notes { (entries : List BookEntry)
             × Moves entries (moment self.old) (moment self.new)
             × CheckpointNotes (user_in (moment self.old) pass.now) clean result entries }
@@ -90,6 +96,7 @@ impl<D: Disk, B: Chronicle<BookEntry>> Segment<D, B> {
         ensures still { ¬ (MakesCalls result) → HasDiskOf self.old self.new }
         ensures full { FullAtLast (moment self.new).files result }
         ensures afresh { MadeAfresh clean (moment self.new) result }
+        ensures unstaged { self.new.stage.commits ≡ [] }
     {
         history_laws();
         rows_are_within_needs();
@@ -101,6 +108,7 @@ impl<D: Disk, B: Chronicle<BookEntry>> Segment<D, B> {
         {
             Ok(epoch) => {
                 moved.closed |= clean;
+                moved.mark = self.disk.ticks();
                 self.live = Some(moved);
                 self.book.note(BookEntry::CheckpointEnded {
                     pid: pass.pid,

@@ -10,6 +10,7 @@ use pm_disk::Disk;
 use pm_outside::Chronicle;
 use pm_query::BookEntry;
 use pm_rows::Rows;
+use pm_stage::Stage;
 use std::alloc::AllocError;
 
 impl<D: Disk, B: Chronicle<BookEntry>> Segment<D, B> {
@@ -20,7 +21,7 @@ impl<D: Disk, B: Chronicle<BookEntry>> Segment<D, B> {
     ghost use Rattle.pm_segment.specs.Moves.{IsAsBefore, Renews};
 
     /// Begins the next generation: the children named are gone, and so is every other one that is still inside. Its rows
-    /// are those of no commit, and its log isn't read, until its redo. Where memory is short nothing has changed.
+    /// are those of no commit, nothing is staged, and its log isn't read, until its redo. Where memory is short nothing has changed.
     ///
     /// It makes no call of the disk, and takes time of the order of the children inside times those named.
     pub fn renew(&mut self, generation: u32, gone: &[u32]) -> Result<(), AllocError>
@@ -45,6 +46,7 @@ impl<D: Disk, B: Chronicle<BookEntry>> Segment<D, B> {
         self.live = None;
         self.skipped = false;
         self.rows = Rows::new(self.alloc);
+        self.stage = Stage::new(self.alloc, 0);
         Ok(())
     }
 }

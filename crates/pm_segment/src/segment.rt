@@ -1,17 +1,21 @@
-//! A store that one thread uses alone.
+//! A store, and the calls by which children use it.
 //!
-//! `run` appends its commit to the log before it answers, so what a pass has seen is flushed already. All memory that a
-//! call takes is taken before its first call of the disk, and its entries are noted behind that, so that each call of
-//! the disk has its entry.
+//! `run` either appends its commit to the log before it answers, so that what a pass has seen is flushed already, or stages it
+//! without a call of the disk, until a flush. All memory that a call takes for that is taken before its first call of the disk,
+//! and its entries are noted behind it, so that each call of the disk has its entry.
 
-ghost use Rattle.std.specs.Prelude.{◌≡◌, ◌≤◌, length};
+ghost use Rattle.std.specs.Prelude.{◌≡◌, ◌≤◌, [], length};
 ghost use Rattle.pm_rows.specs.Limits.{IsWithinRowLimits};
 ghost use Rattle.pm_query.specs.Limits.{HasShortRows};
 ghost use Rattle.pm_query.specs.BookLaws.{AckedNeverFalls};
 ghost use Rattle.pm_query.specs.TickLaws.{PastStays, PresentIsWhole};
 ghost use Rattle.pm_segment.specs.Rests.{Rests};
+ghost use Rattle.pm_segment.specs.Waits.{IsBehind};
+ghost use Rattle.pm_segment.specs.declared.commits.Commits.{Commits};
+ghost use Rattle.pm_segment.specs.declared.commits.Commits.TheVariants.{AtOnce};
 
 use crate::children::Children;
+use crate::commits::Commits;
 use crate::live::Live;
 use crate::pass::Pass;
 use crate::ran::Ran;
@@ -24,6 +28,7 @@ use pm_query::{
 use pm_record::RedoFault;
 use pm_rows::Rows;
 use pm_sql::Script;
+use pm_stage::Stage;
 use std::alloc::Global;
 
 /// The generation in which a store begins.
@@ -32,7 +37,7 @@ const FIRST_GENERATION: u32 = 1;
 /// What the children of a generation share: the rows, the log on its disk, and the book of what happened.
 ///
 /// Its type keeps that the book has room for the leave of each child inside, and that the log rests on the disk with these
-/// rows while it goes on. That the book is legal, and that rows and log are its replay, holds from the moment at which the
+/// rows, up to what is staged, while it goes on. That the book is legal, and that rows and log are its replay, holds from the moment at which the
 /// segment got its disk, and from the base that its first redo found: each call says that it keeps this, for every such
 /// beginning (`Moves`).
 #[derive(Drop)]
@@ -46,15 +51,20 @@ pub struct Segment<D: Disk, B: Chronicle<BookEntry>> {
     pub(crate) live: Option<Live>,
     // Whether a checkpoint was asked for before that.
     pub(crate) skipped: bool,
+    pub(crate) commits: Commits,
+    // What waits for the log.
+    pub(crate) stage: Stage,
     pub(crate) alloc: Global,
     ghost begun: { 1 ≤ generation },
     ghost short: { HasShortRows rows },
     ghost limits: { IsWithinRowLimits rows },
-    ghost rests: { ∥ Rests live rows (D.seen disk) (D.images disk (D.ticks disk)) ∥₁ },
+    ghost rests: { ∥ Rests live rows stage.commits (D.seen disk) (D.images disk (D.ticks disk)) ∥₁ },
+    ghost behind: { ∥ IsBehind live stage ∥₁ },
+    ghost at_once: { commits ≡ AtOnce → stage.commits ≡ [] },
     ghost room: { length inside ≤ B.spare book },
 }
 
-/// A segment that one thread has for itself. It needs no lock.
+/// A segment that one thread has for itself. It needs no lock, and stages nothing where it writes commits at once.
 pub type Sole<D, B> = Segment<D, B>;
 
 impl<D: Disk, B: Chronicle<BookEntry>> Segment<D, B> {
@@ -66,7 +76,7 @@ impl<D: Disk, B: Chronicle<BookEntry>> Segment<D, B> {
     ghost use Rattle.pm_segment.specs.Stands.{WaitsFrom};
 
     /// A store in its first generation, which has no rows before its redo. Where memory is short disk and book come back.
-    pub fn new(alloc: Global, disk: D, book: B) -> Result<Segment<D, B>, (D, B)>
+    pub fn new(alloc: Global, commits: Commits, disk: D, book: B) -> Result<Segment<D, B>, (D, B)>
         ensures disk { IfOk result (λ store. disk_of store ≡ disk) }
         ensures notes { IfOk result (λ store.
             Added (BookEntry.Opened 1 ∷ []) (B.entries book) (moment store).book) }
@@ -80,6 +90,8 @@ impl<D: Disk, B: Chronicle<BookEntry>> Segment<D, B> {
         ensures generation { IfOk result (λ store. (moment store).generation ≡ 1) }
         ensures unread { IfOk result (λ store. (moment store).live ≡ None) }
         ensures empty { IfOk result (λ store. (moment store).inside ≡ []) }
+        ensures commits { IfOk result (λ store. (moment store).commits ≡ commits) }
+        ensures unstaged { IfOk result (λ store. (moment store).staged ≡ []) }
         ensures refused { IfErr result (λ parts.
             (parts.0 ≡ disk) × (B.entries parts.1 ≡ B.entries book)) }
     {
@@ -98,6 +110,8 @@ impl<D: Disk, B: Chronicle<BookEntry>> Segment<D, B> {
             rows: Rows::new(alloc),
             live: None,
             skipped: false,
+            commits,
+            stage: Stage::new(alloc, 0),
             alloc,
         })
     }
@@ -131,6 +145,8 @@ impl<D: Disk, B: Chronicle<BookEntry>> Segment<D, B> {
             rows: _,
             live: _,
             skipped: _,
+            commits: _,
+            stage: _,
             alloc: _,
         } = self;
         (disk, book)
@@ -144,12 +160,13 @@ impl<D: Disk, B: Chronicle<BookEntry>> Store for Segment<D, B> {
     ghost use Rattle.pm_query.specs.declared.store.StoreNo.{StoreNo};
     ghost use Rattle.pm_query.specs.Calls.{CheckpointNotes, EnterNotes, FlushNotes, HasReached, IsPast, LeaveNotes, MetAnother, MetLater, ReachesNoLess, RedoNotes, RunNotes, SeenNotes, new_pass, newcomer, with_front};
     ghost use Rattle.pm_query.specs.Limits.{HasShortValues};
-    ghost use Rattle.pm_segment.specs.Causes.{MakesNoCall, RunCause, SeenCause};
-    ghost use Rattle.pm_segment.specs.Moment.{HasDiskOf, HasLogOf, moment};
+    ghost use Rattle.pm_segment.specs.Causes.{MakesNoCall, RunCause, SeenCause, staged_behind};
+    ghost use Rattle.pm_segment.specs.Flushes.{FlushCause, FlushesAll, WritesNothing};
+    ghost use Rattle.pm_segment.specs.Moment.{HasDiskOf, HasLogOf, disk_of, moment};
     ghost use Rattle.pm_segment.specs.Moves.{Moves};
     ghost use Rattle.pm_segment.specs.MovesLaws.{moves_none, moves_on, never_falls};
     ghost use Rattle.pm_segment.specs.Passes.{Admits, user_in, view_of};
-    ghost use Rattle.pm_segment.specs.Redos.{CheckpointCause, FlushCause, FullAtLast, GoesOnAsFound, HasReason, IsRead, LeavesFiles, LeavesUnread, MadeAfresh, MakesCalls};
+    ghost use Rattle.pm_segment.specs.Redos.{CheckpointCause, FullAtLast, GoesOnAsFound, HasReason, IsRead, LeavesFiles, LeavesUnread, MadeAfresh, MakesCalls};
 
     type Pass = Pass;
 
@@ -206,6 +223,10 @@ impl<D: Disk, B: Chronicle<BookEntry>> Store for Segment<D, B> {
         ensures cause { RunCause (moment self.old) script.now result }
         ensures rest { MakesNoCall (moment self.old).rows script.now result
             → HasLogOf self.old self.new }
+        ensures still { (moment self.old).commits ≡ Commits.Staged
+            → disk_of self.new ≡ disk_of self.old }
+        ensures staged { (moment self.new).staged
+            ≡ staged_behind (moment self.old) script.now result }
     {
         history_laws();
         let Some(live) = self.live else {
@@ -244,7 +265,7 @@ impl<D: Disk, B: Chronicle<BookEntry>> Store for Segment<D, B> {
             self.book.note(BookEntry::Released {
                 pid: pass.pid,
                 front,
-                tick: self.disk.ticks(),
+                tick: live.mark,
             });
             return Ok(Seen::Released);
         }
@@ -256,7 +277,6 @@ impl<D: Disk, B: Chronicle<BookEntry>> Store for Segment<D, B> {
         })
     }
 
-    // Each commit is flushed before its answer is given, so none is ever staged.
     fn flush(&mut self, pass: &mut Pass) -> Result<u64, StoreNo>
         requires { Admits pass.old (moment self.old) }
         ensures notes { (entries : List BookEntry)
@@ -266,18 +286,19 @@ impl<D: Disk, B: Chronicle<BookEntry>> Store for Segment<D, B> {
         ensures view { view_of pass.new ≡ view_of pass.old }
         ensures stale { MetLater (moment self.new).generation pass.old.generation result }
 
-        ensures cause { FlushCause (moment self.old).live result }
-        ensures rest { HasLogOf self.old self.new }
+        ensures cause { FlushCause (moment self.old) (moment self.new) result }
+        ensures rest { WritesNothing (moment self.old).staged result → HasLogOf self.old self.new }
     {
         history_laws();
         self.book.reserve(self.inside.entries_for(1))?;
         let Some(live) = self.live else {
             return Err(StoreNo::NoMemory);
         };
-        match live.log.since {
-            Some(since) => Err(self.broken(pass, live, since)),
-            None => Ok(live.log.count),
+        if let Some(since) = live.log.since {
+            return Err(self.broken(pass, live, since));
         }
+        let written = self.write_batch(pass, live)?;
+        Ok(written.log.count)
     }
 
     fn redo(&mut self, pass: &mut Pass) -> Result<u64, StoreNo>
@@ -324,9 +345,11 @@ impl<D: Disk, B: Chronicle<BookEntry>> Store for Segment<D, B> {
         ensures stale { MetLater (moment self.new).generation pass.old.generation result }
 
         ensures cause { CheckpointCause (moment self.old).live clean result }
-        ensures still { ¬ (MakesCalls result) → HasDiskOf self.old self.new }
+        ensures still { (moment self.old).staged ≡ [] → ¬ (MakesCalls result)
+            → HasDiskOf self.old self.new }
         ensures full { FullAtLast (moment self.new).files result }
         ensures afresh { MadeAfresh clean (moment self.new) result }
+        ensures flushed { FlushesAll (moment self.new) result }
     {
         history_laws();
         checkpoint_bytes_are_the_number();
@@ -347,7 +370,7 @@ impl<D: Disk, B: Chronicle<BookEntry>> Store for Segment<D, B> {
         if !clean && behind < CHECKPOINT_BYTES {
             return Ok(Checkpointed::NotDue { behind });
         }
-        self.move_log(pass, live, clean)
+        self.move_all(pass, live, clean)
     }
 
     fn leave(&mut self, pass: Pass)

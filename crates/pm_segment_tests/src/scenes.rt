@@ -5,7 +5,7 @@ use crate::visit::visit;
 use pm_disk::{Disk, FailingDisk, MemDisk, Which};
 use pm_outside::Kept;
 use pm_query::BookEntry;
-use pm_segment::Sole;
+use pm_segment::{Commits, Sole};
 use std::alloc::Global;
 use std::process::Abort;
 use std::test::Fail;
@@ -13,9 +13,9 @@ use std::test::Fail;
 type OnFailing = Sole<FailingDisk<MemDisk>, Kept<BookEntry>>;
 
 /// `store 5 | 7` begins a store on a disk behind `initdb` with five commits so far, by six calls, whose seventh call from
-/// then on fails, or none at 0; `again` ends it, and begins the next one on its disk; `renew 9` brings it into its next
-/// generation, where 9 was in. `child 2 1 redo / leave` is the visit of child 2 of generation 1. Behind `->` stands what was
-/// answered, or what the store that was ended had noted. A redo takes six calls, and a commit four.
+/// then on fails, or none at 0, and `staged 5 | 7` one that stages its commits; `again` ends it, and begins the next one on
+/// its disk; `renew 9` brings it into its next generation, where 9 was in. `child 2 1 redo / leave` is the visit of child 2 of generation 1. Behind `->` stands what was
+/// answered, or what the store that was ended had noted. A redo takes six calls, and a batch four.
 const SCRIPT: &str = r#"
 # a later store finds what was committed
 store 0 | 0
@@ -169,7 +169,47 @@ renew 2
 child 3 3 redo / clean checkpoint / leave
 -> 3 / Done { epoch: 2 }
 again
--> opened 1; attached 1; redone 3; attached 1; gone 1; opened 2; attached 2; checkpoint 0; gone 2; opened 3; attached 3; redone 3; checkpoint 1; detached 3"#;
+-> opened 1; attached 1; redone 3; attached 1; gone 1; opened 2; attached 2; checkpoint 0; gone 2; opened 3; attached 3; redone 3; checkpoint 1; detached 3
+# what is staged is answered, and released behind its flush; a read that shows it waits as well
+staged 0 | 0
+child 2 1 redo / INSERT INTO kv VALUES (7, 'seven') / INSERT INTO kv VALUES (8, 'eight') / SELECT count(*) FROM kv / flush / SELECT count(*) FROM kv / flush / leave
+-> 0 / flushed 0 / flushed 0 / flushed 0 / 2 / [Count(2)] front 2 / 2
+again
+-> opened 1; attached 2; redone 0; answered 1; answered 2; answered 2; answered 2; released 2; detached 2
+child 3 1 redo
+-> 2
+# a checkpoint flushes first, and what a child staged that died is flushed by another
+staged 0 | 0
+child 2 1 redo / INSERT INTO kv VALUES (7, 'seven') / INSERT INTO kv VALUES (8, 'eight')
+-> 0 / flushed 0 / flushed 0
+child 3 1 flush / INSERT INTO kv VALUES (9, 'nine') / clean checkpoint / SELECT count(*) FROM kv / INSERT INTO kv VALUES (1, 'one') / leave
+-> 2 / flushed 2 / Done { epoch: 2 } / [Count(3)] front 3 / out of memory
+again
+-> opened 1; attached 2; redone 0; answered 1; answered 2; attached 3; answered 3; checkpoint 1; answered 3; released 3; detached 3
+child 4 1 redo
+-> 3
+# a renewal drops what is staged
+staged 0 | 0
+child 2 1 redo / INSERT INTO kv VALUES (7, 'seven') / flush / INSERT INTO kv VALUES (8, 'eight')
+-> 0 / flushed 0 / 1 / flushed 1
+renew 2
+child 3 2 redo / SELECT count(*) FROM kv / leave
+-> 1 / [Count(1)] front 1
+# a batch stands as a whole or not at all, and none of it is released
+staged 0 | 8
+child 2 1 redo / INSERT INTO kv VALUES (7, 'seven') / INSERT INTO kv VALUES (8, 'eight') / INSERT INTO kv VALUES (9, 'nine') / flush / flush / SELECT count(*) FROM kv
+-> 0 / flushed 0 / flushed 0 / flushed 0 / Disk / Broken { since: 14 } / the commit log broke at tick 14
+again
+-> opened 1; attached 2; redone 0; answered 1; answered 2; answered 3; broke 1; broke 1; broke 1
+child 3 1 redo
+-> 0
+staged 0 | 10
+child 2 1 redo / INSERT INTO kv VALUES (7, 'seven') / INSERT INTO kv VALUES (8, 'eight') / INSERT INTO kv VALUES (9, 'nine') / flush / flush / SELECT count(*) FROM kv
+-> 0 / flushed 0 / flushed 0 / flushed 0 / Disk / Broken { since: 16 } / the commit log broke at tick 16
+again
+-> opened 1; attached 2; redone 0; answered 1; answered 2; answered 3; broke 1; broke 1; broke 1
+child 3 1 redo
+-> 3"#;
 
 // The gate, the magic and version, the epoch 1, and the mark of a clean shutdown.
 const HEAD: &[u8] = b"\x01PGPMLOG\x01\0\0\0\0\0\0\0\x01\x01";
@@ -187,9 +227,20 @@ fn disk_of(alloc: Global, count: &str) -> Result<MemDisk, Fail> {
     Ok(disk)
 }
 
-fn store_on(alloc: Global, disk: FailingDisk<MemDisk>) -> Result<OnFailing, Fail> {
-    let store = Sole::new(alloc, disk, Kept::new(alloc));
+fn store_on(
+    alloc: Global,
+    commits: Commits,
+    disk: FailingDisk<MemDisk>,
+) -> Result<OnFailing, Fail> {
+    let store = Sole::new(alloc, commits, disk, Kept::new(alloc));
     Ok(store.ok().ok_or("there is memory")?)
+}
+
+fn commits_of(word: &str) -> Commits {
+    if word == "staged" {
+        return Commits::Staged;
+    }
+    Commits::AtOnce
 }
 
 fn number(word: &str) -> Result<u32, Fail> {
@@ -215,20 +266,21 @@ fn renew(alloc: Global, store: &mut OnFailing, words: &str) -> Result<(), Fail> 
 #[test]
 fn the_stores_answer_as_the_script_says(rt: HostRuntime) -> Result<(), Fail> {
     let alloc = rt.alloc();
-    let mut store = store_on(alloc, FailingDisk::blip(disk_of(alloc, "0")?, 0))?;
+    let disk = FailingDisk::blip(disk_of(alloc, "0")?, 0);
+    let mut store = store_on(alloc, Commits::AtOnce, disk)?;
     let mut told = String::new(alloc);
     for line in SCRIPT.lines() {
         let (word, rest) = line.split_once(' ').unwrap_or((line, ""));
         match word {
-            "store" => {
+            "store" | "staged" => {
                 let (count, at) = rest.split_once(" | ").ok_or("which call fails")?;
                 let disk = FailingDisk::blip(disk_of(alloc, count)?, u64::from(number(at)?));
-                store = store_on(alloc, disk)?;
+                store = store_on(alloc, commits_of(word), disk)?;
             }
             "again" => {
                 let (disk, book) = store.into_parts();
                 told = noted(alloc, &book)?;
-                store = store_on(alloc, disk)?;
+                store = store_on(alloc, Commits::AtOnce, disk)?;
             }
             "renew" => renew(alloc, &mut store, rest)?,
             "child" => told = visited(alloc, &mut store, rest)?,

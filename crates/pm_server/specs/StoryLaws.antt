@@ -22,6 +22,7 @@ use Rattle.pm_query.specs.Durable.{IsDurable}
 use Rattle.pm_query.specs.History.{History, count_of, number, rows_of}
 use Rattle.pm_query.specs.declared.book.BookEntry.{BookEntry}
 use Rattle.pm_query.specs.declared.book.BookEntry.TheVariants.{Opened, Attached, Redone, Answered, Released, Detached, Gone, CheckpointEnded, Broke, LogFull}
+use Rattle.pm_segment.specs.Fronts.{whole_of}
 use Rattle.pm_segment.specs.Moment.{Moment, Told}
 use Rattle.pm_outside.specs.Added.{Added}
 use Rattle.pm_segment.specs.Moves.{BreakIsShown, IsCountedFrom, IsShown, StaysUnread}
@@ -111,8 +112,8 @@ clean_at base at live book epoch (Some f) gone clean =
       end = clean.0.log.end;
       pair = record { stands = s.stands; beside = inl s.beside };
       is = s.is
-          ∙ ap (λ (r : finite.FinMap _ _). record { rows = r; count = clean.0.log.count }) gone.rows_are
-          ∙ ap (λ (n : ℕ). record { rows = rows_of (history_of base book); count = n }) (sym (ap (λ (l : Live). l.log.count) same) ∙ gone.count_is unbroken)
+          ∙ ap (λ (r : finite.FinMap _ _). record { rows = r; count = whole_of clean.0 }) gone.rows_are
+          ∙ ap (λ (n : ℕ). record { rows = rows_of (history_of base book); count = n }) (sym (ap whole_of same) ∙ gone.count_is unbroken)
           ∙ sym (whole_number (history_of base book));
       clean = s.clean_is;
       nothing_behind = s.no_batch;
@@ -132,7 +133,7 @@ clean_told base at book epoch (Some f) is begun clean = clean_begun base at book
 
 -- the log rests on the disk, as the store keeps it
 abbrev pub RestsAt : Moment → Type 0
-RestsAt at = ∥ Rests at.live at.rows at.files (at.images at.ticks) ∥₁
+RestsAt at = ∥ Rests at.live at.rows at.staged at.files (at.images at.ticks) ∥₁
 
 abbrev LeavesClean : Base → List BookEntry → Moment → Type 0
 LeavesClean base book at = IfSome at.files (λ _. (image : Files) → at.images at.ticks image → ∥ IsClean (history_of base book) image ∥₁)
@@ -144,8 +145,8 @@ left_clean base at book epoch (Some f) is rests live gone clean =
     subst (λ (x : Option Files). IfSome x (λ _. (image : Files) → at.images at.ticks image → ∥ IsClean (history_of base book) image ∥₁)) (sym is) (λ image there.
     let same : live ≡ clean.0 = same_live live clean.0 at.live gone.read clean.1 in
     let unbroken : live.log.since ≡ None = ap (λ (l : Live). l.log.since) same ∙ clean.2 in
-    let afresh = subst (λ (x : Option Files). IfSome x (λ files. ∥ StandsAfresh epoch true clean.0.log at.rows files ∥₁)) is clean.4 in
-    let kept = subst (λ (x : Option Files). ∥ Rests (Some clean.0) at.rows x (at.images at.ticks) ∥₁) is (subst (λ (x : Option Live). ∥ Rests x at.rows at.files (at.images at.ticks) ∥₁) clean.1 rests) in
+    let afresh = subst (λ (x : Option Files). IfSome x (λ files. ∥ StandsAfresh epoch true clean.0 at.rows files ∥₁)) is clean.4 in
+    let kept = subst (λ (x : Option Files). ∥ Rests (Some clean.0) at.rows at.staged x (at.images at.ticks) ∥₁) is (subst (λ (x : Option Live). ∥ Rests x at.rows at.staged at.files (at.images at.ticks) ∥₁) clean.1 rests) in
     ∥∥₁_elim afresh (hlevel) (λ s. ∥∥₁_map kept (λ r.
     let h = r clean.2 in
     record {
@@ -157,8 +158,8 @@ left_clean base at book epoch (Some f) is rests live gone clean =
         beside = inl (h.lives.rests.beside image there);
       };
       is = s.is
-          ∙ ap (λ (r' : finite.FinMap _ _). record { rows = r'; count = clean.0.log.count }) gone.rows_are
-          ∙ ap (λ (n : ℕ). record { rows = rows_of (history_of base book); count = n }) (sym (ap (λ (l : Live). l.log.count) same) ∙ gone.count_is unbroken)
+          ∙ ap (λ (r' : finite.FinMap _ _). record { rows = r'; count = whole_of clean.0 }) gone.rows_are
+          ∙ ap (λ (n : ℕ). record { rows = rows_of (history_of base book); count = n }) (sym (ap whole_of same) ∙ gone.count_is unbroken)
           ∙ sym (whole_number (history_of base book));
       clean = s.clean_is;
       nothing_behind = s.no_batch;

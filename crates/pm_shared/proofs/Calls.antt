@@ -348,7 +348,7 @@ token_knows_run {D} {B} {g} {h} r s script k first own ps log es x x' me before 
     let tells' = (subst (λ (m : Seated (Segment D B g h) D). Tells Behind Knows m.0 (taken log x)) is tells).0 in
     let gen' : before.generation ≡ generation_of log = gen ∙ sym tells'.0.generation in
     let known = known_at (Knows log x) (generation_of log) before ps tells'.1 in_ gen' in
-    (run_answer r s script log es before now notes view known.0, admits.flushed)
+    (run_answer r s script log es before now notes view known.0, admits.staged)
 
 -- ---- an enter
 
@@ -393,7 +393,7 @@ may_enter {D} {B} {g} {h} k first own ps log x x' (Ok pass) pid generation es te
         others = λ p e known. knows_moves log es x x' p all_own moves known;
         mine = known_snoc (Knows (log ++ es) x') (generation_of log) ps pass
             (known_on (Knows log x) (Knows (log ++ es) x') (generation_of log) ps (λ p e known. knows_moves log es x x' p all_own moves known) tells.1)
-            (λ e. (subst (λ (f : Option ℕ). HasAnswer pass.pid f (log ++ es)) (sym f_is) tt, admits.flushed));
+            (λ e. (subst (λ (f : Option ℕ). HasAnswer pass.pid f (log ++ es)) (sym f_is) tt, admits.staged));
       };
     }
 may_enter {D} {B} {g} {h} k first own ps log x x' (Err refusal) pid generation es tells notes moves admits view =

@@ -120,4 +120,4 @@ token_knows_same {D} {B} {g} {h} k first own ps log es x x' me before now is tel
     let tells' = (subst (λ (m : Seated (Segment D B g h) D). Tells Behind Knows m.0 (taken log x)) is tells).0 in
     let gen' : before.generation ≡ generation_of log = gen ∙ sym tells'.0.generation in
     let known = known_at (Knows log x) (generation_of log) before ps tells'.1 in_ gen' in
-    (subst (λ (v : PassView). HasAnswer v.pid v.front (log ++ es)) (sym view) (answer_on before.pid before.front log es (quiet_own es quiet) known.0), admits.flushed)
+    (subst (λ (v : PassView). HasAnswer v.pid v.front (log ++ es)) (sym view) (answer_on before.pid before.front log es (quiet_own es quiet) known.0), admits.staged)

@@ -122,6 +122,8 @@ moves_still {g = g} x x' still disk = subst (λ (m : Moment). Moves [] (moment x
       rows = sym still.rows i;
       live = sym still.live i;
       skipped = sym still.skipped i;
+      commits = sym still.commits i;
+      staged = sym still.staged i;
       files = g.seen (sym disk i);
       images = g.images (sym disk i);
       ticks = g.ticks (sym disk i);

@@ -152,7 +152,7 @@ answer_on pid None log es own has = tt
 answer_on pid (Some front) log es own has = subst (Any (AnswersUpTo pid front)) (sym (present_on log es own)) (any_more (AnswersUpTo pid front) (present log) es has)
 
 pub knows_moves : {D B : Type 0} {g h : _} (log es : List BookEntry) (x x' : Segment D B g h) (p : Pass) → AllOwn es → Moves es (moment x) (moment x') → Knows log x p → Knows (log ++ es) x' p
-knows_moves log es x x' p own moves knows = (answer_on p.pid p.front log es own knows.0, moves.flushed p.front knows.1)
+knows_moves log es x x' p own moves knows = (answer_on p.pid p.front log es own knows.0, moves.staged p.front knows.1)
 
 -- a pass that is known, of a child that is inside in this generation, is admitted
 pub admits_known : {D B : Type 0} {g h : _} (first : D) (log : List BookEntry) (x : Segment D B g h) (p : Pass) → Behind first log x → Knows log x p → p.generation ≡ (moment x).generation → 1 ≤ times_attached log p.pid → Admits p (moment x)
@@ -160,7 +160,7 @@ admits_known first log x p is knows same there = record {
   there = subst (λ n. 1 ≤ n) (is.attended p.pid) there;
   generation_is = same;
   inside = inside (moment x).book is.told;
-  flushed = knows.1;
+  staged = knows.1;
 }
   where
     inside : (book : Option (List BookEntry)) → IfSome book (λ b. b ≡ log) → IfSome book (IsInside p.pid p.front)

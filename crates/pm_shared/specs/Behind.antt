@@ -8,7 +8,7 @@ use Rattle.pm_segment.specs.declared.segment.Segment.{Segment}
 use Rattle.pm_segment.specs.Children.{IsAttendedBy}
 use Rattle.pm_segment.specs.Moment.{moment}
 use Rattle.pm_segment.specs.Moves.{CountsEntries}
-use Rattle.pm_segment.specs.Passes.{HasAnswer, IsFlushed}
+use Rattle.pm_segment.specs.Passes.{HasAnswer, IsStaged}
 use Rattle.pm_segment.specs.Stands.{Begins, WaitsFrom}
 use Rattle.pm_segment.specs.Unread.{has_break, has_redo}
 
@@ -26,6 +26,6 @@ pub record Behind {D B : Type 0} {g h : _} (first : D) (log : List BookEntry) (s
   pub stands : WaitsFrom (record { files = g.seen first; tick = g.ticks first; faults = g.faults first }) (moment store)
       ⊎ Begins (record { files = g.seen first; tick = g.ticks first; faults = g.faults first }) (moment store)
 
--- the child of a pass was answered up to its front, in this generation, and that front is flushed
+-- the child of a pass was answered up to its front, in this generation, and that front was taken
 abbrev pub Knows : {D B : Type 0} {g h : _} → List BookEntry → Segment D B g h → Pass → Type 0
-Knows log store pass = HasAnswer pass.pid pass.front log × IsFlushed pass.front (moment store).live
+Knows log store pass = HasAnswer pass.pid pass.front log × IsStaged pass.front (moment store).live

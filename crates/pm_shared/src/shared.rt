@@ -19,7 +19,7 @@ use crate::token::Token;
 use pm_disk::Disk;
 use pm_outside::Chronicle;
 use pm_query::BookEntry;
-use pm_segment::Segment;
+use pm_segment::{Commits, Segment};
 use std::alloc::{AllocError, Global};
 use std::marker::{Brand, Model};
 use std::sync::{Arc, Wait};
@@ -239,7 +239,7 @@ impl<D: Disk + Drop, B: Chronicle<BookEntry> + Drop> Shared<D, B> {
         let Ok(blank) = Blank::new(alloc, tokens) else {
             return Err((disk, book));
         };
-        match Segment::new(alloc, disk, book) {
+        match Segment::new(alloc, Commits::Staged, disk, book) {
             Ok(store) => Ok(blank.filled(store)),
             Err(parts) => Err(parts),
         }

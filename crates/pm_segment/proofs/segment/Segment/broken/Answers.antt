@@ -20,5 +20,5 @@ returns-clause-admits g c =
       generation_is = c.requires.admits.generation_is;
       inside = inside_still c.args.pass.now.pid c.args.pass.now.front entry told (g.B.Chronicle.entries c.note.new.self) (record { present_is = λ es. refl; times = λ n. omega arith })
           (notes_by entry told told _ refl c.note.ensures.entries) c.requires.admits.inside;
-      flushed = c.requires.admits.flushed;
+      staged = c.requires.admits.staged;
     }

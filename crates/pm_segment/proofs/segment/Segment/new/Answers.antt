@@ -1,4 +1,5 @@
 use Rattle.std.proofs.Common.{◌∙◌, None, length, refl, ap, arith, false}
+use Rattle.pm_stage.specs.Stage.{Waiting}
 use Rattle.pm_segment.proofs.Opens.{opens_waiting, short_empty}
 use Rattle.pm_segment.proofs.segment.Segment.new.Goals as goal
 
@@ -8,6 +9,8 @@ invariant_of-result g c = record {
   short = short_empty c.new-2.result c.new-2.ensures.none;
   limits = c.new-2.ensures.limits;
   rests = ∣ tt ∣₁;
+  behind = ∣ tt ∣₁;
+  at_once = λ _. ap (λ (w : Waiting). w.commits) c.new-3.ensures;
   room = omega (arith, ap length c.new.ensures);
 }
 
@@ -20,6 +23,8 @@ returns-clause-waits g c = λ no_entry.
       rows = c.new-2.result;
       live = None;
       skipped = false;
+      commits = c.args.commits;
+      staged = c.new-3.result.commits;
       files = g.D.Disk.seen c.args.disk;
       images = g.D.Disk.images c.args.disk;
       ticks = g.D.Disk.ticks c.args.disk;

@@ -1,11 +1,16 @@
-use Rattle.std.proofs.Common.{rules, ◌≡◌, ◌≢◌, ℕ, [], ◌∷◌, Some, Err, refl, sym, ap, subst, arith, false}
+use Rattle.std.proofs.Common.{rules, ◌≡◌, ◌≢◌, ◌∙◌, ℕ, List, [], ◌∷◌, length, Some, Err, refl, sym, ap, subst, arith, false}
+use Rattle.pm_rows.specs.declared.commit.Change.{Change}
 use Rattle.pm_rows.specs.Limits.{max_file_bytes}
+use Rattle.pm_log.specs.declared.log.Log.{Log}
+use Rattle.pm_stage.specs.Stage.{Waiting}
+use Rattle.pm_segment.specs.Rests.{Rests}
+use Rattle.pm_segment.specs.Waits.{needs_alone}
 use Rattle.pm_record.specs.declared.fault.RedoFault.TheVariants as fault
 use Rattle.pm_query.specs.declared.book.BookEntry.{BookEntry}
 use Rattle.pm_query.specs.declared.book.BookEntry.TheVariants.{Broke, Redone}
 use Rattle.pm_segment.specs.declared.live.Live.{Live}
 use Rattle.pm_segment.specs.Moment.{Moment, moment_of}
-use Rattle.pm_segment.proofs.Passing.{attends, inside_still, none_flushed}
+use Rattle.pm_segment.proofs.Passing.{attends, inside_still, none_staged}
 use Rattle.pm_segment.proofs.Redos.{Reads, Redoes, goes_on_found, redo_notes_none, reads_fault, reads_nothing, redoes_first, rests_found}
 use Rattle.pm_segment.proofs.Resting.{tells_nothing}
 use Rattle.std.specs.Prelude.{IfSome}
@@ -22,12 +27,22 @@ use Rattle.pm_segment.proofs.segment.Segment.read_log.Goals as goal
 
 pub invariant_of-self : goal.invariant_of-self
 invariant_of-self g c =
-    let new : Live = record { log = c.resume-log.result; kept = c.in-Ok.found.count; epoch = c.in-Ok.found.epoch; faults = 0; closed = false } in
+    let new : Live = record { log = c.resume-log.result; kept = c.in-Ok.found.count; epoch = c.in-Ok.found.epoch; faults = 0; closed = false; front = c.in-Ok.found.count; needs = 0; mark = c.ticks.result } in
+    let emptied : c.new.result.commits ≡ [] = ap (λ (w : Waiting). w.commits) c.new.ensures in
+    let upto : c.new.result.flushed ≡ c.in-Ok.found.count = ap (λ (w : Waiting). w.flushed) c.new.ensures in
     record {
       begun = c.args.self.now.begun;
       short = λ k d lt. (c.in-Ok.ensures.rows k d lt).2;
       limits = c.in-Ok.ensures.limits;
-      rests = rests_found (g.D.Disk.seen c.args.self.now.disk) (g.D.Disk.seen c.recover.new.disk) c.in-Ok.found max_file_bytes new (g.D.Disk.images c.recover.new.disk (g.D.Disk.ticks c.recover.new.disk)) c.resume-log.ensures refl c.in-Ok.ensures.found;
+      rests = subst (λ (s : List (List Change)). ∥ Rests (Some new) c.in-Ok.found.rows s (g.D.Disk.seen c.recover.new.disk) (g.D.Disk.images c.recover.new.disk (g.D.Disk.ticks c.recover.new.disk)) ∥₁) (sym emptied)
+          (rests_found (g.D.Disk.seen c.args.self.now.disk) (g.D.Disk.seen c.recover.new.disk) c.in-Ok.found max_file_bytes new (g.D.Disk.images c.recover.new.disk (g.D.Disk.ticks c.recover.new.disk)) c.resume-log.ensures refl c.in-Ok.ensures.limits c.in-Ok.ensures.found);
+      behind = ∣ record {
+        flushed = upto ∙ sym (ap (λ (l : Log). l.count) c.resume-log.ensures);
+        front = omega (arith, upto, ap length emptied);
+        needs = sym (ap needs_alone emptied);
+        room = λ whole. omega arith;
+      } ∣₁;
+      at_once = λ _. emptied;
       room = omega (arith, c.requires.room, c.note.ensures.room);
     }
 
@@ -35,7 +50,7 @@ pub returns-in-Ok-clause-notes : goal.returns-in-Ok-clause-notes
 returns-in-Ok-clause-notes g c =
     let told = g.B.Chronicle.entries c.args.self.now.book in
     let content = c.in-Ok.ensures.content in
-    let new : Live = record { log = c.resume-log.result; kept = c.in-Ok.found.count; epoch = c.in-Ok.found.epoch; faults = 0; closed = false } in
+    let new : Live = record { log = c.resume-log.result; kept = c.in-Ok.found.count; epoch = c.in-Ok.found.epoch; faults = 0; closed = false; front = c.in-Ok.found.count; needs = 0; mark = c.ticks.result } in
     let entry : BookEntry = Redone c.args.pass.now.pid c.args.self.now.generation c.in-Ok.found.count in
     let now : Moment = record {
       book = g.B.Chronicle.entries c.note.new.self;
@@ -44,13 +59,17 @@ returns-in-Ok-clause-notes g c =
       rows = c.in-Ok.found.rows;
       live = Some new;
       skipped = c.args.self.now.skipped;
+      commits = c.args.self.now.commits;
+      staged = c.new.result.commits;
       files = g.D.Disk.seen c.recover.new.disk;
       images = g.D.Disk.images c.recover.new.disk;
       ticks = g.D.Disk.ticks c.recover.new.disk;
       faults = g.D.Disk.faults c.recover.new.disk;
     } in
+    let emptied : c.new.result.commits ≡ [] = ap (λ (w : Waiting). w.commits) c.new.ensures in
     let redoes : Redoes (moment_of told c.args.self.now) now c.in-Ok.found new = record {
       generation = refl;
+      commits = refl;
       inside = refl;
       fits = omega (arith, stands_size c.lengths_are_the_numbers.ensures.needs c.rows_are_within_needs.ensures.commits content.0 content.1 c.in-Ok.found.end content.3, ap bytes_of_rows content.2.rows);
       unread = c.requires.unread;
@@ -60,6 +79,12 @@ returns-in-Ok-clause-notes g c =
       kept = refl;
       first = refl;
       closed = refl;
+      front = refl;
+      needs = refl;
+      mark = c.ticks.ensures;
+      unstaged = emptied;
+      rests = subst (λ (s : List (List Change)). ∥ Rests (Some new) c.in-Ok.found.rows s (g.D.Disk.seen c.recover.new.disk) (g.D.Disk.images c.recover.new.disk (g.D.Disk.ticks c.recover.new.disk)) ∥₁) (sym emptied)
+          (rests_found (g.D.Disk.seen c.args.self.now.disk) (g.D.Disk.seen c.recover.new.disk) c.in-Ok.found max_file_bytes new (g.D.Disk.images c.recover.new.disk (g.D.Disk.ticks c.recover.new.disk)) c.resume-log.ensures refl c.in-Ok.ensures.limits c.in-Ok.ensures.found);
       rows = refl;
       time = c.recover.ensures.time;
       later = c.recover.ensures.cause.later;
@@ -88,6 +113,8 @@ returns-then-eq-clause-notes g c =
       rows = c.args.self.now.rows;
       live = c.args.self.now.live;
       skipped = c.args.self.now.skipped;
+      commits = c.args.self.now.commits;
+      staged = c.args.self.now.stage.commits;
       files = g.D.Disk.seen c.recover.new.disk;
       images = g.D.Disk.images c.recover.new.disk;
       ticks = g.D.Disk.ticks c.recover.new.disk;
@@ -95,6 +122,7 @@ returns-then-eq-clause-notes g c =
     } in
     let reads : Reads (moment_of told c.args.self.now) now = record {
       generation = refl;
+      commits = refl;
       inside = refl;
       unread = c.requires.unread;
       unread_now = c.requires.unread;
@@ -121,6 +149,8 @@ returns-else-eq-clause-notes g c =
       rows = c.args.self.now.rows;
       live = c.args.self.now.live;
       skipped = c.args.self.now.skipped;
+      commits = c.args.self.now.commits;
+      staged = c.args.self.now.stage.commits;
       files = g.D.Disk.seen c.recover.new.disk;
       images = g.D.Disk.images c.recover.new.disk;
       ticks = g.D.Disk.ticks c.recover.new.disk;
@@ -128,6 +158,7 @@ returns-else-eq-clause-notes g c =
     } in
     let reads : Reads (moment_of told c.args.self.now) now = record {
       generation = refl;
+      commits = refl;
       inside = refl;
       unread = c.requires.unread;
       unread_now = c.requires.unread;
@@ -150,14 +181,14 @@ returns-in-Ok-clause-admits g c =
       generation_is = c.requires.admits.generation_is;
       inside = inside_still c.args.pass.now.pid c.args.pass.now.front entry told (g.B.Chronicle.entries c.note.new.self) (record { present_is = λ es. refl; times = λ n. omega arith })
           (notes_by entry told told _ refl c.note.ensures.entries) c.requires.admits.inside;
-      flushed = none_flushed c.args.pass.now.front c.args.self.now.live _ c.requires.unread c.requires.admits.flushed;
+      staged = none_staged c.args.pass.now.front c.args.self.now.live _ c.requires.unread c.requires.admits.staged;
     }
 
 pub returns-in-Ok-clause-found : goal.returns-in-Ok-clause-found
 returns-in-Ok-clause-found g c = λ unread its is.
     let seen = g.D.Disk.seen c.args.self.now.disk in
     let behind = g.D.Disk.images c.recover.new.disk (g.D.Disk.ticks c.recover.new.disk) in
-    let new : Live = record { log = c.resume-log.result; kept = c.in-Ok.found.count; epoch = c.in-Ok.found.epoch; faults = 0; closed = false } in
+    let new : Live = record { log = c.resume-log.result; kept = c.in-Ok.found.count; epoch = c.in-Ok.found.epoch; faults = 0; closed = false; front = c.in-Ok.found.count; needs = 0; mark = c.ticks.result } in
     subst (λ (l : Live). IfSome seen (IsFoundIn l)) (same_live (Some new) new its refl is)
     (goes_on_found seen (g.D.Disk.seen c.recover.new.disk) c.in-Ok.found max_file_bytes new behind c.resume-log.ensures refl c.in-Ok.ensures.found)
 

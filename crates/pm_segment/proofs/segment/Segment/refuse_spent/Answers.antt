@@ -33,7 +33,7 @@ returns-clause-admits g c =
       there = c.requires.admits.there;
       generation_is = c.requires.admits.generation_is;
       inside = inside_still c.args.pass.pid c.args.pass.front entry told (g.B.Chronicle.entries c.note_full.new.book) (record { present_is = λ es. refl; times = λ n. omega arith }) c.note_full.ensures.entries c.requires.admits.inside;
-      flushed = c.requires.admits.flushed;
+      staged = c.requires.admits.staged;
     }
 
 pub returns-clause-cause : goal.returns-clause-cause

@@ -1,5 +1,6 @@
 use Rattle.std.proofs.Common.{ℕ, List, [], ◌∷◌, ◌++◌, length, map, sym, ap, subst, arith}
 use Rattle.std.proofs.lemmas.List.{map-append}
+use Rattle.pm_stage.specs.Stage.{Waiting}
 use Rattle.pm_query.specs.declared.book.BookEntry.{BookEntry}
 use Rattle.pm_query.specs.declared.book.BookEntry.TheVariants.{Gone, Opened}
 use Rattle.pm_segment.specs.Moment.{moment_of}
@@ -16,6 +17,8 @@ invariant_of-self-2 g c = record {
   short = short_empty c.new-2.result c.new-2.ensures.none;
   limits = c.new-2.ensures.limits;
   rests = ∣ tt ∣₁;
+  behind = ∣ tt ∣₁;
+  at_once = λ _. ap (λ (w : Waiting). w.commits) c.new-3.ensures;
   room = omega (arith, ap length c.new.ensures);
 }
 
@@ -39,7 +42,7 @@ returns-clause-renews g c =
     let is = renewal_is (gone ++ others) c.args.generation in (
       others,
       c.in_ok-others.ensures,
-      subst (λ (l : List BookEntry). Renews l at (with_renewal book_now c.args.generation c.new.result c.new-2.result at)) is
-          (renews c.history_laws.ensures.past c.history_laws.ensures.present at book_now c.args.generation c.new.result c.new-2.result gone others c.requires c.new.ensures c.in_ok-others.ensures c.new-2.ensures.none old.begun
+      subst (λ (l : List BookEntry). Renews l at (with_renewal book_now c.args.generation c.new.result c.new-2.result c.new-3.result.commits at)) is
+          (renews c.history_laws.ensures.past c.history_laws.ensures.present at book_now c.args.generation c.new.result c.new-2.result c.new-3.result.commits gone others c.requires c.new.ensures c.in_ok-others.ensures c.new-2.ensures.none (ap (λ (w : Waiting). w.commits) c.new-3.ensures) old.begun
           (subst (λ (l : List BookEntry). Added l told book_now) (sym is) all)),
     )

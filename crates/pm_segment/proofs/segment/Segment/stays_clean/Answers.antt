@@ -1,10 +1,11 @@
 use Rattle.pm_segment.specs.Moment.{moment}
 use Rattle.pm_segment.proofs.Checkpoints.{clean_stands}
 use Rattle.pm_segment.proofs.Lawful.{stays_clean}
+use Rattle.pm_segment.proofs.Waiting.{fronts_of}
 use Rattle.pm_segment.proofs.segment.Segment.stays_clean.Goals as goal
 
 pub returns : goal.returns
 returns g c =
     let disk = c.args.self.now.disk in
     stays_clean (moment c.args.self.now) (λ live read closed whole.
-    clean_stands (g.D.Disk.seen disk) c.args.self.now.live live c.args.self.now.rows (g.D.Disk.images disk (g.D.Disk.ticks disk)) c.args.self.now.rests (g.met.D.Disk.reads_as_left disk) read closed whole)
+    clean_stands (g.D.Disk.seen disk) c.args.self.now.live live c.args.self.now.rows c.args.self.now.stage.commits (g.D.Disk.images disk (g.D.Disk.ticks disk)) c.args.self.now.rests (fronts_of c.args.self.now.live c.args.self.now.stage c.args.self.now.behind) (g.met.D.Disk.reads_as_left disk) read closed whole)

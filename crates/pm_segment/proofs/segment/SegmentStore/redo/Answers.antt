@@ -26,7 +26,7 @@ returns-in-Some-clause-admits g c =
       generation_is = c.requires.generation_is;
       inside = inside_still c.args.pass.now.pid c.args.pass.now.front entry told (g.B.Chronicle.entries c.note.new.self) (record { present_is = λ es. refl; times = λ n. omega arith })
           (notes_by entry told _ _ c.reserve.ensures.entries c.note.ensures.entries) c.requires.inside;
-      flushed = c.requires.flushed;
+      staged = c.requires.staged;
     }
 
 pub returns-in-Some-clause-found : goal.returns-in-Some-clause-found

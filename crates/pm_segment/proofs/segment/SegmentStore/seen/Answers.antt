@@ -1,5 +1,4 @@
-use Rattle.std.proofs.Common.{rules, ◌∙◌, ℕ, List, [], ◌∷◌, ◌++◌, refl, ap, arith}
-use Rattle.std.specs.Option.{option_map}
+use Rattle.std.proofs.Common.{rules, [], ◌∷◌, refl, arith}
 use Rattle.pm_query.specs.declared.book.BookEntry.{BookEntry}
 use Rattle.pm_query.specs.declared.book.BookEntry.TheVariants.{Released}
 use Rattle.pm_segment.specs.Moment.{moment_of}
@@ -15,11 +14,9 @@ returns-in_err-reserve-clause-notes g c =
 pub returns-then-front-live-clause-notes : goal.returns-then-front-live-clause-notes
 returns-then-front-live-clause-notes g c =
     let told = g.B.Chronicle.entries c.args.self.now.book in
-    let tick = g.D.Disk.ticks c.args.self.now.disk in
+    let tick = c.in-Some.live.mark in
     let entry : BookEntry = Released c.args.pass.now.pid c.args.front tick in
-    let notes : Added (entry ∷ []) told (g.B.Chronicle.entries c.note.new.self) =
-    c.note.ensures.entries ∙ ap (option_map (λ (es : List BookEntry). es ++ Released c.args.pass.now.pid c.args.front c.ticks.result ∷ [])) c.reserve.ensures.entries
-    ∙ ap (λ (n : ℕ). option_map (λ (es : List BookEntry). es ++ Released c.args.pass.now.pid c.args.front n ∷ []) told) c.ticks.ensures in (
+    let notes : Added (entry ∷ []) told (g.B.Chronicle.entries c.note.new.self) = notes_by entry told _ _ c.reserve.ensures.entries c.note.ensures.entries in (
       entry ∷ [],
       releases c.history_laws.ensures.past c.history_laws.ensures.present (moment_of told c.args.self.now) c.in-Some.live (g.B.Chronicle.entries c.note.new.self) c.args.pass.now.pid c.args.front
           c.in-Some.is c.if-front-live.true (attends c.args.pass.now (moment_of told c.args.self.now) c.requires.admits)
@@ -30,10 +27,14 @@ returns-then-front-live-clause-notes g c =
 pub returns-then-front-live-clause-admits : goal.returns-then-front-live-clause-admits
 returns-then-front-live-clause-admits g c =
     let told = g.B.Chronicle.entries c.args.self.now.book in
-    let entry : BookEntry = Released c.args.pass.now.pid c.args.front c.ticks.result in record {
+    let entry : BookEntry = Released c.args.pass.now.pid c.args.front c.in-Some.live.mark in record {
       there = c.requires.admits.there;
       generation_is = c.requires.admits.generation_is;
       inside = inside_still c.args.pass.now.pid c.args.pass.now.front entry told (g.B.Chronicle.entries c.note.new.self) (record { present_is = λ es. refl; times = λ n. omega arith })
           (notes_by entry told _ _ c.reserve.ensures.entries c.note.ensures.entries) c.requires.admits.inside;
-      flushed = c.requires.admits.flushed;
+      staged = c.requires.admits.staged;
     }
+
+pub returns-in-Some-since-clause-cause : goal.returns-in-Some-since-clause-cause
+returns-in-Some-since-clause-cause g c =
+    rw c.broken.ensures.answer (c.in-Some.live.log.count, record { its = c.in-Some.live; read = c.in-Some.is; since_is = c.in-Some-since.is; flushed_is = refl; less = c.if-front-live.false })

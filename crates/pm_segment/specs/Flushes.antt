@@ -1,0 +1,67 @@
+-- What a flush comes to.
+use Rattle.std.specs.Prelude.{◌≡◌, ◌≢◌, ℕ, ◌+◌, List, [], length, take, drop, None, Some, Result, Ok, Err}
+use Rattle.pm_rows.specs.declared.commit.Change.{Change}
+use Rattle.pm_rows.specs.Limits.{max_commits}
+use Rattle.pm_query.specs.Calls.{NotesFault}
+use Rattle.pm_query.specs.declared.book.BookEntry.{BookEntry}
+use Rattle.pm_query.specs.declared.store.Checkpointed.{Checkpointed}
+use Rattle.pm_query.specs.declared.store.Checkpointed.TheVariants.{Done}
+use Rattle.pm_query.specs.declared.store.StoreNo.{StoreNo}
+use Rattle.pm_query.specs.declared.store.StoreNo.TheVariants.{Broken, Disk, NoMemory}
+use Rattle.pm_segment.specs.Causes.{IsUnbroken}
+use Rattle.pm_segment.specs.Fronts.{flushed_of}
+use Rattle.pm_segment.specs.Moment.{Moment}
+use Rattle.pm_segment.specs.Redos.{IsBroken}
+use Rattle.pm_segment.specs.declared.live.Live.{Live}
+
+-- The oldest of what was staged was written as one batch, and the log goes on behind it.
+pub record HasWritten (before now : Moment) (its new : Live) : Type 0 where
+  pub read : now.live ≡ Some new
+  pub unbroken : new.log.since ≡ None
+  pub flushed : flushed_of new ≡ flushed_of its + length (take max_commits before.staged)
+  pub staged : now.staged ≡ drop max_commits before.staged
+  pub rows : now.rows ≡ before.rows
+
+-- so it was, up to this number
+pub record HasFlushedTo (before now : Moment) (flushed : ℕ) : Type 0 where
+  pub its : Live
+  pub read : before.live ≡ Some its
+  pub unbroken : its.log.since ≡ None
+  pub new : Live
+  pub written : HasWritten before now its new
+  pub flushed_is : flushed ≡ flushed_of new
+
+-- A flush writes one batch of what is staged. The disk fails for that alone.
+abbrev pub FlushCause : (before now : Moment) → Result ℕ StoreNo → Type 0
+FlushCause before now (Ok flushed) = HasFlushedTo before now flushed
+FlushCause before now (Err Disk) = IsUnbroken before.live × (before.staged ≢ [])
+FlushCause before now (Err (Broken since)) = IsBroken before.live since
+FlushCause before now (Err NoMemory) = Unit {0}
+FlushCause before now (Err _) = ⊥
+
+-- disk and log change where something was written, or the disk failed at it, alone
+abbrev pub WritesNothing : {T : Type 0} → List (List Change) → Result T StoreNo → Type 0
+WritesNothing staged (Ok done) = staged ≡ []
+WritesNothing staged (Err Disk) = ⊥
+WritesNothing staged (Err _) = Unit {0}
+
+-- ---- a batch
+
+-- one, or several of them, come to the log behind them, or to a fault of the disk, or to want of memory
+abbrev pub BatchNotes : ℕ → Result Live StoreNo → List BookEntry → Type 0
+BatchNotes pid (Ok new) entries = entries ≡ []
+BatchNotes pid (Err Disk) entries = NotesFault pid entries
+BatchNotes pid (Err NoMemory) entries = entries ≡ []
+BatchNotes pid (Err _) entries = ⊥
+
+abbrev pub BatchCause : (before now : Moment) → Live → Result Live StoreNo → Type 0
+BatchCause before now its (Ok new) = HasWritten before now its new
+BatchCause before now its (Err Disk) = before.staged ≢ []
+BatchCause before now its (Err _) = Unit {0}
+
+-- ---- a checkpoint
+
+-- behind one that was made nothing is staged
+abbrev pub FlushesAll : Moment → Result Checkpointed StoreNo → Type 0
+FlushesAll now (Ok (Done epoch)) = now.staged ≡ []
+FlushesAll now _ = Unit {0}

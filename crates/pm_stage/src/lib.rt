@@ -1,0 +1,93 @@
+//! Commits that were answered and wait for the log.
+//!
+//! A [`Stage`] knows up to which number the log is flushed, and holds each commit behind that, in order. The oldest of
+//! them go into the log as one batch.
+#![tactic(auto)]
+
+ghost use Rattle.std.specs.Prelude.{◌≡◌, ◌+◌, ◌-◌, ◌^◌, ◌<◌, ◌≤◌, [], ◌∷◌, ◌++◌, length, IfOk, OnOk, OnErr};
+ghost use Rattle.std.specs.Prelude.{All};
+ghost use Rattle.pm_rows.specs.Batch.{IsCommit};
+ghost use Rattle.pm_stage.specs.Stage.{batch_of, flushed_to, front_of};
+
+use pm_rows::{Commit, MAX_COMMITS};
+use std::alloc::{AllocError, Global};
+use std::marker::Model;
+
+/// Commits that wait for the log.
+#[derive(Debug, Drop)]
+pub struct Stage {
+    flushed: u64,
+    commits: Vec<Commit>,
+}
+
+impl Model for Stage {
+    ghost use Rattle.std.specs.Prelude.{◌+◌, ◌^◌, ◌<◌, length, All};
+    ghost use Rattle.pm_rows.specs.Batch.{IsCommit};
+    ghost use Rattle.pm_stage.specs.Stage.{Waiting};
+
+    ghost Value = { Waiting };
+
+    ghost view = { λ stage. record { flushed = stage.flushed; commits = stage.commits.items } };
+
+    ghost invariant = { λ stage. (stage.flushed + length stage.commits.items < 2 ^ 64) × All IsCommit stage.commits.items };
+}
+
+impl Stage {
+    /// None, behind this number. It takes no memory.
+    pub fn new(alloc: Global, front: u64) -> Stage
+        ensures { result ≡ record { flushed = front; commits = [] } }
+    {
+        Stage {
+            flushed: front,
+            commits: Vec::new(alloc),
+        }
+    }
+
+    /// One commit more, and the number of all commits with it. Where memory is short they stay as they were.
+    pub fn add(&mut self, commit: Commit) -> Result<u64, AllocError>
+        requires number { front_of self.old < 2 ^ 64 - 1 }
+        requires commit { IsCommit commit }
+        ensures front { IfOk result (λ front. front ≡ front_of self.new) }
+        ensures ok { OnOk result (self.new ≡ record self.old
+            { commits = self.old.commits ++ commit ∷ [] }) }
+        ensures err { OnErr result (self.new ≡ self.old) }
+    {
+        self.commits.push(commit)?;
+        Ok(self.front())
+    }
+
+    /// The oldest commits, as many as one batch may have. Each can go into the log.
+    pub fn batch(&self) -> &[Commit]
+        ensures value { result.now ≡ batch_of self.now }
+        ensures each { All IsCommit self.now.commits }
+        ensures number { front_of self.now < 2 ^ 64 }
+    {
+        let few = MAX_COMMITS.min(self.commits.len());
+        &self.commits[..few]
+    }
+
+    /// The log is flushed up to this number, which is none behind the batch. Those up to it wait no more.
+    pub fn flushed(&mut self, upto: u64)
+        requires later { self.old.flushed ≤ upto }
+        requires within { upto ≤ self.old.flushed + length (batch_of self.old) }
+        ensures { self.new ≡ flushed_to upto self.old }
+    {
+        let gone = (upto - self.flushed) as usize;
+        self.commits.drain(..gone);
+        self.flushed = upto;
+    }
+
+    /// The number of all commits.
+    pub fn front(&self) -> u64
+        ensures { result ≡ front_of self.now }
+    {
+        self.flushed + self.commits.len() as u64
+    }
+
+    /// The number up to which the log is flushed.
+    pub fn flushed_front(&self) -> u64
+        ensures { result ≡ self.now.flushed }
+    {
+        self.flushed
+    }
+}
