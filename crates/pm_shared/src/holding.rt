@@ -11,6 +11,7 @@ ghost use Rattle.pm_shared.specs.Rule.{taken};
 ghost use Rattle.pm_shared.specs.Told.{IsMine, IsNothing, IsSmall, MayGive, Tells, TookFor, given_back, is_own_of, number_of, passes_of, past_of, resting, with_held};
 
 use crate::deed::Deed;
+use crate::joining::Joining;
 use crate::plays::{Gives, Guarded, Takes};
 use crate::views::View;
 use atomic_table::Seat;
@@ -82,6 +83,34 @@ pub(crate) fn take_for<R: Wait, D: Disk, B: Chronicle<BookEntry>>(
     Ok(store)
 }
 
+/// Takes the store for a pass that runs a script. Who sleeps for it is counted, so that a flush lets it go first.
+pub(crate) fn take_to_run<R: Wait, D: Disk, B: Chronicle<BookEntry>>(
+    rt: &R,
+    table: &Guarded<D, B>,
+    joining: &Joining,
+    seat: &mut Holder<D, B>,
+    number: u32,
+    pass: &Pass,
+) -> Result<Segment<D, B>, StoreNo>
+    requires table { (seat.old.table_id ≡ table.now.shared.table_id)
+        × IsSmall table.now.shared.table_id }
+    requires seat { (first : D) × (seat.old.me ≡ resting number first (is_own_of seat.old.me.0)
+        (passes_of seat.old.me.0) (past_of seat.old.me.0)) }
+    ensures same { seat.new.table_id ≡ seat.old.table_id }
+    ensures taken { TookFor Behind Knows (λ store. (moment store).generation) pass.now
+        seat.old.me result seat.new.me }
+{
+    let sleeps = stays_out(table);
+    if sleeps {
+        joining.come(rt);
+    }
+    let result = take_for(rt, table, seat, number, pass);
+    if sleeps {
+        joining.go(rt);
+    }
+    result
+}
+
 /// How often the word is looked at before a caller sleeps: a script that reads is done meanwhile, a sync isn't.
 const LOOKS: u32 = 100;
 
@@ -89,16 +118,25 @@ const LOOKS: u32 = 100;
 fn wait<R: Wait, D: Disk, B: Chronicle<BookEntry>>(rt: &R, table: &Guarded<D, B>)
     requires { IsSmall table.now.shared.table_id }
 {
+    if stays_out(table) {
+        let found = table.shared.peek(0);
+        if found != 0 {
+            table.shared.park(rt, 0, low_half(found));
+        }
+    }
+}
+
+// Whether the store was out at each look.
+fn stays_out<D: Disk, B: Chronicle<BookEntry>>(table: &Guarded<D, B>) -> bool
+    requires { IsSmall table.now.shared.table_id }
+{
     for _ in 0..LOOKS {
         if table.shared.peek(0) == 0 {
-            return;
+            return false;
         }
         spin_loop();
     }
-    let found = table.shared.peek(0);
-    if found != 0 {
-        table.shared.park(rt, 0, low_half(found));
-    }
+    true
 }
 
 // The half of a word that a sleep looks at.
@@ -130,6 +168,13 @@ pub(crate) fn give<C: Deed, D: Disk, B: Chronicle<BookEntry>, A, T>(
     }
     table.shared.swap::<Gives<C>>(seat, 0, 0);
     table.shared.wake_one(0);
+}
+
+/// Wakes all who sleep for the store: behind a flush each of them has something to stage or to send.
+pub(crate) fn wake_all<D: Disk, B: Chronicle<BookEntry>>(table: &Guarded<D, B>)
+    requires { IsSmall table.now.shared.table_id }
+{
+    table.shared.wake_all(0);
 }
 
 /// Gives the store back as it was taken.

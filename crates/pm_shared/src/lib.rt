@@ -8,6 +8,7 @@
 
 mod deed;
 mod holding;
+mod joining;
 mod plays;
 mod shared;
 mod token;

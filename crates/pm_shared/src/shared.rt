@@ -14,6 +14,7 @@ ghost use Rattle.pm_shared.specs.declared.views.View.TheVariants.{Vacant};
 ghost use Rattle.pm_shared.specs.Told.{AllContinue, AreNewTokens, AreShares, AreTokens, HasRenewed, IsBlank, IsNewShared, IsSmall, SharedModel, TokenModel, desk_resting, first_of, generation_in, is_own_of, joined_of, known_by, new_token, owns, pasts, shared_with};
 
 use crate::holding::{Holder, give_renewed, take};
+use crate::joining::Joining;
 use crate::plays::{Deals, Founds, Gathers, Guarded, Opening, TakesAlone};
 use crate::token::Token;
 use pm_disk::Disk;
@@ -79,10 +80,11 @@ impl<D: Disk + Drop, B: Chronicle<BookEntry> + Drop> Tokens<D, B> {
     }
 }
 
-// A hold on the table.
+// A hold on the table, and on what its tokens tell each other.
 #[derive(Drop)]
 struct Share<D: Disk + Drop, B: Chronicle<BookEntry> + Drop> {
     table: Arc<Guarded<D, B>>,
+    joining: Arc<Joining>,
 }
 
 impl<D: Disk + Drop, B: Chronicle<BookEntry> + Drop> Model for Share<D, B> {
@@ -97,13 +99,14 @@ impl<D: Disk + Drop, B: Chronicle<BookEntry> + Drop> Share<D, B> {
     {
         Ok(Share {
             table: Arc::try_clone(&self.table)?,
+            joining: Arc::try_clone(&self.joining)?,
         })
     }
 
     fn into_table(self) -> Arc<Guarded<D, B>>
         ensures { (arc_value result).shared.table_id ≡ self }
     {
-        let Share { table } = self;
+        let Share { table, joining: _ } = self;
         table
     }
 }
@@ -142,6 +145,7 @@ impl<D: Disk + Drop, B: Chronicle<BookEntry> + Drop> Blank<D, B> {
         };
         let table = Share {
             table: Arc::new(alloc, table)?,
+            joining: Arc::new(alloc, Joining::new())?,
         };
         let shares = shares(alloc, &table, tokens)?;
         let list = Vec::with_capacity(alloc, tokens as usize)?;
@@ -216,7 +220,7 @@ fn deal_all<D: Disk + Drop, B: Chronicle<BookEntry> + Drop>(
     let mut shared = shared;
     let mut list = list;
     for share in shares {
-        let token = shared.deal(share.into_table());
+        let token = shared.deal(share);
         list.push_reserved(token);
     }
     (shared, Tokens { list })
@@ -246,8 +250,8 @@ impl<D: Disk + Drop, B: Chronicle<BookEntry> + Drop> Shared<D, B> {
     }
 
     // One more token.
-    fn deal(&mut self, table: Arc<Guarded<D, B>>) -> Token<D, B>
-        requires table { (arc_value table).shared.table_id ≡ self.old.table }
+    fn deal(&mut self, share: Share<D, B>) -> Token<D, B>
+        requires table { share ≡ self.old.table }
         requires few { self.old.tokens < 4294967295 }
         ensures token { result ≡ new_token self.old }
         ensures shared { self.new ≡ shared_with self.old (self.old.tokens + 1) self.old.joined }
@@ -255,8 +259,10 @@ impl<D: Disk + Drop, B: Chronicle<BookEntry> + Drop> Shared<D, B> {
         let seat = self.table.shared.split_seat::<Deals>(&mut self.seat);
         let number = self.tokens;
         self.tokens += 1;
+        let Share { table, joining } = share;
         Token {
             table,
+            joining,
             seat,
             number,
         }
@@ -297,6 +303,7 @@ impl<D: Disk + Drop, B: Chronicle<BookEntry> + Drop> Shared<D, B> {
     {
         let Token {
             table: _,
+            joining: _,
             seat,
             number: _,
         } = token;

@@ -12,7 +12,8 @@ ghost use Rattle.pm_shared.specs.Passes.{Among, without_pass};
 ghost use Rattle.pm_shared.specs.Reasons.{HasFirstReason};
 ghost use Rattle.pm_shared.specs.Told.{IsSmall, TokenModel, first_of, is_own_of, passes_of, past_of, resting};
 
-use crate::holding::{Holder, give, take, take_for};
+use crate::holding::{Holder, give, take, take_for, take_to_run, wake_all};
+use crate::joining::Joining;
 use crate::plays::Guarded;
 use pm_disk::Disk;
 use pm_outside::Chronicle;
@@ -26,6 +27,7 @@ use std::sync::{Arc, Wait};
 #[derive(Drop)]
 pub struct Token<D: Disk + Drop, B: Chronicle<BookEntry> + Drop> {
     pub(crate) table: Arc<Guarded<D, B>>,
+    pub(crate) joining: Arc<Joining>,
     pub(crate) seat: Holder<D, B>,
     pub(crate) number: u32,
 }
@@ -85,7 +87,14 @@ impl<D: Disk + Drop, B: Chronicle<BookEntry> + Drop> Token<D, B> {
         ensures stale { MetLater (generation_of self.new.past) pass.old.generation result }
     {
         let before = *pass;
-        let mut store = take_for(rt, &self.table, &mut self.seat, self.number, &before)?;
+        let mut store = take_to_run(
+            rt,
+            &self.table,
+            &self.joining,
+            &mut self.seat,
+            self.number,
+            &before,
+        )?;
         let result = store.run(pass, script);
         give::<Brand, D, B, Script, Result<Staged, StoreNo>>(
             &self.table,
@@ -124,8 +133,27 @@ impl<D: Disk + Drop, B: Chronicle<BookEntry> + Drop> Token<D, B> {
         result
     }
 
-    /// Answers up to where the log is flushed.
+    /// Flushes for all that wait, or waits for another token's flush that reaches what this pass has staged. Answers up to where the
+    /// log is flushed.
     pub fn flush<R: Wait>(&mut self, rt: &R, pass: &mut Pass) -> Result<u64, StoreNo>
+        requires admits { Among pass.old self.old.passes }
+        ensures notes { (entries : List BookEntry) × Grew entries self.old self.new
+            × FlushNotes (user_of None (view_of pass.old)) result entries }
+        ensures admits { Among pass.new self.new.passes }
+        ensures view { view_of pass.new ≡ view_of pass.old }
+        ensures stale { MetLater (generation_of self.new.past) pass.old.generation result }
+    {
+        if let Some(flushed) = self.joining.turn(rt, pass.front) {
+            return Ok(flushed);
+        }
+        let result = self.flush_store(rt, pass);
+        wake_all(&self.table);
+        self.joining.end(rt, &result);
+        result
+    }
+
+    // Flushes what is staged.
+    fn flush_store<R: Wait>(&mut self, rt: &R, pass: &mut Pass) -> Result<u64, StoreNo>
         requires admits { Among pass.old self.old.passes }
         ensures notes { (entries : List BookEntry) × Grew entries self.old self.new
             × FlushNotes (user_of None (view_of pass.old)) result entries }

@@ -10,7 +10,7 @@ deal-token-requires-clause-table g c =
     let gives : into_iter_items c.into_iter-share-iterator.result ≡ c.args.shares.items = c.into_iter-share-iterator.ensures.into_iter_gives.0 in
     let is = ap (λ l. c.loop-share.yielded ++ l) (sym c.in-Some.ensures.steps.0) ∙ inv.0 ∙ gives in
     let next = next_share _ _ _ _ _ _ c.requires.each is in
-    c.into_table.ensures ∙ next.0 ∙ sym (ap (λ s. s.table) inv.1)
+    next.0 ∙ sym (ap (λ s. s.table) inv.1)
 
 pub loop-share-preserved : goal.loop-share-preserved
 loop-share-preserved g c =

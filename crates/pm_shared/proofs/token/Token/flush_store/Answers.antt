@@ -7,7 +7,7 @@ use Rattle.pm_query.specs.Calls.{MetLater, PassView, FlushNotes, user_of}
 use Rattle.pm_shared.specs.Passes.{Among}
 use Rattle.pm_shared.proofs.Calls.{called, stale_told, token_admits, token_may_quiet}
 use Rattle.pm_shared.proofs.Others.{flush_free, flush_quiet, token_knows_same}
-use Rattle.pm_shared.proofs.token.Token.flush.Goals as goal
+use Rattle.pm_shared.proofs.token.Token.flush_store.Goals as goal
 
 pub flush-result-requires : goal.flush-result-requires
 flush-result-requires g c =
