@@ -1,136 +1,88 @@
-//! Rows, and the commits that change them.
+// Rows, and the commits that change them: one script.
 use pm_rows::{Change, Commit, MAX_CHANGES, Rows, Text};
 use std::alloc::Global;
 use std::test::Fail;
 
-fn put(alloc: Global, commit: &mut Commit, key: i64, value: &str) -> Result<(), Fail> {
-    commit.push(Change::Put {
-        key,
-        value: Text::of(alloc, value)?,
-    })?;
-    Ok(())
+/// Calls on rows and on a commit. `new` begins with none of either, and `put` and `del` add to the commit. `apply` makes it and begins
+/// the next one, `make` and `cancel` prepare it first, and `of` makes rows of pairs. They answer how many rows stand there, their size, and
+/// the rows; of many rows how many bytes these take in place of them.
+const SCRIPT: &str = "
+# commits insert, overwrite and delete: rows of 12 + 5 and 12 + 0 bytes
+new
+apply -> 0 0:
+put 7 seven
+put -9223372036854775808
+apply -> 2 29: -9223372036854775808= 7=seven
+# one is overwritten by a longer value, one is added in front of it, and one is deleted
+put 7 siebzehn
+put -3 it's
+del -9223372036854775808
+apply -> 2 36: -3=it's 7=siebzehn
+# the last change of a key counts: put and deleted, deleted and put, and a deletion of an absent key
+put 1 gone
+del 1
+del 7
+put 7 x
+del 2
+apply -> 2 29: -3=it's 7=x
+del 7
+del -3
+apply -> 0 0:
+# the value of its key alone is found
+new
+put 1 one
+put 9223372036854775807 most
+apply -> 2 31: 1=one 9223372036854775807=most
+get 1 -> one
+get 9223372036854775807 -> most
+get 0 -> no row
+get 2 -> no row
+get -1 -> no row
+# copies are equal
+new
+put 4 vier
+put 6 drei \u{20ac}
+del 5
+copy -> 3 changes
+apply -> 2 36: 4=vier 6=drei \u{20ac}
+# a prepared commit is given up or made: a row is overwritten, one is added in front of a deleted one, and one behind it
+new
+put 1 one
+put 3 three
+apply -> 2 32: 1=one 3=three
+put 1 eins
+put 2 zwei
+del 3
+put 4 vier
+cancel -> 2 32: 1=one 3=three
+make -> 3 48: 1=eins 2=zwei 4=vier
+# of the pairs of one key the last makes the row
+of -> 0 0:
+of -2=a 0= 7=seven -> 3 42: -2=a 0= 7=seven
+of 7=seven -2=a 0= -> 3 42: -2=a 0= 7=seven
+of 1=one 1=eins -> 1 16: 1=eins
+of 3=x 1=one 3=three 2= 1=i -> 3 42: 1=i 2= 3=three
+# the last row fills the table
+new
+fill 99999 -> 99999 1299987, 788882 bytes
+put -1 last
+apply -> 100000 1300003, 788890 bytes
+get -1 -> last
+get 0 -> x
+get 99998 -> x
+get 99999 -> no row
+# a full table is made of pairs
+rising 100000 -> 100000 1300000, 788890 bytes
+falling 100000 -> 100000 1300000, 788890 bytes
+get 0 -> x
+get 99999 -> x";
+
+fn parted(line: &str) -> (&str, &str) {
+    line.split_once(' ').unwrap_or((line, ""))
 }
 
-fn del(commit: &mut Commit, key: i64) -> Result<(), Fail> {
-    commit.push(Change::Del { key })?;
-    Ok(())
-}
-
-// The rows as `key=value` by rising key, a blank behind each.
-fn listed(alloc: Global, rows: &Rows) -> Result<String, Fail> {
-    let mut text = String::new(alloc);
-    for (key, value) in rows.iter() {
-        let row = format!(in alloc; "{}={} ", key, value.as_str())?;
-        text.push_str(row.as_str())?;
-    }
-    Ok(text)
-}
-
-#[test]
-fn commits_insert_overwrite_and_delete(rt: HostRuntime) -> Result<(), Fail> {
-    let alloc = rt.alloc();
-    let mut rows = Rows::new(alloc);
-    assert_eq!(rt; rows.len(), 0);
-    assert_eq!(rt; rows.size(), 0);
-
-    // Two rows of 12 + 5 and 12 + 0 bytes.
-    let mut inserts = Commit::new(alloc);
-    put(alloc, &mut inserts, 7, "seven")?;
-    put(alloc, &mut inserts, i64::MIN, "")?;
-    rows.apply(&inserts)?;
-    assert_eq!(rt;
-        listed(alloc, &rows)?.as_str(),
-        "-9223372036854775808= 7=seven "
-    );
-    assert_eq!(rt; rows.len(), 2);
-    assert_eq!(rt; rows.size(), 29);
-
-    // One is overwritten by a longer value, one is added in front of it, and one is deleted.
-    let mut mixed = Commit::new(alloc);
-    put(alloc, &mut mixed, 7, "siebzehn")?;
-    put(alloc, &mut mixed, -3, "it's")?;
-    del(&mut mixed, i64::MIN)?;
-    rows.apply(&mixed)?;
-    assert_eq!(rt; listed(alloc, &rows)?.as_str(), "-3=it's 7=siebzehn ");
-    assert_eq!(rt; rows.len(), 2);
-    assert_eq!(rt; rows.size(), 36);
-
-    // The last change of a key counts: put and deleted, deleted and put, and a deletion of an absent key.
-    let mut last_counts = Commit::new(alloc);
-    put(alloc, &mut last_counts, 1, "gone")?;
-    del(&mut last_counts, 1)?;
-    del(&mut last_counts, 7)?;
-    put(alloc, &mut last_counts, 7, "x")?;
-    del(&mut last_counts, 2)?;
-    rows.apply(&last_counts)?;
-    assert_eq!(rt; listed(alloc, &rows)?.as_str(), "-3=it's 7=x ");
-    assert_eq!(rt; rows.len(), 2);
-    assert_eq!(rt; rows.size(), 29);
-
-    let mut deletes = Commit::new(alloc);
-    del(&mut deletes, 7)?;
-    del(&mut deletes, -3)?;
-    rows.apply(&deletes)?;
-    assert_eq!(rt; listed(alloc, &rows)?.as_str(), "");
-    assert_eq!(rt; rows.len(), 0);
-    assert_eq!(rt; rows.size(), 0);
-    Ok(())
-}
-
-#[test]
-fn get_finds_the_value_of_its_key_alone(rt: HostRuntime) -> Result<(), Fail> {
-    let alloc = rt.alloc();
-    let mut commit = Commit::new(alloc);
-    put(alloc, &mut commit, 1, "one")?;
-    put(alloc, &mut commit, i64::MAX, "most")?;
-    let mut rows = Rows::new(alloc);
-    rows.apply(&commit)?;
-    for (key, value) in [(1, "one"), (i64::MAX, "most"), (0, ""), (2, ""), (-1, "")] {
-        let found = match rows.get(key) {
-            Some(text) => text.as_str(),
-            None => "",
-        };
-        assert_eq!(rt; found, value, "at {key}");
-    }
-    Ok(())
-}
-
-#[test]
-fn copies_are_equal(rt: HostRuntime) -> Result<(), Fail> {
-    let alloc = rt.alloc();
-    let mut commit = Commit::new(alloc);
-    put(alloc, &mut commit, 4, "vier")?;
-    del(&mut commit, 5)?;
-    let copied = commit.copy()?;
-    assert_eq!(rt; copied.changes().len(), 2);
-    for change in copied.changes() {
-        match change.copy()? {
-            Change::Put { key, value } => {
-                assert_eq!(rt; key, 4);
-                assert_eq!(rt; value.copy()?.as_str(), "vier");
-            }
-            Change::Del { key } => assert_eq!(rt; key, 5),
-        }
-    }
-    let mut rows = Rows::new(alloc);
-    rows.apply(&copied)?;
-    let kept = rows.copy()?;
-    rows.apply(&commit)?;
-    assert_eq!(rt; listed(alloc, &kept)?.as_str(), "4=vier ");
-    assert_eq!(rt; kept.size(), 16);
-    Ok(())
-}
-
-#[test]
-fn a_text_has_the_bytes_of_its_content(rt: HostRuntime) -> Result<(), Fail> {
-    let alloc = rt.alloc();
-    for content in ["", "one", "drei \u{20ac}"] {
-        let text = Text::of(alloc, content)?;
-        let copied = text.copy()?;
-        drop(text);
-        assert_eq!(rt; copied.as_str(), content);
-    }
-    Ok(())
+fn number(word: &str) -> Result<i64, Fail> {
+    Ok(word.parse::<i64>().ok().ok_or("a number")?)
 }
 
 // The same value. It takes only what may go from one thread to another.
@@ -138,46 +90,35 @@ fn moved<T: Send>(value: T) -> T {
     value
 }
 
-#[test]
-fn texts_commits_and_rows_may_go_to_other_threads(rt: HostRuntime) -> Result<(), Fail> {
-    let alloc = rt.alloc();
-    let mut commit = Commit::new(alloc);
-    put(alloc, &mut commit, 1, "one")?;
-    let mut rows = Rows::new(alloc);
-    rows.apply(&moved(commit))?;
-    assert_eq!(rt; moved(Text::of(alloc, "two")?).as_str(), "two");
-    assert_eq!(rt; listed(alloc, &moved(rows))?.as_str(), "1=one ");
-    Ok(())
+// The rows as `key=value` by rising key, a blank before each.
+fn listed(alloc: Global, rows: &Rows) -> Result<String, Fail> {
+    let mut text = String::new(alloc);
+    for (key, value) in rows.iter() {
+        let row = format!(in alloc; " {}={}", key, value.as_str())?;
+        text.push_str(row.as_str())?;
+    }
+    Ok(text)
 }
 
-#[test]
-fn a_prepared_commit_is_made_or_given_up(rt: HostRuntime) -> Result<(), Fail> {
-    let alloc = rt.alloc();
-    let mut rows = Rows::new(alloc);
-    let mut first = Commit::new(alloc);
-    put(alloc, &mut first, 1, "one")?;
-    put(alloc, &mut first, 3, "three")?;
-    rows.apply(&first)?;
+fn told(alloc: Global, rows: &Rows) -> Result<String, Fail> {
+    let listing = listed(alloc, rows)?;
+    let (count, size, bytes) = (rows.len(), rows.size(), listing.len());
+    if count > 9 {
+        return Ok(format!(in alloc; "{count} {size}, {bytes} bytes")?);
+    }
+    Ok(format!(in alloc; "{count} {size}:{}", listing.as_str())?)
+}
 
-    // A row is overwritten, one is added in front of a deleted one, and one behind it.
-    let mut second = Commit::new(alloc);
-    put(alloc, &mut second, 1, "eins")?;
-    put(alloc, &mut second, 2, "zwei")?;
-    del(&mut second, 3)?;
-    put(alloc, &mut second, 4, "vier")?;
-
-    let given_up = rows.prepare(&second)?;
-    assert_eq!(rt; rows.len(), 0);
-    rows = given_up.cancel();
-    assert_eq!(rt; listed(alloc, &rows)?.as_str(), "1=one 3=three ");
-    assert_eq!(rt; rows.len(), 2);
-    assert_eq!(rt; rows.size(), 32);
-
-    let made = rows.prepare(&second)?;
-    rows = made.apply();
-    assert_eq!(rt; listed(alloc, &rows)?.as_str(), "1=eins 2=zwei 4=vier ");
-    assert_eq!(rt; rows.len(), 3);
-    assert_eq!(rt; rows.size(), 48);
+// Adds what a line says to the commit.
+fn add(alloc: Global, commit: &mut Commit, word: &str, rest: &str) -> Result<(), Fail> {
+    let (key, value) = parted(rest);
+    let key = number(key)?;
+    if word == "del" {
+        commit.push(Change::Del { key })?;
+        return Ok(());
+    }
+    let value = Text::of(alloc, value)?;
+    commit.push(Change::Put { key, value })?;
     Ok(())
 }
 
@@ -186,7 +127,10 @@ fn filled(alloc: Global, count: i64) -> Result<Rows, Fail> {
     let mut rows = Rows::new(alloc);
     let mut commit = Commit::new(alloc);
     for key in 0..count {
-        put(alloc, &mut commit, key, "x")?;
+        commit.push(Change::Put {
+            key,
+            value: Text::of(alloc, "x")?,
+        })?;
         if commit.changes().len() == MAX_CHANGES {
             rows.apply(&commit)?;
             commit = Commit::new(alloc);
@@ -196,92 +140,81 @@ fn filled(alloc: Global, count: i64) -> Result<Rows, Fail> {
     Ok(rows)
 }
 
-#[test]
-fn the_last_row_fills_the_table(rt: HostRuntime) -> Result<(), Fail> {
-    let alloc = rt.alloc();
-    let mut rows = filled(alloc, 99_999)?;
-    assert_eq!(rt; rows.len(), 99_999);
-    assert_eq!(rt; rows.size(), 1_299_987);
-
-    let mut last = Commit::new(alloc);
-    put(alloc, &mut last, -1, "last")?;
-    rows.apply(&last)?;
-    assert_eq!(rt; rows.len(), 100_000);
-    assert_eq!(rt; rows.size(), 1_300_003);
-    for (key, value) in [(-1, "last"), (0, "x"), (99_998, "x"), (99_999, "")] {
-        let found = match rows.get(key) {
-            Some(text) => text.as_str(),
-            None => "",
-        };
-        assert_eq!(rt; found, value, "at {key}");
-    }
-    Ok(())
-}
-
-// The rows of pairs of a key and its value.
-fn made(alloc: Global, pairs: &[(i64, &str)]) -> Result<Rows, Fail> {
-    let mut owned = Vec::new(alloc);
-    for (key, value) in pairs {
-        owned.push((*key, Text::of(alloc, *value)?))?;
-    }
-    Ok(Rows::of_pairs(alloc, owned)?)
-}
-
-#[test]
-fn of_the_pairs_of_one_key_the_last_makes_the_row(rt: HostRuntime) -> Result<(), Fail> {
-    let alloc = rt.alloc();
-    let cases: [(&[(i64, &str)], &str, usize, u64); 5] = [
-        (&[], "", 0, 0),
-        (
-            &[(-2, "a"), (0, ""), (7, "seven")],
-            "-2=a 0= 7=seven ",
-            3,
-            42,
-        ),
-        (
-            &[(7, "seven"), (-2, "a"), (0, "")],
-            "-2=a 0= 7=seven ",
-            3,
-            42,
-        ),
-        (&[(1, "one"), (1, "eins")], "1=eins ", 1, 16),
-        (
-            &[(3, "x"), (1, "one"), (3, "three"), (2, ""), (1, "i")],
-            "1=i 2= 3=three ",
-            3,
-            42,
-        ),
-    ];
-    for (pairs, listing, len, size) in cases {
-        let rows = made(alloc, pairs)?;
-        assert_eq!(rt; listed(alloc, &rows)?.as_str(), listing);
-        assert_eq!(rt; rows.len(), len);
-        assert_eq!(rt; rows.size(), size);
-    }
-    Ok(())
-}
-
-// Pairs of each key from 0 on and the value `x`, so many.
-fn pairs_of(alloc: Global, count: i64) -> Result<Vec<(i64, Text)>, Fail> {
+// The same, made of pairs.
+fn of_keys(alloc: Global, count: i64, are_falling: bool) -> Result<Rows, Fail> {
     let mut pairs = Vec::new(alloc);
     for key in 0..count {
         pairs.push((key, Text::of(alloc, "x")?))?;
     }
-    Ok(pairs)
+    if are_falling {
+        pairs.reverse();
+    }
+    Ok(Rows::of_pairs(alloc, pairs)?)
+}
+
+// The rows of these pairs.
+fn of_pairs(alloc: Global, words: &str) -> Result<Rows, Fail> {
+    let mut pairs = Vec::new(alloc);
+    for word in words.split_whitespace() {
+        let (key, value) = word.split_once('=').ok_or("a pair")?;
+        pairs.push((number(key)?, Text::of(alloc, value)?))?;
+    }
+    Ok(Rows::of_pairs(alloc, pairs)?)
+}
+
+// What a key has.
+fn found(alloc: Global, rows: &Rows, key: &str) -> Result<String, Fail> {
+    let text = match rows.get(number(key)?) {
+        Some(text) => text.as_str(),
+        None => "no row",
+    };
+    Ok(String::from_str(alloc, text)?)
+}
+
+// The rows behind a commit.
+fn behind(rows: &mut Rows, commit: Commit, word: &str) -> Result<(), Fail> {
+    match word {
+        "cancel" => *rows = rows.prepare(&commit)?.cancel(),
+        "make" => *rows = rows.prepare(&commit)?.apply(),
+        _ => rows.apply(&moved(commit))?,
+    }
+    Ok(())
+}
+
+// What a call answers.
+fn answer(alloc: Global, rows: &mut Rows, commit: &mut Commit, call: &str) -> Result<String, Fail> {
+    let (word, rest) = parted(call);
+    match word {
+        "get" => return found(alloc, rows, rest),
+        "copy" => return Ok(format!(in alloc; "{} changes", commit.copy()?.changes().len())?),
+        "of" => *rows = of_pairs(alloc, rest)?,
+        "fill" => *rows = filled(alloc, number(rest)?)?,
+        "rising" => *rows = of_keys(alloc, number(rest)?, false)?,
+        "falling" => *rows = of_keys(alloc, number(rest)?, true)?,
+        _ => behind(rows, commit.copy()?, word)?,
+    }
+    if word == "apply" {
+        *commit = Commit::new(alloc);
+    }
+    told(alloc, &moved(rows.copy()?))
 }
 
 #[test]
-fn a_full_table_is_made_of_pairs(rt: HostRuntime) -> Result<(), Fail> {
+fn rows_are_changed_as_the_script_says(rt: HostRuntime) -> Result<(), Fail> {
     let alloc = rt.alloc();
-    let rising = Rows::of_pairs(alloc, pairs_of(alloc, 100_000)?)?;
-    let mut pairs = pairs_of(alloc, 100_000)?;
-    pairs.reverse();
-    let falling = Rows::of_pairs(alloc, pairs)?;
-    assert_eq!(rt; rising.len(), 100_000);
-    assert_eq!(rt; rising.size(), 1_300_000);
-    assert_eq!(rt; falling.size(), 1_300_000);
-    let listing = listed(alloc, &rising)?;
-    assert_eq!(rt; listing.len(), 788_890);
-    assert_eq!(rt; listed(alloc, &falling)?.as_str(), listing.as_str());
+    let mut rows = Rows::new(alloc);
+    let mut commit = Commit::new(alloc);
+    for line in SCRIPT.lines() {
+        let (word, rest) = parted(line);
+        if let Some((call, want)) = line.split_once(" -> ") {
+            let told = answer(alloc, &mut rows, &mut commit, call)?;
+            assert_eq!(rt; told.as_str(), want, "{call}");
+        } else if word == "new" {
+            rows = Rows::new(alloc);
+            commit = Commit::new(alloc);
+        } else if matches!(word, "put" | "del") {
+            add(alloc, &mut commit, word, rest)?;
+        }
+    }
     Ok(())
 }

@@ -74,3 +74,37 @@ pub const TOO_MANY: &[u8] = b"E\0\0\0\x3bSFATAL\0VFATAL\0C53300\0\
 pub const LARGE_KEY: &[u8] = b"D\0\0\0\x21\0\x02\0\0\0\x139223372036854775808\0\0\0\0";
 
 pub const LONG_AUTH: &[u8] = b"R\0\0\0\x09";
+
+/// A part of a message.
+pub const PART: &[u8] = b"Z\0\0\0";
+
+/// The message of this name.
+pub fn named(name: &str) -> &'static [u8] {
+    match name {
+        "-" => b"",
+        "GREETING" => GREETING,
+        "READY" => READY,
+        "INSERTED" => INSERTED,
+        "SEVEN" => SEVEN,
+        "COUNTED" => COUNTED,
+        "NOTHING" => NOTHING,
+        "UPDATED" => UPDATED,
+        "DELETED" => DELETED,
+        "INSERT_TAG" => INSERT_TAG,
+        "LEAST_KEY" => LEAST_KEY,
+        "EURO" => EURO,
+        "NO_TEXT" => NO_TEXT,
+        "DUPLICATE" => DUPLICATE,
+        "CRASH_QUIT" => CRASH_QUIT,
+        "LOG_BROKEN" => LOG_BROKEN,
+        "TOO_MANY" => TOO_MANY,
+        "LARGE_KEY" => LARGE_KEY,
+        "LONG_AUTH" => LONG_AUTH,
+        "PACKET" => PACKET,
+        "TERMINATE" => TERMINATE,
+        "INSERT_SEVEN" => INSERT_SEVEN,
+        "SELECT_SEVEN" => SELECT_SEVEN,
+        "EMPTY" => EMPTY,
+        _ => PART,
+    }
+}

@@ -1,11 +1,9 @@
 //! Tests of a client: what it shows of a server that goes by a script, how each of its talks ends, whose turn it is, and a talk
-//! over TCP; and of what a workload prints. What is sent and shown is written out by hand, from the documents of the protocol.
+//! over TCP. What is sent and shown is written out by hand, from the documents of the protocol.
 #![tactic(auto)]
 
 #[cfg(test)]
 mod bytes;
-#[cfg(test)]
-mod ends;
 #[cfg(test)]
 mod scripted;
 #[cfg(test)]
@@ -14,5 +12,3 @@ mod talks;
 mod tcp;
 #[cfg(test)]
 mod turns;
-#[cfg(test)]
-mod workloads;

@@ -2,6 +2,7 @@
 ghost use Rattle.std.specs.Prelude.{◌<◌, All, IfSome};
 ghost use Rattle.pm_wire_front.specs.Requests.{IsSayable};
 
+use crate::bytes::named;
 use pm_client::{Means, Played, play};
 use pm_outside::{Hold, Link, LinkScript, MemClock, MemLink, MemSink, Sink};
 use pm_rows::Text;
@@ -18,15 +19,16 @@ pub struct Case<'a> {
     pub name: &'a str,
     /// Its queries, one a line.
     pub queries: &'a str,
-    /// All that comes in.
-    pub incoming: &'a [&'a [u8]],
-    /// The numbers of the calls that fail, counted from 1: reads and writes of the link, and writes of what is shown.
-    pub failing_reads: &'a [u64],
-    pub failing_writes: &'a [u64],
-    pub failing_shows: &'a [u64],
-    pub end: Played,
-    /// All that goes out, and all that is shown.
-    pub sent: &'a [&'a [u8]],
+    /// All that comes in, by the names of its messages.
+    pub incoming: &'a str,
+    /// The number of the call that fails, counted from 1: a read or a write of the link, or a write of what is shown. At 0 none does.
+    pub failing_read: u64,
+    pub failing_write: u64,
+    pub failing_show: u64,
+    /// How it prints what the talk came to.
+    pub end: &'a str,
+    /// All that goes out, by its names, and all that is shown.
+    pub sent: &'a str,
     pub shown: &'a str,
 }
 
@@ -34,19 +36,20 @@ pub struct Case<'a> {
 pub const PLAIN: Case<'static> = Case {
     name: "plain",
     queries: "",
-    incoming: &[],
-    failing_reads: &[],
-    failing_writes: &[],
-    failing_shows: &[],
-    end: Played::Done { link_ended: false },
-    sent: &[],
+    incoming: "",
+    failing_read: 0,
+    failing_write: 0,
+    failing_show: 0,
+    end: "Done { link_ended: false }",
+    sent: "",
     shown: "",
 };
 
-pub fn joined(alloc: Global, parts: &[&[u8]]) -> Result<Vec<u8>, AllocError> {
+// The messages of these names, one behind the other.
+fn joined(alloc: Global, names: &str) -> Result<Vec<u8>, AllocError> {
     let mut all = Vec::new(alloc);
-    for part in parts {
-        all.extend_from_slice(part)?;
+    for name in names.split_whitespace() {
+        all.extend_from_slice(named(name))?;
     }
     Ok(all)
 }
@@ -100,14 +103,14 @@ pub fn script_of(
     Ok(LinkScript {
         incoming: joined(alloc, case.incoming)?,
         per_call,
-        failing_reads: case.failing_reads.to_vec(alloc)?,
-        failing_writes: case.failing_writes.to_vec(alloc)?,
+        failing_reads: vec![in alloc; case.failing_read]?,
+        failing_writes: vec![in alloc; case.failing_write]?,
         holds,
     })
 }
 
 /// Plays a case on a link and to a sink that move at most so many bytes a call. It must come to what the case says.
-pub fn check_at<R: Wait + Abort + Clock + Copy + Drop>(
+pub fn check<R: Wait + Abort + Clock + Copy + Drop>(
     rt: &R,
     alloc: Global,
     case: &Case,
@@ -117,23 +120,12 @@ pub fn check_at<R: Wait + Abort + Clock + Copy + Drop>(
 {
     let script = script_of(alloc, case, per_call, Vec::new(alloc))?;
     let mut link = MemLink::new(alloc, 1, script, None);
-    let mut out = MemSink::new(alloc, per_call, case.failing_shows.to_vec(alloc)?);
+    let mut out = MemSink::new(alloc, per_call, vec![in alloc; case.failing_show]?);
     let end = talk(rt, alloc, &mut link, case.queries, &mut out).ok_or("no talk")?;
     let wanted = joined(alloc, case.sent)?;
-    assert_eq!(rt; end, case.end, "{}", case.name);
+    let end = format!(in alloc; "{end:?}")?;
+    assert_eq!(rt; end.as_str(), case.end, "{}", case.name);
     assert_eq!(rt; out.bytes(), case.shown.as_bytes(), "{}", case.name);
     assert_eq!(rt; link.sent(), wanted.as_slice(), "{}", case.name);
-    Ok(())
-}
-
-/// However the bytes are cut, a case comes to what it says.
-pub fn check<R: Wait + Abort + Clock + Copy + Drop>(
-    rt: &R,
-    alloc: Global,
-    case: &Case,
-) -> Result<(), Fail> {
-    for per_call in [1, 5, 4096] {
-        check_at(rt, alloc, case, per_call)?;
-    }
     Ok(())
 }

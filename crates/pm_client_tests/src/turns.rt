@@ -47,7 +47,7 @@ fn each_side_waits_for_the_other(rt: HostRuntime) -> Result<(), Fail> {
     let alloc = rt.alloc();
     let case = Case {
         queries: SEVENS,
-        incoming: &[GREETING, INSERTED, SEVEN],
+        incoming: "GREETING INSERTED SEVEN",
         ..PLAIN
     };
     let requests: [(&[u8], &[u8]); 3] = [

@@ -4,8 +4,6 @@
 mod fault;
 mod log_file;
 mod log_files;
-#[cfg(test)]
-mod tests;
 
 pub use fault::{FileFault, Step};
 pub use log_files::LogFiles;

@@ -1,6 +1,6 @@
 // Which lines a console gives, by what its reader reads.
 use crate::world::{open, since_ms, wait_ms};
-use pm_net::{Bells, Mailbox, ServerClock, StandardConsole, read_lines};
+use pm_net::{Bells, Mailbox, StandardConsole, read_lines};
 use pm_outside::{Asked, Clock, Console};
 use std::alloc::{AllocError, Global};
 use std::fs::File;
@@ -57,35 +57,36 @@ fn console_over<R: Wait + Threads + time::Clock + Copy + Drop + Sync, I: Read + 
     Ok(all?)
 }
 
-#[test]
-fn lines_are_cut_and_a_piece_is_none(rt: HostRuntime) -> Result<(), Fail> {
-    let alloc = rt.alloc();
-    let mut text: Vec<u8> = Vec::new(alloc);
-    text.extend_from_slice(b"smart\n\n")?;
-    text.resize(7 + 65, b'x')?;
-    text.extend_from_slice(b"\nkill 12")?;
-    let mut wanted: Vec<u8> = Vec::new(alloc);
-    wanted.extend_from_slice(b"smart\n\n")?;
-    wanted.resize(7 + 64, b'x')?;
-    wanted.extend_from_slice(b"\n.")?;
-    let all = console_over(&rt, alloc, &mut text.as_slice())?;
-    assert_eq!(rt; all, wanted);
-    Ok(())
+/// What is read and what is given: bytes, each so many times.
+const TEXTS: [(&[(&[u8], usize)], &[(&[u8], usize)]); 2] = [
+    (
+        &[(b"smart\n\n", 1), (b"x", 65), (b"\nkill 12", 1)],
+        &[(b"smart\n\n", 1), (b"x", 64), (b"\n.", 1)],
+    ),
+    (
+        &[(b"x", 1_000_000), (b"\n", 100), (b"fast\n", 1)],
+        &[(b"x", 64), (b"\n", 100), (b"fast\n.", 1)],
+    ),
+];
+
+fn joined(alloc: Global, parts: &[(&[u8], usize)]) -> Result<Vec<u8>, AllocError> {
+    let mut all = Vec::new(alloc);
+    for (bytes, times) in parts {
+        for _ in 0..*times {
+            all.extend_from_slice(bytes)?;
+        }
+    }
+    Ok(all)
 }
 
 #[test]
-fn a_long_line_and_many_empty_ones_are_passed(rt: HostRuntime) -> Result<(), Fail> {
+fn lines_are_cut_and_long_ones_passed_and_a_piece_is_none(rt: HostRuntime) -> Result<(), Fail> {
     let alloc = rt.alloc();
-    let mut text: Vec<u8> = Vec::new(alloc);
-    text.resize(1_000_000, b'x')?;
-    text.resize(1_000_100, b'\n')?;
-    text.extend_from_slice(b"fast\n")?;
-    let mut wanted: Vec<u8> = Vec::new(alloc);
-    wanted.resize(64, b'x')?;
-    wanted.resize(64 + 100, b'\n')?;
-    wanted.extend_from_slice(b"fast\n.")?;
-    let all = console_over(&rt, alloc, &mut text.as_slice())?;
-    assert_eq!(rt; all, wanted);
+    for (read, given) in TEXTS {
+        let text = joined(alloc, read)?;
+        let all = console_over(&rt, alloc, &mut text.as_slice())?;
+        assert_eq!(rt; all, joined(alloc, given)?);
+    }
     Ok(())
 }
 
@@ -106,8 +107,8 @@ fn an_empty_input_ends_and_a_folder_fails_once(rt: HostRuntime) -> Result<(), Fa
 #[test]
 fn a_line_ends_a_pause_of_the_supervisor(rt: HostRuntime) -> Result<(), Fail> {
     let alloc = rt.alloc();
-    let (port, bells) = open(&rt, alloc)?;
-    let clock = ServerClock::new(rt, &rt, alloc, Arc::try_clone(&bells)?, port.descriptor())?;
+    let world = open(rt, alloc)?;
+    let (bells, clock) = (&world.bells, &world.clock);
     let mailbox = Arc::new(alloc, Mailbox::new())?;
     let theirs = Arc::try_clone(&mailbox)?;
     let mut text = b"fast\n".as_slice();
@@ -115,7 +116,7 @@ fn a_line_ends_a_pause_of_the_supervisor(rt: HostRuntime) -> Result<(), Fail> {
     let start = Instant::now(&rt)?;
     let (_, all) = thread::join(
         &rt,
-        || read_lines(&rt, &mut text, &mailbox, &bells),
+        || read_lines(&rt, &mut text, &mailbox, bells),
         || {
             clock.pause();
             let passed = since_ms(&rt, start);

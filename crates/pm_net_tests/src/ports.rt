@@ -1,5 +1,5 @@
 // Which ports may be listened on.
-use crate::world::{linked, open};
+use crate::world::{accept, connect, open};
 use pm_net::TcpPort;
 use pm_outside::{Accepted, Port};
 use std::fs::File;
@@ -7,10 +7,11 @@ use std::sync::Arc;
 use std::test::Fail;
 
 #[test]
-fn a_port_in_use_is_told_with_its_reason(rt: HostRuntime) -> Result<(), Fail> {
+fn a_port_in_use_is_told_and_is_taken_again_behind_open_links(rt: HostRuntime) -> Result<(), Fail> {
     let alloc = rt.alloc();
-    let (port, bells) = open(&rt, alloc)?;
-    let number = port.number()?;
+    let mut world = open(rt, alloc)?;
+    let number = world.port.number()?;
+    let bells = Arc::try_clone(&world.bells)?;
     match TcpPort::new(rt, alloc, Arc::try_clone(&bells)?, number) {
         Ok(_) => panic!(rt; "two servers on port {number}"),
         Err(fault) => {
@@ -21,31 +22,26 @@ fn a_port_in_use_is_told_with_its_reason(rt: HostRuntime) -> Result<(), Fail> {
             assert_eq!(rt; text, want);
         }
     }
-    Ok(())
-}
-
-#[test]
-fn a_port_is_taken_again_behind_open_links(rt: HostRuntime) -> Result<(), Fail> {
-    let alloc = rt.alloc();
-    let (mut port, bells) = open(&rt, alloc)?;
-    let number = port.number()?;
-    let (link, _client) = linked(&rt, &mut port)?;
-    port.done(link); // this side closes first, so the connection lingers here
-    drop(port);
+    let _client = connect(&rt, &world.port)?;
+    let link = accept(&rt, &mut world.port)?;
+    world.port.done(link); // this side closes first, so the connection lingers here
+    drop(world);
     let Ok(mut port) = TcpPort::new(rt, alloc, bells, number) else {
         panic!(rt; "port {number} isn't free");
     };
     assert!(rt; matches!(port.accept(), Accepted::NotYet));
-    linked(&rt, &mut port)?;
+    let _client = connect(&rt, &port)?;
+    accept(&rt, &mut port)?;
     Ok(())
 }
 
 #[test]
 fn the_first_fault_of_a_port_is_told(rt: HostRuntime) -> Result<(), Fail> {
     let alloc = rt.alloc();
-    let (port, bells) = open(&rt, alloc)?;
-    let number = port.number()?;
-    drop(port);
+    let world = open(rt, alloc)?;
+    let number = world.port.number()?;
+    let bells = Arc::try_clone(&world.bells)?;
+    drop(world);
     let Ok(mut port) = TcpPort::new(rt, alloc, bells, number) else {
         panic!(rt; "port {number} isn't free");
     };

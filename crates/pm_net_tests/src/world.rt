@@ -1,55 +1,65 @@
 // A port with its clients.
-use pm_net::{Bells, TcpLink, TcpPort};
-use pm_outside::{Accepted, Port};
+use pm_net::{Bells, ServerClock, TcpLink, TcpPort};
+use pm_outside::{Accepted, Clock as _, Port};
 use std::alloc::Global;
+use std::fmt::Debug;
 use std::net::{Net, TcpStream};
-use std::sync::Arc;
+use std::sync::{Arc, Wait};
 use std::test::Fail;
 use std::thread;
 use std::time::{Clock, Duration, Instant};
 
-/// A free port of this machine, and its bells.
-pub fn open<R: Net + Copy + Drop>(
-    rt: &R,
-    alloc: Global,
-) -> Result<(TcpPort<R>, Arc<Bells, Global>), Fail> {
+/// A port with its server's clock and a child's, its links, their clients, and a start from which time counts.
+#[derive(Drop)]
+pub struct World<R> {
+    pub rt: R,
+    pub port: TcpPort<R>,
+    pub bells: Arc<Bells, Global>,
+    pub clock: ServerClock<R>,
+    pub child: ServerClock<R>,
+    pub links: Vec<TcpLink>,
+    pub clients: Vec<TcpStream>,
+    pub start: Instant,
+}
+
+/// A free port of this machine, to which nobody has come.
+pub fn open<R: Net + Wait + Clock + Copy + Drop>(rt: R, alloc: Global) -> Result<World<R>, Fail> {
     let bells = Arc::new(alloc, Bells::new()?)?;
-    match TcpPort::new(*rt, alloc, Arc::try_clone(&bells)?, 0) {
-        Ok(port) => Ok((port, bells)),
-        Err(_) => Err(Fail::new("no port")),
-    }
+    let Ok(port) = TcpPort::new(rt, alloc, Arc::try_clone(&bells)?, 0) else {
+        return Err(Fail::new("no port"));
+    };
+    let clock = ServerClock::new(rt, &rt, alloc, Arc::try_clone(&bells)?, port.descriptor())?;
+    let child = clock.another()?;
+    Ok(World {
+        rt,
+        port,
+        bells,
+        clock,
+        child,
+        links: Vec::new(alloc),
+        clients: Vec::new(alloc),
+        start: Instant::now(&rt)?,
+    })
 }
 
 /// A client of a port.
 pub fn connect<R>(rt: &R, port: &TcpPort<R>) -> Result<TcpStream, Fail>
 where
-    R: Net<Stream = TcpStream> + Copy + Drop,
+    R: Net<Stream = TcpStream> + Drop,
 {
     Ok(TcpStream::connect(rt, ("127.0.0.1", port.number()?))?)
 }
 
 /// The next link of a port, for which a client stands in line.
-pub fn accept<R: Net + Clock + Copy + Drop>(
-    rt: &R,
-    port: &mut TcpPort<R>,
-) -> Result<TcpLink, Fail> {
+pub fn accept<R: Net + Clock + Drop>(rt: &R, port: &mut TcpPort<R>) -> Result<TcpLink, Fail> {
     for _ in 0..1000 {
         match port.accept() {
             Accepted::Link(link) => return Ok(link),
-            Accepted::NotYet => thread::sleep(rt, Duration::from_millis(1)),
+            Accepted::NotYet => wait_ms(rt, 1),
             Accepted::End | Accepted::Failed => break,
         }
     }
     Err(Fail::new("no link"))
-}
-
-/// A link with its client's side.
-pub fn linked<R>(rt: &R, port: &mut TcpPort<R>) -> Result<(TcpLink, TcpStream), Fail>
-where
-    R: Net<Stream = TcpStream> + Clock + Copy + Drop,
-{
-    let client = connect(rt, port)?;
-    Ok((accept(rt, port)?, client))
 }
 
 /// Lets so many milliseconds pass.
@@ -63,4 +73,18 @@ pub fn since_ms(rt: &impl Clock, start: Instant) -> u64 {
         Ok(passed) => u64::try_from(passed.as_millis()).unwrap_or(u64::MAX),
         Err(_) => 0,
     }
+}
+
+/// An answer as a text.
+pub fn said(alloc: Global, answer: impl Debug + Drop) -> Result<String, Fail> {
+    Ok(format!(in alloc; "{answer:?}")?)
+}
+
+/// A line's first word, and what stands behind it.
+pub fn parted(line: &str) -> (&str, &str) {
+    line.split_once(' ').unwrap_or((line, ""))
+}
+
+pub fn number(word: &str) -> Result<u64, Fail> {
+    Ok(word.parse::<u64>().ok().ok_or("a number")?)
 }

@@ -1,148 +1,149 @@
-// What the disks in memory answer, and what a stop leaves of them.
-use pm_disk::{Disk, DiskFault, FailingDisk, MemDisk, Which};
+// What the disks in memory answer, and what a stop leaves of them: one script.
+use pm_disk::{Disk, FailingDisk, MemDisk, Which};
+use std::alloc::Global;
 use std::process::Abort;
 use std::test::Fail;
 
-// Writes at a place that the file has.
-fn write_within<D: Disk>(
+/// Calls on two files. `blip` and `fuse` make a new disk, some of whose calls fail. A call answers whether it was done, how
+/// many calls there were, how many of them failed and how many reached the disk within, and how file A reads. `stop` answers
+/// how file A reads behind a stop after so many ticks, with at most so many bytes past its length at the last sync, and with
+/// these bytes over and over where nothing is durable, or zeros.
+const SCRIPT: &str = "
+# a write overlaps and grows the file
+blip 0
+write 0 abc -> done, 1 0 1 [abc]
+write 1 X -> done, 2 0 2 [aXc]
+write 2 YZ! -> done, 3 0 3 [aXYZ!]
+write 5 ? -> done, 4 0 4 [aXYZ!?]
+write 3 -> done, 5 0 5 [aXYZ!?]
+write 0 012345678 -> done, 6 0 6 [012345678]
+# one call fails and only that
+blip 0
+write 0 7 -> done, 1 0 1 [7]
+sync A -> done, 2 0 2 [7]
+len -> done, 3 0 3 [7]
+blip 1
+write 0 7 -> failed, 1 1 0 []
+sync A -> done, 2 1 1 []
+len -> done, 3 1 2 []
+blip 2
+write 0 7 -> done, 1 0 1 [7]
+sync A -> failed, 2 1 1 [7]
+len -> done, 3 1 2 [7]
+blip 3
+write 0 7 -> done, 1 0 1 [7]
+sync A -> done, 2 0 2 [7]
+len -> failed, 3 1 2 [7]
+blip 4
+write 0 7 -> done, 1 0 1 [7]
+sync A -> done, 2 0 2 [7]
+len -> done, 3 0 3 [7]
+# all calls fail behind the last
+fuse 0
+write 0 7 -> failed, 1 1 0 []
+sync A -> failed, 2 2 0 []
+len -> failed, 3 3 0 []
+fuse 1
+write 0 7 -> done, 1 0 1 [7]
+sync A -> failed, 2 1 1 [7]
+len -> failed, 3 2 1 [7]
+fuse 2
+write 0 7 -> done, 1 0 1 [7]
+sync A -> done, 2 0 2 [7]
+len -> failed, 3 1 2 [7]
+fuse 3
+write 0 7 -> done, 1 0 1 [7]
+sync A -> done, 2 0 2 [7]
+len -> done, 3 0 3 [7]
+# a stop leaves what was synced
+blip 0
+write 0 abcd -> done, 1 0 1 [abcd]
+sync A -> done, 2 0 2 [abcd]
+len -> done, 3 0 3 [abcd]
+write 1 XY -> done, 4 0 4 [aXYd]
+len -> done, 5 0 5 [aXYd]
+write 3 Z!? -> done, 6 0 6 [aXYZ!?]
+sync B -> done, 7 0 7 [aXYZ!?]
+sync A -> done, 8 0 8 [aXYZ!?]
+stop 0 all - -> []
+stop 1 all -+ -> [-+-+]
+stop 1 all -> [\0\0\0\0]
+stop 1 0 -> []
+stop 1 3 -+ -> [-+-]
+stop 2 all - -> [abcd]
+stop 2 0 - -> [abcd]
+stop 3 all - -> [abcd]
+stop 4 all -+ -> [a-+d]
+stop 6 all -+ -> [a-+-+-]
+stop 6 1 -+ -> [a-+-+]
+stop 6 0 -+ -> [a-+-]
+stop 7 all -> [a\0\0\0\0\0]
+stop 8 0 - -> [aXYZ!?]";
+
+/// A line's first word, and what stands behind it.
+pub fn parted(line: &str) -> (&str, &str) {
+    line.split_once(' ').unwrap_or((line, ""))
+}
+
+pub fn number(word: &str) -> Result<u64, Fail> {
+    Ok(word.parse::<u64>().ok().ok_or("a number")?)
+}
+
+// How file A reads, in brackets, behind a word.
+fn shown(alloc: Global, word: &str, disk: &MemDisk) -> Result<String, Fail> {
+    let text = str::from_utf8(disk.file(Which::A)).ok().ok_or("a text")?;
+    Ok(format!(in alloc; "{word}[{text}]")?)
+}
+
+// How file A reads behind a stop.
+fn stopped(alloc: Global, disk: &MemDisk, tick: u64, words: &str) -> Result<String, Fail> {
+    let (beyond, fill) = parted(words);
+    let beyond = beyond.parse::<u64>().unwrap_or(u64::MAX);
+    let left = disk.after_stop(tick, fill.as_bytes(), beyond)?;
+    shown(alloc, "", &left)
+}
+
+// What a call answers: a word, and two numbers or a text behind some of them.
+fn answer(
     rt: &impl Abort,
-    disk: &mut D,
-    at: u64,
-    bytes: &[u8],
-) -> Result<(), DiskFault> {
-    let len = disk.len(Which::A)?;
-    assert!(rt; at <= len);
-    disk.write(Which::A, at, bytes)
-}
-
-// Whether each of three calls failed: a write, a sync and a question for the length.
-fn failed_calls<D: Disk>(disk: &mut D) -> [bool; 3] {
-    let write = disk.write(Which::A, 0, &[7]).is_err();
-    let sync = disk.sync(Which::A).is_err();
-    let len = disk.len(Which::A).is_err();
-    [write, sync, len]
-}
-
-#[test]
-fn a_write_overlaps_and_grows_the_file(rt: HostRuntime) -> Result<(), Fail> {
-    let mut disk = MemDisk::new(rt.alloc());
-    let writes: [(u64, &[u8], &[u8]); 6] = [
-        (0, b"abc", b"abc"),
-        (1, b"X", b"aXc"),
-        (2, b"YZ!", b"aXYZ!"),
-        (5, b"?", b"aXYZ!?"),
-        (3, b"", b"aXYZ!?"),
-        (0, b"012345678", b"012345678"),
-    ];
-    for (at, bytes, file) in writes {
-        write_within(&rt, &mut disk, at, bytes)?;
-        assert_eq!(rt; disk.file(Which::A), file, "a write at {at}");
-    }
-    assert_eq!(rt; disk.file(Which::B).len(), 0);
-    assert_eq!(rt; disk.ticks(), 12);
-    assert_eq!(rt; disk.faults(), 0);
-    Ok(())
+    alloc: Global,
+    disk: &mut FailingDisk<MemDisk>,
+    call: &str,
+) -> Result<String, Fail> {
+    let (word, rest) = parted(call);
+    let (place, text) = parted(rest);
+    let failed = match word {
+        "write" => {
+            let at = number(place)?;
+            assert!(rt; (at as usize) <= disk.inner().file(Which::A).len());
+            disk.write(Which::A, at, text.as_bytes()).is_err()
+        }
+        "sync" => {
+            let file = if place == "B" { Which::B } else { Which::A };
+            disk.sync(file).is_err()
+        }
+        "len" => disk.len(Which::A).is_err(),
+        _ => return stopped(alloc, disk.inner(), number(place)?, text),
+    };
+    let word = if failed { "failed" } else { "done" };
+    let (calls, faults, within) = (disk.ticks(), disk.faults(), disk.inner().ticks());
+    let numbers = format!(in alloc; "{word}, {calls} {faults} {within} ")?;
+    shown(alloc, numbers.as_str(), disk.inner())
 }
 
 #[test]
-fn each_file_is_beside_the_other(rt: HostRuntime) {
-    assert_eq!(rt; (Which::A.other(), Which::B.other()), (Which::B, Which::A));
-}
-
-#[test]
-fn a_read_begins_at_its_place(rt: HostRuntime) -> Result<(), Fail> {
-    let mut disk = MemDisk::new(rt.alloc());
-    disk.write(Which::B, 0, b"abcde")?;
-    let mut part = [0; 3];
-    let len = disk.len(Which::B)?;
-    assert_eq!(rt; len, 5);
-    disk.read(Which::B, 1, &mut part)?;
-    assert_eq!(rt; part, *b"bcd");
-    Ok(())
-}
-
-#[test]
-fn one_call_fails_and_only_that(rt: HostRuntime) -> Result<(), Fail> {
+fn disks_answer_as_the_script_says(rt: HostRuntime) -> Result<(), Fail> {
     let alloc = rt.alloc();
-    let calls: [(u64, [bool; 3], &[u8]); 5] = [
-        (0, [false, false, false], &[7]),
-        (1, [true, false, false], &[]),
-        (2, [false, true, false], &[7]),
-        (3, [false, false, true], &[7]),
-        (4, [false, false, false], &[7]),
-    ];
-    for (at, failed, file) in calls {
-        let mut disk = FailingDisk::blip(MemDisk::new(alloc), at);
-        assert_eq!(rt; failed_calls(&mut disk), failed, "call {at}");
-        let faults = failed.iter().filter(|is| **is).count() as u64;
-        assert_eq!(rt; disk.ticks(), 3, "call {at}");
-        assert_eq!(rt; disk.faults(), faults, "call {at}");
-        assert_eq!(rt; disk.inner().faults(), 0, "call {at}");
-        assert_eq!(rt; disk.inner().file(Which::A), file, "call {at}");
-        let inner = disk.into_inner();
-        assert_eq!(rt; inner.ticks() + faults, 3, "call {at}");
-    }
-    Ok(())
-}
-
-#[test]
-fn a_stop_leaves_what_was_synced(rt: HostRuntime) -> Result<(), Fail> {
-    let mut disk = MemDisk::new(rt.alloc());
-    disk.write(Which::A, 0, b"abcd")?;
-    disk.sync(Which::A)?;
-    write_within(&rt, &mut disk, 1, b"XY")?;
-    write_within(&rt, &mut disk, 3, b"Z!?")?;
-    disk.sync(Which::B)?;
-    disk.sync(Which::A)?;
-    let stops: [(u64, &[u8], u64, &[u8]); 14] = [
-        (0, b"-", u64::MAX, b""),
-        (1, b"-+", u64::MAX, b"-+-+"),
-        (1, b"", u64::MAX, b"\0\0\0\0"),
-        (1, b"", 0, b""),
-        (1, b"-+", 3, b"-+-"),
-        (2, b"-", u64::MAX, b"abcd"),
-        (2, b"-", 0, b"abcd"),
-        (3, b"-", u64::MAX, b"abcd"),
-        (4, b"-+", u64::MAX, b"a-+d"),
-        (6, b"-+", u64::MAX, b"a-+-+-"),
-        (6, b"-+", 1, b"a-+-+"),
-        (6, b"-+", 0, b"a-+-"),
-        (7, b"", u64::MAX, b"a\0\0\0\0\0"),
-        (8, b"-", 0, b"aXYZ!?"),
-    ];
-    for (tick, fill, beyond, file) in stops {
-        let left = disk.after_stop(tick, fill, beyond)?;
-        assert_eq!(rt; left.file(Which::A), file, "after tick {tick}");
-        assert_eq!(rt; left.file(Which::B).len(), 0);
-        assert_eq!(rt; left.ticks(), 0);
-        let again = left.after_stop(0, b"#", 0)?;
-        assert_eq!(rt; again.file(Which::A), file, "again after tick {tick}");
-    }
-    assert_eq!(rt; disk.file(Which::A), b"aXYZ!?".as_slice());
-    Ok(())
-}
-
-#[test]
-fn all_calls_fail_behind_the_last(rt: HostRuntime) -> Result<(), Fail> {
-    let alloc = rt.alloc();
-    let calls: [(u64, [bool; 3], u64); 4] = [
-        (0, [true, true, true], 3),
-        (1, [false, true, true], 2),
-        (2, [false, false, true], 1),
-        (3, [false, false, false], 0),
-    ];
-    for (passes, failed, faults) in calls {
-        let mut disk = FailingDisk::fuse(MemDisk::new(alloc), passes);
-        assert_eq!(rt; failed_calls(&mut disk), failed, "after {passes}");
-        assert_eq!(rt; disk.ticks(), 3, "after {passes}");
-        assert_eq!(rt; disk.faults(), faults, "after {passes}");
-        assert_eq!(rt; disk.inner().ticks(), passes, "after {passes}");
-        let inner = disk.into_inner();
-        assert_eq!(rt;
-            inner.file(Which::A).is_empty(),
-            passes == 0,
-            "after {passes}"
-        );
+    let mut disk = FailingDisk::blip(MemDisk::new(alloc), 0);
+    for line in SCRIPT.lines() {
+        if let Some(at) = line.strip_prefix("blip ") {
+            disk = FailingDisk::blip(MemDisk::new(alloc), number(at)?);
+        } else if let Some(passes) = line.strip_prefix("fuse ") {
+            disk = FailingDisk::fuse(MemDisk::new(alloc), number(passes)?);
+        } else if let Some((call, want)) = line.split_once(" -> ") {
+            let told = answer(&rt, alloc, &mut disk, call)?;
+            assert_eq!(rt; told.as_str(), want, "{call}");
+        }
     }
     Ok(())
 }

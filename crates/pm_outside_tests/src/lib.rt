@@ -4,6 +4,6 @@
 #[cfg(test)]
 mod disks;
 #[cfg(test)]
-mod forms;
-#[cfg(test)]
 mod scenes;
+#[cfg(test)]
+mod times;

@@ -1,172 +1,209 @@
-// What the forms in memory wait for, on a scene that they share.
-use crate::forms::script;
-use pm_disk::{Disk, MemDisk, Which};
+// What the forms in memory wait for, on a scene that they share: one script.
+use crate::disks::{number, parted};
 use pm_outside::{
-    Accepted, Asked, Console, Cue, Got, Held, Hold, Link, MemConsole, MemPort, Port, Put, Scene,
-    ScriptLine, Withheld,
+    Accepted, Console, Cue, Hold, Link, LinkScript, MemConsole, MemLink, MemPort, Port, Scene,
+    ScriptLine,
 };
 use std::alloc::{AllocError, Global};
+use std::fmt::Debug;
+use std::process::Abort;
 use std::test::Fail;
-use std::time::Instant;
 
-// The first link was sent three bytes.
+/// Calls on the forms of a scene each, and what each answers.
+const SCENES: [&str; 2] = [
+    "
+# a port, a link and a console wait for what the first link was sent, and then the port for a line
+accept -> Link
+accept -> Failed
+accept -> Link
+accept -> NotYet
+read 2 -> Bytes(4)
+read 2 -> NotYet
+next -> Line(0)
+next -> Failed
+next -> Line(64)
+next -> NotYet
+write 1 ab -> Count(2)
+read 2 -> NotYet
+accept -> NotYet
+next -> NotYet
+write 1 c -> Count(1)
+read 2 -> Bytes(7)
+read 2 -> Bytes(7)
+read 2 -> End
+accept -> Link
+accept -> NotYet
+next -> Line(4)
+next -> End
+accept -> End
+# some calls of the third link fail
+read 3 -> Failed
+read 3 -> Bytes(7)
+read 3 -> Failed
+read 3 -> Bytes(7)
+read 3 -> Bytes(4)
+read 3 -> End
+write 3 abc -> Count(3)
+write 3 abc -> Failed
+write 3 abc -> Count(3)",
+    "
+# a link ends that waits in vain, and a console gives no line any more
+accept -> Link
+accept -> Failed
+accept -> Link
+read 2 -> Bytes(4)
+10000 read 2 -> NotYet
+read 2 -> End
+next -> Line(0)
+next -> Failed
+next -> Line(64)
+10000 next -> NotYet
+write 1 abc -> Count(3)
+read 2 -> End
+next -> NotYet",
+];
+
+/// A startup packet with `user` and `ann`.
+const PACKET: &[u8] = b"\0\0\0\x12\0\x03\0\0user\0ann\0\0";
+
+/// Three bytes were sent on the first link.
 const SENT: Cue = Cue::Sent { link: 1, bytes: 3 };
 
-// The second link's bytes from place 4 on wait until three bytes were sent on the first link.
-fn waiting_port(alloc: Global) -> Result<MemPort, AllocError> {
-    let mut second = script(alloc, 7, &[], &[])?;
-    second.holds.push(Hold { at: 4, cue: SENT })?;
+/// The holds of each link, its reads that fail, and its writes.
+const LINKS: [(&[Hold], &[u64], &[u64]); 3] = [
+    (&[], &[], &[]),
+    (&[Hold { at: 4, cue: SENT }], &[], &[]),
+    (&[], &[3, 1], &[2]),
+];
+
+/// The lines of the console.
+const LINES: [(&[u8], Option<Cue>); 3] = [(b"", None), (&[b'x'; 70], None), (b"fast", Some(SENT))];
+
+/// What the port's third link and its end wait for.
+const DOOR: [Hold; 2] = [
+    Hold { at: 2, cue: SENT },
+    Hold {
+        at: 3,
+        cue: Cue::Lines(3),
+    },
+];
+
+// Forms on one scene, and the links that the port has given.
+#[derive(Drop)]
+struct Stage {
+    port: MemPort,
+    links: Vec<MemLink>,
+    console: MemConsole,
+}
+
+fn scripts_of(alloc: Global) -> Result<Vec<LinkScript>, AllocError> {
     let mut scripts = Vec::new(alloc);
-    scripts.push(script(alloc, 7, &[], &[])?)?;
-    scripts.push(second)?;
-    let scene = Scene::new(alloc, 2)?;
-    Ok(MemPort::on(alloc, Some(scene), scripts, Vec::new(alloc)))
-}
-
-#[test]
-fn a_link_waits_for_what_another_was_sent(rt: HostRuntime) -> Result<(), Fail> {
-    let mut port = waiting_port(rt.alloc())?;
-    let Accepted::Link(mut first) = port.accept() else {
-        panic!(rt; "no first link");
-    };
-    let Accepted::Link(mut second) = port.accept() else {
-        panic!(rt; "no second link");
-    };
-    let mut into = [0; 10];
-    assert_eq!(rt; second.read(&mut into), Got::Bytes(4));
-    assert_eq!(rt; second.read(&mut into), Got::NotYet);
-    assert_eq!(rt; first.write(&[7, 8]), Put::Count(2));
-    assert_eq!(rt; second.read(&mut into), Got::NotYet);
-    assert_eq!(rt; first.write(&[9]), Put::Count(1));
-    assert_eq!(rt; second.read(&mut into), Got::Bytes(7));
-    assert_eq!(rt; second.read(&mut into), Got::Bytes(7));
-    assert_eq!(rt; second.read(&mut into), Got::End);
-    Ok(())
-}
-
-#[test]
-fn a_link_ends_that_waits_in_vain(rt: HostRuntime) -> Result<(), Fail> {
-    let mut port = waiting_port(rt.alloc())?;
-    let Accepted::Link(mut first) = port.accept() else {
-        panic!(rt; "no first link");
-    };
-    let Accepted::Link(mut second) = port.accept() else {
-        panic!(rt; "no second link");
-    };
-    let mut into = [0; 10];
-    assert_eq!(rt; second.read(&mut into), Got::Bytes(4));
-    for _ in 0..10_000 {
-        assert_eq!(rt; second.read(&mut into), Got::NotYet);
+    for (holds, failing_reads, failing_writes) in LINKS {
+        scripts.push(LinkScript {
+            incoming: PACKET.to_vec(alloc)?,
+            per_call: 7,
+            failing_reads: failing_reads.to_vec(alloc)?,
+            failing_writes: failing_writes.to_vec(alloc)?,
+            holds: holds.to_vec(alloc)?,
+        })?;
     }
-    assert_eq!(rt; second.read(&mut into), Got::End);
-    assert_eq!(rt; first.write(&[7, 8, 9]), Put::Count(3));
-    assert_eq!(rt; second.read(&mut into), Got::End);
-    Ok(())
+    Ok(scripts)
 }
 
-#[test]
-fn a_port_waits_for_what_others_saw(rt: HostRuntime) -> Result<(), Fail> {
-    let alloc = rt.alloc();
+// The second call of the port fails, and so does that of the console.
+fn stage_of(alloc: Global) -> Result<Stage, AllocError> {
     let scene = Scene::new(alloc, 2)?;
-    let mut scripts = Vec::new(alloc);
-    let mut holds = Vec::new(alloc);
-    for (at, cue) in [(1, SENT), (2, Cue::Lines(1))] {
-        scripts.push(script(alloc, 7, &[], &[])?)?;
-        holds.push(Hold { at, cue })?;
-    }
-    let shared = Some(scene.another()?);
-    let mut port = MemPort::held(alloc, shared, scripts, holds, Vec::new(alloc));
-    let Accepted::Link(mut first) = port.accept() else {
-        panic!(rt; "no first link");
-    };
-    assert!(rt; matches!(port.accept(), Accepted::NotYet));
-    assert_eq!(rt; first.write(&[7, 8, 9]), Put::Count(3));
-    assert!(rt; matches!(port.accept(), Accepted::Link(_)));
-    assert!(rt; matches!(port.accept(), Accepted::NotYet));
-    scene.note_line();
-    assert!(rt; matches!(port.accept(), Accepted::End));
-    Ok(())
-}
-
-// A console whose last line waits for what the first link was sent. Its second call fails.
-fn waiting_console(alloc: Global, scene: &Scene) -> Result<MemConsole, AllocError> {
     let mut lines = Vec::new(alloc);
-    let texts: [(&[u8], Option<Cue>); 3] = [
-        (b"", None),
-        (&[b'x'; 70], None),
-        (b"fast", Some(SENT)),
-    ];
-    for (text, behind) in texts {
+    for (text, behind) in LINES {
         let text = text.to_vec(alloc)?;
         lines.push(ScriptLine { text, behind })?;
     }
     let failing = vec![in alloc; 2]?;
-    Ok(MemConsole::new(lines, failing, Some(scene.another()?)))
+    let console = MemConsole::new(lines, failing, Some(scene.another()?));
+    let holds = DOOR.to_vec(alloc)?;
+    let failing = vec![in alloc; 2]?;
+    Ok(Stage {
+        port: MemPort::held(alloc, Some(scene), scripts_of(alloc)?, holds, failing),
+        links: Vec::new(alloc),
+        console,
+    })
 }
 
-#[test]
-fn a_console_gives_its_lines_in_order(rt: HostRuntime) -> Result<(), Fail> {
-    let alloc = rt.alloc();
-    let scene = Scene::new(alloc, 1)?;
-    let mut console = waiting_console(alloc, &scene)?;
-    let mut into = [0; 64];
-    for want in [
-        Asked::Line(0),
-        Asked::Failed,
-        Asked::Line(64),
-        Asked::NotYet,
-    ] {
-        assert_eq!(rt; console.next(&mut into), want);
+fn said(alloc: Global, answer: impl Debug + Drop) -> Result<String, Fail> {
+    Ok(format!(in alloc; "{answer:?}")?)
+}
+
+// What the port answers.
+fn accepted(alloc: Global, stage: &mut Stage) -> Result<String, Fail> {
+    let word = match stage.port.accept() {
+        Accepted::Link(link) => {
+            stage.links.push(link)?;
+            "Link"
+        }
+        Accepted::NotYet => "NotYet",
+        Accepted::End => "End",
+        Accepted::Failed => "Failed",
+    };
+    Ok(String::from_str(alloc, word)?)
+}
+
+// What a link answers to a read, or to a write of a text: `2 text`.
+fn on_link(alloc: Global, stage: &mut Stage, words: &str) -> Result<String, Fail> {
+    let (place, text) = parted(words);
+    let wanted = number(place)?;
+    let mut links = stage.links.iter_mut();
+    let link = links.find(|link| link.number() == wanted).ok_or("a link")?;
+    if text.is_empty() {
+        return said(alloc, link.read(&mut [0; 10]));
     }
-    assert_eq!(rt; into, [b'x'; 64]);
-    scene.note_sent(1, 3);
-    assert_eq!(rt; console.next(&mut into), Asked::Line(4));
-    assert_eq!(rt; &into[..5], b"fastx".as_slice());
-    assert_eq!(rt; console.next(&mut into), Asked::End);
-    assert_eq!(rt; console.faults(), 1);
-    assert!(rt; scene.has_come(Cue::Lines(3)));
-    assert!(rt; !scene.has_come(Cue::Lines(4)));
+    said(alloc, link.write(text.as_bytes()))
+}
+
+// What a call answers.
+fn answer(alloc: Global, stage: &mut Stage, call: &str) -> Result<String, Fail> {
+    let (word, rest) = parted(call);
+    match word {
+        "accept" => accepted(alloc, stage),
+        "next" => said(alloc, stage.console.next(&mut [0; 64])),
+        _ => on_link(alloc, stage, rest),
+    }
+}
+
+// A call may be made many times, and answers the same each time.
+fn check(
+    rt: &impl Abort,
+    alloc: Global,
+    stage: &mut Stage,
+    call: &str,
+    want: &str,
+) -> Result<(), Fail> {
+    let (times, call) = match call.strip_prefix("10000 ") {
+        Some(call) => (10_000, call),
+        None => (1, call),
+    };
+    for _ in 0..times {
+        let told = answer(alloc, stage, call)?;
+        assert_eq!(rt; told.as_str(), want, "{call}");
+    }
+    Ok(())
+}
+
+// Goes through the lines of a scene.
+fn play(rt: &impl Abort, alloc: Global, lines: &str) -> Result<(), Fail> {
+    let mut stage = stage_of(alloc)?;
+    for line in lines.lines() {
+        if let Some((call, want)) = line.split_once(" -> ") {
+            check(rt, alloc, &mut stage, call, want)?;
+        }
+    }
     Ok(())
 }
 
 #[test]
-fn a_console_that_waits_in_vain_gives_no_line_any_more(rt: HostRuntime) -> Result<(), Fail> {
+fn forms_wait_as_the_script_says(rt: HostRuntime) -> Result<(), Fail> {
     let alloc = rt.alloc();
-    let scene = Scene::new(alloc, 1)?;
-    let mut console = waiting_console(alloc, &scene)?;
-    let mut into = [0; 64];
-    for _ in 0..3 {
-        console.next(&mut into);
+    for scene in SCENES {
+        play(&rt, alloc, scene)?;
     }
-    for _ in 0..10_000 {
-        assert_eq!(rt; console.next(&mut into), Asked::NotYet);
-    }
-    scene.note_sent(1, 3);
-    assert_eq!(rt; console.next(&mut into), Asked::NotYet);
-    Ok(())
-}
-
-#[test]
-fn a_held_disk_waits_for_its_cue_at_one_call(rt: HostRuntime) -> Result<(), Fail> {
-    let alloc = rt.alloc();
-    let scene = Scene::new(alloc, 0)?;
-    let shared = scene.another()?;
-    let disk = MemDisk::new(alloc);
-    let mut disk = Held::new(disk, Withheld::FirstWrite, Cue::Lines(1), shared, rt);
-    let start = Instant::now(&rt)?;
-    disk.write(Which::A, 0, b"abc")?;
-    assert!(rt; start.elapsed(&rt)?.as_millis() >= 1000); // in vain
-    let start = Instant::now(&rt)?;
-    disk.write(Which::A, 0, b"x")?;
-    let disk = disk.into_inner();
-    assert_eq!(rt; disk.file(Which::A), b"xbc".as_slice());
-    scene.note_line();
-    let mut disk = Held::new(disk, Withheld::FirstRead, Cue::Lines(1), scene, rt);
-    let mut into = [0; 3];
-    assert_eq!(rt; disk.len(Which::A)?, 3);
-    disk.read(Which::A, 0, &mut into)?;
-    assert_eq!(rt; into, *b"xbc");
-    assert_eq!(rt; disk.ticks(), 4);
-    assert!(rt; start.elapsed(&rt)?.as_millis() < 1000);
     Ok(())
 }

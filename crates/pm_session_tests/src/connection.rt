@@ -3,6 +3,7 @@ ghost use Rattle.std.specs.Prelude.{◌≡◌, ◌<◌, IfOk};
 ghost use Rattle.pm_outside.specs.MemLink.{link_traffic};
 ghost use Rattle.pm_outside.specs.Traffic.{no_traffic};
 
+use crate::bytes::named;
 use pm_admit::Cac;
 use pm_exit::Status;
 use pm_life::{Cancelled, GateNo, Life, ScriptedLife, Signals};
@@ -32,32 +33,33 @@ pub const NO_SIGNALS: Signals = Signals {
 #[derive(Clone, Copy)]
 pub struct Case<'a> {
     pub name: &'a str,
-    /// All that comes in.
-    pub incoming: &'a [&'a [u8]],
+    /// All that comes in, by the names of its messages, with `-` for none.
+    pub incoming: &'a str,
     pub decision: Cac,
     /// What it is given at each ask.
     pub signals: &'a [Signals],
     pub gate: Result<u32, GateNo>,
-    /// How it exits, and all that goes out.
+    /// How it exits, and all that goes out, by its names.
     pub status: Status,
-    pub sent: &'a [&'a [u8]],
+    pub sent: &'a str,
 }
 
 /// A connection that nothing hinders, and which ends by itself.
 pub const PLAIN: Case<'static> = Case {
     name: "plain",
-    incoming: &[],
+    incoming: "",
     decision: Cac::Ok,
     signals: &[],
     gate: Ok(GENERATION),
     status: Status::Code(0),
-    sent: &[],
+    sent: "",
 };
 
-pub fn joined(alloc: Global, parts: &[&[u8]]) -> Result<Vec<u8>, AllocError> {
+/// The messages of these names, one behind the other.
+pub fn joined(alloc: Global, names: &str) -> Result<Vec<u8>, AllocError> {
     let mut all = Vec::new(alloc);
-    for part in parts {
-        all.extend_from_slice(part)?;
+    for name in names.split_whitespace() {
+        all.extend_from_slice(named(name))?;
     }
     Ok(all)
 }
@@ -114,7 +116,7 @@ pub fn serve_case<R: Wait, C: Clock>(
     let Done { status, link, life } = serve(&means, link, life, admission, &conf, &mut store);
     Ok(Outcome {
         status,
-        sent: joined(alloc, &[link.sent()])?,
+        sent: link.sent().to_vec(alloc)?,
         pid: life.pid(),
         attached: life.attached(),
         asked_cancel: life.asked_cancel(),

@@ -1,15 +1,20 @@
-//! Tests of the public calls of `pm_session`: one connection over a link, a life and a store in memory.
+//! Tests of the children of a server over memory: sessions, each one connection over a link, a life and a store in memory; and the
+//! children that serve no connection.
 #![tactic(auto)]
 
 #[cfg(test)]
 mod bytes;
 #[cfg(test)]
+mod cases;
+#[cfg(test)]
+mod child_ends;
+#[cfg(test)]
+mod child_stops;
+#[cfg(test)]
+mod children;
+#[cfg(test)]
 mod connection;
 #[cfg(test)]
-mod packets;
-#[cfg(test)]
-mod queries;
-#[cfg(test)]
-mod refusals;
+mod short_book;
 #[cfg(test)]
 mod signals;

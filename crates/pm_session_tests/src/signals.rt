@@ -1,6 +1,5 @@
 // Sessions that are told to end.
-use crate::bytes::*;
-use crate::connection::{Case, KEY, NO_SIGNALS, PID, PLAIN, check, joined, serve_case, served};
+use crate::connection::{Case, KEY, NO_SIGNALS, PID, PLAIN, joined, serve_case, served};
 use pm_exit::Status;
 use pm_life::{Reason, Signals};
 use pm_outside::MemClock;
@@ -11,60 +10,40 @@ use std::sync::Wait;
 use std::test::Fail;
 use std::time;
 
-const KILL: Signals = Signals {
+pub const KILL: Signals = Signals {
     kill: true,
     ..NO_SIGNALS
 };
 
-const QUIT: Signals = Signals {
+pub const QUIT: Signals = Signals {
     quit: Some(Reason::Crash),
     ..NO_SIGNALS
 };
 
-const STOP: Signals = Signals {
+pub const STOP: Signals = Signals {
     terminate: true,
     ..NO_SIGNALS
 };
 
-const ALL: Signals = Signals {
+pub const ALL: Signals = Signals {
     kill: true,
     quit: Some(Reason::Stop),
     terminate: true,
     ..NO_SIGNALS
 };
 
-#[test]
-fn a_child_outside_says_nothing(rt: HostRuntime) -> Result<(), Fail> {
-    let cases: [(Signals, Status); 4] = [
-        (KILL, Status::Signal(9)),
-        (QUIT, Status::Code(2)),
-        (STOP, Status::Code(1)),
-        (ALL, Status::Signal(9)),
-    ];
-    for (signals, status) in cases {
-        let case = Case {
-            name: "outside",
-            signals: &[signals],
-            status,
-            ..PLAIN
-        };
-        check(&rt, rt.alloc(), &case)?;
-    }
-    Ok(())
-}
-
 // What a client with one query gets where a signal comes at each ask in turn.
 const QUERY: Case<'static> = Case {
     name: "a query",
-    incoming: &[PACKET, EMPTY, TERMINATE],
-    sent: &[GREETING, EMPTY_ANSWER],
+    incoming: "PACKET EMPTY TERMINATE",
+    sent: "GREETING EMPTY_ANSWER",
     ..PLAIN
 };
 
 // Whether all that went out is one of these.
-fn is_one_of(alloc: Global, sent: &[u8], wanted: &[&[&[u8]]]) -> Result<bool, AllocError> {
-    for parts in wanted {
-        if joined(alloc, parts)?.as_slice() == sent {
+fn is_one_of(alloc: Global, sent: &[u8], wanted: &[&str]) -> Result<bool, AllocError> {
+    for names in wanted {
+        if joined(alloc, names)?.as_slice() == sent {
             return Ok(true);
         }
     }
@@ -78,7 +57,7 @@ fn check_each<R: Wait + Abort + time::Clock + Copy + Drop>(
     plain: &Case,
     signals: Signals,
     status: Status,
-    wanted: &[&[&[u8]]],
+    wanted: &[&str],
 ) -> Result<(), Fail> {
     let mut script = Vec::new(alloc);
     for _ in 0..16 {
@@ -97,73 +76,63 @@ fn check_each<R: Wait + Abort + time::Clock + Copy + Drop>(
     Ok(())
 }
 
-#[test]
-fn a_signal_counts_at_each_ask(rt: HostRuntime) -> Result<(), Fail> {
-    let alloc = rt.alloc();
-    check_each(
-        &rt,
-        alloc,
-        &QUERY,
-        STOP,
-        Status::Code(1),
-        &[
-            &[],
-            &[TERMINATED],
-            &[GREETING, TERMINATED],
-            &[GREETING, EMPTY_ANSWER, TERMINATED],
-        ],
-    )?;
-    check_each(
-        &rt,
-        alloc,
-        &QUERY,
-        QUIT,
-        Status::Code(2),
-        &[
-            &[],
-            &[CRASH_QUIT],
-            &[GREETING, CRASH_QUIT],
-            &[GREETING, EMPTY_ANSWER, CRASH_QUIT],
-        ],
-    )?;
-    check_each(
-        &rt,
-        alloc,
-        &QUERY,
-        KILL,
-        Status::Signal(9),
-        &[&[], &[GREETING], &[GREETING, EMPTY_ANSWER]],
-    )
-}
-
 // A query whose commit its session flushes itself.
 const INSERT: Case<'static> = Case {
     name: "an insert",
-    incoming: &[PACKET, INSERT_SEVEN, TERMINATE],
-    sent: &[GREETING, INSERTED],
+    incoming: "PACKET INSERT_SEVEN TERMINATE",
+    sent: "GREETING INSERTED",
     ..PLAIN
 };
 
-#[test]
-fn a_commit_is_flushed_by_its_session(rt: HostRuntime) -> Result<(), Fail> {
-    check(&rt, rt.alloc(), &INSERT)
-}
-
-#[test]
-fn a_commit_is_quit_at_each_ask(rt: HostRuntime) -> Result<(), Fail> {
-    check_each(
-        &rt,
-        rt.alloc(),
-        &INSERT,
+/// A session, a signal that comes at each of its asks in turn, the status, and all that may have gone out then.
+const AT_EACH_ASK: [(Case<'static>, Signals, Status, &[&str]); 4] = [
+    (
+        QUERY,
+        STOP,
+        Status::Code(1),
+        &[
+            "",
+            "TERMINATED",
+            "GREETING TERMINATED",
+            "GREETING EMPTY_ANSWER TERMINATED",
+        ],
+    ),
+    (
+        QUERY,
         QUIT,
         Status::Code(2),
         &[
-            &[],
-            &[CRASH_QUIT],
-            &[GREETING, CRASH_QUIT],
-            &[GREETING, INSERTED, CRASH_QUIT],
+            "",
+            "CRASH_QUIT",
+            "GREETING CRASH_QUIT",
+            "GREETING EMPTY_ANSWER CRASH_QUIT",
         ],
-    )
+    ),
+    (
+        QUERY,
+        KILL,
+        Status::Signal(9),
+        &["", "GREETING", "GREETING EMPTY_ANSWER"],
+    ),
+    (
+        INSERT,
+        QUIT,
+        Status::Code(2),
+        &[
+            "",
+            "CRASH_QUIT",
+            "GREETING CRASH_QUIT",
+            "GREETING INSERTED CRASH_QUIT",
+        ],
+    ),
+];
+
+#[test]
+fn a_signal_counts_at_each_ask(rt: HostRuntime) -> Result<(), Fail> {
+    for (plain, signals, status, wanted) in AT_EACH_ASK {
+        check_each(&rt, rt.alloc(), &plain, signals, status, wanted)?;
+    }
+    Ok(())
 }
 
 const CANCEL_IT: Signals = Signals {
@@ -181,15 +150,15 @@ fn a_cancel_ends_the_query_in_progress(rt: HostRuntime) -> Result<(), Fail> {
         script.push(CANCEL_IT)?;
         let case = Case {
             name: "a cancel",
-            incoming: &[PACKET, SLEEP, TERMINATE],
+            incoming: "PACKET SLEEP TERMINATE",
             signals: script.as_slice(),
             ..PLAIN
         };
         let clock = MemClock::new(alloc, 0, rt)?;
         let met = serve_case(&rt, alloc, &case, 4096, &clock)?;
         assert_eq!(rt; met.status, Status::Code(0));
-        let cancelled = joined(alloc, &[GREETING, CANCELED])?;
-        let slept = joined(alloc, &[GREETING, SLEPT])?;
+        let cancelled = joined(alloc, "GREETING CANCELED")?;
+        let slept = joined(alloc, "GREETING SLEPT")?;
         if met.sent == cancelled {
             ended = ended.saturating_add(1);
             assert!(rt; met.now < 1000);
@@ -208,12 +177,12 @@ fn a_cancel_ends_the_query_in_progress(rt: HostRuntime) -> Result<(), Fail> {
 // What the life tells behind its session.
 #[test]
 fn a_life_tells_what_its_session_did(rt: HostRuntime) -> Result<(), Fail> {
-    let cases: [(&[&[u8]], &[Signals], Option<u32>, Option<(u32, u32)>); 4] = [
-        (&[CANCEL], &[], None, Some((PID, KEY))),
-        (&[GSS, SSL, CANCEL], &[], None, Some((PID, KEY))),
-        (&[PACKET, EMPTY, TERMINATE], &[], None, None),
+    let cases: [(&str, &[Signals], Option<u32>, Option<(u32, u32)>); 4] = [
+        ("CANCEL", &[], None, Some((PID, KEY))),
+        ("GSS SSL CANCEL", &[], None, Some((PID, KEY))),
+        ("PACKET EMPTY TERMINATE", &[], None, None),
         (
-            &[PACKET],
+            "PACKET",
             &[NO_SIGNALS, NO_SIGNALS, NO_SIGNALS, NO_SIGNALS, QUIT],
             Some(GENERATION),
             None,

@@ -4,8 +4,6 @@
 mod clock;
 mod descriptors;
 mod streams;
-#[cfg(test)]
-mod tests;
 
 pub use clock::SystemClock;
 pub use descriptors::fill_standard_streams;

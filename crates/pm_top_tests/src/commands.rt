@@ -74,9 +74,17 @@ says queries\x200\ncommits\x200\nrows\x200\nkey\x20sum\x200\nlast\x20key\x20none
 $ workload --number 10
 ends Done 0
 says queries\x2010\ncommits\x208\nrows\x208\nkey\x20sum\x208340\nlast\x20key\x202574\n
+$ workload --number 100000
+ends Done 0
+says queries\x20100000\ncommits\x2080000\nrows\x201044\nkey\x20sum\x202608156\nlast\x20key\x204998\n
 fail line 1
 $ workload --number 5
 ends OutFault 1
+says
+fail line 2
+$ workload --number 5
+ends OutFault 1
+says queri
 # a server without a thread for its first worker
 files NEW | CLOSED
 $ serve --data folder --port 5432 < PACKET

@@ -1,18 +1,24 @@
 //! What words of the scenes stand for: what is sent and stored, by the documents of their formats, and what is told.
 use bstr::ByteVec;
+use pm_disk::{Disk, MemDisk, Which};
 use std::alloc::Global;
 use std::test::Fail;
 
 /// `NAME = bytes`, in which escapes stand for theirs, and `NAME := WORD WORD`.
 const NAMES: &str = r#"# a startup packet with the user `ann`
 PACKET = \0\0\0\x12\0\x03\0\0user\0ann\0\0
+# one without a user
+NOBODY = \0\0\0\x09\0\x03\0\0\0
 # queries
 INSERT_SEVEN = Q\0\0\0\x27INSERT INTO kv VALUES (7, 'seven')\0
 INSERT_EIGHT = Q\0\0\0\x27INSERT INTO kv VALUES (8, 'eight')\0
+INSERT_NINE = Q\0\0\0\x26INSERT INTO kv VALUES (9, 'nine')\0
 SELECT_SEVEN = Q\0\0\0\x24SELECT k, v FROM kv WHERE k = 7\0
 SELECT_EIGHT = Q\0\0\0\x24SELECT k, v FROM kv WHERE k = 8\0
 INSERT_OTHER = Q\0\0\0\x27INSERT INTO kv VALUES (7, 'other')\0
 COUNT = Q\0\0\0\x1cSELECT count(*) FROM kv\0
+SLEEP_ON = Q\0\0\0\x17SELECT pg_sleep(2)\0
+SLEEP = Q\0\0\0\x18SELECT pg_sleep(60)\0
 # two statements of one query: the second one's key is there already
 INSERT_TWICE = Q\0\0\0CINSERT INTO kv VALUES (1, 'a'); INSERT INTO kv VALUES (1, 'b')\0
 # the greatest key, one above it, and the least
@@ -24,6 +30,9 @@ SEMICOLON = Q\0\0\0\x06;\0
 NOTHING = Q\0\0\0\x05\0
 # the end of a session by its client
 TERMINATE = X\0\0\0\x04
+# cancels of the session with pid 4, the first by a wrong key
+CANCEL_BY_1 = \0\0\0\x10\x04\xd2\x16\x2e\0\0\0\x04\0\0\0\x01
+CANCEL_OF_4 = \0\0\0\x10\x04\xd2\x16\x2e\0\0\0\x04\xb8\x19\xd2\xbd
 # the startup packet of psql, and two statements as it sends them
 PSQL_PACKET = \0\0\0\x54\0\x03\0\0user\0postgres\0database\0postgres\0application_name\0psql\0client_encoding\0UTF8\0\0
 PSQL_INSERT = Q\0\0\x001insert into KV (k, v) values\n (-3, 'it''s');\0
@@ -34,10 +43,14 @@ GSS_REQUEST = \0\0\0\x08\x04\xd2\x16\x30
 NO_ENCRYPTION = N
 # the greeting of a session up to its cancel key
 GREETING = R\0\0\0\x08\0\0\0\0S\0\0\0\x18server_version\x0016.0\0S\0\0\0\x19server_encoding\0UTF8\0S\0\0\0\x19client_encoding\0UTF8\0S\0\0\0\x17DateStyle\0ISO, MDY\0S\0\0\0\x19integer_datetimes\0on\0S\0\0\0\x23standard_conforming_strings\0on\0
-# the rest of it for the sessions with pid 4, 5 and 8: their keys are words of the key stream of ChaCha20 at zero bytes
+# the rest of it for the sessions with these pids: their keys are words of the key stream of ChaCha20 at zero bytes
 KEY_OF_4 = K\0\0\0\x0c\0\0\0\x04\xb8\x19\xd2\xbdZ\0\0\0\x05I
 KEY_OF_5 = K\0\0\0\x0c\0\0\0\x05\x1a\xed\x8d\xa0Z\0\0\0\x05I
+KEY_OF_6 = K\0\0\0\x0c\0\0\0\x06\xcc\xef\x36\xa8Z\0\0\0\x05I
+KEY_OF_7 = K\0\0\0\x0c\0\0\0\x07\xc7\x0d\x77\x8bZ\0\0\0\x05I
 KEY_OF_8 = K\0\0\0\x0c\0\0\0\x08\x7cYA\xdaZ\0\0\0\x05I
+KEY_OF_9 = K\0\0\0\x0c\0\0\0\x09\x8d\x48\x57\x51Z\0\0\0\x05I
+KEY_OF_10 = K\0\0\0\x0c\0\0\0\x0a\x3f\xe0\x24\x77Z\0\0\0\x05I
 # answers
 INSERTED = C\0\0\0\x0fINSERT 0 1\0Z\0\0\0\x05I
 COLUMNS = T\0\0\0\x2e\0\x02k\0\0\0\0\0\0\0\0\0\0\x14\0\x08\xff\xff\xff\xff\0\0v\0\0\0\0\0\0\0\0\0\0\x19\xff\xff\xff\xff\xff\xff\0\0
@@ -47,6 +60,8 @@ ITS = D\0\0\0\x14\0\x02\0\0\0\x02-3\0\0\0\x04it's
 FOUND = C\0\0\0\x0dSELECT 1\0Z\0\0\0\x05I
 ABSENT = C\0\0\0\x0dSELECT 0\0Z\0\0\0\x05I
 NO_ROWS = T\0\0\0\x1e\0\x01count\0\0\0\0\0\0\0\0\0\0\x14\0\x08\xff\xff\xff\xff\0\0D\0\0\0\x0b\0\x01\0\0\0\x010C\0\0\0\x0dSELECT 1\0Z\0\0\0\x05I
+SLEPT = T\0\0\0\x21\0\x01pg_sleep\0\0\0\0\0\0\0\0\0\0\x19\xff\xff\xff\xff\xff\xff\0\0D\0\0\0\x0a\0\x01\0\0\0\0C\0\0\0\x0dSELECT 1\0Z\0\0\0\x05I
+CANCELED = E\0\0\0\x43SERROR\0VERROR\0C57014\0Mcanceling statement due to user request\0\0Z\0\0\0\x05I
 EMPTY = I\0\0\0\x04Z\0\0\0\x05I
 # one row was inserted, and its key was there for the next one
 INSERTED_ONCE = C\0\0\0\x0fINSERT 0 1\0E\0\0\0\x71SERROR\0VERROR\0C23505\0Mduplicate key value violates unique constraint "kv_pkey"\0DKey (k)=(1) already exists.\0\0Z\0\0\0\x05I
@@ -62,6 +77,13 @@ BAD_LAYOUT = E\0\0\0\x5bSFATAL\0VFATAL\0C08P01\0Minvalid startup packet layout: 
 LONG_QUERY = E\0\0\x005SFATAL\0VFATAL\0C54000\0Mquery exceeds 65536 bytes\0\0
 EXTENDED = E\0\0\0\x44SFATAL\0VFATAL\0C0A000\0Mextended query protocol is not supported\0\0
 UNKNOWN_TYPE = E\0\0\0\x3dSFATAL\0VFATAL\0C08P01\0Minvalid frontend message type 122\0\0
+# other refusals and ends of sessions
+TOO_MANY = E\0\0\0\x3bSFATAL\0VFATAL\0C53300\0Msorry, too many clients already\0\0
+STARTING = E\0\0\0\x3eSFATAL\0VFATAL\0C57P03\0Mthe database system is starting up\0\0
+STOPPING = E\0\0\0\x40SFATAL\0VFATAL\0C57P03\0Mthe database system is shutting down\0\0
+TERMINATED = E\0\0\0\x4fSFATAL\0VFATAL\0C57P01\0Mterminating connection due to administrator command\0\0
+CRASHED = N\0\0\0\x61SWARNING\0VWARNING\0C57P02\0Mterminating connection because of crash of another server process\0\0
+STOPPED = N\0\0\0\x58SWARNING\0VWARNING\0C57P01\0Mterminating connection due to immediate shutdown command\0\0
 # the gates of a file, or of what is written behind it
 CLOSED = \0
 OPEN = \x01
@@ -86,21 +108,37 @@ BASE_OF_ONE := OPEN SECOND_HEADER ONE_COMMIT ROW_SEVEN CLOSED
 # lines of the server's log
 READY = LOG:  database system is ready to accept connections\n
 SMART = LOG:  received smart shutdown request\n
+FAST = LOG:  received fast shutdown request\n
+IMMEDIATE = LOG:  received immediate shutdown request\n
+ABORTING_SESSIONS = LOG:  aborting any active transactions\n
 DOWN = LOG:  database system is shut down\n
 SESSION_CRASHED = LOG:  child 4 (backend) was terminated by signal 6\n
 CHECKPOINTER_CRASHED = LOG:  child 2 (checkpointer) was terminated by signal 6\n
+FAILED_2 = LOG:  child 2 (checkpointer) was terminated by signal 6\n
+FAILED_3 = LOG:  child 3 (writer) was terminated by signal 6\n
+FAILED_4 = LOG:  child 4 (backend) was terminated by signal 6\n
+FAILED_5 = LOG:  child 5 (backend) was terminated by signal 6\n
+FAILED_6 = LOG:  child 6 (backend) was terminated by signal 6\n
+KILLED_2 = LOG:  child 2 (dead-end) was terminated by signal 9\n
+KILLED_4 = LOG:  child 4 (backend) was terminated by signal 9\n
+CHECKPOINTER_KILLED = LOG:  child 2 (checkpointer) was terminated by signal 9\n
 TERMINATING = LOG:  terminating any other active server processes\n
 REINITIALIZING = LOG:  all server processes terminated; reinitializing\n
 RESTART_OFF = LOG:  shutting down because restart_after_crash is off\n
 ABNORMAL = LOG:  abnormal database system shutdown\n
 STARTUP_FAILED = LOG:  child 1 (startup) exited with exit code 1\n
+STARTUP_KILLED = LOG:  child 1 (startup) was terminated by signal 9\n
+STARTUP_5_FAILED = LOG:  child 5 (startup) exited with exit code 1\n
 ABORTING = LOG:  aborting startup due to startup process failure\n
 NO_CLUSTER = no readable cluster\n
 PLAIN := READY SMART DOWN
 CRASH_CYCLE := READY SESSION_CRASHED TERMINATING REINITIALIZING READY SMART DOWN
+NEXT := TERMINATING REINITIALIZING READY
 # what commands say
 USAGE = usage: initdb --data D | controldata --data D | workload --number N\n       once --data D [OPTIONS] | serve --data D --port P [OPTIONS]\noptions: --max-connections 1..64, --restart-after-crash on|off, --authentication-timeout 1..600\n
 DISK_FAULT = disk fault\n
+NO_THREAD = no thread\n
+WAS_KILLED = startup was killed\n
 OF_NEW = file: A\nepoch: 1\nclean: yes\ncommits: 0\nrows: 0\nbatches: 0\n
 OF_ONE_ROW = file: A\nepoch: 1\nclean: no\ncommits: 1\nrows: 1\nbatches: 1\n
 OF_CHECKPOINT = file: B\nepoch: 2\nclean: yes\ncommits: 1\nrows: 1\nbatches: 0\n
@@ -187,13 +225,23 @@ fn put(alloc: Global, bytes: &mut Vec<u8>, word: &str) -> Result<(), Fail> {
     Ok(())
 }
 
-/// The bytes that words stand for, one behind the other.
+/// The bytes that words stand for, one behind the other. Between two stands a space or a comma.
 pub fn spelled(alloc: Global, words: &str) -> Result<Vec<u8>, Fail> {
     let mut bytes = Vec::new(alloc);
-    for word in words.split_whitespace() {
+    for word in words.split([' ', ',']) {
         for part in meaning(word, " := ").split_whitespace() {
             put(alloc, &mut bytes, part)?;
         }
     }
     Ok(bytes)
+}
+
+/// A disk with these two files, made by four calls.
+pub fn disk_of(alloc: Global, a: &str, b: &str) -> Result<MemDisk, Fail> {
+    let mut disk = MemDisk::new(alloc);
+    disk.write(Which::A, 0, &spelled(alloc, a)?)?;
+    disk.sync(Which::A)?;
+    disk.write(Which::B, 0, &spelled(alloc, b)?)?;
+    disk.sync(Which::B)?;
+    Ok(disk)
 }

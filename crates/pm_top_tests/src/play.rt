@@ -13,8 +13,8 @@
 //! | `book` | all entries, each on a line |
 //! | `journal` | the entries of redo and of a next generation, each on a line |
 //! | `a`, `b` | that file |
-use crate::names::{number, spelled};
-use pm_disk::{Disk, FailingDisk, MemDisk, Which};
+use crate::names::{disk_of, number, spelled};
+use pm_disk::{FailingDisk, MemDisk, Which};
 use pm_outside::{Kept, LinkScript, MemClock, MemConsole, MemPort, MemSink};
 use pm_rows::Text;
 use pm_spawn::FewThreads;
@@ -69,14 +69,11 @@ fn faults_of(words: &str) -> Result<Faults, Fail> {
     Ok(faults)
 }
 
-fn disk_of(alloc: Global, words: &str) -> Result<Failing, Fail> {
+// Two files, and the number of the call that fails.
+fn failing_of(alloc: Global, words: &str) -> Result<Failing, Fail> {
     let (a, rest) = words.split_once(" | ").ok_or("file B")?;
     let (b, at) = rest.split_once(" | ").unwrap_or((rest, "0"));
-    let mut disk = MemDisk::new(alloc);
-    disk.write(Which::A, 0, &spelled(alloc, a)?)?;
-    disk.sync(Which::A)?;
-    disk.write(Which::B, 0, &spelled(alloc, b)?)?;
-    disk.sync(Which::B)?;
+    let disk = disk_of(alloc, a, b)?;
     Ok(FailingDisk::blip(disk, number(at)? as u64))
 }
 
@@ -213,7 +210,7 @@ pub fn play<R: Threads + Wait + Clock + Copy + Drop + Send + Abort + 'static>(
         let (word, rest) = line.split_once(' ').unwrap_or((line, ""));
         match word {
             "" | "#" => {}
-            "files" => left = ran(rt, alloc, disk_of(alloc, rest)?, "", NO_FAULTS)?,
+            "files" => left = ran(rt, alloc, failing_of(alloc, rest)?, "", NO_FAULTS)?,
             "fail" => faults = faults_of(rest)?,
             "$" => {
                 let Ended { outside, .. } = left;

@@ -1,1 +1,2 @@
 mod Crews
+pub mod Fresh

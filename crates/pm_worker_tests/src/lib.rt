@@ -1,5 +1,5 @@
 //! Tests of the workers: a pool of 47 real threads over one board and one store, with children of each kind, and sessions that are
-//! killed, told to quit and told to terminate in between.
+//! killed, told to quit and told to terminate in between; and of pools, that are made and closed.
 #![tactic(auto)]
 
 #[cfg(test)]
@@ -8,5 +8,7 @@ mod clients;
 mod crew;
 #[cfg(test)]
 mod pool;
+#[cfg(test)]
+mod pools;
 #[cfg(test)]
 mod tally;

@@ -1,5 +1,5 @@
 //! Children that crash: the others are told, and the next generation redoes the log.
-use crate::play::play;
+use crate::serving::play;
 use std::test::Fail;
 
 const SCENES: &str = r"

@@ -1,4 +1,4 @@
-//! A book that is refused memory at some calls.
+// A book that is refused memory at some calls.
 ghost use Rattle.std.specs.Prelude.{◌≡◌};
 
 use pm_outside::{Chronicle, Kept};

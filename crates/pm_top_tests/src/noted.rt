@@ -5,21 +5,21 @@ use pm_outside::{MemSink, Put, Scene, Sink};
 use std::alloc::Global;
 
 /// The number on the scene of the link as which the log is noted, and how many there are.
-pub(crate) const LOG: u64 = 9;
+pub const LOG: u64 = 9;
 
 /// The same of the reads of the disk.
-pub(crate) const READS: u64 = 10;
+pub const READS: u64 = 10;
 
 /// A sink in memory, which notes on its scene how many bytes it has taken, as if they had been sent on a link.
 #[derive(Drop)]
-pub(crate) struct NotedSink {
+pub struct NotedSink {
     sink: MemSink,
     scene: Scene,
 }
 
 impl NotedSink {
     /// An empty sink. A write takes at most five bytes.
-    pub(crate) fn new(alloc: Global, scene: Scene) -> NotedSink {
+    pub fn new(alloc: Global, scene: Scene) -> NotedSink {
         NotedSink {
             sink: MemSink::new(alloc, 5, Vec::new(alloc)),
             scene,
@@ -27,7 +27,7 @@ impl NotedSink {
     }
 
     /// All bytes written, in order.
-    pub(crate) fn bytes(&self) -> &[u8] {
+    pub fn bytes(&self) -> &[u8] {
         self.sink.bytes()
     }
 }
@@ -55,9 +55,9 @@ impl Sink for NotedSink {
 
 /// A disk over another one, whose calls are its own. It notes each read on its scene, before it is made.
 #[derive(Drop)]
-pub(crate) struct NotedDisk<D> {
-    pub(crate) disk: D,
-    pub(crate) scene: Scene,
+pub struct NotedDisk<D> {
+    pub disk: D,
+    pub scene: Scene,
 }
 
 impl<D: Disk> Disk for NotedDisk<D> {

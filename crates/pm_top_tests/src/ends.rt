@@ -1,5 +1,5 @@
 //! Servers that don't start, and what the operator asks for.
-use crate::play::play;
+use crate::serving::play;
 use std::test::Fail;
 
 const UNSTARTED: &str = r"

@@ -1,5 +1,5 @@
 //! Sessions: one, two side by side, more than may be, and statements that are cancelled.
-use crate::play::play;
+use crate::serving::play;
 use std::test::Fail;
 
 const SCENES: &str = r"

@@ -1,6 +1,6 @@
 // Each status with its cause.
 
-use crate::cases::*;
+use crate::children::*;
 use pm_aux::AuxDone;
 use pm_exit::{Kind, Status};
 use pm_life::{GateNo, Reason};

@@ -10,26 +10,26 @@ use std::test::Fail;
 
 /// What the next run works on.
 #[derive(Drop)]
-pub(crate) struct Setup {
-    pub(crate) connections: u32,
-    pub(crate) threads: u64,
-    pub(crate) restarts: bool,
+pub struct Setup {
+    pub connections: u32,
+    pub threads: u64,
+    pub restarts: bool,
     /// Whether time passes: a millisecond with each pause of the supervisor.
-    pub(crate) runs: bool,
+    pub runs: bool,
     /// Which call of the disk waits, and for what.
-    pub(crate) withheld: Withheld,
-    pub(crate) until: Cue,
+    pub withheld: Withheld,
+    pub until: Cue,
     /// The number of the call of the disk that fails, and whether each behind it does.
-    pub(crate) fails: u64,
-    pub(crate) breaks: bool,
-    pub(crate) links: Vec<LinkScript>,
+    pub fails: u64,
+    pub breaks: bool,
+    pub links: Vec<LinkScript>,
     /// Where the port waits.
-    pub(crate) holds: Vec<Hold>,
-    pub(crate) lines: Vec<ScriptLine>,
+    pub holds: Vec<Hold>,
+    pub lines: Vec<ScriptLine>,
 }
 
 /// Two connections over threads enough, and nothing else.
-pub(crate) fn plain(alloc: Global) -> Setup {
+pub fn plain(alloc: Global) -> Setup {
     Setup {
         connections: 2,
         threads: 64,
@@ -117,7 +117,7 @@ impl Setup {
     }
 
     /// Adds what a line says. It tells whether the line says something of what is run, and not of what has come of it.
-    pub(crate) fn add(&mut self, alloc: Global, word: &str, rest: &str) -> Result<bool, Fail> {
+    pub fn add(&mut self, alloc: Global, word: &str, rest: &str) -> Result<bool, Fail> {
         match word {
             "with" => self.with(rest)?,
             "fails" | "breaks" => {

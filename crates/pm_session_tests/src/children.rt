@@ -1,6 +1,6 @@
 // One run of a child over memory, and how it ended.
 
-use crate::ShortBook;
+use crate::short_book::ShortBook;
 use pm_aux::{AuxDone, checkpointer, startup, writer};
 use pm_exit::{Kind, Status};
 use pm_life::{Cancelled, GateNo, Reason, ScriptedLife, Signals};

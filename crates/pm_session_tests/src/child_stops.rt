@@ -1,7 +1,7 @@
 // When a child asks the store, and what it leaves flushed.
 
-use crate::ShortBook;
-use crate::cases::*;
+use crate::children::*;
+use crate::short_book::ShortBook;
 use pm_aux::{startup, writer};
 use pm_exit::{Kind, Status};
 use pm_life::{Cancelled, ScriptedLife, Signals};

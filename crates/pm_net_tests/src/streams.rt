@@ -1,7 +1,6 @@
-//! What no clause says: that the adapters reach what they stand for.
-use crate::clock::SystemClock;
-use crate::streams::{StandardPort, StandardSink};
+// That the adapters of a program's streams and clock reach what they stand for.
 use pm_outside::{Accepted, Clock, Got, Link, Port, Put, Sink};
+use pm_standard::{StandardPort, StandardSink, SystemClock};
 use std::test::Fail;
 
 #[test]

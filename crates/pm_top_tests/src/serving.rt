@@ -24,7 +24,7 @@
 //! | `entries` | how many entries the journal has |
 //! | `a`, `b` | that file |
 //! | `calls` | how many calls the disk has seen |
-use crate::names::{number, spelled};
+use crate::names::{disk_of, number, spelled};
 use crate::noted::{NotedDisk, NotedSink, READS};
 use crate::scripts::{Setup, plain};
 use bstr::ByteSlice;
@@ -48,16 +48,6 @@ struct Left {
     sink: NotedSink,
     journal: Kept<PmEvent>,
     disk: MemDisk,
-}
-
-fn disk_of(alloc: Global, words: &str) -> Result<MemDisk, Fail> {
-    let (a, b) = words.split_once(" | ").ok_or("file B")?;
-    let mut disk = MemDisk::new(alloc);
-    disk.write(Which::A, 0, &spelled(alloc, a)?)?;
-    disk.sync(Which::A)?;
-    disk.write(Which::B, 0, &spelled(alloc, b)?)?;
-    disk.sync(Which::B)?;
-    Ok(disk)
 }
 
 // What stands there before a run.
@@ -246,7 +236,10 @@ fn play_scene<R: Threads + Wait + Clock + Copy + Drop + Abort + Send + 'static>(
     for line in lines.lines() {
         let (word, rest) = line.split_once(' ').unwrap_or((line, ""));
         match word {
-            "files" => left = untouched(alloc, disk_of(alloc, rest)?)?,
+            "files" => {
+                let (a, b) = rest.split_once(" | ").ok_or("file B")?;
+                left = untouched(alloc, disk_of(alloc, a, b)?)?;
+            }
             "serve" | "once" => {
                 let Left { disk, .. } = left;
                 left = ran(rt, alloc, disk, word, setup)?;
@@ -263,7 +256,7 @@ fn play_scene<R: Threads + Wait + Clock + Copy + Drop + Abort + Send + 'static>(
 }
 
 /// Goes through the scenes, each of which begins with a line of its own behind `# `.
-pub(crate) fn play<R: Threads + Wait + Clock + Copy + Drop + Abort + Send + 'static>(
+pub fn play<R: Threads + Wait + Clock + Copy + Drop + Abort + Send + 'static>(
     rt: R,
     alloc: Global,
     scenes: &str,

@@ -1,5 +1,0 @@
-//! Tests of pools, with real threads.
-#![tactic(auto)]
-
-#[cfg(test)]
-mod pools;
