@@ -2,6 +2,7 @@
 use Rattle.std.proofs.Common.{◌≡◌, ℕ, refl, eq-eqb, ◌+◌, ◌≤◌, arith, cond, Some, ◌∙◌, ap, [], ◌∷◌, sym, subst, List, length, ◌++◌}
 use Rattle.std.specs.Prelude.{true, ◌==◌, false, Bool, nat_le, ◌||◌}
 use Rattle.std.proofs.lemmas.Bool.{eqb-true, le-leb, leb-true, lt-leb, ne_eqb}
+use Rattle.std.proofs.Math.Bool.{or-false}
 use Rattle.pm_exit.specs.declared.child.Kind.{Kind}
 use Rattle.pm_state.specs.declared.action.Action.{Action}
 use Rattle.pm_state.specs.declared.action.Action.TheVariants as act
@@ -71,17 +72,13 @@ asks_drawn asked listens s t pid owes asks = record {
   smart = asks.smart;
   few = elim (s.last_pid + 1 == 2147480000) as (λ (b : Bool). (s.last_pid + 1 == 2147480000) ≡ b → length asked + one_if t.owes_smart + one_if listens ≤ 1 + one_if (is_last_drawn t.last_pid)) [
     | true ↦ λ is. omega (arith, asks.few, drawn_test s.last_pid is, drawn_now s.last_pid is, ap (λ (n : ℕ). one_if (is_last_drawn n)) pid, at_most_one t.owes_smart)
-    | false ↦ λ is. omega (arith, asks.few, drawn_grows s.last_pid, ap (λ (n : ℕ). one_if (is_last_drawn n)) pid, ap one_if (owes ∙ ap (λ (b : Bool). s.owes_smart || b) is ∙ or_false s.owes_smart))
+    | false ↦ λ is. omega (arith, asks.few, drawn_grows s.last_pid, ap (λ (n : ℕ). one_if (is_last_drawn n)) pid, ap one_if (owes ∙ ap (λ (b : Bool). s.owes_smart || b) is ∙ or-false s.owes_smart))
   ] refl;
 }
   where
     at_most_one : (b : Bool) → one_if b ≤ 1
     at_most_one true = omega arith
     at_most_one false = omega arith
-
-    or_false : (b : Bool) → (b || false) ≡ b
-    or_false true = refl
-    or_false false = refl
 
 pub asks_acted : (a : Action) (s : Standing) (asked : List Mode) (listens : Bool) → AsksAsDue asked listens s → AsksAsDue asked listens (done a s)
 asks_acted (act.Start k) s asked listens asks = asks_drawn asked listens s (done (act.Start k) s) refl refl asks

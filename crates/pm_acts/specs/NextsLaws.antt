@@ -1,6 +1,7 @@
 -- What the next act is that is due, of those that these servers do.
 use Rattle.std.proofs.Common.{◌≡◌, [], ◌∷◌, Some, List, Option, Err, refl, sym, ◌∙◌, ap, None, ℕ, ◌+◌, subst, append-nil}
 use Rattle.std.specs.Prelude.{Bool, true, false, ◌||◌}
+use Rattle.std.proofs.Math.Bool.{or-false}
 use Rattle.pm_state.specs.declared.action.Action.{Action}
 use Rattle.pm_state.specs.declared.action.Action.TheVariants as act
 use Rattle.pm_outside.specs.Added.{Added}
@@ -44,13 +45,9 @@ pub generation_kept : (a : Action) (s : Standing) → (a ≡ act.Reset → ⊥) 
 generation_kept act.Reset s other = absurd (other refl)
 generation_kept _ s other = refl
 
-or_false : (b : Bool) → (b || false) ≡ b
-or_false true = refl
-or_false false = refl
-
 pub ended_kept : (a : Action) (s : Standing) → ((how : Ending) → a ≡ act.End how → ⊥) → (done a s).ended ≡ s.ended
 ended_kept (act.End how) s goes_on = absurd (goes_on how refl)
-ended_kept _ s goes_on = or_false s.ended
+ended_kept _ s goes_on = or-false s.ended
 
 pub says_tail : (a : Action) (rest : List Action) → AreSays (a ∷ rest) → AreSays rest
 says_tail (act.Say line) rest says = says

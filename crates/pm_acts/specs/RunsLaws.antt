@@ -1,7 +1,7 @@
 -- A step behind others: which may follow, and the run of a child.
 use Rattle.std.proofs.Common.{Option, None, Some, ℕ, ◌≡◌, refl, List, [], ◌∷◌, ◌∙◌, ap, ◌+◌, nat_eq, cond, arith, ◌-◌, ◌⊎◌, inl, inr, ◌++◌, sym, subst}
 use Rattle.std.specs.List.{AllByRecursion}
-use Rattle.std.specs.Prelude.{Bool, true, false, if◌then◌else◌, ◌==◌, IsSomeAnd, unwrap_or}
+use Rattle.std.specs.Prelude.{Bool, true, false, if◌then◌else◌, unwrap_or}
 use Rattle.std.proofs.lemmas.List.Sums.{fold-append, sum_by-append, sum_by-cons}
 use Rattle.pm_state.specs.declared.event.PmEvent.{PmEvent}
 use Rattle.pm_state.specs.declared.event.PmEvent.TheVariants as entry
@@ -14,15 +14,14 @@ use Rattle.pm_query.specs.Book.{times_after}
 use Rattle.pm_query.specs.declared.book.BookEntry.{BookEntry}
 use Rattle.pm_query.specs.declared.book.BookEntry.TheVariants as noted
 use Rattle.pm_segment.specs.Children.{times_behind, once, times_in}
-use Rattle.pm_exit.specs.declared.child.Kind.{Kind}
-use Rattle.pm_supervisor.specs.Children.{Child, child_of}
-use Rattle.pm_journal.specs.Roll.{kind_in, roll_of}
+use Rattle.pm_journal.specs.Roll.{kind_in}
 use Rattle.pm_supervisor.specs.declared.Limits.{Limits}
 use Rattle.pm_supervisor.specs.Steps.{Trace}
 use Rattle.pm_state.specs.Journal.{all_replayed, replay_begun, lines_of}
 use Rattle.pm_chain.specs.Laws.{StepsGoOn}
 use Rattle.pm_journal.specs.Laws.{KeepsALegalJournal}
 use Rattle.pm_journal.specs.Stands.{Remembers, Stands}
+use Rattle.pm_journal.specs.RollLaws.{on-roll}
 use Rattle.pm_server.specs.Journal.{asked_in, accepted_in}
 
 -- ---- which step may follow
@@ -147,24 +146,13 @@ lost_more false who pid lost = omega arith
 
 -- ---- the child is there
 
-found : (pid : ℕ) (k : Kind) (cs : List Child) → kind_in pid (roll_of cs) ≡ Some k → IsSomeAnd (child_of pid cs) (λ c. c.kind ≡ k)
-found pid k [] is = absurd cc
-found pid k (c ∷ cs) is =
-    elim (c.pid == pid) as (λ (b : Bool). (if b then Some c.kind else kind_in pid (roll_of cs)) ≡ Some k → IsSomeAnd (if b then Some c else child_of pid cs) (λ x. x.kind ≡ k)) [
-      | true ↦ λ e. some_same c.kind k e
-      | false ↦ λ e. found pid k cs e
-    ] is
-  where
-    some_same : (x y : Kind) → Some x ≡ Some y → x ≡ y
-    some_same x y e = cc
-
 pub there_in : StepsGoOn → KeepsALegalJournal → (limits : Limits) (journal : List PmEvent) (s : Standing) (h : Trace) (run : ChildRun) → Stands limits (Some journal) s h → s.due ≡ []
     → kind_in run.pid s.children ≡ Some run.kind → run.generation ≡ s.generation → IsThere (all_replayed (replay_begun limits) journal) run
 there_in goes legal limits journal s h run stands none there generation =
     let same : stands.journal ≡ journal = sym stands.told_is in
     let remembers : Remembers s (all_replayed (replay_begun limits) journal) = subst (λ (j : List PmEvent). Remembers s (all_replayed (replay_begun limits) j)) same stands.remembers in
     goes.there limits (record { replay = all_replayed (replay_begun limits) journal; machine = s.machine; trace = h }) run (legal.in_step limits journal s h stands none)
-    (found run.pid run.kind _ (ap (kind_in run.pid) (sym remembers.children) ∙ there))
+    (on-roll run.pid run.kind _ (ap (kind_in run.pid) (sym remembers.children) ∙ there))
     (generation ∙ remembers.generation)
 
 -- ---- what its end notes

@@ -1,17 +1,16 @@
 -- What happens inside one generation behind its redo.
-use Rattle.std.proofs.Common.{◌≡◌, ℕ, ◌+◌, ◌-◌, ◌≤◌, List, [], ◌∷◌, ◌++◌, length, length-append, fold, Option, None, Some, refl, sym, ap, subst, ◌∙◌, arith}
-use Rattle.std.specs.Prelude.{All, false, nat_eq, take}
-use Rattle.std.specs.List.{AllByRecursion, Any}
+use Rattle.std.proofs.Common.{◌≡◌, ℕ, ◌-◌, ◌≤◌, List, [], ◌∷◌, ◌++◌, length-append, fold, Option, None, Some, refl, sym, ap, subst, ◌∙◌, arith}
+use Rattle.std.specs.Prelude.{false}
+use Rattle.std.specs.List.{Any}
 use Rattle.std.proofs.lemmas.List.{take-append-le}
 use Rattle.std.proofs.lemmas.List.Elements.{All-from_recursion}
 use Rattle.std.proofs.lemmas.List.Sums.{fold-append}
-use Rattle.pm_rows.specs.Standing.{Standing}
 use Rattle.pm_rows.specs.declared.commit.Change.{Change}
 use Rattle.pm_query.specs.declared.book.BookEntry.{BookEntry}
 use Rattle.pm_query.specs.declared.book.BookEntry.TheVariants.{Opened, Redone, Attached, Answered, Released, Detached, Gone, CheckpointEnded, Broke, LogFull}
 use Rattle.pm_query.specs.History.{History, acknowledged, beginning, count_of, number, with_commit}
-use Rattle.pm_query.specs.Book.{AnswersUpTo, Base, Course, course_after, course_of, history_of, kept_by_redo, present_after, standing_of}
-use Rattle.pm_answers.specs.HistoryLaws.{number_by, redone_is}
+use Rattle.pm_query.specs.Book.{AnswersUpTo, Base, Course, course_after, history_of, kept_by_redo, present_after, standing_of}
+use Rattle.pm_query.specs.HistoryLaws.{number_of, redone_is}
 use Rattle.pm_answers.specs.Own.{NoneBy, is_by}
 
 -- no generation opens among them
@@ -92,7 +91,7 @@ with_one : (h : History) (commit : List Change) → GoesOnFrom h (with_commit h 
 with_one h [] = stays h
 with_one h (change ∷ changes) = record {
   count = omega (arith, length-append h.commits ((change ∷ changes) ∷ []));
-  same = λ n le. ap (number_by h n) (take-append-le (n - h.base.count) h.commits ((change ∷ changes) ∷ []) (omega (arith, le)));
+  same = λ n le. ap (number_of h n) (take-append-le (n - h.base.count) h.commits ((change ∷ changes) ∷ []) (omega (arith, le)));
 }
 
 released : (h : History) (front : ℕ) → GoesOnFrom h (acknowledged h front)

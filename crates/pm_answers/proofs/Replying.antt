@@ -1,5 +1,5 @@
 -- Each reply of a session is right, where its entries stand in a legal book.
-use Rattle.std.proofs.Common.{◌≡◌, ◌⊎◌, inl, inr, ℕ, ◌≤◌, List, [], ◌∷◌, ◌++◌, Option, None, Some, fold, refl, sym, ap, subst, ◌∙◌, arith, append_assoc, append-nil}
+use Rattle.std.proofs.Common.{◌≡◌, ◌⊎◌, inl, inr, ℕ, ◌≤◌, List, [], ◌∷◌, ◌++◌, Option, None, Some, fold, refl, sym, ap, subst, ◌∙◌, arith, append_assoc}
 use Rattle.std.specs.Prelude.{IfSome, IsSome, map}
 use Rattle.std.specs.List.{Any}
 use Rattle.std.proofs.lemmas.List.Sums.{fold-append}
@@ -17,11 +17,11 @@ use Rattle.pm_query.specs.BookLaws.{AckedIsWithin, AckedNeverFalls, Acknowledged
 use Rattle.pm_query.specs.Calls.{User}
 use Rattle.pm_query.specs.History.{History, acknowledged, count_of, number, rows_of, with_commit}
 use Rattle.pm_query.specs.Book.{AnswersUpTo, Base, IsLegal, MayAnswer, MayGoOn, MayRelease, history_of, kept_after, kept_by_redo, present, present_after}
+use Rattle.pm_query.specs.HistoryLaws.{count_of-with_commit, going-append, history_push}
 use Rattle.pm_exchange.specs.Sent.{Turn, Ran, Faulted, NotUtf8, Cancelled, LogIsFull, Memory, bytes_of, greeting}
 use Rattle.pm_session.specs.Session.{AllNotes, HasPassed, IsServed, IsText, last_messages, pieces}
 use Rattle.pm_exchange.specs.Queries.{IsReleased, TurnNotes}
-use Rattle.pm_answers.specs.HistoryLaws.{base_stays, count_of-with_commit, going-append, history_push, number_before, number_behind, rows_at_last}
-use Rattle.pm_answers.specs.Laws.{IsSessionOf}
+use Rattle.pm_answers.specs.HistoryLaws.{base_stays, number_before, number_behind, rows_at_last}
 use Rattle.pm_answers.specs.Own.{NoneBy, StandIn}
 use Rattle.pm_answers.specs.Replies.{AreRight, IsAnswered, IsRight, IsTurnedOff, Talk, with_changes}
 use Rattle.pm_answers.proofs.Generations.{GoesOnFrom, OpensNone, goes_on_from, opens_none}

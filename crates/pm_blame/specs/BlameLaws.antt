@@ -22,6 +22,7 @@ use Rattle.pm_state.specs.Exits.{is_shutdown}
 use Rattle.pm_state.specs.Laws.{RestartsSafely}
 use Rattle.pm_state.specs.Promises.{has_act, is_ask_checkpoint, is_terminate}
 use Rattle.pm_state.specs.Journal.{IsLegal, Replay, all_replayed, replay_begun, replayed}
+use Rattle.pm_state.specs.ReplayLaws.{acts_in, ends_at, legal_behind, legal_front}
 use Rattle.pm_life.specs.Life.{Checkpoint, Quit, Told, was_told}
 use Rattle.pm_journal.specs.Stands.{any_moment}
 use Rattle.pm_board.specs.declared.views.RosterStep.{RosterStep}
@@ -29,12 +30,12 @@ use Rattle.pm_board.specs.declared.views.RosterStep.TheVariants as step
 use Rattle.pm_board.specs.declared.views.RosterView.{RosterView}
 use Rattle.pm_board.specs.Heard.{IsKnownAtLast}
 use Rattle.pm_board.specs.Latches.{HeardRightly, NoticedBefore, times_given, times_sent}
+use Rattle.pm_board.specs.BoardLaws.{sent-append}
 use Rattle.pm_query.specs.declared.book.BookEntry.{BookEntry}
 use Rattle.pm_query.specs.declared.book.BookEntry.TheVariants.{Broke}
 use Rattle.pm_segment.specs.Moves.{IsShown}
 use Rattle.pm_segment.specs.Unread.{is_break}
 use Rattle.pm_server.specs.CalmLaws.{is_closing, shuts}
-use Rattle.pm_server.specs.ReplayLaws.{acts_in, ends_at, legal_behind, legal_front}
 use Rattle.pm_server.specs.Views.{DiskView}
 use Rattle.pm_remains.specs.Remains.{Remains}
 use Rattle.pm_seating.specs.FoldingLaws.{seating-append, steps-append}
@@ -52,7 +53,7 @@ use Rattle.pm_blame.specs.CalmLaws.{IsCalm, SoFar, nothing_so_far, told_after}
 use Rattle.pm_blame.specs.JournalLaws.{StaysCalm, checkpointer_there, never_again, stays_calm}
 use Rattle.pm_blame.specs.RunsLaws.{Outcome, EndedFine, WasKilled, WasToldToQuit, MetNotice, GaveUp, DiskFailed, HadNoRedo, WasShort, WasSpent, FoundOther, IsFineAs, outcome}
 use Rattle.pm_blame.specs.GivenLaws.{checkpoint_given, kill_given, number_of, quit_given, terminate_given}
-use Rattle.pm_blame.specs.SendsLaws.{SitsNowhere, final_sends, may_send, not_noticed, nowhere_from, quiet, sent_append, unreached, unsent}
+use Rattle.pm_blame.specs.SendsLaws.{SitsNowhere, final_sends, may_send, not_noticed, nowhere_from, quiet, unreached, unsent}
 use Rattle.pm_blame.specs.FindLaws.{IsKnownRun, NotedAt, RunOf, gone, its_run, near, noted_at}
 
 -- ---- which signals were sent before the first crash
@@ -233,7 +234,7 @@ module _ (safely : RestartsSafely) (limits : Limits) (manner : Manner) (count : 
     -- so nothing was sent to it behind its end
     none_behind : (n : ℕ) → times_sent n end.pid (rest_steps ++ u.board_is.last) ≡ 0
     none_behind n =
-        sent_append n end.pid rest_steps u.board_is.last
+        sent-append n end.pid rest_steps u.board_is.last
         ∙ (let rest : times_sent n end.pid rest_steps ≡ 0 = unreached n end.pid behind_it found.rest fresh gone_then in
         let last : times_sent n end.pid u.board_is.last ≡ 0 = final_sends n end.pid (seating_of count moves).seats u.board_is.last gone_at_last u.board_is.final in
         (let none : times_sent n end.pid rest_steps + times_sent n end.pid u.board_is.last ≡ 0 = omega (arith, rest, last) in none))
@@ -242,7 +243,7 @@ module _ (safely : RestartsSafely) (limits : Limits) (manner : Manner) (count : 
     sent : (n : ℕ) → AllByRecursion (λ x. may_send n x ≡ false) first.before → times_sent n end.pid board.notes.steps ≡ 0
     sent n others =
         ap (times_sent n end.pid) steps
-        ∙ sent_append n end.pid front_steps (step.Release end.pid end.kind behind_front.generation ∷ (rest_steps ++ u.board_is.last))
+        ∙ sent-append n end.pid front_steps (step.Release end.pid end.kind behind_front.generation ∷ (rest_steps ++ u.board_is.last))
         ∙ (let front : times_sent n end.pid front_steps ≡ 0 = unsent n end.pid (empty count) found.front (subst (AllByRecursion (λ x. may_send n x ≡ false)) (sym found.front_is) others) in
         let none : times_sent n end.pid (rest_steps ++ u.board_is.last) ≡ 0 = none_behind n in
         (let all : times_sent n end.pid front_steps + (0 + times_sent n end.pid (rest_steps ++ u.board_is.last)) ≡ 0 = omega (arith, front, none) in all))

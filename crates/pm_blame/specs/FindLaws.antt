@@ -22,6 +22,7 @@ use Rattle.pm_seating.specs.Board.{ended_of, seat_at}
 use Rattle.pm_seating.specs.FoldingLaws.{begun-append}
 use Rattle.pm_seating.specs.Seating.{Ended, Kill, Move, Nothing, Notes, PidsEnd, PortEnds, Reads, Request, Seating, Stop, asked_by, begun_at, begun_from, empty, ended_at, ended_by, ends, entries_by, entries_from, is_seated, seating_by, seating_from}
 use Rattle.pm_seating.specs.Standing.{IsBoardOf}
+use Rattle.pm_seating.specs.EndedLaws.{Among, among_behind, among_front}
 use Rattle.pm_shared.specs.declared.views.Noted.{Noted}
 use Rattle.pm_worker.specs.declared.mail.MailTold.{MailTold}
 use Rattle.pm_worker.specs.Runs.{IsRun, Run}
@@ -126,19 +127,6 @@ noted_at s (PidsEnd at ∷ moves) before e behind exit is =
     later_on s (PidsEnd at) moves before e behind p.others p.before_is (noted_at s moves p.others e behind exit p.later_is)
 
 -- ---- the run
-
-abbrev Among : Ended → List Ended → Type 0
-Among end [] = ⊥
-Among end (x ∷ xs) = (x ≡ end) ⊎ Among end xs
-
-among_front : (end : Ended) (xs ys : List Ended) → Among end xs → Among end (xs ++ ys)
-among_front end [] ys on = absurd on
-among_front end (x ∷ xs) ys (inl is) = inl is
-among_front end (x ∷ xs) ys (inr on) = inr (among_front end xs ys on)
-
-among_behind : (end : Ended) (xs ys : List Ended) → Among end ys → Among end (xs ++ ys)
-among_behind end [] ys on = on
-among_behind end (x ∷ xs) ys on = inr (among_behind end xs ys on)
 
 like : (n : ℕ) → nat_eq n n ≡ true
 like n = grind arith

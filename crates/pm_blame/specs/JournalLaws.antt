@@ -20,10 +20,10 @@ use Rattle.pm_state.specs.Requests.{asked_with}
 use Rattle.pm_state.specs.Restarts.{Counts}
 use Rattle.pm_state.specs.TurnRules.{is_not_running}
 use Rattle.pm_state.specs.Journal.{AreLegal, Follows, IsLegal, MayCome, Replay, all_replayed, caused, dues_after, replay_begun, replayed, reported}
+use Rattle.pm_state.specs.ReplayLaws.{AreCounted, Behind, Ends, Keeps, acts_behind_redo, acts_in, acts_in_dues, are_counted, ends_at, first_on, follows_on, legal_behind, legal_front, rested, startup_there, there_counts, was_there}
 use Rattle.pm_chain.specs.Chain.{IsPidOf}
 use Rattle.pm_crew.specs.PidsLaws.{RiseAbove, pid_either, pids_by, pids_below, pids_in, pids_rise}
 use Rattle.pm_server.specs.CalmLaws as machine
-use Rattle.pm_server.specs.ReplayLaws.{AreCounted, Behind, Ends, Keeps, acts_behind_redo, acts_in, acts_in_dues, are_counted, ends_at, first_on, follows_on, legal_behind, legal_front, rested, startup_there, there_counts, was_there}
 use Rattle.pm_blame.specs.Crashes.{HasNoCrash, IsHarmless, IsUnasked, is_crash}
 use Rattle.pm_blame.specs.CalmLaws.{IsCalm, SoFar, accepted_calm, act_calm, asked_calm, left_calm, no_kill, nothing_so_far, row_calm, settled_calm, told_after}
 

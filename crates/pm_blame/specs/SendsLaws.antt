@@ -12,8 +12,9 @@ use Rattle.pm_board.specs.declared.views.RosterStep.TheVariants as step
 use Rattle.pm_board.specs.declared.views.Signal.{Signal}
 use Rattle.pm_board.specs.declared.views.Signal.TheVariants as signal
 use Rattle.pm_board.specs.Latch.{signal_number}
-use Rattle.pm_board.specs.Latches.{NotReleased, is_send, times_sent}
+use Rattle.pm_board.specs.Latches.{NotReleased, times_sent}
 use Rattle.pm_board.specs.Words.{bit}
+use Rattle.pm_board.specs.BoardLaws.{sent-append}
 use Rattle.pm_chain.specs.Chain.{IsPidOf}
 use Rattle.pm_journal.specs.declared.roll.Enrolled.{Enrolled}
 use Rattle.pm_seating.specs.declared.audience.Audience.{Audience}
@@ -30,14 +31,8 @@ use Rattle.pm_blame.specs.Crashes.{IsHarmless}
 add_none : (a b : ℕ) → a ≡ 0 → b ≡ 0 → a + b ≡ 0
 add_none a b one two = omega (arith, one, two)
 
-pub sent_append : (n pid : ℕ) (xs ys : List RosterStep) → times_sent n pid (xs ++ ys) ≡ times_sent n pid xs + times_sent n pid ys
-sent_append n pid [] ys = (let z : times_sent n pid ys ≡ 0 + times_sent n pid ys = omega arith in z)
-sent_append n pid (x ∷ xs) ys =
-    let rest = sent_append n pid xs ys in
-    (let z : bit (is_send n pid x) + times_sent n pid (xs ++ ys) ≡ bit (is_send n pid x) + times_sent n pid xs + times_sent n pid ys = omega (arith, rest) in z)
-
 none_append : (n pid : ℕ) (xs ys : List RosterStep) → times_sent n pid xs ≡ 0 → times_sent n pid ys ≡ 0 → times_sent n pid (xs ++ ys) ≡ 0
-none_append n pid xs ys one two = sent_append n pid xs ys ∙ add_none (times_sent n pid xs) (times_sent n pid ys) one two
+none_append n pid xs ys one two = sent-append n pid xs ys ∙ add_none (times_sent n pid xs) (times_sent n pid ys) one two
 
 -- ---- by the signal
 

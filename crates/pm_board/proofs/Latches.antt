@@ -27,6 +27,7 @@ use Rattle.pm_board.specs.Latch.{latch_pid, signal_number}
 use Rattle.pm_life.specs.declared.life.Signals.{Signals}
 use Rattle.pm_board.specs.Latches.{times_made_on, made_on, CallsIn, LatchesOf, is_send, times_sent, times_given, NotSent, Reaches, ReachesIn, NotReleased, NoticedBefore, HeardRightly, HearsRightly, OfRunning, OfUnreleased, EachHeard, beside, waiting, times_told, times_made, WereMade, LatchOk, latch_at, cancel_at, Latches}
 use Rattle.pm_board.specs.Rule.{Phase, unused, opened, offered, running, ended, collected, gathered, Cell, put, at_put, no_signals, idle_post}
+use Rattle.pm_board.specs.BoardLaws.{sent-append}
 
 -- lists
 
@@ -60,10 +61,6 @@ module _ {A : Type 0} where
   all_more P (y ∷ xs) x h new = (h.0, all_more P xs x h.1 new)
 
 -- the supervisor's steps
-
-pub sent-append : (number pid : ℕ) (xs ys : List RosterStep) → times_sent number pid (xs ++ ys) ≡ times_sent number pid xs + times_sent number pid ys
-sent-append number pid [] ys = omega arith
-sent-append number pid (x ∷ xs) ys = let h : times_sent number pid (xs ++ ys) ≡ times_sent number pid xs + times_sent number pid ys = sent-append number pid xs ys in omega arith
 
 pub sends_nothing : (pid : ℕ) → NotSent pid []
 sends_nothing pid number = refl

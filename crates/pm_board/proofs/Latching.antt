@@ -14,6 +14,7 @@ use prog.Atomic.{either}
 use Rattle.std.specs.Prelude.{Bool, true, false, ◌&&◌, ◌||◌, eqb, is_some, Option, Some, None, bit_or, bit_and}
 use Rattle.std.specs.Int.{bit_at}
 use Rattle.std.specs.List.{AllByRecursion}
+use Rattle.std.proofs.Math.Bool.{or-true}
 use Rattle.atomic_table.specs.Table.{step, Act, keeps, takes, Valid, stepped, carried_after, Allows}
 use Rattle.atomic_table.proofs.Lists.{set_here, set_else, exchanged}
 use Rattle.pm_exit.specs.declared.child.Kind.{Kind}
@@ -48,11 +49,12 @@ use Rattle.pm_board.specs.Rule.{Phase, unused, opened, offered, running, ended, 
 use Rattle.pm_board.specs.Seats.{is_gathered}
 use Rattle.pm_board.specs.History.{Kept}
 use Rattle.pm_board.specs.Told.{Seated, past_child, with_slot, with_sight, with_notes, child_in, after_step, answered, noted_take, noted_heed, noted_latch_look, noted_cancel, Arms, Sends, Takes, Heeds, LooksAtLatch, Cancels}
+use Rattle.pm_board.specs.BoardLaws.{sent-append}
 use Rattle.pm_board.proofs.Bits.{bit_small}
 use Rattle.pm_board.proofs.Counts.{count_moves}
 use Rattle.pm_board.proofs.Moves.{rebased, word_step, word_turn, slot_turn, St}
 use Rattle.pm_board.proofs.Gates.{uncounted, uncounted_notes, gate_moves, once_still}
-use Rattle.pm_board.proofs.Latches.{all_more, no_release, not_released-append, send_is_no_release, sends_nothing, sent_to_other, sent-append, unreleased_all, unreleased_both, latch_here, heard-more, hears-more, running_map, each-map, cancels_stay, cancelled_more, latches_moved, latches_word, recount, count_same}
+use Rattle.pm_board.proofs.Latches.{all_more, no_release, not_released-append, send_is_no_release, sends_nothing, sent_to_other, unreleased_all, unreleased_both, latch_here, heard-more, hears-more, running_map, each-map, cancels_stay, cancelled_more, latches_moved, latches_word, recount, count_same}
 use Rattle.pm_board.proofs.Seats.{seats_step, seats_turn, seats_still}
 use Rattle.pm_board.proofs.Histories.{kept, same_history, quiet, send_history, others_unsent}
 use Rattle.pm_board.proofs.Keeps.{at_phase, owned, see_unused, pids_drop, does_run, does_act, does_back, does_stay}
@@ -298,14 +300,10 @@ module _ (steps : List RosterStep) (x : ℕ → ℕ → Type 0) where
   heard_still : ((p m m' : ℕ) → m' ≤ m → x p m → x p m') → (own cancel pid g : ℕ) (h : Heard) → HeardRightly steps (beside x cancel) pid g h → HeardRightly steps (beside x (either (eqb cancel own) 0 cancel)) pid g h
   heard_still less_ own cancel pid g h r = record { sent = r.sent; cancels = less_ pid (times_told h.given + bit h.heeded + waiting cancel pid) _ (exchanged cancel own 0 (λ w. times_told h.given + bit h.heeded + waiting w pid ≤ times_told h.given + bit h.heeded + waiting cancel pid) (λ _. omega arith) (λ _. omega arith)) r.cancels; met = r.met; let_in = r.let_in }
 
-or_true : (b : Bool) → (b || true) ≡ true
-or_true true = refl
-or_true false = refl
-
 -- a cancel that stood was found by the heed that took it
 calls_heeded : (c p : ℕ) (before : Bool) → (p ≤ c) ⊎ (before ≡ true) → (p ≤ either (eqb c p) 0 c) ⊎ ((before || (c == p)) ≡ true)
 calls_heeded c p before was = dite (ℕ_discrete c p)
-    (λ is. inr (ap (λ (b : Bool). before || b) (eq-eqb c p is) ∙ or_true before))
+    (λ is. inr (ap (λ (b : Bool). before || b) (eq-eqb c p is) ∙ or-true before))
     (λ ne. exchanged c p 0 (λ w. (p ≤ w) ⊎ ((before || (c == p)) ≡ true)) (λ is. absurd (ne is)) (λ _. ⊎_elim (λ le. inl le) (λ found. inr (ap (λ (b : Bool). b || (c == p)) found)) was))
 
 module _ (steps : List RosterStep) (x : ℕ → ℕ → Type 0) (made : ℕ → ℕ) where

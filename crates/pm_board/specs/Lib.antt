@@ -6,6 +6,7 @@ pub mod Gate
 pub mod Rule
 pub mod Latch
 pub mod Latches
+pub mod BoardLaws
 pub mod Seats
 pub mod Heard
 pub mod History

@@ -7,13 +7,14 @@ use Rattle.pm_supervisor.specs.Children.{Child, child_of, is_dead_end}
 use Rattle.pm_state.specs.declared.event.PmEvent.{PmEvent}
 use Rattle.pm_state.specs.declared.event.PmEvent.TheVariants as event
 use Rattle.pm_state.specs.Journal.{Replay, IsLegal, replay_begun}
+use Rattle.pm_state.specs.ReplayLaws.{legal_front}
 use Rattle.pm_query.specs.declared.book.BookEntry.{BookEntry}
 use Rattle.pm_query.specs.declared.book.BookEntry.TheVariants as entry
 use Rattle.pm_chain.specs.Chain.{AreDistinct, AttachOnce, GoneWereLost, InGeneration, IsAmong, IsChained, IsPidOf, Redo, RedosEnd, UsersWereStarted, attached_of, exits_of, gone_from, kept_of, lost_from, opened_of, redo_ends_of, redos_of, resets_of, users_from}
 use Rattle.pm_chain.specs.Steps.{ChildRun, IsRunOf, IsThere, MayFollow, MayStep, Notes, Renews, Runs, RunsOn, StandsByItself, Step, AreSteps, AreStepsBehind, book_by, journal_by, journal_of, lost_after, lost_in, redo_end, replay_of, whole_book}
+use Rattle.pm_chain.specs.FoldsLaws.{attached-append, exits-append, generation_in, gone-append, gone_since, gone_since-append, kept-append, lost-append, lost_since, lost_since-append, opened-append, redo_ends-append, redos-append, resets-append, users-append}
 use Rattle.pm_chain.proofs.Lists.{all_append, all_map, among_left, among_right, attach_one_more, distinct_one_more, gone_were_lost, of_pid, pid_left, pid_right}
-use Rattle.pm_chain.proofs.Folds.{attached-append, exits-append, generation_in, gone-append, gone_since, gone_since-append, kept-append, lost-append, lost_since, lost_since-append, opened-append, redo_ends-append, redos-append, resets-append, users-append}
-use Rattle.pm_chain.proofs.Replays.{Found, Known, child_in, found, known, legal_front, told_by}
+use Rattle.pm_chain.proofs.Replays.{Found, Known, child_in, found, known, told_by}
 use Rattle.pm_chain.proofs.Runs.{AddsRenewal, AddsRun, EndsRedo, IsToldBy, adds-renewal, adds-run, ends-redo, redo-ended, run_in, told-among}
 use Rattle.pm_chain.proofs.StepLists.{book-one_more, journal-append, journal-one_more, last-one_more, lost-one_more}
 

@@ -1,5 +1,4 @@
 pub mod Lists
-pub mod Folds
 pub mod Replays
 pub mod StepLists
 pub mod Runs

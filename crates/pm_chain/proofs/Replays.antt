@@ -12,6 +12,7 @@ use Rattle.pm_supervisor.specs.Children.{Child, child_of, without, is_dead_end}
 use Rattle.pm_supervisor.specs.Supervisor.{Shared}
 use Rattle.pm_supervisor.specs.Shared.{with_child}
 use Rattle.pm_supervisor.specs.Steps.{shared_after, kind_for, RedoEnded, Reset}
+use Rattle.pm_supervisor.specs.RunLaws.{each-without}
 use Rattle.pm_state.specs.declared.action.Action.{Action}
 use Rattle.pm_state.specs.declared.action.Action.TheVariants as act
 use Rattle.pm_state.specs.declared.event.PmEvent.{PmEvent}
@@ -19,8 +20,8 @@ use Rattle.pm_state.specs.declared.event.PmEvent.TheVariants as event
 use Rattle.pm_state.specs.declared.machine.Machine.{Machine}
 use Rattle.pm_state.specs.Journal.{Due, Do, EndRedo, Replay, AreLegal, Fits, FitsFirst, Follows, FollowsIn, IsLegal, MayCome, all_replayed, replay_begun, replayed, row_of, shown_after}
 use Rattle.pm_chain.specs.Chain.{InGeneration, IsAmong, exits_of, users_from}
+use Rattle.pm_chain.specs.FoldsLaws.{exits-append, generation-append, generation_in, users-append}
 use Rattle.pm_chain.proofs.Lists.{all_append, all_map, all_zip, among_left, among_right}
-use Rattle.pm_chain.proofs.Folds.{exits-append, generation-append, generation_in, users-append}
 
 -- ---- children
 
@@ -79,14 +80,6 @@ none-without other pid (c ∷ cs) none =
           ]
     ]
     refl none
-
-each-without : (P : Child → Type 0) (pid : ℕ) (cs : List Child) → AllByRecursion P cs → AllByRecursion P (without pid cs)
-each-without P pid [] all = tt
-each-without P pid (c ∷ cs) all =
-    elim (nat_eq c.pid pid) as (λ v. AllByRecursion P (cond v cs (c ∷ without pid cs))) [
-      | true ↦ all.1
-      | false ↦ (all.0, each-without P pid cs all.1)
-    ]
 
 -- the child that is there under a pid
 pub record Found (P Q : Child → Type 0) (pid : ℕ) : Type 0 where
@@ -289,9 +282,3 @@ pub known : (limits : Limits) (gives : ℕ → Bool) (journal : List PmEvent) �
 known limits gives journal legal =
     known-all gives (told_by []) (replay_begun limits) journal legal
     (record { generation = refl; pids = tt; exits_rise = tt; exits_gone = tt; users = tt })
-
--- ---- parts of a legal journal
-
-pub legal_front : (gives : ℕ → Bool) (r : Replay) (xs ys : List PmEvent) → AreLegal gives r (xs ++ ys) → AreLegal gives r xs
-legal_front gives r [] ys legal = tt
-legal_front gives r (e ∷ xs) ys legal = (legal.0, legal_front gives (replayed r e) xs ys legal.1)

@@ -1,4 +1,5 @@
 pub mod Chain
+pub mod FoldsLaws
 pub mod Steps
 pub mod WorkedChains
 pub mod WorkedSteps

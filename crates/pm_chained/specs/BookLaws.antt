@@ -8,6 +8,7 @@ use Rattle.pm_query.specs.declared.book.BookEntry.{BookEntry}
 use Rattle.pm_query.specs.declared.book.BookEntry.TheVariants.{Opened, Attached, Redone, Gone}
 use Rattle.pm_shared.specs.declared.views.Noted.{Noted}
 use Rattle.pm_shared.specs.Log.{AllBelow, Line, book_of, entries_of, is_own, noted as noted_at, placed, placed_rest}
+use Rattle.pm_crew.specs.OpenedLaws.{opened_rest}
 
 -- ---- all entries
 
@@ -34,16 +35,6 @@ module _ (Q : BookEntry → Type 0) (of_rest : (entry : BookEntry) → is_own en
           subst (λ (b : Bool). AllByRecursion Q (entries_of (cond b (noted_at n l.entry ∷ placed k (n + 1) log) (placed k (n + 1) log)))) is all
 
 -- ---- the entries of the shared side
-
-opened_line : (n : ℕ) (entry : BookEntry) (log : List Line) → opened_of (book_of log) ≡ opened_of (entries_of (placed_rest (n + 1) log))
-    → opened_of (entry ∷ book_of log) ≡ opened_of (entries_of (cond (is_own entry) (placed_rest (n + 1) log) (noted_at n entry ∷ placed_rest (n + 1) log)))
-opened_line n (Opened generation) log rest = ap (λ (l : List ℕ). generation ∷ l) rest
-opened_line n (Gone pid) log rest = rest
-opened_line n _ log rest = rest
-
-opened_rest : (n : ℕ) (log : List Line) → opened_of (book_of log) ≡ opened_of (entries_of (placed_rest n log))
-opened_rest n [] = refl
-opened_rest n (l ∷ log) = opened_line n l.entry log (opened_rest (n + 1) log)
 
 gone_line : (n : ℕ) (entry : BookEntry) (log : List Line) → ((so_far : List ℕ) → gone_from so_far (book_of log) ≡ gone_from so_far (entries_of (placed_rest (n + 1) log)))
     → (so_far : List ℕ)

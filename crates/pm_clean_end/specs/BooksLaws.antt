@@ -6,6 +6,7 @@ use Rattle.std.proofs.lemmas.List.Sums.{fold-append}
 use Rattle.pm_query.specs.declared.book.BookEntry.{BookEntry}
 use Rattle.pm_query.specs.declared.book.BookEntry.TheVariants.{Opened, Redone, Attached, Answered, Released, Detached, Gone, CheckpointEnded, Broke, LogFull}
 use Rattle.pm_query.specs.Book.{Base, IsLegal, KeepsNumber, MayFollow, MayGoOn, ends_checkpoint, ends_cleanly, fault_here, faults_here, generation_after, generation_of, history_of, is_closed, kept_after, kept_by_redo, present, present_after, times_after, times_attached}
+use Rattle.pm_query.specs.HistoryLaws.{generation_push, present_push, redone_push, times_push}
 use Rattle.pm_chain.specs.Chain.{opened_of}
 use Rattle.pm_segment.specs.Unread.{is_break}
 use Rattle.pm_server.specs.Story.{IsNoOpening}
@@ -127,21 +128,15 @@ present_last entry book place =
 abbrev HasAttached : ℕ → List BookEntry → Type 0
 HasAttached pid book = 1 ≤ times_attached book pid → IsIn (Attached pid (generation_of book)) book
 
-times_push : (pid : ℕ) (book : List BookEntry) (entry : BookEntry) → times_attached (book ++ entry ∷ []) pid ≡ times_after pid (times_attached book pid) entry
-times_push pid book entry = fold-append (times_after pid) 0 book (entry ∷ [])
-
-generation_push : (book : List BookEntry) (entry : BookEntry) → generation_of (book ++ entry ∷ []) ≡ generation_after (generation_of book) entry
-generation_push book entry = fold-append generation_after 0 book (entry ∷ [])
-
 -- an entry that is no opening, and attaches nobody more
 kept_attached : (pid : ℕ) (book : List BookEntry) (entry : BookEntry) → generation_after (generation_of book) entry ≡ generation_of book
     → (1 ≤ times_after pid (times_attached book pid) entry → 1 ≤ times_attached book pid) → HasAttached pid book → HasAttached pid (book ++ entry ∷ [])
 kept_attached pid book entry same less has attached =
     subst (λ (g : ℕ). IsIn (Attached pid g) (book ++ entry ∷ [])) (sym (generation_push book entry ∙ same))
-    (in_front (Attached pid (generation_of book)) book (entry ∷ []) (has (less (subst (λ (n : ℕ). 1 ≤ n) (times_push pid book entry) attached))))
+    (in_front (Attached pid (generation_of book)) book (entry ∷ []) (has (less (subst (λ (n : ℕ). 1 ≤ n) (times_push book entry pid) attached))))
 
 attach_more : (pid who generation : ℕ) (book : List BookEntry) → generation ≡ generation_of book → HasAttached pid book → HasAttached pid (book ++ Attached who generation ∷ [])
-attach_more pid who generation book here has attached = by (nat_eq pid who) refl (subst (λ (n : ℕ). 1 ≤ n) (times_push pid book (Attached who generation)) attached)
+attach_more pid who generation book here has attached = by (nat_eq pid who) refl (subst (λ (n : ℕ). 1 ≤ n) (times_push book (Attached who generation) pid) attached)
   where
     by : (b : Bool) → nat_eq pid who ≡ b → 1 ≤ cond b (times_attached book pid + 1) (times_attached book pid)
         → IsIn (Attached pid (generation_of (book ++ Attached who generation ∷ []))) (book ++ Attached who generation ∷ [])
@@ -164,7 +159,7 @@ none_cond false n some = some
 attached_more : (base : Base) (pid : ℕ) (book : List BookEntry) (entry : BookEntry) → MayFollow base book entry → HasAttached pid book → HasAttached pid (book ++ entry ∷ [])
 attached_more base pid book (Opened generation) may has = λ attached.
     (let none = may.empty pid in
-    let some : 1 ≤ times_attached book pid = subst (λ (n : ℕ). 1 ≤ n) (times_push pid book (Opened generation)) attached in
+    let some : 1 ≤ times_attached book pid = subst (λ (n : ℕ). 1 ≤ n) (times_push book (Opened generation) pid) attached in
     absurd (omega (arith, none, some)))
 attached_more base pid book (Attached who generation) may has = attach_more pid who generation book may.present has
 attached_more base pid book (Detached who) may has = kept_attached pid book (Detached who) refl (less_cond (nat_eq pid who) (times_attached book pid)) has
@@ -190,12 +185,6 @@ IsDone _ = Unit {0}
 abbrev AreDone : List BookEntry → Type 0
 AreDone book = is_some (kept_by_redo book) ≡ true → AllByRecursion IsDone (present book)
 
-kept_push : (book : List BookEntry) (entry : BookEntry) → kept_by_redo (book ++ entry ∷ []) ≡ kept_after (kept_by_redo book) entry
-kept_push book entry = fold-append kept_after None book (entry ∷ [])
-
-present_push : (book : List BookEntry) (entry : BookEntry) → present (book ++ entry ∷ []) ≡ present_after (present book) entry
-present_push book entry = fold-append present_after [] book (entry ∷ [])
-
 all_push : (entries : List BookEntry) (entry : BookEntry) → AllByRecursion IsDone entries → IsDone entry → AllByRecursion IsDone (entries ++ entry ∷ [])
 all_push [] entry all done = (done, tt)
 all_push (x ∷ entries) entry all done = (all.0, all_push entries entry all.1 done)
@@ -209,7 +198,7 @@ none_ended (_ ∷ entries) none = (tt, none_ended entries none)
 kept_done : (book : List BookEntry) (entry : BookEntry) → ((kept : Option ℕ) → kept_after kept entry ≡ kept) → present_after (present book) entry ≡ present book ++ entry ∷ []
     → (is_some (kept_by_redo book) ≡ true → IsDone entry) → AreDone book → AreDone (book ++ entry ∷ [])
 kept_done book entry same one done has some =
-    let before : is_some (kept_by_redo book) ≡ true = sym (ap (λ (k : Option ℕ). is_some k) (kept_push book entry ∙ same (kept_by_redo book))) ∙ some in
+    let before : is_some (kept_by_redo book) ≡ true = sym (ap (λ (k : Option ℕ). is_some k) (redone_push book entry ∙ same (kept_by_redo book))) ∙ some in
     subst (AllByRecursion IsDone) (sym (present_push book entry ∙ one)) (all_push (present book) entry (has before) (done before))
 
 redone_more : (base : Base) (book : List BookEntry) (pid generation count : ℕ) (kept : Option ℕ) → kept_by_redo book ≡ kept → MayFollow base book (Redone pid generation count) → AreDone book

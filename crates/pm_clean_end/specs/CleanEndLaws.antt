@@ -17,9 +17,9 @@ use Rattle.pm_supervisor.specs.declared.Limits.{Limits}
 use Rattle.pm_board.specs.declared.views.RosterView.{RosterView}
 use Rattle.pm_journal.specs.Stands.{any_moment}
 use Rattle.pm_query.specs.declared.book.BookEntry.{BookEntry}
-use Rattle.pm_query.specs.declared.book.BookEntry.TheVariants.{Opened, Attached, Redone, CheckpointEnded, Broke}
+use Rattle.pm_query.specs.declared.book.BookEntry.TheVariants.{Attached, Redone, CheckpointEnded, Broke}
 use Rattle.pm_query.specs.Book.{IsLegal, MayGoOn, generation_of, present, times_attached}
-use Rattle.pm_answers.specs.HistoryLaws.{going-append}
+use Rattle.pm_query.specs.HistoryLaws.{going-append}
 use Rattle.pm_answers.specs.Own.{entries_by, is_by}
 use Rattle.pm_chain.specs.Chain.{opened_of, resets_of}
 use Rattle.pm_seating.specs.Board.{begun_of, ended_of}
@@ -28,7 +28,7 @@ use Rattle.pm_segment.specs.Unread.{is_break}
 use Rattle.pm_server.specs.Journal.{asked_in}
 use Rattle.pm_server.specs.Views.{DiskView}
 use Rattle.pm_shared.specs.declared.views.Noted.{Noted}
-use Rattle.pm_shared.specs.Log.{AllBelow, Line, book_of, entries_of, is_own, noted as noted_at, placed, placed_rest}
+use Rattle.pm_shared.specs.Log.{AllBelow, Line, entries_of, is_own, noted as noted_at, placed}
 use Rattle.pm_state.specs.declared.event.PmEvent.{PmEvent}
 use Rattle.pm_state.specs.declared.event.PmEvent.TheVariants as entry
 use Rattle.pm_state.specs.Journal.{replay_begun}
@@ -37,6 +37,7 @@ use Rattle.pm_worker.specs.declared.mail.MailTold.{MailTold}
 use Rattle.pm_worker.specs.Runs.{IsRun, Run, noted_by}
 use Rattle.pm_crew.specs.EntriesLaws.{entries_of_runs}
 use Rattle.pm_crew.specs.Left.{Manner}
+use Rattle.pm_crew.specs.OpenedLaws.{opened_rest}
 use Rattle.pm_crew.specs.UsesLaws.{own_entries, uses}
 use Rattle.pm_remains.specs.Remains.{AreClean}
 use Rattle.pm_clean_end.specs.Among.{IsAt, IsGiven, IsImage, IsIn, Passes, at_place, from_any, from_filter, from_flat_map, from_map, in_back, in_filter, in_front, of_all, to_any}
@@ -92,23 +93,6 @@ record IsBreak (e : BookEntry) : Type 0 where
 is_that_break : (e : BookEntry) → is_break e ≡ true → IsBreak e
 is_that_break (Broke pid since faults) is = record { pid = pid; since = since; faults = faults; is = refl }
 is_that_break e is = absurd cc
-
-opened_own : (e : BookEntry) (entries : List BookEntry) → is_own e ≡ true → opened_of (e ∷ entries) ≡ opened_of entries
-opened_own (Opened generation) entries own = absurd cc
-opened_own e entries own = refl
-
-opened_rest : (n : ℕ) (log : List Line) → opened_of (book_of log) ≡ opened_of (entries_of (placed_rest n log))
-opened_rest n [] = refl
-opened_rest n (l ∷ log) = by (is_own l.entry) refl (opened_rest (n + 1) log)
-  where
-    same_head : (e : BookEntry) (one two : List BookEntry) → opened_of one ≡ opened_of two → opened_of (e ∷ one) ≡ opened_of (e ∷ two)
-    same_head (Opened generation) one two is = ap (λ (gs : List ℕ). generation ∷ gs) is
-    same_head e one two is = is
-
-    by : (own : Bool) → is_own l.entry ≡ own → opened_of (book_of log) ≡ opened_of (entries_of (placed_rest (n + 1) log))
-        → opened_of (l.entry ∷ book_of log) ≡ opened_of (entries_of (cond own (placed_rest (n + 1) log) (noted_at n l.entry ∷ placed_rest (n + 1) log)))
-    by true own rest = opened_own l.entry (book_of log) own ∙ rest
-    by false own rest = same_head l.entry (book_of log) (entries_of (placed_rest (n + 1) log)) rest
 
 -- an entry of a token stands in its list
 in_placed : (n : ℕ) (l : Line) (log : List Line) → is_own l.entry ≡ true → IsIn l log → IsIn l.entry (entries_of (placed l.by n log))

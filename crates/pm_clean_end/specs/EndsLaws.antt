@@ -13,7 +13,7 @@ use Rattle.pm_state.specs.declared.action.Action.TheVariants as act
 use Rattle.pm_state.specs.declared.event.PmEvent.{PmEvent}
 use Rattle.pm_state.specs.declared.event.PmEvent.TheVariants as entry
 use Rattle.pm_state.specs.Journal.{AreLegal, Do, Due, EndRedo, Fits, FitsFirst, Follows, FollowsIn, Replay, all_replayed, replayed}
-use Rattle.pm_server.specs.ReplayLaws.{legal_behind, legal_front, replayed_append}
+use Rattle.pm_state.specs.ReplayLaws.{legal_behind, legal_front, replayed_append}
 use Rattle.pm_chain.specs.Chain.{resets_of}
 use Rattle.pm_seating.specs.Seating.{Begun, begins}
 use Rattle.pm_clean_end.specs.Among.{IsIn, in_back, in_either, in_front}

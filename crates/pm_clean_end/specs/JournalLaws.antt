@@ -20,7 +20,7 @@ use Rattle.pm_state.specs.Promises.{has_act}
 use Rattle.pm_state.specs.Requests.{asked_with}
 use Rattle.pm_state.specs.Restarts.{Counts}
 use Rattle.pm_state.specs.Journal.{AreLegal, Follows, IsLegal, MayCome, Replay, all_replayed, caused, dues_after, replay_begun, replayed, reported}
-use Rattle.pm_server.specs.ReplayLaws.{AreCounted, Keeps, acts_behind_redo, acts_in, acts_in_dues, are_counted, first_on, follows_on, rested}
+use Rattle.pm_state.specs.ReplayLaws.{AreCounted, Keeps, acts_behind_redo, acts_in, acts_in_dues, are_counted, first_on, follows_on, rested}
 use Rattle.pm_clean_end.specs.Latest.{latest, latest_after}
 use Rattle.pm_clean_end.specs.Seen.{Seen, checks, harms, is_clean_end, redoes, seen_after, undoes}
 use Rattle.pm_clean_end.specs.MachineLaws.{IsInOrder, accepted_so, act_so, asked_so, begun_so, exited_so, has_nobody, is_clean_act, is_deserted, row_so, settled_so, ticked_so}

@@ -29,8 +29,8 @@ use Rattle.pm_state.specs.Promises.{has_act}
 use Rattle.pm_state.specs.Requests.{asked_with, ticked_at}
 use Rattle.pm_state.specs.TurnRules.{backends_gone, children_gone, dead_ends_gone, end_smart, is_not_running, restart_writer, start_recovery, stop_backends}
 use Rattle.pm_state.specs.Journal.{Do, Fits, reported, row_of, settled}
+use Rattle.pm_state.specs.ReplayLaws.{startup_there, there_counts, was_there}
 use Rattle.pm_server.specs.CalmLaws.{is_late}
-use Rattle.pm_server.specs.ReplayLaws.{startup_there, there_counts, was_there}
 use Rattle.pm_clean_end.specs.Seen.{Seen, nothing_seen, seen_after}
 
 -- ---- what is due

@@ -1,11 +1,12 @@
 -- Streams of the server's messages.
 use Rattle.std.proofs.Common.{◌≡◌, ◌∙◌, ℕ, suc, ◌+◌, ◌<◌, ◌^◌, List, [], ◌∷◌, ◌++◌, length, refl, sym, ap, subst, arith, append_assoc, length-append}
 use Rattle.byteorder.specs.Endian.{big_number}
-use Rattle.pm_wire.specs.Backend.{BackMessage, Auth, Param, Key, Ready, Fields, Pair, One, Complete, Empty, Fault, Notice, HasCount, HasValues, IsBack, body, kind_of}
+use Rattle.pm_wire.specs.Backend.{BackMessage, Auth, Param, Key, Ready, Fields, Pair, One, Complete, Empty, Fault, Notice, IsBack, body, kind_of}
 use Rattle.pm_wire.specs.Numbers.{length_int32, number_again}
 use Rattle.pm_wire.specs.Pieces.{int32}
 use Rattle.pm_wire.specs.Sizes.{short_iff}
 use Rattle.pm_wire.specs.Stream.{HasNoMessage, IsStream}
+use Rattle.pm_wire_back.specs.CountLaws.{has_count}
 use Rattle.pm_wire_back.specs.Received.{IsWholeAt, behind_header, behind_body}
 
 -- messages behind messages
@@ -39,19 +40,6 @@ type_of (Complete tag) = (_, refl)
 type_of Empty = (_, refl)
 type_of (Fault s) = (_, refl)
 type_of (Notice s) = (_, refl)
-
-has_count : (m : BackMessage) → HasValues m → HasCount m
-has_count (Complete tag) values = values
-has_count Auth values = tt
-has_count (Param name value) values = tt
-has_count (Key pid key) values = tt
-has_count Ready values = tt
-has_count (Fields shape) values = tt
-has_count (Pair key value) values = tt
-has_count (One text) values = tt
-has_count Empty values = tt
-has_count (Fault s) values = tt
-has_count (Notice s) values = tt
 
 abbrev behind_first : List ℕ → List ℕ
 behind_first [] = []

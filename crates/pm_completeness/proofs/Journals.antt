@@ -23,11 +23,11 @@ use Rattle.pm_state.specs.Restarts.{Counts}
 use Rattle.pm_state.specs.Machine.{Exited, begun, step}
 use Rattle.pm_state.specs.TurnRules.{is_not_running}
 use Rattle.pm_state.specs.Journal.{AreLegal, Due, IsLegal, Replay, replay_begun, replayed}
+use Rattle.pm_state.specs.ReplayLaws.{AreCounted, acts_behind_redo, acts_in, are_counted, ends_in, rested, startup_there, there_counts, was_there}
 use Rattle.pm_chain.specs.Steps.{AreSteps, AreStepsBehind, ChildRun, Notes, Renews, Runs, RunsOn, StandsByItself, Step, journal_by, journal_of, redo_end}
 use Rattle.pm_journal.specs.Stands.{any_moment}
 use Rattle.pm_server.specs.CalmLaws as machine
 use Rattle.pm_server.specs.Journal.{asked_in}
-use Rattle.pm_server.specs.ReplayLaws.{AreCounted, acts_behind_redo, acts_in, are_counted, ends_in, rested, startup_there, there_counts, was_there}
 use Rattle.pm_duties.specs.AuxiliaryRuns.{AreToldBehind, Heard, IsRunAs, heard_after, nothing_heard}
 use Rattle.pm_completeness.specs.Crashes.{AreOrderly, AreOrderlySoFar, CompletesItsRuns, IsBehindUndone, is_undone}
 use Rattle.pm_duties.specs.Calm.{EndThemselves, EndsItself, IsFineExit}

@@ -13,7 +13,7 @@ use Rattle.pm_state.specs.Machine.{accepted_as, view_of}
 use Rattle.pm_admit.specs.Admission.{decide_of}
 use Rattle.pm_state.specs.Requests.{asked_with, ticked_at}
 use Rattle.pm_state.specs.Journal.{Follows, MayCome, Replay}
-use Rattle.pm_server.specs.ReplayLaws.{Behind, Keeps, acts_in, acts_in_dues, first_on, follows_on, rested}
+use Rattle.pm_state.specs.ReplayLaws.{Behind, Keeps, acts_in, acts_in_dues, first_on, follows_on, rested}
 use Rattle.pm_duties.specs.AuxiliaryRuns.{Heard, heard_after}
 
 -- the entry is no end of a child, and asks for no other shutdown than a smart one

@@ -5,6 +5,7 @@ pub mod Pids
 pub mod Uses
 pub mod UsesLaws
 pub mod EntriesLaws
+pub mod OpenedLaws
 pub mod EachLaws
 pub mod PidsLaws
 pub mod Talks

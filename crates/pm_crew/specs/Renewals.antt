@@ -1,7 +1,6 @@
 -- Whom the supervisor gave up before each generation that it began.
-use Rattle.std.specs.Prelude.{◌≡◌, ℕ, true, List, [], ◌∷◌, ◌++◌}
+use Rattle.std.specs.Prelude.{◌≡◌, ℕ, List, [], ◌∷◌, ◌++◌}
 use Rattle.pm_state.specs.declared.event.PmEvent.{PmEvent}
-use Rattle.pm_state.specs.declared.event.PmEvent.TheVariants as event
 use Rattle.pm_chain.specs.Chain.{AgreeOnGenerations, gone_from, lost_from}
 use Rattle.pm_shared.specs.declared.views.Noted.{Noted}
 use Rattle.pm_shared.specs.Log.{entries_of}
@@ -23,10 +22,3 @@ EachBeginsSo (pids ∷ gone) (those ∷ lost) = BeginsWithThose pids those × Ea
 pub record RenewsAsTold (journal : List PmEvent) (own : List Noted) : Type 0 where
   pub generations : AgreeOnGenerations journal (entries_of own)
   pub gone : EachBeginsSo (gone_from [] (entries_of own)) ([] ∷ lost_from [] journal)
-
--- the children that ended while their slots were active since the last generation began, behind those so far
-abbrev pub lost_since : List ℕ → List PmEvent → List ℕ
-lost_since so_far [] = so_far
-lost_since so_far (event.Exited pid kind status true at ∷ journal) = lost_since (so_far ++ pid ∷ []) journal
-lost_since so_far (event.Reset generation ∷ journal) = lost_since [] journal
-lost_since so_far (_ ∷ journal) = lost_since so_far journal

@@ -8,6 +8,7 @@ use Rattle.pm_supervisor.specs.declared.Limits.{Limits}
 use Rattle.pm_supervisor.specs.Supervisor.{Shared}
 use Rattle.pm_supervisor.specs.Steps.{Trace, kind_for, shared_after}
 use Rattle.pm_supervisor.specs.Steps as supervisor
+use Rattle.pm_supervisor.specs.RunLaws.{redo-children}
 use Rattle.pm_state.specs.declared.action.Action.{Action}
 use Rattle.pm_state.specs.declared.action.Action.TheVariants as act
 use Rattle.pm_state.specs.declared.event.PmEvent.{PmEvent}
@@ -170,10 +171,6 @@ pids-next (act.Say line) rest s due pids = pids-keep s (done (act.Say line) s) r
 pids-next (act.End how) rest s due pids = pids-keep s (done (act.End how) s) refl refl refl (rw due refl) pids
 
 -- what is remembered
-
-redo-children : (b : Bool) (s : Shared) → (shared_after s (supervisor.RedoEnded b)).children ≡ s.children
-redo-children true s = refl
-redo-children false s = refl
 
 redo-last : (b : Bool) (s : Shared) → (shared_after s (supervisor.RedoEnded b)).last_pid ≡ s.last_pid
 redo-last true s = refl

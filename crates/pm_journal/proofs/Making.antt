@@ -8,7 +8,7 @@ use Rattle.pm_modes.specs.Strength.{strengthen_of}
 use Rattle.pm_supervisor.specs.declared.Limits.{Limits}
 use Rattle.pm_supervisor.specs.Children.{child_of}
 use Rattle.pm_supervisor.specs.Supervisor.{Shared}
-use Rattle.pm_supervisor.specs.Steps.{SupervisorEvent, Trace, IsRun, happened, all_happened, empty_trace}
+use Rattle.pm_supervisor.specs.Steps.{SupervisorEvent, Trace, IsRun, all_happened, empty_trace}
 use Rattle.pm_state.specs.declared.action.Action.{Action}
 use Rattle.pm_state.specs.declared.action.Action.TheVariants as act
 use Rattle.pm_state.specs.declared.event.PmEvent.{PmEvent}
@@ -20,7 +20,9 @@ use Rattle.pm_state.specs.Starts.{Owes, has_end, is_report}
 use Rattle.pm_state.specs.Journal.{Replay, Do, EndRedo, AreLegal, all_replayed, replayed, replay_begun, dues, entry_of, entries_of, entries_of_call, all_reported, acts_of_call, settled, AsksSmart}
 use Rattle.pm_state.specs.InStep.{ServerState, IsInStep, IsTimely, KeepsStep, with_reports}
 use Rattle.pm_state.specs.Laws.{StaysInStep, TellsOfEachStart, WritesALegalJournal, KeepsItsFacts}
+use Rattle.pm_state.specs.ReplayLaws.{legal_behind, legal_front}
 use Rattle.pm_supervisor.specs.Laws.{TakesChildStepsBetween}
+use Rattle.pm_supervisor.specs.RunLaws.{IsRun-append, all_happened-append}
 use Rattle.std.specs.Option.{unwrap_or}
 use Rattle.pm_journal.specs.declared.exit.ChildExit.{ChildExit}
 use Rattle.pm_outside.specs.Added.{Added}
@@ -29,8 +31,9 @@ use Rattle.pm_journal.specs.Standing.{Standing, IsAtRest, noted, nothing_done, c
 use Rattle.pm_journal.specs.Stands.{Remembers, IsComing, Stands, HasPids, HasRun, IsSettled, any_moment, behind}
 use Rattle.pm_journal.proofs.Acting.{told-more, remembers-noted}
 use Rattle.pm_journal.proofs.Pids.{unowed-before, pids-called, pids-asked, pids-accepted, pids-kept, tick-left, tick-asked, turn-left, turn-asked, asked-some, asked-none, asked-left, exit-left, exit-asked, may-end-startup}
-use Rattle.pm_journal.proofs.Rolls.{on-roll, roll-pid}
+use Rattle.pm_journal.proofs.Rolls.{roll-pid}
 use Rattle.pm_journal.specs.Roll.{kind_in}
+use Rattle.pm_journal.specs.RollLaws.{on-roll}
 
 abbrev server_state : Replay → Machine → Trace → ServerState
 server_state r m h = record { replay = r; machine = m; trace = h }
@@ -80,27 +83,13 @@ pub record Makes (s t : Standing) (call : Call) (at : ℕ) : Type 0 where
   pub called_at : t.called_at ≡ at
   pub ended : t.ended ≡ s.ended
 
-split-legal : (r : Replay) (first rest : List PmEvent) → AreLegal any_moment r (first ++ rest)
-    → AreLegal any_moment r first × AreLegal any_moment (all_replayed r first) rest
-split-legal r [] rest legal = (tt, legal)
-split-legal r (e ∷ es) rest legal = let split = split-legal (replayed r e) es rest legal.1 in ((legal.0, split.0), split.1)
-
-run-append : (limits : Limits) (h : Trace) (xs ys : List SupervisorEvent) → IsRun limits h xs → IsRun limits (all_happened h xs) ys
-    → IsRun limits h (xs ++ ys)
-run-append limits h [] ys first second = second
-run-append limits h (x ∷ xs) ys first second = (first.0, run-append limits (happened h x) xs ys first.1 second)
-
-happened-append : (h : Trace) (xs ys : List SupervisorEvent) → all_happened h (xs ++ ys) ≡ all_happened (all_happened h xs) ys
-happened-append h [] ys = refl
-happened-append h (x ∷ xs) ys = happened-append (happened h x) xs ys
-
 -- a run goes on
 pub goes-on : (limits : Limits) (h : Trace) (more : List SupervisorEvent) → HasRun limits h → IsRun limits h more → HasRun limits (all_happened h more)
 goes-on limits h more was run =
     record {
       events = was.events ++ more;
-      run = run-append limits empty_trace was.events more was.run (subst (λ t. IsRun limits t more) was.leaves run);
-      leaves = ap (λ t. all_happened t more) was.leaves ∙ sym (happened-append empty_trace was.events more);
+      run = IsRun-append limits empty_trace was.events more was.run (subst (λ t. IsRun limits t more) was.leaves run);
+      leaves = ap (λ t. all_happened t more) was.leaves ∙ sym (all_happened-append empty_trace was.events more);
     }
 
 pub stands-call : StaysInStep → WritesALegalJournal → (limits : Limits) (told now : Option (List PmEvent)) (s t : Standing) (h : Trace) (call : Call)
@@ -120,7 +109,7 @@ stands-call steps writes limits told now s t h call kept at first was none fit t
     steps.call any_moment limits kept (server_state r s.machine h) call (rests limits s r h none was.coming) fit timely in
     let all : entries_of_call kept r s.machine call ≡ first ++ entries_of 0 at r2 (dues acts) =
     entries ∙ ap (λ es. first ++ es) (entries-kept kept at r2 acts) in
-    let legal = split-legal r first (entries_of 0 at r2 (dues acts)) (subst (λ es. AreLegal any_moment r es) all keeps.legal) in
+    let legal : AreLegal any_moment r (first ++ entries_of 0 at r2 (dues acts)) = subst (λ es. AreLegal any_moment r es) all keeps.legal in
     let in_step : IsInStep limits (server_state (all_replayed r2 (entries_of 0 at r2 (dues acts))) (all_reported acts (machine_after s.machine call)) h2) =
     subst (λ x. IsInStep limits (server_state x (all_reported acts (machine_after s.machine call)) h2)) (writes.replays r first (entries_of 0 at r2 (dues acts)))
     (subst (λ es. IsInStep limits (server_state (all_replayed r es) (all_reported acts (machine_after s.machine call)) h2)) all keeps.in_step) in
@@ -128,10 +117,10 @@ stands-call steps writes limits told now s t h call kept at first was none fit t
     record {
       journal = was.journal ++ first;
       told_is = told-more told now was.journal first was.told_is adds;
-      legal = writes.append any_moment (replay_begun limits) was.journal first was.legal legal.0;
+      legal = writes.append any_moment (replay_begun limits) was.journal first was.legal (legal_front any_moment r first (entries_of 0 at r2 (dues acts)) legal);
       remembers = subst (λ x. Remembers t x) (sym left) remembers;
       coming = subst (λ x. IsComing limits t x h2) (sym left) (record {
-        legal = rw (makes.due, makes.called_at) legal.1;
+        legal = rw (makes.due, makes.called_at) (legal_behind any_moment r first (entries_of 0 at r2 (dues acts)) legal);
         in_step = rw (makes.due, makes.called_at, makes.machine) in_step;
         owes = owes;
         ended = ended;

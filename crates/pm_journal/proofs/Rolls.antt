@@ -1,7 +1,6 @@
 -- The roll, and the supervisor's children.
 use Rattle.std.proofs.Common.{◌≡◌, ℕ, ◌+◌, ◌<◌, true, false, nat_eq, cond, List, [], ◌∷◌, ◌++◌, Some, None, refl, ap, sym, ◌≤◌, suc, length, take, drop, get_or, arith, zero}
 use Rattle.std.specs.Prelude.{position, not, nat_lt, is_some, IsSomeAnd}
-use Rattle.pm_exit.specs.declared.child.Kind.{Kind}
 use Rattle.pm_supervisor.specs.Children.{Child, child_of}
 use Rattle.pm_supervisor.specs.Children as children
 use Rattle.std.specs.List.{position_or_len}
@@ -53,18 +52,7 @@ roll-without pid (c ∷ cs) =
       | false ↦ ap (λ es. record { pid = c.pid; kind = c.kind } ∷ es) (roll-without pid cs)
     ]
 
--- a child on the roll is there
-pub on-roll : (pid : ℕ) (k : Kind) (cs : List Child) → kind_in pid (roll_of cs) ≡ Some k → IsSomeAnd (child_of pid cs) (λ c. c.kind ≡ k)
-on-roll pid k [] is = absurd cc
-on-roll pid k (c ∷ cs) is =
-    elim (nat_eq c.pid pid) as
-    (λ v. cond v (Some c.kind) (kind_in pid (roll_of cs)) ≡ Some k → IsSomeAnd (cond v (Some c) (child_of pid cs)) (λ d. d.kind ≡ k)) [
-      | true ↦ λ e. cc
-      | false ↦ λ e. on-roll pid k cs e
-    ]
-    is
-
--- and it has this pid
+-- a child on the roll is there, and has this pid
 pub roll-pid : (pid : ℕ) (cs : List Child) → is_some (kind_in pid (roll_of cs)) ≡ true → IsSomeAnd (child_of pid cs) (λ c. c.pid ≡ pid)
 roll-pid pid [] is = absurd cc
 roll-pid pid (c ∷ cs) is =

@@ -3,6 +3,7 @@ pub mod Laws
 pub mod Moments
 pub mod NextsLaws
 pub mod Roll
+pub mod RollLaws
 pub mod Standing
 pub mod Stands
 pub mod Supervision

@@ -1,7 +1,6 @@
 -- Fronts of log files: how they grow, and what stands behind a gate that is open or closed.
 use Rattle.std.proofs.Common.{◌≡◌, ◌≢◌, inl, inr, ℕ, ◌+◌, ◌-◌, List, [], ◌∷◌, ◌++◌, length, take, refl, sym, ◌∙◌, ap, subst, arith, length-append, append_assoc, append-nil}
 use Rattle.std.proofs.lemmas.Bool.{cases_lt}
-use Rattle.std.proofs.lemmas.Grind.{flat_map-append}
 use Rattle.std.proofs.lemmas.List.{take-append-le}
 use Rattle.std.proofs.lemmas.List.Elements.{All-push}
 use Rattle.std.proofs.lemmas.List.Sums.{fold-append}
@@ -11,9 +10,9 @@ use Rattle.pm_rows.specs.Fold.{RowMap, committed, folded}
 use Rattle.pm_record.specs.Spelling.{base_bytes, batch_bytes}
 use Rattle.pm_rows.specs.Standing.{Standing, after}
 use Rattle.pm_rows.specs.Limits.{IsWithinRowLimits}
-use Rattle.pm_record.specs.GateLaws.{same_standing}
 use Rattle.pm_rows.specs.Batch.{IsBatch}
 use Rattle.pm_record.specs.StandsFor.{AreBatches, Content, IsContent, MayAppend, MayFollow, Spells, StandsFor, base_of, commits_of, standing_of, with_batch}
+use Rattle.pm_log.specs.BatchLaws.{commits_push}
 
 -- one batch more
 AreBatches-push : (bytes : List ℕ) (batches : List (List (List Change))) (batch : List (List Change)) (gate : ℕ) → gate ≢ 0 → AreBatches bytes batches
@@ -36,19 +35,8 @@ Spells-push front content batch gate is_open spelled =
     }
 
 -- ---- limits and standings
-commits_push : (content : Content) (batch : List (List Change)) → commits_of (with_batch content batch) ≡ commits_of content ++ batch
-commits_push content batch =
-    flat_map-append (λ (b : List (List Change)). b) content.batches (batch ∷ []) ∙ ap (λ (l : List (List Change)). commits_of content ++ l) (append-nil batch)
-
 pub folded-append : (rows : RowMap) (xs ys : List (List Change)) → folded rows (xs ++ ys) ≡ folded (folded rows xs) ys
 folded-append rows xs ys = fold-append committed rows xs ys
-
--- what stands behind one batch more
-pub standing-push : (content : Content) (batch : List (List Change)) → standing_of (with_batch content batch) ≡ after (standing_of content) batch
-standing-push content batch =
-    let all = commits_push content batch in
-    ap (λ (l : List (List Change)). after (base_of content) l) all
-    ∙ same_standing _ _ _ _ (folded-append content.base_rows (commits_of content) batch) (omega (arith, length-append (commits_of content) batch))
 
 MayFollow-append : (standing : Standing) (xs ys : List (List Change)) → MayFollow standing xs → MayFollow (after standing xs) ys → MayFollow standing (xs ++ ys)
 MayFollow-append standing xs ys first second = record {

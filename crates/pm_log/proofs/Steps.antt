@@ -13,8 +13,9 @@ use Rattle.pm_record.specs.Pair.{IsShut, MeansIn}
 use Rattle.pm_record.specs.OnDisk.{FollowsWithin, GoesOn, Rests, Throughout}
 use Rattle.pm_log.specs.Append.{IsSpelled, MeansOneOf}
 use Rattle.pm_record.specs.GateLaws.{flipped}
+use Rattle.pm_log.specs.BatchLaws.{standing-push}
 use Rattle.pm_log.proofs.Lists.{begins, over}
-use Rattle.pm_log.proofs.Fronts.{standing-push, stands_closed, stands_open}
+use Rattle.pm_log.proofs.Fronts.{stands_closed, stands_open}
 
 -- ---- one file
 

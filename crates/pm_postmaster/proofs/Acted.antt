@@ -1,12 +1,11 @@
 -- The acts of the machine.
 use Rattle.std.proofs.Common.{◌≡◌, ℕ, List, [], ◌∷◌, ◌++◌, refl, sym, ap, subst, ◌∙◌, length}
-use Rattle.std.specs.Prelude.{true, false, Option, None, Some, IfSome}
+use Rattle.std.specs.Prelude.{Option, None, Some, IfSome}
 use Rattle.pm_exit.specs.declared.child.Kind.{Kind}
-use Rattle.pm_exit.specs.declared.child.Kind.TheVariants as kinds
 use Rattle.pm_board.specs.declared.views.RosterStep.{RosterStep}
 use Rattle.pm_board.specs.declared.views.RosterView.{RosterView}
 use Rattle.pm_board.specs.Children.{CountsChildren}
-use Rattle.pm_board.specs.Places.{is_auxiliary, is_connection}
+use Rattle.pm_board.specs.BoardLaws.{no_connection}
 use Rattle.pm_acts.specs.Acts.{LogBehind}
 use Rattle.pm_acts.specs.ActsLaws.{said_acted}
 use Rattle.pm_journal.specs.declared.act.Act.{Act}
@@ -34,14 +33,6 @@ use Rattle.pm_postmaster.proofs.Linking.{links_same, links_started, same_slots}
 use Rattle.pm_postmaster.proofs.Moments.{done_given, done_moments}
 use Rattle.pm_postmaster.proofs.Steps.{count_more}
 
-none_connects : (kind : Kind) → is_auxiliary kind ≡ true → is_connection kind ≡ false
-none_connects kinds.Startup is = refl
-none_connects kinds.Checkpointer is = refl
-none_connects kinds.Writer is = refl
-none_connects kinds.Worker is = refl
-none_connects kinds.Backend is = absurd (let no_ : false ≡ true = is in cc)
-none_connects kinds.DeadEnd is = absurd (let no_ : false ≡ true = is in cc)
-
 -- no act accepts a connection
 none_accepted : (a : Action) (s : Standing) → accepted_in (entry_for a s ∷ []) ≡ []
 none_accepted (action.Start k) s = refl
@@ -65,7 +56,7 @@ module _ (counts : CountsChildren) (n : ℕ) (d e : RosterView MailTold) (seats 
 
   -- an act leaves the links that are out
   pub links_acted : (a : Act) → Performs a ordered d seats e seats' → MayPerform a d seats → HasLinks n d visits → HasLinks n e visits
-  links_acted (act.Start pid kind) has may = links_started (slot_of kind) d e pid kind (ordered kind) may.1.slot may.1.unused has.0 counts n visits (none_connects kind may.0)
+  links_acted (act.Start pid kind) has may = links_started (slot_of kind) d e pid kind (ordered kind) may.1.slot may.1.unused has.0 counts n visits (no_connection kind may.0)
   links_acted (act.Quit why) has may = stepped (steps_for (act.Quit why) d.generation seats) has.0
   links_acted act.Terminate has may = stepped (steps_for act.Terminate d.generation seats) has.0
   links_acted act.KillAll has may = stepped (steps_for act.KillAll d.generation seats) has.0

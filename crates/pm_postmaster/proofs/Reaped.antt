@@ -25,7 +25,8 @@ use Rattle.pm_lines.specs.Log.{HasSaid}
 use Rattle.pm_lines.specs.LogLaws.{said_same}
 use Rattle.pm_outside.specs.Visits.{Visits}
 use Rattle.pm_chain.specs.Chain.{lost_from, resets_of}
-use Rattle.pm_crew.specs.Renewals.{RenewsAsTold, lost_since}
+use Rattle.pm_chain.specs.FoldsLaws.{lost_since}
+use Rattle.pm_crew.specs.Renewals.{RenewsAsTold}
 use Rattle.pm_seating.specs.Board.{SeenAs, seat_at, seats_of}
 use Rattle.pm_seating.specs.Calls.{IsCutOff, exit_of, exits, kept_by}
 use Rattle.pm_seating.specs.Mails.{kept_told}

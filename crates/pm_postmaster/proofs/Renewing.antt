@@ -5,109 +5,16 @@ use Rattle.std.specs.Prelude.{true, false}
 use Rattle.pm_state.specs.declared.event.PmEvent.{PmEvent}
 use Rattle.pm_state.specs.declared.event.PmEvent.TheVariants as entry
 use Rattle.pm_chain.specs.Chain.{gone_from, lost_from, opened_of, resets_of}
-use Rattle.pm_crew.specs.Renewals.{BeginsWithThose, EachBeginsSo, RenewsAsTold, lost_since}
+use Rattle.pm_chain.specs.FoldsLaws.{gone-append, gone_since, gone_since-append, lost-append, lost_since, lost_since-append, opened-append, resets-append}
+use Rattle.pm_crew.specs.Renewals.{BeginsWithThose, EachBeginsSo, RenewsAsTold}
 use Rattle.pm_query.specs.declared.book.BookEntry.{BookEntry}
 use Rattle.pm_query.specs.declared.book.BookEntry.TheVariants as noted
 use Rattle.pm_shared.specs.declared.views.Noted.{Noted}
 use Rattle.pm_shared.specs.Log.{entries_of, noted_from}
 use Rattle.pm_shared.specs.Renewed.{AreApart, renewal}
-use Rattle.pm_postmaster.specs.Serving.{Renews, gone_since}
-
--- ---- the journal
-
-since-append : (so : List ℕ) (xs ys : List PmEvent) → lost_since so (xs ++ ys) ≡ lost_since (lost_since so xs) ys
-since-append so [] ys = refl
-since-append so (entry.Started pid kind ∷ xs) ys = since-append so xs ys
-since-append so (entry.Accepted pid decision ∷ xs) ys = since-append so xs ys
-since-append so (entry.Exited pid kind status true at ∷ xs) ys = since-append (so ++ pid ∷ []) xs ys
-since-append so (entry.Exited pid kind status false at ∷ xs) ys = since-append so xs ys
-since-append so (entry.Asked mode at ∷ xs) ys = since-append so xs ys
-since-append so (entry.KillAsked pid ∷ xs) ys = since-append so xs ys
-since-append so (entry.QuitSent why ∷ xs) ys = since-append so xs ys
-since-append so (entry.TerminateSent ∷ xs) ys = since-append so xs ys
-since-append so (entry.KillSent at ∷ xs) ys = since-append so xs ys
-since-append so (entry.CheckpointAsked ∷ xs) ys = since-append so xs ys
-since-append so (entry.RedoEnded generation kept ∷ xs) ys = since-append so xs ys
-since-append so (entry.Ready generation ∷ xs) ys = since-append so xs ys
-since-append so (entry.Reset generation ∷ xs) ys = since-append [] xs ys
-since-append so (entry.Said line ∷ xs) ys = since-append so xs ys
-since-append so (entry.Ended how ∷ xs) ys = since-append so xs ys
-
-from-append : (so : List ℕ) (xs ys : List PmEvent) → lost_from so (xs ++ ys) ≡ lost_from so xs ++ lost_from (lost_since so xs) ys
-from-append so [] ys = refl
-from-append so (entry.Started pid kind ∷ xs) ys = from-append so xs ys
-from-append so (entry.Accepted pid decision ∷ xs) ys = from-append so xs ys
-from-append so (entry.Exited pid kind status true at ∷ xs) ys = from-append (so ++ pid ∷ []) xs ys
-from-append so (entry.Exited pid kind status false at ∷ xs) ys = from-append so xs ys
-from-append so (entry.Asked mode at ∷ xs) ys = from-append so xs ys
-from-append so (entry.KillAsked pid ∷ xs) ys = from-append so xs ys
-from-append so (entry.QuitSent why ∷ xs) ys = from-append so xs ys
-from-append so (entry.TerminateSent ∷ xs) ys = from-append so xs ys
-from-append so (entry.KillSent at ∷ xs) ys = from-append so xs ys
-from-append so (entry.CheckpointAsked ∷ xs) ys = from-append so xs ys
-from-append so (entry.RedoEnded generation kept ∷ xs) ys = from-append so xs ys
-from-append so (entry.Ready generation ∷ xs) ys = from-append so xs ys
-from-append so (entry.Reset generation ∷ xs) ys = ap (λ (l : List (List ℕ)). so ∷ l) (from-append [] xs ys)
-from-append so (entry.Said line ∷ xs) ys = from-append so xs ys
-from-append so (entry.Ended how ∷ xs) ys = from-append so xs ys
-
-resets-append : (xs ys : List PmEvent) → resets_of (xs ++ ys) ≡ resets_of xs ++ resets_of ys
-resets-append [] ys = refl
-resets-append (entry.Started pid kind ∷ xs) ys = resets-append xs ys
-resets-append (entry.Accepted pid decision ∷ xs) ys = resets-append xs ys
-resets-append (entry.Asked mode at ∷ xs) ys = resets-append xs ys
-resets-append (entry.KillAsked pid ∷ xs) ys = resets-append xs ys
-resets-append (entry.QuitSent why ∷ xs) ys = resets-append xs ys
-resets-append (entry.TerminateSent ∷ xs) ys = resets-append xs ys
-resets-append (entry.KillSent at ∷ xs) ys = resets-append xs ys
-resets-append (entry.CheckpointAsked ∷ xs) ys = resets-append xs ys
-resets-append (entry.RedoEnded generation kept ∷ xs) ys = resets-append xs ys
-resets-append (entry.Ready generation ∷ xs) ys = resets-append xs ys
-resets-append (entry.Reset generation ∷ xs) ys = ap (λ (l : List ℕ). generation ∷ l) (resets-append xs ys)
-resets-append (entry.Said line ∷ xs) ys = resets-append xs ys
-resets-append (entry.Ended how ∷ xs) ys = resets-append xs ys
-resets-append (entry.Exited pid kind status was_active at ∷ xs) ys = resets-append xs ys
+use Rattle.pm_postmaster.specs.Serving.{Renews}
 
 -- ---- the book
-
-opened-append : (xs ys : List BookEntry) → opened_of (xs ++ ys) ≡ opened_of xs ++ opened_of ys
-opened-append [] ys = refl
-opened-append (noted.Opened generation ∷ xs) ys = ap (λ (l : List ℕ). generation ∷ l) (opened-append xs ys)
-opened-append (noted.Attached pid generation ∷ xs) ys = opened-append xs ys
-opened-append (noted.Redone pid generation kept ∷ xs) ys = opened-append xs ys
-opened-append (noted.Answered pid script reply commit front tick ∷ xs) ys = opened-append xs ys
-opened-append (noted.Released pid front tick ∷ xs) ys = opened-append xs ys
-opened-append (noted.Detached pid ∷ xs) ys = opened-append xs ys
-opened-append (noted.Gone pid ∷ xs) ys = opened-append xs ys
-opened-append (noted.CheckpointEnded pid done clean ∷ xs) ys = opened-append xs ys
-opened-append (noted.Broke pid since faults ∷ xs) ys = opened-append xs ys
-opened-append (noted.LogFull pid script need room ∷ xs) ys = opened-append xs ys
-
-gone-since-append : (so : List ℕ) (xs ys : List BookEntry) → gone_since so (xs ++ ys) ≡ gone_since (gone_since so xs) ys
-gone-since-append so [] ys = refl
-gone-since-append so (noted.Opened generation ∷ xs) ys = gone-since-append [] xs ys
-gone-since-append so (noted.Attached pid generation ∷ xs) ys = gone-since-append so xs ys
-gone-since-append so (noted.Redone pid generation kept ∷ xs) ys = gone-since-append so xs ys
-gone-since-append so (noted.Answered pid script reply commit front tick ∷ xs) ys = gone-since-append so xs ys
-gone-since-append so (noted.Released pid front tick ∷ xs) ys = gone-since-append so xs ys
-gone-since-append so (noted.Detached pid ∷ xs) ys = gone-since-append so xs ys
-gone-since-append so (noted.Gone pid ∷ xs) ys = gone-since-append (so ++ pid ∷ []) xs ys
-gone-since-append so (noted.CheckpointEnded pid done clean ∷ xs) ys = gone-since-append so xs ys
-gone-since-append so (noted.Broke pid since faults ∷ xs) ys = gone-since-append so xs ys
-gone-since-append so (noted.LogFull pid script need room ∷ xs) ys = gone-since-append so xs ys
-
-gone-append : (so : List ℕ) (xs ys : List BookEntry) → gone_from so (xs ++ ys) ≡ gone_from so xs ++ gone_from (gone_since so xs) ys
-gone-append so [] ys = refl
-gone-append so (noted.Opened generation ∷ xs) ys = ap (λ (l : List (List ℕ)). so ∷ l) (gone-append [] xs ys)
-gone-append so (noted.Attached pid generation ∷ xs) ys = gone-append so xs ys
-gone-append so (noted.Redone pid generation kept ∷ xs) ys = gone-append so xs ys
-gone-append so (noted.Answered pid script reply commit front tick ∷ xs) ys = gone-append so xs ys
-gone-append so (noted.Released pid front tick ∷ xs) ys = gone-append so xs ys
-gone-append so (noted.Detached pid ∷ xs) ys = gone-append so xs ys
-gone-append so (noted.Gone pid ∷ xs) ys = gone-append (so ++ pid ∷ []) xs ys
-gone-append so (noted.CheckpointEnded pid done clean ∷ xs) ys = gone-append so xs ys
-gone-append so (noted.Broke pid since faults ∷ xs) ys = gone-append so xs ys
-gone-append so (noted.LogFull pid script need room ∷ xs) ys = gone-append so xs ys
 
 -- what a renewal notes
 renewal-opens : (pids : List ℕ) (generation : ℕ) → opened_of (renewal pids generation) ≡ generation ∷ []
@@ -181,10 +88,10 @@ pub record AreQuiet (entries : List PmEvent) : Type 0 where
 module _ (journal : List PmEvent) (lost : List ℕ) (own : List Noted) where
   pub renews_quiet : (entries : List PmEvent) → AreQuiet entries → Renews journal lost own → Renews (journal ++ entries) lost own
   renews_quiet entries quiet was = record {
-    lost_is = was.lost_is ∙ sym (since-append [] journal entries ∙ quiet.since (lost_since [] journal));
+    lost_is = was.lost_is ∙ sym (lost_since-append [] journal entries ∙ quiet.since (lost_since [] journal));
     opened = was.opened ∙ sym (ap (λ (l : List ℕ). 1 ∷ l) (resets-append journal entries ∙ (ap (λ (l : List ℕ). resets_of journal ++ l) quiet.resets ∙ append-nil (resets_of journal))));
     gone = subst (λ (l : List (List ℕ)). EachBeginsSo (gone_from [] (entries_of own)) ([] ∷ l))
-        (sym (from-append [] journal entries ∙ (ap (λ (l : List (List ℕ)). lost_from [] journal ++ l) (quiet.lost (lost_since [] journal)) ∙ append-nil (lost_from [] journal)))) was.gone;
+        (sym (lost-append [] journal entries ∙ (ap (λ (l : List (List ℕ)). lost_from [] journal ++ l) (quiet.lost (lost_since [] journal)) ∙ append-nil (lost_from [] journal)))) was.gone;
     fresh = was.fresh;
   }
 
@@ -192,10 +99,10 @@ module _ (journal : List PmEvent) (lost : List ℕ) (own : List Noted) where
   pub renews_exited : (entries : List PmEvent) (now : List ℕ) → ((so : List ℕ) → lost_from so entries ≡ []) → resets_of entries ≡ [] → (lost_since lost entries ≡ now)
       → Renews journal lost own → Renews (journal ++ entries) now own
   renews_exited entries now none resets since was = record {
-    lost_is = sym (since-append [] journal entries ∙ (ap (λ (l : List ℕ). lost_since l entries) (sym was.lost_is) ∙ since));
+    lost_is = sym (lost_since-append [] journal entries ∙ (ap (λ (l : List ℕ). lost_since l entries) (sym was.lost_is) ∙ since));
     opened = was.opened ∙ sym (ap (λ (l : List ℕ). 1 ∷ l) (resets-append journal entries ∙ (ap (λ (l : List ℕ). resets_of journal ++ l) resets ∙ append-nil (resets_of journal))));
     gone = subst (λ (l : List (List ℕ)). EachBeginsSo (gone_from [] (entries_of own)) ([] ∷ l))
-        (sym (from-append [] journal entries ∙ (ap (λ (l : List (List ℕ)). lost_from [] journal ++ l) (none (lost_since [] journal)) ∙ append-nil (lost_from [] journal)))) was.gone;
+        (sym (lost-append [] journal entries ∙ (ap (λ (l : List (List ℕ)). lost_from [] journal ++ l) (none (lost_since [] journal)) ∙ append-nil (lost_from [] journal)))) was.gone;
     fresh = was.fresh;
   }
 
@@ -211,17 +118,17 @@ module _ (journal : List PmEvent) (lost : List ℕ) (own : List Noted) where
       ap (gone_from []) all ∙ (gone-append [] (entries_of own) es ∙ ap (λ (l : List (List ℕ)). gone_from [] (entries_of own) ++ l)
       (ap (λ (so : List ℕ). gone_from so es) was.fresh ∙ renewal-gone [] (lost ++ others) generation)) in
       let before : lost_from [] (journal ++ e) ≡ lost_from [] journal ++ lost ∷ [] =
-      from-append [] journal e ∙ ap (λ (l : List ℕ). lost_from [] journal ++ l ∷ []) (sym was.lost_is) in
+      lost-append [] journal e ∙ ap (λ (l : List ℕ). lost_from [] journal ++ l ∷ []) (sym was.lost_is) in
       let many : length (gone_from [] (entries_of own)) ≡ length ([] ∷ lost_from [] journal) =
       as-many-gone [] (entries_of own) ∙ (ap length was.opened ∙ ap suc (sym (as-many-lost [] journal))) in
       record {
-        lost_is = sym (since-append [] journal e);
+        lost_is = sym (lost_since-append [] journal e);
         opened = ap opened_of all ∙ (opened-append (entries_of own) es ∙ (ap (λ (l : List ℕ). l ++ opened_of es) was.opened
             ∙ (ap (λ (l : List ℕ). (1 ∷ resets_of journal) ++ l) (renewal-opens (lost ++ others) generation) ∙ ap (λ (l : List ℕ). 1 ∷ l) (sym (resets-append journal e)))));
         gone = subst (λ (l : List (List ℕ)). EachBeginsSo (gone_from [] (entries_of (own ++ noted_from at es))) ([] ∷ l)) (sym before)
             (subst (λ (l : List (List ℕ)). EachBeginsSo l (([] ∷ lost_from [] journal) ++ lost ∷ [])) (sym gone)
             (begins-push (gone_from [] (entries_of own)) ([] ∷ lost_from [] journal) (lost ++ others) lost many was.gone (record { others = others; is = refl; apart = apart })));
-        fresh = ap (gone_since []) all ∙ (gone-since-append [] (entries_of own) es ∙ renewal-since (gone_since [] (entries_of own)) (lost ++ others) generation);
+        fresh = ap (gone_since []) all ∙ (gone_since-append [] (entries_of own) es ∙ renewal-since (gone_since [] (entries_of own)) (lost ++ others) generation);
       }
 
   -- at the end
@@ -234,6 +141,6 @@ module _ (journal : List PmEvent) (lost : List ℕ) (own : List Noted) where
       let e : List PmEvent = entry.Reset generation ∷ [] in
       record {
         generations = inr (generation, ap (λ (l : List ℕ). l ++ generation ∷ []) was.opened ∙ ap (λ (l : List ℕ). 1 ∷ l) (sym (resets-append journal e)));
-        gone = subst (λ (l : List (List ℕ)). EachBeginsSo (gone_from [] (entries_of own)) ([] ∷ l)) (sym (from-append [] journal e))
+        gone = subst (λ (l : List (List ℕ)). EachBeginsSo (gone_from [] (entries_of own)) ([] ∷ l)) (sym (lost-append [] journal e))
             (begins-append (gone_from [] (entries_of own)) ([] ∷ lost_from [] journal) (lost_from (lost_since [] journal) e) was.gone);
       }

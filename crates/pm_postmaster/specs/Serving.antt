@@ -5,15 +5,14 @@ use Rattle.atomic_table.specs.Seated.{TableId}
 use Rattle.pm_board.specs.declared.views.RosterView.{RosterView}
 use Rattle.pm_board.specs.Places.{slot_at}
 use Rattle.pm_chain.specs.Chain.{gone_from, lost_from, opened_of, resets_of}
+use Rattle.pm_chain.specs.FoldsLaws.{gone_since, lost_since}
 use Rattle.pm_crew.specs.Redos.{redo_ends_at, redo_told}
-use Rattle.pm_crew.specs.Renewals.{EachBeginsSo, RenewsAsTold, lost_since}
+use Rattle.pm_crew.specs.Renewals.{EachBeginsSo, RenewsAsTold}
 use Rattle.pm_crew.specs.Redos.{RedosAreThose}
 use Rattle.pm_journal.specs.Moments.{AreGiven}
 use Rattle.pm_journal.specs.Standing.{Standing}
 use Rattle.pm_journal.specs.Stands.{any_moment, highest_pid}
 use Rattle.pm_lines.specs.Log.{HasSaid, LogView}
-use Rattle.pm_query.specs.declared.book.BookEntry.{BookEntry}
-use Rattle.pm_query.specs.declared.book.BookEntry.TheVariants as noted
 use Rattle.pm_seating.specs.Chained.{accepted_in}
 use Rattle.pm_seating.specs.Final.{IsEndingAt}
 use Rattle.pm_seating.specs.Board.{ended_of}
@@ -65,13 +64,6 @@ KillsAll (_ ∷ acts) = KillsAll acts
 pub record Moments (gives : ℕ → Type 0) (s : Standing) : Type 0 where
   pub last : (s.moment ≡ 0) ⊎ gives s.moment
   pub called : KillsAll s.due → gives s.called_at
-
--- those that are gone behind the last generation that was opened, behind those so far
-abbrev pub gone_since : List ℕ → List BookEntry → List ℕ
-gone_since so_far [] = so_far
-gone_since so_far (noted.Gone pid ∷ book) = gone_since (so_far ++ pid ∷ []) book
-gone_since so_far (noted.Opened generation ∷ book) = gone_since [] book
-gone_since so_far (_ ∷ book) = gone_since so_far book
 
 -- Those that were lost in this generation are at hand. The shared side opened the generations that the journal begins, each behind
 -- those that were lost before it.

@@ -3,7 +3,7 @@ use Rattle.std.proofs.Common.{◌∷◌, [], List, subst}
 use Rattle.pm_query.specs.declared.book.BookEntry.{BookEntry}
 use Rattle.pm_query.specs.declared.book.BookEntry.TheVariants.{Opened}
 use Rattle.pm_query.specs.Book.{Base, IsLegal, MayGoOn}
-use Rattle.pm_answers.specs.HistoryLaws.{going-append}
+use Rattle.pm_query.specs.HistoryLaws.{going-append}
 use Rattle.pm_promises.specs.Restarts.{OpensEmpty}
 
 pub legal_opens_empty : (base : Base) (book : List BookEntry) → IsLegal base book → OpensEmpty book

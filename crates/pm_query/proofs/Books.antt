@@ -1,11 +1,10 @@
 -- What holds of the history along a legal book.
-use Rattle.std.proofs.Common.{◌≡◌, ℕ, ◌-◌, ◌≤◌, List, [], ◌∷◌, ◌++◌, length-append, Option, None, Some, fold, refl, sym, ap, subst, ◌∙◌, arith, append_assoc, append-nil, true≢false}
+use Rattle.std.proofs.Common.{◌≡◌, ℕ, ◌-◌, ◌≤◌, List, [], ◌∷◌, ◌++◌, Option, None, Some, fold, refl, sym, ap, subst, ◌∙◌, arith, append_assoc, append-nil, true≢false}
 use Rattle.std.specs.Prelude.{All, Any, IsSome, is_some}
 use Rattle.std.proofs.lemmas.List.{take-append-le}
 use Rattle.std.proofs.lemmas.List.Elements.{All-nil, All-push, All-weaker}
 use Rattle.std.proofs.lemmas.List.Sums.{fold-append}
-use Rattle.std.proofs.Math.Seq.{length-take-le, take-take}
-use Rattle.pm_rows.specs.Fold.{folded}
+use Rattle.std.proofs.Math.Seq.{take-take}
 use Rattle.pm_rows.specs.declared.commit.Change.{Change}
 use Rattle.pm_query.specs.declared.book.BookEntry.{BookEntry}
 use Rattle.pm_query.specs.declared.book.BookEntry.TheVariants.{Opened, Redone, Attached, Answered, Released, Detached, Gone, CheckpointEnded, Broke, LogFull}
@@ -13,6 +12,7 @@ use Rattle.pm_rows.specs.Standing.{Standing}
 use Rattle.pm_query.specs.History.{History, acknowledged, beginning, count_of, kept, number, with_commit}
 use Rattle.pm_query.specs.Book.{AnswersUpTo, Base, Course, KeepsNumber, MayFollow, MayGoOn, course_after, course_of, history_after, history_of, kept_after, kept_by_redo, present, present_after, standing_of}
 use Rattle.pm_query.specs.BookLaws.{AckedIsWithin, AckedNeverFalls, AcknowledgedStays, RepeatChangesNothing}
+use Rattle.pm_query.specs.HistoryLaws.{base-with_commit, count_of-with_commit, cut_count, going-append, history_push, number_of, present_push, redone_push}
 
 -- ---- one history behind another
 
@@ -30,10 +30,6 @@ onward before between now one two = record {
   numbers = λ n le. two.numbers n (omega (arith, le, one.acked)) ∙ one.numbers n le;
 }
 
--- the same rows of fewer commits
-abbrev pub number_of : History → ℕ → List (List Change) → Standing
-number_of history n commits = record { rows = folded history.base.rows commits; count = n }
-
 commit_goes_on : (history : History) (commit : List Change) → history.acked ≤ count_of history → GoesOn history (with_commit history commit)
 commit_goes_on history [] within = stays history
 commit_goes_on history (change ∷ changes) within = record {
@@ -50,21 +46,9 @@ cut_goes_on history count within = record {
 acknowledged_goes_on : (history : History) (front : ℕ) → GoesOn history (acknowledged history front)
 acknowledged_goes_on history front = record { acked = omega arith; numbers = λ n le. refl }
 
-count_of-with_commit : (history : History) (commit : List Change) → count_of history ≤ count_of (with_commit history commit)
-count_of-with_commit history [] = omega arith
-count_of-with_commit history (change ∷ changes) = omega (arith, length-append history.commits ((change ∷ changes) ∷ []))
-
-count_of-kept : (history : History) (count : ℕ) → history.base.count ≤ count → count ≤ count_of history → count_of (kept history count) ≡ count
-count_of-kept history count least most =
-    omega (arith, length-take-le (count - history.base.count) history.commits (omega (arith, most)), least)
-
 same_acked : (history : History) (commit : List Change) → (with_commit history commit).acked ≡ history.acked
 same_acked history [] = refl
 same_acked history (change ∷ changes) = refl
-
-same_base : (history : History) (commit : List Change) → (with_commit history commit).base ≡ history.base
-same_base history [] = refl
-same_base history (change ∷ changes) = refl
 
 -- ---- what a legal book keeps
 
@@ -145,7 +129,7 @@ quiet_step history redone entries entry none is = record {
 redone_step : (history : History) (count : ℕ) (entries : List BookEntry) (entry : BookEntry) → IsNoAnswer entry → history.acked ≤ count → count ≤ count_of history → IsSteady history None entries
     → Steps history (kept history count) (Some count) (entries ++ entry ∷ [])
 redone_step history count entries entry none low high is =
-    let left = count_of-kept history count (omega (arith, is.least, low)) high in record {
+    let left = cut_count history count (omega (arith, is.least, low)) high in record {
       steady = record {
         least = is.least;
         most = omega (arith, low, left);
@@ -161,7 +145,7 @@ answered_step : (history : History) (redone : Option ℕ) (entries : List BookEn
     → IsSteady history redone entries → Steps history (with_commit history commit) redone (entries ++ entry ∷ [])
 answered_step history redone entries entry commit within some is = record {
   steady = record {
-    least = omega (arith, is.least, same_acked history commit, ap (λ (s : Standing). s.count) (same_base history commit));
+    least = omega (arith, is.least, same_acked history commit, ap (λ (s : Standing). s.count) (base-with_commit history commit));
     most = omega (arith, is.most, same_acked history commit, count_of-with_commit history commit);
     answers = All-push (AnswersWithin (count_of (with_commit history commit))) entries entry
         (All-weaker (AnswersWithin (count_of history)) (AnswersWithin (count_of (with_commit history commit))) (within_more (count_of history) (count_of (with_commit history commit)) (count_of-with_commit history commit)) entries is.answers)
@@ -190,22 +174,6 @@ opened_step history redone entries is = record {
 }
 
 -- ---- along a book
-
-redone_is : (course : Course) (book : List BookEntry) → (fold course_after course book).redone ≡ fold kept_after course.redone book
-redone_is course [] = refl
-redone_is course (entry ∷ book) = redone_is (course_after course entry) book
-
--- the history behind one entry more
-history_push : (base : Base) (book : List BookEntry) (entry : BookEntry) → history_of base (book ++ entry ∷ []) ≡ history_after (kept_by_redo book) (history_of base book) entry
-history_push base book entry =
-    ap (λ (c : Course). c.history) (fold-append course_after (record { history = beginning (standing_of base); redone = None }) book (entry ∷ []))
-    ∙ ap (λ (r : Option ℕ). history_after r (history_of base book) entry) (redone_is (record { history = beginning (standing_of base); redone = None }) book)
-
-redone_push : (book : List BookEntry) (entry : BookEntry) → kept_by_redo (book ++ entry ∷ []) ≡ kept_after (kept_by_redo book) entry
-redone_push book entry = fold-append kept_after None book (entry ∷ [])
-
-present_push : (book : List BookEntry) (entry : BookEntry) → present (book ++ entry ∷ []) ≡ present_after (present book) entry
-present_push book entry = fold-append present_after [] book (entry ∷ [])
 
 abbrev pub Stands : Base → List BookEntry → Type 0
 Stands base book = IsSteady (history_of base book) (kept_by_redo book) (present book)
@@ -258,13 +226,6 @@ grows base before (entry ∷ behind) may is =
 
 begins : (base : Base) → Stands base []
 begins base = record { least = omega arith; most = omega arith; answers = All-nil (AnswersWithin (count_of (history_of base []))); fresh = λ unredone. All-nil IsNoAnswer }
-
--- a book that goes on in two parts
-going-append : (base : Base) (before first second : List BookEntry) → MayGoOn base before (first ++ second) → MayGoOn base before first × MayGoOn base (before ++ first) second
-going-append base before [] second may = (tt, subst (λ (b : List BookEntry). MayGoOn base b second) (sym (append-nil before)) may)
-going-append base before (entry ∷ first) second may =
-    let rest = going-append base (before ++ entry ∷ []) first second may.1 in
-    ((may.0, rest.0), subst (λ (b : List BookEntry). MayGoOn base b second) (append_assoc before (entry ∷ []) first) rest.1)
 
 -- ---- the laws
 

@@ -2,16 +2,13 @@
 use Rattle.std.proofs.Common.{◌≡◌, ℕ, ℤ, Bool, true, false, cond, List, [], ◌∷◌, Option, Some, None, unwrap_or, refl, sym, ap, subst, ◌∙◌}
 use Rattle.std.specs.Ordering.{int_cmp, eq_by_cmp}
 use Rattle.std.specs.Cmp.{int_cmp_total, eq_by_cmp_equiv}
-use Rattle.std.specs.FinMap.{get, same_map, int_cmp-IsAntisymmetric, get-insert, get-remove}
+use Rattle.std.specs.FinMap.{get, get-insert, get-remove}
 use Rattle.std.specs.Map.{lookup}
 use Rattle.std.specs.BTreeMap as tree
 use Rattle.std.specs.BTreeMap.{BTreeMap, is_at, Updates}
 use Rattle.pm_rows.specs.Fold.{RowMap}
 use Rattle.pm_query.specs.Changes.{left_at, laid_over}
-
--- two maps that answer alike are one
-pub same_rows : (m n : RowMap) → ((q : ℤ) → get m q ≡ get n q) → m ≡ n
-same_rows m n is = same_map int_cmp_total int_cmp-IsAntisymmetric m n is
+use Rattle.pm_query.specs.HistoryLaws.{same_rows}
 
 pub get-left_at : (rows : RowMap) (key : ℤ) (value : Option (List ℕ)) (q : ℤ) → get (left_at rows key value) q ≡ cond (eq_by_cmp int_cmp q key) value (get rows q)
 get-left_at rows key None q = get-remove int_cmp_total rows key q

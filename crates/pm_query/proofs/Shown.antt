@@ -13,7 +13,7 @@ use Rattle.std.proofs.lemmas.Map.Keys.{sorted_head, sorted_tail}
 use Rattle.pm_rows.specs.Fold.{RowMap}
 use Rattle.pm_query.specs.Changes.{laid_over}
 use Rattle.pm_query.specs.Merge.{laid}
-use Rattle.pm_query.proofs.Overlay.{same_rows}
+use Rattle.pm_query.specs.HistoryLaws.{same_rows}
 
 module _ {X : Type 0} where
   below_rest : (k : ℤ) (es : List (ℤ × X)) → AllByRecursion (λ y. int_cmp k y ≡ Less) (keys_of es) → below_all int_cmp k es ≡ true

@@ -10,7 +10,7 @@ use Rattle.std.proofs.lemmas.List.Sums.{sum_by-cons}
 use Rattle.pm_rows.specs.Fold.{RowMap}
 use Rattle.pm_rows.specs.Size.{row_size, size_of}
 use Rattle.pm_query.specs.Changes.{left_at, rows_at, size_at}
-use Rattle.pm_query.proofs.Overlay.{same_rows}
+use Rattle.pm_query.specs.HistoryLaws.{same_rows}
 
 -- the size of entries, from the first on
 entries_size : List (ℤ × List ℕ) → ℕ

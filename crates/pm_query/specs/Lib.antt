@@ -7,6 +7,7 @@ pub mod Changes
 pub mod Draft
 pub mod Durable
 pub mod History
+pub mod HistoryLaws
 pub mod Laws
 pub mod Limits
 pub mod Merge

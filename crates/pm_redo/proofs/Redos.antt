@@ -1,9 +1,7 @@
 -- What reading the two files leaves of what they mean.
-use Rattle.std.proofs.Common.{◌≡◌, ◌⊎◌, inl, inr, ℕ, ◌≤◌, ◌<◌, Bool, true, false, List, [], ◌∷◌, ◌++◌, take, drop, refl, sym, ◌∙◌, ap, subst, arith}
+use Rattle.std.proofs.Common.{◌≡◌, ◌⊎◌, inl, inr, ℕ, ◌≤◌, ◌<◌, Bool, true, false, List, [], ◌∷◌, ◌++◌, drop, refl, sym, ◌∙◌, ap, subst, arith}
 use Rattle.std.specs.Prelude.{Option, Some, None, IfSome, option_map}
-use Rattle.std.specs.Int.{w64, from_be_bytes}
 use Rattle.std.proofs.lemmas.Bool.{cases_lt}
-use Rattle.std.proofs.lemmas.Nat.{from_be_bytes-to_be_bytes_8}
 use Rattle.pm_disk.specs.declared.disk.Which.{Which}
 use Rattle.pm_disk.specs.declared.disk.Which.TheVariants.{A, B}
 use Rattle.pm_disk.specs.Files.{Files, file_of, other, overwritten}
@@ -14,6 +12,7 @@ use Rattle.pm_record.specs.Pair.{IsShut, MeansIn, MeansWhat, PairStandsFor, Yiel
 use Rattle.pm_record.specs.OnDisk.{FollowsWithin, GoesOn, Rests, Throughout}
 use Rattle.pm_redo.specs.Redo.{IsOnly, IsQuiet, Same}
 use Rattle.pm_record.specs.Found.{Holds, IsClosed, IsFound}
+use Rattle.pm_redo.specs.FileLaws.{epoch_is, not_closed}
 use Rattle.pm_redo.specs.Found.{Finds, FindsOnly, FindsPair, IsDamaged, MeansOnly, standing_in}
 use Rattle.pm_record.specs.declared.found.Contents.{Contents}
 use Rattle.pm_record.specs.declared.found.Found.{Found}
@@ -21,24 +20,10 @@ use Rattle.pm_record.specs.declared.found.Contents.TheVariants.{Closed, Standing
 use Rattle.pm_record.specs.Calls.{beside_with, file_with}
 
 -- ---- one file
--- the epoch that the bytes say
-epoch_in : List ℕ → ℕ
-epoch_in bytes = from_be_bytes w64 (take 8 (drop 9 bytes))
-
-epoch_is : (bytes : List ℕ) (content : Content) (end : ℕ) → StandsFor bytes content end → epoch_in bytes ≡ content.epoch
-unfolding epoch_in
-epoch_is bytes content end log =
-    ap (λ (l : List ℕ). from_be_bytes w64 (take 8 (drop 9 l))) (log.parts ∙ ap (λ (l : List ℕ). l ++ (0 ∷ log.free)) log.spelled.parts)
-    ∙ from_be_bytes-to_be_bytes_8 content.epoch log.limits.epoch
 
 -- a file has one epoch
 pub same_epoch : (bytes : List ℕ) (one two : Content) (end till : ℕ) → StandsFor bytes one end → StandsFor bytes two till → one.epoch ≡ two.epoch
 same_epoch bytes one two end till first second = sym (epoch_is bytes one end first) ∙ epoch_is bytes two till second
-
--- a file that stands for something isn't closed
-pub not_closed : (bytes : List ℕ) (content : Content) (end : ℕ) → StandsFor bytes content end → IsClosed bytes → ⊥
-not_closed bytes content end log closed =
-    log.spelled.is_open (subst IsClosed (log.parts ∙ ap (λ (l : List ℕ). l ++ (0 ∷ log.free)) log.spelled.parts) closed)
 
 pub not_shut : (bytes : List ℕ) (content : Content) (end : ℕ) → StandsFor bytes content end → IsShut bytes → ⊥
 not_shut bytes content end log shut = not_closed bytes content end log (subst IsClosed (sym shut.1) refl)

@@ -16,8 +16,9 @@ use Rattle.pm_board.specs.declared.views.Signal.{Signal}
 use Rattle.pm_board.specs.declared.views.Signal.TheVariants as signal
 use Rattle.pm_board.specs.declared.views.SlotView.{SlotView}
 use Rattle.pm_board.specs.Gate.{Gate, gate_of}
-use Rattle.pm_board.specs.Places.{SlotServes, is_auxiliary, is_connection, slot_at, slot_view, used_in}
+use Rattle.pm_board.specs.Places.{SlotServes, is_auxiliary, slot_at, slot_view, used_in}
 use Rattle.pm_board.specs.Told.{after_step}
+use Rattle.pm_board.specs.BoardLaws.{no_connection}
 use Rattle.pm_journal.specs.declared.act.Act.{Act}
 use Rattle.pm_journal.specs.declared.act.Act.TheVariants as act
 use Rattle.pm_journal.specs.declared.roll.Enrolled.{Enrolled}
@@ -67,14 +68,6 @@ low_slot kind.Writer n many = omega arith
 low_slot kind.Worker n many = omega arith
 low_slot kind.Backend n many = omega arith
 low_slot kind.DeadEnd n many = omega arith
-
-pub no_connection : (kind : Kind) → is_auxiliary kind ≡ true → is_connection kind ≡ false
-no_connection kind.Startup aux = refl
-no_connection kind.Checkpointer aux = refl
-no_connection kind.Writer aux = refl
-no_connection kind.Worker aux = refl
-no_connection kind.Backend aux = absurd (let no_ : false ≡ true = aux in cc)
-no_connection kind.DeadEnd aux = absurd (let no_ : false ≡ true = aux in cc)
 
 module _ {D : Type 0} where
   -- the slot of a kind of which no child is there is free

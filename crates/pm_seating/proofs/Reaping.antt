@@ -15,6 +15,7 @@ use Rattle.pm_board.specs.declared.roster.Released.{Released}
 use Rattle.pm_board.specs.Gate.{gate_of}
 use Rattle.pm_board.specs.Models.{SlotBecame}
 use Rattle.pm_board.specs.Places.{IsReaped, is_connection, slot_at}
+use Rattle.pm_board.specs.BoardLaws.{no_connection}
 use Rattle.pm_journal.specs.declared.roll.Enrolled.{Enrolled}
 use Rattle.pm_journal.specs.Standing.{Standing, act_for}
 use Rattle.pm_seating.specs.Acts.{MayDo, Performs, slot_of, steps_for}
@@ -23,7 +24,7 @@ use Rattle.pm_seating.specs.Board.{SeenAs, after_steps, seat_at}
 use Rattle.pm_seating.specs.Seating.{Move}
 use Rattle.pm_seating.specs.Sitting.{AreReaped, HasReaped, StillRuns}
 use Rattle.pm_seating.specs.Standing.{IsSeated}
-use Rattle.pm_seating.proofs.Acting.{no_connection, same-numbers}
+use Rattle.pm_seating.proofs.Acting.{same-numbers}
 use Rattle.pm_seating.proofs.Rolls.{cases, other_pid, same_pid}
 use Rattle.pm_seating.proofs.Sends.{same-slots}
 

@@ -1,10 +1,10 @@
 -- Where nothing is due, the acts of the next call may be done.
-use Rattle.std.proofs.Common.{◌≡◌, ℕ, List, [], ◌∷◌, refl, sym, ap, subst, ◌∙◌, length, nat_eq}
-use Rattle.std.specs.Prelude.{Bool, true, false, ◌||◌, if◌then◌else◌, Option, Some, None, IsSomeAnd}
+use Rattle.std.proofs.Common.{◌≡◌, ℕ, List, [], ◌∷◌, refl, sym, ap, subst, ◌∙◌, length}
+use Rattle.std.specs.Prelude.{Bool, true, false, ◌||◌, if◌then◌else◌, Option, Some}
 use Rattle.pm_exit.specs.declared.child.Kind.{Kind}
 use Rattle.pm_supervisor.specs.declared.Limits.{Limits}
 use Rattle.pm_supervisor.specs.Between.{all_detached}
-use Rattle.pm_supervisor.specs.Children.{Child, child_of}
+use Rattle.pm_supervisor.specs.Children.{Child}
 use Rattle.pm_supervisor.specs.Steps.{Trace}
 use Rattle.pm_state.specs.declared.action.Action.{Action}
 use Rattle.pm_state.specs.declared.event.PmEvent.{PmEvent}
@@ -32,8 +32,8 @@ use Rattle.pm_seating.specs.Standing.{IsAt, IsRunning, View}
 use Rattle.std.specs.Option.{unwrap_or}
 use Rattle.pm_state.specs.declared.event.PmEvent.TheVariants as entry
 use Rattle.pm_journal.specs.declared.exit.ChildExit.{ChildExit}
+use Rattle.pm_journal.specs.RollLaws.{on-roll}
 use Rattle.pm_seating.proofs.Calling.{due_noted, on_the_roll}
-use Rattle.pm_seating.proofs.Rolls.{cases}
 use Rattle.pm_seating.proofs.Turning.{calls_may}
 
 ready : TellsOfEachStart → (limits : Limits) (told : Option (List PmEvent)) (s : Standing) (h : Trace) → Stands limits told s h → IsAtRest s → IsReady s.machine
@@ -59,16 +59,6 @@ rolled limits journal s h stands step =
     ∙ (ap (λ (es : List PmEvent). roll_of (all_replayed (replay_begun limits) es).shown.children) (sym stands.told_is)
     ∙ (ap (λ x. roll_of x.children) step.shown ∙ same_roll h.now.shared.children))
 
-there_is : (pid : ℕ) (k : Kind) (cs : List Child) → kind_in pid (roll_of cs) ≡ Some k → IsSomeAnd (child_of pid cs) (λ c. c.kind ≡ k)
-there_is pid k [] is = absurd (let no_ : ◌≡◌ {A = Option Kind} None (Some k) = is in cc)
-there_is pid k (c ∷ cs) is = cases (nat_eq c.pid pid)
-    (λ here. subst (λ (b : Bool). IsSomeAnd (if b then Some c else child_of pid cs) (λ d. d.kind ≡ k)) (sym here) (some_of c.kind k (sym (ap (λ (b : Bool). if b then Some c.kind else kind_in pid (roll_of cs)) here) ∙ is)))
-    (λ there. subst (λ (b : Bool). IsSomeAnd (if b then Some c else child_of pid cs) (λ d. d.kind ≡ k)) (sym there)
-    (there_is pid k cs (sym (ap (λ (b : Bool). if b then Some c.kind else kind_in pid (roll_of cs)) there) ∙ is)))
-  where
-    some_of : (x y : Kind) → Some x ≡ Some y → x ≡ y
-    some_of x y e = cc
-
 module _ {D : Type 0} where
   -- the end of a child
   pub exit_may : TellsOfEachStart → KeepsALegalJournal → (limits : Limits) (count : ℕ) (moves : List Move) (v : View D) (pid : ℕ) (kind : Kind) (status : _) (was_active : Bool) (now : ℕ)
@@ -82,7 +72,7 @@ module _ {D : Type 0} where
       subst (λ (g : Gate). MayDo (acts_of_call s.machine (Exits pid kind status was_active now)) g (without pid s.children)) (sym gates)
       (subst (λ (cs : List Enrolled). MayDo (acts_of_call s.machine (Exits pid kind status was_active now)) (gate_shown at.past.now.shared) (without pid cs)) (sym roll)
       (calls_may limits _ (Exits pid kind status was_active now) step
-      (ready tells limits (Some (journal_of count moves)) s at.past at.stands rest, there_is pid kind at.past.now.shared.children (sym (ap (kind_in pid) roll) ∙ there))))
+      (ready tells limits (Some (journal_of count moves)) s at.past at.stands rest, on-roll pid kind at.past.now.shared.children (sym (ap (kind_in pid) roll) ∙ there))))
 
   -- and every call that tells of none: a turn, the time, a request
   pub call_may : TellsOfEachStart → KeepsALegalJournal → (limits : Limits) (count : ℕ) (moves : List Move) (v : View D) (call : Call)
@@ -132,6 +122,6 @@ module _ {D : Type 0} where
       ap (λ (p : ℕ). kind_in p s.children) has.pid ∙ (on_the_roll count moves v.board v.seats s k c at.seated sits ∙ ap Some (sym has.kind)) in
       afresh_exited letter limits (length at.seated.seating.seats) k (later now s) c released v.board w.board s.machine at.past
       (keeps.holds limits (Some (journal_of count moves)) s at.past at.stands rest.none_due).facts
-      (there_is released.pid released.kind at.past.now.shared.children (sym (ap (kind_in released.pid) roll) ∙ on))
+      (on-roll released.pid released.kind at.past.now.shared.children (sym (ap (kind_in released.pid) roll) ∙ on))
       has (at.seated.right k c (sym (ap (seat_at k) at.seated.at_hand) ∙ sits))
       (subst (λ (due : List Action). StartsAfresh v.board due s.machine) rest.none_due at.afresh)

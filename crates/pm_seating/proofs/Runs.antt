@@ -1,6 +1,6 @@
 -- Ends in the journal, and runs.
-use Rattle.std.proofs.Common.{◌≡◌, inl, inr, ℕ, ◌<◌, List, [], ◌∷◌, ◌++◌, refl, sym, subst, ◌∙◌, map, nat_eq}
-use Rattle.std.specs.Prelude.{Bool, true, false, if◌then◌else◌, Option, ◌⊎◌}
+use Rattle.std.proofs.Common.{inl, inr, ℕ, ◌<◌, List, [], ◌∷◌, ◌++◌, refl, sym, subst, ◌∙◌, map, nat_eq}
+use Rattle.std.specs.Prelude.{Bool, true, false, if◌then◌else◌, Option}
 use Rattle.std.specs.List.{AllByRecursion}
 use Rattle.pm_state.specs.declared.event.PmEvent.{PmEvent}
 use Rattle.pm_state.specs.declared.event.PmEvent.TheVariants as entry
@@ -9,21 +9,8 @@ use Rattle.pm_chain.specs.Steps.{ChildRun}
 use Rattle.pm_seating.specs.Seating.{Seating, Move, Notes, Reads, PortEnds, PidsEnd, Request, Nothing, Stop, Kill, Ended, empty, ends, ended_by, ended_at, entries_from, seating_by, is_seated, asked_by}
 use Rattle.pm_seating.specs.Runs.{IsEndOf, IsOnBoard, run_ended}
 use Rattle.pm_seating.specs.Laws.{EndsOfTheJournalAreRuns}
+use Rattle.pm_seating.specs.EndedLaws.{Among, among_behind, among_front}
 use Rattle.pm_seating.proofs.Rolls.{like}
-
--- an end among these
-abbrev Among : Ended → List Ended → Type 0
-Among end [] = ⊥
-Among end (x ∷ xs) = (x ≡ end) ⊎ Among end xs
-
-among_front : (end : Ended) (xs ys : List Ended) → Among end xs → Among end (xs ++ ys)
-among_front end [] ys on = elim on [ ]
-among_front end (x ∷ xs) ys (inl is) = inl is
-among_front end (x ∷ xs) ys (inr on) = inr (among_front end xs ys on)
-
-among_behind : (end : Ended) (xs ys : List Ended) → Among end ys → Among end (xs ++ ys)
-among_behind end [] ys on = on
-among_behind end (x ∷ xs) ys on = inr (among_behind end xs ys on)
 
 among_runs : (end : Ended) (runs : List ChildRun) → Among end (map run_ended runs) → IsEndOf end runs
 among_runs end [] on = elim on [ ]

@@ -5,6 +5,7 @@ use Rattle.std.proofs.lemmas.Bool.{cases_lt}
 use Rattle.std.proofs.lemmas.List.Sums.{fold-append}
 use Rattle.std.proofs.lemmas.List.Folds.{list_any-append}
 use Rattle.std.proofs.lemmas.List.Elements.{All-push, All-weaker}
+use Rattle.std.proofs.Math.Bool.{or-false}
 use Rattle.pm_disk.specs.Cause.{Rose}
 use Rattle.pm_rows.specs.declared.commit.Change.{Change}
 use Rattle.pm_rows.specs.Fold.{committed}
@@ -12,14 +13,14 @@ use Rattle.pm_rows.specs.Limits.{max_file_bytes}
 use Rattle.pm_query.specs.declared.book.BookEntry.{BookEntry}
 use Rattle.pm_query.specs.declared.book.BookEntry.TheVariants.{Opened, Attached, Redone, Answered, Released, Detached, Gone, CheckpointEnded, Broke, LogFull}
 use Rattle.pm_query.specs.History.{History, beginning, count_of, rows_of, with_commit}
-use Rattle.pm_query.specs.Book.{Base, BeginsRenewal, IsLegal, MayFollow, MayGoOn, RenewsBehindGone, ends_checkpoint, ends_cleanly, fault_here, faults_after, faults_here, faults_of, generation_after, generation_of, has_checkpoint, history_after, history_of, is_closed, kept_after, kept_by_redo, last_tick, need_after, needs_of, present, present_after, standing_of, tick_after, times_after, times_attached}
+use Rattle.pm_query.specs.Book.{Base, BeginsRenewal, IsLegal, MayFollow, MayGoOn, RenewsBehindGone, ends_checkpoint, ends_cleanly, fault_here, faults_after, faults_here, faults_of, generation_after, generation_of, has_checkpoint, history_after, history_of, is_closed, kept_after, kept_by_redo, last_tick, need_after, needs_of, present, present_after, standing_of, tick_after, times_after}
+use Rattle.pm_query.specs.HistoryLaws.{generation_push, history_push, present_push, redone_push, times_push}
 use Rattle.pm_segment.specs.declared.live.Live.{Live}
 use Rattle.pm_segment.specs.Moment.{Moment}
 use Rattle.pm_segment.specs.Children.{IsAttendedBy, times_in}
 use Rattle.pm_segment.specs.Stands.{HasGone, HasNoTick, HasRenewed, HasWaited, IsFaultBy, Origin, TellsBreak, bytes_of_rows, most_bytes}
 use Rattle.pm_segment.specs.Unread.{has_break, has_redo, is_redo}
 use Rattle.pm_segment.specs.UnreadLaws.{break_before, redo_neither}
-use Rattle.pm_segment.proofs.Runs.{history_push}
 
 -- ---- legal books
 
@@ -77,12 +78,6 @@ legal_push base book entry not legal next = record { entries = goes_on base [] b
 
 -- ---- what one entry more does to what a book says
 
-pub generation_push : (book : List BookEntry) (entry : BookEntry) → generation_of (book ++ entry ∷ []) ≡ generation_after (generation_of book) entry
-generation_push book entry = fold-append generation_after 0 book (entry ∷ [])
-
-pub redone_push : (book : List BookEntry) (entry : BookEntry) → kept_by_redo (book ++ entry ∷ []) ≡ kept_after (kept_by_redo book) entry
-redone_push book entry = fold-append kept_after None book (entry ∷ [])
-
 pub here_push : (book : List BookEntry) (entry : BookEntry) → faults_here (book ++ entry ∷ []) ≡ fault_here (faults_here book) entry
 here_push book entry = fold-append fault_here None book (entry ∷ [])
 
@@ -95,29 +90,19 @@ tick_push book entry = fold-append tick_after 0 book (entry ∷ [])
 pub needs_push : (book : List BookEntry) (entry : BookEntry) → needs_of (book ++ entry ∷ []) ≡ need_after (needs_of book) entry
 needs_push book entry = fold-append need_after 0 book (entry ∷ [])
 
-pub present_push : (book : List BookEntry) (entry : BookEntry) → present (book ++ entry ∷ []) ≡ present_after (present book) entry
-present_push book entry = fold-append present_after [] book (entry ∷ [])
-
-pub times_push : (book : List BookEntry) (entry : BookEntry) (pid : ℕ) → times_attached (book ++ entry ∷ []) pid ≡ times_after pid (times_attached book pid) entry
-times_push book entry pid = fold-append (times_after pid) 0 book (entry ∷ [])
-
 pub closed_push : (book : List BookEntry) (entry : BookEntry) → is_closed (book ++ entry ∷ []) ≡ list_any ends_cleanly (present_after (present book) entry)
 closed_push book entry = ap (list_any ends_cleanly) (present_push book entry)
 
 pub checkpoint_push : (book : List BookEntry) (entry : BookEntry) → has_checkpoint (book ++ entry ∷ []) ≡ list_any ends_checkpoint (present_after (present book) entry)
 checkpoint_push book entry = ap (list_any ends_checkpoint) (present_push book entry)
 
-pub or_false : (a : Bool) → a || false ≡ a
-or_false true = refl
-or_false false = refl
-
 -- a test of the entries behind one more
 pub any_push : (p : BookEntry → Bool) (entries : List BookEntry) (entry : BookEntry) (was is : Bool) → list_any p entries ≡ was → p entry ≡ is → list_any p (entries ++ entry ∷ []) ≡ was || is
 any_push p entries entry was is so this =
-    list_any-append p entries (entry ∷ []) ∙ ap (λ (b : Bool). b || (p entry || false)) so ∙ ap (λ (b : Bool). was || (b || false)) this ∙ ap (λ (b : Bool). was || b) (or_false is)
+    list_any-append p entries (entry ∷ []) ∙ ap (λ (b : Bool). b || (p entry || false)) so ∙ ap (λ (b : Bool). was || (b || false)) this ∙ ap (λ (b : Bool). was || b) (or-false is)
 
 pub any_still : (p : BookEntry → Bool) (entries : List BookEntry) (entry : BookEntry) (was : Bool) → list_any p entries ≡ was → p entry ≡ false → list_any p (entries ++ entry ∷ []) ≡ was
-any_still p entries entry was so this = any_push p entries entry was false so this ∙ or_false was
+any_still p entries entry was so this = any_push p entries entry was false so this ∙ or-false was
 
 fault_later : (before now : ℕ) → before ≤ now → (fault : ℕ × ℕ) → IsFaultBy before fault → IsFaultBy now fault
 fault_later before now le fault by = omega (arith, le, by)
@@ -279,10 +264,6 @@ rows-with_commit history (change ∷ changes) = fold-append committed history.ba
 
 pub count-with_commit : (history : History) (change : Change) (changes : List Change) → count_of (with_commit history (change ∷ changes)) ≡ count_of history + 1
 count-with_commit history change changes = omega (arith, length-append history.commits ((change ∷ changes) ∷ []))
-
-pub base-with_commit : (history : History) (commit : List Change) → (with_commit history commit).base ≡ history.base
-base-with_commit history [] = refl
-base-with_commit history (change ∷ changes) = refl
 
 -- a new fault's count is above all before it, or it is the last number
 pub tells_new : (first before now : ℕ) (faults : List (ℕ × ℕ)) → first ≤ before → All (IsFaultBy before) faults → Rose before now → before ≤ now → now < 2 ^ 64

@@ -3,12 +3,14 @@ use Rattle.std.proofs.Common.{◌≡◌, Bool, true, false, ◌||◌, ◌⊎◌,
 use Rattle.std.specs.Prelude.{IfSome, is_some, max}
 use Rattle.std.proofs.Math.Logic.{∥∥₁_map, ∥∥₁_elim}
 use Rattle.std.proofs.Math.Bridge.{le_prop}
+use Rattle.std.proofs.Math.Bool.{or-false, or-true}
 use Rattle.pm_disk.specs.Cause.{Rose}
 use Rattle.pm_disk.specs.Disk.{TellsStill}
 use Rattle.pm_disk.specs.Files.{Files, file_of, other}
 use Rattle.pm_rows.specs.declared.commit.Change.{Change}
 use Rattle.pm_rows.specs.Fold.{RowMap, folded}
 use Rattle.pm_rows.specs.Standing.{Standing}
+use Rattle.pm_record.specs.GateLaws.{same_standing, standing}
 use Rattle.pm_record.specs.Pair.{IsShut, Means}
 use Rattle.pm_record.specs.Spelling.{base_bytes}
 use Rattle.pm_record.specs.StandsFor.{AreBatches, Content, StandsFor, checkpointed, standing_of}
@@ -24,6 +26,7 @@ use Rattle.pm_query.specs.TickLaws.{PastStays, PresentIsWhole}
 use Rattle.pm_query.specs.AtTick.{is_by}
 use Rattle.pm_query.specs.Calls.{due_bytes}
 use Rattle.pm_query.specs.Durable.{HoldsFrom, IsWithin, Keeps}
+use Rattle.pm_query.specs.HistoryLaws.{history_push, whole_number}
 use Rattle.pm_segment.specs.declared.live.Live.{Live}
 use Rattle.pm_segment.specs.Moment.{Moment}
 use Rattle.pm_segment.specs.MovesLaws.{ahead_still, time_still, unread_never, unread_still}
@@ -34,15 +37,11 @@ use Rattle.pm_segment.specs.Moves.{IsShownAt, Moves}
 use Rattle.pm_segment.specs.Children.{IsAttendedBy}
 use Rattle.pm_segment.specs.Fronts.{flushed_of, whole_of}
 use Rattle.pm_segment.specs.Stands.{HasGone, HasHeld, IsAnchored, MeansWithin, Origin, TellsBreak, bytes_of_rows, most_bytes}
-use Rattle.pm_segment.proofs.Books.{any_push, any_still, attended_still, breaks_push, or_false, each_later, each_push, gone_push, renewed_push, tells_new, waited_push}
+use Rattle.pm_segment.proofs.Books.{any_push, any_still, attended_still, breaks_push, each_later, each_push, gone_push, renewed_push, tells_new, waited_push}
 use Rattle.pm_segment.proofs.Lengths.{base_size}
 use Rattle.pm_segment.proofs.Resting.{content_is}
-use Rattle.pm_segment.proofs.Runs.{another, history_push, later, marks, same_standing, standing, whole_number}
+use Rattle.pm_segment.proofs.Runs.{another, later, marks}
 use Rattle.pm_segment.proofs.Steps.{Attends, ahead_more, anchored_broken, anchored_whole, attends_in, began_on, counted_now, drop_none, gone_read, gone_unread, held_alone, held_on, keeps_by, lengths_push, means_more, means_some, never_waits, no_fault_shown, nobody_moves, none_told, some_none, up_to_more, tells_none, waited_on}
-
-or_true : (a : Bool) → a || true ≡ true
-or_true true = refl
-or_true false = refl
 
 -- the same rows and number, in at most so many bytes
 abbrev pub Same : ℕ → Standing → Files → Type 0
@@ -84,7 +83,7 @@ pub record Laws : Type 0 where
 rows_fit : Laws → (base : Base) (at : Moment) (live : Live) (book : List BookEntry) → HasGone base at live book → bytes_of_rows at.rows ≤ base.bytes + needs_of book
 rows_fit laws base at live book is =
     let h = history_of base book in
-    let rows : at.rows ≡ (number h (count_of h)).rows = is.rows_are ∙ ap (λ (s : Standing). s.rows) (whole_number h) in
+    let rows : at.rows ≡ (number h (count_of h)).rows = is.rows_are ∙ ap (λ (s : Standing). s.rows) (sym (whole_number h)) in
     omega (arith, laws.within base book (count_of h), ap bytes_of_rows rows, is.base_fits)
 
 all_flushed : (base : Base) (before now : Moment) (live new : Live) (book : List BookEntry) → Checkpoints before now live new → HasGone base before live book → new.log.count ≡ count_of (history_of base book)
@@ -99,7 +98,7 @@ moved_held laws origin base before now live new book entry seen tells moves mark
     let h = history_of base book in
     let most = while_moving live before.rows in
     let counted : live.log.count ≡ count_of h = sym moves.front ∙ is.count_is moves.unbroken in
-    let one : standing before.rows live.log.count ≡ number h (count_of h) = same_standing _ _ _ _ is.rows_are counted ∙ whole_number h in
+    let one : standing before.rows live.log.count ≡ number h (count_of h) = same_standing _ _ _ _ is.rows_are counted ∙ sym (whole_number h) in
     let through = subst (λ (f : Option Files). IfSome f (λ files. Throughout before.ticks now.ticks now.images (Same most (standing before.rows live.log.count)))) tells moves.through in
     let holds : (image : Files) → Same most (standing before.rows live.log.count) image → HoldsFrom (MeansWithin most) live.log.count h image =
     λ image same. ∥∥₁_map same (λ m. (count_of h, omega (arith, counted), omega arith, subst (λ (s : Standing). MeansWithin most image s) one m)) in
@@ -294,13 +293,13 @@ skips past present_whole at book_now pid clean unread inside notes =
           waited_push origin (with_skip book_now at) book entry waited.unread waited.begun (attended_still at.inside book entry (λ who n. refl) waited.attended) waited.legal waited.fresh waited.no_redo waited.unredone waited.none_here waited.no_ticks tt
           (λ base same. record { attached = attends_in pid at.book book is inside; made = sym (ap is_some waited.unredone) })
           (λ base. refl) waited.generation refl refl
-          (any_push ends_checkpoint (present book) entry at.skipped true waited.skipped refl ∙ or_true at.skipped) (any_still ends_cleanly (present book) entry false waited.unclosed refl)
+          (any_push ends_checkpoint (present book) entry at.skipped true waited.skipped refl ∙ or-true at.skipped) (any_still ends_cleanly (present book) entry false waited.unclosed refl)
           (λ start mark. tt) waited.no_time waited.no_needs waited.counted.later waited.counted.each waited.reached
           (breaks_push book (entry ∷ []) (at.files ≡ origin.files) waited.reads)) (λ book seen tells waited opening. opening) told);
       goes_on = λ origin base told. gone_unread (entry ∷ []) at (with_skip book_now at) origin base unread refl notes (λ none. none)
           (λ book is sure renewed held. inr (renewed_push base at (with_skip book_now at) book entry renewed.unread refl (attended_still at.inside book entry (λ who n. refl) renewed.attended) tt
           (record { attached = attends_in pid at.book book is inside; made = sym (ap is_some renewed.unredone) }) (λ n. refl) refl refl
-          (any_push ends_checkpoint (present book) entry at.skipped true renewed.skipped refl ∙ or_true at.skipped) (any_still ends_cleanly (present book) entry false renewed.unclosed refl)
+          (any_push ends_checkpoint (present book) entry at.skipped true renewed.skipped refl ∙ or-true at.skipped) (any_still ends_cleanly (present book) entry false renewed.unclosed refl)
           refl renewed.in_time renewed.counted.later renewed.counted.each renewed))
           (λ book seen tells renewed held. held_skip past present_whole origin base at book_now book pid clean (ap (λ (r : Option ℕ). history_after r (history_of base book) entry) renewed.unredone) held) told;
     }
@@ -348,7 +347,7 @@ was_clean : (clean : Bool) (live : Live) (rows : RowMap) (files : Files) (images
 was_clean true live rows files images due h closed = refl
 was_clean false live rows files images (inl is) h closed = is
 was_clean false live rows files images (inr far) h closed =
-    let its = (h.closed (sym (or_false live.closed) ∙ closed)).0 in
+    let its = (h.closed (sym (or-false live.closed) ∙ closed)).0 in
     absurd (omega (arith, far, bare_end (file_of files live.log.file) h.content live.log.end h.lives.rests.stands its.bare, h.lives.base_end))
 
 abbrev pub LivesThere : Live → Live → RowMap → Bool → (Files → Type 0) → (Files → Type 0) → Files → Files → Type 0

@@ -11,12 +11,12 @@ use Rattle.pm_query.specs.declared.book.BookEntry.{BookEntry}
 use Rattle.pm_query.specs.declared.book.BookEntry.TheVariants.{Opened, Attached, Redone, Answered, Released, Detached, Gone, CheckpointEnded, Broke, LogFull}
 use Rattle.pm_query.specs.Book.{AnswersUpTo, present, present_after, times_after, times_attached}
 use Rattle.pm_query.specs.Calls.{IsNoLess, IsWithin}
+use Rattle.pm_query.specs.HistoryLaws.{present_push, times_push}
 use Rattle.pm_segment.specs.declared.live.Live.{Live}
 use Rattle.pm_segment.specs.declared.pass.Pass.{Pass}
 use Rattle.pm_segment.specs.Moment.{Moment}
 use Rattle.pm_outside.specs.Added.{Added}
 use Rattle.pm_segment.specs.Passes.{Admits, HasAnswer, IsStaged, IsInside}
-use Rattle.pm_segment.proofs.Books.{present_push, times_push}
 use Rattle.pm_segment.proofs.Steps.{Attends}
 
 -- the child of a pass is attached

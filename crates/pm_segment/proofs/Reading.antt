@@ -1,9 +1,7 @@
 -- Files that mean something can be read.
-use Rattle.std.proofs.Common.{◌≡◌, inl, inr, ℕ, List, [], ◌∷◌, ◌++◌, take, drop, length, Option, None, Some, refl, sym, ◌∙◌, ap, subst, arith}
+use Rattle.std.proofs.Common.{◌≡◌, inl, inr, ℕ, List, [], length, Option, None, Some, refl, sym, ap, subst, arith}
 use Rattle.std.specs.Prelude.{IfSome}
-use Rattle.std.specs.Int.{w64, from_be_bytes}
 use Rattle.std.proofs.Math.Logic.{∥∥₁_elim}
-use Rattle.std.proofs.lemmas.Nat.{from_be_bytes-to_be_bytes_8}
 use Rattle.pm_disk.specs.declared.disk.Which.{Which}
 use Rattle.pm_disk.specs.declared.disk.Which.TheVariants.{A, B}
 use Rattle.pm_disk.specs.Files.{Files, file_of}
@@ -12,6 +10,7 @@ use Rattle.pm_record.specs.Found.{IsClosed}
 use Rattle.pm_record.specs.Pair.{IsShut, PairStandsFor, Yields}
 use Rattle.pm_record.specs.declared.fault.RedoFault.{RedoFault}
 use Rattle.pm_record.specs.declared.fault.RedoFault.TheVariants as fault
+use Rattle.pm_redo.specs.FileLaws.{epoch_is, not_closed}
 use Rattle.pm_redo.specs.Found.{HaveEpoch, IsDamaged, IsFirstDamaged, IsReason}
 use Rattle.pm_query.specs.declared.book.BookEntry.{BookEntry}
 use Rattle.pm_query.specs.Book.{Base, history_of}
@@ -24,20 +23,6 @@ use Rattle.pm_segment.specs.Stands.{GoesFrom, HasBegun, HasHeld, IsSure, MeansWi
 use Rattle.pm_segment.proofs.Lawful.{told_then}
 
 -- ---- one file that stands for something
-
--- the epoch that the bytes say
-epoch_in : List ℕ → ℕ
-epoch_in bytes = from_be_bytes w64 (take 8 (drop 9 bytes))
-
-epoch_is : (bytes : List ℕ) (content : Content) (end : ℕ) → StandsFor bytes content end → epoch_in bytes ≡ content.epoch
-unfolding epoch_in
-epoch_is bytes content end log =
-    ap (λ (l : List ℕ). from_be_bytes w64 (take 8 (drop 9 l))) (log.parts ∙ ap (λ (l : List ℕ). l ++ (0 ∷ log.free)) log.spelled.parts)
-    ∙ from_be_bytes-to_be_bytes_8 content.epoch log.limits.epoch
-
-not_closed : (bytes : List ℕ) (content : Content) (end : ℕ) → StandsFor bytes content end → IsClosed bytes → ⊥
-not_closed bytes content end log closed =
-    log.spelled.is_open (subst IsClosed (log.parts ∙ ap (λ (l : List ℕ). l ++ (0 ∷ log.free)) log.spelled.parts) closed)
 
 shut_closed : (bytes : List ℕ) → IsShut bytes → IsClosed bytes
 shut_closed bytes shut = subst IsClosed (sym shut.1) refl

@@ -1,9 +1,8 @@
 -- What a redo keeps.
-use Rattle.std.proofs.Common.{◌≡◌, ◌≢◌, true, false, ◌||◌, ◌⊎◌, inl, inr, ℕ, ℤ, length, get_or, ◌+◌, ◌-◌, ◌^◌, ◌<◌, ◌≤◌, List, [], ◌∷◌, ◌++◌, All, Option, None, Some, refl, sym, ◌∙◌, ap, subst, arith, append-nil, true≢false}
+use Rattle.std.proofs.Common.{◌≡◌, ◌≢◌, true, false, ◌||◌, ◌⊎◌, inl, inr, ℕ, length, get_or, ◌+◌, ◌-◌, ◌^◌, ◌<◌, ◌≤◌, List, [], ◌∷◌, ◌++◌, All, Option, None, Some, refl, sym, ◌∙◌, ap, subst, arith, append-nil, true≢false}
 use Rattle.std.specs.Prelude.{IfSome, is_some}
 use Rattle.std.specs.Option.{option_map}
-use Rattle.std.specs.Cmp.{int_cmp_total}
-use Rattle.std.specs.FinMap.{get, same_map, int_cmp-IsAntisymmetric}
+use Rattle.std.specs.FinMap.{get}
 use Rattle.std.proofs.Math.Bridge.{le_prop}
 use Rattle.std.proofs.Math.Logic.{∥∥₁_map, ∥∥₁_elim}
 use Rattle.std.proofs.Math.Nat.{ℕ_set}
@@ -13,9 +12,9 @@ use Rattle.std.proofs.lemmas.List.Elements.{All-nil, All-push}
 use Rattle.pm_disk.specs.Cause.{Rose}
 use Rattle.pm_disk.specs.Disk.{TellsStill}
 use Rattle.pm_disk.specs.Files.{Files}
-use Rattle.pm_rows.specs.Fold.{RowMap}
 use Rattle.pm_rows.specs.Limits.{IsWithinRowLimits, max_file_bytes}
 use Rattle.pm_rows.specs.Standing.{Standing}
+use Rattle.pm_record.specs.GateLaws.{same_standing, standing}
 use Rattle.pm_record.specs.StandsFor as record_specs
 use Rattle.pm_record.specs.Pair.{Means, MeansIn, MeansWhat}
 use Rattle.pm_record.specs.OnDisk.{FollowsWithin, GoesOn, Rests as LogRests}
@@ -42,12 +41,14 @@ use Rattle.pm_query.specs.Calls.{RedoNotes, User}
 use Rattle.pm_record.specs.declared.fault.RedoFault.{RedoFault}
 use Rattle.pm_record.specs.declared.fault.RedoFault.TheVariants as fault
 use Rattle.pm_query.specs.declared.store.StoreNo.TheVariants.{Redo}
+use Rattle.pm_query.specs.HistoryLaws.{cut_count, history_push, same_rows}
 use Rattle.std.specs.Prelude.{Err}
+use Rattle.std.proofs.Math.Bool.{or-false}
 use Rattle.pm_segment.specs.Children.{IsAttendedBy}
 use Rattle.pm_segment.specs.Stands.{Begins, HasBegun, HasGone, HasHeld, HasRenewed, HasWaited, IsAnchored, IsBaseOf, IsOpening, IsSure, MeansWithin, Origin, WaitsFrom, bytes_of_rows, most_bytes}
-use Rattle.pm_segment.proofs.Books.{any_still, attended_still, each_later, each_push, gone_push, or_false, renewed_push, tells_new, waited_push}
+use Rattle.pm_segment.proofs.Books.{any_still, attended_still, each_later, each_push, gone_push, renewed_push, tells_new, waited_push}
 use Rattle.pm_segment.proofs.Resting.{limits_bare, means_now, tells_nothing}
-use Rattle.pm_segment.proofs.Runs.{beginning_kept, beginning_number, cut_count, cut_number, goes_by, notes_cut, history_push, opens, same_standing, standing}
+use Rattle.pm_segment.proofs.Runs.{beginning_kept, beginning_number, cut_number, goes_by, notes_cut, opens}
 use Rattle.pm_record.specs.Pair.{PairStandsFor}
 use Rattle.pm_segment.specs.Fronts.{flushed_of, whole_of}
 use Rattle.pm_segment.specs.Redos.{IsFoundIn}
@@ -80,9 +81,6 @@ same_value None None is = refl
 same_value None (Some b) is = absurd (not_none b (∥∥₁_map is (λ e. sym e)))
 same_value (Some a) None is = absurd (not_none a is)
 same_value (Some a) (Some b) is = ap (λ (l : List ℕ). Some l) (same_list a b (∥∥₁_map is (λ e. ap value_or e)))
-
-same_rows : (m n : RowMap) → ((q : ℤ) → get m q ≡ get n q) → m ≡ n
-same_rows m n is = same_map int_cmp_total int_cmp-IsAntisymmetric m n is
 
 -- calls that read leave an opening
 pub opening_follows : (origin : Origin) (before now : ℕ) (i k : ℕ → Files → Type 0) → origin.tick ≤ before → IsOpening origin before i → GoesOn before now i k → FollowsWithin MeansWhat before now i k → IsOpening origin now k
@@ -226,7 +224,7 @@ reads_fault past present_whole before now pid since reads rose small inside note
         counted = counts_unread from before.faults now.faults before.live now.live reads.later reads.unread_now counted;
         each = no_fault_shown from now.faults entry (omega (arith, counted.later, rose));
       };
-      unread = record { read = ap is_some (reads.unread_now ∙ sym reads.unread) ∙ sym (or_false (is_some before.live)); files = λ none. inl refl };
+      unread = record { read = ap is_some (reads.unread_now ∙ sym reads.unread) ∙ sym (or-false (is_some before.live)); files = λ none. inl refl };
       staged = up_to_unread whole_of before.live now.live reads.unread;
       flushed = up_to_unread flushed_of before.live now.live reads.unread;
       began = began_unread before.live now.live reads.unread;

@@ -12,6 +12,7 @@ use Rattle.pm_query.specs.declared.book.BookEntry.TheVariants.{Opened, Attached,
 use Rattle.pm_query.specs.History.{History}
 use Rattle.pm_query.specs.Book.{Base, BeginsRenewal, IsLegal, MayGoOn, RenewsBehindGone, faults_here, faults_of, generation_of, has_checkpoint, history_after, history_of, is_closed, kept_after, kept_by_redo, last_tick, needs_of, standing_of, times_after, times_attached}
 use Rattle.pm_query.specs.TickLaws.{PastStays, PresentIsWhole}
+use Rattle.pm_query.specs.HistoryLaws.{generation_push, history_push, redone_push, times_push}
 use Rattle.pm_segment.specs.Children.{AreOthers, IsAttendedBy, once, times_in}
 use Rattle.pm_segment.specs.Moment.{Moment}
 use Rattle.pm_outside.specs.Added.{Added}
@@ -19,8 +20,7 @@ use Rattle.pm_segment.specs.Moves.{Renews}
 use Rattle.pm_segment.specs.Stands.{CountsFaults, HasBegun, HasHeld, HasNoTick, HasRenewed, HasWaited, IsFaultBy, IsSure, Origin, bytes_of_rows}
 use Rattle.pm_segment.specs.Unread.{has_redo}
 use Rattle.pm_segment.specs.UnreadLaws.{redo_neither}
-use Rattle.pm_segment.proofs.Books.{breaks_push, checkpoint_push, closed_push, faults_push, generation_push, goes_on, here_push, needs_push, redone_push, tick_push, times_push}
-use Rattle.pm_segment.proofs.Runs.{history_push}
+use Rattle.pm_segment.proofs.Books.{breaks_push, checkpoint_push, closed_push, faults_push, goes_on, here_push, needs_push, tick_push}
 use Rattle.pm_segment.proofs.Steps.{gone_on, held_alone, not_both, waited_on}
 
 -- ---- legal books

@@ -1,12 +1,10 @@
 -- How the log of a store rests on its disk, from call to call.
-use Rattle.std.proofs.Common.{◌≡◌, ◌≢◌, ◌⊎◌, inl, inr, ℕ, zero, suc, ◌+◌, ◌^◌, ◌<◌, ◌≤◌, List, [], ◌∷◌, ◌++◌, length, get_or, take, All, Option, None, Some, refl, sym, ◌∙◌, ap, subst, arith, append-nil, length-append, false, true≢false}
+use Rattle.std.proofs.Common.{◌≡◌, ◌≢◌, ◌⊎◌, inl, inr, ℕ, zero, suc, ◌+◌, ◌^◌, ◌<◌, ◌≤◌, List, [], ◌∷◌, length, get_or, take, All, Option, None, Some, refl, sym, ◌∙◌, ap, subst, arith, length-append, false, true≢false}
 use Rattle.std.specs.Prelude.{IfSome}
 use Rattle.std.proofs.Math.Logic.{∥∥₁_map, ∥∥₁_elim}
 use Rattle.std.proofs.Math.Bridge.{le_prop}
-use Rattle.std.proofs.lemmas.Grind.{flat_map-append}
 use Rattle.std.proofs.lemmas.List.{take_all}
 use Rattle.std.proofs.lemmas.List.Elements.{All-nil, All-push}
-use Rattle.std.proofs.lemmas.List.Sums.{fold-append}
 use Rattle.pm_disk.specs.Disk.{TellsStill}
 use Rattle.pm_disk.specs.Files.{Files, file_of}
 use Rattle.pm_rows.specs.declared.commit.Change.{Change}
@@ -17,10 +15,12 @@ use Rattle.pm_rows.specs.LogSize as log
 use Rattle.pm_rows.specs.Standing.{Standing, after}
 use Rattle.pm_rows.specs.Typed.{IsTypedChange}
 use Rattle.pm_rows.specs.Batch.{IsBatch, IsChange, IsCommit}
-use Rattle.pm_record.specs.StandsFor.{Content, MayAppend, StandsFor, commits_of, standing_of, with_batch}
+use Rattle.pm_record.specs.GateLaws.{same_standing, standing}
+use Rattle.pm_record.specs.StandsFor.{Content, MayAppend, StandsFor, standing_of, with_batch}
 use Rattle.pm_record.specs.Pair.{MeansIn}
 use Rattle.pm_record.specs.OnDisk.{Rests as LogRests, Throughout}
 use Rattle.pm_log.specs.Append.{MeansOneOf}
+use Rattle.pm_log.specs.BatchLaws.{standing-push}
 use Rattle.pm_log.specs.Log.{Lives}
 use Rattle.pm_log.specs.declared.log.LogFault.{LogFault}
 use Rattle.pm_log.specs.declared.log.LogFault.TheVariants as fault
@@ -29,7 +29,6 @@ use Rattle.pm_disk.specs.declared.disk.Which.{Which}
 use Rattle.pm_query.specs.Book as book
 use Rattle.pm_segment.specs.declared.live.Live.{Live}
 use Rattle.pm_segment.specs.Rests.{HasRows, Rests}
-use Rattle.pm_segment.proofs.Runs.{same_standing, standing}
 use Rattle.pm_segment.specs.Stands.{MeansWithin}
 use Rattle.pm_segment.proofs.Steps.{OneOf, some_none, with_need}
 
@@ -46,16 +45,6 @@ means_now file content end files images rests image there = record {
   is = refl;
   long = refl;
 }
-
-commits_push : (content : Content) (batch : List (List Change)) → commits_of (with_batch content batch) ≡ commits_of content ++ batch
-commits_push content batch =
-    flat_map-append (λ (b : List (List Change)). b) content.batches (batch ∷ []) ∙ ap (λ (l : List (List Change)). commits_of content ++ l) (append-nil batch)
-
-pub standing-push : (content : Content) (batch : List (List Change)) → standing_of (with_batch content batch) ≡ after (standing_of content) batch
-standing-push content batch =
-    let all = commits_push content batch in
-    same_standing _ _ _ _ (ap (λ (l : List (List Change)). folded content.base_rows l) all ∙ fold-append committed content.base_rows (commits_of content) batch)
-    (ap (λ (l : List (List Change)). content.base_count + length l) all ∙ omega (arith, length-append (commits_of content) batch))
 
 -- ---- a commit that may be appended
 

@@ -1,46 +1,32 @@
 -- The steps of a run keep what a stop leaves of its history.
 use Rattle.std.proofs.Common.{◌≡◌, inl, inr, ℕ, suc, ◌+◌, ◌-◌, ◌≤◌, ◌<◌, true, false, List, [], ◌∷◌, ◌++◌, length, get_or, take, drop, refl, sym, ◌∙◌, ap, subst, arith, length-append, append_assoc, append-nil, take-append-drop}
-use Rattle.std.specs.Prelude.{Option, Some, None, nat_le, fold, All}
+use Rattle.std.specs.Prelude.{Option, Some, None, nat_le, All}
 use Rattle.std.proofs.Math.Logic.{∥∥₁_map}
 use Rattle.std.proofs.lemmas.Bool.{cases_lt}
 use Rattle.std.proofs.lemmas.Bool.Decides.{nat_tests}
 use Rattle.std.proofs.lemmas.List.{take-append-le, take_all}
 use Rattle.std.proofs.lemmas.List.Elements.{All-push}
 use Rattle.std.proofs.lemmas.List.Sums.{fold-append}
-use Rattle.std.proofs.Math.Seq.{length-take-le, take-take}
+use Rattle.std.proofs.Math.Seq.{take-take}
 use Rattle.pm_disk.specs.Files.{Files}
 use Rattle.pm_rows.specs.declared.commit.Change.{Change}
-use Rattle.pm_rows.specs.Fold.{RowMap, committed, folded}
+use Rattle.pm_rows.specs.Fold.{committed, folded}
 use Rattle.pm_rows.specs.Standing.{Standing, after}
 use Rattle.pm_record.specs.Pair.{Means}
+use Rattle.pm_record.specs.GateLaws.{same_standing}
 use Rattle.pm_record.specs.OnDisk.{GoesOn, Throughout}
 use Rattle.pm_query.specs.declared.book.BookEntry.{BookEntry}
 use Rattle.pm_query.specs.declared.book.BookEntry.TheVariants.{Opened, Attached, Redone, Answered, Released, Detached, Gone, CheckpointEnded, Broke, LogFull}
 use Rattle.pm_sql.specs.declared.stmt.Stmt.{Stmt}
 use Rattle.pm_query.specs.declared.item.Item.{Item}
-use Rattle.pm_query.specs.History.{History, acknowledged, beginning, count_of, kept, number, rows_of, with_commit}
-use Rattle.pm_query.specs.Book.{Base, Course, course_after, history_after, history_of, kept_after, kept_by_redo, standing_of}
+use Rattle.pm_query.specs.History.{History, acknowledged, beginning, count_of, kept, number, with_commit}
+use Rattle.pm_query.specs.Book.{Base, history_after, history_of, kept_by_redo, standing_of}
 use Rattle.pm_query.specs.AtTick.{history_at, is_by}
 use Rattle.pm_query.specs.TickLaws.{PastStays, PresentIsWhole}
 use Rattle.pm_query.specs.Durable.{HoldsAcknowledged, HoldsFrom, IsDurable, IsWithin, Keeps, MeansAsOne}
+use Rattle.pm_query.specs.HistoryLaws.{history_push, number_of}
 
 -- ---- histories along a book
-
-redone_is : (course : Course) (book : List BookEntry) → (fold course_after course book).redone ≡ fold kept_after course.redone book
-redone_is course [] = refl
-redone_is course (entry ∷ book) = redone_is (course_after course entry) book
-
--- the history behind one entry more
-pub history_push : (base : Base) (book : List BookEntry) (entry : BookEntry) → history_of base (book ++ entry ∷ []) ≡ history_after (kept_by_redo book) (history_of base book) entry
-history_push base book entry =
-    ap (λ (c : Course). c.history) (fold-append course_after (record { history = beginning (standing_of base); redone = None }) book (entry ∷ []))
-    ∙ ap (λ (r : Option ℕ). history_after r (history_of base book) entry) (redone_is (record { history = beginning (standing_of base); redone = None }) book)
-
-abbrev pub standing : RowMap → ℕ → Standing
-standing rows count = record { rows = rows; count = count }
-
-pub same_standing : (one other : RowMap) (n m : ℕ) → one ≡ other → n ≡ m → standing one n ≡ standing other m
-same_standing one other n m rows count = ap (λ (r : RowMap). standing r n) rows ∙ ap (λ (k : ℕ). standing other k) count
 
 -- one history has the commits of another one, and maybe more behind them
 pub record Covers (shown whole : History) : Type 0 where
@@ -52,15 +38,12 @@ pub record Covers (shown whole : History) : Type 0 where
 covers_itself : (history : History) → Covers history history
 covers_itself history = record { base = refl; acked = refl; more = []; commits = sym (append-nil history.commits) }
 
-abbrev pub of_rows : RowMap → ℕ → List (List Change) → Standing
-of_rows rows n commits = record { rows = folded rows commits; count = n }
-
 pub covers_number : (shown whole : History) → Covers shown whole → (n : ℕ) → n ≤ count_of whole → number shown n ≡ number whole n
 covers_number shown whole covers n le =
     let b = whole.base.count in
     ap (λ (s : Standing). number (record shown { base = s }) n) covers.base
     ∙ ap (λ (l : List (List Change)). number (record whole { commits = l }) n) covers.commits
-    ∙ ap (of_rows whole.base.rows n) (take-append-le (n - b) whole.commits covers.more (omega arith))
+    ∙ ap (number_of whole n) (take-append-le (n - b) whole.commits covers.more (omega arith))
 
 pub covers_count : (shown whole : History) → Covers shown whole → count_of whole ≤ count_of shown
 covers_count shown whole covers = omega (arith, ap (λ (s : Standing). s.count) covers.base, ap length covers.commits, length-append whole.commits covers.more)
@@ -260,7 +243,7 @@ notes_cut past present base book start now flushed images keeps pid generation u
 
 -- no commit stands behind the base
 pub beginning_number : (base : Standing) → base ≡ number (beginning base) base.count
-beginning_number base = sym (ap (of_rows base.rows base.count) (take_all (base.count - base.count) [] (omega arith)))
+beginning_number base = sym (ap (number_of (beginning base) base.count) (take_all (base.count - base.count) [] (omega arith)))
 
 pub beginning_kept : (base : Standing) → kept (beginning base) base.count ≡ beginning base
 beginning_kept base = ap (λ (l : List (List Change)). record (beginning base) { commits = l }) (take_all (base.count - base.count) [] (omega arith))
@@ -301,19 +284,11 @@ next_commit history change changes =
     ∙ ap (λ (l : List (List Change)). folded history.base.rows l) (sym there) in
     same_standing _ _ _ _ rows refl
 
--- its last number has all commits
-pub whole_number : (h : History) → standing (rows_of h) (count_of h) ≡ number h (count_of h)
-whole_number h = sym (ap (of_rows h.base.rows (count_of h)) (take_all (count_of h - h.base.count) h.commits (omega arith)))
-
 -- ---- a history that is cut
 
 -- the numbers up to the cut are what they were
 pub cut_number : (history : History) (count : ℕ) → number (kept history count) count ≡ number history count
-cut_number history count = ap (of_rows history.base.rows count) (take-take (count - history.base.count) (count - history.base.count) history.commits (omega arith))
-
--- and there are as many as were kept
-pub cut_count : (history : History) (count : ℕ) → history.base.count ≤ count → count ≤ count_of history → count_of (kept history count) ≡ count
-cut_count history count least most = omega (arith, length-take-le (count - history.base.count) history.commits (omega (arith, most)), least)
+cut_number history count = ap (number_of history count) (take-take (count - history.base.count) (count - history.base.count) history.commits (omega arith))
 
 -- ---- the clause of a whole run
 

@@ -22,6 +22,7 @@ use Rattle.pm_record.specs.OnDisk.{GoesOn, Throughout}
 use Rattle.pm_log.specs.Append.{MeansOneOf}
 use Rattle.pm_log.specs.Log.{Lives}
 use Rattle.pm_log.specs.declared.log.Log.{Log}
+use Rattle.pm_log.specs.BatchLaws.{standing-push}
 use Rattle.pm_sql.specs.declared.stmt.Stmt.{Stmt}
 use Rattle.pm_query.specs.declared.item.Item.{Item}
 use Rattle.pm_query.specs.declared.book.BookEntry.{BookEntry}
@@ -31,6 +32,7 @@ use Rattle.pm_query.specs.History.{History, count_of, number, with_commit}
 use Rattle.pm_query.specs.Book.{Base, TellsFault, ends_cleanly, fault_here, faults_here, faults_of, history_after, history_of, kept_after, kept_by_redo, present}
 use Rattle.pm_query.specs.TickLaws.{PastStays, PresentIsWhole}
 use Rattle.pm_query.specs.Durable.{HoldsFrom, Keeps}
+use Rattle.pm_query.specs.HistoryLaws.{base-with_commit, history_push}
 use Rattle.pm_segment.specs.declared.live.Live.{Live}
 use Rattle.pm_segment.specs.Children.{IsAttendedBy}
 use Rattle.pm_segment.specs.Moment.{Moment}
@@ -41,9 +43,9 @@ use Rattle.pm_segment.specs.Rests.{HasRows, Rests, RestsAt}
 use Rattle.pm_segment.specs.Stands.{HasGone, HasHeld, IsAnchored, MeansWithin, Origin, TellsBreak, most_bytes}
 use Rattle.pm_segment.specs.Fronts.{flushed_of, whole_of}
 use Rattle.pm_segment.specs.Waits.{needs_alone}
-use Rattle.pm_segment.proofs.Books.{any_still, attended_still, base-with_commit, count-with_commit, each_later, each_push, gone_push, rows-with_commit, tells_new}
-use Rattle.pm_segment.proofs.Resting.{LivesWith, StopsOneOf, means_now, standing-push}
-use Rattle.pm_segment.proofs.Runs.{another, answered, covers_commit, goes_by, history_push, holds_in, later}
+use Rattle.pm_segment.proofs.Books.{any_still, attended_still, count-with_commit, each_later, each_push, gone_push, rows-with_commit, tells_new}
+use Rattle.pm_segment.proofs.Resting.{LivesWith, StopsOneOf, means_now}
+use Rattle.pm_segment.proofs.Runs.{another, answered, covers_commit, goes_by, holds_in, later}
 use Rattle.pm_segment.proofs.Steps.{Attends, ahead_more, anchored_broken, anchored_push, attends_in, began_on, counted_now, flushed_number, gone_read, held_on, keeps_by, lengths_by, lengths_push, may_answer, means_more, means_some, never_waits, no_fault_shown, nobody_moves, none_told, same_live, some_none, up_to_more, tells_none}
 use Rattle.pm_segment.proofs.Waiting.{behind_added, behind_more, folded_more, folded_rest, need_some, needs_parts, number_more}
 

@@ -14,6 +14,7 @@ use Rattle.pm_rows.specs.Fold.{RowMap, committed, folded}
 use Rattle.pm_rows.specs.Limits.{max_file_bytes}
 use Rattle.pm_rows.specs.LogSize as log
 use Rattle.pm_rows.specs.Standing.{Standing, after}
+use Rattle.pm_record.specs.GateLaws.{same_standing, standing}
 use Rattle.pm_record.specs.Pair.{Means}
 use Rattle.pm_record.specs.StandsFor.{standing_of as content_standing}
 use Rattle.pm_record.specs.OnDisk.{GoesOn, Throughout}
@@ -27,6 +28,7 @@ use Rattle.pm_query.specs.Book.{AnswersUpTo, Base, IsAttached, MayAnswer, MayFol
 use Rattle.pm_query.specs.AtTick.{is_by}
 use Rattle.pm_query.specs.TickLaws.{PastStays, PresentIsWhole}
 use Rattle.pm_query.specs.Durable.{HoldsFrom, Keeps}
+use Rattle.pm_query.specs.HistoryLaws.{base-with_commit, generation_push, history_push, redone_push, times_push, whole_number}
 use Rattle.pm_segment.specs.declared.live.Live.{Live}
 use Rattle.pm_segment.specs.Moment.{Moment}
 use Rattle.pm_outside.specs.Added.{Added}
@@ -40,8 +42,8 @@ use Rattle.pm_segment.specs.Fronts.{flushed_of, whole_of}
 use Rattle.pm_segment.specs.Passes.{IsUpTo}
 use Rattle.pm_segment.specs.Rests.{Rests, RestsAt}
 use Rattle.pm_segment.specs.Stands.{Begins, GoesFrom, HasBegun, HasGone, HasHeld, HasNoTick, HasRenewed, HasWaited, IsAnchored, IsFaultBy, IsOpening, IsSure, MeansWithin, Origin, TellsBreak, WaitsFrom, most_bytes}
-use Rattle.pm_segment.proofs.Books.{IsNotGone, any_still, attended_push, attended_still, base-with_commit, breaks_push, closed_push, count-with_commit, each_later, each_push, faults_push, generation_push, gone_push, here_push, legal_push, most_grows, needs_push, redone_push, renewed_push, rows-with_commit, tells_new, tick_push, times_push, waited_push}
-use Rattle.pm_segment.proofs.Runs.{another, answered, covers_commit, covers_number, goes_by, history_push, holds_in, holds_so, later, next_commit, released, same_standing, standing, whole_number}
+use Rattle.pm_segment.proofs.Books.{IsNotGone, any_still, attended_push, attended_still, breaks_push, closed_push, count-with_commit, each_later, each_push, faults_push, gone_push, here_push, legal_push, most_grows, needs_push, renewed_push, rows-with_commit, tells_new, tick_push, waited_push}
+use Rattle.pm_segment.proofs.Runs.{another, answered, covers_commit, covers_number, goes_by, holds_in, holds_so, later, next_commit, released}
 
 -- the moment with another book, and other children inside
 abbrev pub with_child : Option (List BookEntry) → List ℕ → Moment → Moment
@@ -128,7 +130,7 @@ anchored_whole at h new read unstaged rows count rests = λ live is whole.
           has = has;
           is = same_standing (content_standing has.content).rows (rows_of h) (content_standing has.content).count (count_of h)
               (sym (has.rows_are ∙ ap (λ (l : List (List Change)). folded (content_standing has.content).rows l) unstaged) ∙ rows) (sym has.lives.count ∙ counted)
-              ∙ whole_number h ∙ ap (number h) (sym counted);
+              ∙ sym (whole_number h) ∙ ap (number h) (sym counted);
         })
 
 -- ---- from one moment to another: of the book wherever it tells, and of stops where the disk tells as well
@@ -634,10 +636,10 @@ holds_one h change changes most one flushed image is counted either = ∥∥₁_
     commit = change ∷ changes
 
     same : one ≡ number (with_commit h (change ∷ changes)) (count_of h)
-    same = is ∙ whole_number h ∙ sym (covers_number (with_commit h (change ∷ changes)) h (covers_commit h (change ∷ changes)) (count_of h) (omega arith))
+    same = is ∙ sym (whole_number h) ∙ sym (covers_number (with_commit h (change ∷ changes)) h (covers_commit h (change ∷ changes)) (count_of h) (omega arith))
 
     next : after one ((change ∷ changes) ∷ []) ≡ number (with_commit h (change ∷ changes)) (count_of h + 1)
-    next = ap (λ (s : Standing). after s ((change ∷ changes) ∷ [])) (is ∙ whole_number h) ∙ next_commit h change changes
+    next = ap (λ (s : Standing). after s ((change ∷ changes) ∷ [])) (is ∙ sym (whole_number h)) ∙ next_commit h change changes
 
     each : MeansWithin most image one ⊎ MeansWithin most image (after one ((change ∷ changes) ∷ []))
         → (n : ℕ) × (flushed ≤ n) × (n ≤ count_of (with_commit h (change ∷ changes))) × MeansWithin most image (number (with_commit h (change ∷ changes)) n)
@@ -651,7 +653,7 @@ holds_next h change changes most one flushed image is counted means =
       count_of h + 1,
       omega (arith, counted),
       omega (arith, count-with_commit h change changes),
-      subst (λ (s : Standing). MeansWithin most image s) (ap (λ (s : Standing). after s ((change ∷ changes) ∷ [])) (is ∙ whole_number h) ∙ next_commit h change changes) m,
+      subst (λ (s : Standing). MeansWithin most image s) (ap (λ (s : Standing). after s ((change ∷ changes) ∷ [])) (is ∙ sym (whole_number h)) ∙ next_commit h change changes) m,
     ))
 
 -- in however many bytes

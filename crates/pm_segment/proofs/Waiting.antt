@@ -10,6 +10,7 @@ use Rattle.std.proofs.lemmas.List.{drop-append-le, drop-drop, drop_all, length-t
 use Rattle.std.proofs.lemmas.List.Elements.{All-take}
 use Rattle.std.proofs.lemmas.List.Sums.{fold-append, sum_by-append, sum_by-cons, sum_by-take-drop}
 use Rattle.pm_disk.specs.Files.{Files}
+use Rattle.pm_record.specs.GateLaws.{same_standing}
 use Rattle.pm_rows.specs.declared.commit.Change.{Change}
 use Rattle.pm_rows.specs.Batch.{IsBatch, IsCommit}
 use Rattle.pm_rows.specs.Fold.{RowMap, committed, folded}
@@ -23,7 +24,6 @@ use Rattle.pm_segment.specs.declared.commits.Commits.TheVariants as ways
 use Rattle.pm_segment.specs.declared.live.Live.{Live}
 use Rattle.pm_segment.specs.Rests.{Rests}
 use Rattle.pm_segment.specs.Waits.{IsBehind, Waits, needs_alone}
-use Rattle.pm_segment.proofs.Runs.{same_standing}
 
 -- ---- how much it needs
 

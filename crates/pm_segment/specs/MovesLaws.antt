@@ -163,6 +163,21 @@ moves_none at = record {
   goes_on = λ origin base stands. stands;
 }
 
+-- the faults that the entries of two calls show
+pub counts_on : (from : ℕ) (first second : List BookEntry) (between now : Moment) → between.faults ≤ now.faults → CountsEntries from first between.faults between.live
+    → CountsEntries from second now.faults now.live → CountsEntries from (first ++ second) now.faults now.live
+counts_on from first second between now later a b = record {
+  counted = b.counted;
+  each = All-append (IsShown from now.faults) first second
+      (All-weaker (IsShown from between.faults) (IsShown from now.faults) (shown_later from between.faults now.faults later) first a.each) b.each;
+}
+
+-- what waits for a beginning, or has begun, behind a call more
+pub stands_on : (origin : Origin) (second : List BookEntry) (between now : Moment) → Added second between.book now.book → (WaitsFrom origin between → WaitsFrom origin now ⊎ Begins origin now)
+    → ((base : Base) → GoesFrom origin base between → GoesFrom origin base now) → WaitsFrom origin between ⊎ Begins origin between → WaitsFrom origin now ⊎ Begins origin now
+stands_on origin second between now notes waits_on goes_on (inl waits) = waits_on waits
+stands_on origin second between now notes waits_on goes_on (inr begins) = inr (begins_on origin second between now notes goes_on begins)
+
 pub moves_on : (first second : List BookEntry) (before between now : Moment) → Moves first before between → Moves second between now → Moves (first ++ second) before now
 moves_on first second before between now one two = record {
   notes = added_both first second before.book between.book now.book one.notes two.notes;
@@ -178,12 +193,7 @@ moves_on first second before between now one two = record {
   ahead = λ many is. ahead_both first second many now.live (two.ahead (many + epochs_in first) (one.ahead many is));
   counts = λ from counted.
       let a : CountsEntries from first between.faults between.live = one.counts from counted in
-      let b : CountsEntries from second now.faults now.live = two.counts from a.counted in
-      record { counted = b.counted; each = All-append (IsShown from now.faults) first second (All-weaker (IsShown from between.faults) (IsShown from now.faults) (shown_later from between.faults now.faults two.later) first a.each) b.each };
-  waits = λ origin stands. behind origin (one.waits origin stands);
+      counts_on from first second between now two.later a (two.counts from a.counted);
+  waits = λ origin stands. stands_on origin second between now two.notes (two.waits origin) (two.goes_on origin) (one.waits origin stands);
   goes_on = λ origin base stands. two.goes_on origin base (one.goes_on origin base stands);
 }
-  where
-    behind : (origin : Origin) → WaitsFrom origin between ⊎ Begins origin between → WaitsFrom origin now ⊎ Begins origin now
-    behind origin (inl waits) = two.waits origin waits
-    behind origin (inr begins) = inr (begins_on origin second between now two.notes (two.goes_on origin) begins)

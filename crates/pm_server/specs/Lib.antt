@@ -1,7 +1,6 @@
 pub mod Views
 pub mod Journal
 pub mod JournalLaws
-pub mod ReplayLaws
 pub mod CalmLaws
 pub mod Story
 pub mod Ends

@@ -1,14 +1,13 @@
 -- A store, in one generation or through several.
-use Rattle.std.proofs.Common.{◌⊎◌, inl, inr, ℕ, List, [], ◌∷◌, ◌++◌, arith}
+use Rattle.std.proofs.Common.{inl, ℕ, List, [], ◌∷◌, ◌++◌, arith}
 use Rattle.std.specs.Prelude.{map, All}
-use Rattle.std.proofs.lemmas.List.Elements.{All-nil, All-cons, All-append, All-weaker}
+use Rattle.std.proofs.lemmas.List.Elements.{All-nil, All-cons, All-append}
 use Rattle.pm_query.specs.declared.book.BookEntry.{BookEntry}
 use Rattle.pm_query.specs.declared.book.BookEntry.TheVariants.{Opened, Gone}
 use Rattle.pm_segment.specs.Moment.{Moment}
 use Rattle.pm_segment.specs.Moves.{IsShown, CountsEntries, Moves}
 use Rattle.pm_outside.specs.AddedLaws.{added_both}
-use Rattle.pm_segment.specs.MovesLaws.{begins_on, moves_none, shown_later, time_on}
-use Rattle.pm_segment.specs.Stands.{Begins, Origin, WaitsFrom}
+use Rattle.pm_segment.specs.MovesLaws.{counts_on, moves_none, stands_on, time_on}
 use Rattle.pm_server.specs.Spans.{HasRenewed, Spans}
 
 pub spans_moves : (entries : List BookEntry) (before now : Moment) → Moves entries before now → Spans entries before now
@@ -49,12 +48,7 @@ spans_on first second before between now one two = record {
   later = omega (arith, one.later, two.later);
   counts = λ from counted.
       let a : CountsEntries from first between.faults between.live = one.counts from counted in
-      let b : CountsEntries from second now.faults now.live = two.counts from a.counted in
-      record { counted = b.counted; each = All-append (IsShown from now.faults) first second (All-weaker (IsShown from between.faults) (IsShown from now.faults) (shown_later from between.faults now.faults two.later) first a.each) b.each };
-  waits = λ origin stands. behind origin (one.waits origin stands);
+      counts_on from first second between now two.later a (two.counts from a.counted);
+  waits = λ origin stands. stands_on origin second between now two.notes (two.waits origin) (two.goes_on origin) (one.waits origin stands);
   goes_on = λ origin base stands. two.goes_on origin base (one.goes_on origin base stands);
 }
-  where
-    behind : (origin : Origin) → WaitsFrom origin between ⊎ Begins origin between → WaitsFrom origin now ⊎ Begins origin now
-    behind origin (inl waits) = two.waits origin waits
-    behind origin (inr begins) = inr (begins_on origin second between now two.notes (two.goes_on origin) begins)

@@ -1,11 +1,10 @@
 -- What a run of a server leaves in its files, by what its store keeps from its opening to its end.
-use Rattle.std.proofs.Common.{◌≡◌, ◌≢◌, ◌⊎◌, inl, inr, ℕ, ◌-◌, List, [], ◌∷◌, ◌++◌, Option, None, Some, refl, sym, ◌∙◌, ap, subst, arith}
+use Rattle.std.proofs.Common.{◌≡◌, ◌≢◌, ◌⊎◌, inl, inr, ℕ, List, [], ◌∷◌, ◌++◌, Option, None, Some, refl, sym, ◌∙◌, ap, subst, arith}
 use Rattle.std.proofs.Math.Logic.{∥∥₁_elim, ∥∥₁_map}
 use Rattle.std.specs.Option.{option_map}
 use Rattle.std.specs.Prelude.{All, IfSome, false, is_some, true}
 use Rattle.std.specs.List.{AllByRecursion}
 use Rattle.std.specs.FinMap as finite
-use Rattle.std.proofs.lemmas.List.{take_all}
 use Rattle.std.proofs.lemmas.List.Elements.{All-head, All-tail}
 use Rattle.pm_disk.specs.Cause.{Rose}
 use Rattle.pm_disk.specs.Files.{Files}
@@ -15,11 +14,10 @@ use Rattle.pm_record.specs.StandsFor.{StandsFor}
 use Rattle.pm_record.specs.declared.fault.RedoFault.{RedoFault}
 use Rattle.pm_record.specs.declared.fault.RedoFault.TheVariants as redo
 use Rattle.pm_redo.specs.Found.{IsReason}
-use Rattle.pm_rows.specs.Fold.{folded}
-use Rattle.pm_rows.specs.declared.commit.Change.{Change}
 use Rattle.pm_query.specs.Book.{Base, IsLegal, history_of}
 use Rattle.pm_query.specs.Durable.{IsDurable}
-use Rattle.pm_query.specs.History.{History, count_of, number, rows_of}
+use Rattle.pm_query.specs.History.{rows_of}
+use Rattle.pm_query.specs.HistoryLaws.{whole_number}
 use Rattle.pm_query.specs.declared.book.BookEntry.{BookEntry}
 use Rattle.pm_query.specs.declared.book.BookEntry.TheVariants.{Opened, Attached, Redone, Answered, Released, Detached, Gone, CheckpointEnded, Broke, LogFull}
 use Rattle.pm_segment.specs.Fronts.{whole_of}
@@ -89,10 +87,6 @@ no_answers [] all = tt
 no_answers (e ∷ book) all = (is_no_answer e (All-head HasNoTick e book all), no_answers book (All-tail HasNoTick e book all))
 
 -- ---- what a clean checkpoint left
-
-whole_number : (history : History) → number history (count_of history) ≡ record { rows = rows_of history; count = count_of history }
-whole_number history =
-    ap (λ (commits : List (List Change)). record { rows = folded history.base.rows commits; count = count_of history }) (take_all (count_of history - history.base.count) history.commits (omega arith))
 
 same_live : (a b : Live) (at : Option Live) → at ≡ Some a → at ≡ Some b → a ≡ b
 same_live a b at one two = cc

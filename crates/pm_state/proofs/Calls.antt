@@ -29,9 +29,10 @@ use Rattle.pm_state.specs.Shows.{Call, Accepts, Starts, Exits, Asks, Ticks, Take
 use Rattle.pm_supervisor.specs.Invariant.{IsWell}
 use Rattle.pm_supervisor.specs.Laws.{StaysWell, TakesChildStepsBetween}
 use Rattle.pm_supervisor.specs.Between.{without_child_steps, ChildStepsMayHappen, all_detached, detached, with_children, IsAlike}
+use Rattle.pm_supervisor.specs.RunLaws.{IsRun-append, all_happened-append, count-marked}
 use Rattle.pm_state.specs.Facts.{Facts, has_checkpointer}
-use Rattle.pm_state.proofs.Turns.{Leads, IsRun-append, all_happened-append, turned}
-use Rattle.pm_state.proofs.Counts.{count-marked, count-without}
+use Rattle.pm_state.proofs.Turns.{Leads, turned}
+use Rattle.pm_state.proofs.Counts.{count-without}
 use Rattle.pm_state.proofs.Exits.{Leaves, calm, crash-run, crash-facts, less_one-leaves, less_one-checkpoints, Less, less}
 use Rattle.pm_state.proofs.Startups.{has_left, redo-run, redo-facts, failed-run, failed-facts}
 

@@ -1,8 +1,8 @@
 -- How many children of a kind are there, as children come and go.
-use Rattle.std.proofs.Common.{◌≡◌, ℕ, ◌+◌, ◌≤◌, Bool, true, false, ◌&&◌, List, [], ◌∷◌, Some, refl, arith, nat_eq, cond, ap}
+use Rattle.std.proofs.Common.{◌≡◌, ℕ, ◌+◌, ◌≤◌, Bool, true, false, ◌&&◌, List, [], ◌∷◌, Some, arith, nat_eq, cond, ap}
 use Rattle.std.specs.Prelude.{IsSomeAnd}
 use Rattle.pm_exit.specs.declared.child.Kind.{Kind}
-use Rattle.pm_supervisor.specs.Children.{Child, is_session, child_of, without, marked, one_if, count_of, attached_sessions}
+use Rattle.pm_supervisor.specs.Children.{Child, is_session, child_of, without, one_if, count_of, attached_sessions}
 
 pub count-without : (test : Kind → Bool) (pid : ℕ) (kind : Kind) (cs : List Child) → IsSomeAnd (child_of pid cs) (λ c. c.kind ≡ kind)
     → count_of test cs ≡ one_if (test kind) + count_of test (without pid cs)
@@ -15,15 +15,6 @@ count-without test pid kind (c ∷ cs) h =
       | false ↦ λ later. omega (arith, count-without test pid kind cs later)
     ]
     h
-
-pub count-marked : (test : Kind → Bool) (pid : ℕ) (b : Bool) (cs : List Child) → count_of test (marked pid b cs) ≡ count_of test cs
-count-marked test pid b [] = refl
-count-marked test pid b (c ∷ cs) =
-    elim (nat_eq c.pid pid) as
-    (λ v. count_of test (cond v (record c { attached = b } ∷ cs) (c ∷ marked pid b cs)) ≡ one_if (test c.kind) + count_of test cs) [
-      | true ↦ refl
-      | false ↦ ap (λ n. one_if (test c.kind) + n) (count-marked test pid b cs)
-    ]
 
 at_most_both : (a b : Bool) → one_if (a && b) ≤ one_if a
 at_most_both true true = omega arith

@@ -17,6 +17,7 @@ use Rattle.pm_supervisor.specs.Steps as supervisor
 use Rattle.pm_supervisor.specs.Steps.{SupervisorEvent, Trace, MayHappen, IsRun, happened, all_happened, empty_trace, shared_after, after, is_normal}
 use Rattle.pm_supervisor.specs.Between.{is_child_step, detached, IsAlike}
 use Rattle.pm_supervisor.specs.Laws.{StaysWell, KeepsWhatIsShared, TakesChildStepsBetween}
+use Rattle.pm_supervisor.specs.RunLaws.{all_happened-append}
 use Rattle.pm_state.specs.declared.action.Action.{Action}
 use Rattle.pm_state.specs.declared.action.Action.TheVariants as act
 use Rattle.pm_state.specs.declared.event.PmEvent.{PmEvent}
@@ -37,7 +38,7 @@ use Rattle.pm_state.proofs.Calls.{calls-lead, counted, begun-facts, facts-alike,
 use Rattle.pm_state.proofs.Settling.{settled-settled, settled-shutdown, settled-ended}
 use Rattle.pm_state.proofs.Reports.{reports-fit, reported-all, reports-machine, step-owes}
 use Rattle.pm_state.proofs.TurnJournal.{call-writes, begun-agrees}
-use Rattle.pm_state.proofs.Turns.{Leads, all_happened-append}
+use Rattle.pm_state.proofs.Turns.{Leads}
 
 abbrev server_state : Replay → Machine → Trace → ServerState
 server_state r m h = record { replay = r; machine = m; trace = h }

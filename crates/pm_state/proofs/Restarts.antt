@@ -1,5 +1,5 @@
 -- Along a legal journal the machine counts the children that are there, and a next generation begins with none of them.
-use Rattle.std.proofs.Common.{◌≡◌, ◌⊎◌, inl, inr, ℕ, ◌+◌, Bool, true, false, not, ◌&&◌, ◌||◌, cond, List, [], ◌∷◌, ◌++◌, refl, arith, sym, ◌∙◌, ap, subst}
+use Rattle.std.proofs.Common.{◌≡◌, ◌⊎◌, inl, inr, ℕ, ◌+◌, Bool, true, false, not, ◌&&◌, ◌||◌, cond, List, [], ◌∷◌, refl, arith, sym, ◌∙◌, ap, subst}
 use Rattle.std.specs.Prelude.{◌==◌, if◌then◌else◌, nat_eq, IsSomeAnd, Option, Some, None, is_none, is_some}
 use Rattle.pm_exit.specs.declared.child.Status.{Status}
 use Rattle.pm_exit.specs.declared.child.Kind.{Kind}
@@ -19,6 +19,7 @@ use Rattle.pm_supervisor.specs.Children.{Child, child_of, is_startup_child, with
 use Rattle.pm_supervisor.specs.Supervisor.{Shared}
 use Rattle.pm_supervisor.specs.Steps.{kind_for, shared_after}
 use Rattle.pm_supervisor.specs.Steps as supervisor
+use Rattle.pm_supervisor.specs.RunLaws.{redo-children}
 use Rattle.pm_state.specs.declared.action.Action.{Action}
 use Rattle.pm_state.specs.declared.action.Action.TheVariants as act
 use Rattle.pm_state.specs.declared.action.Line.TheVariants as line
@@ -34,7 +35,8 @@ use Rattle.pm_state.specs.Restarts.{AreAsSet, BeginsAlone, BeginsFrom, Counts, I
 use Rattle.pm_state.specs.Starts.{Owes}
 use Rattle.pm_state.specs.Transition.{Transition, transition}
 use Rattle.pm_state.specs.TurnRules.{are_backends_gone, start_recovery, restart_writer, end_smart, stop_backends, backends_gone, dead_ends_gone, children_gone}
-use Rattle.pm_state.specs.Journal.{AreLegal, Do, Due, EndRedo, IsLegal, Replay, all_replayed, caused, dues, dues_after, entry_of, replay_begun, replayed, reported, row_of, settled, shown_after}
+use Rattle.pm_state.specs.Journal.{AreLegal, Do, Due, EndRedo, IsLegal, Replay, all_replayed, caused, dues_after, entry_of, replay_begun, replayed, reported, row_of, settled, shown_after}
+use Rattle.pm_state.specs.ReplayLaws.{acts_behind_redo, acts_in, acts_in_dues}
 use Rattle.pm_state.proofs.Counting.{Tied, accepted-tied, asked-tied, begun-tied, by-exit, by-test, exited-tied, row-tied, settled-does, settled-tied, started-tied, ticked-tied, tied-counts}
 use Rattle.pm_state.proofs.Entries.{EntryCases, by-entry}
 use Rattle.pm_state.proofs.Exits.{less}
@@ -43,20 +45,6 @@ use Rattle.pm_state.proofs.Journal.{is_kill}
 use Rattle.pm_state.proofs.Reports.{all-done, due-first, owes-later, step-owes}
 use Rattle.pm_state.proofs.TurnCases.{is_no_children}
 use Rattle.pm_state.proofs.TurnJournal.{IsFirst, is-first}
-
--- what is due, without the end of redo
-abbrev acts_in : List Due → List Action
-acts_in [] = []
-acts_in (Do a ∷ ds) = a ∷ acts_in ds
-acts_in (EndRedo ∷ ds) = acts_in ds
-
-acts-in-dues : (acts : List Action) → acts_in (dues acts) ≡ acts
-acts-in-dues [] = refl
-acts-in-dues (a ∷ acts) = ap (λ (others : List Action). a ∷ others) (acts-in-dues acts)
-
-acts-behind-redo : (b : Bool) (acts : List Action) → acts_in (cond b (EndRedo ∷ []) [] ++ dues acts) ≡ acts
-acts-behind-redo true acts = acts-in-dues acts
-acts-behind-redo false acts = acts-in-dues acts
 
 -- a reset among the acts is done where nobody is there, before any start
 abbrev ResetsAlone : List Action → List Child → Type 0
@@ -222,10 +210,6 @@ act-kept limits n act.Reset acts now m s there kept =
     )
 act-kept limits n (act.Say l) acts now m s there kept = (tt, tt, calm limits (act.Say l) acts m s s there kept refl kept.owes kept.alone kept.set)
 act-kept limits n (act.End how) acts now m s there kept = end-kept limits n how acts now m s there kept
-
-redo-children : (opens : Bool) (s : Shared) → (shared_after s (supervisor.RedoEnded opens)).children ≡ s.children
-redo-children true s = refl
-redo-children false s = refl
 
 -- what a row of a turn asks for
 
@@ -418,7 +402,7 @@ exited-more limits r pid k status a at on there_is none = λ there was. (
       let m : Machine = r.machine in
       let exit : Exit = record { pid = pid; kind = k; status = status; now = at } in
       let acts : List Action = (exited_by k m exit a).acts in
-      rested limits r (entry.Exited pid k status a at) acts (without_pid pid there) none (acts-behind-redo (is_startup_child k && is_exit_0 status) acts)
+      rested limits r (entry.Exited pid k status a at) acts (without_pid pid there) none (acts_behind_redo (is_startup_child k && is_exit_0 status) acts)
       (record {
         tied = exited-tied k m exit a r.shown.children (without pid r.shown.children) (less k pid r.shown.children there_is) (all-done m kept.owes) kept.tied;
         owes = step-owes m (Exited pid k status a at) refl (ready limits m r.shown there on kept);
@@ -437,7 +421,7 @@ asked-more limits r mode at on none = λ there was. (
       let m : Machine = r.machine in
       let answer : Option Mode = strengthen_of m.shutdown mode in
       let acts : List Action = (asked_with answer m at).acts in
-      rested limits r (entry.Asked mode at) acts there none (acts-in-dues acts)
+      rested limits r (entry.Asked mode at) acts there none (acts_in_dues acts)
       (record {
         tied = asked-tied m answer at r.shown.children (all-done m kept.owes) kept.tied;
         owes = step-owes m (Asked mode at) refl (ready limits m r.shown there on kept);
@@ -481,7 +465,7 @@ first-more gives limits r a rest n on other is none = λ there was.
     let left : Left limits n a rest m (row_of m).after r.shown there = act-kept limits n a rest m (row_of m).after r.shown there behind in (
       left.0,
       left.1,
-      rested limits r e rest (there_after there e) none (ap acts_in first.due ∙ acts-in-dues rest)
+      rested limits r e rest (there_after there e) none (ap acts_in first.due ∙ acts_in_dues rest)
           (subst (λ (o : Transition). IsKept limits rest (reported e o.after) (shown_after m r.shown e) (there_after there e)) (sym first.cause) left.2),
     ))
 

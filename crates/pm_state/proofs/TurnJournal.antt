@@ -369,7 +369,3 @@ begun-agrees limits = record { machine = sym (settled-quiet (begun limits) refl)
 pub legal-append : (gives : ℕ → Bool) (r : Replay) (xs ys : List PmEvent) → AreLegal gives r xs → AreLegal gives (all_replayed r xs) ys → AreLegal gives r (xs ++ ys)
 legal-append gives r [] ys first second = second
 legal-append gives r (x ∷ xs) ys first second = (first.0, legal-append gives (replayed r x) xs ys first.1 second)
-
-pub replayed-append : (r : Replay) (xs ys : List PmEvent) → all_replayed r (xs ++ ys) ≡ all_replayed (all_replayed r xs) ys
-replayed-append r [] ys = refl
-replayed-append r (x ∷ xs) ys = replayed-append (replayed r x) xs ys

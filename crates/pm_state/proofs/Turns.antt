@@ -4,22 +4,14 @@ use Rattle.pm_supervisor.specs.declared.Limits.{Limits}
 use Rattle.pm_supervisor.specs.Phase.{Phase}
 use Rattle.pm_supervisor.specs.Phase as phase
 use Rattle.pm_supervisor.specs.Supervisor.{Supervisor}
-use Rattle.pm_supervisor.specs.Steps.{SupervisorEvent, Trace, IsRun, all_happened, happened}
+use Rattle.pm_supervisor.specs.Steps.{SupervisorEvent, Trace, IsRun, all_happened}
+use Rattle.pm_supervisor.specs.RunLaws.{IsRun-append, all_happened-append}
 use Rattle.pm_state.specs.declared.machine.Machine.{Machine}
 use Rattle.pm_state.specs.TurnRules.{start_recovery, restart_writer, end_smart, stop_backends, backends_gone, dead_ends_gone, children_gone, turned_of}
 use Rattle.pm_state.specs.Shows.{phase_of, move_of, order_of, events_of, events_of_turn}
 use Rattle.pm_state.specs.Facts.{Facts}
 use Rattle.pm_state.proofs.Facts.{nobody}
 use Rattle.pm_state.proofs.Rules.{start_recovery-ended, start_recovery-run, start_recovery-facts, restart_writer-ended, restart_writer-facts, end_smart-ended, end_smart-run, end_smart-facts, stop_backends-ended, stop_backends-facts, backends_gone-ended, backends_gone-run, backends_gone-facts, dead_ends_gone-ended, dead_ends_gone-run, dead_ends_gone-facts}
-
-pub IsRun-append : (limits : Limits) (h : Trace) (xs ys : List SupervisorEvent) → IsRun limits h xs → IsRun limits (all_happened h xs) ys
-    → IsRun limits h (xs ++ ys)
-IsRun-append limits h [] ys r s = s
-IsRun-append limits h (x ∷ xs) ys r s = (r.0, IsRun-append limits (happened h x) xs ys r.1 s)
-
-pub all_happened-append : (h : Trace) (xs ys : List SupervisorEvent) → all_happened h (xs ++ ys) ≡ all_happened (all_happened h xs) ys
-all_happened-append h [] ys = refl
-all_happened-append h (x ∷ xs) ys = all_happened-append (happened h x) xs ys
 
 -- these events are a run, after which the machine is this one
 pub record Leads (limits : Limits) (h : Trace) (events : List SupervisorEvent) (m : Machine) : Type 0 where

@@ -10,6 +10,7 @@ pub mod Facts
 pub mod Known
 pub mod Promises
 pub mod Journal
+pub mod ReplayLaws
 pub mod Text
 pub mod Starts
 pub mod InStep

@@ -4,7 +4,8 @@ use Rattle.std.specs.Prelude.{IsSomeAnd}
 use Rattle.pm_supervisor.specs.Children.{Child, is_session, is_dead_end, child_of, without, marked, one_if, attached_sessions}
 use Rattle.pm_supervisor.specs.Supervisor.{Shared, first}
 use Rattle.pm_supervisor.specs.Shared.{SharedEvent, Join, Attach, Touch, Detach, Leave, Notice, Open, Reset, Allows, MayAttach, IsKept, after_shared}
-use Rattle.pm_supervisor.proofs.Lists.{each_map, each-without, each-marked, each-marked_any, some_map, differ-without, differ-marked}
+use Rattle.pm_supervisor.specs.RunLaws.{each-without}
+use Rattle.pm_supervisor.proofs.Lists.{each_map, each-marked, each-marked_any, some_map, differ-without, differ-marked}
 
 fewer-without : (pid : ℕ) (cs : List Child) → attached_sessions (without pid cs) ≤ attached_sessions cs
 fewer-without pid [] = omega arith

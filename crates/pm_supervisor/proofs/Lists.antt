@@ -4,19 +4,12 @@ use Rattle.std.specs.Prelude.{IsSomeAnd}
 use Rattle.std.specs.List.{AllByRecursion}
 use Rattle.pm_supervisor.specs.Children.{Child, child_of, without, marked}
 use Rattle.pm_supervisor.specs.Shared.{PidsDiffer}
+use Rattle.pm_supervisor.specs.RunLaws.{each-without}
 
 -- from a fact about each to one that follows from it
 pub each_map : (P Q : Child → Type 0) → ((c : Child) → P c → Q c) → (cs : List Child) → AllByRecursion P cs → AllByRecursion Q cs
 each_map P Q f [] h = tt
 each_map P Q f (c ∷ cs) h = (f c h.0, each_map P Q f cs h.1)
-
-pub each-without : (P : Child → Type 0) (pid : ℕ) (cs : List Child) → AllByRecursion P cs → AllByRecursion P (without pid cs)
-each-without P pid [] h = tt
-each-without P pid (c ∷ cs) h =
-    elim (nat_eq c.pid pid) as (λ v. AllByRecursion P (cond v cs (c ∷ without pid cs))) [
-      | true ↦ h.1
-      | false ↦ (h.0, each-without P pid cs h.1)
-    ]
 
 -- where the child that is marked has the fact after it
 pub each-marked :

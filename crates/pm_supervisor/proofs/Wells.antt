@@ -1,5 +1,5 @@
 -- What holds at every moment of a run, beside what is shared: when redo ends, and what waits for it.
-use Rattle.std.proofs.Common.{◌≡◌, ℕ, ◌+◌, nat_eq, cond, Bool, true, false, not, ◌&&◌, ◌||◌, List, [], ◌∷◌, ◌++◌, refl, arith}
+use Rattle.std.proofs.Common.{◌≡◌, ℕ, nat_eq, cond, Bool, true, false, not, ◌&&◌, ◌||◌, List, [], ◌∷◌, ◌++◌, refl, arith}
 use Rattle.std.specs.Prelude.{◌==◌, is_some}
 use Rattle.std.specs.List.{AllByRecursion}
 use Rattle.pm_exit.specs.declared.child.Kind.{Kind}
@@ -9,13 +9,14 @@ use Rattle.pm_supervisor.specs.declared.Limits.{Limits}
 use Rattle.pm_supervisor.specs.declared.Reason.TheVariants as reason
 use Rattle.pm_supervisor.specs.declared.Ending.{Ending}
 use Rattle.pm_supervisor.specs.declared.Ending.TheVariants as ending
-use Rattle.pm_supervisor.specs.Children.{Child, is_session, is_startup_child, child_of, without, marked, one_if, count_of}
+use Rattle.pm_supervisor.specs.Children.{Child, is_session, is_startup_child, child_of, without, count_of}
 use Rattle.pm_supervisor.specs.Phase.{Phase}
 use Rattle.pm_supervisor.specs.Phase as phase
 use Rattle.pm_supervisor.specs.Supervisor.{Shared}
 use Rattle.pm_supervisor.specs.Steps.{SupervisorEvent, Accept, Start, Attach, Touch, Detach, Exit, Notice, Ask, Checkpointed, RedoEnded, Reset, End, Move, Trace, MayHappen, IsRun, happened, all_happened, empty_trace, crashed_phase, is_crash, is_given_up, is_running, is_ended, redo_has_ended}
 use Rattle.pm_supervisor.specs.Shared.{MayAttach}
 use Rattle.pm_supervisor.specs.Invariant.{IsWell, ServesWell, AdmitsNone, awaits_redo, is_before_redo, is_opening, is_reset, is_checkpointed, is_clearing}
+use Rattle.pm_supervisor.specs.RunLaws.{count-marked}
 use Rattle.pm_supervisor.proofs.Lists.{some_map}
 use Rattle.pm_supervisor.proofs.Soundness.{sound-happened, sound-empty_trace}
 use Rattle.pm_supervisor.proofs.Serving.{step-serves, admission-running}
@@ -28,15 +29,6 @@ none-without test pid (c ∷ cs) h =
     elim (nat_eq c.pid pid) as (λ v. count_of test (cond v cs (c ∷ without pid cs)) ≡ 0) [
       | true ↦ omega (arith, h)
       | false ↦ omega (arith, h, none-without test pid cs (omega (arith, h)))
-    ]
-
-same-marked : (test : Kind → Bool) (pid : ℕ) (b : Bool) (cs : List Child) → count_of test (marked pid b cs) ≡ count_of test cs
-same-marked test pid b [] = refl
-same-marked test pid b (c ∷ cs) =
-    elim (nat_eq c.pid pid) as
-    (λ v. count_of test (cond v (record c { attached = b } ∷ cs) (c ∷ marked pid b cs)) ≡ one_if (test c.kind) + count_of test cs) [
-      | true ↦ refl
-      | false ↦ omega (arith, same-marked test pid b cs)
     ]
 
 -- the phase after the end of a child
@@ -86,9 +78,9 @@ startup_child-step : (limits : Limits) (h : Trace) (e : SupervisorEvent) → May
     → (count_of is_startup_child (happened h e).now.shared.children == 0) || not (redo_has_ended (happened h e).past) ≡ true
 startup_child-step limits h (Accept pid decision) may before well = grind (arith, well)
 startup_child-step limits h (Start pid k) may before well = grind (arith, well, before)
-startup_child-step limits h (Attach pid) may before well = rw (same-marked is_startup_child pid true h.now.shared.children) well
+startup_child-step limits h (Attach pid) may before well = rw (count-marked is_startup_child pid true h.now.shared.children) well
 startup_child-step limits h (Touch pid) may before well = well
-startup_child-step limits h (Detach pid) may before well = rw (same-marked is_startup_child pid false h.now.shared.children) well
+startup_child-step limits h (Detach pid) may before well = rw (count-marked is_startup_child pid false h.now.shared.children) well
 startup_child-step limits h (Exit pid k status was_active) may before well =
     grind (arith, well, none-without is_startup_child pid h.now.shared.children)
 startup_child-step limits h (Notice why) may before well = well

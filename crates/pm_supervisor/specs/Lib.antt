@@ -3,6 +3,7 @@ pub mod Phase
 pub mod Supervisor
 pub mod Shared
 pub mod Steps
+pub mod RunLaws
 pub mod Invariant
 pub mod Between
 pub mod Laws

@@ -14,12 +14,14 @@ use Rattle.pm_wire.specs.declared.take.Take.{Take}
 use Rattle.pm_wire.specs.declared.take.Take.TheVariants.{Whole, Short, Bad}
 use Rattle.pm_wire_back.specs.declared.parts.Stop.TheVariants.{Partial, Departs}
 use Rattle.pm_wire.specs.Pieces.{int32, message, string}
-use Rattle.pm_wire.specs.Backend.{BackMessage, Auth, Param, Key, Ready, Fields, Pair, One, Complete, Empty, Fault, Notice, Saying, body, kind_of, fields_of, severity_word, HasValues, HasCount, IsBack}
+use Rattle.pm_wire.specs.Backend.{BackMessage, Auth, Param, Key, Ready, Fields, Pair, One, Complete, Empty, Fault, Notice, Saying, body, kind_of, fields_of, severity_word, HasCount, IsBack}
 use Rattle.pm_wire_back.specs.Received.{GoesOnAsBack, IsPartial, IsWholeAt, behind_header, behind_body}
 use Rattle.pm_wire_back.specs.Failing.{BackFails}
 use Rattle.pm_wire_back.specs.BackReading.{Read, is_back_type, leaves_number, fits_type, has_length, body_at, taken, back_of_length, back_of}
+use Rattle.pm_wire_back.specs.CountLaws.{has_count}
 use Rattle.pm_wire.specs.Numbers.{IsBytes, IsBytes-drop, length_int32, number_again, number_below, number_split}
 use Rattle.std.proofs.lemmas.Bool.{eq-eqb}
+use Rattle.std.proofs.Math.Bool.{or-true}
 use Rattle.pm_wire.specs.Sizes.{length_fields}
 use Rattle.pm_wire.specs.Sizes.{short_iff, pair_size, one_size}
 use Rattle.pm_wire_back.proofs.Exact.{HasWord, Exact}
@@ -85,19 +87,15 @@ has kind size high fits =
     let back : 4 + size - 4 ≡ size = omega arith in
     rw (lt-ltb 3 (4 + size) (omega arith), lt-ltb (4 + size) (2 ^ 31) high, back, fits) refl
 
-or_true : (a : Bool) → (a || true) ≡ true
-or_true true = refl
-or_true false = refl
-
 tag_leaves : (verb : List ℕ) (len n : ℕ) → length verb ≡ len → n < 2 ^ 64 → leaves_number len (length (string (verb ++ decimal n))) ≡ true
 tag_leaves verb len n long fits =
     leaves_it len (length (string (verb ++ decimal n))) n fits (omega (arith, length-append (verb ++ decimal n) (0 ∷ []), length-append verb (decimal n), long))
 
 tag_fits : (tag : Tag) → HasCount (Complete tag) → fits_type 67 (length (body (Complete tag))) ≡ true
 tag_fits (Insert n) h = rw (tag_leaves (codes "INSERT 0 ") 9 n refl h) refl
-tag_fits (Update n) h = rw (tag_leaves (codes "UPDATE ") 7 n refl h) (or_true _)
-tag_fits (Delete n) h = rw (tag_leaves (codes "DELETE ") 7 n refl h) (or_true _)
-tag_fits (Select n) h = rw (tag_leaves (codes "SELECT ") 7 n refl h) (or_true _)
+tag_fits (Update n) h = rw (tag_leaves (codes "UPDATE ") 7 n refl h) (or-true _)
+tag_fits (Delete n) h = rw (tag_leaves (codes "DELETE ") 7 n refl h) (or-true _)
+tag_fits (Select n) h = rw (tag_leaves (codes "SELECT ") 7 n refl h) (or-true _)
 
 fields_fit : (shape : Shape) → fits_type 84 (length (body (Fields shape))) ≡ true
 fields_fit shapes.Pair = rw (columns_length shapes.Pair) refl
@@ -112,19 +110,6 @@ long_word Warning = omega arith
 
 report_fits : (s : Saying) → length s.code ≡ 5 → 23 < length (fields_of s)
 report_fits s five = omega (arith, length_fields (severity_word s.severity) s.code s.text s.detail, five, long_word s.severity)
-
-counts : (m : BackMessage) → HasValues m → HasCount m
-counts Auth h = tt
-counts (Param name value) h = tt
-counts (Key pid key) h = tt
-counts Ready h = tt
-counts (Fields shape) h = tt
-counts (Pair key value) h = tt
-counts (One text) h = tt
-counts (Complete tag) h = h
-counts Empty h = tt
-counts (Fault s) h = tt
-counts (Notice s) h = tt
 
 -- a message by its type and its body
 pub record View (bytes : List ℕ) (m : BackMessage) : Type 0 where
@@ -141,7 +126,7 @@ made kind bytes m is kind_is known fits = record {
   kind_is = kind_is;
   known = known;
   fits = fits;
-  short = (short_iff m (counts m is.values)).0 is.writable.1;
+  short = (short_iff m (has_count m is.values)).0 is.writable.1;
   parts = is.spelled ∙ ap (λ (k : List ℕ). message k (body m)) kind_is;
 }
 

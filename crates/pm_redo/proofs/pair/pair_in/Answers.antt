@@ -6,7 +6,8 @@ use Rattle.pm_disk.specs.declared.disk.Which.TheVariants.{A, B}
 use Rattle.pm_record.specs.Found.{Holds, IsClosed}
 use Rattle.pm_record.specs.StandsFor.{Content, StandsFor}
 use Rattle.pm_record.specs.declared.found.Contents.TheVariants.{Standing}
-use Rattle.pm_redo.proofs.Redos.{Tells, not_damaged, finds_one, finds_two, only_greater, only_one, not_closed, pair_of, shut_of}
+use Rattle.pm_redo.specs.FileLaws.{not_closed}
+use Rattle.pm_redo.proofs.Redos.{Tells, not_damaged, finds_one, finds_two, only_greater, only_one, pair_of, shut_of}
 use Rattle.pm_redo.proofs.pair.pair_in.Goals as goal
 
 pub returns-in-Standing-Closed-clause-found : goal.returns-in-Standing-Closed-clause-found

@@ -1,6 +1,7 @@
-use Rattle.pm_state.proofs.TurnJournal.{begun-agrees, call-writes, turned-still, legal-append, replayed-append}
+use Rattle.pm_state.specs.ReplayLaws.{replayed_append}
+use Rattle.pm_state.proofs.TurnJournal.{begun-agrees, call-writes, turned-still, legal-append}
 use Rattle.pm_state.proofs.laws.writes_a_legal_journal.Goals as goal
 
 pub returns : goal.returns
 returns c =
-    record { begins = begun-agrees; call = call-writes; turned = turned-still; append = legal-append; replays = replayed-append }
+    record { begins = begun-agrees; call = call-writes; turned = turned-still; append = legal-append; replays = replayed_append }

@@ -1,4 +1,4 @@
--- What journal and book say, as entries are put behind those so far.
+-- Laws of what journal and book say, as entries are put behind those so far.
 use Rattle.std.proofs.Common.{◌≡◌, ℕ, true, List, [], ◌∷◌, ◌++◌, refl, ap}
 use Rattle.pm_admit.specs.declared.Cac.TheVariants as decision
 use Rattle.pm_state.specs.declared.event.PmEvent.{PmEvent}

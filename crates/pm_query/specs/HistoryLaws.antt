@@ -1,0 +1,74 @@
+-- Laws of a book that goes on by an entry, and of its history.
+use Rattle.std.proofs.Common.{◌≡◌, ℕ, ◌-◌, ◌≤◌, ℤ, List, [], ◌∷◌, ◌++◌, Option, None, Some, fold, refl, sym, ap, subst, ◌∙◌, arith, length-append, append_assoc, append-nil}
+use Rattle.std.specs.Cmp.{int_cmp_total}
+use Rattle.std.specs.FinMap.{get, same_map, int_cmp-IsAntisymmetric}
+use Rattle.std.proofs.lemmas.List.{take_all}
+use Rattle.std.proofs.lemmas.List.Sums.{fold-append}
+use Rattle.std.proofs.Math.Seq.{length-take-le}
+use Rattle.pm_rows.specs.Fold.{RowMap, folded}
+use Rattle.pm_rows.specs.declared.commit.Change.{Change}
+use Rattle.pm_rows.specs.Standing.{Standing}
+use Rattle.pm_query.specs.declared.book.BookEntry.{BookEntry}
+use Rattle.pm_query.specs.History.{History, beginning, count_of, kept, number, rows_of, with_commit}
+use Rattle.pm_query.specs.Book.{Base, Course, MayGoOn, course_after, generation_after, generation_of, history_after, history_of, kept_after, kept_by_redo, present, present_after, standing_of, times_after, times_attached}
+
+-- ---- one entry more
+
+pub redone_is : (course : Course) (book : List BookEntry) → (fold course_after course book).redone ≡ fold kept_after course.redone book
+redone_is course [] = refl
+redone_is course (entry ∷ book) = redone_is (course_after course entry) book
+
+-- the history behind one entry more
+pub history_push : (base : Base) (book : List BookEntry) (entry : BookEntry) → history_of base (book ++ entry ∷ []) ≡ history_after (kept_by_redo book) (history_of base book) entry
+history_push base book entry =
+    ap (λ (c : Course). c.history) (fold-append course_after (record { history = beginning (standing_of base); redone = None }) book (entry ∷ []))
+    ∙ ap (λ (r : Option ℕ). history_after r (history_of base book) entry) (redone_is (record { history = beginning (standing_of base); redone = None }) book)
+
+pub generation_push : (book : List BookEntry) (entry : BookEntry) → generation_of (book ++ entry ∷ []) ≡ generation_after (generation_of book) entry
+generation_push book entry = fold-append generation_after 0 book (entry ∷ [])
+
+pub redone_push : (book : List BookEntry) (entry : BookEntry) → kept_by_redo (book ++ entry ∷ []) ≡ kept_after (kept_by_redo book) entry
+redone_push book entry = fold-append kept_after None book (entry ∷ [])
+
+pub present_push : (book : List BookEntry) (entry : BookEntry) → present (book ++ entry ∷ []) ≡ present_after (present book) entry
+present_push book entry = fold-append present_after [] book (entry ∷ [])
+
+pub times_push : (book : List BookEntry) (entry : BookEntry) (pid : ℕ) → times_attached (book ++ entry ∷ []) pid ≡ times_after pid (times_attached book pid) entry
+times_push book entry pid = fold-append (times_after pid) 0 book (entry ∷ [])
+
+-- a book that goes on in two parts
+pub going-append : (base : Base) (before first second : List BookEntry) → MayGoOn base before (first ++ second) → MayGoOn base before first × MayGoOn base (before ++ first) second
+going-append base before [] second may = (tt, subst (λ (b : List BookEntry). MayGoOn base b second) (sym (append-nil before)) may)
+going-append base before (entry ∷ first) second may =
+    let rest = going-append base (before ++ entry ∷ []) first second may.1 in
+    ((may.0, rest.0), subst (λ (b : List BookEntry). MayGoOn base b second) (append_assoc before (entry ∷ []) first) rest.1)
+
+-- ---- a history with a commit
+
+pub count_of-with_commit : (history : History) (commit : List Change) → count_of history ≤ count_of (with_commit history commit)
+count_of-with_commit history [] = omega arith
+count_of-with_commit history (change ∷ changes) = omega (arith, length-append history.commits ((change ∷ changes) ∷ []))
+
+pub base-with_commit : (history : History) (commit : List Change) → (with_commit history commit).base ≡ history.base
+base-with_commit history [] = refl
+base-with_commit history (change ∷ changes) = refl
+
+-- ---- its numbers
+
+-- what these commits make of its base
+abbrev pub number_of : History → ℕ → List (List Change) → Standing
+number_of history n commits = record { rows = folded history.base.rows commits; count = n }
+
+-- the last number has all commits
+pub whole_number : (history : History) → number history (count_of history) ≡ record { rows = rows_of history; count = count_of history }
+whole_number history = ap (number_of history (count_of history)) (take_all (count_of history - history.base.count) history.commits (omega arith))
+
+-- a history that is cut has as many as were kept
+pub cut_count : (history : History) (count : ℕ) → history.base.count ≤ count → count ≤ count_of history → count_of (kept history count) ≡ count
+cut_count history count least most = omega (arith, length-take-le (count - history.base.count) history.commits (omega (arith, most)), least)
+
+-- ---- rows
+
+-- two maps that answer alike are one
+pub same_rows : (m n : RowMap) → ((q : ℤ) → get m q ≡ get n q) → m ≡ n
+same_rows m n is = same_map int_cmp_total int_cmp-IsAntisymmetric m n is
