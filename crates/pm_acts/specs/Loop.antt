@@ -7,6 +7,11 @@ abbrev pub last_answer : Result (Unit {0}) ServerEnd → Result Bool ServerEnd
 last_answer (Ok done) = Ok false
 last_answer (Err end) = Err end
 
+-- what a call that did an act answers: that one was done, or how the server ended by it
+abbrev pub answer_of : Result (Unit {0}) ServerEnd → Result Bool ServerEnd
+answer_of (Ok done) = Ok true
+answer_of (Err end) = Err end
+
 -- through these moments, at each of which an act was due that was done
 abbrev pub IsDoneThrough : {S : Type 0} → (does : Result Bool ServerEnd → S → S → Type 0) → List S → (last : Result Bool ServerEnd) → (before now : S) → Type 0
 IsDoneThrough does [] last before now = does last before now

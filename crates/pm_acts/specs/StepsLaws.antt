@@ -3,6 +3,7 @@ use Rattle.std.proofs.Common.{◌≡◌, List, ◌++◌, [], ◌∷◌, refl, �
 use Rattle.std.proofs.lemmas.Grind.{flat_map-append}
 use Rattle.std.specs.List.{AllByRecursion}
 use Rattle.std.specs.Prelude.{map, Bool, true, false, if◌then◌else◌}
+use Rattle.pm_facts.specs.Lists.{each_both, each_first, each_second}
 use Rattle.pm_chain.specs.Steps.{Step, journal_by, journal_of, book_by, book_of, ChildRun, Notes, Renews, Runs, RunsOn, IsWorkOf, IsRunOf, AreStepsBehind}
 use Rattle.pm_acts.specs.Steps.{session_by, sessions_in, ServesNone, IsNoRenewal}
 use Rattle.pm_journal.specs.declared.supervision.Taken.{Taken}
@@ -24,11 +25,6 @@ sessions-append one two = flat_map-append session_by one two
 
 -- ---- steps
 
--- what holds of all holds of the first and of the others
-pub each_part : {X : Type 0} (P : X → Type 0) (xs ys : List X) → AllByRecursion P (xs ++ ys) → AllByRecursion P xs × AllByRecursion P ys
-each_part P [] ys all = (tt, all)
-each_part P (x ∷ xs) ys all = let parts = each_part P xs ys all.1 in ((all.0, parts.0), parts.1)
-
 pub serves_nothing : ServesNone []
 serves_nothing = record { accepted = refl; sessions = refl }
 
@@ -43,16 +39,12 @@ serves_both one two first second = record {
 pub no_renewal : (steps : List Step) → AllByRecursion IsNoOpening (book_of steps) → AllByRecursion IsNoRenewal steps
 no_renewal [] all = tt
 no_renewal (Notes noted ∷ steps) all = (tt, no_renewal steps all)
-no_renewal (Runs run at ∷ steps) all = (tt, no_renewal steps (each_part IsNoOpening run.noted (book_of steps) all).1)
-no_renewal (RunsOn run ∷ steps) all = (tt, no_renewal steps (each_part IsNoOpening run.noted (book_of steps) all).1)
+no_renewal (Runs run at ∷ steps) all = (tt, no_renewal steps (each_second IsNoOpening run.noted (book_of steps) all))
+no_renewal (RunsOn run ∷ steps) all = (tt, no_renewal steps (each_second IsNoOpening run.noted (book_of steps) all))
 no_renewal (Renews generation gone ∷ steps) all =
-    absurd (each_part IsNoOpening (map Gone gone) (Opened generation ∷ []) (each_part IsNoOpening (map Gone gone ++ Opened generation ∷ []) (book_of steps) all).0).1.0
+    absurd (each_second IsNoOpening (map Gone gone) (Opened generation ∷ []) (each_first IsNoOpening (map Gone gone ++ Opened generation ∷ []) (book_of steps) all)).0
 
 -- ---- and a store that was never renewed was opened once
-
-both_parts : {X : Type 0} (P : X → Type 0) (xs ys : List X) → AllByRecursion P xs → AllByRecursion P ys → AllByRecursion P (xs ++ ys)
-both_parts P [] ys one two = two
-both_parts P (x ∷ xs) ys one two = (one.0, both_parts P xs ys one.1 two)
 
 is_no_opening : (run : ChildRun) (e : BookEntry) → IsWorkOf run e → IsNoOpening e
 is_no_opening run (Opened generation) of_it = of_it
@@ -78,14 +70,14 @@ none_by : (run : ChildRun) → IsRunOf run → AllByRecursion IsNoOpening run.no
 none_by run is = elim is.use_of_store [
   | inl outside ↦ subst (AllByRecursion IsNoOpening) (sym outside.noted) tt
   | inr entered ↦ subst (AllByRecursion IsNoOpening) (sym entered.noted)
-      (tt, both_parts IsNoOpening entered.work _ (no_opening run entered.work entered.of_it) (none_leaving run.was_active run.pid))
+      (tt, each_both IsNoOpening entered.work _ (no_opening run entered.work entered.of_it) (none_leaving run.was_active run.pid))
 ]
 
 pub opened_once : (limits : Limits) (before steps : List Step) → AreStepsBehind limits before steps → AllByRecursion IsNoRenewal steps → AllByRecursion IsNoOpening (book_of steps)
 opened_once limits before [] are once = tt
 opened_once limits before (Notes noted ∷ steps) are once = opened_once limits (before ++ Notes noted ∷ []) steps are.1 once.1
 opened_once limits before (Runs run at ∷ steps) are once =
-    both_parts IsNoOpening run.noted (book_of steps) (none_by run are.0.fits.1) (opened_once limits (before ++ Runs run at ∷ []) steps are.1 once.1)
+    each_both IsNoOpening run.noted (book_of steps) (none_by run are.0.fits.1) (opened_once limits (before ++ Runs run at ∷ []) steps are.1 once.1)
 opened_once limits before (RunsOn run ∷ steps) are once =
-    both_parts IsNoOpening run.noted (book_of steps) (none_by run are.0.fits.1) (opened_once limits (before ++ RunsOn run ∷ []) steps are.1 once.1)
+    each_both IsNoOpening run.noted (book_of steps) (none_by run are.0.fits.1) (opened_once limits (before ++ RunsOn run ∷ []) steps are.1 once.1)
 opened_once limits before (Renews generation gone ∷ steps) are once = absurd once.0

@@ -4,6 +4,7 @@ use Rattle.std.specs.Prelude.{is_some}
 use Rattle.std.specs.List.{AllByRecursion, fold}
 use Rattle.std.proofs.lemmas.Bool.{both_ways, false≢true, true≢false}
 use Rattle.std.proofs.lemmas.List.Elements.{recursion_from_All}
+use Rattle.pm_facts.specs.Lists.{each_first, each_last}
 use Rattle.pm_disk.specs.Cause.{Rose}
 use Rattle.pm_exit.specs.declared.child.Class.TheVariants as class
 use Rattle.pm_exit.specs.declared.child.Kind.{Kind}
@@ -43,7 +44,6 @@ use Rattle.pm_seating.specs.Seating.{Ended, Move, Notes, Seating, board_steps, e
 use Rattle.pm_shared.specs.declared.views.Noted.{Noted}
 use Rattle.pm_worker.specs.declared.mail.MailTold.{MailTold}
 use Rattle.pm_worker.specs.Runs.{told_in}
-use Rattle.pm_crew.specs.EachLaws.{each_first}
 use Rattle.pm_crew.specs.Left.{Manner}
 use Rattle.pm_crew.specs.PidsLaws.{pids_in}
 use Rattle.pm_chain.specs.Chain.{IsPidOf}
@@ -159,10 +159,6 @@ first_or_none r (e ∷ journal) = by (either (is_crash r.machine e)) (first_or_n
     by (inr fine) (inr none) = inr (fine, none)
     by (inr fine) (inl f) =
         inl (record { before = e ∷ f.before; entry = f.entry; behind = f.behind; is = ap (λ (es : List PmEvent). e ∷ es) f.is; none = (fine, f.none); crash = f.crash })
-
-last_of : (front : List PmEvent) (e : PmEvent) → AllByRecursion IsHarmless (front ++ e ∷ []) → IsHarmless e
-last_of [] e all = all.0
-last_of (x ∷ front) e all = last_of front e all.1
 
 no_crash_more : (r : Replay) (front : List PmEvent) (e : PmEvent) → HasNoCrash r front → is_crash (all_replayed r front).machine e ≡ false → HasNoCrash r (front ++ e ∷ [])
 no_crash_more r [] e none fine = (fine, tt)
@@ -365,7 +361,7 @@ module _ (safely : RestartsSafely) (limits : Limits) (manner : Manner) (count : 
         }),
       )
       by (inr none) =
-          absurd (harmful (last_of front later (stays_calm safely limits any_moment (front ++ later ∷ [])
+          absurd (harmful (each_last IsHarmless front later (stays_calm safely limits any_moment (front ++ later ∷ [])
           (legal_front any_moment (replay_begun limits) (front ++ later ∷ []) behind (subst (IsLegal limits any_moment) (is ∙ sym (append_assoc front (later ∷ []) behind)) u.legal))
           (each_first IsUnasked (front ++ later ∷ []) behind (subst (AllByRecursion IsUnasked) (is ∙ sym (append_assoc front (later ∷ []) behind)) u.unasked))
           (no_crash_more (replay_begun limits) front later none (harmful_no_crash later harmful (all_replayed (replay_begun limits) front).machine))).harmless))

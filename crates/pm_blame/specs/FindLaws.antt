@@ -4,6 +4,7 @@ use Rattle.std.specs.Prelude.{slice_index_or, replicate}
 use Rattle.std.specs.List.{AllByRecursion, Contains, flat_map}
 use Rattle.std.proofs.lemmas.Grind.{flat_map-append}
 use Rattle.std.proofs.lemmas.Option.{slice_get-get_or}
+use Rattle.std.proofs.lemmas.Bool.{eq-eqb}
 use Rattle.pm_state.specs.declared.event.PmEvent.{PmEvent}
 use Rattle.pm_state.specs.declared.event.PmEvent.TheVariants as entry
 use Rattle.pm_board.specs.declared.views.Heard.{Heard}
@@ -17,7 +18,7 @@ use Rattle.pm_board.specs.Places.{slot_at, slot_view}
 use Rattle.pm_chain.specs.Chain.{IsPidOf}
 use Rattle.pm_journal.specs.declared.roll.Enrolled.{Enrolled}
 use Rattle.pm_query.specs.declared.book.BookEntry.{BookEntry}
-use Rattle.pm_answers.specs.Own.{entries_by as own_entries, is_by}
+use Rattle.pm_answers.specs.Own.{is_by, entries_by as own_entries}
 use Rattle.pm_seating.specs.Board.{ended_of, seat_at}
 use Rattle.pm_seating.specs.FoldingLaws.{begun-append}
 use Rattle.pm_seating.specs.Seating.{Ended, Kill, Move, Nothing, Notes, PidsEnd, PortEnds, Reads, Request, Seating, Stop, asked_by, begun_at, begun_from, empty, ended_at, ended_by, ends, entries_by, entries_from, is_seated, seating_by, seating_from}
@@ -128,16 +129,13 @@ noted_at s (PidsEnd at ∷ moves) before e behind exit is =
 
 -- ---- the run
 
-like : (n : ℕ) → nat_eq n n ≡ true
-like n = grind arith
-
 -- the end is one of its slot's
 ended_there : (end : Ended) (e : PmEvent) (slot : ℕ) (front rest : List Move) → ends e ≡ end ∷ [] → Among end (ended_at slot (front ++ Notes e slot ∷ rest))
 ended_there end e slot front rest is =
     subst (Among end) (sym (flat_map-append (ended_by slot) front (Notes e slot ∷ rest)))
     (among_behind end (flat_map (ended_by slot) front) (flat_map (ended_by slot) (Notes e slot ∷ rest))
     (among_front end (ended_by slot (Notes e slot)) (flat_map (ended_by slot) rest)
-    (subst (λ (b : Bool). Among end (cond b (ends e) [])) (sym (like slot)) (subst (Among end) (sym is) (inl refl)))))
+    (subst (λ (b : Bool). Among end (cond b (ends e) [])) (sym (eq-eqb slot slot refl)) (subst (Among end) (sym is) (inl refl)))))
 
 -- a slot that has had a child is one of the board's
 near_by : (end : Ended) (slots : List (SlotView MailTold)) (k : ℕ) → Among end (map ended_of (slice_index_or slots k (slot_view [] Unused)).past) → k < length slots

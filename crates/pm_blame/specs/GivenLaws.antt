@@ -3,6 +3,8 @@ use Rattle.std.proofs.Common.{◌≡◌, ◌⊎◌, inl, inr, ℕ, zero, suc, �
 use Rattle.std.specs.Prelude.{map, nat_eq}
 use Rattle.std.specs.List.{AllByRecursion, fold}
 use Rattle.std.proofs.lemmas.List.Elements.{All-contains, All-from_recursion}
+use Rattle.std.proofs.lemmas.Bool.{eq-eqb}
+use Rattle.pm_facts.specs.Lists.{each_both}
 use Rattle.pm_supervisor.specs.declared.Reason.{Reason}
 use Rattle.pm_supervisor.specs.declared.Reason.TheVariants.{Crash, Stop}
 use Rattle.pm_life.specs.declared.life.Signals.{Signals}
@@ -12,7 +14,6 @@ use Rattle.pm_board.specs.Latch.{is_crash, is_given, is_stop}
 use Rattle.pm_board.specs.Latches.{times_given}
 use Rattle.pm_board.specs.Words.{bit}
 use Rattle.pm_post_life.specs.Lives.{told_by}
-use Rattle.pm_crew.specs.EachLaws.{each_both}
 
 -- the number of a signal that a child takes; a cancel has none of a latch
 abbrev pub number_of : Signal → ℕ
@@ -110,16 +111,13 @@ above : (n : ℕ) → (n ≡ 0 → ⊥) → 0 < n
 above zero not_none = absurd (not_none refl)
 above (suc n) not_none = omega arith
 
-same : (n : ℕ) → nat_eq n n ≡ true
-same n = grind arith
-
 given : (signal : Signal) → GivesNone (number_of signal) → (heard : Heard) (cancel : Option (ℕ × ℕ)) → was_told signal (told_by heard cancel) → 0 < times_given (number_of signal) heard.given
 given signal gives heard cancel told =
     above (times_given (number_of signal) heard.given) (λ none.
     let other : IsOther (number_of signal) signal =
     All-contains (λ x. IsOther (number_of signal) x.1) (told_by heard cancel).given (told.0, signal)
     (All-from_recursion (λ x. IsOther (number_of signal) x.1) (told_by heard cancel).given (none_told (number_of signal) gives heard.given nothing_told none tt)) told.1 in
-    absurd (let never : true ≡ false = sym (same (number_of signal)) ∙ other in cc))
+    absurd (let never : true ≡ false = sym (eq-eqb (number_of signal) (number_of signal) refl) ∙ other in cc))
 
 pub kill_given : (heard : Heard) (cancel : Option (ℕ × ℕ)) → was_told Kill (told_by heard cancel) → 0 < times_given 3 heard.given
 kill_given heard cancel told = given Kill no_kill heard cancel told

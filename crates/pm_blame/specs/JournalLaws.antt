@@ -2,6 +2,7 @@
 use Rattle.std.proofs.Common.{◌≡◌, ◌⊎◌, inl, inr, ℕ, ◌+◌, ◌≤◌, Bool, true, false, cond, ◌&&◌, List, [], ◌∷◌, ◌++◌, refl, sym, ap, arith}
 use Rattle.std.specs.Prelude.{IsSomeAnd, Some, is_none, nat_eq}
 use Rattle.std.specs.List.{AllByRecursion, fold}
+use Rattle.std.proofs.lemmas.Bool.{eqb-true}
 use Rattle.pm_exit.specs.declared.child.Kind.{Kind}
 use Rattle.pm_exit.specs.declared.child.Kind.TheVariants as kind
 use Rattle.pm_exit.specs.declared.child.Status.{Status}
@@ -101,16 +102,13 @@ abbrev IsThere : ℕ → List Child → Type 0
 IsThere pid [] = ⊥
 IsThere pid (c ∷ cs) = (c.pid ≡ pid) ⊎ IsThere pid cs
 
-is_pid : (a b : ℕ) → nat_eq a b ≡ true → a ≡ b
-is_pid a b is = grind arith
-
 found_there : (pid : ℕ) (k : Kind) (cs : List Child) → IsSomeAnd (child_of pid cs) (λ c. c.kind ≡ k) → IsThere pid cs
 found_there pid k [] there = absurd there
 found_there pid k (c ∷ cs) there = by (nat_eq c.pid pid) refl there (found_there pid k cs)
   where
     by : (b : Bool) → nat_eq c.pid pid ≡ b → IsSomeAnd (cond b (Some c) (child_of pid cs)) (λ x. x.kind ≡ k)
         → (IsSomeAnd (child_of pid cs) (λ x. x.kind ≡ k) → IsThere pid cs) → IsThere pid (c ∷ cs)
-    by true is found rest = inl (is_pid c.pid pid is)
+    by true is found rest = inl (eqb-true c.pid pid is)
     by false is later rest = inr (rest later)
 
 there_without : (pid other : ℕ) (cs : List Child) → IsThere pid (without other cs) → IsThere pid cs

@@ -2,6 +2,8 @@
 use Rattle.std.proofs.Common.{◌≡◌, ◌≢◌, ◌⊎◌, inl, inr, ℕ, zero, suc, ◌+◌, ◌<◌, Bool, true, false, cond, List, [], ◌∷◌, ◌++◌, Option, None, Some, length, refl, sym, ap, subst, ◌∙◌, arith, set}
 use Rattle.std.specs.Prelude.{IfSome, nat_eq, ◌&&◌}
 use Rattle.std.specs.List.{AllByRecursion, flat_map}
+use Rattle.std.proofs.lemmas.Bool.{ne_eqb}
+use Rattle.pm_facts.specs.Lists.{each_both, each_first, each_second}
 use Rattle.pm_exit.specs.declared.child.Kind.{Kind}
 use Rattle.pm_supervisor.specs.declared.Reason.{Reason}
 use Rattle.pm_supervisor.specs.Steps.{kind_for}
@@ -22,7 +24,6 @@ use Rattle.pm_seating.specs.declared.audience.Audience.TheVariants.{Everyone, St
 use Rattle.pm_seating.specs.Board.{seat_at}
 use Rattle.pm_seating.specs.Seating.{Move, Notes, PidsEnd, PortEnds, Reads, Seating, begun_by, begun_from, child, entries_by, entries_from, is_meant, seated, seating_by, seating_from, with_seat, Begun, sends_from, slot_in, steps_by, steps_from, steps_of}
 use Rattle.pm_seating.specs.Standing.{IsFinal}
-use Rattle.pm_crew.specs.EachLaws.{each_both, each_first, each_second}
 use Rattle.pm_crew.specs.PidsLaws.{begun_pids, pid_either, pids_append, pids_by, pids_in}
 use Rattle.pm_blame.specs.Crashes.{IsHarmless}
 
@@ -87,9 +88,6 @@ unsent n pid s (move ∷ moves) others =
 abbrev pub SitsNowhere : ℕ → List (Option Enrolled) → Type 0
 SitsNowhere pid seats = AllByRecursion (λ seat. IfSome seat (λ c. c.pid ≢ pid)) seats
 
-unlike : (a b : ℕ) → a ≢ b → nat_eq a b ≡ false
-unlike a b differ = grind (arith, differ)
-
 sends_other_child : (n pid : ℕ) (who : Audience) (what : Signal) (g k : ℕ) (seats : List (Option Enrolled)) → SitsNowhere pid seats
     → times_sent n pid (sends_from who what g k seats) ≡ 0
 sends_other_child n pid who what g k [] none = refl
@@ -99,7 +97,7 @@ sends_other_child n pid who what g k (Some c ∷ seats) none = by (is_meant who 
     by : (b : Bool) → times_sent n pid (sends_from who what g (k + 1) seats) ≡ 0
         → times_sent n pid (cond b (step.Send k c.pid c.kind what g ∷ []) [] ++ sends_from who what g (k + 1) seats) ≡ 0
     by false rest = rest
-    by true rest = add_none _ _ (ap (λ (b : Bool). bit (b && nat_eq (signal_number what) n)) (unlike c.pid pid none.0)) rest
+    by true rest = add_none _ _ (ap (λ (b : Bool). bit (b && nat_eq (signal_number what) n)) (ne_eqb c.pid pid none.0)) rest
 
 entry_other_child : (n pid k : ℕ) (s : Seating) (e : PmEvent) → SitsNowhere pid s.seats → times_sent n pid (steps_of k s e) ≡ 0
 entry_other_child n pid k s (entry.QuitSent why) none = add_none 0 _ refl (sends_other_child n pid Everyone (signal.Quit why) s.generation 0 s.seats none)
@@ -164,7 +162,7 @@ not_sitting pid (suc k) c (x ∷ seats) none sits = not_sitting pid k c seats no
 pub final_sends : (n pid : ℕ) (seats : List (Option Enrolled)) (last : List RosterStep) → SitsNowhere pid seats → AllByRecursion (IsFinal seats) last → times_sent n pid last ≡ 0
 final_sends n pid seats [] none final = refl
 final_sends n pid seats (step.Send k who kind signal.Kill g ∷ last) none final =
-    add_none _ _ (ap (λ (b : Bool). bit (b && nat_eq 3 n)) (unlike who pid (not_sitting pid k (child who kind) seats none final.0))) (final_sends n pid seats last none final.1)
+    add_none _ _ (ap (λ (b : Bool). bit (b && nat_eq 3 n)) (ne_eqb who pid (not_sitting pid k (child who kind) seats none final.0))) (final_sends n pid seats last none final.1)
 final_sends n pid seats (step.Send k who kind signal.Terminate g ∷ last) none final = absurd final.0
 final_sends n pid seats (step.Send k who kind signal.Checkpoint g ∷ last) none final = absurd final.0
 final_sends n pid seats (step.Send k who kind (signal.Quit why) g ∷ last) none final = absurd final.0

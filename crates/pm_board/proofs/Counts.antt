@@ -1,8 +1,7 @@
 -- The counts of the gate's word, and how one child's place moves them.
 use Rattle.std.proofs.Common.{◌≡◌, ◌≢◌, ℕ, zero, suc, ◌+◌, ◌*◌, ◌/◌, ◌%◌, ◌<◌, ◌≤◌, ◌==◌, List, [], ◌∷◌, refl, ap, ◌∙◌, arith, ne_eqb}
-use mathlib.Core.Logic.{dite}
-use native.Mathlib.Decide.{ℕ_discrete}
 use Rattle.std.specs.Prelude.{Bool, true, false, ◌&&◌, Option, Some, None}
+use Rattle.pm_facts.specs.Numbers.{sum_below, sum_put}
 use Rattle.pm_exit.specs.declared.child.Kind.{Kind}
 use Rattle.pm_exit.specs.declared.child.Kind.TheVariants as kind
 use Rattle.pm_supervisor.specs.declared.Reason.{Reason}
@@ -15,17 +14,9 @@ use Rattle.pm_board.specs.declared.views.Work.TheVariants.{Idle, Sees, Inactive,
 use Rattle.pm_board.specs.declared.views.PostView.{PostView}
 use Rattle.pm_board.specs.Words.{bit, flag}
 use Rattle.pm_board.specs.Places.{is_auxiliary, lost}
-use Rattle.pm_board.specs.Gate.{Gate, notice_bits, notice_of, sessions_in, open_in, notice_in, generation_in, place_of, sum_below, at_gate, attached, counted, staying, AllUpTo, GateOk}
+use Rattle.pm_board.specs.Gate.{Gate, notice_bits, notice_of, sessions_in, open_in, notice_in, generation_in, place_of, at_gate, attached, counted, staying, AllUpTo, GateOk}
 use Rattle.pm_board.specs.Rule.{Phase, unused, opened, offered, running, ended, collected, gathered, Does, OfLiving, Cell, put, at_put}
 use Rattle.pm_board.proofs.Bits.{bit_small, flag_bit}
-use Rattle.pm_board.proofs.Gates.{sum_same}
-
--- one member of a sum changes
-sum_put : (n k : ℕ) (f g : ℕ → ℕ) → k < n → ((j : ℕ) → j ≢ k → g j ≡ f j) → sum_below n g + f k ≡ sum_below n f + g k
-sum_put zero k f g l h = absurd (omega arith)
-sum_put (suc n) k f g l h = dite (ℕ_discrete n k)
-    (λ is. let a : sum_below n g ≡ sum_below n f = sum_same n f g (λ j m. h j (omega arith)) in let b : g n ≡ g k = ap g is in let c : f n ≡ f k = ap f is in omega arith)
-    (λ ne. let a : sum_below n g + f k ≡ sum_below n f + g k = sum_put n k f g (omega arith) h in let b : g n ≡ f n = h n ne in omega arith)
 
 pub sum_small : (n : ℕ) (f : ℕ → ℕ) → ((k : ℕ) → k < n → f k ≤ 1) → sum_below n f ≤ n
 sum_small zero f h = omega arith

@@ -1,6 +1,7 @@
 -- What stays of the gate when one slot moves.
 use Rattle.std.proofs.Common.{◌≡◌, ℕ, zero, suc, ◌+◌, ◌<◌, ◌≤◌, ◌==◌, List, [], ◌∷◌, ◌++◌, get_or, set, refl, sym, ap, ◌∙◌, subst, arith, eq-eqb, get_or-set_other}
 use Rattle.std.specs.Prelude.{Bool, true, false, ◌&&◌}
+use Rattle.pm_facts.specs.Numbers.{sum_below, sum_same}
 use Rattle.pm_exit.specs.declared.child.Kind.{Kind}
 use Rattle.pm_exit.specs.declared.child.Status.{Status}
 use Rattle.pm_supervisor.specs.Children.{is_session}
@@ -12,13 +13,9 @@ use Rattle.pm_board.specs.declared.views.Work.TheVariants.{Idle, Sees, Inactive,
 use Rattle.pm_board.specs.declared.views.PostView.{PostView}
 use Rattle.pm_board.specs.Words.{bit}
 use Rattle.pm_board.specs.Places.{is_auxiliary, lost}
-use Rattle.pm_board.specs.Gate.{Gate, gate_packed, sum_below, at_gate, attached, counted, staying, IsCurrent, AllUpTo, InGeneration, AuxiliaryOnce, GateOk, first_gate}
+use Rattle.pm_board.specs.Gate.{Gate, gate_packed, at_gate, attached, counted, staying, IsCurrent, AllUpTo, InGeneration, AuxiliaryOnce, GateOk, first_gate}
 use Rattle.pm_board.specs.Rule.{Phase, unused, offered, running, ended, OfLiving, Cell, put, at_put, idle_post}
 use Rattle.pm_board.specs.Told.{MayEnd, post_view, with_notes, past_child}
-
-pub sum_same : (n : ℕ) (f g : ℕ → ℕ) → ((j : ℕ) → j < n → g j ≡ f j) → sum_below n g ≡ sum_below n f
-sum_same zero f g h = refl
-sum_same (suc n) f g h = let a : sum_below n g ≡ sum_below n f = sum_same n f g (λ j l. h j (omega arith)) in let b : g n ≡ f n = h n (omega arith) in omega arith
 
 pub sum_zero : (n : ℕ) (f : ℕ → ℕ) → ((k : ℕ) → k < n → f k ≡ 0) → sum_below n f ≡ 0
 sum_zero zero f h = refl

@@ -10,6 +10,7 @@ use Rattle.std.specs.List.{Contains}
 use Rattle.std.specs.Prelude.{Bool, true, false, nat_lt, not, if◌then◌else◌, Option, Some, None, Result, Ok, Err, IsSomeAnd}
 use Rattle.std.proofs.lemmas.Bool.{ltb-true}
 use Rattle.atomic_table.specs.Table.{step, Act, keeps, Valid, stepped, carried_after, Allows}
+use Rattle.pm_facts.specs.Numbers.{sum_below}
 use Rattle.pm_exit.specs.declared.child.Kind.{Kind}
 use Rattle.pm_exit.specs.declared.child.Kind.TheVariants as kind
 use Rattle.pm_exit.specs.declared.child.Status.TheVariants.{Code}
@@ -38,7 +39,7 @@ use Rattle.pm_board.specs.declared.views.View.{View}
 use Rattle.pm_board.specs.declared.views.View.TheVariants.{Postmaster, Worker}
 use Rattle.pm_board.specs.Words.{bit}
 use Rattle.pm_board.specs.Places.{slot_at, slot_view, SlotServes, is_auxiliary, lost, is_used, used_in}
-use Rattle.pm_board.specs.Gate.{gate_of, notice_bits, gate_packed, sessions_in, open_in, notice_in, generation_in, place_of, answer_to, gate_answer, sum_below, at_gate, attached, counted, staying, IsCurrent, AllUpTo, InGeneration, AuxiliaryOnce, GateOk}
+use Rattle.pm_board.specs.Gate.{gate_of, notice_bits, gate_packed, sessions_in, open_in, notice_in, generation_in, place_of, answer_to, gate_answer, at_gate, attached, counted, staying, IsCurrent, AllUpTo, InGeneration, AuxiliaryOnce, GateOk}
 use Rattle.pm_board.specs.Rule.{at_put, put, Phase, unused, opened, offered, running, ended, collected, gathered, child_word, Seen, Does, OfChild, OfLiving, IsPlaced, Cell, Holds}
 use Rattle.pm_board.specs.Latches.{NotReleased, NoticedBefore}
 use Rattle.pm_board.specs.History.{living, Kept}

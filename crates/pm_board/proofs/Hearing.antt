@@ -5,6 +5,7 @@ use native.Mathlib.Decide.{ℕ_discrete, dec_le}
 use Rattle.std.proofs.lemmas.List.{get_or_past}
 use Rattle.std.specs.Prelude.{true, false}
 use Rattle.std.specs.List.{Contains, AllByRecursion}
+use Rattle.pm_facts.specs.Numbers.{sum_below}
 use Rattle.pm_board.specs.declared.views.Cancel.{Cancel}
 use Rattle.pm_board.specs.declared.views.Heard.{Heard}
 use Rattle.pm_board.specs.declared.views.PastChild.{PastChild}
@@ -20,7 +21,6 @@ use Rattle.pm_board.specs.Heard.{HoldsCancel, KnowsCancel, WasMade, IsKnownAtLas
 use Rattle.pm_board.specs.Latches.{HeardRightly, EachHeard, HeardBy, beside, waiting, times_made, WereMade, cancel_at, Latches}
 use Rattle.pm_keys.specs.CancelKey.{cancel_key}
 use Rattle.pm_board.specs.Words.{bit}
-use Rattle.pm_board.specs.Gate.{sum_below}
 use Rattle.pm_board.specs.Places.{slot_view, slot_at}
 use Rattle.pm_board.specs.Rule.{Cell, idle_post}
 use Rattle.pm_board.specs.Seats.{is_gathered, HasSeat, held, taken, Seats}

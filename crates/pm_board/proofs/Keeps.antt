@@ -1,5 +1,5 @@
 -- Each step keeps the rule.
-use Rattle.std.proofs.Common.{◌≡◌, ◌≢◌, ◌⊎◌, inl, inr, ℕ, zero, suc, ◌+◌, ◌*◌, ◌%◌, ◌^◌, ◌<◌, ◌≤◌, List, [], ◌∷◌, ◌++◌, length, map, get_or, set, sym, refl, ap, ◌∙◌, subst, ⊎_elim, arith, length-set, get_or-set_other, get_or-set_same, append-nil}
+use Rattle.std.proofs.Common.{◌≡◌, ◌≢◌, ◌⊎◌, inl, ℕ, zero, suc, ◌+◌, ◌*◌, ◌%◌, ◌^◌, ◌<◌, ◌≤◌, List, [], ◌∷◌, ◌++◌, length, map, get_or, set, sym, refl, ap, ◌∙◌, subst, ⊎_elim, arith, length-set, get_or-set_other, get_or-set_same, append-nil}
 use Rattle.std.proofs.lemmas.List.{length-map, length-replicate}
 use Rattle.std.proofs.Math.Nat.{mod-eq_of_lt}
 use mathlib.Core.Logic.{dite}
@@ -12,6 +12,7 @@ use Rattle.std.proofs.lemmas.List.Elements.{Contains-append_left}
 use Rattle.std.specs.Prelude.{Bool, true, false, Option, Some, None, replicate}
 use Rattle.atomic_table.specs.Table.{step, keeps, takes, gives, stepped, opening, Allows, Joins}
 use Rattle.atomic_table.proofs.Lists.{at_set, set_here, set_else, set_again}
+use Rattle.pm_facts.specs.Lists.{at_end, same_everywhere}
 use Rattle.pm_exit.specs.declared.child.Status.{Status}
 use Rattle.pm_exit.specs.declared.child.Status.TheVariants.{Code}
 use Rattle.pm_board.specs.Slots.{child_slots, is_slot}
@@ -224,21 +225,10 @@ value_in d (x ∷ xs) = value_or d x.1
 pub held : {J : Type 0} (k k' : ℕ) (j j' : J) → ◌≡◌ {A = List (ℕ × Option J)} ((k, Some j) ∷ []) ((k', Some j') ∷ []) → j ≡ j'
 held k k' j j' e = ap (value_in j) e
 
-pub same_everywhere : {A : Type 0} (n k : ℕ) (a : A) → get_or (replicate n a) k a ≡ a
-same_everywhere zero k a = refl
-same_everywhere (suc n) zero a = refl
-same_everywhere (suc n) (suc k) a = same_everywhere n k a
-
 all_home : {A : Type 0} (n k : ℕ) (a : A) → k < n → get_elem? (map some (replicate n a)) k ≡ some (some a)
 all_home zero k a h = absurd (omega arith)
 all_home (suc n) zero a h = refl
 all_home (suc n) (suc k) a h = all_home n k a (omega arith)
-
-at_end : {A : Type 0} (l : List A) (a b : A) (j : ℕ) → get_elem? (l ++ a ∷ []) j ≡ some b → (get_elem? l j ≡ some b) ⊎ ((j ≡ length l) × (a ≡ b))
-at_end [] a b zero e = inr (refl, some-injective a b e)
-at_end [] a b (suc j) e = absurd (some-ne-none b (sym e))
-at_end (x ∷ xs) a b zero e = inl e
-at_end (x ∷ xs) a b (suc j) e = ⊎_elim (λ t. inl t) (λ (t : (j ≡ length xs) × (a ≡ b)). inr (ap suc t.0, t.1)) (at_end xs a b j e)
 
 module _ {J D : Type 0} (letter : Letter.Ghosts J D) (limit : ℕ) where
   -- the same slot, with a phase that is known

@@ -8,6 +8,7 @@ use Rattle.std.proofs.lemmas.List.Elements.{Contains-append_left, Contains-appen
 use Rattle.std.specs.Prelude.{Bool, ◌&&◌, Some, None, Result, Ok, Err, slice_index_or}
 use Rattle.std.specs.Int.{bit_at}
 use Rattle.std.specs.List.{Contains, AllByRecursion}
+use Rattle.pm_facts.specs.Numbers.{sum_below}
 use Rattle.pm_exit.specs.declared.child.Kind.{Kind}
 use Rattle.pm_supervisor.specs.declared.Reason.{Reason}
 use Rattle.pm_life.specs.declared.life.GateNo.{GateNo}
@@ -21,7 +22,6 @@ use Rattle.pm_board.specs.declared.views.RosterStep.TheVariants.{Assign, Release
 use Rattle.pm_board.specs.declared.views.RosterView.{RosterView}
 use Rattle.pm_board.specs.declared.views.Signal.{Signal}
 use Rattle.pm_board.specs.Words.{bit}
-use Rattle.pm_board.specs.Gate.{sum_below}
 use Rattle.pm_board.proofs.Counts.{count_moves}
 use Rattle.pm_board.specs.Latch.{latch_pid, signal_number}
 use Rattle.pm_life.specs.declared.life.Signals.{Signals}
@@ -55,10 +55,6 @@ module _ {A : Type 0} where
   all_map : (P Q : A → Type 0) → ((x : A) → P x → Q x) → (xs : List A) → AllByRecursion P xs → AllByRecursion Q xs
   all_map P Q f [] h = tt
   all_map P Q f (x ∷ xs) h = (f x h.0, all_map P Q f xs h.1)
-
-  pub all_more : (P : A → Type 0) (xs : List A) (x : A) → AllByRecursion P xs → P x → AllByRecursion P (xs ++ x ∷ [])
-  all_more P [] x h new = (new, tt)
-  all_more P (y ∷ xs) x h new = (h.0, all_more P xs x h.1 new)
 
 -- the supervisor's steps
 

@@ -17,6 +17,8 @@ use Rattle.std.specs.List.{AllByRecursion}
 use Rattle.std.proofs.Math.Bool.{or-true}
 use Rattle.atomic_table.specs.Table.{step, Act, keeps, takes, Valid, stepped, carried_after, Allows}
 use Rattle.atomic_table.proofs.Lists.{set_here, set_else, exchanged}
+use Rattle.pm_facts.specs.Lists.{each_more}
+use Rattle.pm_facts.specs.Numbers.{sum_below}
 use Rattle.pm_exit.specs.declared.child.Kind.{Kind}
 use Rattle.pm_keys.specs.CancelKey.{cancel_key}
 use Rattle.pm_supervisor.specs.declared.Reason.TheVariants as reason
@@ -42,7 +44,7 @@ use Rattle.pm_board.specs.declared.views.View.{View}
 use Rattle.pm_board.specs.declared.views.View.TheVariants.{Postmaster, Worker}
 use Rattle.pm_board.specs.Words.{bit, flag}
 use Rattle.pm_board.specs.Places.{slot_view, slot_at}
-use Rattle.pm_board.specs.Gate.{sum_below, GateOk, gate_of}
+use Rattle.pm_board.specs.Gate.{GateOk, gate_of}
 use Rattle.pm_board.specs.Latch.{latch_place, cancel_place, signal_number, latch_pid, armed_word, stands, quit_of, signals_at, is_crash, is_stop, is_given}
 use Rattle.pm_board.specs.Latches.{times_made_on, made_on, CallsIn, LatchesOf, is_send, is_heard, times_sent, times_given, times_heard, Reaches, ReachesIn, OfUnreleased, HeardRightly, HearsRightly, ArmedFor, OfRunning, EachHeard, HeardBy, beside, waiting, times_told, times_made, WereMade, LatchOk, latch_at, cancel_at, Latches}
 use Rattle.pm_board.specs.Rule.{Phase, unused, opened, offered, running, ended, collected, gathered, Seen, Does, unreleased, Cell, put, at_put, used_pid}
@@ -54,13 +56,10 @@ use Rattle.pm_board.proofs.Bits.{bit_small}
 use Rattle.pm_board.proofs.Counts.{count_moves}
 use Rattle.pm_board.proofs.Moves.{rebased, word_step, word_turn, slot_turn, St}
 use Rattle.pm_board.proofs.Gates.{uncounted, uncounted_notes, gate_moves, once_still}
-use Rattle.pm_board.proofs.Latches.{all_more, no_release, not_released-append, send_is_no_release, sends_nothing, sent_to_other, unreleased_all, unreleased_both, latch_here, heard-more, hears-more, running_map, each-map, cancels_stay, cancelled_more, latches_moved, latches_word, recount, count_same}
+use Rattle.pm_board.proofs.Latches.{no_release, not_released-append, send_is_no_release, sends_nothing, sent_to_other, unreleased_all, unreleased_both, latch_here, heard-more, hears-more, running_map, each-map, cancels_stay, cancelled_more, latches_moved, latches_word, recount, count_same}
 use Rattle.pm_board.proofs.Seats.{seats_step, seats_turn, seats_still}
 use Rattle.pm_board.proofs.Histories.{kept, same_history, quiet, send_history, others_unsent}
 use Rattle.pm_board.proofs.Keeps.{at_phase, owned, see_unused, pids_drop, does_run, does_act, does_back, does_stay}
-
-same_number : (a b : ℕ) → (a == b) ≡ true → a ≡ b
-same_number a b is = dite (ℕ_discrete a b) (λ e. e) (λ ne. let no_ : true ≡ false = sym is ∙ ne_eqb a b ne in absurd (cc))
 
 -- one signal of a word
 
@@ -647,7 +646,7 @@ module _ {J D : Type 0} (letter : Letter.Ghosts J D) (limit : ℕ) where
   cancels_here s r id k x w c near key at = let n : ℕ = child_slots (length s.homes) in let j : ℕ = x.slot in let i : ℕ = cancel_place n j in let mine = owned letter limit s r.0 r.1 r.2 r.3 id k w at in
       let found : ℕ = get_or s.words i 0 in let word : ℕ = max found x.pid in let words : List ℕ = set s.words i word in let notes : PostNotes = noted_cancel w.notes x in
       let cell : Cell D = record { phase = (r.2 k).phase; seat = id; post = with_notes w notes } in let cells : ℕ → Cell D = put r.2 k cell in
-      let keys = all_more (λ (y : Cancel). y.key ≡ cancel_key y.seed y.pid) w.notes.cancels x (own_keys s r id k w at) key in
+      let keys = each_more (λ (y : Cancel). y.key ≡ cancel_key y.seed y.pid) w.notes.cancels x (own_keys s r id k w at) key in
       let la = noted_more s r id k w notes at refl refl (λ p. let e : times_made p (w.notes.cancels ++ x ∷ []) ≡ times_made p w.notes.cancels + bit (x.pid == p) = made-append p w.notes.cancels x in omega arith) keys in
       let l = latch_raised r.1.notes.steps (WereMade n r.2) (WereMade n cells) x.pid (cancelled_more n k r.2 cell mine.0 (λ p. let a : times_made p (r.2 k).post.notes.cancels ≤ times_made p w.notes.cancels = cancels_stay p (r.2 k).post w mine.2 in let e : times_made p (w.notes.cancels ++ x ∷ []) ≡ times_made p w.notes.cancels + bit (x.pid == p) = made-append p w.notes.cancels x in omega arith))
       (λ m made. one_more n k m x r.2 cell w mine.0 mine.2 refl made) (λ p m m' le made. omega arith) (λ p. omega arith) (made_on n r.2 j) (made_on n cells j) (λ p ne. no_more n k j p x r.2 cell w mine.0 mine.2 refl (λ both_. ne (sym both_.1))) (latch_at n s.words j) found (r.2 j) (r.6.each j near) in

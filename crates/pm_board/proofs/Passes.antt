@@ -5,6 +5,7 @@ use native.Mathlib.Decide.{ℕ_discrete}
 use Rattle.std.specs.Prelude.{Bool, true, false, ◌&&◌, if◌then◌else◌, Option, Some, None}
 use Rattle.std.specs.List.{AllByRecursion}
 use Rattle.atomic_table.specs.Table.{State}
+use Rattle.pm_facts.specs.Numbers.{sum_below}
 use Rattle.pm_exit.specs.declared.child.Kind.{Kind}
 use Rattle.pm_supervisor.specs.declared.Reason.{Reason}
 use Rattle.pm_supervisor.specs.Children.{Child, is_session, is_startup_child, child_of, without, marked, one_if, count_of, attached_sessions}
@@ -21,7 +22,7 @@ use Rattle.pm_board.specs.declared.views.Work.{Work}
 use Rattle.pm_board.specs.declared.views.Work.TheVariants.{Idle, Sees, Inactive, Active, Refused, Attached}
 use Rattle.pm_board.specs.declared.views.View.{View}
 use Rattle.pm_board.specs.Words.{bit}
-use Rattle.pm_board.specs.Gate.{sum_below, attached, gate_of}
+use Rattle.pm_board.specs.Gate.{attached, gate_of}
 use Rattle.pm_board.specs.Rule.{Phase, unused, opened, offered, running, ended, collected, gathered, Does, Cell, Holds, put, at_put}
 use Rattle.pm_board.specs.Told.{after_step}
 use Rattle.pm_board.specs.History.{goes_on, supervisor_event, worker_event, leave_of, event_of, worker_step, living, is_attached, shown_child, ShowsChild, Shows, OwnPart, pid_and_kind, History}

@@ -8,6 +8,7 @@ use Rattle.std.specs.Prelude.{Bool, true, false, Option, Some, None, Result, Ok,
 use prog.Atomic.{either}
 use Rattle.atomic_table.specs.Table.{step, rest, opening, Allows, Joins, Splits}
 use Rattle.atomic_table.specs.Seated.{TableId}
+use Rattle.pm_facts.specs.Lists.{set_set, same_everywhere}
 use Rattle.pm_exit.specs.declared.child.Kind.{Kind}
 use Rattle.pm_exit.specs.declared.child.Status.{Status}
 use Rattle.pm_supervisor.specs.declared.Reason.{Reason}
@@ -46,11 +47,6 @@ use Rattle.pm_board.proofs.Children.{children_same}
 use Rattle.pm_board.proofs.Keeps as keep
 use Rattle.pm_board.proofs.Gating as gate
 use Rattle.pm_board.proofs.Latching as latch
-
-set_set : {A : Type 0} (l : List A) (k : ℕ) (a b : A) → set (set l k a) k b ≡ set l k b
-set_set [] k a b = refl
-set_set (x ∷ xs) zero a b = refl
-set_set (x ∷ xs) (suc k) a b = ap (λ l. x ∷ l) (set_set xs k a b)
 
 pub used_none : (D : Type 0) (n : ℕ) → used_in (replicate n (slot_view {D = D} [] Unused)) ≡ 0
 used_none D zero = refl
@@ -145,7 +141,7 @@ module _ {J D : Type 0} (letter : Letter.Ghosts J D) (limit : ℕ) where
   pub begins_as : (n m l : ℕ) (words : List ℕ) → words ≡ new_words n → m ≡ n → l ≡ limit → n ≤ 407 → limit ≤ 200 → Kept letter limit (opening words (replicate n None) (newcomer m l))
   begins_as n m l words is same lim few most = subst (λ (z : ℕ × ℕ × List ℕ). Kept letter limit (opening z.2 (replicate n None) (newcomer z.0 z.1))) (λ i. (sym same i, sym lim i, sym is i))
       (keep.begins letter limit n n (new_words n) (all_slots n) (length-set (replicate (3 * n + 1) 0) n 134217728 ∙ length-replicate (3 * n + 1) 0)
-      (λ k ne. get_or-set_other (replicate (3 * n + 1) 0) n k 134217728 0 (λ e. ne e) ∙ keep.same_everywhere (3 * n + 1) k 0)
+      (λ k ne. get_or-set_other (replicate (3 * n + 1) 0) n k 134217728 0 (λ e. ne e) ∙ same_everywhere (3 * n + 1) k 0)
       (get_or-set_same (replicate (3 * n + 1) 0) n 134217728 0 (subst (λ (z : ℕ). n < z) (sym (length-replicate (3 * n + 1) 0)) (omega arith))) few most)
 
 -- the steps at the gate

@@ -1,5 +1,6 @@
 -- The gate: what its word tells, and which children it counts.
 use Rattle.std.specs.Prelude.{◌≡◌, ℕ, zero, suc, ◌+◌, ◌*◌, ◌/◌, ◌%◌, ◌<◌, ◌≤◌, Bool, true, false, not, nat_lt, if◌then◌else◌, List, [], ◌∷◌, Option, Some, None, Result, Ok, Err}
+use Rattle.pm_facts.specs.Numbers.{sum_below}
 use Rattle.pm_exit.specs.declared.child.Kind.{Kind}
 use Rattle.pm_supervisor.specs.declared.Reason.{Reason}
 use Rattle.pm_supervisor.specs.declared.Reason.TheVariants as reason
@@ -102,11 +103,6 @@ answer_to true limit None word =
 
 abbrev pub gate_answer : Kind → ℕ → ℕ → Result ℕ GateNo
 gate_answer kind limit word = answer_to (is_session kind) limit (notice_in word) word
-
--- the sum of f at the numbers below n
-abbrev pub sum_below : ℕ → (ℕ → ℕ) → ℕ
-sum_below zero f = 0
-sum_below (suc n) f = sum_below n f + f n
 
 module _ {D : Type 0} where
   -- a child of such a kind stands at the gate: it was refused and hasn't backed out yet, or is attached

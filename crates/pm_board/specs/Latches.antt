@@ -2,6 +2,7 @@
 use Rattle.std.specs.Prelude.{◌≡◌, ℕ, zero, suc, ◌+◌, ◌<◌, ◌≤◌, ◌⊎◌, Bool, true, ◌==◌, ◌&&◌, is_some, List, [], ◌∷◌, ◌++◌, Some, Ok, Err, slice_index_or}
 use Rattle.std.specs.Int.{bit_at}
 use Rattle.std.specs.List.{Contains, AllByRecursion}
+use Rattle.pm_facts.specs.Numbers.{sum_below}
 use Rattle.pm_exit.specs.declared.child.Kind.{Kind}
 use Rattle.pm_keys.specs.CancelKey.{cancel_key}
 use Rattle.pm_supervisor.specs.declared.Reason.{Reason}
@@ -16,7 +17,6 @@ use Rattle.pm_board.specs.declared.views.RosterStep.TheVariants.{Assign, Release
 use Rattle.pm_board.specs.declared.views.RosterView.{RosterView}
 use Rattle.pm_board.specs.Words.{bit}
 use Rattle.pm_board.specs.Latch.{latch_place, cancel_place, signal_number, latch_pid, is_given}
-use Rattle.pm_board.specs.Gate.{sum_below}
 use Rattle.pm_board.specs.Rule.{Phase, unused, opened, offered, running, ended, collected, gathered, Cell}
 
 -- a step is a send of the signal of this number to this pid

@@ -12,4 +12,5 @@ pub mod Heard
 pub mod History
 pub mod Told
 pub mod Models
+pub mod Posts
 pub mod Laws

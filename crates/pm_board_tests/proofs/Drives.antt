@@ -1,22 +1,20 @@
 -- How the driven slot moves.
-use Rattle.std.proofs.Common.{◌≡◌, ◌≢◌, ℕ, zero, suc, ◌+◌, ◌<◌, ◌≤◌, List, [], ◌∷◌, length, get_or, sym, refl, ap, ◌∙◌, subst, arith}
+use Rattle.std.proofs.Common.{◌≡◌, ℕ, ◌<◌, ◌≤◌, [], length, sym, refl, ap, ◌∙◌, subst, arith}
 use Rattle.std.proofs.lemmas.List.{length-replicate}
 use mathlib.Core.Logic.{dite}
 use native.Mathlib.Decide.{ℕ_discrete}
-use Rattle.std.specs.Prelude.{Bool, true, false, Option, Some, None, MatchOption, replicate}
+use Rattle.std.specs.Prelude.{true, false}
+use Rattle.pm_facts.specs.Lists.{same_everywhere}
 use Rattle.pm_exit.specs.declared.child.Kind.{Kind}
-use Rattle.pm_exit.specs.declared.child.Status.{Status}
-use Rattle.pm_board.specs.declared.views.Offer.{Offer}
 use Rattle.pm_board.specs.declared.views.RosterNotes.{RosterNotes}
 use Rattle.pm_board.specs.declared.views.RosterView.{RosterView}
 use Rattle.pm_board.specs.declared.views.Sight.{Sight}
-use Rattle.pm_board.specs.declared.views.Sight.TheVariants.{Unused, Assigned}
+use Rattle.pm_board.specs.declared.views.Sight.TheVariants.{Unused}
 use Rattle.pm_board.specs.declared.views.SlotView.{SlotView}
-use Rattle.pm_board.specs.declared.views.Work.TheVariants.{Idle}
 use Rattle.pm_board.specs.Places.{slot_at, slot_view, is_auxiliary, IsReaped, MayAssign}
 use Rattle.pm_board.specs.Told.{new_roster}
-use Rattle.pm_board.specs.Models.{PostModel, SlotBecame}
-use Rattle.pm_board_tests.specs.Drive.{Sees, IsFree, AllIdle, ServesFrom}
+use Rattle.pm_board.specs.Models.{SlotBecame}
+use Rattle.pm_board_tests.specs.Drive.{Sees, IsFree, ServesFrom}
 
 pub may_assign : (d : RosterView ℕ) (last pid : ℕ) (kind : Kind) → IsFree d last → ServesFrom 9 4 kind → is_auxiliary kind ≡ false → last < pid → pid < 2147483648 → MayAssign d 4 pid kind
 may_assign d last pid kind free serves session new fits = let count : 9 ≤ length d.slots = free.count in let top : d.notes.last_pid ≡ last = free.last_pid in record {
@@ -44,18 +42,3 @@ is_free d count limit dealt many is = subst (λ (z : RosterView ℕ). IsFree z 0
   others = λ k _. ap (λ (x : SlotView ℕ). x.sight) (same_everywhere count k (slot_view [] Unused));
   last_pid = refl;
 }
-  where
-    same_everywhere : {A : Type 0} (n k : ℕ) (a : A) → get_or (replicate n a) k a ≡ a
-    same_everywhere zero k a = refl
-    same_everywhere (suc n) zero a = refl
-    same_everywhere (suc n) (suc k) a = same_everywhere n k a
-
-rest_idle : (posts rest : List (PostModel ℕ)) (p : PostModel ℕ) → posts ≡ p ∷ rest → AllIdle posts → AllIdle rest
-rest_idle posts rest p is all k q e = subst AllIdle is all (suc k) q e
-
-pub taken_idle : (r : Option (PostModel ℕ)) (posts rest : List (PostModel ℕ)) → MatchOption r ((posts ≡ []) × (rest ≡ [])) (λ p. posts ≡ p ∷ rest) → AllIdle posts → AllIdle rest
-taken_idle None posts rest is all = subst AllIdle (is.0 ∙ sym is.1) all
-taken_idle (Some p) posts rest is all = rest_idle posts rest p is all
-
-pub first_idle : (posts rest : List (PostModel ℕ)) (p : PostModel ℕ) → posts ≡ p ∷ rest → AllIdle posts → p.knows.work ≡ Idle
-first_idle posts rest p is all = subst AllIdle is all 0 p refl

@@ -1,10 +1,11 @@
 -- How a board moves whose slots get a child one after the other.
-use Rattle.std.proofs.Common.{◌≡◌, ◌≢◌, ℕ, zero, suc, ◌+◌, ◌<◌, ◌≤◌, List, [], ◌∷◌, length, get_or, refl, sym, ap, ◌∙◌, subst, arith}
+use Rattle.std.proofs.Common.{◌≡◌, ◌≢◌, ℕ, suc, ◌+◌, ◌<◌, ◌≤◌, List, [], ◌∷◌, length, refl, sym, ap, ◌∙◌, subst, arith}
 use Rattle.std.proofs.lemmas.List.{length-replicate}
 use mathlib.Core.Logic.{dite}
 use native.Mathlib.Decide.{ℕ_discrete}
-use Rattle.std.specs.Prelude.{true, false, replicate}
+use Rattle.std.specs.Prelude.{true, false}
 use Rattle.atomic_table.specs.Seated.{TableId}
+use Rattle.pm_facts.specs.Lists.{same_everywhere}
 use Rattle.pm_exit.specs.declared.child.Kind.{Kind}
 use Rattle.pm_board.specs.declared.views.Offer.{Offer}
 use Rattle.pm_board.specs.declared.views.PastChild.{PastChild}
@@ -18,11 +19,6 @@ use Rattle.pm_board.specs.Rule.{idle_post}
 use Rattle.pm_board.specs.Told.{new_roster}
 use Rattle.pm_board.specs.Models.{PostModel, SlotBecame}
 use Rattle.pm_board_tests.specs.EverySlot.{IsFresh, HasServed, IsBusyUpTo, AreFrom}
-
-same_everywhere : {A : Type 0} (n k : ℕ) (a : A) → get_or (replicate n a) k a ≡ a
-same_everywhere zero k a = refl
-same_everywhere (suc n) zero a = refl
-same_everywhere (suc n) (suc k) a = same_everywhere n k a
 
 pub new_fresh : (d : RosterView ℕ) (count limit dealt : ℕ) → d ≡ new_roster count limit dealt → IsFresh d count 0
 new_fresh d count limit dealt is = let new : (j : ℕ) → slot_at d j ≡ slot_view [] Unused = (λ j. ap (λ (z : RosterView ℕ). slot_at z j) is ∙ same_everywhere count j (slot_view [] Unused)) in record {

@@ -1,14 +1,12 @@
 -- What the tests know of a board of at least nine slots, of which the fifth is driven.
-use Rattle.std.specs.Prelude.{◌≡◌, ◌≢◌, ◌≤◌, ℕ, Bool, List, Some, length, slice_get}
+use Rattle.std.specs.Prelude.{◌≡◌, ◌≢◌, ◌≤◌, ℕ, Bool, length}
 use Rattle.pm_exit.specs.declared.child.Kind.{Kind}
 use Rattle.pm_exit.specs.declared.child.Status.{Status}
 use Rattle.pm_board.specs.declared.views.Offer.{Offer}
 use Rattle.pm_board.specs.declared.views.RosterView.{RosterView}
 use Rattle.pm_board.specs.declared.views.Sight.{Sight}
 use Rattle.pm_board.specs.declared.views.Sight.TheVariants.{Unused, Assigned, Exited}
-use Rattle.pm_board.specs.declared.views.Work.TheVariants.{Idle}
 use Rattle.pm_board.specs.Places.{slot_at, SlotServes}
-use Rattle.pm_board.specs.Models.{PostModel}
 
 -- this is what the supervisor sees of the driven slot, the others are unused, and this is the last pid
 pub record Sees (d : RosterView ℕ) (sight : Sight ℕ) (last : ℕ) : Type 0 where
@@ -28,10 +26,6 @@ IsBusy d last = (o : Offer ℕ) × Sees d (Assigned o) last
 -- a look has found it exited
 abbrev pub HasExited : RosterView ℕ → ℕ → Type 0
 HasExited d last = (o : Offer ℕ) × (status : Status) × (active : Bool) × Sees d (Exited o status active) last
-
--- no child runs on any of these posts
-abbrev pub AllIdle : List (PostModel ℕ) → Type 0
-AllIdle posts = (k : ℕ) (p : PostModel ℕ) → slice_get posts k ≡ Some p → p.knows.work ≡ Idle
 
 -- a slot serves this kind on every board of at least so many slots
 abbrev pub ServesFrom : ℕ → ℕ → Kind → Type 0

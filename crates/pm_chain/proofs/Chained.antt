@@ -2,6 +2,7 @@
 use Rattle.std.proofs.Common.{◌≡◌, ◌≢◌, ℕ, Bool, true, false, cond, List, [], ◌∷◌, ◌++◌, Option, Some, None, refl, ap, sym, ◌∙◌, subst, inl, inr, append_assoc, append-nil}
 use Rattle.std.specs.Prelude.{◌⊎◌, IsSomeAnd}
 use Rattle.std.specs.List.{AllByRecursion, last_or}
+use Rattle.pm_facts.specs.Lists.{each_both}
 use Rattle.pm_supervisor.specs.declared.Limits.{Limits}
 use Rattle.pm_supervisor.specs.Children.{Child, child_of, is_dead_end}
 use Rattle.pm_state.specs.declared.event.PmEvent.{PmEvent}
@@ -10,10 +11,10 @@ use Rattle.pm_state.specs.Journal.{Replay, IsLegal, replay_begun}
 use Rattle.pm_state.specs.ReplayLaws.{legal_front}
 use Rattle.pm_query.specs.declared.book.BookEntry.{BookEntry}
 use Rattle.pm_query.specs.declared.book.BookEntry.TheVariants as entry
-use Rattle.pm_chain.specs.Chain.{AreDistinct, AttachOnce, GoneWereLost, InGeneration, IsAmong, IsChained, IsPidOf, Redo, RedosEnd, UsersWereStarted, attached_of, exits_of, gone_from, kept_of, lost_from, opened_of, redo_ends_of, redos_of, resets_of, users_from}
+use Rattle.pm_chain.specs.Chain.{AreDistinct, AttachOnce, GoneWereLost, InGeneration, IsAmong, IsChained, IsPidOf, Redo, RedosEnd, UsersWereStarted, attached_of, exits_of, gone_from, kept_of, lost_from, opened_of, redo_ends_of, redos_of, resets_of, users_from, generation_in, lost_since, gone_since}
 use Rattle.pm_chain.specs.Steps.{ChildRun, IsRunOf, IsThere, MayFollow, MayStep, Notes, Renews, Runs, RunsOn, StandsByItself, Step, AreSteps, AreStepsBehind, book_by, journal_by, journal_of, lost_after, lost_in, redo_end, replay_of, whole_book}
-use Rattle.pm_chain.specs.FoldsLaws.{attached-append, exits-append, generation_in, gone-append, gone_since, gone_since-append, kept-append, lost-append, lost_since, lost_since-append, opened-append, redo_ends-append, redos-append, resets-append, users-append}
-use Rattle.pm_chain.proofs.Lists.{all_append, all_map, among_left, among_right, attach_one_more, distinct_one_more, gone_were_lost, of_pid, pid_left, pid_right}
+use Rattle.pm_chain.specs.FoldsLaws.{attached-append, exits-append, gone-append, gone_since-append, kept-append, lost-append, lost_since-append, opened-append, redo_ends-append, redos-append, resets-append, users-append}
+use Rattle.pm_chain.proofs.Lists.{all_map, among_left, among_right, attach_one_more, distinct_one_more, gone_were_lost, of_pid, pid_left, pid_right}
 use Rattle.pm_chain.proofs.Replays.{Found, Known, child_in, found, known, told_by}
 use Rattle.pm_chain.proofs.Runs.{AddsRenewal, AddsRun, EndsRedo, IsToldBy, adds-renewal, adds-run, ends-redo, redo-ended, run_in, told-among}
 use Rattle.pm_chain.proofs.StepLists.{book-one_more, journal-append, journal-one_more, last-one_more, lost-one_more}
@@ -122,7 +123,7 @@ module _ (journal : List PmEvent) (book : List BookEntry) (es : List PmEvent) (b
   ends-more : RedosEnd journal book → AllByRecursion (λ end. IsAmong end (kept_of (redos_of bs))) (redo_ends_of es) → RedosEnd (journal ++ es) (book ++ bs)
   ends-more before behind =
       subst (λ l. AllByRecursion (λ end. IsAmong end (kept_of (redos_of (book ++ bs)))) l) (sym (redo_ends-append journal es))
-      (all_append _ (redo_ends_of journal) (redo_ends_of es)
+      (each_both _ (redo_ends_of journal) (redo_ends_of es)
       (all_map _ _ kept-before (redo_ends_of journal) before) (all_map _ _ kept-behind (redo_ends_of es) behind))
 
   users-more : (users : List InGeneration) → attached_of bs ≡ users → UsersWereStarted journal book
@@ -130,7 +131,7 @@ module _ (journal : List PmEvent) (book : List BookEntry) (es : List PmEvent) (b
   users-more users attached before behind =
       subst (λ l. AllByRecursion (λ user. IsAmong user (users_from 1 (journal ++ es))) l)
       (sym (attached-append book bs ∙ ap (λ l. attached_of book ++ l) attached))
-      (all_append _ (attached_of book) users
+      (each_both _ (attached_of book) users
       (all_map _ _ user-before (attached_of book) before) (all_map _ _ user-before users behind))
 
   once-more : (users : List InGeneration) → attached_of bs ≡ users → AttachOnce (attached_of book ++ users) → AttachOnce (attached_of (book ++ bs))
@@ -141,7 +142,7 @@ module _ (journal : List PmEvent) (book : List BookEntry) (es : List PmEvent) (b
       → AllByRecursion (λ redo. IsAmong redo.kept (redo_ends_of (journal ++ es))) (redos_of (book ++ bs))
   told-more linked told =
       subst (λ l. AllByRecursion (λ redo. IsAmong redo.kept (redo_ends_of (journal ++ es))) l) (sym (redos-append book bs))
-      (all_append _ (redos_of book) (redos_of bs)
+      (each_both _ (redos_of book) (redos_of bs)
       (all_map _ _ (λ redo is. end-before redo.kept is) (redos_of book) linked.told)
       (all_map _ _ (λ redo is. end-behind redo.kept is) (redos_of bs) told))
 
@@ -155,7 +156,7 @@ module _ (journal : List PmEvent) (book : List BookEntry) (es : List PmEvent) (b
         ended =
             subst (λ l. AllByRecursion (λ user. IsPidOf user.number (exits_of (journal ++ es))) l)
             (sym (attached-append book bs ∙ ap (λ l. attached_of book ++ l) adds.attached))
-            (all_append _ (attached_of book) users
+            (each_both _ (attached_of book) users
             (all_map _ _ (λ user is. exit-before user.number is) (attached_of book) linked.ended)
             (all_map _ _ (λ user is. exit-behind user.number is) users adds.ended));
       }
@@ -281,7 +282,7 @@ module _ (journal : List PmEvent) (book : List BookEntry) (last : Option Step) (
           lost_is = lost_since-append [] journal (e ∷ []);
           distinct =
               subst (AllByRecursion AreDistinct) lost_more
-              (all_append AreDistinct (lost_from [] journal) (lost ∷ []) sound.distinct (sound.distinct_now, tt));
+              (each_both AreDistinct (lost_from [] journal) (lost ∷ []) sound.distinct (sound.distinct_now, tt));
           distinct_now = sound.distinct_now;
           lost_ended = lost-entry e;
         }
@@ -380,7 +381,7 @@ distinct-with true pid lost distinct differ = distinct_one_more pid lost distinc
 distinct-with false pid lost distinct differ = distinct
 
 all-with : (P : ℕ → Type 0) (b : Bool) (pid : ℕ) (lost : List ℕ) → AllByRecursion P lost → P pid → AllByRecursion P (lost_with b pid lost)
-all-with P true pid lost all one = all_append P lost (pid ∷ []) all (one, tt)
+all-with P true pid lost all one = each_both P lost (pid ∷ []) all (one, tt)
 all-with P false pid lost all one = all
 
 module _ (journal : List PmEvent) (book : List BookEntry) (last : Option Step) (lost : List ℕ) (sound : Sound journal book last lost) (still : IsCalm last lost) (run : ChildRun) (new : IsNew journal run) (is_run : IsRunOf run) where
@@ -472,7 +473,7 @@ module _ (journal : List PmEvent) (book : List BookEntry) (last : Option Step) (
         redos_told =
             subst (AllByRecursion (λ redo. IsPidOf redo.pid (exits_of journal) → IsAmong redo.kept (redo_ends_of journal)))
             (sym (redos-append book run.noted))
-            (all_append _ (redos_of book) (redos_of run.noted)
+            (each_both _ (redos_of book) (redos_of run.noted)
             (all_map _ _ (λ redo told ended. told) (redos_of book) sound.linked.told)
             (all_map (IsToldBy run) (λ (redo : Redo). IsPidOf redo.pid (exits_of journal) → IsAmong redo.kept (redo_ends_of journal))
             (λ redo told ended. absurd (new.fresh (subst (λ pid. IsPidOf pid (exits_of journal)) told.pid ended)))

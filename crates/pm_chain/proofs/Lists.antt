@@ -1,11 +1,8 @@
 -- Lists put together: what holds of each item, who is among them, and each once.
 use Rattle.std.proofs.Common.{◌≡◌, ◌≢◌, ℕ, List, [], ◌∷◌, ◌++◌, inl, inr, refl}
 use Rattle.std.specs.List.{AllByRecursion}
+use Rattle.pm_facts.specs.Lists.{each_both}
 use Rattle.pm_chain.specs.Chain.{InGeneration, IsAmong, IsPidOf, AttachOnce, AreDistinct, ArePids, GoneWereLost}
-
-pub all_append : {X : Type 0} (P : X → Type 0) (xs ys : List X) → AllByRecursion P xs → AllByRecursion P ys → AllByRecursion P (xs ++ ys)
-all_append P [] ys first second = second
-all_append P (x ∷ xs) ys first second = (first.0, all_append P xs ys first.1 second)
 
 pub all_map : {X : Type 0} (P Q : X → Type 0) → ((x : X) → P x → Q x) → (xs : List X) → AllByRecursion P xs → AllByRecursion Q xs
 all_map P Q f [] all = tt
@@ -56,13 +53,13 @@ pub attach_one_more :
     → AttachOnce (users ++ user ∷ [])
 attach_one_more user [] once differ = (tt, tt)
 attach_one_more user (first ∷ users) once differ =
-    (all_append (λ (other : InGeneration). first.number ≢ other.number) users (user ∷ []) once.0 (differ.0, tt), attach_one_more user users once.1 differ.1)
+    (each_both (λ (other : InGeneration). first.number ≢ other.number) users (user ∷ []) once.0 (differ.0, tt), attach_one_more user users once.1 differ.1)
 
 pub distinct_one_more :
     (pid : ℕ) (pids : List ℕ) → AreDistinct pids → AllByRecursion (λ other. other ≢ pid) pids → AreDistinct (pids ++ pid ∷ [])
 distinct_one_more pid [] distinct differ = (tt, tt)
 distinct_one_more pid (first ∷ pids) distinct differ =
-    (all_append (λ other. first ≢ other) pids (pid ∷ []) distinct.0 (differ.0, tt), distinct_one_more pid pids distinct.1 differ.1)
+    (each_both (λ other. first ≢ other) pids (pid ∷ []) distinct.0 (differ.0, tt), distinct_one_more pid pids distinct.1 differ.1)
 
 -- ---- the same pids
 

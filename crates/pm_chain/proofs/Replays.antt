@@ -3,6 +3,8 @@
 use Rattle.std.proofs.Common.{◌≡◌, ℕ, ◌+◌, ◌<◌, ◌≤◌, nat_eq, cond, Bool, true, false, List, [], ◌∷◌, ◌++◌, Some, None, refl, arith, ap, sym, ◌∙◌, subst, inl, append_assoc}
 use Rattle.std.specs.Prelude.{IsSomeAnd, is_none}
 use Rattle.std.specs.List.{AllByRecursion}
+use Rattle.std.proofs.lemmas.Bool.{eqb-true}
+use Rattle.pm_facts.specs.Lists.{each_both}
 use Rattle.pm_exit.specs.declared.child.Kind.{Kind}
 use Rattle.pm_exit.specs.declared.child.Kind.TheVariants as kind
 use Rattle.pm_admit.specs.declared.Cac.{Cac}
@@ -19,9 +21,9 @@ use Rattle.pm_state.specs.declared.event.PmEvent.{PmEvent}
 use Rattle.pm_state.specs.declared.event.PmEvent.TheVariants as event
 use Rattle.pm_state.specs.declared.machine.Machine.{Machine}
 use Rattle.pm_state.specs.Journal.{Due, Do, EndRedo, Replay, AreLegal, Fits, FitsFirst, Follows, FollowsIn, IsLegal, MayCome, all_replayed, replay_begun, replayed, row_of, shown_after}
-use Rattle.pm_chain.specs.Chain.{InGeneration, IsAmong, exits_of, users_from}
-use Rattle.pm_chain.specs.FoldsLaws.{exits-append, generation-append, generation_in, users-append}
-use Rattle.pm_chain.proofs.Lists.{all_append, all_map, all_zip, among_left, among_right}
+use Rattle.pm_chain.specs.Chain.{InGeneration, IsAmong, exits_of, users_from, generation_in}
+use Rattle.pm_chain.specs.FoldsLaws.{exits-append, generation-append, users-append}
+use Rattle.pm_chain.proofs.Lists.{all_map, all_zip, among_left, among_right}
 
 -- ---- children
 
@@ -34,9 +36,6 @@ below-weaken : (a b : ℕ) (cs : List Child) → a ≤ b → AreBelow a cs → A
 below-weaken a b [] le below = tt
 below-weaken a b (c ∷ cs) le below = (omega (arith, le, below.0), below.1)
 
-eq-same : (a b : ℕ) → nat_eq a b ≡ true → a ≡ b
-eq-same a b e = grind arith
-
 eq-less : (a b : ℕ) → b < a → nat_eq a b ≡ false
 eq-less a b less = grind arith
 
@@ -44,7 +43,7 @@ below-none : (pid : ℕ) (cs : List Child) → AreBelow pid cs → child_of pid 
 below-none pid [] below = refl
 below-none pid (c ∷ cs) below =
     elim (nat_eq c.pid pid) as (λ v. nat_eq c.pid pid ≡ v → cond v (Some c) (child_of pid cs) ≡ None) [
-      | true ↦ λ e. absurd (omega (arith, eq-same c.pid pid e, below.0))
+      | true ↦ λ e. absurd (omega (arith, eqb-true c.pid pid e, below.0))
       | false ↦ λ e. below-none pid cs (below-weaken c.pid pid cs (omega (arith, below.0)) below.1)
     ]
     refl
@@ -62,7 +61,7 @@ gone-without : (pid bound : ℕ) (cs : List Child) → AreBelow bound cs → chi
 gone-without pid bound [] below = refl
 gone-without pid bound (c ∷ cs) below =
     elim (nat_eq c.pid pid) as (λ v. nat_eq c.pid pid ≡ v → child_of pid (cond v cs (c ∷ without pid cs)) ≡ None) [
-      | true ↦ λ e. below-none pid cs (subst (λ n. AreBelow n cs) (eq-same c.pid pid e) below.1)
+      | true ↦ λ e. below-none pid cs (subst (λ n. AreBelow n cs) (eqb-true c.pid pid e) below.1)
       | false ↦ λ e. rw e (gone-without pid c.pid cs below.1)
     ]
     refl
@@ -92,7 +91,7 @@ pub found : (P Q : Child → Type 0) (pid : ℕ) (cs : List Child) → AllByRecu
 found P Q pid [] all is = absurd is
 found P Q pid (c ∷ cs) all is =
     elim (nat_eq c.pid pid) as (λ v. nat_eq c.pid pid ≡ v → IsSomeAnd (cond v (Some c) (child_of pid cs)) Q → Found P Q pid) [
-      | true ↦ λ e is. record { child = c; own = eq-same c.pid pid e; each = all.0; this = is }
+      | true ↦ λ e is. record { child = c; own = eqb-true c.pid pid e; each = all.0; this = is }
       | false ↦ λ e is. found P Q pid cs all.1 is
     ]
     refl is
@@ -177,8 +176,8 @@ known-same t s now children last_pid generation known =
     record {
       generation = known.generation ∙ sym generation;
       pids = rw (children, last_pid) known.pids;
-      exits_rise = all_append _ t.exits [] (rw last_pid known.exits_rise) tt;
-      exits_gone = all_append _ t.exits [] (rw children known.exits_gone) tt;
+      exits_rise = each_both _ t.exits [] (rw last_pid known.exits_rise) tt;
+      exits_gone = each_both _ t.exits [] (rw children known.exits_gone) tt;
       users = rw children (all_map _ _ (λ c of_c serves. among_left (child_in c) t.users [] (of_c serves)) s.children known.users);
     }
 
@@ -191,10 +190,10 @@ known-joined t s pid k more next of_it known =
       generation = known.generation;
       pids = (omega arith, rw next known.pids);
       exits_rise =
-          all_append (λ p. p ≤ pid) t.exits []
+          each_both (λ p. p ≤ pid) t.exits []
           (all_map (λ p. p ≤ s.last_pid) (λ p. p ≤ pid) (λ p le. omega (arith, le, next)) t.exits known.exits_rise) tt;
       exits_gone =
-          all_append (λ p. child_of p (with_child pid k s).children ≡ None) t.exits []
+          each_both (λ p. child_of p (with_child pid k s).children ≡ None) t.exits []
           (all_zip (λ p. p ≤ s.last_pid) (λ p. child_of p s.children ≡ None) (λ p. child_of p (with_child pid k s).children ≡ None)
           (λ p le none. rw (eq-less pid p (omega (arith, le, next))) none) t.exits known.exits_rise known.exits_gone) tt;
       users = (
@@ -218,9 +217,9 @@ known-exited t s pid k there known =
     record {
       generation = known.generation;
       pids = below-without pid (s.last_pid + 1) s.children known.pids;
-      exits_rise = all_append _ t.exits (pid ∷ []) known.exits_rise (omega (arith, one.own, one.each), tt);
+      exits_rise = each_both _ t.exits (pid ∷ []) known.exits_rise (omega (arith, one.own, one.each), tt);
       exits_gone =
-          all_append (λ p. child_of p (without pid s.children) ≡ None) t.exits (pid ∷ [])
+          each_both (λ p. child_of p (without pid s.children) ≡ None) t.exits (pid ∷ [])
           (all_map _ _ (λ p none. none-without p pid s.children none) t.exits known.exits_gone)
           (gone-without pid (s.last_pid + 1) s.children known.pids, tt);
       users =

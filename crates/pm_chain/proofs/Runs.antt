@@ -6,9 +6,8 @@ use Rattle.pm_supervisor.specs.Children.{is_dead_end}
 use Rattle.pm_state.specs.declared.event.PmEvent.{PmEvent}
 use Rattle.pm_query.specs.declared.book.BookEntry.{BookEntry}
 use Rattle.pm_query.specs.declared.book.BookEntry.TheVariants as entry
-use Rattle.pm_chain.specs.Chain.{InGeneration, IsAmong, Redo, attached_of, exits_of, gone_from, kept_of, lost_from, opened_of, redo_ends_of, redos_of, resets_of}
+use Rattle.pm_chain.specs.Chain.{InGeneration, IsAmong, Redo, attached_of, exits_of, gone_from, kept_of, lost_from, opened_of, redo_ends_of, redos_of, resets_of, lost_since, gone_since}
 use Rattle.pm_chain.specs.Steps.{ChildRun, HasEntered, IsWorkOf, StaysOutside, TellsRedo, leaving, redo_end}
-use Rattle.pm_chain.specs.FoldsLaws.{gone_since, lost_since}
 
 abbrev pub run_in : ChildRun → InGeneration
 run_in run = record { number = run.pid; generation = run.generation }

@@ -40,6 +40,12 @@ users_from generation (event.Accepted pid decision.Ok ∷ journal) =
 users_from generation (event.Reset next ∷ journal) = users_from next journal
 users_from generation (_ ∷ journal) = users_from generation journal
 
+-- the generation behind these entries
+abbrev pub generation_in : ℕ → List PmEvent → ℕ
+generation_in generation [] = generation
+generation_in generation (event.Reset next ∷ journal) = generation_in next journal
+generation_in generation (_ ∷ journal) = generation_in generation journal
+
 -- the ends of redo, by the numbers that were kept
 abbrev pub redo_ends_of : List PmEvent → List InGeneration
 redo_ends_of [] = []
@@ -59,6 +65,13 @@ lost_from so_far [] = []
 lost_from so_far (event.Exited pid kind status true at ∷ journal) = lost_from (so_far ++ pid ∷ []) journal
 lost_from so_far (event.Reset generation ∷ journal) = so_far ∷ lost_from [] journal
 lost_from so_far (_ ∷ journal) = lost_from so_far journal
+
+-- the children that ended while their slots were active since the last reset, behind those so far
+abbrev pub lost_since : List ℕ → List PmEvent → List ℕ
+lost_since so_far [] = so_far
+lost_since so_far (event.Exited pid kind status true at ∷ journal) = lost_since (so_far ++ pid ∷ []) journal
+lost_since so_far (event.Reset generation ∷ journal) = lost_since [] journal
+lost_since so_far (_ ∷ journal) = lost_since so_far journal
 
 -- ---- what the book says
 
@@ -94,6 +107,13 @@ gone_from so_far [] = []
 gone_from so_far (entry.Gone pid ∷ book) = gone_from (so_far ++ pid ∷ []) book
 gone_from so_far (entry.Opened generation ∷ book) = so_far ∷ gone_from [] book
 gone_from so_far (_ ∷ book) = gone_from so_far book
+
+-- the children that are gone since the last generation was opened, behind those so far
+abbrev pub gone_since : List ℕ → List BookEntry → List ℕ
+gone_since so_far [] = so_far
+gone_since so_far (entry.Gone pid ∷ book) = gone_since (so_far ++ pid ∷ []) book
+gone_since so_far (entry.Opened generation ∷ book) = gone_since [] book
+gone_since so_far (_ ∷ book) = gone_since so_far book
 
 -- ---- the chain
 

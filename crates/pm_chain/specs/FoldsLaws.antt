@@ -5,22 +5,9 @@ use Rattle.pm_state.specs.declared.event.PmEvent.{PmEvent}
 use Rattle.pm_state.specs.declared.event.PmEvent.TheVariants as event
 use Rattle.pm_query.specs.declared.book.BookEntry.{BookEntry}
 use Rattle.pm_query.specs.declared.book.BookEntry.TheVariants as entry
-use Rattle.pm_chain.specs.Chain.{InGeneration, Redo, attached_of, exits_of, gone_from, kept_of, lost_from, opened_of, redo_ends_of, redos_of, resets_of, users_from}
+use Rattle.pm_chain.specs.Chain.{InGeneration, Redo, attached_of, exits_of, gone_from, kept_of, lost_from, opened_of, redo_ends_of, redos_of, resets_of, users_from, generation_in, gone_since, lost_since}
 
 -- ---- the journal
-
--- the generation behind these entries
-abbrev pub generation_in : ℕ → List PmEvent → ℕ
-generation_in generation [] = generation
-generation_in generation (event.Reset next ∷ journal) = generation_in next journal
-generation_in generation (_ ∷ journal) = generation_in generation journal
-
--- the children that ended while their slots were active since the last reset, behind those so far
-abbrev pub lost_since : List ℕ → List PmEvent → List ℕ
-lost_since so_far [] = so_far
-lost_since so_far (event.Exited pid kind status true at ∷ journal) = lost_since (so_far ++ pid ∷ []) journal
-lost_since so_far (event.Reset generation ∷ journal) = lost_since [] journal
-lost_since so_far (_ ∷ journal) = lost_since so_far journal
 
 pub resets-append : (xs ys : List PmEvent) → resets_of (xs ++ ys) ≡ resets_of xs ++ resets_of ys
 resets-append [] ys = refl
@@ -66,13 +53,6 @@ lost_since-append so_far (event.Reset generation ∷ xs) ys = lost_since-append 
 lost_since-append so_far (_ ∷ xs) ys = lost_since-append so_far xs ys
 
 -- ---- the book
-
--- the children that are gone since the last generation was opened, behind those so far
-abbrev pub gone_since : List ℕ → List BookEntry → List ℕ
-gone_since so_far [] = so_far
-gone_since so_far (entry.Gone pid ∷ book) = gone_since (so_far ++ pid ∷ []) book
-gone_since so_far (entry.Opened generation ∷ book) = gone_since [] book
-gone_since so_far (_ ∷ book) = gone_since so_far book
 
 pub opened-append : (xs ys : List BookEntry) → opened_of (xs ++ ys) ≡ opened_of xs ++ opened_of ys
 opened-append [] ys = refl

@@ -4,6 +4,7 @@ use Rattle.std.specs.Prelude.{map, ◌==◌}
 use Rattle.std.specs.List.{AllByRecursion, flat_map}
 use Rattle.std.proofs.lemmas.Grind.{flat_map-append}
 use Rattle.std.proofs.lemmas.List.{get_or_past}
+use Rattle.pm_facts.specs.Lists.{each_both, each_first, each_second}
 use Rattle.pm_board.specs.declared.views.PastChild.{PastChild}
 use Rattle.pm_board.specs.declared.views.RosterView.{RosterView}
 use Rattle.pm_board.specs.declared.views.Sight.TheVariants.{Unused}
@@ -29,7 +30,6 @@ use Rattle.pm_supervisor.specs.Children.{is_dead_end}
 use Rattle.pm_worker.specs.declared.mail.MailTold.{MailTold}
 use Rattle.pm_worker.specs.Runs.{noted_by}
 use Rattle.pm_chained.specs.BookLaws.{AttachedOnce, OfRedo, OfUser, all_entries, all_redos, all_users, attach_once, gone_own, opened_own}
-use Rattle.pm_crew.specs.EachLaws.{each_both, each_first, each_second}
 use Rattle.pm_chained.specs.JournalLaws.{ExitOnce, MayUse, all_ends, each_so, ends_among, exit_in, exits_once, lost_once, may_use, pids_of}
 use Rattle.pm_chained.specs.RunsLaws.{HasEnd, IsIn, IsToldIn, IsUser, all_in, all_run_ends, all_run_redos, all_run_users}
 use Rattle.pm_chained.specs.OnceLaws.{apart_joined, in_left, in_right, split}

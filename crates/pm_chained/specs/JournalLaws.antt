@@ -2,6 +2,7 @@
 use Rattle.std.proofs.Common.{◌≡◌, ◌≢◌, inl, inr, ℕ, Bool, true, false, List, [], ◌∷◌, ◌++◌, refl, sym, subst, arith, append_assoc}
 use Rattle.std.specs.Prelude.{◌==◌, if◌then◌else◌, map}
 use Rattle.std.specs.List.{AllByRecursion}
+use Rattle.pm_facts.specs.Lists.{each_both, each_second}
 use Rattle.pm_admit.specs.declared.Cac.TheVariants as decisions
 use Rattle.pm_chain.specs.Chain.{AreDistinct, InGeneration, IsAmong, IsPidOf, exits_of, lost_from, redo_ends_of, users_from}
 use Rattle.pm_modes.specs.declared.Mode.{Mode}
@@ -11,7 +12,6 @@ use Rattle.pm_state.specs.declared.event.PmEvent.{PmEvent}
 use Rattle.pm_state.specs.declared.event.PmEvent.TheVariants as entry
 use Rattle.pm_seating.specs.Seating.{Begun, Ended, Kill, Move, Nothing, Notes, PidsEnd, PortEnds, Reads, Seating, Stop, begins, begun_by, begun_from, ended_at, ended_by, entries_by, entries_from, is_seated, seating_by}
 use Rattle.pm_supervisor.specs.Children.{is_dead_end}
-use Rattle.pm_crew.specs.EachLaws.{each_both, each_second}
 use Rattle.pm_crew.specs.PidsLaws.{differs}
 use Rattle.pm_chained.specs.OnceLaws.{AreSplit, never, split, without_one}
 

@@ -2,6 +2,7 @@
 use Rattle.std.proofs.Common.{◌≡◌, ◌⊎◌, inl, inr, ℕ, List, [], ◌∷◌, length, refl, sym, ap, subst, ◌∙◌, arith}
 use Rattle.std.specs.Prelude.{map}
 use Rattle.std.specs.List.{AllByRecursion, flat_map}
+use Rattle.pm_facts.specs.Lists.{each_both}
 use Rattle.pm_answers.specs.Own.{entries_by}
 use Rattle.pm_board.specs.declared.views.PastChild.{PastChild}
 use Rattle.pm_chain.specs.Chain.{InGeneration, IsAmong, IsPidOf, attached_of, kept_of, redos_of}
@@ -14,7 +15,6 @@ use Rattle.pm_seating.specs.Board.{begun_of}
 use Rattle.pm_worker.specs.declared.mail.MailTold.{MailTold}
 use Rattle.pm_worker.specs.Runs.{Run, noted_by}
 use Rattle.pm_chained.specs.BookLaws.{AttachedOnce, OfRedo, OfUser, redos_by}
-use Rattle.pm_crew.specs.EachLaws.{each_both}
 use Rattle.pm_chained.specs.JournalLaws.{MayUse, each_so}
 
 -- the facts of a run beside the chain: it may use the store, and its entries in the book are those that it noted

@@ -1,6 +1,7 @@
 -- What stands somewhere in a list.
 use Rattle.std.proofs.Common.{◌≡◌, ◌⊎◌, inl, inr, Bool, true, false, ◌||◌, cond, map, List, [], ◌∷◌, ◌++◌, refl, sym, ap, subst, ◌∙◌}
 use Rattle.std.specs.List.{AllByRecursion, filter, flat_map, list_any}
+use Rattle.std.proofs.Math.Bool.{or-true}
 
 abbrev pub IsIn : {X : Type 0} → X → List X → Type 0
 IsIn x [] = ⊥
@@ -94,14 +95,10 @@ pub from_any : {X : Type 0} (test : X → Bool) (xs : List X) → list_any test 
 from_any test [] some = absurd cc
 from_any test (x ∷ xs) some = by_test test x xs (test x) refl (λ more. from_any test xs more) some
 
-or_true : (b : Bool) → b || true ≡ true
-or_true true = refl
-or_true false = refl
-
 pub to_any : {X : Type 0} (test : X → Bool) (x : X) (xs : List X) → IsIn x xs → test x ≡ true → list_any test xs ≡ true
 to_any test x [] there passes = absurd there
 to_any test x (y ∷ xs) (inl is) passes = rw (sym (ap test is) ∙ passes) refl
-to_any test x (y ∷ xs) (inr there) passes = rw (to_any test x xs there passes) (or_true (test y))
+to_any test x (y ∷ xs) (inr there) passes = rw (to_any test x xs there passes) (or-true (test y))
 
 out_of_cond : {X : Type 0} (x y : X) (xs rest : List X) (b : Bool) → (IsIn x rest → IsIn x xs) → IsIn x (cond b (y ∷ rest) rest) → IsIn x (y ∷ xs)
 out_of_cond x y xs rest true more (inl is) = inl is

@@ -3,6 +3,7 @@ use Rattle.std.proofs.Common.{◌≡◌, ◌⊎◌, inl, inr, ℕ, ◌+◌, ◌-
 use Rattle.std.specs.Prelude.{is_some, nat_eq}
 use Rattle.std.specs.List.{AllByRecursion, list_any}
 use Rattle.std.proofs.lemmas.List.Sums.{fold-append}
+use Rattle.pm_facts.specs.Lists.{each_more}
 use Rattle.pm_query.specs.declared.book.BookEntry.{BookEntry}
 use Rattle.pm_query.specs.declared.book.BookEntry.TheVariants.{Opened, Redone, Attached, Answered, Released, Detached, Gone, CheckpointEnded, Broke, LogFull}
 use Rattle.pm_query.specs.Book.{Base, IsLegal, KeepsNumber, MayFollow, MayGoOn, ends_checkpoint, ends_cleanly, fault_here, faults_here, generation_after, generation_of, history_of, is_closed, kept_after, kept_by_redo, present, present_after, times_after, times_attached}
@@ -185,10 +186,6 @@ IsDone _ = Unit {0}
 abbrev AreDone : List BookEntry → Type 0
 AreDone book = is_some (kept_by_redo book) ≡ true → AllByRecursion IsDone (present book)
 
-all_push : (entries : List BookEntry) (entry : BookEntry) → AllByRecursion IsDone entries → IsDone entry → AllByRecursion IsDone (entries ++ entry ∷ [])
-all_push [] entry all done = (done, tt)
-all_push (x ∷ entries) entry all done = (all.0, all_push entries entry all.1 done)
-
 none_ended : (entries : List BookEntry) → list_any ends_checkpoint entries ≡ false → AllByRecursion IsDone entries
 none_ended [] none = tt
 none_ended (CheckpointEnded pid done clean ∷ entries) none = absurd cc
@@ -199,7 +196,7 @@ kept_done : (book : List BookEntry) (entry : BookEntry) → ((kept : Option ℕ)
     → (is_some (kept_by_redo book) ≡ true → IsDone entry) → AreDone book → AreDone (book ++ entry ∷ [])
 kept_done book entry same one done has some =
     let before : is_some (kept_by_redo book) ≡ true = sym (ap (λ (k : Option ℕ). is_some k) (redone_push book entry ∙ same (kept_by_redo book))) ∙ some in
-    subst (AllByRecursion IsDone) (sym (present_push book entry ∙ one)) (all_push (present book) entry (has before) (done before))
+    subst (AllByRecursion IsDone) (sym (present_push book entry ∙ one)) (each_more IsDone (present book) entry (has before) (done before))
 
 redone_more : (base : Base) (book : List BookEntry) (pid generation count : ℕ) (kept : Option ℕ) → kept_by_redo book ≡ kept → MayFollow base book (Redone pid generation count) → AreDone book
     → AllByRecursion IsDone (present book)
@@ -211,7 +208,7 @@ done_more : (base : Base) (book : List BookEntry) (entry : BookEntry) → MayFol
 done_more base book (Opened generation) may has = λ some. subst (AllByRecursion IsDone) (sym (present_push book (Opened generation))) tt
 done_more base book (Redone pid generation count) may has = λ some.
     subst (AllByRecursion IsDone) (sym (present_push book (Redone pid generation count)))
-    (all_push (present book) (Redone pid generation count) (redone_more base book pid generation count (kept_by_redo book) refl may has) tt)
+    (each_more IsDone (present book) (Redone pid generation count) (redone_more base book pid generation count (kept_by_redo book) refl may has) tt)
 done_more base book (CheckpointEnded pid done clean) may has =
     kept_done book (CheckpointEnded pid done clean) (λ kept. refl) refl (λ some. may.made ∙ some) has
 done_more base book (Attached pid generation) may has = kept_done book (Attached pid generation) (λ kept. refl) refl (λ some. tt) has

@@ -2,7 +2,7 @@
 use Rattle.std.proofs.Common.{◌≡◌, ◌≢◌, ◌⊎◌, inl, inr, ℕ, ◌+◌, ◌<◌, ◌≤◌, Bool, true, false, not, ◌&&◌, cond, get_or, length, Option, None, Some, List, [], ◌∷◌, ◌++◌, refl, sym, ap, subst, ◌∙◌, arith, length-append}
 use Rattle.std.specs.Prelude.{◌==◌, All, IfSome, nat_eq, slice_get}
 use Rattle.std.specs.List.{AllByRecursion, list_any}
-use Rattle.std.proofs.lemmas.Bool.{or_cases}
+use Rattle.std.proofs.lemmas.Bool.{or_cases, both_ways}
 use Rattle.std.proofs.lemmas.Option.{slice_get-get_or}
 use Rattle.std.proofs.lemmas.List.Elements.{All-head, All-tail}
 use Rattle.pm_disk.specs.Files.{Files}
@@ -28,7 +28,7 @@ use Rattle.pm_segment.specs.Unread.{is_break}
 use Rattle.pm_server.specs.Journal.{asked_in}
 use Rattle.pm_server.specs.Views.{DiskView}
 use Rattle.pm_shared.specs.declared.views.Noted.{Noted}
-use Rattle.pm_shared.specs.Log.{AllBelow, Line, entries_of, is_own, noted as noted_at, placed}
+use Rattle.pm_shared.specs.Log.{AllBelow, Line, entries_of, is_own, placed, noted as noted_at}
 use Rattle.pm_state.specs.declared.event.PmEvent.{PmEvent}
 use Rattle.pm_state.specs.declared.event.PmEvent.TheVariants as entry
 use Rattle.pm_state.specs.Journal.{replay_begun}
@@ -125,9 +125,6 @@ at_most opened resets (inr (last, is)) = (let same = ap (λ (l : List ℕ). leng
 not_both : (a b : Bool) → not (a && b) ≡ true → b ≡ true → a ≡ true → ⊥
 not_both a b is one two = (let never : false ≡ true = grind (arith, is, one, two) in cc)
 
-never_both : (b : Bool) → b ≡ false → b ≡ true → ⊥
-never_both b one two = cc
-
 bad_is_no_dead_end : (kind : Kind) (status : Status) → is_bad kind status ≡ true → kind ≢ kinds.DeadEnd
 bad_is_no_dead_end kind status bad is = (let never : false ≡ true = sym (ap (λ (k : Kind). is_bad k status) is) ∙ bad in cc)
 
@@ -180,7 +177,7 @@ module _ (safely : RestartsSafely) (limits : Limits) (manner : Manner) (count : 
       → is_harm run.child.offer.kind run.child.status ≡ true → ⊥
   harmless_run k run less there last other harm =
       let ends : EndsInLast run = ends_in_last k run less there last other in
-      never_both (list_any harms (latest J)) well.harmless (to_any harms _ (latest J) ends.there harm)
+      both_ways (list_any harms (latest J)) well.harmless (to_any harms _ (latest J) ends.there harm)
 
   -- ---- the entries of a run
 

@@ -3,13 +3,12 @@ use Rattle.std.proofs.Common.{◌≡◌, ◌≢◌, ℕ, ◌+◌, Bool, true, fa
 use Rattle.std.specs.List.{AllByRecursion, list_any}
 use Rattle.std.proofs.lemmas.List.Folds.{list_any-append}
 use Rattle.std.proofs.lemmas.List.Sums.{fold-append}
-use Rattle.pm_exit.specs.declared.child.Kind.{Kind}
 use Rattle.pm_exit.specs.declared.child.Kind.TheVariants as kind
 use Rattle.pm_modes.specs.declared.Mode.TheVariants.{Immediate}
 use Rattle.pm_modes.specs.Strength.{strengthen_of}
 use Rattle.pm_supervisor.specs.declared.Ending.TheVariants as ending
 use Rattle.pm_supervisor.specs.declared.Limits.{Limits}
-use Rattle.pm_supervisor.specs.Children.{Child, count_of, is_checkpointer, is_dead_end, is_session, is_startup_child, is_writer, one_if}
+use Rattle.pm_supervisor.specs.Children.{Child}
 use Rattle.pm_state.specs.declared.action.Action.{Action}
 use Rattle.pm_state.specs.declared.event.PmEvent.{PmEvent}
 use Rattle.pm_state.specs.declared.event.PmEvent.TheVariants as entry
@@ -21,9 +20,11 @@ use Rattle.pm_state.specs.Requests.{asked_with}
 use Rattle.pm_state.specs.Restarts.{Counts}
 use Rattle.pm_state.specs.Journal.{AreLegal, Follows, IsLegal, MayCome, Replay, all_replayed, caused, dues_after, replay_begun, replayed, reported}
 use Rattle.pm_state.specs.ReplayLaws.{AreCounted, Keeps, acts_behind_redo, acts_in, acts_in_dues, are_counted, first_on, follows_on, rested}
+use Rattle.pm_state.specs.ChildLaws.{is_deserted}
+use Rattle.pm_state.specs.ChildLaws as children
 use Rattle.pm_clean_end.specs.Latest.{latest, latest_after}
 use Rattle.pm_clean_end.specs.Seen.{Seen, checks, harms, is_clean_end, redoes, seen_after, undoes}
-use Rattle.pm_clean_end.specs.MachineLaws.{IsInOrder, accepted_so, act_so, asked_so, begun_so, exited_so, has_nobody, is_clean_act, is_deserted, row_so, settled_so, ticked_so}
+use Rattle.pm_clean_end.specs.MachineLaws.{IsInOrder, accepted_so, act_so, asked_so, begun_so, exited_so, has_nobody, is_clean_act, row_so, settled_so, ticked_so}
 
 -- no shutdown that it asks for is an immediate one
 abbrev pub IsMild : PmEvent → Type 0
@@ -115,24 +116,9 @@ so_on gives r entries clean (e ∷ journal) legal counted mild so =
 
 -- ---- behind a clean end
 
--- such a child is of some kind
-of_some_kind : (k : Kind) (a b c d e : ℕ) → one_if (is_session k) + a ≡ 0 → one_if (is_dead_end k) + b ≡ 0 → one_if (is_startup_child k) + c ≡ 0
-    → one_if (is_checkpointer k) + d ≡ 0 → one_if (is_writer k) + e ≡ 0 → ⊥
-of_some_kind kind.Startup a b c d e of_a of_b of_c of_d of_e = omega (arith, of_c)
-of_some_kind kind.Checkpointer a b c d e of_a of_b of_c of_d of_e = omega (arith, of_d)
-of_some_kind kind.Writer a b c d e of_a of_b of_c of_d of_e = omega (arith, of_e)
-of_some_kind kind.Worker a b c d e of_a of_b of_c of_d of_e = omega (arith, of_a)
-of_some_kind kind.Backend a b c d e of_a of_b of_c of_d of_e = omega (arith, of_a)
-of_some_kind kind.DeadEnd a b c d e of_a of_b of_c of_d of_e = omega (arith, of_b)
-
-nobody_is : (cs : List Child) → count_of is_session cs ≡ 0 → count_of is_dead_end cs ≡ 0 → count_of is_startup_child cs ≡ 0 → count_of is_checkpointer cs ≡ 0
-    → count_of is_writer cs ≡ 0 → cs ≡ []
-nobody_is [] a b c d e = refl
-nobody_is (x ∷ cs) a b c d e = absurd (of_some_kind x.kind _ _ _ _ _ a b c d e)
-
 nobody_counted : (m : Machine) (cs : List Child) → has_nobody m ≡ true → Counts m cs → cs ≡ []
 nobody_counted m cs none counts =
-    nobody_is cs (grind (arith, counts.sessions, none)) (grind (arith, counts.dead_ends, none)) (grind (arith, counts.startup, none)) (grind (arith, counts.checkpointer, none))
+    children.nobody cs (grind (arith, counts.sessions, none)) (grind (arith, counts.dead_ends, none)) (grind (arith, counts.startup, none)) (grind (arith, counts.checkpointer, none))
     (grind (arith, counts.writer, none))
 
 -- What the entries of the last generation have: no harm; a checkpointer; and a startup child's end with its redo, or one without it,

@@ -30,6 +30,7 @@ use Rattle.pm_state.specs.Requests.{asked_with, ticked_at}
 use Rattle.pm_state.specs.TurnRules.{backends_gone, children_gone, dead_ends_gone, end_smart, is_not_running, restart_writer, start_recovery, stop_backends}
 use Rattle.pm_state.specs.Journal.{Do, Fits, reported, row_of, settled}
 use Rattle.pm_state.specs.ReplayLaws.{startup_there, there_counts, was_there}
+use Rattle.pm_state.specs.ChildLaws.{is_deserted}
 use Rattle.pm_server.specs.CalmLaws.{is_late}
 use Rattle.pm_clean_end.specs.Seen.{Seen, nothing_seen, seen_after}
 
@@ -57,12 +58,6 @@ has_no_other m = (m.children == 0) && (not m.checkpointer && not m.writer)
 
 abbrev pub has_nobody : Machine → Bool
 has_nobody m = has_no_other m && (is_not_running m.startup && (m.dead_ends == 0))
-
--- before the first child, and behind the last one
-abbrev pub is_deserted : PmState → Bool
-is_deserted state.Init = true
-is_deserted state.NoChildren = true
-is_deserted _ = false
 
 abbrev pub is_begin : PmState → Bool
 is_begin state.Init = true

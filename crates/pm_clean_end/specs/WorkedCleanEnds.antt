@@ -1,6 +1,7 @@
 -- A journal that ended clean with all that the law asks for, and two that didn't.
 use Rattle.std.proofs.Common.{◌≡◌, ◌≢◌, ℕ, ◌+◌, ◌≤◌, true, false, List, [], ◌∷◌, ◌++◌, refl, arith}
 use Rattle.std.proofs.lemmas.List.Elements.{All-from_recursion, All-head}
+use Rattle.pm_facts.specs.Bools.{absurd_true}
 use Rattle.pm_exit.specs.declared.child.Kind.TheVariants.{Backend, Checkpointer, DeadEnd, Startup, Writer}
 use Rattle.pm_exit.specs.declared.child.Status.TheVariants.{Code}
 use Rattle.pm_admit.specs.declared.Cac.TheVariants as decision
@@ -57,25 +58,22 @@ refuses_immediate ended = All-head (λ (mode : Mode). mode ≢ Immediate) Immedi
 
 -- ---- they are legal; that the first is one `worked_steps` of `pm_chain` has
 
-none : {P : Type 0} → false ≡ true → P
-none is = cc
-
 later : (n m : ℕ) → n ≤ n + m
 later n m = omega arith
 
 pub unread_is_legal : IsLegal limits any_moment unread_journal
 unfolding settled row_of crash_rule startup_exited start_recovery restart_writer end_smart stop_backends backends_gone dead_ends_gone children_gone
 unread_is_legal = (
-  (refl, none, (refl, refl)),
+  (refl, absurd_true, (refl, refl)),
   (
-    (refl, none, (later 0 2, refl)),
+    (refl, absurd_true, (later 0 2, refl)),
     (
       refl,
       (
-        (refl, none, tt),
+        (refl, absurd_true, tt),
         (
-          (refl, none, (refl, (later 2 1, refl))),
-          ((refl, none, (refl, refl)), (tt, ((refl, none, (refl, (later 3 1, refl))), ((refl, none, refl), (refl, tt))))),
+          (refl, absurd_true, (refl, (later 2 1, refl))),
+          ((refl, absurd_true, (refl, refl)), (tt, ((refl, absurd_true, (refl, (later 3 1, refl))), ((refl, absurd_true, refl), (refl, tt))))),
         ),
       ),
     ),
@@ -85,9 +83,9 @@ unread_is_legal = (
 pub immediate_is_legal : IsLegal limits any_moment immediate_journal
 unfolding settled row_of crash_rule startup_exited start_recovery restart_writer end_smart stop_backends backends_gone dead_ends_gone children_gone
 immediate_is_legal = (
-  (refl, none, (refl, refl)),
+  (refl, absurd_true, (refl, refl)),
   (
-    (refl, none, (refl, (later 0 5, refl))),
+    (refl, absurd_true, (refl, (later 0 5, refl))),
     (
       refl,
       (
@@ -99,8 +97,8 @@ immediate_is_legal = (
             (
               refl,
               (
-                (refl, none, (later 5 15, refl)),
-                (refl, (refl, ((refl, none, (refl, (later 20 1, refl))), ((refl, none, (refl, (later 21 1, refl))), ((refl, none, refl), (refl, tt)))))),
+                (refl, absurd_true, (later 5 15, refl)),
+                (refl, (refl, ((refl, absurd_true, (refl, (later 20 1, refl))), ((refl, absurd_true, (refl, (later 21 1, refl))), ((refl, absurd_true, refl), (refl, tt)))))),
               ),
             ),
           ),

@@ -1,7 +1,7 @@
 -- What passed on a link and was shown, from one moment to the next.
-use Rattle.std.proofs.Common.{◌≡◌, ◌∙◌, ℕ, ◌-◌, ◌≤◌, List, [], ◌++◌, length, take, drop, Option, None, Some, Ok, Err, refl, sym, ap, subst, arith, append_assoc, take-append-drop, length-drop}
+use Rattle.std.proofs.Common.{◌≡◌, ◌∙◌, ℕ, ◌≤◌, List, [], ◌++◌, take, drop, Option, None, Some, Ok, Err, refl, sym, ap, subst, arith, append_assoc, take-append-drop}
 use Rattle.std.specs.Option.{option_map}
-use Rattle.std.proofs.lemmas.List.{append-nil, take_all}
+use Rattle.std.proofs.lemmas.List.{append-nil}
 use Rattle.pm_disk.specs.Cause.{Rose}
 use Rattle.pm_outside.specs.Traffic.{Traffic, after_read, after_write, put_behind, came_in_of, went_out_of}
 use Rattle.pm_outside.specs.declared.link.Got.{Got}
@@ -74,10 +74,6 @@ printed before now count from is later = record { written = printed_count before
 
 pub print_failed : (before now : SinkView) (from : List ℕ) → now.written ≡ option_map (λ w. put_behind w PutFailed from) before.written → before.faults ≤ now.faults → Prints [] before now
 print_failed before now from is later = record { written = printed_none before.written now.written from is; later = later }
-
--- what is left behind the first n, as the code takes it
-pub rest_of : (xs : List ℕ) (n : ℕ) → take (length xs - n) (drop n xs) ≡ drop n xs
-rest_of xs n = take_all _ _ (omega (arith, length-drop n xs))
 
 -- ---- one read
 

@@ -1,8 +1,7 @@
 -- What a read leaves in the inbox.
-use Rattle.std.proofs.Common.{◌≡◌, ◌≢◌, ◌∙◌, ℕ, ◌+◌, ◌<◌, ◌≤◌, true, false, List, [], ◌++◌, length, take, drop, Ok, Err, refl, sym, ap, subst, arith, append_assoc, length-take, length-append}
+use Rattle.std.proofs.Common.{◌≡◌, ◌≢◌, ◌∙◌, ℕ, ◌<◌, ◌≤◌, true, false, List, [], ◌++◌, length, take, drop, Ok, Err, refl, sym, ap, subst, arith, append_assoc, length-take, length-append}
 use Rattle.std.specs.Option.{option_map}
-use Rattle.std.proofs.lemmas.List.{append-nil, take-append-le, drop-append-le, length-take-le, take-take, nil_from_length}
-use Rattle.std.proofs.Math.Seq.{take-append-add}
+use Rattle.std.proofs.lemmas.List.{append-nil, take-append-le, length-take-le, take-take, nil_from_length}
 use Rattle.pm_disk.specs.Cause.{Rose}
 use Rattle.pm_outside.specs.Traffic.{after_read}
 use Rattle.pm_outside.specs.declared.link.Got.TheVariants.{Bytes, NotYet, End, Failed}
@@ -12,22 +11,7 @@ use Rattle.pm_client.specs.Sides.{Carries, LinkView}
 use Rattle.pm_client.specs.Hearing.{Awaits, IsNoMore, Reads, Receives}
 use Rattle.pm_client.proofs.Links.{carries_both, carries_none, got_bytes, got_nothing, has_ended, rose_since}
 
--- the front of a slice that got more bytes behind what it had
-take_filled : (have count : ℕ) (xs ys rest : List ℕ) → have ≤ length xs → count ≤ length ys → take (have + count) (take have xs ++ (ys ++ rest)) ≡ take have xs ++ take count ys
-take_filled have count xs ys rest within fits =
-    let front : length (take have xs) ≡ have = length-take-le have xs within in
-    ap (λ (n : ℕ). take (n + count) (take have xs ++ (ys ++ rest))) (sym front) ∙ take-append-add (take have xs) (ys ++ rest) count ∙ ap (λ (l : List ℕ). take have xs ++ l) (take-append-le count ys rest fits)
-
--- what stands in a buffer into which bytes were read behind what stood
-pub stands_behind : (start have count size : ℕ) (xs ys post rest : List ℕ) → start ≤ have → have ≤ length xs → count ≤ length ys → have + count ≤ size
-    → drop start (take (have + count) (take size ((take have xs ++ (ys ++ post)) ++ rest))) ≡ drop start (take have xs) ++ take count ys
-stands_behind start have count size xs ys post rest order within fits room =
-    let together : (take have xs ++ (ys ++ post)) ++ rest ≡ take have xs ++ (ys ++ (post ++ rest)) = simp append_assoc in
-    let front : start ≤ length (take have xs) = omega (arith, length-take-le have xs within, order) in
-    ap (λ (l : List ℕ). drop start l) (take-take (have + count) size ((take have xs ++ (ys ++ post)) ++ rest) room ∙ ap (λ (l : List ℕ). take (have + count) l) together ∙ take_filled have count xs ys (post ++ rest) within fits)
-    ∙ drop-append-le start (take have xs) (take count ys) front
-
--- the same where none were read
+-- what stands in a buffer into which nothing was read
 pub stands_still : (start have size : ℕ) (xs ys post rest : List ℕ) → have ≤ length xs → have ≤ size → drop start (take have (take size ((take have xs ++ (ys ++ post)) ++ rest))) ≡ drop start (take have xs)
 stands_still start have size xs ys post rest within room =
     let together : (take have xs ++ (ys ++ post)) ++ rest ≡ take have xs ++ (ys ++ (post ++ rest)) = simp append_assoc in

@@ -5,6 +5,7 @@ use Rattle.std.specs.List.{AllByRecursion}
 use Rattle.std.proofs.lemmas.Bool.{both_ways, or_cases}
 use Rattle.std.proofs.lemmas.Grind.{flat_map-append}
 use Rattle.std.proofs.lemmas.List.Elements.{All-head, All-tail}
+use Rattle.pm_facts.specs.Lists.{each_last}
 use Rattle.pm_exit.specs.declared.child.Kind.{Kind}
 use Rattle.pm_exit.specs.declared.child.Kind.TheVariants as kind
 use Rattle.pm_exit.specs.declared.child.Status.{Status}
@@ -215,15 +216,11 @@ pub orderly_so_far : RestartsSafely → (limits : Limits) (gives : ℕ → Bool)
 orderly_so_far safely limits gives steps legal are smart told ends =
     orderly_on limits gives [] steps nothing_heard (replay_begun limits) legal are smart told ends (are_counted safely limits gives [] (journal_of steps) legal) (begun_calm limits)
 
-last_of : {X : Type 0} (P : X → Type 0) (xs : List X) (x : X) → AllByRecursion P (xs ++ x ∷ []) → P x
-last_of P [] x all = all.0
-last_of P (y ∷ xs) x all = last_of P xs x all.1
-
 -- where the server ended clean no child left its work undone
 clean_orderly : (r : Replay) (journal : List PmEvent) → AreOrderlySoFar r (journal ++ entry.Ended endings.Clean ∷ []) → AreOrderly r (journal ++ entry.Ended endings.Clean ∷ [])
 clean_orderly r [] (inl undone) = absurd (let never : false ≡ true = undone.0 in cc)
 clean_orderly r [] (inr orderly) = orderly
-clean_orderly r (e ∷ journal) (inl undone) = absurd (last_of IsBehindUndone journal (entry.Ended endings.Clean) undone.1)
+clean_orderly r (e ∷ journal) (inl undone) = absurd (each_last IsBehindUndone journal (entry.Ended endings.Clean) undone.1)
 clean_orderly r (e ∷ journal) (inr orderly) = (orderly.0, clean_orderly (replayed r e) journal orderly.1)
 
 pub ends_orderly : (r : Replay) (steps : List Step) → EndsWith (entry.Ended endings.Clean) steps → AreOrderlySoFar r (journal_of steps) → AreOrderly r (journal_of steps)

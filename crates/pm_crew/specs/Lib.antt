@@ -6,7 +6,6 @@ pub mod Uses
 pub mod UsesLaws
 pub mod EntriesLaws
 pub mod OpenedLaws
-pub mod EachLaws
 pub mod PidsLaws
 pub mod Talks
 pub mod TalksLaws

@@ -1,28 +1,29 @@
 -- Each run of a worker used the store once, or not at all, and has noted the end of redo that its child tells of.
-use Rattle.std.proofs.Common.{◌≡◌, ◌⊎◌, inl, inr, ℕ, Bool, true, false, List, [], ◌∷◌, ◌++◌, Option, Some, None, Result, Ok, Err, refl, sym, subst, ap, ◌∙◌, arith}
+use Rattle.std.proofs.Common.{◌≡◌, ◌⊎◌, inl, inr, ℕ, Bool, true, false, List, [], ◌∷◌, ◌++◌, Option, Some, None, Result, Ok, Err, refl, sym, subst, ap, ◌∙◌}
 use Rattle.std.specs.Prelude.{nat_eq, if◌then◌else◌, unwrap_or}
 use Rattle.std.specs.List.{AllByRecursion}
 use Rattle.std.proofs.lemmas.List.Elements.{recursion_from_All}
+use Rattle.std.proofs.lemmas.Bool.{eq-eqb}
 use Rattle.pm_admit.specs.declared.Cac.{Cac}
 use Rattle.pm_admit.specs.declared.Cac.TheVariants as decisions
 use Rattle.pm_aux.specs.declared.aux_done.AuxDone.{AuxDone}
 use Rattle.pm_aux.specs.declared.cause.Cause.{Cause}
-use Rattle.pm_aux.specs.declared.cause.Cause.TheVariants.{Redone as HasRedone, Flushed, Closed, LeftOut, Refused, ToldToTerminate, ToldToQuit, Killed}
+use Rattle.pm_aux.specs.declared.cause.Cause.TheVariants.{Flushed, Closed, LeftOut, Refused, ToldToTerminate, ToldToQuit, Killed, Redone as HasRedone}
 use Rattle.pm_aux.specs.Ends.{status_by}
 use Rattle.pm_aux.specs.Ends as ends
 use Rattle.pm_aux.specs.Runs.{EndsOutside, NotesBehind, Runner}
-use Rattle.pm_aux.specs.Work.{ClosesBy, Does as DoesWork, Flushes, HasEntered, IsKeptOut, IsPassing, LeavesIf, ReadsLog}
+use Rattle.pm_aux.specs.Work.{ClosesBy, Flushes, HasEntered, IsKeptOut, IsPassing, LeavesIf, ReadsLog, Does as DoesWork}
 use Rattle.pm_answers.specs.Own.{is_by}
 use Rattle.pm_board.specs.declared.views.PastChild.{PastChild}
 use Rattle.pm_board.specs.Places.{is_connection}
 use Rattle.pm_chain.specs.Chain.{InGeneration, IsAmong, kept_of, redos_of}
 use Rattle.pm_crew.specs.Redos.{redo_told, told_if}
-use Rattle.pm_exchange.specs.declared.ending.Cause.{Cause as SessionCause}
 use Rattle.pm_exchange.specs.declared.ending.Cause.TheVariants as why
 use Rattle.pm_exchange.specs.declared.ending.Stage.{Stage}
 use Rattle.pm_exchange.specs.declared.ending.Stage.TheVariants.{Outside, Entering, Greeted}
 use Rattle.pm_exchange.specs.Queries.{IsUnreleased, TurnNotes}
 use Rattle.pm_exchange.specs.Sent.{Turn, Ran, Faulted, NotUtf8, Cancelled, LogIsFull, Memory}
+use Rattle.pm_exchange.specs.declared.ending.Cause.{Cause as SessionCause}
 use Rattle.pm_exit.specs.declared.child.Kind.{Kind}
 use Rattle.pm_exit.specs.declared.child.Kind.TheVariants as kinds
 use Rattle.pm_exit.specs.declared.child.Status.{Status}
@@ -38,7 +39,7 @@ use Rattle.pm_query.specs.declared.store.StoreNo.TheVariants.{Stale, Disk, Broke
 use Rattle.pm_record.specs.declared.fault.RedoFault.TheVariants as redo
 use Rattle.pm_seating.specs.Calls.{kept_by}
 use Rattle.pm_seating.specs.Mails.{kept_told}
-use Rattle.pm_session.specs.Session.{AllNotes, BreaksOff, EndsAt, Ending, IsAdmitted, IsInside, IsServed, IsText, IsTurnedAway, Leaves, NotesOutside, StopsInside}
+use Rattle.pm_session.specs.Session.{AllNotes, BreaksOff, EndsAt, Ending, IsAdmitted, IsInside, IsText, Leaves, NotesOutside, StopsInside}
 use Rattle.pm_session.specs.Session as session
 use Rattle.pm_supervisor.specs.Children.{is_dead_end, is_startup_child}
 use Rattle.pm_worker.specs.declared.mail.LinkTold.{LinkTold}
@@ -377,11 +378,8 @@ module _ (stamp : Option ℕ) (seed : List ℕ) (limit : ℕ) (gives : ℕ → T
 
 -- ---- its own entries
 
-same : (n : ℕ) → nat_eq n n ≡ true
-same n = grind arith
-
 same_pid : (pid who : ℕ) → who ≡ pid → nat_eq pid who ≡ true
-same_pid pid who is = subst (λ (n : ℕ). nat_eq pid n ≡ true) (sym is) (same pid)
+same_pid pid who is = subst (λ (n : ℕ). nat_eq pid n ≡ true) (sym is) (eq-eqb pid pid refl)
 
 work_own : (child : PastChild MailTold) (entry : BookEntry) → IsWorkOf child entry → is_by child.offer.pid entry ≡ true
 work_own child (Opened generation) is = absurd is
@@ -405,4 +403,4 @@ own_entries child noted uses = by uses.inside
   where
     by : (noted ≡ []) ⊎ HasUsed child noted → AllBy child.offer.pid noted
     by (inl nothing) = subst (AllBy child.offer.pid) (sym nothing) tt
-    by (inr used) = subst (AllBy child.offer.pid) (sym used.is) (same child.offer.pid, all_own child used.work used.of_it)
+    by (inr used) = subst (AllBy child.offer.pid) (sym used.is) (eq-eqb child.offer.pid child.offer.pid refl, all_own child used.work used.of_it)

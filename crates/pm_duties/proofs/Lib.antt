@@ -1,1 +1,3 @@
-mod AuxiliaryNotes
+mod Closing
+mod Lives
+mod Reading

@@ -2,6 +2,7 @@
 use Rattle.std.proofs.Common.{ℕ, Option, None, Some, ◌≡◌, sym, subst, ap, List, [], ◌∷◌, refl, arith, ◌∙◌, ◌+◌, ◌≤◌, ◌⊎◌, inl, inr}
 use Rattle.std.specs.Prelude.{Bool, true, false, ◌==◌, if◌then◌else◌}
 use Rattle.std.proofs.lemmas.Bool.{eqb-false, eqb-true, ne_eqb}
+use Rattle.std.proofs.lemmas.Option.{same_Some}
 use Rattle.pm_exit.specs.declared.child.Kind.{Kind}
 use Rattle.pm_state.specs.declared.action.Action.{Action}
 use Rattle.pm_journal.specs.Standing.{Standing, done, act_for}
@@ -75,17 +76,11 @@ auxiliary_without None k other pid s t off there children last is = tt
 auxiliary_without (Some p) k other pid s t off there children last is =
     (ap (kind_in p) children ∙ kept_kind p pid s.children (different (p == pid) refl) ∙ is.0, omega (arith, is.1, last))
   where
-    some_kind : (x y : Kind) → Some x ≡ Some y → x ≡ y
-    some_kind x y e = cc
-
     not_none : Some p ≡ None → ⊥
     not_none e = cc
 
-    same_number : (a b : ℕ) → (a == b) ≡ true → a ≡ b
-    same_number a b e = eqb-true a b e
-
     different : (b : Bool) → (p == pid) ≡ b → (p == pid) ≡ false
-    different true e = absurd (not_none (off (some_kind k other (sym is.0 ∙ ap (λ (n : ℕ). kind_in n s.children) (same_number p pid e) ∙ there))))
+    different true e = absurd (not_none (off (same_Some k other (sym is.0 ∙ ap (λ (n : ℕ). kind_in n s.children) (eqb-true p pid e) ∙ there))))
     different false e = e
 
 pub off_startup : (k : Kind) (auxiliaries : Auxiliaries) → IsOff k auxiliaries → kind.Startup ≡ k → auxiliaries.startup ≡ None

@@ -52,6 +52,11 @@ refused_start (stores.Redo redo.NoMemory) = None
 refused_start (stores.Redo fault) = Some (Redo fault)
 refused_start _ = None
 
+-- what reading the log came to, by what its redo did
+abbrev pub started_as : Result ℕ StoreNo → Result ℕ (Option StartWhy)
+started_as (Ok kept) = Ok kept
+started_as (Err refusal) = Err (refused_start refusal)
+
 -- it entered, and left again
 abbrev pub GoesThrough : (pid generation : ℕ) → List BookEntry → Type 0
 GoesThrough pid generation noted = noted ≡ Attached pid generation ∷ Detached pid ∷ []

@@ -3,6 +3,9 @@ use Rattle.std.proofs.Common.{List, ◌∷◌, ◌≡◌, ◌⊎◌, inl, inr, N
 use Rattle.std.specs.Prelude.{Bool, is_some, true, false, if◌then◌else◌, ◌&&◌, ◌||◌}
 use Rattle.std.specs.List.{AllByRecursion, list_any}
 use Rattle.std.proofs.lemmas.List.Folds.{list_any-append}
+use Rattle.std.proofs.Math.Bool.{or-false}
+use Rattle.pm_facts.specs.Lists.{each_more}
+use Rattle.pm_facts.specs.Bools.{never_both}
 use Rattle.pm_exit.specs.declared.child.Kind.TheVariants as kind
 use Rattle.pm_admit.specs.declared.PmState.{PmState}
 use Rattle.pm_supervisor.specs.declared.Ending.TheVariants as endings
@@ -48,6 +51,7 @@ use Rattle.pm_disk.specs.Cause.{Rose}
 use Rattle.pm_segment.specs.MovesLaws.{rose_later}
 use Rattle.pm_acts.specs.StepsLaws.{journal-append}
 use Rattle.pm_state.specs.declared.event.PmEvent.TheVariants as entry
+use Rattle.pm_state.specs.TurnLaws.{turn-startup, turn-serving}
 
 -- ---- an act is done
 
@@ -201,9 +205,6 @@ pub less_startup : (before now : Auxiliaries) (Starts : Type 0) → HasLess befo
 less_startup before now Starts less (inr starts) = inr starts
 less_startup before now Starts less (inl none) = inl (elim less.startup [ inl gone ↦ gone | inr same ↦ same ∙ none ])
 
-pub never : (b : Bool) → b ≡ true → b ≡ false → ⊥
-never b one two = cc
-
 startup_quiet : (m : Machine) (run : ChildRun) (now : ℕ) (before after : Auxiliaries) → IsQuiet m before → m.ended ≡ false → (read : Result ℕ (Option StartWhy)) → (before.startup ≡ None → ⊥) → HasLess before after → after.startup ≡ None
     → StaysQuiet (startup_exited m (record { pid = run.pid; kind = kind.Startup; status = start_status read; now = now })) after
 startup_quiet m run now before after quiet goes_on (Ok kept) had less off =
@@ -222,17 +223,17 @@ startup_quiet m run now before after quiet goes_on (Err why) had less off =
 
     runs : m.startup ≡ Running
     runs = elim quiet.stage [
-      | inl over ↦ absurd (never m.ended over goes_on)
+      | inl over ↦ absurd (never_both m.ended over goes_on)
       | inr up ↦ subst (λ (x : PmState). IsUp x m.startup m.conns) starts up
     ]
 
 untold_checkpointer : (heard : Heard) (run : ChildRun) → heard ≡ nothing_heard → IsCheckpointerRun heard run → ⊥
-untold_checkpointer heard run none (inl told) = never heard.quit told.0 (ap (λ (h : Heard). h.quit) none)
-untold_checkpointer heard run none (inr told) = never heard.asked told.1 (ap (λ (h : Heard). h.asked) none)
+untold_checkpointer heard run none (inl told) = never_both heard.quit told.0 (ap (λ (h : Heard). h.quit) none)
+untold_checkpointer heard run none (inr told) = never_both heard.asked told.1 (ap (λ (h : Heard). h.asked) none)
 
 untold_writer : (heard : Heard) (run : ChildRun) → heard ≡ nothing_heard → IsWriterRun heard run → ⊥
-untold_writer heard run none (inl told) = never heard.quit told.0 (ap (λ (h : Heard). h.quit) none)
-untold_writer heard run none (inr told) = never heard.terminated told.1 (ap (λ (h : Heard). h.terminated) none)
+untold_writer heard run none (inl told) = never_both heard.quit told.0 (ap (λ (h : Heard). h.quit) none)
+untold_writer heard run none (inr told) = never_both heard.terminated told.1 (ap (λ (h : Heard). h.terminated) none)
 
 fine_quiet : (m : Machine) (exit : _) (before after : Auxiliaries) (fine : Bool) → fine ≡ true → IsQuiet m before → HasLess before after → StaysQuiet (unless_normal (if fine then class.Normal else class.Crash) (less_one kind.Backend m) exit) after
 fine_quiet m exit before after fine is quiet less =
@@ -302,21 +303,13 @@ turned_init : (m : Machine) → turned_of (record m { state = state.Init }) ≡ 
 unfolding turned_of start_recovery restart_writer end_smart stop_backends backends_gone dead_ends_gone children_gone
 turned_init m = refl
 
-turned_startup : (m : Machine) → turned_of (record m { state = state.Startup }) ≡ transition [] (record m { state = state.Startup })
-unfolding turned_of start_recovery restart_writer end_smart stop_backends backends_gone dead_ends_gone children_gone
-turned_startup m = refl
-
-turned_writing : (m : Machine) → turned_of (record m { state = state.Run; conns = true; writer = true }) ≡ transition [] (record m { state = state.Run; conns = true; writer = true })
-unfolding turned_of start_recovery restart_writer end_smart stop_backends backends_gone dead_ends_gone children_gone
-turned_writing m = refl
-
 turned_alone : (m : Machine) → turned_of (record m { state = state.Run; conns = true; writer = false }) ≡ transition (act.Start kind.Writer ∷ []) (record m { state = state.Run; conns = true; writer = false; writer_due = true })
 unfolding turned_of start_recovery restart_writer end_smart stop_backends backends_gone dead_ends_gone children_gone
 turned_alone m = refl
 
 pub turned_quiet : (m : Machine) (auxiliaries : Auxiliaries) → IsQuiet m auxiliaries → m.ended ≡ false → StaysQuiet (turned_of m) auxiliaries
 turned_quiet m auxiliaries quiet goes_on = elim quiet.stage [
-  | inl over ↦ absurd (never m.ended over goes_on)
+  | inl over ↦ absurd (never_both m.ended over goes_on)
   | inr up ↦ by_state m.state refl up
 ]
   where
@@ -327,7 +320,7 @@ turned_quiet m auxiliaries quiet goes_on = elim quiet.stage [
 
     at_run : (w : Bool) → m.writer ≡ w → m.state ≡ state.Run → m.conns ≡ true → StaysQuiet (turned_of m) auxiliaries
     at_run true writes is listens =
-        subst (λ (n : Machine). StaysQuiet (turned_of n) auxiliaries) (sym (running true writes is listens)) (subst (λ (t : Transition). StaysQuiet t auxiliaries) (sym (turned_writing m)) (record {
+        subst (λ (n : Machine). StaysQuiet (turned_of n) auxiliaries) (sym (running true writes is listens)) (subst (λ (t : Transition). StaysQuiet t auxiliaries) (sym (turn-serving m)) (record {
           quiet = record { unasked = quiet.unasked; stage = inr refl; unheard = quiet.unheard; startup = elim quiet.startup [ inl none ↦ inl none | inr starts ↦ inr (sym is ∙ starts) ] };
           acts = tt;
         }))
@@ -344,7 +337,7 @@ turned_quiet m auxiliaries quiet goes_on = elim quiet.stage [
           acts = (refl, tt);
         }))
     by_state state.Startup is up =
-        subst (λ (n : Machine). StaysQuiet (turned_of n) auxiliaries) (sym (ap (λ (x : PmState). record m { state = x }) is)) (subst (λ (t : Transition). StaysQuiet t auxiliaries) (sym (turned_startup m)) (record {
+        subst (λ (n : Machine). StaysQuiet (turned_of n) auxiliaries) (sym (ap (λ (x : PmState). record m { state = x }) is)) (subst (λ (t : Transition). StaysQuiet t auxiliaries) (sym (turn-startup m)) (record {
           quiet = record { unasked = quiet.unasked; stage = inr (subst (λ (x : PmState). IsUp x m.startup m.conns) is up); unheard = quiet.unheard; startup = inr refl };
           acts = tt;
         }))
@@ -368,25 +361,17 @@ pub record HasNotCrashed (before now : List Step) : Type 0 where
 pub no_more : (steps : List Step) → HasNotCrashed steps steps
 no_more steps = record { restarts = λ was. was; sessions = λ was. was }
 
-pub all_more : (steps : List Step) (step : Step) → HasFineSession step → AllByRecursion HasFineSession steps → AllByRecursion HasFineSession (steps ++ step ∷ [])
-all_more [] step fine all = (fine, tt)
-all_more (first ∷ steps) step fine all = (all.0, all_more steps step fine all.1)
-
 pub sessions_on : (from before now : ℕ) (earlier steps : List Step) → before ≤ now → (AllByRecursion HasFineSession earlier → AllByRecursion HasFineSession steps) → AllByRecursion HasFineSession earlier ⊎ Rose from before → AllByRecursion HasFineSession steps ⊎ Rose from now
 sessions_on from before now earlier steps later more (inl all) = inl (more all)
 sessions_on from before now earlier steps later more (inr rose) = inr (rose_later from before now later rose)
 
-pub or_none : (b : Bool) → (b || false) ≡ b
-or_none true = refl
-or_none false = refl
-
 pub later_one : (earlier : List Step) (step : Step) → list_any is_behind_crash (journal_of (step ∷ [])) ≡ false → list_any is_behind_crash (journal_of (earlier ++ step ∷ [])) ≡ true → list_any is_behind_crash (journal_of earlier) ≡ true
 later_one earlier step none is =
-    sym (or_none (list_any is_behind_crash (journal_of earlier))) ∙ ap (λ (b : Bool). list_any is_behind_crash (journal_of earlier) || b) (sym none)
+    sym (or-false (list_any is_behind_crash (journal_of earlier))) ∙ ap (λ (b : Bool). list_any is_behind_crash (journal_of earlier) || b) (sym none)
     ∙ sym (list_any-append is_behind_crash (journal_of earlier) (journal_of (step ∷ []))) ∙ ap (list_any is_behind_crash) (sym (journal-append earlier (step ∷ []))) ∙ is
 
 pub one_more : (earlier : List Step) (step : Step) → list_any is_behind_crash (journal_of (step ∷ [])) ≡ false → HasFineSession step → HasNotCrashed earlier (earlier ++ step ∷ [])
-one_more earlier step none fine = record { restarts = later_one earlier step none; sessions = all_more earlier step fine }
+one_more earlier step none fine = record { restarts = later_one earlier step none; sessions = λ all. each_more HasFineSession earlier step all fine }
 
 -- ---- the end of a child
 

@@ -1,3 +1,5 @@
+pub mod Alone
+pub mod AloneLaws
 pub mod AuxiliaryRuns
 pub mod Auxiliaries
 pub mod Outcomes

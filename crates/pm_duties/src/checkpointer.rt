@@ -1,17 +1,22 @@
 //! The run of the checkpointer at a shutdown, which writes the last checkpoint.
 
-ghost use Rattle.std.specs.Prelude.{◌≡◌, ℕ, List, IfSome};
+ghost use Rattle.std.specs.Prelude.{◌≡◌, ℕ, true, List, IfSome};
 ghost use Rattle.pm_query.specs.declared.book.BookEntry.{BookEntry};
 ghost use Rattle.pm_segment.specs.Moment.{moment};
 ghost use Rattle.pm_segment.specs.Moves.{Moves};
-ghost use Rattle.pm_segment.specs.Redos.{IsAtLastEpoch, IsCleanAt};
+ghost use Rattle.pm_segment.specs.Redos.{FullAtLast, IsAtLastEpoch, IsCleanAt, MadeAfresh};
 ghost use Rattle.pm_duties.specs.AuxiliaryRuns.{CloseNotes, closed_as, is_crashed, status_of_closed};
 
+use crate::alone::{Alone, Work};
+use pm_aux::checkpointer;
 use pm_disk::Disk;
 use pm_exit::Status;
-use pm_outside::Chronicle;
-use pm_query::{BookEntry, Checkpointed, Store, StoreNo};
+use pm_outside::{Chronicle, Clock};
+use pm_query::{BookEntry, Checkpointed, StoreNo};
+use pm_quiet::{Asked, Home};
 use pm_segment::Sole;
+use std::marker::Brand;
+use std::sync::Wait;
 
 /// What became of the last checkpoint.
 #[derive(Clone, Copy, Debug, PartialEq, Eq)]
@@ -49,7 +54,12 @@ impl Closed {
 }
 
 /// Writes the last checkpoint, as the child with this pid.
-pub fn write_last<D: Disk, B: Chronicle<BookEntry>>(store: &mut Sole<D, B>, pid: u32) -> Closed
+pub fn write_last<R: Wait, D: Disk, B: Chronicle<BookEntry>, C: Clock>(
+    rt: &R,
+    store: &mut Sole<D, B>,
+    clock: &C,
+    pid: u32,
+) -> Closed
     ensures notes { (noted : List BookEntry) × CloseNotes pid store.old.generation result noted
         × Moves noted (moment store.old) (moment store.new) }
     ensures clean { result ≡ Closed.Made → (epoch : ℕ)
@@ -57,16 +67,30 @@ pub fn write_last<D: Disk, B: Chronicle<BookEntry>>(store: &mut Sole<D, B>, pid:
     ensures full { result ≡ Closed.Full → IfSome (D.seen store.new.disk)
         (λ files. ∥ IsAtLastEpoch files ∥₁) }
 {
-    let generation = store.generation();
-    let Ok(mut pass) = store.enter(pid, generation) else {
-        return Closed::Short;
+    closing(close_at_home::<Brand, R, D, B, C>(rt, store, clock, pid))
+}
+
+// What the last checkpoint of that child came to, in a generation that is a type's.
+fn close_at_home<H: Home, R: Wait, D: Disk, B: Chronicle<BookEntry>, C: Clock>(
+    rt: &R,
+    store: &mut Sole<D, B>,
+    clock: &C,
+    pid: u32,
+) -> Result<Checkpointed, StoreNo>
+    requires { store.old.generation ≡ H.home }
+    ensures notes { (noted : List BookEntry)
+        × CloseNotes pid store.old.generation (closed_as result) noted
+        × Moves noted (moment store.old) (moment store.new) }
+    ensures full { FullAtLast (moment store.new).files result }
+    ensures afresh { MadeAfresh true (moment store.new) result }
+{
+    let mut life: Asked<H> = Asked::new(pid, store.generation());
+    let mut alone = Alone {
+        store,
+        work: Work::ToClose,
     };
-    let closed = closing(store.checkpoint(&mut pass, true));
-    if closed.is_crashed() {
-        return closed;
-    }
-    store.leave(pass);
-    closed
+    let done = checkpointer(rt, &mut alone, clock, &mut life);
+    alone.work.made(done.fault)
 }
 
 // What the last checkpoint came to.

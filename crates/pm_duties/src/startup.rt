@@ -6,14 +6,19 @@ ghost use Rattle.pm_record.specs.declared.fault.RedoFault.{RedoFault};
 ghost use Rattle.pm_redo.specs.Found.{IsReason};
 ghost use Rattle.pm_segment.specs.Moment.{moment};
 ghost use Rattle.pm_segment.specs.Moves.{Moves};
-ghost use Rattle.pm_duties.specs.AuxiliaryRuns.{StartNotes, refused_start};
+ghost use Rattle.pm_segment.specs.Redos.{HasReason, LeavesFiles, LeavesUnread};
+ghost use Rattle.pm_duties.specs.AuxiliaryRuns.{StartNotes, refused_start, started_as};
 
+use crate::alone::{Alone, Work};
+use pm_aux::startup;
 use pm_disk::Disk;
 use pm_outside::Chronicle;
-use pm_query::{BookEntry, Store, StoreNo};
+use pm_query::{BookEntry, StoreNo};
+use pm_quiet::{Home, Quiet};
 use pm_record::RedoFault;
 use pm_segment::Sole;
 use pm_server::StartWhy;
+use std::marker::Brand;
 
 /// Reads the log, as the child with this pid, and answers how many commits stand; or why it wasn't to be read, which is none
 /// where memory was short.
@@ -30,16 +35,32 @@ pub fn read_log<D: Disk, B: Chronicle<BookEntry>>(
     ensures shut { (fault : RedoFault) → result ≡ Err (Some (StartWhy.Redo fault))
         → store.new.live ≡ None }
 {
-    let generation = store.generation();
-    let Ok(mut pass) = store.enter(pid, generation) else {
-        return Err(None);
-    };
-    let redone = store.redo(&mut pass);
-    store.leave(pass);
-    match redone {
+    match redo_at_home::<Brand, D, B>(store, pid) {
         Ok(kept) => Ok(kept),
         Err(no) => Err(refusal(no)),
     }
+}
+
+// What the redo of that child came to, in a generation that is a type's.
+fn redo_at_home<H: Home, D: Disk, B: Chronicle<BookEntry>>(
+    store: &mut Sole<D, B>,
+    pid: u32,
+) -> Result<u64, StoreNo>
+    requires { store.old.generation ≡ H.home }
+    ensures notes { (noted : List BookEntry)
+        × StartNotes pid store.old.generation (started_as result) noted
+        × Moves noted (moment store.old) (moment store.new) }
+    ensures reason { HasReason (moment store.old).files result }
+    ensures kept { LeavesFiles (moment store.old).files (moment store.new).files result }
+    ensures unread { LeavesUnread (moment store.new).live result }
+{
+    let mut life: Quiet<H> = Quiet::new(pid, store.generation());
+    let mut alone = Alone {
+        store,
+        work: Work::ToRead,
+    };
+    let done = startup(&mut alone, &mut life);
+    alone.work.redone(done.fault)
 }
 
 // Why a log wasn't to be read whose redo was refused.

@@ -1,8 +1,8 @@
 -- What passed on a link, from one moment to the next.
-use Rattle.std.proofs.Common.{◌≡◌, ℕ, ◌+◌, ◌≤◌, ◌||◌, Bool, true, false, List, [], ◌++◌, length, take, drop, take-append-drop, length-take, Option, None, Some, refl, sym, ◌∙◌, ap, subst, arith, append_assoc}
+use Rattle.std.proofs.Common.{◌≡◌, ℕ, ◌≤◌, ◌||◌, Bool, true, false, List, [], ◌++◌, length, take, drop, take-append-drop, length-take, Option, None, Some, refl, sym, ◌∙◌, ap, subst, arith, append_assoc}
 use Rattle.std.specs.Option.{option_map}
-use Rattle.std.proofs.lemmas.List.{append-nil, take-append-le, drop-append-le, length-take-le, take-take}
-use Rattle.std.proofs.Math.Seq.{take-append-add}
+use Rattle.std.proofs.lemmas.Bool.{or_from}
+use Rattle.std.proofs.lemmas.List.{append-nil}
 use Rattle.pm_exchange.specs.declared.ending.Cause.TheVariants.{LinkFailed}
 use Rattle.pm_outside.specs.Traffic.{Traffic, GotWithin, after_read, after_write}
 use Rattle.pm_outside.specs.declared.link.Got.{Got}
@@ -102,36 +102,18 @@ has_read End into unread_before unread_now before now within is same counted beh
 has_read Failed into unread_before unread_now before now within is same counted behind =
     (nothing_came unread_before unread_now before now Failed into (λ t. refl) is same counted.later behind, counted.rose refl)
 
--- the front of a slice that got more bytes behind what it had
-take_filled : (have count : ℕ) (xs ys rest : List ℕ) → have ≤ length xs → count ≤ length ys → take (have + count) (take have xs ++ (ys ++ rest)) ≡ take have xs ++ take count ys
-take_filled have count xs ys rest within fits =
-    let front : length (take have xs) ≡ have = length-take-le have xs within in
-    ap (λ (n : ℕ). take (n + count) (take have xs ++ (ys ++ rest))) (sym front) ∙ take-append-add (take have xs) (ys ++ rest) count ∙ ap (λ (l : List ℕ). take have xs ++ l) (take-append-le count ys rest fits)
-
--- what stands in a buffer into which bytes were read behind what stood
-pub stands_behind : (start have count size : ℕ) (xs ys post rest : List ℕ) → start ≤ have → have ≤ length xs → count ≤ length ys → have + count ≤ size
-    → drop start (take (have + count) (take size ((take have xs ++ (ys ++ post)) ++ rest))) ≡ drop start (take have xs) ++ take count ys
-stands_behind start have count size xs ys post rest order within fits room =
-    let together : (take have xs ++ (ys ++ post)) ++ rest ≡ take have xs ++ (ys ++ (post ++ rest)) = simp append_assoc in
-    let front : start ≤ length (take have xs) = omega (arith, length-take-le have xs within, order) in
-    ap (λ (l : List ℕ). drop start l) (take-take (have + count) size ((take have xs ++ (ys ++ post)) ++ rest) room ∙ ap (λ (l : List ℕ). take (have + count) l) together ∙ take_filled have count xs ys (post ++ rest) within fits)
-    ∙ drop-append-le start (take have xs) (take count ys) front
-
 -- ---- sound links
-
-neither : (a b : Bool) → a ≡ false → b ≡ false → (a || b) ≡ false
-neither a b one two = rw (one, two) refl
 
 pub wrote_sound : (ended : Bool) (before now : Option Traffic) (count : ℕ) (from : List ℕ) → now ≡ option_map (λ t. after_write t (Count count) from) before → IsSound ended before → IsSound ended now
 wrote_sound ended None now count from is sound = subst (IsSound ended) (sym is) tt
-wrote_sound ended (Some t) now count from is sound = subst (IsSound ended) (sym is) (sound.0, neither t.went_on t.failed sound.1 sound.0, sound.2)
+wrote_sound ended (Some t) now count from is sound = subst (IsSound ended) (sym is) (sound.0, or_from t.went_on t.failed sound.1 sound.0, sound.2)
 
 pub write_left : (ended : Bool) (before now : Option Traffic) (from : List ℕ) → now ≡ option_map (λ t. after_write t PutFailed from) before → IsSound ended before → IsLeftFor LinkFailed now
 write_left ended None now from is sound = subst (IsLeftFor LinkFailed) (sym is) tt
-write_left ended (Some t) now from is sound = subst (IsLeftFor LinkFailed) (sym is) (neither t.went_on t.failed sound.1 sound.0, λ failed. refl)
+write_left ended (Some t) now from is sound = subst (IsLeftFor LinkFailed) (sym is) (or_from t.went_on t.failed sound.1 sound.0, λ failed. refl)
 
 read_on : (t : Traffic) → IsSound false (Some t) → ((t.went_on || t.failed) || t.ended) ≡ false
-read_on t sound = neither (t.went_on || t.failed) t.ended (neither t.went_on t.failed sound.1 sound.0) sound.2
+read_on t sound = or_from (t.went_on || t.failed) t.ended (or_from t.went_on t.failed sound.1 sound.0) sound.2
 
 pub read_holds : (result : Got) (into : List ℕ) (before now : LinkView) → now.traffic ≡ option_map (λ t. after_read t result into) before.traffic → HoldsReading result before now
 read_holds result into before now is = read_by result before now before.traffic refl is

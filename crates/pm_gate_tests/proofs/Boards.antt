@@ -1,9 +1,10 @@
 -- How a board of the tests moves.
-use Rattle.std.proofs.Common.{◌≡◌, ℕ, zero, suc, ◌+◌, ◌<◌, ◌≤◌, List, [], ◌∷◌, length, get_or, refl, sym, ap, ◌∙◌, subst, arith}
+use Rattle.std.proofs.Common.{◌≡◌, ℕ, suc, ◌+◌, ◌<◌, ◌≤◌, List, [], ◌∷◌, length, get_or, refl, sym, ap, ◌∙◌, subst, arith}
 use Rattle.std.proofs.lemmas.List.{length-replicate}
 use mathlib.Core.Logic.{dite}
 use native.Mathlib.Decide.{ℕ_discrete, dec_le}
-use Rattle.std.specs.Prelude.{true, false, Option, Some, None, IfSome, MatchOption, replicate}
+use Rattle.std.specs.Prelude.{true, false, Option, Some, None, IfSome, MatchOption}
+use Rattle.pm_facts.specs.Lists.{same_everywhere}
 use Rattle.pm_exit.specs.declared.child.Kind.{Kind}
 use Rattle.atomic_table.specs.Seated.{TableId}
 use Rattle.pm_board.specs.declared.views.Offer.{Offer}
@@ -19,32 +20,21 @@ use Rattle.pm_board.specs.Words.{bit}
 use Rattle.pm_board.specs.Gate.{gate_of}
 use Rattle.pm_board.specs.Told.{new_roster, after_step}
 use Rattle.pm_board.specs.Models.{PostModel, SlotBecame, AreNewPosts, MayOpen, MayReset}
-use Rattle.pm_gate_tests.specs.Children.{HasChildren, IsEmpty, IsUntouched, IsAtSlot, HasBegun, HasReaped, HasVisited, AllIdle}
+use Rattle.pm_board.specs.Posts.{AllIdle}
+use Rattle.pm_gate_tests.specs.Children.{HasChildren, IsEmpty, IsUntouched, IsAtSlot, HasBegun, HasReaped, HasVisited}
 
 abbrev new_slot : SlotView ℕ
 new_slot = slot_view [] Unused
 
-same_everywhere : (n k : ℕ) → get_or (replicate n new_slot) k new_slot ≡ new_slot
-same_everywhere zero k = refl
-same_everywhere (suc n) zero = refl
-same_everywhere (suc n) (suc k) = same_everywhere n k
-
 pub untouched : (d : RosterView ℕ) (limit dealt : ℕ) → d ≡ new_roster 15 limit dealt → IsUntouched d
 untouched d limit dealt is = record {
   count = ap (λ (z : RosterView ℕ). length z.slots) is ∙ length-replicate 15 new_slot;
-  each = λ k. ap (λ (z : RosterView ℕ). slot_at z k) is ∙ same_everywhere 15 k;
+  each = λ k. ap (λ (z : RosterView ℕ). slot_at z k) is ∙ same_everywhere 15 k new_slot;
   last_pid = ap (λ (z : RosterView ℕ). z.notes.last_pid) is;
 }
 
 pub all_idle : (count limit : ℕ) (t : TableId) (posts : List (PostModel ℕ)) → AreNewPosts count limit t posts → AllIdle posts
 all_idle count limit t posts new k p e = ap (λ (q : PostModel ℕ). q.knows.work) (new.1 k p e)
-
-rest_idle : (posts rest : List (PostModel ℕ)) (p : PostModel ℕ) → posts ≡ p ∷ rest → AllIdle posts → AllIdle rest
-rest_idle posts rest p is all k q e = subst AllIdle is all (suc k) q e
-
-pub taken_idle : (r : Option (PostModel ℕ)) (posts rest : List (PostModel ℕ)) → MatchOption r ((posts ≡ []) × (rest ≡ [])) (λ p. posts ≡ p ∷ rest) → AllIdle posts → AllIdle rest
-taken_idle None posts rest is all = subst AllIdle (is.0 ∙ sym is.1) all
-taken_idle (Some p) posts rest is all = rest_idle posts rest p is all
 
 pub first_idle : (r : Option (PostModel ℕ)) (posts rest : List (PostModel ℕ)) → MatchOption r ((posts ≡ []) × (rest ≡ [])) (λ p. posts ≡ p ∷ rest) → AllIdle posts → IfSome r (λ p. p.knows.work ≡ Idle)
 first_idle None posts rest is all = tt

@@ -1,15 +1,14 @@
 -- What the tests know of a board of fifteen slots, and of the child that runs on a post.
-use Rattle.std.specs.Prelude.{◌≡◌, ◌≢◌, ℕ, ◌<◌, ◌≤◌, true, false, [], List, None, Some, length, slice_get}
+use Rattle.std.specs.Prelude.{◌≡◌, ◌≢◌, ℕ, ◌<◌, ◌≤◌, true, false, [], None, length}
 use Rattle.pm_exit.specs.declared.child.Kind.{Kind}
 use Rattle.pm_supervisor.specs.Children.{is_dead_end}
 use Rattle.pm_board.specs.declared.views.Offer.{Offer}
 use Rattle.pm_board.specs.declared.views.RosterView.{RosterView}
 use Rattle.pm_board.specs.declared.views.Sight.TheVariants.{Unused, Assigned}
 use Rattle.pm_board.specs.declared.views.Work.{Work}
-use Rattle.pm_board.specs.declared.views.Work.TheVariants.{Idle, Inactive, Attached}
+use Rattle.pm_board.specs.declared.views.Work.TheVariants.{Inactive, Attached}
 use Rattle.pm_board.specs.Places.{slot_at, slot_view, is_auxiliary}
 use Rattle.pm_board.specs.Gate.{Gate, gate_of}
-use Rattle.pm_board.specs.Models.{PostModel}
 
 -- the slots from low to below high have a child each, all others are unused, and this is the last pid
 pub record HasChildren (low high last : ℕ) (d : RosterView ℕ) : Type 0 where
@@ -59,10 +58,6 @@ HasReaped k before after = IsAtSlot k before.notes.last_pid before after × ((sl
 -- a child of this pid was assigned to the slot k, and released
 abbrev pub HasVisited : ℕ → ℕ → RosterView ℕ → RosterView ℕ → Type 0
 HasVisited k pid before after = IsAtSlot k pid before after × ((slot_at after k).sight ≡ Unused)
-
--- no child runs on any of these posts
-abbrev pub AllIdle : List (PostModel ℕ) → Type 0
-AllIdle posts = (k : ℕ) (p : PostModel ℕ) → slice_get posts k ≡ Some p → p.knows.work ≡ Idle
 
 -- a child of this kind runs that isn't at the gate
 abbrev pub RunsKind : Kind → Work ℕ → Type 0

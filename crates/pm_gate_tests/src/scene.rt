@@ -4,7 +4,8 @@ ghost use Rattle.pm_board.specs.Gate.{gate_of};
 ghost use Rattle.pm_board.specs.Places.{MayAssign, IsAssigned};
 ghost use Rattle.pm_board.specs.Models.{MayAttach};
 ghost use Rattle.pm_board.specs.declared.views.Work.TheVariants.{Idle};
-ghost use Rattle.pm_gate_tests.specs.Children.{AllIdle, HasBegun, HasReaped, IsUntouched, RunsKind, shut_gate};
+ghost use Rattle.pm_gate_tests.specs.Children.{HasBegun, HasReaped, IsUntouched, RunsKind, shut_gate};
+ghost use Rattle.pm_board.specs.Posts.{AllIdle};
 
 use pm_board::{Board, Letter, Look, Post, Posts, Released, Roster, Started};
 use pm_exit::Kind;

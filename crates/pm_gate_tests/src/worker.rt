@@ -1,7 +1,8 @@
 //! A worker, whose children go to the gate until their end.
 ghost use Rattle.std.specs.Prelude.{◌≡◌, ◌≤◌, IfSome, IfNone, IsTrue};
 ghost use Rattle.pm_board.specs.declared.views.Work.TheVariants.{Idle};
-ghost use Rattle.pm_gate_tests.specs.Children.{AllIdle, HasChildren, IsAttachedSession, RunsSession, ServesSession};
+ghost use Rattle.pm_gate_tests.specs.Children.{HasChildren, IsAttachedSession, RunsSession, ServesSession};
+ghost use Rattle.pm_board.specs.Posts.{AllIdle};
 
 use crate::progress::{Progress, SESSIONS, WORKERS};
 use crate::scene::{Ending, FIRST, Newcomer, Note, begin, take_post, task, try_once};

@@ -16,7 +16,7 @@ use Rattle.pm_state.specs.declared.event.PmEvent.TheVariants as entry
 use Rattle.pm_state.specs.declared.machine.Machine.{Machine}
 use Rattle.pm_state.specs.Machine.{started_as}
 use Rattle.pm_state.specs.Journal.{Replay, Do, AreLegal, Follows, without_first, asks_after, moment_after, all_replayed, replayed, replay_begun, dues, entry_of, entries_of, all_reported, last_pid, shown_after, settled}
-use Rattle.pm_state.specs.InStep.{IsInStep, ServerState}
+use Rattle.pm_state.specs.InStep.{IsInStep, server_state}
 use Rattle.pm_state.specs.Starts.{Owes, has_end, starts_in}
 use Rattle.pm_state.specs.Laws.{TellsOfEachStart, WritesALegalJournal}
 use Rattle.pm_journal.specs.declared.roll.Enrolled.{Enrolled}
@@ -273,9 +273,6 @@ pub told-more : (told now : Option (List PmEvent)) (journal entries : List PmEve
 told-more None now journal entries is adds = subst (λ (t : Option (List PmEvent)). IfSome t (λ es. es ≡ journal ++ entries)) (sym adds) tt
 told-more (Some es) now journal entries is adds =
     subst (λ (t : Option (List PmEvent)). IfSome t (λ xs. xs ≡ journal ++ entries)) (sym adds) (ap (λ xs. xs ++ entries) is)
-
-abbrev server_state : Replay → Machine → Trace → ServerState
-server_state r m h = record { replay = r; machine = m; trace = h }
 
 coming-next : TellsOfEachStart → (limits : Limits) (s : Standing) (r : Replay) (h : Trace) (a : Action) (rest : List Action) → s.due ≡ a ∷ rest
     → Remembers s r → IsComing limits s r h → Follows any_moment r (entry_for a s) × IsComing limits (done a s) (replayed r (entry_for a s)) h

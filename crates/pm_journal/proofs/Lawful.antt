@@ -19,8 +19,8 @@ use Rattle.pm_journal.specs.Moments.{AreGiven, IsGiven}
 use Rattle.pm_journal.specs.Standing.{Standing, asking, called, done, ends_redo, entry_for, exit_call, exit_entry, exiting, first_due, later, made, noted}
 use Rattle.pm_journal.specs.Stands.{HasPids, Remembers, Stands, any_moment, entries_due, highest_pid}
 use Rattle.pm_journal.proofs.Acting.{entry-is, report-one}
-use Rattle.pm_journal.proofs.Making.{entries-kept, exit-entries, goes-on, noted-at, noted-due, redo_if, rests}
-use Rattle.pm_journal.specs.NextsLaws.{first_is}
+use Rattle.pm_journal.proofs.Making.{entries-kept, exit-entries, goes-on, noted-at, redo_if, rests}
+use Rattle.pm_journal.specs.NextsLaws.{first_is, noted-due}
 
 abbrev IsTold : (ℕ → Bool) → ℕ → Type 0
 IsTold gives at = gives at ≡ true

@@ -13,12 +13,11 @@ use Rattle.pm_state.specs.declared.action.Action.{Action}
 use Rattle.pm_state.specs.declared.action.Action.TheVariants as act
 use Rattle.pm_state.specs.declared.event.PmEvent.{PmEvent}
 use Rattle.pm_state.specs.declared.event.PmEvent.TheVariants as entry
-use Rattle.pm_state.specs.declared.machine.Machine.{Machine}
 use Rattle.pm_state.specs.Machine.{MachineEvent, Accepted, Exited, Asked, Ticked, Turned, step, IsReady, IsCounted}
 use Rattle.pm_state.specs.Shows.{Call, Accepts, Asks, Ticks, TakesTurn, IsFit, machine_after, events_in}
 use Rattle.pm_state.specs.Starts.{Owes, has_end, is_report}
 use Rattle.pm_state.specs.Journal.{Replay, Do, EndRedo, AreLegal, all_replayed, replayed, replay_begun, dues, entry_of, entries_of, entries_of_call, all_reported, acts_of_call, settled, AsksSmart}
-use Rattle.pm_state.specs.InStep.{ServerState, IsInStep, IsTimely, KeepsStep, with_reports}
+use Rattle.pm_state.specs.InStep.{IsInStep, IsTimely, KeepsStep, with_reports, server_state}
 use Rattle.pm_state.specs.Laws.{StaysInStep, TellsOfEachStart, WritesALegalJournal, KeepsItsFacts}
 use Rattle.pm_state.specs.ReplayLaws.{legal_behind, legal_front}
 use Rattle.pm_supervisor.specs.Laws.{TakesChildStepsBetween}
@@ -34,9 +33,7 @@ use Rattle.pm_journal.proofs.Pids.{unowed-before, pids-called, pids-asked, pids-
 use Rattle.pm_journal.proofs.Rolls.{roll-pid}
 use Rattle.pm_journal.specs.Roll.{kind_in}
 use Rattle.pm_journal.specs.RollLaws.{on-roll}
-
-abbrev server_state : Replay → Machine → Trace → ServerState
-server_state r m h = record { replay = r; machine = m; trace = h }
+use Rattle.pm_journal.specs.NextsLaws.{noted-due}
 
 abbrev replay_by : Limits → List PmEvent → Replay
 replay_by limits journal = all_replayed (replay_begun limits) journal
@@ -299,10 +296,6 @@ stands-killed steps writes tells limits told now s t h pid rest unowed there is 
 noted-machine : (es : List PmEvent) (s : Standing) → (all_noted es s).machine ≡ s.machine
 noted-machine [] s = refl
 noted-machine (e ∷ es) s = noted-machine es (noted e s)
-
-pub noted-due : (es : List PmEvent) (s : Standing) → (all_noted es s).due ≡ s.due
-noted-due [] s = refl
-noted-due (e ∷ es) s = noted-due es (noted e s)
 
 pub noted-at : (es : List PmEvent) (s : Standing) → (all_noted es s).called_at ≡ s.called_at
 noted-at [] s = refl

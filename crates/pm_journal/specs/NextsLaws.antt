@@ -5,9 +5,10 @@ use Rattle.std.proofs.lemmas.Bool.{eqb-true}
 use Rattle.pm_state.specs.declared.action.Action.{Action}
 use Rattle.pm_state.specs.declared.action.Action.TheVariants as act
 use Rattle.pm_state.specs.Journal.{without_first}
+use Rattle.pm_state.specs.declared.event.PmEvent.{PmEvent}
 use Rattle.pm_journal.specs.declared.act.Act.{Act}
 use Rattle.pm_journal.specs.declared.act.GenerationsSpent.{GenerationsSpent}
-use Rattle.pm_journal.specs.Standing.{Next, Standing, act_for, done, entry_for, first_due, is_spent, next_in, next_of}
+use Rattle.pm_journal.specs.Standing.{Next, Standing, act_for, done, entry_for, first_due, is_spent, next_in, next_of, all_noted, noted}
 
 -- ---- the first act
 
@@ -98,3 +99,8 @@ spent_in (a ∷ rest) s e is answer =
 
 pub next_spent : (s : Standing) (e : GenerationsSpent) → (next_of s).answer ≡ Err e → IsSpentNext s (next_of s)
 next_spent s e answer = spent_in s.due s e refl answer
+
+-- entries that are noted leave what is due
+pub noted-due : (es : List PmEvent) (s : Standing) → (all_noted es s).due ≡ s.due
+noted-due [] s = refl
+noted-due (e ∷ es) s = noted-due es (noted e s)

@@ -1,18 +1,17 @@
 -- How the board of the tests moves.
-use Rattle.std.proofs.Common.{◌≡◌, ◌≢◌, ℕ, zero, suc, ◌+◌, ◌<◌, ◌≤◌, List, [], ◌∷◌, length, get_or, sym, refl, ap, ◌∙◌, subst, arith}
+use Rattle.std.proofs.Common.{◌≡◌, ◌≢◌, ℕ, ◌+◌, ◌<◌, ◌≤◌, [], length, sym, refl, ap, ◌∙◌, subst, arith}
 use Rattle.std.proofs.lemmas.List.{length-replicate}
-use Rattle.std.specs.Prelude.{Option, Some, None, MatchOption, replicate}
+use Rattle.pm_facts.specs.Lists.{same_everywhere}
 use Rattle.pm_board.specs.declared.views.Offer.{Offer}
 use Rattle.pm_board.specs.declared.views.RosterNotes.{RosterNotes}
 use Rattle.pm_board.specs.declared.views.RosterStep.{RosterStep}
 use Rattle.pm_board.specs.declared.views.RosterView.{RosterView}
 use Rattle.pm_board.specs.declared.views.Sight.TheVariants.{Unused, Assigned}
 use Rattle.pm_board.specs.declared.views.SlotView.{SlotView}
-use Rattle.pm_board.specs.declared.views.Work.TheVariants.{Idle}
 use Rattle.pm_board.specs.Places.{slot_view, IsAssigned}
 use Rattle.pm_board.specs.Told.{new_roster, after_step}
-use Rattle.pm_board.specs.Models.{PostModel, SlotBecame}
-use Rattle.pm_latch_tests.specs.Children.{IsNew, CanBegin, IsBusy, Changed, HasBegun, HasStayed, HasFinished, TakesTurns, Waits, AllIdle}
+use Rattle.pm_board.specs.Models.{SlotBecame}
+use Rattle.pm_latch_tests.specs.Children.{IsNew, CanBegin, IsBusy, Changed, HasBegun, HasStayed, HasFinished, TakesTurns, Waits}
 
 pub is_new : (d : RosterView ℕ) (limit dealt : ℕ) → d ≡ new_roster 9 limit dealt → IsNew d
 is_new d limit dealt is = let x : SlotView ℕ = slot_view [] Unused in subst IsNew (sym is) record {
@@ -20,23 +19,8 @@ is_new d limit dealt is = let x : SlotView ℕ = slot_view [] Unused in subst Is
   unused = λ k. ap (λ (z : SlotView ℕ). z.sight) (same_everywhere 9 k x);
   last_pid = refl;
 }
-  where
-    same_everywhere : {A : Type 0} (n k : ℕ) (a : A) → get_or (replicate n a) k a ≡ a
-    same_everywhere zero k a = refl
-    same_everywhere (suc n) zero a = refl
-    same_everywhere (suc n) (suc k) a = same_everywhere n k a
 
 -- posts
-
-pub rest_idle : (posts rest : List (PostModel ℕ)) (p : PostModel ℕ) → posts ≡ p ∷ rest → AllIdle posts → AllIdle rest
-rest_idle posts rest p is all k q e = subst AllIdle is all (suc k) q e
-
-pub taken_idle : (r : Option (PostModel ℕ)) (posts rest : List (PostModel ℕ)) → MatchOption r ((posts ≡ []) × (rest ≡ [])) (λ p. posts ≡ p ∷ rest) → AllIdle posts → AllIdle rest
-taken_idle None posts rest is all = subst AllIdle (is.0 ∙ sym is.1) all
-taken_idle (Some p) posts rest is all = rest_idle posts rest p is all
-
-pub first_idle : (posts rest : List (PostModel ℕ)) (p : PostModel ℕ) → posts ≡ p ∷ rest → AllIdle posts → p.knows.work ≡ Idle
-first_idle posts rest p is all = subst AllIdle is all 0 p refl
 
 -- the roster
 

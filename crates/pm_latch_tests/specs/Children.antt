@@ -1,12 +1,11 @@
 -- What the tests know of a board of nine slots.
-use Rattle.std.specs.Prelude.{◌≡◌, ◌≢◌, ℕ, ◌+◌, ◌<◌, ◌≤◌, List, Some, length, slice_get}
+use Rattle.std.specs.Prelude.{◌≡◌, ◌≢◌, ℕ, ◌+◌, ◌<◌, ◌≤◌, length}
 use Rattle.pm_board.specs.declared.views.Offer.{Offer}
 use Rattle.pm_board.specs.declared.views.RosterView.{RosterView}
 use Rattle.pm_board.specs.declared.views.Sight.TheVariants.{Unused, Assigned}
 use Rattle.pm_board.specs.declared.views.Work.{Work}
-use Rattle.pm_board.specs.declared.views.Work.TheVariants.{Idle, Inactive}
+use Rattle.pm_board.specs.declared.views.Work.TheVariants.{Inactive}
 use Rattle.pm_board.specs.Places.{slot_at}
-use Rattle.pm_board.specs.Models.{PostModel}
 
 -- nine slots, none of which has had a child
 pub record IsNew (d : RosterView ℕ) : Type 0 where
@@ -62,10 +61,6 @@ pub record TakesTurns (d : RosterView ℕ) (free busy pid : ℕ) : Type 0 where
   pub unused : (slot_at d free).sight ≡ Unused
   pub child : (o : Offer ℕ) × ((slot_at d busy).sight ≡ Assigned o)
   pub last_pid : d.notes.last_pid + 1 ≡ pid
-
--- no child runs on any of these posts
-abbrev pub AllIdle : List (PostModel ℕ) → Type 0
-AllIdle posts = (k : ℕ) (p : PostModel ℕ) → slice_get posts k ≡ Some p → p.knows.work ≡ Idle
 
 -- both slots have a child, and the supervisor waits for the end of that of the busy one
 pub record Waits (d : RosterView ℕ) (free busy pid : ℕ) : Type 0 where

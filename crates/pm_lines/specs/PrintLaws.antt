@@ -1,15 +1,11 @@
 -- Text that is written piece by piece.
-use Rattle.std.proofs.Common.{◌≡◌, inl, inr, ℕ, ◌-◌, List, [], ◌++◌, length, take, drop, Option, None, Some, refl, sym, ◌∙◌, ap, subst, arith, append_assoc, append-nil, take-append-drop, length-drop}
+use Rattle.std.proofs.Common.{◌≡◌, inl, inr, ℕ, ◌-◌, List, [], ◌++◌, length, take, drop, Option, None, Some, refl, sym, ◌∙◌, ap, subst, append_assoc, append-nil, take-append-drop}
 use Rattle.std.specs.Option.{option_map}
 use Rattle.std.specs.Prelude.{true, false}
-use Rattle.std.proofs.lemmas.List.{take_all}
+use Rattle.pm_facts.specs.Lists.{rest_of}
 use Rattle.pm_outside.specs.Added.{Added}
 use Rattle.pm_outside.specs.AddedLaws.{added_none}
 use Rattle.pm_lines.specs.Print.{IsPrinted}
-
--- what is left behind the first n, as the code takes it
-pub rest_of : (xs : List ℕ) (n : ℕ) → take (length xs - n) (drop n xs) ≡ drop n xs
-rest_of xs n = take_all _ _ (omega (arith, length-drop n xs))
 
 nothing_put : (told : Option (List ℕ)) → option_map (λ w. w) told ≡ told
 nothing_put None = refl

@@ -1,9 +1,10 @@
 -- A connection is taken, and its session's child ends.
 use Rattle.std.proofs.Common.{◌≡◌, ◌⊎◌, inl, inr, ℕ, ◌+◌, List, [], ◌∷◌, ◌++◌, Option, None, Some, Result, Ok, Err, refl, sym, ◌∙◌, ap, subst, arith, append-nil}
 use Rattle.std.specs.Option.{option_map}
-use Rattle.std.specs.Prelude.{Bool, true, false, length, nat_le, IfSome, OnOk}
+use Rattle.std.specs.Prelude.{true, false, length, nat_le, IfSome, OnOk}
 use Rattle.std.proofs.lemmas.Bool.Decides.{nat_tests}
 use Rattle.std.proofs.lemmas.List.Elements.{All-nil, All-cons}
+use Rattle.pm_facts.specs.Bools.{never_both}
 use Rattle.pm_admit.specs.declared.Cac.{Cac}
 use Rattle.pm_admit.specs.declared.Cac.TheVariants as decisions
 use Rattle.pm_exit.specs.declared.child.Kind.{Kind}
@@ -124,9 +125,6 @@ deaf_on a b c one kept (inr drawn) = inr drawn
 deaf_on a b c (inl same) kept (inl still) = inl (still ∙ same)
 deaf_on a b c (inr drawn) kept (inl still) = inr (still ∙ drawn.0, kept drawn.1)
 
-both : (b : Bool) → b ≡ true → b ≡ false → ⊥
-both b one two = cc
-
 -- its child's end was noted, and all that is due was done
 pub serves_session : (gives : ℕ → Type 0) (admitted : Admitted) (c : Connection) (at : ℕ) (result : Result (Unit {0}) ServerEnd) (one three : List Step) (v0 v2 v4 v5 : View) → v0.listens ≡ true → Admits gives admitted one v0 v2
     → IsNoted gives (run_of c) at v2 v4 → Finishes gives result three v4 v5
@@ -145,9 +143,9 @@ serves_session gives admitted c at result one three v0 v2 v4 v5 listens admits n
       stays = open_on result (one ++ step) three v0 v4 v5 stays finishes.does.stays;
       ends = ends_on result (one ++ step) three v5 finishes.does.ends;
       idle = finishes.idle;
-      deaf = λ was. absurd (both v0.listens listens was);
-      at_end = λ is. absurd (both false is refl);
-      asked = λ is. absurd (both false is refl);
+      deaf = λ was. absurd (never_both v0.listens listens was);
+      at_end = λ is. absurd (never_both false is refl);
+      asked = λ is. absurd (never_both false is refl);
       drawn = λ drawn. drawn_later (admits.drawn drawn);
       why = λ is. elim all as (λ x. (v0.listens ≡ false) ⊎ ((false ≡ true) ⊎ (is_last_drawn v5.work.standing.last_pid ≡ true))) [ inl same ↦ inl (sym same ∙ is) | inr drawn ↦ inr (inr drawn.1) ];
     }
@@ -165,9 +163,9 @@ serves_short gives admitted c one v0 v2 v4 listens admits goes same standing =
       stays = tt;
       ends = tt;
       idle = tt;
-      deaf = λ was. absurd (both v0.listens listens was);
-      at_end = λ is. absurd (both false is refl);
-      asked = λ is. absurd (both false is refl);
+      deaf = λ was. absurd (never_both v0.listens listens was);
+      at_end = λ is. absurd (never_both false is refl);
+      asked = λ is. absurd (never_both false is refl);
       drawn = λ drawn. drawn_later (admits.drawn drawn);
       why = λ is. elim all as (λ x. (v0.listens ≡ false) ⊎ ((false ≡ true) ⊎ (is_last_drawn v4.work.standing.last_pid ≡ true))) [ inl same' ↦ inl (sym same' ∙ is) | inr drawn ↦ inr (inr drawn.1) ];
     }
@@ -218,8 +216,8 @@ nothing_short gives v w same = subst (λ (x : AtWork). Serves gives (Err NoMemor
   ends = tt;
   idle = tt;
   deaf = λ was. (was, refl, refl);
-  at_end = λ is. absurd (both false is refl);
-  asked = λ is. absurd (both false is refl);
+  at_end = λ is. absurd (never_both false is refl);
+  asked = λ is. absurd (never_both false is refl);
   drawn = λ drawn. drawn;
   why = λ is. inl is;
 })

@@ -1,6 +1,7 @@
 -- Steps of a server, some behind others.
 use Rattle.std.proofs.Common.{ℕ, List, [], ◌∷◌, ◌++◌, Result, Ok, Err, refl, sym, ◌∙◌, ap, subst, append_assoc, append-nil}
 use Rattle.std.specs.Prelude.{OnOk, IfErr}
+use Rattle.pm_facts.specs.Lists.{each_first, each_second}
 use Rattle.pm_state.specs.declared.event.PmEvent.{PmEvent}
 use Rattle.pm_query.specs.declared.book.BookEntry.{BookEntry}
 use Rattle.pm_chain.specs.Steps.{Step, Notes, book_of, journal_of}
@@ -18,7 +19,7 @@ use Rattle.pm_server.specs.declared.end.Why.TheVariants.{AfterCrash, StartupFail
 use Rattle.pm_outside.specs.AddedLaws.{added_both, added_none}
 use Rattle.pm_server.specs.JournalLaws.{times_any, times_none, times_on}
 use Rattle.pm_server.specs.SpansLaws.{spans_none, spans_on}
-use Rattle.pm_acts.specs.StepsLaws.{journal-append, book-append, each_part, serves_nothing, serves_both}
+use Rattle.pm_acts.specs.StepsLaws.{journal-append, book-append, serves_nothing, serves_both}
 
 pub goes_none : (gives : ℕ → Type 0) (v : View) → Goes gives [] v v
 goes_none gives v = record {
@@ -40,8 +41,8 @@ goes_on gives one two a b c first stays second = record {
   journal = subst (λ (j : List PmEvent). Added j a.work.told c.work.told) (sym (journal-append one two)) (added_both (journal_of one) (journal_of two) _ _ _ first.journal second.journal);
   times = subst (λ (j : List PmEvent). Times gives a.work.standing.moment j c.work.standing.moment) (sym (journal-append one two)) (times_on gives (journal_of one) (journal_of two) _ _ _ first.times second.times);
   store = subst (λ (l : List BookEntry). Spans l a.store c.store) (sym (book-append one two)) (spans_on (book_of one) (book_of two) a.store b.store c.store first.store second.store);
-  still = λ none. let parts = each_part IsNoRenewal one two none in second.still parts.1 ∙ first.still parts.0;
-  unread = λ none. let parts = each_part IsNoRenewal one two none in subst (λ (l : List BookEntry). StaysUnread l a.store c.store) (sym (book-append one two)) (unread_on (book_of one) (book_of two) a.store b.store c.store (first.unread parts.0) (second.unread parts.1));
+  still = λ none. second.still (each_second IsNoRenewal one two none) ∙ first.still (each_first IsNoRenewal one two none);
+  unread = λ none. subst (λ (l : List BookEntry). StaysUnread l a.store c.store) (sym (book-append one two)) (unread_on (book_of one) (book_of two) a.store b.store c.store (first.unread (each_first IsNoRenewal one two none)) (second.unread (each_second IsNoRenewal one two none)));
   knows = λ from known. second.knows from (first.knows from known);
 }
 

@@ -52,6 +52,7 @@ use Rattle.pm_duties.specs.CalmLaws.{shutdown_done}
 use Rattle.pm_journal.specs.NextsLaws.{first_is, shorter}
 use Rattle.pm_journal.specs.ToldLaws.{told_more}
 use Rattle.pm_acts.specs.NextsLaws.{no_moment, moment_kept, entry_free, generation_kept, ended_kept, says_tail, says_owes, keeps_done, same_told, same_work, still_keeps, IsLine}
+use Rattle.pm_acts.specs.Loop.{answer_of}
 
 -- ---- its entry
 
@@ -121,11 +122,6 @@ at_entry goes work a before now acted lost came disk outset earlier at opened =
     }
 
 -- ---- the whole
-
--- a call that answered so
-abbrev pub answer_of : Result (Unit {0}) ServerEnd → Result Bool ServerEnd
-answer_of (Ok done) = Ok true
-answer_of (Err end) = Err end
 
 same_outcome : (result : Result (Unit {0}) ServerEnd) → outcome (answer_of result) ≡ result
 same_outcome (Ok done) = refl

@@ -3,6 +3,7 @@ use Rattle.std.proofs.Common.{◌≡◌, ◌⊎◌, inl, inr, ℕ, ◌+◌, ◌�
 use Rattle.std.specs.Prelude.{Bool, true, false, if◌then◌else◌, map, IfErr, IfSome, OnOk}
 use Rattle.std.proofs.lemmas.List.{length-map, map-append}
 use Rattle.std.proofs.lemmas.List.Elements.{All-nil, All-append}
+use Rattle.pm_facts.specs.Bools.{never_both}
 use Rattle.pm_exit.specs.declared.child.Kind.TheVariants as kind
 use Rattle.pm_exit.specs.declared.child.Status.{Status}
 use Rattle.pm_outside.specs.Visits.{Visit, Visits}
@@ -110,15 +111,12 @@ asks_serves gives result steps before now listens asks = record {
   stays = asks.does.stays;
   ends = asks.does.ends;
   idle = asks.idle;
-  deaf = λ was. absurd (both before.listens listens was);
+  deaf = λ was. absurd (never_both before.listens listens was);
   at_end = λ is. asks.deaf;
   asked = λ is. asks.asked;
   drawn = asks.drawn;
   why = λ is. inr (inl refl);
 }
-  where
-    both : (b : Bool) → b ≡ true → b ≡ false → ⊥
-    both b one two = cc
 
 pub end_served : (seed : List ℕ) (limit : ℕ) (gives : ℕ → Type 0) (steps : List Step) (v now : Option Visits) → ServesNone steps → now ≡ option_map with_end v → HasServed seed limit gives [] true steps v now
 end_served seed limit gives steps v now none is = record {

@@ -1,11 +1,11 @@
 -- The session of a child to which nothing happens.
-use Rattle.std.proofs.Common.{◌≡◌, ◌⊎◌, inl, inr, ℕ, ◌≤◌, List, [], ◌∷◌, ◌++◌, length, All, Option, None, Some, Result, Ok, Err, refl, sym, ◌∙◌, ap, subst, arith, append_assoc}
-use Rattle.std.specs.Prelude.{Bool, true, false, cond}
+use Rattle.std.proofs.Common.{◌≡◌, ◌⊎◌, inl, inr, ℕ, ◌≤◌, List, [], ◌∷◌, ◌++◌, All, Option, None, Some, Ok, refl, sym, ◌∙◌, ap, subst, append_assoc}
+use Rattle.std.specs.Prelude.{Bool}
 use Rattle.std.proofs.lemmas.List.Elements.{All-nil, All-cons}
 use Rattle.pm_outside.specs.Traffic.{Traffic, IsFresh}
 use Rattle.pm_admit.specs.declared.Cac.TheVariants as decisions
 use Rattle.pm_life.specs.declared.life.GateNo.{GateNo}
-use Rattle.pm_life.specs.Life.{Child, Told, nothing_told, Signal, Kill, Quit, Terminate, Cancel, was_told}
+use Rattle.pm_life.specs.Life.{Child, Told, nothing_told, Kill, Quit, Terminate, Cancel}
 use Rattle.pm_query.specs.Calls.{newcomer}
 use Rattle.pm_query.specs.declared.book.BookEntry.{BookEntry}
 use Rattle.pm_exchange.specs.Exchange.{LinkView, HasFailed}
@@ -18,23 +18,8 @@ use Rattle.pm_exchange.specs.declared.ending.Cause.TheVariants.{Terminated, Canc
 use Rattle.pm_exchange.specs.declared.ending.Stage.{Stage}
 use Rattle.pm_exchange.specs.declared.ending.Stage.TheVariants.{Outside, Entering, Greeted}
 use Rattle.pm_startup.specs.declared.phase.Phase.{Phase}
+use Rattle.pm_quiet.specs.QuietLaws.{its_gate, same_gate, never_refused, never_told}
 use Rattle.pm_once.specs.Service.{IsOfItself, IsServedAs}
-
--- what the gate can have answered
-abbrev its_gate : ℕ → Bool → Option (Result ℕ GateNo)
-its_gate home has = cond has (Some (Ok home)) None
-
-same_gate : (home : ℕ) (has : Bool) (generation : ℕ) → its_gate home has ≡ Some (Ok generation) → generation ≡ home
-same_gate home true generation is = cc
-same_gate home false generation is = cc
-
-never_refused : (home : ℕ) (has : Bool) (refusal : GateNo) → its_gate home has ≡ Some (Err refusal) → ⊥
-never_refused home true refusal is = cc
-never_refused home false refusal is = cc
-
--- no signal is among none
-never_given : (signal : Signal) (told : Told) → told.given ≡ [] → was_told signal told → ⊥
-never_given signal told none has = omega (arith, ap length none, has.1.1)
 
 -- ---- its generation
 
@@ -124,16 +109,16 @@ of_itself home has told DecisionRefused link failed limit gives given met by ove
 of_itself home has told (GateRefused refusal) link failed limit gives given met by over = never_refused home has refusal (sym met ∙ by.1)
 of_itself home has told ShortOfMemory link failed limit gives given met by over = tt
 of_itself home has told Panicked link failed limit gives given met by over = tt
-of_itself home has told ToldToTerminate link failed limit gives given met by over = never_given Terminate told given by
-of_itself home has told (ToldToQuit reason) link failed limit gives given met by over = never_given (Quit reason) told given by
-of_itself home has told Killed link failed limit gives given met by over = never_given Kill told given by
+of_itself home has told ToldToTerminate link failed limit gives given met by over = never_told Terminate told given by
+of_itself home has told (ToldToQuit reason) link failed limit gives given met by over = never_told (Quit reason) told given by
+of_itself home has told Killed link failed limit gives given met by over = never_told Kill told given by
 of_itself home has told Overtaken link failed limit gives given met by over = over refl
 
 as_caused : (told : Told) (ending : Ending) (link : Option Traffic) (failed : Type 0) (limit : ℕ) (gives : ℕ → Type 0) → told.given ≡ []
     → CausedBy ending.exit decisions.Ok link failed (Some told) limit gives → (ending.exit ≡ ending.cause) ⊎ (ending.exit ≡ Killed) → ending.exit ≡ ending.cause
 as_caused told ending link failed limit gives given by (inl same) = same
 as_caused told ending link failed limit gives given by (inr killed) =
-    absurd (never_given Kill told given (subst (λ (cause : Cause). CausedBy cause decisions.Ok link failed (Some told) limit gives) killed by))
+    absurd (never_told Kill told given (subst (λ (cause : Cause). CausedBy cause decisions.Ok link failed (Some told) limit gives) killed by))
 
 -- ---- its turns
 
@@ -181,7 +166,7 @@ served_alone notes before now has told home pid generation key limit gives endin
         alone = record {
           cause = of_itself home has told ending.cause back.traffic (HasFailed given back) limit gives none met caused.cause (never_overtaken home pid key turns ending session.came_in session.whole session.noted text);
           exit = as_caused told ending back.traffic (HasFailed given back) limit gives none caused.exit ending.exits;
-          uncancelled = of_each (λ (turn : Turn). IsCancelledTurn turn → ⊥) turns [] (λ front turn behind is cancelled. never_given Cancel told none (caused.cancelled front turn behind is cancelled));
+          uncancelled = of_each (λ (turn : Turn). IsCancelledTurn turn → ⊥) turns [] (λ front turn behind is cancelled. never_told Cancel told none (caused.cancelled front turn behind is cancelled));
         };
       },
     )

@@ -3,6 +3,9 @@ use Rattle.std.proofs.Common.{◌≡◌, ◌⊎◌, inl, inr, ℕ, ◌≤◌, Li
 use Rattle.std.specs.Prelude.{Bool, true, false, ◌||◌, is_some}
 use Rattle.std.specs.List.{AllByRecursion, list_any}
 use Rattle.std.proofs.lemmas.List.Folds.{list_any-append}
+use Rattle.std.proofs.Math.Bool.{or-false}
+use Rattle.pm_facts.specs.Lists.{each_more}
+use Rattle.pm_facts.specs.Bools.{never_both}
 use Rattle.pm_disk.specs.Cause.{Rose}
 use Rattle.pm_exit.specs.declared.child.Kind.TheVariants as kind
 use Rattle.pm_modes.specs.declared.Mode.{Mode}
@@ -31,7 +34,7 @@ use Rattle.pm_once.specs.View.{View}
 use Rattle.pm_duties.specs.declared.auxiliaries.Auxiliaries.{Auxiliaries}
 use Rattle.pm_journal.specs.NextsLaws.{first_is}
 use Rattle.pm_acts.specs.StepsLaws.{journal-append}
-use Rattle.pm_duties.specs.CalmLaws.{acted_calm, shutdown_done, accepted_same, IsQuiet, quiet_of, calm_of, accepted_quiet, still_less, less_startup, never, exited_quiet, exit_keeps, turned_quiet, HasNotCrashed, no_more, all_more, sessions_on, or_none, later_one, one_more, ended_run}
+use Rattle.pm_duties.specs.CalmLaws.{acted_calm, shutdown_done, accepted_same, IsQuiet, quiet_of, calm_of, accepted_quiet, still_less, less_startup, exited_quiet, exit_keeps, turned_quiet, HasNotCrashed, no_more, sessions_on, later_one, one_more, ended_run}
 
 -- ---- from one moment to another
 
@@ -88,14 +91,14 @@ unrestarted from act.KillAll v ours calm stage is = absurd cc
 unrestarted from act.AskCheckpoint v ours calm stage is = absurd cc
 unrestarted from act.Ready v ours calm stage is = absurd cc
 unrestarted from act.Reset v ours calm (inl rose) is = rose
-unrestarted from act.Reset v ours calm (inr (inl asked)) is = absurd (never _ asked ours.0)
+unrestarted from act.Reset v ours calm (inr (inl asked)) is = absurd (never_both _ asked ours.0)
 unrestarted from act.Reset v ours calm (inr (inr quiet)) is = absurd (calm quiet)
 unrestarted from (act.Say l) v ours calm stage is = absurd cc
 unrestarted from (act.End endings.Clean) v ours calm stage is = absurd cc
 unrestarted from (act.End endings.AfterCrash) v ours calm stage is = absurd cc
 unrestarted from (act.End endings.StartupFailed) v ours calm stage is = absurd cc
 unrestarted from (act.End endings.RestartOff) v ours calm (inl rose) is = rose
-unrestarted from (act.End endings.RestartOff) v ours calm (inr (inl asked)) is = absurd (never _ asked ours.0)
+unrestarted from (act.End endings.RestartOff) v ours calm (inr (inl asked)) is = absurd (never_both _ asked ours.0)
 unrestarted from (act.End endings.RestartOff) v ours calm (inr (inr quiet)) is = absurd (calm quiet)
 
 -- behind an act and its entry
@@ -110,7 +113,7 @@ acted_disturbed from earlier a before now disk first standing auxiliaries ours i
     calm = λ calm. subst (λ (t : Standing). IsCalm t now.auxiliaries) (sym standing) (subst (λ (h : Auxiliaries). IsCalm (done a before.work.standing) h) (sym auxiliaries) (acted_calm a before.work.standing before.auxiliaries first calm));
   }) is.stage;
   restarts = λ ended. rose_later from before.store.faults now.store.faults disk.later (restarted (list_any is_behind_crash (journal_of earlier)) refl (sym more ∙ ended));
-  sessions = sessions_on from before.store.faults now.store.faults earlier (earlier ++ Notes (entry_for a before.work.standing) ∷ []) disk.later (all_more earlier (Notes (entry_for a before.work.standing)) tt) is.sessions;
+  sessions = sessions_on from before.store.faults now.store.faults earlier (earlier ++ Notes (entry_for a before.work.standing) ∷ []) disk.later (λ all. each_more HasFineSession earlier (Notes (entry_for a before.work.standing)) all tt) is.sessions;
 }
   where
     more : list_any is_behind_crash (journal_of (earlier ++ Notes (entry_for a before.work.standing) ∷ [])) ≡ (list_any is_behind_crash (journal_of earlier) || (is_behind_crash (entry_for a before.work.standing) || false))
@@ -123,7 +126,7 @@ acted_disturbed from earlier a before now disk first standing auxiliaries ours i
     restarted true was ended = is.restarts was
     restarted false was ended =
         unrestarted from a before ours calm_first is.stage
-        (sym (or_none (is_behind_crash (entry_for a before.work.standing))) ∙ sym (ap (λ (b : Bool). b || (is_behind_crash (entry_for a before.work.standing) || false)) was) ∙ ended)
+        (sym (or-false (is_behind_crash (entry_for a before.work.standing))) ∙ sym (ap (λ (b : Bool). b || (is_behind_crash (entry_for a before.work.standing) || false)) was) ∙ ended)
 
 -- what is known of a child that has run, before its end is noted
 pub record HasEndedSo (from : ℕ) (run : ChildRun) (before mid : View) : Type 0 where
@@ -146,7 +149,7 @@ ran_disturbed from earlier run at now_at before mid now disk later ended same ma
 }
   where
     by_session : (run.kind ≡ kind.Backend → IsFineExit run) ⊎ Rose from mid.store.faults → AllByRecursion HasFineSession earlier ⊎ Rose from before.store.faults → AllByRecursion HasFineSession (earlier ++ Runs run at ∷ []) ⊎ Rose from now.store.faults
-    by_session (inl fine) all = sessions_on from before.store.faults now.store.faults earlier (earlier ++ Runs run at ∷ []) disk.later (all_more earlier (Runs run at) fine) all
+    by_session (inl fine) all = sessions_on from before.store.faults now.store.faults earlier (earlier ++ Runs run at ∷ []) disk.later (λ each. each_more HasFineSession earlier (Runs run at) each fine) all
     by_session (inr rose) all = inr (rose_later from mid.store.faults now.store.faults later rose)
 
     quietly : (run.kind ≡ kind.Backend → IsFineExit run) → IsCalm before.work.standing before.auxiliaries → IsCalm now.work.standing now.auxiliaries
@@ -196,7 +199,7 @@ asked_disturbed from earlier mode at before now store asked is = record {
   counted = (same_disk from before now store).counts is.counted;
   stage = inr (inl asked);
   restarts = λ off. rose_later from before.store.faults now.store.faults (same_disk from before now store).later (is.restarts (later_one earlier (Notes (entry.Asked mode at)) refl off));
-  sessions = sessions_on from before.store.faults now.store.faults earlier (earlier ++ Notes (entry.Asked mode at) ∷ []) (same_disk from before now store).later (all_more earlier (Notes (entry.Asked mode at)) tt) is.sessions;
+  sessions = sessions_on from before.store.faults now.store.faults earlier (earlier ++ Notes (entry.Asked mode at) ∷ []) (same_disk from before now store).later (λ all. each_more HasFineSession earlier (Notes (entry.Asked mode at)) all tt) is.sessions;
 }
 
 -- a turn
@@ -219,5 +222,5 @@ turned_disturbed from earlier before now store others goes_on machine due keeps 
 pub spent_disturbed : (from : ℕ) (v : View) → first_due v.work.standing.due ≡ Some act.Reset → AreOurs (is_some v.work.standing.machine.shutdown) v.work.standing.due → IsDisturbedSo from v → Rose from v.store.faults
 spent_disturbed from v first ours (inl rose) = rose
 spent_disturbed from v first ours (inr (inl asked)) =
-    absurd (never _ asked (subst (AreOurs (is_some v.work.standing.machine.shutdown)) (first_is v.work.standing.due act.Reset first) ours).0)
+    absurd (never_both _ asked (subst (AreOurs (is_some v.work.standing.machine.shutdown)) (first_is v.work.standing.due act.Reset first) ours).0)
 spent_disturbed from v first ours (inr (inr calm)) = absurd (subst (λ (l : List Action). AreCalm v.work.standing.machine.state l) (first_is v.work.standing.due act.Reset first) calm.acts)

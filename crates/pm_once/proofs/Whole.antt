@@ -1,10 +1,13 @@
 -- A whole run.
 use Rattle.std.proofs.Common.{◌≡◌, ◌⊎◌, inl, inr, ℕ, ◌+◌, ◌≤◌, List, [], ◌∷◌, ◌++◌, length, Option, None, Some, Result, Err, refl, sym, ◌∙◌, ap, subst, arith}
-use Rattle.std.specs.Prelude.{Bool, true, false, ◌||◌, is_some, IfSome}
+use Rattle.std.specs.Prelude.{Bool, true, false, is_some, IfSome}
 use Rattle.std.specs.List.{AllByRecursion, last_or, list_any}
 use Rattle.std.proofs.lemmas.List.Folds.{list_any-append}
+use Rattle.pm_facts.specs.Bools.{never_both}
 use Rattle.pm_disk.specs.Cause.{Rose}
 use Rattle.std.proofs.lemmas.List.Elements.{All-nil}
+use Rattle.std.proofs.Math.Bool.{or-true}
+use Rattle.std.proofs.lemmas.Bool.{or_parts}
 use Rattle.pm_modes.specs.declared.Mode.{Mode}
 use Rattle.pm_modes.specs.declared.Mode.TheVariants.{Smart}
 use Rattle.pm_supervisor.specs.Children.{one_if}
@@ -16,7 +19,6 @@ use Rattle.pm_supervisor.specs.declared.Ending.TheVariants as endings
 use Rattle.pm_state.specs.Journal.{Follows, all_replayed, replay_begun}
 use Rattle.pm_state.specs.Laws.{RestartsSafely}
 use Rattle.pm_state.specs.Restarts.{AreAsSet}
-use Rattle.pm_state.specs.declared.action.Action.{Action}
 use Rattle.pm_state.specs.declared.action.Action.TheVariants as act
 use Rattle.pm_query.specs.declared.book.BookEntry.{BookEntry}
 use Rattle.pm_query.specs.declared.book.BookEntry.TheVariants.{Opened}
@@ -153,9 +155,6 @@ whole_asked goes work limits gives end cs ended steps v now begun serves =
     same_end : (one two : ServerEnd) → (let r : Result (Unit {0}) ServerEnd = Err one in r ≡ Err two) → one ≡ two
     same_end one two is = cc
 
-    never : (b : Bool) → b ≡ true → b ≡ false → ⊥
-    never b one two = cc
-
     by_test : (drawn : Bool) → is_spent_of_pids limits steps ≡ drawn → (listens : Bool) → now.listens ≡ listens
         → length (asked_in (journal_of steps)) + one_if now.work.standing.owes_smart + one_if now.listens ≤ 1 + one_if (is_spent_of_pids limits steps)
         → (now.listens ≡ false → (v.listens ≡ false) ⊎ ((ended ≡ true) ⊎ (is_last_drawn now.work.standing.last_pid ≡ true))) → now.work.standing.last_pid ≡ (replay_of limits steps).shown.last_pid
@@ -163,7 +162,7 @@ whole_asked goes work limits gives end cs ended steps v now begun serves =
     by_test true is listens hears few why same = inr (inr is)
     by_test false is true hears few why same = inl (omega (arith, few, ap one_if is, ap one_if hears))
     by_test false is false hears few why same = elim (why hears) [
-      | inl deaf ↦ absurd (never v.listens begun.listens deaf)
+      | inl deaf ↦ absurd (never_both v.listens begun.listens deaf)
       | inr (inl over) ↦ inr (inl over)
       | inr (inr drawn) ↦ inr (inr (subst (λ (n : ℕ). is_last_drawn n ≡ true) same drawn))
     ]
@@ -195,11 +194,7 @@ whole_end goes work legal safely limits gives end cs ended steps v now begun ser
 unrestarted_any : (steps : List Step) → EndsWith (entry.Ended endings.RestartOff) steps → list_any is_behind_crash (journal_of steps) ≡ true
 unrestarted_any steps ends =
     ap (λ (l : List Step). list_any is_behind_crash (journal_of l)) ends.1 ∙ ap (list_any is_behind_crash) (journal-append ends.0 (Notes (entry.Ended endings.RestartOff) ∷ []))
-    ∙ list_any-append is_behind_crash (journal_of ends.0) (entry.Ended endings.RestartOff ∷ []) ∙ or_true (list_any is_behind_crash (journal_of ends.0))
-  where
-    or_true : (b : Bool) → (b || true) ≡ true
-    or_true true = refl
-    or_true false = refl
+    ∙ list_any-append is_behind_crash (journal_of ends.0) (entry.Ended endings.RestartOff ∷ []) ∙ or-true (list_any is_behind_crash (journal_of ends.0))
 
 pub whole_rose : StepsGoOn → GoesOnOverItsJournal → (limits : Limits) (gives : ℕ → Type 0) (end : ServerEnd) (cs : List Connection) (ended : Bool) (steps : List Step) (v now : View) → HasBegun limits v
     → Serves gives (Err end) cs ended steps v now → (end ≡ Abnormal RestartOff) ⊎ (end ≡ Abnormal GenerationsSpent) → Rose v.store.faults now.store.faults
@@ -209,9 +204,6 @@ whole_rose goes work limits gives end cs ended steps v now begun serves why =
       | inl off ↦ at.disturbed.restarts (unrestarted_any steps (subst (λ (e : ServerEnd). IsEndOf e steps now) off serves.ends))
       | inr spent ↦ spent_disturbed v.store.faults now (subst (λ (e : ServerEnd). IsEndOf e steps now) spent serves.ends).1 at.acts at.disturbed.stage
     ]
-
-never_both : (b : Bool) → b ≡ true → b ≡ false → ⊥
-never_both b one two = cc
 
 -- a renewal stands behind the reset of its generation
 resets : (e : PmEvent) (generation : ℕ) (gone : List ℕ) → MayFollow (Some (Notes e)) (Renews generation gone) → is_behind_crash e ≡ true
@@ -244,13 +236,9 @@ IsCalmStep last = (e : PmEvent) → last ≡ Some (Notes e) → is_behind_crash 
 no_renewals : StepsGoOn → (limits : Limits) (before steps : List Step) → AreStepsBehind limits before steps → IsCalmStep (last_or None before) → list_any is_behind_crash (journal_of steps) ≡ false → AllByRecursion IsNoRenewal steps
 no_renewals goes limits before [] are calm none = tt
 no_renewals goes limits before (step ∷ steps) are calm none =
-    let parts = none_of (list_any is_behind_crash (journal_by step)) (list_any is_behind_crash (journal_of steps)) (sym (list_any-append is_behind_crash (journal_by step) (journal_of steps)) ∙ none) in
+    let parts = or_parts (list_any is_behind_crash (journal_by step)) (list_any is_behind_crash (journal_of steps)) (sym (list_any-append is_behind_crash (journal_by step) (journal_of steps)) ∙ none) in
     (first step are.0 parts.0, no_renewals goes limits (before ++ step ∷ []) steps are.1 (λ e is. calm_now step parts.0 e (some_step (sym (goes.last before step) ∙ is))) parts.1)
   where
-    none_of : (a b : Bool) → (a || b) ≡ false → (a ≡ false) × (b ≡ false)
-    none_of true b is = absurd (cc)
-    none_of false b is = (refl, is)
-
     some_step : {x y : Step} → Some x ≡ Some y → x ≡ y
     some_step is = cc
 
@@ -263,7 +251,7 @@ no_renewals goes limits before (step ∷ steps) are calm none =
         absurd (never_both (is_behind_crash behind.0) behind.2 (calm behind.0 behind.1))
 
     calm_now : (s : Step) → list_any is_behind_crash (journal_by s) ≡ false → (e : PmEvent) → s ≡ Notes e → is_behind_crash e ≡ false
-    calm_now s none e is = (none_of (is_behind_crash e) false (subst (λ (x : Step). list_any is_behind_crash (journal_by x) ≡ false) is none)).0
+    calm_now s none e is = (or_parts (is_behind_crash e) false (subst (λ (x : Step). list_any is_behind_crash (journal_by x) ≡ false) is none)).0
 
 -- it was opened once, or a fault of the disk was counted
 pub whole_once : StepsGoOn → GoesOnOverItsJournal → (limits : Limits) (gives : ℕ → Type 0) (end : ServerEnd) (cs : List Connection) (ended : Bool) (steps : List Step) (v now : View) → HasBegun limits v

@@ -58,7 +58,7 @@ impl<J: Chronicle<PmEvent>, O: Sink, D: Disk, B: Chronicle<BookEntry>> Server<J,
             × HasServed seed.now conf.now.authentication_ms (C.gives clock.now) connections ended
             steps (P.visits port.old) (P.visits port.new) }
     {
-        match self.run_one(clock) {
+        match self.run_one(rt, clock) {
             Some(end) => end,
             None => self.listen(rt, alloc, port, clock, seed, conf),
         }

@@ -230,7 +230,7 @@ impl<J: Chronicle<PmEvent>, O: Sink, D: Disk, B: Chronicle<BookEntry>> Server<J,
     }
 
     // The checkpointer writes the last checkpoint.
-    fn close(&mut self, pid: u32) -> ChildExit
+    fn close<R: Wait, C: Clock>(&mut self, rt: &R, clock: &C, pid: u32) -> ChildExit
         requires running { IsRunning (view_of self.old) }
         requires there { kind_in pid (standing self.old.supervision).children ≡ Some Checkpointer }
         requires off { self.old.auxiliaries.checkpointer ≡ None }
@@ -240,7 +240,7 @@ impl<J: Chronicle<PmEvent>, O: Sink, D: Disk, B: Chronicle<BookEntry>> Server<J,
             × HasAuxiliaryRun run (view_of self.old) (view_of self.new) }
         ensures kind { result.kind ≡ Checkpointer }
     {
-        let closed = write_last(&mut self.store, pid);
+        let closed = write_last(rt, &mut self.store, clock, pid);
         self.outcome = Some(Outcome::Closed(closed));
         ChildExit {
             pid,
@@ -252,7 +252,7 @@ impl<J: Chronicle<PmEvent>, O: Sink, D: Disk, B: Chronicle<BookEntry>> Server<J,
     }
 
     // Lets the next child run that has something to do, if there is one.
-    fn run_next(&mut self) -> Option<ChildExit>
+    fn run_next<R: Wait, C: Clock>(&mut self, rt: &R, clock: &C) -> Option<ChildExit>
         requires { IsRunning (view_of self.old) }
         ensures runs { IfSome result (λ exit. (run : ChildRun) × (exit ≡ exit_of run)
             × HasAuxiliaryRun run (view_of self.old) (view_of self.new)) }
@@ -263,14 +263,18 @@ impl<J: Chronicle<PmEvent>, O: Sink, D: Disk, B: Chronicle<BookEntry>> Server<J,
         match self.auxiliaries.next() {
             None => None,
             Some(Duty::Redo { pid }) => Some(self.read(pid)),
-            Some(Duty::Checkpoint { pid }) => Some(self.close(pid)),
+            Some(Duty::Checkpoint { pid }) => Some(self.close(rt, clock, pid)),
             Some(Duty::Quit { pid, kind }) => Some(exit(pid, kind, Status::Code(2), None)),
             Some(Duty::Terminate { pid }) => Some(exit(pid, Kind::Writer, Status::Code(0), None)),
         }
     }
 
     // Lets the next child run that has something to do, if there is one, and does what is due behind its end.
-    pub(crate) fn run_one<C: Clock>(&mut self, clock: &C) -> Option<Result<(), ServerEnd>>
+    pub(crate) fn run_one<R: Wait, C: Clock>(
+        &mut self,
+        rt: &R,
+        clock: &C,
+    ) -> Option<Result<(), ServerEnd>>
         requires running { IsRunning (view_of self.old) }
         requires idle { IsIdle (standing self.old.supervision) }
         ensures runs { IfSome result (λ end. (steps : List Step)
@@ -278,7 +282,7 @@ impl<J: Chronicle<PmEvent>, O: Sink, D: Disk, B: Chronicle<BookEntry>> Server<J,
         ensures none { IfNone result (self.new ≡ self.old) }
     {
         laws();
-        match self.run_next() {
+        match self.run_next(rt, clock) {
             None => None,
             Some(exit) => match self.note_exit(clock, exit) {
                 Ok(()) => Some(self.finish(clock)),

@@ -1,6 +1,7 @@
 -- Where the shared side has noted its first generation alone, and no token anything, the log has no other entry.
 use Rattle.std.proofs.Common.{◌≡◌, ◌⊎◌, inl, inr, arith, ℕ, zero, suc, List, [], ◌∷◌, refl, sym, ap, ◌∙◌, subst}
 use Rattle.std.specs.Prelude.{Bool, true, false, Some, slice_get}
+use Rattle.std.proofs.lemmas.Option.{same_Some}
 use Rattle.pm_query.specs.declared.book.BookEntry.{BookEntry}
 use Rattle.pm_shared.specs.declared.views.Joined.{Joined}
 use Rattle.pm_shared.specs.declared.views.Noted.{Noted}
@@ -8,20 +9,19 @@ use Rattle.pm_shared.specs.Log.{IsShuffle, Line, book_of, is_own, noted, placed_
 use Rattle.pm_shared.specs.Places.{EachOnce, Has}
 use Rattle.pm_shared.specs.Told.{owns}
 use Rattle.pm_pool.specs.Works.{AreUnused}
-use Rattle.pm_pool.proofs.Lists.{some_same}
 
 -- no list has anything
 none_has : (joined : List Joined) → AreUnused joined → (k : ℕ) (l : List Noted) (x : Noted) → slice_get (owns joined) k ≡ Some l → Has l x → ⊥
 none_has [] unused k l x is has = cc
 none_has (his ∷ joined) unused zero l x is has =
-    let nil : l ≡ [] = sym (some_same _ _ is) ∙ unused.0 in
+    let nil : l ≡ [] = sym (same_Some _ _ is) ∙ unused.0 in
     let at : slice_get {X = Noted} [] has.0 ≡ Some x = subst (λ (m : List Noted). slice_get m has.0 ≡ Some x) nil has.1 in
     cc
 none_has (his ∷ joined) unused (suc k) l x is has = none_has joined unused.1 k l x is has
 
 -- the one entry of the shared side's own list
 the_one : (e : BookEntry) (x : Noted) → Has (noted 0 e ∷ []) x → noted 0 e ≡ x
-the_one e x (zero, is) = some_same _ _ is
+the_one e x (zero, is) = same_Some _ _ is
 the_one e x (suc i, is) = cc
 
 -- each entry is that one

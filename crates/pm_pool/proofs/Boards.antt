@@ -4,6 +4,7 @@ use Rattle.std.proofs.lemmas.List.{map-append}
 use Rattle.std.specs.List.{AllByRecursion}
 use Rattle.std.specs.Prelude.{Option}
 use native.Mathlib.Decide.{ℕ_discrete}
+use Rattle.pm_facts.specs.Lists.{each_both}
 use Rattle.pm_exit.specs.declared.child.Kind.TheVariants.{DeadEnd}
 use Rattle.pm_board.specs.declared.views.RosterStep.{RosterStep}
 use Rattle.pm_board.specs.declared.views.RosterView.{RosterView}
@@ -15,10 +16,6 @@ use Rattle.pm_seating.specs.Standing.{AreClosing, IsFinal}
 use Rattle.pm_worker.specs.declared.mail.MailTold.{MailTold}
 use Rattle.pm_pool.specs.Closing.{HasHadLast, KeepsBoard}
 
-all_append : {X : Type 0} (P : X → Type 0) (xs ys : List X) → AllByRecursion P xs → AllByRecursion P ys → AllByRecursion P (xs ++ ys)
-all_append P [] ys a b = b
-all_append P (x ∷ xs) ys a b = (a.0, all_append P xs ys a.1 b)
-
 -- with one child more behind those so far
 one_behind : {A B : Type 0} (f : A → B) (past past' : List A) (x : A) (told others : List B) → past' ≡ past ++ x ∷ [] → map f past ≡ told ++ others → map f past' ≡ told ++ (others ++ f x ∷ [])
 one_behind f past past' x told others is so = ap (map f) is ∙ map-append f past (x ∷ []) ∙ ap (λ xs. xs ++ f x ∷ []) so ∙ append_assoc told others (f x ∷ [])
@@ -29,7 +26,7 @@ keeps_board k before after more steps final last dead others count moves is =
     record {
       last = is.last ++ more;
       steps = steps ∙ ap (λ xs. xs ++ more) is.steps ∙ append_assoc (board_steps count moves) is.last more;
-      final = all_append (IsFinal (seating_of count moves).seats) is.last more is.final (final (seating_of count moves).seats);
+      final = each_both (IsFinal (seating_of count moves).seats) is.last more is.final (final (seating_of count moves).seats);
       begun = λ j. begun j (ℕ_discrete j k);
       ended = λ j. ended j (ℕ_discrete j k);
     }
@@ -37,7 +34,7 @@ keeps_board k before after more steps final last dead others count moves is =
     begun : (j : ℕ) → Dec (j ≡ k) → (others : List Begun) × AreClosing others × (map begun_of (slot_at after j).past ≡ begun_at count j moves ++ others)
     begun j (yes here) = subst (λ (i : ℕ). (others : List Begun) × AreClosing others × (map begun_of (slot_at after i).past ≡ begun_at count i moves ++ others)) (sym here) (
       (is.begun k).0 ++ begun_of last.child ∷ [],
-      all_append (λ (b : Begun). b.kind ≡ DeadEnd) (is.begun k).0 (begun_of last.child ∷ []) (is.begun k).1 (dead, tt),
+      each_both (λ (b : Begun). b.kind ≡ DeadEnd) (is.begun k).0 (begun_of last.child ∷ []) (is.begun k).1 (dead, tt),
       one_behind begun_of (slot_at before k).past (slot_at after k).past last.child (begun_at count k moves) (is.begun k).0 last.past (is.begun k).2,
     )
     begun j (no other) = ((is.begun j).0, (is.begun j).1, ap (λ x. map begun_of x.past) (others j other) ∙ (is.begun j).2)

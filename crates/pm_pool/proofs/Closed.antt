@@ -3,6 +3,7 @@ use Rattle.std.proofs.Common.{◌≡◌, ◌≢◌, ◌⊎◌, inl, inr, ℕ, �
 use Rattle.std.specs.Prelude.{None, Some, slice_get}
 use Rattle.std.specs.List.{AllByRecursion}
 use native.Mathlib.Decide.{ℕ_discrete}
+use Rattle.pm_facts.specs.Lists.{same_everywhere}
 use Rattle.pm_board.specs.declared.views.RosterView.{RosterView}
 use Rattle.pm_board.specs.declared.views.PastChild.{PastChild}
 use Rattle.pm_board.specs.declared.views.Sight.TheVariants.{Unused, Gathered}
@@ -20,7 +21,7 @@ use Rattle.pm_worker.specs.Runs.{Does, IsRun, Run, close_run, noted_by}
 use Rattle.pm_crew.specs.Left.{IsWorked, Manner}
 use Rattle.pm_pool.specs.Closing.{AreClosed, HasClosedOne, HasHadLast, IsShut, MayClose}
 use Rattle.pm_pool.specs.Works.{AreUnused}
-use Rattle.pm_pool.proofs.Lists.{all_of_each, got_end, got_within, same_everywhere}
+use Rattle.pm_pool.proofs.Lists.{all_of_each, got_end, got_within}
 use Rattle.pm_pool.proofs.Slots.{near_or_here}
 
 pub shut_first : (count : ℕ) (d : RosterView MailTold) → MayClose count d → IsShut 0 d
@@ -30,7 +31,7 @@ pub shut_new : (count limit posts : ℕ) → IsShut 0 (new_roster count limit po
 shut_new count limit posts =
     record {
       gathered = λ j less. absurd (omega arith);
-      free = λ j behind. ap (λ x. x.sight) (same_everywhere (slot_view [] Unused) count j);
+      free = λ j behind. ap (λ x. x.sight) (same_everywhere count j (slot_view [] Unused));
       pids = omega arith;
     }
 
@@ -127,6 +128,6 @@ module _ (manner : Manner) where
           let less : k < n = subst (λ m. k < m) a.all h in
           let l = a.last k less in
           let w = a.worked k his at in
-          let none : (slot_at (new_roster {D = MailTold} count limit posts) k).past ≡ [] = ap (λ x. x.past) (same_everywhere (slot_view [] Unused) count k) in
+          let none : (slot_at (new_roster {D = MailTold} count limit posts) k).past ≡ [] = ap (λ x. x.past) (same_everywhere count k (slot_view [] Unused)) in
           let one : l.child ∷ [] ≡ map (λ (run : Run). run.child) (a.runs k) = sym (l.past ∙ ap (λ xs. xs ++ l.child ∷ []) none) ∙ w.children in
           nothing_noted his.own (w.entries ∙ closing_notes_nothing (a.runs k) l.child l.closes one w.each)

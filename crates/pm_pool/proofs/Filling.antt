@@ -3,6 +3,7 @@ use Rattle.std.proofs.Common.{◌≡◌, ℕ, ◌+◌, List, [], ◌∷◌, ◌+
 use Rattle.std.specs.Prelude.{Option, Some, slice_get}
 use Rattle.std.specs.Option.{option_to_list}
 use Rattle.atomic_table.specs.Seated.{TableId}
+use Rattle.pm_facts.specs.Lists.{got_last}
 use Rattle.pm_board.specs.Models.{AreNewPosts, PostModel}
 use Rattle.pm_board.specs.Rule.{idle_post}
 use Rattle.pm_shared.specs.declared.token_store.TokenStore.{TokenStore}
@@ -11,7 +12,7 @@ use Rattle.pm_worker.specs.declared.child.Child.{Child}
 use Rattle.pm_worker.specs.declared.mail.MailTold.{MailTold}
 use Rattle.pm_pool.specs.declared.plan.Terms.{Terms}
 use Rattle.pm_pool.specs.Works.{EachFrom, IsUnusedToken, IsWorkOf}
-use Rattle.pm_pool.proofs.Lists.{got_last, one_before}
+use Rattle.pm_pool.proofs.Lists.{one_before}
 
 -- the idle post of the slot k
 abbrev pub IsPostOf : (board : TableId) (limit k : ℕ) → PostModel MailTold → Type 0

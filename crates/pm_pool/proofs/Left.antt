@@ -2,6 +2,7 @@
 use Rattle.std.proofs.Common.{◌≡◌, ℕ, zero, suc, List, [], ◌∷◌, length, refl, ◌∙◌, subst}
 use Rattle.std.proofs.lemmas.List.{length-map}
 use Rattle.std.specs.Prelude.{None, Option, Some, IfSome, slice_get}
+use Rattle.std.proofs.lemmas.Option.{same_Some}
 use Rattle.pm_board.specs.declared.views.RosterView.{RosterView}
 use Rattle.pm_query.specs.declared.book.BookEntry.{BookEntry}
 use Rattle.pm_shared.specs.declared.views.Joined.{Joined}
@@ -12,11 +13,10 @@ use Rattle.pm_shared.specs.Told.{AllContinue, SharedModel, owns, pasts}
 use Rattle.pm_worker.specs.declared.mail.MailTold.{MailTold}
 use Rattle.pm_crew.specs.Left.{AreLeft, IsWorked, Manner}
 use Rattle.pm_pool.specs.Closing.{AreClosed}
-use Rattle.pm_pool.proofs.Lists.{some_same}
 
 got_own : (joined : List Joined) (k : ℕ) (own : List Noted) → slice_get (owns joined) k ≡ Some own → (his : Joined) × (slice_get joined k ≡ Some his) × (his.own ≡ own)
 got_own [] k own is = absurd (cc)
-got_own (his ∷ joined) zero own is = (his, refl, some_same his.own own is)
+got_own (his ∷ joined) zero own is = (his, refl, same_Some his.own own is)
 got_own (his ∷ joined) (suc k) own is = got_own joined k own is
 
 -- what a store out of the hands of this shared side says of its log

@@ -1,16 +1,15 @@
 -- Lists, one longer.
 use Rattle.std.proofs.Common.{◌≡◌, ◌⊎◌, inl, inr, ℕ, zero, suc, ◌+◌, ◌<◌, List, [], ◌∷◌, ◌++◌, length, refl, ap, ◌∙◌, subst, arith}
-use Rattle.std.specs.Prelude.{Option, None, Some, drop, replicate, slice_get, slice_index_or}
+use Rattle.std.specs.Prelude.{Option, None, Some, drop, slice_get}
 use Rattle.std.specs.Option.{option_to_list}
 use Rattle.std.specs.List.{AllByRecursion}
+use Rattle.std.proofs.lemmas.Option.{same_Some}
+use Rattle.pm_facts.specs.Lists.{got_front}
 use Rattle.pm_pool.specs.Works.{EachFrom}
-
-pub some_same : {A : Type 0} (x y : A) → Some x ≡ Some y → x ≡ y
-some_same x y e = cc
 
 -- what is found in a list that has one more at its end
 pub got_end : {A : Type 0} (xs : List A) (y x : A) (k : ℕ) → slice_get (xs ++ y ∷ []) k ≡ Some x → ((slice_get xs k ≡ Some x) × (k < length xs)) ⊎ ((k ≡ length xs) × (y ≡ x))
-got_end [] y x zero is = inr (refl, some_same y x is)
+got_end [] y x zero is = inr (refl, same_Some y x is)
 got_end [] y x (suc k) is = absurd (cc)
 got_end (z ∷ zs) y x zero is = inl (is, omega arith)
 got_end (z ∷ zs) y x (suc k) is = go (got_end zs y x k is)
@@ -34,22 +33,6 @@ got_within [] x k is = absurd (cc)
 got_within (y ∷ xs) x zero is = omega arith
 got_within (y ∷ xs) x (suc k) is = let h = got_within xs x k is in omega arith
 
-pub got_front : {A : Type 0} (xs ys : List A) (k : ℕ) (x : A) → slice_get xs k ≡ Some x → slice_get (xs ++ ys) k ≡ Some x
-got_front [] ys zero x is = absurd (cc)
-got_front [] ys (suc k) x is = absurd (cc)
-got_front (z ∷ zs) ys zero x is = is
-got_front (z ∷ zs) ys (suc k) x is = got_front zs ys k x is
-
-pub got_last : {A : Type 0} (xs : List A) (y : A) → slice_get (xs ++ y ∷ []) (length xs) ≡ Some y
-got_last [] y = refl
-got_last (x ∷ xs) y = got_last xs y
-
--- a list of the same everywhere, also past its end
-pub same_everywhere : {A : Type 0} (x : A) (n k : ℕ) → slice_index_or (replicate n x) k x ≡ x
-same_everywhere x zero k = refl
-same_everywhere x (suc n) zero = refl
-same_everywhere x (suc n) (suc k) = same_everywhere x n k
-
 module _ {A : Type 0} (P : ℕ → A → Type 0) where
   pub first_of_all : (first : ℕ) (x : A) (xs : List A) → EachFrom P first (x ∷ xs) → P first x
   first_of_all first x xs each = subst (λ (k : ℕ). P k x) (omega arith) (each 0 x refl)
@@ -58,7 +41,7 @@ module _ {A : Type 0} (P : ℕ → A → Type 0) where
   rest_of_all first x xs each i y is = subst (λ (k : ℕ). P k y) (omega arith) (each (suc i) y is)
 
   pub one_before : (first : ℕ) (x : A) (xs : List A) → P first x → EachFrom P (first + 1) xs → EachFrom P first (x ∷ xs)
-  one_before first x xs p each zero y is = subst (λ (k : ℕ). P k y) (omega arith) (subst (P first) (some_same x y is) p)
+  one_before first x xs p each zero y is = subst (λ (k : ℕ). P k y) (omega arith) (subst (P first) (same_Some x y is) p)
   one_before first x xs p each (suc i) y is = subst (λ (k : ℕ). P k y) (omega arith) (each i y is)
 
   -- those in front, and those behind
@@ -68,10 +51,6 @@ module _ {A : Type 0} (P : ℕ → A → Type 0) where
   pub back_of_all : (first : ℕ) (xs ys : List A) → EachFrom P first (xs ++ ys) → EachFrom P (first + length xs) ys
   back_of_all first [] ys each i x is = subst (λ (k : ℕ). P k x) (omega arith) (each i x is)
   back_of_all first (z ∷ zs) ys each i x is = subst (λ (k : ℕ). P k x) (omega arith) (back_of_all (first + 1) zs ys (rest_of_all first z (zs ++ ys) each) i x is)
-
-pub all_behind : {A : Type 0} (P : A → Type 0) (xs ys : List A) → AllByRecursion P xs → AllByRecursion P ys → AllByRecursion P (xs ++ ys)
-all_behind P [] ys a b = b
-all_behind P (x ∷ xs) ys a b = (a.0, all_behind P xs ys a.1 b)
 
 pub all_of_each : {A : Type 0} (P : A → Type 0) (xs : List A) → ((k : ℕ) (x : A) → slice_get xs k ≡ Some x → P x) → AllByRecursion P xs
 all_of_each P [] each = tt

@@ -2,6 +2,7 @@
 use Rattle.std.proofs.Common.{◌≡◌, ℕ, ◌+◌, List, [], ◌∷◌, ◌++◌, length, refl, sym, ap, ◌∙◌, subst, append-nil, append_assoc, length-append}
 use Rattle.std.specs.Prelude.{Option, Some, IfSome}
 use Rattle.atomic_table.specs.Seated.{TableId}
+use Rattle.pm_facts.specs.Lists.{each_both}
 use Rattle.pm_query.specs.declared.book.BookEntry.{BookEntry}
 use Rattle.pm_query.specs.declared.book.BookEntry.TheVariants.{Opened}
 use Rattle.pm_shared.specs.declared.views.Joined.{Joined}
@@ -14,7 +15,6 @@ use Rattle.pm_pool.specs.declared.plan.Terms.{Terms}
 use Rattle.pm_pool.specs.Works.{EachFrom, HasTakenBack, IsIdleShared, IsUnusedWork, IsWorkOf}
 use Rattle.pm_pool.proofs.Alone.{alone}
 use Rattle.pm_pool.proofs.Left.{ComesOut}
-use Rattle.pm_pool.proofs.Lists.{all_behind}
 
 module _ {F : Type 0} where
   pub back_none : (s : SharedModel F) → HasTakenBack 0 s s
@@ -25,7 +25,7 @@ module _ {F : Type 0} where
       record {
         more = b.more ++ his ∷ [];
         all = length-append b.more (his ∷ []) ∙ ap (λ m. m + 1) b.all;
-        unused = all_behind (λ (x : Joined). x.own ≡ []) b.more (his ∷ []) b.unused (unused, tt);
+        unused = each_both (λ (x : Joined). x.own ≡ []) b.more (his ∷ []) b.unused (unused, tt);
         joined =
             is ∙ ap (λ (x : SharedModel F). shared_with x x.tokens (x.joined ++ his ∷ [])) b.joined
             ∙ ap (λ (joined : List Joined). shared_with s s.tokens joined) (append_assoc s.joined b.more (his ∷ []));
@@ -45,7 +45,7 @@ module _ {F : Type 0} where
       IfSome f (λ f. (log : List BookEntry) × R f log × IsShuffle s.tokens (owns (s.joined ++ b.more)) s.own log × EachOnce (owns (s.joined ++ b.more)) s.own log × AllContinue (pasts (s.joined ++ b.more)) log))
       is all in
       subst (R first)
-      (alone s.tokens (s.joined ++ b.more) (Opened 1) s.own got.0 idle.own (all_behind (λ (x : Joined). x.own ≡ []) s.joined b.more idle.unused b.unused) got.2 got.3) got.1
+      (alone s.tokens (s.joined ++ b.more) (Opened 1) s.own got.0 idle.own (each_both (λ (x : Joined). x.own ≡ []) s.joined b.more idle.unused b.unused) got.2 got.3) got.1
 
 module _ {R C L D B : Type 0} {link : _} (gives : C → ℕ → Type 0) (terms : Terms C) (board home : TableId) where
   -- a work that wasn't started has an unused token

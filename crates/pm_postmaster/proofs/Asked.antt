@@ -3,6 +3,8 @@ use Rattle.std.proofs.Common.{◌≡◌, ℕ, ◌+◌, ◌≤◌, List, [], ◌�
 use Rattle.std.proofs.lemmas.List.{length_push}
 use Rattle.std.specs.Prelude.{Bool, true, false, ◌==◌, ◌||◌, if◌then◌else◌, Option, None, Some, IfSome, is_some, nat_le, option_map, unwrap_or}
 use Rattle.std.specs.List.{AllByRecursion}
+use Rattle.std.proofs.Math.Bool.{or-true, or-false}
+use Rattle.pm_facts.specs.Lists.{each_both}
 use Rattle.pm_acts.specs.Acts.{is_last_drawn}
 use Rattle.pm_journal.specs.Standing.{Standing}
 use Rattle.pm_outside.specs.Visits.{Visits, after_accept}
@@ -39,10 +41,6 @@ accepted-append (entry.Ready generation ∷ xs) ys = accepted-append xs ys
 accepted-append (entry.Reset generation ∷ xs) ys = accepted-append xs ys
 accepted-append (entry.Said line ∷ xs) ys = accepted-append xs ys
 accepted-append (entry.Ended how ∷ xs) ys = accepted-append xs ys
-
-all_more : {X : Type 0} (P : X → Type 0) (xs ys : List X) → AllByRecursion P xs → AllByRecursion P ys → AllByRecursion P (xs ++ ys)
-all_more P [] ys one two = two
-all_more P (x ∷ xs) ys one two = (one.0, all_more P xs ys one.1 two)
 
 lines_more : (xs ys : List Move) → lines_in (xs ++ ys) ≡ lines_in xs ++ lines_in ys
 lines_more [] ys = refl
@@ -154,14 +152,6 @@ owes_drawn s t pid owes may = record {
   owed = λ was owed. may;
 }
   where
-    or_true : (b : Bool) → (b || true) ≡ true
-    or_true true = refl
-    or_true false = refl
-
-    or_false : (b : Bool) → (b || false) ≡ b
-    or_false true = refl
-    or_false false = refl
-
     before_last : (m last : ℕ) → (last + 1 == m) ≡ true → nat_le m last ≡ false
     before_last m last is = grind (arith, is)
 
@@ -177,13 +167,13 @@ owes_drawn s t pid owes may = record {
     drawn : (b : Bool) → (s.last_pid + 1 == 2147480000) ≡ b → (n : ℕ) → n + one_if s.owes_smart ≡ one_if (is_last_drawn s.last_pid)
         → n + 0 + one_if t.owes_smart ≡ one_if (is_last_drawn t.last_pid)
     drawn true is n was =
-        let a : one_if t.owes_smart ≡ 1 = ap one_if (owes ∙ (ap (λ (x : Bool). s.owes_smart || x) is ∙ or_true s.owes_smart)) in
+        let a : one_if t.owes_smart ≡ 1 = ap one_if (owes ∙ (ap (λ (x : Bool). s.owes_smart || x) is ∙ or-true s.owes_smart)) in
         let b : one_if (is_last_drawn s.last_pid) ≡ 0 = ap one_if (before_last 2147480000 s.last_pid is) in
         let c : one_if (is_last_drawn (s.last_pid + 1)) ≡ 1 = ap one_if (at_last 2147480000 s.last_pid is) in
         let d = now_drawn in
         omega (arith, was, a, b, c, d)
     drawn false isnt n was =
-        let a : one_if t.owes_smart ≡ one_if s.owes_smart = ap one_if (owes ∙ (ap (λ (x : Bool). s.owes_smart || x) isnt ∙ or_false s.owes_smart)) in
+        let a : one_if t.owes_smart ≡ one_if s.owes_smart = ap one_if (owes ∙ (ap (λ (x : Bool). s.owes_smart || x) isnt ∙ or-false s.owes_smart)) in
         let b : one_if (is_last_drawn (s.last_pid + 1)) ≡ one_if (is_last_drawn s.last_pid) = ap one_if (elsewhere 2147480000 s.last_pid isnt) in
         let d = now_drawn in
         omega (arith, was, a, b, d)
@@ -216,8 +206,8 @@ module _ (earlier more : List Move) (lines lines_now : Option (List (List ℕ)))
       → ends + one_if listens_now ≤ one_if listens → OwesOn pids s t
       → AsksSoFar earlier lines ended listens s → AsksSoFar (earlier ++ more) lines_now ended_now listens_now t
   asks_on read ends pids adds given port fewer owes was = record {
-    read = all_more (IsReadAs IsNumber) earlier more was.read adds.read;
-    alone = all_more IsUnasked earlier more was.alone adds.alone;
+    read = each_both (IsReadAs IsNumber) earlier more was.read adds.read;
+    alone = each_both IsUnasked earlier more was.alone adds.alone;
     lines_are = subst (λ (l : Option (List (List ℕ))). IfSome l (λ its. its ≡ lines_in (earlier ++ more))) (sym given) (by_lines lines was.lines_are);
     port = port was.before_end was.port;
     before_end = (let a = so_many in let b = was.before_end in omega (arith, a, b, fewer));

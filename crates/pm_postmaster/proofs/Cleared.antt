@@ -3,6 +3,7 @@ use Rattle.std.proofs.Common.{◌≡◌, ℕ, ◌<◌, List, [], ◌++◌, refl,
 use Rattle.std.proofs.lemmas.List.{length-map}
 use Rattle.std.specs.Prelude.{Bool, Option, None, Some, IfSome, option_map}
 use Rattle.atomic_table.specs.Seated.{TableId}
+use Rattle.pm_facts.specs.Bools.{by_test}
 use Rattle.pm_exit.specs.declared.child.Kind.{Kind}
 use Rattle.pm_exit.specs.declared.child.Status.{Status}
 use Rattle.pm_board.specs.declared.views.PastChild.{PastChild}
@@ -22,7 +23,7 @@ use Rattle.pm_postmaster.specs.Links.{HasLinks}
 use Rattle.pm_postmaster.specs.Looking.{opened}
 use Rattle.pm_postmaster.specs.Requests.{ended_in}
 use Rattle.pm_postmaster.proofs.Asked.{ended_opened}
-use Rattle.pm_postmaster.proofs.Linking.{by_test, links_same}
+use Rattle.pm_postmaster.proofs.Linking.{links_same}
 use Rattle.pm_postmaster.proofs.Reaped.{Leaving, links_back, links_still, past_more, slots_found}
 
 -- slots that are the same

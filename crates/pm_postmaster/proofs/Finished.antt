@@ -2,6 +2,7 @@
 use Rattle.std.proofs.Common.{◌≡◌, ◌⊎◌, inl, inr, ℕ, ◌<◌, ◌≤◌, List, [], ◌∷◌, ◌++◌, refl, sym, ap, subst, ◌∙◌, length, map, arith, append-nil, append_assoc}
 use Rattle.std.proofs.lemmas.List.{get_or_past}
 use Rattle.std.specs.Prelude.{true, false, Option, None, Some, IfSome, is_some, nat_lt}
+use Rattle.pm_facts.specs.Bools.{by_test}
 use Rattle.pm_disk.specs.declared.disk.Disk as Disk
 use Rattle.pm_outside.specs.Added.{Added}
 use Rattle.pm_outside.specs.declared.chronicle.Chronicle as Chronicle
@@ -40,7 +41,6 @@ use Rattle.pm_postmaster.specs.Requests.{IsAsked}
 use Rattle.pm_postmaster.specs.Serving.{IsCausedBehind, last_pid_in}
 use Rattle.pm_postmaster.proofs.Closing.{still_once}
 use Rattle.pm_postmaster.proofs.Home.{back_home, links_home}
-use Rattle.pm_postmaster.proofs.Linking.{by_test}
 use Rattle.pm_state.specs.declared.event.PmEvent.{PmEvent}
 use Rattle.pm_postmaster.specs.Served.{IsEnded}
 

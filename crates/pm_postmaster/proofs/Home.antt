@@ -5,6 +5,7 @@ use Rattle.std.proofs.lemmas.List.Elements.{Contains-append_left, Contains-push,
 use Rattle.std.proofs.lemmas.Option.{slice_get-get_or}
 use Rattle.std.specs.Prelude.{Bool, true, false, ◌==◌, if◌then◌else◌, None, nat_lt}
 use Rattle.std.specs.List.{AllByRecursion, Contains}
+use Rattle.pm_facts.specs.Bools.{by_test}
 use Rattle.pm_board.specs.declared.views.PastChild.{PastChild}
 use Rattle.pm_board.specs.declared.views.RosterView.{RosterView}
 use Rattle.pm_board.specs.declared.views.Sight.TheVariants.{Assigned, Unused}
@@ -22,7 +23,6 @@ use Rattle.pm_worker.specs.declared.mail.MailTold.{MailTold}
 use Rattle.pm_worker.specs.declared.mail.MailTold.TheVariants as mail
 use Rattle.pm_worker.specs.Runs.{Does, IsRun, Run}
 use Rattle.pm_postmaster.specs.Links.{AreBackIn, BackIn, GivesLink, HasLink, HasLinks, IsBackIn}
-use Rattle.pm_postmaster.proofs.Linking.{by_test}
 
 -- ---- as many as there are
 

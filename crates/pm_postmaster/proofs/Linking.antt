@@ -4,6 +4,7 @@ use Rattle.std.proofs.lemmas.List.{get_or-map, length-map, length_push, map-set,
 use Rattle.std.proofs.lemmas.List.Elements.{Contains-append_left, Contains-push, Contains-push_cases}
 use Rattle.std.specs.Prelude.{Bool, true, false, Option, None, nat_le}
 use Rattle.std.specs.List.{Contains}
+use Rattle.pm_facts.specs.Bools.{by_test}
 use Rattle.pm_exit.specs.declared.child.Kind.{Kind}
 use Rattle.pm_exit.specs.declared.child.Status.{Status}
 use Rattle.pm_board.specs.declared.views.Offer.{Offer}
@@ -29,10 +30,6 @@ use Rattle.pm_postmaster.specs.Looking.{opened}
 
 abbrev Slots : Type 0
 Slots = List (SlotView MailTold)
-
-pub by_test : {P : Type 0} → (b : Bool) → (b ≡ true → P) → (b ≡ false → P) → P
-by_test true holds fails = holds refl
-by_test false holds fails = fails refl
 
 -- steps that change no slot
 pub same_slots : (d : RosterView MailTold) (ss : List RosterStep) → (after_steps d ss).slots ≡ d.slots

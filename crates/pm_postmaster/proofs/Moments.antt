@@ -1,6 +1,7 @@
 -- The moments of a supervisor at work.
 use Rattle.std.proofs.Common.{◌≡◌, inl, inr, ℕ, max, List, [], ◌∷◌, refl, subst, arith}
 use Rattle.std.specs.Prelude.{Bool, true, false, if◌then◌else◌, is_some, nat_le, unwrap_or}
+use Rattle.pm_facts.specs.Bools.{by_test}
 use Rattle.pm_state.specs.declared.action.Action.{Action}
 use Rattle.pm_state.specs.declared.action.Action.TheVariants as act
 use Rattle.pm_state.specs.declared.event.PmEvent.TheVariants as entry
@@ -14,7 +15,6 @@ use Rattle.pm_supervisor.specs.declared.Ending.TheVariants as endings
 use Rattle.pm_acts.specs.Acts.{AreOurs}
 use Rattle.pm_acts.specs.RulesLaws.{turn_rule}
 use Rattle.pm_postmaster.specs.Serving.{KillsAll, Moments}
-use Rattle.pm_postmaster.proofs.Linking.{by_test}
 
 module _ (gives : ℕ → Type 0) where
   -- the later of two moments is given, where each is or is the first of all

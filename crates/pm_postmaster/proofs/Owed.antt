@@ -1,6 +1,7 @@
 -- A smart shutdown is owed behind the last pid: what calls and acts of the machine leave of that, and what they ask for.
 use Rattle.std.proofs.Common.{◌≡◌, ℕ, ◌<◌, ◌≤◌, List, [], ◌∷◌, refl, sym, ap, subst, ◌∙◌, arith}
 use Rattle.std.specs.Prelude.{Bool, true, false, ◌==◌, ◌||◌, not, if◌then◌else◌, Option, None, Some, unwrap_or}
+use Rattle.std.proofs.Math.Bool.{or-true}
 use Rattle.pm_admit.specs.declared.Cac.{Cac}
 use Rattle.pm_admit.specs.declared.Cac.TheVariants as decisions
 use Rattle.pm_journal.specs.NextsLaws.{first_is}
@@ -99,11 +100,7 @@ start_goes k rest m owes = by m.ended owes.5
 
 -- where the end is due it has ended
 pub end_due : (ended : Bool) (acts : List Action) (m : Machine) → (ended || has_end acts) ≡ m.ended → has_end acts ≡ true → m.ended ≡ true
-end_due ended acts m is due = sym is ∙ (ap (λ (b : Bool). ended || b) due ∙ or_true ended)
-  where
-    or_true : (b : Bool) → (b || true) ≡ true
-    or_true true = refl
-    or_true false = refl
+end_due ended acts m is due = sym is ∙ (ap (λ (b : Bool). ended || b) due ∙ or-true ended)
 
 -- an act is done
 pub owes_acted : (a : Action) (s t : Standing) → t ≡ done a s → first_due s.due ≡ Some a → Owes s.due s.machine → OwesOn 0 s t

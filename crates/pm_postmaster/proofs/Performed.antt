@@ -15,7 +15,7 @@ use Rattle.pm_journal.specs.Laws.{KeepsALegalJournal}
 use Rattle.pm_journal.specs.Standing.{Standing, act_for, done, entry_for, first_due, next_of}
 use Rattle.pm_journal.specs.Stands.{any_moment}
 use Rattle.pm_lines.specs.Log.{LogView}
-use Rattle.pm_seating.specs.Acts.{IsDone as IsDoneAtBoard, MayPerform, Performs as PerformsAtBoard}
+use Rattle.pm_seating.specs.Acts.{MayPerform, IsDone as IsDoneAtBoard, Performs as PerformsAtBoard}
 use Rattle.pm_seating.specs.Board.{seats_of}
 use Rattle.pm_seating.specs.Calls.{slot_for}
 use Rattle.pm_seating.specs.Final.{MayEndAnywhere}
@@ -42,7 +42,8 @@ use Rattle.pm_crew.specs.Renewals.{RenewsAsTold}
 use Rattle.pm_shared.specs.declared.views.Noted.{Noted}
 use Rattle.pm_shared.specs.Log.{noted_from}
 use Rattle.pm_state.specs.Journal.{all_replayed, replay_begun}
-use Rattle.pm_shared.specs.Renewed.{AreApart, renewal}
+use Rattle.pm_segment.specs.Renewal.{renewal}
+use Rattle.pm_shared.specs.Renewed.{AreApart}
 use Rattle.pm_shared.specs.Told.{HasRenewed, SharedModel}
 use Rattle.pm_state.specs.Laws.{RestartsSafely}
 use Rattle.pm_state.specs.Restarts.{AreAsSet}
@@ -79,11 +80,6 @@ quiet_act action.Ready s other = record { since = λ so. refl; lost = λ so. ref
 quiet_act action.Reset s other = absurd (other refl)
 quiet_act (action.Say line) s other = record { since = λ so. refl; lost = λ so. refl; resets = refl }
 quiet_act (action.End how) s other = record { since = λ so. refl; lost = λ so. refl; resets = refl }
-
--- the answer of the act
-abbrev pub answer_of : Result (Unit {0}) ServerEnd → Result Bool ServerEnd
-answer_of (Ok ok) = Ok true
-answer_of (Err end) = Err end
 
 -- the machine has ended
 ended_so : (limits : Limits) (how : Ending) (came : Option Came) (journal : List PmEvent) → EndsWith (entry.Ended how) journal → AreAsSet limits journal

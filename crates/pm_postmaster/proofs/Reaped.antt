@@ -1,6 +1,7 @@
 -- A look at a slot.
 use Rattle.std.proofs.Common.{◌≡◌, inl, inr, ℕ, ◌<◌, List, [], ◌∷◌, ◌++◌, refl, sym, ap, subst, ◌∙◌, length, arith, append-nil, nat_eq}
 use Rattle.std.specs.Prelude.{Bool, true, false, if◌then◌else◌, Option, None, Some, IfSome, is_some, option_map, unwrap_or}
+use Rattle.pm_facts.specs.Bools.{by_test}
 use Rattle.pm_exit.specs.declared.child.Kind.{Kind}
 use Rattle.pm_exit.specs.declared.child.Kind.TheVariants as kinds
 use Rattle.pm_exit.specs.declared.child.Status.{Status}
@@ -24,15 +25,14 @@ use Rattle.pm_journal.specs.Stands.{AtWork}
 use Rattle.pm_lines.specs.Log.{HasSaid}
 use Rattle.pm_lines.specs.LogLaws.{said_same}
 use Rattle.pm_outside.specs.Visits.{Visits}
-use Rattle.pm_chain.specs.Chain.{lost_from, resets_of}
-use Rattle.pm_chain.specs.FoldsLaws.{lost_since}
+use Rattle.pm_chain.specs.Chain.{lost_from, resets_of, lost_since}
 use Rattle.pm_crew.specs.Renewals.{RenewsAsTold}
 use Rattle.pm_seating.specs.Board.{SeenAs, seat_at, seats_of}
 use Rattle.pm_seating.specs.Calls.{IsCutOff, exit_of, exits, kept_by}
 use Rattle.pm_seating.specs.Mails.{kept_told}
 use Rattle.pm_seating.specs.Chained.{accepted_in}
 use Rattle.pm_seating.specs.Final.{MayEndAnywhere}
-use Rattle.pm_seating.specs.FoldingLaws.{journal-notes}
+use Rattle.pm_seating.specs.FoldingLaws.{journal-notes, none_more}
 use Rattle.pm_seating.specs.Seating.{Move, journal_of}
 use Rattle.pm_seating.specs.Sitting.{HasFoundNone, HasReaped}
 use Rattle.pm_seating.specs.Standing.{view}
@@ -56,11 +56,11 @@ use Rattle.pm_postmaster.specs.Requests.{IsAsked, ended_in}
 use Rattle.pm_postmaster.proofs.Asked.{asked_all, ended_opened, none_asked, owes_same}
 use Rattle.pm_postmaster.proofs.Owed.{exits_ask_none, owes_exited}
 use Rattle.pm_postmaster.proofs.Going.{GoesBy, Leaves, LeavesAsking, LeavesOutside, LeavesStore, asks_nothing, drawn_at, holds_on, pid_at, serves_on}
-use Rattle.pm_postmaster.proofs.Linking.{by_test, is_out, links_released, links_running, links_same}
+use Rattle.pm_postmaster.proofs.Linking.{is_out, links_released, links_running, links_same}
 use Rattle.pm_postmaster.proofs.Moments.{exited_given, exited_moments, later_given}
 use Rattle.pm_postmaster.proofs.Redoing.{redos_behind, redos_exited, redos_told}
 use Rattle.pm_postmaster.proofs.Renewing.{renews_as_told, renews_exited}
-use Rattle.pm_postmaster.proofs.Steps.{count_more, none_more, quiet_none}
+use Rattle.pm_postmaster.proofs.Steps.{count_more, quiet_none}
 
 -- ---- links
 

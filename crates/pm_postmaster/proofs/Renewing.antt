@@ -4,14 +4,16 @@ use Rattle.std.proofs.lemmas.List.{map-append}
 use Rattle.std.specs.Prelude.{true, false}
 use Rattle.pm_state.specs.declared.event.PmEvent.{PmEvent}
 use Rattle.pm_state.specs.declared.event.PmEvent.TheVariants as entry
-use Rattle.pm_chain.specs.Chain.{gone_from, lost_from, opened_of, resets_of}
-use Rattle.pm_chain.specs.FoldsLaws.{gone-append, gone_since, gone_since-append, lost-append, lost_since, lost_since-append, opened-append, resets-append}
+use Rattle.pm_chain.specs.Chain.{gone_from, lost_from, opened_of, resets_of, lost_since, gone_since}
+use Rattle.pm_chain.specs.FoldsLaws.{gone-append, gone_since-append, lost-append, lost_since-append, opened-append, resets-append}
 use Rattle.pm_crew.specs.Renewals.{BeginsWithThose, EachBeginsSo, RenewsAsTold}
 use Rattle.pm_query.specs.declared.book.BookEntry.{BookEntry}
 use Rattle.pm_query.specs.declared.book.BookEntry.TheVariants as noted
 use Rattle.pm_shared.specs.declared.views.Noted.{Noted}
 use Rattle.pm_shared.specs.Log.{entries_of, noted_from}
-use Rattle.pm_shared.specs.Renewed.{AreApart, renewal}
+use Rattle.pm_segment.specs.Renewal.{renewal}
+use Rattle.pm_shared.specs.GrowsLaws.{entries_noted}
+use Rattle.pm_shared.specs.Renewed.{AreApart}
 use Rattle.pm_postmaster.specs.Serving.{Renews}
 
 -- ---- the book
@@ -28,10 +30,6 @@ renewal-gone so (pid ∷ pids) generation = renewal-gone (so ++ pid ∷ []) pids
 renewal-since : (so pids : List ℕ) (generation : ℕ) → gone_since so (renewal pids generation) ≡ []
 renewal-since so [] generation = refl
 renewal-since so (pid ∷ pids) generation = renewal-since (so ++ pid ∷ []) pids generation
-
-entries-from : (at : ℕ) (es : List BookEntry) → entries_of (noted_from at es) ≡ es
-entries-from at [] = refl
-entries-from at (e ∷ es) = ap (λ (l : List BookEntry). e ∷ l) (entries-from (at + 1) es)
 
 begins-append : (gone lost more : List (List ℕ)) → EachBeginsSo gone lost → EachBeginsSo gone (lost ++ more)
 begins-append [] lost more each = tt
@@ -113,7 +111,7 @@ module _ (journal : List PmEvent) (lost : List ℕ) (own : List Noted) where
       let e : List PmEvent = entry.Reset generation ∷ [] in
       let es : List BookEntry = renewal (lost ++ others) generation in
       let all : entries_of (own ++ noted_from at es) ≡ entries_of own ++ es =
-      map-append (λ (x : Noted). x.entry) own (noted_from at es) ∙ ap (λ (l : List BookEntry). entries_of own ++ l) (entries-from at es) in
+      map-append (λ (x : Noted). x.entry) own (noted_from at es) ∙ ap (λ (l : List BookEntry). entries_of own ++ l) (entries_noted at es) in
       let gone : gone_from [] (entries_of (own ++ noted_from at es)) ≡ gone_from [] (entries_of own) ++ (lost ++ others) ∷ [] =
       ap (gone_from []) all ∙ (gone-append [] (entries_of own) es ∙ ap (λ (l : List (List ℕ)). gone_from [] (entries_of own) ++ l)
       (ap (λ (so : List ℕ). gone_from so es) was.fresh ∙ renewal-gone [] (lost ++ others) generation)) in

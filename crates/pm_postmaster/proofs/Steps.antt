@@ -13,7 +13,7 @@ use Rattle.pm_modes.specs.declared.Mode.{Mode}
 use Rattle.pm_outside.specs.Visits.{Visits}
 use Rattle.pm_seating.specs.Board.{seats_of}
 use Rattle.pm_seating.specs.Chained.{accepted_in}
-use Rattle.pm_seating.specs.FoldingLaws.{journal-more}
+use Rattle.pm_seating.specs.FoldingLaws.{journal-more, none_more}
 use Rattle.pm_seating.specs.Seating.{Kill, Move, Reads, Request, Seating, asked_by, entries_by, is_seated, journal_of, seating_of}
 use Rattle.pm_seating.specs.Standing.{view}
 use Rattle.pm_seating.specs.Standing as seating
@@ -34,9 +34,6 @@ use Rattle.pm_postmaster.proofs.Moments.{asked_moments, later_given, ticked_mome
 pub count_more : (journal more : List PmEvent) → accepted_in more ≡ [] → length (accepted_in (journal ++ more)) ≡ length (accepted_in journal)
 count_more journal more none =
     ap length (accepted-append journal more ∙ (ap (λ (l : List ℕ). accepted_in journal ++ l) none ∙ append-nil (accepted_in journal)))
-
-pub none_more : (count : ℕ) (earlier : List Move) → journal_of count (earlier ++ []) ≡ journal_of count earlier ++ []
-none_more count earlier = ap (journal_of count) (append-nil earlier) ∙ sym (append-nil (journal_of count earlier))
 
 pub quiet_none : AreQuiet []
 quiet_none = record { since = λ so. refl; lost = λ so. refl; resets = refl }

@@ -13,7 +13,8 @@ use Rattle.pm_server.specs.declared.end.ServerEnd.{ServerEnd}
 use Rattle.pm_server.specs.declared.end.ServerEnd.TheVariants.{Clean, Abnormal, NoMemory}
 use Rattle.pm_server.specs.declared.end.StartWhy.TheVariants.{Redo, Killed}
 use Rattle.pm_server.specs.declared.end.Why.TheVariants.{AfterCrash, StartupFailed, RestartOff}
-use Rattle.pm_shared.specs.Renewed.{AreApart, renewal}
+use Rattle.pm_segment.specs.Renewal.{renewal}
+use Rattle.pm_shared.specs.Renewed.{AreApart}
 use Rattle.pm_shared.specs.Told.{HasRenewed}
 use Rattle.pm_supervisor.specs.declared.Ending.{Ending}
 use Rattle.pm_supervisor.specs.declared.Ending.TheVariants as endings

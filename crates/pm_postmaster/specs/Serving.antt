@@ -4,8 +4,7 @@ use Rattle.std.specs.List.{flat_map}
 use Rattle.atomic_table.specs.Seated.{TableId}
 use Rattle.pm_board.specs.declared.views.RosterView.{RosterView}
 use Rattle.pm_board.specs.Places.{slot_at}
-use Rattle.pm_chain.specs.Chain.{gone_from, lost_from, opened_of, resets_of}
-use Rattle.pm_chain.specs.FoldsLaws.{gone_since, lost_since}
+use Rattle.pm_chain.specs.Chain.{gone_from, lost_from, opened_of, resets_of, lost_since, gone_since}
 use Rattle.pm_crew.specs.Redos.{redo_ends_at, redo_told}
 use Rattle.pm_crew.specs.Renewals.{EachBeginsSo, RenewsAsTold}
 use Rattle.pm_crew.specs.Redos.{RedosAreThose}
@@ -24,7 +23,6 @@ use Rattle.pm_server.specs.declared.end.StartWhy.{StartWhy}
 use Rattle.pm_server.specs.declared.end.StartWhy.TheVariants as why
 use Rattle.pm_server.specs.declared.end.Why.TheVariants.{StartupFailed}
 use Rattle.pm_exit.specs.declared.child.Status.TheVariants.{Signal}
-use Rattle.pm_query.specs.declared.store.StoreNo.TheVariants.{Redo as RedoNo}
 use Rattle.pm_board.specs.declared.views.PastChild.{PastChild}
 use Rattle.pm_postmaster.specs.declared.server.Came.{Came}
 use Rattle.pm_postmaster.specs.Looking.{came_of}
@@ -42,6 +40,7 @@ use Rattle.pm_worker.specs.declared.mail.MailTold.{MailTold}
 use Rattle.pm_postmaster.specs.Links.{HasLinks}
 use Rattle.pm_postmaster.specs.Requests.{AsksSoFar, IsAsked, ended_in}
 use Rattle.pm_postmaster.specs.View.{View}
+use Rattle.pm_query.specs.declared.store.StoreNo.TheVariants.{Redo as RedoNo}
 
 -- How a server began: by what limits, on what board of so many slots, with what side of its store, log and clock, and whether its
 -- journal tells.

@@ -1,5 +1,5 @@
 -- A run of `once` keeps all promises.
-use Rattle.std.proofs.Common.{◌⊎◌, inl, inr, List, Option, Some, None}
+use Rattle.std.proofs.Common.{inr, List, Option, Some, None}
 use Rattle.std.specs.Prelude.{map, IfSome}
 use Rattle.pm_disk.specs.Files.{Files}
 use Rattle.pm_answers.specs.Laws.{RepliesAreRight}
@@ -12,19 +12,14 @@ use Rattle.pm_state.specs.Laws.{RestartsSafely}
 use Rattle.pm_state.specs.Restarts.{RestartsInOrder}
 use Rattle.pm_server.specs.declared.conf.Conf.{Conf}
 use Rattle.pm_once.specs.Once.{IsOnceRun}
-use Rattle.pm_server.specs.Views.{DiskView}
 use Rattle.pm_once.specs.Outside.{OutsideView}
-use Rattle.pm_server.specs.Story.{HoldsHistory, IsClean, IsStory, KeepsMeaning}
+use Rattle.pm_server.specs.Story.{IsClean, IsStory}
 use Rattle.pm_server.specs.declared.end.ServerEnd.{ServerEnd}
-use Rattle.pm_promises.specs.Promises.{IsBaseOf, IsPromised, IsPromisedRun, IsTold, talk_of}
+use Rattle.pm_promises.specs.Promises.{IsPromised, IsPromisedRun, IsTold, talk_of}
 use Rattle.pm_promises.proofs.Replying.{once_answers_right}
 use Rattle.pm_promises.specs.Stops.{AcknowledgedStays}
-use Rattle.pm_promises.specs.StopsLaws.{at_each, whole_each}
+use Rattle.pm_promises.specs.StopsLaws.{at_each, whole_each, base_is}
 use Rattle.pm_promises.proofs.Telling.{its_story, opens_empty}
-
-base_is : (base : Base) (book : List BookEntry) (before now : DiskView) → KeepsMeaning book before now ⊎ HoldsHistory base book before now → IsBaseOf base book before
-base_is base book before now (inl keeps) = inl keeps.unanswered
-base_is base book before now (inr holds) = inr holds.base_is
 
 both : {A : Type 0} (P Q : A → Type 0) (o : Option A) → IfSome o P → IfSome o Q → IfSome o (λ x. P x × Q x)
 both P Q None p q = tt

@@ -20,6 +20,7 @@ use Rattle.pm_query.specs.History.{History, beginning, number}
 use Rattle.pm_server.specs.Views.{DiskView}
 use Rattle.pm_server.specs.Story.{HoldsHistory, IsNoAnswer, KeepsMeaning}
 use Rattle.pm_promises.specs.Stops.{AcknowledgedStays, AreSomeOf, IsAsAtFirst, MeansWhole, WholeOrNot, commit_by, commits_in}
+use Rattle.pm_promises.specs.Promises.{IsBaseOf}
 use Rattle.pm_answers.specs.HistoryLaws.{base_stays}
 
 -- ---- before the first answer
@@ -171,3 +172,9 @@ whole_each never base book before now stays t from to image left = by (stays t f
       → ∥ ((commits : List (List Change)) × AreSomeOf commits (commits_in (up_to t book)) × MeansWhole base commits image) ∥₁ ⊎ IsAsAtFirst book before t image
   by (inl holds) = inl (whole_number never base (up_to t book) image holds)
   by (inr first) = inr first
+
+-- ---- what a store begins with
+
+pub base_is : (base : Base) (book : List BookEntry) (before now : DiskView) → KeepsMeaning book before now ⊎ HoldsHistory base book before now → IsBaseOf base book before
+base_is base book before now (inl keeps) = inl keeps.unanswered
+base_is base book before now (inr holds) = inr holds.base_is

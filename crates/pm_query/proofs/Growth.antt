@@ -12,7 +12,7 @@ use Rattle.pm_rows.specs.Standing.{Standing}
 use Rattle.pm_query.specs.History.{History, beginning}
 use Rattle.pm_query.specs.Book.{Course, course_after, history_after, history_of, need_after, need_of, needs_of, standing_of}
 use Rattle.pm_query.specs.BookLaws.{CommitsAddTheirBytes, RowsAreWithinNeeds}
-use Rattle.pm_query.proofs.Sizes.{size-insert, size-remove}
+use Rattle.pm_rows.specs.RowLaws.{size-insert, size-remove}
 
 changed_size : (rows : RowMap) (change : Change) → size_of (changed rows change) ≤ size_of rows + log.change_length change
 changed_size rows (Put key value) = omega (arith, size-insert rows key value)

@@ -23,8 +23,7 @@ use Rattle.pm_query.specs.declared.item.Item.TheVariants as items
 use Rattle.pm_query.specs.declared.effect.Effect.{Effect}
 use Rattle.pm_query.specs.Answer.{Progress, answers, makes, is_full, is_too_large, row_at, insertion, replacement, deletion, effect_of, with_change, has_failed, advanced, after_statement}
 use Rattle.pm_query.specs.Limits.{IsShortRow, HasShortRows, IsShortChange, HasShortValues}
-use Rattle.pm_query.proofs.Shown.{entries-remove}
-use Rattle.pm_query.proofs.Sizes.{size-remove}
+use Rattle.pm_rows.specs.RowLaws.{entries-remove, size-remove}
 
 -- ---- rows with one change
 

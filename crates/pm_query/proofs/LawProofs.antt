@@ -1,11 +1,13 @@
 -- Proofs of the laws of the answer, along the statements.
-use Rattle.std.proofs.Common.{◌≡◌, Bool, true, false, cond, ◌||◌, List, [], ◌∷◌, ◌++◌, Option, Some, None, fold, refl, sym, ap, subst, ◌∙◌, arith}
+use Rattle.std.proofs.Common.{◌≡◌, true, false, cond, List, [], ◌∷◌, ◌++◌, Option, Some, None, fold, refl, sym, ap, subst, ◌∙◌, arith}
 use Rattle.std.specs.Bool.{IsTrue}
 use Rattle.std.specs.List.{list_any}
 use Rattle.std.specs.Option.{option_to_list}
 use Rattle.std.specs.Prelude.{All}
+use Rattle.std.proofs.lemmas.Bool.{or_parts}
 use Rattle.std.proofs.lemmas.List.Elements.{All-nil, All-cons}
 use Rattle.pm_rows.specs.Fold.{RowMap, changed, committed}
+use Rattle.pm_rows.specs.RowLaws.{committed-push}
 use Rattle.pm_rows.specs.Limits.{max_changes, IsWithinRowLimits}
 use Rattle.pm_rows.specs.declared.commit.Change.{Change}
 use Rattle.pm_sql.specs.declared.stmt.Stmt.{Stmt}
@@ -18,10 +20,6 @@ use Rattle.pm_query.specs.Laws.{CommitLeavesRows, ErrorsComeLast, OnlyWritesComm
 use Rattle.pm_query.specs.Limits.{HasShortRows, HasShortValues, IsShortChange, IsWithinCommitLimits}
 use Rattle.pm_query.proofs.Keeping.{IsKept, kept_script}
 
-made_last : (rows : RowMap) (changes : List Change) (change : Change) → committed rows (changes ++ change ∷ []) ≡ changed (committed rows changes) change
-made_last rows [] change = refl
-made_last rows (first ∷ changes) change = made_last (changed rows first) changes change
-
 none_last : (rows : RowMap) (changes : List Change) → committed rows (changes ++ []) ≡ committed rows changes
 none_last rows [] = refl
 none_last rows (first ∷ changes) = none_last (changed rows first) changes
@@ -32,7 +30,7 @@ Follows table progress = progress.rows ≡ committed table progress.changes
 
 follows_change : (table rows : RowMap) (changes : List Change) (change : Option Change) → rows ≡ committed table changes → with_change rows change ≡ committed table (changes ++ option_to_list change)
 follows_change table rows changes None e = e ∙ sym (none_last table changes)
-follows_change table rows changes (Some change) e = ap (λ r. changed r change) e ∙ sym (made_last table changes change)
+follows_change table rows changes (Some change) e = ap (λ r. changed r change) e ∙ sym (committed-push table changes change)
 
 follows_statement : (table : RowMap) (progress : Progress) (stmt : Stmt) → Follows table progress → Follows table (after_statement progress stmt)
 follows_statement table progress stmt e =
@@ -55,10 +53,6 @@ pub failure_commits_nothing : (rows : RowMap) (script : List Stmt) → IsTrue (h
 failure_commits_nothing rows [] h = refl
 failure_commits_nothing rows (stmt ∷ script) h = ap (λ b. cond b [] (after_script rows (stmt ∷ script)).changes) h
 
-either : (a b : Bool) → a || b ≡ false → (a ≡ false) × (b ≡ false)
-either true b e = cc
-either false b e = (refl, e)
-
 -- a statement that doesn't write makes no change
 no_change : (rows : RowMap) (stmt : Stmt) → is_writing stmt ≡ false → (effect_of rows stmt).change ≡ None
 no_change rows (stmts.Insert key value) reads = cc
@@ -79,7 +73,7 @@ reads_statement progress stmt reads none =
 reads_script : (progress : Progress) (script : List Stmt) → list_any is_writing script ≡ false → progress.changes ≡ [] → (fold after_statement progress script).changes ≡ []
 reads_script progress [] reads none = none
 reads_script progress (stmt ∷ script) reads none =
-    let both = either (is_writing stmt) (list_any is_writing script) reads in
+    let both = or_parts (is_writing stmt) (list_any is_writing script) reads in
     reads_script (after_statement progress stmt) script both.1 (reads_statement progress stmt both.0 none)
 
 reads_commit_nothing : (rows : RowMap) (script : List Stmt) → list_any is_writing script ≡ false → commit_of rows script ≡ []
@@ -105,11 +99,11 @@ one_more : (items : List Item) (last : Item) → list_any is_error items ≡ fal
 one_more [] last none [] after item e h = cc
 one_more [] last none (b ∷ before) after item e h = no_item before after item cc
 one_more (first ∷ items) last none [] after item e h =
-    let calm = (either (is_error first) (list_any is_error items) none).0 in
+    let calm = (or_parts (is_error first) (list_any is_error items) none).0 in
     let same : first ≡ item = cc in
     let error : is_error first ≡ true = ap is_error same ∙ h in
     cc
-one_more (first ∷ items) last none (b ∷ before) after item e h = one_more items last (either (is_error first) (list_any is_error items) none).1 before after item (cc) h
+one_more (first ∷ items) last none (b ∷ before) after item e h = one_more items last (or_parts (is_error first) (list_any is_error items) none).1 before after item (cc) h
 
 ends_statement : (progress : Progress) (stmt : Stmt) → ErrorsComeLast progress.items → ErrorsComeLast (after_statement progress stmt).items
 ends_statement progress stmt e =

@@ -9,7 +9,6 @@ use Rattle.std.specs.FinMap.{is_sorted, int_cmp-IsAntisymmetric}
 use Rattle.std.specs.FinMap.Entries.{below_all, by_order, put, where_key}
 use Rattle.pm_query.specs.Answer.{row_at}
 use Rattle.pm_query.specs.Merge.{put_or_drop, laid}
-use Rattle.pm_query.proofs.Sizes.{first_part, second_part, less}
 
 -- what is left where one item was taken ahead
 abbrev pub left : {A X : Type 0} → (A → X) → Option A → List X → List X
@@ -25,6 +24,19 @@ pub record IsMerging (rows : List (ℤ × List ℕ)) (changes : List (ℤ × Opt
   pub whole : pairs ++ laid rows changes ≡ all
   pub rows_rise : T (is_sorted int_cmp rows)
   pub changes_rise : T (is_sorted int_cmp changes)
+
+first_part : (a b : Bool) → T (a && b) → T a
+first_part true b p = tt
+first_part false b p = p
+
+second_part : (a b : Bool) → T (a && b) → T b
+second_part true b p = p
+second_part false b p = absurd p
+
+less : (r : Ordering) → T (is_lt r) → r ≡ Less
+less Less p = refl
+less Equal p = absurd p
+less Greater p = absurd p
 
 pub both_parts : (a b : Bool) → T a → T b → T (a && b)
 both_parts true b p q = q

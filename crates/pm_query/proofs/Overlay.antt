@@ -8,7 +8,7 @@ use Rattle.std.specs.BTreeMap as tree
 use Rattle.std.specs.BTreeMap.{BTreeMap, is_at, Updates}
 use Rattle.pm_rows.specs.Fold.{RowMap}
 use Rattle.pm_query.specs.Changes.{left_at, laid_over}
-use Rattle.pm_query.specs.HistoryLaws.{same_rows}
+use Rattle.pm_rows.specs.RowLaws.{same_rows}
 
 pub get-left_at : (rows : RowMap) (key : ℤ) (value : Option (List ℕ)) (q : ℤ) → get (left_at rows key value) q ≡ cond (eq_by_cmp int_cmp q key) value (get rows q)
 get-left_at rows key None q = get-remove int_cmp_total rows key q

@@ -15,10 +15,10 @@ use Rattle.pm_query.specs.declared.item.Item.TheVariants as items
 use Rattle.pm_rows.specs.declared.commit.Change.TheVariants.{Put}
 use Rattle.pm_query.specs.declared.book.BookEntry.{BookEntry}
 use Rattle.pm_query.specs.declared.book.BookEntry.TheVariants.{Attached, Answered, Redone}
-use Rattle.pm_query.specs.Changes.{size_at}
+use Rattle.pm_rows.specs.Size.{size_at}
 use Rattle.pm_query.specs.Book.{IsLegal}
 use Rattle.pm_query.specs.WorkedBooks.{nothing, insert_seven, seven_inserted, one_insert, answered, forgotten, unanswered}
-use Rattle.pm_query.proofs.Sizes.{size-insert, size_of-empty}
+use Rattle.pm_rows.specs.RowLaws.{size-empty, size-insert}
 use Rattle.pm_query.proofs.Books.{AnswersWithin, answer_within}
 
 -- the first row is inserted
@@ -26,7 +26,7 @@ first_row : (key : ℤ) (value : List ℕ) → length value ≤ max_value_bytes 
 first_row key value short =
     let there : is_some (get empty key) ≡ false = ap (is_some {T = List ℕ}) (get-empty int_cmp key) in
     let room : is_full empty ≡ false = ap (nat_le max_rows) (len-empty int_cmp (List ℕ)) in
-    let size : size_of (insert empty key value) ≡ row_size value = omega (arith, size-insert empty key value, ap size_at (get-empty int_cmp key), size_of-empty) in
+    let size : size_of (insert empty key value) ≡ row_size value = omega (arith, size-insert empty key value, ap size_at (get-empty int_cmp key), size-empty) in
     let small : is_too_large (insert empty key value) ≡ false = grind (arith, nat_tests, size, short) in
     rw (there, room, small) refl
 

@@ -2,7 +2,7 @@
 use Rattle.std.specs.Prelude.{ℕ, ℤ, List, [], ◌∷◌, Option, Some, None}
 use Rattle.std.specs.FinMap.{insert, remove}
 use Rattle.pm_rows.specs.Fold.{RowMap}
-use Rattle.pm_rows.specs.Size.{row_size}
+pub use Rattle.pm_rows.specs.Size.{size_at}
 
 -- a key with a value has that value, and one without has no row
 abbrev pub left_at : RowMap → ℤ → Option (List ℕ) → RowMap
@@ -18,8 +18,3 @@ laid_over rows (entry ∷ entries) = left_at (laid_over rows entries) entry.0 en
 abbrev pub rows_at : Option (List ℕ) → ℕ
 rows_at None = 0
 rows_at (Some value) = 1
-
--- how many bytes they take
-abbrev pub size_at : Option (List ℕ) → ℕ
-size_at None = 0
-size_at (Some value) = row_size value

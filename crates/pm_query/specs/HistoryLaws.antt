@@ -1,15 +1,18 @@
 -- Laws of a book that goes on by an entry, and of its history.
-use Rattle.std.proofs.Common.{◌≡◌, ℕ, ◌-◌, ◌≤◌, ℤ, List, [], ◌∷◌, ◌++◌, Option, None, Some, fold, refl, sym, ap, subst, ◌∙◌, arith, length-append, append_assoc, append-nil}
-use Rattle.std.specs.Cmp.{int_cmp_total}
-use Rattle.std.specs.FinMap.{get, same_map, int_cmp-IsAntisymmetric}
+use Rattle.std.proofs.Common.{◌≡◌, ℕ, ◌-◌, ◌≤◌, ℤ, List, [], ◌∷◌, ◌++◌, length, Option, None, fold, refl, sym, ap, subst, ◌∙◌, arith, length-append, append_assoc, append-nil}
+use Rattle.std.specs.Ordering.{int_cmp}
+use Rattle.std.specs.Prelude.{All}
+use Rattle.std.specs.FinMap.{empty, entries, len-empty, len-entries}
 use Rattle.std.proofs.lemmas.List.{take_all}
+use Rattle.std.proofs.lemmas.List.Elements.{All-nil}
 use Rattle.std.proofs.lemmas.List.Sums.{fold-append}
 use Rattle.std.proofs.Math.Seq.{length-take-le}
-use Rattle.pm_rows.specs.Fold.{RowMap, folded}
+use Rattle.pm_rows.specs.Fold.{committed, folded}
 use Rattle.pm_rows.specs.declared.commit.Change.{Change}
 use Rattle.pm_rows.specs.Standing.{Standing}
 use Rattle.pm_query.specs.declared.book.BookEntry.{BookEntry}
 use Rattle.pm_query.specs.History.{History, beginning, count_of, kept, number, rows_of, with_commit}
+use Rattle.pm_query.specs.Limits.{HasShortRows, IsShortRow}
 use Rattle.pm_query.specs.Book.{Base, Course, MayGoOn, course_after, generation_after, generation_of, history_after, history_of, kept_after, kept_by_redo, present, present_after, standing_of, times_after, times_attached}
 
 -- ---- one entry more
@@ -53,6 +56,11 @@ pub base-with_commit : (history : History) (commit : List Change) → (with_comm
 base-with_commit history [] = refl
 base-with_commit history (change ∷ changes) = refl
 
+-- the rows behind a commit
+pub rows_of-with_commit : (history : History) (commit : List Change) → rows_of (with_commit history commit) ≡ committed (rows_of history) commit
+rows_of-with_commit history [] = refl
+rows_of-with_commit history (change ∷ changes) = fold-append committed history.base.rows history.commits ((change ∷ changes) ∷ [])
+
 -- ---- its numbers
 
 -- what these commits make of its base
@@ -67,8 +75,12 @@ whole_number history = ap (number_of history (count_of history)) (take_all (coun
 pub cut_count : (history : History) (count : ℕ) → history.base.count ≤ count → count ≤ count_of history → count_of (kept history count) ≡ count
 cut_count history count least most = omega (arith, length-take-le (count - history.base.count) history.commits (omega (arith, most)), least)
 
--- ---- rows
+-- ---- no rows
 
--- two maps that answer alike are one
-pub same_rows : (m n : RowMap) → ((q : ℤ) → get m q ≡ get n q) → m ≡ n
-same_rows m n is = same_map int_cmp_total int_cmp-IsAntisymmetric m n is
+no_rows : (es : List (ℤ × List ℕ)) → length es ≡ 0 → All IsShortRow es
+no_rows [] none = All-nil IsShortRow
+no_rows (first ∷ es) none = absurd (omega arith)
+
+-- no row is too long
+pub short_rows-empty : HasShortRows empty
+short_rows-empty = no_rows (entries empty) (sym (len-entries empty) ∙ len-empty int_cmp (List ℕ))

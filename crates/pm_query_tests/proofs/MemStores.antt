@@ -1,5 +1,5 @@
 -- What an entry does to the store in memory.
-use Rattle.std.proofs.Common.{rules, ◌≡◌, ◌≢◌, ◌↔◌, ◌==◌, Bool, true, false, not, IsTrue, ℕ, ◌+◌, ◌-◌, ◌≤◌, List, [], ◌∷◌, ◌++◌, length, length-append, fold, cond, Option, None, Some, Err, refl, sym, ◌∙◌, ap, subst, arith}
+use Rattle.std.proofs.Common.{rules, ◌≡◌, ◌≢◌, ◌↔◌, ◌==◌, Bool, not, IsTrue, ℕ, ◌-◌, List, [], ◌∷◌, ◌++◌, length, length-append, Option, None, Some, refl, sym, ◌∙◌, ap, subst, arith}
 use Rattle.std.specs.Option.{option_map}
 use Rattle.std.proofs.lemmas.List.{take_all}
 use Rattle.std.proofs.lemmas.List.Sums.{fold-append}
@@ -13,6 +13,7 @@ use Rattle.pm_query.specs.declared.store.StoreNo.{StoreNo}
 use Rattle.pm_query.specs.declared.store.StoreNo.TheVariants.{Broken}
 use Rattle.pm_query.specs.History.{History, beginning, count_of, kept, rows_of, with_commit}
 use Rattle.pm_query.specs.Book.{Base, Course, course_after, course_of, history_after, history_of, kept_after, standing_of}
+use Rattle.pm_query.specs.HistoryLaws.{rows_of-with_commit}
 use Rattle.pm_query_tests.specs.MemStore.{Goes, Holds, IsOf, Moment, count_behind}
 use Rattle.pm_query_tests.specs.MemStoreLaws.{goes_nowhere}
 
@@ -130,10 +131,6 @@ goes_redone pid generation count number redone rows before now is en =
         (ap Some number_is ∙ sym (ap (λ (r : Option ℕ). kept_after r (Redone pid generation number)) was))
 
 -- ---- an answer
-
-rows_of-with_commit : (history : History) (commit : List Change) → rows_of (with_commit history commit) ≡ committed (rows_of history) commit
-rows_of-with_commit history [] = refl
-rows_of-with_commit history (change ∷ changes) = fold-append committed history.base.rows history.commits ((change ∷ changes) ∷ [])
 
 count_of-with_commit : (history : History) (commit : List Change) → count_of (with_commit history commit) ≡ count_behind (count_of history) commit
 count_of-with_commit history [] = refl

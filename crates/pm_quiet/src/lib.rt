@@ -1,7 +1,10 @@
-//! The life of a child to which nothing happens, as one that is alone has it.
+//! The lives of children that are alone. To one of them nothing happens, and the other is asked for the last checkpoint.
 #![tactic(auto)]
 
+mod asked;
+mod asked_life;
 mod quiet;
 mod quiet_life;
 
+pub use asked::Asked;
 pub use quiet::{Home, Quiet};

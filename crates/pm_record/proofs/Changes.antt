@@ -3,7 +3,8 @@ use Rattle.std.proofs.Common.{◌≡◌, ℕ, suc, ◌+◌, ◌-◌, ◌<◌, �
 use Rattle.std.proofs.lemmas.Bool.{cases_lt, leb-true, le-leb, lt-ltb, le-ltb, and_parts}
 use Rattle.std.proofs.lemmas.Bool.{eqb-true}
 use Rattle.std.proofs.Math.Facts.{sfits_to_z}
-use Rattle.pm_record.proofs.Numbers.{either, or_true}
+use Rattle.std.proofs.lemmas.Bool.{or_cases}
+use Rattle.std.proofs.Math.Bool.{or-true}
 use Rattle.std.specs.Int.{w64}
 use Rattle.std.specs.Int.RustNames.{FitsSigned}
 use Rattle.std.specs.Str.{IsUtf8}
@@ -83,7 +84,7 @@ fills_some n c left is = elim is [
 -- ---- tags
 
 fills_to : (n c left : ℕ) → fills n c left ≡ true → Fills n c left
-fills_to n c left e = elim (either (eqb left (least n c)) (leb (least n c + 4) left && leb left (most n c)) e) [
+fills_to n c left e = elim (or_cases (eqb left (least n c)) (leb (least n c + 4) left && leb left (most n c)) e) [
   | inl a ↦ inl (eqb-true _ _ a)
   | inr a ↦ let p = and_parts (leb (least n c + 4) left) (leb left (most n c)) a in inr (leb-true _ _ p.0, leb-true _ _ p.1)
 ]
@@ -94,7 +95,7 @@ eqb_same a b e = search (rules, eq-eqb)
 fills_from : (n c left : ℕ) → Fills n c left → fills n c left ≡ true
 fills_from n c left is = elim is [
   | inl a ↦ ap (λ (t : Bool). t || (leb (least n c + 4) left && leb left (most n c))) (eqb_same left (least n c) a)
-  | inr a ↦ rw (le-leb (least n c + 4) left a.0, le-leb left (most n c) a.1) (or_true (eqb left (least n c)))
+  | inr a ↦ rw (le-leb (least n c + 4) left a.0, le-leb left (most n c) a.1) (or-true (eqb left (least n c)))
 ]
 
 module _ (n c left : ℕ) where
@@ -102,7 +103,7 @@ module _ (n c left : ℕ) where
   MayTag tag = (may_tag n c left tag ≡ true) × (tag < 256)
 
   tag_cases : (tag : ℕ) → may_tag n c left tag ≡ true → ((tag ≡ 1) × HasRoom n c left) ⊎ ((tag ≡ 2) × (9 ≤ left) × Fills n c (left - 9))
-  tag_cases tag e = elim (either (eqb tag 1 && (leb (13 + least n c) left && leb left (max_change_bytes + most n c))) (eqb tag 2 && (leb 9 left && fills n c (left - 9))) e) [
+  tag_cases tag e = elim (or_cases (eqb tag 1 && (leb (13 + least n c) left && leb left (max_change_bytes + most n c))) (eqb tag 2 && (leb 9 left && fills n c (left - 9))) e) [
     | inl a ↦
         let p = and_parts (eqb tag 1) (leb (13 + least n c) left && leb left (max_change_bytes + most n c)) a in
         let q = and_parts (leb (13 + least n c) left) (leb left (max_change_bytes + most n c)) p.1 in

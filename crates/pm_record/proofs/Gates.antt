@@ -7,7 +7,8 @@ use Rattle.pm_record.specs.Gated.{past_gate, through_gates}
 use Rattle.pm_record.proofs.Gated.{behind_gate, gated_at}
 use Rattle.pm_record.proofs.Words.{Begins, Spelled}
 use Rattle.pm_record.proofs.Readers.{Reads, ThenWaits, ThenIs, becomes, then_reads, byte_reads}
-use Rattle.pm_record.proofs.Numbers.{either, or_true}
+use Rattle.std.proofs.lemmas.Bool.{or_cases}
+use Rattle.std.proofs.Math.Bool.{or-true}
 use Rattle.pm_record.proofs.Checks.{done_waits}
 use Rattle.pm_record.specs.declared.fault.Unread.{Unread}
 use Rattle.pm_record.specs.Reading.{Fails}
@@ -68,12 +69,12 @@ module _ {X State : Type 0} (Waits : State → List ℕ → Type 0) (Is : State 
   closed_gate = byte_reads (λ gate. gate ≡ 0) (λ gate. eqb gate 0) (λ b e lt. eqb-true b 0 e) (λ b h. (ap (λ (g : ℕ). eqb g 0) h, omega (arith, h))) (0, refl)
 
   gate_to : (state : State) (gate : ℕ) → (eqb gate 0 || ltb 0 (room state)) ≡ true → gate < 256 → May state gate
-  gate_to state gate e lt = elim (either (eqb gate 0) (ltb 0 (room state)) e) [ inl a ↦ (inl (eqb-true gate 0 a), lt) | inr a ↦ (inr (ltb-true 0 (room state) a), lt) ]
+  gate_to state gate e lt = elim (or_cases (eqb gate 0) (ltb 0 (room state)) e) [ inl a ↦ (inl (eqb-true gate 0 a), lt) | inr a ↦ (inr (ltb-true 0 (room state) a), lt) ]
 
   gate_from : (state : State) (gate : ℕ) → May state gate → ((eqb gate 0 || ltb 0 (room state)) ≡ true) × (gate < 256)
   gate_from state gate may = elim may.0 [
     | inl a ↦ (ap (λ (g : ℕ). eqb g 0 || ltb 0 (room state)) a, may.1)
-    | inr a ↦ (ap (λ (t : Bool). eqb gate 0 || t) (lt-ltb 0 (room state) a) ∙ or_true (eqb gate 0), may.1)
+    | inr a ↦ (ap (λ (t : Bool). eqb gate 0 || t) (lt-ltb 0 (room state) a) ∙ or-true (eqb gate 0), may.1)
   ]
 
   a_gate : (state : State) → Reads (Begins (Spelled (May state) single)) (Spelled (May state) single) (byte_at (λ gate. eqb gate 0 || ltb 0 (room state)))

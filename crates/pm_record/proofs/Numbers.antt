@@ -1,10 +1,11 @@
 -- Numbers of so many bytes, within ranges.
-use Rattle.std.proofs.Common.{◌≡◌, ◌||◌, ◌⊎◌, ℕ, zero, suc, ◌+◌, ◌*◌, ◌/◌, ◌^◌, ◌%◌, ◌<◌, ◌≤◌, Bool, true, false, List, [], ◌∷◌, length, get_or, cond, Ok, Err, refl, sym, ap, mul-le-mul_right, ◌-◌, subst, ◌∙◌, arith, inl, inr, add-one}
+use Rattle.std.proofs.Common.{◌≡◌, ℕ, zero, suc, ◌+◌, ◌*◌, ◌/◌, ◌^◌, ◌%◌, ◌<◌, ◌≤◌, Bool, true, false, List, [], ◌∷◌, length, get_or, cond, Ok, Err, refl, sym, ap, mul-le-mul_right, ◌-◌, subst, ◌∙◌, arith, inl, inr, add-one}
 use Rattle.std.specs.Int.{w8, w16, w32, w64, to_be_bytes, bytes_high_first}
 use Rattle.std.proofs.lemmas.Nat.{be_bytes_2, be_bytes_4, be_bytes_8, from_be_bytes-to_be_bytes_2, from_be_bytes-to_be_bytes_4, from_be_bytes-to_be_bytes_8, le-div, div_below, mod_below, div-add-mod'}
+use Rattle.std.proofs.Math.Bool.{or-true}
 use Rattle.std.proofs.Math.Nat.{pow-succ', pow-le-pow_right}
 use Rattle.pm_record.specs.Reading.{Read, ◌>>=◌, byte_at, number_at, in_part, may_be, IsWithin}
-use Rattle.std.proofs.lemmas.Bool.{cases_lt, leb-true, le-leb, and_parts}
+use Rattle.std.proofs.lemmas.Bool.{cases_lt, leb-true, le-leb, and_parts, or_cases}
 use Rattle.pm_record.specs.declared.number.Ranges.{Ranges}
 use Rattle.pm_record.proofs.Readers.{ok, ok_is, err_not_ok, bind_ok, IsBytes, Reading, Spelled, Behind, same_words, field_then, done_reads, byte_reads}
 
@@ -105,16 +106,8 @@ part_from low high value p x pos least most from below =
     let c : value ≤ high / p = le-div value high p pos (omega (arith, most, from)) in
     rw (le-leb low high a, le-leb (low / p) value (omega (arith, b)), le-leb value (high / p) c) refl
 
-pub or_true : (b : Bool) → (b || true) ≡ true
-or_true true = refl
-or_true false = refl
-
-pub either : (a b : Bool) → (a || b) ≡ true → (a ≡ true) ⊎ (b ≡ true)
-either true b e = inl refl
-either false b e = inr e
-
 pub ranges_to : (ranges : Ranges) (value k : ℕ) → may_be ranges value k ≡ true → (x : ℕ) × IsWithin ranges x × (value * 256 ^ k ≤ x) × (x < (value + 1) * 256 ^ k)
-ranges_to ranges value k e = elim (either (in_part ranges.low ranges.high value (256 ^ k)) (in_part ranges.low2 ranges.high2 value (256 ^ k)) e) [
+ranges_to ranges value k e = elim (or_cases (in_part ranges.low ranges.high value (256 ^ k)) (in_part ranges.low2 ranges.high2 value (256 ^ k)) e) [
   | inl a ↦ let p = part_to ranges.low ranges.high value (256 ^ k) (positive k) a in (p.0, inl (p.1, p.2), p.3, p.4)
   | inr a ↦ let p = part_to ranges.low2 ranges.high2 value (256 ^ k) (positive k) a in (p.0, inr (p.1, p.2), p.3, p.4)
 ]
@@ -122,7 +115,7 @@ ranges_to ranges value k e = elim (either (in_part ranges.low ranges.high value 
 pub ranges_from : (ranges : Ranges) (value k x : ℕ) → IsWithin ranges x → value * 256 ^ k ≤ x → x < (value + 1) * 256 ^ k → may_be ranges value k ≡ true
 ranges_from ranges value k x is least below = elim is [
   | inl a ↦ rw (part_from ranges.low ranges.high value (256 ^ k) x (positive k) a.0 a.1 least below) refl
-  | inr a ↦ rw (part_from ranges.low2 ranges.high2 value (256 ^ k) x (positive k) a.0 a.1 least below) (or_true (in_part ranges.low ranges.high value (256 ^ k)))
+  | inr a ↦ rw (part_from ranges.low2 ranges.high2 value (256 ^ k) x (positive k) a.0 a.1 least below) (or-true (in_part ranges.low ranges.high value (256 ^ k)))
 ]
 
 passed : (test : ℕ → Bool) (bytes : List ℕ) (p : ℕ × List ℕ) → byte_at test bytes ≡ Ok p → test p.0 ≡ true

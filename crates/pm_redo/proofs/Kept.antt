@@ -1,16 +1,17 @@
 -- The rows of a content can be spelled, as those of its base and its commits can, and keep the limits.
-use Rattle.std.proofs.Common.{◌≡◌, ℕ, ℤ, Bool, true, false, cond, not, List, [], ◌∷◌, length, None, refl, sym, ap, subst, ◌∙◌, arith, Less, Equal, Greater}
+use Rattle.std.proofs.Common.{ℕ, ℤ, Bool, List, [], ◌∷◌, length, sym, subst, arith, Less, Equal, Greater}
 use Rattle.std.specs.Prelude.{All}
 use Rattle.std.specs.List.{flat_map}
-use Rattle.std.specs.Ordering.{int_cmp, eq_by_cmp, is_eq}
-use Rattle.std.specs.Cmp.{int_cmp_total, alike_right, eq_by_cmp_equiv}
-use Rattle.std.specs.FinMap.{get, remove, entries, put, from_sorted, entries_sorted, entries-insert, entries-from_sorted, get-from_sorted, get-entries, get-remove, same_map, int_cmp-IsAntisymmetric}
-use Rattle.std.specs.FinMap.Entries.{by_order, where_key, is_sorted-where_key, find-where_key}
+use Rattle.std.specs.Ordering.{int_cmp}
+use Rattle.std.specs.Cmp.{int_cmp_total}
+use Rattle.std.specs.FinMap.{entries, put, entries-insert}
+use Rattle.std.specs.FinMap.Entries.{by_order}
 use Rattle.std.proofs.lemmas.List.{take_all}
 use Rattle.std.proofs.lemmas.List.Elements.{All-nil, All-cons, All-head, All-tail, All-append, All-same, All-filter}
 use Rattle.pm_rows.specs.declared.commit.Change.{Change}
 use Rattle.pm_rows.specs.declared.commit.Change.TheVariants.{Put, Del}
 use Rattle.pm_rows.specs.Fold.{RowMap, changed, committed, folded}
+use Rattle.pm_rows.specs.RowLaws.{entries-remove}
 use Rattle.pm_rows.specs.Limits.{IsWithinRowLimits}
 use Rattle.pm_disk.specs.Files.{Files, file_of}
 use Rattle.pm_record.specs.Found.{IsFound}
@@ -31,25 +32,6 @@ put_kept key value (e ∷ es) is all =
       | Equal ↦ All-cons IsRow (e.0, value) es (first.0, is.1, is.2) rest
       | Greater ↦ All-cons IsRow e (put int_cmp key value es) first (put_kept key value es is rest)
     ]
-
-turned : {A : Type 0} (b : Bool) (x y : A) → cond (not b) x y ≡ cond b y x
-turned true x y = refl
-turned false x y = refl
-
--- to take a key out is to drop its entry
-entries-remove : (rows : RowMap) (key : ℤ) → entries (remove rows key) ≡ where_key int_cmp (λ other. not (eq_by_cmp int_cmp key other)) (entries rows)
-entries-remove rows key =
-    let others : ℤ → Bool = λ other. not (eq_by_cmp int_cmp key other) in
-    let rest = where_key int_cmp others (entries rows) in
-    let rise = is_sorted-where_key int_cmp others (entries rows) (entries_sorted rows) in
-    let alike : (q x : ℤ) → int_cmp q x ≡ Equal → others x ≡ others q = λ q x t. ap (λ r. not (is_eq r)) (sym (alike_right int_cmp_total q x key t)) in
-    ap entries (same_map int_cmp_total int_cmp-IsAntisymmetric (remove rows key) (from_sorted rest) (λ q.
-    get-remove int_cmp_total rows key q
-    ∙ ap (λ b. cond b None (get rows q)) ((eq_by_cmp_equiv int_cmp_total).symm q key)
-    ∙ sym (turned (eq_by_cmp int_cmp key q) (get rows q) None)
-    ∙ ap (λ o. cond (others q) o None) (get-entries rows q)
-    ∙ sym (get-from_sorted int_cmp rest q rise ∙ find-where_key int_cmp others q (alike q) (entries rows))))
-    ∙ entries-from_sorted int_cmp rest rise
 
 -- ---- commits
 

@@ -1,41 +1,21 @@
 -- What the entries of an ordered table are as a finite map.
-use Rattle.std.proofs.Common.{◌≡◌, ℤ, Bool, true, false, cond, T, List, [], ◌∷◌, Option, Some, None, refl, sym, ap, subst, ◌∙◌, Less}
+use Rattle.std.proofs.Common.{◌≡◌, ℤ, Bool, true, cond, T, List, [], ◌∷◌, Option, Some, None, sym, ap, subst, ◌∙◌}
 use Rattle.std.specs.Prelude.{fold}
-use Rattle.std.specs.Ordering.{int_cmp, eq_by_cmp, is_lt}
+use Rattle.std.specs.Ordering.{int_cmp, eq_by_cmp}
 use Rattle.std.specs.Cmp.{int_cmp_total}
 use Rattle.std.specs.FinMap as map
-use Rattle.std.specs.FinMap.{FinMap, from_sorted, find, is_sorted, same_map, int_cmp-IsAntisymmetric, get-from_sorted, get-insert, get-remove, get-empty}
-use Rattle.std.specs.FinMap.Entries.{below_all}
+use Rattle.std.specs.FinMap.{FinMap, from_sorted, is_sorted, same_map, int_cmp-IsAntisymmetric, get-from_sorted, get-insert, get-remove, get-empty}
 use Rattle.std.specs.Map.{keys_of, lookup, update, update_all}
-use Rattle.std.specs.List.{AllByRecursion}
 use Rattle.std.specs.List.Sorted.{IsStrictlySortedBy}
 use Rattle.std.specs.BTreeMap as tree
 use Rattle.std.specs.BTreeMap.{BTreeMap, is_at, IsFromIterResult, IsOrdered, Updates}
-use Rattle.std.proofs.lemmas.Bool.{and_from}
 use Rattle.std.proofs.lemmas.Cmp.{eq_by_cmp_equiv}
-use Rattle.std.proofs.lemmas.Map.Keys.{sorted_head, sorted_tail}
+use Rattle.pm_rows.specs.RowLaws.{find-lookup, rises}
 
 holds : (b : Bool) → b ≡ true → T b
 holds b e = subst T (sym e) tt
 
-is_true : (b : Bool) → T b → b ≡ true
-is_true true h = refl
-is_true false h = absurd h
-
 module _ {X : Type 0} where
-  -- a look-up in the entries is the map's
-  pub find-lookup : (q : ℤ) (es : List (ℤ × X)) → find int_cmp q es ≡ lookup (is_at (int_cmp q)) es
-  find-lookup q [] = refl
-  find-lookup q (e ∷ es) = ap (cond (eq_by_cmp int_cmp q e.0) (Some e.1)) (find-lookup q es)
-
-  below_rest : (k : ℤ) (es : List (ℤ × X)) → AllByRecursion (λ y. int_cmp k y ≡ Less) (keys_of es) → below_all int_cmp k es ≡ true
-  below_rest k [] h = refl
-  below_rest k (e ∷ es) h = and_from _ _ (ap is_lt h.0) (below_rest k es h.1)
-
-  rises : (es : List (ℤ × X)) → IsStrictlySortedBy int_cmp (keys_of es) → is_sorted int_cmp es ≡ true
-  rises [] h = refl
-  rises (e ∷ es) h = and_from _ _ (below_rest e.0 es (sorted_head int_cmp e.0 (keys_of es) h)) (rises es (sorted_tail int_cmp e.0 (keys_of es) h))
-
   -- entries whose keys rise make a map
   pub sorted_from_ordered : (es : List (ℤ × X)) → IsStrictlySortedBy int_cmp (keys_of es) → T (is_sorted int_cmp es)
   sorted_from_ordered es h = holds _ (rises es h)

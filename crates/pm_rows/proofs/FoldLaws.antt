@@ -46,9 +46,6 @@ get-del_elsewhere rows del key apart = get-changed rows (Del del) key ∙ ap (λ
 pub committed-append : (rows : RowMap) (first second : List Change) → committed rows (first ++ second) ≡ committed (committed rows first) second
 committed-append rows first second = fold-append changed rows first second
 
-pub committed-push : (rows : RowMap) (changes : List Change) (change : Change) → committed rows (changes ++ change ∷ []) ≡ changed (committed rows changes) change
-committed-push rows changes change = committed-append rows changes (change ∷ [])
-
 -- more commits
 pub folded-append : (rows : RowMap) (first second : List (List Change)) → folded rows (first ++ second) ≡ folded (folded rows first) second
 folded-append rows first second = fold-append committed rows first second

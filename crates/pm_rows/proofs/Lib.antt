@@ -2,7 +2,6 @@ pub mod Entries
 pub mod FoldLaws
 pub mod NetChangesLaws
 pub mod Room
-pub mod RowLaws
 pub mod Settle
 pub mod Sizes
 pub mod Tables

@@ -1,5 +1,5 @@
 -- What goes into a log file at once: commits of a few changes each.
-use Rattle.std.specs.Prelude.{ℕ, ◌≤◌, List, length, All, FitsSigned}
+use Rattle.std.specs.Prelude.{◌≤◌, List, length, All, FitsSigned}
 use Rattle.std.specs.Int.{w64}
 use Rattle.std.specs.Str.{IsUtf8}
 use Rattle.pm_rows.specs.declared.commit.Change.{Change}

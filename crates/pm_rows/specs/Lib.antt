@@ -5,6 +5,7 @@ pub mod LogSize
 pub mod Longest
 pub mod NetChanges
 pub mod Pending
+pub mod RowLaws
 pub mod RowsIter
 pub mod Size
 pub mod Standing

@@ -1,6 +1,8 @@
 -- The acts at the board.
 use Rattle.std.proofs.Common.{◌≡◌, ℕ, suc, ◌+◌, ◌^◌, ◌<◌, ◌≤◌, List, [], ◌∷◌, ◌++◌, refl, sym, ap, subst, ◌∙◌, length, map, get_or, arith, nat_eq, append-nil, length-set, Ok}
 use Rattle.std.specs.Prelude.{Bool, true, false, if◌then◌else◌, Option, Some, None, IfSome}
+use Rattle.std.proofs.lemmas.Option.{same_Some}
+use Rattle.pm_facts.specs.Bools.{by_test}
 use Rattle.pm_exit.specs.declared.child.Kind.{Kind}
 use Rattle.pm_exit.specs.declared.child.Kind.TheVariants as kind
 use Rattle.pm_state.specs.declared.action.Action.{Action}
@@ -39,19 +41,16 @@ use Rattle.pm_seating.proofs.Afresh.{afresh_acted, own_kind}
 use Rattle.pm_journal.specs.ToldLaws.{told_more}
 use Rattle.pm_seating.proofs.Calling.{sat_down}
 use Rattle.pm_seating.specs.FoldingLaws.{journal-more, seating-more, steps-more, begun-more, ended-more}
-use Rattle.pm_seating.proofs.Rolls.{cases, found_kind}
+use Rattle.pm_seating.proofs.Rolls.{found_kind}
 use Rattle.pm_seating.proofs.Sends.{noted-steps, same-slots, same-generation, shows_same}
 
 -- ---- who is there
 
 none_on : (kind : Kind) (roll : List Enrolled) (p : ℕ) → NoneIs kind roll → kind_in p roll ≡ Some kind → ⊥
 none_on kind [] p none is = (let no_ : ◌≡◌ {A = Option Kind} None (Some kind) = is in cc)
-none_on kind (c ∷ cs) p none is = cases (nat_eq c.pid p)
-    (λ here. none.0 (some_of c.kind kind (sym (ap (λ (b : Bool). if b then Some c.kind else kind_in p cs) here) ∙ is)))
+none_on kind (c ∷ cs) p none is = by_test (nat_eq c.pid p)
+    (λ here. none.0 (same_Some c.kind kind (sym (ap (λ (b : Bool). if b then Some c.kind else kind_in p cs) here) ∙ is)))
     (λ there. none_on kind cs p none.1 (sym (ap (λ (b : Bool). if b then Some c.kind else kind_in p cs) there) ∙ is))
-  where
-    some_of : (x y : Kind) → Some x ≡ Some y → x ≡ y
-    some_of x y e = cc
 
 serves_slot : (count : ℕ) (kind : Kind) → is_auxiliary kind ≡ true → SlotServes count (slot_of kind) kind
 serves_slot count kind.Startup aux = refl

@@ -2,12 +2,15 @@
 use Rattle.std.proofs.Common.{◌≡◌, ℕ, ◌+◌, ◌<◌, ◌≤◌, List, [], ◌∷◌, ◌++◌, refl, sym, ap, subst, ◌∙◌, get_or, arith, nat_eq}
 use Rattle.std.specs.List.{AllByRecursion}
 use Rattle.std.specs.Prelude.{Bool, true, false, ◌==◌, ◌&&◌, Option}
+use Rattle.pm_facts.specs.Lists.{each_more}
+use Rattle.pm_facts.specs.Bools.{by_test}
 use Rattle.pm_exit.specs.declared.child.Kind.{Kind}
 use Rattle.pm_exit.specs.declared.child.Kind.TheVariants as kind
 use Rattle.pm_supervisor.specs.declared.Limits.{Limits}
 use Rattle.pm_supervisor.specs.Children.{child_of, is_startup_child}
 use Rattle.pm_supervisor.specs.Steps.{Trace}
 use Rattle.std.specs.Prelude.{IsSomeAnd}
+use Rattle.std.proofs.lemmas.Bool.{eqb-false, eqb-true, ne_eqb}
 use Rattle.pm_state.specs.declared.action.Action.{Action}
 use Rattle.pm_state.specs.declared.action.Action.TheVariants as action
 use Rattle.pm_state.specs.declared.machine.Machine.{Machine}
@@ -36,7 +39,6 @@ use Rattle.pm_seating.specs.Acts.{HasLostNone, Performs, StartOnly, StartsAfresh
 use Rattle.pm_seating.specs.Board.{after_steps}
 use Rattle.pm_seating.specs.Sitting.{HasReaped}
 use Rattle.pm_seating.specs.Standing.{SeatServes}
-use Rattle.pm_seating.proofs.Rolls.{cases, other_pid, same_pid, unlike}
 use Rattle.pm_seating.proofs.Sends.{same-generation, same-slots}
 use Rattle.pm_seating.proofs.Starting.{EndsOne, MayFollow, call_starts, call_yet, exits_spoil, exits_start, only_also, report_yet, startup_runs}
 
@@ -80,14 +82,10 @@ module _ {D : Type 0} where
   none_yet : (test : Kind → Bool) (g h : ℕ) (xs : List (PastChild D)) → g < h → AllByRecursion (λ x. x.offer.generation ≤ g) xs → lost test h xs ≡ 0
   none_yet test g h [] later below = refl
   none_yet test g h (x ∷ xs) later below =
-      let other : nat_eq x.offer.generation h ≡ false = unlike x.offer.generation h (λ same. let low : x.offer.generation ≤ g = below.0 in absurd (omega arith)) in
+      let other : nat_eq x.offer.generation h ≡ false = ne_eqb x.offer.generation h (λ same. let low : x.offer.generation ≤ g = below.0 in absurd (omega arith)) in
       let here : bit (x.was_active && ((x.offer.generation == h) && test x.offer.kind)) ≡ 0 =
       ap bit (none_and x.was_active ((x.offer.generation == h) && test x.offer.kind) (ap (λ (b : Bool). b && test x.offer.kind) other)) in
       let others : lost test h xs ≡ 0 = none_yet test g h xs later below.1 in omega arith
-
-  below_more : (g : ℕ) (xs : List (PastChild D)) (x : PastChild D) → AllByRecursion (λ y. y.offer.generation ≤ g) xs → x.offer.generation ≤ g → AllByRecursion (λ y. y.offer.generation ≤ g) (xs ++ x ∷ [])
-  below_more g [] x below here = (here, tt)
-  below_more g (y ∷ xs) x below here = (below.0, below_more g xs x below.1 here)
 
   below_later : (g h : ℕ) (xs : List (PastChild D)) → g ≤ h → AllByRecursion (λ x. x.offer.generation ≤ g) xs → AllByRecursion (λ x. x.offer.generation ≤ h) xs
   below_later g h [] later below = tt
@@ -115,9 +113,9 @@ module _ {D : Type 0} where
   pub became_same : (k : ℕ) (x : SlotView D) (notes : RosterNotes) (d e : RosterView D) → SlotBecame k x notes d e → x.past ≡ (slot_at d k).past → SamePast d e
   became_same k x notes d e became past = record {
     generation = ap (λ (v : RosterView D). v.generation) became.whole;
-    past = λ j. cases (nat_eq j k)
-        (λ is. subst (λ (i : ℕ). (slot_at e i).past ≡ (slot_at d i).past) (sym (same_pid j k is)) (ap (λ (y : SlotView D). y.past) became.here ∙ past))
-        (λ isnt. ap (λ (y : SlotView D). y.past) (became.others j (other_pid j k isnt)));
+    past = λ j. by_test (nat_eq j k)
+        (λ is. subst (λ (i : ℕ). (slot_at e i).past ≡ (slot_at d i).past) (sym (eqb-true j k is)) (ap (λ (y : SlotView D). y.past) became.here ∙ past))
+        (λ isnt. ap (λ (y : SlotView D). y.past) (became.others j (eqb-false j k isnt)));
   }
 
   -- steps that leave the generation
@@ -153,24 +151,24 @@ module _ {D : Type 0} where
       → HasLostNone d j → (is_auxiliary j ≡ true → slot_of j ≡ k → released.was_active ≡ false) → HasLostNone e j
   none_reaped letter k c released d e j has none well aux =
       ap (λ (g : ℕ). lost is_auxiliary g (slot_at e (slot_of j)).past) (ap (λ (v : RosterView D). v.generation) has.became.whole)
-      ∙ (cases (nat_eq (slot_of j) k)
-      (λ is. let here : slot_of j ≡ k = same_pid (slot_of j) k is in
+      ∙ (by_test (nat_eq (slot_of j) k)
+      (λ is. let here : slot_of j ≡ k = eqb-true (slot_of j) k is in
       ap (λ (i : ℕ). lost is_auxiliary d.generation (slot_at e i).past) here
       ∙ (ap (λ (y : SlotView D). lost is_auxiliary d.generation y.past) has.became.here
       ∙ (lost_more is_auxiliary d.generation (slot_at d k).past _ (well aux here)
       ∙ ap (λ (i : ℕ). lost is_auxiliary d.generation (slot_at d i).past) (sym here))))
-      (λ isnt. ap (λ (y : SlotView D). lost is_auxiliary d.generation y.past) (has.became.others (slot_of j) (other_pid (slot_of j) k isnt)))
+      (λ isnt. ap (λ (y : SlotView D). lost is_auxiliary d.generation y.past) (has.became.others (slot_of j) (eqb-false (slot_of j) k isnt)))
       ∙ none aux)
 
   past_reaped : {J : Type 0} (letter : Letter.Ghosts J D) (k : ℕ) (c : Enrolled) (released : Released J) (d e : RosterView D) → HasReaped letter k c released d e
       → ((i : ℕ) → AllByRecursion (λ x. x.offer.generation ≤ d.generation) (slot_at d i).past) → (i : ℕ) → AllByRecursion (λ x. x.offer.generation ≤ e.generation) (slot_at e i).past
   past_reaped letter k c released d e has past i =
       subst (λ (g : ℕ). AllByRecursion (λ x. x.offer.generation ≤ g) (slot_at e i).past) (sym (ap (λ (v : RosterView D). v.generation) has.became.whole))
-      (cases (nat_eq i k)
-      (λ is. subst (λ (n : ℕ). AllByRecursion (λ x. x.offer.generation ≤ d.generation) (slot_at e n).past) (sym (same_pid i k is))
+      (by_test (nat_eq i k)
+      (λ is. subst (λ (n : ℕ). AllByRecursion (λ x. x.offer.generation ≤ d.generation) (slot_at e n).past) (sym (eqb-true i k is))
       (subst (λ (y : SlotView D). AllByRecursion (λ x. x.offer.generation ≤ d.generation) y.past) (sym has.became.here)
-      (below_more d.generation (slot_at d k).past _ (past k) (let same : has.sits.offer.generation ≡ d.generation = has.sits.generation in omega arith))))
-      (λ isnt. subst (λ (y : SlotView D). AllByRecursion (λ x. x.offer.generation ≤ d.generation) y.past) (sym (has.became.others i (other_pid i k isnt))) (past i)))
+      (each_more (λ (y : PastChild D). y.offer.generation ≤ d.generation) (slot_at d k).past _ (past k) (let same : has.sits.offer.generation ≡ d.generation = has.sits.generation in omega arith))))
+      (λ isnt. subst (λ (y : SlotView D). AllByRecursion (λ x. x.offer.generation ≤ d.generation) y.past) (sym (has.became.others i (eqb-false i k isnt))) (past i)))
 
   -- The end of a child, that sat in a slot for its kind: a child of its kind starts no more in this generation where it died
   -- attached.
@@ -180,11 +178,11 @@ module _ {D : Type 0} where
       → StartsAfresh e (acts_of_call m (Exits released.pid released.kind released.status released.was_active now)) (machine_after m (Exits released.pid released.kind released.status released.was_active now))
   afresh_exited letter limits count k now c released d e m h facts there has serves was = record {
     due = only_also (MayFollow m released.status) (HasLostNone e) (acts_of_call m call)
-        (λ j may. none_reaped letter k c released d e j has (was.later j refl may.0) (λ aux here. cases released.was_active
+        (λ j may. none_reaped letter k c released d e j has (was.later j refl may.0) (λ aux here. by_test released.was_active
         (λ active. absurd (let no_ : true ≡ false = sym may.1 ∙ has.well (ap is_auxiliary (its_kind j aux here) ∙ aux) active in cc))
         (λ inactive. inactive)))
         (exits_start m released.pid released.kind released.status released.was_active now (startup_runs limits m h.now released.pid released.kind facts there));
-    later = λ j none may. none_reaped letter k c released d e j has (was.later j refl (call_yet limits m h call j facts there none may)) (λ aux here. cases released.was_active
+    later = λ j none may. none_reaped letter k c released d e j has (was.later j refl (call_yet limits m h call j facts there none may)) (λ aux here. by_test released.was_active
         (λ active. let of_j : released.kind ≡ j = its_kind j aux here in
         let aux' : is_auxiliary released.kind ≡ true = ap is_auxiliary of_j ∙ aux in
         absurd (let no_ : true ≡ false = sym may ∙ (ap (λ (x : Kind). may_start x (machine_after m call)) (sym of_j)

@@ -32,15 +32,13 @@ use Rattle.pm_seating.specs.Standing.{AreOnRoll, Goes, IsAt, IsSeated, View, kin
 use Rattle.pm_seating.proofs.Acting.{moved, same-gate}
 use Rattle.pm_seating.proofs.Afresh.{afresh_called, afresh_still, stepped_same}
 use Rattle.pm_journal.specs.ToldLaws.{told_more}
-use Rattle.pm_seating.proofs.Calling.{afresh_noted, due_noted, rested}
-use Rattle.pm_seating.specs.FoldingLaws.{journal-more}
+use Rattle.pm_journal.specs.NextsLaws.{noted-due}
+use Rattle.pm_seating.proofs.Calling.{afresh_noted, rested}
+use Rattle.pm_seating.specs.FoldingLaws.{journal-more, none_more}
 use Rattle.pm_seating.proofs.Gating.{calls_leave}
 use Rattle.pm_seating.proofs.Resting.{call_may}
 use Rattle.pm_seating.proofs.Sends.{same-generation}
 use Rattle.pm_seating.proofs.Starting.{EndsOne}
-
-none_more : (count : ℕ) (earlier : List Move) → journal_of count (earlier ++ []) ≡ journal_of count earlier ++ []
-none_more count earlier = ap (journal_of count) (append-nil earlier) ∙ sym (append-nil (journal_of count earlier))
 
 same_told : (told now : Option (List PmEvent)) → now ≡ told → Added [] told now
 same_told None now is = is
@@ -95,7 +93,7 @@ module _ {D : Type 0} where
       let call : Call = making.call in
       let h : Trace = behind s.machine call at.past in
       let acts : List Action = acts_of_call s.machine call in
-      let due : (made making s).due ≡ acts = due_noted making.entries (called call s) in
+      let due : (made making s).due ≡ acts = noted-due making.entries (called call s) in
       record {
         past = h;
         stands = subst (λ (x : Standing). Stands limits (Some (journal_of count (earlier ++ more))) x h) (sym after)

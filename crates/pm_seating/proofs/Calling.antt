@@ -5,6 +5,8 @@ use Rattle.std.proofs.lemmas.Bool.Decides.{nat_tests}
 use Rattle.std.proofs.lemmas.List.{set-get_or, get_or-set_same, get_or-set_other}
 use Rattle.std.specs.Option.{unwrap_or}
 use Rattle.std.specs.Prelude.{nat_lt, Bool, true, false, if◌then◌else◌, Option, Some, None, IfSome}
+use Rattle.std.proofs.lemmas.Bool.{eqb-true, eqb-false}
+use Rattle.pm_facts.specs.Bools.{by_test}
 use Rattle.pm_exit.specs.declared.child.Kind.{Kind}
 use Rattle.pm_supervisor.specs.declared.Limits.{Limits}
 use Rattle.pm_supervisor.specs.Steps.{Trace, kind_for}
@@ -27,6 +29,7 @@ use Rattle.pm_outside.specs.Added.{Added}
 use Rattle.pm_journal.specs.Standing.{IsAtRest, MayTake, Standing, accepting, exiting, made, next_pid, decision_on, all_noted, called, ends_redo, exit_call, exit_entry, later, noted}
 use Rattle.pm_journal.specs.Stands.{HasPast, IsSettled, Stands, behind}
 use Rattle.pm_journal.specs.ToldLaws.{stands_told, told_more}
+use Rattle.pm_journal.specs.NextsLaws.{noted-due}
 use Rattle.pm_seating.specs.Seating.{Seating, Move, Notes, Begun, Ended, child, with_seat, seated, steps_of, begins, ends, ended_by, steps_by, begun_at, ended_at, seating_of, board_steps, journal_of}
 use Rattle.pm_state.specs.declared.action.Action.{Action}
 use Rattle.pm_state.specs.Journal.{acts_of_call}
@@ -41,7 +44,7 @@ use Rattle.pm_seating.specs.Standing.{View, IsAt, IsRunning, IsEnding, Goes, IsS
 use Rattle.pm_seating.specs.Calls.{accepts, exits, exit_of, notes_in, EndsBehind, IsCutOff}
 use Rattle.pm_board.specs.declared.views.PastChild.{PastChild}
 use Rattle.pm_seating.specs.FoldingLaws.{journal-more, journal-notes, seating-more, steps-more, begun-more, ended-more}
-use Rattle.pm_seating.proofs.Rolls.{on_roll_more, on_roll_less, found_kind, cases, same_pid, other_pid, stood_before}
+use Rattle.pm_seating.proofs.Rolls.{on_roll_more, on_roll_less, found_kind, stood_before}
 use Rattle.pm_seating.proofs.Sitting.{shows_set, had_begun, had_ended}
 
 pub past_of : {D : Type 0} (v : View D) → IsRunning v → HasPast v.work
@@ -54,12 +57,12 @@ right_set : (seats : List (Option Enrolled)) (k : ℕ) (seat : Option Enrolled) 
     → ((c : Enrolled) → seat ≡ Some c → SeatServes (length seats) k c.kind)
     → (j : ℕ) (c : Enrolled) → seat_at j (set seats k seat) ≡ Some c → SeatServes (length (set seats k seat)) j c.kind
 right_set seats k seat each here j c sits =
-    subst (λ (n : ℕ). SeatServes n j c.kind) (sym (length-set seats k seat)) (cases (nat_eq j k)
-    (λ is. cases (nat_lt k (length seats))
-    (λ near. subst (λ (i : ℕ). SeatServes (length seats) i c.kind) (sym (same_pid j k is))
-    (here c (sym (get_or-set_same seats k seat None (ltb_lt k (length seats) near)) ∙ (ap (λ (i : ℕ). seat_at i (set seats k seat)) (sym (same_pid j k is)) ∙ sits))))
+    subst (λ (n : ℕ). SeatServes n j c.kind) (sym (length-set seats k seat)) (by_test (nat_eq j k)
+    (λ is. by_test (nat_lt k (length seats))
+    (λ near. subst (λ (i : ℕ). SeatServes (length seats) i c.kind) (sym (eqb-true j k is))
+    (here c (sym (get_or-set_same seats k seat None (ltb_lt k (length seats) near)) ∙ (ap (λ (i : ℕ). seat_at i (set seats k seat)) (sym (eqb-true j k is)) ∙ sits))))
     (λ far. each j c (sym (ap (seat_at j) (set_far seats k seat (ltb_ge k (length seats) far))) ∙ sits)))
-    (λ isnt. each j c (sym (get_or-set_other seats k j seat None (other_pid j k isnt)) ∙ sits)))
+    (λ isnt. each j c (sym (get_or-set_other seats k j seat None (eqb-false j k isnt)) ∙ sits)))
   where
     ltb_lt : (a b : ℕ) → nat_lt a b ≡ true → a < b
     ltb_lt a b e = grind (arith, nat_tests)
@@ -78,10 +81,6 @@ last_of kind pid before le = both (is_connection kind)
     both : (b : Bool) → (if b then pid else before) ≤ pid
     both true = (let e : pid ≤ pid = omega arith in e)
     both false = le
-
-pub due_noted : (es : List PmEvent) (s : Standing) → (all_noted es s).due ≡ s.due
-due_noted [] s = refl
-due_noted (e ∷ es) s = due_noted es (noted e s)
 
 -- entries leave what is due, and the machine
 pub afresh_noted : {D : Type 0} (d : RosterView D) (es : List PmEvent) (s : Standing) → StartsAfresh d s.due s.machine → StartsAfresh d (all_noted es s).due (all_noted es s).machine
@@ -213,9 +212,9 @@ module _ {D : Type 0} where
       let sits' : seat_at k was.seating.seats ≡ Some c = sym (ap (seat_at k) was.at_hand) ∙ sits in
       let same : with_seat k (Some c) was.seating ≡ was.seating =
       ap (λ (x : Option Enrolled). with_seat k x was.seating) (sym sits') ∙ ap (λ (xs : List (Option Enrolled)). record was.seating { seats = xs }) (set-get_or was.seating.seats k None) in
-      let past : (j : ℕ) → (slot_at e j).past ≡ (slot_at d j).past = (λ j. cases (nat_eq j k)
-      (λ is. subst (λ (i : ℕ). (slot_at e i).past ≡ (slot_at d i).past) (sym (same_pid j k is)) (ap (λ (y : SlotView D). y.past) still.became.here))
-      (λ isnt. ap (λ (y : SlotView D). y.past) (still.became.others j (other_pid j k isnt)))) in
+      let past : (j : ℕ) → (slot_at e j).past ≡ (slot_at d j).past = (λ j. by_test (nat_eq j k)
+      (λ is. subst (λ (i : ℕ). (slot_at e i).past ≡ (slot_at d i).past) (sym (eqb-true j k is)) (ap (λ (y : SlotView D). y.past) still.became.here))
+      (λ isnt. ap (λ (y : SlotView D). y.past) (still.became.others j (eqb-false j k isnt)))) in
       record {
         seating = was.seating;
         is_that = was.is_that;
@@ -323,7 +322,7 @@ module _ {D : Type 0} where
             (subst (λ (xs : List PmEvent). Stands limits (Some xs) t h) (sym (journal-notes count k earlier es))
             (work.exits limits (journal_of count earlier) s at.past exit now at.stands rest unowed there));
         gate = subst (λ (x : Standing). gate_by x.due (gate_of w.board) ≡ gate_shown h.now.shared) (sym after)
-            (ap (λ (due : List Action). gate_by due (gate_of w.board)) (due_noted es (called (exiting exit now s).call s))
+            (ap (λ (due : List Action). gate_by due (gate_of w.board)) (noted-due es (called (exiting exit now s).call s))
             ∙ (ap (gate_by (acts_of_call s.machine (exiting exit now s).call)) (ap gate_of has.became.whole ∙ rested rest.none_due at.gate)
             ∙ sym (calls_leave s.machine at.past (exiting exit now s).call)));
         told = subst (λ (xs : List PmEvent). IfSome w.work.told (λ ys. ys ≡ xs)) (sym (journal-notes count k earlier es)) (told_more v.work.told w.work.told (journal_of count earlier) es at.told adds);

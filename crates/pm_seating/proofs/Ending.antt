@@ -3,6 +3,9 @@ use Rattle.std.proofs.Common.{◌≡◌, ◌≢◌, ℕ, suc, ◌+◌, ◌<◌, 
 use Rattle.std.proofs.lemmas.List.{get_or-set_same, get_or-set_other, get_or_past, map-append, set-get_or}
 use Rattle.std.specs.Prelude.{nat_lt, Option, Some, None}
 use Rattle.std.specs.List.{AllByRecursion}
+use Rattle.std.proofs.lemmas.Bool.{eqb-false, eqb-true}
+use Rattle.pm_facts.specs.Lists.{each_both}
+use Rattle.pm_facts.specs.Bools.{by_test}
 use Rattle.pm_supervisor.specs.declared.Limits.{Limits}
 use Rattle.pm_board.specs.declared.views.Offer.{Offer}
 use Rattle.pm_board.specs.declared.views.PastChild.{PastChild}
@@ -27,8 +30,7 @@ use Rattle.pm_seating.specs.Seating.{Begun, Ended, Move, Seating, begun_at, boar
 use Rattle.pm_seating.specs.Sitting.{HasReaped, StillRuns}
 use Rattle.pm_seating.specs.Standing.{IsAt, IsEnding, IsFinal, view}
 use Rattle.pm_seating.proofs.Acting.{same-numbers}
-use Rattle.pm_seating.proofs.Rolls.{cases, other_pid, same_pid, stood_before}
-use Rattle.pm_seating.proofs.Runs.{all_append}
+use Rattle.pm_seating.proofs.Rolls.{stood_before}
 use Rattle.pm_seating.proofs.Seen.{as_many}
 use Rattle.pm_seating.proofs.Sends.{noted-steps, same-generation, same-slots, seats_kept, shows_sends}
 use Rattle.pm_seating.proofs.Sitting.{shows_set}
@@ -71,7 +73,7 @@ module _ {D : Type 0} where
     ending = λ count moves was. record {
       last = was.last ++ more;
       steps = steps ∙ (ap (λ (xs : List RosterStep). xs ++ more) was.steps ∙ append_assoc (board_steps count moves) was.last more);
-      final = all_append (IsFinal (seating_of count moves).seats) was.last more was.final (final (seating_of count moves).seats was.stay);
+      final = each_both (IsFinal (seating_of count moves).seats) was.last more was.final (final (seating_of count moves).seats was.stay);
       stay = λ k c sits. was.stay k c (stays k c sits);
       shows = shows was.shows;
       begun = λ k. begun k ∙ was.begun k;
@@ -116,9 +118,9 @@ module _ {D : Type 0} where
       let as_before : with_seat k (Some c) (seen d) ≡ seen d =
       ap (λ (x : Option Enrolled). with_seat k x (seen d)) (sym sits) ∙ ap (λ (xs : List (Option Enrolled)). record { seats = xs; generation = d.generation }) (set-get_or (seats_of d) k None) in
       let same : seen e ≡ seen d = (λ i. record { seats = seats i; generation = generation i }) in
-      let past : (j : ℕ) → (slot_at e j).past ≡ (slot_at d j).past = (λ j. cases (nat_eq j k)
-      (λ is. subst (λ (i : ℕ). (slot_at e i).past ≡ (slot_at d i).past) (sym (same_pid j k is)) (ap (λ (y : SlotView D). y.past) still.became.here))
-      (λ isnt. ap (λ (y : SlotView D). y.past) (still.became.others j (other_pid j k isnt)))) in
+      let past : (j : ℕ) → (slot_at e j).past ≡ (slot_at d j).past = (λ j. by_test (nat_eq j k)
+      (λ is. subst (λ (i : ℕ). (slot_at e i).past ≡ (slot_at d i).past) (sym (eqb-true j k is)) (ap (λ (y : SlotView D). y.past) still.became.here))
+      (λ isnt. ap (λ (y : SlotView D). y.past) (still.became.others j (eqb-false j k isnt)))) in
       keeps_ending [] d e (ap (λ (n : RosterNotes). n.steps) still.became.notes_are ∙ sym (append-nil d.notes.steps)) (λ among stay. tt) (λ k c sits. sym (ap (seat_at k) seats) ∙ sits)
       (λ shows. subst (Shows e) (as_before ∙ sym same) (shows_set d e (seen d) k _ _ (Some c) shows near still.became
       (still.sits.offer, refl, still.sits.pid, still.sits.kind, still.sits.generation)))
@@ -133,12 +135,12 @@ module _ {D : Type 0} where
       keeps_ending (Release o.pid o.kind o.generation ∷ []) d e (ap (λ (n : RosterNotes). n.steps) has.became.notes_are) (λ among stay. (tt, tt))
       (λ j x there_. stood_before k j x (seats_of d) (sym (ap (seat_at j) seats) ∙ there_))
       (λ shows. subst (Shows e) (λ i. record { seats = sym seats i; generation = sym generation i }) (shows_set d e (seen d) k _ _ None shows near has.became refl))
-      (λ j. cases (nat_eq j k)
-      (λ is. subst (λ (i : ℕ). had_in e i ≡ had_in d i) (sym (same_pid j k is)) here)
-      (λ isnt. (λ i. map begun_of (there j (other_pid j k isnt) i).past ++ sitting (generation i) (seat j (other_pid j k isnt) i))))
-      (λ j. cases (nat_eq j k)
-      (λ is. subst (EndedBehind d e) (sym (same_pid j k is)) (gone ∷ [], ap (map ended_of) past ∙ map-append ended_of (slot_at d k).past (gone ∷ [])))
-      (λ isnt. none_ended d e j (ap (λ (y : SlotView D). y.past) (there j (other_pid j k isnt)))))
+      (λ j. by_test (nat_eq j k)
+      (λ is. subst (λ (i : ℕ). had_in e i ≡ had_in d i) (sym (eqb-true j k is)) here)
+      (λ isnt. (λ i. map begun_of (there j (eqb-false j k isnt) i).past ++ sitting (generation i) (seat j (eqb-false j k isnt) i))))
+      (λ j. by_test (nat_eq j k)
+      (λ is. subst (EndedBehind d e) (sym (eqb-true j k is)) (gone ∷ [], ap (map ended_of) past ∙ map-append ended_of (slot_at d k).past (gone ∷ [])))
+      (λ isnt. none_ended d e j (ap (λ (y : SlotView D). y.past) (there j (eqb-false j k isnt)))))
       (ap (λ (n : RosterNotes). n.last_pid) has.became.notes_are)
     where
       o : Offer D
@@ -196,12 +198,12 @@ module _ {D : Type 0} where
 
   -- nobody sits in any slot, also in those that the board doesn't have
   free_all : (d : RosterView D) → NobodySits d → (k : ℕ) → seat_at k (seats_of d) ≡ None
-  free_all d nobody k = cases (nat_lt k (length (seats_of d)))
+  free_all d nobody k = by_test (nat_lt k (length (seats_of d)))
       (λ low. nobody k (grind arith))
       (λ high. get_or_past (seats_of d) k None (grind arith))
 
   unused_of : (d : RosterView D) → Shows d (seen d) → NobodySits d → (k : ℕ) → (slot_at d k).sight ≡ Unused
-  unused_of d shows nobody k = cases (nat_lt k (length (seats_of d)))
+  unused_of d shows nobody k = by_test (nat_lt k (length (seats_of d)))
       (λ low. subst (λ (x : Option Enrolled). SeenAs d.generation x (slot_at d k).sight) (free_all d nobody k) (shows.each k (grind arith)))
       (λ high. ap (λ (y : SlotView D). y.sight) (get_or_past d.slots k (slot_view [] Unused) (subst (λ (n : ℕ). n ≤ k) (as_many d) (grind arith))))
 

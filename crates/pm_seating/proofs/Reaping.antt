@@ -1,6 +1,8 @@
 -- Which slots were looked at since the last connection.
 use Rattle.std.proofs.Common.{◌≡◌, ℕ, ◌+◌, ◌<◌, ◌≤◌, List, [], ◌∷◌, refl, sym, ap, subst, ◌∙◌, length, get_or, arith, nat_eq}
 use Rattle.std.specs.Prelude.{Bool, false, if◌then◌else◌, Option, None}
+use Rattle.std.proofs.lemmas.Bool.{eqb-false, eqb-true}
+use Rattle.pm_facts.specs.Bools.{by_test}
 use Rattle.pm_exit.specs.declared.child.Kind.{Kind}
 use Rattle.pm_state.specs.declared.action.Action.{Action}
 use Rattle.pm_state.specs.declared.action.Action.TheVariants as action
@@ -25,7 +27,6 @@ use Rattle.pm_seating.specs.Seating.{Move}
 use Rattle.pm_seating.specs.Sitting.{AreReaped, HasReaped, StillRuns}
 use Rattle.pm_seating.specs.Standing.{IsSeated}
 use Rattle.pm_seating.proofs.Acting.{same-numbers}
-use Rattle.pm_seating.proofs.Rolls.{cases, other_pid, same_pid}
 use Rattle.pm_seating.proofs.Sends.{same-slots}
 
 below : (j k : ℕ) → j < k + 1 → nat_eq j k ≡ false → j < k
@@ -43,10 +44,10 @@ module _ {D : Type 0} where
       → IsReaped d.notes.last_connection x x.sight → ((j : ℕ) → j < n → (nat_eq j k ≡ false) → IsReaped d.notes.last_connection (slot_at d j) (slot_at d j).sight) → AreReaped n e
   reaped_but n k x notes d e became last here others j near =
       let same : e.notes.last_connection ≡ d.notes.last_connection = ap (λ (m : RosterNotes). m.last_connection) became.notes_are ∙ last in
-      cases (nat_eq j k)
+      by_test (nat_eq j k)
       (λ is. subst (λ (m : ℕ). IsReaped m (slot_at e j) (slot_at e j).sight) (sym same)
-      (subst (λ (y : SlotView D). IsReaped d.notes.last_connection y y.sight) (sym (ap (slot_at e) (same_pid j k is) ∙ became.here)) here))
-      (λ isnt. reaped_as d e j same (became.others j (other_pid j k isnt)) (others j near isnt))
+      (subst (λ (y : SlotView D). IsReaped d.notes.last_connection y y.sight) (sym (ap (slot_at e) (eqb-true j k is) ∙ became.here)) here))
+      (λ isnt. reaped_as d e j same (became.others j (eqb-false j k isnt)) (others j near isnt))
 
   -- steps that leave the slots
   pub reaped_stepped : (n : ℕ) (d e : RosterView D) (ss : List RosterStep) → e ≡ after_steps d ss → AreReaped n d → AreReaped n e
@@ -93,7 +94,7 @@ module _ {D : Type 0} where
   reaped_free count k moves d seats s was near free were j low =
       let unused : (slot_at d k).sight ≡ Unused = subst (λ (x : Option Enrolled). SeenAs was.seating.generation x (slot_at d k).sight) (sym (ap (seat_at k) was.at_hand) ∙ free)
       (was.shows.each k (subst (λ (xs : List (Option Enrolled)). k < length xs) was.at_hand near)) in
-      cases (nat_eq j k)
-      (λ is. subst (λ (i : ℕ). IsReaped d.notes.last_connection (slot_at d i) (slot_at d i).sight) (sym (same_pid j k is))
+      by_test (nat_eq j k)
+      (λ is. subst (λ (i : ℕ). IsReaped d.notes.last_connection (slot_at d i) (slot_at d i).sight) (sym (eqb-true j k is))
       (subst (IsReaped d.notes.last_connection (slot_at d k)) (sym unused) tt))
       (λ isnt. were j (below j k low isnt))

@@ -33,7 +33,8 @@ use Rattle.std.specs.Option.{unwrap_or}
 use Rattle.pm_state.specs.declared.event.PmEvent.TheVariants as entry
 use Rattle.pm_journal.specs.declared.exit.ChildExit.{ChildExit}
 use Rattle.pm_journal.specs.RollLaws.{on-roll}
-use Rattle.pm_seating.proofs.Calling.{due_noted, on_the_roll}
+use Rattle.pm_journal.specs.NextsLaws.{noted-due}
+use Rattle.pm_seating.proofs.Calling.{on_the_roll}
 use Rattle.pm_seating.proofs.Turning.{calls_may}
 
 ready : TellsOfEachStart → (limits : Limits) (told : Option (List PmEvent)) (s : Standing) (h : Trace) → Stands limits told s h → IsAtRest s → IsReady s.machine
@@ -105,7 +106,7 @@ module _ {D : Type 0} where
       let call : Call = exit_call exit (later now s) in
       let es : List PmEvent = (exiting exit now s).entries in
       subst (λ (x : Standing). MayDo x.due (gate_of w.board) x.children) (sym after)
-      (subst (λ (due : List Action). MayDo due (gate_of w.board) (made (exiting exit now s) s).children) (sym (due_noted es (called call s)))
+      (subst (λ (due : List Action). MayDo due (gate_of w.board) (made (exiting exit now s) s).children) (sym (noted-due es (called call s)))
       (subst (λ (cs : List Enrolled). MayDo (acts_of_call s.machine call) (gate_of w.board) cs) (sym (children_left exit (later now s) s (called call s) (redo_entries exit s) (ends_redo exit) s.generation (unwrap_or exit.kept 0) refl))
       (subst (λ (g : Gate). MayDo (acts_of_call s.machine call) g (without exit.pid s.children)) (sym gates)
       (exit_may tells keeps running.0 running.1 running.2 v exit.pid exit.kind exit.status exit.was_active (later now s) running.3 rest there))))

@@ -1,28 +1,13 @@
 -- Who is on the roll, and who sits.
 use Rattle.std.proofs.Common.{◌≡◌, ◌≢◌, ℕ, zero, suc, ◌<◌, ◌≤◌, List, [], ◌∷◌, refl, sym, ap, subst, ◌∙◌, length, set, arith, nat_eq}
-use Rattle.std.specs.Prelude.{Bool, true, false, if◌then◌else◌, Option, Some, None, IfSome}
+use Rattle.std.specs.Prelude.{Bool, if◌then◌else◌, Option, Some, None, IfSome}
+use Rattle.std.proofs.lemmas.Bool.{eqb-true, eqb-false, ne_eqb, eq-eqb}
+use Rattle.pm_facts.specs.Bools.{by_test}
 use Rattle.pm_exit.specs.declared.child.Kind.{Kind}
 use Rattle.pm_journal.specs.declared.roll.Enrolled.{Enrolled}
 use Rattle.pm_journal.specs.Roll.{kind_in, without}
 use Rattle.pm_seating.specs.Board.{seat_at}
 use Rattle.pm_seating.specs.Standing.{kind_seated, DifferOn, SitBelow, AreOnRoll, SitApart}
-
--- where a test answers so
-pub cases : {P : Type 0} → (b : Bool) → (b ≡ true → P) → (b ≡ false → P) → P
-cases true holds fails = holds refl
-cases false holds fails = fails refl
-
-pub same_pid : (a b : ℕ) → nat_eq a b ≡ true → a ≡ b
-same_pid a b e = grind arith
-
-pub other_pid : (a b : ℕ) → nat_eq a b ≡ false → a ≢ b
-other_pid a b e is = grind arith
-
-pub unlike : (a b : ℕ) → a ≢ b → nat_eq a b ≡ false
-unlike a b ne = grind arith
-
-pub like : (a b : ℕ) → a ≡ b → nat_eq a b ≡ true
-like a b e = grind arith
 
 -- a pid above all that sit isn't among them
 pub none_above : (pid last : ℕ) (seats : List (Option Enrolled)) → SitBelow last seats → last < pid → kind_seated pid seats ≡ None
@@ -30,7 +15,7 @@ none_above pid last [] below above = refl
 none_above pid last (None ∷ seats) below above = none_above pid last seats below.1 above
 none_above pid last (Some c ∷ seats) below above =
     let ne : c.pid ≢ pid = (λ (is : c.pid ≡ pid). let low : c.pid ≤ last = below.0 in absurd (omega arith)) in
-    ap (λ (b : Bool). if b then Some c.kind else kind_seated pid seats) (unlike c.pid pid ne) ∙ none_above pid last seats below.1 above
+    ap (λ (b : Bool). if b then Some c.kind else kind_seated pid seats) (ne_eqb c.pid pid ne) ∙ none_above pid last seats below.1 above
 
 pub below_later : (a b : ℕ) (seats : List (Option Enrolled)) → a ≤ b → SitBelow a seats → SitBelow b seats
 below_later a b [] le below = tt
@@ -54,15 +39,15 @@ seated_new k pid kind [] near free new p = absurd (omega arith)
 seated_new zero pid kind (x ∷ seats) near free new p =
     ap (λ (y : Option Enrolled). if nat_eq pid p then Some kind else kind_seated p (y ∷ seats)) (sym free)
 seated_new (suc k) pid kind (None ∷ seats) near free new p = seated_new k pid kind seats (omega arith) free new p
-seated_new (suc k) pid kind (Some c ∷ seats) near free new p = cases (nat_eq c.pid p)
-    (λ is. cases (nat_eq pid p)
-    (λ also. let same : c.pid ≡ pid = same_pid c.pid p is ∙ sym (same_pid pid p also) in
-    let none : None ≡ Some c.kind = sym new ∙ ap (λ (b : Bool). if b then Some c.kind else kind_seated pid seats) (like c.pid pid same) in absurd (cc))
+seated_new (suc k) pid kind (Some c ∷ seats) near free new p = by_test (nat_eq c.pid p)
+    (λ is. by_test (nat_eq pid p)
+    (λ also. let same : c.pid ≡ pid = eqb-true c.pid p is ∙ sym (eqb-true pid p also) in
+    let none : None ≡ Some c.kind = sym new ∙ ap (λ (b : Bool). if b then Some c.kind else kind_seated pid seats) (eq-eqb c.pid pid same) in absurd (cc))
     (λ other. ap (λ (b : Bool). if b then Some c.kind else kind_seated p (set seats k (Some (record { pid = pid; kind = kind })))) is
     ∙ (sym (ap (λ (b : Bool). if b then Some c.kind else kind_seated p seats) is)
     ∙ sym (ap (λ (b : Bool). if b then Some kind else (if nat_eq c.pid p then Some c.kind else kind_seated p seats)) other))))
     (λ isnt.
-    let rest : kind_seated pid seats ≡ None = cases (nat_eq c.pid pid)
+    let rest : kind_seated pid seats ≡ None = by_test (nat_eq c.pid pid)
     (λ same. let none : None ≡ Some c.kind = sym new ∙ ap (λ (b : Bool). if b then Some c.kind else kind_seated pid seats) same in absurd (cc))
     (λ differs. sym (ap (λ (b : Bool). if b then Some c.kind else kind_seated pid seats) differs) ∙ new) in
     ap (λ (b : Bool). if b then Some c.kind else kind_seated p (set seats k (Some (record { pid = pid; kind = kind })))) isnt
@@ -75,7 +60,7 @@ pub seated_others : (k p : ℕ) (c : Enrolled) (seats : List (Option Enrolled)) 
 seated_others k p c [] is ne = refl
 seated_others zero p c (x ∷ seats) is ne =
     sym (ap (λ (y : Option Enrolled). kind_seated p (y ∷ seats)) is
-    ∙ ap (λ (b : Bool). if b then Some c.kind else kind_seated p seats) (unlike c.pid p ne))
+    ∙ ap (λ (b : Bool). if b then Some c.kind else kind_seated p seats) (ne_eqb c.pid p ne))
 seated_others (suc k) p c (None ∷ seats) is ne = seated_others k p c seats is ne
 seated_others (suc k) p c (Some d ∷ seats) is ne =
     ap (λ (o : Option Kind). if nat_eq d.pid p then Some d.kind else o) (seated_others k p c seats is ne)
@@ -92,28 +77,28 @@ stood_before (suc k) (suc j) c (x ∷ seats) sits = stood_before k j c seats sit
 
 pub without_others : (pid p : ℕ) (cs : List Enrolled) → pid ≢ p → kind_in p (without pid cs) ≡ kind_in p cs
 without_others pid p [] ne = refl
-without_others pid p (c ∷ cs) ne = cases (nat_eq c.pid pid)
+without_others pid p (c ∷ cs) ne = by_test (nat_eq c.pid pid)
     (λ is. ap (λ (b : Bool). kind_in p (if b then cs else c ∷ without pid cs)) is
-    ∙ sym (ap (λ (b : Bool). if b then Some c.kind else kind_in p cs) (unlike c.pid p (λ (same : c.pid ≡ p). ne (sym (same_pid c.pid pid is) ∙ same)))))
+    ∙ sym (ap (λ (b : Bool). if b then Some c.kind else kind_in p cs) (ne_eqb c.pid p (λ (same : c.pid ≡ p). ne (sym (eqb-true c.pid pid is) ∙ same)))))
     (λ isnt. ap (λ (b : Bool). kind_in p (if b then cs else c ∷ without pid cs)) isnt
     ∙ ap (λ (o : Option Kind). if nat_eq c.pid p then Some c.kind else o) (without_others pid p cs ne))
 
 pub without_gone : (pid : ℕ) (cs : List Enrolled) → DifferOn cs → kind_in pid (without pid cs) ≡ None
 without_gone pid [] differ = refl
-without_gone pid (c ∷ cs) differ = cases (nat_eq c.pid pid)
+without_gone pid (c ∷ cs) differ = by_test (nat_eq c.pid pid)
     (λ is. ap (λ (b : Bool). kind_in pid (if b then cs else c ∷ without pid cs)) is
-    ∙ (ap (λ (q : ℕ). kind_in q cs) (sym (same_pid c.pid pid is)) ∙ differ.0))
+    ∙ (ap (λ (q : ℕ). kind_in q cs) (sym (eqb-true c.pid pid is)) ∙ differ.0))
     (λ isnt. ap (λ (b : Bool). kind_in pid (if b then cs else c ∷ without pid cs)) isnt
     ∙ (ap (λ (b : Bool). if b then Some c.kind else kind_in pid (without pid cs)) isnt ∙ without_gone pid cs differ.1))
 
 none_without : (pid p : ℕ) (cs : List Enrolled) → kind_in p cs ≡ None → DifferOn cs → kind_in p (without pid cs) ≡ None
-none_without pid p cs none differ = cases (nat_eq pid p)
-    (λ is. ap (λ (q : ℕ). kind_in q (without pid cs)) (sym (same_pid pid p is)) ∙ without_gone pid cs differ)
-    (λ isnt. without_others pid p cs (other_pid pid p isnt) ∙ none)
+none_without pid p cs none differ = by_test (nat_eq pid p)
+    (λ is. ap (λ (q : ℕ). kind_in q (without pid cs)) (sym (eqb-true pid p is)) ∙ without_gone pid cs differ)
+    (λ isnt. without_others pid p cs (eqb-false pid p isnt) ∙ none)
 
 pub differ_without : (pid : ℕ) (cs : List Enrolled) → DifferOn cs → DifferOn (without pid cs)
 differ_without pid [] differ = tt
-differ_without pid (c ∷ cs) differ = cases (nat_eq c.pid pid)
+differ_without pid (c ∷ cs) differ = by_test (nat_eq c.pid pid)
     (λ is. subst (λ (b : Bool). DifferOn (if b then cs else c ∷ without pid cs)) (sym is) differ.1)
     (λ isnt. subst (λ (b : Bool). DifferOn (if b then cs else c ∷ without pid cs)) (sym isnt)
     (none_without pid c.pid cs differ.0 differ.1, differ_without pid cs differ.1))
@@ -125,20 +110,20 @@ pub found_kind : (k : ℕ) (c : Enrolled) (seats : List (Option Enrolled)) → S
 found_kind k c [] apart is = absurd (let no_ : ◌≡◌ {A = Option Enrolled} None (Some c) = is in cc)
 found_kind zero c (x ∷ seats) apart is =
     ap (λ (y : Option Enrolled). kind_seated c.pid (y ∷ seats)) is
-    ∙ ap (λ (b : Bool). if b then Some c.kind else kind_seated c.pid seats) (like c.pid c.pid refl)
+    ∙ ap (λ (b : Bool). if b then Some c.kind else kind_seated c.pid seats) (eq-eqb c.pid c.pid refl)
 found_kind (suc k) c (None ∷ seats) apart is = found_kind k c seats apart is
-found_kind (suc k) c (Some d ∷ seats) apart is = cases (nat_eq d.pid c.pid)
-    (λ same. let none : None ≡ Some c.kind = sym apart.0 ∙ (ap (λ (q : ℕ). kind_seated q seats) (same_pid d.pid c.pid same) ∙ found_kind k c seats apart.1 is) in absurd (cc))
+found_kind (suc k) c (Some d ∷ seats) apart is = by_test (nat_eq d.pid c.pid)
+    (λ same. let none : None ≡ Some c.kind = sym apart.0 ∙ (ap (λ (q : ℕ). kind_seated q seats) (eqb-true d.pid c.pid same) ∙ found_kind k c seats apart.1 is) in absurd (cc))
     (λ other. ap (λ (b : Bool). if b then Some d.kind else kind_seated c.pid seats) other ∙ found_kind k c seats apart.1 is)
 
 none_set : (p k : ℕ) (seats : List (Option Enrolled)) → kind_seated p seats ≡ None → kind_seated p (set seats k None) ≡ None
 none_set p k [] none = refl
 none_set p zero (None ∷ seats) none = none
-none_set p zero (Some c ∷ seats) none = cases (nat_eq c.pid p)
+none_set p zero (Some c ∷ seats) none = by_test (nat_eq c.pid p)
     (λ is. let no_ : None ≡ Some c.kind = sym none ∙ ap (λ (b : Bool). if b then Some c.kind else kind_seated p seats) is in absurd (cc))
     (λ isnt. sym (ap (λ (b : Bool). if b then Some c.kind else kind_seated p seats) isnt) ∙ none)
 none_set p (suc k) (None ∷ seats) none = none_set p k seats none
-none_set p (suc k) (Some c ∷ seats) none = cases (nat_eq c.pid p)
+none_set p (suc k) (Some c ∷ seats) none = by_test (nat_eq c.pid p)
     (λ is. let no_ : None ≡ Some c.kind = sym none ∙ ap (λ (b : Bool). if b then Some c.kind else kind_seated p seats) is in absurd (cc))
     (λ isnt. ap (λ (b : Bool). if b then Some c.kind else kind_seated p (set seats k None)) isnt
     ∙ none_set p k seats (sym (ap (λ (b : Bool). if b then Some c.kind else kind_seated p seats) isnt) ∙ none))
@@ -148,8 +133,8 @@ pub alone_at : (k : ℕ) (c : Enrolled) (seats : List (Option Enrolled)) → Sit
 alone_at k c [] apart is = refl
 alone_at zero c (x ∷ seats) apart is = (subst (λ (y : Option Enrolled). SitApart (y ∷ seats)) is apart).0
 alone_at (suc k) c (None ∷ seats) apart is = alone_at k c seats apart is
-alone_at (suc k) c (Some d ∷ seats) apart is = cases (nat_eq d.pid c.pid)
-    (λ same. let none : None ≡ Some c.kind = sym apart.0 ∙ (ap (λ (q : ℕ). kind_seated q seats) (same_pid d.pid c.pid same) ∙ found_kind k c seats apart.1 is) in absurd (cc))
+alone_at (suc k) c (Some d ∷ seats) apart is = by_test (nat_eq d.pid c.pid)
+    (λ same. let none : None ≡ Some c.kind = sym apart.0 ∙ (ap (λ (q : ℕ). kind_seated q seats) (eqb-true d.pid c.pid same) ∙ found_kind k c seats apart.1 is) in absurd (cc))
     (λ other. ap (λ (b : Bool). if b then Some d.kind else kind_seated c.pid (set seats k None)) other ∙ alone_at k c seats apart.1 is)
 
 pub apart_none : (k : ℕ) (seats : List (Option Enrolled)) → SitApart seats → SitApart (set seats k None)
@@ -165,12 +150,12 @@ apart_some k pid kind [] near free new apart = tt
 apart_some zero pid kind (None ∷ seats) near free new apart = (new, apart)
 apart_some zero pid kind (Some c ∷ seats) near free new apart = absurd (let no_ : Some c ≡ None = free in cc)
 apart_some (suc k) pid kind (None ∷ seats) near free new apart = apart_some k pid kind seats (omega arith) free new apart
-apart_some (suc k) pid kind (Some c ∷ seats) near free new apart = cases (nat_eq c.pid pid)
+apart_some (suc k) pid kind (Some c ∷ seats) near free new apart = by_test (nat_eq c.pid pid)
     (λ is. let no_ : None ≡ Some c.kind = sym new ∙ ap (λ (b : Bool). if b then Some c.kind else kind_seated pid seats) is in absurd (cc))
     (λ isnt.
     let rest : kind_seated pid seats ≡ None = sym (ap (λ (b : Bool). if b then Some c.kind else kind_seated pid seats) isnt) ∙ new in (
       seated_new k pid kind seats (omega arith) free rest c.pid
-          ∙ (ap (λ (b : Bool). if b then Some kind else kind_seated c.pid seats) (unlike pid c.pid (λ same. other_pid c.pid pid isnt (sym same))) ∙ apart.0),
+          ∙ (ap (λ (b : Bool). if b then Some kind else kind_seated c.pid seats) (ne_eqb pid c.pid (λ same. eqb-false c.pid pid isnt (sym same))) ∙ apart.0),
       apart_some k pid kind seats (omega arith) free rest apart.1,
     ))
 
@@ -194,10 +179,10 @@ pub on_roll_less : (roll : List Enrolled) (seats : List (Option Enrolled)) (last
     → seat_at k seats ≡ Some c
     → AreOnRoll (without c.pid roll) (set seats k None) last
 on_roll_less roll seats last k c on sits = record {
-  same = λ p. cases (nat_eq c.pid p)
-      (λ is. ap (λ (q : ℕ). kind_in q (without c.pid roll)) (sym (same_pid c.pid p is)) ∙ (without_gone c.pid roll on.differ
-      ∙ (sym (alone_at k c seats on.apart sits) ∙ ap (λ (q : ℕ). kind_seated q (set seats k None)) (same_pid c.pid p is))))
-      (λ isnt. without_others c.pid p roll (other_pid c.pid p isnt) ∙ (on.same p ∙ sym (seated_others k p c seats sits (other_pid c.pid p isnt))));
+  same = λ p. by_test (nat_eq c.pid p)
+      (λ is. ap (λ (q : ℕ). kind_in q (without c.pid roll)) (sym (eqb-true c.pid p is)) ∙ (without_gone c.pid roll on.differ
+      ∙ (sym (alone_at k c seats on.apart sits) ∙ ap (λ (q : ℕ). kind_seated q (set seats k None)) (eqb-true c.pid p is))))
+      (λ isnt. without_others c.pid p roll (eqb-false c.pid p isnt) ∙ (on.same p ∙ sym (seated_others k p c seats sits (eqb-false c.pid p isnt))));
   differ = differ_without c.pid roll on.differ;
   apart = apart_none k seats on.apart;
   below = below_set last k None seats tt on.below;

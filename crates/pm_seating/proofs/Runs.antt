@@ -1,7 +1,9 @@
 -- Ends in the journal, and runs.
-use Rattle.std.proofs.Common.{inl, inr, ℕ, ◌<◌, List, [], ◌∷◌, ◌++◌, refl, sym, subst, ◌∙◌, map, nat_eq}
+use Rattle.std.proofs.Common.{inl, inr, ℕ, ◌<◌, List, [], ◌∷◌, refl, sym, subst, ◌∙◌, map, nat_eq}
 use Rattle.std.specs.Prelude.{Bool, true, false, if◌then◌else◌, Option}
 use Rattle.std.specs.List.{AllByRecursion}
+use Rattle.std.proofs.lemmas.Bool.{eq-eqb}
+use Rattle.pm_facts.specs.Lists.{each_both}
 use Rattle.pm_state.specs.declared.event.PmEvent.{PmEvent}
 use Rattle.pm_state.specs.declared.event.PmEvent.TheVariants as entry
 use Rattle.pm_journal.specs.declared.roll.Enrolled.{Enrolled}
@@ -10,7 +12,6 @@ use Rattle.pm_seating.specs.Seating.{Seating, Move, Notes, Reads, PortEnds, Pids
 use Rattle.pm_seating.specs.Runs.{IsEndOf, IsOnBoard, run_ended}
 use Rattle.pm_seating.specs.Laws.{EndsOfTheJournalAreRuns}
 use Rattle.pm_seating.specs.EndedLaws.{Among, among_behind, among_front}
-use Rattle.pm_seating.proofs.Rolls.{like}
 
 among_runs : (end : Ended) (runs : List ChildRun) → Among end (map run_ended runs) → IsEndOf end runs
 among_runs end [] on = elim on [ ]
@@ -20,10 +21,6 @@ among_runs end (run ∷ runs) (inr on) = inr (among_runs end runs on)
 each_among : (P : Ended → Type 0) (xs : List Ended) → ((end : Ended) → Among end xs → P end) → AllByRecursion P xs
 each_among P [] h = tt
 each_among P (x ∷ xs) h = (h x (inl refl), each_among P xs (λ end on. h end (inr on)))
-
-pub all_append : {X : Type 0} (P : X → Type 0) (xs ys : List X) → AllByRecursion P xs → AllByRecursion P ys → AllByRecursion P (xs ++ ys)
-all_append P [] ys a b = b
-all_append P (x ∷ xs) ys a b = (a.0, all_append P xs ys a.1 b)
 
 module _ (P : Ended → Type 0) where
   abbrev EachEnd : List PmEvent → Type 0
@@ -42,10 +39,10 @@ module _ (P : Ended → Type 0) where
       → ((k : ℕ) (end : Ended) → k < count → Among end (ended_at k moves) → P end) → EachEnd (entries_from s moves)
   each_move count s [] on h = tt
   each_move count s (Notes e k ∷ moves) on h = (
-    each_among P (ends e) (λ end is. h k end on.0 (among_front end (if nat_eq k k then ends e else []) (ended_at k moves) (subst (λ (b : Bool). Among end (if b then ends e else [])) (sym (like k k refl)) is))),
+    each_among P (ends e) (λ end is. h k end on.0 (among_front end (if nat_eq k k then ends e else []) (ended_at k moves) (subst (λ (b : Bool). Among end (if b then ends e else [])) (sym (eq-eqb k k refl)) is))),
     each_move count (seating_by s (Notes e k)) moves on.1 (λ j end near is. h j end near (among_behind end (ended_by j (Notes e k)) (ended_at j moves) is)),
   )
-  each_move count s (Reads line asks at ∷ moves) on h = all_append (λ e. AllByRecursion P (ends e)) (asked_by asks at s.seats) (entries_from s moves) (asks_none asks at s.seats) (each_move count s moves on.1 h)
+  each_move count s (Reads line asks at ∷ moves) on h = each_both (λ e. AllByRecursion P (ends e)) (asked_by asks at s.seats) (entries_from s moves) (asks_none asks at s.seats) (each_move count s moves on.1 h)
   each_move count s (PortEnds at ∷ moves) on h = (tt, each_move count s moves on.1 h)
   each_move count s (PidsEnd at ∷ moves) on h = (tt, each_move count s moves on.1 h)
 

@@ -1,7 +1,10 @@
 -- A child that sits down, and one that is gone.
-use Rattle.std.proofs.Common.{◌≡◌, ◌≢◌, ℕ, zero, suc, ◌<◌, ◌≤◌, List, [], ◌∷◌, ◌++◌, refl, sym, ap, subst, ◌∙◌, length, set, map, nat_eq, append-nil, length-set}
+use Rattle.std.proofs.Common.{◌≡◌, ◌≢◌, ℕ, ◌<◌, ◌≤◌, List, [], ◌∷◌, ◌++◌, refl, sym, ap, subst, ◌∙◌, length, set, map, nat_eq, append-nil, length-set}
 use Rattle.std.proofs.lemmas.List.{get_or-set_same, get_or-set_other, map-append}
 use Rattle.std.specs.Prelude.{Bool, true, false, ◌==◌, if◌then◌else◌, Option, Some, None}
+use Rattle.std.proofs.lemmas.Bool.{eqb-true, eqb-false, ne_eqb, eq-eqb}
+use Rattle.pm_facts.specs.Lists.{set_set}
+use Rattle.pm_facts.specs.Bools.{by_test}
 use Rattle.pm_exit.specs.declared.child.Kind.{Kind}
 use Rattle.pm_exit.specs.declared.child.Status.{Status}
 use Rattle.pm_journal.specs.declared.roll.Enrolled.{Enrolled}
@@ -20,12 +23,6 @@ use Rattle.pm_seating.specs.Board.{SeenAs, Shows, begun_of, ended_of, seat_at, s
 use Rattle.pm_seating.specs.Sitting.{Sits, HasReaped}
 use Rattle.pm_seating.specs.Standing.{HasHad}
 use Rattle.pm_seating.specs.FoldingLaws.{begun-more, ended-more}
-use Rattle.pm_seating.proofs.Rolls.{cases, same_pid, other_pid, unlike, like}
-
-set_set : {A : Type 0} (l : List A) (k : ℕ) (a b : A) → set (set l k a) k b ≡ set l k b
-set_set [] k a b = refl
-set_set (x ∷ l) zero a b = refl
-set_set (x ∷ l) (suc k) a b = ap (λ ys. x ∷ ys) (set_set l k a b)
 
 module _ {D : Type 0} where
   -- a slot that became one thing and then another
@@ -47,12 +44,12 @@ module _ {D : Type 0} where
     count = length-set s.seats k seat ∙ (shows.count ∙ sym became.count);
     few = subst (λ (n : ℕ). n ≤ 407) (sym (length-set s.seats k seat)) shows.few;
     generation = ap (λ (v : RosterView D). v.generation) became.whole ∙ shows.generation;
-    each = λ j l. cases (nat_eq j k)
-        (λ is. let same : j ≡ k = same_pid j k is in
+    each = λ j l. by_test (nat_eq j k)
+        (λ is. let same : j ≡ k = eqb-true j k is in
         subst (λ (i : ℕ). SeenAs s.generation (seat_at i (set s.seats k seat)) (slot_at e i).sight) (sym same)
         (subst (λ (y : Option Enrolled). SeenAs s.generation y (slot_at e k).sight) (sym (get_or-set_same s.seats k seat None near))
         (subst (λ (y : SlotView D). SeenAs s.generation seat y.sight) (sym became.here) seen)))
-        (λ isnt. let ne : j ≢ k = other_pid j k isnt in
+        (λ isnt. let ne : j ≢ k = eqb-false j k isnt in
         subst (λ (y : Option Enrolled). SeenAs s.generation y (slot_at e j).sight) (sym (get_or-set_other s.seats k j seat None ne))
         (subst (λ (y : SlotView D). SeenAs s.generation (seat_at j s.seats) y.sight) (sym (became.others j ne))
         (shows.each j (subst (λ (n : ℕ). j < n) (length-set s.seats k seat) l))));
@@ -65,27 +62,27 @@ module _ {D : Type 0} where
       → begins s.generation entry ≡ record { pid = c.pid; kind = c.kind; generation = s.generation } ∷ [] → ends entry ≡ []
       → HasHad count (moves ++ Notes entry k ∷ []) e (with_seat k (Some c) s)
   had_begun count moves d e s k c entry x notes had that near free became past begun ended = record {
-    begun = λ j. cases (nat_eq j k)
-        (λ is. subst (λ (i : ℕ). map begun_of (slot_at e i).past ++ sitting s.generation (seat_at i (set s.seats k (Some c))) ≡ begun_at count i (moves ++ Notes entry k ∷ [])) (sym (same_pid j k is))
+    begun = λ j. by_test (nat_eq j k)
+        (λ is. subst (λ (i : ℕ). map begun_of (slot_at e i).past ++ sitting s.generation (seat_at i (set s.seats k (Some c))) ≡ begun_at count i (moves ++ Notes entry k ∷ [])) (sym (eqb-true j k is))
         (ap (λ (ps : List (PastChild D)). map begun_of ps ++ sitting s.generation (seat_at k (set s.seats k (Some c)))) (ap (λ (y : SlotView D). y.past) became.here ∙ past)
         ∙ (ap (λ (y : Option Enrolled). map begun_of (slot_at d k).past ++ sitting s.generation y) (get_or-set_same s.seats k (Some c) None near)
         ∙ (ap (λ (bs : List Begun). bs ++ record { pid = c.pid; kind = c.kind; generation = s.generation } ∷ [])
         (sym (append-nil (map begun_of (slot_at d k).past)) ∙ (sym (ap (λ (y : Option Enrolled). map begun_of (slot_at d k).past ++ sitting s.generation y) free) ∙ had.begun k))
-        ∙ (ap (λ (bs : List Begun). begun_at count k moves ++ bs) (sym begun ∙ (sym (ap (λ (b : Bool). if b then begins s.generation entry else []) (like k k refl)) ∙ ap (λ (t : Seating). begun_by k t (Notes entry k)) that))
+        ∙ (ap (λ (bs : List Begun). begun_at count k moves ++ bs) (sym begun ∙ (sym (ap (λ (b : Bool). if b then begins s.generation entry else []) (eq-eqb k k refl)) ∙ ap (λ (t : Seating). begun_by k t (Notes entry k)) that))
         ∙ sym (begun-more count k moves (Notes entry k)))))))
-        (λ isnt. ap (λ (y : SlotView D). map begun_of y.past ++ sitting s.generation (seat_at j (set s.seats k (Some c)))) (became.others j (other_pid j k isnt))
-        ∙ (ap (λ (y : Option Enrolled). map begun_of (slot_at d j).past ++ sitting s.generation y) (get_or-set_other s.seats k j (Some c) None (other_pid j k isnt))
+        (λ isnt. ap (λ (y : SlotView D). map begun_of y.past ++ sitting s.generation (seat_at j (set s.seats k (Some c)))) (became.others j (eqb-false j k isnt))
+        ∙ (ap (λ (y : Option Enrolled). map begun_of (slot_at d j).past ++ sitting s.generation y) (get_or-set_other s.seats k j (Some c) None (eqb-false j k isnt))
         ∙ (had.begun j
         ∙ (sym (append-nil (begun_at count j moves))
-        ∙ (ap (λ (bs : List Begun). begun_at count j moves ++ bs) (sym (ap (λ (b : Bool). if b then begins (seating_of count moves).generation entry else []) (unlike k j (λ same. other_pid j k isnt (sym same)))))
+        ∙ (ap (λ (bs : List Begun). begun_at count j moves ++ bs) (sym (ap (λ (b : Bool). if b then begins (seating_of count moves).generation entry else []) (ne_eqb k j (λ same. eqb-false j k isnt (sym same)))))
         ∙ sym (begun-more count j moves (Notes entry k)))))));
     ended = λ j. past_same j ∙ (had.ended j ∙ (sym (append-nil (ended_at j moves)) ∙ (ap (λ (es : List Ended). ended_at j moves ++ es) (sym (no_end j)) ∙ sym (ended-more j moves (Notes entry k)))));
   }
     where
       past_same : (j : ℕ) → map ended_of (slot_at e j).past ≡ map ended_of (slot_at d j).past
-      past_same j = cases (nat_eq j k)
-          (λ is. subst (λ (i : ℕ). map ended_of (slot_at e i).past ≡ map ended_of (slot_at d i).past) (sym (same_pid j k is)) (ap (map ended_of) (ap (λ (y : SlotView D). y.past) became.here ∙ past)))
-          (λ isnt. ap (λ (y : SlotView D). map ended_of y.past) (became.others j (other_pid j k isnt)))
+      past_same j = by_test (nat_eq j k)
+          (λ is. subst (λ (i : ℕ). map ended_of (slot_at e i).past ≡ map ended_of (slot_at d i).past) (sym (eqb-true j k is)) (ap (map ended_of) (ap (λ (y : SlotView D). y.past) became.here ∙ past)))
+          (λ isnt. ap (λ (y : SlotView D). map ended_of y.past) (became.others j (eqb-false j k isnt)))
 
       no_end : (j : ℕ) → ended_by j (Notes entry k) ≡ []
       no_end j = both (k == j)
@@ -102,8 +99,8 @@ module _ {D : Type 0} where
       → begins s.generation entry ≡ [] → ends entry ≡ ended_of child ∷ []
       → HasHad count (moves ++ Notes entry k ∷ []) e (with_seat k None s)
   had_ended count moves d e s k c child entry x notes had that near sits became past was begun ended = record {
-    begun = λ j. cases (nat_eq j k)
-        (λ is. subst (λ (i : ℕ). map begun_of (slot_at e i).past ++ sitting s.generation (seat_at i (set s.seats k None)) ≡ begun_at count i (moves ++ Notes entry k ∷ [])) (sym (same_pid j k is))
+    begun = λ j. by_test (nat_eq j k)
+        (λ is. subst (λ (i : ℕ). map begun_of (slot_at e i).past ++ sitting s.generation (seat_at i (set s.seats k None)) ≡ begun_at count i (moves ++ Notes entry k ∷ [])) (sym (eqb-true j k is))
         (ap (λ (y : Option Enrolled). map begun_of (slot_at e k).past ++ sitting s.generation y) (get_or-set_same s.seats k None None near)
         ∙ (append-nil (map begun_of (slot_at e k).past)
         ∙ (ap (map begun_of) (ap (λ (y : SlotView D). y.past) became.here ∙ past)
@@ -111,19 +108,19 @@ module _ {D : Type 0} where
         ∙ (ap (λ (b : Begun). map begun_of (slot_at d k).past ++ b ∷ []) was
         ∙ (sym (ap (λ (y : Option Enrolled). map begun_of (slot_at d k).past ++ sitting s.generation y) sits)
         ∙ (had.begun k ∙ begun_same k))))))))
-        (λ isnt. ap (λ (y : SlotView D). map begun_of y.past ++ sitting s.generation (seat_at j (set s.seats k None))) (became.others j (other_pid j k isnt))
-        ∙ (ap (λ (y : Option Enrolled). map begun_of (slot_at d j).past ++ sitting s.generation y) (get_or-set_other s.seats k j None None (other_pid j k isnt))
+        (λ isnt. ap (λ (y : SlotView D). map begun_of y.past ++ sitting s.generation (seat_at j (set s.seats k None))) (became.others j (eqb-false j k isnt))
+        ∙ (ap (λ (y : Option Enrolled). map begun_of (slot_at d j).past ++ sitting s.generation y) (get_or-set_other s.seats k j None None (eqb-false j k isnt))
         ∙ (had.begun j ∙ begun_same j)));
-    ended = λ j. cases (nat_eq j k)
-        (λ is. subst (λ (i : ℕ). map ended_of (slot_at e i).past ≡ ended_at i (moves ++ Notes entry k ∷ [])) (sym (same_pid j k is))
+    ended = λ j. by_test (nat_eq j k)
+        (λ is. subst (λ (i : ℕ). map ended_of (slot_at e i).past ≡ ended_at i (moves ++ Notes entry k ∷ [])) (sym (eqb-true j k is))
         (ap (map ended_of) (ap (λ (y : SlotView D). y.past) became.here ∙ past)
         ∙ (map-append ended_of (slot_at d k).past (child ∷ [])
         ∙ (ap (λ (es : List Ended). es ++ ended_of child ∷ []) (had.ended k)
-        ∙ (ap (λ (es : List Ended). ended_at k moves ++ es) (sym ended ∙ sym (ap (λ (b : Bool). if b then ends entry else []) (like k k refl)))
+        ∙ (ap (λ (es : List Ended). ended_at k moves ++ es) (sym ended ∙ sym (ap (λ (b : Bool). if b then ends entry else []) (eq-eqb k k refl)))
         ∙ sym (ended-more k moves (Notes entry k)))))))
-        (λ isnt. ap (λ (y : SlotView D). map ended_of y.past) (became.others j (other_pid j k isnt))
+        (λ isnt. ap (λ (y : SlotView D). map ended_of y.past) (became.others j (eqb-false j k isnt))
         ∙ (had.ended j ∙ (sym (append-nil (ended_at j moves))
-        ∙ (ap (λ (es : List Ended). ended_at j moves ++ es) (sym (ap (λ (b : Bool). if b then ends entry else []) (unlike k j (λ same. other_pid j k isnt (sym same)))))
+        ∙ (ap (λ (es : List Ended). ended_at j moves ++ es) (sym (ap (λ (b : Bool). if b then ends entry else []) (ne_eqb k j (λ same. eqb-false j k isnt (sym same)))))
         ∙ sym (ended-more j moves (Notes entry k))))));
   }
     where

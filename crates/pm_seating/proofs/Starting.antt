@@ -1,6 +1,8 @@
 -- Which children a call of the machine starts, and which may still be started behind it.
 use Rattle.std.proofs.Common.{◌≡◌, ℕ, ◌≤◌, ◌+◌, List, [], ◌∷◌, ◌++◌, refl, sym, ap, subst, ◌∙◌, arith}
 use Rattle.std.specs.Prelude.{nat_le, Bool, true, false, not, ◌==◌, ◌&&◌, ◌||◌, if◌then◌else◌, Option, Some, None, is_some, IsSomeAnd}
+use Rattle.std.proofs.lemmas.Bool.{or_right, or_from}
+use Rattle.pm_facts.specs.Bools.{by_test}
 use Rattle.pm_exit.specs.declared.child.Kind.{Kind}
 use Rattle.pm_exit.specs.declared.child.Kind.TheVariants as kind
 use Rattle.pm_exit.specs.declared.child.Class.{Class}
@@ -10,6 +12,7 @@ use Rattle.pm_exit.specs.Ends.{class_of, is_exit_0, is_exit_1}
 use Rattle.pm_modes.specs.declared.Mode.{Mode}
 use Rattle.pm_modes.specs.declared.Mode.TheVariants as mode
 use Rattle.pm_modes.specs.Strength.{is_immediate, strengthen_of}
+use Rattle.pm_modes.specs.StrengthLaws.{strengthens}
 use Rattle.pm_admit.specs.declared.Cac.{Cac}
 use Rattle.pm_admit.specs.declared.Cac.TheVariants as cac
 use Rattle.pm_admit.specs.declared.PmState.{PmState}
@@ -38,22 +41,17 @@ use Rattle.pm_state.specs.TurnRules.{startup_starts, is_not_running, are_backend
 use Rattle.pm_board.specs.Places.{is_auxiliary}
 use Rattle.pm_seating.specs.Acts.{StartOnly, may_start, renews}
 use Rattle.pm_seating.proofs.MayBeDone.{alone_of, at_least, none_counted, runs_of}
-use Rattle.pm_seating.proofs.Rolls.{cases}
 use Rattle.pm_seating.proofs.Turning.{in_order, inside, rest0, rest1, rest2, rest3, rest_s, rest_w}
 
 -- such a child may still be started: a startup child, or another
 abbrev pub yet : Bool → Machine → Bool
 yet b m = if b then is_init m.state else not (m.fatal || is_immediate m.shutdown) || not (is_not_running m.startup)
 
-or_right : (a b : Bool) → b ≡ true → (a || b) ≡ true
-or_right true b is = refl
-or_right false b is = is
-
 -- where a startup child is there, another may be started behind it
 behind_startup : (m : Machine) → is_not_running m.startup ≡ false → yet false m ≡ true
 behind_startup m runs = or_right (not (m.fatal || is_immediate m.shutdown)) (not (is_not_running m.startup)) (ap not runs)
 
--- and where neither a crash nor an immediate request stands
+-- and where or_from a crash nor an immediate request stands
 unless_told : (m : Machine) → (m.fatal || is_immediate m.shutdown) ≡ false → yet false m ≡ true
 unless_told m free = ap (λ (b : Bool). not b || not (is_not_running m.startup)) free
 
@@ -226,7 +224,7 @@ off_of startup.Signalled m never = absurd (never refl)
 -- An auxiliary child that died: none of its kind may be started any more in its generation.
 pub exits_spoil : (limits : Limits) (m : Machine) (s : Supervisor) (pid : ℕ) (k : Kind) (status : Status) (was_active : Bool) (now : ℕ) → Facts limits m s → IsSomeAnd (child_of pid s.shared.children) (λ c. c.kind ≡ k)
     → is_auxiliary k ≡ true → is_exit_0 status ≡ false → may_start k (machine_after m (Exits pid k status was_active now)) ≡ false
-exits_spoil limits m s pid kind.Startup status was_active now facts there aux died = cases (is_init (machine_after m (Exits pid kind.Startup status was_active now)).state)
+exits_spoil limits m s pid kind.Startup status was_active now facts there aux died = by_test (is_init (machine_after m (Exits pid kind.Startup status was_active now)).state)
     (λ is. let first : m.state ≡ state.Init = at_first m.state (startup_yet true m _ (startup_runs limits m s pid kind.Startup facts there refl) is) in
     let holds = subst (λ (p : PmState). HoldsIn p m s.shared.noticed s.shared.is_open) first facts.in_state in
     absurd (let no_ : true ≡ false = sym (ap is_not_running holds.0.startup) ∙ startup_runs limits m s pid kind.Startup facts there refl in cc))
@@ -267,15 +265,6 @@ report_yet b kind.Writer m = refl
 report_yet b kind.Worker m = refl
 report_yet b kind.Backend m = refl
 report_yet b kind.DeadEnd m = refl
-
--- a request that is stronger than what stands isn't behind an immediate one
-not_immediate : (old : Option Mode) (asked how : Mode) → strengthen_of old asked ≡ Some how → is_immediate old ≡ false
-not_immediate None asked how is = refl
-not_immediate (Some mode.Smart) asked how is = refl
-not_immediate (Some mode.Fast) asked how is = refl
-not_immediate (Some mode.Immediate) mode.Smart how is = absurd (let no_ : ◌≡◌ {A = Option Mode} None (Some how) = is in cc)
-not_immediate (Some mode.Immediate) mode.Fast how is = absurd (let no_ : ◌≡◌ {A = Option Mode} None (Some how) = is in cc)
-not_immediate (Some mode.Immediate) mode.Immediate how is = absurd (let no_ : ◌≡◌ {A = Option Mode} None (Some how) = is in cc)
 
 -- where no immediate request stood, one that stands now takes away and adds nothing to the others
 weaker : (f i : Bool) (st : StartupStatus) → i ≡ false → (not (f || false) || not (is_not_running st)) ≡ true → (not (f || i) || not (is_not_running st)) ≡ true
@@ -554,7 +543,7 @@ dead_start such state.WaitDeadEnd m = by (are_backends_gone m && not m.checkpoin
     by true = children_start such state.NoChildren (inside state.NoChildren m)
     by false = tt
 
--- the checkpointer is started where neither a crash nor an immediate request stands
+-- the checkpointer is started where or_from a crash nor an immediate request stands
 abbrev MayCheckpoint : (Kind → Type 0) → Machine → Type 0
 MayCheckpoint such m = (m.fatal || is_immediate m.shutdown) ≡ false → such kind.Checkpointer
 
@@ -634,16 +623,12 @@ start_start such state.Shutdown m may serves first = tt
 start_start such state.WaitDeadEnd m may serves first = writer_start such state.WaitDeadEnd m may serves
 start_start such state.NoChildren m may serves first = writer_start such state.NoChildren m may serves
 
-neither : (a b : Bool) → a ≡ false → b ≡ false → (a || b) ≡ false
-neither true b first second = absurd (let no_ : true ≡ false = first in cc)
-neither false b first second = second
-
 turn_starts : (limits : Limits) (m : Machine) (s : Supervisor) → Facts limits m s → StartOnly (λ k. may_start k m ≡ true) (turned_of m).acts
 turn_starts limits m s facts =
     subst (StartOnly (λ k. may_start k m ≡ true)) (sym (in_order m))
     (start_start (λ k. may_start k m ≡ true) m.state m (unless_told m)
     (λ is. let holds = subst (λ (p : PmState). HoldsIn p m s.shared.noticed s.shared.is_open) is facts.in_state in
-    unless_told m (neither m.fatal (is_immediate m.shutdown) holds.5 holds.8))
+    unless_told m (or_from m.fatal (is_immediate m.shutdown) holds.5 holds.8))
     (λ is. ap is_init is))
 
 -- ---- each call
@@ -652,7 +637,7 @@ turn_starts limits m s facts =
 at_first_yet : (limits : Limits) (m : Machine) (s : Supervisor) → Facts limits m s → m.state ≡ state.Init → yet false m ≡ true
 at_first_yet limits m s facts is =
     let holds = subst (λ (p : PmState). HoldsIn p m s.shared.noticed s.shared.is_open) is facts.in_state in
-    unless_told m (neither m.fatal (is_immediate m.shutdown) holds.3 (sym facts.stop ∙ ap is_stop_reason holds.1))
+    unless_told m (or_from m.fatal (is_immediate m.shutdown) holds.3 (sym facts.stop ∙ ap is_stop_reason holds.1))
 
 -- a child that ends is there
 abbrev pub EndsOne : Trace → Call → Type 0
@@ -666,7 +651,7 @@ call_yet limits m h (Accepts pid) kind facts there none is = accept_yet (is_star
 call_yet limits m h (Starts pid k) kind facts there none is = sym (report_yet (is_startup_child kind) k m) ∙ is
 call_yet limits m h (Exits pid k status was_active now) kind facts there none is =
     exits_yet (is_startup_child kind) k m _ was_active (startup_runs limits m h.now pid k facts there) is
-call_yet limits m h (Asks how now) kind facts there none is = requested_yet (is_startup_child kind) (strengthen_of m.shutdown how) m now (not_immediate m.shutdown how) is
+call_yet limits m h (Asks how now) kind facts there none is = requested_yet (is_startup_child kind) (strengthen_of m.shutdown how) m now (strengthens m.shutdown how) is
 call_yet limits m h (Ticks now) kind facts there none is = ticked_yet (is_startup_child kind) m.abort_at m now is
 call_yet limits m h TakesTurn kind facts there none is = turn_yet (is_startup_child kind) m (at_first_yet limits m h.now facts) none is
 call_yet limits m h (Attaches pid) kind facts there none is = is

@@ -1,6 +1,7 @@
 -- The acts of a turn, and the gate.
-use Rattle.std.proofs.Common.{◌≡◌, ℕ, List, [], ◌∷◌, ◌++◌, refl, sym, ap, subst, ◌∙◌, arith, nat_eq, append_assoc}
+use Rattle.std.proofs.Common.{◌≡◌, List, [], ◌∷◌, ◌++◌, refl, sym, ap, subst, ◌∙◌, arith, append_assoc}
 use Rattle.std.specs.Prelude.{Bool, true, false, not, ◌==◌, ◌&&◌, ◌||◌, if◌then◌else◌, None, is_some}
+use Rattle.std.proofs.lemmas.Bool.{eqb-true, not-true, and_parts}
 use Rattle.pm_exit.specs.declared.child.Kind.{Kind}
 use Rattle.pm_exit.specs.declared.child.Kind.TheVariants as kind
 use Rattle.pm_modes.specs.Strength.{is_immediate}
@@ -59,26 +60,14 @@ children_may state.NoChildren m gate roll none = by (is_some m.shutdown && m.fat
     by false false true = tt
     by false false false = (none refl, (refl, subst (NoneIs kind.Startup) (sym (none refl)) tt, λ pid. tt))
 
-both_of : (a b : Bool) → (a && b) ≡ true → (a ≡ true) × (b ≡ true)
-both_of true true is = (refl, refl)
-both_of true false is = absurd (let no_ : false ≡ true = is in cc)
-both_of false b is = absurd (let no_ : false ≡ true = is in cc)
-
-not_of : (a : Bool) → not a ≡ true → a ≡ false
-not_of true is = absurd (let no_ : false ≡ true = is in cc)
-not_of false is = refl
-
-same_nat : (a b : ℕ) → nat_eq a b ≡ true → a ≡ b
-same_nat a b e = grind arith
-
 -- no child is left
 left_nobody : (m : Machine) (roll : List Enrolled) → Counted m roll → (are_backends_gone m && not m.checkpointer && (m.dead_ends == 0)) ≡ true → roll ≡ []
 left_nobody m roll counted is =
-    let one = both_of (are_backends_gone m && not m.checkpointer) (m.dead_ends == 0) is in
-    let two = both_of (are_backends_gone m) (not m.checkpointer) one.0 in
-    let three = both_of ((m.children == 0) && is_not_running m.startup) (not m.writer) two.0 in
-    let four = both_of (m.children == 0) (is_not_running m.startup) three.0 in
-    counted.nobody four.1 (same_nat m.children 0 four.0) (not_of m.checkpointer two.1) (not_of m.writer three.1) (same_nat m.dead_ends 0 one.1)
+    let one = and_parts (are_backends_gone m && not m.checkpointer) (m.dead_ends == 0) is in
+    let two = and_parts (are_backends_gone m) (not m.checkpointer) one.0 in
+    let three = and_parts ((m.children == 0) && is_not_running m.startup) (not m.writer) two.0 in
+    let four = and_parts (m.children == 0) (is_not_running m.startup) three.0 in
+    counted.nobody four.1 (eqb-true m.children 0 four.0) (not-true m.checkpointer two.1) (not-true m.writer three.1) (eqb-true m.dead_ends 0 one.1)
 
 -- from here on the machine is in the state p
 abbrev pub inside : PmState → Machine → Machine

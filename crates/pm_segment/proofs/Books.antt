@@ -8,7 +8,6 @@ use Rattle.std.proofs.lemmas.List.Elements.{All-push, All-weaker}
 use Rattle.std.proofs.Math.Bool.{or-false}
 use Rattle.pm_disk.specs.Cause.{Rose}
 use Rattle.pm_rows.specs.declared.commit.Change.{Change}
-use Rattle.pm_rows.specs.Fold.{committed}
 use Rattle.pm_rows.specs.Limits.{max_file_bytes}
 use Rattle.pm_query.specs.declared.book.BookEntry.{BookEntry}
 use Rattle.pm_query.specs.declared.book.BookEntry.TheVariants.{Opened, Attached, Redone, Answered, Released, Detached, Gone, CheckpointEnded, Broke, LogFull}
@@ -257,10 +256,6 @@ renewed_push base before at book entry unread same attended not may generation k
     }
 
 -- ---- histories with a commit
-
-pub rows-with_commit : (history : History) (commit : List Change) → rows_of (with_commit history commit) ≡ committed (rows_of history) commit
-rows-with_commit history [] = refl
-rows-with_commit history (change ∷ changes) = fold-append committed history.base.rows history.commits ((change ∷ changes) ∷ [])
 
 pub count-with_commit : (history : History) (change : Change) (changes : List Change) → count_of (with_commit history (change ∷ changes)) ≡ count_of history + 1
 count-with_commit history change changes = omega (arith, length-append history.commits ((change ∷ changes) ∷ []))

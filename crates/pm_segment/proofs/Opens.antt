@@ -1,15 +1,15 @@
 -- A store that begins.
-use Rattle.std.specs.Ordering.{int_cmp}
-use Rattle.std.specs.FinMap.{empty, entries, len-empty, len-entries}
+use Rattle.std.specs.FinMap.{empty, entries}
 use Rattle.pm_rows.specs.Fold.{RowMap}
-use Rattle.pm_query.specs.Limits.{HasShortRows, IsShortRow}
-use Rattle.std.proofs.Common.{◌≡◌, inr, ℕ, ℤ, length, All, List, [], ◌∷◌, ◌++◌, Option, None, Some, refl, sym, ◌∙◌, ap, subst, arith, false}
+use Rattle.pm_query.specs.Limits.{HasShortRows}
+use Rattle.std.proofs.Common.{◌≡◌, inr, ℕ, List, [], ◌∷◌, ◌++◌, Option, None, Some, refl, sym, ◌∙◌, ap, subst, arith, false}
 use Rattle.std.specs.Prelude.{IfSome}
 use Rattle.std.specs.Option.{option_map}
 use Rattle.std.proofs.lemmas.List.Elements.{All-nil, All-push}
 use Rattle.pm_disk.specs.Files.{Files}
 use Rattle.pm_query.specs.declared.book.BookEntry.{BookEntry}
 use Rattle.pm_query.specs.declared.book.BookEntry.TheVariants.{Opened}
+use Rattle.pm_query.specs.HistoryLaws.{short_rows-empty}
 use Rattle.pm_segment.specs.Children.{times_in}
 use Rattle.pm_segment.specs.Moment.{Moment}
 use Rattle.pm_segment.specs.Stands.{HasNoTick, HasWaited, IsFaultBy, IsOpening, Origin, WaitsFrom}
@@ -52,9 +52,5 @@ opens_waiting at book unread unskipped first nobody empty notes =
 
 -- ---- no rows
 
-no_entry : (es : List (ℤ × List ℕ)) → length es ≡ 0 → All IsShortRow es
-no_entry [] e = All-nil IsShortRow
-no_entry (first ∷ es) e = absurd (omega arith)
-
 pub short_empty : (rows : RowMap) → rows ≡ empty → HasShortRows rows
-short_empty rows is = subst HasShortRows (sym is) (no_entry (entries empty) (sym (len-entries empty) ∙ len-empty int_cmp (List ℕ)))
+short_empty rows is = subst HasShortRows (sym is) short_rows-empty

@@ -1,11 +1,11 @@
 -- Passes as the book goes on.
-use Rattle.std.proofs.Common.{◌≡◌, Bool, ℕ, ◌+◌, ◌≤◌, List, [], ◌∷◌, ◌++◌, Option, None, Some, refl, sym, ◌∙◌, ap, subst, arith, length-append}
+use Rattle.std.proofs.Common.{◌≡◌, Bool, ℕ, ◌+◌, ◌≤◌, List, [], ◌∷◌, ◌++◌, Option, None, Some, refl, sym, ◌∙◌, ap, subst, arith}
 use Rattle.std.specs.Prelude.{IfSome, Any, cond}
-use Rattle.std.proofs.lemmas.Grind.{common_steps}
 use Rattle.std.proofs.lemmas.Bool.{eq-eqb}
 use Rattle.std.proofs.lemmas.List.Quantifiers.{Any-push}
 use Rattle.pm_rows.specs.declared.commit.Change.{Change}
 use Rattle.pm_sql.specs.declared.stmt.Stmt.{Stmt}
+use Rattle.pm_facts.specs.Lists.{Any-append}
 use Rattle.pm_query.specs.declared.item.Item.{Item}
 use Rattle.pm_query.specs.declared.book.BookEntry.{BookEntry}
 use Rattle.pm_query.specs.declared.book.BookEntry.TheVariants.{Opened, Attached, Redone, Answered, Released, Detached, Gone, CheckpointEnded, Broke, LogFull}
@@ -32,14 +32,10 @@ pub record Stays (pid : ℕ) (entry : BookEntry) : Type 0 where
   pub present_is : (entries : List BookEntry) → present_after entries entry ≡ entries ++ entry ∷ []
   pub times : (n : ℕ) → n ≤ times_after pid n entry
 
-Any-before : (P : BookEntry → Type 0) (entries : List BookEntry) (entry : BookEntry) → Any P entries → Any P (entries ++ entry ∷ [])
-Any-before P entries entry any =
-    (any.0, any.1, omega (arith, any.2, length-append entries (entry ∷ [])), grind (arith, common_steps, any.2, any.3), any.4)
-
 answer_still : (pid : ℕ) (front : Option ℕ) (book : List BookEntry) (entry : BookEntry) → Stays pid entry → HasAnswer pid front book → HasAnswer pid front (book ++ entry ∷ [])
 answer_still pid None book entry stays has = tt
 answer_still pid (Some front) book entry stays has =
-    subst (Any (AnswersUpTo pid front)) (sym (present_push book entry ∙ stays.present_is (present book))) (Any-before (AnswersUpTo pid front) (present book) entry has)
+    subst (Any (AnswersUpTo pid front)) (sym (present_push book entry ∙ stays.present_is (present book))) (Any-append (AnswersUpTo pid front) (present book) (entry ∷ []) has)
 
 -- a child is still inside
 pub inside_still : (pid : ℕ) (front : Option ℕ) (entry : BookEntry) (book now : Option (List BookEntry)) → Stays pid entry → Added (entry ∷ []) book now → IfSome book (IsInside pid front) → IfSome now (IsInside pid front)

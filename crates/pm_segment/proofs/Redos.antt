@@ -41,7 +41,8 @@ use Rattle.pm_query.specs.Calls.{RedoNotes, User}
 use Rattle.pm_record.specs.declared.fault.RedoFault.{RedoFault}
 use Rattle.pm_record.specs.declared.fault.RedoFault.TheVariants as fault
 use Rattle.pm_query.specs.declared.store.StoreNo.TheVariants.{Redo}
-use Rattle.pm_query.specs.HistoryLaws.{cut_count, history_push, same_rows}
+use Rattle.pm_rows.specs.RowLaws.{same_rows}
+use Rattle.pm_query.specs.HistoryLaws.{cut_count, history_push}
 use Rattle.std.specs.Prelude.{Err}
 use Rattle.std.proofs.Math.Bool.{or-false}
 use Rattle.pm_segment.specs.Children.{IsAttendedBy}

@@ -17,6 +17,7 @@ use Rattle.pm_segment.specs.Children.{AreOthers, IsAttendedBy, once, times_in}
 use Rattle.pm_segment.specs.Moment.{Moment}
 use Rattle.pm_outside.specs.Added.{Added}
 use Rattle.pm_segment.specs.Moves.{Renews}
+use Rattle.pm_segment.specs.Renewal.{renewal}
 use Rattle.pm_segment.specs.Stands.{CountsFaults, HasBegun, HasHeld, HasNoTick, HasRenewed, HasWaited, IsFaultBy, IsSure, Origin, bytes_of_rows}
 use Rattle.pm_segment.specs.Unread.{has_redo}
 use Rattle.pm_segment.specs.UnreadLaws.{redo_neither}
@@ -50,15 +51,6 @@ renews_on (Detached pid ∷ book) more renews then = renews_on book more renews 
 renews_on (CheckpointEnded pid done clean ∷ book) more renews then = renews_on book more renews then
 renews_on (Broke pid since count ∷ book) more renews then = renews_on book more renews then
 renews_on (LogFull pid script need room ∷ book) more renews then = renews_on book more renews then
-
--- children are gone, and the next generation opens
-abbrev pub renewal : List ℕ → ℕ → List BookEntry
-renewal [] generation = Opened generation ∷ []
-renewal (pid ∷ pids) generation = Gone pid ∷ renewal pids generation
-
-pub renewal_is : (pids : List ℕ) (generation : ℕ) → renewal pids generation ≡ map (λ pid. Gone pid) pids ++ Opened generation ∷ []
-renewal_is [] generation = refl
-renewal_is (pid ∷ pids) generation = ap (λ (l : List BookEntry). Gone pid ∷ l) (renewal_is pids generation)
 
 begins_renewal : (pids : List ℕ) (generation : ℕ) → BeginsRenewal (renewal pids generation)
 begins_renewal [] generation = tt
@@ -186,8 +178,7 @@ legal_renewal base pids generation book legal next empty = record {
 -- nobody is inside
 nobody : (pids : List ℕ) (generation : ℕ) (book : List BookEntry) → ((who : ℕ) → times_attached (book ++ map (λ pid. Gone pid) pids) who ≡ 0) → IsAttendedBy [] (book ++ renewal pids generation)
 nobody pids generation book empty who =
-    ap (λ (l : List BookEntry). times_attached (book ++ l) who) (renewal_is pids generation)
-    ∙ ap (λ (l : List BookEntry). times_attached l who) (sym (append_assoc book (map (λ pid. Gone pid) pids) (Opened generation ∷ [])))
+    ap (λ (l : List BookEntry). times_attached l who) (sym (append_assoc book (map (λ pid. Gone pid) pids) (Opened generation ∷ [])))
     ∙ times_push (book ++ map (λ pid. Gone pid) pids) (Opened generation) who ∙ empty who
 
 no_ticks : (pids : List ℕ) (generation : ℕ) → All HasNoTick (renewal pids generation)

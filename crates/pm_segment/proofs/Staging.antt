@@ -32,7 +32,7 @@ use Rattle.pm_query.specs.History.{History, count_of, number, with_commit}
 use Rattle.pm_query.specs.Book.{Base, TellsFault, ends_cleanly, fault_here, faults_here, faults_of, history_after, history_of, kept_after, kept_by_redo, present}
 use Rattle.pm_query.specs.TickLaws.{PastStays, PresentIsWhole}
 use Rattle.pm_query.specs.Durable.{HoldsFrom, Keeps}
-use Rattle.pm_query.specs.HistoryLaws.{base-with_commit, history_push}
+use Rattle.pm_query.specs.HistoryLaws.{base-with_commit, history_push, rows_of-with_commit}
 use Rattle.pm_segment.specs.declared.live.Live.{Live}
 use Rattle.pm_segment.specs.Children.{IsAttendedBy}
 use Rattle.pm_segment.specs.Moment.{Moment}
@@ -43,7 +43,7 @@ use Rattle.pm_segment.specs.Rests.{HasRows, Rests, RestsAt}
 use Rattle.pm_segment.specs.Stands.{HasGone, HasHeld, IsAnchored, MeansWithin, Origin, TellsBreak, most_bytes}
 use Rattle.pm_segment.specs.Fronts.{flushed_of, whole_of}
 use Rattle.pm_segment.specs.Waits.{needs_alone}
-use Rattle.pm_segment.proofs.Books.{any_still, attended_still, count-with_commit, each_later, each_push, gone_push, rows-with_commit, tells_new}
+use Rattle.pm_segment.proofs.Books.{any_still, attended_still, count-with_commit, each_later, each_push, gone_push, tells_new}
 use Rattle.pm_segment.proofs.Resting.{LivesWith, StopsOneOf, means_now}
 use Rattle.pm_segment.proofs.Runs.{another, answered, covers_commit, goes_by, holds_in, later}
 use Rattle.pm_segment.proofs.Steps.{Attends, ahead_more, anchored_broken, anchored_push, attends_in, began_on, counted_now, flushed_number, gone_read, held_on, keeps_by, lengths_by, lengths_push, may_answer, means_more, means_some, never_waits, no_fault_shown, nobody_moves, none_told, same_live, some_none, up_to_more, tells_none}
@@ -234,7 +234,7 @@ stages past present_whole at live new book_now rows_now staged_now pid script re
         })
         (tells_none new.log.since new.faults (fault_here (faults_here book) entry) whole (ap (λ (f : Option (List (ℕ × ℕ))). fault_here f entry) (none_told live.log.since live.faults (faults_here book) takes.unbroken is.broken)))
         (λ since broke. absurd (some_none since (sym broke ∙ whole)))
-        (takes.rows ∙ ap (λ (r : RowMap). committed r commit) is.rows_are ∙ sym (rows-with_commit h commit))
+        (takes.rows ∙ ap (λ (r : RowMap). committed r commit) is.rows_are ∙ sym (rows_of-with_commit h commit))
         (λ open_log. front) (base-with_commit h commit ∙ is.base_is)
         (λ open_log. omega (arith, ap (λ (l : Log). l.end) takes.its, takes.needs, is.fits takes.unbroken)) (ap (λ (l : Log). l.limit) takes.its ∙ is.limit) is.counted.later
 

@@ -28,7 +28,7 @@ use Rattle.pm_query.specs.Book.{AnswersUpTo, Base, IsAttached, MayAnswer, MayFol
 use Rattle.pm_query.specs.AtTick.{is_by}
 use Rattle.pm_query.specs.TickLaws.{PastStays, PresentIsWhole}
 use Rattle.pm_query.specs.Durable.{HoldsFrom, Keeps}
-use Rattle.pm_query.specs.HistoryLaws.{base-with_commit, generation_push, history_push, redone_push, times_push, whole_number}
+use Rattle.pm_query.specs.HistoryLaws.{base-with_commit, generation_push, history_push, redone_push, rows_of-with_commit, times_push, whole_number}
 use Rattle.pm_segment.specs.declared.live.Live.{Live}
 use Rattle.pm_segment.specs.Moment.{Moment}
 use Rattle.pm_outside.specs.Added.{Added}
@@ -42,7 +42,7 @@ use Rattle.pm_segment.specs.Fronts.{flushed_of, whole_of}
 use Rattle.pm_segment.specs.Passes.{IsUpTo}
 use Rattle.pm_segment.specs.Rests.{Rests, RestsAt}
 use Rattle.pm_segment.specs.Stands.{Begins, GoesFrom, HasBegun, HasGone, HasHeld, HasNoTick, HasRenewed, HasWaited, IsAnchored, IsFaultBy, IsOpening, IsSure, MeansWithin, Origin, TellsBreak, WaitsFrom, most_bytes}
-use Rattle.pm_segment.proofs.Books.{IsNotGone, any_still, attended_push, attended_still, breaks_push, closed_push, count-with_commit, each_later, each_push, faults_push, gone_push, here_push, legal_push, most_grows, needs_push, renewed_push, rows-with_commit, tells_new, tick_push, waited_push}
+use Rattle.pm_segment.proofs.Books.{IsNotGone, any_still, attended_push, attended_still, breaks_push, closed_push, count-with_commit, each_later, each_push, faults_push, gone_push, here_push, legal_push, most_grows, needs_push, renewed_push, tells_new, tick_push, waited_push}
 use Rattle.pm_segment.proofs.Runs.{another, answered, covers_commit, covers_number, goes_by, holds_in, holds_so, later, next_commit, released}
 
 -- the moment with another book, and other children inside
@@ -809,7 +809,7 @@ commits past present_whole before now live new pid script reply (change ∷ chan
     last base book is = omega (arith, count, counted_by base before live book appends.unbroken appends.front is, count-with_commit (history_of base book) change changes)
 
     rows_then : (base : Base) (book : List BookEntry) → HasGone base before live book → now.rows ≡ rows_of (with_commit (history_of base book) (change ∷ changes))
-    rows_then base book is = appends.rows ∙ ap (λ (r : RowMap). committed r (change ∷ changes)) is.rows_are ∙ sym (rows-with_commit (history_of base book) (change ∷ changes))
+    rows_then base book is = appends.rows ∙ ap (λ (r : RowMap). committed r (change ∷ changes)) is.rows_are ∙ sym (rows_of-with_commit (history_of base book) (change ∷ changes))
 
     goes : (base : Base) (book : List BookEntry) → before.book ≡ Some book → HasGone base before live book → HasGone base now new (book ++ entry ∷ [])
     goes base book told is =
@@ -937,7 +937,7 @@ loses past present_whole before now live new pid since script reply (change ∷ 
         (subst (λ (s : Option ℕ). TellsBreak s new.faults (fault_here (faults_here answered) second)) (sym broke)
         ((since, now.faults), [], ap (λ (f : Option (List (ℕ × ℕ))). fault_here f second) here, (0, omega arith, ap (λ (n : ℕ). (since, n)) (sym fault))))
         (λ tick broken. omega (arith, fault))
-        (appends.rows ∙ ap (λ (r : RowMap). committed r commit) is.rows_are ∙ sym (rows-with_commit h commit))
+        (appends.rows ∙ ap (λ (r : RowMap). committed r commit) is.rows_are ∙ sym (rows_of-with_commit h commit))
         (λ open_log. absurd (some_none since (sym broke ∙ open_log))) (base-with_commit h commit ∙ is.base_is)
         (λ open_log. absurd (some_none since (sym broke ∙ open_log))) (appends.limit ∙ is.limit) (omega (arith, is.counted.later, appends.later))
 

@@ -9,6 +9,7 @@ pub mod Moves
 pub mod MovesLaws
 pub mod Passes
 pub mod Redos
+pub mod Renewal
 pub mod Rests
 pub mod Runs
 pub mod Stands

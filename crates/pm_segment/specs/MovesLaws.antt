@@ -6,6 +6,7 @@ use Rattle.std.proofs.lemmas.List.Folds.{list_any-append}
 use Rattle.std.proofs.lemmas.List.Sums.{fold-append, sum_by-append}
 use Rattle.pm_disk.specs.Cause.{Rose}
 use Rattle.pm_disk.specs.Files.{Files}
+use Rattle.pm_record.specs.Calls.{goes_two}
 use Rattle.pm_record.specs.OnDisk.{GoesOn}
 use Rattle.pm_query.specs.declared.book.BookEntry.{BookEntry}
 use Rattle.pm_query.specs.declared.book.BookEntry.TheVariants.{Opened, Attached, Redone, Answered, Released, Detached, Gone, CheckpointEnded, Broke, LogFull}
@@ -38,15 +39,6 @@ shown_later from before now le (LogFull pid script need room) shown = tt
 
 pub time_still : (tick : ℕ) (images : ℕ → Files → Type 0) → GoesOn tick tick images images
 time_still tick images = record { later = omega arith; past = λ t le image. (λ there. there, λ there. there) }
-
-pub time_on : (before between now : ℕ) (i j k : ℕ → Files → Type 0) → GoesOn before between i j → GoesOn between now j k → GoesOn before now i k
-time_on before between now i j k one two = record {
-  later = omega (arith, one.later, two.later);
-  past = λ t le image.
-      let first = one.past t le image in
-      let second = two.past t (omega (arith, le, one.later)) image in
-      (λ there. first.0 (second.0 there), λ there. second.1 (first.1 there));
-}
 
 -- a base of a book is one of the book with more behind it
 pub base_on : (origin : Origin) (base : Base) (book more : List BookEntry) → IsBaseOf origin base book → IsBaseOf origin base (book ++ more)
@@ -184,7 +176,7 @@ moves_on first second before between now one two = record {
   generation = two.generation ∙ one.generation;
   commits = two.commits ∙ one.commits;
   attends = λ pid. two.attends pid ∙ ap (times_behind second pid) (one.attends pid) ∙ sym (fold-append (times_after pid) (times_in pid before.inside) first second);
-  time = time_on before.ticks between.ticks now.ticks before.images between.images now.images one.time two.time;
+  time = goes_two before.ticks between.ticks now.ticks before.images between.images now.images one.time two.time;
   later = omega (arith, one.later, two.later);
   unread = unread_on first second before between now one.unread two.unread;
   staged = λ front is. two.staged front (one.staged front is);

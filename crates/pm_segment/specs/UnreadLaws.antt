@@ -1,36 +1,25 @@
 -- The laws of what was noted before the first redo had ended.
 use Rattle.std.proofs.Common.{◌≡◌, Bool, true, false, List, [], ◌∷◌, ◌++◌, refl, sym, ◌∙◌, ap}
 use Rattle.std.specs.Prelude.{◌||◌}
+use Rattle.std.proofs.lemmas.Bool.{or_left, or_parts, or_right}
 use Rattle.std.proofs.lemmas.List.Folds.{list_any-append}
 use Rattle.pm_query.specs.declared.book.BookEntry.{BookEntry}
 use Rattle.pm_query.specs.declared.book.BookEntry.TheVariants.{Opened, Attached, Redone, Answered, Released, Detached, Gone, CheckpointEnded, Broke, LogFull}
 use Rattle.pm_segment.specs.Unread.{breaks_unread, has_break, has_redo, is_break, is_redo}
 
-neither : (a b : Bool) → (a || b) ≡ false → (a ≡ false) × (b ≡ false)
-neither true b is = absurd (cc)
-neither false b is = (refl, is)
-
-either_left : (a b : Bool) → a ≡ true → (a || b) ≡ true
-either_left true b is = refl
-either_left false b is = absurd (cc)
-
-either_right : (a b : Bool) → b ≡ true → (a || b) ≡ true
-either_right true b is = refl
-either_right false b is = is
-
 -- no redo is in either part
 pub redo_parts : (first second : List BookEntry) → has_redo (first ++ second) ≡ false → (has_redo first ≡ false) × (has_redo second ≡ false)
-redo_parts first second none = neither (has_redo first) (has_redo second) (sym (list_any-append is_redo first second) ∙ none)
+redo_parts first second none = or_parts (has_redo first) (has_redo second) (sym (list_any-append is_redo first second) ∙ none)
 
 pub redo_neither : (first second : List BookEntry) → has_redo first ≡ false → has_redo second ≡ false → has_redo (first ++ second) ≡ false
 redo_neither first second one two = list_any-append is_redo first second ∙ ap (λ (b : Bool). b || has_redo second) one ∙ two
 
 -- a fault in either part is one in the whole
 pub break_before : (first second : List BookEntry) → has_break first ≡ true → has_break (first ++ second) ≡ true
-break_before first second some = list_any-append is_break first second ∙ either_left (has_break first) (has_break second) some
+break_before first second some = list_any-append is_break first second ∙ or_left (has_break first) (has_break second) some
 
 pub break_behind : (first second : List BookEntry) → has_break second ≡ true → has_break (first ++ second) ≡ true
-break_behind first second some = list_any-append is_break first second ∙ either_right (has_break first) (has_break second) some
+break_behind first second some = list_any-append is_break first second ∙ or_right (has_break first) (has_break second) some
 
 -- what failed before the first redo has failed before it, whatever comes behind
 pub breaks_on : (book more : List BookEntry) → breaks_unread book ≡ true → breaks_unread (book ++ more) ≡ true

@@ -1,5 +1,5 @@
 -- A server of many connections keeps what a user counts on.
-use Rattle.std.proofs.Common.{◌≡◌, ◌⊎◌, inl, inr, ℕ, ◌<◌, List, [], Some, None, arith}
+use Rattle.std.proofs.Common.{◌≡◌, ◌⊎◌, inr, ℕ, ◌<◌, List, [], Some, None, arith}
 use Rattle.std.specs.List.{AllByRecursion}
 use Rattle.std.proofs.lemmas.List.Elements.{All-from_recursion}
 use Rattle.std.proofs.lemmas.Option.{slice_get-get_or}
@@ -15,11 +15,9 @@ use Rattle.pm_state.specs.Laws.{RestartsSafely}
 use Rattle.pm_supervisor.specs.declared.Limits.{Limits}
 use Rattle.pm_answers.specs.Laws.{OwnEntriesStand, RepliesAreRight}
 use Rattle.pm_answers.specs.Replies.{IsAnswered, IsTurnedOff}
-use Rattle.pm_promises.specs.Promises.{IsBaseOf}
 use Rattle.pm_promises.specs.RestartsLaws.{legal_opens_empty}
 use Rattle.pm_promises.specs.Stops.{AcknowledgedStays}
-use Rattle.pm_promises.specs.StopsLaws.{at_each, whole_each}
-use Rattle.pm_server.specs.Story.{HoldsHistory, KeepsMeaning}
+use Rattle.pm_promises.specs.StopsLaws.{at_each, whole_each, base_is}
 use Rattle.pm_server.specs.Views.{DiskView}
 use Rattle.pm_shared.specs.declared.views.Noted.{Noted}
 use Rattle.pm_worker.specs.declared.mail.MailTold.{MailTold}
@@ -30,10 +28,6 @@ use Rattle.pm_crew.specs.TalksLaws.{FineTalks, fine_talks}
 use Rattle.pm_clean_end.specs.CleanEnd.{IsLeftBy}
 use Rattle.pm_clean_end.specs.CleanEndLaws.{ends_clean}
 use Rattle.pm_served.specs.Promises.{AllAnswersAreRight, IsPromised}
-
-base_is : (base : Base) (book : List BookEntry) (before now : DiskView) → KeepsMeaning book before now ⊎ HoldsHistory base book before now → IsBaseOf base book before
-base_is base book before now (inl keeps) = inl keeps.unanswered
-base_is base book before now (inr holds) = inr holds.base_is
 
 module _ (right : RepliesAreRight) (own : OwnEntriesStand) (never : AckedNeverFalls) (safely : RestartsSafely) (limits : Limits) (manner : Manner) (count : ℕ) (moves : List Move)
     (d : RosterView MailTold) (list : List Noted) (book : List BookEntry) (before now : DiskView) (its : IsLeftBy limits manner count moves d list book before now) where

@@ -7,7 +7,8 @@ use Rattle.pm_query.specs.declared.book.BookEntry.TheVariants.{Opened, Gone}
 use Rattle.pm_segment.specs.Moment.{Moment}
 use Rattle.pm_segment.specs.Moves.{IsShown, CountsEntries, Moves}
 use Rattle.pm_outside.specs.AddedLaws.{added_both}
-use Rattle.pm_segment.specs.MovesLaws.{counts_on, moves_none, stands_on, time_on}
+use Rattle.pm_record.specs.Calls.{goes_two}
+use Rattle.pm_segment.specs.MovesLaws.{counts_on, moves_none, stands_on}
 use Rattle.pm_server.specs.Spans.{HasRenewed, Spans}
 
 pub spans_moves : (entries : List BookEntry) (before now : Moment) → Moves entries before now → Spans entries before now
@@ -44,7 +45,7 @@ spans_renewal generation lost others before now renewed = record {
 pub spans_on : (first second : List BookEntry) (before between now : Moment) → Spans first before between → Spans second between now → Spans (first ++ second) before now
 spans_on first second before between now one two = record {
   notes = added_both first second before.book between.book now.book one.notes two.notes;
-  time = time_on before.ticks between.ticks now.ticks before.images between.images now.images one.time two.time;
+  time = goes_two before.ticks between.ticks now.ticks before.images between.images now.images one.time two.time;
   later = omega (arith, one.later, two.later);
   counts = λ from counted.
       let a : CountsEntries from first between.faults between.live = one.counts from counted in

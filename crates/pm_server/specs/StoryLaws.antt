@@ -24,7 +24,8 @@ use Rattle.pm_segment.specs.Fronts.{whole_of}
 use Rattle.pm_segment.specs.Moment.{Moment, Told}
 use Rattle.pm_outside.specs.Added.{Added}
 use Rattle.pm_segment.specs.Moves.{BreakIsShown, IsCountedFrom, IsShown, StaysUnread}
-use Rattle.pm_segment.specs.MovesLaws.{break_shown, time_on}
+use Rattle.pm_record.specs.Calls.{goes_two}
+use Rattle.pm_segment.specs.MovesLaws.{break_shown}
 use Rattle.pm_segment.specs.Redos.{IsAtLastEpoch, IsCleanAt, SaysNothing, StandsAfresh, is_broken}
 use Rattle.pm_segment.specs.Rests.{Rests}
 use Rattle.pm_segment.specs.Runs.{CanBeRead, IsRun}
@@ -201,7 +202,7 @@ pub whole_story : (end : ServerEnd) (before : DiskView) (first : Moment) (entrie
     → IfSome at.book (IsStory end before (view_at at))
 whole_story end before first entries at b0 empty opened waits run known rests law = each_told (IsStory end before (view_at at)) at.book (λ b is_book.
     let book_is : b ≡ Opened 1 ∷ entries = some_same b (Opened 1 ∷ entries) (sym is_book ∙ all_noted entries b0 first.book at.book empty opened run.spans.notes) in
-    let time = time_on before.ticks first.ticks at.ticks before.images first.images at.images run.began run.spans.time in
+    let time = goes_two before.ticks first.ticks at.ticks before.images first.images at.images run.began run.spans.time in
     elim (run.spans.waits (origin_of before) waits) [
       | inl still ↦
           let w = told_as at.book (HasWaited (origin_of before) at) b is_book still.0 in

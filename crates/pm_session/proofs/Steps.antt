@@ -3,7 +3,7 @@ use Rattle.std.proofs.Common.{◌≡◌, inl, inr, ℕ, ◌<◌, ◌≤◌, List
 use Rattle.std.proofs.lemmas.List.{append-nil}
 use Rattle.pm_query.specs.declared.book.BookEntry.{BookEntry}
 use Rattle.pm_query.specs.Calls.{User}
-use Rattle.pm_wire.specs.Pieces.{int32}
+use Rattle.pm_wire.specs.Numbers.{length_int32}
 use Rattle.pm_wire.specs.Frontend.{IsUndecided, IsBadHeader, BeginsBadly}
 use Rattle.pm_exchange.specs.declared.ending.MessageFault.TheVariants.{BadLength}
 use Rattle.pm_exchange.specs.declared.ending.Cause.{Cause}
@@ -87,10 +87,6 @@ waited notes gives user wanted (Err cause) unread_before unread_now link_before 
     (broken_ends user cause (unread_before ++ comes.came) why.2 (undecided comes.came why.1)) (subst (MayPassOver cause) (sym why.0) (nothing_beyond cause))
     (sym (append-nil (unread_before ++ comes.came)) ∙ ap (λ (l : List ℕ). (unread_before ++ comes.came) ++ l) (sym why.0))
     comes.passes rests (hears_both 1 0 child_before child_between child_now heard more_heard)
-
-length_int32 : (n : ℕ) → length (int32 n) ≡ 4
-unfolding int32
-length_int32 n = refl
 
 header_length : (header : List ℕ) (seen : ℕ) → IsBadHeader header seen → length header ≡ 5
 header_length header seen (inl bad) = ap length bad.0 ∙ omega (arith, length_int32 seen)

@@ -28,6 +28,7 @@ use Rattle.pm_shared.specs.declared.views.View.{View}
 use Rattle.pm_shared.specs.declared.views.View.TheVariants.{Worker}
 use Rattle.pm_shared.specs.Behind.{Behind, Knows}
 use Rattle.pm_shared.specs.Grows.{Grew, NotesLeave, passes_entered}
+use Rattle.pm_shared.specs.GrowsLaws.{entries_noted}
 use Rattle.pm_shared.specs.Log.{AllOwn, Continues, entries_of, noted_from}
 use Rattle.pm_shared.specs.Passes.{Among, live, renewed_pass, without_pass}
 use Rattle.pm_shared.specs.Quiet.{AllQuiet}
@@ -131,10 +132,6 @@ may_quiet told k first own ps log x x' before now es tells is_told quiet moves i
 
 abbrev pub token_of : (S F : Type 0) → TableId → ℕ → Seated S F → TokenModel F
 token_of S F t n me = record { table = t; number = n; first = first_of me.0; own = is_own_of me.0; passes = passes_of me.0; past = past_of me.0 }
-
-pub entries_noted : (n : ℕ) (es : List BookEntry) → entries_of (noted_from n es) ≡ es
-entries_noted n [] = refl
-entries_noted n (e ∷ es) = ap (λ l. e ∷ l) (entries_noted (n + 1) es)
 
 module _ {S F : Type 0} where
   pub given_is : {past : List BookEntry} (k : ℕ) (first : F) (own : List Noted) (ps ps' : List Pass) (t : Taken S) (es : List BookEntry) (me me' me'' : Seated S F) (c c' : List (ℕ × Option S)) → me ≡ resting k first own ps past → me' ≡ (with_held me.0 (Some t), c)

@@ -1,5 +1,6 @@
 -- The shared side when all tokens are joined.
 use Rattle.std.proofs.Common.{◌≡◌, ⊎_elim, ℕ, ◌+◌, ◌<◌, List, [], ◌∷◌, ◌++◌, map, length, length-append, sym, refl, ap, ◌∙◌, subst, arith}
+use Rattle.std.proofs.lemmas.Option.{same_Some}
 use Rattle.std.specs.Prelude.{Some, IfSome, slice_get}
 use Rattle.atomic_table.specs.Seated.{TableId}
 use Rattle.pm_query.specs.declared.book.BookEntry.{BookEntry}
@@ -35,9 +36,6 @@ module _ {S F : Type 0} (Is : F → List BookEntry → S → Type 0) (Knows : Li
       subst (Closes x) shown_is (t.log, subst (λ y. Is first t.log y) store_is tells'.3, tells'.0, each_once n (owns joined) own t.log all' tells'.0, tells'.1)
 
 -- ---- tokens, one after the other
-
-some_same : {A : Type 0} (x y : A) → Some x ≡ Some y → x ≡ y
-some_same x y e = cc
 
 pub got_at : {A : Type 0} (xs ys : List A) (a : A) → slice_get (xs ++ a ∷ ys) (length xs) ≡ Some a
 got_at [] ys a = refl

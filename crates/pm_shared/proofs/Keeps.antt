@@ -6,10 +6,13 @@ use native.Mathlib.Decide.{ℕ_discrete}
 use lib.ListN.{get_elem?}
 use lib.Seq.{set-get_or}
 use prog.Atomic.{either}
+use Rattle.std.proofs.lemmas.Option.{same_Some}
 use Rattle.std.specs.Prelude.{Option, Some, None, slice_get}
 use Rattle.atomic_table.specs.Table as table
 use Rattle.atomic_table.specs.Table.{State, step, keeps, takes, gives, stepped, opening, Allows, Joins, Splits}
 use Rattle.atomic_table.proofs.Lists.{at_set, set_again, exchanged}
+use Rattle.pm_facts.specs.Lists.{at_end}
+use Rattle.pm_facts.specs.Numbers.{sum_below, sum_put}
 use Rattle.pm_query.specs.declared.book.BookEntry.{BookEntry}
 use Rattle.pm_query.specs.Book.{generation_of, times_attached}
 use Rattle.pm_segment.specs.declared.pass.Pass.{Pass}
@@ -18,9 +21,9 @@ use Rattle.pm_shared.specs.declared.views.View.{View}
 use Rattle.pm_shared.specs.declared.views.View.TheVariants.{Vacant, Founding, Master, Worker, Spent}
 use Rattle.pm_shared.specs.Log.{Line, book_of, AllBelow}
 use Rattle.pm_shared.specs.Passes.{live, AllUpTo, AllKnown}
-use Rattle.pm_shared.specs.Rule.{Cell, Where, home, out, sum_below, IsThere, HasTaken, Fits, AreCounted, Holds, IsHeld, Kept, taken}
+use Rattle.pm_shared.specs.Rule.{Cell, Where, home, out, IsThere, HasTaken, Fits, AreCounted, Holds, IsHeld, Kept, taken}
 use Rattle.pm_shared.specs.Told.{number_of, with_held, Tells, Took, Turns, IsMine}
-use Rattle.pm_shared.proofs.Logs.{all_continue, owned_at, sum_put, member_below}
+use Rattle.pm_shared.proofs.Logs.{all_continue, owned_at, member_below}
 
 abbrev pick : {P C : Type 0} → Dec P → C → C → C
 pick (yes _) a b = a
@@ -54,17 +57,8 @@ some_at [] i h = absurd (omega arith)
 some_at (x ∷ xs) zero h = (x, refl)
 some_at (x ∷ xs) (suc i) h = some_at xs i (omega arith)
 
-pub at_end : {A : Type 0} (l : List A) (a b : A) (j : ℕ) → get_elem? (l ++ a ∷ []) j ≡ some b → (get_elem? l j ≡ some b) ⊎ ((j ≡ length l) × (a ≡ b))
-at_end [] a b zero e = inr (refl, some-injective a b e)
-at_end [] a b (suc j) e = absurd (some-ne-none b (sym e))
-at_end (x ∷ xs) a b zero e = inl e
-at_end (x ∷ xs) a b (suc j) e = ⊎_elim (λ t. inl t) (λ (t : (j ≡ length xs) × (a ≡ b)). inr (ap suc t.0, t.1)) (at_end xs a b j e)
-
-some_is : {A : Type 0} (x y : A) → Some x ≡ Some y → x ≡ y
-some_is x y e = cc
-
 pub got_end : {A : Type 0} (l : List A) (a b : A) (k : ℕ) → slice_get (l ++ a ∷ []) k ≡ Some b → (slice_get l k ≡ Some b) ⊎ ((k ≡ length l) × (a ≡ b))
-got_end [] a b zero e = inr (refl, some_is a b e)
+got_end [] a b zero e = inr (refl, same_Some a b e)
 got_end [] a b (suc k) e = absurd (cc)
 got_end (x ∷ xs) a b zero e = inl e
 got_end (x ∷ xs) a b (suc k) e = ⊎_elim (λ t. inl t) (λ (t : (k ≡ length xs) × (a ≡ b)). inr (ap suc t.0, t.1)) (got_end xs a b k e)

@@ -1,6 +1,7 @@
 -- Lists of lines, of passes, and sums.
 use Rattle.std.proofs.Common.{◌≡◌, ◌≢◌, inl, inr, ℕ, zero, suc, ◌+◌, ◌<◌, ◌≤◌, ◌==◌, ◌&&◌, Bool, true, false, cond, List, [], ◌∷◌, ◌++◌, length, sym, refl, ap, ◌∙◌, subst, arith, append_assoc, ne_eqb, eq-eqb}
 use Rattle.std.specs.Prelude.{Some, slice_get}
+use Rattle.std.proofs.lemmas.Bool.{false≢true}
 use Rattle.std.proofs.lemmas.Bool.Decides.{nat_tests}
 use mathlib.Core.Logic.{dite}
 use native.Mathlib.Decide.{ℕ_discrete}
@@ -8,7 +9,7 @@ use Rattle.pm_query.specs.declared.book.BookEntry.{BookEntry}
 use Rattle.pm_segment.specs.declared.pass.Pass.{Pass}
 use Rattle.pm_shared.specs.Log.{Line, is_own, AllOwn, NoneOwn, book_of, lines, noted, noted_from, placed, placed_rest, AllBelow, Continues}
 use Rattle.pm_shared.specs.Passes.{Among, live, without_pass, AllUpTo, AllKnown}
-use Rattle.pm_shared.specs.Rule.{sum_below}
+use Rattle.pm_facts.specs.Numbers.{sum_below}
 use Rattle.pm_shared.specs.Told.{AllContinue, owns, pasts}
 use Rattle.pm_shared.specs.declared.views.Joined.{Joined}
 use Rattle.pm_shared.specs.declared.views.Noted.{Noted}
@@ -80,10 +81,7 @@ below-lines d k (e ∷ es) l = ((λ _. l), below-lines d k es l)
 
 pub below-none : (d k : ℕ) (es : List BookEntry) → NoneOwn es → AllBelow d (lines k es)
 below-none d k [] a = tt
-below-none d k (e ∷ es) a = ((λ h. absurd (false_true (sym a.0 ∙ h))), below-none d k es a.1)
-  where
-    false_true : false ≡ true → ⊥
-    false_true e = cc
+below-none d k (e ∷ es) a = ((λ h. absurd (false≢true (sym a.0 ∙ h))), below-none d k es a.1)
 
 pub below-more : (d : ℕ) (ls : List Line) → AllBelow d ls → AllBelow (d + 1) ls
 below-more d [] a = tt
@@ -120,16 +118,6 @@ all_continue [] log each = tt
 all_continue (his ∷ joined) log each = (each 0 his refl, all_continue joined log (λ k other e. each (suc k) other e))
 
 -- ---- sums
-
-pub sum_same : (n : ℕ) (f g : ℕ → ℕ) → ((j : ℕ) → j < n → g j ≡ f j) → sum_below n g ≡ sum_below n f
-sum_same zero f g h = refl
-sum_same (suc n) f g h = let a : sum_below n g ≡ sum_below n f = sum_same n f g (λ j l. h j (omega arith)) in let b : g n ≡ f n = h n (omega arith) in omega arith
-
-pub sum_put : (n k : ℕ) (f g : ℕ → ℕ) → k < n → ((j : ℕ) → j ≢ k → g j ≡ f j) → sum_below n g + f k ≡ sum_below n f + g k
-sum_put zero k f g l h = absurd (omega arith)
-sum_put (suc n) k f g l h = dite (ℕ_discrete n k)
-    (λ is. let a : sum_below n g ≡ sum_below n f = sum_same n f g (λ j m. h j (omega arith)) in let b : g n ≡ g k = ap g is in let c : f n ≡ f k = ap f is in omega arith)
-    (λ ne. let a : sum_below n g + f k ≡ sum_below n f + g k = sum_put n k f g (omega arith) h in let b : g n ≡ f n = h n ne in omega arith)
 
 pub sum_zero : (n : ℕ) (f : ℕ → ℕ) → ((k : ℕ) → f k ≡ 0) → sum_below n f ≡ 0
 sum_zero zero f h = refl

@@ -6,6 +6,7 @@ use Rattle.std.proofs.lemmas.List.Elements.{All-nil, All-cons, All-append}
 use Rattle.std.proofs.lemmas.List.Sums.{fold-append, sum_by-append, sum_by-cons}
 use Rattle.std.specs.declared.alloc.AllocError.{AllocError}
 use Rattle.atomic_table.specs.Seated.{TableId}
+use Rattle.pm_facts.specs.Numbers.{sum_below}
 use Rattle.pm_query.specs.declared.book.BookEntry.{BookEntry}
 use Rattle.pm_query.specs.declared.book.BookEntry.TheVariants.{Gone, Opened}
 use Rattle.pm_query.specs.Book.{generation_after, generation_of, times_attached}
@@ -26,8 +27,9 @@ use Rattle.pm_shared.specs.declared.views.View.TheVariants.{Master}
 use Rattle.pm_shared.specs.Behind.{Behind, Knows}
 use Rattle.pm_shared.specs.Log.{NoneOwn, noted_from}
 use Rattle.pm_shared.specs.Passes.{AllUpTo, live}
-use Rattle.pm_shared.specs.Renewed.{AreApart, RenewNotes, renewal}
-use Rattle.pm_shared.specs.Rule.{AreCounted, sum_below, taken}
+use Rattle.pm_segment.specs.Renewal.{renewal}
+use Rattle.pm_shared.specs.Renewed.{AreApart, RenewNotes}
+use Rattle.pm_shared.specs.Rule.{AreCounted, taken}
 use Rattle.pm_shared.specs.Told.{DeskMay, HasRenewed, MayGive, Resets, Seated, SharedModel, Tells, desk_resting, first_of, generation_in, given_back, is_own_of, joined_of, with_held}
 use Rattle.pm_shared.proofs.Closing.{shown}
 use Rattle.pm_shared.proofs.Logs.{known_later, known_on, none_live, sum_zero, up_to_more}

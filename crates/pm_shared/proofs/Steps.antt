@@ -2,6 +2,7 @@
 use Rattle.std.proofs.Common.{◌≡◌, ℕ, ◌+◌, ◌==◌, List, [], ◌∷◌, length, sym, refl, ap, ◌∙◌, subst}
 use mathlib.Core.Option.{none}
 use prog.Atomic.{either}
+use Rattle.std.proofs.lemmas.Option.{same_Some}
 use Rattle.std.specs.Prelude.{Option, Some, None}
 use Rattle.atomic_table.specs.Table.{step, rest, opening, Allows, Joins, Splits}
 use Rattle.pm_query.specs.declared.book.BookEntry.{BookEntry}
@@ -68,9 +69,6 @@ module _ {S F : Type 0} (Is : F → List BookEntry → S → Type 0) (Knows : Li
 
   pub begins_as : (xs : List (Option S)) (ws : List ℕ) → xs ≡ None ∷ [] → ws ≡ 1 ∷ [] → Kept Is Knows (opening ws xs Vacant)
   begins_as xs ws e f = subst (λ (z : List ℕ × List (Option S)). Kept Is Knows (opening z.0 z.1 Vacant)) (λ i. (sym f i, sym e i)) (begins Is Knows)
-
-pub some_is : {S : Type 0} (x y : S) → Some x ≡ Some y → x ≡ y
-some_is x y e = cc
 
 module _ {S F : Type 0} where
   -- a seat that holds the slot

@@ -1,9 +1,12 @@
 -- What a store's calls make of what holds of it.
 use Rattle.std.proofs.Common.{◌≡◌, ◌⊎◌, inl, inr, ℕ, ◌≤◌, true, false, List, [], ◌∷◌, ◌++◌, Option, None, Some, refl, sym, ◌∙◌, ap, subst, arith, append_assoc, append-nil, length-append}
 use Rattle.std.specs.Prelude.{IfSome, Any, fold}
+use Rattle.std.proofs.lemmas.Bool.{false≢true}
 use Rattle.std.proofs.lemmas.Grind.{common_steps}
 use Rattle.std.proofs.lemmas.List.Elements.{All-append, All-weaker}
 use Rattle.std.proofs.lemmas.List.Sums.{fold-append}
+use Rattle.pm_facts.specs.Lists.{Any-append}
+use Rattle.pm_record.specs.Calls.{goes_two}
 use Rattle.pm_query.specs.declared.book.BookEntry.{BookEntry}
 use Rattle.pm_query.specs.declared.book.BookEntry.TheVariants.{Opened, Attached, Redone, Answered, Released, Detached, Gone, CheckpointEnded, Broke, LogFull}
 use Rattle.pm_query.specs.Book.{AnswersUpTo, generation_after, generation_of, present, present_after, times_after, times_attached}
@@ -13,7 +16,7 @@ use Rattle.pm_segment.specs.Children.{times_behind}
 use Rattle.pm_segment.specs.Moment.{Moment, moment}
 use Rattle.pm_outside.specs.Added.{Added}
 use Rattle.pm_segment.specs.Moves.{CountsEntries, IsShown, Moves}
-use Rattle.pm_segment.specs.MovesLaws.{begins_on, shown_later, time_on, unread_now}
+use Rattle.pm_segment.specs.MovesLaws.{counts_on, stands_on, unread_now}
 use Rattle.pm_segment.specs.Passes.{Admits, HasAnswer, IsInside}
 use Rattle.pm_segment.specs.Stands.{Begins, Origin, WaitsFrom}
 use Rattle.pm_segment.specs.Unread.{has_break}
@@ -40,11 +43,8 @@ quiet_own (e ∷ es) q = (own e q.0, quiet_own es q.1)
     own (Broke pid since faults) q = refl
     own (LogFull pid script need room) q = refl
 
-false_true : false ≡ true → ⊥
-false_true e = absurd (cc)
-
 own_generation : (n : ℕ) (e : BookEntry) → is_own e ≡ true → generation_after n e ≡ n
-own_generation n (Opened generation) o = absurd (false_true o)
+own_generation n (Opened generation) o = absurd (false≢true o)
 own_generation n (Gone pid) o = refl
 own_generation n (Attached pid generation) o = refl
 own_generation n (Detached pid) o = refl
@@ -63,7 +63,7 @@ pub generation_on : (log es : List BookEntry) → AllOwn es → generation_of (l
 generation_on log es o = fold-append generation_after 0 log es ∙ own_generations (generation_of log) es o
 
 own_present : (before : List BookEntry) (e : BookEntry) → is_own e ≡ true → present_after before e ≡ before ++ e ∷ []
-own_present before (Opened generation) o = absurd (false_true o)
+own_present before (Opened generation) o = absurd (false≢true o)
 own_present before (Gone pid) o = refl
 own_present before (Attached pid generation) o = refl
 own_present before (Detached pid) o = refl
@@ -106,33 +106,19 @@ pub told_on : (before now : Option (List BookEntry)) (log es : List BookEntry) �
 told_on None now log es notes told = subst (λ (o : Option (List BookEntry)). IfSome o (λ book. book ≡ log ++ es)) (sym notes) tt
 told_on (Some book) now log es notes told = subst (λ (o : Option (List BookEntry)). IfSome o (λ book. book ≡ log ++ es)) (sym notes) (ap (λ l. l ++ es) told)
 
-counts_on : (from : ℕ) (log es : List BookEntry) (at now : Moment) → at.faults ≤ now.faults → CountsEntries from log at.faults at.live → CountsEntries from es now.faults now.live → CountsEntries from (log ++ es) now.faults now.live
-counts_on from log es at now le a b = record {
-  counted = b.counted;
-  each = All-append (IsShown from now.faults) log es (All-weaker (IsShown from at.faults) (IsShown from now.faults) (shown_later from at.faults now.faults le) log a.each) b.each;
-}
-
-any_before : (P : BookEntry → Type 0) (entries : List BookEntry) (entry : BookEntry) → Any P entries → Any P (entries ++ entry ∷ [])
-any_before P entries entry any =
-    (any.0, any.1, omega (arith, any.2, length-append entries (entry ∷ [])), grind (arith, common_steps, any.2, any.3), any.4)
-
-any_more : (P : BookEntry → Type 0) (xs ys : List BookEntry) → Any P xs → Any P (xs ++ ys)
-any_more P xs [] any = subst (Any P) (sym (append-nil xs)) any
-any_more P xs (y ∷ ys) any = subst (Any P) (append_assoc xs (y ∷ []) ys) (any_more P (xs ++ y ∷ []) ys (any_before P xs y any))
-
 pub behind_moves : {D B : Type 0} {g h : _} (first : D) (log es : List BookEntry) (x x' : Segment D B g h) → AllOwn es → Moves es (moment x) (moment x') → Behind first log x → Behind first (log ++ es) x'
 behind_moves {g = g} first log es x x' own moves is = record {
   told = told_on (moment x).book (moment x').book log es moves.notes is.told;
   generation = generation_on log es own ∙ is.generation ∙ sym moves.generation;
   attended = λ pid. times_on log es pid ∙ ap (times_behind es pid) (is.attended pid) ∙ sym (moves.attends pid);
-  time = time_on (g.ticks first) (moment x).ticks (moment x').ticks (g.images first) (moment x).images (moment x').images is.time moves.time;
+  time = goes_two (g.ticks first) (moment x).ticks (moment x').ticks (g.images first) (moment x).images (moment x').images is.time moves.time;
   counts = counts_on (g.faults first) log es (moment x) (moment x') moves.later is.counts (moves.counts (g.faults first) is.counts.counted);
   unread = λ none.
       let parts = redo_parts log es none in
       let was = is.unread parts.0 in
       let unread = unread_now es (moment x) (moment x') moves.unread was.0 parts.1 in
       (unread, still (moves.unread.files unread) was.1);
-  stands = stands is.stands;
+  stands = stands_on origin es (moment x) (moment x') moves.notes (moves.waits origin) (moves.goes_on origin) is.stands;
 }
   where
     still : (has_break es ≡ true) ⊎ ((moment x').files ≡ (moment x).files) → (has_break log ≡ true) ⊎ ((moment x).files ≡ g.seen first) → (has_break (log ++ es) ≡ true) ⊎ ((moment x').files ≡ g.seen first)
@@ -143,13 +129,9 @@ behind_moves {g = g} first log es x x' own moves is = record {
     origin : Origin
     origin = record { files = g.seen first; tick = g.ticks first; faults = g.faults first }
 
-    stands : WaitsFrom origin (moment x) ⊎ Begins origin (moment x) → WaitsFrom origin (moment x') ⊎ Begins origin (moment x')
-    stands (inl waits) = moves.waits origin waits
-    stands (inr begins) = inr (begins_on origin es (moment x) (moment x') moves.notes (moves.goes_on origin) begins)
-
 pub answer_on : (pid : ℕ) (front : Option ℕ) (log es : List BookEntry) → AllOwn es → HasAnswer pid front log → HasAnswer pid front (log ++ es)
 answer_on pid None log es own has = tt
-answer_on pid (Some front) log es own has = subst (Any (AnswersUpTo pid front)) (sym (present_on log es own)) (any_more (AnswersUpTo pid front) (present log) es has)
+answer_on pid (Some front) log es own has = subst (Any (AnswersUpTo pid front)) (sym (present_on log es own)) (Any-append (AnswersUpTo pid front) (present log) es has)
 
 pub knows_moves : {D B : Type 0} {g h : _} (log es : List BookEntry) (x x' : Segment D B g h) (p : Pass) → AllOwn es → Moves es (moment x) (moment x') → Knows log x p → Knows (log ++ es) x' p
 knows_moves log es x x' p own moves knows = (answer_on p.pid p.front log es own knows.0, moves.staged p.front knows.1)

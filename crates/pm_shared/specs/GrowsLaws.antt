@@ -1,18 +1,23 @@
 -- The laws of a token as a store.
-use Rattle.std.proofs.Common.{ℕ, ◌≤◌, arith, List, [], ◌∷◌, ◌++◌, ◌≡◌, refl, sym, ap, ◌∙◌, subst, append-nil, append_assoc}
+use Rattle.std.proofs.Common.{ℕ, ◌+◌, ◌≤◌, arith, List, [], ◌∷◌, ◌++◌, ◌≡◌, refl, sym, ap, ◌∙◌, subst, append-nil, append_assoc}
 use Rattle.std.specs.Prelude.{fold}
 use Rattle.std.proofs.lemmas.List.Sums.{fold-append}
 use Rattle.pm_query.specs.declared.book.BookEntry.{BookEntry}
 use Rattle.pm_query.specs.declared.book.BookEntry.TheVariants.{Opened, Attached, Redone, Answered, Released, Detached, Gone, CheckpointEnded, Broke, LogFull}
 use Rattle.pm_query.specs.Book.{generation_after, generation_of}
 use Rattle.pm_shared.specs.declared.views.Noted.{Noted}
-use Rattle.pm_shared.specs.Log.{Continues, entries_of}
+use Rattle.pm_shared.specs.Log.{Continues, entries_of, noted_from}
 use Rattle.pm_shared.specs.Told.{TokenModel}
 use Rattle.pm_shared.specs.Grows.{Grew}
 
 entries-append : (xs ys : List Noted) → entries_of (xs ++ ys) ≡ entries_of xs ++ entries_of ys
 entries-append [] ys = refl
 entries-append (x ∷ xs) ys = ap (λ l. x.entry ∷ l) (entries-append xs ys)
+
+-- what is noted from a place on is these entries
+pub entries_noted : (n : ℕ) (es : List BookEntry) → entries_of (noted_from n es) ≡ es
+entries_noted n [] = refl
+entries_noted n (e ∷ es) = ap (λ l. e ∷ l) (entries_noted (n + 1) es)
 
 pub grew_none : {F : Type 0} (t : TokenModel F) → Grew [] t t
 grew_none t = record { table = refl; number = refl; first = refl; added = []; own = sym (append-nil t.own); added_are = refl; past = ([], sym (append-nil t.past)) }

@@ -4,6 +4,7 @@ use mathlib.Core.Option.{some, none}
 use mathlib.Core.Option as maybe
 use lib.ListN.{get_elem?}
 use Rattle.atomic_table.specs.Table.{State}
+use Rattle.pm_facts.specs.Numbers.{sum_below}
 use Rattle.pm_query.specs.declared.book.BookEntry.{BookEntry}
 use Rattle.pm_query.specs.Book.{generation_of, times_attached}
 use Rattle.pm_segment.specs.declared.pass.Pass.{Pass}
@@ -25,10 +26,6 @@ pub record Cell : Type 0 where
 pub data Where : Type 0 where
   home : Where
   out : ℕ → ℕ → Where
-
-abbrev pub sum_below : ℕ → (ℕ → ℕ) → ℕ
-sum_below zero f = 0
-sum_below (suc n) f = sum_below n f + f n
 
 abbrev pub IsSeat : Where → ℕ → Type 0
 IsSeat home n = Unit {0}

@@ -50,7 +50,9 @@ pub(crate) fn take<R: Wait, D: Disk, B: Chronicle<BookEntry>>(
             let store = table.shared.exchange(seat, 0, None);
             return store.unwrap();
         }
-        wait(rt, table);
+        if stays_out(table) {
+            sleep(rt, table);
+        }
     }
     unreachable!()
 }
@@ -103,6 +105,7 @@ pub(crate) fn take_to_run<R: Wait, D: Disk, B: Chronicle<BookEntry>>(
     let sleeps = stays_out(table);
     if sleeps {
         joining.come(rt);
+        sleep(rt, table);
     }
     let result = take_for(rt, table, seat, number, pass);
     if sleeps {
@@ -111,18 +114,17 @@ pub(crate) fn take_to_run<R: Wait, D: Disk, B: Chronicle<BookEntry>>(
     result
 }
 
-/// How often the word is looked at before a caller sleeps: a script that reads is done meanwhile, a sync isn't.
-const LOOKS: u32 = 100;
+/// How often the word is looked at before a caller sleeps, some 20 microseconds: a script is done meanwhile, a sync isn't, and to
+/// be woken takes longer.
+const LOOKS: u32 = 400;
 
-// Waits until the store may be at home again. It may also return before that.
-fn wait<R: Wait, D: Disk, B: Chronicle<BookEntry>>(rt: &R, table: &Guarded<D, B>)
+// Sleeps until the store may be at home again. It may also return before that.
+fn sleep<R: Wait, D: Disk, B: Chronicle<BookEntry>>(rt: &R, table: &Guarded<D, B>)
     requires { IsSmall table.now.shared.table_id }
 {
-    if stays_out(table) {
-        let found = table.shared.peek(0);
-        if found != 0 {
-            table.shared.park(rt, 0, low_half(found));
-        }
+    let found = table.shared.peek(0);
+    if found != 0 {
+        table.shared.park(rt, 0, low_half(found));
     }
 }
 
@@ -144,7 +146,7 @@ fn low_half(word: u64) -> u32 {
     (word % (1 << 32)) as u32
 }
 
-/// Gives the store back behind a call. All but table, seat and store is for the proof alone.
+/// Gives the store back behind a call, and wakes one who sleeps for it. All but table, seat and store is for the proof alone.
 pub(crate) fn give<C: Deed, D: Disk, B: Chronicle<BookEntry>, A, T>(
     table: &Guarded<D, B>,
     seat: &mut Holder<D, B>,

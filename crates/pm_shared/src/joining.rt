@@ -4,8 +4,7 @@
 //! the store, so that their commits are in its batch, and lets those run who can; the others wait for its end, and flush only
 //! what it left. So a batch grows with the number of those who commit, and nobody waits for who may come. Nothing of this is
 //! promised.
-ghost use Rattle.std.specs.Prelude.{IfSome};
-ghost use Rattle.pm_query.specs.Calls.{IsNoLess};
+ghost use Rattle.std.specs.Prelude.{◌≤◌, IfSome, IsSomeAnd};
 
 use pm_query::StoreNo;
 use std::sync::{Condvar, Mutex, MutexGuard, Wait};
@@ -72,9 +71,9 @@ impl Joining {
     }
 
     /// Up to where the log is flushed, where another's flush has reached this front. Where there is no answer the caller leads:
-    /// it flushes, and then ends.
+    /// it flushes, and then ends. Who has no front leads.
     pub(crate) fn turn<R: Wait>(&self, rt: &R, front: Option<u64>) -> Option<u64>
-        ensures { IfSome result (λ flushed. IsNoLess front flushed) }
+        ensures { IfSome result (λ flushed. IsSomeAnd front (λ reached. reached ≤ flushed)) }
     {
         for _ in rt.forever() {
             let counts = self.counts.lock(rt);
@@ -83,13 +82,10 @@ impl Joining {
                 return None;
             }
             let flushed = self.follow(rt, counts);
-            match front {
-                None => return Some(flushed),
-                Some(front) => {
-                    if front <= flushed {
-                        return Some(flushed);
-                    }
-                }
+            if let Some(reached) = front
+                && reached <= flushed
+            {
+                return Some(flushed);
             }
         }
         unreachable!()

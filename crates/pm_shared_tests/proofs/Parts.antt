@@ -1,33 +1,21 @@
 -- Tokens that go from one list to the other.
-use Rattle.std.proofs.Common.{◌≡◌, ℕ, zero, suc, ◌+◌, ◌<◌, List, [], ◌∷◌, ◌++◌, length, length-append, sym, refl, ap, ◌∙◌, subst, arith}
+use Rattle.std.proofs.Common.{◌≡◌, ℕ, zero, suc, ◌+◌, ◌<◌, List, [], ◌∷◌, ◌++◌, length, length-append, sym, ap, ◌∙◌, subst, arith}
 use Rattle.std.specs.Prelude.{Some, slice_get, slice_index_or, take}
-use Rattle.std.proofs.lemmas.Option.{get_or_from_slice_get, slice_get-get_or, slice_get_within}
+use Rattle.std.proofs.lemmas.Option.{get_or_from_slice_get, slice_get-get_or, slice_get_within, same_Some}
 use Rattle.std.proofs.Math.Seq.{take-append_seam}
 use Rattle.atomic_table.specs.Seated.{TableId}
+use Rattle.pm_facts.specs.Lists.{got_front, got_last}
 use Rattle.pm_shared.specs.Told.{AreTokens, TokenModel}
 use Rattle.pm_shared_tests.specs.Seats.{AreParted, AreSame, IsSame}
-
-some_same : {A : Type 0} (x y : A) → Some x ≡ Some y → x ≡ y
-some_same x y e = cc
 
 abbrev pub Each : {A : Type 0} → (ℕ → A → Type 0) → List A → Type 0
 Each {A} P xs = (k : ℕ) (x : A) → slice_get xs k ≡ Some x → P k x
 
 one_more : {A : Type 0} (P : ℕ → A → Type 0) (xs : List A) (y : A) → Each P xs → P (length xs) y → Each P (xs ++ y ∷ [])
-one_more P [] y each new zero x is = subst (P zero) (some_same y x is) new
+one_more P [] y each new zero x is = subst (P zero) (same_Some y x is) new
 one_more P [] y each new (suc k) x is = each (suc k) x is
 one_more P (z ∷ zs) y each new zero x is = each zero x is
 one_more P (z ∷ zs) y each new (suc k) x is = one_more (λ j w. P (suc j) w) zs y (λ j w e. each (suc j) w e) new k x is
-
-got_front : {A : Type 0} (xs ys : List A) (k : ℕ) (x : A) → slice_get xs k ≡ Some x → slice_get (xs ++ ys) k ≡ Some x
-got_front [] ys zero x is = cc
-got_front [] ys (suc k) x is = cc
-got_front (z ∷ zs) ys zero x is = is
-got_front (z ∷ zs) ys (suc k) x is = got_front zs ys k x is
-
-got_last : {A : Type 0} (xs : List A) (y : A) → slice_get (xs ++ y ∷ []) (length xs) ≡ Some y
-got_last [] y = refl
-got_last (x ∷ xs) y = got_last xs y
 
 module _ {F : Type 0} (table : TableId) (n : ℕ) where
   pub none_out : (listed : List (TokenModel F)) → AreTokens table n listed → AreParted table n listed []

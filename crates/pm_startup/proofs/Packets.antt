@@ -1,12 +1,12 @@
 -- A front of the bytes decides in one way.
-use Rattle.std.proofs.Common.{◌≡◌, ℕ, ◌+◌, ◌-◌, ◌^◌, ◌<◌, ◌≤◌, ◌↔◌, List, [], ◌++◌, length, get_or, take, drop, Result, Ok, Err, refl, sym, ap, subst, ◌∙◌, inl, inr, ◌⊎◌, arith}
+use Rattle.std.proofs.Common.{◌≡◌, ℕ, ◌+◌, ◌-◌, ◌^◌, ◌<◌, ◌≤◌, ◌↔◌, List, [], ◌++◌, length, take, drop, Result, Ok, Err, refl, sym, ap, subst, ◌∙◌, inl, inr, ◌⊎◌, arith}
 use Rattle.std.specs.Int.{w32, from_be_bytes}
 use Rattle.std.proofs.Math.Seq.{take-append-add}
-use Rattle.std.proofs.lemmas.Bool.{cases_lt}
-use Rattle.std.proofs.lemmas.List.{take-append-drop, take_at, drop-drop, take_rest, length-take, length-drop, get_or-take, get_or-drop, get_or_past, drop_all}
+use Rattle.std.proofs.lemmas.List.{take-append-drop, take_at, drop-drop, take_rest, length-take, length-drop, drop_all}
 use Rattle.std.proofs.lemmas.Nat.{be_bytes_4}
 use Rattle.byteorder.specs.Endian.{big_number}
-use Rattle.byteorder.specs.Numbers.{big_number-reads_back, big_from-lt, big_from-take}
+use Rattle.byteorder.specs.Numbers.{big_number-reads_back, big_from-take}
+use Rattle.pm_wire.specs.Numbers.{IsBytes, IsBytes-drop, IsBytes-take, number_below}
 use Rattle.pm_startup.specs.declared.packet.StartFault.{StartFault}
 use Rattle.pm_startup.specs.declared.packet.StartFault.TheVariants.{Length, Malformed}
 use Rattle.pm_startup.specs.declared.packet.Read.{Read}
@@ -16,19 +16,6 @@ use Rattle.pm_startup.specs.Grammar.{Content, cancel_request, content_of, int32,
 use Rattle.pm_startup.proofs.Bodies.{laid_out-same, laid_out-not_malformed, malformed-same}
 
 -- ---- numbers in bytes
-
-abbrev pub IsBytes : List ℕ → Type 0
-IsBytes bytes = (i : ℕ) → get_or bytes i 0 < 256
-
-IsBytes-drop : (n : ℕ) (bytes : List ℕ) → IsBytes bytes → IsBytes (drop n bytes)
-IsBytes-drop n bytes h i = rw get_or-drop (h (n + i))
-
-IsBytes-take : (n : ℕ) (bytes : List ℕ) → IsBytes bytes → IsBytes (take n bytes)
-IsBytes-take n bytes h i =
-    elim (cases_lt i n) [
-      | inl lt ↦ rw (get_or-take n bytes i 0 lt) (h i)
-      | inr le ↦ rw (get_or_past (take n bytes) i 0 (omega (arith, length-take n bytes))) (omega arith)
-    ]
 
 number-of : (bytes : List ℕ) → big_number 4 bytes ≡ from_be_bytes w32 bytes
 number-of bytes = omega arith
@@ -47,9 +34,6 @@ int32-pair bytes fits long =
     let second = int32-front (drop 4 bytes) (IsBytes-drop 4 bytes fits) (omega (arith, length-drop 4 bytes)) in
     let nothing : drop 4 (drop 4 bytes) ≡ [] = drop_all 4 (drop 4 bytes) (omega (arith, length-drop 4 bytes)) in
     first ∙ ap (λ (r : List ℕ). int32 (big_number 4 bytes) ++ r) (second ∙ ap (λ (r : List ℕ). int32 (big_number 4 (drop 4 bytes)) ++ r) nothing)
-
-number-fits : (bytes : List ℕ) → IsBytes bytes → big_number 4 bytes < 2 ^ 32
-number-fits bytes fits = big_from-lt 0 4 bytes fits
 
 -- ---- one way to decide
 
@@ -221,7 +205,7 @@ pub answers_length : (bytes : List ℕ) → IsBytes bytes → 4 ≤ length bytes
 answers_length bytes fits long outside =
     let front = int32-front bytes fits long in
     let spelled : take 4 bytes ≡ int32 (big_number 4 bytes) = ap (take 4) front in
-    (4, record { within = long; decides = inr (record { seen = big_number 4 bytes; seen_fits = number-fits bytes fits; outside = outside; spelled = spelled; says = refl }) })
+    (4, record { within = long; decides = inr (record { seen = big_number 4 bytes; seen_fits = number_below bytes fits; outside = outside; spelled = spelled; says = refl }) })
 
 -- a whole packet
 pub answers_packet : (bytes : List ℕ) (used code : ℕ) (v : Result Content StartFault) → IsBytes bytes → used ≡ big_number 4 bytes → 8 ≤ used → used ≤ max_length → used ≤ length bytes
@@ -242,7 +226,7 @@ answers_packet bytes used code v fits number low high within code-is says =
         code = code;
         body = body;
         fits = omega arith;
-        code_fits = subst (λ (n : ℕ). n < 2 ^ 32) (sym code-at) (number-fits (drop 4 bytes) (IsBytes-drop 4 bytes fits));
+        code_fits = subst (λ (n : ℕ). n < 2 ^ 32) (sym code-at) (number_below (drop 4 bytes) (IsBytes-drop 4 bytes fits));
         spelled = spelled;
         says = says;
       });

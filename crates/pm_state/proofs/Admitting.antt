@@ -1,5 +1,6 @@
 -- From an abnormal end of a child until redo has ended the machine isn't in Run, so that no connection is accepted as a session.
 use Rattle.std.proofs.Common.{◌≡◌, ◌≢◌, ◌⊎◌, inl, inr, ℕ, Bool, true, false, ◌||◌, List, [], ◌∷◌, refl, sym, ◌∙◌, subst, arith}
+use Rattle.std.proofs.lemmas.Bool.{false≢true}
 use Rattle.pm_exit.specs.declared.child.Status.{Status}
 use Rattle.pm_exit.specs.declared.child.Kind.{Kind}
 use Rattle.pm_exit.specs.declared.child.Kind.TheVariants as kind
@@ -103,9 +104,6 @@ either : (a b : Bool) → a || b ≡ true → (a ≡ true) ⊎ (b ≡ true)
 either true b is = inl refl
 either false b is = inr is
 
-no : {P : Type 0} → false ≡ true → P
-no is = cc
-
 accepted-stands : (recovers : Bool) (r : Replay) (pid : ℕ) (decision : Cac) → decision ≡ decide_of (view_of r.machine) → r.due ≡ []
     → Rests recovers r.machine r.due → MayStand recovers (entry.Accepted pid decision)
 accepted-stands recovers r pid decision is none rests = λ again ok. admits-none r.machine (still recovers r none rests again) (sym is ∙ ok)
@@ -177,7 +175,7 @@ due-more r (Do a) ds n is = λ recovers rests.
       λ again. rw is (due-rests a ds r.machine e
           (subst (λ (due : List Due). (is_run r.machine.state ≡ false) ⊎ IsEndOfRedoDue due) is (rests (sym calm.same ∙ again)))),
     ))
-due-more r EndRedo ds n is = λ recovers rests. (tt, λ again. no again)
+due-more r EndRedo ds n is = λ recovers rests. (tt, λ again. absurd (false≢true again))
 
 more : (gives : ℕ → Bool) → EntryCases gives OneMore
 more gives =
@@ -210,4 +208,4 @@ admits-from gives r recovers (e ∷ journal) legal rests =
     (one.0, admits-from gives (replayed r e) (recovers_after recovers e) journal legal.1 one.1)
 
 pub admits-none-until-redo : (limits : Limits) (gives : ℕ → Bool) (journal : List PmEvent) → IsLegal limits gives journal → AdmitsFrom false journal
-admits-none-until-redo limits gives journal legal = admits-from gives (replay_begun limits) false journal legal (λ is. no is)
+admits-none-until-redo limits gives journal legal = admits-from gives (replay_begun limits) false journal legal (λ is. absurd (false≢true is))

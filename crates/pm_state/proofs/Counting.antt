@@ -26,6 +26,7 @@ use Rattle.pm_state.specs.Transition.{Transition, transition}
 use Rattle.pm_state.specs.TurnRules.{is_not_running, are_backends_gone, start_recovery, restart_writer, end_smart, stop_backends, backends_gone, dead_ends_gone, children_gone}
 use Rattle.pm_state.specs.Journal.{row_of, settled}
 use Rattle.pm_state.proofs.Exits.{Less}
+use Rattle.pm_state.specs.ChildLaws.{is_deserted}
 
 -- what the machine counts, and what is due
 pub record Tally : Type 0 where
@@ -57,12 +58,6 @@ is_starting state.Startup = true
 is_starting state.Run = true
 is_starting state.Shutdown = true
 is_starting _ = false
-
--- before the start, and behind the end of all
-abbrev is_deserted : PmState → Bool
-is_deserted state.Init = true
-is_deserted state.NoChildren = true
-is_deserted _ = false
 
 abbrev is_none_due : Tally → Bool
 is_none_due t = not (t.startup_due || t.checkpointer_due || t.writer_due)

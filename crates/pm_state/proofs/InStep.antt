@@ -14,7 +14,7 @@ use Rattle.pm_supervisor.specs.Phase.{Phase}
 use Rattle.pm_supervisor.specs.Supervisor.{Shared}
 use Rattle.pm_supervisor.specs.Shared.{with_child}
 use Rattle.pm_supervisor.specs.Steps as supervisor
-use Rattle.pm_supervisor.specs.Steps.{SupervisorEvent, Trace, MayHappen, IsRun, happened, all_happened, empty_trace, shared_after, after, is_normal}
+use Rattle.pm_supervisor.specs.Steps.{SupervisorEvent, Trace, MayHappen, happened, all_happened, empty_trace, shared_after, after, is_normal}
 use Rattle.pm_supervisor.specs.Between.{is_child_step, detached, IsAlike}
 use Rattle.pm_supervisor.specs.Laws.{StaysWell, KeepsWhatIsShared, TakesChildStepsBetween}
 use Rattle.pm_supervisor.specs.RunLaws.{all_happened-append}
@@ -32,16 +32,13 @@ use Rattle.pm_state.specs.TurnRules.{start_recovery, restart_writer, end_smart, 
 use Rattle.pm_state.specs.Shows.{Call, Accepts, Starts, Exits, Asks, Ticks, TakesTurn, Attaches, Touches, Detaches, events_of, events_of_exit, events_of_request, events_of_turn, move_of, order_of, phase_of, events_of_call, events_in, machine_after, machine_at_end, IsFit, AreFit}
 use Rattle.pm_state.specs.Facts.{Facts}
 use Rattle.pm_state.specs.Journal.{Do, EndRedo, Replay, Agrees, MayWrite, Writes, Follows, settled, dues, redo_dues, replayed, all_replayed, replay_begun, entry_of, entries_of, entries_of_call, acts_of_call, machine_with_reports}
-use Rattle.pm_state.specs.InStep.{ServerState, IsInStep, IsTimely, KeepsStep, reports_of, with_reports}
+use Rattle.pm_state.specs.InStep.{IsInStep, IsTimely, KeepsStep, reports_of, with_reports, server_state}
 use Rattle.pm_state.proofs.Acts.{are_calm, is_ordered, step-brief}
 use Rattle.pm_state.proofs.Calls.{calls-lead, counted, begun-facts, facts-alike, alike-detached}
 use Rattle.pm_state.proofs.Settling.{settled-settled, settled-shutdown, settled-ended}
 use Rattle.pm_state.proofs.Reports.{reports-fit, reported-all, reports-machine, step-owes}
 use Rattle.pm_state.proofs.TurnJournal.{call-writes, begun-agrees}
 use Rattle.pm_state.proofs.Turns.{Leads}
-
-abbrev server_state : Replay → Machine → Trace → ServerState
-server_state r m h = record { replay = r; machine = m; trace = h }
 
 -- what the events leave of what is shared
 

@@ -1,6 +1,7 @@
 -- What the calls write is a legal journal.
 use Rattle.std.proofs.Common.{◌≡◌, ℕ, ◌+◌, Bool, true, false, not, ◌&&◌, ◌||◌, cond, List, [], ◌∷◌, ◌++◌, Option, Some, None, refl, arith, ap, sym, ◌∙◌, inl, inr}
 use Rattle.std.specs.Prelude.{IsSomeAnd, ◌⊎◌}
+use Rattle.std.proofs.lemmas.Bool.{or_parts}
 use Rattle.pm_exit.specs.declared.child.Status.{Status}
 use Rattle.pm_exit.specs.declared.child.Kind.{Kind}
 use Rattle.pm_exit.specs.declared.child.Kind.TheVariants as kind
@@ -49,15 +50,11 @@ fits-own kept now s (Do act.Reset) none = refl
 fits-own kept now s (Do (act.Say line)) none = refl
 fits-own kept now s (Do (act.End how)) none = refl
 
-neither : (a b : Bool) → a || b ≡ false → (a ≡ false) × (b ≡ false)
-neither true b h = absurd cc
-neither false b h = (refl, h)
-
 dues-legal : (gives : ℕ → Bool) (kept now : ℕ) (ds : List Due) (r : Replay) → r.due ≡ ds → has_kill ds ≡ false
     → AreLegal gives r (entries_of kept now r ds)
 dues-legal gives kept now [] r is none = tt
 dues-legal gives kept now (d ∷ ds) r is none =
-    let no : (is_kill d ≡ false) × (has_kill ds ≡ false) = neither (is_kill d) (has_kill ds) none in
+    let no : (is_kill d ≡ false) × (has_kill ds ≡ false) = or_parts (is_kill d) (has_kill ds) none in
     let e : PmEvent = entry_of kept now r.shown d in
     (rw is (fits-own kept now r.shown d no.0), dues-legal gives kept now ds (replayed r e) (rw is refl) no.1)
 

@@ -1,4 +1,3 @@
-pub mod Facts
 pub mod Rules
 pub mod Turns
 pub mod Counts

@@ -1,6 +1,7 @@
 -- Along a legal journal the machine counts the children that are there, and a next generation begins with none of them.
 use Rattle.std.proofs.Common.{◌≡◌, ◌⊎◌, inl, inr, ℕ, ◌+◌, Bool, true, false, not, ◌&&◌, ◌||◌, cond, List, [], ◌∷◌, refl, arith, sym, ◌∙◌, ap, subst}
 use Rattle.std.specs.Prelude.{◌==◌, if◌then◌else◌, nat_eq, IsSomeAnd, Option, Some, None, is_none, is_some}
+use Rattle.std.proofs.lemmas.Bool.{not-true}
 use Rattle.pm_exit.specs.declared.child.Status.{Status}
 use Rattle.pm_exit.specs.declared.child.Kind.{Kind}
 use Rattle.pm_exit.specs.declared.child.Kind.TheVariants as kind
@@ -40,11 +41,11 @@ use Rattle.pm_state.specs.ReplayLaws.{acts_behind_redo, acts_in, acts_in_dues}
 use Rattle.pm_state.proofs.Counting.{Tied, accepted-tied, asked-tied, begun-tied, by-exit, by-test, exited-tied, row-tied, settled-does, settled-tied, started-tied, ticked-tied, tied-counts}
 use Rattle.pm_state.proofs.Entries.{EntryCases, by-entry}
 use Rattle.pm_state.proofs.Exits.{less}
-use Rattle.pm_state.proofs.Facts.{nobody}
 use Rattle.pm_state.proofs.Journal.{is_kill}
 use Rattle.pm_state.proofs.Reports.{all-done, due-first, owes-later, step-owes}
 use Rattle.pm_state.proofs.TurnCases.{is_no_children}
 use Rattle.pm_state.proofs.TurnJournal.{IsFirst, is-first}
+use Rattle.pm_state.specs.ChildLaws.{nobody}
 
 -- a reset among the acts is done where nobody is there, before any start
 abbrev ResetsAlone : List Action → List Child → Type 0
@@ -148,10 +149,6 @@ and-left false b is = is
 and-right : (a b : Bool) → a && b ≡ true → b ≡ true
 and-right true b is = is
 and-right false b is = absurd cc
-
-not-true : (a : Bool) → not a ≡ true → a ≡ false
-not-true true is = absurd cc
-not-true false is = refl
 
 abbrev Left : Limits → ℕ → Action → List Action → Machine → Machine → Shared → List ℕ → Type 0
 Left limits n a acts now m s there =

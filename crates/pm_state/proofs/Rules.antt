@@ -14,7 +14,7 @@ use Rattle.pm_state.specs.declared.machine.Machine.{Machine}
 use Rattle.pm_state.specs.TurnRules.{start_recovery, restart_writer, end_smart, stop_backends, backends_gone, dead_ends_gone, startup_starts, are_backends_gone}
 use Rattle.pm_state.specs.Shows.{phase_of, move_of}
 use Rattle.pm_state.specs.Facts.{Facts, HoldsIn, IsAlone, starts_in_startup, startup_is_there, has_checkpointer}
-use Rattle.pm_state.proofs.Facts.{nobody}
+use Rattle.pm_state.specs.ChildLaws.{nobody}
 
 -- nothing is done
 stayed : (limits : Limits) (m n : Machine) (s : Supervisor) → n ≡ m → Facts limits m s → Facts limits n (record s { phase = phase_of n })

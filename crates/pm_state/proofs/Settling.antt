@@ -10,6 +10,7 @@ use Rattle.pm_exit.specs.Ends.{class_of}
 use Rattle.pm_modes.specs.declared.Mode.{Mode}
 use Rattle.pm_modes.specs.declared.Mode.TheVariants as mode
 use Rattle.pm_modes.specs.Strength.{is_immediate, strengthen_of}
+use Rattle.pm_modes.specs.StrengthLaws.{strengthens}
 use Rattle.pm_admit.specs.declared.PmState.{PmState}
 use Rattle.pm_admit.specs.declared.PmState.TheVariants as state
 use Rattle.pm_supervisor.specs.Children.{is_dead_end}
@@ -188,9 +189,6 @@ settled-asks : (m : Machine) (asked : Mode) → is_immediate m.shutdown ≡ fals
     → settled (record (settled m) { shutdown = Some asked }) ≡ settled (record m { shutdown = Some asked })
 unfolding settled backends_gone dead_ends_gone
 settled-asks m asked other = grind arith
-
-strengthens : (standing : Option Mode) (asked m : Mode) → strengthen_of standing asked ≡ Some m → is_immediate standing ≡ false
-strengthens standing asked m is = grind arith
 
 -- in a state in which a move waits such a request changes nothing else
 abbrev waits : PmState → Bool

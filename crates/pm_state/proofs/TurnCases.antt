@@ -10,6 +10,7 @@ use Rattle.pm_state.specs.Transition.{Transition, transition}
 use Rattle.pm_state.specs.TurnRules.{start_recovery, restart_writer, end_smart, stop_backends, backends_gone, dead_ends_gone, children_gone, turned_of, and_then, are_backends_gone}
 use Rattle.pm_state.specs.Journal.{settled}
 use Rattle.pm_state.proofs.Settling.{settled-settled}
+use Rattle.pm_state.specs.TurnLaws.{turn-startup, turn-serving}
 
 -- the last rules of a turn: 5, 6 and 7
 
@@ -81,17 +82,9 @@ pub turn-init : (m : Machine) → turned_of (record m { state = state.Init }) �
 unfolding turned_of start_recovery restart_writer end_smart stop_backends backends_gone dead_ends_gone children_gone
 turn-init m = refl
 
-pub turn-startup : (m : Machine) → turned_of (record m { state = state.Startup }) ≡ transition [] (record m { state = state.Startup })
-unfolding turned_of start_recovery restart_writer end_smart stop_backends backends_gone dead_ends_gone children_gone
-turn-startup m = refl
-
 pub turn-shutdown : (m : Machine) → turned_of (record m { state = state.Shutdown }) ≡ transition [] (record m { state = state.Shutdown })
 unfolding turned_of start_recovery restart_writer end_smart stop_backends backends_gone dead_ends_gone children_gone
 turn-shutdown m = refl
-
-pub turn-serving : (m : Machine) → turned_of (record m { state = state.Run; conns = true; writer = true }) ≡ transition [] (record m { state = state.Run; conns = true; writer = true })
-unfolding turned_of start_recovery restart_writer end_smart stop_backends backends_gone dead_ends_gone children_gone
-turn-serving m = refl
 
 pub turn-no_writer : (m : Machine) → turned_of (record m { state = state.Run; conns = true; writer = false }) ≡ restart_writer (record m { state = state.Run; conns = true; writer = false })
 unfolding turned_of start_recovery restart_writer end_smart stop_backends backends_gone dead_ends_gone children_gone

@@ -1,6 +1,7 @@
 -- What a turn writes is a legal journal: row by row, and each row's acts in order.
 use Rattle.std.proofs.Common.{◌≡◌, ℕ, Bool, true, false, not, ◌||◌, List, [], ◌∷◌, ◌++◌, refl, arith, ap, sym, ◌∙◌, subst}
 use Rattle.std.specs.Prelude.{◌==◌}
+use Rattle.std.proofs.lemmas.Bool.{or_parts, or_right}
 use Rattle.pm_exit.specs.declared.child.Kind.{Kind}
 use Rattle.pm_modes.specs.Strength.{is_immediate}
 use Rattle.pm_admit.specs.declared.PmState.{PmState}
@@ -73,10 +74,6 @@ report-calm act.Reset rest m calm = calm
 report-calm (act.Say line) rest m calm = calm
 report-calm (act.End how) rest m calm = calm
 
-neither : (a b : Bool) → a || b ≡ false → (a ≡ false) × (b ≡ false)
-neither true b h = absurd cc
-neither false b h = (refl, h)
-
 not_asked : (b : Bool) (T : Type 0) → b ≡ false → b ≡ true → T
 not_asked b T isnt is = absurd cc
 
@@ -86,7 +83,7 @@ row-writes : (gives : ℕ → Bool) (kept now : ℕ) (a : Action) (rest : List A
     → not (has_start (a ∷ rest)) || is_quiet (row_of r.machine).after.state ≡ true
     → Writes gives r (entries_of kept now r (dues (a ∷ rest))) (all_reported (a ∷ rest) (row_of r.machine).after)
 row-writes gives kept now a rest r none_due on none is no_kill calm =
-    let no : (is_kill (Do a) ≡ false) × (has_kill (dues rest) ≡ false) = neither (is_kill (Do a)) (has_kill (dues rest)) no_kill in
+    let no : (is_kill (Do a) ≡ false) × (has_kill (dues rest) ≡ false) = or_parts (is_kill (Do a)) (has_kill (dues rest)) no_kill in
     let e : PmEvent = entry_of kept now r.shown (Do a) in
     let first : IsFirst gives r (row_of r.machine) a rest e = is-first gives kept now r a rest no.0 is in
     let left : Machine = report_of a (row_of r.machine).after in
@@ -130,10 +127,6 @@ some-writes : (gives : ℕ → Bool) (kept now : ℕ) (acts : List Action) (r : 
 some-writes gives kept now [] r none_due on none is some no_kill calm = absurd (let e : true ≡ false = some in cc)
 some-writes gives kept now (a ∷ rest) r none_due on none is some no_kill calm =
     row-writes gives kept now a rest r none_due on none is no_kill calm
-
-or-true : (a b : Bool) → b ≡ true → a || b ≡ true
-or-true true b is = refl
-or-true false b is = is
 
 -- what is done is this transition
 abbrev pub Does : (ℕ → Bool) → ℕ → Replay → Transition → Type 0
@@ -208,7 +201,7 @@ start-does : (gives : ℕ → Bool) (kept : ℕ) (r : Replay) (m : Machine) (o :
 start-does gives kept r m o agrees on none quiet is some no_kill calm =
     let same : r.machine ≡ m = agrees.machine ∙ settled-quiet m quiet in
     row-does gives kept r o agrees.none_due (rw same on) none (ap row_of same ∙ is) some no_kill
-    (or-true (not (has_start o.acts)) (is_quiet o.after.state) calm)
+    (or_right (not (has_start o.acts)) (is_quiet o.after.state) calm)
 
 -- children are told to end, and the last rules follow
 terminate-does : (gives : ℕ → Bool) (kept : ℕ) (r : Replay) (m w : Machine) → Agrees r m → m.ended ≡ false → w.ended ≡ false → r.asks_smart ≡ false

@@ -17,6 +17,9 @@ pub record ServerState : Type 0 where
   pub machine : Machine
   pub trace : Trace
 
+abbrev pub server_state : Replay → Machine → Trace → ServerState
+server_state r m h = record { replay = r; machine = m; trace = h }
+
 -- what the journal leaves is the machine, and but for who is attached what the supervisor shares
 pub record IsInStep (limits : Limits) (p : ServerState) : Type 0 where
   pub agrees : Agrees p.replay p.machine

@@ -4,9 +4,11 @@ pub mod Requests
 pub mod Restarts
 pub mod WorkedRestarts
 pub mod TurnRules
+pub mod TurnLaws
 pub mod Machine
 pub mod Shows
 pub mod Facts
+pub mod ChildLaws
 pub mod Known
 pub mod Promises
 pub mod Journal

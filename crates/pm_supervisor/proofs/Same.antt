@@ -2,6 +2,7 @@
 use Rattle.std.proofs.Common.{◌≡◌, ◌≢◌, ℕ, ◌+◌, ◌<◌, nat_eq, cond, Bool, true, false, ◌&&◌, List, [], ◌∷◌, Option, Some, None, refl, arith, ap, sym, ◌∙◌, subst}
 use Rattle.std.specs.Prelude.{IsSomeAnd}
 use Rattle.std.specs.List.{AllByRecursion}
+use Rattle.std.proofs.lemmas.Bool.{eqb-true}
 use Rattle.pm_exit.specs.declared.child.Kind.{Kind}
 use Rattle.pm_supervisor.specs.Children.{Child, is_session, is_startup_child, child_of, without, marked, one_if, count_of, attached_sessions}
 use Rattle.pm_supervisor.specs.Supervisor.{Shared}
@@ -31,9 +32,6 @@ total-without f pid c (d ∷ ds) is =
     ]
     is
 
-eq-same : (a b : ℕ) → nat_eq a b ≡ true → a ≡ b
-eq-same a b e = grind arith
-
 eq-own : (a : ℕ) → nat_eq a a ≡ true
 eq-own a = grind arith
 
@@ -42,7 +40,7 @@ none-far : (pid : ℕ) (cs : List Child) → AllByRecursion (λ d. d.pid ≢ pid
 none-far pid [] far = refl
 none-far pid (d ∷ ds) far =
     elim (nat_eq d.pid pid) as (λ v. nat_eq d.pid pid ≡ v → cond v (Some d) (child_of pid ds) ≡ None) [
-      | true ↦ λ e. absurd (far.0 (eq-same d.pid pid e))
+      | true ↦ λ e. absurd (far.0 (eqb-true d.pid pid e))
       | false ↦ λ e. none-far pid ds far.1
     ]
     refl
@@ -68,7 +66,7 @@ gone-without : (pid : ℕ) (ds : List Child) → PidsDiffer ds → child_of pid 
 gone-without pid [] differ = refl
 gone-without pid (d ∷ ds) differ =
     elim (nat_eq d.pid pid) as (λ v. nat_eq d.pid pid ≡ v → child_of pid (cond v ds (d ∷ without pid ds)) ≡ None) [
-      | true ↦ λ e. (let same : d.pid ≡ pid = eq-same d.pid pid e in none-far pid ds (subst (λ n. AllByRecursion (λ x. x.pid ≢ n) ds) same differ.0))
+      | true ↦ λ e. (let same : d.pid ≡ pid = eqb-true d.pid pid e in none-far pid ds (subst (λ n. AllByRecursion (λ x. x.pid ≢ n) ds) same differ.0))
       | false ↦ λ e. rw e (gone-without pid ds differ.1)
     ]
     refl
@@ -76,7 +74,7 @@ gone-without pid (d ∷ ds) differ =
 pub child-taken : (pid q : ℕ) (ds : List Child) → PidsDiffer ds → child_of q (without pid ds) ≡ cond (nat_eq pid q) None (child_of q ds)
 child-taken pid q ds differ =
     elim (nat_eq pid q) as (λ v. nat_eq pid q ≡ v → child_of q (without pid ds) ≡ cond v None (child_of q ds)) [
-      | true ↦ λ e. subst (λ n. child_of n (without pid ds) ≡ None) (eq-same pid q e) (gone-without pid ds differ)
+      | true ↦ λ e. subst (λ n. child_of n (without pid ds) ≡ None) (eqb-true pid q e) (gone-without pid ds differ)
       | false ↦ λ far. other-without pid q ds far
     ]
     refl
@@ -84,7 +82,7 @@ child-taken pid q ds differ =
 pub same-without : (pid : ℕ) (cs ds : List Child) → PidsDiffer cs → PidsDiffer ds → SameChildren cs ds → SameChildren (without pid cs) (without pid ds)
 same-without pid cs ds first second same =
     λ q. elim (nat_eq pid q) as (λ v. nat_eq pid q ≡ v → child_of q (without pid cs) ≡ child_of q (without pid ds)) [
-      | true ↦ λ e. (let is : pid ≡ q = eq-same pid q e in
+      | true ↦ λ e. (let is : pid ≡ q = eqb-true pid q e in
           subst (λ n. child_of n (without pid cs) ≡ child_of n (without pid ds)) is (gone-without pid cs first ∙ sym (gone-without pid ds second)))
       | false ↦ λ far. other-without pid q cs far ∙ (same q ∙ sym (other-without pid q ds far))
     ]
@@ -147,7 +145,7 @@ child-marked pid q b (c ∷ cs) =
     elim (nat_eq c.pid pid) as
     (λ v. nat_eq c.pid pid ≡ v → child_of q (cond v (record c { attached = b } ∷ cs) (c ∷ marked pid b cs))
     ≡ cond (nat_eq pid q) (with_mark b (child_of q (c ∷ cs))) (child_of q (c ∷ cs))) [
-      | true ↦ λ e. mark-here (nat_eq c.pid q) (nat_eq pid q) b c (child_of q cs) (ap (λ n. nat_eq n q) (eq-same c.pid pid e))
+      | true ↦ λ e. mark-here (nat_eq c.pid q) (nat_eq pid q) b c (child_of q cs) (ap (λ n. nat_eq n q) (eqb-true c.pid pid e))
       | false ↦ λ e. ap (λ o. cond (nat_eq c.pid q) (Some c) o) (child-marked pid q b cs)
           ∙ mark-there (nat_eq c.pid q) (nat_eq pid q) b c (child_of q cs) (far-apart c.pid pid q e)
     ]

@@ -25,7 +25,7 @@ number_again n rest h = big_number-reads_back 4 n rest h
 pub number_below : (bytes : List ℕ) → IsBytes bytes → big_number 4 bytes < 2 ^ 32
 number_below bytes fits = big_from-lt 0 4 bytes fits
 
-IsBytes-take : (n : ℕ) (bytes : List ℕ) → IsBytes bytes → IsBytes (take n bytes)
+pub IsBytes-take : (n : ℕ) (bytes : List ℕ) → IsBytes bytes → IsBytes (take n bytes)
 IsBytes-take n bytes fits i =
     elim (cases_lt i n) [
       | inl lt ↦ rw (get_or-take n bytes i 0 lt) (fits i)

@@ -1,6 +1,6 @@
 -- Reading a message of the server: what is read is spelled so, what is spelled so is read, and each fault is where it is said to be.
-use Rattle.std.proofs.Common.{◌≡◌, ℕ, suc, ◌+◌, ◌-◌, ◌^◌, ◌<◌, ◌≤◌, ◌⊎◌, Bool, true, false, not, ◌==◌, ◌&&◌, ◌||◌, eqb, ltb, List, [], ◌∷◌, ◌++◌, length, drop, codes, decimal, Ok, Err, refl, sym, ap, subst, ◌∙◌, inl, inr, arith, append_assoc}
-use Rattle.std.proofs.lemmas.Bool.{cond_both, eqb-true, ltb-true, ltb-false, lt-ltb, and_parts}
+use Rattle.std.proofs.Common.{◌≡◌, ℕ, suc, ◌+◌, ◌-◌, ◌^◌, ◌<◌, ◌≤◌, true, false, not, ◌==◌, ◌&&◌, ◌||◌, eqb, ltb, List, [], ◌∷◌, ◌++◌, length, drop, codes, decimal, Ok, Err, refl, sym, ap, subst, ◌∙◌, inl, inr, arith, append_assoc}
+use Rattle.std.proofs.lemmas.Bool.{cond_both, or_cases, eqb-true, ltb-true, ltb-false, lt-ltb, and_parts}
 use Rattle.std.proofs.lemmas.List.{length-append, append_cancel_left}
 use Rattle.std.specs.List.{AllByRecursion, list_any}
 use Rattle.byteorder.specs.Endian.{big_number}
@@ -45,10 +45,6 @@ by_type P auth param key ready fields row complete empty fault notice kind known
 
 same_reader : (kind size : ℕ) (f g : List ℕ → Read) → ((bytes : List ℕ) → f bytes ≡ g bytes) → Good kind size f → Good kind size g
 same_reader kind size f g same good = record { exact = λ bytes fits. subst (Exact (BodyIs kind size) bytes) (same bytes) (good.exact bytes fits); apart = good.apart; word = good.word }
-
-or_cases : (a b : Bool) → (a || b) ≡ true → (a ≡ true) ⊎ (b ≡ true)
-or_cases true b h = inl refl
-or_cases false b h = inr h
 
 abbrev IsGood : ℕ → ℕ → Type 0
 IsGood size kind = fits_type kind size ≡ true → size + 4 < 2 ^ 31 → Good kind size (body_at kind size)

@@ -1,8 +1,9 @@
 -- What a worker has done, one run longer.
 use Rattle.std.proofs.Common.{ℕ, ◌≡◌, ◌∙◌, ◌++◌, List, [], ◌∷◌, Option, map, ap, sym, refl, subst}
-use Rattle.std.specs.List.{flat_map, AllByRecursion}
+use Rattle.std.specs.List.{flat_map}
 use Rattle.std.proofs.lemmas.List.{append-nil, append_assoc}
 use Rattle.std.proofs.lemmas.Grind.{flat_map-append}
+use Rattle.pm_facts.specs.Lists.{each_more}
 use Rattle.pm_query.specs.declared.book.BookEntry.{BookEntry}
 use Rattle.pm_board.specs.declared.views.Work.TheVariants.{Idle}
 use Rattle.pm_board.specs.Models.{PostModel}
@@ -15,10 +16,6 @@ maps_more f (y ∷ xs) x = ap (λ zs. f y ∷ zs) (maps_more f xs x)
 
 flat_more : {A B : Type 0} (f : A → List B) (xs : List A) (x : A) → flat_map f (xs ++ x ∷ []) ≡ flat_map f xs ++ f x
 flat_more f xs x = flat_map-append f xs (x ∷ []) ∙ ap (λ ys. flat_map f xs ++ ys) (append-nil (f x))
-
-pub all_more : {A : Type 0} (P : A → Type 0) (xs : List A) (x : A) → AllByRecursion P xs → P x → AllByRecursion P (xs ++ x ∷ [])
-all_more P [] x all p = (p, tt)
-all_more P (y ∷ xs) x all p = (all.0, all_more P xs x all.1 p)
 
 -- a list that is one longer, of a list that these runs have made
 grows : {A B : Type 0} (f : A → B) (before mid after : List B) (runs : List A) (run : A) → after ≡ mid ++ f run ∷ [] → mid ≡ before ++ map f runs → after ≡ before ++ map f (runs ++ run ∷ [])
@@ -76,7 +73,7 @@ module _ {S : Type 0} (notes : List BookEntry → S → S → Type 0) (stamp : O
       → Looked before started → notes run.noted s1 s2 → IsRun stamp seed limit gives run → HasRun run started now → HasWorked notes stamp seed limit gives (runs ++ run ∷ []) begun now s0 s2
   ran in_turn runs begun before started now s0 s1 s2 run w l n is has =
       record {
-        each = all_more (IsRun stamp seed limit gives) runs run w.each is;
+        each = each_more (IsRun stamp seed limit gives) runs run w.each is;
         post =
             record {
               table = has.table ∙ (l.table ∙ w.post.table);

@@ -1,25 +1,18 @@
 -- How the board of the tests moves.
-use Rattle.std.proofs.Common.{◌≡◌, ℕ, zero, suc, List, [], ◌∷◌, length, get_or, refl, sym, ap, ◌∙◌, subst}
+use Rattle.std.proofs.Common.{◌≡◌, ℕ, [], length, sym, ap, ◌∙◌, subst}
 use Rattle.std.proofs.lemmas.List.{length-replicate}
-use Rattle.std.specs.Prelude.{replicate}
+use Rattle.pm_facts.specs.Lists.{same_everywhere}
 use Rattle.pm_board.specs.declared.views.RosterNotes.{RosterNotes}
 use Rattle.pm_board.specs.declared.views.RosterStep.{RosterStep}
 use Rattle.pm_board.specs.declared.views.RosterView.{RosterView}
 use Rattle.pm_board.specs.declared.views.Sight.TheVariants.{Unused}
 use Rattle.pm_board.specs.declared.views.SlotView.{SlotView}
-use Rattle.pm_board.specs.declared.views.Work.TheVariants.{Idle}
 use Rattle.pm_board.specs.Places.{slot_at, slot_view, IsReaped}
 use Rattle.pm_board.specs.Told.{new_roster, after_step}
-use Rattle.pm_board.specs.Models.{PostModel, SlotBecame}
-use Rattle.pm_worker_tests.specs.Crew.{IsSettled, IsManned, IsFresh, HasLookedAt, AllIdle}
+use Rattle.pm_board.specs.Models.{SlotBecame}
+use Rattle.pm_worker_tests.specs.Crew.{IsSettled, IsManned, IsFresh, HasLookedAt}
 
 -- ---- posts
-
-pub first_idle : {D : Type 0} (posts rest : List (PostModel D)) (p : PostModel D) → posts ≡ p ∷ rest → AllIdle posts → p.knows.work ≡ Idle
-first_idle posts rest p is all = subst AllIdle is all 0 p refl
-
-pub rest_idle : {D : Type 0} (posts rest : List (PostModel D)) (p : PostModel D) → posts ≡ p ∷ rest → AllIdle posts → AllIdle rest
-rest_idle posts rest p is all k q e = subst AllIdle is all (suc k) q e
 
 -- ---- a slot
 
@@ -42,11 +35,6 @@ looked_ended {D} k d e f x y n m a b free_ p₁ c₁ p₂ c₂ =
     }
 
 -- ---- the board
-
-same_everywhere : {A : Type 0} (n k : ℕ) (a : A) → get_or (replicate n a) k a ≡ a
-same_everywhere zero k a = refl
-same_everywhere (suc n) zero a = refl
-same_everywhere (suc n) (suc k) a = same_everywhere n k a
 
 pub new_fresh : {D : Type 0} (d : RosterView D) (limit dealt : ℕ) → d ≡ new_roster 47 limit dealt → IsFresh d 0
 new_fresh {D} d limit dealt is =

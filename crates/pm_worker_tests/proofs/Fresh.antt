@@ -1,7 +1,7 @@
 -- A new board may be closed at once.
-use Rattle.std.proofs.Common.{◌≡◌, ℕ, zero, suc, [], refl, sym, ap, subst, arith}
+use Rattle.std.proofs.Common.{◌≡◌, ℕ, [], sym, ap, subst, arith}
 use Rattle.std.proofs.lemmas.List.{length-replicate}
-use Rattle.std.specs.Prelude.{replicate, slice_index_or}
+use Rattle.pm_facts.specs.Lists.{same_everywhere}
 use Rattle.pm_board.specs.declared.views.RosterView.{RosterView}
 use Rattle.pm_board.specs.declared.views.Sight.TheVariants.{Unused}
 use Rattle.pm_board.specs.Places.{slot_view}
@@ -9,16 +9,11 @@ use Rattle.pm_board.specs.Told.{new_roster}
 use Rattle.pm_worker.specs.declared.mail.MailTold.{MailTold}
 use Rattle.pm_pool.specs.Closing.{MayClose}
 
-same_everywhere : {A : Type 0} (x : A) (n k : ℕ) → slice_index_or (replicate n x) k x ≡ x
-same_everywhere x zero k = refl
-same_everywhere x (suc n) zero = refl
-same_everywhere x (suc n) (suc k) = same_everywhere x n k
-
 may_close_new : (count limit posts : ℕ) → MayClose count (new_roster count limit posts)
 may_close_new count limit posts =
     record {
       slots = length-replicate count (slot_view [] Unused);
-      free = λ k. ap (λ x. x.sight) (same_everywhere (slot_view [] Unused) count k);
+      free = λ k. ap (λ x. x.sight) (same_everywhere count k (slot_view [] Unused));
       pids = omega arith;
     }
 

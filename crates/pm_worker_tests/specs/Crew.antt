@@ -1,11 +1,9 @@
 -- What the tests know of a board of 47 slots.
-use Rattle.std.specs.Prelude.{◌≡◌, ◌≢◌, ℕ, ◌<◌, ◌≤◌, [], List, Some, length, slice_get}
+use Rattle.std.specs.Prelude.{◌≡◌, ◌≢◌, ℕ, ◌<◌, ◌≤◌, [], length}
 use Rattle.pm_board.specs.declared.views.RosterView.{RosterView}
 use Rattle.pm_board.specs.declared.views.Sight.{Sight}
 use Rattle.pm_board.specs.declared.views.Sight.TheVariants.{Unused, Opened, Assigned, Exited, Collected, Gathered}
-use Rattle.pm_board.specs.declared.views.Work.TheVariants.{Idle}
 use Rattle.pm_board.specs.Places.{slot_at, slot_view, IsReaped}
-use Rattle.pm_board.specs.Models.{PostModel}
 
 module _ {D : Type 0} where
   -- no look has found the end of its child, if it has one
@@ -42,7 +40,3 @@ module _ {D : Type 0} where
     pub last_pid : after.notes.last_pid ≡ before.notes.last_pid
     pub last_connection : after.notes.last_connection ≡ before.notes.last_connection
     pub is_open : after.is_open ≡ before.is_open
-
-  -- no child runs on any of these posts
-  abbrev pub AllIdle : List (PostModel D) → Type 0
-  AllIdle posts = (k : ℕ) (p : PostModel D) → slice_get posts k ≡ Some p → p.knows.work ≡ Idle

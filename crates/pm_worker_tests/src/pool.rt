@@ -1,7 +1,8 @@
 //! A pool of 47 threads: each kind of mail, 200 sessions of which some are told to end, and the end of every worker.
 ghost use Rattle.std.specs.Prelude.{◌≡◌, ◌≤◌, false, All, IfOk, OnOk};
 ghost use Rattle.pm_board.specs.declared.views.Work.TheVariants.{Idle};
-ghost use Rattle.pm_worker_tests.specs.Crew.{IsManned, IsFresh, AllIdle};
+ghost use Rattle.pm_worker_tests.specs.Crew.{IsManned, IsFresh};
+ghost use Rattle.pm_board.specs.Posts.{AllIdle};
 
 use crate::clients::{Manner, link_of};
 use crate::crew::{Job, SLOTS, begin, connect, free_slot, look_at, look_over, tell, wait_for};

@@ -1,11 +1,11 @@
 use Rattle.std.proofs.Common.{◌≡◌, ◌+◌, ◌<◌, ◌≤◌, [], ◌∷◌, ◌++◌, length, arith, sym, ap, ◌∙◌, subst}
+use Rattle.pm_facts.specs.Numbers.{sum_below}
 use Rattle.pm_board.specs.Slots.{child_slots}
 use Rattle.pm_board.specs.declared.views.PostView.{PostView}
 use Rattle.pm_board.specs.declared.views.RosterView.{RosterView}
 use Rattle.pm_board.specs.Places.{slot_at}
 use Rattle.pm_board.specs.Heard.{WasMade, HeardAsSent}
 use Rattle.pm_board.specs.Latches.{HeardRightly, EachHeard, HeardBy, Reaches, beside, waiting, times_made, times_made_on, made_on, WereMade, latch_at, cancel_at}
-use Rattle.pm_board.specs.Gate.{sum_below}
 use Rattle.pm_board.specs.Rule.{running, ended, Does}
 use Rattle.pm_board.proofs.Latches.{latch_here, a_term}
 use Rattle.pm_board.proofs.Latching.{does_child, left_behind}

@@ -1,5 +1,5 @@
-use Rattle.pm_board_tests.specs.Drive.{AllIdle}
 use Rattle.pm_board_tests.proofs.one_slot.make_board.Given as goal
+use Rattle.pm_board.specs.Posts.{AllIdle}
 
 abbrev pub invariant-loop : goal.invariant-loop
 invariant-loop l = AllIdle l.posts.left.items

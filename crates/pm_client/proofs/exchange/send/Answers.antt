@@ -1,4 +1,5 @@
-use Rattle.pm_client.proofs.Links.{rest_of, sent_more, wrote}
+use Rattle.pm_facts.specs.Lists.{rest_of}
+use Rattle.pm_client.proofs.Links.{sent_more, wrote}
 use Rattle.pm_client.proofs.exchange.send.Goals as goal
 
 pub loop-rest-preserved : goal.loop-rest-preserved

@@ -1,4 +1,5 @@
-use Rattle.pm_client.proofs.Links.{printed, rest_of, shown_more}
+use Rattle.pm_facts.specs.Lists.{rest_of}
+use Rattle.pm_client.proofs.Links.{printed, shown_more}
 use Rattle.pm_client.proofs.exchange.show.Goals as goal
 
 pub loop-rest-preserved : goal.loop-rest-preserved

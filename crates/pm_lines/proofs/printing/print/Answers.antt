@@ -1,5 +1,6 @@
 use Rattle.std.proofs.Common.{◌<◌, ◌-◌, length, take, drop, ap, arith, length-drop}
-use Rattle.pm_lines.specs.PrintLaws.{further, nothing_yet, rest_of}
+use Rattle.pm_facts.specs.Lists.{rest_of}
+use Rattle.pm_lines.specs.PrintLaws.{further, nothing_yet}
 use Rattle.pm_lines.proofs.printing.print.Goals as goal
 
 pub loop-rest-init : goal.loop-rest-init

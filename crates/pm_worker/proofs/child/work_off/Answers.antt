@@ -1,9 +1,10 @@
 use Rattle.std.proofs.Common.{◌≡◌, ◌≢◌, ◌∙◌, ◌++◌, ◌∷◌, [], true, false, ap, sym, subst}
+use Rattle.pm_facts.specs.Lists.{each_more}
 use Rattle.pm_exit.specs.declared.child.Kind.{Kind}
 use Rattle.pm_worker.specs.declared.mail.MailTold.TheVariants as mail
 use Rattle.pm_worker.specs.Mails.{mail_told, IsFor}
 use Rattle.pm_worker.specs.Runs.{Run, IsRun, noted_by}
-use Rattle.pm_worker.proofs.Loops.{nothing, ran, all_more, Looked}
+use Rattle.pm_worker.proofs.Loops.{nothing, ran, Looked}
 use Rattle.pm_worker.proofs.child.work_off.Goals as goal
 
 pub loop-init : goal.loop-init
@@ -86,7 +87,7 @@ loop-preserved g c =
             worked =
                 ran g.S.Store.notes (g.S.Store.stamp c.args.store.now) tools.seed limit gives g.met.S.Store.in_turn w.runs c.args.post c.loop.post c.start.new.self c.run_child-next.result.0
                 c.args.store.now c.loop.store c.run_child-next.new.store r.0 w.worked looked_ r.1 is r.3;
-            none = all_more (λ (run : Run). run.child.offer.given ≢ mail.Close) w.runs r.0 w.none goes_on;
+            none = each_more (λ (run : Run). run.child.offer.given ≢ mail.Close) w.runs r.0 w.none goes_on;
           };
       next = tt;
       ends = tt;

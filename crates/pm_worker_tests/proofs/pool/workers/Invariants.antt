@@ -1,6 +1,6 @@
 use Rattle.std.proofs.Common.{◌≡◌, All}
 use Rattle.pm_board.specs.declared.views.Work.TheVariants.{Idle}
-use Rattle.pm_worker_tests.specs.Crew.{AllIdle}
+use Rattle.pm_board.specs.Posts.{AllIdle}
 use Rattle.pm_worker_tests.proofs.pool.workers.Given as goal
 
 abbrev pub invariant-loop : goal.invariant-loop

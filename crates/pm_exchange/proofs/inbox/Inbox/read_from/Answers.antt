@@ -1,7 +1,8 @@
 use Rattle.std.proofs.Common.{◌≡◌, ◌≤◌, ◌∙◌, ◌-◌, ◌+◌, ℕ, List, ◌++◌, length, take, drop, ap, arith, length-take, length-drop}
 use Rattle.std.proofs.Math.Seq.{take-append_seam}
 use Rattle.pm_outside.specs.declared.link.Got.TheVariants.{Bytes}
-use Rattle.pm_exchange.proofs.Links.{has_read, stands_behind}
+use Rattle.pm_facts.specs.Lists.{stands_behind}
+use Rattle.pm_exchange.proofs.Links.{has_read}
 use Rattle.pm_exchange.proofs.inbox.Inbox.read_from.Goals as goal
 
 take_front : (n : ℕ) (xs ys : List ℕ) → n ≡ length xs → take n (xs ++ ys) ≡ xs

@@ -1,14 +1,9 @@
-use Rattle.std.proofs.Common.{◌≡◌, ℕ, ◌-◌, List, length, take, drop, arith, length-drop}
-use Rattle.std.proofs.lemmas.List.{take_all}
 use Rattle.pm_exchange.specs.declared.ending.Cause.TheVariants.{Killed}
 use Rattle.pm_life.specs.AttentionLaws.{hears_both, hears_fewer}
+use Rattle.pm_facts.specs.Lists.{rest_of}
 use Rattle.pm_exchange.specs.LinkLaws.{sound_left}
 use Rattle.pm_exchange.proofs.Links.{sends_more, wrote, wrote_sound, write_left}
 use Rattle.pm_exchange.proofs.line.Line.send.Goals as goal
-
--- what is left behind the first n, as the code takes it
-rest_of : (xs : List ℕ) (n : ℕ) → take (length xs - n) (drop n xs) ≡ drop n xs
-rest_of xs n = take_all _ _ (omega (arith, length-drop n xs))
 
 pub loop-rest-preserved : goal.loop-rest-preserved
 loop-rest-preserved g c = record {

@@ -1,5 +1,6 @@
 use Rattle.std.proofs.Common.{◌≡◌, ℕ, ◌<◌, ◌≤◌, [], ◌∙◌, ap, arith, refl, subst, sym}
 use Rattle.std.specs.Prelude.{false, nat_lt}
+use Rattle.pm_facts.specs.Bools.{by_test}
 use Rattle.pm_journal.specs.Standing.{Standing, later}
 use Rattle.pm_journal.specs.Stands.{highest_pid}
 use Rattle.pm_journal.specs.Supervision.{at_work}
@@ -11,7 +12,6 @@ use Rattle.pm_seating.specs.Sitting.{AreReaped}
 use Rattle.pm_postmaster.specs.View.{view_of}
 use Rattle.pm_postmaster.proofs.Asked.{owes_none, owes_same}
 use Rattle.pm_postmaster.proofs.Calling.{IsBeside, asks_line, leaves, leaves_store, same_past, short_line}
-use Rattle.pm_postmaster.proofs.Linking.{by_test}
 use Rattle.pm_postmaster.proofs.Owed.{none_killed}
 use Rattle.pm_postmaster.proofs.Steps.{asked_on, unheeded_on}
 use Rattle.pm_postmaster.proofs.server.Server.heed.Goals as goal

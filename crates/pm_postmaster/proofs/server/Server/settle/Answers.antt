@@ -1,11 +1,8 @@
-use Rattle.std.proofs.Common.{◌≡◌, sym, ◌∙◌}
-use Rattle.std.specs.Prelude.{Bool, false, true}
+use Rattle.std.proofs.Common.{sym, ◌∙◌}
+use Rattle.std.proofs.lemmas.Bool.{both_ways}
 use Rattle.pm_postmaster.specs.View.{view_of}
 use Rattle.pm_postmaster.proofs.Going.{alive_on, none_done}
 use Rattle.pm_postmaster.proofs.server.Server.settle.Goals as goal
-
-deaf_hears : (b : Bool) → b ≡ false → b ≡ true → ⊥
-deaf_hears b deaf hears = let never : false ≡ true = sym deaf ∙ hears in cc
 
 pub acts-init : goal.acts-init
 acts-init g c = record { keeps = none_done g.C.Clock.gives (view_of c.args.self.now); goes_on = c.requires.goes_on; settled = λ was listens. was; reaped = λ n were. were }
@@ -40,6 +37,6 @@ pub acts-preserved : goal.acts-preserved
 acts-preserved g c = record {
   keeps = λ outset was. c.in-Ok.ensures.goes outset (c.in-Ok-false.ensures.goes outset (c.acts.invariant.keeps outset was));
   goes_on = c.in-Ok.ensures.ended;
-  settled = λ was listens. absurd (deaf_hears _ c.ask_owed.ensures.deaf listens);
+  settled = λ was listens. absurd (both_ways _ c.ask_owed.ensures.deaf listens);
   reaped = λ n were. c.ask_owed.ensures.reaped n (c.do_next.ensures.reaped n (c.acts.invariant.reaped n were));
 }

@@ -3,7 +3,7 @@ use Rattle.std.specs.FinMap as map
 use Rattle.std.proofs.lemmas.Int.{to_z-of_z}
 use Rattle.std.proofs.lemmas.Bool.Decides.{nat_tests}
 use Rattle.pm_query.specs.Changes.{size_at}
-use Rattle.pm_query.proofs.Sizes.{size-insert}
+use Rattle.pm_rows.specs.RowLaws.{size-insert}
 use Rattle.pm_query.proofs.draft.Draft.fits.Goals as goal
 
 pub returns : goal.returns

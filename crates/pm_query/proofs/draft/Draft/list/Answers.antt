@@ -3,7 +3,9 @@ use Rattle.std.specs.Ordering.{int_cmp}
 use Rattle.std.specs.FinMap as map
 use Rattle.std.specs.FinMap.{is_sorted, entries_sorted}
 use Rattle.pm_query.specs.Merge.{laid}
-use Rattle.pm_query.proofs.Shown.{true_of, rises, entries-laid_over}
+use Rattle.pm_facts.specs.Bools.{true_of}
+use Rattle.pm_rows.specs.RowLaws.{rises}
+use Rattle.pm_query.proofs.Shown.{entries-laid_over}
 use Rattle.pm_query.proofs.draft.Draft.list.Goals as goal
 
 pub merged-requires : goal.merged-requires

@@ -1,8 +1,14 @@
-use Rattle.std.proofs.Common.{subst, sym}
+use Rattle.std.proofs.Common.{ℕ, List, subst, sym, arith}
+use Rattle.std.specs.Ordering.{int_cmp}
+use Rattle.std.specs.FinMap.{empty, len-empty}
 use Rattle.pm_rows.specs.Limits.{IsWithinRowLimits}
+use Rattle.pm_rows.specs.RowLaws.{size-empty}
 use Rattle.pm_rows.proofs.Entries.{table_empty}
-use Rattle.pm_rows.proofs.RowLaws.{empty_within}
 use Rattle.pm_rows.proofs.rows.Rows.new.Goals as goal
+
+-- no rows are within their limits
+empty_within : IsWithinRowLimits empty
+empty_within = record { few = omega (arith, len-empty int_cmp (List ℕ)); small = omega (arith, size-empty) }
 
 pub returns-clause-none : goal.returns-clause-none
 returns-clause-none c = table_empty c.new.result c.new.ensures.ordered c.new.ensures.empty

@@ -5,10 +5,9 @@ use Rattle.pm_query.specs.declared.book.BookEntry.{BookEntry}
 use Rattle.pm_query.specs.declared.book.BookEntry.TheVariants.{Gone, Opened}
 use Rattle.pm_segment.specs.Moment.{moment_of}
 use Rattle.pm_outside.specs.Added.{Added}
-use Rattle.pm_segment.specs.Moves.{Renews}
 use Rattle.pm_outside.specs.AddedLaws.{added_both}
 use Rattle.pm_segment.proofs.Opens.{short_empty}
-use Rattle.pm_segment.proofs.Renewals.{renewal_is, renews, with_renewal}
+use Rattle.pm_segment.proofs.Renewals.{renews}
 use Rattle.pm_segment.proofs.segment.Segment.renew.Goals as goal
 
 pub invariant_of-self-2 : goal.invariant_of-self-2
@@ -38,11 +37,9 @@ returns-clause-renews g c =
     let two : Added (named others) first second = rw c.deref.ensures.value at c.note_gone-2.ensures.entries in
     let both : Added (named (gone ++ others)) told second =
     subst (λ (l : List BookEntry). Added l told second) (sym (map-append (λ (pid : ℕ). Gone pid) gone others)) (added_both (named gone) (named others) told first second one two) in
-    let all : Added (named (gone ++ others) ++ opened ∷ []) told book_now = added_both (named (gone ++ others)) (opened ∷ []) told second book_now both c.note.ensures.entries in
-    let is = renewal_is (gone ++ others) c.args.generation in (
+    let all : Added (named (gone ++ others) ++ opened ∷ []) told book_now = added_both (named (gone ++ others)) (opened ∷ []) told second book_now both c.note.ensures.entries in (
       others,
       c.in_ok-others.ensures,
-      subst (λ (l : List BookEntry). Renews l at (with_renewal book_now c.args.generation c.new.result c.new-2.result c.new-3.result.commits at)) is
-          (renews c.history_laws.ensures.past c.history_laws.ensures.present at book_now c.args.generation c.new.result c.new-2.result c.new-3.result.commits gone others c.requires c.new.ensures c.in_ok-others.ensures c.new-2.ensures.none (ap (λ (w : Waiting). w.commits) c.new-3.ensures) old.begun
-          (subst (λ (l : List BookEntry). Added l told book_now) (sym is) all)),
+      renews c.history_laws.ensures.past c.history_laws.ensures.present at book_now c.args.generation c.new.result c.new-2.result c.new-3.result.commits gone others c.requires c.new.ensures c.in_ok-others.ensures c.new-2.ensures.none (ap (λ (w : Waiting). w.commits) c.new-3.ensures) old.begun
+          all,
     )

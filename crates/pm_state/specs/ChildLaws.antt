@@ -1,6 +1,8 @@
--- Where no child is counted, none is there.
-use Rattle.std.proofs.Common.{◌≡◌, ◌+◌, List, [], ◌∷◌, refl, arith}
+-- Where no child is counted, none is there; and the states in which none is.
+use Rattle.std.proofs.Common.{◌≡◌, ◌+◌, List, [], ◌∷◌, refl, arith, Bool, true, false}
 use Rattle.pm_exit.specs.declared.child.Kind.{Kind}
+use Rattle.pm_admit.specs.declared.PmState.{PmState}
+use Rattle.pm_admit.specs.declared.PmState.TheVariants as state
 use Rattle.pm_supervisor.specs.Children.{Child, is_session, is_startup_child, is_checkpointer, is_writer, is_dead_end, one_if, count_of}
 
 one_kind : (k : Kind) →
@@ -12,3 +14,9 @@ pub nobody : (cs : List Child) → count_of is_session cs ≡ 0 → count_of is_
     → count_of is_checkpointer cs ≡ 0 → count_of is_writer cs ≡ 0 → cs ≡ []
 nobody [] p q r s t = refl
 nobody (c ∷ cs) p q r s t = absurd (omega (arith, one_kind c.kind))
+
+-- before the first child, and behind the last one
+abbrev pub is_deserted : PmState → Bool
+is_deserted state.Init = true
+is_deserted state.NoChildren = true
+is_deserted _ = false

@@ -1,0 +1,40 @@
+use Rattle.std.proofs.Common.{◌≡◌, ℕ, Some, None, Ok, Result, List, ap, subst, sym, ◌∙◌, refl, rules}
+use Rattle.std.specs.Prelude.{cond, Option}
+use Rattle.pm_exit.specs.declared.child.Kind.TheVariants.{Checkpointer}
+use Rattle.pm_life.specs.Life.{Child}
+use Rattle.pm_query.specs.declared.book.BookEntry.{BookEntry}
+use Rattle.pm_query.specs.declared.store.Checkpointed.{Checkpointed}
+use Rattle.pm_query.specs.declared.store.StoreNo.{StoreNo}
+use Rattle.pm_aux.specs.declared.aux_done.AuxDone.{AuxDone}
+use Rattle.pm_aux.specs.Ends.{fault_by}
+use Rattle.pm_aux.specs.Runs.{NotesBehind}
+use Rattle.pm_segment.specs.Moment.{moment}
+use Rattle.pm_segment.specs.Moves.{Moves}
+use Rattle.pm_quiet.specs.Asked.{asked_told}
+use Rattle.pm_duties.specs.Alone.{made_by}
+use Rattle.pm_duties.specs.AuxiliaryRuns.{CloseNotes, closed_as}
+use Rattle.pm_duties.proofs.Closing.{close_notes, run_closes}
+use Rattle.pm_duties.proofs.Reading.{runner_of}
+use Rattle.pm_duties.proofs.checkpointer.close_at_home.Goals as goal
+
+pub returns-clause-notes : goal.returns-clause-notes
+returns-clause-notes g c =
+    let home = c.args.store.now.generation in
+    let pid = c.args.pid in
+    let life = c.checkpointer-done.new.life in
+    let work = c.checkpointer-done.new.store.work in
+    let run = c.checkpointer-done.ensures.run in
+    let noted = run.0 in
+    let cause = run.2.cause in
+    let gate = run.2.gate in
+    let pid_is : c.new-life.result.pid ≡ pid = ap (λ (child : Child). child.pid) c.new-life.ensures.child in
+    let met = ap (λ (n : ℕ). cond life.has_met (Some (Ok n)) None) (c.requires ∙ sym life.at_home) ∙ run.2.met in
+    let behind = subst (λ (n : ℕ). NotesBehind Checkpointer (runner_of n home) gate cause noted) pid_is run.2.notes in
+    let closes = run_closes pid home cause gate life.has_met life.is_told (asked_told life) noted refl met run.2.told_to behind in
+    let fault_is : c.checkpointer-done.result.fault ≡ fault_by cause = ap (λ (done : AuxDone). done.fault) run.2.done in
+    let notes = close_notes pid home (fault_by cause) work _ _ noted closes run.1.1.done in
+    let by_fault = subst (λ (fault : Option StoreNo). CloseNotes pid home (closed_as (made_by fault work)) noted) (sym fault_is) notes in
+    let told : (entries : List BookEntry) × CloseNotes pid home (closed_as c.made.result) entries × Moves entries (moment c.args.store.now) (moment c.checkpointer-done.new.store.store.now) =
+    (noted, subst (λ (made : Result Checkpointed StoreNo). CloseNotes pid home (closed_as made) noted) (sym c.made.ensures) by_fault, run.1.1.moves)
+    in
+    search rules

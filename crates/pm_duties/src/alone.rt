@@ -1,0 +1,124 @@
+//! A store as one of its children has it that is alone with it: the startup child, or the checkpointer at a shutdown.
+
+ghost use Rattle.std.specs.Prelude.{◌≡◌, Some};
+ghost use Rattle.std.proofs.Common.{◌∙◌, refl};
+ghost use Rattle.pm_segment.specs.Moment.{moment};
+ghost use Rattle.pm_segment.specs.Passes.{Admits, view_of};
+ghost use Rattle.pm_duties.specs.Alone.{Does, made_by, redone_by};
+ghost use Rattle.pm_duties.specs.AloneLaws.{does_nothing, does_on, meets, stays_in};
+
+use pm_disk::Disk;
+use pm_outside::Chronicle;
+use pm_query::{BookEntry, Checkpointed, Seen, Staged, Store, StoreNo};
+use pm_record::RedoFault;
+use pm_segment::{Pass, Sole};
+use pm_sql::Script;
+
+/// The one piece of work that the child is there for, and what it came to.
+#[derive(Clone, Copy, Debug)]
+pub enum Work {
+    /// The log is to be read.
+    ToRead,
+    /// The log was read, or wasn't to be.
+    Redone(Result<u64, StoreNo>),
+    /// The last checkpoint is to be made.
+    ToClose,
+    /// It was made, or wasn't.
+    Made(Result<Checkpointed, StoreNo>),
+}
+
+impl Work {
+    /// What the redo came to of a child that the store refused so, if it did. For one that didn't come in memory was short.
+    pub fn redone(self, fault: Option<StoreNo>) -> Result<u64, StoreNo>
+        ensures { result ≡ redone_by fault self }
+    {
+        match (fault, self) {
+            (Some(StoreNo::NoMemory), _) => Err(StoreNo::NoMemory),
+            (_, Work::Redone(redone)) => redone,
+            _ => Err(StoreNo::NoMemory),
+        }
+    }
+
+    /// What its last checkpoint came to.
+    pub fn made(self, fault: Option<StoreNo>) -> Result<Checkpointed, StoreNo>
+        ensures { result ≡ made_by fault self }
+    {
+        match (fault, self) {
+            (Some(StoreNo::NoMemory), _) => Err(StoreNo::NoMemory),
+            (_, Work::Made(made)) => made,
+            _ => Err(StoreNo::NoMemory),
+        }
+    }
+}
+
+/// The store for one child alone, which remembers what the child's work came to. A second time that isn't done, and whatever else
+/// is asked is refused as for want of memory, with nothing noted. A checkpoint that isn't the last is never due.
+#[derive(Drop)]
+pub struct Alone<'a, D: Disk, B: Chronicle<BookEntry>> {
+    pub store: &'a mut Sole<D, B>,
+    pub work: Work,
+}
+
+impl<'a, D: Disk, B: Chronicle<BookEntry>> Store for Alone<'a, D, B> {
+    type Pass = Pass;
+
+    ghost notes = { λ entries before now. (now.store.ghost_name ≡ before.store.ghost_name)
+        × Does entries before.work now.work (moment before.store.now) (moment now.store.now) };
+
+    ghost admits = { λ alone pass. Admits pass (moment alone.store.now) };
+
+    ghost view = { view_of };
+
+    ghost stamp = { λ alone. Some (moment alone.store.now).generation };
+
+    ghost met = { λ alone. (moment alone.store.now).generation };
+
+    fn enter(&mut self, pid: u32, generation: u32) -> Result<Pass, StoreNo> {
+        self.store.enter(pid, generation)
+    }
+
+    fn run(&mut self, _pass: &mut Pass, _script: &Script) -> Result<Staged, StoreNo> {
+        Err(StoreNo::NoMemory)
+    }
+
+    fn seen(&mut self, _pass: &mut Pass, _front: u64) -> Result<Seen, StoreNo> {
+        Err(StoreNo::NoMemory)
+    }
+
+    fn flush(&mut self, _pass: &mut Pass) -> Result<u64, StoreNo> {
+        Err(StoreNo::NoMemory)
+    }
+
+    fn redo(&mut self, pass: &mut Pass) -> Result<u64, StoreNo> {
+        if !matches!(self.work, Work::ToRead) {
+            return Err(StoreNo::Redo(RedoFault::NoMemory));
+        }
+        let redone = self.store.redo(pass);
+        self.work = Work::Redone(redone);
+        redone
+    }
+
+    fn checkpoint(&mut self, pass: &mut Pass, clean: bool) -> Result<Checkpointed, StoreNo> {
+        if !clean {
+            return Ok(Checkpointed::NotDue { behind: 0 });
+        }
+        if !matches!(self.work, Work::ToClose) {
+            return Err(StoreNo::NoMemory);
+        }
+        let made = self.store.checkpoint(pass, true);
+        self.work = Work::Made(made);
+        made
+    }
+
+    fn leave(&mut self, pass: Pass) {
+        self.store.leave(pass);
+    }
+
+    ghost at_rest = { λ alone. (refl, does_nothing alone.work (moment alone.store.now)) };
+
+    ghost in_turn = { λ before between now first second one two. (two.0 ∙ one.0, does_on first second before.work between.work now.work (moment before.store.now) (moment between.store.now) (moment now.store.now) one.1 two.1) };
+
+    ghost stays = { λ before now entries did. stays_in entries before.work now.work (moment before.store.now) (moment now.store.now) did.1 };
+
+    ghost rises = { λ before now entries did. meets entries before.work now.work (moment before.store.now) (moment now.store.now) did.1 };
+}
