@@ -7,6 +7,7 @@ use Rattle.pm_journal.specs.Standing.{Standing, IsAtRest}
 use Rattle.pm_supervisor.specs.declared.Ending.TheVariants as endings
 use Rattle.pm_state.specs.declared.action.Action.{Action}
 use Rattle.pm_state.specs.declared.action.Action.TheVariants as act
+use Rattle.pm_state.specs.Journal.{last_pid}
 use Rattle.pm_exit.specs.declared.child.Kind.{Kind}
 use Rattle.pm_journal.specs.Roll.{kind_in}
 use Rattle.pm_journal.specs.declared.act.Act.{Act}
@@ -18,7 +19,7 @@ use Rattle.pm_journal.specs.Stands.{IsSettled}
 
 -- the last pid was drawn
 abbrev pub is_last_drawn : ℕ → Bool
-is_last_drawn last_pid = nat_le 2147480000 last_pid
+is_last_drawn pid = nat_le last_pid pid
 
 -- Smart shutdowns alone are asked for: one where the port's end has come, and one where the last pid was drawn.
 pub record AsksAsDue (asked : List Mode) (listens : Bool) (s : Standing) : Type 0 where

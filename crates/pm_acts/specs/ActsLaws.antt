@@ -12,18 +12,16 @@ use Rattle.pm_acts.specs.Acts.{IsPresent, is_last_drawn, AsksAsDue, AreOurs, Kee
 use Rattle.pm_server.specs.Journal.{asked_in, accepted_in}
 use Rattle.pm_supervisor.specs.Children.{one_if}
 use Rattle.pm_modes.specs.declared.Mode.{Mode}
-use Rattle.pm_state.specs.Journal.{without_first}
+use Rattle.pm_state.specs.Journal.{without_first, last_pid}
 use Rattle.pm_supervisor.specs.declared.Ending.TheVariants as endings
+use Rattle.pm_supervisor.specs.CountLaws.{at_most_one}
 use Rattle.pm_lines.specs.Log.{HasSaid, LogView}
 use Rattle.pm_lines.specs.LogLaws.{said_more, said_same}
 use Rattle.pm_state.specs.declared.event.PmEvent.{PmEvent}
 
 -- ---- the children
 
-same_pid : (pid : ℕ) → (pid == pid) ≡ true
-same_pid pid = eq-eqb pid pid refl
-
-other_pid : (pid last : ℕ) → pid ≤ last → (last + 1 == pid) ≡ false
+pub other_pid : (pid last : ℕ) → pid ≤ last → (last + 1 == pid) ≡ false
 other_pid pid last within = ne_eqb (last + 1) pid (λ is. omega (arith, is, within))
 
 -- a child stays
@@ -33,7 +31,7 @@ auxiliary_kept _ s pid k' there = there
 
 -- and one is started
 pub auxiliary_started : (k : Kind) (s : Standing) → IsPresent (Some (next_pid s)) k (done (act.Start k) s)
-auxiliary_started k s = (ap (λ (b : Bool). cond b (Some k) (kind_in (next_pid s) s.children)) (same_pid (next_pid s)), omega arith)
+auxiliary_started k s = (ap (λ (b : Bool). cond b (Some k) (kind_in (next_pid s) s.children)) (eq-eqb (next_pid s) (next_pid s) refl), omega arith)
 
 -- ---- requests
 
@@ -45,54 +43,51 @@ pub not_accepted : (a : Action) (s : Standing) → accepted_in (entry_for a s �
 not_accepted (act.Start k) s = refl
 not_accepted _ s = refl
 
-drawn_test : (last : ℕ) → (last + 1 == 2147480000) ≡ true → one_if (is_last_drawn last) ≡ 0
+drawn_test : (last : ℕ) → (last + 1 == last_pid) ≡ true → one_if (is_last_drawn last) ≡ 0
 drawn_test last is = ap one_if (not_yet last is)
   where
-    not_yet : (last : ℕ) → (last + 1 == 2147480000) ≡ true → nat_le 2147480000 last ≡ false
-    not_yet last is = lt-leb 2147480000 last (omega (arith, eqb-true (last + 1) 2147480000 is))
+    not_yet : (last : ℕ) → (last + 1 == last_pid) ≡ true → nat_le last_pid last ≡ false
+    not_yet last is = lt-leb last_pid last (omega (arith, eqb-true (last + 1) last_pid is))
 
-drawn_now : (last : ℕ) → (last + 1 == 2147480000) ≡ true → one_if (is_last_drawn (last + 1)) ≡ 1
+drawn_now : (last : ℕ) → (last + 1 == last_pid) ≡ true → one_if (is_last_drawn (last + 1)) ≡ 1
 drawn_now last is = ap one_if (it_is last is)
   where
-    it_is : (last : ℕ) → (last + 1 == 2147480000) ≡ true → nat_le 2147480000 (last + 1) ≡ true
-    it_is last is = le-leb 2147480000 (last + 1) (omega (arith, eqb-true (last + 1) 2147480000 is))
+    it_is : (last : ℕ) → (last + 1 == last_pid) ≡ true → nat_le last_pid (last + 1) ≡ true
+    it_is last is = le-leb last_pid (last + 1) (omega (arith, eqb-true (last + 1) last_pid is))
+
+-- it stays drawn
+pub drawn_further : (last : ℕ) → is_last_drawn last ≡ true → is_last_drawn (last + 1) ≡ true
+drawn_further last is = le-leb last_pid (last + 1) (omega (arith, leb-true last_pid last is))
 
 drawn_grows : (last : ℕ) → one_if (is_last_drawn last) ≤ one_if (is_last_drawn (last + 1))
-drawn_grows last = elim (nat_le 2147480000 last) as (λ (b : Bool). nat_le 2147480000 last ≡ b → one_if b ≤ one_if (is_last_drawn (last + 1))) [
-  | true ↦ λ is. subst (λ (b : Bool). 1 ≤ one_if b) (sym (further last is)) (omega arith)
+drawn_grows last = elim (nat_le last_pid last) as (λ (b : Bool). nat_le last_pid last ≡ b → one_if b ≤ one_if (is_last_drawn (last + 1))) [
+  | true ↦ λ is. subst (λ (b : Bool). 1 ≤ one_if b) (sym (drawn_further last is)) (omega arith)
   | false ↦ λ is. omega arith
 ] refl
-  where
-    further : (last : ℕ) → nat_le 2147480000 last ≡ true → nat_le 2147480000 (last + 1) ≡ true
-    further last is = le-leb 2147480000 (last + 1) (omega (arith, leb-true 2147480000 last is))
 
 -- a pid more is drawn
-pub asks_drawn : (asked : List Mode) (listens : Bool) (s t : Standing) → t.last_pid ≡ s.last_pid + 1 → t.owes_smart ≡ (s.owes_smart || (s.last_pid + 1 == 2147480000)) → AsksAsDue asked listens s → AsksAsDue asked listens t
+pub asks_drawn : (asked : List Mode) (listens : Bool) (s t : Standing) → t.last_pid ≡ s.last_pid + 1 → t.owes_smart ≡ (s.owes_smart || (s.last_pid + 1 == last_pid)) → AsksAsDue asked listens s → AsksAsDue asked listens t
 asks_drawn asked listens s t pid owes asks = record {
   smart = asks.smart;
-  few = elim (s.last_pid + 1 == 2147480000) as (λ (b : Bool). (s.last_pid + 1 == 2147480000) ≡ b → length asked + one_if t.owes_smart + one_if listens ≤ 1 + one_if (is_last_drawn t.last_pid)) [
+  few = elim (s.last_pid + 1 == last_pid) as (λ (b : Bool). (s.last_pid + 1 == last_pid) ≡ b → length asked + one_if t.owes_smart + one_if listens ≤ 1 + one_if (is_last_drawn t.last_pid)) [
     | true ↦ λ is. omega (arith, asks.few, drawn_test s.last_pid is, drawn_now s.last_pid is, ap (λ (n : ℕ). one_if (is_last_drawn n)) pid, at_most_one t.owes_smart)
     | false ↦ λ is. omega (arith, asks.few, drawn_grows s.last_pid, ap (λ (n : ℕ). one_if (is_last_drawn n)) pid, ap one_if (owes ∙ ap (λ (b : Bool). s.owes_smart || b) is ∙ or-false s.owes_smart))
   ] refl;
 }
-  where
-    at_most_one : (b : Bool) → one_if b ≤ 1
-    at_most_one true = omega arith
-    at_most_one false = omega arith
 
 pub asks_acted : (a : Action) (s : Standing) (asked : List Mode) (listens : Bool) → AsksAsDue asked listens s → AsksAsDue asked listens (done a s)
 asks_acted (act.Start k) s asked listens asks = asks_drawn asked listens s (done (act.Start k) s) refl refl asks
 asks_acted _ s asked listens asks = record { smart = asks.smart; few = asks.few }
 
 pub drawn_kept : (a : Action) (s : Standing) → is_last_drawn s.last_pid ≡ true → is_last_drawn (done a s).last_pid ≡ true
-drawn_kept (act.Start k) s drawn = le-leb 2147480000 (s.last_pid + 1) (omega (arith, leb-true 2147480000 s.last_pid drawn))
+drawn_kept (act.Start k) s drawn = drawn_further s.last_pid drawn
 drawn_kept _ s drawn = drawn
 
-not_last : (last : ℕ) → nat_le 2147480000 last ≡ true → (last + 1 == 2147480000) ≡ false
-not_last last drawn = ne_eqb (last + 1) 2147480000 (λ is. omega (arith, is, leb-true 2147480000 last drawn))
+not_last : (last : ℕ) → nat_le last_pid last ≡ true → (last + 1 == last_pid) ≡ false
+not_last last drawn = ne_eqb (last + 1) last_pid (λ is. omega (arith, is, leb-true last_pid last drawn))
 
 pub unowed_kept : (a : Action) (s : Standing) → is_last_drawn s.last_pid ≡ true → s.owes_smart ≡ false → (done a s).owes_smart ≡ false
-unowed_kept (act.Start k) s drawn unowed = ap (λ (b : Bool). b || (s.last_pid + 1 == 2147480000)) unowed ∙ not_last s.last_pid drawn
+unowed_kept (act.Start k) s drawn unowed = ap (λ (b : Bool). b || (s.last_pid + 1 == last_pid)) unowed ∙ not_last s.last_pid drawn
 unowed_kept _ s drawn unowed = unowed
 
 -- ---- the acts that are left

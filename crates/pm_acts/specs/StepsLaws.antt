@@ -4,7 +4,8 @@ use Rattle.std.proofs.lemmas.Grind.{flat_map-append}
 use Rattle.std.specs.List.{AllByRecursion}
 use Rattle.std.specs.Prelude.{map, Bool, true, false, if◌then◌else◌}
 use Rattle.pm_facts.specs.Lists.{each_both, each_first, each_second}
-use Rattle.pm_chain.specs.Steps.{Step, journal_by, journal_of, book_by, book_of, ChildRun, Notes, Renews, Runs, RunsOn, IsWorkOf, IsRunOf, AreStepsBehind}
+use Rattle.pm_chain.specs.Steps.{Step, journal_of, book_by, book_of, ChildRun, Notes, Renews, Runs, RunsOn, IsWorkOf, IsRunOf, AreStepsBehind}
+use Rattle.pm_chain.specs.FoldsLaws.{journal-append}
 use Rattle.pm_acts.specs.Steps.{session_by, sessions_in, ServesNone, IsNoRenewal}
 use Rattle.pm_journal.specs.declared.supervision.Taken.{Taken}
 use Rattle.pm_server.specs.Journal.{accepted_in}
@@ -13,9 +14,6 @@ use Rattle.pm_query.specs.declared.book.BookEntry.TheVariants.{Opened, Gone, Att
 use Rattle.pm_server.specs.Story.{IsNoOpening}
 use Rattle.pm_query.specs.declared.book.BookEntry.{BookEntry}
 use Rattle.pm_supervisor.specs.declared.Limits.{Limits}
-
-pub journal-append : (one two : List Step) → journal_of (one ++ two) ≡ journal_of one ++ journal_of two
-journal-append one two = flat_map-append journal_by one two
 
 pub book-append : (one two : List Step) → book_of (one ++ two) ≡ book_of one ++ book_of two
 book-append one two = flat_map-append book_by one two

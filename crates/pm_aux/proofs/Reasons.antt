@@ -1,5 +1,6 @@
 -- Why a child comes to its end, and that it heeds what it was told.
 use Rattle.std.proofs.Common.{◌≡◌, ◌≢◌, inl, inr, ℕ, Bool, true, false, IsTrue, List, [], Option, None, Some, IfSome, Result, Ok, Err, refl, sym, ◌∙◌, subst}
+use Rattle.std.proofs.lemmas.Bool.{true≢false}
 use Rattle.pm_exit.specs.declared.child.Kind.{Kind}
 use Rattle.pm_exit.specs.declared.child.Kind.TheVariants as kinds
 use Rattle.pm_supervisor.specs.declared.Reason.{Reason}
@@ -18,9 +19,6 @@ use Rattle.pm_aux.specs.Signals.{ends_by, ends_of, IsToldTo, EndsAtOnce, HeedsTe
 use Rattle.pm_aux.specs.Work.{GoesOn, NotesInside}
 use Rattle.pm_aux.specs.Runs.{Runner, runner, user_in, at_end, EndsOutside, NotesBehind, MayBeShort, IsRunOf}
 use Rattle.pm_aux.proofs.Listening.{Tells, tells_asked, tells_met}
-
-true_false : true ≡ false → ⊥
-true_false e = cc
 
 -- ---- what ends a child at once
 
@@ -81,7 +79,7 @@ hurried kinds.DeadEnd at is attentive = absurd is
 -- ---- what was heeded
 
 not_killed : (standing : Standing) (told : Told) → Stands standing told → standing.kill ≡ false → was_told Kill told → ⊥
-not_killed standing told stands none has = true_false (sym (stands.kill.1 has) ∙ none)
+not_killed standing told stands none has = true≢false (sym (stands.kill.1 has) ∙ none)
 
 not_quit : (standing : Standing) (told : Told) → Stands standing told → standing.quit ≡ None → (reason : Reason) → was_told (Quit reason) told → ⊥
 not_quit standing told stands none reason has = stands.quits reason has none
@@ -213,7 +211,7 @@ goes_on kind cause standing goes = λ t s h. goes_on_heeds kind cause goes
 
 -- where no Terminate stands, none was told
 pub unterminated : (kind : Kind) (cause : Cause) (standing : Standing) → standing.terminate ≡ false → HeedsItsEnd kind cause standing
-unterminated kind cause standing none = λ t s h. absurd (true_false (sym (s.terminate.1 h) ∙ none))
+unterminated kind cause standing none = λ t s h. absurd (true≢false (sym (s.terminate.1 h) ∙ none))
 
 calm_stands : (cause : Cause) (standing : Standing) (who : Runner) (generation : ℕ) (noted : List BookEntry) → NotesInside kinds.Startup (user_in who generation) cause noted → ends_of standing ≡ None → StandsAt cause standing
 calm_stands (Redone kept) standing who generation noted notes none = none

@@ -5,6 +5,7 @@ use Rattle.std.specs.List.{AllByRecursion, fold}
 use Rattle.std.proofs.lemmas.List.Elements.{All-contains, All-from_recursion}
 use Rattle.std.proofs.lemmas.Bool.{eq-eqb}
 use Rattle.pm_facts.specs.Lists.{each_both}
+use Rattle.pm_facts.specs.Numbers.{above_zero}
 use Rattle.pm_supervisor.specs.declared.Reason.{Reason}
 use Rattle.pm_supervisor.specs.declared.Reason.TheVariants.{Crash, Stop}
 use Rattle.pm_life.specs.declared.life.Signals.{Signals}
@@ -107,13 +108,9 @@ none_told n gives (s ∷ answers) told none so_far =
     none_told n gives answers (asked_again s told) parts.1
     (each_both (λ x. IsOther n x.1) told.given (map (λ signal. ((asked_again s told).asked, signal)) (signals_in s)) so_far (numbered_none n (asked_again s told).asked (signals_in s) (gives s parts.0)))
 
-above : (n : ℕ) → (n ≡ 0 → ⊥) → 0 < n
-above zero not_none = absurd (not_none refl)
-above (suc n) not_none = omega arith
-
 given : (signal : Signal) → GivesNone (number_of signal) → (heard : Heard) (cancel : Option (ℕ × ℕ)) → was_told signal (told_by heard cancel) → 0 < times_given (number_of signal) heard.given
 given signal gives heard cancel told =
-    above (times_given (number_of signal) heard.given) (λ none.
+    above_zero (times_given (number_of signal) heard.given) (λ none.
     let other : IsOther (number_of signal) signal =
     All-contains (λ x. IsOther (number_of signal) x.1) (told_by heard cancel).given (told.0, signal)
     (All-from_recursion (λ x. IsOther (number_of signal) x.1) (told_by heard cancel).given (none_told (number_of signal) gives heard.given nothing_told none tt)) told.1 in

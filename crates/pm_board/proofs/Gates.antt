@@ -1,7 +1,7 @@
 -- What stays of the gate when one slot moves.
 use Rattle.std.proofs.Common.{◌≡◌, ℕ, zero, suc, ◌+◌, ◌<◌, ◌≤◌, ◌==◌, List, [], ◌∷◌, ◌++◌, get_or, set, refl, sym, ap, ◌∙◌, subst, arith, eq-eqb, get_or-set_other}
 use Rattle.std.specs.Prelude.{Bool, true, false, ◌&&◌}
-use Rattle.pm_facts.specs.Numbers.{sum_below, sum_same}
+use Rattle.pm_facts.specs.Numbers.{sum_below, sum_same, sum_zero}
 use Rattle.pm_exit.specs.declared.child.Kind.{Kind}
 use Rattle.pm_exit.specs.declared.child.Status.{Status}
 use Rattle.pm_supervisor.specs.Children.{is_session}
@@ -16,10 +16,6 @@ use Rattle.pm_board.specs.Places.{is_auxiliary, lost}
 use Rattle.pm_board.specs.Gate.{Gate, gate_packed, at_gate, attached, counted, staying, IsCurrent, AllUpTo, InGeneration, AuxiliaryOnce, GateOk, first_gate}
 use Rattle.pm_board.specs.Rule.{Phase, unused, offered, running, ended, OfLiving, Cell, put, at_put, idle_post}
 use Rattle.pm_board.specs.Told.{MayEnd, post_view, with_notes, past_child}
-
-pub sum_zero : (n : ℕ) (f : ℕ → ℕ) → ((k : ℕ) → k < n → f k ≡ 0) → sum_below n f ≡ 0
-sum_zero zero f h = refl
-sum_zero (suc n) f h = let a : sum_below n f ≡ 0 = sum_zero n f (λ k l. h k (omega arith)) in let b : f n ≡ 0 = h n (omega arith) in omega arith
 
 module _ {D : Type 0} where
   pub lost-append : (test : Kind → Bool) (g : ℕ) (xs : List (PastChild D)) (x : PastChild D) → lost test g (xs ++ x ∷ []) ≡ lost test g xs + bit (x.was_active && ((x.offer.generation == g) && test x.offer.kind))

@@ -1,6 +1,6 @@
 -- Each step at the gate keeps the rule.
 use Rattle.std.proofs.Common.{◌≡◌, ℕ, zero, suc, ◌+◌, ◌-◌, ◌*◌, ◌%◌, ◌^◌, ◌<◌, ◌≤◌, List, [], ◌∷◌, ◌++◌, length, get_or, sym, refl, ap, ◌∙◌, subst, arith, get_or-set_same}
-use Rattle.std.proofs.Math.Nat.{mod-eq_of_lt}
+use Rattle.std.proofs.Math.Nat.{mod-eq_of_lt, zero-add}
 use native.Mathlib.Nat.{add-mod_right}
 use mathlib.Core.Logic.{dite}
 use mathlib.Core.Option.{none, some}
@@ -10,7 +10,7 @@ use Rattle.std.specs.List.{Contains}
 use Rattle.std.specs.Prelude.{Bool, true, false, nat_lt, not, if◌then◌else◌, Option, Some, None, Result, Ok, Err, IsSomeAnd}
 use Rattle.std.proofs.lemmas.Bool.{ltb-true}
 use Rattle.atomic_table.specs.Table.{step, Act, keeps, Valid, stepped, carried_after, Allows}
-use Rattle.pm_facts.specs.Numbers.{sum_below}
+use Rattle.pm_facts.specs.Numbers.{sum_below, sum_zero}
 use Rattle.pm_exit.specs.declared.child.Kind.{Kind}
 use Rattle.pm_exit.specs.declared.child.Kind.TheVariants as kind
 use Rattle.pm_exit.specs.declared.child.Status.TheVariants.{Code}
@@ -46,7 +46,7 @@ use Rattle.pm_board.specs.History.{living, Kept}
 use Rattle.pm_board.specs.Told.{Seated, post_view, tried, tried_by, detached, after_step, MayQuit, quit_step, ready_step, new_gate, Marks, Unmarks, Tries, BacksOut, Detaches, Quits, Readies, Resets}
 use Rattle.pm_board.proofs.Bits.{bit_small, packed_small}
 use Rattle.pm_board.proofs.Moves.{rebased, worker_step, word_step, word_turn, St}
-use Rattle.pm_board.proofs.Gates.{sum_zero, uncounted_by, gate_moves, once_still}
+use Rattle.pm_board.proofs.Gates.{uncounted_by, gate_moves, once_still}
 use Rattle.pm_board.proofs.Counts.{sum_within, notice_small, place_is, up_to_more, none_lost, attached_within, count_moves, Reads, reads}
 use Rattle.pm_board.proofs.Latches.{at_last, noticed_now, quit_is_no_release, ready_is_no_release, reset_is_no_release, hears_met, latch_here, latches_still, latches_turn}
 use Rattle.pm_board.proofs.Seats.{seats_step, seats_still}
@@ -56,9 +56,6 @@ use Rattle.pm_board.proofs.Keeps.{grown, fits_for, at_phase, placed_as, owned, d
 
 less : (x a y : ℕ) → x ≡ y + a → a ≤ 18446744073709551616 → x < 18446744073709551616 → (x + (2 ^ 64 - a)) % 2 ^ 64 ≡ y
 less x a y e small h = let s : x + (2 ^ 64 - a) ≡ y + 2 ^ 64 = omega arith in ap (λ (z : ℕ). z % 2 ^ 64) s ∙ (add-mod_right y (2 ^ 64) ∙ (let l : y < 2 ^ 64 = omega arith in mod-eq_of_lt l))
-
-plain : (t : ℕ) → t ≡ 0 + t
-plain t = omega arith
 
 -- who is let in met no notice, and a session met an open gate and room
 let_in : (b : Bool) (limit word : ℕ) (q : Option Reason) (h : ℕ) → answer_to b limit q word ≡ Ok h → (q ≡ None) × (h ≡ generation_in word) × (b ≡ true → (open_in word ≡ true) × (sessions_in word < limit))
@@ -271,7 +268,7 @@ module _ {J D : Type 0} (letter : Letter.Ghosts J D) where
         (λ j. let z : attached is_session (r.2 j).post.work ≤ at_gate is_session (r.2 j).post.work = attached_within is_session (r.2 j).post.work in let l : ℕ = lost is_session r.1.generation (r.2 j).post.past in omega arith) in
         let met : sessions_in word ≡ N = it.sessions_found ∙ it.sessions_is in
         let S' : ℕ = sum_below (child_slots (length s.homes)) (λ j. staying is_session r.1.generation (put r.2 k (cell s r id k o w w' mine.0 mine.2 refl) j).post) in
-        let grows : S' ≡ S + bit (is_session o.kind) = stays s r id k o w w' mine.0 mine.2 refl is_session r.1.generation (bit (is_session o.kind)) (plain (bit (is_session o.kind))) in
+        let grows : S' ≡ S + bit (is_session o.kind) = stays s r id k o w w' mine.0 mine.2 refl is_session r.1.generation (bit (is_session o.kind)) (sym (zero-add (bit (is_session o.kind)))) in
         let under : S ≤ limit = r.4.few in
         let few : (b : Bool) → is_session o.kind ≡ b → S' ≤ limit = (λ b. few_of b S S' N (sessions_in word) limit notes.session_limit (is_session o.kind) grows under inside met lim (λ is. (may.2 is).1)) in
         let shut : (b : Bool) → is_session o.kind ≡ b → r.1.is_open ≡ false → S' ≡ 0 = (λ b. shut_of b S S' (is_session o.kind) (open_in word) r.1.is_open grows it.open_found r.4.shut (λ is. (may.2 is).0)) in
@@ -286,7 +283,7 @@ module _ {J D : Type 0} (letter : Letter.Ghosts J D) where
               record { shows = ok.shows; fits = ok.fits; seen = ok.seen; does = (refl, refl); lists = ok.lists; there = ok.there; there_is = ok.there_is; mail = tt }
               (placed_as letter limit _ _ _ _ (running o true) e (r.3.each_child k mine.0))) refl
               (subst (λ (z : ℕ). GateOk limit (child_slots (length s.homes)) z (gate_of r.1) (put r.2 k (cell s r id k o w w' mine.0 mine.2 refl))) (sym (get_or-set_same s.words (child_slots (length s.homes)) ((word + place_of (is_session o.kind)) % 2 ^ 64) 0 (let wide : length s.words ≡ 3 * child_slots (length s.homes) + 1 = r.3.wide in omega arith)))
-              (takes_place s r id k o w w' mine.0 mine.2 refl e lives_ refl (λ test. plain (bit (test o.kind))) (may.1 ∙ it.generation_found, lives_) (few (is_session o.kind) refl) (shut (is_session o.kind) refl)))
+              (takes_place s r id k o w w' mine.0 mine.2 refl e lives_ refl (λ test. sym (zero-add (bit (test o.kind)))) (may.1 ∙ it.generation_found, lives_) (few (is_session o.kind) refl) (shut (is_session o.kind) refl)))
               (passes letter limit s r.0 r.1 r.2 r.3 st k mine.0 o true (Active o) (cell s r id k o w w' mine.0 mine.2 refl) (shared.Attach o.pid) (post_step.Attach o.pid) e (ap (λ (z : PostView D). z.work) mine.2) refl refl
               (subst (λ z. IsSomeAnd z (shared.MayAttach limit st.1)) (sym known.0) (refl, lives_, st.3.noticed ∙ (sym it.notice_found ∙ may.0), λ is. let m = may.2 is in let room : sessions_in word < notes.session_limit = m.1 in (st.3.is_open ∙ (sym it.open_found ∙ m.0), omega arith)))
               refl refl refl refl (ap (λ z. z ++ post_step.Attach o.pid ∷ []) (sym (ap (λ (z : PostView D). z.notes.steps) mine.2))) (sym (ap (λ (z : PostView D). z.past) mine.2)))
@@ -311,7 +308,7 @@ module _ {J D : Type 0} (letter : Letter.Ghosts J D) where
               record { shows = ok.shows; fits = ok.fits; seen = ok.seen; does = (refl, refl); lists = ok.lists; there = ok.there; there_is = ok.there_is; mail = tt }
               (placed_as letter limit _ _ _ _ (running o true) e (r.3.each_child k mine.0))) refl
               (subst (λ (z : ℕ). GateOk limit (child_slots (length s.homes)) z (gate_of r.1) (put r.2 k (cell s r id k o w w' mine.0 mine.2 refl))) (sym (get_or-set_same s.words (child_slots (length s.homes)) ((word + place_of (is_session o.kind)) % 2 ^ 64) 0 (let wide : length s.words ≡ 3 * child_slots (length s.homes) + 1 = r.3.wide in omega arith)))
-              (takes_place s r id k o w w' mine.0 mine.2 refl e lives_ refl (λ test. plain (bit (test o.kind))) (it.generation_found, lives_) (omega arith) (λ shut. let z : S ≡ 0 = r.4.shut shut in omega arith)))
+              (takes_place s r id k o w w' mine.0 mine.2 refl e lives_ refl (λ test. sym (zero-add (bit (test o.kind)))) (it.generation_found, lives_) (omega arith) (λ shut. let z : S ≡ 0 = r.4.shut shut in omega arith)))
               (quiet limit r.1 r.1 r.2 (child_slots (length s.homes)) k (cell s r id k o w w' mine.0 mine.2 refl) (running o true) (Active o) refl refl refl refl (λ _ z. z) mine.0 e (ap (λ (z : PostView D). z.work) mine.2) (sym (ap (λ (z : PostView D). z.notes.steps) mine.2)) (sym (ap (λ (z : PostView D). z.past) mine.2)) refl (λ _ z. z) r.5)
               (let l = latch_here _ _ _ _ _ (r.2 k) (running o true) w e mine.2 (r.6.each k mine.0) in let near : k < child_slots (length s.homes) = mine.0 in latches_still _ k (child_slots (length s.homes)) _ s.words r.1 _ r.2 _ (omega arith, omega arith) (ap (λ (z : PostView D). z.notes.cancels) (sym mine.2)) refl refl refl refl record { armed = l.armed; fits = l.fits; standing = l.standing; cancel_is = l.cancel_is; now = hears_met _ _ _ _ _ notes.now (Err refusal) l.now (λ h' why is. told_notice h' why is l.unreleased) (λ q is. absurd (cc)); past = l.past; unreleased = l.unreleased; named = l.named; keyed = l.keyed; reaches = l.reaches; calls = l.calls } r.6) (seats_step id k s.views r.1 r.2 _ _ _ at (r.3.each_seat id _ at) r.7),
           λ o' does. let both : Active o ≡ Active o' = does in let oe : o ≡ o' = cc in
@@ -337,7 +334,7 @@ module _ {J D : Type 0} (letter : Letter.Ghosts J D) where
               record { shows = ok.shows; fits = ok.fits; seen = ok.seen; does = (refl, refl); lists = ok.lists; there = ok.there; there_is = ok.there_is; mail = tt }
               (placed_as letter limit _ _ _ _ (running o true) e (r.3.each_child k mine.0))) refl
               (subst (λ (z : ℕ). GateOk limit (child_slots (length s.homes)) z (gate_of r.1) (put r.2 k (cell s r id k o w w' mine.0 mine.2 refl))) (sym (get_or-set_same s.words (child_slots (length s.homes)) ((word + (2 ^ 64 - place_of (is_session o.kind))) % 2 ^ 64) 0 (let wide : length s.words ≡ 3 * child_slots (length s.homes) + 1 = r.3.wide in omega arith)))
-              (gives_place s r id k o w w' mine.0 mine.2 refl e lives_ refl (λ test. plain (bit (test o.kind))) (omega arith) tt full))
+              (gives_place s r id k o w w' mine.0 mine.2 refl e lives_ refl (λ test. sym (zero-add (bit (test o.kind)))) (omega arith) tt full))
               (quiet limit r.1 r.1 r.2 (child_slots (length s.homes)) k (cell s r id k o w w' mine.0 mine.2 refl) (running o true) (Refused o g) refl refl refl refl (λ _ z. z) mine.0 e (ap (λ (z : PostView D). z.work) mine.2) (sym (ap (λ (z : PostView D). z.notes.steps) mine.2)) (sym (ap (λ (z : PostView D). z.past) mine.2)) refl (λ _ z. z) r.5)
               (let l = latch_here _ _ _ _ _ (r.2 k) (running o true) w e mine.2 (r.6.each k mine.0) in let near : k < child_slots (length s.homes) = mine.0 in latches_still _ k (child_slots (length s.homes)) _ s.words r.1 _ r.2 _ (omega arith, omega arith) (ap (λ (z : PostView D). z.notes.cancels) (sym mine.2)) refl refl refl refl record { armed = l.armed; fits = l.fits; standing = l.standing; cancel_is = l.cancel_is; now = l.now; past = l.past; unreleased = l.unreleased; named = l.named; keyed = l.keyed; reaches = l.reaches; calls = l.calls } r.6) (seats_step id k s.views r.1 r.2 _ _ _ at (r.3.each_seat id _ at) r.7),
           λ o' g' does. let both : Refused o g ≡ Refused o' g' = does in let oe : o ≡ o' = cc in λ i. (Worker k (post_view notes past (Active (oe i))), c),
@@ -363,7 +360,7 @@ module _ {J D : Type 0} (letter : Letter.Ghosts J D) where
               record { shows = ok.shows; fits = ok.fits; seen = ok.seen; does = (refl, refl); lists = ok.lists; there = ok.there; there_is = ok.there_is; mail = tt }
               (placed_as letter limit _ _ _ _ (running o true) e (r.3.each_child k mine.0))) refl
               (subst (λ (z : ℕ). GateOk limit (child_slots (length s.homes)) z (gate_of r.1) (put r.2 k (cell s r id k o w w' mine.0 mine.2 refl))) (sym (get_or-set_same s.words (child_slots (length s.homes)) ((word + (2 ^ 64 - place_of (is_session o.kind))) % 2 ^ 64) 0 (let wide : length s.words ≡ 3 * child_slots (length s.homes) + 1 = r.3.wide in omega arith)))
-              (gives_place s r id k o w w' mine.0 mine.2 refl e lives_ refl (λ test. plain (bit (test o.kind))) (omega arith) tt full))
+              (gives_place s r id k o w w' mine.0 mine.2 refl e lives_ refl (λ test. sym (zero-add (bit (test o.kind)))) (omega arith) tt full))
               (passes letter limit s r.0 r.1 r.2 r.3 r.5 k mine.0 o false (Attached o g) (cell s r id k o w w' mine.0 mine.2 refl) (shared.Detach o.pid) (post_step.Detach o.pid) e (ap (λ (z : PostView D). z.work) mine.2) refl refl
               (subst (λ z. IsSomeAnd z (λ (x : Child). x.attached ≡ true)) (sym known.0) refl)
               refl refl refl refl (ap (λ z. z ++ post_step.Detach o.pid ∷ []) (sym (ap (λ (z : PostView D). z.notes.steps) mine.2))) (sym (ap (λ (z : PostView D). z.past) mine.2)))

@@ -11,6 +11,7 @@ use Rattle.pm_supervisor.specs.declared.Reason.{Reason}
 use Rattle.pm_supervisor.specs.Children.{Child, is_session, is_startup_child, child_of, without, marked, one_if, count_of, attached_sessions}
 use Rattle.pm_supervisor.specs.Supervisor.{Shared}
 use Rattle.pm_supervisor.specs.Shared.{SharedEvent, Notice, Open, Reset, Allows, after_shared}
+use Rattle.pm_supervisor.specs.CountLaws.{at_most_one}
 use Rattle.pm_board.specs.Slots.{child_slots}
 use Rattle.pm_board.specs.declared.views.Letter as Letter
 use Rattle.pm_board.specs.declared.views.Offer.{Offer}
@@ -86,13 +87,9 @@ attached_none : (cs : List Child) → AllByRecursion (λ c. (is_session c.kind &
 attached_none [] all = refl
 attached_none (c ∷ cs) all = let z : one_if (is_session c.kind && c.attached) ≡ 0 = ap one_if all.0 in let h : attached_sessions cs ≡ 0 = attached_none cs all.1 in omega arith
 
-one_small : (b : Bool) → one_if b ≤ 1
-one_small true = omega arith
-one_small false = omega arith
-
 attached_but_one : (p : ℕ) (cs : List Child) → attached_sessions cs ≤ attached_sessions (without p cs) + 1
 attached_but_one p [] = omega arith
-attached_but_one p (c ∷ cs) = let b : one_if (is_session c.kind && c.attached) ≤ 1 = one_small (is_session c.kind && c.attached) in dite (ℕ_discrete c.pid p)
+attached_but_one p (c ∷ cs) = let b : one_if (is_session c.kind && c.attached) ≤ 1 = at_most_one (is_session c.kind && c.attached) in dite (ℕ_discrete c.pid p)
     (λ is. let e : attached_sessions (without p (c ∷ cs)) ≡ attached_sessions cs = ap attached_sessions (without_hit p c cs is) in omega arith)
     (λ no. let e : attached_sessions (without p (c ∷ cs)) ≡ one_if (is_session c.kind && c.attached) + attached_sessions (without p cs) = ap attached_sessions (without_miss p c cs no) in
     let h : attached_sessions cs ≤ attached_sessions (without p cs) + 1 = attached_but_one p cs in omega arith)

@@ -5,6 +5,7 @@ use mathlib.Core.Option.{none}
 use mathlib.Core.Logic.{dite}
 use native.Mathlib.Decide.{ℕ_discrete}
 use Rattle.std.specs.Prelude.{Bool, true, false, Option, Some, None, Result, Ok, Err, replicate, slice_get, eqb, max, bit_or, bit_and}
+use Rattle.std.proofs.lemmas.Option.{same_Some}
 use prog.Atomic.{either}
 use Rattle.atomic_table.specs.Table.{step, rest, opening, Allows, Joins, Splits}
 use Rattle.atomic_table.specs.Seated.{TableId}
@@ -47,6 +48,7 @@ use Rattle.pm_board.proofs.Children.{children_same}
 use Rattle.pm_board.proofs.Keeps as keep
 use Rattle.pm_board.proofs.Gating as gate
 use Rattle.pm_board.proofs.Latching as latch
+use Rattle.pm_board.specs.BoardLaws.{bit_small}
 
 pub used_none : (D : Type 0) (n : ℕ) → used_in (replicate n (slot_view {D = D} [] Unused)) ≡ 0
 used_none D zero = refl
@@ -95,11 +97,7 @@ module _ {D : Type 0} where
 
   pub used_few : (xs : List (SlotView D)) → used_in xs ≤ length xs
   used_few [] = omega arith
-  used_few (y ∷ ys) = let h : used_in ys ≤ length ys = used_few ys in let b : bit (is_used y.sight) ≤ 1 = one (is_used y.sight) in omega arith
-    where
-      one : (b : Bool) → bit b ≤ 1
-      one true = omega arith
-      one false = omega arith
+  used_few (y ∷ ys) = let h : used_in ys ≤ length ys = used_few ys in let b : bit (is_used y.sight) ≤ 1 = bit_small (is_used y.sight) in omega arith
 
 -- the words of a new board of n slots
 abbrev pub new_words : ℕ → List ℕ
@@ -361,13 +359,10 @@ module _ {D : Type 0} where
 pub one_less : (a b c : ℕ) → a ≡ c → b + 1 ≡ c → a - 1 ≡ b
 one_less a b c e h = omega arith
 
-pub some_is : {J : Type 0} (x y : J) → Some x ≡ Some y → x ≡ y
-some_is x y e = cc
-
 -- each post has its number, and one more
 module _ {A : Type 0} where
   last_or_before : (l : List A) (a b : A) (k : ℕ) → slice_get (l ++ a ∷ []) k ≡ Some b → (slice_get l k ≡ Some b) ⊎ ((k ≡ length l) × (a ≡ b))
-  last_or_before [] a b zero e = inr (refl, some_is a b e)
+  last_or_before [] a b zero e = inr (refl, same_Some a b e)
   last_or_before [] a b (suc k) e = absurd (cc)
   last_or_before (x ∷ xs) a b zero e = inl e
   last_or_before (x ∷ xs) a b (suc k) e = ⊎_elim (λ t. inl t) (λ (t : (k ≡ length xs) × (a ≡ b)). inr (ap suc t.0, t.1)) (last_or_before xs a b k e)

@@ -13,11 +13,11 @@ use Rattle.pm_query.specs.declared.book.BookEntry.{BookEntry}
 use Rattle.pm_query.specs.declared.book.BookEntry.TheVariants as entry
 use Rattle.pm_chain.specs.Chain.{AreDistinct, AttachOnce, GoneWereLost, InGeneration, IsAmong, IsChained, IsPidOf, Redo, RedosEnd, UsersWereStarted, attached_of, exits_of, gone_from, kept_of, lost_from, opened_of, redo_ends_of, redos_of, resets_of, users_from, generation_in, lost_since, gone_since}
 use Rattle.pm_chain.specs.Steps.{ChildRun, IsRunOf, IsThere, MayFollow, MayStep, Notes, Renews, Runs, RunsOn, StandsByItself, Step, AreSteps, AreStepsBehind, book_by, journal_by, journal_of, lost_after, lost_in, redo_end, replay_of, whole_book}
-use Rattle.pm_chain.specs.FoldsLaws.{attached-append, exits-append, gone-append, gone_since-append, kept-append, lost-append, lost_since-append, opened-append, redo_ends-append, redos-append, resets-append, users-append}
-use Rattle.pm_chain.proofs.Lists.{all_map, among_left, among_right, attach_one_more, distinct_one_more, gone_were_lost, of_pid, pid_left, pid_right}
+use Rattle.pm_chain.specs.FoldsLaws.{attached-append, exits-append, gone-append, gone_since-append, kept-append, lost-append, lost_since-append, opened-append, redo_ends-append, redos-append, resets-append, users-append, journal-append, pid_left, pid_right}
+use Rattle.pm_chain.proofs.Lists.{all_map, among_left, among_right, attach_one_more, distinct_one_more, gone_were_lost, of_pid}
 use Rattle.pm_chain.proofs.Replays.{Found, Known, child_in, found, known, told_by}
 use Rattle.pm_chain.proofs.Runs.{AddsRenewal, AddsRun, EndsRedo, IsToldBy, adds-renewal, adds-run, ends-redo, redo-ended, run_in, told-among}
-use Rattle.pm_chain.proofs.StepLists.{book-one_more, journal-append, journal-one_more, last-one_more, lost-one_more}
+use Rattle.pm_chain.proofs.StepLists.{book-one_more, journal-one_more, last-one_more, lost-one_more}
 
 -- ---- between a reset and its renewal
 

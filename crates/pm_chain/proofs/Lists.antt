@@ -25,18 +25,6 @@ pub among_right : (x : InGeneration) (ys zs : List InGeneration) → IsAmong x z
 among_right x [] zs is = is
 among_right x (y ∷ ys) zs is = inr (among_right x ys zs is)
 
-pub pid_left : (pid : ℕ) (ys zs : List ℕ) → IsPidOf pid ys → IsPidOf pid (ys ++ zs)
-pid_left pid [] zs is = absurd is
-pid_left pid (y ∷ ys) zs is =
-    elim is [
-      | inl same ↦ inl same
-      | inr later ↦ inr (pid_left pid ys zs later)
-    ]
-
-pub pid_right : (pid : ℕ) (ys zs : List ℕ) → IsPidOf pid zs → IsPidOf pid (ys ++ zs)
-pid_right pid [] zs is = is
-pid_right pid (y ∷ ys) zs is = inr (pid_right pid ys zs is)
-
 -- what holds of each pid holds of one of them
 pub of_pid : (P : ℕ → Type 0) (pid : ℕ) (ys : List ℕ) → AllByRecursion P ys → IsPidOf pid ys → (other : ℕ) × (pid ≡ other) × P other
 of_pid P pid [] all is = absurd is

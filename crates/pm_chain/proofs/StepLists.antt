@@ -17,9 +17,6 @@ journal-one_more before step = one_more journal_by before step
 pub book-one_more : (before : List Step) (step : Step) → whole_book (before ++ step ∷ []) ≡ whole_book before ++ book_by step
 book-one_more before step = ap (λ (l : List BookEntry). entry.Opened 1 ∷ l) (one_more book_by before step)
 
-pub journal-append : (before steps : List Step) → journal_of (before ++ steps) ≡ journal_of before ++ journal_of steps
-journal-append before steps = flat_map-append journal_by before steps
-
 pub lost-one_more : (before : List Step) (step : Step) → lost_in (before ++ step ∷ []) ≡ lost_after (lost_in before) step
 lost-one_more before step = fold-append lost_after [] before (step ∷ [])
 

@@ -1,5 +1,7 @@
 -- Why the worked steps are steps of the worked chains.
-use Rattle.std.proofs.Common.{◌≡◌, ◌≤◌, ◌<◌, ◌+◌, ℕ, true, false, [], ◌∷◌, refl, inl, inr, arith}
+use Rattle.std.proofs.Common.{◌≡◌, ◌<◌, ℕ, true, false, [], ◌∷◌, refl, inl, inr, arith}
+use Rattle.std.proofs.Math.Nat.{le-add_right}
+use Rattle.pm_facts.specs.Bools.{absurd_true}
 use Rattle.pm_exit.specs.declared.child.Kind.{Kind}
 use Rattle.pm_exit.specs.declared.child.Kind.TheVariants as kind
 use Rattle.pm_exit.specs.declared.child.Status.{Status}
@@ -45,22 +47,15 @@ is-failing =
 
 -- ---- steps
 
-later : (a more : ℕ) → a ≤ a + more
-later a more = omega arith
-
 room : 0 < 4
 room = omega arith
-
--- no smart shutdown is owed
-none : {T : Type 0} → false ≡ true → T
-none is = absurd cc
 
 clean-legal : IsLegal limits any_moment clean_journal
 unfolding settled row_of crash_rule startup_exited start_recovery restart_writer end_smart stop_backends backends_gone dead_ends_gone children_gone
 clean-legal = (
-  (refl, none, (refl, refl)),
+  (refl, absurd_true, (refl, refl)),
   (
-    (refl, none, (refl, (later 0 5, refl))),
+    (refl, absurd_true, (refl, (le-add_right 0 5, refl))),
     (
       refl,
       (
@@ -72,27 +67,27 @@ clean-legal = (
             (
               refl,
               (
-                (refl, none, ((refl, refl, room), refl, refl)),
+                (refl, absurd_true, ((refl, refl, room), refl, refl)),
                 (
-                  (refl, none, (refl, (later 5 15, refl))),
+                  (refl, absurd_true, (refl, (le-add_right 5 15, refl))),
                   (
-                    (refl, none, (later 20 10, refl)),
+                    (refl, absurd_true, (le-add_right 20 10, refl)),
                     (
                       refl,
                       (
-                        (refl, none, ((refl, refl, room), refl, refl)),
+                        (refl, absurd_true, ((refl, refl, room), refl, refl)),
                         (
-                          (refl, none, (refl, (later 30 1, refl))),
+                          (refl, absurd_true, (refl, (le-add_right 30 1, refl))),
                           (
-                            (refl, none, tt),
+                            (refl, absurd_true, tt),
                             (
-                              (refl, none, (refl, (later 31 1, refl))),
+                              (refl, absurd_true, (refl, (le-add_right 31 1, refl))),
                               (
-                                (refl, none, tt),
+                                (refl, absurd_true, tt),
                                 (
-                                  (refl, none, (refl, (later 32 8, refl))),
+                                  (refl, absurd_true, (refl, (le-add_right 32 8, refl))),
                                   (
-                                    (refl, none, refl),
+                                    (refl, absurd_true, refl),
                                     (refl, tt),
                                   ),
                                 ),
@@ -174,9 +169,9 @@ clean-writes = record { journal_is = refl; book_is = refl; legal = clean-legal; 
 crash-legal : IsLegal limits any_moment crash_journal
 unfolding settled row_of crash_rule startup_exited start_recovery restart_writer end_smart stop_backends backends_gone dead_ends_gone children_gone
 crash-legal = (
-  (refl, none, (refl, refl)),
+  (refl, absurd_true, (refl, refl)),
   (
-    (refl, none, (refl, (later 0 5, refl))),
+    (refl, absurd_true, (refl, (le-add_right 0 5, refl))),
     (
       refl,
       (
@@ -188,9 +183,9 @@ crash-legal = (
             (
               refl,
               (
-                (refl, none, ((refl, refl, room), refl, refl)),
+                (refl, absurd_true, ((refl, refl, room), refl, refl)),
                 (
-                  (refl, none, (refl, (later 5 15, refl))),
+                  (refl, absurd_true, (refl, (le-add_right 5 15, refl))),
                   (
                     refl,
                     (
@@ -198,17 +193,17 @@ crash-legal = (
                       (
                         refl,
                         (
-                          (refl, none, (refl, (later 20 1, refl))),
+                          (refl, absurd_true, (refl, (le-add_right 20 1, refl))),
                           (
-                            (refl, none, (refl, (later 21 1, refl))),
+                            (refl, absurd_true, (refl, (le-add_right 21 1, refl))),
                             (
-                              (refl, none, refl),
+                              (refl, absurd_true, refl),
                               (
                                 refl,
                                 (
                                   (refl, refl),
                                   (
-                                    (refl, none, (refl, (later 22 8, refl))),
+                                    (refl, absurd_true, (refl, (le-add_right 22 8, refl))),
                                     (
                                       refl,
                                       (
@@ -314,9 +309,9 @@ crash-writes = record { journal_is = refl; book_is = refl; legal = crash-legal; 
 failed-legal : IsLegal limits any_moment failed_journal
 unfolding settled row_of crash_rule startup_exited start_recovery restart_writer end_smart stop_backends backends_gone dead_ends_gone children_gone
 failed-legal = (
-  (refl, none, (refl, refl)),
+  (refl, absurd_true, (refl, refl)),
   (
-    (refl, none, (refl, (later 0 5, refl))),
+    (refl, absurd_true, (refl, (le-add_right 0 5, refl))),
     (
       refl,
       (

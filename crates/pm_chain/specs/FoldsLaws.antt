@@ -1,11 +1,13 @@
 -- Laws of what journal and book say, as entries are put behind those so far.
-use Rattle.std.proofs.Common.{◌≡◌, ℕ, true, List, [], ◌∷◌, ◌++◌, refl, ap}
+use Rattle.std.proofs.Common.{◌≡◌, ℕ, true, List, [], ◌∷◌, ◌++◌, refl, ap, inl, inr}
+use Rattle.std.proofs.lemmas.Grind.{flat_map-append}
 use Rattle.pm_admit.specs.declared.Cac.TheVariants as decision
 use Rattle.pm_state.specs.declared.event.PmEvent.{PmEvent}
 use Rattle.pm_state.specs.declared.event.PmEvent.TheVariants as event
 use Rattle.pm_query.specs.declared.book.BookEntry.{BookEntry}
 use Rattle.pm_query.specs.declared.book.BookEntry.TheVariants as entry
-use Rattle.pm_chain.specs.Chain.{InGeneration, Redo, attached_of, exits_of, gone_from, kept_of, lost_from, opened_of, redo_ends_of, redos_of, resets_of, users_from, generation_in, gone_since, lost_since}
+use Rattle.pm_chain.specs.Chain.{InGeneration, Redo, attached_of, exits_of, gone_from, kept_of, lost_from, opened_of, redo_ends_of, redos_of, resets_of, users_from, generation_in, gone_since, lost_since, IsPidOf}
+use Rattle.pm_chain.specs.Steps.{Step, journal_by, journal_of}
 
 -- ---- the journal
 
@@ -86,3 +88,22 @@ gone_since-append so_far [] ys = refl
 gone_since-append so_far (entry.Gone pid ∷ xs) ys = gone_since-append (so_far ++ pid ∷ []) xs ys
 gone_since-append so_far (entry.Opened generation ∷ xs) ys = gone_since-append [] xs ys
 gone_since-append so_far (_ ∷ xs) ys = gone_since-append so_far xs ys
+
+-- ---- steps
+
+pub journal-append : (before steps : List Step) → journal_of (before ++ steps) ≡ journal_of before ++ journal_of steps
+journal-append before steps = flat_map-append journal_by before steps
+
+-- ---- pids
+
+pub pid_left : (pid : ℕ) (ys zs : List ℕ) → IsPidOf pid ys → IsPidOf pid (ys ++ zs)
+pid_left pid [] zs is = absurd is
+pid_left pid (y ∷ ys) zs is =
+    elim is [
+      | inl same ↦ inl same
+      | inr later ↦ inr (pid_left pid ys zs later)
+    ]
+
+pub pid_right : (pid : ℕ) (ys zs : List ℕ) → IsPidOf pid zs → IsPidOf pid (ys ++ zs)
+pid_right pid [] zs is = is
+pid_right pid (y ∷ ys) zs is = inr (pid_right pid ys zs is)

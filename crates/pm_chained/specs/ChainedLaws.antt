@@ -11,6 +11,7 @@ use Rattle.pm_board.specs.declared.views.Sight.TheVariants.{Unused}
 use Rattle.pm_board.specs.declared.views.SlotView.{SlotView}
 use Rattle.pm_board.specs.Places.{slot_at, slot_view}
 use Rattle.pm_chain.specs.Chain.{AgreeOnGenerations, AreDistinct, InGeneration, IsAmong, IsPidOf, exits_of, gone_from, attached_of, kept_of, lost_from, redo_ends_of, redos_of, resets_of, users_from}
+use Rattle.pm_chain.specs.FoldsLaws.{pid_left, pid_right}
 use Rattle.pm_crew.specs.EntriesLaws.{entries_at, entries_of_runs, its_list, runs_use, worked}
 use Rattle.pm_crew.specs.Left.{AreLeft, IsWorked, Manner}
 use Rattle.pm_crew.specs.Pids.{AreUsedOnce, pids_at}
@@ -32,7 +33,7 @@ use Rattle.pm_worker.specs.Runs.{noted_by}
 use Rattle.pm_chained.specs.BookLaws.{AttachedOnce, OfRedo, OfUser, all_entries, all_redos, all_users, attach_once, gone_own, opened_own}
 use Rattle.pm_chained.specs.JournalLaws.{ExitOnce, MayUse, all_ends, each_so, ends_among, exit_in, exits_once, lost_once, may_use, pids_of}
 use Rattle.pm_chained.specs.RunsLaws.{HasEnd, IsIn, IsToldIn, IsUser, all_in, all_run_ends, all_run_redos, all_run_users}
-use Rattle.pm_chained.specs.OnceLaws.{apart_joined, in_left, in_right, split}
+use Rattle.pm_chained.specs.OnceLaws.{apart_joined, split}
 
 -- ---- whom the supervisor gave up
 
@@ -153,7 +154,7 @@ module _ (manner : Manner) (count : ℕ) (moves : List Move) (d : RosterView Mai
   pids_split k = sym (pids_ended (slot_at d k).past) ∙ (ap pids_of (board.ended k).1 ∙ pids_both (ended_at k moves) (board.ended k).0)
 
   has_exited : (k pid : ℕ) → IsPidOf pid (pids_of (ended_at k moves)) → IsPidOf pid (pids_at d k)
-  has_exited k pid there = subst (IsPidOf pid) (sym (pids_split k)) (in_left pid (pids_of (ended_at k moves)) (pids_of (board.ended k).0) there)
+  has_exited k pid there = subst (IsPidOf pid) (sym (pids_split k)) (pid_left pid (pids_of (ended_at k moves)) (pids_of (board.ended k).0) there)
 
   exit_once : ExitOnce moves
   exit_once = record {
@@ -178,7 +179,7 @@ module _ (manner : Manner) (count : ℕ) (moves : List Move) (d : RosterView Mai
           (subst (IsPidOf pid) (ap (λ (i : ℕ). pids_of (ended_at i moves)) same ∙ (ap pids_of (sym told.ended) ∙ pids_ended told.front)) found) its
       clash j found false isnt =
           once.across j k pid (λ same. absurd (grind (arith, same, isnt))) (has_exited j pid found)
-          (subst (IsPidOf pid) (sym whole) (in_right pid (map (λ child. child.offer.pid) told.front) (map (λ child. child.offer.pid) told.others) its))
+          (subst (IsPidOf pid) (sym whole) (pid_right pid (map (λ child. child.offer.pid) told.front) (map (λ child. child.offer.pid) told.others) its))
 
   all_told : RedosAreThose moves d → (k : ℕ) (less : k < count)
       → AllByRecursion (λ run. IsToldIn (exits_of journal) (redo_ends_of journal) run.child.offer.pid (redo_told run.child)) (left.runs k)

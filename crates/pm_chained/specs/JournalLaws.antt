@@ -2,6 +2,7 @@
 use Rattle.std.proofs.Common.{◌≡◌, ◌≢◌, inl, inr, ℕ, Bool, true, false, List, [], ◌∷◌, ◌++◌, refl, sym, subst, arith, append_assoc}
 use Rattle.std.specs.Prelude.{◌==◌, if◌then◌else◌, map}
 use Rattle.std.specs.List.{AllByRecursion}
+use Rattle.std.proofs.lemmas.Bool.{eq-eqb}
 use Rattle.pm_facts.specs.Lists.{each_both, each_second}
 use Rattle.pm_admit.specs.declared.Cac.TheVariants as decisions
 use Rattle.pm_chain.specs.Chain.{AreDistinct, InGeneration, IsAmong, IsPidOf, exits_of, lost_from, redo_ends_of, users_from}
@@ -43,9 +44,6 @@ module _ {T : Type 0} (told : List PmEvent → T) (passes_ask : (mode : Mode) (a
       by false = refl
   asks_pass s (PortEnds at) rest asked = passes_ask mode.Smart at rest
   asks_pass s (PidsEnd at) rest asked = passes_ask mode.Smart at rest
-
-same_slot : (slot : ℕ) → (slot == slot) ≡ true
-same_slot slot = grind arith
 
 -- ---- users
 
@@ -100,7 +98,7 @@ all_ends P s (move ∷ moves) each = by move each (all_ends P (seating_by s move
     by : (m : Move) → ((k : ℕ) → AllByRecursion P (redo_ends_by k m ++ redo_ends_at k moves)) → AllByRecursion P (redo_ends_of (entries_from (seating_by s m) moves))
         → AllByRecursion P (redo_ends_of (entries_by s m ++ entries_from (seating_by s m) moves))
     by (Notes (entry.RedoEnded generation kept) slot) here rest = (
-      (subst (λ (b : Bool). AllByRecursion P ((if b then record { number = kept; generation = generation } ∷ [] else []) ++ redo_ends_at slot moves)) (same_slot slot) (here slot)).0,
+      (subst (λ (b : Bool). AllByRecursion P ((if b then record { number = kept; generation = generation } ∷ [] else []) ++ redo_ends_at slot moves)) (eq-eqb slot slot refl) (here slot)).0,
       rest,
     )
     by (Notes _ slot) here rest = rest
@@ -156,7 +154,7 @@ exit_in pid s (move ∷ moves) there = by move there (λ more. (let found = exit
         → (k : ℕ) × IsPidOf pid (pids_of (ended_by k m ++ ended_at k moves))
     by (Notes (entry.Exited who kind status active at) slot) (inl is) more = (
       slot,
-      subst (λ (b : Bool). IsPidOf pid (pids_of ((if b then record { pid = who; kind = kind; status = status; was_active = active } ∷ [] else []) ++ ended_at slot moves))) (sym (same_slot slot)) (inl is),
+      subst (λ (b : Bool). IsPidOf pid (pids_of ((if b then record { pid = who; kind = kind; status = status; was_active = active } ∷ [] else []) ++ ended_at slot moves))) (sym (eq-eqb slot slot refl)) (inl is),
     )
     by (Notes (entry.Exited who kind status active at) slot) (inr behind) more = more behind
     by (Notes _ slot) behind more = more behind
@@ -194,11 +192,11 @@ exits_once s (move ∷ moves) once = by move once (exits_once (seating_by s move
         clash k there true is =
             let same : k ≡ slot = grind (arith, is) in
             never who (pids_of (ended_at slot moves))
-            (subst (λ (b : Bool). AreDistinct (pids_of ((if b then its ∷ [] else []) ++ ended_at slot moves))) (same_slot slot) (all.within slot)).0
+            (subst (λ (b : Bool). AreDistinct (pids_of ((if b then its ∷ [] else []) ++ ended_at slot moves))) (eq-eqb slot slot refl) (all.within slot)).0
             (subst (λ (j : ℕ). IsPidOf who (pids_of (ended_at j moves))) same there)
         clash k there false isnt =
             all.across slot k who (λ same. absurd (grind (arith, same, isnt)))
-            (subst (λ (b : Bool). IsPidOf who (pids_of ((if b then its ∷ [] else []) ++ ended_at slot moves))) (sym (same_slot slot)) (inl refl))
+            (subst (λ (b : Bool). IsPidOf who (pids_of ((if b then its ∷ [] else []) ++ ended_at slot moves))) (sym (eq-eqb slot slot refl)) (inl refl))
             (later_end who (ended_by k (Notes (entry.Exited who kind status active at) slot)) (ended_at k moves) there)
     by (Notes _ slot) all rest = rest
     by (Reads line asks at) all rest = subst AreDistinct (sym (exits_pass s (Reads line asks at) (entries_from s moves) tt)) rest

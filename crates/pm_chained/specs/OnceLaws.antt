@@ -4,7 +4,8 @@ use Rattle.std.specs.Prelude.{cond, nat_eq}
 use Rattle.std.specs.List.{AllByRecursion}
 use Rattle.std.proofs.lemmas.List.Sums.{sum_by-cons}
 use Rattle.pm_chain.specs.Chain.{AreDistinct, IsPidOf}
-use Rattle.pm_crew.specs.PidsLaws.{differs, pid_either}
+use Rattle.pm_chain.specs.FoldsLaws.{pid_left, pid_right}
+use Rattle.pm_crew.specs.PidsLaws.{differs}
 use Rattle.pm_segment.specs.Children.{once, times_in}
 use Rattle.pm_shared.specs.Renewed.{AreApart}
 
@@ -12,12 +13,6 @@ pub never : (pid : ℕ) (pids : List ℕ) → AllByRecursion (λ other. pid ≢ 
 never pid [] differ there = there
 never pid (other ∷ pids) differ (inl is) = differ.0 is
 never pid (other ∷ pids) differ (inr there) = never pid pids differ.1 there
-
-pub in_left : (pid : ℕ) (xs ys : List ℕ) → IsPidOf pid xs → IsPidOf pid (xs ++ ys)
-in_left pid xs ys there = pid_either pid xs ys (inl there)
-
-pub in_right : (pid : ℕ) (xs ys : List ℕ) → IsPidOf pid ys → IsPidOf pid (xs ++ ys)
-in_right pid xs ys there = pid_either pid xs ys (inr there)
 
 pub in_either : (pid : ℕ) (xs ys : List ℕ) → IsPidOf pid (xs ++ ys) → IsPidOf pid xs ⊎ IsPidOf pid ys
 in_either pid [] ys there = inr there
@@ -39,13 +34,13 @@ split [] ys once = record { first = tt; second = once; apart = λ pid one two. o
 split (x ∷ xs) ys once =
     let rest : AreSplit xs ys = split xs ys once.1 in
     record {
-      first = (differs x xs (λ there. never x (xs ++ ys) once.0 (in_left x xs ys there)), rest.first);
+      first = (differs x xs (λ there. never x (xs ++ ys) once.0 (pid_left x xs ys there)), rest.first);
       second = rest.second;
       apart = by rest;
     }
   where
     by : AreSplit xs ys → (pid : ℕ) → IsPidOf pid (x ∷ xs) → IsPidOf pid ys → ⊥
-    by rest pid (inl is) two = never x (xs ++ ys) once.0 (in_right x xs ys (subst (λ (p : ℕ). IsPidOf p ys) is two))
+    by rest pid (inl is) two = never x (xs ++ ys) once.0 (pid_right x xs ys (subst (λ (p : ℕ). IsPidOf p ys) is two))
     by rest pid (inr one) two = rest.apart pid one two
 
 pub joined : (xs ys : List ℕ) → AreSplit xs ys → AreDistinct (xs ++ ys)

@@ -7,7 +7,7 @@ use Rattle.pm_facts.specs.Lists.{each_more}
 use Rattle.pm_query.specs.declared.book.BookEntry.{BookEntry}
 use Rattle.pm_query.specs.declared.book.BookEntry.TheVariants.{Opened, Redone, Attached, Answered, Released, Detached, Gone, CheckpointEnded, Broke, LogFull}
 use Rattle.pm_query.specs.Book.{Base, IsLegal, KeepsNumber, MayFollow, MayGoOn, ends_checkpoint, ends_cleanly, fault_here, faults_here, generation_after, generation_of, history_of, is_closed, kept_after, kept_by_redo, present, present_after, times_after, times_attached}
-use Rattle.pm_query.specs.HistoryLaws.{generation_push, present_push, redone_push, times_push}
+use Rattle.pm_query.specs.HistoryLaws.{generation_push, present_push, redone_push, times_push, generations_rise}
 use Rattle.pm_chain.specs.Chain.{opened_of}
 use Rattle.pm_segment.specs.Unread.{is_break}
 use Rattle.pm_server.specs.Story.{IsNoOpening}
@@ -27,15 +27,11 @@ rises : (before : ℕ) (entry : BookEntry) → Rises before entry
 rises before (Opened generation) = record { up = omega arith; plain = λ is. absurd (omega (arith, is)) }
 rises before entry = record { up = omega arith; plain = λ is. tt }
 
-up : (before : ℕ) (entries : List BookEntry) → before ≤ fold generation_after before entries
-up before [] = omega arith
-up before (entry ∷ entries) = (let one = (rises before entry).up in let rest = up (generation_after before entry) entries in omega (arith, one, rest))
-
 no_openings : (before : ℕ) (entries : List BookEntry) → fold generation_after before entries ≡ before → NoOpenings entries
 no_openings before [] same = tt
 no_openings before (entry ∷ entries) same =
     let one = (rises before entry).up in
-    let rest = up (generation_after before entry) entries in
+    let rest = generations_rise (generation_after before entry) entries in
     let here : generation_after before entry ≡ before = omega (arith, one, rest, same) in
     ((rises before entry).plain here, no_openings (generation_after before entry) entries (same ∙ sym here))
 
@@ -57,7 +53,7 @@ generation_parts : (before entries : List BookEntry) → generation_of (before +
 generation_parts before entries = fold-append generation_after 0 before entries
 
 pub generation_up : (before entries : List BookEntry) → generation_of before ≤ generation_of (before ++ entries)
-generation_up before entries = (let more = up (generation_of before) entries in let parts = generation_parts before entries in omega (arith, more, parts))
+generation_up before entries = (let more = generations_rise (generation_of before) entries in let parts = generation_parts before entries in omega (arith, more, parts))
 
 -- ---- the entries of the last one
 

@@ -2,7 +2,7 @@
 use Rattle.std.proofs.Common.{◌≡◌, ◌≢◌, ◌⊎◌, inl, inr, ℕ, ◌+◌, ◌<◌, ◌≤◌, Bool, true, false, not, ◌&&◌, cond, get_or, length, Option, None, Some, List, [], ◌∷◌, ◌++◌, refl, sym, ap, subst, ◌∙◌, arith, length-append}
 use Rattle.std.specs.Prelude.{◌==◌, All, IfSome, nat_eq, slice_get}
 use Rattle.std.specs.List.{AllByRecursion, list_any}
-use Rattle.std.proofs.lemmas.Bool.{or_cases, both_ways}
+use Rattle.std.proofs.lemmas.Bool.{or_cases, both_ways, eq-eqb}
 use Rattle.std.proofs.lemmas.Option.{slice_get-get_or}
 use Rattle.std.proofs.lemmas.List.Elements.{All-head, All-tail}
 use Rattle.pm_disk.specs.Files.{Files}
@@ -137,9 +137,6 @@ checkpointer_is_no_dead_end kind checkpointer is = (let never : true ≡ false =
 both_so : (a b : Bool) → a ≡ true → b ≡ true → a && b ≡ true
 both_so a b one two = grind (arith, one, two)
 
-same_pid : (pid : ℕ) → nat_eq pid pid ≡ true
-same_pid pid = grind arith
-
 module _ (safely : RestartsSafely) (limits : Limits) (manner : Manner) (count : ℕ) (moves : List Move) (d : RosterView MailTold) (own : List Noted) (book : List BookEntry) (before now : DiskView)
     (its : IsLeftBy limits manner count moves d own book before now) (legal : IsLegal its.remains.base book) (clean : HasEndedClean (journal_of count moves)) where
   abbrev J : List PmEvent
@@ -203,7 +200,7 @@ module _ (safely : RestartsSafely) (limits : Limits) (manner : Manner) (count : 
       let here : IsIn (Attached pid (generation_of front)) front = has_attached its.remains.base pid front (going front e behind is).0 attached in
       let everywhere : IsIn (Attached pid (generation_of front)) book = subst (IsIn _) (sym is) (in_front _ front (e ∷ behind) here) in
       let noted : IsIn (Attached pid (generation_of front)) run.noted =
-      subst (IsIn _) (its_entries k run less there) (in_filter (is_by pid) _ book everywhere (same_pid pid)) in
+      subst (IsIn _) (its_entries k run less there) (in_filter (is_by pid) _ book everywhere (eq-eqb pid pid refl)) in
       of_all (May run.child.offer.generation (is_bad run.child.offer.kind run.child.status ≡ true)) _ run.noted (may_run manner.seed manner.limit manner.gives run (its_run k run less there)) noted
 
   -- the book has no more generations than the journal

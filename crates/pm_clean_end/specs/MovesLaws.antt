@@ -4,6 +4,7 @@ use Rattle.std.proofs.lemmas.Grind.{flat_map-append}
 use Rattle.std.specs.Prelude.{◌==◌, if◌then◌else◌, unwrap_or}
 use Rattle.std.specs.List.{AllByRecursion, flat_map}
 use Rattle.std.proofs.lemmas.Option.{slice_get-get_or}
+use Rattle.std.proofs.lemmas.Bool.{eq-eqb}
 use Rattle.pm_exit.specs.declared.child.Kind.TheVariants as kind
 use Rattle.pm_exit.specs.Ends.{is_exit_0}
 use Rattle.pm_supervisor.specs.Children.{is_startup_child}
@@ -28,9 +29,6 @@ use Rattle.pm_crew.specs.Pids.{AreUsedOnce, pids_at}
 use Rattle.pm_crew.specs.Redos.{AreRedosOf, RedosAreThose, redo_ends_at, redo_ends_by, redo_told, told_if}
 use Rattle.pm_clean_end.specs.Among.{IsGiven, IsImage, IsIn, from_flat_map, from_map, in_back, in_either, in_flat_map, in_front, in_map, of_all}
 use Rattle.pm_clean_end.specs.EndsLaws.{begun_append, begun_in, generation_after}
-
-same : (n : ℕ) → (n == n) ≡ true
-same n = grind arith
 
 -- ---- entries
 
@@ -141,7 +139,7 @@ began_here s b (Notes noted k) moves there = by (in_either b (begins s.generatio
     here false is its = absurd cc
 
     by : IsIn b (begins s.generation noted) ⊎ ⊥ → BeganIn b s (Notes noted k ∷ moves)
-    by (inl its) = record { slot = k; there = in_front b (begun_by k s (Notes noted k)) (begun_from k (seating_by s (Notes noted k)) moves) (here (k == k) (same k) its) }
+    by (inl its) = record { slot = k; there = in_front b (begun_by k s (Notes noted k)) (begun_from k (seating_by s (Notes noted k)) moves) (here (k == k) (eq-eqb k k refl) its) }
     by (inr never) = absurd never
 began_here s b (Reads line asks at) moves there = absurd (subst (IsIn b) (none_begin s.generation s asks at) there)
 began_here s b (PortEnds at) moves there = absurd there
@@ -162,7 +160,7 @@ began_in s b (move ∷ moves) there =
 -- an end that was noted is that of a child of its slot
 pub ends_at : (end : Ended) (at k : ℕ) (moves : List Move) → IsIn (Notes (entry.Exited end.pid end.kind end.status end.was_active at) k) moves → IsIn end (ended_at k moves)
 ends_at end at k moves there =
-    in_flat_map (ended_by k) end (Notes (entry.Exited end.pid end.kind end.status end.was_active at) k) moves there (here (k == k) (same k))
+    in_flat_map (ended_by k) end (Notes (entry.Exited end.pid end.kind end.status end.was_active at) k) moves there (here (k == k) (eq-eqb k k refl))
   where
     here : (test : Bool) → test ≡ true → IsIn end (if test then end ∷ [] else [])
     here true is = inl refl
@@ -171,7 +169,7 @@ ends_at end at k moves there =
 pub redo_at : (generation kept k : ℕ) (moves : List Move) → IsIn (Notes (entry.RedoEnded generation kept) k) moves
     → IsIn (record { number = kept; generation = generation }) (redo_ends_at k moves)
 redo_at generation kept k moves there =
-    in_flat_map (redo_ends_by k) (record { number = kept; generation = generation }) (Notes (entry.RedoEnded generation kept) k) moves there (here (k == k) (same k))
+    in_flat_map (redo_ends_by k) (record { number = kept; generation = generation }) (Notes (entry.RedoEnded generation kept) k) moves there (here (k == k) (eq-eqb k k refl))
   where
     here : (test : Bool) → test ≡ true
         → IsIn {X = InGeneration} (record { number = kept; generation = generation }) (if test then record { number = kept; generation = generation } ∷ [] else [])

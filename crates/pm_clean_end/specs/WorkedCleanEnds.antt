@@ -1,6 +1,7 @@
 -- A journal that ended clean with all that the law asks for, and two that didn't.
-use Rattle.std.proofs.Common.{◌≡◌, ◌≢◌, ℕ, ◌+◌, ◌≤◌, true, false, List, [], ◌∷◌, ◌++◌, refl, arith}
+use Rattle.std.proofs.Common.{◌≡◌, ◌≢◌, ℕ, ◌+◌, true, false, List, [], ◌∷◌, ◌++◌, refl}
 use Rattle.std.proofs.lemmas.List.Elements.{All-from_recursion, All-head}
+use Rattle.std.proofs.Math.Nat.{le-add_right}
 use Rattle.pm_facts.specs.Bools.{absurd_true}
 use Rattle.pm_exit.specs.declared.child.Kind.TheVariants.{Backend, Checkpointer, DeadEnd, Startup, Writer}
 use Rattle.pm_exit.specs.declared.child.Status.TheVariants.{Code}
@@ -58,22 +59,19 @@ refuses_immediate ended = All-head (λ (mode : Mode). mode ≢ Immediate) Immedi
 
 -- ---- they are legal; that the first is one `worked_steps` of `pm_chain` has
 
-later : (n m : ℕ) → n ≤ n + m
-later n m = omega arith
-
 pub unread_is_legal : IsLegal limits any_moment unread_journal
 unfolding settled row_of crash_rule startup_exited start_recovery restart_writer end_smart stop_backends backends_gone dead_ends_gone children_gone
 unread_is_legal = (
   (refl, absurd_true, (refl, refl)),
   (
-    (refl, absurd_true, (later 0 2, refl)),
+    (refl, absurd_true, (le-add_right 0 2, refl)),
     (
       refl,
       (
         (refl, absurd_true, tt),
         (
-          (refl, absurd_true, (refl, (later 2 1, refl))),
-          ((refl, absurd_true, (refl, refl)), (tt, ((refl, absurd_true, (refl, (later 3 1, refl))), ((refl, absurd_true, refl), (refl, tt))))),
+          (refl, absurd_true, (refl, (le-add_right 2 1, refl))),
+          ((refl, absurd_true, (refl, refl)), (tt, ((refl, absurd_true, (refl, (le-add_right 3 1, refl))), ((refl, absurd_true, refl), (refl, tt))))),
         ),
       ),
     ),
@@ -85,7 +83,7 @@ unfolding settled row_of crash_rule startup_exited start_recovery restart_writer
 immediate_is_legal = (
   (refl, absurd_true, (refl, refl)),
   (
-    (refl, absurd_true, (refl, (later 0 5, refl))),
+    (refl, absurd_true, (refl, (le-add_right 0 5, refl))),
     (
       refl,
       (
@@ -97,8 +95,8 @@ immediate_is_legal = (
             (
               refl,
               (
-                (refl, absurd_true, (later 5 15, refl)),
-                (refl, (refl, ((refl, absurd_true, (refl, (later 20 1, refl))), ((refl, absurd_true, (refl, (later 21 1, refl))), ((refl, absurd_true, refl), (refl, tt)))))),
+                (refl, absurd_true, (le-add_right 5 15, refl)),
+                (refl, (refl, ((refl, absurd_true, (refl, (le-add_right 20 1, refl))), ((refl, absurd_true, (refl, (le-add_right 21 1, refl))), ((refl, absurd_true, refl), (refl, tt)))))),
               ),
             ),
           ),

@@ -18,8 +18,9 @@ use Rattle.pm_client.specs.Show.{is_ready, line_of, lines_of}
 use Rattle.pm_client.specs.Sides.{Carries, LinkView, Prints, Shows, Sides, SinkView}
 use Rattle.pm_client.specs.Talk.{AreAnswers, answers_in}
 use Rattle.pm_client.specs.Hearing.{Awaits, Hearing, Hears, IsNoMore}
-use Rattle.pm_client.proofs.Links.{carries_in, carries_none, prints_both, prints_none, rose_since}
+use Rattle.pm_client.proofs.Links.{carries_in, carries_none, prints_both, prints_none}
 use Rattle.pm_client.proofs.Streams.{no_message, stream_grows, stream_more}
+use Rattle.pm_disk.specs.DiskLaws.{rose_from}
 
 pub answers_both : (ms ns : List BackMessage) → answers_in (ms ++ ns) ≡ answers_in ms + answers_in ns
 answers_both ms ns = sum_by-append _ ms ns
@@ -120,7 +121,7 @@ hears_all page first left messages (Err OutFault) a b c came shown carries print
   prints = prints_both shown shows.shown a.sink b.sink c.sink prints shows.prints;
   read = read;
   lines = lines ∙ ap (λ (l : List ℕ). shown ++ l) shows.whole ∙ sym (append_assoc shown shows.shown shows.missing);
-  heard = (tt, rose_since a.sink.faults b.sink.faults c.sink.faults prints.later shows.all);
+  heard = (tt, rose_from a.sink.faults b.sink.faults c.sink.faults prints.later shows.all);
 }
 hears_all page first left messages (Err (Done ended)) a b c came shown carries prints read lines answers shows same = absurd shows.all
 hears_all page first left messages (Err LinkFault) a b c came shown carries prints read lines answers shows same = absurd shows.all
@@ -164,7 +165,7 @@ hears_unshown OutFault page text first unread a b c h text_is shows same = recor
   prints = prints_both h.shown shows.shown a.sink b.sink c.sink h.prints shows.prints;
   read = h.read;
   lines = h.lines ∙ ap (λ (l : List ℕ). h.shown ++ l) (sym text_is ∙ shows.whole) ∙ sym (append_assoc h.shown shows.shown shows.missing);
-  heard = (tt, rose_since a.sink.faults b.sink.faults c.sink.faults h.prints.later shows.all);
+  heard = (tt, rose_from a.sink.faults b.sink.faults c.sink.faults h.prints.later shows.all);
 }
 hears_unshown (Done ended) page text first unread a b c h text_is shows same = absurd shows.all
 hears_unshown LinkFault page text first unread a b c h text_is shows same = absurd shows.all
@@ -215,7 +216,7 @@ cut_by LinkFault first left wanted a b c h early none why = record {
   prints = h.prints;
   read = h.read;
   lines = h.lines;
-  heard = (h.none, (refl, rose_since a.link.faults b.link.faults c.link.faults early why.1));
+  heard = (h.none, (refl, rose_from a.link.faults b.link.faults c.link.faults early why.1));
 }
 cut_by (Done true) first left wanted a b c h early none why = record {
   messages = h.messages;

@@ -3,6 +3,7 @@ use Rattle.std.proofs.Common.{◌≡◌, ◌∙◌, ℕ, ◌≤◌, List, [], �
 use Rattle.std.specs.Option.{option_map}
 use Rattle.std.proofs.lemmas.List.{append-nil}
 use Rattle.pm_disk.specs.Cause.{Rose}
+use Rattle.pm_disk.specs.DiskLaws.{rose_from}
 use Rattle.pm_outside.specs.Traffic.{Traffic, after_read, after_write, put_behind, came_in_of, went_out_of}
 use Rattle.pm_outside.specs.declared.link.Got.{Got}
 use Rattle.pm_outside.specs.declared.link.Got.TheVariants.{Bytes, End}
@@ -41,9 +42,6 @@ prints_both one two a b c first second = record {
   written = added_both one two a.written b.written c.written first.written second.written;
   later = omega (arith, first.later, second.later);
 }
-
-pub rose_since : (a b c : ℕ) → a ≤ b → Rose b c → Rose a c
-rose_since a b c early rose = omega arith
 
 -- ---- one write
 
@@ -132,7 +130,7 @@ sends_failed rest bytes a b c sent failed rose = record {
   missing = rest;
   whole = sent.whole;
   carries = carries_in [] sent.went [] a b c sent.carries failed;
-  all = rose_since a.faults b.faults c.faults sent.carries.later rose;
+  all = rose_from a.faults b.faults c.faults sent.carries.later rose;
 }
 
 -- the same of a text that is shown
@@ -160,5 +158,5 @@ shows_failed rest text a b c so_far failed rose = record {
   missing = rest;
   whole = so_far.whole;
   prints = subst (λ (l : List ℕ). Prints l a c) (append-nil so_far.shown) (prints_both so_far.shown [] a b c so_far.prints failed);
-  all = rose_since a.faults b.faults c.faults so_far.prints.later rose;
+  all = rose_from a.faults b.faults c.faults so_far.prints.later rose;
 }

@@ -3,13 +3,14 @@ use Rattle.std.proofs.Common.{◌≡◌, ◌≢◌, ◌∙◌, ℕ, ◌<◌, ◌
 use Rattle.std.specs.Option.{option_map}
 use Rattle.std.proofs.lemmas.List.{append-nil, take-append-le, length-take-le, take-take, nil_from_length}
 use Rattle.pm_disk.specs.Cause.{Rose}
+use Rattle.pm_disk.specs.DiskLaws.{rose_from}
 use Rattle.pm_outside.specs.Traffic.{after_read}
 use Rattle.pm_outside.specs.declared.link.Got.TheVariants.{Bytes, NotYet, End, Failed}
 use Rattle.pm_client.specs.declared.played.Played.{Played}
 use Rattle.pm_client.specs.declared.played.Played.TheVariants.{Done, LinkFault, OutFault, BadReply, NoMemory}
 use Rattle.pm_client.specs.Sides.{Carries, LinkView}
 use Rattle.pm_client.specs.Hearing.{Awaits, IsNoMore, Reads, Receives}
-use Rattle.pm_client.proofs.Links.{carries_both, carries_none, got_bytes, got_nothing, has_ended, rose_since}
+use Rattle.pm_client.proofs.Links.{carries_both, carries_none, got_bytes, got_nothing, has_ended}
 
 -- what stands in a buffer into which nothing was read
 pub stands_still : (start have size : ℕ) (xs ys post rest : List ℕ) → have ≤ length xs → have ≤ size → drop start (take have (take size ((take have xs ++ (ys ++ post)) ++ rest))) ≡ drop start (take have xs)
@@ -63,7 +64,7 @@ reads_no_more unread_before unread_now at same = record { came = []; unread = sa
 no_more_since : (played : Played) (a b c : LinkView) → a.faults ≤ b.faults → IsNoMore played b c → IsNoMore played a c
 no_more_since (Done true) a b c early why = why
 no_more_since (Done false) a b c early why = absurd why
-no_more_since LinkFault a b c early why = rose_since a.faults b.faults c.faults early why
+no_more_since LinkFault a b c early why = rose_from a.faults b.faults c.faults early why
 no_more_since OutFault a b c early why = absurd why
 no_more_since (BadReply fault) a b c early why = absurd why
 no_more_since NoMemory a b c early why = why

@@ -4,6 +4,7 @@ use Rattle.std.specs.List.{flat_map}
 use Rattle.std.proofs.lemmas.List.{append-nil, take_all, take_more}
 use Rattle.std.proofs.lemmas.List.Concat.{flat_map-append}
 use Rattle.pm_disk.specs.Cause.{Rose}
+use Rattle.pm_disk.specs.DiskLaws.{rose_from}
 use Rattle.pm_wire.specs.Backend.{BackMessage, Ready, IsBack}
 use Rattle.pm_wire.specs.Stream.{IsStream}
 use Rattle.pm_wire_front.specs.Requests.{all_sent, query, start_packet, terminate}
@@ -13,7 +14,7 @@ use Rattle.pm_client.specs.Show.{lines_of}
 use Rattle.pm_client.specs.Sides.{Carries, Prints, Sends, Sides, SinkView}
 use Rattle.pm_client.specs.Talk.{EndsBy, HasAsked, HasPlayed, IsCutOff, IsWholeOr, answers_in, played_of}
 use Rattle.pm_client.specs.Hearing.{Asks, Hears, IsAsked, IsHeard, IsUnanswered}
-use Rattle.pm_client.proofs.Links.{carries_both, carries_none, carries_out, prints_both, prints_none, rose_since}
+use Rattle.pm_client.proofs.Links.{carries_both, carries_none, carries_out, prints_both, prints_none}
 use Rattle.pm_client.proofs.Hearings.{answers_both}
 use Rattle.pm_client.proofs.Streams.{stream_then}
 
@@ -69,8 +70,8 @@ talked_more done went request unread left answered a b c t asks =
 cut_since : (played : Played) (unread unshown : List ℕ) (a b c : Sides) → a.link.faults ≤ b.link.faults → a.sink.faults ≤ b.sink.faults → IsCutOff played unread unshown b c → IsWholeOr played unread unshown a c
 cut_since (Done false) unread unshown a b c link sink cut = absurd cut
 cut_since (Done true) unread unshown a b c link sink cut = cut
-cut_since LinkFault unread unshown a b c link sink cut = (cut.0, rose_since a.link.faults b.link.faults c.link.faults link cut.1)
-cut_since OutFault unread unshown a b c link sink cut = rose_since a.sink.faults b.sink.faults c.sink.faults sink cut
+cut_since LinkFault unread unshown a b c link sink cut = (cut.0, rose_from a.link.faults b.link.faults c.link.faults link cut.1)
+cut_since OutFault unread unshown a b c link sink cut = rose_from a.sink.faults b.sink.faults c.sink.faults sink cut
 cut_since (BadReply fault) unread unshown a b c link sink cut = cut
 cut_since NoMemory unread unshown a b c link sink cut = tt
 
@@ -163,7 +164,7 @@ talked_all (Err LinkFault) user texts went unread a b c t all sends same = recor
   asked = all ∙ ap (λ (l : List ℕ). went ++ l) sends.whole ∙ sym (append_assoc went sends.went sends.missing);
   lines = t.lines ∙ sym (append-nil t.shown);
   ends = tt;
-  whole = (refl, rose_since a.link.faults b.link.faults c.link.faults t.carries.later sends.all);
+  whole = (refl, rose_from a.link.faults b.link.faults c.link.faults t.carries.later sends.all);
 }
 talked_all (Err (Done ended)) user texts went unread a b c t all sends same = absurd sends.all
 talked_all (Err OutFault) user texts went unread a b c t all sends same = absurd sends.all
@@ -209,7 +210,7 @@ heard_since : (result : Result (Unit {0}) Played) (messages : List BackMessage) 
 heard_since (Ok done) messages unread unshown a b c link same heard = heard
 heard_since (Err (Done false)) messages unread unshown a b c link same heard = absurd heard.1
 heard_since (Err (Done true)) messages unread unshown a b c link same heard = heard
-heard_since (Err LinkFault) messages unread unshown a b c link same heard = (heard.0, (heard.1.0, rose_since a.link.faults b.link.faults c.link.faults link heard.1.1))
+heard_since (Err LinkFault) messages unread unshown a b c link same heard = (heard.0, (heard.1.0, rose_from a.link.faults b.link.faults c.link.faults link heard.1.1))
 heard_since (Err OutFault) messages unread unshown a b c link same heard = (tt, subst (λ (s : SinkView). Rose s.faults c.sink.faults) same heard.1)
 heard_since (Err (BadReply fault)) messages unread unshown a b c link same heard = heard
 heard_since (Err NoMemory) messages unread unshown a b c link same heard = heard

@@ -2,6 +2,7 @@
 use Rattle.std.proofs.Common.{◌≡◌, ◌≢◌, ◌⊎◌, inl, inr, ℕ, ◌+◌, ◌≤◌, Bool, true, false, List, [], ◌∷◌, ◌++◌, refl, sym, ap, subst, ◌∙◌, arith, append_assoc}
 use Rattle.std.specs.Prelude.{◌==◌, if◌then◌else◌, is_none, map}
 use Rattle.std.specs.List.{AllByRecursion}
+use Rattle.pm_facts.specs.Bools.{cond-same}
 use Rattle.pm_exit.specs.declared.child.Kind.{Kind}
 use Rattle.pm_supervisor.specs.declared.Limits.{Limits}
 use Rattle.pm_supervisor.specs.Steps.{shared_after}
@@ -16,6 +17,7 @@ use Rattle.pm_board.specs.declared.views.PastChild.{PastChild}
 use Rattle.pm_board.specs.declared.views.RosterView.{RosterView}
 use Rattle.pm_board.specs.Places.{slot_at}
 use Rattle.pm_chain.specs.Chain.{AreDistinct, IsPidOf}
+use Rattle.pm_chain.specs.FoldsLaws.{pid_left, pid_right}
 use Rattle.pm_seating.specs.Board.{begun_of}
 use Rattle.pm_seating.specs.Seating.{Begun, Kill, Move, Nothing, Notes, PidsEnd, PortEnds, Reads, Seating, Stop, begun_at, begun_by, begun_from, empty, entries_by, entries_from, is_seated, journal_of, seating_by}
 use Rattle.pm_worker.specs.declared.mail.MailTold.{MailTold}
@@ -140,25 +142,21 @@ pub data Beginning (s : Seating) (move : Move) : Type 0 where
   Nobody : pids_in (entries_by s move) ≡ [] → ((k : ℕ) → begun_by k s move ≡ []) → Beginning s move
   Somebody : (child : Begun) (slot : ℕ) → pids_in (entries_by s move) ≡ child.pid ∷ [] → ((k : ℕ) → begun_by k s move ≡ (if slot == k then child ∷ [] else [])) → Beginning s move
 
-none_if : {X : Type 0} (test : Bool) (none : List X) → (if test then none else none) ≡ none
-none_if true none = refl
-none_if false none = refl
-
 beginning : (s : Seating) (move : Move) → Beginning s move
 beginning s (Notes (entry.Started pid kind) slot) = Somebody (record { pid = pid; kind = kind; generation = s.generation }) slot refl (λ k. refl)
 beginning s (Notes (entry.Accepted pid decision) slot) = Somebody _ slot refl (λ k. refl)
-beginning s (Notes (entry.Exited pid kind status was_active at) slot) = Nobody refl (λ k. none_if (slot == k) [])
-beginning s (Notes (entry.Asked mode at) slot) = Nobody refl (λ k. none_if (slot == k) [])
-beginning s (Notes (entry.KillAsked pid) slot) = Nobody refl (λ k. none_if (slot == k) [])
-beginning s (Notes (entry.QuitSent why) slot) = Nobody refl (λ k. none_if (slot == k) [])
-beginning s (Notes entry.TerminateSent slot) = Nobody refl (λ k. none_if (slot == k) [])
-beginning s (Notes (entry.KillSent at) slot) = Nobody refl (λ k. none_if (slot == k) [])
-beginning s (Notes entry.CheckpointAsked slot) = Nobody refl (λ k. none_if (slot == k) [])
-beginning s (Notes (entry.RedoEnded generation kept) slot) = Nobody refl (λ k. none_if (slot == k) [])
-beginning s (Notes (entry.Ready generation) slot) = Nobody refl (λ k. none_if (slot == k) [])
-beginning s (Notes (entry.Reset generation) slot) = Nobody refl (λ k. none_if (slot == k) [])
-beginning s (Notes (entry.Said line) slot) = Nobody refl (λ k. none_if (slot == k) [])
-beginning s (Notes (entry.Ended how) slot) = Nobody refl (λ k. none_if (slot == k) [])
+beginning s (Notes (entry.Exited pid kind status was_active at) slot) = Nobody refl (λ k. cond-same (slot == k) [])
+beginning s (Notes (entry.Asked mode at) slot) = Nobody refl (λ k. cond-same (slot == k) [])
+beginning s (Notes (entry.KillAsked pid) slot) = Nobody refl (λ k. cond-same (slot == k) [])
+beginning s (Notes (entry.QuitSent why) slot) = Nobody refl (λ k. cond-same (slot == k) [])
+beginning s (Notes entry.TerminateSent slot) = Nobody refl (λ k. cond-same (slot == k) [])
+beginning s (Notes (entry.KillSent at) slot) = Nobody refl (λ k. cond-same (slot == k) [])
+beginning s (Notes entry.CheckpointAsked slot) = Nobody refl (λ k. cond-same (slot == k) [])
+beginning s (Notes (entry.RedoEnded generation kept) slot) = Nobody refl (λ k. cond-same (slot == k) [])
+beginning s (Notes (entry.Ready generation) slot) = Nobody refl (λ k. cond-same (slot == k) [])
+beginning s (Notes (entry.Reset generation) slot) = Nobody refl (λ k. cond-same (slot == k) [])
+beginning s (Notes (entry.Said line) slot) = Nobody refl (λ k. cond-same (slot == k) [])
+beginning s (Notes (entry.Ended how) slot) = Nobody refl (λ k. cond-same (slot == k) [])
 beginning s (Reads line Nothing at) = Nobody refl (λ k. refl)
 beginning s (Reads line (Stop how) at) = Nobody refl (λ k. refl)
 beginning s (Reads line (Kill pid) at) = Nobody (kills (is_seated pid s.seats)) (λ k. refl)
@@ -263,11 +261,8 @@ differs pid [] never = tt
 differs pid (other ∷ pids) never = ((λ is. never (inl is)), differs pid pids (λ there. never (inr there)))
 
 pub pid_either : (pid : ℕ) (xs ys : List ℕ) → IsPidOf pid xs ⊎ IsPidOf pid ys → IsPidOf pid (xs ++ ys)
-pid_either pid [] ys (inl there) = absurd there
-pid_either pid [] ys (inr there) = there
-pid_either pid (x ∷ xs) ys (inl (inl is)) = inl is
-pid_either pid (x ∷ xs) ys (inl (inr there)) = inr (pid_either pid xs ys (inl there))
-pid_either pid (x ∷ xs) ys (inr there) = inr (pid_either pid xs ys (inr there))
+pid_either pid xs ys (inl there) = pid_left pid xs ys there
+pid_either pid xs ys (inr there) = pid_right pid xs ys there
 
 -- whoever began in a slot is one of those that the entries tell of
 begun_told : (k pid : ℕ) (s : Seating) (moves : List Move) → IsPidOf pid (begun_pids (begun_from k s moves)) → IsPidOf pid (pids_in (entries_from s moves))

@@ -1,5 +1,5 @@
 -- Each reply that a server of many connections sent is right.
-use Rattle.std.proofs.Common.{◌≡◌, ◌⊎◌, inl, inr, ℕ, List, [], ◌∷◌, None, refl, sym, subst}
+use Rattle.std.proofs.Common.{◌≡◌, ◌⊎◌, ℕ, List, [], ◌∷◌, None, refl, sym, subst}
 use Rattle.std.specs.List.{AllByRecursion}
 use Rattle.pm_admit.specs.declared.Cac.{Cac}
 use Rattle.pm_query.specs.declared.book.BookEntry.{BookEntry}
@@ -15,6 +15,7 @@ use Rattle.pm_worker.specs.Mails.{traffic_in}
 use Rattle.pm_worker.specs.Runs.{Does, IsRun, IsSessionRun, Run}
 use Rattle.pm_crew.specs.Pids.{AreEntriesOf}
 use Rattle.pm_crew.specs.Talks.{AreTalksOf, IsOrNot}
+use Rattle.pm_session.specs.PassedLaws.{passed_anyhow}
 
 -- the client was turned away, or its replies are right
 abbrev pub IsFine : Base → List BookEntry → Talk → Type 0
@@ -40,14 +41,9 @@ module _ (right : RepliesAreRight) (own : OwnEntriesStand) (seed : List ℕ) (li
         whole = is.session.whole;
         noted = is.session.noted;
         text = is.session.text;
-        passed = record { missing = is.session.passed.missing; read = is.session.passed.read; sent = is.session.passed.sent; cause = why is.session.passed.cause };
+        passed = passed_anyhow _ _ _ is.session.passed;
         entries = is.session.entries;
       })
-    where
-      why : {A B C : Type 0} → A ⊎ (B ⊎ C) → A ⊎ (B ⊎ Unit {0})
-      why (inl none) = inl none
-      why (inr (inl cut)) = inr (inl cut)
-      why (inr (inr failed)) = inr (inr tt)
 
   more : (given : MailTold) (run : Run) (runs : List Run) → run.child.offer.given ≡ given → Does None seed limit gives given run → entries_by run.child.offer.pid book ≡ run.noted
       → FineTalks seed base book runs → FineTalks seed base book (run ∷ runs)

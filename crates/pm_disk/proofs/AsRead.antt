@@ -1,7 +1,7 @@
 -- A file as it reads is one of those that a stop may leave.
 use Rattle.std.proofs.Common.{◌≡◌, ◌⊎◌, ℕ, ◌+◌, ◌<◌, ◌≤◌, Some, List, [], ◌∷◌, ◌++◌, length, get_or, refl, sym, subst, ◌∙◌, ap, arith, rules}
 use Rattle.std.specs.Prelude.{All, filter, fold, slice_get, nat_le}
-use Rattle.std.proofs.lemmas.List.{places, length-append, length-take, length-drop}
+use Rattle.std.proofs.lemmas.List.{places}
 use Rattle.std.proofs.lemmas.List.Elements.{All-pop}
 use Rattle.std.proofs.lemmas.Option.{slice_get-get_or}
 use Rattle.pm_disk.specs.Files.{overwritten}
@@ -10,10 +10,7 @@ use Rattle.pm_disk.specs.declared.mem_file.Change.{Change}
 use Rattle.pm_disk.specs.declared.mem_file.Change.TheVariants.{Written, Synced}
 use Rattle.pm_disk.specs.declared.mem_file.Entry.{Entry}
 use Rattle.pm_disk.specs.declared.mem_file.Span.{Span}
-
--- what is written over a file makes it no shorter
-pub length-overwritten : (old : List ℕ) (at : ℕ) (bytes : List ℕ) → length old ≤ length (overwritten old at bytes)
-length-overwritten old at bytes = simp (length-append, length-take, length-drop) (omega arith)
+use Rattle.pm_disk.specs.DiskLaws.{length-overwritten}
 
 get_or-overwritten_outside : (old : List ℕ) (at : ℕ) (bytes : List ℕ) (i d : ℕ) → i < length old → (i < at) ⊎ (at + length bytes ≤ i) → get_or (overwritten old at bytes) i d ≡ get_or old i d
 get_or-overwritten_outside old at bytes i d within outside = search (rules, places)

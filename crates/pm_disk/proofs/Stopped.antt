@@ -7,10 +7,11 @@ use Rattle.std.proofs.lemmas.List.Elements.{All-head, All-tail}
 use Rattle.std.proofs.lemmas.Option.{slice_get-get_or}
 use Rattle.pm_disk.specs.Files.{overwritten}
 use Rattle.pm_disk.specs.Past.{IsOutside, MayLeave, State, state_at}
-use Rattle.pm_disk.proofs.AsRead.{length-overwritten, slice_get-overwritten_outside, reads_as_left}
+use Rattle.pm_disk.proofs.AsRead.{slice_get-overwritten_outside, reads_as_left}
 use Rattle.pm_disk.specs.Stop.{filled, spoiled, stopped}
 use Rattle.pm_disk.specs.declared.mem_file.Entry.{Entry}
 use Rattle.pm_disk.specs.declared.mem_file.Span.{Span}
+use Rattle.pm_disk.specs.DiskLaws.{length-overwritten}
 
 length-filled : (fill : List ℕ) (count : ℕ) → length (filled fill count) ≡ count
 length-filled fill count = length-map-range_with_len (λ k. if length fill == 0 then 0 else slice_index fill (k % length fill)) 0 count

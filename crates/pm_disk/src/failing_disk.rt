@@ -136,7 +136,9 @@ impl<D: Disk> Disk for FailingDisk<D> {
 
     ghost faults = { failing_faults };
 
-    ghost reads_as_left = { λ failing. subst (λ (tick : ℕ). IfSome (D.seen (inner_of failing)) (D.images (inner_of failing) tick)) (sym failing.stands) (D.reads_as_left (inner_of failing)) };
+    ghost reads_as_left = { λ failing.
+        subst (λ (tick : ℕ). IfSome (D.seen (inner_of failing)) (D.images (inner_of failing) tick))
+        (sym failing.stands) (D.reads_as_left (inner_of failing)) };
 
     ghost counted = { λ failing. failing.counted };
 

@@ -1,5 +1,5 @@
 -- The children that serve no connection, behind an act, behind the end of a child, and where one is taken off.
-use Rattle.std.proofs.Common.{ℕ, Option, None, Some, ◌≡◌, sym, subst, ap, List, [], ◌∷◌, refl, arith, ◌∙◌, ◌+◌, ◌≤◌, ◌⊎◌, inl, inr}
+use Rattle.std.proofs.Common.{ℕ, Option, None, Some, ◌≡◌, sym, subst, ap, List, [], ◌∷◌, refl, arith, ◌∙◌, ◌+◌, ◌⊎◌, inl, inr}
 use Rattle.std.specs.Prelude.{Bool, true, false, ◌==◌, if◌then◌else◌}
 use Rattle.std.proofs.lemmas.Bool.{eqb-false, eqb-true, ne_eqb}
 use Rattle.std.proofs.lemmas.Option.{same_Some}
@@ -7,7 +7,7 @@ use Rattle.pm_exit.specs.declared.child.Kind.{Kind}
 use Rattle.pm_state.specs.declared.action.Action.{Action}
 use Rattle.pm_journal.specs.Standing.{Standing, done, act_for}
 use Rattle.pm_acts.specs.Acts.{IsPresent}
-use Rattle.pm_acts.specs.ActsLaws.{auxiliary_kept, auxiliary_started}
+use Rattle.pm_acts.specs.ActsLaws.{auxiliary_kept, auxiliary_started, other_pid}
 use Rattle.pm_exit.specs.declared.child.Kind.TheVariants as kind
 use Rattle.pm_duties.specs.Auxiliaries.{AreThere, auxiliaries_after, IsOff, IsTakenOff, HasLess, heard_of}
 use Rattle.pm_duties.specs.declared.auxiliaries.Auxiliaries.{Auxiliaries}
@@ -117,10 +117,7 @@ auxiliaries_still auxiliaries s t children pid there = record {
 auxiliary_beside : (auxiliary : Option ℕ) (k new : Kind) (s t : Standing) → t.children ≡ record { pid = s.last_pid + 1; kind = new } ∷ s.children → t.last_pid ≡ s.last_pid + 1 → IsPresent auxiliary k s → IsPresent auxiliary k t
 auxiliary_beside None k new s t children last is = tt
 auxiliary_beside (Some p) k new s t children last is =
-    (ap (kind_in p) children ∙ ap (λ (b : Bool). if b then Some new else kind_in p s.children) (another p s.last_pid is.1) ∙ is.0, omega (arith, is.1, last))
-  where
-    another : (p last : ℕ) → p ≤ last → (last + 1 == p) ≡ false
-    another p last within = ne_eqb (last + 1) p (λ is. omega (arith, is, within))
+    (ap (kind_in p) children ∙ ap (λ (b : Bool). if b then Some new else kind_in p s.children) (other_pid p s.last_pid is.1) ∙ is.0, omega (arith, is.1, last))
 
 pub auxiliaries_beside : (auxiliaries : Auxiliaries) (new : Kind) (s t : Standing) → t.children ≡ record { pid = s.last_pid + 1; kind = new } ∷ s.children → t.last_pid ≡ s.last_pid + 1 → AreThere auxiliaries s → AreThere auxiliaries t
 auxiliaries_beside auxiliaries new s t children last is = record {

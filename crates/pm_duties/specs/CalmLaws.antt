@@ -35,6 +35,7 @@ use Rattle.pm_exit.specs.declared.child.Status.TheVariants.{Code}
 use Rattle.pm_state.specs.Exits.{redo_ended, startup_exited, exit_line, without_startup, less_one, unless_normal, exited_by, crash_rule, is_running, signalled_state, checkpointer_exited, is_shutdown}
 use Rattle.pm_state.specs.declared.machine.StartupStatus.TheVariants.{Running}
 use Rattle.pm_chain.specs.Steps.{ChildRun, Step, journal_of, Runs, redo_end}
+use Rattle.pm_chain.specs.FoldsLaws.{journal-append}
 use Rattle.pm_server.specs.declared.end.StartWhy.{StartWhy}
 use Rattle.pm_exit.specs.declared.child.Class.TheVariants as class
 use Rattle.pm_exit.specs.declared.child.Kind.{Kind}
@@ -48,8 +49,7 @@ use Rattle.pm_supervisor.specs.declared.Limits.{Limits}
 use Rattle.pm_journal.specs.Stands.{Stands}
 use Rattle.pm_state.specs.Starts.{has_end}
 use Rattle.pm_disk.specs.Cause.{Rose}
-use Rattle.pm_segment.specs.MovesLaws.{rose_later}
-use Rattle.pm_acts.specs.StepsLaws.{journal-append}
+use Rattle.pm_disk.specs.DiskLaws.{rose_further}
 use Rattle.pm_state.specs.declared.event.PmEvent.TheVariants as entry
 use Rattle.pm_state.specs.TurnLaws.{turn-startup, turn-serving}
 
@@ -151,13 +151,6 @@ asked_stands m now = by_mode m.shutdown refl
     by_mode (Some Immediate) is = ap is_some is
 
 -- ---- a connection
-
-pub accepted_same : (d : Cac) (m : Machine) → (accepted_as d m).shutdown ≡ m.shutdown
-accepted_same decisions.Ok m = refl
-accepted_same decisions.Startup m = refl
-accepted_same decisions.Recovery m = refl
-accepted_same decisions.Shutdown m = refl
-accepted_same decisions.TooMany m = refl
 
 -- the machine alone, with nothing due
 pub record IsQuiet (m : Machine) (auxiliaries : Auxiliaries) : Type 0 where
@@ -363,7 +356,7 @@ no_more steps = record { restarts = λ was. was; sessions = λ was. was }
 
 pub sessions_on : (from before now : ℕ) (earlier steps : List Step) → before ≤ now → (AllByRecursion HasFineSession earlier → AllByRecursion HasFineSession steps) → AllByRecursion HasFineSession earlier ⊎ Rose from before → AllByRecursion HasFineSession steps ⊎ Rose from now
 sessions_on from before now earlier steps later more (inl all) = inl (more all)
-sessions_on from before now earlier steps later more (inr rose) = inr (rose_later from before now later rose)
+sessions_on from before now earlier steps later more (inr rose) = inr (rose_further from before now later rose)
 
 pub later_one : (earlier : List Step) (step : Step) → list_any is_behind_crash (journal_of (step ∷ [])) ≡ false → list_any is_behind_crash (journal_of (earlier ++ step ∷ [])) ≡ true → list_any is_behind_crash (journal_of earlier) ≡ true
 later_one earlier step none is =

@@ -5,6 +5,7 @@ use Rattle.std.proofs.lemmas.List.Sums.{fold-append}
 use Rattle.pm_state.specs.declared.event.PmEvent.{PmEvent}
 use Rattle.pm_duties.specs.AuxiliaryRuns.{Heard, heard_after, AreToldBehind, IsToldRun, last_startup, startup_after, IsRefusedRun, startup_or, heard_in, nothing_heard, IsRunAs}
 use Rattle.pm_chain.specs.Steps.{Step, journal_by, journal_of, redo_end, ChildRun, Notes, Renews, Runs, RunsOn}
+use Rattle.pm_chain.specs.FoldsLaws.{journal-append}
 use Rattle.pm_exit.specs.declared.child.Kind.TheVariants as kind
 use Rattle.pm_state.specs.declared.action.Action.{Action}
 use Rattle.pm_state.specs.declared.action.Action.TheVariants as act
@@ -15,7 +16,6 @@ use Rattle.pm_duties.specs.Outcomes.{IsRefusedSo, ComesTo, AreCaused}
 use Rattle.pm_duties.specs.declared.outcome.Outcome.{Outcome}
 use Rattle.pm_duties.specs.declared.outcome.Outcome.TheVariants.{Closed, Refused}
 use Rattle.pm_server.specs.declared.end.StartWhy.{StartWhy}
-use Rattle.pm_acts.specs.StepsLaws.{journal-append}
 
 -- ---- what was told
 

@@ -116,9 +116,15 @@ impl<'a, D: Disk, B: Chronicle<BookEntry>> Store for Alone<'a, D, B> {
 
     ghost at_rest = { λ alone. (refl, does_nothing alone.work (moment alone.store.now)) };
 
-    ghost in_turn = { λ before between now first second one two. (two.0 ∙ one.0, does_on first second before.work between.work now.work (moment before.store.now) (moment between.store.now) (moment now.store.now) one.1 two.1) };
+    ghost in_turn = { λ before between now first second one two. (
+      two.0 ∙ one.0,
+      does_on first second before.work between.work now.work
+          (moment before.store.now) (moment between.store.now) (moment now.store.now) one.1 two.1,
+    ) };
 
-    ghost stays = { λ before now entries did. stays_in entries before.work now.work (moment before.store.now) (moment now.store.now) did.1 };
+    ghost stays = { λ before now entries did.
+        stays_in entries before.work now.work (moment before.store.now) (moment now.store.now) did.1 };
 
-    ghost rises = { λ before now entries did. meets entries before.work now.work (moment before.store.now) (moment now.store.now) did.1 };
+    ghost rises = { λ before now entries did.
+        meets entries before.work now.work (moment before.store.now) (moment now.store.now) did.1 };
 }

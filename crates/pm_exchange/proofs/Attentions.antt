@@ -1,12 +1,10 @@
 -- A cancel that is heeded or dropped.
-use Rattle.std.proofs.Common.{◌≡◌, true, false, Option, None, Some, refl, sym}
+use Rattle.std.proofs.Common.{true, false, Option, None, Some, refl, sym}
+use Rattle.std.proofs.lemmas.Bool.{true≢false}
 use Rattle.pm_life.specs.declared.standing.Standing.{Standing}
 use Rattle.pm_life.specs.Life.{Child, Told}
 use Rattle.pm_life.specs.Attention.{attention, IsAttentive, Hears}
 use Rattle.pm_life.specs.AttentionLaws.{asked_none, gained_none, cancels_none}
-
-true_false : true ≡ false → ⊥
-true_false e = cc
 
 dropped : (told : Option Told) (child : Child) (standing : Standing) → IsAttentive (attention told child standing) → IsAttentive (attention told child (record standing { cancel = false }))
 dropped None child standing stands = tt
@@ -15,7 +13,7 @@ dropped (Some told) child standing stands = record {
   quit = stands.quit;
   quits = stands.quits;
   terminate = stands.terminate;
-  cancel = λ e. absurd (true_false (sym e));
+  cancel = λ e. absurd (true≢false (sym e));
   checkpoint = stands.checkpoint;
 }
 
@@ -29,5 +27,5 @@ hears_dropped told child standing = record {
   given = λ signal given. given;
   stands = dropped told child standing;
   kill = λ is. is;
-  cancel = λ e. absurd (true_false (sym e));
+  cancel = λ e. absurd (true≢false (sym e));
 }

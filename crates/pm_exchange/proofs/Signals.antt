@@ -1,5 +1,6 @@
 -- Signals that end a session or cancel a query.
 use Rattle.std.proofs.Common.{◌≡◌, ◌∙◌, ℕ, inl, inr, Bool, true, false, Option, None, Some, sym, subst}
+use Rattle.std.proofs.lemmas.Bool.{true≢false}
 use Rattle.pm_supervisor.specs.declared.Reason.{Reason}
 use Rattle.pm_life.specs.Life.{Cancel}
 use Rattle.pm_exchange.specs.declared.ending.Cause.{Cause}
@@ -39,7 +40,4 @@ wait_told at cause attentive is = (
 
 -- a cancel that stands, where none stood, was given since
 pub cancel_since : (before now : Attention) (k : ℕ) → before.standing.cancel ≡ false → Hears k before now → now.standing.cancel ≡ true → GivenSince Cancel before.told now.told
-cancel_since before now k idle hears is = elim (hears.cancel is) [ inl stood ↦ absurd (true_false (sym stood ∙ idle)) | inr since ↦ since ]
-  where
-    true_false : true ≡ false → ⊥
-    true_false e = cc
+cancel_since before now k idle hears is = elim (hears.cancel is) [ inl stood ↦ absurd (true≢false (sym stood ∙ idle)) | inr since ↦ since ]

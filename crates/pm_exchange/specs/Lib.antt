@@ -10,3 +10,4 @@ pub mod Moments
 pub mod Queries
 pub mod Room
 pub mod Sent
+pub mod SentLaws

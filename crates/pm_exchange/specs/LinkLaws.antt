@@ -1,5 +1,6 @@
 -- Laws of what passed on a link, from one moment to the next.
-use Rattle.std.proofs.Common.{◌≡◌, ℕ, true, false, Bool, List, [], ◌++◌, Option, None, Some, refl, sym, ◌∙◌, arith}
+use Rattle.std.proofs.Common.{ℕ, true, false, Bool, List, [], ◌++◌, Option, None, Some, refl, sym, ◌∙◌, arith}
+use Rattle.std.proofs.lemmas.Bool.{true≢false}
 use Rattle.pm_outside.specs.Traffic.{Traffic, came_in_of, went_out_of}
 use Rattle.pm_exchange.specs.declared.ending.Cause.{Cause}
 use Rattle.pm_outside.specs.AddedLaws.{added_both, added_none}
@@ -21,10 +22,7 @@ passes_both came1 went1 came2 went2 a b c one two = record {
 
 -- ---- sound links
 
-true_false : true ≡ false → ⊥
-true_false e = cc
-
 -- a link that is sound is left for any cause
 pub sound_left : (ended : Bool) (cause : Cause) (traffic : Option Traffic) → IsSound ended traffic → IsLeftFor cause traffic
 sound_left ended cause None sound = tt
-sound_left ended cause (Some t) sound = (sound.1, λ failed. absurd (true_false (sym failed ∙ sound.0)))
+sound_left ended cause (Some t) sound = (sound.1, λ failed. absurd (true≢false (sym failed ∙ sound.0)))

@@ -27,7 +27,8 @@ impl Model for Inbox {
 
     ghost view = { λ inbox. drop inbox.start (take inbox.end inbox.bytes.items) };
 
-    ghost invariant = { λ inbox. (inbox.start ≤ inbox.end) × (inbox.end ≤ length inbox.bytes.items) × (length inbox.bytes.items ≡ buffer_bytes) };
+    ghost invariant = { λ inbox. (inbox.start ≤ inbox.end) × (inbox.end ≤ length inbox.bytes.items)
+        × (length inbox.bytes.items ≡ buffer_bytes) };
 }
 
 impl Inbox {

@@ -1,10 +1,23 @@
 -- Truth values.
-use Rattle.std.proofs.Common.{◌≡◌, Bool, true, false, cond, not, T, refl}
+use Rattle.std.proofs.Common.{◌≡◌, Bool, true, false, cond, not, ◌&&◌, T, refl}
 
 -- what holds is true
 pub true_of : (b : Bool) → T b → b ≡ true
 true_of true h = refl
 true_of false h = absurd h
+
+-- of both, each
+pub holds_first : (a b : Bool) → T (a && b) → T a
+holds_first true b p = tt
+holds_first false b p = absurd p
+
+pub holds_second : (a b : Bool) → T (a && b) → T b
+holds_second true b p = p
+holds_second false b p = absurd p
+
+pub hold_both : (a b : Bool) → T a → T b → T (a && b)
+hold_both true b p q = q
+hold_both false b p q = absurd p
 
 -- no value is both
 pub never_both : (b : Bool) → b ≡ true → b ≡ false → ⊥
@@ -24,3 +37,8 @@ by_test false is isnt = isnt refl
 pub cond-not : {A : Type 0} (b : Bool) (x y : A) → cond (not b) x y ≡ cond b y x
 cond-not true x y = refl
 cond-not false x y = refl
+
+-- a choice between the same
+pub cond-same : {A : Type 0} (b : Bool) (x : A) → cond b x x ≡ x
+cond-same true x = refl
+cond-same false x = refl

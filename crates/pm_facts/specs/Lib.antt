@@ -1,3 +1,5 @@
 pub mod Bools
 pub mod Lists
 pub mod Numbers
+pub mod Orders
+pub mod Zeros

@@ -24,6 +24,7 @@ use Rattle.pm_state.specs.Requests.{asked_with, ticked_at}
 use Rattle.pm_state.specs.TurnRules.{start_recovery, restart_writer, end_smart, stop_backends, backends_gone, dead_ends_gone, children_gone, and_then, turned_of}
 use Rattle.pm_state.specs.Journal.{last_pid}
 use Rattle.pm_state.specs.Starts.{starts_in}
+use Rattle.pm_state.specs.ChildLaws.{accepted_shutdown}
 use Rattle.pm_journal.specs.Standing.{Standing}
 use Rattle.pm_journal.specs.Stands.{HasPids, any_kind, highest_pid, starts_left}
 
@@ -319,9 +320,6 @@ pids-asked s t pids none last unowed some starts left =
           refl;
     }
 
-accept-asked : (decision : Cac) (m : Machine) → (accepted_as decision m).shutdown ≡ m.shutdown
-accept-asked decision m = grind arith
-
 accept-left : (decision : Cac) (m : Machine) → starts_left (accepted_as decision m) ≡ starts_left m
 accept-left decision m = grind arith
 
@@ -345,7 +343,7 @@ pub pids-accepted : (s t : Standing) (decision : Cac) → HasPids s → s.due �
 pids-accepted s t decision pids none unowed below last owed due machine =
     let nothing : starts_in any_kind s.due ≡ 0 = ap (starts_in any_kind) none in
     let none_due : starts_in any_kind t.due ≡ 0 = ap (starts_in any_kind) due in
-    let shut : is_some t.machine.shutdown ≡ is_some s.machine.shutdown = ap (λ m. is_some m.shutdown) machine ∙ ap is_some (accept-asked decision s.machine) in
+    let shut : is_some t.machine.shutdown ≡ is_some s.machine.shutdown = ap (λ m. is_some m.shutdown) machine ∙ ap is_some (accepted_shutdown decision s.machine) in
     let left : starts_left t.machine ≡ starts_left s.machine = ap starts_left machine ∙ accept-left decision s.machine in
     record {
       owed = λ owes. rw last (drawn-last s.last_pid (ap (λ b. b || nat_eq (s.last_pid + 1) last_pid) (sym unowed) ∙ (sym owed ∙ owes)));

@@ -22,6 +22,9 @@ shorter (b ∷ acts) a is = omega arith
 
 -- ---- what `next` answers
 
+pub same_act : (a b : Act) → (let r : Result (Option Act) GenerationsSpent = Ok (Some a) in r ≡ Ok (Some b)) → a ≡ b
+same_act a b is = cc
+
 -- an act was given
 pub record IsGivenNext (a : Action) (act : Act) (s : Standing) (n : Next) : Type 0 where
   pub first : first_due s.due ≡ Some a
@@ -39,15 +42,12 @@ given_in (a ∷ rest) s act is answer =
             a,
             record {
               first = ap first_due is;
-              act_is = some_of act (act_for a s) (sym answer' ∙ ap (λ (n : Next). n.answer) done_is);
+              act_is = same_act act (act_for a s) (sym answer' ∙ ap (λ (n : Next). n.answer) done_is);
               entries = ap (λ (n : Next). n.entries) done_is;
               after = ap (λ (n : Next). n.after) done_is;
             },
           )
     ] refl answer
-  where
-    some_of : (x y : Act) → (let r : Result (Option Act) GenerationsSpent = Ok (Some x) in r ≡ Ok (Some y)) → x ≡ y
-    some_of x y e = cc
 
 pub next_given : (s : Standing) (act : Act) → (next_of s).answer ≡ Ok (Some act) → (a : Action) × IsGivenNext a act s (next_of s)
 next_given s act answer = given_in s.due s act refl answer

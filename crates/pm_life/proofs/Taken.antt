@@ -1,9 +1,10 @@
 -- The signals of one answer, and what stands behind it.
-use Rattle.std.proofs.Common.{◌≡◌, ◌≢◌, ◌↔◌, ◌⊎◌, inl, inr, ℕ, ◌+◌, ◌-◌, ◌^◌, ◌≤◌, ◌<◌, ◌||◌, min, Bool, true, false, IsTrue, List, [], ◌∷◌, ◌++◌, length, map, get_or, Option, None, Some, IfSome, refl, sym, ◌∙◌, ap, subst, arith}
+use Rattle.std.proofs.Common.{◌≡◌, ◌≢◌, ◌↔◌, ◌⊎◌, inl, inr, ℕ, ◌+◌, ◌-◌, ◌<◌, ◌||◌, Bool, true, false, IsTrue, List, [], ◌∷◌, ◌++◌, length, get_or, Option, None, Some, refl, sym, ◌∙◌, ap, subst, arith}
 use Rattle.std.specs.Option.{option_map, option_or}
 use Rattle.std.specs.List.{Contains}
 use Rattle.std.proofs.lemmas.List.{length-map, get_or-map}
 use Rattle.std.proofs.lemmas.List.Elements.{Contains-append_left, Contains-append_right, Contains-append_cases, Contains-push, Contains-push_cases}
+use Rattle.std.proofs.lemmas.Bool.{true≢false}
 use Rattle.pm_supervisor.specs.declared.Reason.{Reason}
 use Rattle.pm_life.specs.declared.life.Signals.{Signals}
 use Rattle.pm_life.specs.declared.standing.Standing.{Standing}
@@ -12,15 +13,12 @@ use Rattle.pm_life.specs.Attention.{attention, with_signals, was_given, Stands, 
 
 -- ---- the signals of one answer
 
-true_false : true ≡ false → ⊥
-true_false e = cc
-
 only : {X : Type 0} (x y : X) → Contains (x ∷ []) y → x ≡ y
 only x y (k, lt, is) = elim (Contains-push_cases [] x y (k, lt, is)) [ inl h ↦ absurd (omega (arith, h.1)) | inr e ↦ e ]
 
 one_in : (stands : Bool) (signal : Signal) → IsTrue stands → Contains (one_if stands signal) signal
 one_in true signal is = Contains-push [] signal
-one_in false signal is = absurd (true_false (sym is))
+one_in false signal is = absurd (true≢false (sym is))
 
 in_one : (stands : Bool) (signal x : Signal) → Contains (one_if stands signal) x → IsTrue stands × (signal ≡ x)
 in_one true signal x has = (refl, only signal x has)
@@ -118,7 +116,7 @@ either_in false stands told now P before more one two is = two (more is)
 
 either_stands : (stood stands : Bool) (told now : Type 0) → (told → IsTrue stood) → (now → IsTrue stands) → told ⊎ now → IsTrue (stood || stands)
 either_stands true stands told now before more has = refl
-either_stands false stands told now before more (inl h) = absurd (true_false (sym (before h)))
+either_stands false stands told now before more (inl h) = absurd (true≢false (sym (before h)))
 either_stands false stands told now before more (inr h) = more h
 
 one_stands : (s : Signals) (told : Told) (stood stands : Bool) (signal : Signal) → IsTrue stood ↔ was_told signal told → (IsTrue stands → Contains (signals_in s) signal) → (Contains (signals_in s) signal → IsTrue stands)

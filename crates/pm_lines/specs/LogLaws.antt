@@ -1,9 +1,10 @@
 -- What was said to a log piece by piece.
-use Rattle.std.proofs.Common.{◌≡◌, ℕ, ◌≤◌, List, [], ◌∷◌, ◌++◌, refl, sym, ◌∙◌, ap, subst, arith, append-nil}
+use Rattle.std.proofs.Common.{◌≡◌, ℕ, List, [], ◌∷◌, ◌++◌, refl, sym, ◌∙◌, ap, subst, arith, append-nil}
 use Rattle.std.specs.Prelude.{Bool, true, false}
 use Rattle.std.specs.List.{flat_map}
 use Rattle.std.proofs.lemmas.Grind.{flat_map-append}
-use Rattle.pm_disk.specs.Cause.{Rose}
+use Rattle.std.proofs.lemmas.Bool.{false≢true}
+use Rattle.pm_disk.specs.DiskLaws.{rose_from}
 use Rattle.pm_state.specs.declared.action.Line.{Line}
 use Rattle.pm_state.specs.declared.event.PmEvent.{PmEvent}
 use Rattle.pm_state.specs.declared.event.PmEvent.TheVariants as entry
@@ -12,22 +13,13 @@ use Rattle.pm_lines.specs.Log.{HasLogged, HasPrinted, HasSaid, LogView, Says, lo
 use Rattle.pm_lines.specs.Print.{IsPrinted}
 use Rattle.pm_lines.specs.PrintLaws.{cut_short, nothing_printed, printed_then, printed_weaker, printed_whole}
 
-rose_from : (first mid now : ℕ) → first ≤ mid → Rose mid now → Rose first now
-rose_from first mid now le rose = omega (arith, le, rose)
-
-rose_further : (first mid now : ℕ) → mid ≤ now → Rose first mid → Rose first now
-rose_further first mid now le rose = omega (arith, le, rose)
-
-never : false ≡ true → ⊥
-never e = cc
-
 -- ---- texts
 
 -- nothing was given to it
 pub says_nothing : (at : LogView) → Says [] at at
 says_nothing at = record {
   unbroken = λ is. nothing_printed (at.is_cut ≡ true) at.written;
-  rose = λ is cut. absurd (never (sym is ∙ cut));
+  rose = λ is cut. absurd (false≢true (sym is ∙ cut));
   broken = λ is. refl;
   later = omega arith;
 }
@@ -88,6 +80,6 @@ said_same journal more first mid none so_far =
 pub said_first : (first : LogView) → first.is_cut ≡ false → HasSaid [] first first
 said_first first unbroken = record {
   printed = nothing_printed (first.is_cut ≡ true) first.written;
-  rose = λ cut. absurd (never (sym unbroken ∙ cut));
+  rose = λ cut. absurd (false≢true (sym unbroken ∙ cut));
   later = omega arith;
 }

@@ -3,7 +3,6 @@ use Rattle.std.proofs.Common.{◌≡◌, ◌∙◌, ℕ, ◌+◌, ◌==◌, Bool
 use Rattle.std.specs.List.{flat_map}
 use Rattle.std.proofs.lemmas.Grind.{common_steps}
 use Rattle.std.proofs.lemmas.List.{append-nil, nil_from_length}
-use Rattle.std.proofs.lemmas.List.Concat.{flat_map-append}
 use Rattle.pm_rows.specs.Fold.{RowMap, committed}
 use Rattle.pm_rows.specs.Standing.{Standing}
 use Rattle.pm_rows.specs.declared.commit.Change.{Change}
@@ -13,24 +12,17 @@ use Rattle.pm_query.specs.Answer.{commit_of, items_of}
 use Rattle.pm_query.specs.declared.item.Item.{Item}
 use Rattle.pm_wire.specs.Backend.{BackMessage, Ready}
 use Rattle.pm_exchange.specs.Sent.{bytes_of, greeting, item_messages}
+use Rattle.pm_exchange.specs.SentLaws.{bytes_of-append}
 use Rattle.pm_load.specs.Queries.{queries, query_at}
 use Rattle.pm_load.specs.Replay.{AreAnswered, IsAnswered, IsReplay, Replayed, answer_messages, behind, new_standing}
 
-pub bytes_both : (ms ns : List BackMessage) → bytes_of (ms ++ ns) ≡ bytes_of ms ++ bytes_of ns
-unfolding bytes_of
-bytes_both ms ns = flat_map-append _ ms ns
-
 pub said_more : (old first now : List ℕ) (ms : List BackMessage) (m : BackMessage) → first ≡ old ++ bytes_of ms → now ≡ first ++ bytes_of (m ∷ []) → now ≡ old ++ bytes_of (ms ++ m ∷ [])
 said_more old first now ms m so_far one =
-    one ∙ ap (λ (l : List ℕ). l ++ bytes_of (m ∷ [])) so_far ∙ append_assoc old (bytes_of ms) (bytes_of (m ∷ [])) ∙ ap (λ (l : List ℕ). old ++ l) (sym (bytes_both ms (m ∷ [])))
+    one ∙ ap (λ (l : List ℕ). l ++ bytes_of (m ∷ [])) so_far ∙ append_assoc old (bytes_of ms) (bytes_of (m ∷ [])) ∙ ap (λ (l : List ℕ). old ++ l) (sym (bytes_of-append ms (m ∷ [])))
 
 pub said_both : (old first now : List ℕ) (ms ns : List BackMessage) → first ≡ old ++ bytes_of ms → now ≡ first ++ bytes_of ns → now ≡ old ++ bytes_of (ms ++ ns)
 said_both old first now ms ns so_far more =
-    more ∙ ap (λ (l : List ℕ). l ++ bytes_of ns) so_far ∙ append_assoc old (bytes_of ms) (bytes_of ns) ∙ ap (λ (l : List ℕ). old ++ l) (sym (bytes_both ms ns))
-
-pub no_bytes : bytes_of [] ≡ []
-unfolding bytes_of
-no_bytes = refl
+    more ∙ ap (λ (l : List ℕ). l ++ bytes_of ns) so_far ∙ append_assoc old (bytes_of ms) (bytes_of ns) ∙ ap (λ (l : List ℕ). old ++ l) (sym (bytes_of-append ms ns))
 
 pub no_queries : queries 0 ≡ []
 unfolding queries
@@ -56,7 +48,7 @@ replay_more n pid key before now messages so_far one sent = record {
   answered = subst (λ (texts : List (List ℕ)). AreAnswered texts new_standing now.standing (so_far.messages ++ messages)) (sym (queries_more n))
       (answered_more (queries n) (query_at (n + 1)) new_standing before.standing now.standing so_far.messages messages so_far.answered one);
   sent = sent ∙ ap (λ (l : List ℕ). l ++ bytes_of messages) so_far.sent ∙ append_assoc (bytes_of (greeting pid key)) (bytes_of so_far.messages) (bytes_of messages)
-      ∙ ap (λ (l : List ℕ). bytes_of (greeting pid key) ++ l) (sym (bytes_both so_far.messages messages));
+      ∙ ap (λ (l : List ℕ). bytes_of (greeting pid key) ++ l) (sym (bytes_of-append so_far.messages messages));
 }
 
 -- ---- one query

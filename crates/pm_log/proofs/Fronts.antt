@@ -6,7 +6,7 @@ use Rattle.std.proofs.lemmas.List.Elements.{All-push}
 use Rattle.std.proofs.lemmas.List.Sums.{fold-append}
 use Rattle.std.proofs.Math.Seq.{take-append-add}
 use Rattle.pm_rows.specs.declared.commit.Change.{Change}
-use Rattle.pm_rows.specs.Fold.{RowMap, committed, folded}
+use Rattle.pm_rows.specs.Fold.{committed, folded}
 use Rattle.pm_record.specs.Spelling.{base_bytes, batch_bytes}
 use Rattle.pm_rows.specs.Standing.{Standing, after}
 use Rattle.pm_rows.specs.Limits.{IsWithinRowLimits}
@@ -35,8 +35,6 @@ Spells-push front content batch gate is_open spelled =
     }
 
 -- ---- limits and standings
-pub folded-append : (rows : RowMap) (xs ys : List (List Change)) → folded rows (xs ++ ys) ≡ folded (folded rows xs) ys
-folded-append rows xs ys = fold-append committed rows xs ys
 
 MayFollow-append : (standing : Standing) (xs ys : List (List Change)) → MayFollow standing xs → MayFollow (after standing xs) ys → MayFollow standing (xs ++ ys)
 MayFollow-append standing xs ys first second = record {
@@ -44,7 +42,7 @@ MayFollow-append standing xs ys first second = record {
     | inl past ↦
         let there : take n (xs ++ ys) ≡ xs ++ take (n - length xs) ys =
         ap (λ (k : ℕ). take k (xs ++ ys)) (omega arith) ∙ take-append-add xs ys (n - length xs) in
-        subst IsWithinRowLimits (sym (ap (λ (l : List (List Change)). folded standing.rows l) there ∙ folded-append standing.rows xs (take (n - length xs) ys)))
+        subst IsWithinRowLimits (sym (ap (λ (l : List (List Change)). folded standing.rows l) there ∙ fold-append committed standing.rows xs (take (n - length xs) ys)))
         (second.limits (n - length xs) (omega (arith, length-append xs ys)))
     | inr within ↦
         subst (λ (l : List (List Change)). IsWithinRowLimits (folded standing.rows l)) (sym (take-append-le n xs ys within)) (first.limits n within)

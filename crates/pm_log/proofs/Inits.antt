@@ -7,7 +7,7 @@ use Rattle.std.specs.Map.{values_of}
 use Rattle.std.specs.FinMap as map
 use Rattle.std.specs.Ordering.{int_cmp}
 use Rattle.std.proofs.lemmas.Bool.{cases_lt}
-use Rattle.std.proofs.lemmas.List.{length-drop}
+use Rattle.std.proofs.lemmas.List.{length-drop, nil_from_length}
 use Rattle.pm_disk.specs.declared.disk.Which.TheVariants.{A, B}
 use Rattle.pm_disk.specs.Files.{Files, file_of, overwritten}
 use Rattle.pm_disk.specs.Disk.{Only, TellsStill, Torn}
@@ -27,15 +27,11 @@ use Rattle.pm_log.proofs.ToldMoves.{Wrote}
 
 -- ---- the new log
 
-nothing : {X : Type 0} (xs : List X) → length xs ≡ 0 → xs ≡ []
-nothing [] none = refl
-nothing (x ∷ xs) none = absurd (omega (arith, none))
-
 abbrev rows : RowMap
 rows = map.empty
 
 no_entries : map.entries rows ≡ []
-no_entries = nothing (map.entries rows) (sym (map.len-entries rows) ∙ map.len-empty int_cmp (List ℕ))
+no_entries = nil_from_length (map.entries rows) (sym (map.len-entries rows) ∙ map.len-empty int_cmp (List ℕ))
 
 no_rows : rows_bytes map.empty ≡ 0 ∷ 0 ∷ 0 ∷ 0 ∷ []
 no_rows =

@@ -3,6 +3,7 @@ use Rattle.std.proofs.Common.{◌≡◌, ◌≢◌, ◌⊎◌, inl, inr, ℕ, �
 use Rattle.std.specs.Prelude.{slice_get}
 use Rattle.std.proofs.lemmas.Bool.{cases_lt}
 use Rattle.std.proofs.lemmas.Option.{same_Some}
+use Rattle.std.proofs.Math.Arith.{le-zero}
 use Rattle.pm_disk.specs.declared.disk.Which.{Which}
 use Rattle.pm_disk.specs.Files.{Files, file_of, other, overwritten}
 use Rattle.pm_disk.specs.Disk.{Only, Torn}
@@ -135,16 +136,13 @@ module _ (file : Which) (content : Content) (clean : Bool) (end : ℕ) (bytes : 
         is_in = record { free = i.free ++ t.1; parts = t.2 ∙ ap (λ (l : List ℕ). t.0 ∷ l) (append_assoc base (0 ∷ i.free) t.1) };
       }
 
-  none : (gate : ℕ) → gate ≤ 0 → gate ≡ 0
-  none gate le = omega arith
-
   open_means : (image : Files) → StandsFor was content end → InOpen image → One image
   open_means image stands i =
       let there : StandsFor (file_of image file) content end = subst (λ (l : List ℕ). StandsFor l content end) (sym i.stays) stands in
       elim (cases_lt 0 i.gate) [
         | inl is_open ↦ inr (next_in image (means_next image next_end (is_in_stands i.gate (file_of image o) i.is_in (λ e. omega arith)) (inr (content, end, there, omega arith))))
         | inr is_closed ↦ inl (means_shut image file content end there
-            (base ++ (0 ∷ i.is_in.free), i.is_in.parts ∙ ap (λ (g : ℕ). g ∷ (base ++ (0 ∷ i.is_in.free))) (none i.gate is_closed)))
+            (base ++ (0 ∷ i.is_in.free), i.is_in.parts ∙ ap (λ (g : ℕ). g ∷ (base ++ (0 ∷ i.is_in.free))) (le-zero is_closed)))
       ]
 
   -- the old file's gate is being written
@@ -157,7 +155,7 @@ module _ (file : Which) (content : Content) (clean : Bool) (end : ℕ) (bytes : 
       let counts : StandsFor (file_of image o) next next_end = subst (λ (l : List ℕ). StandsFor l next next_end) (sym torn.beside) there in
       inr (next_in image (means_next image next_end counts (elim (cases_lt 0 t.0) [
         | inl is_open ↦ inr (content, end, subst (λ (l : List ℕ). StandsFor l content end) (sym t.2) (regated (file_of earlier file) content end t.0 t.1 old (λ e. omega arith)), omega arith)
-        | inr is_closed ↦ inl (drop 1 (file_of earlier file) ++ t.1, t.2 ∙ ap (λ (g : ℕ). g ∷ (drop 1 (file_of earlier file) ++ t.1)) (none t.0 is_closed))
+        | inr is_closed ↦ inl (drop 1 (file_of earlier file) ++ t.1, t.2 ∙ ap (λ (g : ℕ). g ∷ (drop 1 (file_of earlier file) ++ t.1)) (le-zero is_closed))
       ])))
 
   -- ---- over the ticks

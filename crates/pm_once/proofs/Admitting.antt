@@ -1,8 +1,7 @@
 -- A connection is taken, and its session's child ends.
 use Rattle.std.proofs.Common.{◌≡◌, ◌⊎◌, inl, inr, ℕ, ◌+◌, List, [], ◌∷◌, ◌++◌, Option, None, Some, Result, Ok, Err, refl, sym, ◌∙◌, ap, subst, arith, append-nil}
 use Rattle.std.specs.Option.{option_map}
-use Rattle.std.specs.Prelude.{true, false, length, nat_le, IfSome, OnOk}
-use Rattle.std.proofs.lemmas.Bool.Decides.{nat_tests}
+use Rattle.std.specs.Prelude.{true, false, length, IfSome, OnOk}
 use Rattle.std.proofs.lemmas.List.Elements.{All-nil, All-cons}
 use Rattle.pm_facts.specs.Bools.{never_both}
 use Rattle.pm_admit.specs.declared.Cac.{Cac}
@@ -15,6 +14,7 @@ use Rattle.pm_outside.specs.Visits.{Visits}
 use Rattle.pm_segment.specs.Moves.{Moves}
 use Rattle.pm_chain.specs.Laws.{StepsGoOn}
 use Rattle.pm_chain.specs.Steps.{ChildRun, Notes, Runs, RunsOn, Step, journal_of}
+use Rattle.pm_chain.specs.FoldsLaws.{journal-append}
 use Rattle.pm_journal.specs.Laws.{GoesOnOverItsJournal, KeepsALegalJournal}
 use Rattle.pm_journal.specs.declared.supervision.Taken.{Taken}
 use Rattle.pm_outside.specs.Added.{Added}
@@ -44,7 +44,8 @@ use Rattle.pm_once.proofs.SessionRuns.{session_run}
 use Rattle.pm_once.proofs.SessionEnds.{session_sound}
 use Rattle.pm_duties.specs.CalmLaws.{still_less}
 use Rattle.pm_once.proofs.Going.{goes_none, goes_on, stays_on}
-use Rattle.pm_acts.specs.StepsLaws.{journal-append, sessions-append}
+use Rattle.pm_acts.specs.StepsLaws.{sessions-append}
+use Rattle.pm_acts.specs.ActsLaws.{drawn_further}
 use Rattle.pm_once.proofs.Serving.{ends_on, one_numbered, open_on}
 use Rattle.pm_once.proofs.Knowing.{known_moved}
 
@@ -73,10 +74,7 @@ is_there gives v w pid took one is =
     (one.there ∙ ap (λ (k : Kind). Some k) (its_kind (decision_on v.work.standing) took.ok), omega (arith, ap (λ (t : Standing). t.last_pid) took.standing))
 
 drawn_on : (n m : ℕ) → m ≡ n + 1 → is_last_drawn n ≡ true → is_last_drawn m ≡ true
-drawn_on n m is drawn = subst (λ (k : ℕ). nat_le 2147480000 k ≡ true) (sym is) (further n drawn)
-  where
-    further : (n : ℕ) → nat_le 2147480000 n ≡ true → nat_le 2147480000 (n + 1) ≡ true
-    further n drawn = grind (arith, nat_tests)
+drawn_on n m is drawn = subst (λ (k : ℕ). is_last_drawn k ≡ true) (sym is) (drawn_further n drawn)
 
 -- no request is owed
 pub admits_plainly : StepsGoOn → GoesOnOverItsJournal → (gives : ℕ → Type 0) (v : View) (w : AtWork) (pid : ℕ) → HasTaken v w → pid ≡ next_pid v.work.standing → w.standing.owes_smart ≡ false

@@ -5,6 +5,7 @@ use Rattle.std.proofs.lemmas.Bool.Decides.{nat_tests}
 use Rattle.pm_modes.specs.declared.Mode.{Mode}
 use Rattle.pm_modes.specs.declared.Mode.TheVariants.{Smart}
 use Rattle.pm_state.specs.declared.event.PmEvent.TheVariants as entry
+use Rattle.pm_state.specs.Journal.{last_pid}
 use Rattle.pm_chain.specs.Laws.{StepsGoOn}
 use Rattle.pm_chain.specs.Steps.{Step, Notes, journal_of}
 use Rattle.pm_journal.specs.Laws.{GoesOnOverItsJournal}
@@ -128,7 +129,7 @@ finishes_ok gives steps before now goes_on acts unowed = record {
   drawn = acts.keeps.drawn;
 }
 
-owed_drawn : (n : ℕ) → 2147480000 ≤ n → is_last_drawn n ≡ true
+owed_drawn : (n : ℕ) → last_pid ≤ n → is_last_drawn n ≡ true
 owed_drawn n le = grind (arith, nat_tests)
 
 -- a request is owed only behind the last pid

@@ -5,6 +5,7 @@ use Rattle.pm_facts.specs.Lists.{each_first, each_second}
 use Rattle.pm_state.specs.declared.event.PmEvent.{PmEvent}
 use Rattle.pm_query.specs.declared.book.BookEntry.{BookEntry}
 use Rattle.pm_chain.specs.Steps.{Step, Notes, book_of, journal_of}
+use Rattle.pm_chain.specs.FoldsLaws.{journal-append}
 use Rattle.pm_outside.specs.Added.{Added}
 use Rattle.pm_segment.specs.Moves.{StaysUnread}
 use Rattle.pm_segment.specs.MovesLaws.{moves_none, unread_on}
@@ -19,7 +20,7 @@ use Rattle.pm_server.specs.declared.end.Why.TheVariants.{AfterCrash, StartupFail
 use Rattle.pm_outside.specs.AddedLaws.{added_both, added_none}
 use Rattle.pm_server.specs.JournalLaws.{times_any, times_none, times_on}
 use Rattle.pm_server.specs.SpansLaws.{spans_none, spans_on}
-use Rattle.pm_acts.specs.StepsLaws.{journal-append, book-append, serves_nothing, serves_both}
+use Rattle.pm_acts.specs.StepsLaws.{book-append, serves_nothing, serves_both}
 
 pub goes_none : (gives : ℕ → Type 0) (v : View) → Goes gives [] v v
 goes_none gives v = record {

@@ -3,6 +3,7 @@ use Rattle.std.proofs.Common.{◌≡◌, ◌⊎◌, inl, inr, ℕ, ◌+◌, ◌�
 use Rattle.std.specs.Prelude.{Bool, true, false, if◌then◌else◌, map, IfErr, IfSome, OnOk}
 use Rattle.std.proofs.lemmas.List.{length-map, map-append}
 use Rattle.std.proofs.lemmas.List.Elements.{All-nil, All-append}
+use Rattle.std.proofs.lemmas.Bool.{false≢true}
 use Rattle.pm_facts.specs.Bools.{never_both}
 use Rattle.pm_exit.specs.declared.child.Kind.TheVariants as kind
 use Rattle.pm_exit.specs.declared.child.Status.{Status}
@@ -13,6 +14,7 @@ use Rattle.pm_session.specs.Session.{status_of}
 use Rattle.pm_exchange.specs.declared.ending.Cause.{Cause}
 use Rattle.pm_exchange.specs.declared.ending.Cause.TheVariants.{Terminated, Cancelling, LinkEnded, LinkFailed, TimedOut, PacketRefused, MessageRefused, DecisionRefused, GateRefused, ShortOfMemory, Panicked, ToldToTerminate, ToldToQuit, Killed, Overtaken}
 use Rattle.pm_chain.specs.Steps.{ChildRun, Step, journal_of}
+use Rattle.pm_chain.specs.FoldsLaws.{journal-append}
 use Rattle.pm_journal.specs.declared.exit.ChildExit.{ChildExit}
 use Rattle.pm_journal.specs.declared.supervision.Taken.{Taken}
 use Rattle.pm_journal.specs.Standing.{later}
@@ -28,7 +30,7 @@ use Rattle.pm_server.specs.declared.end.ServerEnd.{ServerEnd}
 use Rattle.pm_server.specs.declared.end.ServerEnd.TheVariants.{NoMemory}
 use Rattle.pm_server.specs.JournalLaws.{accepted_in-append, asked_in-append}
 use Rattle.pm_once.proofs.Going.{does_nothing, end_behind, goes_on, stays_on}
-use Rattle.pm_acts.specs.StepsLaws.{journal-append, sessions-append}
+use Rattle.pm_acts.specs.StepsLaws.{sessions-append}
 use Rattle.pm_once.proofs.Links.{both_changes, no_change}
 
 -- ---- how a session's child ends
@@ -81,14 +83,11 @@ finishes_serves gives result steps before now finishes = record {
   ends = finishes.does.ends;
   idle = finishes.idle;
   deaf = λ was. (elim finishes.deaf [ inl same ↦ same ∙ was | inr drawn ↦ drawn.0 ], refl, refl);
-  at_end = λ is. absurd (never is);
-  asked = λ is. absurd (never is);
+  at_end = λ is. absurd (false≢true is);
+  asked = λ is. absurd (false≢true is);
   drawn = finishes.drawn;
   why = λ is. elim finishes.deaf [ inl same ↦ inl (sym same ∙ is) | inr drawn ↦ inr (inr drawn.1) ];
 }
-  where
-    never : false ≡ true → ⊥
-    never e = cc
 
 none_numbered : (v : Option Visits) → IfSome v (λ visits. AreNumbered (length visits.given) [])
 none_numbered None = tt

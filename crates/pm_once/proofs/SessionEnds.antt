@@ -1,7 +1,8 @@
 -- The child of a session crashes only where the disk has failed.
 use Rattle.std.proofs.Common.{◌≡◌, ◌⊎◌, inl, inr, ℕ, List, [], ◌∷◌, ◌++◌, All, refl, sym, subst, append_assoc}
-use Rattle.std.specs.Prelude.{true, not, ◌&&◌, ◌||◌, Some}
+use Rattle.std.specs.Prelude.{true, not, ◌&&◌, ◌||◌}
 use Rattle.std.proofs.lemmas.List.Elements.{All-head, All-tail}
+use Rattle.std.proofs.lemmas.Option.{same_Some}
 use Rattle.pm_admit.specs.declared.Cac.TheVariants as decisions
 use Rattle.pm_disk.specs.Cause.{Rose}
 use Rattle.pm_exit.specs.declared.child.Kind.TheVariants as kind
@@ -70,8 +71,5 @@ pub session_sound : (key limit : ℕ) (gives : ℕ → Type 0) (from : ℕ) (c :
 session_sound key limit gives from c before now served store counted = elim (fine_by c.ending.cause served.alone.cause) [
   | inr fine ↦ inl (λ is. subst (λ (x : Cause). ((is_exit_0 (status_by x) || is_exit_1 (status_by x)) && not (is_panic x)) ≡ true) (sym served.alone.exit) fine)
   | inl panicked ↦ inr (panic_rose from now.store.faults key c served.session.came_in served.session.whole served.session.noted panicked served.session.text
-      (subst (λ (l : List BookEntry). All (IsShown from now.store.faults) l) (some_same c.noted served.session.noted (sym served.session.entries)) (store.counts from counted).each))
+      (subst (λ (l : List BookEntry). All (IsShown from now.store.faults) l) (same_Some c.noted served.session.noted served.session.entries) (store.counts from counted).each))
 ]
-  where
-    some_same : (x y : List BookEntry) → Some y ≡ Some x → x ≡ y
-    some_same x y e = cc

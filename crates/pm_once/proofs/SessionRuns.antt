@@ -3,6 +3,7 @@ use Rattle.std.proofs.Common.{◌≡◌, ◌⊎◌, inl, inr, ℕ, List, [], ◌
 use Rattle.std.specs.Prelude.{Bool, false, if◌then◌else◌}
 use Rattle.std.specs.List.{AllByRecursion}
 use Rattle.std.proofs.lemmas.List.Elements.{All-nil, All-cons, All-head, All-tail, All-same, All-append}
+use Rattle.std.proofs.lemmas.Option.{same_Some}
 use Rattle.pm_admit.specs.declared.Cac.TheVariants as decisions
 use Rattle.pm_query.specs.Calls.{User, LeaveNotes}
 use Rattle.pm_query.specs.declared.book.BookEntry.{BookEntry}
@@ -146,9 +147,6 @@ used connection key came_in whole noted same own exit (inl away) =
 -- the run of a session's child
 pub session_run : (key limit : ℕ) (gives : ℕ → Type 0) (connection : Connection) → IsServedAs key limit gives connection → IsRunOf (run_of connection)
 session_run key limit gives connection served = record {
-  use_of_store = used connection key served.session.came_in served.session.whole served.session.noted (some_same served.session.noted connection.noted (sym served.session.entries)) served.alone.cause served.alone.exit served.session.text;
+  use_of_store = used connection key served.session.came_in served.session.whole served.session.noted (same_Some served.session.noted connection.noted (sym served.session.entries)) served.alone.cause served.alone.exit served.session.text;
   redo = refl;
 }
-  where
-    some_same : (x y : List BookEntry) → Some x ≡ Some y → x ≡ y
-    some_same x y e = cc

@@ -1,6 +1,7 @@
 -- A turn of the machine, and what is done behind it.
 use Rattle.std.proofs.Common.{◌≡◌, inl, inr, ℕ, List, [], ◌++◌, Option, Result, Ok, Err, refl, sym, ◌∙◌, ap, subst}
 use Rattle.std.specs.Prelude.{Bool, true, false, OnOk}
+use Rattle.std.proofs.lemmas.Bool.{false≢true}
 use Rattle.pm_outside.specs.Visits.{Visits}
 use Rattle.pm_chain.specs.Steps.{Step}
 use Rattle.pm_journal.specs.Laws.{GoesOnOverItsJournal}
@@ -74,7 +75,4 @@ turn_serves gives result ys y one two before mid now turns idle second =
 pub turn_served : (seed : List ℕ) (limit : ℕ) (gives : ℕ → Type 0) (ys : List Connection) (y : Bool) (one two : List Step) (before mid : View) (u w : Option Visits) → Turns (Ok tt) one before mid
     → HasServed seed limit gives ys y two u w → HasServed seed limit gives ys y (one ++ two) u w
 turn_served seed limit gives ys y one two before mid u w turns second =
-    served_on seed limit gives [] ys false y one two u u w (λ never. absurd (cannot never)) (nothing_served seed limit gives one u turns.does.serves) second
-  where
-    cannot : false ≡ true → ⊥
-    cannot e = cc
+    served_on seed limit gives [] ys false y one two u u w (λ never. absurd (false≢true never)) (nothing_served seed limit gives one u turns.does.serves) second

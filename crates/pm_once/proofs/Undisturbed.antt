@@ -7,6 +7,7 @@ use Rattle.std.proofs.Math.Bool.{or-false}
 use Rattle.pm_facts.specs.Lists.{each_more}
 use Rattle.pm_facts.specs.Bools.{never_both}
 use Rattle.pm_disk.specs.Cause.{Rose}
+use Rattle.pm_disk.specs.DiskLaws.{rose_further}
 use Rattle.pm_exit.specs.declared.child.Kind.TheVariants as kind
 use Rattle.pm_modes.specs.declared.Mode.{Mode}
 use Rattle.pm_admit.specs.declared.Cac.{Cac}
@@ -20,11 +21,12 @@ use Rattle.pm_state.specs.Exits.{exited_by}
 use Rattle.pm_state.specs.Journal.{without_first}
 use Rattle.pm_state.specs.Machine.{accepted_as}
 use Rattle.pm_state.specs.TurnRules.{turned_of}
+use Rattle.pm_state.specs.ChildLaws.{accepted_shutdown}
 use Rattle.pm_chain.specs.Steps.{ChildRun, Notes, Renews, Runs, RunsOn, Step, journal_of}
+use Rattle.pm_chain.specs.FoldsLaws.{journal-append}
 use Rattle.pm_journal.specs.Standing.{Standing, act_for, done, entry_for, first_due}
 use Rattle.pm_segment.specs.Moment.{Moment}
 use Rattle.pm_segment.specs.Moves.{IsCountedFrom}
-use Rattle.pm_segment.specs.MovesLaws.{rose_later}
 use Rattle.pm_duties.specs.Auxiliaries.{HasLess, auxiliaries_after, heard_of}
 use Rattle.pm_duties.specs.AuxiliaryRuns.{IsRunAs}
 use Rattle.pm_acts.specs.Acts.{AreOurs}
@@ -33,8 +35,7 @@ use Rattle.pm_once.specs.Undisturbed.{IsDisturbedAt, IsDisturbedSo}
 use Rattle.pm_once.specs.View.{View}
 use Rattle.pm_duties.specs.declared.auxiliaries.Auxiliaries.{Auxiliaries}
 use Rattle.pm_journal.specs.NextsLaws.{first_is}
-use Rattle.pm_acts.specs.StepsLaws.{journal-append}
-use Rattle.pm_duties.specs.CalmLaws.{acted_calm, shutdown_done, accepted_same, IsQuiet, quiet_of, calm_of, accepted_quiet, still_less, less_startup, exited_quiet, exit_keeps, turned_quiet, HasNotCrashed, no_more, sessions_on, later_one, one_more, ended_run}
+use Rattle.pm_duties.specs.CalmLaws.{acted_calm, shutdown_done, IsQuiet, quiet_of, calm_of, accepted_quiet, still_less, less_startup, exited_quiet, exit_keeps, turned_quiet, HasNotCrashed, no_more, sessions_on, later_one, one_more, ended_run}
 
 -- ---- from one moment to another
 
@@ -49,7 +50,7 @@ pub record Follows (before now : View) : Type 0 where
   pub calm : IsCalm before.work.standing before.auxiliaries → IsCalm now.work.standing now.auxiliaries
 
 disturbed_so : (from : ℕ) (before now : View) → before.store.faults ≤ now.store.faults → Follows before now → IsDisturbedSo from before → IsDisturbedSo from now
-disturbed_so from before now later follows (inl rose) = inl (rose_later from before.store.faults now.store.faults later rose)
+disturbed_so from before now later follows (inl rose) = inl (rose_further from before.store.faults now.store.faults later rose)
 disturbed_so from before now later follows (inr (inl asked)) = inr (inl (follows.asked asked))
 disturbed_so from before now later follows (inr (inr calm)) = inr (inr (follows.calm calm))
 
@@ -57,7 +58,7 @@ pub disturbed_on : (from : ℕ) (earlier : List Step) (steps : List Step) (befor
 disturbed_on from earlier steps before now disk none follows is = record {
   counted = disk.counts is.counted;
   stage = disturbed_so from before now disk.later follows is.stage;
-  restarts = λ ended. rose_later from before.store.faults now.store.faults disk.later (is.restarts (none.restarts ended));
+  restarts = λ ended. rose_further from before.store.faults now.store.faults disk.later (is.restarts (none.restarts ended));
   sessions = sessions_on from before.store.faults now.store.faults earlier steps disk.later none.sessions is.sessions;
 }
 
@@ -112,7 +113,7 @@ acted_disturbed from earlier a before now disk first standing auxiliaries ours i
     asked = λ asked. ap (λ (t : Standing). is_some t.machine.shutdown) standing ∙ ap is_some (shutdown_done a before.work.standing) ∙ asked;
     calm = λ calm. subst (λ (t : Standing). IsCalm t now.auxiliaries) (sym standing) (subst (λ (h : Auxiliaries). IsCalm (done a before.work.standing) h) (sym auxiliaries) (acted_calm a before.work.standing before.auxiliaries first calm));
   }) is.stage;
-  restarts = λ ended. rose_later from before.store.faults now.store.faults disk.later (restarted (list_any is_behind_crash (journal_of earlier)) refl (sym more ∙ ended));
+  restarts = λ ended. rose_further from before.store.faults now.store.faults disk.later (restarted (list_any is_behind_crash (journal_of earlier)) refl (sym more ∙ ended));
   sessions = sessions_on from before.store.faults now.store.faults earlier (earlier ++ Notes (entry_for a before.work.standing) ∷ []) disk.later (λ all. each_more HasFineSession earlier (Notes (entry_for a before.work.standing)) all tt) is.sessions;
 }
   where
@@ -144,13 +145,13 @@ pub ran_disturbed : (from : ℕ) (earlier : List Step) (run : ChildRun) (at now_
 ran_disturbed from earlier run at now_at before mid now disk later ended same machine due is = record {
   counted = disk.counts is.counted;
   stage = by_stage is.stage;
-  restarts = λ off. rose_later from before.store.faults now.store.faults disk.later (is.restarts (later_one earlier (Runs run at) (ended_run run at) off));
+  restarts = λ off. rose_further from before.store.faults now.store.faults disk.later (is.restarts (later_one earlier (Runs run at) (ended_run run at) off));
   sessions = by_session ended.sound is.sessions;
 }
   where
     by_session : (run.kind ≡ kind.Backend → IsFineExit run) ⊎ Rose from mid.store.faults → AllByRecursion HasFineSession earlier ⊎ Rose from before.store.faults → AllByRecursion HasFineSession (earlier ++ Runs run at ∷ []) ⊎ Rose from now.store.faults
     by_session (inl fine) all = sessions_on from before.store.faults now.store.faults earlier (earlier ++ Runs run at ∷ []) disk.later (λ each. each_more HasFineSession earlier (Runs run at) each fine) all
-    by_session (inr rose) all = inr (rose_later from mid.store.faults now.store.faults later rose)
+    by_session (inr rose) all = inr (rose_further from mid.store.faults now.store.faults later rose)
 
     quietly : (run.kind ≡ kind.Backend → IsFineExit run) → IsCalm before.work.standing before.auxiliaries → IsCalm now.work.standing now.auxiliaries
     quietly fine calm =
@@ -160,11 +161,11 @@ ran_disturbed from earlier run at now_at before mid now disk later ended same ma
         (subst (λ (m : Machine). AreCalm m.state now.work.standing.due) (sym machine) (subst (λ (l : List Action). AreCalm (exited_by run.kind before.work.standing.machine (record { pid = run.pid; kind = run.kind; status = run.status; now = now_at }) run.was_active).after.state l) (sym due) t.acts))
 
     by_stage : IsDisturbedSo from before → IsDisturbedSo from now
-    by_stage (inl rose) = inl (rose_later from before.store.faults now.store.faults disk.later rose)
+    by_stage (inl rose) = inl (rose_further from before.store.faults now.store.faults disk.later rose)
     by_stage (inr (inl asked)) = inr (inl (ap (λ (m : Machine). is_some m.shutdown) machine ∙ ap is_some (exit_keeps run.kind before.work.standing.machine (record { pid = run.pid; kind = run.kind; status = run.status; now = now_at }) run.was_active) ∙ asked))
     by_stage (inr (inr calm)) = elim ended.sound [
       | inl fine ↦ inr (inr (quietly fine calm))
-      | inr rose ↦ inl (rose_later from mid.store.faults now.store.faults later rose)
+      | inr rose ↦ inl (rose_further from mid.store.faults now.store.faults later rose)
     ]
 
 -- its end isn't noted
@@ -186,7 +187,7 @@ pub taken_disturbed : (from : ℕ) (earlier : List Step) (pid : ℕ) (d : Cac) (
     → IsDisturbedAt from earlier before → IsDisturbedAt from (earlier ++ Notes (entry.Accepted pid d) ∷ []) now
 taken_disturbed from earlier pid d before now store others machine due is =
     disturbed_on from earlier (earlier ++ Notes (entry.Accepted pid d) ∷ []) before now (same_disk from before now store) (one_more earlier (Notes (entry.Accepted pid d)) refl tt) (record {
-      asked = λ asked. ap (λ (m : Machine). is_some m.shutdown) machine ∙ ap is_some (accepted_same d before.work.standing.machine) ∙ asked;
+      asked = λ asked. ap (λ (m : Machine). is_some m.shutdown) machine ∙ ap is_some (accepted_shutdown d before.work.standing.machine) ∙ asked;
       calm = λ calm. calm_of now.work.standing now.auxiliaries
           (subst (λ (m : Machine). IsQuiet m now.auxiliaries) (sym machine) (subst (λ (h : Auxiliaries). IsQuiet (accepted_as d before.work.standing.machine) h) (sym others) (accepted_quiet d before.work.standing.machine before.auxiliaries (quiet_of before.work.standing before.auxiliaries calm))))
           (subst (λ (l : List Action). AreCalm now.work.standing.machine.state l) (sym due) tt);
@@ -198,7 +199,7 @@ pub asked_disturbed : (from : ℕ) (earlier : List Step) (mode : Mode) (at : ℕ
 asked_disturbed from earlier mode at before now store asked is = record {
   counted = (same_disk from before now store).counts is.counted;
   stage = inr (inl asked);
-  restarts = λ off. rose_later from before.store.faults now.store.faults (same_disk from before now store).later (is.restarts (later_one earlier (Notes (entry.Asked mode at)) refl off));
+  restarts = λ off. rose_further from before.store.faults now.store.faults (same_disk from before now store).later (is.restarts (later_one earlier (Notes (entry.Asked mode at)) refl off));
   sessions = sessions_on from before.store.faults now.store.faults earlier (earlier ++ Notes (entry.Asked mode at) ∷ []) (same_disk from before now store).later (λ all. each_more HasFineSession earlier (Notes (entry.Asked mode at)) all tt) is.sessions;
 }
 

@@ -8,6 +8,7 @@ use Rattle.pm_disk.specs.Cause.{Rose}
 use Rattle.std.proofs.lemmas.List.Elements.{All-nil}
 use Rattle.std.proofs.Math.Bool.{or-true}
 use Rattle.std.proofs.lemmas.Bool.{or_parts}
+use Rattle.std.proofs.lemmas.Option.{same_Some}
 use Rattle.pm_modes.specs.declared.Mode.{Mode}
 use Rattle.pm_modes.specs.declared.Mode.TheVariants.{Smart}
 use Rattle.pm_supervisor.specs.Children.{one_if}
@@ -16,6 +17,7 @@ use Rattle.pm_supervisor.specs.Steps.{empty_trace}
 use Rattle.pm_state.specs.declared.event.PmEvent.{PmEvent}
 use Rattle.pm_state.specs.declared.event.PmEvent.TheVariants as entry
 use Rattle.pm_supervisor.specs.declared.Ending.TheVariants as endings
+use Rattle.pm_supervisor.specs.CountLaws.{at_most_one}
 use Rattle.pm_state.specs.Journal.{Follows, all_replayed, replay_begun}
 use Rattle.pm_state.specs.Laws.{RestartsSafely}
 use Rattle.pm_state.specs.Restarts.{AreAsSet}
@@ -29,6 +31,7 @@ use Rattle.pm_segment.specs.declared.live.Live.{Live}
 use Rattle.pm_outside.specs.AddedLaws.{added_both}
 use Rattle.pm_chain.specs.Laws.{StepsGoOn}
 use Rattle.pm_chain.specs.Steps.{AreSteps, AreStepsBehind, MayFollow, MayStep, Notes, Renews, Runs, RunsOn, Step, book_of, journal_by, journal_of, replay_of, whole_book}
+use Rattle.pm_chain.specs.FoldsLaws.{journal-append}
 use Rattle.pm_journal.specs.Laws.{GoesOnOverItsJournal, KeepsALegalJournal}
 use Rattle.pm_journal.specs.Standing.{Standing, first_due, nothing_done}
 use Rattle.pm_journal.specs.Stands.{Remembers, Stands, any_moment}
@@ -55,7 +58,6 @@ use Rattle.pm_duties.specs.declared.outcome.Outcome.{Outcome}
 use Rattle.pm_outside.specs.AddedLaws.{added_none}
 use Rattle.pm_server.specs.JournalLaws.{all_weaker}
 use Rattle.pm_acts.specs.EndsLaws.{last_set, spent_next}
-use Rattle.pm_acts.specs.StepsLaws.{journal-append}
 use Rattle.pm_once.proofs.Undisturbed.{spent_disturbed}
 
 -- a server before it does anything
@@ -83,7 +85,7 @@ begins_at goes work limits v begun = record {
   lost_is = begun.lost;
   said = said_first v.log begun.unbroken;
   auxiliaries = subst (λ (h : Auxiliaries). AreThere h v.work.standing) (sym begun.auxiliaries) (record { startup = tt; checkpointer = tt; writer = tt });
-  asks = subst (λ (s : Standing). AsksAsDue [] v.listens s) (sym begun.standing) (record { smart = All-nil (λ (m : Mode). m ≡ Smart); few = omega (arith, one_at_most v.listens) });
+  asks = subst (λ (s : Standing). AsksAsDue [] v.listens s) (sym begun.standing) (record { smart = All-nil (λ (m : Mode). m ≡ Smart); few = omega (arith, at_most_one v.listens) });
   acts = subst (λ (s : Standing). AreOurs (is_some s.machine.shutdown) s.due) (sym begun.standing) tt;
   causes = subst (λ (h : Auxiliaries). AreCaused [] h v.outcome) (sym begun.auxiliaries)
       (subst (λ (o : Option Outcome). AreCaused [] nobody o) (sym begun.outcome) (record { told_so = refl; runs = tt; refused = tt }));
@@ -95,10 +97,6 @@ begins_at goes work limits v begun = record {
     sessions = inl tt;
   };
 }
-  where
-    one_at_most : (b : Bool) → one_if b ≤ 1
-    one_at_most true = omega arith
-    one_at_most false = omega arith
 
 begins_open : (limits : Limits) (v : View) → HasBegun limits v → IsOpen [] v
 begins_open limits v begun = record {
@@ -237,11 +235,8 @@ no_renewals : StepsGoOn → (limits : Limits) (before steps : List Step) → Are
 no_renewals goes limits before [] are calm none = tt
 no_renewals goes limits before (step ∷ steps) are calm none =
     let parts = or_parts (list_any is_behind_crash (journal_by step)) (list_any is_behind_crash (journal_of steps)) (sym (list_any-append is_behind_crash (journal_by step) (journal_of steps)) ∙ none) in
-    (first step are.0 parts.0, no_renewals goes limits (before ++ step ∷ []) steps are.1 (λ e is. calm_now step parts.0 e (some_step (sym (goes.last before step) ∙ is))) parts.1)
+    (first step are.0 parts.0, no_renewals goes limits (before ++ step ∷ []) steps are.1 (λ e is. calm_now step parts.0 e (same_Some _ _ (sym (goes.last before step) ∙ is))) parts.1)
   where
-    some_step : {x y : Step} → Some x ≡ Some y → x ≡ y
-    some_step is = cc
-
     first : (s : Step) → MayStep limits before s → list_any is_behind_crash (journal_by s) ≡ false → IsNoRenewal s
     first (Notes e) may none = tt
     first (Runs run at) may none = tt

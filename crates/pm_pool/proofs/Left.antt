@@ -1,8 +1,7 @@
 -- What is left once the workers of all slots were closed.
-use Rattle.std.proofs.Common.{◌≡◌, ℕ, zero, suc, List, [], ◌∷◌, length, refl, ◌∙◌, subst}
+use Rattle.std.proofs.Common.{◌≡◌, ℕ, zero, suc, List, length, ◌∙◌, subst}
 use Rattle.std.proofs.lemmas.List.{length-map}
 use Rattle.std.specs.Prelude.{None, Option, Some, IfSome, slice_get}
-use Rattle.std.proofs.lemmas.Option.{same_Some}
 use Rattle.pm_board.specs.declared.views.RosterView.{RosterView}
 use Rattle.pm_query.specs.declared.book.BookEntry.{BookEntry}
 use Rattle.pm_shared.specs.declared.views.Joined.{Joined}
@@ -10,14 +9,10 @@ use Rattle.pm_shared.specs.declared.views.Noted.{Noted}
 use Rattle.pm_shared.specs.Log.{IsShuffle}
 use Rattle.pm_shared.specs.Places.{EachOnce}
 use Rattle.pm_shared.specs.Told.{AllContinue, SharedModel, owns, pasts}
+use Rattle.pm_shared.specs.JoinedLaws.{owned_at}
 use Rattle.pm_worker.specs.declared.mail.MailTold.{MailTold}
 use Rattle.pm_crew.specs.Left.{AreLeft, IsWorked, Manner}
 use Rattle.pm_pool.specs.Closing.{AreClosed}
-
-got_own : (joined : List Joined) (k : ℕ) (own : List Noted) → slice_get (owns joined) k ≡ Some own → (his : Joined) × (slice_get joined k ≡ Some his) × (his.own ≡ own)
-got_own [] k own is = absurd (cc)
-got_own (his ∷ joined) zero own is = (his, refl, same_Some his.own own is)
-got_own (his ∷ joined) (suc k) own is = got_own joined k own is
 
 -- what a store out of the hands of this shared side says of its log
 abbrev pub ComesOut : {F : Type 0} → (F → List BookEntry → Type 0) → SharedModel F → Type 0
@@ -32,7 +27,7 @@ module _ {F : Type 0} (R : F → List BookEntry → Type 0) (manner : Manner) (n
         lists = owns a.joined;
         slots = a.count ∙ slots;
         all = length-map a.joined (λ (his : Joined). his.own) ∙ a.all;
-        each = λ k own at. each k own (got_own a.joined k own at);
+        each = λ k own at. each k own (owned_at a.joined k own at);
         shuffle = shuffle;
         once = once;
         sent = a.sent;

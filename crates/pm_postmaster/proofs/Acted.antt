@@ -16,7 +16,7 @@ use Rattle.pm_outside.specs.Visits.{Visits}
 use Rattle.pm_seating.specs.Acts.{MayPerform, Performs, slot_of, steps_for}
 use Rattle.pm_seating.specs.Board.{after_steps}
 use Rattle.pm_seating.specs.Calls.{slot_for}
-use Rattle.pm_seating.specs.Chained.{accepted_in}
+use Rattle.pm_seating.specs.Chained.{pids_accepted}
 use Rattle.pm_seating.specs.FoldingLaws.{journal-more}
 use Rattle.pm_seating.specs.Seating.{Move, Notes, journal_of}
 use Rattle.pm_seating.specs.Standing.{view}
@@ -34,7 +34,7 @@ use Rattle.pm_postmaster.proofs.Moments.{done_given, done_moments}
 use Rattle.pm_postmaster.proofs.Steps.{count_more}
 
 -- no act accepts a connection
-none_accepted : (a : Action) (s : Standing) → accepted_in (entry_for a s ∷ []) ≡ []
+none_accepted : (a : Action) (s : Standing) → pids_accepted (entry_for a s ∷ []) ≡ []
 none_accepted (action.Start k) s = refl
 none_accepted (action.Quit why) s = refl
 none_accepted action.Terminate s = refl

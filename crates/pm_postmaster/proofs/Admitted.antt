@@ -19,7 +19,7 @@ use Rattle.pm_outside.specs.declared.port.Accepted.{Accepted}
 use Rattle.pm_outside.specs.declared.port.Accepted.TheVariants as answers
 use Rattle.pm_seating.specs.Board.{SeenAs, seat_at, seats_of}
 use Rattle.pm_seating.specs.Calls.{accepts}
-use Rattle.pm_seating.specs.Chained.{accepted_in}
+use Rattle.pm_seating.specs.Chained.{pids_accepted}
 use Rattle.pm_seating.specs.FoldingLaws.{journal-more}
 use Rattle.pm_seating.specs.Seating.{Notes, journal_of}
 use Rattle.pm_seating.specs.Standing.{view}
@@ -86,7 +86,7 @@ module _ {D C : Type 0} (gives : C → ℕ → Type 0) (counts : CountsChildren)
       let s : Standing = before.work.standing in
       let e : List PmEvent = entry.Accepted (next_pid s) (decision_on s) ∷ [] in
       let journal : List PmEvent = journal_of outset.count was.moves in
-      let more : count_in (journal ++ e) ≡ count_in journal + 1 = ap length (accepted-append journal e) ∙ length_push (accepted_in journal) (next_pid s) in
+      let more : count_in (journal ++ e) ≡ count_in journal + 1 = ap length (accepted-append journal e) ∙ length_push (pids_accepted journal) (next_pid s) in
       let by : GoesBy gives outset was.moves (accepts k s) e before now = record {
         journal = journal-more outset.count was.moves (Notes (entry.Accepted (next_pid s) (decision_on s)) k);
         given = (tt, tt);

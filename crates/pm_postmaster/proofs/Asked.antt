@@ -11,10 +11,11 @@ use Rattle.pm_outside.specs.Visits.{Visits, after_accept}
 use Rattle.pm_outside.specs.declared.port.Accepted.TheVariants.{End}
 use Rattle.pm_requests.specs.Requests.{IsNumber}
 use Rattle.pm_journal.specs.declared.roll.Enrolled.{Enrolled}
-use Rattle.pm_seating.specs.Chained.{IsReadAs, IsUnasked, accepted_in, lines_in, pids_end_in, port_ends_in}
+use Rattle.pm_seating.specs.Chained.{IsReadAs, IsUnasked, pids_accepted, lines_in, pids_end_in, port_ends_in}
 use Rattle.pm_seating.specs.Seating.{Kill, Move, Nothing, Notes, PidsEnd, PortEnds, Reads, Request, Seating, Stop, asked_by, empty, entries_from, is_seated, journal_of, seating_by}
 use Rattle.pm_state.specs.declared.event.PmEvent.{PmEvent}
 use Rattle.pm_state.specs.declared.event.PmEvent.TheVariants as entry
+use Rattle.pm_state.specs.Journal.{last_pid}
 use Rattle.pm_server.specs.declared.end.ServerEnd.{ServerEnd}
 use Rattle.pm_server.specs.declared.end.ServerEnd.TheVariants.{NoMemory}
 use Rattle.pm_supervisor.specs.Children.{one_if}
@@ -25,7 +26,7 @@ use Rattle.pm_postmaster.specs.Requests.{AsksSoFar, IsAsked, MayOwe, end_from, e
 
 -- ---- moves more
 
-pub accepted-append : (xs ys : List PmEvent) → accepted_in (xs ++ ys) ≡ accepted_in xs ++ accepted_in ys
+pub accepted-append : (xs ys : List PmEvent) → pids_accepted (xs ++ ys) ≡ pids_accepted xs ++ pids_accepted ys
 accepted-append [] ys = refl
 accepted-append (entry.Accepted pid decision ∷ xs) ys = ap (λ (l : List ℕ). pid ∷ l) (accepted-append xs ys)
 accepted-append (entry.Started pid kind ∷ xs) ys = accepted-append xs ys
@@ -59,7 +60,7 @@ port_more (PidsEnd at ∷ xs) ys = port_more xs ys
 -- moves that tell of no end
 no_end : (n : ℕ) (moves : List Move) → port_ends_in moves ≡ 0 → end_from n moves ≡ None
 no_end n [] none = refl
-no_end n (Notes noted slot ∷ moves) none = no_end (n + length (accepted_in (noted ∷ []))) moves none
+no_end n (Notes noted slot ∷ moves) none = no_end (n + length (pids_accepted (noted ∷ []))) moves none
 no_end n (Reads line asks at ∷ moves) none = no_end n moves none
 no_end n (PortEnds at ∷ moves) none = absurd (omega (arith, none))
 no_end n (PidsEnd at ∷ moves) none = no_end n moves none
@@ -67,7 +68,7 @@ no_end n (PidsEnd at ∷ moves) none = no_end n moves none
 -- they leave the end where it was
 end_still : (n : ℕ) (xs ys : List Move) → port_ends_in ys ≡ 0 → end_from n (xs ++ ys) ≡ end_from n xs
 end_still n [] ys none = no_end n ys none
-end_still n (Notes noted slot ∷ xs) ys none = end_still (n + length (accepted_in (noted ∷ []))) xs ys none
+end_still n (Notes noted slot ∷ xs) ys none = end_still (n + length (pids_accepted (noted ∷ []))) xs ys none
 end_still n (Reads line asks at ∷ xs) ys none = end_still n xs ys none
 end_still n (PortEnds at ∷ xs) ys none = refl
 end_still n (PidsEnd at ∷ xs) ys none = end_still n xs ys none
@@ -75,33 +76,33 @@ end_still n (PidsEnd at ∷ xs) ys none = end_still n xs ys none
 -- there is one end or none
 so_many_ends : (n : ℕ) (moves : List Move) → port_ends_in moves ≤ 1 → one_if (is_some (end_from n moves)) ≡ port_ends_in moves
 so_many_ends n [] few = refl
-so_many_ends n (Notes noted slot ∷ moves) few = so_many_ends (n + length (accepted_in (noted ∷ []))) moves few
+so_many_ends n (Notes noted slot ∷ moves) few = so_many_ends (n + length (pids_accepted (noted ∷ []))) moves few
 so_many_ends n (Reads line asks at ∷ moves) few = so_many_ends n moves few
 so_many_ends n (PortEnds at ∷ moves) few = omega (arith, few)
 so_many_ends n (PidsEnd at ∷ moves) few = so_many_ends n moves few
 
-none_accepted : (asks : Request) (at : ℕ) (seats : List (Option Enrolled)) → accepted_in (asked_by asks at seats) ≡ []
+none_accepted : (asks : Request) (at : ℕ) (seats : List (Option Enrolled)) → pids_accepted (asked_by asks at seats) ≡ []
 none_accepted Nothing at seats = refl
 none_accepted (Stop how) at seats = refl
 none_accepted (Kill pid) at seats = by (is_seated pid seats)
   where
-    by : (b : Bool) → accepted_in (if b then entry.KillAsked pid ∷ [] else []) ≡ []
+    by : (b : Bool) → pids_accepted (if b then entry.KillAsked pid ∷ [] else []) ≡ []
     by true = refl
     by false = refl
 
 -- the first end stands behind all that were accepted
 end_behind : (n at : ℕ) (s : Seating) (moves : List Move) → port_ends_in moves ≡ 0
-    → end_from n (moves ++ PortEnds at ∷ []) ≡ Some (n + length (accepted_in (entries_from s moves)))
+    → end_from n (moves ++ PortEnds at ∷ []) ≡ Some (n + length (pids_accepted (entries_from s moves)))
 end_behind n at s [] none = ap (λ (k : ℕ). Some k) (omega arith)
 end_behind n at s (Notes noted slot ∷ moves) none =
     let rest : List PmEvent = entries_from (seating_by s (Notes noted slot)) moves in
     let both = ap length (accepted-append (noted ∷ []) rest) in
-    let long = length-append (accepted_in (noted ∷ [])) (accepted_in rest) in
-    end_behind (n + length (accepted_in (noted ∷ []))) at (seating_by s (Notes noted slot)) moves none ∙ ap (λ (k : ℕ). Some k) (omega (arith, both, long))
+    let long = length-append (pids_accepted (noted ∷ [])) (pids_accepted rest) in
+    end_behind (n + length (pids_accepted (noted ∷ []))) at (seating_by s (Notes noted slot)) moves none ∙ ap (λ (k : ℕ). Some k) (omega (arith, both, long))
 end_behind n at s (Reads line asks now ∷ moves) none =
     let rest : List PmEvent = entries_from s moves in
     let both = ap length (accepted-append (asked_by asks now s.seats) rest) in
-    let long = length-append (accepted_in (asked_by asks now s.seats)) (accepted_in rest) in
+    let long = length-append (pids_accepted (asked_by asks now s.seats)) (pids_accepted rest) in
     let nobody = ap length (none_accepted asks now s.seats) in
     end_behind n at s moves none ∙ ap (λ (k : ℕ). Some k) (omega (arith, both, long, nobody))
 end_behind n at s (PortEnds now ∷ moves) none = absurd (omega (arith, none))
@@ -146,9 +147,9 @@ owes_paid s t owed still pid = record {
 }
 
 -- a pid was drawn, for a child that is there
-pub owes_drawn : (s t : Standing) → t.last_pid ≡ s.last_pid + 1 → t.owes_smart ≡ (s.owes_smart || (s.last_pid + 1 == 2147480000)) → MayOwe t → OwesOn 0 s t
+pub owes_drawn : (s t : Standing) → t.last_pid ≡ s.last_pid + 1 → t.owes_smart ≡ (s.owes_smart || (s.last_pid + 1 == last_pid)) → MayOwe t → OwesOn 0 s t
 owes_drawn s t pid owes may = record {
-  pids = λ n was. drawn (s.last_pid + 1 == 2147480000) refl n was;
+  pids = λ n was. drawn (s.last_pid + 1 == last_pid) refl n was;
   owed = λ was owed. may;
 }
   where
@@ -164,17 +165,17 @@ owes_drawn s t pid owes may = record {
     now_drawn : one_if (is_last_drawn t.last_pid) ≡ one_if (is_last_drawn (s.last_pid + 1))
     now_drawn = ap (λ (p : ℕ). one_if (is_last_drawn p)) pid
 
-    drawn : (b : Bool) → (s.last_pid + 1 == 2147480000) ≡ b → (n : ℕ) → n + one_if s.owes_smart ≡ one_if (is_last_drawn s.last_pid)
+    drawn : (b : Bool) → (s.last_pid + 1 == last_pid) ≡ b → (n : ℕ) → n + one_if s.owes_smart ≡ one_if (is_last_drawn s.last_pid)
         → n + 0 + one_if t.owes_smart ≡ one_if (is_last_drawn t.last_pid)
     drawn true is n was =
         let a : one_if t.owes_smart ≡ 1 = ap one_if (owes ∙ (ap (λ (x : Bool). s.owes_smart || x) is ∙ or-true s.owes_smart)) in
-        let b : one_if (is_last_drawn s.last_pid) ≡ 0 = ap one_if (before_last 2147480000 s.last_pid is) in
-        let c : one_if (is_last_drawn (s.last_pid + 1)) ≡ 1 = ap one_if (at_last 2147480000 s.last_pid is) in
+        let b : one_if (is_last_drawn s.last_pid) ≡ 0 = ap one_if (before_last last_pid s.last_pid is) in
+        let c : one_if (is_last_drawn (s.last_pid + 1)) ≡ 1 = ap one_if (at_last last_pid s.last_pid is) in
         let d = now_drawn in
         omega (arith, was, a, b, c, d)
     drawn false isnt n was =
         let a : one_if t.owes_smart ≡ one_if s.owes_smart = ap one_if (owes ∙ (ap (λ (x : Bool). s.owes_smart || x) isnt ∙ or-false s.owes_smart)) in
-        let b : one_if (is_last_drawn (s.last_pid + 1)) ≡ one_if (is_last_drawn s.last_pid) = ap one_if (elsewhere 2147480000 s.last_pid isnt) in
+        let b : one_if (is_last_drawn (s.last_pid + 1)) ≡ one_if (is_last_drawn s.last_pid) = ap one_if (elsewhere last_pid s.last_pid isnt) in
         let d = now_drawn in
         omega (arith, was, a, b, d)
 
@@ -242,16 +243,16 @@ module _ (earlier more : List Move) (lines lines_now : Option (List (List ℕ)))
 module _ {L : Type 0} (faults : L → ℕ) (visits now : Option Visits) (is : now ≡ option_map (λ v. after_accept faults v End) visits) where
   -- it comes, where links were asked for
   pub ends_now : (earlier : List Move) (at count : ℕ) → port_ends_in earlier + 1 ≤ 1 → IfSome (ended_in visits) (λ it. it ≡ end_from 0 earlier)
-      → IfSome visits (λ v. length v.given ≡ length (accepted_in (journal_of count earlier))) → IfSome (ended_in now) (λ it. it ≡ end_from 0 (earlier ++ PortEnds at ∷ []))
+      → IfSome visits (λ v. length v.given ≡ length (pids_accepted (journal_of count earlier))) → IfSome (ended_in now) (λ it. it ≡ end_from 0 (earlier ++ PortEnds at ∷ []))
   ends_now earlier at count few are given = subst (λ (o : Option Visits). IfSome (ended_in o) (λ it. it ≡ end_from 0 (earlier ++ PortEnds at ∷ []))) (sym is) (by visits are given)
     where
       none : port_ends_in earlier ≡ 0
       none = omega (arith, few)
 
-      behind : end_from 0 (earlier ++ PortEnds at ∷ []) ≡ Some (length (accepted_in (journal_of count earlier)))
+      behind : end_from 0 (earlier ++ PortEnds at ∷ []) ≡ Some (length (pids_accepted (journal_of count earlier)))
       behind = end_behind 0 at (empty count) earlier none ∙ ap (λ (k : ℕ). Some k) (omega arith)
 
-      by : (o : Option Visits) → IfSome (ended_in o) (λ it. it ≡ end_from 0 earlier) → IfSome o (λ v. length v.given ≡ length (accepted_in (journal_of count earlier)))
+      by : (o : Option Visits) → IfSome (ended_in o) (λ it. it ≡ end_from 0 earlier) → IfSome o (λ v. length v.given ≡ length (pids_accepted (journal_of count earlier)))
           → IfSome (ended_in (option_map (λ v. after_accept faults v End) o)) (λ it. it ≡ end_from 0 (earlier ++ PortEnds at ∷ []))
       by None are given = tt
       by (Some its) are given =

@@ -1,7 +1,7 @@
 -- A server begins.
 use Rattle.std.proofs.Common.{◌≡◌, inl, ℕ, zero, suc, ◌+◌, ◌≤◌, List, [], ◌∷◌, refl, sym, ap, subst, ◌∙◌, length, arith, get_or, replicate}
 use Rattle.std.proofs.lemmas.List.{length-replicate}
-use Rattle.std.specs.Prelude.{Bool, true, false, Option, None, Some, IfSome, is_some}
+use Rattle.std.specs.Prelude.{true, false, Option, None, Some, IfSome, is_some}
 use Rattle.std.specs.List.{Contains, flat_map}
 use Rattle.pm_board.specs.declared.views.PastChild.{PastChild}
 use Rattle.pm_board.specs.declared.views.RosterView.{RosterView}
@@ -28,6 +28,7 @@ use Rattle.pm_postmaster.specs.Links.{HasLinks}
 use Rattle.pm_postmaster.specs.Looking.{came_of}
 use Rattle.pm_postmaster.specs.Requests.{MayOwe, ended_in}
 use Rattle.pm_supervisor.specs.Children.{one_if}
+use Rattle.pm_supervisor.specs.CountLaws.{at_most_one}
 use Rattle.pm_acts.specs.Acts.{is_last_drawn}
 use Rattle.pm_postmaster.specs.Serving.{IsServing, KillsAll, Outset, Renews}
 use Rattle.pm_postmaster.specs.View.{View}
@@ -120,10 +121,6 @@ module _ {D C : Type 0} (gives : C → ℕ → Type 0) where
     };
   }
     where
-      at_most_one : (b : Bool) → one_if b ≤ 1
-      at_most_one true = omega arith
-      at_most_one false = omega arith
-
       unended : (its : Option Visits) → IfSome its (λ visits. visits ≡ no_visits) → IfSome (ended_in its) (λ it. it ≡ None)
       unended None new = tt
       unended (Some its) new = ap (λ (x : Visits). x.ended_behind) new

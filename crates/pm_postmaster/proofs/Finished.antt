@@ -26,7 +26,7 @@ use Rattle.pm_crew.specs.PidsLaws.{drawn_by, used_once}
 use Rattle.pm_journal.specs.Stands.{any_moment, highest_pid}
 use Rattle.pm_outside.specs.Visits.{Visits}
 use Rattle.pm_pool.specs.Closing.{HasHadLast}
-use Rattle.pm_seating.specs.Chained.{LinksCameBack, accepted_in}
+use Rattle.pm_seating.specs.Chained.{LinksCameBack, pids_accepted}
 use Rattle.pm_seating.specs.Final.{EndsWithNobody, IsEndingAt, NobodySits}
 use Rattle.pm_seating.specs.Seating.{Move, journal_of}
 use Rattle.pm_server.specs.declared.end.ServerEnd.{ServerEnd}
@@ -144,7 +144,7 @@ module _ (limits : Limits) (count : ℕ) (moves : List Move) (board after : Rost
 pub home_if : (manner : Manner) (count : ℕ) (before after : RosterView MailTold) (own : List Noted) (book : List BookEntry) → AreLeft manner count after own book
     → ((k : ℕ) → (slot_at before k).sight ≡ Unused) → ((k : ℕ) → k < count → (others : List (PastChild MailTold)) × ((slot_at after k).past ≡ (slot_at before k).past ++ others))
     → ((k : ℕ) → count ≤ k → (slot_at before k).past ≡ []) → (journal : List PmEvent) (visits : Option Visits)
-    → IfSome visits (HasLinks (length (accepted_in journal)) before) → IfSome visits (LinksCameBack journal)
+    → IfSome visits (HasLinks (length (pids_accepted journal)) before) → IfSome visits (LinksCameBack journal)
 home_if manner count before after own book left free more wide journal None was = tt
 home_if manner count before after own book left free more wide journal (Some visits) was = links_home manner count before after own book left free more wide journal visits was
 

@@ -8,7 +8,7 @@ use Rattle.pm_journal.specs.Stands.{Stands, highest_pid}
 use Rattle.pm_supervisor.specs.declared.Limits.{Limits}
 use Rattle.pm_supervisor.specs.Steps.{Trace}
 use Rattle.pm_lines.specs.Log.{HasSaid}
-use Rattle.pm_seating.specs.Chained.{accepted_in}
+use Rattle.pm_seating.specs.Chained.{pids_accepted}
 use Rattle.pm_seating.specs.Final.{MayEndAnywhere}
 use Rattle.pm_seating.specs.Seating.{Move, journal_of}
 use Rattle.pm_seating.specs.Sitting.{KeepsPast}
@@ -40,7 +40,7 @@ drawn_at legal limits journal s h stands =
 
 -- the connections of a journal
 abbrev pub count_in : List PmEvent → ℕ
-count_in journal = length (accepted_in journal)
+count_in journal = length (pids_accepted journal)
 
 module _ {D C : Type 0} (gives : C → ℕ → Type 0) where
   -- what one thing leaves as it was

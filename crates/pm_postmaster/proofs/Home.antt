@@ -15,7 +15,7 @@ use Rattle.pm_crew.specs.Left.{AreLeft, Manner}
 use Rattle.pm_outside.specs.Visits.{Visit, Visits}
 use Rattle.pm_pool.specs.Closing.{HasHadLast}
 use Rattle.pm_query.specs.declared.book.BookEntry.{BookEntry}
-use Rattle.pm_seating.specs.Chained.{LinksCameBack, accepted_in}
+use Rattle.pm_seating.specs.Chained.{LinksCameBack, pids_accepted}
 use Rattle.pm_shared.specs.declared.views.Noted.{Noted}
 use Rattle.pm_state.specs.declared.event.PmEvent.{PmEvent}
 use Rattle.pm_state.specs.Restarts.{without_pid}
@@ -111,10 +111,10 @@ module _ (manner : Manner) (count : ℕ) (before after : RosterView MailTold) (o
       by (k, inl sits) = absurd (let both : Unused ≡ Assigned sits.0 = sym (free k) ∙ sits.1 in cc)
       by (k, inr gone) = home_at i k visits gone.0 gone.1 gone.2 (was.back k gone.0 gone.1)
 
-  pub links_home : (journal : List PmEvent) (visits : Visits) → HasLinks (length (accepted_in journal)) before visits → LinksCameBack journal visits
+  pub links_home : (journal : List PmEvent) (visits : Visits) → HasLinks (length (pids_accepted journal)) before visits → LinksCameBack journal visits
   links_home journal visits was =
-      let each = came_back (length (accepted_in journal)) visits was in
-      let long = as_many (length (accepted_in journal)) (map (λ v. v.number) visits.back)
+      let each = came_back (length (pids_accepted journal)) visits was in
+      let long = as_many (length (pids_accepted journal)) (map (λ v. v.number) visits.back)
       (λ i from to. (let home = each i from to in subst (λ (m : ℕ). IsPidOf m (map (λ v. v.number) visits.back)) home.2 (in_numbers visits.back home.1.0 home.0 home.1.1 home.1.2))) in
       let same = length-map visits.back (λ (v : Visit). v.number) in
       let out = was.out in let given = was.given in

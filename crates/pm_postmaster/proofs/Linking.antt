@@ -2,7 +2,7 @@
 use Rattle.std.proofs.Common.{◌≡◌, ◌⊎◌, inl, inr, ℕ, ◌+◌, ◌<◌, ◌≤◌, List, [], ◌∷◌, refl, sym, ap, subst, ◌∙◌, length, set, get_or, arith, nat_eq}
 use Rattle.std.proofs.lemmas.List.{get_or-map, length-map, length_push, map-set, set-get_or}
 use Rattle.std.proofs.lemmas.List.Elements.{Contains-append_left, Contains-push, Contains-push_cases}
-use Rattle.std.specs.Prelude.{Bool, true, false, Option, None, nat_le}
+use Rattle.std.specs.Prelude.{Bool, false, Option, None, nat_le}
 use Rattle.std.specs.List.{Contains}
 use Rattle.pm_facts.specs.Bools.{by_test}
 use Rattle.pm_exit.specs.declared.child.Kind.{Kind}
@@ -19,6 +19,7 @@ use Rattle.pm_board.specs.Models.{HasAssigned, SlotBecame}
 use Rattle.pm_board.specs.Places.{is_connection, slot_at, slot_view}
 use Rattle.pm_board.specs.Told.{after_step, assigned_slot, past_child, released_slot, running_slot}
 use Rattle.pm_board.specs.Words.{bit}
+use Rattle.pm_board.specs.BoardLaws.{bit_small}
 use Rattle.pm_outside.specs.Visits.{Visit, Visits}
 use Rattle.pm_seating.specs.Board.{after_steps}
 use Rattle.pm_worker.specs.declared.mail.LinkTold.{LinkTold}
@@ -48,10 +49,6 @@ links_same n d e visits same was =
     }
 
 -- ---- one slot
-
-bit_small : (b : Bool) → bit b ≤ 1
-bit_small true = omega arith
-bit_small false = omega arith
 
 abbrev counted : RosterView MailTold → ℕ
 counted d = count_of is_connection (children_of d.slots)

@@ -30,7 +30,7 @@ use Rattle.pm_crew.specs.Renewals.{RenewsAsTold}
 use Rattle.pm_seating.specs.Board.{SeenAs, seat_at, seats_of}
 use Rattle.pm_seating.specs.Calls.{IsCutOff, exit_of, exits, kept_by}
 use Rattle.pm_seating.specs.Mails.{kept_told}
-use Rattle.pm_seating.specs.Chained.{accepted_in}
+use Rattle.pm_seating.specs.Chained.{pids_accepted}
 use Rattle.pm_seating.specs.Final.{MayEndAnywhere}
 use Rattle.pm_seating.specs.FoldingLaws.{journal-notes, none_more}
 use Rattle.pm_seating.specs.Seating.{Move, journal_of}
@@ -137,7 +137,7 @@ unsaid_by : (b : Bool) (exit : ChildExit) (at : ℕ) (s : Standing) → lines_of
 unsaid_by true exit at s = refl
 unsaid_by false exit at s = refl
 
-alone_by : (b : Bool) (exit : ChildExit) (at : ℕ) (s : Standing) → accepted_in (exit_entries b exit at s) ≡ []
+alone_by : (b : Bool) (exit : ChildExit) (at : ℕ) (s : Standing) → pids_accepted (exit_entries b exit at s) ≡ []
 alone_by true exit at s = refl
 alone_by false exit at s = refl
 

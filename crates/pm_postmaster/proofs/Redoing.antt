@@ -3,7 +3,7 @@ use Rattle.std.proofs.Common.{◌≡◌, ◌≢◌, ℕ, List, [], ◌∷◌, �
 use Rattle.std.proofs.lemmas.Grind.{flat_map-append}
 use Rattle.std.specs.List.{flat_map}
 use Rattle.std.specs.Prelude.{Bool, true, false, ◌==◌, ◌&&◌, if◌then◌else◌, map, Option, None, Some, unwrap_or}
-use Rattle.pm_facts.specs.Bools.{by_test}
+use Rattle.pm_facts.specs.Bools.{by_test, cond-same}
 use Rattle.pm_exit.specs.declared.child.Kind.{Kind}
 use Rattle.pm_exit.specs.declared.child.Status.{Status}
 use Rattle.pm_exit.specs.Ends.{is_exit_0}
@@ -51,10 +51,6 @@ acts_tell_none action.Reset s k = refl
 acts_tell_none (action.Say line) s k = refl
 acts_tell_none (action.End how) s k = refl
 
-none_if : {X : Type 0} (test : Bool) → ◌≡◌ {A = List X} (if test then [] else []) []
-none_if true = refl
-none_if false = refl
-
 abbrev ended : ℕ → ℕ → List InGeneration
 ended number generation = record { number = number; generation = generation } ∷ []
 
@@ -66,7 +62,7 @@ exit_ends slot k at exit s = by (ends_redo exit)
     by : (b : Bool) → redo_ends_at k (notes_in slot (exit_entry exit (later at s) ∷ (if b then entry.RedoEnded s.generation (unwrap_or exit.kept 0) ∷ [] else [])))
         ≡ (if slot == k then (if b then ended (unwrap_or exit.kept 0) s.generation else []) else [])
     by true = append-nil (if slot == k then ended (unwrap_or exit.kept 0) s.generation else [])
-    by false = sym (none_if (slot == k))
+    by false = sym (cond-same (slot == k) [])
 
 -- what such a child tells
 told_exit : (o : Offer MailTold) (status : Status) (active : Bool) (back : MailTold) (exit : ChildExit) (s : Standing) → exit.kind ≡ o.kind → exit.status ≡ status

@@ -12,7 +12,7 @@ use Rattle.pm_lines.specs.LogLaws.{said_same}
 use Rattle.pm_modes.specs.declared.Mode.{Mode}
 use Rattle.pm_outside.specs.Visits.{Visits}
 use Rattle.pm_seating.specs.Board.{seats_of}
-use Rattle.pm_seating.specs.Chained.{accepted_in}
+use Rattle.pm_seating.specs.Chained.{pids_accepted}
 use Rattle.pm_seating.specs.FoldingLaws.{journal-more, none_more}
 use Rattle.pm_seating.specs.Seating.{Kill, Move, Reads, Request, Seating, asked_by, entries_by, is_seated, journal_of, seating_of}
 use Rattle.pm_seating.specs.Standing.{view}
@@ -31,9 +31,9 @@ use Rattle.pm_postmaster.proofs.Renewing.{AreQuiet}
 use Rattle.pm_postmaster.proofs.Linking.{links_same}
 use Rattle.pm_postmaster.proofs.Moments.{asked_moments, later_given, ticked_moments, turned_moments}
 
-pub count_more : (journal more : List PmEvent) → accepted_in more ≡ [] → length (accepted_in (journal ++ more)) ≡ length (accepted_in journal)
+pub count_more : (journal more : List PmEvent) → pids_accepted more ≡ [] → length (pids_accepted (journal ++ more)) ≡ length (pids_accepted journal)
 count_more journal more none =
-    ap length (accepted-append journal more ∙ (ap (λ (l : List ℕ). accepted_in journal ++ l) none ∙ append-nil (accepted_in journal)))
+    ap length (accepted-append journal more ∙ (ap (λ (l : List ℕ). pids_accepted journal ++ l) none ∙ append-nil (pids_accepted journal)))
 
 pub quiet_none : AreQuiet []
 quiet_none = record { since = λ so. refl; lost = λ so. refl; resets = refl }
@@ -66,7 +66,7 @@ module _ {D C : Type 0} (gives : C → ℕ → Type 0) where
         → journal_of outset.count (earlier ++ more) ≡ journal_of outset.count earlier ++ entries
     pub given : AreGiven (gives outset.clock) entries
     pub unsaid : lines_of entries ≡ []
-    pub alone : accepted_in entries ≡ []
+    pub alone : pids_accepted entries ≡ []
     pub moments : Moments (gives outset.clock) now.work.standing
     pub generation : now.work.standing.generation ≡ before.work.standing.generation
     pub quiet : AreQuiet entries
@@ -123,7 +123,7 @@ module _ {D C : Type 0} (gives : C → ℕ → Type 0) where
     called_on : (making : Making) (more : List Move) → seating.Goes more (view before.work before.board) (view now.work now.board)
         → now.work.standing ≡ made making before.work.standing → now.board ≡ before.board
         → ((earlier : List Move) → journal_of outset.count (earlier ++ more) ≡ journal_of outset.count earlier ++ making.entries)
-        → AreGiven (gives outset.clock) making.entries → lines_of making.entries ≡ [] → accepted_in making.entries ≡ [] → AreQuiet making.entries → TellNone more → AsksOn gives outset more before now
+        → AreGiven (gives outset.clock) making.entries → lines_of making.entries ≡ [] → pids_accepted making.entries ≡ [] → AreQuiet making.entries → TellNone more → AsksOn gives outset more before now
         → (made making before.work.standing).generation ≡ before.work.standing.generation
         → Moments (gives outset.clock) (made making before.work.standing)
         → IsServing gives outset before → IsServing gives outset now
@@ -221,7 +221,7 @@ module _ {D C : Type 0} (gives : C → ℕ → Type 0) where
         unsaid_by true = refl
         unsaid_by false = refl
 
-        alone_by : (b : Bool) → accepted_in (if b then entry.KillAsked pid ∷ [] else []) ≡ []
+        alone_by : (b : Bool) → pids_accepted (if b then entry.KillAsked pid ∷ [] else []) ≡ []
         alone_by true = refl
         alone_by false = refl
 

@@ -5,7 +5,7 @@ use Rattle.pm_acts.specs.Acts.{is_last_drawn}
 use Rattle.pm_journal.specs.Standing.{Standing}
 use Rattle.pm_outside.specs.Visits.{Visits}
 use Rattle.pm_requests.specs.Requests.{IsNumber}
-use Rattle.pm_seating.specs.Chained.{AsksAsTold, IsReadAs, IsUnasked, accepted_in, lines_in, pids_end_in, port_ends_in}
+use Rattle.pm_seating.specs.Chained.{AsksAsTold, IsReadAs, IsUnasked, pids_accepted, lines_in, pids_end_in, port_ends_in}
 use Rattle.pm_seating.specs.Seating.{Move, Notes, Reads, PortEnds, PidsEnd}
 use Rattle.pm_server.specs.declared.end.ServerEnd.{ServerEnd}
 use Rattle.pm_server.specs.declared.end.ServerEnd.TheVariants.{NoMemory}
@@ -18,7 +18,7 @@ ended_in visits = option_map (λ its. its.ended_behind) visits
 -- behind how many connections accepted the moves tell of the port's end, if they do, where so many were accepted before them
 abbrev pub end_from : ℕ → List Move → Option ℕ
 end_from n [] = None
-end_from n (Notes noted slot ∷ moves) = end_from (n + length (accepted_in (noted ∷ []))) moves
+end_from n (Notes noted slot ∷ moves) = end_from (n + length (pids_accepted (noted ∷ []))) moves
 end_from n (Reads line asks at ∷ moves) = end_from n moves
 end_from n (PortEnds at ∷ moves) = Some n
 end_from n (PidsEnd at ∷ moves) = end_from n moves

@@ -12,7 +12,7 @@ use Rattle.pm_journal.specs.Moments.{AreGiven}
 use Rattle.pm_journal.specs.Standing.{Standing}
 use Rattle.pm_journal.specs.Stands.{any_moment, highest_pid}
 use Rattle.pm_lines.specs.Log.{HasSaid, LogView}
-use Rattle.pm_seating.specs.Chained.{accepted_in}
+use Rattle.pm_seating.specs.Chained.{pids_accepted}
 use Rattle.pm_seating.specs.Final.{IsEndingAt}
 use Rattle.pm_seating.specs.Board.{ended_of}
 use Rattle.pm_seating.specs.Seating.{Move, ended_at, journal_of}
@@ -126,7 +126,7 @@ module _ {D C : Type 0} (gives : C → ℕ → Type 0) where
     pub tells : is_some v.work.told ≡ outset.tells
     pub times : AreGiven (gives outset.clock) (journal_of outset.count moves)
     pub said : HasSaid (journal_of outset.count moves) outset.log v.log
-    pub links : IfSome v.visits (HasLinks (length (accepted_in (journal_of outset.count moves))) v.board)
+    pub links : IfSome v.visits (HasLinks (length (pids_accepted (journal_of outset.count moves))) v.board)
 
   -- at every moment, these are the moves so far
   pub record IsServing (outset : Outset D C) (v : View D C) : Type 0 where

@@ -1,6 +1,6 @@
 -- Each reply of a session is right.
-use Rattle.std.proofs.Common.{◌≡◌, ◌⊎◌, inl, inr, ℕ, List, [], ◌∷◌, ◌++◌, Option, None, Some, refl, sym, ap, subst}
-use Rattle.std.specs.Prelude.{IfSome, map, unwrap_or}
+use Rattle.std.proofs.Common.{◌≡◌, ◌⊎◌, inl, inr, ℕ, List, [], ◌∷◌, ◌++◌, Option, Some, refl, sym, ap, subst}
+use Rattle.std.specs.Prelude.{map, unwrap_or}
 use Rattle.std.specs.List.{AllByRecursion}
 use Rattle.std.proofs.lemmas.List.Elements.{All-from_recursion, recursion_from_All}
 use Rattle.pm_query.specs.declared.book.BookEntry.{BookEntry}
@@ -19,6 +19,7 @@ use Rattle.pm_server.specs.declared.end.ServerEnd.{ServerEnd}
 use Rattle.pm_server.specs.declared.end.ServerEnd.TheVariants as ends
 use Rattle.pm_promises.specs.Promises.{talk_of}
 use Rattle.pm_promises.proofs.Blocks.{AreBlocksIn, IsBlockIn, blocks_are}
+use Rattle.pm_session.specs.PassedLaws.{passed_anyhow}
 
 -- what stands in one piece has nothing between its entries
 block_stands : (pid : ℕ) (noted behind : List BookEntry) → StandIn pid noted (noted ++ behind)
@@ -38,14 +39,9 @@ talk_right law base book seed limit gives c legal served (front, behind, is) =
       whole = session.whole;
       noted = session.noted;
       text = session.text;
-      passed = record { missing = session.passed.missing; read = session.passed.read; sent = session.passed.sent; cause = why session.passed.cause };
+      passed = passed_anyhow _ _ _ session.passed;
       entries = sym same;
     }))
-  where
-    why : {A B C : Type 0} → A ⊎ (B ⊎ C) → A ⊎ (B ⊎ Unit {0})
-    why (inl none) = inl none
-    why (inr (inl cut)) = inr (inl cut)
-    why (inr (inr failed)) = inr (inr tt)
 
 talks_right : RepliesAreRight → (base : Base) (book : List BookEntry) (seed : List ℕ) (limit : ℕ) (gives : ℕ → Type 0) (cs : List Connection)
     → IsLegal base book → AllByRecursion (IsServedLink seed limit gives) cs → AreBlocksIn book (map run_of cs)

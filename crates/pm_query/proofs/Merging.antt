@@ -1,12 +1,13 @@
 -- How rows in order and changes over them become one list, from the front on.
-use Rattle.std.proofs.Common.{◌≡◌, ℕ, ℤ, Bool, true, false, cond, ◌&&◌, not, T, List, [], ◌∷◌, ◌++◌, Option, Some, None, refl, sym, ap, subst, ◌∙◌, append_assoc}
-use Rattle.std.specs.declared.cmp.Ordering.{Ordering}
+use Rattle.std.proofs.Common.{◌≡◌, ℕ, ℤ, Bool, true, false, cond, not, T, List, [], ◌∷◌, ◌++◌, Option, Some, None, refl, sym, ap, subst, ◌∙◌, append_assoc}
 use Rattle.std.specs.declared.cmp.Ordering.TheVariants.{Less, Equal, Greater}
 use Rattle.std.specs.Ordering.{int_cmp, eq_by_cmp, is_lt, is_eq, ordering_reverse}
 use Rattle.std.specs.Cmp.{int_cmp_total, tied_itself}
 use Rattle.std.specs.Map.Iter.{TakesFirst}
 use Rattle.std.specs.FinMap.{is_sorted, int_cmp-IsAntisymmetric}
 use Rattle.std.specs.FinMap.Entries.{below_all, by_order, put, where_key}
+use Rattle.pm_facts.specs.Bools.{hold_both, holds_first, holds_second}
+use Rattle.pm_facts.specs.Orders.{is_less, less_is}
 use Rattle.pm_query.specs.Answer.{row_at}
 use Rattle.pm_query.specs.Merge.{put_or_drop, laid}
 
@@ -25,26 +26,6 @@ pub record IsMerging (rows : List (ℤ × List ℕ)) (changes : List (ℤ × Opt
   pub rows_rise : T (is_sorted int_cmp rows)
   pub changes_rise : T (is_sorted int_cmp changes)
 
-first_part : (a b : Bool) → T (a && b) → T a
-first_part true b p = tt
-first_part false b p = p
-
-second_part : (a b : Bool) → T (a && b) → T b
-second_part true b p = p
-second_part false b p = absurd p
-
-less : (r : Ordering) → T (is_lt r) → r ≡ Less
-less Less p = refl
-less Equal p = absurd p
-less Greater p = absurd p
-
-pub both_parts : (a b : Bool) → T a → T b → T (a && b)
-both_parts true b p q = q
-both_parts false b p q = p
-
-is_less : (r : Ordering) → r ≡ Less → T (is_lt r)
-is_less r e = subst (λ x. T (is_lt x)) (sym e) tt
-
 -- the order turned round
 more : (x y : ℤ) → int_cmp x y ≡ Less → int_cmp y x ≡ Greater
 more x y e = int_cmp_total.antisymm y x ∙ ap ordering_reverse e
@@ -54,34 +35,34 @@ module _ {X : Type 0} where
   pub below-first : (key first : ℤ) (es : List (ℤ × X)) → int_cmp key first ≡ Less → T (below_all int_cmp first es) → T (below_all int_cmp key es)
   below-first key first [] p h = tt
   below-first key first (e ∷ es) p h =
-      both_parts _ _ (is_less _ (int_cmp_total.trans key first e.0 p (less _ (first_part _ _ h)))) (below-first key first es p (second_part _ _ h))
+      hold_both _ _ (less_is _ (int_cmp_total.trans key first e.0 p (is_less _ (holds_first _ _ h)))) (below-first key first es p (holds_second _ _ h))
 
   below_put : (low key : ℤ) (value : X) (es : List (ℤ × X)) → T (is_lt (int_cmp low key)) → T (below_all int_cmp low es) → T (below_all int_cmp low (put int_cmp key value es))
-  below_put low key value [] p h = both_parts _ _ p tt
+  below_put low key value [] p h = hold_both _ _ p tt
   below_put low key value (e ∷ es) p h =
       elim (int_cmp key e.0) as (λ r. T (below_all int_cmp low (by_order r ((key, value) ∷ e ∷ es) ((e.0, value) ∷ es) (e ∷ put int_cmp key value es)))) [
-        | Less ↦ both_parts _ _ p h
+        | Less ↦ hold_both _ _ p h
         | Equal ↦ h
-        | Greater ↦ both_parts _ _ (first_part _ _ h) (below_put low key value es p (second_part _ _ h))
+        | Greater ↦ hold_both _ _ (holds_first _ _ h) (below_put low key value es p (holds_second _ _ h))
       ]
 
   below_where : (low : ℤ) (test : ℤ → Bool) (es : List (ℤ × X)) → T (below_all int_cmp low es) → T (below_all int_cmp low (where_key int_cmp test es))
   below_where low test [] h = tt
   below_where low test (e ∷ es) h =
-      let rest = below_where low test es (second_part _ _ h) in
-      elim (test e.0) as (λ b. T (below_all int_cmp low (cond b (e ∷ where_key int_cmp test es) (where_key int_cmp test es)))) [ true ↦ both_parts _ _ (first_part _ _ h) rest | false ↦ rest ]
+      let rest = below_where low test es (holds_second _ _ h) in
+      elim (test e.0) as (λ b. T (below_all int_cmp low (cond b (e ∷ where_key int_cmp test es) (where_key int_cmp test es)))) [ true ↦ hold_both _ _ (holds_first _ _ h) rest | false ↦ rest ]
 
   -- a key below all goes to the front
   put-front : (key : ℤ) (value : X) (es : List (ℤ × X)) → T (below_all int_cmp key es) → put int_cmp key value es ≡ (key, value) ∷ es
   put-front key value [] h = refl
-  put-front key value (e ∷ es) h = ap (λ r. by_order r ((key, value) ∷ e ∷ es) ((e.0, value) ∷ es) (e ∷ put int_cmp key value es)) (less _ (first_part _ _ h))
+  put-front key value (e ∷ es) h = ap (λ r. by_order r ((key, value) ∷ e ∷ es) ((e.0, value) ∷ es) (e ∷ put int_cmp key value es)) (is_less _ (holds_first _ _ h))
 
   -- and there is none of it to drop
   drop-front : (key : ℤ) (es : List (ℤ × X)) → T (below_all int_cmp key es) → where_key int_cmp (λ other. not (eq_by_cmp int_cmp key other)) es ≡ es
   drop-front key [] h = refl
   drop-front key (e ∷ es) h =
-      ap (λ r. cond (not (is_eq r)) (e ∷ where_key int_cmp (λ other. not (eq_by_cmp int_cmp key other)) es) (where_key int_cmp (λ other. not (eq_by_cmp int_cmp key other)) es)) (less _ (first_part _ _ h))
-      ∙ ap (λ rest. e ∷ rest) (drop-front key es (second_part _ _ h))
+      ap (λ r. cond (not (is_eq r)) (e ∷ where_key int_cmp (λ other. not (eq_by_cmp int_cmp key other)) es) (where_key int_cmp (λ other. not (eq_by_cmp int_cmp key other)) es)) (is_less _ (holds_first _ _ h))
+      ∙ ap (λ rest. e ∷ rest) (drop-front key es (holds_second _ _ h))
 
 below_changed : (low : ℤ) (change : ℤ × Option (List ℕ)) (es : List (ℤ × List ℕ)) → T (is_lt (int_cmp low change.0)) → T (below_all int_cmp low es) → T (below_all int_cmp low (put_or_drop change es))
 below_changed low (key, Some value) es p h = below_put low key value es p h
@@ -89,7 +70,7 @@ below_changed low (key, None) es p h = below_where low (λ other. not (eq_by_cmp
 
 below_laid : (low : ℤ) (es : List (ℤ × List ℕ)) (cs : List (ℤ × Option (List ℕ))) → T (below_all int_cmp low es) → T (below_all int_cmp low cs) → T (below_all int_cmp low (laid es cs))
 below_laid low es [] h g = h
-below_laid low es (c ∷ cs) h g = below_changed low c (laid es cs) (first_part _ _ g) (below_laid low es cs h (second_part _ _ g))
+below_laid low es (c ∷ cs) h g = below_changed low c (laid es cs) (holds_first _ _ g) (below_laid low es cs h (holds_second _ _ g))
 
 -- a change above a row leaves it in front
 change-behind : (e : ℤ × List ℕ) (change : ℤ × Option (List ℕ)) (es : List (ℤ × List ℕ)) → int_cmp e.0 change.0 ≡ Less → put_or_drop change (e ∷ es) ≡ e ∷ put_or_drop change es
@@ -110,35 +91,35 @@ change-at key old None es h =
 
 laid-row : (e : ℤ × List ℕ) (es : List (ℤ × List ℕ)) (cs : List (ℤ × Option (List ℕ))) → T (below_all int_cmp e.0 cs) → laid (e ∷ es) cs ≡ e ∷ laid es cs
 laid-row e es [] h = refl
-laid-row e es (c ∷ cs) h = ap (put_or_drop c) (laid-row e es cs (second_part _ _ h)) ∙ change-behind e c (laid es cs) (less _ (first_part _ _ h))
+laid-row e es (c ∷ cs) h = ap (put_or_drop c) (laid-row e es cs (holds_second _ _ h)) ∙ change-behind e c (laid es cs) (is_less _ (holds_first _ _ h))
 
 -- the three steps of a merge: the row comes first, the change does, or both are at one key
 pub row_first : (e : ℤ × List ℕ) (es : List (ℤ × List ℕ)) (cs : List (ℤ × Option (List ℕ))) (pairs all : List (ℤ × List ℕ)) → T (below_all int_cmp e.0 cs)
     → IsMerging (e ∷ es) cs pairs all → IsMerging es cs (pairs ++ e ∷ []) all
 row_first e es cs pairs all h is = record {
   whole = append_assoc pairs (e ∷ []) (laid es cs) ∙ ap (λ rest. pairs ++ rest) (sym (laid-row e es cs h)) ∙ is.whole;
-  rows_rise = second_part _ _ is.rows_rise;
+  rows_rise = holds_second _ _ is.rows_rise;
   changes_rise = is.changes_rise;
 }
 
 pub change_first : (c : ℤ × Option (List ℕ)) (es : List (ℤ × List ℕ)) (cs : List (ℤ × Option (List ℕ))) (pairs all : List (ℤ × List ℕ)) → T (below_all int_cmp c.0 es)
     → IsMerging es (c ∷ cs) pairs all → IsMerging es cs (pairs ++ row_at c.0 c.1) all
 change_first c es cs pairs all h is = record {
-  whole = append_assoc pairs (row_at c.0 c.1) (laid es cs) ∙ ap (λ rest. pairs ++ rest) (sym (change-front c (laid es cs) (below_laid c.0 es cs h (first_part _ _ is.changes_rise)))) ∙ is.whole;
+  whole = append_assoc pairs (row_at c.0 c.1) (laid es cs) ∙ ap (λ rest. pairs ++ rest) (sym (change-front c (laid es cs) (below_laid c.0 es cs h (holds_first _ _ is.changes_rise)))) ∙ is.whole;
   rows_rise = is.rows_rise;
-  changes_rise = second_part _ _ is.changes_rise;
+  changes_rise = holds_second _ _ is.changes_rise;
 }
 
 pub both_first : (key : ℤ) (old : List ℕ) (new : Option (List ℕ)) (es : List (ℤ × List ℕ)) (cs : List (ℤ × Option (List ℕ))) (pairs all : List (ℤ × List ℕ))
     → IsMerging ((key, old) ∷ es) ((key, new) ∷ cs) pairs all → IsMerging es cs (pairs ++ row_at key new) all
 both_first key old new es cs pairs all is =
-    let rows = first_part _ _ is.rows_rise in
-    let changes = first_part _ _ is.changes_rise in record {
+    let rows = holds_first _ _ is.rows_rise in
+    let changes = holds_first _ _ is.changes_rise in record {
       whole = append_assoc pairs (row_at key new) (laid es cs)
           ∙ ap (λ rest. pairs ++ rest) (sym (ap (put_or_drop (key, new)) (laid-row (key, old) es cs changes) ∙ change-at key old new (laid es cs) (below_laid key es cs rows changes)))
           ∙ is.whole;
-      rows_rise = second_part _ _ is.rows_rise;
-      changes_rise = second_part _ _ is.changes_rise;
+      rows_rise = holds_second _ _ is.rows_rise;
+      changes_rise = holds_second _ _ is.changes_rise;
     }
 
 -- a key below the item that was taken ahead is below all that is left
@@ -146,7 +127,7 @@ pub below_ahead : {A X : Type 0} (shows : A → ℤ × X) (ahead : Option A) (re
     → T (is_sorted int_cmp (left shows ahead rest)) → T (below_all int_cmp key (left shows ahead rest))
 below_ahead shows ahead rest key next e p h =
     let rises = subst (λ o. T (is_sorted int_cmp (left shows o rest))) e h in
-    subst (λ o. T (below_all int_cmp key (left shows o rest))) (sym e) (both_parts _ _ (is_less _ p) (below-first key (shows next).0 rest p (first_part _ _ rises)))
+    subst (λ o. T (below_all int_cmp key (left shows o rest))) (sym e) (hold_both _ _ (less_is _ p) (below-first key (shows next).0 rest p (holds_first _ _ rises)))
 
 pub below_none : {A X : Type 0} (shows : A → ℤ × X) (ahead : Option A) (rest : List (ℤ × X)) (key : ℤ) → ahead ≡ None → T (below_all int_cmp key (left shows ahead rest))
 below_none shows ahead rest key e = subst (λ o. T (below_all int_cmp key (left shows o rest))) (sym e) tt

@@ -11,6 +11,7 @@ use Rattle.pm_rows.specs.Fold.{committed, folded}
 use Rattle.pm_rows.specs.declared.commit.Change.{Change}
 use Rattle.pm_rows.specs.Standing.{Standing}
 use Rattle.pm_query.specs.declared.book.BookEntry.{BookEntry}
+use Rattle.pm_query.specs.declared.book.BookEntry.TheVariants.{Opened, Attached, Redone, Answered, Released, Detached, Gone, CheckpointEnded, Broke, LogFull}
 use Rattle.pm_query.specs.History.{History, beginning, count_of, kept, number, rows_of, with_commit}
 use Rattle.pm_query.specs.Limits.{HasShortRows, IsShortRow}
 use Rattle.pm_query.specs.Book.{Base, Course, MayGoOn, course_after, generation_after, generation_of, history_after, history_of, kept_after, kept_by_redo, present, present_after, standing_of, times_after, times_attached}
@@ -26,6 +27,23 @@ pub history_push : (base : Base) (book : List BookEntry) (entry : BookEntry) →
 history_push base book entry =
     ap (λ (c : Course). c.history) (fold-append course_after (record { history = beginning (standing_of base); redone = None }) book (entry ∷ []))
     ∙ ap (λ (r : Option ℕ). history_after r (history_of base book) entry) (redone_is (record { history = beginning (standing_of base); redone = None }) book)
+
+one_rises : (n : ℕ) (e : BookEntry) → n ≤ generation_after n e
+one_rises n (Opened generation) = omega arith
+one_rises n (Attached pid generation) = omega arith
+one_rises n (Redone pid generation kept) = omega arith
+one_rises n (Answered pid script reply commit front tick) = omega arith
+one_rises n (Released pid front tick) = omega arith
+one_rises n (Detached pid) = omega arith
+one_rises n (Gone pid) = omega arith
+one_rises n (CheckpointEnded pid done clean) = omega arith
+one_rises n (Broke pid since faults) = omega arith
+one_rises n (LogFull pid script need room) = omega arith
+
+-- no entry takes a generation back
+pub generations_rise : (n : ℕ) (es : List BookEntry) → n ≤ fold generation_after n es
+generations_rise n [] = omega arith
+generations_rise n (e ∷ es) = omega (arith, one_rises n e, generations_rise (generation_after n e) es)
 
 pub generation_push : (book : List BookEntry) (entry : BookEntry) → generation_of (book ++ entry ∷ []) ≡ generation_after (generation_of book) entry
 generation_push book entry = fold-append generation_after 0 book (entry ∷ [])

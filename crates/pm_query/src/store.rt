@@ -175,8 +175,10 @@ pub trait Store {
     /// Lets a child go, and notes that, unless the store has met a later generation. It takes no memory.
     fn leave(&mut self, pass: Self::Pass)
         requires { admits self.old pass }
-        ensures notes { (entries : List BookEntry) × notes entries self.old self.new × LeaveNotes (user_of (stamp self.old) (view pass)) entries }
-        ensures stale { notes (Detached (view pass).pid ∷ []) self.old self.new ⊎ IsPast (met self.new) (view pass).generation };
+        ensures notes { (entries : List BookEntry) × notes entries self.old self.new
+            × LeaveNotes (user_of (stamp self.old) (view pass)) entries }
+        ensures stale { notes (Detached (view pass).pid ∷ []) self.old self.new
+            ⊎ IsPast (met self.new) (view pass).generation };
 
     /// Where no call is made, nothing is noted.
     ghost at_rest: { (store : Self) → notes [] store store };

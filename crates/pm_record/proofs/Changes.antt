@@ -1,6 +1,6 @@
 -- A change that may stand where so many bytes are left.
-use Rattle.std.proofs.Common.{◌≡◌, ℕ, suc, ◌+◌, ◌-◌, ◌<◌, ◌≤◌, ◌⊎◌, ◌&&◌, ◌||◌, Bool, true, cond, eqb, ltb, leb, eq-eqb, rules, ℤ, pos, List, [], ◌∷◌, ◌++◌, length, Ok, refl, sym, ap, subst, arith, inl, inr}
-use Rattle.std.proofs.lemmas.Bool.{cases_lt, leb-true, le-leb, lt-ltb, le-ltb, and_parts}
+use Rattle.std.proofs.Common.{◌≡◌, ℕ, suc, ◌+◌, ◌-◌, ◌<◌, ◌≤◌, ◌⊎◌, ◌&&◌, ◌||◌, Bool, true, cond, eqb, ltb, leb, eq-eqb, ℤ, pos, List, [], ◌∷◌, ◌++◌, length, Ok, refl, sym, ap, subst, arith, inl, inr}
+use Rattle.std.proofs.lemmas.Bool.{cases_lt, leb-true, le-leb, lt-ltb, le-ltb, and_parts, eq-eqb}
 use Rattle.std.proofs.lemmas.Bool.{eqb-true}
 use Rattle.std.proofs.Math.Facts.{sfits_to_z}
 use Rattle.std.proofs.lemmas.Bool.{or_cases}
@@ -89,12 +89,9 @@ fills_to n c left e = elim (or_cases (eqb left (least n c)) (leb (least n c + 4)
   | inr a ↦ let p = and_parts (leb (least n c + 4) left) (leb left (most n c)) a in inr (leb-true _ _ p.0, leb-true _ _ p.1)
 ]
 
-eqb_same : (a b : ℕ) → a ≡ b → eqb a b ≡ true
-eqb_same a b e = search (rules, eq-eqb)
-
 fills_from : (n c left : ℕ) → Fills n c left → fills n c left ≡ true
 fills_from n c left is = elim is [
-  | inl a ↦ ap (λ (t : Bool). t || (leb (least n c + 4) left && leb left (most n c))) (eqb_same left (least n c) a)
+  | inl a ↦ ap (λ (t : Bool). t || (leb (least n c + 4) left && leb left (most n c))) (eq-eqb left (least n c) a)
   | inr a ↦ rw (le-leb (least n c + 4) left a.0, le-leb left (most n c) a.1) (or-true (eqb left (least n c)))
 ]
 

@@ -1,5 +1,5 @@
 -- The rows of a base as a map: rows of rising keys, each added in turn, are the map's rows in order.
-use Rattle.std.proofs.Common.{◌≡◌, ℕ, zero, suc, ◌+◌, ◌^◌, ◌<◌, ◌≤◌, min, ℤ, Bool, true, false, ◌&&◌, List, [], ◌∷◌, ◌++◌, length, Ok, Err, refl, sym, ap, subst, ◌∙◌, append_assoc, append-nil, arith, inl, Less, Equal, Greater}
+use Rattle.std.proofs.Common.{◌≡◌, ℕ, zero, suc, ◌+◌, ◌^◌, ◌<◌, ◌≤◌, min, ℤ, List, [], ◌∷◌, ◌++◌, length, Ok, Err, refl, sym, ap, subst, ◌∙◌, append_assoc, append-nil, arith, inl, Less, Greater}
 use Rattle.std.specs.Prelude.{T, fold, All, FitsSigned}
 use Rattle.std.specs.declared.cmp.Ordering.{Ordering}
 use Rattle.std.specs.Ordering.{int_cmp, is_lt, ordering_reverse}
@@ -11,6 +11,8 @@ use Rattle.std.specs.FinMap as map
 use Rattle.std.specs.FinMap.{put, entries-insert, is_sorted, entries_sorted, same_entries_map, len-empty, len-entries}
 use Rattle.std.specs.FinMap.Entries.{below_all, by_order}
 use Rattle.std.proofs.lemmas.List.Elements.{All-from_recursion, recursion_from_All}
+use Rattle.pm_facts.specs.Bools.{hold_both, holds_first, holds_second}
+use Rattle.pm_facts.specs.Orders.{is_less, less_is}
 use Rattle.pm_rows.specs.Fold.{RowMap}
 use Rattle.pm_rows.specs.Limits.{max_rows}
 use Rattle.pm_record.specs.Spelling.{row_bytes, rows_bytes}
@@ -84,41 +86,21 @@ rising_all from (row ∷ rest) rise rows few state le fits =
 
 -- ---- rising rows are in order
 
-both : (a b : Bool) → T a → T b → T (a && b)
-both true b p q = q
-both false b p q = absurd p
-
-first : (a b : Bool) → T (a && b) → T a
-first true b p = tt
-first false b p = absurd p
-
-second : (a b : Bool) → T (a && b) → T b
-second true b p = p
-second false b p = absurd p
-
-is_less : (o : Ordering) → T (is_lt o) → o ≡ Less
-is_less Less p = refl
-is_less Equal p = absurd p
-is_less Greater p = absurd p
-
-less_is : (o : Ordering) → o ≡ Less → T (is_lt o)
-less_is o e = subst (λ (r : Ordering). T (is_lt r)) (sym e) tt
-
 rising_below : (key : ℤ) (rows : List Row) → FitsSigned w64 key → Rising (place key + 1) rows → T (below_all int_cmp key rows)
 rising_below key [] fits rise = tt
 rising_below key (row ∷ rows) fits rise =
-    both (is_lt (int_cmp key row.0)) (below_all int_cmp key rows) (less_is (int_cmp key row.0) (place_below key row.0 fits rise.1 (omega (arith, rise.0))))
+    hold_both (is_lt (int_cmp key row.0)) (below_all int_cmp key rows) (less_is (int_cmp key row.0) (place_below key row.0 fits rise.1 (omega (arith, rise.0))))
     (rising_below key rows fits (sooner (place key + 1) (place row.0 + 1) rows (omega (arith, rise.0)) rise.2))
 
 rising_sorted : (from : ℕ) (rows : List Row) → Rising from rows → T (is_sorted int_cmp rows)
 rising_sorted from [] rise = tt
-rising_sorted from (row ∷ rows) rise = both (below_all int_cmp row.0 rows) (is_sorted int_cmp rows) (rising_below row.0 rows rise.1 rise.2) (rising_sorted (place row.0 + 1) rows rise.2)
+rising_sorted from (row ∷ rows) rise = hold_both (below_all int_cmp row.0 rows) (is_sorted int_cmp rows) (rising_below row.0 rows rise.1 rise.2) (rising_sorted (place row.0 + 1) rows rise.2)
 
 sorted_rising : (row : Row) (rows : List Row) → T (is_sorted int_cmp (row ∷ rows)) → AllByRecursion IsRow (row ∷ rows) → Rising (place row.0) (row ∷ rows)
 sorted_rising row [] sorted all = (omega arith, all.0.0, tt)
 sorted_rising row (next ∷ rows) sorted all =
-    let others = second (below_all int_cmp row.0 (next ∷ rows)) (is_sorted int_cmp (next ∷ rows)) sorted in
-    let here = first (is_lt (int_cmp row.0 next.0)) (below_all int_cmp row.0 rows) (first (below_all int_cmp row.0 (next ∷ rows)) (is_sorted int_cmp (next ∷ rows)) sorted) in
+    let others = holds_second (below_all int_cmp row.0 (next ∷ rows)) (is_sorted int_cmp (next ∷ rows)) sorted in
+    let here = holds_first (is_lt (int_cmp row.0 next.0)) (below_all int_cmp row.0 rows) (holds_first (below_all int_cmp row.0 (next ∷ rows)) (is_sorted int_cmp (next ∷ rows)) sorted) in
     let lt = below_place row.0 next.0 all.0.0 all.1.0.0 (is_less (int_cmp row.0 next.0) here) in
     (omega arith, all.0.0, sooner (place row.0 + 1) (place next.0) (next ∷ rows) (omega (arith, lt)) (sorted_rising next rows others all.1))
 
@@ -129,16 +111,16 @@ in_order (row ∷ rows) sorted all = sooner 0 (place row.0) (row ∷ rows) (omeg
 -- ---- added in turn
 
 below_next : (key : ℤ) (es : List Row) (row : Row) (rows : List Row) → T (below_all int_cmp key (es ++ row ∷ rows)) → T (is_lt (int_cmp key row.0))
-below_next key [] row rows below = first (is_lt (int_cmp key row.0)) (below_all int_cmp key rows) below
-below_next key (e ∷ es) row rows below = below_next key es row rows (second (is_lt (int_cmp key e.0)) (below_all int_cmp key (es ++ row ∷ rows)) below)
+below_next key [] row rows below = holds_first (is_lt (int_cmp key row.0)) (below_all int_cmp key rows) below
+below_next key (e ∷ es) row rows below = below_next key es row rows (holds_second (is_lt (int_cmp key e.0)) (below_all int_cmp key (es ++ row ∷ rows)) below)
 
 put_last : (es : List Row) (row : Row) (rows : List Row) → T (is_sorted int_cmp (es ++ row ∷ rows)) → put int_cmp row.0 row.1 es ≡ es ++ row ∷ []
 put_last [] row rows sorted = refl
 put_last (e ∷ es) row rows sorted =
-    let below = first (below_all int_cmp e.0 (es ++ row ∷ rows)) (is_sorted int_cmp (es ++ row ∷ rows)) sorted in
+    let below = holds_first (below_all int_cmp e.0 (es ++ row ∷ rows)) (is_sorted int_cmp (es ++ row ∷ rows)) sorted in
     let above : int_cmp row.0 e.0 ≡ Greater = int_cmp_total.antisymm row.0 e.0 ∙ ap ordering_reverse (is_less (int_cmp e.0 row.0) (below_next e.0 es row rows below)) in
     ap (λ (o : Ordering). by_order o ((row.0, row.1) ∷ e ∷ es) ((e.0, row.1) ∷ es) (e ∷ put int_cmp row.0 row.1 es)) above
-    ∙ ap (λ (t : List Row). e ∷ t) (put_last es row rows (second (below_all int_cmp e.0 (es ++ row ∷ rows)) (is_sorted int_cmp (es ++ row ∷ rows)) sorted))
+    ∙ ap (λ (t : List Row). e ∷ t) (put_last es row rows (holds_second (below_all int_cmp e.0 (es ++ row ∷ rows)) (is_sorted int_cmp (es ++ row ∷ rows)) sorted))
 
 added_all : (rows : List Row) (state : ℕ × RowMap) → T (is_sorted int_cmp (map.entries state.1 ++ rows)) → map.entries (fold added state rows).1 ≡ map.entries state.1 ++ rows
 added_all [] state sorted = sym (append-nil (map.entries state.1))

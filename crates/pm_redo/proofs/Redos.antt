@@ -1,7 +1,8 @@
 -- What reading the two files leaves of what they mean.
 use Rattle.std.proofs.Common.{◌≡◌, ◌⊎◌, inl, inr, ℕ, ◌≤◌, ◌<◌, Bool, true, false, List, [], ◌∷◌, ◌++◌, drop, refl, sym, ◌∙◌, ap, subst, arith}
 use Rattle.std.specs.Prelude.{Option, Some, None, IfSome, option_map}
-use Rattle.std.proofs.lemmas.Bool.{cases_lt}
+use Rattle.std.proofs.lemmas.Bool.{cases_lt, false≢true, true≢false}
+use Rattle.std.proofs.Math.Arith.{le-zero}
 use Rattle.pm_disk.specs.declared.disk.Which.{Which}
 use Rattle.pm_disk.specs.declared.disk.Which.TheVariants.{A, B}
 use Rattle.pm_disk.specs.Files.{Files, file_of, other, overwritten}
@@ -39,11 +40,8 @@ finds_one file found files holds shut = record {
   is = holds.2;
   pair = subst (λ (w : Which). PairStandsFor files w holds.0 found.end) (sym holds.3) (record { stands = holds.1; beside = inl shut });
   shut = λ _. subst (λ (w : Which). IsShut (file_of files (other w))) (sym holds.3) shut;
-  stays = λ same. absurd (never same);
+  stays = λ same. absurd (false≢true same);
 }
-  where
-    never : false ≡ true → ⊥
-    never e = cc
 
 pub finds_two : (file : Which) (found two : Found) (files : Files) → Holds file (Stood found) (file_of files file) → Holds (other file) (Stood two) (file_of files (other file))
     → two.epoch < found.epoch → Finds found true files
@@ -52,12 +50,9 @@ finds_two file found two files holds beside less = record {
   is = holds.2;
   pair = subst (λ (w : Which). PairStandsFor files w holds.0 found.end) (sym holds.3)
       (record { stands = holds.1; beside = inr (beside.0, two.end, beside.1, omega (arith, less, holds.2.epoch, beside.2.epoch)) });
-  shut = λ same. absurd (never same);
+  shut = λ same. absurd (true≢false same);
   stays = subst (λ (w : Which). true ≡ true → IsShut (file_of files (other w)) → ⊥) (sym holds.3) (λ _ shut. not_shut (file_of files (other file)) beside.0 two.end beside.1 shut);
 }
-  where
-    never : true ≡ false → ⊥
-    never e = cc
 
 -- whichever file is named
 sides : (file w : Which) → (w ≡ file) ⊎ (w ≡ other file)
@@ -88,7 +83,7 @@ shut_keeps file content end files image pair unshut torn standing bytes means =
                     stands = subst (λ (l : List ℕ). StandsFor l means.content means.end) (sym stays) its.stands;
                     beside = elim (cases_lt 0 t.0) [
                       | inl is_open ↦ inr (older.0, older.1, subst (λ (l : List ℕ). StandsFor l older.0 older.1) (sym t.2) (regated (file_of files o) older.0 older.1 t.0 t.1 older.2 (λ e. omega arith)), older.3)
-                      | inr is_closed ↦ inl (drop 1 (file_of files o) ++ t.1, t.2 ∙ ap (λ (g : ℕ). g ∷ (drop 1 (file_of files o) ++ t.1)) (none t.0 is_closed))
+                      | inr is_closed ↦ inl (drop 1 (file_of files o) ++ t.1, t.2 ∙ ap (λ (g : ℕ). g ∷ (drop 1 (file_of files o) ++ t.1)) (le-zero is_closed))
                     ];
                   };
                   is = means.is;
@@ -109,9 +104,6 @@ shut_keeps file content end files image pair unshut torn standing bytes means =
             ]
           ])
     ]
-  where
-    none : (gate : ℕ) → gate ≤ 0 → gate ≡ 0
-    none gate le = omega arith
 
 -- ---- over the ticks
 pub same_means : (one two : Files) → two ≡ one → MeansWhat one two

@@ -3,21 +3,20 @@ use Rattle.std.proofs.Common.{◌≡◌, ◌⊎◌, inl, inr, ℕ, List, [], Opt
 use Rattle.std.proofs.Math.Logic.{∥∥₁_map}
 use Rattle.std.specs.Prelude.{false, true, IfSome}
 use Rattle.std.specs.FinMap as finite
+use Rattle.std.proofs.lemmas.Bool.{true≢false}
 use Rattle.pm_disk.specs.Files.{Files}
 use Rattle.pm_record.specs.OnDisk.{GoesOn}
 use Rattle.pm_record.specs.Pair.{Means}
-use Rattle.pm_query.specs.Book.{Base, IsLegal, faults_here, generation_of, history_of, is_closed}
+use Rattle.pm_query.specs.Book.{Base, faults_here, generation_of, history_of, is_closed}
 use Rattle.pm_query.specs.Durable.{IsDurable}
 use Rattle.pm_query.specs.declared.book.BookEntry.{BookEntry}
 use Rattle.pm_segment.specs.declared.segment.Segment.{Segment}
-use Rattle.pm_segment.specs.declared.live.Live.{Live}
 use Rattle.pm_segment.specs.Moment.{Moment, Told, book_of, disk_of, moment}
 use Rattle.pm_segment.specs.Redos.{IsCleanAt}
 use Rattle.pm_segment.specs.Runs.{CanBeRead, IsReplay, IsRun, StaysClean}
 use Rattle.pm_segment.specs.Stands.{Begins, GoesFrom, HasBegun, HasWaited, IsBaseOf, IsOpening, IsSure as IsSureAt, Origin, WaitsFrom}
-use Rattle.pm_segment.specs.Unread.{has_break, has_redo}
 use Rattle.pm_server.specs.Ends.{AreHandedIn}
-use Rattle.pm_server.specs.Story.{HoldsHistory, IsClean, KeepsMeaning}
+use Rattle.pm_server.specs.Story.{IsClean}
 use Rattle.pm_server.specs.StoryLaws.{RestsAt, clean_told, left_told, no_answers, origin_of, view_at, where_told}
 use Rattle.pm_server.specs.UnredoneLaws.{unredone}
 use Rattle.pm_server.specs.Views.{DiskView}
@@ -33,9 +32,6 @@ both_told (Some f) P Q R step told = step f refl told
 sure : (log : List BookEntry) (at : Moment) → generation_of log ≡ at.generation → IsSure log at.files → IsSureAt at
 sure log at generation (inl one) = inl (sym generation ∙ one)
 sure log at generation (inr tells) = inr tells
-
-never : true ≡ false → ⊥
-never e = cc
 
 -- ---- before the first redo
 
@@ -54,7 +50,7 @@ waiting first at log time waited opening = record {
     keeps = where_told at.files (IsOpening (origin_of first) at.ticks at.images) _
         (λ opens t from upto image there. ∥∥₁_map (opens t from upto image there) (λ e. (e.0, (time.past first.ticks (omega arith) e.0).0 e.1, e.2))) opening;
   });
-  clean = λ closed here. absurd (never (sym closed ∙ waited.unclosed));
+  clean = λ closed here. absurd (true≢false (sym closed ∙ waited.unclosed));
   read = each at.files;
 }
   where

@@ -15,6 +15,7 @@ use Rattle.std.proofs.lemmas.List.Sums.{fold-append}
 use Rattle.std.proofs.lemmas.Map.Entries.{sum_by-insert_entry}
 use Rattle.std.proofs.lemmas.Map.Keys.{sorted_head, sorted_tail}
 use Rattle.pm_facts.specs.Bools.{cond-not, true_of}
+use Rattle.pm_facts.specs.Orders.{is_less}
 use Rattle.pm_rows.specs.declared.commit.Change.{Change}
 use Rattle.pm_rows.specs.Fold.{RowMap, changed, committed}
 use Rattle.pm_rows.specs.Size.{row_size, size_at, size_of}
@@ -40,14 +41,9 @@ module _ {X : Type 0} where
   rises [] h = refl
   rises (e ∷ es) h = and_from _ _ (below_rest e.0 es (sorted_head int_cmp e.0 (keys_of es) h)) (rises es (sorted_tail int_cmp e.0 (keys_of es) h))
 
-is_less : (order : Ordering) → is_lt order ≡ true → order ≡ Less
-is_less Less h = refl
-is_less Equal h = cc
-is_less Greater h = cc
-
 all_above : (k : ℤ) (es : List (ℤ × List ℕ)) → below_all int_cmp k es ≡ true → AllByRecursion (λ y. int_cmp k y ≡ Less) (keys_of es)
 all_above k [] h = tt
-all_above k (e ∷ es) h = let parts = and_parts _ _ h in (is_less (int_cmp k e.0) parts.0, all_above k es parts.1)
+all_above k (e ∷ es) h = let parts = and_parts _ _ h in (is_less (int_cmp k e.0) (subst T (sym parts.0) tt), all_above k es parts.1)
 
 ordered : (es : List (ℤ × List ℕ)) → is_sorted int_cmp es ≡ true → IsStrictlySortedBy int_cmp (keys_of es)
 unfolding IsStrictlySortedBy

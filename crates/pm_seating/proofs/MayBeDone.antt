@@ -18,6 +18,7 @@ use Rattle.pm_supervisor.specs.declared.Reason.TheVariants as reason
 use Rattle.pm_supervisor.specs.declared.Ending.TheVariants as ending
 use Rattle.pm_supervisor.specs.Children.{Child, child_of, count_of, one_if, is_startup_child, is_checkpointer, is_writer}
 use Rattle.pm_supervisor.specs.Supervisor.{Supervisor}
+use Rattle.pm_supervisor.specs.CountLaws.{none_counted}
 use Rattle.pm_state.specs.declared.action.Action.TheVariants as action
 use Rattle.pm_state.specs.declared.action.Line.TheVariants as line
 use Rattle.pm_state.specs.declared.machine.Machine.{Machine}
@@ -129,10 +130,6 @@ shut_of : (open_ runs : Bool) → (not open_ || runs) ≡ true → runs ≡ fals
 shut_of true true is isnt = absurd (let no_ : true ≡ false = isnt in cc)
 shut_of true false is isnt = absurd (let no_ : false ≡ true = is in cc)
 shut_of false runs is isnt = refl
-
-pub none_counted : (n : ℕ) (b : Bool) → n ≡ one_if b → b ≡ false → n ≡ 0
-none_counted n true is isnt = absurd (let no_ : true ≡ false = isnt in cc)
-none_counted n false is isnt = is
 
 startup_may : (limits : Limits) (m : Machine) (s : Supervisor) (pid : ℕ) (exit : _) → Facts limits m s → IsSomeAnd (child_of pid s.shared.children) (λ c. is_startup_child c.kind ≡ true)
     → MayDo (startup_exited m exit).acts (gate_shown s.shared) (without pid (roll_of s.shared.children))

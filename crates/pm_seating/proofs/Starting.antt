@@ -24,6 +24,7 @@ use Rattle.pm_supervisor.specs.declared.Ending.TheVariants as ending
 use Rattle.pm_supervisor.specs.Children.{Child, child_of, count_of, one_if, is_startup_child, is_checkpointer, is_writer}
 use Rattle.pm_supervisor.specs.Supervisor.{Supervisor}
 use Rattle.pm_supervisor.specs.Steps.{Trace}
+use Rattle.pm_supervisor.specs.CountLaws.{none_counted}
 use Rattle.pm_state.specs.declared.action.Action.{Action}
 use Rattle.pm_state.specs.declared.action.Action.TheVariants as action
 use Rattle.pm_state.specs.declared.action.Line.TheVariants as line
@@ -40,7 +41,7 @@ use Rattle.pm_state.specs.Shows.{Call, Accepts, Starts, Exits, Asks, Ticks, Take
 use Rattle.pm_state.specs.TurnRules.{startup_starts, is_not_running, are_backends_gone, start_recovery, start_recovery_in, restart_writer, restart_writer_in, end_smart, end_smart_in, stop_backends, stop_backends_in, backends_gone, backends_gone_in, dead_ends_gone, dead_ends_gone_in, children_gone, children_gone_in, turned_of}
 use Rattle.pm_board.specs.Places.{is_auxiliary}
 use Rattle.pm_seating.specs.Acts.{StartOnly, may_start, renews}
-use Rattle.pm_seating.proofs.MayBeDone.{alone_of, at_least, none_counted, runs_of}
+use Rattle.pm_seating.proofs.MayBeDone.{alone_of, at_least, runs_of}
 use Rattle.pm_seating.proofs.Turning.{in_order, inside, rest0, rest1, rest2, rest3, rest_s, rest_w}
 
 -- such a child may still be started: a startup child, or another

@@ -14,6 +14,7 @@ use Rattle.pm_state.specs.declared.action.Action.{Action}
 use Rattle.pm_state.specs.declared.action.Action.TheVariants as action
 use Rattle.pm_state.specs.declared.action.Line.TheVariants as line
 use Rattle.pm_supervisor.specs.declared.Ending.TheVariants as ending
+use Rattle.pm_supervisor.specs.CountLaws.{none_counted}
 use Rattle.pm_state.specs.declared.machine.Machine.{Machine}
 use Rattle.pm_state.specs.Transition.{Transition, transition}
 use Rattle.pm_state.specs.TurnRules.{startup_starts, is_not_running, are_backends_gone, start_recovery, restart_writer, end_smart, stop_backends, backends_gone, dead_ends_gone, children_gone, children_gone_in, turned_of}
@@ -25,7 +26,7 @@ use Rattle.pm_seating.specs.Acts.{MayDo, NoneIs, gate_shown}
 use Rattle.pm_modes.specs.Strength.{strengthen_of}
 use Rattle.pm_state.specs.Shows.{Accepts, Starts, Exits, Asks, Ticks, TakesTurn, Attaches, Touches, Detaches}
 use Rattle.pm_seating.specs.Laws.{CallsMayBeDone}
-use Rattle.pm_seating.proofs.MayBeDone.{none_of_them, none_counted, exits_may, requested_may, ticked_may}
+use Rattle.pm_seating.proofs.MayBeDone.{none_of_them, exits_may, requested_may, ticked_may}
 
 -- what the machine's counts tell of the roll
 record Counted (m : Machine) (roll : List Enrolled) : Type 0 where

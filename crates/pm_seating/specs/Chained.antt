@@ -97,14 +97,14 @@ pub record AsksAsTold (IsNumber : List ℕ → ℕ → Type 0) (moves : List Mov
 
 -- ---- links
 
-abbrev pub accepted_in : List PmEvent → List ℕ
-accepted_in [] = []
-accepted_in (entry.Accepted pid decision ∷ journal) = pid ∷ accepted_in journal
-accepted_in (_ ∷ journal) = accepted_in journal
+abbrev pub pids_accepted : List PmEvent → List ℕ
+pids_accepted [] = []
+pids_accepted (entry.Accepted pid decision ∷ journal) = pid ∷ pids_accepted journal
+pids_accepted (_ ∷ journal) = pids_accepted journal
 
 -- the n-th link that the port gave is that of the n-th connection accepted, and each came back once
 pub record LinksCameBack (journal : List PmEvent) (visits : Visits) : Type 0 where
-  pub given : length visits.given ≡ length (accepted_in journal)
+  pub given : length visits.given ≡ length (pids_accepted journal)
   pub back : length visits.back ≡ length visits.given
   pub each : (n : ℕ) → 1 ≤ n → n ≤ length visits.given → (visit : Visit) × Contains visits.back visit × (visit.number ≡ n)
 

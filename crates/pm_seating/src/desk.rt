@@ -162,7 +162,8 @@ impl<J: Chronicle<PmEvent>, M: Report + Drop> Desk<J, M> {
         requires may { MayPerform act self.old.roster.knows (seats_of self.old.roster.knows) }
         ensures supervision { self.new.supervision ≡ self.old.supervision }
         ensures table { self.new.roster.table ≡ self.old.roster.table }
-        ensures performs { Performs act M.ordered self.old.roster.knows (seats_of self.old.roster.knows) self.new.roster.knows (seats_of self.new.roster.knows) }
+        ensures performs { Performs act M.ordered self.old.roster.knows (seats_of self.old.roster.knows)
+            self.new.roster.knows (seats_of self.new.roster.knows) }
     {
         let roster = &mut self.roster;
         match act {

@@ -6,6 +6,7 @@ use Rattle.std.proofs.lemmas.List.Folds.{list_any-append}
 use Rattle.std.proofs.lemmas.List.Sums.{fold-append, sum_by-append}
 use Rattle.pm_disk.specs.Cause.{Rose}
 use Rattle.pm_disk.specs.Files.{Files}
+use Rattle.pm_disk.specs.DiskLaws.{rose_further}
 use Rattle.pm_record.specs.Calls.{goes_two}
 use Rattle.pm_record.specs.OnDisk.{GoesOn}
 use Rattle.pm_query.specs.declared.book.BookEntry.{BookEntry}
@@ -22,11 +23,8 @@ use Rattle.pm_segment.specs.Stands.{Begins, GoesFrom, IsBaseOf, Origin, WaitsFro
 use Rattle.pm_segment.specs.Unread.{has_break, has_redo, is_redo}
 use Rattle.pm_segment.specs.UnreadLaws.{break_before, break_behind, breaks_on}
 
-pub rose_later : (from before now : ℕ) → before ≤ now → Rose from before → Rose from now
-rose_later from before now le rose = omega (arith, le, rose)
-
 pub shown_later : (from before now : ℕ) → before ≤ now → (entry : BookEntry) → IsShown from before entry → IsShown from now entry
-shown_later from before now le (Broke pid since count) shown = rose_later from before now le shown
+shown_later from before now le (Broke pid since count) shown = rose_further from before now le shown
 shown_later from before now le (Opened generation) shown = tt
 shown_later from before now le (Attached pid generation) shown = tt
 shown_later from before now le (Redone pid generation kept) shown = tt

@@ -6,6 +6,8 @@ use Rattle.std.specs.Prelude.{All, IfSome, false, is_some, true}
 use Rattle.std.specs.List.{AllByRecursion}
 use Rattle.std.specs.FinMap as finite
 use Rattle.std.proofs.lemmas.List.Elements.{All-head, All-tail}
+use Rattle.std.proofs.lemmas.Bool.{false≢true}
+use Rattle.std.proofs.lemmas.Option.{same_Some}
 use Rattle.pm_disk.specs.Cause.{Rose}
 use Rattle.pm_disk.specs.Files.{Files}
 use Rattle.pm_record.specs.OnDisk.{GoesOn}
@@ -55,9 +57,6 @@ told_as book Holds b is told = subst (λ (bk : Option (List BookEntry)). IfSome 
 pub where_told : (files : Option Files) (P Q : Type 0) → (P → Q) → IfSome files (λ _. P) → IfSome files (λ _. Q)
 where_told None P Q step told = tt
 where_told (Some f) P Q step told = step told
-
-some_same : (a b : List BookEntry) → Some a ≡ Some b → a ≡ b
-some_same a b is = cc
 
 all_noted : (entries : List BookEntry) (b0 b1 b2 : Option (List BookEntry)) → b0 ≡ Some [] → Added (Opened 1 ∷ []) b0 b1 → Added entries b1 b2 → b2 ≡ Some (Opened 1 ∷ entries)
 all_noted entries b0 b1 b2 empty first second =
@@ -201,7 +200,7 @@ pub whole_story : (end : ServerEnd) (before : DiskView) (first : Moment) (entrie
     → WaitsFrom (origin_of before) first → HasRunSo before first entries at → IsKnownAt end before.faults at → RestsAt at → ((origin : Origin) (base : Base) → GoesFrom origin base at → Told at (IsRun origin base at))
     → IfSome at.book (IsStory end before (view_at at))
 whole_story end before first entries at b0 empty opened waits run known rests law = each_told (IsStory end before (view_at at)) at.book (λ b is_book.
-    let book_is : b ≡ Opened 1 ∷ entries = some_same b (Opened 1 ∷ entries) (sym is_book ∙ all_noted entries b0 first.book at.book empty opened run.spans.notes) in
+    let book_is : b ≡ Opened 1 ∷ entries = same_Some b (Opened 1 ∷ entries) (sym is_book ∙ all_noted entries b0 first.book at.book empty opened run.spans.notes) in
     let time = goes_two before.ticks first.ticks at.ticks before.images first.images at.images run.began run.spans.time in
     elim (run.spans.waits (origin_of before) waits) [
       | inl still ↦
@@ -245,16 +244,13 @@ whole_story end before first entries at b0 empty opened waits run known rests la
 
 -- ---- why it ended
 
-never : false ≡ true → ⊥
-never e = cc
-
 -- a log that is broken
 pub broken_rose : (from faults : ℕ) (live : Option Live) → BreakIsShown from faults live → is_broken live ≡ true → Rose from faults
 broken_rose from faults None shown broken = absurd (cc)
 broken_rose from faults (Some live) shown broken = by_break live.log.since refl shown broken
   where
     by_break : (since : Option ℕ) → live.log.since ≡ since → BreakIsShown from faults (Some live) → is_broken (Some live) ≡ true → Rose from faults
-    by_break None is shown broken = absurd (never (sym (ap is_some is) ∙ broken))
+    by_break None is shown broken = absurd (false≢true (sym (ap is_some is) ∙ broken))
     by_break (Some tick) is shown broken = rw is at shown
 
 -- the files are those that were handed in, or a fault of the disk was noted
@@ -279,7 +275,7 @@ those_once before first entries at run none once = elim ((run.unread once).files
 those_told : (fault : RedoFault) (before : DiskView) (first : Moment) (entries : List BookEntry) (at : Moment) (b0 : Option (List BookEntry)) → b0 ≡ Some [] → Added (Opened 1 ∷ []) b0 first.book → (SaysNothing fault → ⊥) → IfSome at.files (IsReason fault)
     → WaitsFrom (origin_of before) first → Spans entries first at → ((origin : Origin) (base : Base) → GoesFrom origin base at → Told at (λ book. CanBeRead at)) → IfSome at.book (λ _. AreTold entries before at)
 those_told fault before first entries at b0 empty opened says reason waits spans law = each_told _ at.book (λ b is_book.
-    let book_is : b ≡ Opened 1 ∷ entries = some_same b (Opened 1 ∷ entries) (sym is_book ∙ all_noted entries b0 first.book at.book empty opened spans.notes) in
+    let book_is : b ≡ Opened 1 ∷ entries = same_Some b (Opened 1 ∷ entries) (sym is_book ∙ all_noted entries b0 first.book at.book empty opened spans.notes) in
     elim (spans.waits (origin_of before) waits) [
       | inl still ↦ those entries before at at.files refl (subst (λ (l : List BookEntry). (has_break l ≡ true) ⊎ (at.files ≡ before.files)) book_is (told_as at.book (HasWaited (origin_of before) at) b is_book still.0).reads)
       | inr begins ↦ can_read at.files refl reason (told_as at.book (λ _. IfSome at.files (λ _. CanBeRead at)) b is_book (law (origin_of before) begins.base begins.goes))
@@ -357,7 +353,7 @@ told_or_not (Some f) Q holds = holds
 
 pub story_nothing : (before : DiskView) (book : Option (List BookEntry)) → book ≡ Some [] → IfSome book (IsStory NoMemory before before)
 story_nothing before book empty = each_told (IsStory NoMemory before before) book (λ b is_book.
-    let none : b ≡ [] = some_same b [] (sym is_book ∙ empty) in
+    let none : b ≡ [] = same_Some b [] (sym is_book ∙ empty) in
     subst (IsStory NoMemory before before) (sym none) (record {
       base = record { rows = finite.empty; count = 0; bytes = 0; faults = before.faults };
       faults_are = refl;

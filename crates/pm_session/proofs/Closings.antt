@@ -23,7 +23,8 @@ use Rattle.pm_exchange.specs.Last.{SaysLast, IsLastCause}
 use Rattle.pm_session.specs.Entry.{IsTold, EndsBy, Closes}
 use Rattle.pm_life.specs.AttentionLaws.{hears_both}
 use Rattle.pm_exchange.specs.MomentLaws.{told_cause}
-use Rattle.pm_session.proofs.Said.{bytes_of-none, bytes_of-one, bytes_of-append}
+use Rattle.pm_exchange.specs.SentLaws.{bytes_of-append, bytes_of-none}
+use Rattle.pm_session.proofs.Said.{bytes_of-one}
 
 -- one more message
 pub one_more : (was now : List ℕ) (sent : List BackMessage) (m : BackMessage) → was ≡ bytes_of sent → now ≡ was ++ spelling m → now ≡ bytes_of (sent ++ m ∷ [])

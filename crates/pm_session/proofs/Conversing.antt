@@ -5,6 +5,7 @@ use Rattle.std.proofs.lemmas.Grind.{flat_map-append}
 use Rattle.std.proofs.lemmas.List.{append-nil}
 use Rattle.std.proofs.lemmas.List.Concat.{flat_map-cons}
 use Rattle.std.proofs.lemmas.List.Elements.{Contains-append_cases}
+use Rattle.std.proofs.Math.Nat.{zero-add}
 use Rattle.pm_query.specs.declared.book.BookEntry.{BookEntry}
 use Rattle.pm_query.specs.Calls.{User}
 use Rattle.pm_life.specs.Life.{Told, Cancel}
@@ -29,7 +30,7 @@ use Rattle.pm_life.specs.AttentionLaws.{hears_none, hears_both, hears_fewer, sin
 use Rattle.pm_session.proofs.Attentions.{since_given}
 use Rattle.pm_session.proofs.Heeding.{heed_none, heed_then, turn_heeds}
 use Rattle.pm_exchange.specs.LinkLaws.{passes_none, passes_both}
-use Rattle.pm_session.proofs.Said.{bytes_of-append, bytes_of-none}
+use Rattle.pm_exchange.specs.SentLaws.{bytes_of-append, bytes_of-none}
 use Rattle.pm_query.specs.NotedLaws.{GoesInTurn}
 
 -- ---- lists of turns
@@ -221,9 +222,6 @@ nothing_beyond (ToldToQuit reason) = tt
 nothing_beyond Killed = tt
 nothing_beyond Overtaken = tt
 
-none_more : (times : ℕ) → times ≡ 0 + times
-none_more times = omega arith
-
 -- a session ends here, and no query was in progress
 pub ends_here : {S : Type 0} (notes : List BookEntry → S → S → Type 0) (gives : ℕ → Type 0) (user : User) (cause : Cause) (last came : List ℕ) (times : ℕ) (before now : Moment S) → EndsAt user cause last [] → MayPassOver cause now.unread
     → before.unread ++ came ≡ last ++ now.unread → Passes came [] before.link now.link → notes [] before.store now.store → Hears times before.child now.child → Conversed notes gives user cause before now
@@ -244,7 +242,7 @@ ends_here notes gives user cause last came times before now ends over input pass
   cut = inl refl;
   passes = passes;
   entries = entries;
-  hears = hears_fewer 0 times before.child now.child (subst (λ (n : ℕ). Hears n before.child now.child) (none_more times) hears);
+  hears = hears_fewer 0 times before.child now.child (subst (λ (n : ℕ). Hears n before.child now.child) (sym (zero-add times)) hears);
   read = tt;
   slept = tt;
   heeded = heed_none times before.child.told now.child.told hears.asked;

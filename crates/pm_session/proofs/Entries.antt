@@ -8,7 +8,7 @@ use Rattle.pm_startup.specs.declared.packet.StartFault.{StartFault}
 use Rattle.pm_startup.specs.declared.packet.StartFault.TheVariants as packets
 use Rattle.pm_startup.specs.declared.phase.Phase.{Phase}
 use Rattle.pm_startup.specs.declared.phase.Step.TheVariants as steps
-use Rattle.pm_startup.specs.Grammar.{Content, int32, packet, startup, ssl_request, gssenc_request, cancel_request, FrontDecides, Decides, IsUndecided}
+use Rattle.pm_startup.specs.Grammar.{Content, packet, startup, ssl_request, gssenc_request, cancel_request, FrontDecides, Decides, IsUndecided}
 use Rattle.pm_startup.specs.Phases.{step_of}
 use Rattle.pm_exchange.specs.declared.ending.Cause.{Cause}
 use Rattle.pm_exchange.specs.declared.ending.Cause.TheVariants.{Terminated, Cancelling, LinkEnded, LinkFailed, TimedOut, PacketRefused, MessageRefused, DecisionRefused, GateRefused, ShortOfMemory, Panicked, ToldToTerminate, ToldToQuit, Killed, Overtaken}
@@ -23,6 +23,7 @@ use Rattle.pm_life.specs.AttentionLaws.{hears_none, hears_both, hears_fewer, ask
 use Rattle.pm_exchange.specs.LinkLaws.{passes_none, passes_both, sound_left}
 use Rattle.pm_session.proofs.Links.{passes_no_more, holds_then, holds_still}
 use Rattle.pm_session.proofs.Said.{shows_since}
+use Rattle.pm_wire.specs.Pieces.{int32}
 
 -- ---- what a step means
 
@@ -49,6 +50,7 @@ is_cancel phase (cancel_request pid key) is = (pid, key, refl)
 -- ---- no packet
 
 pub no_packet_yet : IsUndecided []
+unfolding int32
 no_packet_yet n verdict front =
     let none : take n [] ≡ [] = take_all n [] (omega arith) in
     elim front.decides [

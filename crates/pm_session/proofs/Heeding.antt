@@ -2,6 +2,7 @@
 use Rattle.std.proofs.Common.{◌≡◌, ◌⊎◌, inl, inr, ℕ, ◌+◌, ◌≤◌, Bool, true, false, List, [], ◌∷◌, ◌++◌, Option, None, Some, IfSome, refl, sym, ◌∙◌, subst, arith}
 use Rattle.std.specs.List.{Contains}
 use Rattle.std.proofs.lemmas.List.{append-nil}
+use Rattle.std.proofs.lemmas.Bool.{true≢false}
 use Rattle.pm_supervisor.specs.declared.Reason.{Reason}
 use Rattle.pm_life.specs.declared.standing.Standing.{Standing}
 use Rattle.pm_life.specs.Life.{Told, Signal, Kill, Quit, Terminate, Cancel, Checkpoint, next_ask, was_told}
@@ -9,9 +10,6 @@ use Rattle.pm_life.specs.Attention.{Attention, Stands, IsAttentive, IsBy, HasAsk
 use Rattle.pm_exchange.specs.Attention.{ends_by, ends_of}
 use Rattle.pm_exchange.specs.Sent.{Turn, Cancelled}
 use Rattle.pm_session.specs.Heeding.{IsEnding, TurnsHeed, HeedInTurn}
-
-true_false : true ≡ false → ⊥
-true_false e = cc
 
 -- ---- asks
 
@@ -85,11 +83,11 @@ none_stands false None false is = (refl, refl, refl)
 no_ending : (standing : Standing) (told : Told) → Stands standing told → ends_of standing ≡ None → (signal : Signal) → IsEnding signal → was_told signal told → ⊥
 no_ending standing told stands none Kill ends was =
     let k : standing.kill ≡ false = (none_stands standing.kill standing.quit standing.terminate none).0 in
-    true_false (sym (stands.kill.1 was) ∙ k)
+    true≢false (sym (stands.kill.1 was) ∙ k)
 no_ending standing told stands none (Quit reason) ends was = stands.quits reason was (none_stands standing.kill standing.quit standing.terminate none).1
 no_ending standing told stands none Terminate ends was =
     let t : standing.terminate ≡ false = (none_stands standing.kill standing.quit standing.terminate none).2 in
-    true_false (sym (stands.terminate.1 was) ∙ t)
+    true≢false (sym (stands.terminate.1 was) ∙ t)
 no_ending standing told stands none Cancel ends was = ends
 no_ending standing told stands none Checkpoint ends was = ends
 

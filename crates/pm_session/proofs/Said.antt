@@ -4,7 +4,7 @@ use Rattle.std.specs.List.{flat_map}
 use Rattle.std.proofs.lemmas.Grind.{flat_map-append}
 use Rattle.std.proofs.lemmas.List.{append-nil, map-append, take_more}
 use Rattle.std.proofs.lemmas.List.Concat.{flat_map-cons}
-use Rattle.pm_disk.specs.Cause.{Rose}
+use Rattle.pm_disk.specs.DiskLaws.{rose_from}
 use Rattle.pm_query.specs.declared.item.Item.{Item}
 use Rattle.pm_wire.specs.Outgoing.{Outgoing}
 use Rattle.pm_wire.specs.Conditions.{sqlstate}
@@ -24,17 +24,10 @@ use Rattle.pm_exchange.specs.Sent.{bytes_of, item_messages}
 use Rattle.pm_session.specs.Turns.{Desk, desk, Says}
 use Rattle.pm_life.specs.AttentionLaws.{hears_none, hears_both}
 use Rattle.pm_exchange.specs.LinkLaws.{passes_none, passes_both}
+use Rattle.pm_exchange.specs.SentLaws.{bytes_of-append, bytes_of-none}
 use Rattle.pm_session.proofs.Links.{holds_then}
 
 -- ---- bytes of messages
-
-pub bytes_of-none : bytes_of [] ≡ []
-unfolding bytes_of
-bytes_of-none = refl
-
-pub bytes_of-append : (first second : List BackMessage) → bytes_of (first ++ second) ≡ bytes_of first ++ bytes_of second
-unfolding bytes_of
-bytes_of-append first second = flat_map-append spelling first second
 
 pub bytes_of-one : (m : BackMessage) → bytes_of (m ∷ []) ≡ spelling m
 unfolding bytes_of
@@ -42,12 +35,8 @@ bytes_of-one m = flat_map-cons spelling m [] ∙ append-nil (spelling m)
 
 -- ---- causes
 
--- a link that failed between two moments has failed since before them
-failed_since : (first second third : ℕ) → first ≤ second → Rose second third → Rose first third
-failed_since first second third le rose = omega (arith, le, rose)
-
 pub shows_since : (cause : Cause) (first second third : LinkView) (child : Attention) → first.faults ≤ second.faults → ShowsCause cause second third child → ShowsCause cause first third child
-shows_since LinkFailed first second third child le shows = failed_since first.faults second.faults third.faults le shows
+shows_since LinkFailed first second third child le shows = rose_from first.faults second.faults third.faults le shows
 shows_since LinkEnded first second third child le shows = shows
 shows_since ToldToTerminate first second third child le shows = shows
 shows_since (ToldToQuit reason) first second third child le shows = shows

@@ -41,9 +41,10 @@ use Rattle.pm_life.specs.AttentionLaws.{hears_both, hears_fewer, cancels_then}
 use Rattle.pm_session.proofs.Attentions.{untried_still, new_untried, new_no_cancel, cancels_still, HasCancels}
 use Rattle.pm_session.proofs.Heeding.{heed_none, heed_all, heed_later, heed_earlier}
 use Rattle.pm_exchange.specs.LinkLaws.{passes_both, sound_left}
+use Rattle.pm_exchange.specs.SentLaws.{bytes_of-append, bytes_of-none}
 use Rattle.pm_session.proofs.Links.{fresh_sound}
 use Rattle.pm_session.proofs.Closings.{told_status, told_still, told_now}
-use Rattle.pm_session.proofs.Said.{bytes_of-none, bytes_of-append, shows_since}
+use Rattle.pm_session.proofs.Said.{shows_since}
 use Rattle.pm_session.proofs.Conversing.{nothing_yet}
 use Rattle.pm_session.proofs.Entries.{enters_not, no_packet_yet}
 

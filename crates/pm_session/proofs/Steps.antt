@@ -17,7 +17,7 @@ use Rattle.pm_session.specs.Turns.{Converses}
 use Rattle.pm_session.proofs.Heeding.{heed_none}
 use Rattle.pm_life.specs.AttentionLaws.{hears_both, hears_fewer}
 use Rattle.pm_exchange.specs.LinkLaws.{passes_none}
-use Rattle.pm_session.proofs.Said.{bytes_of-none}
+use Rattle.pm_exchange.specs.SentLaws.{bytes_of-none}
 use Rattle.pm_session.proofs.Conversing.{nothing_among, nothing_yet, nothing_beyond, broken_ends, ends_here}
 
 signal_breaks : (cause : Cause) → IsSignal cause → IsBreak cause

@@ -7,7 +7,7 @@ use Rattle.pm_admit.specs.declared.Cac.TheVariants as decisions
 use Rattle.pm_exit.specs.declared.child.Status.TheVariants as statuses
 use Rattle.pm_startup.specs.declared.phase.Phase.{Phase}
 use Rattle.pm_startup.specs.declared.phase.Step.TheVariants.{SayNo}
-use Rattle.pm_startup.specs.Grammar.{Content, startup, cancel_request, Decides, FrontDecides, IsUndecided as IsNoPacketYet}
+use Rattle.pm_startup.specs.Grammar.{Content, startup, cancel_request, Decides, FrontDecides, IsUndecided as IsNoPacketYet, max_length}
 use Rattle.pm_startup.specs.Phases.{step_of}
 use Rattle.pm_query.specs.declared.book.BookEntry.{BookEntry}
 use Rattle.pm_query.specs.declared.book.BookEntry.TheVariants.{Attached}
@@ -36,7 +36,7 @@ use Rattle.pm_wire.specs.declared.condition.Condition.{Condition}
 
 -- what the bytes that came so far ask for in a phase
 abbrev pub AsksFor : Phase → List ℕ → Ask → Type 0
-AsksFor phase bytes Nothing = IsNoPacketYet bytes × (length bytes < 10004)
+AsksFor phase bytes Nothing = IsNoPacketYet bytes × (length bytes < max_length)
 AsksFor phase bytes (Encryption behind used) = (content : Content) × FrontDecides bytes used (Ok content) × (step_of phase content ≡ SayNo behind)
 AsksFor phase bytes (Start used) = (user : List ℕ) × FrontDecides bytes used (Ok (startup user))
 AsksFor phase bytes (Cancel pid key) = (used : ℕ) × FrontDecides bytes used (Ok (cancel_request pid key))

@@ -1,6 +1,7 @@
-pub mod Heeding
-pub mod Session
-pub mod Conversation
-pub mod Turns
-pub mod Entry
 pub mod Complete
+pub mod Conversation
+pub mod Entry
+pub mod Heeding
+pub mod PassedLaws
+pub mod Session
+pub mod Turns

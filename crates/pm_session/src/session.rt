@@ -1,6 +1,6 @@
 //! One connection from its first byte to its end.
 ghost use Rattle.std.specs.Prelude.{◌≡◌, ◌≤◌, ◌+◌, ◌++◌, false, [], length, None, Some, Ok, OnOk, IfOk, IfSome, IsTrue};
-ghost use Rattle.pm_wire.specs.Pieces.{HasNoZero};
+ghost use Rattle.pm_facts.specs.Zeros.{HasNoZero};
 ghost use Rattle.pm_wire.specs.Backend.{spelling, Param};
 ghost use Rattle.pm_outside.specs.Traffic.{IsFresh};
 ghost use Rattle.pm_life.specs.Life.{IsUntried};

@@ -3,6 +3,8 @@ use Rattle.std.proofs.Common.{◌≡◌, ◌≢◌, ◌⊎◌, inl, inr, ℕ, �
 use Rattle.std.specs.Prelude.{Result, Ok, Err, OnErr, IfOk, IfSome, Any, nat_eq}
 use Rattle.std.proofs.lemmas.Bool.Decides.{nat_tests}
 use Rattle.std.proofs.lemmas.List.Quantifiers.{Any-push}
+use Rattle.std.proofs.lemmas.Bool.{eq-eqb}
+use Rattle.pm_facts.specs.Bools.{never_both}
 use Rattle.atomic_table.specs.Seated.{TableId}
 use Rattle.pm_sql.specs.declared.stmt.Stmt.{Stmt}
 use Rattle.pm_query.specs.declared.book.BookEntry.{BookEntry}
@@ -29,12 +31,12 @@ use Rattle.pm_shared.specs.declared.views.View.TheVariants.{Worker}
 use Rattle.pm_shared.specs.Behind.{Behind, Knows}
 use Rattle.pm_shared.specs.Grows.{Grew, NotesLeave, passes_entered}
 use Rattle.pm_shared.specs.GrowsLaws.{entries_noted}
-use Rattle.pm_shared.specs.Log.{AllOwn, Continues, entries_of, noted_from}
+use Rattle.pm_shared.specs.Log.{AllOwn, Continues, noted_from}
 use Rattle.pm_shared.specs.Passes.{Among, live, renewed_pass, without_pass}
 use Rattle.pm_shared.specs.Quiet.{AllQuiet}
 use Rattle.pm_shared.specs.Rule.{taken}
 use Rattle.pm_shared.specs.Told.{HandMay, IsNothing, MayGive, Seated, Tells, TokenModel, TookFor, Turns, first_of, given_back, is_own_of, passes_of, past_of, resting, with_held, TellsHand}
-use Rattle.pm_shared.proofs.Logs.{among_live, among-snoc, among_up_to, known_at, known_less, known_on, known_snoc, live-less, live-snoc, same_test, up_to-less, up_to-snoc}
+use Rattle.pm_shared.proofs.Logs.{among_live, among-snoc, among_up_to, known_at, known_less, known_on, known_snoc, live-less, live-snoc, up_to-less, up_to-snoc}
 use Rattle.pm_shared.proofs.Stores.{admits_known, answer_on, behind_moves, generation_on, knows_moves, present_on, quiet_own, quiet_times, times_on}
 
 -- ---- what the calls note
@@ -85,7 +87,7 @@ live_renewed q g before now ps gen pid same in_ =
     let some : 0 < live before.pid g ps = subst (λ z. 0 < live before.pid z ps) gen (among_live before ps in_) in
     let less : live q g (without_pass before.pid g ps) + cond (before.pid == q) 1 0 ≡ live q g ps = live-less q before.pid g ps some in
     let one : ◌≡◌ {A = ℕ} (cond ((now.pid == q) && (now.generation == g)) 1 0) (cond (before.pid == q) 1 0) =
-    cond_and (now.pid == q) (now.generation == g) (ap (λ z. z == g) (same ∙ gen) ∙ same_test g) ∙ ap (λ z. cond {A = ℕ} (z == q) 1 0) pid in
+    cond_and (now.pid == q) (now.generation == g) (ap (λ z. z == g) (same ∙ gen) ∙ eq-eqb g g refl) ∙ ap (λ z. cond {A = ℕ} (z == q) 1 0) pid in
     ap (λ z. live q g (without_pass before.pid z ps ++ now ∷ [])) gen ∙ live-snoc q g (without_pass before.pid g ps) now ∙ (λ i. live q g (without_pass before.pid g ps) + one i) ∙ less
 
 turns_quiet : (log es : List BookEntry) (before now : Pass) (ps : List Pass) → AllQuiet es → before.generation ≡ generation_of log → now.pid ≡ before.pid → now.generation ≡ before.generation → Among before ps → Turns log es ps (renewed_pass before now ps)
@@ -257,9 +259,6 @@ first_reason {g = g} first log x result behind reason = λ whole none. elim (beh
   | inl breaks ↦ absurd (never_both (has_break log) breaks whole)
   | inr same ↦ subst (λ f. HasReason f result) same reason
 ]
-  where
-    never_both : (b : Bool) → b ≡ true → b ≡ false → ⊥
-    never_both b one two = cc
 
 pub redo_reason : {D B : Type 0} {g h : _} {past : List BookEntry} (k : ℕ) (first : D) (own : List Noted) (ps : List Pass) (log : List BookEntry) (x : Segment D B g h) (id : TableId) (me : Seated (Segment D B g h) D) (old : TokenModel D) (first_now : Option D) (past_now : List BookEntry)
     (result : Result ℕ StoreNo) → token_of (Segment D B g h) D id k me ≡ old → me ≡ resting k first own ps past → Tells Behind Knows me.0 (taken log x) → HasReason (moment x).files result → first_now ≡ old.first → past_now ≡ log
@@ -353,7 +352,7 @@ turn_one : (p pid n : ℕ) → cond (nat_eq p pid) (n + 1) n ≡ n + cond (pid =
 turn_one p pid n = each (nat_eq p pid) refl
   where
     each : (b : Bool) → nat_eq p pid ≡ b → cond b (n + 1) n ≡ n + cond (pid == p) 1 0
-    each true is = let e : pid ≡ p = grind (arith, nat_tests, is) in (λ i. n + cond {A = ℕ} (sym (ap (λ z. z == p) e ∙ same_test p) i) 1 0)
+    each true is = let e : pid ≡ p = grind (arith, nat_tests, is) in (λ i. n + cond {A = ℕ} (sym (ap (λ z. z == p) e ∙ eq-eqb p p refl) i) 1 0)
     each false is = let e : (pid == p) ≡ false = grind (arith, nat_tests, is) in omega (arith, ap (λ z. cond {A = ℕ} z 1 0) e)
 
 turns_enter : (log : List BookEntry) (pass : Pass) (ps : List Pass) → pass.generation ≡ generation_of log → Turns log (Attached pass.pid pass.generation ∷ []) ps (ps ++ pass ∷ [])
@@ -364,7 +363,7 @@ turns_enter log pass ps gen = record {
       let n : ℕ = times_attached log p in
       let a : times_attached (log ++ Attached pass.pid pass.generation ∷ []) p ≡ n + cond (pass.pid == p) 1 0 = times_on log (Attached pass.pid pass.generation ∷ []) p ∙ turn_one p pass.pid n in
       let b : live p (generation_of log) (ps ++ pass ∷ []) ≡ live p (generation_of log) ps + cond (pass.pid == p) 1 0 =
-      live-snoc p (generation_of log) ps pass ∙ ap (λ z. live p (generation_of log) ps + z) (cond_and (pass.pid == p) (pass.generation == generation_of log) (ap (λ z. z == generation_of log) gen ∙ same_test (generation_of log))) in
+      live-snoc p (generation_of log) ps pass ∙ ap (λ z. live p (generation_of log) ps + z) (cond_and (pass.pid == p) (pass.generation == generation_of log) (ap (λ z. z == generation_of log) gen ∙ eq-eqb (generation_of log) (generation_of log) refl)) in
       omega (arith, a, b);
 }
 
@@ -440,7 +439,7 @@ turn_less p pid n some = each (nat_eq p pid) refl
     each true is =
         let e : pid ≡ p = grind (arith, nat_tests, is) in
         let le : 1 ≤ n = some e in
-        let one : ◌≡◌ {A = ℕ} (cond (pid == p) 1 0) 1 = ap (λ z. cond {A = ℕ} z 1 0) (ap (λ z. z == p) e ∙ same_test p) in omega (arith, le, one)
+        let one : ◌≡◌ {A = ℕ} (cond (pid == p) 1 0) 1 = ap (λ z. cond {A = ℕ} z 1 0) (ap (λ z. z == p) e ∙ eq-eqb p p refl) in omega (arith, le, one)
     each false is = let e : (pid == p) ≡ false = grind (arith, nat_tests, is) in omega (arith, ap (λ z. cond {A = ℕ} z 1 0) e)
 
 turns_leave : (log : List BookEntry) (pass : Pass) (ps : List Pass) → pass.generation ≡ generation_of log → Among pass ps → 1 ≤ times_attached log pass.pid → Turns log (Detached pass.pid ∷ []) ps (without_pass pass.pid pass.generation ps)

@@ -9,9 +9,8 @@ use prog.Atomic.{either}
 use Rattle.std.proofs.lemmas.Option.{same_Some}
 use Rattle.std.specs.Prelude.{Option, Some, None, slice_get}
 use Rattle.atomic_table.specs.Table as table
-use Rattle.atomic_table.specs.Table.{State, step, keeps, takes, gives, stepped, opening, Allows, Joins, Splits}
+use Rattle.atomic_table.specs.Table.{State, step, keeps, takes, stepped, Allows}
 use Rattle.atomic_table.proofs.Lists.{at_set, set_again, exchanged}
-use Rattle.pm_facts.specs.Lists.{at_end}
 use Rattle.pm_facts.specs.Numbers.{sum_below, sum_put}
 use Rattle.pm_query.specs.declared.book.BookEntry.{BookEntry}
 use Rattle.pm_query.specs.Book.{generation_of, times_attached}
@@ -23,7 +22,8 @@ use Rattle.pm_shared.specs.Log.{Line, book_of, AllBelow}
 use Rattle.pm_shared.specs.Passes.{live, AllUpTo, AllKnown}
 use Rattle.pm_shared.specs.Rule.{Cell, Where, home, out, IsThere, HasTaken, Fits, AreCounted, Holds, IsHeld, Kept, taken}
 use Rattle.pm_shared.specs.Told.{number_of, with_held, Tells, Took, Turns, IsMine}
-use Rattle.pm_shared.proofs.Logs.{all_continue, owned_at, member_below}
+use Rattle.pm_shared.proofs.Logs.{all_continue, member_below}
+use Rattle.pm_shared.specs.JoinedLaws.{owned_at}
 
 abbrev pick : {P C : Type 0} → Dec P → C → C → C
 pick (yes _) a b = a

@@ -10,15 +10,11 @@ use Rattle.pm_segment.specs.declared.pass.Pass.{Pass}
 use Rattle.pm_shared.specs.Log.{Line, is_own, AllOwn, NoneOwn, book_of, lines, noted, noted_from, placed, placed_rest, AllBelow, Continues}
 use Rattle.pm_shared.specs.Passes.{Among, live, without_pass, AllUpTo, AllKnown}
 use Rattle.pm_facts.specs.Numbers.{sum_below}
-use Rattle.pm_shared.specs.Told.{AllContinue, owns, pasts}
+use Rattle.pm_shared.specs.Told.{AllContinue, pasts}
 use Rattle.pm_shared.specs.declared.views.Joined.{Joined}
-use Rattle.pm_shared.specs.declared.views.Noted.{Noted}
 
 abbrev one : Bool → ℕ
 one b = cond b 1 0
-
-pub same_test : (k : ℕ) → (k == k) ≡ true
-same_test k = grind (arith, nat_tests)
 
 pub placed-append : (k n : ℕ) (xs ys : List Line) → placed k n (xs ++ ys) ≡ placed k n xs ++ placed k (n + length xs) ys
 placed-append k n [] ys = ap (λ m. placed k m ys) (omega arith)
@@ -31,7 +27,7 @@ placed-append k n (x ∷ xs) ys = split (is_own x.entry && (x.by == k)) (placed-
 
 pub placed-own : (k n : ℕ) (es : List BookEntry) → AllOwn es → placed k n (lines k es) ≡ noted_from n es
 placed-own k n [] a = refl
-placed-own k n (e ∷ es) a = (λ i. cond (a.0 i && same_test k i) (noted n e ∷ placed k (n + 1) (lines k es)) (placed k (n + 1) (lines k es))) ∙ ap (λ l. noted n e ∷ l) (placed-own k (n + 1) es a.1)
+placed-own k n (e ∷ es) a = (λ i. cond (a.0 i && eq-eqb k k refl i) (noted n e ∷ placed k (n + 1) (lines k es)) (placed k (n + 1) (lines k es))) ∙ ap (λ l. noted n e ∷ l) (placed-own k (n + 1) es a.1)
 
 pub placed-other : (j k n : ℕ) (es : List BookEntry) → j ≢ k → placed j n (lines k es) ≡ []
 placed-other j k n [] ne = refl
@@ -107,21 +103,11 @@ continues_on past log es on = (on.0 ++ es, ap (λ l. l ++ es) on.1 ∙ append_as
 pub continues_lines : (past : List BookEntry) (log : List Line) (k : ℕ) (es : List BookEntry) → Continues past (book_of log) → Continues past (book_of (log ++ lines k es))
 continues_lines past log k es on = subst (Continues past) (sym (book-append log (lines k es) ∙ ap (λ z. book_of log ++ z) (book-lines k es))) (continues_on past (book_of log) es on)
 
--- what each joined token noted, and that the log goes on from what it found
-pub owned_at : (joined : List Joined) (k : ℕ) (l : List Noted) → slice_get (owns joined) k ≡ Some l → (his : Joined) × (slice_get joined k ≡ Some his) × (his.own ≡ l)
-owned_at [] k l e = absurd (cc)
-owned_at (his ∷ joined) zero l e = (his, refl, cc)
-owned_at (his ∷ joined) (suc k) l e = owned_at joined k l e
-
 pub all_continue : (joined : List Joined) (log : List BookEntry) → ((k : ℕ) (his : Joined) → slice_get joined k ≡ Some his → Continues his.past log) → AllContinue (pasts joined) log
 all_continue [] log each = tt
 all_continue (his ∷ joined) log each = (each 0 his refl, all_continue joined log (λ k other e. each (suc k) other e))
 
 -- ---- sums
-
-pub sum_zero : (n : ℕ) (f : ℕ → ℕ) → ((k : ℕ) → f k ≡ 0) → sum_below n f ≡ 0
-sum_zero zero f h = refl
-sum_zero (suc n) f h = let a : sum_below n f ≡ 0 = sum_zero n f h in let b : f n ≡ 0 = h n in omega arith
 
 pub member_below : (n k : ℕ) (f : ℕ → ℕ) → k < n → f k ≤ sum_below n f
 member_below zero k f l = absurd (omega arith)
@@ -182,7 +168,7 @@ live-less q p g (x ∷ xs) l = split (live-less q p g xs) ((x.pid == p) && (x.ge
 
 pub among_live : (p : Pass) (xs : List Pass) → Among p xs → 0 < live p.pid p.generation xs
 among_live p [] a = absurd a
-among_live p (x ∷ xs) (inl is) = subst (λ (y : Pass). 0 < live y.pid y.generation (x ∷ xs)) is (here (x.pid == x.pid) (x.generation == x.generation) (same_test x.pid) (same_test x.generation))
+among_live p (x ∷ xs) (inl is) = subst (λ (y : Pass). 0 < live y.pid y.generation (x ∷ xs)) is (here (x.pid == x.pid) (x.generation == x.generation) (eq-eqb x.pid x.pid refl) (eq-eqb x.generation x.generation refl))
   where
     here : (a b : Bool) → a ≡ true → b ≡ true → 0 < cond (a && b) 1 0 + live x.pid x.generation xs
     here true true e f = omega arith

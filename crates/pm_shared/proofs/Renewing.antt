@@ -6,7 +6,7 @@ use Rattle.std.proofs.lemmas.List.Elements.{All-nil, All-cons, All-append}
 use Rattle.std.proofs.lemmas.List.Sums.{fold-append, sum_by-append, sum_by-cons}
 use Rattle.std.specs.declared.alloc.AllocError.{AllocError}
 use Rattle.atomic_table.specs.Seated.{TableId}
-use Rattle.pm_facts.specs.Numbers.{sum_below}
+use Rattle.pm_facts.specs.Numbers.{sum_below, sum_zero}
 use Rattle.pm_query.specs.declared.book.BookEntry.{BookEntry}
 use Rattle.pm_query.specs.declared.book.BookEntry.TheVariants.{Gone, Opened}
 use Rattle.pm_query.specs.Book.{generation_after, generation_of, times_attached}
@@ -32,7 +32,7 @@ use Rattle.pm_shared.specs.Renewed.{AreApart, RenewNotes}
 use Rattle.pm_shared.specs.Rule.{AreCounted, taken}
 use Rattle.pm_shared.specs.Told.{DeskMay, HasRenewed, MayGive, Resets, Seated, SharedModel, Tells, desk_resting, first_of, generation_in, given_back, is_own_of, joined_of, with_held}
 use Rattle.pm_shared.proofs.Closing.{shown}
-use Rattle.pm_shared.proofs.Logs.{known_later, known_on, none_live, sum_zero, up_to_more}
+use Rattle.pm_shared.proofs.Logs.{known_later, known_on, none_live, up_to_more}
 use Rattle.pm_shared.proofs.Stores.{behind_moves, knows_moves, times_on, told_on}
 
 -- ---- entries
@@ -75,7 +75,7 @@ resets_behind : (log es : List BookEntry) → generation_of (log ++ es) ≡ gene
 resets_behind log es g nobody dealt cells a = record {
   unborn = a.unborn;
   known = λ k. subst (λ z. AllUpTo z (cells k).passes) (sym g) (up_to_more (generation_of log) (cells k).passes (a.known k));
-  counted = λ p. subst (λ z. sum_below dealt (λ k. live p z (cells k).passes) ≡ 0) (sym g) (sum_zero dealt (λ k. live p (generation_of log + 1) (cells k).passes) (λ k. none_live p (generation_of log) (cells k).passes (a.known k))) ∙ sym (nobody p);
+  counted = λ p. subst (λ z. sum_below dealt (λ k. live p z (cells k).passes) ≡ 0) (sym g) (sum_zero dealt (λ k. live p (generation_of log + 1) (cells k).passes) (λ k _. none_live p (generation_of log) (cells k).passes (a.known k))) ∙ sym (nobody p);
 }
 
 gone_shown : (from faults : ℕ) (pids : List ℕ) (generation : ℕ) → All (IsShown from faults) (renewal pids generation)

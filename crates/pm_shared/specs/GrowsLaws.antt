@@ -1,10 +1,9 @@
 -- The laws of a token as a store.
 use Rattle.std.proofs.Common.{ℕ, ◌+◌, ◌≤◌, arith, List, [], ◌∷◌, ◌++◌, ◌≡◌, refl, sym, ap, ◌∙◌, subst, append-nil, append_assoc}
-use Rattle.std.specs.Prelude.{fold}
 use Rattle.std.proofs.lemmas.List.Sums.{fold-append}
 use Rattle.pm_query.specs.declared.book.BookEntry.{BookEntry}
-use Rattle.pm_query.specs.declared.book.BookEntry.TheVariants.{Opened, Attached, Redone, Answered, Released, Detached, Gone, CheckpointEnded, Broke, LogFull}
 use Rattle.pm_query.specs.Book.{generation_after, generation_of}
+use Rattle.pm_query.specs.HistoryLaws.{generations_rise}
 use Rattle.pm_shared.specs.declared.views.Noted.{Noted}
 use Rattle.pm_shared.specs.Log.{Continues, entries_of, noted_from}
 use Rattle.pm_shared.specs.Told.{TokenModel}
@@ -35,23 +34,7 @@ grew_on first second a b c x y = record {
 
 -- ---- generations
 
-one_rises : (n : ℕ) (e : BookEntry) → n ≤ generation_after n e
-one_rises n (Opened generation) = omega arith
-one_rises n (Attached pid generation) = omega arith
-one_rises n (Redone pid generation kept) = omega arith
-one_rises n (Answered pid script reply commit front tick) = omega arith
-one_rises n (Released pid front tick) = omega arith
-one_rises n (Detached pid) = omega arith
-one_rises n (Gone pid) = omega arith
-one_rises n (CheckpointEnded pid done clean) = omega arith
-one_rises n (Broke pid since faults) = omega arith
-one_rises n (LogFull pid script need room) = omega arith
-
-all_rise : (n : ℕ) (es : List BookEntry) → n ≤ fold generation_after n es
-all_rise n [] = omega arith
-all_rise n (e ∷ es) = omega (arith, one_rises n e, all_rise (generation_after n e) es)
-
 -- what goes on is in no earlier generation
 pub generation_rises : (past log : List BookEntry) → Continues past log → generation_of past ≤ generation_of log
 generation_rises past log on =
-    subst (λ l. generation_of past ≤ generation_of l) (sym on.1) (omega (arith, fold-append generation_after 0 past on.0, all_rise (generation_of past) on.0))
+    subst (λ l. generation_of past ≤ generation_of l) (sym on.1) (omega (arith, fold-append generation_after 0 past on.0, generations_rise (generation_of past) on.0))

@@ -2,6 +2,7 @@ pub mod Behind
 pub mod Ending
 pub mod Grows
 pub mod GrowsLaws
+pub mod JoinedLaws
 pub mod Log
 pub mod Passes
 pub mod Places

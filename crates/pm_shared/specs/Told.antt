@@ -185,6 +185,20 @@ module _ {S F : Type 0} where
   joined_of (Master d) = d.joined
   joined_of _ = []
 
+  -- a token of this number rests, and shows this
+  abbrev pub IsResting : ℕ → Seated S F → Type 0
+  IsResting k me = (first : F) × (me ≡ resting k first (is_own_of me.0) (passes_of me.0) (past_of me.0))
+
+  abbrev pub token_of : TableId → ℕ → View S F → TokenModel F
+  token_of table k seat = record { table = table; number = k; first = first_of seat; own = is_own_of seat; passes = passes_of seat; past = past_of seat }
+
+  -- so does the shared side, which dealt so many tokens
+  abbrev pub DeskRests : ℕ → Seated S F → Type 0
+  DeskRests n me = (first : F) × (me ≡ desk_resting n first (generation_in me.0) (is_own_of me.0) (joined_of me.0))
+
+  abbrev pub shared_of : TableId → ℕ → View S F → SharedModel F
+  shared_of table n seat = record { table = table; tokens = n; first = first_of seat; generation = generation_in seat; own = is_own_of seat; joined = joined_of seat }
+
 module _ {S F : Type 0} (Is : F → List BookEntry → S → Type 0) (Knows : List BookEntry → S → Pass → Type 0) where
   -- what the rule tells a token with these passes
   abbrev pub TellsHand : F → List Pass → Taken S → Type 0

@@ -11,7 +11,7 @@ ghost use Rattle.pm_shared.specs.Log.{IsShuffle, noted};
 ghost use Rattle.pm_shared.specs.Places.{EachOnce};
 ghost use Rattle.pm_shared.specs.Renewed.{AreApart};
 ghost use Rattle.pm_shared.specs.declared.views.View.TheVariants.{Vacant};
-ghost use Rattle.pm_shared.specs.Told.{AllContinue, AreNewTokens, AreShares, AreTokens, HasRenewed, IsBlank, IsNewShared, IsSmall, SharedModel, TokenModel, desk_resting, first_of, generation_in, is_own_of, joined_of, known_by, new_token, owns, pasts, shared_with};
+ghost use Rattle.pm_shared.specs.Told.{AllContinue, AreNewTokens, AreShares, AreTokens, HasRenewed, IsBlank, IsNewShared, IsSmall, SharedModel, TokenModel, DeskRests, known_by, new_token, owns, pasts, shared_of, shared_with};
 
 use crate::holding::{Holder, give_renewed, take};
 use crate::joining::Joining;
@@ -36,9 +36,10 @@ pub struct Shared<D: Disk + Drop, B: Chronicle<BookEntry> + Drop> {
 impl<D: Disk + Drop, B: Chronicle<BookEntry> + Drop> Model for Shared<D, B> {
     ghost Value = { SharedModel D };
 
-    ghost view = { λ s. record { table = s.seat.table_id; tokens = s.tokens; first = first_of s.seat.me.0; generation = generation_in s.seat.me.0; own = is_own_of s.seat.me.0; joined = joined_of s.seat.me.0 } };
+    ghost view = { λ s. shared_of s.seat.table_id s.tokens s.seat.me.0 };
 
-    ghost invariant = { λ s. ((arc_value s.table).shared.table_id ≡ s.seat.table_id) × IsSmall s.seat.table_id × ((first : D) × (s.seat.me ≡ desk_resting s.tokens first (generation_in s.seat.me.0) (is_own_of s.seat.me.0) (joined_of s.seat.me.0))) };
+    ghost invariant = { λ s. ((arc_value s.table).shared.table_id ≡ s.seat.table_id) × IsSmall s.seat.table_id
+        × DeskRests s.tokens s.seat.me };
 }
 
 /// Tokens that were not taken yet, or are back.

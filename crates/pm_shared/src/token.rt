@@ -10,7 +10,7 @@ ghost use Rattle.pm_segment.specs.Passes.{view_of};
 ghost use Rattle.pm_shared.specs.Grows.{Grew};
 ghost use Rattle.pm_shared.specs.Passes.{Among, without_pass};
 ghost use Rattle.pm_shared.specs.Reasons.{HasFirstReason};
-ghost use Rattle.pm_shared.specs.Told.{IsSmall, TokenModel, first_of, is_own_of, passes_of, past_of, resting};
+ghost use Rattle.pm_shared.specs.Told.{IsResting, IsSmall, TokenModel, token_of};
 
 use crate::holding::{Holder, give, take, take_for, take_to_run, wake_all};
 use crate::joining::Joining;
@@ -35,9 +35,10 @@ pub struct Token<D: Disk + Drop, B: Chronicle<BookEntry> + Drop> {
 impl<D: Disk + Drop, B: Chronicle<BookEntry> + Drop> Model for Token<D, B> {
     ghost Value = { TokenModel D };
 
-    ghost view = { λ t. record { table = t.seat.table_id; number = t.number; first = first_of t.seat.me.0; own = is_own_of t.seat.me.0; passes = passes_of t.seat.me.0; past = past_of t.seat.me.0 } };
+    ghost view = { λ t. token_of t.seat.table_id t.number t.seat.me.0 };
 
-    ghost invariant = { λ t. ((arc_value t.table).shared.table_id ≡ t.seat.table_id) × IsSmall t.seat.table_id × ((first : D) × (t.seat.me ≡ resting t.number first (is_own_of t.seat.me.0) (passes_of t.seat.me.0) (past_of t.seat.me.0))) };
+    ghost invariant = { λ t. ((arc_value t.table).shared.table_id ≡ t.seat.table_id) × IsSmall t.seat.table_id
+        × IsResting t.number t.seat.me };
 }
 
 impl<D: Disk + Drop, B: Chronicle<BookEntry> + Drop> Token<D, B> {

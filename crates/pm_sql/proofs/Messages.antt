@@ -4,10 +4,11 @@ use Rattle.std.specs.List.{list_any}
 use Rattle.std.specs.Char.{to_ascii_lowercase}
 use Rattle.std.specs.Str.{str_to_ascii_lowercase}
 use Rattle.std.proofs.lemmas.Bool.Decides.{nat_tests}
+use Rattle.pm_facts.specs.Zeros.{HasNoZero, no_zero-append}
 use Rattle.pm_sql.specs.declared.query.SqlFault.{SqlFault}
 use Rattle.pm_sql.specs.declared.query.SqlFault.TheVariants.{Syntax, Table, Range, TooLong, TooMany, NoMemory}
 use Rattle.pm_sql.specs.Tokens.{starts_with_letter, word_len, digits_len, behind_mark, string_in, string_end}
-use Rattle.pm_sql.specs.Message.{is_boundary, from_place, up_to_place, char_len, string_token, other_token, token_of, syntax_message, message_of, HasNoZero}
+use Rattle.pm_sql.specs.Message.{is_boundary, from_place, up_to_place, char_len, string_token, other_token, token_of, syntax_message, message_of}
 
 -- ---- pieces of a text
 
@@ -24,10 +25,6 @@ zero_parts x xs = by_zero (x == 0) where
 
 zero_free_cons : (x : ℕ) (xs : List ℕ) → x == 0 ≡ false → HasNoZero xs → HasNoZero (x ∷ xs)
 zero_free_cons x xs e more = ap (λ b. b || list_any (λ byte. byte == 0) xs) e ∙ more
-
-zero_free_append : (xs ys : List ℕ) → HasNoZero xs → HasNoZero ys → HasNoZero (xs ++ ys)
-zero_free_append [] ys a b = b
-zero_free_append (x ∷ xs) ys a b = let both = zero_parts x xs a in zero_free_cons x (xs ++ ys) both.0 (zero_free_append xs ys both.1 b)
 
 whole : (text : List ℕ) → IsPiece text text
 whole text = record { shorter = omega arith; zero_free = λ h. h }
@@ -106,7 +103,7 @@ framed text first piece last is small a b =
     let long = is.shorter in
     record {
       short = omega (arith, long, small, length-append (first ++ piece) last, length-append first piece);
-      zero_free = λ h. zero_free_append (first ++ piece) last (zero_free_append first piece a (is.zero_free h)) b;
+      zero_free = λ h. no_zero-append (first ++ piece) last (no_zero-append first piece a (is.zero_free h)) b;
     }
 
 syntax_is : (text here : List ℕ) → IsPiece text here → IsMessage text (syntax_message here)

@@ -3,6 +3,7 @@ use Rattle.std.proofs.Common.{◌≡◌, ℕ, zero, suc, ◌-◌, ◌<◌, ◌�
 use Rattle.std.specs.List.{prefix_len}
 use Rattle.std.specs.Char.{is_ascii_whitespace}
 use Rattle.std.proofs.lemmas.List.{length-drop}
+use Rattle.std.proofs.lemmas.Option.{same_Some}
 use Rattle.pm_sql.specs.declared.stmt.Stmt.{Stmt}
 use Rattle.pm_sql.specs.declared.fault.Kind.{Kind}
 use Rattle.pm_sql.specs.declared.fault.Kind.TheVariants.{Syntax}
@@ -141,11 +142,9 @@ module _ (done : List Stmt) (mode : Mode) (text : List ℕ) (answer : Option Stm
   by_checked token left e refuse f =
       at_end answer refl (λ other rest g.
       let same : ◌≡◌ {A = Option (Token × List ℕ)} (Some (token, left)) (Some (other, rest)) = sym e ∙ g in
-      let that : token ≡ other = ap (λ (p : Token × List ℕ). p.0) (pair_of same) in
+      let that : token ≡ other = ap (λ (p : Token × List ℕ). p.0) (same_Some _ _ same) in
       subst (λ t. move done mode (in_lower_case t) ≡ moved done answer (is_mark 59 (in_lower_case t)) nothing refuse) that
-      (moves token left e ∙ ap (moved done answer (is_mark 59 (in_lower_case token)) (next (in_lower_case token))) f)) where
-        pair_of : {A : Type 0} {x y : A} → Some x ≡ Some y → x ≡ y
-        pair_of same = cc same
+      (moves token left e ∙ ap (moved done answer (is_mark 59 (in_lower_case token)) (next (in_lower_case token))) f))
   by_checked token left e fine f = by_joined token left e (moves token left e ∙ ap (moved done answer (is_mark 59 (in_lower_case token)) (next (in_lower_case token))) f) (is_joined token left) refl
   by_checked token left e (over kind) f =
       stuck_here done mode text (fault_at kind (skipped text))

@@ -1,6 +1,5 @@
 -- The text of a fault for the client.
-use Rattle.std.specs.Prelude.{◌≡◌, ℕ, ◌-◌, Bool, if◌then◌else◌, ◌==◌, ◌&&◌, false, not, List, [], ◌∷◌, ◌++◌, length, take, drop, slice_index, Option, Some, None, nat_le, nat_lt, codes}
-use Rattle.std.specs.List.{list_any}
+use Rattle.std.specs.Prelude.{ℕ, ◌-◌, Bool, if◌then◌else◌, ◌==◌, ◌&&◌, not, List, [], ◌∷◌, ◌++◌, length, take, drop, slice_index, Option, Some, None, nat_le, nat_lt, codes}
 use Rattle.std.specs.Str.{str_to_ascii_lowercase}
 use Rattle.pm_sql.specs.declared.query.SqlFault.{SqlFault}
 use Rattle.pm_sql.specs.declared.query.SqlFault.TheVariants.{Syntax, Table, Range, TooLong, TooMany, NoMemory}
@@ -50,7 +49,3 @@ message_of text (Range place) = codes "bigint out of range"
 message_of text (TooLong place) = codes "value exceeds 8192 bytes"
 message_of text (TooMany place) = codes "query exceeds 1000 writing statements"
 message_of text NoMemory = codes "out of memory"
-
--- no byte is zero
-abbrev pub HasNoZero : List ℕ → Type 0
-HasNoZero text = list_any (λ byte. byte == 0) text ≡ false

@@ -1,7 +1,8 @@
 //! The text of a fault for the client.
 ghost use Rattle.std.specs.Prelude.{◌≡◌, ◌≤◌, ◌+◌, ◌++◌, length, IfOk, slice_index};
 ghost use Rattle.pm_sql.specs.Tokens.{behind_mark, quote};
-ghost use Rattle.pm_sql.specs.Message.{is_boundary, from_place, up_to_place, char_len, other_token, token_of, syntax_message, message_of, HasNoZero};
+ghost use Rattle.pm_facts.specs.Zeros.{HasNoZero};
+ghost use Rattle.pm_sql.specs.Message.{is_boundary, from_place, up_to_place, char_len, other_token, token_of, syntax_message, message_of};
 
 use crate::query::SqlFault;
 use crate::tokens::{behind_mark, split_digits, split_word, string_end};

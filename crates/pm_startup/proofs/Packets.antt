@@ -7,12 +7,13 @@ use Rattle.std.proofs.lemmas.Nat.{be_bytes_4}
 use Rattle.byteorder.specs.Endian.{big_number}
 use Rattle.byteorder.specs.Numbers.{big_number-reads_back, big_from-take}
 use Rattle.pm_wire.specs.Numbers.{IsBytes, IsBytes-drop, IsBytes-take, number_below}
+use Rattle.pm_wire.specs.Pieces.{int32}
 use Rattle.pm_startup.specs.declared.packet.StartFault.{StartFault}
 use Rattle.pm_startup.specs.declared.packet.StartFault.TheVariants.{Length, Malformed}
 use Rattle.pm_startup.specs.declared.packet.Read.{Read}
 use Rattle.pm_startup.specs.declared.packet.Read.TheVariants.{Whole, Short, Bad}
 use Rattle.pm_startup.specs.Parameters.{Parameter, user_of}
-use Rattle.pm_startup.specs.Grammar.{Content, cancel_request, content_of, int32, packet, max_length, Kind, ssl, gssenc, cancel, version3, unknown, kind_of, CancelSays, verdict_of, StartupSays, Says, IsPacket, IsNoLength, Decides, FrontDecides, IsUndecided, IsIncomplete, IsWhole}
+use Rattle.pm_startup.specs.Grammar.{Content, cancel_request, content_of, packet, max_length, Kind, ssl, gssenc, cancel, version3, unknown, kind_of, CancelSays, verdict_of, StartupSays, Says, IsPacket, IsNoLength, Decides, FrontDecides, IsUndecided, IsIncomplete, IsWhole}
 use Rattle.pm_startup.proofs.Bodies.{laid_out-same, laid_out-not_malformed, malformed-same}
 
 -- ---- numbers in bytes
@@ -22,6 +23,7 @@ number-of bytes = omega arith
 
 -- a number and what stands behind it
 pub int32-front : (bytes : List ℕ) → IsBytes bytes → 4 ≤ length bytes → bytes ≡ int32 (big_number 4 bytes) ++ drop 4 bytes
+unfolding int32
 int32-front bytes fits long =
     let number : big_number 4 bytes ≡ from_be_bytes w32 (take 4 bytes) = sym (big_from-take 0 4 4 bytes (omega arith)) ∙ number-of (take 4 bytes) in
     let front : int32 (big_number 4 bytes) ≡ take 4 bytes = be_bytes_4 (take 4 bytes) (big_number 4 bytes) (omega (arith, length-take 4 bytes)) (IsBytes-take 4 bytes fits) number in
@@ -29,6 +31,7 @@ int32-front bytes fits long =
 
 -- two numbers are eight bytes
 pub int32-pair : (bytes : List ℕ) → IsBytes bytes → length bytes ≡ 8 → bytes ≡ int32 (big_number 4 bytes) ++ int32 (big_number 4 (drop 4 bytes))
+unfolding int32
 int32-pair bytes fits long =
     let first = int32-front bytes fits (omega arith) in
     let second = int32-front (drop 4 bytes) (IsBytes-drop 4 bytes fits) (omega (arith, length-drop 4 bytes)) in
@@ -42,6 +45,7 @@ same-front a b x y len e =
     sym (take_at a x (length b) len) ∙ ap (take (length b)) e ∙ take_at b y (length b) refl
 
 cancel-same : (body : List ℕ) (v w : Result Content StartFault) → CancelSays body v → CancelSays body w → v ≡ w
+unfolding int32
 cancel-same body v w (inl p) (inl q) =
     let e : int32 p.0 ++ int32 p.1 ≡ int32 q.0 ++ int32 q.1 = sym p.4 ∙ q.4 in
     let pid : p.0 ≡ q.0 = sym (big_number-reads_back 4 p.0 (int32 p.1) p.2) ∙ ap (big_number 4) e ∙ big_number-reads_back 4 q.0 (int32 q.1) q.2 in
@@ -68,12 +72,15 @@ says-same unknown code body v w p q = p ∙ sym q
 
 -- what a packet's length says
 pub packet-number : (code : ℕ) (body x : List ℕ) → 8 + length body ≤ max_length → big_number 4 (packet code body ++ x) ≡ 8 + length body
+unfolding int32
 packet-number code body x fits = big_number-reads_back 4 (8 + length body) (int32 code ++ (body ++ x)) (omega arith)
 
 packet-length : (code : ℕ) (body : List ℕ) → length (packet code body) ≡ 8 + length body
+unfolding int32
 packet-length code body = omega arith
 
 packets-same : (a b x y : List ℕ) (v w : Result Content StartFault) → IsPacket a v → IsPacket b w → a ++ x ≡ b ++ y → (a ≡ b) × (v ≡ w)
+unfolding int32
 packets-same a b x y v w p q e =
     let front : packet p.code p.body ++ x ≡ packet q.code q.body ++ y = ap (λ (s : List ℕ). s ++ x) (sym p.spelled) ∙ e ∙ ap (λ (s : List ℕ). s ++ y) q.spelled in
     let len : 8 + length p.body ≡ 8 + length q.body = sym (packet-number p.code p.body x p.fits) ∙ ap (big_number 4) front ∙ packet-number q.code q.body y q.fits in
@@ -85,6 +92,7 @@ packets-same a b x y v w p q e =
 
 -- the length of a packet is none that no packet has
 packet-not_length : (a b x y : List ℕ) (v w : Result Content StartFault) → IsPacket a v → IsNoLength b w → a ++ x ≡ b ++ y → ⊥
+unfolding int32
 packet-not_length a b x y v w p q e =
     let front : packet p.code p.body ++ x ≡ int32 q.seen ++ y = ap (λ (s : List ℕ). s ++ x) (sym p.spelled) ∙ e ∙ ap (λ (s : List ℕ). s ++ y) q.spelled in
     let len : 8 + length p.body ≡ q.seen = sym (packet-number p.code p.body x p.fits) ∙ ap (big_number 4) front ∙ big_number-reads_back 4 q.seen y q.seen_fits in
@@ -92,6 +100,7 @@ packet-not_length a b x y v w p q e =
     elim q.outside [ inl low ↦ omega arith | inr high ↦ omega arith ]
 
 lengths-same : (a b x y : List ℕ) (v w : Result Content StartFault) → IsNoLength a v → IsNoLength b w → a ++ x ≡ b ++ y → (a ≡ b) × (v ≡ w)
+unfolding int32
 lengths-same a b x y v w p q e =
     let front : int32 p.seen ++ x ≡ int32 q.seen ++ y = ap (λ (s : List ℕ). s ++ x) (sym p.spelled) ∙ e ∙ ap (λ (s : List ℕ). s ++ y) q.spelled in
     let seen : p.seen ≡ q.seen = sym (big_number-reads_back 4 p.seen x p.seen_fits) ∙ ap (big_number 4) front ∙ big_number-reads_back 4 q.seen y q.seen_fits in
@@ -113,6 +122,7 @@ front-same bytes n m v w p q =
 -- ---- too few bytes
 
 long-packet : (bytes : List ℕ) (n : ℕ) (v : Result Content StartFault) → n ≤ length bytes → IsPacket (take n bytes) v → IsIncomplete bytes → ⊥
+unfolding int32
 long-packet bytes n v within p short =
     let front : bytes ≡ packet p.code p.body ++ drop n bytes = sym (take-append-drop n bytes) ∙ ap (λ (s : List ℕ). s ++ drop n bytes) p.spelled in
     let number : big_number 4 bytes ≡ 8 + length p.body = ap (big_number 4) front ∙ packet-number p.code p.body (drop n bytes) p.fits in
@@ -120,6 +130,7 @@ long-packet bytes n v within p short =
     elim short [ inl few ↦ omega arith | inr less ↦ omega (arith, less.2) ]
 
 long-length : (bytes : List ℕ) (n : ℕ) (v : Result Content StartFault) → n ≤ length bytes → IsNoLength (take n bytes) v → IsIncomplete bytes → ⊥
+unfolding int32
 long-length bytes n v within p short =
     let front : bytes ≡ int32 p.seen ++ drop n bytes = sym (take-append-drop n bytes) ∙ ap (λ (s : List ℕ). s ++ drop n bytes) p.spelled in
     let number : big_number 4 bytes ≡ p.seen = ap (big_number 4) front ∙ big_number-reads_back 4 p.seen (drop n bytes) p.seen_fits in
@@ -130,6 +141,7 @@ long-length bytes n v within p short =
     ]
 
 not_incomplete : (bytes : List ℕ) (n : ℕ) (v : Result Content StartFault) → FrontDecides bytes n v → IsIncomplete bytes → ⊥
+unfolding int32
 not_incomplete bytes n v p short =
     elim p.decides [
       | inl whole ↦ long-packet bytes n v p.within whole short
@@ -160,6 +172,7 @@ ok_not_err : (c : Content) (f : StartFault) → ok_content c ≡ err_fault f →
 ok_not_err c f e = cc
 
 pub answer-whole : (bytes : List ℕ) (r : Read) → IsAnswer bytes r → (content : Content) (n : ℕ) → IsWhole r content n ↔ FrontDecides bytes n (Ok content)
+unfolding int32
 answer-whole bytes (Whole packet used) is content n = (
   λ w. subst (λ (c : Content). FrontDecides bytes n (Ok c)) w.0 (subst (λ (m : ℕ). FrontDecides bytes m (Ok (content_of packet))) w.1 is),
   λ front.
@@ -176,6 +189,7 @@ bad_is : (f g : StartFault) → Bad f ≡ Bad g → f ≡ g
 bad_is f g e = cc
 
 pub answer-bad : (bytes : List ℕ) (r : Read) → IsAnswer bytes r → (fault : StartFault) → (r ≡ Bad fault) ↔ ((n : ℕ) × FrontDecides bytes n (Err fault))
+unfolding int32
 answer-bad bytes (Whole packet used) is fault = (
   λ e. absurd cc,
   λ front. absurd (ok_not_err (content_of packet) fault (front-same bytes used front.0 (Ok (content_of packet)) (Err fault) is front.1).1),
@@ -189,11 +203,13 @@ answer-bad bytes (Bad seen) is fault = (
 )
 
 pub answer-undecided : (bytes : List ℕ) (r : Read) → IsAnswer bytes r → (r ≡ Short) ↔ IsUndecided bytes
+unfolding int32
 answer-undecided bytes (Whole packet used) is = (λ e. absurd cc, λ none. absurd (none used (Ok (content_of packet)) is))
 answer-undecided bytes Short is = (λ e n v front. not_incomplete bytes n v front is, λ none. refl)
 answer-undecided bytes (Bad fault) is = (λ e. absurd cc, λ none. absurd (none is.0 (Err fault) is.1))
 
 pub answer-incomplete : (bytes : List ℕ) (r : Read) → IsAnswer bytes r → (r ≡ Short) ↔ IsIncomplete bytes
+unfolding int32
 answer-incomplete bytes (Whole packet used) is = (λ e. absurd cc, λ short. absurd (not_incomplete bytes used (Ok (content_of packet)) is short))
 answer-incomplete bytes Short is = (λ e. is, λ short. refl)
 answer-incomplete bytes (Bad fault) is = (λ e. absurd cc, λ short. absurd (not_incomplete bytes is.0 (Err fault) is.1 short))
@@ -202,6 +218,7 @@ answer-incomplete bytes (Bad fault) is = (λ e. absurd cc, λ short. absurd (not
 
 -- a length that no packet has
 pub answers_length : (bytes : List ℕ) → IsBytes bytes → 4 ≤ length bytes → (big_number 4 bytes < 8) ⊎ (max_length < big_number 4 bytes) → IsAnswer bytes (Bad (Length (big_number 4 bytes)))
+unfolding int32
 answers_length bytes fits long outside =
     let front = int32-front bytes fits long in
     let spelled : take 4 bytes ≡ int32 (big_number 4 bytes) = ap (take 4) front in
@@ -210,6 +227,7 @@ answers_length bytes fits long outside =
 -- a whole packet
 pub answers_packet : (bytes : List ℕ) (used code : ℕ) (v : Result Content StartFault) → IsBytes bytes → used ≡ big_number 4 bytes → 8 ≤ used → used ≤ max_length → used ≤ length bytes
     → code ≡ big_number 4 (take (length bytes - 4) (drop 4 bytes)) → Says (kind_of code) code (take (used - 8) (drop 8 bytes)) v → FrontDecides bytes used v
+unfolding int32
 answers_packet bytes used code v fits number low high within code-is says =
     let second = drop 4 bytes in
     let body : List ℕ = take (used - 8) (drop 8 bytes) in

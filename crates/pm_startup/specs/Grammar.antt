@@ -2,7 +2,7 @@
 -- (PostgreSQL manual, Frontend/Backend Protocol: Message Flow, Start-up; Message Formats.)
 -- A rule marked "own" is this server's choice.
 use Rattle.std.specs.Prelude.{◌≡◌, ◌≢◌, ℕ, ◌+◌, ◌/◌, ◌%◌, ◌^◌, ◌<◌, ◌≤◌, ◌==◌, List, length, ◌++◌, take, Result, Ok, Err, ◌⊎◌, if◌then◌else◌}
-use Rattle.byteorder.specs.Endian.{big_bytes, big_number}
+use Rattle.byteorder.specs.Endian.{big_number}
 use Rattle.pm_startup.specs.declared.packet.Packet.{Packet}
 use Rattle.pm_startup.specs.declared.packet.Packet.TheVariants as packets
 use Rattle.pm_startup.specs.declared.packet.StartFault.{StartFault}
@@ -10,6 +10,7 @@ use Rattle.pm_startup.specs.declared.packet.StartFault.TheVariants.{Length, Vers
 use Rattle.pm_startup.specs.declared.packet.Read.{Read}
 use Rattle.pm_startup.specs.declared.packet.Read.TheVariants.{Whole, Short, Bad}
 use Rattle.pm_startup.specs.Parameters.{Parameter, IsLaidOut, IsMalformed, user_of}
+use Rattle.pm_wire.specs.Pieces.{int32}
 
 -- what a packet says, without where its bytes lie
 pub data Content : Type 0 where
@@ -25,10 +26,6 @@ content_of packets.Gss = gssenc_request
 content_of (packets.Cancel pid key) = cancel_request pid key
 
 -- ---- framing
-
--- Int32: four bytes, the highest first
-abbrev pub int32 : ℕ → List ℕ
-int32 n = big_bytes 4 n
 
 -- Int32 length, which counts itself; Int32 code; the body
 abbrev pub packet : ℕ → List ℕ → List ℕ

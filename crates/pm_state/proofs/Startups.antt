@@ -8,7 +8,8 @@ use Rattle.pm_supervisor.specs.declared.Limits.{Limits}
 use Rattle.pm_supervisor.specs.Children.{Child, is_session, is_startup_child, is_checkpointer, is_writer, is_dead_end, child_of, without, count_of, attached_sessions, one_if}
 use Rattle.pm_supervisor.specs.Supervisor.{Supervisor}
 use Rattle.pm_supervisor.specs.Steps as supervisor
-use Rattle.pm_supervisor.specs.Steps.{Trace, IsRun, all_happened, happened, after, is_startup_crash, redo_has_ended}
+use Rattle.pm_supervisor.specs.Steps.{Trace, IsRun, all_happened, happened, after, redo_has_ended}
+use Rattle.pm_supervisor.specs.CountLaws.{none_counted}
 use Rattle.pm_state.specs.declared.machine.Machine.{Machine}
 use Rattle.pm_state.specs.declared.machine.Exit.{Exit}
 use Rattle.pm_state.specs.Exits.{crash_rule, startup_exited}
@@ -47,9 +48,6 @@ alone-there : (limits : Limits) (m : Machine) (s : Supervisor) → is_not_runnin
     → (m.children ≡ 0) × (m.checkpointer ≡ false) × (m.writer ≡ false)
 alone-there limits m s there facts = grind arith
 
-no_one : (a : ℕ) (b : Bool) → a ≡ one_if b → b ≡ false → a ≡ 0
-no_one a b p q = grind arith
-
 pub has_left : (limits : Limits) (m : Machine) (h : Trace) (pid : ℕ) (status : Status) (was_active : Bool) → Facts limits m h.now
     → IsSomeAnd (child_of pid h.now.shared.children) (λ c. c.kind ≡ kind.Startup)
     → HasLeft m h.now (after h.now (supervisor.Exit pid kind.Startup status was_active)) status
@@ -70,8 +68,8 @@ has_left limits m h pid status was_active facts there =
       attached = none_attached (without pid cs) sessions;
       dead_ends = omega (arith, count-without is_dead_end pid kind.Startup cs there, facts.shows.dead_ends);
       startup = startup-left (count_of is_startup_child cs) (count_of is_startup_child (without pid cs)) (is_not_running m.startup) m.startup_due some facts.shows.startup;
-      checkpointer = omega (arith, count-without is_checkpointer pid kind.Startup cs there, no_one (count_of is_checkpointer cs) m.checkpointer facts.shows.checkpointer alone.1);
-      writer = omega (arith, count-without is_writer pid kind.Startup cs there, no_one (count_of is_writer cs) m.writer facts.shows.writer alone.2);
+      checkpointer = omega (arith, count-without is_checkpointer pid kind.Startup cs there, none_counted (count_of is_checkpointer cs) m.checkpointer facts.shows.checkpointer alone.1);
+      writer = omega (arith, count-without is_writer pid kind.Startup cs there, none_counted (count_of is_writer cs) m.writer facts.shows.writer alone.2);
       was_there = was_there;
     }
 

@@ -1,9 +1,13 @@
 -- Where no child is counted, none is there; and the states in which none is.
 use Rattle.std.proofs.Common.{◌≡◌, ◌+◌, List, [], ◌∷◌, refl, arith, Bool, true, false}
 use Rattle.pm_exit.specs.declared.child.Kind.{Kind}
+use Rattle.pm_admit.specs.declared.Cac.TheVariants as decisions
 use Rattle.pm_admit.specs.declared.PmState.{PmState}
 use Rattle.pm_admit.specs.declared.PmState.TheVariants as state
+use Rattle.pm_admit.specs.declared.Cac.{Cac}
 use Rattle.pm_supervisor.specs.Children.{Child, is_session, is_startup_child, is_checkpointer, is_writer, is_dead_end, one_if, count_of}
+use Rattle.pm_state.specs.declared.machine.Machine.{Machine}
+use Rattle.pm_state.specs.Machine.{accepted_as}
 
 one_kind : (k : Kind) →
     one_if (is_session k) + one_if (is_dead_end k) + one_if (is_startup_child k) + one_if (is_checkpointer k) + one_if (is_writer k) ≡ 1
@@ -20,3 +24,11 @@ abbrev pub is_deserted : PmState → Bool
 is_deserted state.Init = true
 is_deserted state.NoChildren = true
 is_deserted _ = false
+
+-- a connection that is accepted asks for no shutdown
+pub accepted_shutdown : (decision : Cac) (m : Machine) → (accepted_as decision m).shutdown ≡ m.shutdown
+accepted_shutdown decisions.Ok m = refl
+accepted_shutdown decisions.Startup m = refl
+accepted_shutdown decisions.Recovery m = refl
+accepted_shutdown decisions.Shutdown m = refl
+accepted_shutdown decisions.TooMany m = refl

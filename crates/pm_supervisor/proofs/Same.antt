@@ -2,7 +2,7 @@
 use Rattle.std.proofs.Common.{◌≡◌, ◌≢◌, ℕ, ◌+◌, ◌<◌, nat_eq, cond, Bool, true, false, ◌&&◌, List, [], ◌∷◌, Option, Some, None, refl, arith, ap, sym, ◌∙◌, subst}
 use Rattle.std.specs.Prelude.{IsSomeAnd}
 use Rattle.std.specs.List.{AllByRecursion}
-use Rattle.std.proofs.lemmas.Bool.{eqb-true}
+use Rattle.std.proofs.lemmas.Bool.{eqb-true, eq-eqb}
 use Rattle.pm_exit.specs.declared.child.Kind.{Kind}
 use Rattle.pm_supervisor.specs.Children.{Child, is_session, is_startup_child, child_of, without, marked, one_if, count_of, attached_sessions}
 use Rattle.pm_supervisor.specs.Supervisor.{Shared}
@@ -32,9 +32,6 @@ total-without f pid c (d ∷ ds) is =
     ]
     is
 
-eq-own : (a : ℕ) → nat_eq a a ≡ true
-eq-own a = grind arith
-
 -- a child that is no one's under this pid
 none-far : (pid : ℕ) (cs : List Child) → AllByRecursion (λ d. d.pid ≢ pid) cs → child_of pid cs ≡ None
 none-far pid [] far = refl
@@ -46,10 +43,10 @@ none-far pid (d ∷ ds) far =
     refl
 
 own : (c : Child) (cs : List Child) → child_of c.pid (c ∷ cs) ≡ Some c
-own c cs = rw (eq-own c.pid) refl
+own c cs = rw (eq-eqb c.pid c.pid refl) refl
 
 without-own : (c : Child) (cs : List Child) → without c.pid (c ∷ cs) ≡ cs
-without-own c cs = rw (eq-own c.pid) refl
+without-own c cs = rw (eq-eqb c.pid c.pid refl) refl
 
 -- only one is missing
 other-without : (pid q : ℕ) (ds : List Child) → nat_eq pid q ≡ false → child_of q (without pid ds) ≡ child_of q ds

@@ -1,9 +1,10 @@
+pub mod Between
 pub mod Children
+pub mod CountLaws
+pub mod Invariant
+pub mod Laws
 pub mod Phase
-pub mod Supervisor
+pub mod RunLaws
 pub mod Shared
 pub mod Steps
-pub mod RunLaws
-pub mod Invariant
-pub mod Between
-pub mod Laws
+pub mod Supervisor

@@ -1,11 +1,12 @@
 -- A string ends at its first zero.
 use Rattle.std.proofs.Common.{◌≡◌, ℕ, zero, suc, ◌+◌, ◌<◌, ◌≤◌, ◌++◌, ◌∷◌, [], List, length, get_or, take, drop, true, false, not, eqb, ltb, Some, None, refl, sym, ap, subst, ◌∙◌, arith}
 use Rattle.std.specs.List.{prefix_len, position}
-use Rattle.std.proofs.lemmas.Bool.{eqb-true, eqb-false, lt-ltb}
+use Rattle.std.proofs.lemmas.Bool.{eqb-true, eqb-false, lt-ltb, eq-eqb}
 use Rattle.std.proofs.lemmas.Option.{cond_some}
 use Rattle.std.proofs.lemmas.List.{length-append, take_at, take-append-drop, drop_more, drop_all}
 use Rattle.std.proofs.lemmas.List.Quantifiers.{position-Some}
-use Rattle.pm_wire.specs.Pieces.{HasNoZero, string}
+use Rattle.pm_facts.specs.Zeros.{HasNoZero}
+use Rattle.pm_wire.specs.Pieces.{string}
 use Rattle.pm_wire.specs.Nonzero.{AllNonzero, suc_nonzero, all_nonzero, has_no_zero}
 use Rattle.pm_wire.specs.Frontend.{IsString}
 use Rattle.pm_wire.specs.Reading.{text_of, text_before}
@@ -22,15 +23,11 @@ zero_at_end text h =
     let within : ltb (length text) (length (text ++ 0 ∷ [])) ≡ true = lt-ltb _ _ (omega (arith, length-append text (0 ∷ []))) in
     rw (place, within) refl
 
-eqb_same : (n m : ℕ) → n ≡ m → eqb n m ≡ true
-eqb_same n m h =
-    elim (eqb n m) as (λ t. eqb n m ≡ t → t ≡ true) [ true ↦ λ _. refl | false ↦ λ e. absurd (eqb-false n m e h) ] refl
-
 pub text_again : (text : List ℕ) → HasNoZero text → text_of (string text) ≡ Some text
 unfolding text_of
 text_again text h =
     let place = zero_at_end text h in
-    let last : eqb (length text + 1) (length (text ++ 0 ∷ [])) ≡ true = eqb_same _ _ (omega (arith, length-append text (0 ∷ []))) in
+    let last : eqb (length text + 1) (length (text ++ 0 ∷ [])) ≡ true = eq-eqb _ _ (omega (arith, length-append text (0 ∷ []))) in
     let front : take (length text) (text ++ 0 ∷ []) ≡ text = take_at text (0 ∷ []) (length text) refl in
     rw place (rw (last, front) refl)
 

@@ -1,31 +1,26 @@
 -- What the table says can be written, and is short.
-use Rattle.std.proofs.Common.{◌≡◌, ℕ, ℤ, pos, negsuc, suc, ◌+◌, ◌%◌, ◌^◌, ◌<◌, ◌≤◌, ◌==◌, ◌||◌, List, [], ◌∷◌, ◌++◌, length, codes, decimal, refl, ap, ◌∙◌, arith}
+use Rattle.std.proofs.Common.{◌≡◌, ℕ, ℤ, pos, negsuc, suc, ◌+◌, ◌%◌, ◌^◌, ◌<◌, ◌≤◌, List, [], ◌∷◌, ◌++◌, length, codes, decimal, refl, arith}
 use Rattle.std.specs.Fmt.{signed_decimal}
-use Rattle.std.specs.List.{list_any}
 use Rattle.std.proofs.lemmas.Bool.{ne_eqb}
 use Rattle.std.proofs.lemmas.List.{length-append}
-use Rattle.std.proofs.lemmas.List.Folds.{list_any-append}
 use Rattle.std.proofs.lemmas.Fmt.{decimal_by_steps, length-decimal-le}
 use Rattle.pm_wire.specs.declared.condition.Condition.{Condition}
 use Rattle.pm_wire.specs.declared.condition.Condition.TheVariants as conditions
 use Rattle.pm_wire.specs.declared.condition.Fixed.{Fixed}
 use Rattle.pm_wire.specs.declared.condition.Fixed.TheVariants as fixes
 use Rattle.pm_wire.specs.declared.condition.StatementFault.TheVariants as faults
-use Rattle.pm_wire.specs.Pieces.{HasNoZero}
 use lib.Signed.{mag}
+use Rattle.pm_facts.specs.Zeros.{HasNoZero, no_zero-append}
 use Rattle.pm_wire.specs.Backend.{spelling, IsWritable}
 use Rattle.pm_wire.specs.Conditions.{fixed_message, told}
 use Rattle.pm_wire.specs.Longest.{longest, HasSizes, IsGiven, longest_told}
 use Rattle.pm_wire.proofs.Longests.{key_digits, longest_is}
 
-no_zero_append : (xs ys : List ℕ) → HasNoZero xs → HasNoZero ys → HasNoZero (xs ++ ys)
-no_zero_append xs ys first second = list_any-append (λ b. b == 0) xs ys ∙ ap (λ t. t || list_any (λ b. b == 0) ys) first ∙ second
-
 no_zero_digit : (n : ℕ) → HasNoZero ((48 + n) ∷ [])
 no_zero_digit n = rw (ne_eqb (48 + n) 0 (λ e. omega (arith, e))) refl
 
 no_zero_decimal : (n : ℕ) → n < 2 ^ 64 → HasNoZero (decimal n)
-no_zero_decimal = decimal_by_steps (λ n digits. HasNoZero digits) (λ n lt. no_zero_digit n) (λ n digits le so_far. no_zero_append digits ((48 + n % 10) ∷ []) so_far (no_zero_digit (n % 10)))
+no_zero_decimal = decimal_by_steps (λ n digits. HasNoZero digits) (λ n lt. no_zero_digit n) (λ n digits le so_far. no_zero-append digits ((48 + n % 10) ∷ []) so_far (no_zero_digit (n % 10)))
 
 no_zero_key : (key : ℤ) → mag key < 2 ^ 63 → HasNoZero (signed_decimal key)
 no_zero_key (pos n) fits = no_zero_decimal n (omega (arith, fits))
@@ -109,18 +104,18 @@ told_writable (conditions.Fixed f) h = fixed_writable f
 told_writable (conditions.Version major minor) h = (
   (
     refl,
-    no_zero_append (codes "unsupported frontend protocol " ++ decimal major ++ codes "." ++ decimal minor) (codes ": server supports 3.0 to 3.0")
-        (no_zero_append (codes "unsupported frontend protocol " ++ decimal major ++ codes ".") (decimal minor)
-        (no_zero_append (codes "unsupported frontend protocol " ++ decimal major) (codes ".") (no_zero_append (codes "unsupported frontend protocol ") (decimal major) refl (no_zero_decimal major (omega (arith, h.0)))) refl)
+    no_zero-append (codes "unsupported frontend protocol " ++ decimal major ++ codes "." ++ decimal minor) (codes ": server supports 3.0 to 3.0")
+        (no_zero-append (codes "unsupported frontend protocol " ++ decimal major ++ codes ".") (decimal minor)
+        (no_zero-append (codes "unsupported frontend protocol " ++ decimal major) (codes ".") (no_zero-append (codes "unsupported frontend protocol ") (decimal major) refl (no_zero_decimal major (omega (arith, h.0)))) refl)
         (no_zero_decimal minor (omega (arith, h.1)))) refl,
     tt,
   ),
   omega (arith, version_length (decimal major) (decimal minor), number_digits major h.0, number_digits minor h.1),
 )
 told_writable (conditions.UnknownType kind) h =
-    ((refl, no_zero_append (codes "invalid frontend message type ") (decimal kind) refl (no_zero_decimal kind (omega (arith, h))), tt), omega (arith, type_length (decimal kind), number_digits kind (omega (arith, h))))
+    ((refl, no_zero-append (codes "invalid frontend message type ") (decimal kind) refl (no_zero_decimal kind (omega (arith, h))), tt), omega (arith, type_length (decimal kind), number_digits kind (omega (arith, h))))
 told_writable (conditions.Duplicate key) h = (
-  (refl, refl, no_zero_append (codes "Key (k)=(" ++ signed_decimal key) (codes ") already exists.") (no_zero_append (codes "Key (k)=(") (signed_decimal key) refl (no_zero_key key h)) refl),
+  (refl, refl, no_zero-append (codes "Key (k)=(" ++ signed_decimal key) (codes ") already exists.") (no_zero-append (codes "Key (k)=(") (signed_decimal key) refl (no_zero_key key h)) refl),
   omega (arith, key_length (signed_decimal key), key_digits key h),
 )
 told_writable (conditions.Statement faults.Syntax text) h = ((refl, h.0, tt), omega (arith, h.1))

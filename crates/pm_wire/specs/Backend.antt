@@ -4,6 +4,7 @@ use Rattle.std.specs.Fmt.{signed_decimal}
 use Rattle.std.specs.Option.{option_map}
 use Rattle.std.specs.Str.{IsUtf8}
 use Rattle.std.specs.List.{flat_map}
+use Rattle.pm_facts.specs.Zeros.{HasNoZero}
 use Rattle.pm_wire.specs.declared.back.Back.{Back}
 use Rattle.pm_wire.specs.declared.back.Back.TheVariants as sent
 use Rattle.pm_wire.specs.declared.back.Report.{Report}
@@ -15,7 +16,7 @@ use Rattle.pm_wire.specs.declared.back.Severity.{Severity}
 use Rattle.pm_wire.specs.declared.back.Severity.TheVariants.{Error, Fatal, Panic, Warning}
 pub use Rattle.pm_wire.specs.Messages.{Saying, BackMessage, Auth, Param, Key, Ready, Fields, Pair, One, Complete, Empty, Fault, Notice}
 use Rattle.pm_wire.specs.Conditions.{told}
-use Rattle.pm_wire.specs.Pieces.{int16, int32, HasNoZero, string, counted, message}
+use Rattle.pm_wire.specs.Pieces.{int16, int32, string, counted, message}
 
 abbrev pub saying : Report → Saying
 saying r = record { severity = r.severity; code = r.code; text = r.text.now; detail = option_map (λ text. text.now) r.detail }

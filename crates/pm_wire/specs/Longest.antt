@@ -1,9 +1,9 @@
 -- How long a message can be, from what its parts can be.
 use Rattle.std.specs.Prelude.{◌≡◌, ℕ, ◌+◌, ◌^◌, ◌<◌, length}
 use lib.Signed.{mag}
+use Rattle.pm_facts.specs.Zeros.{HasNoZero}
 use Rattle.pm_wire.specs.declared.condition.Condition.{Condition}
 use Rattle.pm_wire.specs.declared.condition.Condition.TheVariants as conditions
-use Rattle.pm_wire.specs.Pieces.{HasNoZero}
 use Rattle.pm_wire.specs.Backend.{BackMessage, Auth, Param, Key, Ready, Fields, Pair, One, Complete, Empty, Fault, Notice, Saying, detail_length, HasCount}
 
 -- a severity has at most seven letters, and a code five

@@ -2,7 +2,7 @@
 use Rattle.std.proofs.Common.{◌≡◌, ℕ, zero, suc, ◌<◌, ◌∷◌, [], List, true, false, eqb, refl, arith}
 use Rattle.std.specs.List.{AllByRecursion}
 use Rattle.std.proofs.lemmas.Bool.{eqb-true}
-use Rattle.pm_wire.specs.Pieces.{HasNoZero}
+use Rattle.pm_facts.specs.Zeros.{HasNoZero}
 
 abbrev pub AllNonzero : List ℕ → Type 0
 AllNonzero bytes = AllByRecursion (λ b. 0 < b) bytes

@@ -1,6 +1,5 @@
 -- What messages are made of. Each kind of field is one of the protocol's own (Message Data Types).
-use Rattle.std.specs.Prelude.{◌≡◌, ℕ, ◌+◌, ◌==◌, false, List, [], ◌∷◌, ◌++◌, length}
-use Rattle.std.specs.List.{list_any}
+use Rattle.std.specs.Prelude.{ℕ, ◌+◌, List, [], ◌∷◌, ◌++◌, length}
 use Rattle.byteorder.specs.Endian.{big_bytes}
 
 -- Int16 and Int32: a number in two and in four bytes, the highest first
@@ -9,9 +8,6 @@ int16 n = big_bytes 2 n
 
 unfoldable pub int32 : ℕ → List ℕ
 int32 n = big_bytes 4 n
-
-abbrev pub HasNoZero : List ℕ → Type 0
-HasNoZero bytes = list_any (λ b. b == 0) bytes ≡ false
 
 -- String: bytes without a zero, and the zero byte that ends them
 abbrev pub string : List ℕ → List ℕ

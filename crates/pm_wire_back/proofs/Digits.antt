@@ -15,6 +15,7 @@ use Rattle.pm_wire_back.specs.declared.parts.Stop.TheVariants.{Partial, Departs}
 use Rattle.pm_wire_back.specs.Parts.{◌>>=◌, departs, behind_digit, number_at, negative, key_at}
 use Rattle.pm_wire.specs.Backend.{IsInt64}
 use Rattle.std.proofs.lemmas.Bool.{ne_eqb}
+use Rattle.pm_facts.specs.Numbers.{above_zero}
 use Rattle.pm_wire_back.proofs.Decimals.{ten_pos, under_div, not_zero}
 use Rattle.pm_wire_back.proofs.Exact.{Apart, GoesOn, HasWord, Exact}
 use Rattle.pm_wire_back.proofs.Fields.{exact_first, departs_now, same_length, bind_same}
@@ -79,7 +80,7 @@ filled zeros limit next zero small leads =
 filled zeros limit next (suc k) small leads =
     let positive : 0 < next = elim (eqb next 0) as (λ t. eqb next 0 ≡ t → 0 < next) [
       | true ↦ λ e. let no_more : (zeros && suc k == 0) ≡ false = never zeros k in let yes : (next == 0 && not (zeros && suc k == 0)) ≡ true = rw (e, no_more) refl in absurd cc
-      | false ↦ λ e. pos_of next (eqb-false next 0 e)
+      | false ↦ λ e. above_zero next (eqb-false next 0 e)
     ] refl in (
       replicate (suc k) 48,
       next * 10 ^ suc k,
@@ -91,10 +92,6 @@ filled zeros limit next (suc k) small leads =
         leads = leads_behind zeros next (replicate (suc k) 48) positive;
       },
     )
-  where
-    pos_of : (n : ℕ) → (n ≡ 0 → ⊥) → 0 < n
-    pos_of zero h = absurd (h refl)
-    pos_of (suc n) h = omega arith
 
 -- a one and zeros
 pub num_word : (zeros : Bool) (limit k : ℕ) → 10 ^ k ≤ limit → HasWord (Num zeros limit 0 (suc k))

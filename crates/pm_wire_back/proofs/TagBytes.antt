@@ -10,7 +10,7 @@ use Rattle.pm_wire.specs.declared.back.Severity.TheVariants.{Error, Fatal, Panic
 use Rattle.pm_wire.specs.declared.back.Tag.{Tag}
 use Rattle.pm_wire.specs.declared.back.Tag.TheVariants.{Insert, Update, Delete, Select}
 use Rattle.pm_wire_back.specs.declared.parts.Ending.TheVariants.{NotOneShort, Exactly}
-use Rattle.pm_wire.specs.Pieces.{string, HasNoZero}
+use Rattle.pm_wire.specs.Pieces.{string}
 use Rattle.pm_wire.specs.Backend.{kind_of, BackMessage, Complete, Fault, Notice, Saying, fields, fields_of, detail_field, severity_word, tag_text, HasCount, HoldsReport, SaysNoZero, report_length, detail_length}
 use Rattle.pm_utf8.specs.Utf8.{boundary}
 use Rattle.pm_wire_back.specs.BackReading.{Read, complete_at, report_at, leaves_number, text_room, severity_fields}
@@ -18,6 +18,7 @@ use Rattle.pm_wire_back.specs.Parts.{may_end, ◌>>=◌}
 use Rattle.pm_wire.specs.Nonzero.{all_nonzero, has_no_zero}
 use Rattle.pm_utf8.specs.Characters.{accepts, is_utf8}
 use Rattle.std.proofs.lemmas.Bool.{eq-eqb, ne_eqb}
+use Rattle.pm_facts.specs.Zeros.{HasNoZero}
 use Rattle.pm_wire.specs.Sizes.{length_fields}
 use Rattle.pm_wire_back.proofs.Exact.{Then, Done}
 use Rattle.pm_wire_back.proofs.Fields.{Code, String}

@@ -256,10 +256,6 @@ pub no_value : (value : List ℕ) → length value ≡ 0 → value ≡ []
 no_value [] none = refl
 no_value (byte ∷ value) none = absurd (omega (arith, none))
 
-pub no_words : {X : Type 0} (words : List X) → length words ≡ 0 → words ≡ []
-no_words [] none = refl
-no_words (word ∷ words) none = absurd (omega (arith, none))
-
 -- ---- answers
 
 pub some_map : {X : Type 0} (P Q : X → Type 0) → ((x : X) → P x → Q x) → (o : Option X) → IfSome o P → IfSome o Q

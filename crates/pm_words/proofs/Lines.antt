@@ -44,8 +44,5 @@ given words verb tail command dir conf are line =
       conf_is = line.conf_is;
     }
 
-pub same_some : {X : Type 0} (one two : X) → Some one ≡ Some two → one ≡ two
-same_some one two same = cc
-
 pub not_none : {X : Type 0} (one : X) → Some one ≡ None → ⊥
 not_none one same = absurd cc

@@ -1,6 +1,7 @@
 -- The run of an auxiliary child, from what it tells at its end.
 use Rattle.std.proofs.Common.{ℕ, ◌≡◌, inl, inr, ◌∙◌, true, false, List, Option, Some, None, ap, sym, refl, subst}
 use Rattle.std.specs.Prelude.{is_some, Result, Ok, Err}
+use Rattle.std.proofs.lemmas.Bool.{false≢true}
 use Rattle.pm_exit.specs.declared.child.Kind.{Kind}
 use Rattle.pm_exit.specs.declared.child.Kind.TheVariants as kinds
 use Rattle.pm_exit.specs.declared.child.Status.{Status}
@@ -21,14 +22,11 @@ use Rattle.pm_worker.specs.Runs.{Run, IsAuxRun, Does}
 
 -- ---- numbers
 
-true_false : false ≡ true → ⊥
-true_false e = cc
-
 abbrev none_kept : Option ℕ
 none_kept = None
 
 absent : (B : Type 0) → is_some none_kept ≡ true → B
-absent B e = absurd (true_false e)
+absent B e = absurd (false≢true e)
 
 -- ---- kinds
 
@@ -36,18 +34,18 @@ pub aux_kind : (kind child : Kind) → is_auxiliary kind ≡ true → IsFor (aux
 aux_kind kinds.Startup child aux for_ = for_
 aux_kind kinds.Checkpointer child aux for_ = for_
 aux_kind kinds.Writer child aux for_ = for_
-aux_kind kinds.Worker child aux for_ = absurd (true_false aux)
-aux_kind kinds.Backend child aux for_ = absurd (true_false aux)
-aux_kind kinds.DeadEnd child aux for_ = absurd (true_false aux)
+aux_kind kinds.Worker child aux for_ = absurd (false≢true aux)
+aux_kind kinds.Backend child aux for_ = absurd (false≢true aux)
+aux_kind kinds.DeadEnd child aux for_ = absurd (false≢true aux)
 
 -- ---- ends
 
 -- who ends attached doesn't exit with code 0
 well_by : (cause : Cause) (gate : Option (Result ℕ GateNo)) → is_some (attached_behind cause gate) ≡ true → is_exit_0 (status_by cause) ≡ false
-well_by (Redone kept) gate is = absurd (true_false is)
-well_by Flushed gate is = absurd (true_false is)
-well_by Closed gate is = absurd (true_false is)
-well_by LeftOut gate is = absurd (true_false is)
+well_by (Redone kept) gate is = absurd (false≢true is)
+well_by Flushed gate is = absurd (false≢true is)
+well_by Closed gate is = absurd (false≢true is)
+well_by LeftOut gate is = absurd (false≢true is)
 well_by (Refused (stores.Stale mine found)) gate is = refl
 well_by (Refused stores.Disk) gate is = refl
 well_by (Refused (stores.Broken since)) gate is = refl
@@ -133,7 +131,7 @@ kept_done Killed is = absent _ is
 
 -- no other status is that of code 0
 other : (B : Type 0) (status : Status) → is_exit_0 status ≡ false → status ≡ Code 0 → B
-other B status no_ e = absurd (true_false (sym no_ ∙ ap is_exit_0 e))
+other B status no_ e = absurd (false≢true (sym no_ ∙ ap is_exit_0 e))
 
 kept_told : (who : Runner) (gate : Option (Result ℕ GateNo)) (cause : Cause) (noted : List BookEntry) → NotesBehind kinds.Startup who gate cause noted → status_by cause ≡ Code 0
     → is_some (kept_by cause) ≡ true
@@ -176,6 +174,6 @@ pub aux_does : (stamp : Option ℕ) (seed : List ℕ) (limit : ℕ) (gives : ℕ
 aux_does stamp seed limit gives kinds.Startup run aux is = is
 aux_does stamp seed limit gives kinds.Checkpointer run aux is = is
 aux_does stamp seed limit gives kinds.Writer run aux is = is
-aux_does stamp seed limit gives kinds.Worker run aux is = absurd (true_false aux)
-aux_does stamp seed limit gives kinds.Backend run aux is = absurd (true_false aux)
-aux_does stamp seed limit gives kinds.DeadEnd run aux is = absurd (true_false aux)
+aux_does stamp seed limit gives kinds.Worker run aux is = absurd (false≢true aux)
+aux_does stamp seed limit gives kinds.Backend run aux is = absurd (false≢true aux)
+aux_does stamp seed limit gives kinds.DeadEnd run aux is = absurd (false≢true aux)

@@ -7,6 +7,7 @@ use Rattle.pm_exit.specs.declared.child.Status.{Status}
 use Rattle.pm_exit.specs.declared.child.Status.TheVariants.{Code}
 use Rattle.pm_exit.specs.Ends.{is_exit_0}
 use Rattle.std.proofs.lemmas.List.{append-nil}
+use Rattle.std.proofs.lemmas.Bool.{false≢true}
 use Rattle.pm_worker.specs.declared.mail.MailTold.TheVariants as mail
 use Rattle.pm_query.specs.declared.book.BookEntry.{BookEntry}
 use Rattle.pm_board.specs.declared.views.Cancel.{Cancel}
@@ -113,11 +114,8 @@ closes stamp seed limit gives post pid begun =
 
 -- ---- whether the worker goes on
 
-false_true : false ≡ true → ⊥
-false_true e = cc
-
 pub goes_on : (given t : MailTold) → given ≡ t → (t ≡ mail.Close → ⊥) → IsTrue false ↔ (given ≡ mail.Close)
-goes_on given t e no_ = ((λ h. absurd (false_true h)), (λ closes_. absurd (no_ (sym e ∙ closes_))))
+goes_on given t e no_ = ((λ h. absurd (false≢true h)), (λ closes_. absurd (no_ (sym e ∙ closes_))))
 
 pub serves : (link : LinkTold) (decision : Cac) → mail.Serve link decision ≡ mail.Close → ⊥
 serves link decision e = cc

@@ -5,7 +5,8 @@ use Rattle.std.proofs.lemmas.List.Concat.{flat_map-append}
 use Rattle.pm_wire.specs.Backend.{BackMessage}
 use Rattle.pm_query.specs.declared.item.Item.{Item}
 use Rattle.pm_exchange.specs.Sent.{bytes_of, item_messages}
-use Rattle.pm_load.proofs.Replays.{no_bytes, said_both}
+use Rattle.pm_exchange.specs.SentLaws.{bytes_of-none}
+use Rattle.pm_load.proofs.Replays.{said_both}
 use Rattle.pm_load.proofs.answers.put_items.Goals as goal
 
 items_more : (items : List Item) (i : ℕ) (item : Item) → i < length items → item ≡ get_or items i item → flat_map item_messages (take (i + 1) items) ≡ flat_map item_messages (take i items) ++ item_messages item
@@ -14,7 +15,7 @@ items_more items i item lt is =
     ∙ ap (λ (l : List BackMessage). flat_map item_messages (take i items) ++ l) (append-nil (item_messages item))
 
 pub loop-item-init : goal.loop-item-init
-loop-item-init c = sym (append-nil c.args.out.now) ∙ ap (λ (l : List ℕ). c.args.out.now ++ l) (sym no_bytes)
+loop-item-init c = sym (append-nil c.args.out.now) ∙ ap (λ (l : List ℕ). c.args.out.now ++ l) (sym bytes_of-none)
 
 pub loop-item-preserved : goal.loop-item-preserved
 loop-item-preserved c =

@@ -1,13 +1,13 @@
 use Rattle.std.proofs.Common.{◌≡◌, [], sym, subst, arith}
+use Rattle.std.proofs.lemmas.List.{nil_from_length}
 use Rattle.pm_words.specs.Options.{choice_of, chosen_of}
 use Rattle.pm_words.specs.Begins.{BeginsOptions, IsOptionMisfit}
 use Rattle.pm_words.proofs.Fronts.{at-not-chosen, ends, further, none-further}
-use Rattle.pm_words.proofs.Givens.{no_words}
 use Rattle.pm_words.proofs.fitting.«+option_misfit».Goals as goal
 
 pub returns-then-is_empty-clause-none : goal.returns-then-is_empty-clause-none
 returns-then-is_empty-clause-none t c =
-    let none : c.args.words.now ≡ [] = no_words c.args.words.now (grind (arith, c.is_empty.ensures, c.if-is_empty.true)) in
+    let none : c.args.words.now ≡ [] = nil_from_length c.args.words.now (grind (arith, c.is_empty.ensures, c.if-is_empty.true)) in
     subst (λ words. BeginsOptions c.args.verb (chosen_of c.args.before) words) (sym none) (ends c.args.verb (chosen_of c.args.before))
 
 pub returns-then-not-may_take-clause-found : goal.returns-then-not-may_take-clause-found

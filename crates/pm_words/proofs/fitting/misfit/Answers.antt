@@ -1,12 +1,13 @@
 use Rattle.std.proofs.Common.{◌≡◌, ◌-◌, [], ◌∷◌, length, take, drop, sym, ◌∙◌, ap, subst, arith}
+use Rattle.std.proofs.lemmas.List.{nil_from_length}
 use Rattle.pm_words.specs.Begins.{BeginsLine, BeginsOptions, IsOptionMisfit}
 use Rattle.pm_words.proofs.Fronts.{at-option, at-verb, none-fit, options-fit-too}
-use Rattle.pm_words.proofs.Givens.{cons_words, no_words}
+use Rattle.pm_words.proofs.Givens.{cons_words}
 use Rattle.pm_words.proofs.fitting.misfit.Goals as goal
 
 pub returns-in_default-clause-none : goal.returns-in_default-clause-none
 returns-in_default-clause-none c =
-    let none : c.args.words.now ≡ [] = no_words c.args.words.now (omega (arith, c.in_default.len_below)) in
+    let none : c.args.words.now ≡ [] = nil_from_length c.args.words.now (omega (arith, c.in_default.len_below)) in
     subst (λ words. BeginsLine words) (sym none) none-fit
 
 pub returns-in_default-verb_named-clause-found : goal.returns-in_default-verb_named-clause-found

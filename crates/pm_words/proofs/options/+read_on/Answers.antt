@@ -1,13 +1,14 @@
 use Rattle.std.proofs.Common.{◌≡◌, [], length, ap, sym, subst, arith}
+use Rattle.std.proofs.lemmas.List.{nil_from_length}
 use Rattle.pm_words.specs.declared.options.Settings.{Settings}
 use Rattle.pm_words.specs.Words.{Chosen}
 use Rattle.pm_words.specs.Options.{Leaves, choice_of, chosen_of}
-use Rattle.pm_words.proofs.Givens.{at-end, begun, no_words, none_map, some_map, step_back, step_on}
+use Rattle.pm_words.proofs.Givens.{at-end, begun, none_map, some_map, step_back, step_on}
 use Rattle.pm_words.proofs.options.«+read_on».Goals as goal
 
 pub returns-then-is_empty-clause-only : goal.returns-then-is_empty-clause-only
 returns-then-is_empty-clause-only t c = λ after leaves.
-    let none : c.args.words.now ≡ [] = no_words c.args.words.now (grind (arith, c.is_empty.ensures, c.if-is_empty.true)) in
+    let none : c.args.words.now ≡ [] = nil_from_length c.args.words.now (grind (arith, c.is_empty.ensures, c.if-is_empty.true)) in
     at-end c.args.verb (chosen_of c.args.before) after
     (subst (λ words. Leaves c.args.verb (chosen_of c.args.before) words after) none leaves)
 

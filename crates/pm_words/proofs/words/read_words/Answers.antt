@@ -1,9 +1,10 @@
 use Rattle.std.proofs.Common.{◌≡◌, ◌-◌, ℕ, List, ◌∷◌, Some, length, take, drop, sym, ◌∙◌, ap}
 use Rattle.std.specs.Borrow.{Bor}
 use Rattle.std.specs.Prelude.{option_map}
+use Rattle.std.proofs.lemmas.Option.{same_Some}
 use Rattle.pm_words.specs.Words.{command_of, conf_of, folder_of}
 use Rattle.pm_words.proofs.Givens.{cons_words}
-use Rattle.pm_words.proofs.Lines.{given, not_none, same_some}
+use Rattle.pm_words.proofs.Lines.{given, not_none}
 use Rattle.pm_words.proofs.words.read_words.Goals as goal
 
 pub returns-in_default-read_settings-clause-usage : goal.returns-in_default-read_settings-clause-usage
@@ -30,7 +31,7 @@ returns-in-Some-folder-clause-only c = λ command dir conf line.
     let asks : Some command ≡ Some c.in-Some-command.command = sym is.asks ∙ ap (command_of c.in-Some.verb) after ∙ sym c.command.ensures ∙ c.in-Some-command.is in
     let folder : Some dir ≡ Some c.in-Some-folder.dir.now =
     sym is.folder ∙ ap (folder_of c.in-Some.verb) after ∙ sym c.folder.ensures ∙ ap (option_map (λ (d : Bor (List ℕ)). d.now)) c.in-Some-folder.is in
-    (same_some command c.in-Some-command.command asks, same_some dir c.in-Some-folder.dir.now folder, is.conf_is ∙ ap conf_of after ∙ sym c.conf.ensures)
+    (same_Some command c.in-Some-command.command asks, same_Some dir c.in-Some-folder.dir.now folder, is.conf_is ∙ ap conf_of after ∙ sym c.conf.ensures)
 
 pub returns-in-None-clause-usage : goal.returns-in-None-clause-usage
 returns-in-None-clause-usage c = λ command dir conf line.

@@ -1,5 +1,6 @@
 use Rattle.std.proofs.Common.{ℕ, arith, sym, ap, ◌∙◌, subst}
 use Rattle.std.specs.Prelude.{false}
+use Rattle.std.proofs.lemmas.Option.{same_Some}
 use Rattle.pm_exit.specs.declared.child.Status.TheVariants.{Code}
 use Rattle.pm_exit.specs.declared.child.Kind.{Kind}
 use Rattle.pm_board.specs.declared.views.Work.TheVariants.{Inactive}
@@ -46,11 +47,11 @@ returns-clause-met g c =
         got.2,
         sym read.0 ∙ sym c.pid-pid.ensures,
         sym read.1 ∙ sym c.kind-kind.ensures,
-        sym got.4 ∙ ap g.J.Letter.told (steps.some_is _ _ out),
+        sym got.4 ∙ ap g.J.Letter.told (same_Some _ _ out),
         ap (λ m. post_of m.0) is
             ∙ ap (λ m. post_view (noted_start (post_of m.0).notes) (post_of m.0).past (Inactive o)) saw
             ∙ ap (λ v. post_view (noted_start (noted_load v.knows.notes word)) v.knows.past (Inactive o)) c.self.view_is,
         subst (λ (z : g.row.J.Denot × Kind). g.J.Letter.fits z.0 z.1) {x = (got.1, o.kind)} {y = (c.unwrap-job.result, c.kind-kind.result)}
-            (λ i. (steps.some_is _ _ out i, (sym read.1 ∙ sym c.kind-kind.ensures) i)) got.6,
+            (λ i. (same_Some _ _ out i, (sym read.1 ∙ sym c.kind-kind.ensures) i)) got.6,
       ),
     )

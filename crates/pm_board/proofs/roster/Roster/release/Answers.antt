@@ -1,5 +1,6 @@
 use Rattle.std.proofs.Common.{◌≡◌, ℕ, ◌<◌, [], ◌∷◌, ◌++◌, length, set, arith, refl, sym, ap, ◌∙◌, subst, length-set}
 use Rattle.std.specs.Prelude.{Bool, IsSome, None}
+use Rattle.std.proofs.lemmas.Option.{same_Some}
 use Rattle.pm_exit.specs.declared.child.Kind.{Kind}
 use Rattle.pm_exit.specs.declared.child.Status.{Status}
 use Rattle.pm_board.specs.declared.views.View.TheVariants.{Postmaster}
@@ -80,7 +81,7 @@ returns-clause-slot g c o status active sight =
     let out = steps.came_out _ _ _ _ _ got.3.1 c.exchange-mail.ensures.2 ∙ c.unwrap-job.ensures in
     let is = steps.exchanged _ _ _ _ _ _ got.3.1 c.exchange-mail.ensures.3 in
     let end = ap (λ m. roster_of m.0) c.store.ensures.2 ∙ ap (λ m. with_sight (roster_of m.0) k Unused) is ∙ steps.cleared d k _ _ short
-    ∙ ap (λ z. with_slot d k (slot_view ((slot_at d k).past ++ past_child o status active (g.J.Letter.told z) ∷ []) Unused) (noted_release d.notes o)) (steps.some_is _ _ out)
+    ∙ ap (λ z. with_slot d k (slot_view ((slot_at d k).past ++ past_child o status active (g.J.Letter.told z) ∷ []) Unused) (noted_release d.notes o)) (same_Some _ _ out)
     ∙ ap (λ z. with_slot z k (slot_view ((slot_at z k).past ++ past_child o status active (g.J.Letter.told c.unwrap-job.result) ∷ []) Unused) (noted_release z.notes o)) e in (
       c.pid-pid.ensures ∙ read.0,
       c.kind-kind.ensures ∙ read.1,
@@ -89,7 +90,7 @@ returns-clause-slot g c o status active sight =
       steps.became _ _ k _ _ c.requires.0 end,
       subst (λ (z : g.row.J.Denot × Kind × Status × Bool). g.J.Letter.comes_back z.0 z.1 z.2 z.3)
           {x = (got.3.0, o.kind, status, active)} {y = (c.unwrap-job.result, c.kind-kind.result, c.status-status.result, c.is_active-was_active.result)}
-          (λ i. (steps.some_is _ _ out i, sym (c.kind-kind.ensures ∙ read.1) i, sym (c.status-status.ensures ∙ read.2) i, sym (c.is_active-was_active.ensures ∙ read.3) i)) got.3.2,
+          (λ i. (same_Some _ _ out i, sym (c.kind-kind.ensures ∙ read.1) i, sym (c.status-status.ensures ∙ read.2) i, sym (c.is_active-was_active.ensures ∙ read.3) i)) got.3.2,
     )
 
 pub invariant_of-self : goal.invariant_of-self

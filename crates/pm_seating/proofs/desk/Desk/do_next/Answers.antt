@@ -1,12 +1,11 @@
 use Rattle.std.proofs.Common.{refl, sym, ap, subst, ◌∙◌, List, [], ◌∷◌, Ok}
-use Rattle.std.specs.Prelude.{◌≡◌, Option, Result, Some, is_some}
+use Rattle.std.specs.Prelude.{Option, Some, is_some}
 use Rattle.pm_state.specs.declared.event.PmEvent.{PmEvent}
 use Rattle.pm_state.specs.declared.action.Action.{Action}
 use Rattle.pm_state.specs.Journal.{without_first}
 use Rattle.pm_board.specs.Gate.{gate_of}
 use Rattle.pm_journal.specs.declared.act.Act.{Act}
-use Rattle.pm_journal.specs.declared.act.GenerationsSpent.{GenerationsSpent}
-use Rattle.pm_journal.specs.NextsLaws.{first_is, next_given, next_none, next_spent}
+use Rattle.pm_journal.specs.NextsLaws.{first_is, next_given, next_none, next_spent, same_act}
 use Rattle.pm_outside.specs.Added.{Added}
 use Rattle.pm_journal.specs.Standing.{entry_for}
 use Rattle.pm_journal.specs.Supervision.{at_work, standing, told}
@@ -17,9 +16,6 @@ use Rattle.pm_seating.proofs.Acting.{may_next, acted}
 use Rattle.pm_seating.proofs.Keeping.{adds_none, adds_tells, keeps_acted}
 use Rattle.pm_seating.proofs.Reaping.{reaped_acted}
 use Rattle.pm_seating.proofs.desk.Desk.do_next.Goals as goal
-
-same_act : (a b : Act) → (let r : Result (Option Act) GenerationsSpent = Ok (Some a) in r ≡ Ok (Some b)) → a ≡ b
-same_act a b is = cc
 
 pub perform-requires-clause-may : goal.perform-requires-clause-may
 perform-requires-clause-may g c =

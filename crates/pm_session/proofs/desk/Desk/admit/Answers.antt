@@ -1,4 +1,5 @@
 use Rattle.std.proofs.Common.{◌≡◌, ◌∙◌, [], ℕ, List, None, Some, Ok, Err, true, false, ap, sym, subst, refl, arith}
+use Rattle.std.proofs.lemmas.Bool.{true≢false}
 use Rattle.pm_admit.specs.declared.Cac.TheVariants as decisions
 use Rattle.pm_query.specs.Calls.{User, newcomer}
 use Rattle.pm_life.specs.Life.{Child, attached_in}
@@ -13,9 +14,6 @@ use Rattle.pm_life.specs.AttentionLaws.{cancels_then, hears_both}
 use Rattle.pm_session.proofs.Attentions.{cancels_at_gate, untried_still}
 use Rattle.pm_session.proofs.Sessions.{at_outside, told_away, turned_away, asked_for, asked_at_gate, met_now, met_still, served_since, lets_go_by, attached_outside, attached_inside, out_untried, out_refused}
 use Rattle.pm_session.proofs.desk.Desk.admit.Goals as goal
-
-true_false : true ≡ false → ⊥
-true_false e = cc
 
 pub returns-in_default : goal.returns-in_default
 returns-in_default g c =
@@ -99,7 +97,7 @@ returns-then-lets_go g c =
         attached.1,
         attached_inside attached.0.stage _ _ attached.3
             (subst (λ (exit : Cause). LetsGo exit (c.detach.new.self.child.child.attached ≡ None) (c.detach.new.self.child.child.attached ≡ Some generation)) (sym attached.1)
-            (lets_go_by c.attached-exit.result c.lets_go.result _ _ c.lets_go.ensures (λ goes. ap (λ (child : Child). child.attached) c.detach.ensures.child) (λ stays. absurd (true_false (sym c.if-lets_go.true ∙ stays))))),
+            (lets_go_by c.attached-exit.result c.lets_go.result _ _ c.lets_go.ensures (λ goes. ap (λ (child : Child). child.attached) c.detach.ensures.child) (λ stays. absurd (true≢false (sym c.if-lets_go.true ∙ stays))))),
         served_since g.S.Store.notes _ decisions.Ok generation gives attached.0 l0 _ _ _ _ _ at0 at1 c.self-in-Ok-attach.inside.line.child c.detach.new.self.child (rw (← c.self-in-Ok-attach.view_is) at asked) keeps c.detach.ensures.told gone,
       );
     }
@@ -130,7 +128,7 @@ returns-else-lets_go g c =
         attached.1,
         attached_inside attached.0.stage _ _ attached.3
             (subst (λ (exit : Cause). LetsGo exit (at2.child.attached ≡ None) (at2.child.attached ≡ Some generation)) (sym attached.1)
-            (lets_go_by c.attached-exit.result c.lets_go.result _ _ c.lets_go.ensures (λ goes. absurd (true_false (sym goes ∙ c.if-lets_go.false)))
+            (lets_go_by c.attached-exit.result c.lets_go.result _ _ c.lets_go.ensures (λ goes. absurd (true≢false (sym goes ∙ c.if-lets_go.false)))
             (λ stays. ap (λ (child : Child). child.attached) (c.attached-exit.ensures.child ∙ child)))),
         served_since g.S.Store.notes _ decisions.Ok generation gives attached.0 l0 l2 _ _ _ _ at0 at1 at2 at2 asked keeps refl serves,
       );
