@@ -35,8 +35,7 @@ use Rattle.pm_acts.specs.RulesLaws.{ask_says, says_ours, turn_rule}
 use Rattle.pm_once.proofs.Undisturbed.{asked_disturbed, turned_disturbed}
 use Rattle.pm_duties.specs.CalmLaws.{asked_stands, goes_on_so}
 use Rattle.pm_lines.specs.LogLaws.{said_same}
-use Rattle.pm_server.specs.SpansLaws.{spans_none}
-use Rattle.pm_segment.specs.MovesLaws.{moves_none}
+use Rattle.pm_segment.specs.MovesLaws.{moves_none, spans_none}
 use Rattle.pm_duties.specs.AuxiliariesLaws.{auxiliaries_still}
 
 -- ---- moments

@@ -15,8 +15,8 @@ use Rattle.pm_state.specs.Journal.{acts_of_call}
 use Rattle.pm_state.specs.Shows.{machine_after}
 use Rattle.pm_query.specs.declared.book.BookEntry.{BookEntry}
 use Rattle.pm_segment.specs.Children.{times_in}
-use Rattle.pm_segment.specs.Moves.{Moves, StaysUnread}
-use Rattle.pm_segment.specs.MovesLaws.{moves_none, moves_on}
+use Rattle.pm_segment.specs.Moves.{Moves, StaysUnread, Spans}
+use Rattle.pm_segment.specs.MovesLaws.{moves_none, moves_on, spans_none}
 use Rattle.pm_chain.specs.Laws.{StepsGoOn}
 use Rattle.pm_chain.specs.Steps.{ChildRun, Notes, Step, Runs, RunsOn, redo_end, journal_by, journal_of}
 use Rattle.pm_journal.specs.Laws.{GoesOnOverItsJournal, KeepsALegalJournal}
@@ -31,7 +31,6 @@ use Rattle.pm_acts.specs.Steps.{exit_of, IsFree}
 use Rattle.pm_acts.specs.Acts.{AreOurs, AsksAsDue, IsIdle, is_last_drawn}
 use Rattle.pm_once.specs.Goes.{Goes, IsRunning, StaysOpen}
 use Rattle.pm_server.specs.Journal.{IsMoment, asked_in}
-use Rattle.pm_server.specs.Spans.{Spans}
 use Rattle.pm_duties.specs.Auxiliaries.{AreThere, HasLess, heard_of}
 use Rattle.pm_duties.specs.declared.outcome.Outcome.{Outcome}
 use Rattle.pm_lines.specs.Log.{HasSaid, LogView}
@@ -47,7 +46,6 @@ use Rattle.pm_journal.specs.ToldLaws.{told_more}
 use Rattle.pm_acts.specs.RulesLaws.{exit_ours}
 use Rattle.pm_duties.specs.AuxiliariesLaws.{auxiliaries_without, off_startup, auxiliaries_beside}
 use Rattle.pm_lines.specs.LogLaws.{said_same}
-use Rattle.pm_server.specs.SpansLaws.{spans_moves, spans_none}
 use Rattle.pm_once.proofs.Undisturbed.{GoesOnDisk, ran_disturbed, ran_on_disturbed, taken_disturbed}
 use Rattle.pm_duties.specs.CalmLaws.{goes_on_so}
 use Rattle.pm_once.proofs.Knowing.{known_still}
@@ -96,7 +94,7 @@ times_of gives before at p k st a None g moment = (moment, tt)
 times_of gives before at p k st a (Some n) g moment = (moment, (tt, tt))
 
 moved_on : (from : ℕ) (run : ChildRun) (before now : View) → Moves run.noted before.store now.store → GoesOnDisk from before now
-moved_on from run before now moves = record { later = moves.later; counts = λ counted. (moves.counts from counted).counted }
+moved_on from run before now moves = record { later = moves.spans.later; counts = λ counted. (moves.spans.counts from counted).counted }
 
 came_on : (run : ChildRun) (before mid now : Option Outcome) → now ≡ mid → ComesTo run before mid → ComesTo run before now
 came_on run before mid now same came = subst (λ (o : Option Outcome). ComesTo run before o) (sym same) came
@@ -145,7 +143,7 @@ ran_noted goes work legal gives run at before mid now running idle had ran noted
                   (same_owes (asked_in (journal_of earlier)) before.listens s (made (exiting exit at s) s) left.last_pid left.owes is.asks)));
               acts = subst (AreOurs (is_some now.work.standing.machine.shutdown)) (sym (ap (λ (t : Standing). t.due) standing ∙ left.due)) (exit_ours (is_some now.work.standing.machine.shutdown) run.kind s.machine _ run.was_active);
               causes = caused_run earlier run when before.auxiliaries now.auxiliaries before.outcome now.outcome ran.told (ap heard_of noted.auxiliaries ∙ ran.less.heard) (came_on run before.outcome mid.outcome now.outcome noted.outcome ran.came) is.causes;
-              disturbed = ran_disturbed outset.faults earlier run when when before mid now (moved_on outset.faults run before now store) noted.store.moves.later (record {
+              disturbed = ran_disturbed outset.faults earlier run when when before mid now (moved_on outset.faults run before now store) noted.store.moves.spans.later (record {
                 told = ran.told;
                 less = ran.less;
                 had = had;
@@ -159,7 +157,7 @@ ran_noted goes work legal gives run at before mid now running idle had ran noted
           each = times_of gives s.moment when run.pid run.kind run.status run.was_active run.kept run.generation moment;
           last = subst (λ (t : Standing). (t.moment ≡ s.moment) ⊎ gives t.moment) (sym standing) (subst (λ (n : ℕ). (n ≡ s.moment) ⊎ gives n) (sym left.moment) (as_last gives s.moment when moment));
         };
-        store = subst (λ (l : List BookEntry). Spans l before.store now.store) (sym (append-nil run.noted)) (spans_moves run.noted before.store now.store store);
+        store = subst (λ (l : List BookEntry). Spans l before.store now.store) (sym (append-nil run.noted)) store.spans;
         still = λ none. store.generation;
         unread = λ none. subst (λ (l : List BookEntry). StaysUnread l before.store now.store) (sym (append-nil run.noted)) store.unread;
         knows = λ from known. known_still from mid now noted.outcome noted.store (ran.knows from known);
@@ -213,7 +211,7 @@ ran_on goes legal gives run before mid now running rests ran noted =
           };
       journal = subst (λ (t : Option (List PmEvent)). Added [] before.work.told t) (sym told) (added_none before.work.told);
       times = record { each = tt; last = inl (ap (λ (t : Standing). t.moment) standing) };
-      store = subst (λ (l : List BookEntry). Spans l before.store now.store) (sym (append-nil run.noted)) (spans_moves run.noted before.store now.store store);
+      store = subst (λ (l : List BookEntry). Spans l before.store now.store) (sym (append-nil run.noted)) store.spans;
       still = λ none. store.generation;
       unread = λ none. subst (λ (l : List BookEntry). StaysUnread l before.store now.store) (sym (append-nil run.noted)) store.unread;
       knows = λ from known. known_still from mid now noted.outcome noted.store (ran.knows from known);

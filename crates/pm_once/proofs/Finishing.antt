@@ -27,10 +27,9 @@ use Rattle.pm_once.proofs.Going.{does_any, does_then}
 use Rattle.pm_acts.specs.StepsLaws.{serves_nothing}
 use Rattle.pm_acts.specs.NextsLaws.{same_work}
 use Rattle.pm_acts.specs.RulesLaws.{ask_says}
-use Rattle.pm_server.specs.SpansLaws.{spans_none}
 use Rattle.pm_once.proofs.Undisturbed.{disturbed_on, less_follows}
 use Rattle.pm_duties.specs.CalmLaws.{no_more, still_less}
-use Rattle.pm_segment.specs.MovesLaws.{moves_none}
+use Rattle.pm_segment.specs.MovesLaws.{moves_none, spans_none}
 
 never_err : {E : Type 0} (e : E) (r : Result (Unit {0}) E) → r ≡ Err e → IsOk r → ⊥
 never_err e (Ok done) is ok = cc

@@ -7,11 +7,10 @@ use Rattle.pm_query.specs.declared.book.BookEntry.{BookEntry}
 use Rattle.pm_chain.specs.Steps.{Step, Notes, book_of, journal_of}
 use Rattle.pm_chain.specs.FoldsLaws.{journal-append}
 use Rattle.pm_outside.specs.Added.{Added}
-use Rattle.pm_segment.specs.Moves.{StaysUnread}
-use Rattle.pm_segment.specs.MovesLaws.{moves_none, unread_on}
+use Rattle.pm_segment.specs.Moves.{StaysUnread, Spans}
+use Rattle.pm_segment.specs.MovesLaws.{moves_none, unread_on, spans_none, spans_on}
 use Rattle.pm_once.specs.Goes.{Does, Goes, IsAt, IsEndOf, IsOpen, StaysOpen}
 use Rattle.pm_acts.specs.Steps.{EndsWith, IsNoRenewal}
-use Rattle.pm_server.specs.Spans.{Spans}
 use Rattle.pm_server.specs.Journal.{Times}
 use Rattle.pm_once.specs.View.{View}
 use Rattle.pm_server.specs.declared.end.ServerEnd.{ServerEnd}
@@ -19,7 +18,6 @@ use Rattle.pm_server.specs.declared.end.ServerEnd.TheVariants.{Clean, Abnormal, 
 use Rattle.pm_server.specs.declared.end.Why.TheVariants.{AfterCrash, StartupFailed, RestartOff, GenerationsSpent}
 use Rattle.pm_outside.specs.AddedLaws.{added_both, added_none}
 use Rattle.pm_server.specs.JournalLaws.{times_any, times_none, times_on}
-use Rattle.pm_server.specs.SpansLaws.{spans_none, spans_on}
 use Rattle.pm_acts.specs.StepsLaws.{book-append, serves_nothing, serves_both}
 
 pub goes_none : (gives : ℕ → Type 0) (v : View) → Goes gives [] v v

@@ -21,7 +21,7 @@ use Rattle.pm_duties.specs.OutcomesLaws.{come_still, refused_now, reads_so, clos
 
 pub known_still : (from : ℕ) (before now : View) → now.outcome ≡ before.outcome → Stays before.store now.store → Knows from before → Knows from now
 known_still from before now same stays known = record {
-  counted = (stays.moves.counts from known.counted).counted;
+  counted = (stays.moves.spans.counts from known.counted).counted;
   come = subst (λ (o : Option Outcome). HasComeTo o from now.store) (sym same) (come_still before.outcome from before.store now.store stays known.come);
 }
 
@@ -29,7 +29,7 @@ known_still from before now same stays known = record {
 
 pub known_moved : (from : ℕ) (noted : List BookEntry) (before now : View) → now.outcome ≡ None → Moves noted before.store now.store → Knows from before → Knows from now
 known_moved from noted before now forgotten moves known = record {
-  counted = (moves.counts from known.counted).counted;
+  counted = (moves.spans.counts from known.counted).counted;
   come = subst (λ (o : Option Outcome). HasComeTo o from now.store) (sym forgotten) tt;
 }
 
@@ -37,7 +37,7 @@ pub known_refused : (from pid generation : ℕ) (why : Option StartWhy) (noted :
     → ((fault : RedoFault) → why ≡ Some (Redo fault) → IfSome before.store.files (IsReason fault))
     → ((fault : RedoFault) → why ≡ Some (Redo fault) → fault ≢ redo.Disk → now.store.files ≡ before.store.files) → ((fault : RedoFault) → why ≡ Some (Redo fault) → now.store.live ≡ None) → Knows from before → Knows from now
 known_refused from pid generation why noted before now is notes moves reason unread shut known =
-    let counts = moves.counts from known.counted in
+    let counts = moves.spans.counts from known.counted in
     record {
       counted = counts.counted;
       come = subst (λ (o : Option Outcome). HasComeTo o from now.store) (sym is)
@@ -47,7 +47,7 @@ known_refused from pid generation why noted before now is notes moves reason unr
 pub known_closed : (from pid generation : ℕ) (closed : Its) (noted : List BookEntry) (before now : View) → now.outcome ≡ Some (Closed closed) → CloseNotes pid generation closed noted → Moves noted before.store now.store
     → (closed ≡ Made → (epoch : ℕ) × IsCleanAt epoch now.store.live now.store.rows now.store.files) → (closed ≡ Full → IfSome now.store.files (λ files. ∥ IsAtLastEpoch files ∥₁)) → Knows from before → Knows from now
 known_closed from pid generation closed noted before now is notes moves clean full known =
-    let counts = moves.counts from known.counted in
+    let counts = moves.spans.counts from known.counted in
     record {
       counted = counts.counted;
       come = subst (λ (o : Option Outcome). HasComeTo o from now.store) (sym is) (closed_now from pid generation closed noted now.store notes counts.each clean full);

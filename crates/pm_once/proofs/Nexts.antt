@@ -14,7 +14,7 @@ use Rattle.pm_supervisor.specs.declared.Ending.TheVariants as endings
 use Rattle.pm_query.specs.declared.book.BookEntry.{BookEntry}
 use Rattle.pm_query.specs.declared.book.BookEntry.TheVariants.{Gone, Opened}
 use Rattle.pm_segment.specs.Children.{AreOthers, once, times_in}
-use Rattle.pm_segment.specs.Moves.{Moves}
+use Rattle.pm_segment.specs.Moves.{Moves, Spans}
 use Rattle.pm_segment.specs.Redos.{is_broken}
 use Rattle.pm_chain.specs.Laws.{StepsGoOn}
 use Rattle.pm_chain.specs.Steps.{Step, Notes, Renews, MayFollow, book_of, journal_of}
@@ -25,7 +25,6 @@ use Rattle.pm_journal.specs.Stands.{AtWork, IsSettled, Stands}
 use Rattle.pm_acts.specs.Acts.{AreSays, LogBehind, AreOurs, AsksAsDue}
 use Rattle.pm_once.specs.Calls.{DoesNext, Performs, end_by, outcome}
 use Rattle.pm_duties.specs.Outcomes.{Stays, end_in, HasComeTo}
-use Rattle.pm_server.specs.Spans.{HasRenewed, Spans}
 use Rattle.pm_once.specs.Knows.{Knows}
 use Rattle.pm_once.specs.Goes.{Does, Goes, IsAt, IsEndOf, IsOpen, IsRunning, Outset, StaysOpen}
 use Rattle.pm_acts.specs.Steps.{IsFree}
@@ -46,7 +45,8 @@ use Rattle.pm_server.specs.JournalLaws.{asked_in-append}
 use Rattle.pm_once.proofs.Going.{goes_none, stays_none}
 use Rattle.pm_acts.specs.StepsLaws.{serves_nothing}
 use Rattle.pm_once.proofs.Knowing.{known_still}
-use Rattle.pm_server.specs.SpansLaws.{spans_moves, spans_renewal}
+use Rattle.pm_server.specs.Renewed.{HasRenewed}
+use Rattle.pm_server.specs.RenewedLaws.{spans_renewal}
 use Rattle.pm_once.proofs.Undisturbed.{GoesOnDisk, acted_disturbed, renewed_disturbed}
 use Rattle.pm_duties.specs.CalmLaws.{shutdown_done}
 use Rattle.pm_journal.specs.NextsLaws.{first_is, shorter}
@@ -74,7 +74,7 @@ kept_store before now kept = record {
   lost = kept.1;
   store = kept.2;
   knows = λ from known. record {
-    counted = (kept.2.counts from known.counted).counted;
+    counted = (kept.2.spans.counts from known.counted).counted;
     come = subst (λ (o : Option Outcome). HasComeTo o from now.store) (sym kept.0) tt;
   };
 }
@@ -90,7 +90,7 @@ pub record IsActed (a : Action) (before now : View) : Type 0 where
 
 -- its disk has gone on
 moved_disk : (from : ℕ) (before now : View) → Moves [] before.store now.store → GoesOnDisk from before now
-moved_disk from before now moves = record { later = moves.later; counts = λ counted. (moves.counts from counted).counted }
+moved_disk from before now moves = record { later = moves.spans.later; counts = λ counted. (moves.spans.counts from counted).counted }
 
 -- the steps behind the entry
 pub at_entry : StepsGoOn → GoesOnOverItsJournal → (a : Action) (before now : View) → IsActed a before now → now.lost ≡ before.lost → (now.outcome ≡ before.outcome) ⊎ (now.outcome ≡ None) → ((from : ℕ) → GoesOnDisk from before now)
@@ -149,7 +149,7 @@ does_one goes work a result before now running acted kept settled on ends =
       at = λ outset earlier at opened. at_entry goes work a before now acted kept.lost kept.outcome (λ from. moved_disk from before now kept.store) outset earlier at opened;
       journal = acted.told;
       times = record { each = no_moment asked a s rest (IsMoment (λ at. ⊥) s.moment) ours; last = inl same_moment };
-      store = spans_moves [] before.store now.store kept.store;
+      store = kept.store.spans;
       still = λ none. kept.store.generation;
       unread = λ none. kept.store.unread;
       knows = kept.knows;

@@ -71,5 +71,5 @@ pub session_sound : (key limit : ℕ) (gives : ℕ → Type 0) (from : ℕ) (c :
 session_sound key limit gives from c before now served store counted = elim (fine_by c.ending.cause served.alone.cause) [
   | inr fine ↦ inl (λ is. subst (λ (x : Cause). ((is_exit_0 (status_by x) || is_exit_1 (status_by x)) && not (is_panic x)) ≡ true) (sym served.alone.exit) fine)
   | inl panicked ↦ inr (panic_rose from now.store.faults key c served.session.came_in served.session.whole served.session.noted panicked served.session.text
-      (subst (λ (l : List BookEntry). All (IsShown from now.store.faults) l) (same_Some c.noted served.session.noted served.session.entries) (store.counts from counted).each))
+      (subst (λ (l : List BookEntry). All (IsShown from now.store.faults) l) (same_Some c.noted served.session.noted served.session.entries) (store.spans.counts from counted).each))
 ]

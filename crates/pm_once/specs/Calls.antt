@@ -24,10 +24,10 @@ use Rattle.pm_duties.specs.Auxiliaries.{AreThere, HasLess, auxiliaries_after, he
 use Rattle.pm_duties.specs.AuxiliaryRuns.{IsRunAs}
 use Rattle.pm_once.specs.Knows.{Knows}
 use Rattle.pm_duties.specs.Calm.{IsFineExit}
-use Rattle.pm_server.specs.Spans.{HasRenewed}
 use Rattle.pm_once.specs.View.{View}
 use Rattle.pm_server.specs.declared.end.ServerEnd.{ServerEnd}
 use Rattle.pm_server.specs.declared.end.ServerEnd.TheVariants.{NoMemory}
+use Rattle.pm_server.specs.Renewed.{HasRenewed}
 use Rattle.pm_once.specs.declared.admitted.Admitted.{Admitted}
 use Rattle.pm_duties.specs.Outcomes.{end_in, Stays, ComesTo}
 

@@ -7,14 +7,13 @@ use Rattle.pm_supervisor.specs.Steps.{Trace}
 use Rattle.pm_state.specs.declared.action.Action.TheVariants as act
 use Rattle.pm_state.specs.declared.event.PmEvent.TheVariants as entry
 use Rattle.pm_segment.specs.Children.{times_in}
-use Rattle.pm_segment.specs.Moves.{StaysUnread}
+use Rattle.pm_segment.specs.Moves.{StaysUnread, Spans}
 use Rattle.pm_segment.specs.Redos.{is_broken}
 use Rattle.pm_chain.specs.Steps.{Step, AreSteps, book_of, journal_of, lost_in}
 use Rattle.pm_outside.specs.Added.{Added}
 use Rattle.pm_journal.specs.Standing.{first_due}
 use Rattle.pm_journal.specs.Stands.{Stands}
 use Rattle.pm_server.specs.Journal.{Times, asked_in}
-use Rattle.pm_server.specs.Spans.{Spans}
 use Rattle.pm_duties.specs.Auxiliaries.{AreThere}
 use Rattle.pm_once.specs.Knows.{Knows}
 use Rattle.pm_lines.specs.Log.{HasSaid, LogView}

@@ -126,26 +126,28 @@ pub checkpoints : Laws → (before now : Moment) (live new : Live) (pid : ℕ) (
     → new.closed ≡ live.closed || clean → new.log.epoch ≡ live.log.epoch + 1 → new.mark ≡ now.ticks → ∥ Rests now.live now.rows now.staged now.files (now.images now.ticks) ∥₁ → Attends pid before.book
     → Added (CheckpointEnded pid true clean ∷ []) before.book now.book → Moves (CheckpointEnded pid true clean ∷ []) before now
 checkpoints laws before now live new pid clean moves whole end closed next mark rests inside notes = record {
-  notes = notes;
+  spans = record {
+    notes = notes;
+    time = moves.time;
+    later = moves.later;
+    counts = λ from counted. record {
+      counted = counted_now from before.faults now.faults 0 before.live now.live new moves.later moves.read_now (subst (IsShownAt from now.faults) (sym whole) tt) counted;
+      each = no_fault_shown from now.faults entry tt;
+    };
+    waits = never_waits (entry ∷ []) before now live moves.read notes moves.tells;
+    goes_on = λ origin base told. gone_read (entry ∷ []) before now live origin base moves.read moves.generation notes moves.tells
+        (λ book is gone. (new, goes base book is gone))
+        (λ book seen tells gone held. moved_held laws origin base before now live new book entry seen tells moves (inr mark) gone refl (λ start mark. tt) (λ t. refl)
+        (anchored_whole now (history_of base book) new moves.read_now moves.unstaged_now (moves.rows ∙ gone.rows_are) (all_flushed base before now live new book moves gone) rests) held) told;
+  };
   generation = moves.generation;
   commits = moves.commits;
   attends = nobody_moves (entry ∷ []) before now moves.inside (λ who n. refl);
-  time = moves.time;
-  later = moves.later;
-  counts = λ from counted. record {
-    counted = counted_now from before.faults now.faults 0 before.live now.live new moves.later moves.read_now (subst (IsShownAt from now.faults) (sym whole) tt) counted;
-    each = no_fault_shown from now.faults entry tt;
-  };
   unread = unread_never (entry ∷ []) before now live new moves.read moves.read_now;
   staged = up_to_more whole_of before.live now.live live new moves.read moves.read_now (omega (arith, moves.front_now));
   flushed = up_to_more flushed_of before.live now.live live new moves.read moves.read_now (omega (arith, moves.count));
   began = began_on before.live now.live live new moves.read moves.read_now moves.first;
   ahead = ahead_more before.live now.live live new 1 moves.read moves.read_now moves.first (λ unbroken. (moves.unbroken, next));
-  waits = never_waits (entry ∷ []) before now live moves.read notes moves.tells;
-  goes_on = λ origin base told. gone_read (entry ∷ []) before now live origin base moves.read moves.generation notes moves.tells
-      (λ book is gone. (new, goes base book is gone))
-      (λ book seen tells gone held. moved_held laws origin base before now live new book entry seen tells moves (inr mark) gone refl (λ start mark. tt) (λ t. refl)
-      (anchored_whole now (history_of base book) new moves.read_now moves.unstaged_now (moves.rows ∙ gone.rows_are) (all_flushed base before now live new book moves gone) rests) held) told;
 }
   where
     entry : BookEntry
@@ -180,27 +182,29 @@ pub checkpoint_fails : Laws → (before now : Moment) (live new : Live) (pid sin
     → Rose before.faults now.faults → now.faults < 2 ^ 64 → Attends pid before.book
     → Added (Broke pid since now.faults ∷ []) before.book now.book → Moves (Broke pid since now.faults ∷ []) before now
 checkpoint_fails laws before now live new pid since moves broke closed mark fault rose small inside notes = record {
-  notes = notes;
+  spans = record {
+    notes = notes;
+    time = moves.time;
+    later = moves.later;
+    counts = λ from counted.
+        let risen : Rose from now.faults = omega (arith, counted.later, rose) in record {
+          counted = counted_now from before.faults now.faults 0 before.live now.live new moves.later moves.read_now (subst (IsShownAt from now.faults) (sym broke) risen) counted;
+          each = no_fault_shown from now.faults entry risen;
+        };
+    waits = never_waits (entry ∷ []) before now live moves.read notes moves.tells;
+    goes_on = λ origin base told. gone_read (entry ∷ []) before now live origin base moves.read moves.generation notes moves.tells
+        (λ book is gone. (new, goes base book is gone))
+        (λ book seen tells gone held. moved_held laws origin base before now live new book entry seen tells moves (inl mark) gone refl (λ start mark. tt) (λ t. refl)
+        (anchored_broken now (history_of base book) new since moves.read_now broke) held) told;
+  };
   generation = moves.generation;
   commits = moves.commits;
   attends = nobody_moves (entry ∷ []) before now moves.inside (λ who n. refl);
-  time = moves.time;
-  later = moves.later;
-  counts = λ from counted.
-      let risen : Rose from now.faults = omega (arith, counted.later, rose) in record {
-        counted = counted_now from before.faults now.faults 0 before.live now.live new moves.later moves.read_now (subst (IsShownAt from now.faults) (sym broke) risen) counted;
-        each = no_fault_shown from now.faults entry risen;
-      };
   unread = unread_never (entry ∷ []) before now live new moves.read moves.read_now;
   staged = up_to_more whole_of before.live now.live live new moves.read moves.read_now (omega (arith, moves.front_now));
   flushed = up_to_more flushed_of before.live now.live live new moves.read moves.read_now (omega (arith, moves.count));
   began = began_on before.live now.live live new moves.read moves.read_now moves.first;
   ahead = ahead_more before.live now.live live new 0 moves.read moves.read_now moves.first (λ unbroken. absurd (some_none since (sym broke ∙ unbroken)));
-  waits = never_waits (entry ∷ []) before now live moves.read notes moves.tells;
-  goes_on = λ origin base told. gone_read (entry ∷ []) before now live origin base moves.read moves.generation notes moves.tells
-      (λ book is gone. (new, goes base book is gone))
-      (λ book seen tells gone held. moved_held laws origin base before now live new book entry seen tells moves (inl mark) gone refl (λ start mark. tt) (λ t. refl)
-      (anchored_broken now (history_of base book) new since moves.read_now broke) held) told;
 }
   where
     entry : BookEntry
@@ -277,31 +281,33 @@ pub skips : PastStays → PresentIsWhole → (at : Moment) (book_now : Option (L
     → Moves (CheckpointEnded pid false clean ∷ []) at (with_skip book_now at)
 skips past present_whole at book_now pid clean unread inside notes =
     let entry : BookEntry = CheckpointEnded pid false clean in record {
-      notes = notes;
+      spans = record {
+        notes = notes;
+        time = time_still at.ticks at.images;
+        later = omega arith;
+        counts = λ from counted. record { counted = counted; each = no_fault_shown from at.faults entry tt };
+        waits = λ origin told. inl (waited_on (entry ∷ []) at (with_skip book_now at) origin notes (λ none. none) (λ book is waited.
+            waited_push origin (with_skip book_now at) book entry waited.unread waited.begun (attended_still at.inside book entry (λ who n. refl) waited.attended) waited.legal waited.fresh waited.no_redo waited.unredone waited.none_here waited.no_ticks tt
+            (λ base same. record { attached = attends_in pid at.book book is inside; made = sym (ap is_some waited.unredone) })
+            (λ base. refl) waited.generation refl refl
+            (any_push ends_checkpoint (present book) entry at.skipped true waited.skipped refl ∙ or-true at.skipped) (any_still ends_cleanly (present book) entry false waited.unclosed refl)
+            (λ start mark. tt) waited.no_time waited.no_needs waited.counted.later waited.counted.each waited.reached
+            (breaks_push book (entry ∷ []) (at.files ≡ origin.files) waited.reads)) (λ book seen tells waited opening. opening) told);
+        goes_on = λ origin base told. gone_unread (entry ∷ []) at (with_skip book_now at) origin base unread refl notes (λ none. none)
+            (λ book is sure renewed held. inr (renewed_push base at (with_skip book_now at) book entry renewed.unread refl (attended_still at.inside book entry (λ who n. refl) renewed.attended) tt
+            (record { attached = attends_in pid at.book book is inside; made = sym (ap is_some renewed.unredone) }) (λ n. refl) refl refl
+            (any_push ends_checkpoint (present book) entry at.skipped true renewed.skipped refl ∙ or-true at.skipped) (any_still ends_cleanly (present book) entry false renewed.unclosed refl)
+            refl renewed.in_time renewed.counted.later renewed.counted.each renewed))
+            (λ book seen tells renewed held. held_skip past present_whole origin base at book_now book pid clean (ap (λ (r : Option ℕ). history_after r (history_of base book) entry) renewed.unredone) held) told;
+      };
       generation = refl;
       commits = refl;
       attends = nobody_moves (entry ∷ []) at (with_skip book_now at) refl (λ who n. refl);
-      time = time_still at.ticks at.images;
-      later = omega arith;
-      counts = λ from counted. record { counted = counted; each = no_fault_shown from at.faults entry tt };
       unread = unread_still (entry ∷ []) at (with_skip book_now at) refl refl refl;
       staged = λ front is. is;
       flushed = λ front is. is;
       began = λ first is. is;
       ahead = λ many is. ahead_still (entry ∷ []) many at.live refl is;
-      waits = λ origin told. inl (waited_on (entry ∷ []) at (with_skip book_now at) origin notes (λ none. none) (λ book is waited.
-          waited_push origin (with_skip book_now at) book entry waited.unread waited.begun (attended_still at.inside book entry (λ who n. refl) waited.attended) waited.legal waited.fresh waited.no_redo waited.unredone waited.none_here waited.no_ticks tt
-          (λ base same. record { attached = attends_in pid at.book book is inside; made = sym (ap is_some waited.unredone) })
-          (λ base. refl) waited.generation refl refl
-          (any_push ends_checkpoint (present book) entry at.skipped true waited.skipped refl ∙ or-true at.skipped) (any_still ends_cleanly (present book) entry false waited.unclosed refl)
-          (λ start mark. tt) waited.no_time waited.no_needs waited.counted.later waited.counted.each waited.reached
-          (breaks_push book (entry ∷ []) (at.files ≡ origin.files) waited.reads)) (λ book seen tells waited opening. opening) told);
-      goes_on = λ origin base told. gone_unread (entry ∷ []) at (with_skip book_now at) origin base unread refl notes (λ none. none)
-          (λ book is sure renewed held. inr (renewed_push base at (with_skip book_now at) book entry renewed.unread refl (attended_still at.inside book entry (λ who n. refl) renewed.attended) tt
-          (record { attached = attends_in pid at.book book is inside; made = sym (ap is_some renewed.unredone) }) (λ n. refl) refl refl
-          (any_push ends_checkpoint (present book) entry at.skipped true renewed.skipped refl ∙ or-true at.skipped) (any_still ends_cleanly (present book) entry false renewed.unclosed refl)
-          refl renewed.in_time renewed.counted.later renewed.counted.each renewed))
-          (λ book seen tells renewed held. held_skip past present_whole origin base at book_now book pid clean (ap (λ (r : Option ℕ). history_after r (history_of base book) entry) renewed.unredone) held) told;
     }
 
 -- ---- what the log's checkpoint says, for rows and count

@@ -149,23 +149,25 @@ held_follows past present_whole origin base before now book unread time follows 
 -- it was refused, and the files read as they did
 pub reads_nothing : PastStays → PresentIsWhole → (before now : Moment) → Reads before now → Added [] before.book now.book → now.files ≡ before.files → Moves [] before now
 reads_nothing past present_whole before now reads notes same = record {
-  notes = notes;
+  spans = record {
+    notes = notes;
+    time = reads.time;
+    later = reads.later;
+    counts = λ from counted. record { counted = counts_unread from before.faults now.faults before.live now.live reads.later reads.unread_now counted; each = All-nil (IsShown from now.faults) };
+    waits = λ origin told. inl (waited_on [] before now origin notes reads.tells (λ book is waited. subst (HasWaited origin now) (sym (append-nil book)) (waits origin book waited)) (opening_read before now origin reads) told);
+    goes_on = λ origin base told. gone_unread [] before now origin base reads.unread reads.generation notes reads.tells
+        (λ book is sure renewed held. inr (subst (HasRenewed base now) (sym (append-nil book)) (renews base book renewed)))
+        (λ book seen tells renewed held. subst (HasHeld origin base now) (sym (append-nil book))
+        (held_follows past present_whole origin base before now book reads.unread_now reads.time (follows_in before now seen tells reads) held)) told;
+  };
   generation = reads.generation;
   commits = reads.commits;
   attends = nobody_moves [] before now reads.inside (λ who n. refl);
-  time = reads.time;
-  later = reads.later;
-  counts = λ from counted. record { counted = counts_unread from before.faults now.faults before.live now.live reads.later reads.unread_now counted; each = All-nil (IsShown from now.faults) };
   unread = unread_still [] before now refl (ap is_some (reads.unread_now ∙ sym reads.unread)) same;
   staged = up_to_unread whole_of before.live now.live reads.unread;
   flushed = up_to_unread flushed_of before.live now.live reads.unread;
   began = began_unread before.live now.live reads.unread;
   ahead = ahead_unread [] before.live now.live reads.unread reads.unread_now refl;
-  waits = λ origin told. inl (waited_on [] before now origin notes reads.tells (λ book is waited. subst (HasWaited origin now) (sym (append-nil book)) (waits origin book waited)) (opening_read before now origin reads) told);
-  goes_on = λ origin base told. gone_unread [] before now origin base reads.unread reads.generation notes reads.tells
-      (λ book is sure renewed held. inr (subst (HasRenewed base now) (sym (append-nil book)) (renews base book renewed)))
-      (λ book seen tells renewed held. subst (HasHeld origin base now) (sym (append-nil book))
-      (held_follows past present_whole origin base before now book reads.unread_now reads.time (follows_in before now seen tells reads) held)) told;
 }
   where
     reads_still : (book : List BookEntry) (files files_now first : Option Files) → files_now ≡ files → (has_break book ≡ true) ⊎ (files ≡ first) → (has_break book ≡ true) ⊎ (files_now ≡ first)
@@ -215,46 +217,48 @@ pub reads_fault : PastStays → PresentIsWhole → (before now : Moment) (pid si
     → Moves (Broke pid since now.faults ∷ []) before now
 reads_fault past present_whole before now pid since reads rose small inside notes =
     let entry : BookEntry = Broke pid since now.faults in record {
-      notes = notes;
+      spans = record {
+        notes = notes;
+        time = reads.time;
+        later = reads.later;
+        counts = λ from counted. record {
+          counted = counts_unread from before.faults now.faults before.live now.live reads.later reads.unread_now counted;
+          each = no_fault_shown from now.faults entry (omega (arith, counted.later, rose));
+        };
+        waits = λ origin told. inl (waited_on (entry ∷ []) before now origin notes reads.tells (λ book is waited.
+            let new = tells_new origin.faults before.faults now.faults (faults_of book) waited.counted.later waited.counted.each rose reads.later small in
+            waited_push origin now book entry reads.unread_now (subst (λ (n : ℕ). 1 ≤ n) (sym reads.generation) waited.begun)
+            (subst (λ (l : List ℕ). IsAttendedBy l (book ++ entry ∷ [])) (sym reads.inside) (attended_still before.inside book entry (λ who n. refl) waited.attended)) waited.legal waited.fresh waited.no_redo waited.unredone waited.none_here waited.no_ticks tt
+            (λ base same. record {
+              attached = attends_in pid before.book book is inside;
+              fault = subst (λ (f : Option (List (ℕ × ℕ))). TellsFault base book f since now.faults) (sym waited.none_here)
+                  (subst (λ (n : ℕ). ((n < now.faults) × All (λ (fault : ℕ × ℕ). fault.1 < now.faults) (faults_of book)) ⊎ (now.faults ≡ 2 ^ 64 - 1)) (sym same) new);
+            })
+            (λ base. refl) (waited.generation ∙ sym reads.generation) refl refl
+            (any_still ends_checkpoint (present book) entry now.skipped (waited.skipped ∙ sym reads.skipped) refl) (any_still ends_cleanly (present book) entry false waited.unclosed refl)
+            (λ start mark. tt) waited.no_time waited.no_needs (omega (arith, waited.counted.later, reads.later)) (each_push before.faults now.faults since (faults_of book) reads.later waited.counted.each)
+            (omega (arith, waited.reached, reads.time.later)) (inl (break_behind book (entry ∷ []) refl))) (opening_read before now origin reads) told);
+        goes_on = λ origin base told. gone_unread (entry ∷ []) before now origin base reads.unread reads.generation notes reads.tells
+            (λ book is sure renewed held.
+            let new = tells_new base.faults before.faults now.faults (faults_of book) renewed.counted.later renewed.counted.each rose reads.later small in
+            inr (renewed_push base before now book entry reads.unread_now reads.generation
+            (subst (λ (l : List ℕ). IsAttendedBy l (book ++ entry ∷ [])) (sym reads.inside) (attended_still before.inside book entry (λ who n. refl) renewed.attended)) tt
+            (record { attached = attends_in pid before.book book is inside; fault = subst (λ (f : Option (List (ℕ × ℕ))). TellsFault base book f since now.faults) (sym renewed.none_here) new })
+            (λ n. refl) refl refl
+            (any_still ends_checkpoint (present book) entry now.skipped (renewed.skipped ∙ sym reads.skipped) refl) (any_still ends_cleanly (present book) entry false renewed.unclosed refl)
+            refl (omega (arith, renewed.in_time, reads.time.later)) (omega (arith, renewed.counted.later, reads.later)) (each_push before.faults now.faults since (faults_of book) reads.later renewed.counted.each) renewed))
+            (λ book seen tells renewed held.
+            held_alone past present_whole origin base now book entry (ap (λ (r : Option ℕ). history_after r (history_of base book) entry) renewed.unredone) (λ start mark. tt) (λ t. refl)
+            (held_follows past present_whole origin base before now book reads.unread_now reads.time (follows_in before now seen tells reads) held)) told;
+      };
       generation = reads.generation;
       commits = reads.commits;
       attends = nobody_moves (entry ∷ []) before now reads.inside (λ who n. refl);
-      time = reads.time;
-      later = reads.later;
-      counts = λ from counted. record {
-        counted = counts_unread from before.faults now.faults before.live now.live reads.later reads.unread_now counted;
-        each = no_fault_shown from now.faults entry (omega (arith, counted.later, rose));
-      };
       unread = record { read = ap is_some (reads.unread_now ∙ sym reads.unread) ∙ sym (or-false (is_some before.live)); files = λ none. inl refl };
       staged = up_to_unread whole_of before.live now.live reads.unread;
       flushed = up_to_unread flushed_of before.live now.live reads.unread;
       began = began_unread before.live now.live reads.unread;
       ahead = ahead_unread (entry ∷ []) before.live now.live reads.unread reads.unread_now refl;
-      waits = λ origin told. inl (waited_on (entry ∷ []) before now origin notes reads.tells (λ book is waited.
-          let new = tells_new origin.faults before.faults now.faults (faults_of book) waited.counted.later waited.counted.each rose reads.later small in
-          waited_push origin now book entry reads.unread_now (subst (λ (n : ℕ). 1 ≤ n) (sym reads.generation) waited.begun)
-          (subst (λ (l : List ℕ). IsAttendedBy l (book ++ entry ∷ [])) (sym reads.inside) (attended_still before.inside book entry (λ who n. refl) waited.attended)) waited.legal waited.fresh waited.no_redo waited.unredone waited.none_here waited.no_ticks tt
-          (λ base same. record {
-            attached = attends_in pid before.book book is inside;
-            fault = subst (λ (f : Option (List (ℕ × ℕ))). TellsFault base book f since now.faults) (sym waited.none_here)
-                (subst (λ (n : ℕ). ((n < now.faults) × All (λ (fault : ℕ × ℕ). fault.1 < now.faults) (faults_of book)) ⊎ (now.faults ≡ 2 ^ 64 - 1)) (sym same) new);
-          })
-          (λ base. refl) (waited.generation ∙ sym reads.generation) refl refl
-          (any_still ends_checkpoint (present book) entry now.skipped (waited.skipped ∙ sym reads.skipped) refl) (any_still ends_cleanly (present book) entry false waited.unclosed refl)
-          (λ start mark. tt) waited.no_time waited.no_needs (omega (arith, waited.counted.later, reads.later)) (each_push before.faults now.faults since (faults_of book) reads.later waited.counted.each)
-          (omega (arith, waited.reached, reads.time.later)) (inl (break_behind book (entry ∷ []) refl))) (opening_read before now origin reads) told);
-      goes_on = λ origin base told. gone_unread (entry ∷ []) before now origin base reads.unread reads.generation notes reads.tells
-          (λ book is sure renewed held.
-          let new = tells_new base.faults before.faults now.faults (faults_of book) renewed.counted.later renewed.counted.each rose reads.later small in
-          inr (renewed_push base before now book entry reads.unread_now reads.generation
-          (subst (λ (l : List ℕ). IsAttendedBy l (book ++ entry ∷ [])) (sym reads.inside) (attended_still before.inside book entry (λ who n. refl) renewed.attended)) tt
-          (record { attached = attends_in pid before.book book is inside; fault = subst (λ (f : Option (List (ℕ × ℕ))). TellsFault base book f since now.faults) (sym renewed.none_here) new })
-          (λ n. refl) refl refl
-          (any_still ends_checkpoint (present book) entry now.skipped (renewed.skipped ∙ sym reads.skipped) refl) (any_still ends_cleanly (present book) entry false renewed.unclosed refl)
-          refl (omega (arith, renewed.in_time, reads.time.later)) (omega (arith, renewed.counted.later, reads.later)) (each_push before.faults now.faults since (faults_of book) reads.later renewed.counted.each) renewed))
-          (λ book seen tells renewed held.
-          held_alone past present_whole origin base now book entry (ap (λ (r : Option ℕ). history_after r (history_of base book) entry) renewed.unredone) (λ start mark. tt) (λ t. refl)
-          (held_follows past present_whole origin base before now book reads.unread_now reads.time (follows_in before now seen tells reads) held)) told;
     }
 
 -- a redo of a generation that has one already
@@ -543,32 +547,34 @@ held_later laws origin base before now found new book pid seen redoes tells rene
 pub redoes_first : Laws → (before now : Moment) (found : Found) (new : Live) (pid : ℕ) → Redoes before now found new → Attends pid before.book → Added (Redone pid before.generation found.count ∷ []) before.book now.book
     → Moves (Redone pid before.generation found.count ∷ []) before now
 redoes_first laws before now found new pid redoes inside notes = record {
-  notes = notes;
+  spans = record {
+    notes = notes;
+    time = redoes.time;
+    later = redoes.later;
+    counts = λ from counted. record {
+      counted = counted_now from before.faults now.faults 0 before.live now.live new redoes.later redoes.read_now (subst (IsShownAt from now.faults) (sym (ap (λ (l : Log). l.since) redoes.log)) tt) counted;
+      each = no_fault_shown from now.faults entry tt;
+    };
+    waits = λ origin told. begins origin before.book refl told;
+    goes_on = λ origin base told. gone_unread (entry ∷ []) before now origin base redoes.unread redoes.generation notes still_told
+        (λ book is sure renewed held.
+        let seen = told_before before now (omega (arith, renewed.later, redoes.generation)) still_told sure in
+        inl (
+          new,
+          redone_later laws base before now found new book pid redoes is inside renewed
+              (number_found origin base before book found seen.0 (subst (λ (f : Option Files). IfSome f (MeansOnly found)) seen.1 redoes.exact) (subst (λ (f : Option Files). IfSome f (before.images before.ticks)) seen.1 redoes.reads)
+              (subst (λ (f : Option Files). IfSome f (λ s. HasHeld origin base before book)) seen.1 held)),
+        ))
+        (λ book seen tells renewed held. held_later laws origin base before now found new book pid seen redoes tells renewed held) told;
+  };
   generation = redoes.generation;
   commits = redoes.commits;
   attends = nobody_moves (entry ∷ []) before now redoes.inside (λ who n. refl);
-  time = redoes.time;
-  later = redoes.later;
-  counts = λ from counted. record {
-    counted = counted_now from before.faults now.faults 0 before.live now.live new redoes.later redoes.read_now (subst (IsShownAt from now.faults) (sym (ap (λ (l : Log). l.since) redoes.log)) tt) counted;
-    each = no_fault_shown from now.faults entry tt;
-  };
   unread = record { read = ap is_some redoes.read_now ∙ sym (ap (λ (l : Option Live). is_some l || true) redoes.unread); files = λ none. absurd (not_both now.live new none redoes.read_now) };
   staged = up_to_unread whole_of before.live now.live redoes.unread;
   flushed = up_to_unread flushed_of before.live now.live redoes.unread;
   began = began_unread before.live now.live redoes.unread;
   ahead = ahead_found (entry ∷ []) before.live now.live new redoes.unread redoes.read_now (ap (λ (l : Log). l.epoch) redoes.log ∙ sym redoes.first) refl;
-  waits = λ origin told. begins origin before.book refl told;
-  goes_on = λ origin base told. gone_unread (entry ∷ []) before now origin base redoes.unread redoes.generation notes still_told
-      (λ book is sure renewed held.
-      let seen = told_before before now (omega (arith, renewed.later, redoes.generation)) still_told sure in
-      inl (
-        new,
-        redone_later laws base before now found new book pid redoes is inside renewed
-            (number_found origin base before book found seen.0 (subst (λ (f : Option Files). IfSome f (MeansOnly found)) seen.1 redoes.exact) (subst (λ (f : Option Files). IfSome f (before.images before.ticks)) seen.1 redoes.reads)
-            (subst (λ (f : Option Files). IfSome f (λ s. HasHeld origin base before book)) seen.1 held)),
-      ))
-      (λ book seen tells renewed held. held_later laws origin base before now found new book pid seen redoes tells renewed held) told;
 }
   where
     entry : BookEntry

@@ -176,24 +176,26 @@ pub stages : PastStays → PresentIsWhole → (at : Moment) (live new : Live) (b
     → Moves (Answered pid script reply commit new.front live.mark ∷ []) at (with_staged book_now rows_now new staged_now at)
 stages past present_whole at live new book_now rows_now staged_now pid script reply [] some takes inside reply_is commit_is notes = absurd (some refl)
 stages past present_whole at live new book_now rows_now staged_now pid script reply (change ∷ changes) some takes inside reply_is commit_is notes = record {
-  notes = notes;
+  spans = record {
+    notes = notes;
+    time = time_still at.ticks at.images;
+    later = omega arith;
+    counts = λ from counted. record {
+      counted = counted_now from at.faults at.faults 0 at.live now.live new (omega arith) refl (subst (IsShownAt from at.faults) (sym whole) tt) counted;
+      each = no_fault_shown from at.faults entry tt;
+    };
+    waits = never_waits (entry ∷ []) at now live takes.read notes (λ none. none);
+    goes_on = λ origin base told. gone_read (entry ∷ []) at now live origin base takes.read refl notes (λ none. none)
+        (λ book is gone. (new, goes base book is gone)) (λ book seen tells gone held. holds origin base book gone held) told;
+  };
   generation = refl;
   commits = refl;
   attends = nobody_moves (entry ∷ []) at now refl (λ who n. refl);
-  time = time_still at.ticks at.images;
-  later = omega arith;
-  counts = λ from counted. record {
-    counted = counted_now from at.faults at.faults 0 at.live now.live new (omega arith) refl (subst (IsShownAt from at.faults) (sym whole) tt) counted;
-    each = no_fault_shown from at.faults entry tt;
-  };
   unread = unread_never (entry ∷ []) at now live new takes.read refl;
   staged = up_to_more whole_of at.live now.live live new takes.read refl (omega (arith, takes.front));
   flushed = up_to_more flushed_of at.live now.live live new takes.read refl (omega (arith, ap (λ (l : Log). l.count) takes.its));
   began = began_on at.live now.live live new takes.read refl takes.first;
   ahead = ahead_more at.live now.live live new 0 takes.read refl takes.first (λ w. (takes.unbroken, omega (arith, ap (λ (l : Log). l.epoch) takes.its)));
-  waits = never_waits (entry ∷ []) at now live takes.read notes (λ none. none);
-  goes_on = λ origin base told. gone_read (entry ∷ []) at now live origin base takes.read refl notes (λ none. none)
-      (λ book is gone. (new, goes base book is gone)) (λ book seen tells gone held. holds origin base book gone held) told;
 }
   where
     entry : BookEntry
@@ -352,25 +354,27 @@ pub flushes : PastStays → PresentIsWhole → (before now : Moment) (live new :
     → TellsStill (LivesWith live new (take k before.staged) (before.images before.ticks) (now.images now.ticks)) before.files now.files
     → Added [] before.book now.book → Moves [] before now
 flushes past present_whole before now live new k writes whole count end needs mark staged lives notes = record {
-  notes = notes;
+  spans = record {
+    notes = notes;
+    time = writes.time;
+    later = writes.later;
+    counts = λ from counted. record {
+      counted = counted_now from before.faults now.faults 0 before.live now.live new writes.later writes.read_now (subst (IsShownAt from now.faults) (sym whole) tt) counted;
+      each = All-nil (IsShown from now.faults);
+    };
+    waits = never_waits [] before now live writes.read notes writes.tells;
+    goes_on = λ origin base told. gone_read [] before now live origin base writes.read writes.generation notes writes.tells
+        (λ book is gone. (new, subst (HasGone base now new) (sym (append-nil book)) (goes base book gone)))
+        (λ book seen tells gone held. subst (HasHeld origin base now) (sym (append-nil book)) (holds origin base book seen tells gone held)) told;
+  };
   generation = writes.generation;
   commits = writes.commits;
   attends = nobody_moves [] before now writes.inside (λ who n. refl);
-  time = writes.time;
-  later = writes.later;
-  counts = λ from counted. record {
-    counted = counted_now from before.faults now.faults 0 before.live now.live new writes.later writes.read_now (subst (IsShownAt from now.faults) (sym whole) tt) counted;
-    each = All-nil (IsShown from now.faults);
-  };
   unread = unread_never [] before now live new writes.read writes.read_now;
   staged = up_to_more whole_of before.live now.live live new writes.read writes.read_now (omega (arith, writes.front));
   flushed = up_to_more flushed_of before.live now.live live new writes.read writes.read_now (omega (arith, count));
   began = began_on before.live now.live live new writes.read writes.read_now writes.first;
   ahead = ahead_more before.live now.live live new 0 writes.read writes.read_now writes.first (λ w. (writes.unbroken, omega (arith, writes.epoch)));
-  waits = never_waits [] before now live writes.read notes writes.tells;
-  goes_on = λ origin base told. gone_read [] before now live origin base writes.read writes.generation notes writes.tells
-      (λ book is gone. (new, subst (HasGone base now new) (sym (append-nil book)) (goes base book gone)))
-      (λ book seen tells gone held. subst (HasHeld origin base now) (sym (append-nil book)) (holds origin base book seen tells gone held)) told;
 }
   where
     goes : (base : Base) (book : List BookEntry) → HasGone base before live book → HasGone base now new book
@@ -455,26 +459,28 @@ pub flush_fails : PastStays → PresentIsWhole → (before now : Moment) (live n
     → new.faults ≡ now.faults → Rose before.faults now.faults → now.faults < 2 ^ 64 → Attends pid before.book
     → Added (Broke pid since now.faults ∷ []) before.book now.book → Moves (Broke pid since now.faults ∷ []) before now
 flush_fails past present_whole before now live new k pid since writes broke count mark fault rose small inside notes = record {
-  notes = notes;
+  spans = record {
+    notes = notes;
+    time = writes.time;
+    later = writes.later;
+    counts = λ from counted.
+        let risen : Rose from now.faults = omega (arith, counted.later, rose) in record {
+          counted = counted_now from before.faults now.faults 0 before.live now.live new writes.later writes.read_now (subst (IsShownAt from now.faults) (sym broke) risen) counted;
+          each = no_fault_shown from now.faults entry risen;
+        };
+    waits = never_waits (entry ∷ []) before now live writes.read notes writes.tells;
+    goes_on = λ origin base told. gone_read (entry ∷ []) before now live origin base writes.read writes.generation notes writes.tells
+        (λ book is gone. (new, goes base book is gone))
+        (λ book seen tells gone held. holds origin base book seen tells gone held) told;
+  };
   generation = writes.generation;
   commits = writes.commits;
   attends = nobody_moves (entry ∷ []) before now writes.inside (λ who n. refl);
-  time = writes.time;
-  later = writes.later;
-  counts = λ from counted.
-      let risen : Rose from now.faults = omega (arith, counted.later, rose) in record {
-        counted = counted_now from before.faults now.faults 0 before.live now.live new writes.later writes.read_now (subst (IsShownAt from now.faults) (sym broke) risen) counted;
-        each = no_fault_shown from now.faults entry risen;
-      };
   unread = unread_never (entry ∷ []) before now live new writes.read writes.read_now;
   staged = up_to_more whole_of before.live now.live live new writes.read writes.read_now (omega (arith, writes.front));
   flushed = up_to_more flushed_of before.live now.live live new writes.read writes.read_now (omega (arith, count));
   began = began_on before.live now.live live new writes.read writes.read_now writes.first;
   ahead = ahead_more before.live now.live live new 0 writes.read writes.read_now writes.first (λ w. (writes.unbroken, omega (arith, writes.epoch)));
-  waits = never_waits (entry ∷ []) before now live writes.read notes writes.tells;
-  goes_on = λ origin base told. gone_read (entry ∷ []) before now live origin base writes.read writes.generation notes writes.tells
-      (λ book is gone. (new, goes base book is gone))
-      (λ book seen tells gone held. holds origin base book seen tells gone held) told;
 }
   where
     entry : BookEntry

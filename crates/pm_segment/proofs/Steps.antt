@@ -242,20 +242,22 @@ pub still_in : (entries : List BookEntry) (at : Moment) (book_now : Option (List
     → ((origin : Origin) (base : Base) (book : List BookEntry) → HasBegun base at book → HasHeld origin base at book → HasHeld origin base (with_child book_now inside_now at) (book ++ entries))
     → Moves entries at (with_child book_now inside_now at)
 still_in entries at book_now inside_now notes attends shown no_epoch no_redo waits goes renews holds = record {
-  notes = notes;
+  spans = record {
+    notes = notes;
+    time = time_still at.ticks at.images;
+    later = omega arith;
+    counts = λ from counted. record { counted = counted; each = shown from counted };
+    waits = λ origin told. inl (waited_on entries at now origin notes (λ none. none) (λ book is waited. waits origin book is waited) (λ book seen tells waited opening. opening) told);
+    goes_on = λ origin base told. gone_on entries at now origin base notes (λ none. none) (λ sure. sure) (λ book is sure begun held. each base book is begun) (λ book seen tells begun held. holds origin base book begun held) told;
+  };
   generation = refl;
   commits = refl;
   attends = attends;
-  time = time_still at.ticks at.images;
-  later = omega arith;
-  counts = λ from counted. record { counted = counted; each = shown from counted };
   unread = unread_still entries at now no_redo refl refl;
   staged = λ front is. is;
   flushed = λ front is. is;
   began = λ first is. is;
   ahead = λ many is. ahead_still entries many at.live no_epoch is;
-  waits = λ origin told. inl (waited_on entries at now origin notes (λ none. none) (λ book is waited. waits origin book is waited) (λ book seen tells waited opening. opening) told);
-  goes_on = λ origin base told. gone_on entries at now origin base notes (λ none. none) (λ sure. sure) (λ book is sure begun held. each base book is begun) (λ book seen tells begun held. holds origin base book begun held) told;
 }
   where
     now : Moment
@@ -274,20 +276,22 @@ pub still : (entries : List BookEntry) (at : Moment) (live : Live) (book_now : O
     → ((origin : Origin) (base : Base) (book : List BookEntry) → HasGone base at live book → HasHeld origin base at book → HasHeld origin base (with_book book_now at) (book ++ entries))
     → Moves entries at (with_book book_now at)
 still entries at live book_now read notes none shown no_epoch goes holds = record {
-  notes = notes;
+  spans = record {
+    notes = notes;
+    time = time_still at.ticks at.images;
+    later = omega arith;
+    counts = λ from counted. record { counted = counted; each = shown from counted };
+    waits = never_waits entries at (with_book book_now at) live read notes (λ none. none);
+    goes_on = λ origin base told. gone_read entries at (with_book book_now at) live origin base read refl notes (λ none. none) (λ book is gone. (live, goes base book is gone)) (λ book seen tells gone held. holds origin base book gone held) told;
+  };
   generation = refl;
   commits = refl;
   attends = nobody_moves entries at (with_book book_now at) refl none;
-  time = time_still at.ticks at.images;
-  later = omega arith;
-  counts = λ from counted. record { counted = counted; each = shown from counted };
   unread = unread_never entries at (with_book book_now at) live live read read;
   staged = λ front is. is;
   flushed = λ front is. is;
   began = λ first is. is;
   ahead = λ many is. ahead_still entries many at.live no_epoch is;
-  waits = never_waits entries at (with_book book_now at) live read notes (λ none. none);
-  goes_on = λ origin base told. gone_read entries at (with_book book_now at) live origin base read refl notes (λ none. none) (λ book is gone. (live, goes base book is gone)) (λ book seen tells gone held. holds origin base book gone held) told;
 }
 
 -- An entry that leaves all but the list of entries alone.
@@ -782,24 +786,26 @@ pub commits : PastStays → PresentIsWhole → (before now : Moment) (live new :
     → Moves (Answered pid script reply commit new.log.count live.mark ∷ []) before now
 commits past present_whole before now live new pid script reply [] some appends whole count front mark end durable rests inside reply_is commit_is notes = absurd (some refl)
 commits past present_whole before now live new pid script reply (change ∷ changes) some appends whole count front mark end durable rests inside reply_is commit_is notes = record {
-  notes = notes;
+  spans = record {
+    notes = notes;
+    time = appends.time;
+    later = appends.later;
+    counts = λ from counted. record {
+      counted = counted_now from before.faults now.faults 0 before.live now.live new appends.later appends.read_now (subst (IsShownAt from now.faults) (sym whole) tt) counted;
+      each = no_fault_shown from now.faults entry tt;
+    };
+    waits = never_waits (entry ∷ []) before now live appends.read notes appends.tells;
+    goes_on = λ origin base told. gone_read (entry ∷ []) before now live origin base appends.read appends.generation notes appends.tells
+        (λ book is gone. (new, goes base book is gone)) (λ book seen tells gone held. holds origin base book seen tells gone held) told;
+  };
   generation = appends.generation;
   commits = appends.commits;
   attends = nobody_moves (entry ∷ []) before now appends.inside (λ who n. refl);
-  time = appends.time;
-  later = appends.later;
-  counts = λ from counted. record {
-    counted = counted_now from before.faults now.faults 0 before.live now.live new appends.later appends.read_now (subst (IsShownAt from now.faults) (sym whole) tt) counted;
-    each = no_fault_shown from now.faults entry tt;
-  };
   unread = unread_never (entry ∷ []) before now live new appends.read appends.read_now;
   staged = up_to_more whole_of before.live now.live live new appends.read appends.read_now (omega (arith, appends.front, front, count));
   flushed = up_to_more flushed_of before.live now.live live new appends.read appends.read_now (omega (arith, count));
   began = began_on before.live now.live live new appends.read appends.read_now appends.first;
   ahead = ahead_more before.live now.live live new 0 appends.read appends.read_now appends.first (λ whole. (appends.unbroken, omega (arith, appends.epoch)));
-  waits = never_waits (entry ∷ []) before now live appends.read notes appends.tells;
-  goes_on = λ origin base told. gone_read (entry ∷ []) before now live origin base appends.read appends.generation notes appends.tells
-      (λ book is gone. (new, goes base book is gone)) (λ book seen tells gone held. holds origin base book seen tells gone held) told;
 }
   where
     entry : BookEntry
@@ -870,26 +876,28 @@ pub loses : PastStays → PresentIsWhole → (before now : Moment) (live new : L
     → Moves (Answered pid script reply commit (live.front + 1) live.mark ∷ Broke pid since now.faults ∷ []) before now
 loses past present_whole before now live new pid since script reply [] some appends broke count front mark fault rose small inside reply_is commit_is notes = absurd (some refl)
 loses past present_whole before now live new pid since script reply (change ∷ changes) some appends broke count front mark fault rose small inside reply_is commit_is notes = record {
-  notes = notes;
+  spans = record {
+    notes = notes;
+    time = appends.time;
+    later = appends.later;
+    counts = λ from counted.
+        let risen : Rose from now.faults = omega (arith, counted.later, rose) in record {
+          counted = counted_now from before.faults now.faults 0 before.live now.live new appends.later appends.read_now (subst (IsShownAt from now.faults) (sym broke) risen) counted;
+          each = All-push (IsShown from now.faults) (first ∷ []) second (no_fault_shown from now.faults first tt) risen;
+        };
+    waits = never_waits (first ∷ second ∷ []) before now live appends.read notes appends.tells;
+    goes_on = λ origin base told. gone_read (first ∷ second ∷ []) before now live origin base appends.read appends.generation notes appends.tells
+        (λ book is gone. (new, subst (HasGone base now new) (append_assoc book (first ∷ []) (second ∷ [])) (goes base book is gone)))
+        (λ book seen tells gone held. subst (HasHeld origin base now) (append_assoc book (first ∷ []) (second ∷ [])) (holds origin base book seen tells gone held)) told;
+  };
   generation = appends.generation;
   commits = appends.commits;
   attends = nobody_moves (first ∷ second ∷ []) before now appends.inside (λ who n. refl);
-  time = appends.time;
-  later = appends.later;
-  counts = λ from counted.
-      let risen : Rose from now.faults = omega (arith, counted.later, rose) in record {
-        counted = counted_now from before.faults now.faults 0 before.live now.live new appends.later appends.read_now (subst (IsShownAt from now.faults) (sym broke) risen) counted;
-        each = All-push (IsShown from now.faults) (first ∷ []) second (no_fault_shown from now.faults first tt) risen;
-      };
   unread = unread_never (first ∷ second ∷ []) before now live new appends.read appends.read_now;
   staged = up_to_more whole_of before.live now.live live new appends.read appends.read_now (omega (arith, front));
   flushed = up_to_more flushed_of before.live now.live live new appends.read appends.read_now (omega (arith, count));
   began = began_on before.live now.live live new appends.read appends.read_now appends.first;
   ahead = ahead_more before.live now.live live new 0 appends.read appends.read_now appends.first (λ whole. (appends.unbroken, omega (arith, appends.epoch)));
-  waits = never_waits (first ∷ second ∷ []) before now live appends.read notes appends.tells;
-  goes_on = λ origin base told. gone_read (first ∷ second ∷ []) before now live origin base appends.read appends.generation notes appends.tells
-      (λ book is gone. (new, subst (HasGone base now new) (append_assoc book (first ∷ []) (second ∷ [])) (goes base book is gone)))
-      (λ book seen tells gone held. subst (HasHeld origin base now) (append_assoc book (first ∷ []) (second ∷ [])) (holds origin base book seen tells gone held)) told;
 }
   where
     first : BookEntry

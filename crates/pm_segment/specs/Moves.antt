@@ -56,24 +56,27 @@ pub record StaysUnread (entries : List BookEntry) (before now : Moment) : Type 0
   pub files : now.live ≡ None → (has_break entries ≡ true) ⊎ (now.files ≡ before.files)
 
 -- These entries were noted. What held from a beginning holds from it still, or the first redo has come; what a stop could
--- leave before is as it was. Each fault that was noted was counted, each child is inside as often as the entries make of how
--- often it was, what was taken is so still, and what was flushed, and the log has come one epoch further for each checkpoint that was made,
--- whether book and disk tell or not.
-pub record Moves (entries : List BookEntry) (before now : Moment) : Type 0 where
+-- leave before is as it was, and each fault that was noted was counted, whether book and disk tell or not.
+pub record Spans (entries : List BookEntry) (before now : Moment) : Type 0 where
   pub notes : Added entries before.book now.book
+  pub time : GoesOn before.ticks now.ticks before.images now.images
+  pub later : before.faults ≤ now.faults
+  pub counts : (from : ℕ) → IsCountedFrom from before.faults before.live → CountsEntries from entries now.faults now.live
+  pub waits : (origin : Origin) → WaitsFrom origin before → WaitsFrom origin now ⊎ Begins origin now
+  pub goes_on : (origin : Origin) (base : Base) → GoesFrom origin base before → GoesFrom origin base now
+
+-- The same within one generation: each child is inside as often as the entries make of how often it was, what was taken is so
+-- still, and what was flushed, and the log has come one epoch further for each checkpoint that was made.
+pub record Moves (entries : List BookEntry) (before now : Moment) : Type 0 where
+  pub spans : Spans entries before now
   pub generation : now.generation ≡ before.generation
   pub commits : now.commits ≡ before.commits
   pub attends : (pid : ℕ) → times_in pid now.inside ≡ times_behind entries pid (times_in pid before.inside)
-  pub time : GoesOn before.ticks now.ticks before.images now.images
-  pub later : before.faults ≤ now.faults
   pub unread : StaysUnread entries before now
   pub staged : (front : Option ℕ) → IsStaged front before.live → IsStaged front now.live
   pub flushed : (front : Option ℕ) → IsFlushed front before.live → IsFlushed front now.live
   pub began : (first : ℕ) → BeganIn first before.live → BeganIn first now.live
   pub ahead : (many : ℕ) → IsAheadBy many before.live → IsAheadBy (many + epochs_in entries) now.live
-  pub counts : (from : ℕ) → IsCountedFrom from before.faults before.live → CountsEntries from entries now.faults now.live
-  pub waits : (origin : Origin) → WaitsFrom origin before → WaitsFrom origin now ⊎ Begins origin now
-  pub goes_on : (origin : Origin) (base : Base) → GoesFrom origin base before → GoesFrom origin base now
 
 -- From one generation to the next. These entries were noted, nobody is inside, there are no rows, nothing is staged, and the
 -- log isn't read.

@@ -1,7 +1,7 @@
 -- The laws of what the calls of a store do.
 use Rattle.std.proofs.Common.{◌≡◌, ◌⊎◌, inl, inr, Bool, true, false, ℕ, ◌+◌, ◌≤◌, All, List, [], ◌∷◌, ◌++◌, Option, None, Some, refl, sym, ◌∙◌, ap, subst, arith}
 use Rattle.std.specs.Prelude.{IfSome, is_some, ◌||◌}
-use Rattle.std.proofs.lemmas.List.Elements.{All-nil, All-append, All-head, All-tail, All-weaker}
+use Rattle.std.proofs.lemmas.List.Elements.{All-nil, All-cons, All-append, All-head, All-tail, All-weaker}
 use Rattle.std.proofs.lemmas.List.Folds.{list_any-append}
 use Rattle.std.proofs.lemmas.List.Sums.{fold-append, sum_by-append}
 use Rattle.pm_disk.specs.Cause.{Rose}
@@ -18,7 +18,8 @@ use Rattle.pm_segment.specs.Epochs.{IsAheadBy, begun_by, epochs_in}
 use Rattle.pm_segment.specs.Moment.{Moment}
 use Rattle.pm_outside.specs.Added.{Added}
 use Rattle.pm_outside.specs.AddedLaws.{added_both, added_none}
-use Rattle.pm_segment.specs.Moves.{IsShown, CountsEntries, Moves, StaysUnread}
+use Rattle.pm_segment.specs.Renewal.{renewal}
+use Rattle.pm_segment.specs.Moves.{IsShown, CountsEntries, Moves, Spans, StaysUnread}
 use Rattle.pm_segment.specs.Stands.{Begins, GoesFrom, IsBaseOf, Origin, WaitsFrom}
 use Rattle.pm_segment.specs.Unread.{has_break, has_redo, is_redo}
 use Rattle.pm_segment.specs.UnreadLaws.{break_before, break_behind, breaks_on}
@@ -71,6 +72,11 @@ break_shown from faults (Gone pid ∷ entries) shown some = break_shown from fau
 break_shown from faults (CheckpointEnded pid done clean ∷ entries) shown some =
     break_shown from faults entries (All-tail (IsShown from faults) (CheckpointEnded pid done clean) entries shown) some
 break_shown from faults (LogFull pid script need room ∷ entries) shown some = break_shown from faults entries (All-tail (IsShown from faults) (LogFull pid script need room) entries shown) some
+
+-- a renewal notes none
+pub renewal_shown : (from faults : ℕ) (pids : List ℕ) (generation : ℕ) → All (IsShown from faults) (renewal pids generation)
+renewal_shown from faults [] generation = All-cons (IsShown from faults) (Opened generation) [] tt (All-nil (IsShown from faults))
+renewal_shown from faults (pid ∷ pids) generation = All-cons (IsShown from faults) (Gone pid) (renewal pids generation) tt (renewal_shown from faults pids generation)
 
 -- ---- while the log isn't read
 
@@ -135,22 +141,27 @@ ahead_both first second many o is =
     let same : (many + epochs_in first) + epochs_in second ≡ many + epochs_in (first ++ second) = omega (arith, sum_by-append begun_by first second) in
     subst (λ (n : ℕ). IsAheadBy n o) same is
 
-pub moves_none : (at : Moment) → Moves [] at at
-moves_none at = record {
+pub spans_none : (at : Moment) → Spans [] at at
+spans_none at = record {
   notes = added_none at.book;
-  generation = refl;
-  commits = refl;
-  attends = λ pid. refl;
   time = time_still at.ticks at.images;
   later = omega arith;
   counts = λ from counted. record { counted = counted; each = All-nil (IsShown from at.faults) };
+  waits = λ origin stands. inl stands;
+  goes_on = λ origin base stands. stands;
+}
+
+pub moves_none : (at : Moment) → Moves [] at at
+moves_none at = record {
+  spans = spans_none at;
+  generation = refl;
+  commits = refl;
+  attends = λ pid. refl;
   unread = unread_still [] at at refl refl refl;
   staged = λ front is. is;
   flushed = λ front is. is;
   began = λ first is. is;
   ahead = λ many is. ahead_still [] many at.live refl is;
-  waits = λ origin stands. inl stands;
-  goes_on = λ origin base stands. stands;
 }
 
 -- the faults that the entries of two calls show
@@ -168,22 +179,27 @@ pub stands_on : (origin : Origin) (second : List BookEntry) (between now : Momen
 stands_on origin second between now notes waits_on goes_on (inl waits) = waits_on waits
 stands_on origin second between now notes waits_on goes_on (inr begins) = inr (begins_on origin second between now notes goes_on begins)
 
-pub moves_on : (first second : List BookEntry) (before between now : Moment) → Moves first before between → Moves second between now → Moves (first ++ second) before now
-moves_on first second before between now one two = record {
+pub spans_on : (first second : List BookEntry) (before between now : Moment) → Spans first before between → Spans second between now → Spans (first ++ second) before now
+spans_on first second before between now one two = record {
   notes = added_both first second before.book between.book now.book one.notes two.notes;
-  generation = two.generation ∙ one.generation;
-  commits = two.commits ∙ one.commits;
-  attends = λ pid. two.attends pid ∙ ap (times_behind second pid) (one.attends pid) ∙ sym (fold-append (times_after pid) (times_in pid before.inside) first second);
   time = goes_two before.ticks between.ticks now.ticks before.images between.images now.images one.time two.time;
   later = omega (arith, one.later, two.later);
-  unread = unread_on first second before between now one.unread two.unread;
-  staged = λ front is. two.staged front (one.staged front is);
-  flushed = λ front is. two.flushed front (one.flushed front is);
-  began = λ in_epoch is. two.began in_epoch (one.began in_epoch is);
-  ahead = λ many is. ahead_both first second many now.live (two.ahead (many + epochs_in first) (one.ahead many is));
   counts = λ from counted.
       let a : CountsEntries from first between.faults between.live = one.counts from counted in
       counts_on from first second between now two.later a (two.counts from a.counted);
   waits = λ origin stands. stands_on origin second between now two.notes (two.waits origin) (two.goes_on origin) (one.waits origin stands);
   goes_on = λ origin base stands. two.goes_on origin base (one.goes_on origin base stands);
+}
+
+pub moves_on : (first second : List BookEntry) (before between now : Moment) → Moves first before between → Moves second between now → Moves (first ++ second) before now
+moves_on first second before between now one two = record {
+  spans = spans_on first second before between now one.spans two.spans;
+  generation = two.generation ∙ one.generation;
+  commits = two.commits ∙ one.commits;
+  attends = λ pid. two.attends pid ∙ ap (times_behind second pid) (one.attends pid) ∙ sym (fold-append (times_after pid) (times_in pid before.inside) first second);
+  unread = unread_on first second before between now one.unread two.unread;
+  staged = λ front is. two.staged front (one.staged front is);
+  flushed = λ front is. two.flushed front (one.flushed front is);
+  began = λ in_epoch is. two.began in_epoch (one.began in_epoch is);
+  ahead = λ many is. ahead_both first second many now.live (two.ahead (many + epochs_in first) (one.ahead many is));
 }

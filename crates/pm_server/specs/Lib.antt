@@ -4,7 +4,7 @@ pub mod JournalLaws
 pub mod CalmLaws
 pub mod Story
 pub mod Ends
-pub mod Spans
-pub mod SpansLaws
+pub mod Renewed
+pub mod RenewedLaws
 pub mod UnredoneLaws
 pub mod StoryLaws

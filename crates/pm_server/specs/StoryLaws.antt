@@ -25,7 +25,7 @@ use Rattle.pm_query.specs.declared.book.BookEntry.TheVariants.{Opened, Attached,
 use Rattle.pm_segment.specs.Fronts.{whole_of}
 use Rattle.pm_segment.specs.Moment.{Moment, Told}
 use Rattle.pm_outside.specs.Added.{Added}
-use Rattle.pm_segment.specs.Moves.{BreakIsShown, IsCountedFrom, IsShown, StaysUnread}
+use Rattle.pm_segment.specs.Moves.{BreakIsShown, IsCountedFrom, IsShown, StaysUnread, Spans}
 use Rattle.pm_record.specs.Calls.{goes_two}
 use Rattle.pm_segment.specs.MovesLaws.{break_shown}
 use Rattle.pm_segment.specs.Redos.{IsAtLastEpoch, IsCleanAt, SaysNothing, StandsAfresh, is_broken}
@@ -34,7 +34,6 @@ use Rattle.pm_segment.specs.Runs.{CanBeRead, IsRun}
 use Rattle.pm_segment.specs.Stands.{GoesFrom, HasBegun, HasGone, HasNoTick, HasWaited, IsBaseOf, IsOpening, IsSure as IsSureAt, Origin, WaitsFrom}
 use Rattle.pm_segment.specs.Unread.{has_break}
 use Rattle.pm_segment.specs.declared.live.Live.{Live}
-use Rattle.pm_server.specs.Spans.{Spans}
 use Rattle.pm_server.specs.Ends.{AreTraced, EndsWell, HasRefused, IsCausedBy, IsFailedBy, IsKnownAt, IsSound}
 use Rattle.pm_server.specs.Views.{DiskView, StoreView}
 use Rattle.pm_server.specs.Story.{HasOneGeneration, IsClean, IsNoAnswer, IsNoOpening, IsStory, IsSure}

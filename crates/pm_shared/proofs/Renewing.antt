@@ -14,7 +14,7 @@ use Rattle.pm_segment.specs.declared.segment.Segment.{Segment}
 use Rattle.pm_segment.specs.Children.{AreOthers, IsAttendedBy, once, times_behind, times_in}
 use Rattle.pm_segment.specs.Moment.{Moment, disk_of, moment}
 use Rattle.pm_segment.specs.Moves.{IsAsBefore, IsShown, Moves, Renews}
-use Rattle.pm_segment.specs.MovesLaws.{begins_on, moves_none}
+use Rattle.pm_segment.specs.MovesLaws.{begins_on, moves_none, renewal_shown}
 use Rattle.pm_segment.specs.Stands.{Begins, Origin, WaitsFrom}
 use Rattle.pm_segment.specs.Unread.{has_break}
 use Rattle.pm_segment.specs.UnreadLaws.{break_before, redo_parts}
@@ -78,10 +78,6 @@ resets_behind log es g nobody dealt cells a = record {
   counted = λ p. subst (λ z. sum_below dealt (λ k. live p z (cells k).passes) ≡ 0) (sym g) (sum_zero dealt (λ k. live p (generation_of log + 1) (cells k).passes) (λ k _. none_live p (generation_of log) (cells k).passes (a.known k))) ∙ sym (nobody p);
 }
 
-gone_shown : (from faults : ℕ) (pids : List ℕ) (generation : ℕ) → All (IsShown from faults) (renewal pids generation)
-gone_shown from faults [] generation = All-cons (IsShown from faults) (Opened generation) [] tt (All-nil (IsShown from faults))
-gone_shown from faults (pid ∷ pids) generation = All-cons (IsShown from faults) (Gone pid) (renewal pids generation) tt (gone_shown from faults pids generation)
-
 -- ---- the store
 
 pub behind_renewed : {D B : Type 0} {g h : _} (first : D) (log : List BookEntry) (x x' : Segment D B g h) (gone others : List ℕ) (generation : ℕ) → AreOthers (moment x).inside gone others
@@ -94,7 +90,7 @@ behind_renewed {g = g} first log x x' gone others generation are renews disk is 
   counts = record {
     counted = renews.counts (g.faults first) is.counts.counted;
     each = subst (λ d. All (IsShown (g.faults first) (g.faults d)) (log ++ renewal (gone ++ others) generation)) (sym disk)
-        (All-append (IsShown (g.faults first) (moment x).faults) log (renewal (gone ++ others) generation) is.counts.each (gone_shown (g.faults first) (moment x).faults (gone ++ others) generation));
+        (All-append (IsShown (g.faults first) (moment x).faults) log (renewal (gone ++ others) generation) is.counts.each (renewal_shown (g.faults first) (moment x).faults (gone ++ others) generation));
   };
   unread = λ none.
       let was = is.unread (redo_parts log (renewal (gone ++ others) generation) none).0 in

@@ -108,17 +108,17 @@ told_on (Some book) now log es notes told = subst (λ (o : Option (List BookEntr
 
 pub behind_moves : {D B : Type 0} {g h : _} (first : D) (log es : List BookEntry) (x x' : Segment D B g h) → AllOwn es → Moves es (moment x) (moment x') → Behind first log x → Behind first (log ++ es) x'
 behind_moves {g = g} first log es x x' own moves is = record {
-  told = told_on (moment x).book (moment x').book log es moves.notes is.told;
+  told = told_on (moment x).book (moment x').book log es moves.spans.notes is.told;
   generation = generation_on log es own ∙ is.generation ∙ sym moves.generation;
   attended = λ pid. times_on log es pid ∙ ap (times_behind es pid) (is.attended pid) ∙ sym (moves.attends pid);
-  time = goes_two (g.ticks first) (moment x).ticks (moment x').ticks (g.images first) (moment x).images (moment x').images is.time moves.time;
-  counts = counts_on (g.faults first) log es (moment x) (moment x') moves.later is.counts (moves.counts (g.faults first) is.counts.counted);
+  time = goes_two (g.ticks first) (moment x).ticks (moment x').ticks (g.images first) (moment x).images (moment x').images is.time moves.spans.time;
+  counts = counts_on (g.faults first) log es (moment x) (moment x') moves.spans.later is.counts (moves.spans.counts (g.faults first) is.counts.counted);
   unread = λ none.
       let parts = redo_parts log es none in
       let was = is.unread parts.0 in
       let unread = unread_now es (moment x) (moment x') moves.unread was.0 parts.1 in
       (unread, still (moves.unread.files unread) was.1);
-  stands = stands_on origin es (moment x) (moment x') moves.notes (moves.waits origin) (moves.goes_on origin) is.stands;
+  stands = stands_on origin es (moment x) (moment x') moves.spans.notes (moves.spans.waits origin) (moves.spans.goes_on origin) is.stands;
 }
   where
     still : (has_break es ≡ true) ⊎ ((moment x').files ≡ (moment x).files) → (has_break log ≡ true) ⊎ ((moment x).files ≡ g.seen first) → (has_break (log ++ es) ≡ true) ⊎ ((moment x').files ≡ g.seen first)
