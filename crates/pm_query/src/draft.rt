@@ -85,9 +85,9 @@ impl<'a> Draft<'a> {
     pub(crate) fn fits(&self, key: i64, value: &Text) -> bool
         ensures { IsTrue result ↔ (size_of (map.insert self.now key value.now) ≤ max_rows_bytes) }
     {
-        let (_, bytes) = self.others(key);
         let (_, added) = row_of(Some(value));
-        bytes.saturating_add(added) <= u128::from(MAX_ROWS_BYTES)
+        // The row that goes is looked up only where its bytes decide.
+        keeps_limit(self.size, added) || keeps_limit(self.others(key).1, added)
     }
 
     /// Makes a change.
@@ -156,6 +156,13 @@ fn row_of(value: Option<&Text>) -> (usize, u128)
         Some(value) => (1, 12 + value.as_str().len() as u128),
         None => (0, 0),
     }
+}
+
+// Whether rows of so many bytes and one of so many more keep the limit on their size.
+fn keeps_limit(bytes: u128, added: u128) -> bool
+    ensures { IsTrue result ↔ (bytes + added ≤ max_rows_bytes) }
+{
+    bytes.saturating_add(added) <= u128::from(MAX_ROWS_BYTES)
 }
 
 // The rows and the changes over them, both by rising key, as one list behind none.

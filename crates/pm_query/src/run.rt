@@ -8,7 +8,7 @@ use crate::draft::Draft;
 use crate::effect::{Effect, effect_of};
 use crate::item::Item;
 use crate::reply::Reply;
-use pm_rows::{Commit, Rows};
+use pm_rows::{Change, Commit, Rows};
 use pm_sql::{Script, Stmt};
 use std::alloc::{AllocError, Global};
 
@@ -54,7 +54,7 @@ struct Run<'a> {
 }
 
 impl<'a> Run<'a> {
-    ghost use Rattle.pm_query.specs.Run.{progress_of, KnowsFailure};
+    ghost use Rattle.pm_query.specs.Run.{progress_of, left_with, KnowsFailure};
 
     fn on(alloc: Global, rows: &'a Rows) -> Result<Run<'a>, AllocError>
         ensures start { IfOk result (λ run. progress_of run ≡ start_on rows.now) }
@@ -76,33 +76,60 @@ impl<'a> Run<'a> {
             stmts.now) }
     {
         let mut run = Run::on(alloc, rows)?;
-        for stmt in stmts {
+        let Some((last, before)) = stmts.split_last() else {
+            run.reply.push(Item::Empty)?;
+            return Ok(run);
+        };
+        for stmt in before {
             run.step(stmt)?;
         }
-        if stmts.is_empty() {
-            run.reply.push(Item::Empty)?;
-        }
+        run.finish(last)?;
         Ok(run)
     }
 
-    // Runs a statement, unless an error was answered.
+    // Runs a statement that others follow, unless an error was answered.
     fn step(&mut self, stmt: &Stmt) -> Result<(), AllocError>
         requires { KnowsFailure self.old }
         ensures progress { OnOk result (progress_of self.new ≡ after_statement
             (progress_of self.old) stmt.now) }
         ensures failure { OnOk result (KnowsFailure self.new) }
     {
-        if self.failed {
-            return Ok(());
-        }
-        let Effect { item, change } = effect_of(self.alloc, &mut self.draft, stmt)?;
-        if let Some(change) = change {
+        if let Some(change) = self.reply_to(stmt)? {
             self.draft.make(&change)?;
             self.commit.push(change)?;
         }
+        Ok(())
+    }
+
+    // Runs the last statement, unless an error was answered. Nobody asks for the rows behind it, so they aren't made.
+    fn finish(&mut self, stmt: &Stmt) -> Result<(), AllocError>
+        requires { KnowsFailure self.old }
+        ensures items { OnOk result (self.new.reply ≡ (after_statement
+            (progress_of self.old) stmt.now).items) }
+        ensures changes { OnOk result (self.new.commit ≡ (after_statement
+            (progress_of self.old) stmt.now).changes) }
+        ensures failure { OnOk result (KnowsFailure self.new) }
+    {
+        match self.reply_to(stmt)? {
+            Some(change) => self.commit.push(change),
+            None => Ok(()),
+        }
+    }
+
+    // Answers a statement, unless an error was answered, and tells the change that is left to make, if any.
+    fn reply_to(&mut self, stmt: &Stmt) -> Result<Option<Change>, AllocError>
+        requires { KnowsFailure self.old }
+        ensures progress { IfOk result (λ change. left_with self.new change ≡ after_statement
+            (progress_of self.old) stmt.now) }
+        ensures failure { OnOk result (KnowsFailure self.new) }
+    {
+        if self.failed {
+            return Ok(None);
+        }
+        let Effect { item, change } = effect_of(self.alloc, &mut self.draft, stmt)?;
         self.failed = item.is_error();
         self.reply.push(item)?;
-        Ok(())
+        Ok(change)
     }
 
     // Nothing is committed after an error.

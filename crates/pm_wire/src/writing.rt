@@ -63,7 +63,8 @@ fn push_message(out: &mut Outbox, kind: u8, pieces: &[&[u8]]) -> Result<(), Allo
 {
     let length = 4 + total(pieces);
     out.reserve(1 + length)?;
-    append_all(out, &[&[kind], &int32_bytes(length as u32)]);
+    let [a, b, c, d] = int32_bytes(length as u32);
+    out.append(&[kind, a, b, c, d]);
     append_all(out, pieces);
     Ok(())
 }
