@@ -1,2 +1,5 @@
 pub mod Drives
 pub mod EverySlots
+pub mod GateBoards
+pub mod GatePosts
+pub mod LatchBoards

@@ -1,2 +1,4 @@
 pub mod Drive
 pub mod EverySlot
+pub mod GateChildren
+pub mod LatchChildren

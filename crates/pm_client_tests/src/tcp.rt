@@ -7,7 +7,7 @@ use pm_exit::Status;
 use pm_life::ScriptedLife;
 use pm_net::{Bells, TcpLink, TcpPort};
 use pm_outside::{Accepted, Forgotten, MemClock, MemSink, Port};
-use pm_query_tests::{GENERATION, MemStore};
+use pm_rows_tests::{GENERATION, MemStore};
 use pm_session::{Admission, Done, Means, SessionConf, serve};
 use pm_standard::StandardLink;
 use std::alloc::Global;

@@ -1,5 +1,0 @@
-use Rattle.pm_gate_tests.proofs.worker.new_workers.Given as goal
-use Rattle.pm_board.specs.Posts.{AllIdle}
-
-abbrev pub invariant-loop-place : goal.invariant-loop-place
-invariant-loop-place l = AllIdle l.posts.left.items

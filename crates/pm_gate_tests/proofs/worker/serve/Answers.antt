@@ -1,5 +1,0 @@
-use Rattle.pm_gate_tests.proofs.Posts as posts
-use Rattle.pm_gate_tests.proofs.worker.serve.Goals as goal
-
-pub returns-then-is_done : goal.returns-then-is_done
-returns-then-is_done g c = let runs = c.in-Some-go_once.ensures.stays in posts.exits _ _ runs.0 _ _ runs.1 c.exit.ensures.knows

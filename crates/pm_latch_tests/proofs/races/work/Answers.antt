@@ -1,5 +1,0 @@
-use Rattle.std.proofs.Common.{ap}
-use Rattle.pm_latch_tests.proofs.races.work.Goals as goal
-
-pub live-requires : goal.live-requires
-live-requires g c = let met = c.in-Job.ensures.met.1 in (met.0, ap (λ p. p.work) met.5)

@@ -1,0 +1,11 @@
+use Rattle.std.proofs.Common.{◌∙◌}
+use Rattle.pm_rows_tests.specs.Asking.{ReplyNotes}
+use Rattle.pm_query.specs.NotedLaws.{newcomer_is}
+use Rattle.pm_rows_tests.proofs.Askings.{visits, visit_notes}
+use Rattle.pm_rows_tests.proofs.asking.ask.Goals as goal
+
+pub returns : goal.returns
+returns g c =
+    let user = newcomer_is c.args.pid c.args.generation _ _ _ (g.met.S.Store.stays _ _ _ c.in_ok-pass.ensures.notes.1) c.in_ok-pass.ensures.view in
+    let visit = visits g.S.Store.notes _ _ _ (λ user entries. ReplyNotes user c.args.script.now c.released-answer.result entries) _ _ _ _ g.met.S.Store.in_turn user (c.released-answer.ensures.user ∙ user) c.in_ok-pass.ensures.notes c.released-answer.ensures.notes c.leave.ensures.notes in
+    (visit.0, visit.1, visit_notes _ _ _ visit.0 visit.2)

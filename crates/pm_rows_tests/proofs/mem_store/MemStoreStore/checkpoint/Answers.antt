@@ -1,0 +1,9 @@
+use Rattle.std.proofs.Common.{Some, Err, refl}
+use Rattle.pm_query.specs.Calls.{CheckpointNotes}
+use Rattle.pm_rows_tests.proofs.MemStores.{tells_again}
+use Rattle.pm_rows_tests.proofs.mem_store.MemStoreStore.checkpoint.Goals as goal
+
+pub returns-in-Some-clause-notes : goal.returns-in-Some-clause-notes
+returns-in-Some-clause-notes g c =
+    tells_again c.args.pass.now.pid _ _ _ (λ refusal entries. CheckpointNotes (record { pid = c.args.pass.now.pid; generation = c.args.pass.now.generation; stamp = Some 1 }) c.args.clean (Err refusal) entries)
+    _ _ _ _ _ _ _ _ _ c.broken.ensures.answer c.reserve.ensures.entries c.broken.ensures.noted c.broken.ensures.kept (_, refl)

@@ -1,7 +1,0 @@
-use Rattle.pm_segment_tests.proofs.visit.visit.Given as goal
-
-abbrev pub invariant-loop-call : goal.invariant-loop-call
-invariant-loop-call g l =
-    (goal.iterator-loop-call g).can_next l.call-iterator ×
-    (goal.iterator-loop-call g).is_finite l.call-iterator ×
-    g.S.Store.admits l.store l.pass

@@ -1,6 +1,0 @@
-use Rattle.pm_shared.specs.Passes.{Among}
-use Rattle.pm_shared_tests.specs.Seats.{IsSame}
-use Rattle.pm_shared_tests.proofs.crowd.insert_rows.Given as goal
-
-abbrev pub invariant-loop-row : goal.invariant-loop-row
-invariant-loop-row g l = Among l.pass l.token.passes × IsSame l.fn.token l.token

@@ -1,0 +1,6 @@
+//! Tests of a store that threads share.
+
+mod batch;
+mod crowd;
+mod session;
+mod world;

@@ -1,6 +1,0 @@
-use Rattle.std.proofs.Common.{◌≡◌}
-use Rattle.pm_worker_tests.specs.Crew.{IsLookedOver}
-use Rattle.pm_worker_tests.proofs.crew.look_over.Given as goal
-
-abbrev pub invariant-loop-slot : goal.invariant-loop-slot
-invariant-loop-slot l = IsLookedOver l.roster.knows l.slot × (l.roster.knows.notes.last_pid ≡ l.fn.roster.knows.notes.last_pid)

@@ -1,6 +1,0 @@
-use Rattle.std.proofs.Common.{◌≡◌, ◌+◌}
-use Rattle.pm_worker_tests.specs.Crew.{IsManned}
-use Rattle.pm_worker_tests.proofs.pool.serve_all.Given as goal
-
-abbrev pub invariant-loop-number : goal.invariant-loop-number
-invariant-loop-number g l = IsManned l.roster.knows × (l.roster.knows.notes.last_pid ≡ l.number + 3)

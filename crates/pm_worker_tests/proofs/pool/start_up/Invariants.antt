@@ -1,7 +1,0 @@
-use Rattle.std.proofs.Common.{◌≡◌}
-use Rattle.std.specs.Prelude.{false}
-use Rattle.pm_worker_tests.specs.Crew.{IsFresh}
-use Rattle.pm_worker_tests.proofs.pool.start_up.Given as goal
-
-abbrev pub invariant-loop : goal.invariant-loop
-invariant-loop g l = (goal.iterator-loop g).can_next l.iterator' × (goal.iterator-loop g).is_finite l.iterator' × IsFresh l.roster.knows 1 × (l.roster.knows.is_open ≡ false)
