@@ -1,5 +1,5 @@
 -- An act is given and done, and its entry is noted.
-use Rattle.std.proofs.Common.{◌≡◌, ℕ, refl, eq-eqb, ◌+◌, ◌≤◌, arith, cond, Some, ◌∙◌, ap, [], ◌∷◌, sym, subst, List, length, ◌++◌}
+use Rattle.std.proofs.Common.{◌≡◌, ℕ, refl, eq-eqb, ◌+◌, ◌≤◌, arith, cond, Some, ◌∙◌, ap, [], ◌∷◌, sym, subst, List, length}
 use Rattle.std.specs.Prelude.{true, ◌==◌, false, Bool, nat_le, ◌||◌}
 use Rattle.std.proofs.lemmas.Bool.{eqb-true, le-leb, leb-true, lt-leb, ne_eqb}
 use Rattle.std.proofs.Math.Bool.{or-false}
@@ -7,17 +7,15 @@ use Rattle.pm_exit.specs.declared.child.Kind.{Kind}
 use Rattle.pm_state.specs.declared.action.Action.{Action}
 use Rattle.pm_state.specs.declared.action.Action.TheVariants as act
 use Rattle.pm_journal.specs.Roll.{kind_in}
-use Rattle.pm_journal.specs.Standing.{Standing, done, next_pid, entry_for, act_for}
-use Rattle.pm_acts.specs.Acts.{IsPresent, is_last_drawn, AsksAsDue, AreOurs, Keeps, LogBehind}
+use Rattle.pm_journal.specs.Standing.{Standing, done, next_pid, entry_for}
+use Rattle.pm_acts.specs.Acts.{IsPresent, AsksAsDue, Keeps}
+use Rattle.pm_journal.specs.Due.{is_last_drawn, AreOurs}
 use Rattle.pm_server.specs.Journal.{asked_in, accepted_in}
 use Rattle.pm_supervisor.specs.Children.{one_if}
 use Rattle.pm_modes.specs.declared.Mode.{Mode}
 use Rattle.pm_state.specs.Journal.{without_first, last_pid}
 use Rattle.pm_supervisor.specs.declared.Ending.TheVariants as endings
 use Rattle.pm_supervisor.specs.CountLaws.{at_most_one}
-use Rattle.pm_lines.specs.Log.{HasSaid, LogView}
-use Rattle.pm_lines.specs.LogLaws.{said_more, said_same}
-use Rattle.pm_state.specs.declared.event.PmEvent.{PmEvent}
 
 -- ---- the children
 
@@ -120,15 +118,3 @@ keeps_on a b c one two = record {
   drawn = λ drawn. two.drawn (one.drawn drawn);
   unowed = λ drawn unowed. two.unowed (one.drawn drawn) (one.unowed drawn unowed);
 }
-
--- an act is done
-pub said_acted : (a : Action) (s : Standing) (journal : List PmEvent) (first before now : LogView) → LogBehind (act_for a s) before now → HasSaid journal first before → HasSaid (journal ++ entry_for a s ∷ []) first now
-said_acted (act.Start k) s journal first before now same so_far = subst (λ (l : LogView). HasSaid (journal ++ entry_for (act.Start k) s ∷ []) first l) (sym same) (said_same journal (entry_for (act.Start k) s ∷ []) first before refl so_far)
-said_acted (act.Quit why) s journal first before now same so_far = subst (λ (l : LogView). HasSaid (journal ++ entry_for (act.Quit why) s ∷ []) first l) (sym same) (said_same journal (entry_for (act.Quit why) s ∷ []) first before refl so_far)
-said_acted act.Terminate s journal first before now same so_far = subst (λ (l : LogView). HasSaid (journal ++ entry_for act.Terminate s ∷ []) first l) (sym same) (said_same journal (entry_for act.Terminate s ∷ []) first before refl so_far)
-said_acted act.KillAll s journal first before now same so_far = subst (λ (l : LogView). HasSaid (journal ++ entry_for act.KillAll s ∷ []) first l) (sym same) (said_same journal (entry_for act.KillAll s ∷ []) first before refl so_far)
-said_acted act.AskCheckpoint s journal first before now same so_far = subst (λ (l : LogView). HasSaid (journal ++ entry_for act.AskCheckpoint s ∷ []) first l) (sym same) (said_same journal (entry_for act.AskCheckpoint s ∷ []) first before refl so_far)
-said_acted act.Ready s journal first before now same so_far = subst (λ (l : LogView). HasSaid (journal ++ entry_for act.Ready s ∷ []) first l) (sym same) (said_same journal (entry_for act.Ready s ∷ []) first before refl so_far)
-said_acted act.Reset s journal first before now same so_far = subst (λ (l : LogView). HasSaid (journal ++ entry_for act.Reset s ∷ []) first l) (sym same) (said_same journal (entry_for act.Reset s ∷ []) first before refl so_far)
-said_acted (act.Say line) s journal first before now says so_far = said_more journal line first before now so_far says
-said_acted (act.End how) s journal first before now same so_far = subst (λ (l : LogView). HasSaid (journal ++ entry_for (act.End how) s ∷ []) first l) (sym same) (said_same journal (entry_for (act.End how) s ∷ []) first before refl so_far)

@@ -6,5 +6,3 @@ pub mod StepsLaws
 pub mod RunsLaws
 pub mod ActsLaws
 pub mod NextsLaws
-pub mod RulesLaws
-pub mod EndsLaws

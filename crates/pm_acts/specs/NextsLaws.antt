@@ -1,21 +1,19 @@
 -- What the next act is that is due, of those that these servers do.
-use Rattle.std.proofs.Common.{◌≡◌, [], ◌∷◌, Some, List, Option, Err, refl, sym, ◌∙◌, ap, None, ℕ, ◌+◌, subst, append-nil}
-use Rattle.std.specs.Prelude.{Bool, true, false, ◌||◌}
-use Rattle.std.proofs.Math.Bool.{or-false}
+use Rattle.std.proofs.Common.{◌≡◌, [], ◌∷◌, Some, List, Option, Err, refl, sym, ◌∙◌, ap, None, ℕ, subst, append-nil}
+use Rattle.std.specs.Prelude.{Bool, true, false}
 use Rattle.pm_state.specs.declared.action.Action.{Action}
 use Rattle.pm_state.specs.declared.action.Action.TheVariants as act
 use Rattle.pm_outside.specs.Added.{Added}
-use Rattle.pm_journal.specs.Standing.{Standing, act_for, done, entry_for, first_due, next_in}
+use Rattle.pm_journal.specs.Standing.{Standing, done, entry_for, first_due, next_in}
 use Rattle.pm_journal.specs.declared.act.GenerationsSpent.{GenerationsSpent}
 use Rattle.pm_journal.specs.Moments.{AreGiven}
-use Rattle.pm_acts.specs.Acts.{AreOurs, AreSays, Keeps, is_last_drawn, IsPresent}
+use Rattle.pm_journal.specs.Due.{AreOurs, AreSays, is_last_drawn}
+use Rattle.pm_acts.specs.Acts.{Keeps, IsPresent}
 use Rattle.pm_state.specs.declared.event.PmEvent.{PmEvent}
 use Rattle.pm_chain.specs.Steps.{Notes}
 use Rattle.pm_acts.specs.Steps.{IsFree}
-use Rattle.pm_supervisor.specs.declared.Ending.{Ending}
 use Rattle.pm_acts.specs.ActsLaws.{drawn_kept, auxiliary_kept, unowed_kept}
-use Rattle.pm_journal.specs.Stands.{IsSettled, AtWork}
-use Rattle.pm_journal.specs.declared.act.Act.TheVariants as given
+use Rattle.pm_journal.specs.Stands.{IsSettled}
 use Rattle.pm_state.specs.declared.action.Line.{Line}
 
 -- ---- its entry
@@ -41,14 +39,6 @@ pub entry_free : (a : Action) (s : Standing) → (a ≡ act.Reset → ⊥) → I
 entry_free act.Reset s other = absurd (other refl)
 entry_free _ s other = tt
 
-pub generation_kept : (a : Action) (s : Standing) → (a ≡ act.Reset → ⊥) → (done a s).generation ≡ s.generation
-generation_kept act.Reset s other = absurd (other refl)
-generation_kept _ s other = refl
-
-pub ended_kept : (a : Action) (s : Standing) → ((how : Ending) → a ≡ act.End how → ⊥) → (done a s).ended ≡ s.ended
-ended_kept (act.End how) s goes_on = absurd (goes_on how refl)
-ended_kept _ s goes_on = or-false s.ended
-
 pub says_tail : (a : Action) (rest : List Action) → AreSays (a ∷ rest) → AreSays rest
 says_tail (act.Say line) rest says = says
 says_tail _ rest says = absurd says
@@ -71,18 +61,10 @@ pub same_told : (told now : Option (List PmEvent)) → Added [] told now → now
 same_told None now adds = adds
 same_told (Some j) now adds = adds ∙ ap (λ (l : List PmEvent). Some l) (append-nil j)
 
-pub same_work : (v w : AtWork) → w.standing ≡ v.standing → w.told ≡ v.told → w ≡ v
-same_work v w standing told =
-    ap (λ (s : Standing). record { told = w.told; standing = s }) standing ∙ ap (λ (t : Option (List PmEvent)). record { told = t; standing = v.standing }) told
-
 pub still_keeps : (s : Standing) → Keeps s s
 still_keeps s = record { auxiliaries = λ pid k there. there; settled = λ was. was; drawn = λ drawn. drawn; unowed = λ drawn unowed. unowed }
 
 -- ---- what `perform` needs
-
-pub reset_number : (a : Action) (s : Standing) (generation : ℕ) → act_for a s ≡ given.Reset generation → generation ≡ s.generation + 1
-reset_number (act.Start k) s generation is = cc
-reset_number _ s generation is = cc
 
 pub says_unspent : (due : List Action) (s : Standing) (e : GenerationsSpent) → AreSays due → (next_in due s).answer ≡ Err e → ⊥
 says_unspent [] s e says answer = absurd cc

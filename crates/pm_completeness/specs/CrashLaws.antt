@@ -9,7 +9,7 @@ use Rattle.pm_server.specs.declared.end.ServerEnd.{ServerEnd}
 use Rattle.pm_server.specs.declared.end.ServerEnd.TheVariants.{Clean, NoMemory}
 use Rattle.pm_completeness.specs.Crashes.{AreOrderly, AreOrderlySoFar, AreUnharmed, CompletesItsRuns}
 use Rattle.pm_once.specs.Once.{IsOnceEnd, IsOnceRun}
-use Rattle.pm_once.specs.Outside.{OutsideView}
+use Rattle.pm_server.specs.Outside.{OutsideView}
 
 pub run_unharmed : (conf : Conf) (end : ServerEnd) (before now : OutsideView) (run : IsOnceRun conf end before now)
     → ¬ (Rose before.disk.faults now.disk.faults) → AreUnharmed conf.limits run.steps

@@ -1,9 +1,12 @@
 pub mod Doing
+pub mod Due
+pub mod EndsLaws
 pub mod Laws
 pub mod Moments
 pub mod NextsLaws
 pub mod Roll
 pub mod RollLaws
+pub mod RulesLaws
 pub mod Standing
 pub mod Stands
 pub mod Supervision

@@ -1,14 +1,18 @@
 -- What the next act is that is due, and what it leaves.
-use Rattle.std.proofs.Common.{◌≡◌, ◌+◌, List, [], ◌∷◌, Option, None, Some, Result, Ok, Err, refl, sym, ap, ◌∙◌, arith, length}
+use Rattle.std.proofs.Common.{◌≡◌, ℕ, ◌+◌, List, [], ◌∷◌, Option, None, Some, Result, Ok, Err, refl, sym, ap, ◌∙◌, arith, length}
 use Rattle.std.specs.Prelude.{Bool, true, false}
 use Rattle.std.proofs.lemmas.Bool.{eqb-true}
+use Rattle.std.proofs.Math.Bool.{or-false}
+use Rattle.pm_supervisor.specs.declared.Ending.{Ending}
 use Rattle.pm_state.specs.declared.action.Action.{Action}
 use Rattle.pm_state.specs.declared.action.Action.TheVariants as act
 use Rattle.pm_state.specs.Journal.{without_first}
 use Rattle.pm_state.specs.declared.event.PmEvent.{PmEvent}
 use Rattle.pm_journal.specs.declared.act.Act.{Act}
+use Rattle.pm_journal.specs.declared.act.Act.TheVariants as given
 use Rattle.pm_journal.specs.declared.act.GenerationsSpent.{GenerationsSpent}
 use Rattle.pm_journal.specs.Standing.{Next, Standing, act_for, done, entry_for, first_due, is_spent, next_in, next_of, all_noted, noted}
+use Rattle.pm_journal.specs.Stands.{AtWork}
 
 -- ---- the first act
 
@@ -104,3 +108,21 @@ next_spent s e answer = spent_in s.due s e refl answer
 pub noted-due : (es : List PmEvent) (s : Standing) → (all_noted es s).due ≡ s.due
 noted-due [] s = refl
 noted-due (e ∷ es) s = noted-due es (noted e s)
+
+-- ---- what an act leaves
+
+pub generation_kept : (a : Action) (s : Standing) → (a ≡ act.Reset → ⊥) → (done a s).generation ≡ s.generation
+generation_kept act.Reset s other = absurd (other refl)
+generation_kept _ s other = refl
+
+pub ended_kept : (a : Action) (s : Standing) → ((how : Ending) → a ≡ act.End how → ⊥) → (done a s).ended ≡ s.ended
+ended_kept (act.End how) s goes_on = absurd (goes_on how refl)
+ended_kept _ s goes_on = or-false s.ended
+
+pub reset_number : (a : Action) (s : Standing) (generation : ℕ) → act_for a s ≡ given.Reset generation → generation ≡ s.generation + 1
+reset_number (act.Start k) s generation is = cc
+reset_number _ s generation is = cc
+
+pub same_work : (v w : AtWork) → w.standing ≡ v.standing → w.told ≡ v.told → w ≡ v
+same_work v w standing told =
+    ap (λ (s : Standing). record { told = w.told; standing = s }) standing ∙ ap (λ (t : Option (List PmEvent)). record { told = t; standing = v.standing }) told

@@ -23,7 +23,8 @@ use Rattle.pm_journal.specs.Stands.{AtWork, IsSettled}
 use Rattle.pm_once.specs.Calls.{Admits, Asks, Finishes, HasRun}
 use Rattle.pm_duties.specs.Outcomes.{ComesTo}
 use Rattle.pm_once.specs.Goes.{Goes, IsRunning}
-use Rattle.pm_acts.specs.Acts.{IsIdle, is_last_drawn, IsPresent}
+use Rattle.pm_journal.specs.Due.{IsIdle, is_last_drawn}
+use Rattle.pm_acts.specs.Acts.{IsPresent}
 use Rattle.pm_acts.specs.Steps.{sessions_in}
 use Rattle.pm_server.specs.Journal.{accepted_in}
 use Rattle.pm_duties.specs.Auxiliaries.{AreThere, HasLess}

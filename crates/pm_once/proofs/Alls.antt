@@ -2,7 +2,8 @@
 use Rattle.std.proofs.Common.{◌≡◌, ℕ, List, [], ◌∷◌, ◌++◌, Result, Ok, Err, refl, ◌∙◌}
 use Rattle.std.specs.Prelude.{Bool, true, false, IsOk}
 use Rattle.pm_chain.specs.Steps.{Step}
-use Rattle.pm_acts.specs.Acts.{AreSays, Keeps}
+use Rattle.pm_journal.specs.Due.{AreSays}
+use Rattle.pm_acts.specs.Acts.{Keeps}
 use Rattle.pm_acts.specs.Loop.{IsDoneThrough, last_answer}
 use Rattle.pm_once.specs.Calls.{Acts, DoesNext, DoesOne}
 use Rattle.pm_once.specs.Goes.{Does, Goes, IsRunning, StaysOpen}

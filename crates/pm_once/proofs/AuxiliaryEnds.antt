@@ -8,7 +8,7 @@ use Rattle.pm_journal.specs.Standing.{Standing, later}
 use Rattle.pm_journal.specs.Stands.{AtWork}
 use Rattle.pm_once.specs.Calls.{Finishes, HasAuxiliaryRun, NotesNoExit}
 use Rattle.pm_once.specs.Goes.{Does, IsRunning}
-use Rattle.pm_acts.specs.Acts.{IsIdle, is_last_drawn}
+use Rattle.pm_journal.specs.Due.{IsIdle, is_last_drawn}
 use Rattle.pm_acts.specs.Steps.{if_session}
 use Rattle.pm_server.specs.Journal.{accepted_in}
 use Rattle.pm_duties.specs.Auxiliaries.{AreThere, HasLess}

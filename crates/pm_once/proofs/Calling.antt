@@ -18,7 +18,8 @@ use Rattle.pm_journal.specs.Laws.{GoesOnOverItsJournal}
 use Rattle.pm_outside.specs.Added.{Added}
 use Rattle.pm_journal.specs.Standing.{IsAtRest, Standing, asking, later, made, turning}
 use Rattle.pm_journal.specs.Stands.{AtWork, Stands, behind}
-use Rattle.pm_acts.specs.Acts.{AreOurs, AsksAsDue, IsIdle, is_last_drawn}
+use Rattle.pm_journal.specs.Due.{AreOurs, IsIdle, is_last_drawn}
+use Rattle.pm_acts.specs.Acts.{AsksAsDue}
 use Rattle.pm_once.specs.Goes.{Does, IsAt, IsOpen}
 use Rattle.pm_acts.specs.Steps.{IsFree}
 use Rattle.pm_server.specs.Journal.{IsMoment, asked_in}
@@ -31,7 +32,7 @@ use Rattle.pm_outside.specs.AddedLaws.{added_none}
 use Rattle.pm_server.specs.JournalLaws.{asked_in-append}
 use Rattle.pm_acts.specs.StepsLaws.{serves_nothing}
 use Rattle.pm_journal.specs.ToldLaws.{told_more}
-use Rattle.pm_acts.specs.RulesLaws.{ask_says, says_ours, turn_rule}
+use Rattle.pm_journal.specs.RulesLaws.{ask_says, says_ours, turn_rule}
 use Rattle.pm_once.proofs.Undisturbed.{asked_disturbed, turned_disturbed}
 use Rattle.pm_duties.specs.CalmLaws.{asked_stands, goes_on_so}
 use Rattle.pm_lines.specs.LogLaws.{said_same}

@@ -28,7 +28,8 @@ use Rattle.pm_journal.specs.Stands.{AtWork, IsSettled, Stands, behind}
 use Rattle.pm_duties.specs.Outcomes.{ComesTo}
 use Rattle.pm_once.specs.Calls.{HasRun, NotesExit, NotesNoExit}
 use Rattle.pm_acts.specs.Steps.{exit_of, IsFree}
-use Rattle.pm_acts.specs.Acts.{AreOurs, AsksAsDue, IsIdle, is_last_drawn}
+use Rattle.pm_journal.specs.Due.{AreOurs, IsIdle, is_last_drawn}
+use Rattle.pm_acts.specs.Acts.{AsksAsDue}
 use Rattle.pm_once.specs.Goes.{Goes, IsRunning, StaysOpen}
 use Rattle.pm_server.specs.Journal.{IsMoment, asked_in}
 use Rattle.pm_duties.specs.Auxiliaries.{AreThere, HasLess, heard_of}
@@ -43,7 +44,7 @@ use Rattle.pm_duties.specs.CausesLaws.{caused_entry, caused_on, caused_run}
 use Rattle.pm_outside.specs.AddedLaws.{added_none}
 use Rattle.pm_server.specs.JournalLaws.{asked_in-append}
 use Rattle.pm_journal.specs.ToldLaws.{told_more}
-use Rattle.pm_acts.specs.RulesLaws.{exit_ours}
+use Rattle.pm_journal.specs.RulesLaws.{exit_ours}
 use Rattle.pm_duties.specs.AuxiliariesLaws.{auxiliaries_without, off_startup, auxiliaries_beside}
 use Rattle.pm_lines.specs.LogLaws.{said_same}
 use Rattle.pm_once.proofs.Undisturbed.{GoesOnDisk, ran_disturbed, ran_on_disturbed, taken_disturbed}

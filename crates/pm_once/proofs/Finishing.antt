@@ -13,7 +13,8 @@ use Rattle.pm_outside.specs.Added.{Added}
 use Rattle.pm_journal.specs.Standing.{IsAtRest, Standing, asking, later, made}
 use Rattle.pm_journal.specs.Stands.{AtWork}
 use Rattle.pm_once.specs.Calls.{Acts, Asks, Finishes}
-use Rattle.pm_acts.specs.Acts.{AreSays, AsksAsDue, IsIdle, is_last_drawn}
+use Rattle.pm_journal.specs.Due.{AreSays, IsIdle, is_last_drawn}
+use Rattle.pm_acts.specs.Acts.{AsksAsDue}
 use Rattle.pm_once.specs.Goes.{IsAt, IsOpen, IsRunning, StaysOpen}
 use Rattle.pm_server.specs.Journal.{asked_in}
 use Rattle.pm_once.specs.View.{View}
@@ -25,8 +26,8 @@ use Rattle.pm_outside.specs.AddedLaws.{added_none}
 use Rattle.pm_server.specs.JournalLaws.{times_none}
 use Rattle.pm_once.proofs.Going.{does_any, does_then}
 use Rattle.pm_acts.specs.StepsLaws.{serves_nothing}
-use Rattle.pm_acts.specs.NextsLaws.{same_work}
-use Rattle.pm_acts.specs.RulesLaws.{ask_says}
+use Rattle.pm_journal.specs.NextsLaws.{same_work}
+use Rattle.pm_journal.specs.RulesLaws.{ask_says}
 use Rattle.pm_once.proofs.Undisturbed.{disturbed_on, less_follows}
 use Rattle.pm_duties.specs.CalmLaws.{no_more, still_less}
 use Rattle.pm_segment.specs.MovesLaws.{moves_none, spans_none}

@@ -22,7 +22,9 @@ use Rattle.pm_journal.specs.Laws.{GoesOnOverItsJournal}
 use Rattle.pm_outside.specs.Added.{Added}
 use Rattle.pm_journal.specs.Standing.{Standing, act_for, done, entry_for, first_due}
 use Rattle.pm_journal.specs.Stands.{AtWork, IsSettled, Stands}
-use Rattle.pm_acts.specs.Acts.{AreSays, LogBehind, AreOurs, AsksAsDue}
+use Rattle.pm_journal.specs.Due.{AreSays, AreOurs}
+use Rattle.pm_server.specs.Acted.{LogBehind}
+use Rattle.pm_acts.specs.Acts.{AsksAsDue}
 use Rattle.pm_once.specs.Calls.{DoesNext, Performs, end_by, outcome}
 use Rattle.pm_duties.specs.Outcomes.{Stays, end_in, HasComeTo}
 use Rattle.pm_once.specs.Knows.{Knows}
@@ -37,7 +39,8 @@ use Rattle.pm_server.specs.declared.end.ServerEnd.TheVariants.{NoMemory}
 use Rattle.pm_duties.specs.declared.checkpointer.Closed.TheVariants.{Made, Crashed, Full, Short}
 use Rattle.pm_duties.specs.declared.outcome.Outcome.{Outcome}
 use Rattle.pm_duties.specs.declared.outcome.Outcome.TheVariants.{Closed, Refused}
-use Rattle.pm_acts.specs.ActsLaws.{asks_acted, due_kept, not_accepted, not_asked, ours_tail, said_acted}
+use Rattle.pm_acts.specs.ActsLaws.{asks_acted, due_kept, not_accepted, not_asked, ours_tail}
+use Rattle.pm_server.specs.ActedLaws.{said_acted}
 use Rattle.pm_duties.specs.AuxiliariesLaws.{auxiliaries_acted}
 use Rattle.pm_acts.specs.RunsLaws.{notes_follow, stands_by_itself}
 use Rattle.pm_duties.specs.CausesLaws.{acted_heard, caused_entry, caused_renewal}
@@ -49,9 +52,9 @@ use Rattle.pm_server.specs.Renewed.{HasRenewed}
 use Rattle.pm_server.specs.RenewedLaws.{spans_renewal}
 use Rattle.pm_once.proofs.Undisturbed.{GoesOnDisk, acted_disturbed, renewed_disturbed}
 use Rattle.pm_duties.specs.CalmLaws.{shutdown_done}
-use Rattle.pm_journal.specs.NextsLaws.{first_is, shorter}
+use Rattle.pm_journal.specs.NextsLaws.{first_is, shorter, generation_kept, ended_kept, same_work}
 use Rattle.pm_journal.specs.ToldLaws.{told_more}
-use Rattle.pm_acts.specs.NextsLaws.{no_moment, moment_kept, entry_free, generation_kept, ended_kept, says_tail, says_owes, keeps_done, same_told, same_work, still_keeps, IsLine}
+use Rattle.pm_acts.specs.NextsLaws.{no_moment, moment_kept, entry_free, says_tail, says_owes, keeps_done, same_told, still_keeps, IsLine}
 use Rattle.pm_acts.specs.Loop.{answer_of}
 
 -- ---- its entry

@@ -21,7 +21,7 @@ use Rattle.pm_journal.specs.Standing.{later}
 use Rattle.pm_once.specs.Calls.{Asks, Finishes}
 use Rattle.pm_acts.specs.Steps.{exit_of, ServesNone, sessions_in}
 use Rattle.pm_once.specs.Goes.{IsEndOf, StaysOpen}
-use Rattle.pm_acts.specs.Acts.{IsIdle, is_last_drawn}
+use Rattle.pm_journal.specs.Due.{IsIdle, is_last_drawn}
 use Rattle.pm_server.specs.Journal.{accepted_in, asked_in}
 use Rattle.pm_once.specs.Serves.{AreNumbered, HasServed, IsServed, Serves, passed, taken_for}
 use Rattle.pm_once.specs.Service.{Connection, IsOfItself, IsServedAs, is_panic, is_signal, run_of, visit_of, with_connections, with_end}

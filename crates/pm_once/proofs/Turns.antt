@@ -8,7 +8,7 @@ use Rattle.pm_journal.specs.Laws.{GoesOnOverItsJournal}
 use Rattle.pm_journal.specs.Standing.{IsAtRest, Standing, made, turning}
 use Rattle.pm_journal.specs.Stands.{AtWork, IsSettled}
 use Rattle.pm_once.specs.Calls.{Acts, Asks, Finishes, Turns}
-use Rattle.pm_acts.specs.Acts.{IsIdle, is_last_drawn}
+use Rattle.pm_journal.specs.Due.{IsIdle, is_last_drawn}
 use Rattle.pm_once.specs.Goes.{IsRunning}
 use Rattle.pm_once.specs.Serves.{HasServed, Serves}
 use Rattle.pm_once.specs.Service.{Connection}
@@ -20,7 +20,7 @@ use Rattle.pm_once.proofs.Calling.{turned}
 use Rattle.pm_once.proofs.Finishing.{is_drawn}
 use Rattle.pm_once.proofs.Going.{does_any, does_then, goes_none}
 use Rattle.pm_acts.specs.StepsLaws.{serves_nothing}
-use Rattle.pm_acts.specs.NextsLaws.{same_work}
+use Rattle.pm_journal.specs.NextsLaws.{same_work}
 use Rattle.pm_once.proofs.Serving.{finishes_serves, nothing_served, served_on, serves_on}
 
 pub turn_running : GoesOnOverItsJournal → (before : View) (w : AtWork) → IsRunning before → IsIdle before.work.standing → w.standing ≡ made turning before.work.standing → w.told ≡ before.work.told → IsRunning (record before { work = w })

@@ -29,7 +29,7 @@ use Rattle.pm_segment.specs.Moment.{Moment}
 use Rattle.pm_segment.specs.Moves.{IsCountedFrom}
 use Rattle.pm_duties.specs.Auxiliaries.{HasLess, auxiliaries_after, heard_of}
 use Rattle.pm_duties.specs.AuxiliaryRuns.{IsRunAs}
-use Rattle.pm_acts.specs.Acts.{AreOurs}
+use Rattle.pm_journal.specs.Due.{AreOurs}
 use Rattle.pm_duties.specs.Calm.{AreCalm, HasFineSession, IsCalm, IsFineExit, is_behind_crash}
 use Rattle.pm_once.specs.Undisturbed.{IsDisturbedAt, IsDisturbedSo}
 use Rattle.pm_once.specs.View.{View}

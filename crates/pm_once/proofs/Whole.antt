@@ -28,7 +28,7 @@ use Rattle.pm_segment.specs.Children.{times_in}
 use Rattle.pm_outside.specs.Added.{Added}
 use Rattle.pm_segment.specs.Moves.{BreakIsShown}
 use Rattle.pm_segment.specs.declared.live.Live.{Live}
-use Rattle.pm_outside.specs.AddedLaws.{added_both}
+use Rattle.pm_outside.specs.AddedLaws.{added_both, added_none}
 use Rattle.pm_chain.specs.Laws.{StepsGoOn}
 use Rattle.pm_chain.specs.Steps.{AreSteps, AreStepsBehind, MayFollow, MayStep, Notes, Renews, Runs, RunsOn, Step, book_of, journal_by, journal_of, replay_of, whole_book}
 use Rattle.pm_chain.specs.FoldsLaws.{journal-append}
@@ -36,7 +36,8 @@ use Rattle.pm_journal.specs.Laws.{GoesOnOverItsJournal, KeepsALegalJournal}
 use Rattle.pm_journal.specs.Standing.{Standing, first_due, nothing_done}
 use Rattle.pm_journal.specs.Stands.{Remembers, Stands, any_moment}
 use Rattle.pm_duties.specs.Outcomes.{AreCaused, IsRefusedSo}
-use Rattle.pm_acts.specs.Acts.{AreOurs, AsksAsDue, IsIdle, is_last_drawn}
+use Rattle.pm_journal.specs.Due.{AreOurs, IsIdle, is_last_drawn}
+use Rattle.pm_acts.specs.Acts.{AsksAsDue}
 use Rattle.pm_acts.specs.Steps.{EndsWith, IsNoRenewal}
 use Rattle.pm_once.specs.Goes.{IsAt, IsEndOf, IsOpen, IsRunning, Outset}
 use Rattle.pm_server.specs.Journal.{IsMoment, asked_in, IsJournal}
@@ -55,9 +56,8 @@ use Rattle.pm_server.specs.declared.end.Why.TheVariants.{AfterCrash, StartupFail
 use Rattle.pm_duties.specs.AuxiliaryRuns.{AreToldBehind, nothing_heard}
 use Rattle.pm_duties.specs.declared.auxiliaries.Auxiliaries.{Auxiliaries}
 use Rattle.pm_duties.specs.declared.outcome.Outcome.{Outcome}
-use Rattle.pm_outside.specs.AddedLaws.{added_none}
 use Rattle.pm_server.specs.JournalLaws.{all_weaker}
-use Rattle.pm_acts.specs.EndsLaws.{last_set, spent_next}
+use Rattle.pm_journal.specs.EndsLaws.{last_set, spent_next}
 use Rattle.pm_once.proofs.Undisturbed.{spent_disturbed}
 
 -- a server before it does anything

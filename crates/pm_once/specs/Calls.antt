@@ -17,7 +17,9 @@ use Rattle.pm_outside.specs.Added.{Added}
 use Rattle.pm_journal.specs.Standing.{IsAtRest, Standing, exiting, made}
 use Rattle.pm_journal.specs.Stands.{IsSettled}
 use Rattle.pm_once.specs.Goes.{Does, Goes, StaysOpen}
-use Rattle.pm_acts.specs.Acts.{IsIdle, is_last_drawn, LogBehind, AreSays, Keeps, IsPresent}
+use Rattle.pm_journal.specs.Due.{IsIdle, is_last_drawn, AreSays}
+use Rattle.pm_server.specs.Acted.{LogBehind}
+use Rattle.pm_acts.specs.Acts.{Keeps, IsPresent}
 use Rattle.pm_acts.specs.Steps.{if_session, sessions_in}
 use Rattle.pm_server.specs.Journal.{accepted_in, asked_in}
 use Rattle.pm_duties.specs.Auxiliaries.{AreThere, HasLess, auxiliaries_after, heard_of, IsOff}

@@ -24,7 +24,8 @@ use Rattle.pm_duties.specs.declared.outcome.Outcome.TheVariants.{Closed, Refused
 use Rattle.pm_server.specs.declared.end.ServerEnd.{ServerEnd}
 use Rattle.pm_server.specs.declared.end.ServerEnd.TheVariants.{Clean, Abnormal, NoThread, NoMemory}
 use Rattle.pm_server.specs.declared.end.Why.TheVariants.{AfterCrash, StartupFailed, RestartOff, GenerationsSpent}
-use Rattle.pm_acts.specs.Acts.{AsksAsDue, AreOurs}
+use Rattle.pm_acts.specs.Acts.{AsksAsDue}
+use Rattle.pm_journal.specs.Due.{AreOurs}
 use Rattle.pm_duties.specs.Outcomes.{AreCaused}
 use Rattle.pm_acts.specs.Steps.{IsFree, IsNoRenewal, EndsWith, ServesNone}
 

@@ -2,7 +2,6 @@ pub mod Calls
 pub mod Goes
 pub mod Knows
 pub mod Once
-pub mod Outside
 pub mod Serves
 pub mod Service
 pub mod Undisturbed

@@ -12,10 +12,10 @@ use Rattle.pm_chain.specs.Steps.{AreSteps, Step, book_of, journal_of, replay_of,
 use Rattle.pm_server.specs.declared.conf.Conf.{Conf}
 use Rattle.pm_duties.specs.AuxiliaryRuns.{AreToldBehind, IsRefusedLast, nothing_heard}
 use Rattle.pm_acts.specs.Steps.{EndsWith}
-use Rattle.pm_acts.specs.Acts.{is_last_drawn}
+use Rattle.pm_journal.specs.Due.{is_last_drawn}
 use Rattle.pm_server.specs.Journal.{IsJournal, asked_in}
 use Rattle.pm_lines.specs.Log.{HasLogged, log_of}
-use Rattle.pm_once.specs.Outside.{OutsideView, store_view}
+use Rattle.pm_server.specs.Outside.{OutsideView, store_view}
 use Rattle.pm_server.specs.Ends.{EndsWell, IsBook, IsCausedBy, IsEndBy, end_line}
 use Rattle.pm_once.specs.Serves.{HasServed}
 use Rattle.pm_once.specs.Service.{Connection}

@@ -6,7 +6,7 @@ use Rattle.pm_outside.specs.Visits.{Visits}
 use Rattle.pm_chain.specs.Steps.{Step, journal_of}
 use Rattle.pm_journal.specs.declared.supervision.Taken.{Taken}
 use Rattle.pm_once.specs.Goes.{Goes, IsEndOf, StaysOpen}
-use Rattle.pm_acts.specs.Acts.{IsIdle, is_last_drawn}
+use Rattle.pm_journal.specs.Due.{IsIdle, is_last_drawn}
 use Rattle.pm_acts.specs.Steps.{sessions_in}
 use Rattle.pm_server.specs.Journal.{accepted_in, asked_in}
 use Rattle.pm_once.specs.Service.{Connection, IsServedAs, run_of, with_connections, with_end}

@@ -6,12 +6,12 @@
 #![tactic(auto)]
 
 mod admitted;
+mod ended;
 mod laws;
-mod outside;
 mod rounds;
 mod run_once;
 mod server;
 mod session;
 
-pub use outside::{Ended, Outside};
+pub use ended::Ended;
 pub use run_once::once;

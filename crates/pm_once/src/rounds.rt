@@ -20,7 +20,7 @@ impl<J: Chronicle<PmEvent>, O: Sink, D: Disk, B: Chronicle<BookEntry>> Server<J,
     ghost use Rattle.pm_journal.specs.Stands.{IsSettled};
     ghost use Rattle.pm_journal.specs.Supervision.{standing};
     ghost use Rattle.pm_once.specs.Calls.{Turns};
-    ghost use Rattle.pm_acts.specs.Acts.{IsIdle};
+    ghost use Rattle.pm_journal.specs.Due.{IsIdle};
     ghost use Rattle.pm_once.specs.Goes.{IsRunning};
     ghost use Rattle.pm_once.specs.Serves.{HasServed, Serves};
     ghost use Rattle.pm_once.specs.Service.{Connection};

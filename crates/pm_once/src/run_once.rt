@@ -2,10 +2,10 @@
 
 ghost use Rattle.std.specs.Prelude.{◌≡◌, ◌≤◌, ◌+◌, [], IfSome};
 ghost use Rattle.pm_once.specs.Once.{IsOnceRun};
-ghost use Rattle.pm_once.specs.Outside.{outside_view};
+ghost use Rattle.pm_server.specs.Outside.{outside_view};
 
+use crate::ended::Ended;
 use crate::laws::laws;
-use crate::outside::{Ended, Outside};
 use crate::server::Server;
 use pm_disk::Disk;
 use pm_duties::Auxiliaries;
@@ -14,7 +14,7 @@ use pm_lines::Log;
 use pm_outside::{Chronicle, Clock, Port, Sink};
 use pm_query::BookEntry;
 use pm_segment::{Commits, Sole};
-use pm_server::{Conf, ServerEnd, say_end};
+use pm_server::{Conf, Outside, ServerEnd, say_end};
 use pm_state::PmEvent;
 use std::alloc::Global;
 use std::sync::Wait;

@@ -46,7 +46,7 @@ impl<J: Chronicle<PmEvent>, O: Sink, D: Disk, B: Chronicle<BookEntry>> Server<J,
     ghost use Rattle.pm_journal.specs.declared.act.Act.TheVariants.{Reset, Say};
     ghost use Rattle.pm_state.specs.declared.action.Line.{Line};
     ghost use Rattle.pm_once.specs.Calls.{Acts, Performs, RenewsStore, end_by};
-    ghost use Rattle.pm_acts.specs.Acts.{AreSays};
+    ghost use Rattle.pm_journal.specs.Due.{AreSays};
     ghost use Rattle.pm_once.specs.Goes.{IsRunning};
     ghost use Rattle.pm_once.specs.View.{view_of};
 
@@ -153,7 +153,7 @@ impl<J: Chronicle<PmEvent>, O: Sink, D: Disk, B: Chronicle<BookEntry>> Server<J,
     ghost use Rattle.pm_journal.specs.Supervision.{at_work, standing};
     ghost use Rattle.pm_once.specs.Calls.{Asks, Finishes, HasAuxiliaryRun, NotesExit, NotesNoExit};
     ghost use Rattle.pm_acts.specs.Steps.{exit_of};
-    ghost use Rattle.pm_acts.specs.Acts.{IsIdle};
+    ghost use Rattle.pm_journal.specs.Due.{IsIdle};
     ghost use Rattle.pm_once.specs.Goes.{IsRunning};
     ghost use Rattle.pm_once.specs.View.{view_of};
 
@@ -300,7 +300,7 @@ impl<J: Chronicle<PmEvent>, O: Sink, D: Disk, B: Chronicle<BookEntry>> Server<J,
     ghost use Rattle.pm_journal.specs.Stands.{IsSettled};
     ghost use Rattle.pm_journal.specs.Supervision.{HasRoom, standing};
     ghost use Rattle.pm_once.specs.Calls.{Admits};
-    ghost use Rattle.pm_acts.specs.Acts.{IsIdle};
+    ghost use Rattle.pm_journal.specs.Due.{IsIdle};
     ghost use Rattle.pm_once.specs.Goes.{IsRunning};
     ghost use Rattle.pm_once.specs.Serves.{HasServed, Serves};
     ghost use Rattle.pm_once.specs.Service.{Connection};

@@ -6,8 +6,8 @@ use Rattle.pm_board.specs.declared.views.RosterStep.{RosterStep}
 use Rattle.pm_board.specs.declared.views.RosterView.{RosterView}
 use Rattle.pm_board.specs.Children.{CountsChildren}
 use Rattle.pm_board.specs.BoardLaws.{no_connection}
-use Rattle.pm_acts.specs.Acts.{LogBehind}
-use Rattle.pm_acts.specs.ActsLaws.{said_acted}
+use Rattle.pm_server.specs.Acted.{LogBehind}
+use Rattle.pm_server.specs.ActedLaws.{said_acted}
 use Rattle.pm_journal.specs.declared.act.Act.{Act}
 use Rattle.pm_journal.specs.declared.act.Act.TheVariants as act
 use Rattle.pm_journal.specs.declared.roll.Enrolled.{Enrolled}

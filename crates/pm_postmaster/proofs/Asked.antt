@@ -5,7 +5,7 @@ use Rattle.std.specs.Prelude.{Bool, true, false, ◌==◌, ◌||◌, if◌then�
 use Rattle.std.specs.List.{AllByRecursion}
 use Rattle.std.proofs.Math.Bool.{or-true, or-false}
 use Rattle.pm_facts.specs.Lists.{each_both}
-use Rattle.pm_acts.specs.Acts.{is_last_drawn}
+use Rattle.pm_journal.specs.Due.{is_last_drawn}
 use Rattle.pm_journal.specs.Standing.{Standing}
 use Rattle.pm_outside.specs.Visits.{Visits, after_accept}
 use Rattle.pm_outside.specs.declared.port.Accepted.TheVariants.{End}

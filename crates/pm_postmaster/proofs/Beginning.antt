@@ -29,7 +29,7 @@ use Rattle.pm_postmaster.specs.Looking.{came_of}
 use Rattle.pm_postmaster.specs.Requests.{MayOwe, ended_in}
 use Rattle.pm_supervisor.specs.Children.{one_if}
 use Rattle.pm_supervisor.specs.CountLaws.{at_most_one}
-use Rattle.pm_acts.specs.Acts.{is_last_drawn}
+use Rattle.pm_journal.specs.Due.{is_last_drawn}
 use Rattle.pm_postmaster.specs.Serving.{IsServing, KillsAll, Outset, Renews}
 use Rattle.pm_postmaster.specs.View.{View}
 

@@ -12,8 +12,8 @@ use Rattle.pm_journal.specs.Moments.{AreGiven}
 use Rattle.pm_journal.specs.Standing.{Standing, accepting, all_noted, asking, called, done, ends_redo, entry_for, exit_call, exit_entry, exiting, later, made, ticking, turning}
 use Rattle.pm_modes.specs.declared.Mode.{Mode}
 use Rattle.pm_supervisor.specs.declared.Ending.TheVariants as endings
-use Rattle.pm_acts.specs.Acts.{AreOurs}
-use Rattle.pm_acts.specs.RulesLaws.{turn_rule}
+use Rattle.pm_journal.specs.Due.{AreOurs}
+use Rattle.pm_journal.specs.RulesLaws.{turn_rule}
 use Rattle.pm_postmaster.specs.Serving.{KillsAll, Moments}
 
 module _ (gives : ℕ → Type 0) where

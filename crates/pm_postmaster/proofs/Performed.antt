@@ -6,24 +6,21 @@ use Rattle.pm_exit.specs.declared.child.Status.{Status}
 use Rattle.pm_board.specs.declared.views.PastChild.{PastChild}
 use Rattle.pm_board.specs.Children.{CountsChildren}
 use Rattle.pm_board.specs.Places.{slot_at}
-use Rattle.pm_acts.specs.Acts.{LogBehind}
-use Rattle.pm_acts.specs.EndsLaws.{last_set, spent_next}
-use Rattle.pm_journal.specs.NextsLaws.{first_is, next_given, next_spent}
-use Rattle.pm_acts.specs.NextsLaws.{ended_kept, generation_kept}
+use Rattle.pm_server.specs.Acted.{LogBehind}
+use Rattle.pm_journal.specs.EndsLaws.{last_set, spent_next}
+use Rattle.pm_journal.specs.NextsLaws.{first_is, next_given, next_spent, ended_kept, generation_kept}
 use Rattle.pm_journal.specs.declared.act.Act.{Act}
 use Rattle.pm_journal.specs.Laws.{KeepsALegalJournal}
 use Rattle.pm_journal.specs.Standing.{Standing, act_for, done, entry_for, first_due, next_of}
 use Rattle.pm_journal.specs.Stands.{any_moment}
 use Rattle.pm_lines.specs.Log.{LogView}
-use Rattle.pm_seating.specs.Acts.{MayPerform, IsDone as IsDoneAtBoard, Performs as PerformsAtBoard}
-use Rattle.pm_seating.specs.Board.{seats_of}
-use Rattle.pm_seating.specs.Calls.{slot_for}
+use Rattle.pm_seating.specs.Acts.{MayPerform, IsDone as IsDoneAtBoard, Performs as PerformsAtBoard, MayDo}
+use Rattle.pm_seating.specs.Board.{seats_of, ended_of}
+use Rattle.pm_seating.specs.Calls.{slot_for, DoesNext, StandsStill}
 use Rattle.pm_seating.specs.Final.{MayEndAnywhere}
 use Rattle.pm_seating.specs.FoldingLaws.{journal-more}
-use Rattle.pm_seating.specs.Acts.{MayDo}
 use Rattle.pm_board.specs.Gate.{gate_of}
 use Rattle.pm_state.specs.Starts.{has_end}
-use Rattle.pm_seating.specs.Board.{ended_of}
 use Rattle.pm_seating.specs.Seating.{Move, Notes, ended_at, journal_of}
 use Rattle.pm_seating.specs.Sitting.{KeepsPast}
 use Rattle.pm_seating.specs.Standing.{view}
@@ -34,7 +31,6 @@ use Rattle.pm_server.specs.declared.end.StartWhy.TheVariants.{Redo, Killed}
 use Rattle.pm_server.specs.declared.end.Why.TheVariants.{StartupFailed}
 use Rattle.pm_server.specs.declared.end.Why.TheVariants as whys
 use Rattle.pm_journal.specs.declared.act.GenerationsSpent.{GenerationsSpent}
-use Rattle.pm_seating.specs.Calls.{DoesNext, StandsStill}
 use Rattle.pm_query.specs.declared.store.StoreNo.{StoreNo}
 use Rattle.pm_query.specs.declared.store.StoreNo.TheVariants as nos
 use Rattle.pm_exit.specs.declared.child.Status.TheVariants.{Code, Signal}

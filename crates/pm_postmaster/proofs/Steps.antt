@@ -2,7 +2,7 @@
 use Rattle.std.proofs.Common.{◌≡◌, ℕ, List, [], ◌∷◌, ◌++◌, refl, sym, ap, subst, ◌∙◌, length, append-nil}
 use Rattle.std.specs.Prelude.{Bool, true, false, if◌then◌else◌, Option, None, Some, IfSome}
 use Rattle.pm_board.specs.declared.views.RosterView.{RosterView}
-use Rattle.pm_acts.specs.NextsLaws.{same_work}
+use Rattle.pm_journal.specs.NextsLaws.{same_work}
 use Rattle.pm_journal.specs.declared.roll.Enrolled.{Enrolled}
 use Rattle.pm_journal.specs.Moments.{AreGiven}
 use Rattle.pm_journal.specs.Standing.{Making, Standing, asking, made, ticking, turning}

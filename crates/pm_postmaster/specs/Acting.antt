@@ -4,7 +4,7 @@ use Rattle.pm_exit.specs.declared.child.Status.{Status}
 use Rattle.pm_exit.specs.declared.child.Status.TheVariants.{Code, Signal}
 use Rattle.pm_journal.specs.declared.act.Act.{Act}
 use Rattle.pm_journal.specs.declared.act.Act.TheVariants as act
-use Rattle.pm_acts.specs.Acts.{LogBehind}
+use Rattle.pm_server.specs.Acted.{LogBehind}
 use Rattle.pm_query.specs.declared.store.StoreNo.{StoreNo}
 use Rattle.pm_query.specs.declared.store.StoreNo.TheVariants.{Redo as RedoNo}
 use Rattle.pm_record.specs.declared.fault.RedoFault.{RedoFault}

@@ -1,7 +1,7 @@
 -- What a server was asked for.
 use Rattle.std.specs.Prelude.{◌≡◌, ◌≢◌, ℕ, ◌+◌, ◌≤◌, ◌∷◌, Bool, true, false, List, [], Option, None, Some, IfSome, is_some, length, option_map}
 use Rattle.std.specs.List.{AllByRecursion}
-use Rattle.pm_acts.specs.Acts.{is_last_drawn}
+use Rattle.pm_journal.specs.Due.{is_last_drawn}
 use Rattle.pm_journal.specs.Standing.{Standing}
 use Rattle.pm_outside.specs.Visits.{Visits}
 use Rattle.pm_requests.specs.Requests.{IsNumber}

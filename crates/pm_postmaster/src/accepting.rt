@@ -1,6 +1,6 @@
 //! Connections.
 ghost use Rattle.std.specs.Prelude.{◌≡◌, ◌<◌, ◌≤◌, None, false, true, IfOk, IfSome, OnOk, length};
-ghost use Rattle.pm_acts.specs.Acts.{IsIdle};
+ghost use Rattle.pm_journal.specs.Due.{IsIdle};
 ghost use Rattle.pm_board.specs.Places.{AllReaped};
 ghost use Rattle.pm_journal.specs.Standing.{MayTake, decision_on};
 ghost use Rattle.pm_journal.specs.Stands.{IsSettled};

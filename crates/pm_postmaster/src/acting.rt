@@ -1,6 +1,6 @@
 //! The acts of the machine.
 ghost use Rattle.std.specs.Prelude.{◌≡◌, ◌+◌, ℕ, [], false, true, Ok, OnOk};
-ghost use Rattle.pm_acts.specs.Acts.{IsIdle};
+ghost use Rattle.pm_journal.specs.Due.{IsIdle};
 ghost use Rattle.pm_journal.specs.Standing.{IsAtRest};
 ghost use Rattle.pm_journal.specs.Stands.{IsSettled};
 ghost use Rattle.pm_journal.specs.declared.act.Act.TheVariants.{Reset};

@@ -1,6 +1,6 @@
 //! What the operator asks for.
 ghost use Rattle.std.specs.Prelude.{◌≡◌, ◌+◌, ◌≤◌, ℕ, List, false, IfOk, OnOk, take, option_map};
-ghost use Rattle.pm_acts.specs.Acts.{IsIdle};
+ghost use Rattle.pm_journal.specs.Due.{IsIdle};
 ghost use Rattle.pm_requests.specs.Requests.{meant};
 ghost use Rattle.pm_seating.specs.Seating.{Kill};
 ghost use Rattle.pm_seating.specs.Sitting.{AreReaped};

@@ -1,6 +1,6 @@
 //! A look at every slot.
 ghost use Rattle.std.specs.Prelude.{◌≡◌, ◌+◌, ◌<◌, ℕ, false, true, OnOk, IfOk, IfSome, length, option_map};
-ghost use Rattle.pm_acts.specs.Acts.{IsIdle};
+ghost use Rattle.pm_journal.specs.Due.{IsIdle};
 ghost use Rattle.pm_seating.specs.Board.{seats_of};
 ghost use Rattle.pm_seating.specs.Sitting.{AreReaped};
 ghost use Rattle.pm_postmaster.specs.Looking.{IsOpened, MayComeBack, TakesIn, fault_in};

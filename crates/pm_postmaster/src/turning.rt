@@ -1,6 +1,6 @@
 //! The turns of a server.
 ghost use Rattle.std.specs.Prelude.{◌≡◌, ◌+◌, ℕ, false, true, OnOk, length, option_map};
-ghost use Rattle.pm_acts.specs.Acts.{IsIdle};
+ghost use Rattle.pm_journal.specs.Due.{IsIdle};
 ghost use Rattle.pm_journal.specs.Stands.{IsSettled};
 ghost use Rattle.pm_seating.specs.Sitting.{AreReaped};
 ghost use Rattle.pm_postmaster.specs.Serving.{Goes, IsAlive, Stops};

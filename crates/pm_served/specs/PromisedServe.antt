@@ -3,7 +3,7 @@ use Rattle.std.specs.Prelude.{◌≡◌, ◌⊎◌, ℕ, List, Some}
 use Rattle.pm_disk.specs.Files.{Files}
 use Rattle.pm_query.specs.declared.book.BookEntry.{BookEntry}
 use Rattle.pm_query.specs.Book.{Base}
-use Rattle.pm_once.specs.Outside.{OutsideView}
+use Rattle.pm_server.specs.Outside.{OutsideView}
 use Rattle.pm_postmaster.specs.Outside.{ServeView}
 use Rattle.pm_postmaster.specs.Served.{IsServed, IsUnmade, slots_by}
 use Rattle.pm_seating.specs.Chained.{IsChainedLoosely}

@@ -7,11 +7,10 @@ ghost use Rattle.pm_served.specs.PromisedServe.{IsPromisedServe};
 
 use pm_answers::{own_entries_stand, replies_are_right};
 use pm_disk::Disk;
-use pm_once::Outside;
 use pm_outside::{Chronicle, Clock, Console, Link, Port, Sink};
 use pm_postmaster::{Served, supervise};
 use pm_query::{BookEntry, acked_never_falls};
-use pm_server::Conf;
+use pm_server::{Conf, Outside};
 use pm_spawn::Spawner;
 use pm_state::{PmEvent, restarts_safely};
 use std::alloc::Global;

@@ -1,4 +1,7 @@
 pub mod Views
+pub mod Outside
+pub mod Acted
+pub mod ActedLaws
 pub mod Journal
 pub mod JournalLaws
 pub mod CalmLaws

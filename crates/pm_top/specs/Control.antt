@@ -5,7 +5,7 @@ use Rattle.std.specs.FinMap.{len}
 use Rattle.pm_record.specs.declared.found.Found.{Found}
 use Rattle.pm_redo.specs.Found.{FindsOnly, FindsPair}
 use Rattle.pm_redo.specs.Redo.{IsOnly}
-use Rattle.pm_once.specs.Outside.{OutsideView}
+use Rattle.pm_server.specs.Outside.{OutsideView}
 use Rattle.pm_lines.specs.Print.{IsPrinted, file_letter}
 
 -- a line: a name and its value

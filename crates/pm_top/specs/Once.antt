@@ -1,9 +1,9 @@
 -- A run of `once`.
 use Rattle.std.specs.Prelude.{◌≡◌}
 use Rattle.pm_server.specs.declared.conf.Conf.{Conf}
-use Rattle.pm_once.specs.Outside.{OutsideView}
+use Rattle.pm_server.specs.Outside.{OutsideView}
 use Rattle.pm_server.specs.declared.end.ServerEnd.{ServerEnd}
-use Rattle.pm_promises.specs.Promises.{IsPromisedRun}
+use Rattle.pm_once_promises.specs.PromisedOnce.{IsPromisedRun}
 use Rattle.pm_top.specs.Ends.{status_of}
 use Rattle.pm_top.specs.declared.status.Top.{Top}
 

@@ -1,16 +1,14 @@
 //! The commands that run in one thread: all but `serve`.
 
-ghost use Rattle.std.specs.Prelude.{◌≡◌, ◌≢◌, ◌+◌, ◌≤◌, ◌++◌, ℕ, [], List};
-ghost use Rattle.std.specs.Prelude.{codes, option_map, IfSome};
+ghost use Rattle.std.specs.Prelude.{◌≡◌, ◌≢◌, ◌+◌, ◌≤◌, ◌++◌, ℕ, [], List, codes, option_map, IfSome};
 ghost use Rattle.pm_disk.specs.Cause.{IsCounted, Rose};
-ghost use Rattle.pm_once.specs.Outside.{outside_view};
+ghost use Rattle.pm_server.specs.Outside.{outside_view};
 ghost use Rattle.pm_lines.specs.Print.{IsPrinted};
 ghost use Rattle.pm_record.specs.declared.fault.RedoFault.{RedoFault};
 ghost use Rattle.pm_redo.specs.Found.{IsReason};
 ghost use Rattle.pm_top.specs.Cluster.{HasNewCluster, IsFree, IsLeftAlone, IsTaken, KeepsTaken};
 ghost use Rattle.pm_top.specs.Control.{HasTold};
-ghost use Rattle.pm_top.specs.Ends.{HasAnswer, HasSaid, IsControldataEnd, IsInitdbEnd};
-ghost use Rattle.pm_top.specs.Ends.{initdb_line, line_of};
+ghost use Rattle.pm_top.specs.Ends.{HasAnswer, HasSaid, IsControldataEnd, IsInitdbEnd, initdb_line, line_of};
 ghost use Rattle.pm_top.specs.Load.{IsWorkloadEnd};
 ghost use Rattle.pm_top.specs.Once.{RunsOnce};
 ghost use Rattle.pm_top.specs.Serve.{IsNoServeLine};
@@ -26,12 +24,11 @@ use crate::status::Top;
 use pm_disk::Disk;
 use pm_lines::{print, print_redo};
 use pm_log::InitNo;
-use pm_once::Outside;
+use pm_once_promises::once_as_promised;
 use pm_outside::{Chronicle, Clock, Port, Sink};
-use pm_promises::once_as_promised;
 use pm_query::BookEntry;
 use pm_rows::Text;
-use pm_server::Conf;
+use pm_server::{Conf, Outside};
 use pm_state::PmEvent;
 use pm_words::{Command, read_words};
 use std::alloc::Global;
@@ -164,7 +161,7 @@ where
         (outside_view result.outside) }
     ensures rest { (result.outside.clock ≡ outside.clock) × (result.outside.seed ≡ outside.seed) }
 {
-    let pm_once::Ended { end, outside } = once_as_promised(rt, alloc, conf, outside);
+    let pm_once_promises::Ended { end, outside } = once_as_promised(rt, alloc, conf, outside);
     Worked {
         status: Top::from(end),
         outside,

@@ -2,7 +2,7 @@
 
 ghost use Rattle.std.specs.Prelude.{◌≡◌, IfSome};
 ghost use Rattle.pm_disk.specs.Cause.{IsCounted};
-ghost use Rattle.pm_once.specs.Outside.{outside_view};
+ghost use Rattle.pm_server.specs.Outside.{outside_view};
 ghost use Rattle.pm_record.specs.declared.fault.RedoFault.{RedoFault};
 ghost use Rattle.pm_redo.specs.Found.{IsReason};
 ghost use Rattle.pm_top.specs.Cluster.{IsLeftAlone};
@@ -13,11 +13,11 @@ use crate::outside::Worked;
 use crate::print::print_found;
 use crate::status::Top;
 use pm_disk::Disk;
-use pm_once::Outside;
 use pm_outside::{Chronicle, Clock, Port, Sink};
 use pm_query::BookEntry;
 use pm_record::RedoFault;
 use pm_redo::examine;
+use pm_server::Outside;
 use pm_state::PmEvent;
 use std::alloc::Global;
 

@@ -12,10 +12,9 @@ mod status;
 mod top;
 
 pub use outside::Ended;
-pub use pm_once::Outside;
 pub use pm_query::BookEntry;
 pub use pm_record::RedoFault;
-pub use pm_server::{Conf, ServerEnd, StartWhy, Why};
+pub use pm_server::{Conf, Outside, ServerEnd, StartWhy, Why};
 pub use pm_state::PmEvent;
 pub use pm_words::{Command, Line, WordsNo, misfit, read_words};
 pub use status::Top;

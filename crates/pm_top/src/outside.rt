@@ -2,9 +2,9 @@
 
 use crate::status::Top;
 use pm_disk::Disk;
-use pm_once::Outside;
 use pm_outside::{Chronicle, Clock, Console, Port, Sink};
 use pm_query::BookEntry;
+use pm_server::Outside;
 use pm_state::PmEvent;
 
 /// How a command ended, and what it worked on.

@@ -1,17 +1,15 @@
 //! The top call: all that the program does, over the outside that it is handed.
 
-ghost use Rattle.std.specs.Prelude.{◌≡◌, ◌≢◌, ◌+◌, ◌≤◌, ◌++◌, ℕ, [], List};
-ghost use Rattle.std.specs.Prelude.{codes, option_map, IfNone, IfSome};
+ghost use Rattle.std.specs.Prelude.{◌≡◌, ◌≢◌, ◌+◌, ◌≤◌, ◌++◌, ℕ, [], List, codes, option_map, IfNone, IfSome};
 ghost use Rattle.pm_disk.specs.Cause.{Rose};
-ghost use Rattle.pm_once.specs.Outside.{outside_view};
+ghost use Rattle.pm_server.specs.Outside.{outside_view};
 ghost use Rattle.pm_outside.specs.Visits.{no_visits};
 ghost use Rattle.pm_postmaster.specs.Outside.{serve_view};
 ghost use Rattle.pm_record.specs.declared.fault.RedoFault.{RedoFault};
 ghost use Rattle.pm_redo.specs.Found.{IsReason};
 ghost use Rattle.pm_top.specs.Cluster.{HasNewCluster, IsFree, IsLeftAlone, IsTaken, KeepsTaken};
 ghost use Rattle.pm_top.specs.Control.{HasTold};
-ghost use Rattle.pm_top.specs.Ends.{HasAnswer, HasSaid, IsControldataEnd, IsInitdbEnd};
-ghost use Rattle.pm_top.specs.Ends.{initdb_line, line_of};
+ghost use Rattle.pm_top.specs.Ends.{HasAnswer, HasSaid, IsControldataEnd, IsInitdbEnd, initdb_line, line_of};
 ghost use Rattle.pm_top.specs.Load.{IsWorkloadEnd};
 ghost use Rattle.pm_top.specs.Once.{RunsOnce};
 ghost use Rattle.pm_top.specs.Serve.{IsNoServeLine, IsServeLine, IsServer, RunsServe};
@@ -24,13 +22,12 @@ use crate::alone::run_alone;
 use crate::outside::{Ended, Worked};
 use crate::status::Top;
 use pm_disk::Disk;
-use pm_once::Outside;
 use pm_outside::{Chronicle, Clock, Console, Link, Port, Sink};
 use pm_postmaster::Served;
 use pm_query::BookEntry;
 use pm_rows::Text;
 use pm_served::serve_as_promised;
-use pm_server::Conf;
+use pm_server::{Conf, Outside};
 use pm_spawn::Spawner;
 use pm_state::PmEvent;
 use pm_words::{Command, read_words};

@@ -12,7 +12,7 @@ use Rattle.std.specs.List.{AllByRecursion}
 use Rattle.pm_server.specs.Story.{IsNoOpening}
 use Rattle.pm_lines.specs.Log.{LogView, view_of as log_view_of}
 use Rattle.pm_chain.specs.Steps.{book_of, journal_of, whole_book}
-use Rattle.pm_once.specs.Outside.{OutsideView, outside_view, store_view}
+use Rattle.pm_server.specs.Outside.{OutsideView, outside_view, store_view}
 use Rattle.pm_server.specs.Ends.{IsBook}
 use Rattle.pm_server.specs.Journal.{IsJournal}
 use Rattle.pm_duties.specs.Calm.{EndThemselves}

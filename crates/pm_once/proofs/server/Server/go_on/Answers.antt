@@ -2,7 +2,7 @@ use Rattle.std.proofs.Common.{[], sym, subst}
 use Rattle.std.specs.Prelude.{false}
 use Rattle.pm_journal.specs.Supervision.{standing}
 use Rattle.pm_journal.specs.Stands.{IsSettled}
-use Rattle.pm_acts.specs.Acts.{IsIdle}
+use Rattle.pm_journal.specs.Due.{IsIdle}
 use Rattle.pm_once.specs.Goes.{IsRunning}
 use Rattle.pm_once.specs.Serves.{Serves}
 use Rattle.pm_once.specs.View.{View, view_of}

@@ -1,6 +1,6 @@
 use Rattle.std.proofs.Common.{◌++◌, [], Err, sym, ◌∙◌}
 use Rattle.std.specs.Prelude.{false}
-use Rattle.pm_acts.specs.Acts.{IsIdle}
+use Rattle.pm_journal.specs.Due.{IsIdle}
 use Rattle.pm_once.specs.View.{View, view_of}
 use Rattle.pm_once.proofs.Alls.{running_on}
 use Rattle.pm_once.proofs.Turns.{turn_asks, turn_finishes, turn_served, turn_serves}

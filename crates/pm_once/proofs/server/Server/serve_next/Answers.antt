@@ -18,7 +18,7 @@ use Rattle.pm_once.proofs.Alls.{running_on}
 use Rattle.pm_once.proofs.Ending.{ran_noted, ran_on}
 use Rattle.pm_acts.specs.StepsLaws.{serves_nothing}
 use Rattle.pm_once.proofs.Links.{all_back_as, no_change}
-use Rattle.pm_acts.specs.NextsLaws.{same_work}
+use Rattle.pm_journal.specs.NextsLaws.{same_work}
 use Rattle.pm_once.proofs.Past.{past_of}
 use Rattle.pm_once.proofs.Serving.{asks_serves, end_served, nothing_served, session_exit}
 use Rattle.pm_once.proofs.server.Server.serve_next.Goals as goal

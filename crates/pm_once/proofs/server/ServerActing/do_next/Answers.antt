@@ -10,8 +10,8 @@ use Rattle.pm_once.specs.View.{View, view_of}
 use Rattle.pm_server.specs.declared.end.ServerEnd.{ServerEnd}
 use Rattle.pm_server.specs.declared.end.ServerEnd.TheVariants.{Abnormal}
 use Rattle.pm_server.specs.declared.end.Why.TheVariants.{GenerationsSpent}
-use Rattle.pm_journal.specs.NextsLaws.{next_given, next_none, next_spent}
-use Rattle.pm_acts.specs.NextsLaws.{first_says, reset_number, says_unspent}
+use Rattle.pm_journal.specs.NextsLaws.{next_given, next_none, next_spent, reset_number}
+use Rattle.pm_acts.specs.NextsLaws.{first_says, says_unspent}
 use Rattle.pm_once.proofs.Alls.{running_on}
 use Rattle.pm_once.proofs.Nexts.{performed, said_well, waits}
 use Rattle.pm_once.proofs.Past.{past_of}

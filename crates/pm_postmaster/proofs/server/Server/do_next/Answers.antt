@@ -2,8 +2,7 @@ use Rattle.std.proofs.Common.{◌+◌, ℕ, refl, sym, ap, subst, ◌∙◌, Ok}
 use Rattle.pm_seating.specs.Calls.{DoesNext}
 use Rattle.pm_seating.specs.Standing.{view}
 use Rattle.pm_journal.specs.Supervision.{at_work}
-use Rattle.pm_journal.specs.NextsLaws.{next_given, next_none}
-use Rattle.pm_acts.specs.NextsLaws.{reset_number}
+use Rattle.pm_journal.specs.NextsLaws.{next_given, next_none, reset_number}
 use Rattle.pm_worker.specs.Mails.{aux_mail}
 use Rattle.pm_postmaster.specs.View.{view_of}
 use Rattle.pm_postmaster.proofs.Calling.{IsBeside}

@@ -1,4 +1,4 @@
-use Rattle.pm_acts.specs.Acts.{IsIdle}
+use Rattle.pm_journal.specs.Due.{IsIdle}
 use Rattle.pm_postmaster.specs.Serving.{Keeps}
 use Rattle.pm_postmaster.specs.View.{view_of}
 use Rattle.pm_postmaster.proofs.server.Server.run.Given as goal

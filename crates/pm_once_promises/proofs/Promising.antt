@@ -12,14 +12,15 @@ use Rattle.pm_state.specs.Laws.{RestartsSafely}
 use Rattle.pm_state.specs.Restarts.{RestartsInOrder}
 use Rattle.pm_server.specs.declared.conf.Conf.{Conf}
 use Rattle.pm_once.specs.Once.{IsOnceRun}
-use Rattle.pm_once.specs.Outside.{OutsideView}
+use Rattle.pm_server.specs.Outside.{OutsideView}
 use Rattle.pm_server.specs.Story.{IsClean, IsStory}
 use Rattle.pm_server.specs.declared.end.ServerEnd.{ServerEnd}
-use Rattle.pm_promises.specs.Promises.{IsPromised, IsPromisedRun, IsTold, talk_of}
-use Rattle.pm_promises.proofs.Replying.{once_answers_right}
+use Rattle.pm_promises.specs.Promises.{IsPromised}
+use Rattle.pm_once_promises.specs.PromisedOnce.{IsPromisedRun, IsTold, talk_of}
+use Rattle.pm_once_promises.proofs.Replying.{once_answers_right}
 use Rattle.pm_promises.specs.Stops.{AcknowledgedStays}
 use Rattle.pm_promises.specs.StopsLaws.{at_each, whole_each, base_is}
-use Rattle.pm_promises.proofs.Telling.{its_story, opens_empty}
+use Rattle.pm_once_promises.proofs.Telling.{its_story, opens_empty}
 
 both : {A : Type 0} (P Q : A → Type 0) (o : Option A) → IfSome o P → IfSome o Q → IfSome o (λ x. P x × Q x)
 both P Q None p q = tt

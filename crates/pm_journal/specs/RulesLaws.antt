@@ -6,7 +6,7 @@ use Rattle.pm_admit.specs.declared.PmState.{PmState}
 use Rattle.pm_admit.specs.declared.PmState.TheVariants as state
 use Rattle.pm_state.specs.declared.machine.Machine.{Machine}
 use Rattle.pm_state.specs.Requests.{asked_in, asked_with}
-use Rattle.pm_acts.specs.Acts.{AreSays, AreOurs}
+use Rattle.pm_journal.specs.Due.{AreSays, AreOurs}
 use Rattle.pm_modes.specs.declared.Mode.{Mode}
 use Rattle.pm_modes.specs.Strength.{strengthen_of, is_immediate}
 use Rattle.pm_state.specs.declared.action.Action.{Action}

@@ -12,13 +12,13 @@ use Rattle.pm_server.specs.declared.conf.Conf.{Conf}
 use Rattle.pm_chain.specs.Steps.{Step, whole_book}
 use Rattle.pm_server.specs.Ends.{IsBook}
 use Rattle.pm_once.specs.Once.{IsOnceRun}
-use Rattle.pm_once.specs.Outside.{OutsideView}
+use Rattle.pm_server.specs.Outside.{OutsideView}
 use Rattle.pm_once.specs.Serves.{IsServed as IsServedLink}
 use Rattle.pm_once.specs.Service.{Connection, run_of, user_in}
 use Rattle.pm_server.specs.declared.end.ServerEnd.{ServerEnd}
 use Rattle.pm_server.specs.declared.end.ServerEnd.TheVariants as ends
-use Rattle.pm_promises.specs.Promises.{talk_of}
-use Rattle.pm_promises.proofs.Blocks.{AreBlocksIn, IsBlockIn, blocks_are}
+use Rattle.pm_once_promises.specs.PromisedOnce.{talk_of}
+use Rattle.pm_once_promises.proofs.Blocks.{AreBlocksIn, IsBlockIn, blocks_are}
 use Rattle.pm_session.specs.PassedLaws.{passed_anyhow}
 
 -- what stands in one piece has nothing between its entries

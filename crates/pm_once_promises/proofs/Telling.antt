@@ -4,10 +4,10 @@ use Rattle.std.specs.Prelude.{IfSome}
 use Rattle.pm_query.specs.declared.book.BookEntry.{BookEntry}
 use Rattle.pm_server.specs.declared.conf.Conf.{Conf}
 use Rattle.pm_once.specs.Once.{IsOnceRun}
-use Rattle.pm_once.specs.Outside.{OutsideView}
+use Rattle.pm_server.specs.Outside.{OutsideView}
 use Rattle.pm_server.specs.Story.{IsStory}
 use Rattle.pm_server.specs.declared.end.ServerEnd.{ServerEnd}
-use Rattle.pm_promises.specs.Promises.{IsTold}
+use Rattle.pm_once_promises.specs.PromisedOnce.{IsTold}
 use Rattle.pm_promises.specs.Restarts.{OpensEmpty}
 use Rattle.pm_promises.specs.RestartsLaws.{legal_opens_empty}
 

@@ -5,7 +5,6 @@ ghost use Rattle.std.specs.Prelude.{◌≡◌, ℕ};
 use pm_disk::Disk;
 use pm_outside::{Chronicle, Clock, Port, Sink};
 use pm_query::BookEntry;
-use pm_server::ServerEnd;
 use pm_state::PmEvent;
 
 /// What a server works on, and gives back at its end.
@@ -31,17 +30,4 @@ pub struct Outside<
     ghost told: { (P.visits port ≡ P.visits port) × (O.written sink ≡ O.written sink)
         × (D.seen disk ≡ D.seen disk) × ((at : ℕ) → ∥ C.gives clock at ∥₁ → ∥ C.gives clock at ∥₁)
         × (J.entries journal ≡ J.entries journal) × (B.entries book ≡ B.entries book) },
-}
-
-#[derive(Debug, Drop)]
-pub struct Ended<
-    P: Port,
-    O: Sink,
-    D: Disk,
-    C: Clock,
-    J: Chronicle<PmEvent>,
-    B: Chronicle<BookEntry>,
-> {
-    pub end: ServerEnd,
-    pub outside: Outside<P, O, D, C, J, B>,
 }

@@ -1,5 +1,5 @@
-use Rattle.pm_promises.proofs.Promising.{promised_run}
-use Rattle.pm_promises.proofs.promised.once_as_promised.Goals as goal
+use Rattle.pm_once_promises.proofs.Promising.{promised_run}
+use Rattle.pm_once_promises.proofs.promised.once_as_promised.Goals as goal
 
 pub returns-clause-run : goal.returns-clause-run
 returns-clause-run g c =

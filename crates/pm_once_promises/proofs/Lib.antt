@@ -1,0 +1,4 @@
+pub mod Blocks
+pub mod Replying
+pub mod Telling
+pub mod Promising

@@ -1,0 +1,41 @@
+-- A run of `once` that keeps what a user counts on.
+use Rattle.std.specs.Prelude.{◌≡◌, ℕ, List, [], map, Some}
+use Rattle.pm_disk.specs.Files.{Files}
+use Rattle.pm_keys.specs.CancelKey.{cancel_key}
+use Rattle.pm_admit.specs.declared.Cac.TheVariants as decisions
+use Rattle.pm_state.specs.Restarts.{RestartsInOrder}
+use Rattle.pm_query.specs.declared.book.BookEntry.{BookEntry}
+use Rattle.pm_query.specs.Book.{Base}
+use Rattle.pm_chain.specs.Steps.{journal_of}
+use Rattle.pm_answers.specs.Replies.{Talk}
+use Rattle.pm_server.specs.declared.conf.Conf.{Conf}
+use Rattle.pm_server.specs.declared.end.ServerEnd.{ServerEnd}
+use Rattle.pm_server.specs.Outside.{OutsideView}
+use Rattle.pm_once.specs.Once.{IsOnceRun}
+use Rattle.pm_once.specs.Service.{Connection}
+use Rattle.pm_promises.specs.Promises.{IsPromised}
+
+-- a connection of `once` as its client saw it
+abbrev pub talk_of : List ℕ → Connection → Talk
+talk_of seed connection = record {
+  pid = connection.pid;
+  key = cancel_key seed connection.pid;
+  decision = decisions.Ok;
+  ending = connection.ending;
+  link = connection.back.traffic;
+}
+
+-- the book tells, from its first entry on, and the disk tells its files
+pub record IsTold (before now : OutsideView) (book : List BookEntry) : Type 0 where
+  pub empty : before.book ≡ Some []
+  pub book_is : now.book ≡ Some book
+  pub files : Files
+  pub files_are : now.disk.files ≡ Some files
+
+-- A run keeps all of them where book and disk tell. What the journal says needs neither.
+pub record IsPromisedRun (conf : Conf) (end : ServerEnd) (before now : OutsideView) : Type 0 where
+  pub run : IsOnceRun conf end before now
+  pub restarts : RestartsInOrder conf.limits (journal_of run.steps)
+  pub promised :
+      (book : List BookEntry) → IsTold before now book
+      → (base : Base) × IsPromised conf.limits end (journal_of run.steps) base book (map (talk_of before.seed) run.connections) before.disk now.disk
