@@ -1,4 +1,4 @@
--- Acts, one done behind the other.
+-- Acts, one done after the other.
 use Rattle.std.specs.Prelude.{Bool, true, false, List, [], ◌∷◌, Result, Ok, Err}
 use Rattle.pm_server.specs.declared.end.ServerEnd.{ServerEnd}
 
@@ -17,7 +17,7 @@ abbrev pub IsDoneThrough : {S : Type 0} → (does : Result Bool ServerEnd → S 
 IsDoneThrough does [] last before now = does last before now
 IsDoneThrough does (next ∷ passed) last before now = does (Ok true) before next × IsDoneThrough does passed last next now
 
--- All acts that were due were done, one behind the other, or those up to one that ended the server.
+-- All acts that were due were done, one after the other, or those up to one that ended the server.
 pub record AreDone {S : Type 0} (does : Result Bool ServerEnd → S → S → Type 0) (result : Result (Unit {0}) ServerEnd) (before now : S) : Type 0 where
   pub passed : List S
   pub each : IsDoneThrough does passed (last_answer result) before now

@@ -1,4 +1,4 @@
--- A step behind others: which may follow, and the run of a child.
+-- A step after others: which may follow, and the run of a child.
 use Rattle.std.proofs.Common.{Option, None, Some, ℕ, ◌≡◌, refl, List, [], ◌∷◌, ◌∙◌, ap, ◌+◌, nat_eq, cond, arith, ◌-◌, ◌⊎◌, inl, inr, ◌++◌, sym, subst}
 use Rattle.std.specs.List.{AllByRecursion}
 use Rattle.std.specs.Prelude.{Bool, true, false, if◌then◌else◌, unwrap_or}

@@ -1,4 +1,4 @@
--- Steps of a server, some behind others, and the openings of the store in their book.
+-- Steps of a server, some after others, and the openings of the store in their book.
 use Rattle.std.proofs.Common.{◌≡◌, List, ◌++◌, [], ◌∷◌, refl, ◌∙◌, ap, ℕ, inl, inr, sym, subst}
 use Rattle.std.proofs.lemmas.Grind.{flat_map-append}
 use Rattle.std.specs.List.{AllByRecursion}

@@ -1,4 +1,4 @@
-//! The acts that are due, one behind the other.
+//! The acts that are due, one after the other.
 
 ghost use Rattle.pm_acts.specs.Loop.{AreDone};
 

@@ -1,4 +1,4 @@
--- What happens inside one generation behind its redo.
+-- What happens inside one generation after its redo.
 use Rattle.std.proofs.Common.{◌≡◌, ℕ, ◌-◌, ◌≤◌, List, [], ◌∷◌, ◌++◌, length-append, fold, Option, None, Some, refl, sym, ap, subst, ◌∙◌, arith}
 use Rattle.std.specs.Prelude.{false}
 use Rattle.std.specs.List.{Any}
@@ -97,7 +97,7 @@ with_one h (change ∷ changes) = record {
 released : (h : History) (front : ℕ) → GoesOnFrom h (acknowledged h front)
 released h front = record { count = omega arith; same = λ n le. refl }
 
--- behind a redo of the generation
+-- after a redo of the generation
 runs_on : (first : ℕ) (h : History) (entries : List BookEntry) → OpensNone entries
     → GoesOnFrom h (fold course_after (record { history = h; redone = Some first }) entries).history
 runs_on first h [] none = stays h

@@ -62,7 +62,7 @@ module _ (stays : AcknowledgedStays) (never : AckedNeverFalls) (within : AckedIs
   joined before r between behind =
       append_assoc (before ++ answer r ∷ between) (release r ∷ []) behind ∙ append_assoc before (answer r ∷ between) (release r ∷ behind)
 
-  -- the numbers behind the answer stay up to its release
+  -- the numbers after the answer stay up to its release
   kept_between : (before : List BookEntry) (r : Reply) (between behind : List BookEntry) → NoneBy r.pid between → IsLegal base (whole before r between behind)
       → GoesOnFrom (with_commit (history_of base before) r.commit) (history_of base (before ++ answer r ∷ between))
   kept_between before r between behind none legal =

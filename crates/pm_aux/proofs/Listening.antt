@@ -23,7 +23,7 @@ listens_fewer m n a b has = record { asked = asked_fewer m n a.told b.told has.a
 pub heard : (times : ℕ) (a b : Attention) → Hears times a b → IsAttentive b → Listens times a b
 heard times a b hears attentive = record { asked = hears.asked; child = hears.child; attentive = attentive }
 
--- one more ask behind those before
+-- one more ask after those before
 pub listens_more : (a b c : Attention) → Listens 0 a b → Hears 1 b c → IsAttentive c → Listens 0 a c
 listens_more a b c one hears attentive = listens_fewer 0 1 a c (listens_both 0 1 a b c one (heard 1 b c hears attentive))
 
@@ -33,7 +33,7 @@ listens_more a b c one hears attentive = listens_fewer 0 1 a c (listens_both 0 1
 abbrev pub Tells : Option (Result ℕ GateNo) → Option Told → Type 0
 Tells gate told = IfSome told (λ t. (1 ≤ t.asked) × (t.met ≡ gate))
 
--- a child that has just started, behind its first ask
+-- a child that has just started, after its first ask
 pub asked_first : (before now : Option Told) → IfSome before (λ t. t ≡ nothing_told) → HasAsked 1 before now → Tells None now
 asked_first None now is asked = let e : now ≡ None = asked in rw e tt
 asked_first (Some before) None is asked = absurd asked

@@ -64,7 +64,7 @@ met_refused (stores.Full need room) met later is same = tt
 met_refused (stores.Redo fault) met later is same = tt
 met_refused stores.NoMemory met later is same = tt
 
--- behind its leaving, too
+-- after its leaving, too
 pub met_left : (cause : Cause) (met later : ℕ) → IsMetBehind met (fault_by cause) → (lets_go cause ≡ false → later ≡ met) → IsMetBehind later (fault_by cause)
 met_left (Redone kept) met later is same = tt
 met_left Flushed met later is same = tt

@@ -9,7 +9,7 @@ use Rattle.pm_aux.specs.declared.aux_done.AuxDone.{AuxDone}
 use Rattle.pm_aux.specs.declared.cause.Cause.{Cause}
 use Rattle.pm_aux.specs.declared.cause.Cause.TheVariants.{Redone, Flushed, Closed, LeftOut, Refused, TurnedAway, ToldToTerminate, ToldToQuit, Killed}
 
--- behind such a refusal what is shared may be half changed, or is another generation's
+-- after such a refusal what is shared may be half changed, or is another generation's
 abbrev pub status_refused : StoreNo → Status
 status_refused (stores.Stale mine found) = Signal 6
 status_refused stores.Disk = Signal 6
@@ -89,7 +89,7 @@ abbrev pub unless : Bool → Option ℕ → Option ℕ
 unless true attached = None
 unless false attached = attached
 
--- where it is attached behind its end
+-- where it is attached after its end
 abbrev pub attached_behind : Cause → Option (Result ℕ GateNo) → Option ℕ
 attached_behind cause gate = unless (lets_go cause) (let_in gate)
 

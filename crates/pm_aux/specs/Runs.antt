@@ -53,7 +53,7 @@ MayBeShort kinds.Startup told = Unit {0}
 MayBeShort kinds.Checkpointer told = was_given Checkpoint told
 MayBeShort _ told = ⊥
 
--- A run by its cause: what it was told to, that it heeded all that it was told, what it met at the gate, where it is behind its
+-- A run by its cause: what it was told to, that it heeded all that it was told, what it met at the gate, where it is after its
 -- end, and what it noted.
 pub record IsRunOf (kind : Kind) (who : Runner) (end : End) (noted : List BookEntry) : Type 0 where
   pub cause : Cause

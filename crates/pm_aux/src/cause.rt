@@ -12,7 +12,7 @@ use pm_supervisor::Reason;
 pub enum Cause {
     /// The startup child read the log, and so many commits stand.
     Redone { kept: u64 },
-    /// The writer was told to terminate, and behind that two flushes in a row answered the same front.
+    /// The writer was told to terminate, and after that two flushes in a row answered the same front.
     Flushed,
     /// The checkpointer was asked for the last checkpoint, and made it.
     Closed,

@@ -16,7 +16,7 @@ use pm_outside::Clock;
 use pm_query::{Store, StoreNo};
 use std::sync::Wait;
 
-/// Flushes and rests, up to its end. Told to terminate, it flushes until two flushes in a row answer the same front: behind the
+/// Flushes and rests, up to its end. Told to terminate, it flushes until two flushes in a row answer the same front: after the
 /// second nothing was left.
 pub(crate) fn flush_on<R: Wait, S: Store, C: Clock, F: Life>(
     rt: &R,

@@ -6,10 +6,10 @@ ghost use Rattle.pm_aux.specs.Signals.{Listens};
 use pm_life::{Life, Standing, listen};
 use pm_outside::Clock;
 
-/// The store is asked again behind so many pauses.
+/// The store is asked again after so many pauses.
 const PAUSES: u32 = 20;
 
-/// Lets so many pauses pass, and takes the signals behind each, until another one stands than before.
+/// Lets so many pauses pass, and takes the signals after each, until another one stands than before.
 pub(crate) fn rest<C: Clock, F: Life>(clock: &C, life: &mut F, standing: &mut Standing)
     requires { IsAttentive (attention (F.told life.old) (F.child life.old) standing.old) }
     ensures listens { Listens 1 (attention (F.told life.old) (F.child life.old) standing.old)

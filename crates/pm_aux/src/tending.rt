@@ -43,7 +43,7 @@ pub fn writer<R: Wait, S: Store, C: Clock, F: Life>(
 }
 
 /// Makes a checkpoint whenever one is due. Asked for the last one at any of its stop points, it makes that and ends. It is
-/// started behind the end of redo: before that each checkpoint would be left out, and noted so.
+/// started after the end of redo: before that each checkpoint would be left out, and noted so.
 pub fn checkpointer<R: Wait, S: Store, C: Clock, F: Life>(
     rt: &R,
     store: &mut S,
@@ -142,7 +142,7 @@ fn enter_and_work<R: Wait, S: Store, C: Clock, F: Life>(
     }
 }
 
-// Enters the store. Want of memory is tried again behind a rest, unless the last checkpoint was asked for.
+// Enters the store. Want of memory is tried again after a rest, unless the last checkpoint was asked for.
 fn come_in<R: Wait, S: Store, C: Clock, F: Life>(
     rt: &R,
     store: &mut S,

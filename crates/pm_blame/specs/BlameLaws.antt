@@ -1,4 +1,4 @@
--- The laws: the first crash of a server's journal has a cause, and a server that ends behind a crash has had one.
+-- The laws: the first crash of a server's journal has a cause, and a server that ends after a crash has had one.
 use Rattle.std.proofs.Common.{◌≡◌, ◌⊎◌, inl, inr, ℕ, ◌+◌, ◌<◌, ◌≤◌, Bool, true, false, not, cond, ◌&&◌, ◌||◌, List, [], ◌∷◌, ◌++◌, Option, refl, sym, ap, subst, ◌∙◌, arith, append_assoc}
 use Rattle.std.specs.Prelude.{is_some}
 use Rattle.std.specs.List.{AllByRecursion, fold}
@@ -140,7 +140,7 @@ either : (b : Bool) → (b ≡ true) ⊎ (b ≡ false)
 either true = inl refl
 either false = inr refl
 
--- the first crash among these entries, behind what those before them leave
+-- the first crash among these entries, after what those before them leave
 record FirstFrom (r : Replay) (journal : List PmEvent) : Type 0 where
   pub before : List PmEvent
   pub entry : PmEvent
@@ -212,7 +212,7 @@ module _ (safely : RestartsSafely) (limits : Limits) (manner : Manner) (count : 
         ∙ ap (λ (ss : List RosterStep). ss ++ u.board_is.last) (steps-append (empty count) found.front (Notes e found.slot ∷ found.rest))
         ∙ append_assoc front_steps (step.Release end.pid end.kind behind_front.generation ∷ rest_steps) u.board_is.last
 
-    -- its pid is given to none behind it
+    -- its pid is given to none after it
     fresh : IsPidOf end.pid (pids_in (entries_from behind_it found.rest)) → ⊥
     fresh there =
         never_again limits any_moment first.before first.behind end.pid end.kind end.status end.was_active at legal
@@ -227,7 +227,7 @@ module _ (safely : RestartsSafely) (limits : Limits) (manner : Manner) (count : 
         (sym (ap (seating_of count) found.is ∙ seating-append (empty count) found.front (Notes e found.slot ∷ found.rest)))
         (nowhere_from end.pid behind_it found.rest fresh gone_then)
 
-    -- so nothing was sent to it behind its end
+    -- so nothing was sent to it after its end
     none_behind : (n : ℕ) → times_sent n end.pid (rest_steps ++ u.board_is.last) ≡ 0
     none_behind n =
         sent-append n end.pid rest_steps u.board_is.last

@@ -44,7 +44,7 @@ told_after h entry.CheckpointAsked = record h { checkpoint = true }
 told_after h entry.TerminateSent = record h { terminate = true }
 told_after h _ = h
 
--- it ends children at once, or comes behind a crash alone
+-- it ends children at once, or comes after a crash alone
 abbrev pub is_harm : Action → Bool
 is_harm (act.Quit why) = true
 is_harm act.KillAll = true

@@ -18,12 +18,12 @@ is_crash m (entry.Exited pid kind status was_active at) =
     not (is_normal (class_of kind (is_shutdown m.state) was_active status) || (is_startup_child kind && (is_exit_1 status && is_some m.shutdown)))
 is_crash m _ = false
 
--- none is among these, each as it is met behind those before it
+-- none is among these, each as it is met after those before it
 abbrev pub HasNoCrash : Replay → List PmEvent → Type 0
 HasNoCrash r [] = Unit {0}
 HasNoCrash r (e ∷ journal) = (is_crash r.machine e ≡ false) × HasNoCrash (replayed r e) journal
 
--- what stands behind these entries
+-- what stands after these entries
 abbrev pub stands_behind : Limits → List PmEvent → Machine
 stands_behind limits before = (all_replayed (replay_begun limits) before).machine
 
@@ -41,7 +41,7 @@ IsUnasked (entry.KillAsked pid) = ⊥
 IsUnasked (entry.Asked Immediate at) = ⊥
 IsUnasked _ = Unit {0}
 
--- It tells of no order to end at once, of no next generation, and of no end of the server behind a crash.
+-- It tells of no order to end at once, of no next generation, and of no end of the server after a crash.
 abbrev pub IsHarmless : PmEvent → Type 0
 IsHarmless (entry.QuitSent why) = ⊥
 IsHarmless (entry.KillSent at) = ⊥

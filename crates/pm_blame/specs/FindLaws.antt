@@ -36,7 +36,7 @@ use Rattle.pm_blame.specs.SendsLaws.{SitsNowhere, nowhere, pids_of_append, sat_o
 
 -- ---- the move
 
--- a move notes this entry, behind these moves and before those
+-- a move notes this entry, after these moves and before those
 pub record NotedAt (s : Seating) (moves : List Move) (before : List PmEvent) (e : PmEvent) (behind : List PmEvent) : Type 0 where
   pub front : List Move
   pub slot : ℕ
@@ -235,7 +235,7 @@ module _ (manner : Manner) (count : ℕ) (moves : List Move) (board : RosterView
     apart : (a b : ℕ) → nat_eq a b ≡ false → b ≢ a
     apart a b other is = grind (arith, other, is)
 
-    -- behind its end none of its pid sits anywhere
+    -- after its end none of its pid sits anywhere
     pub gone : (seating_by (seating_from (empty count) front) (Notes e slot)).seats ≡ set (seating_from (empty count) front).seats slot None
         → SitsNowhere end.pid (seating_by (seating_from (empty count) front) (Notes e slot)).seats
     gone seats_are =

@@ -33,7 +33,7 @@ use Rattle.pm_blame.specs.CalmLaws.{IsCalm, SoFar, accepted_calm, act_calm, aske
 keeps_calm : Keeps SoFar told_after IsCalm IsHarmless
 keeps_calm = record { acted = act_calm; redo = λ h generation kept acts m calm. (tt, calm); row = λ h m on calm. row_calm h m calm; settled = settled_calm }
 
--- what is kept behind an entry
+-- what is kept after an entry
 abbrev AreCalmBehind : SoFar → Replay → PmEvent → Type 0
 AreCalmBehind h r e = Behind SoFar told_after IsCalm IsHarmless h r e
 
@@ -120,7 +120,7 @@ there_without pid other (c ∷ cs) there = by (nat_eq c.pid other) there (there_
     by false (inl is) rest = inl is
     by false (inr later) rest = inr (rest later)
 
--- who is there behind an entry was there before it, or begins by it
+-- who is there after an entry was there before it, or begins by it
 there_by : (pid : ℕ) (r : Replay) (e : PmEvent) → IsThere pid (replayed r e).shown.children → IsThere pid r.shown.children ⊎ IsPidOf pid (pids_by e)
 there_by pid r (entry.Started other k) (inl is) = inr (inl (sym is))
 there_by pid r (entry.Started other k) (inr later) = inl later
@@ -152,7 +152,7 @@ rise_past low pid [] le rise its = its
 rise_past low pid (other ∷ pids) le rise (inl is) = absurd (omega (arith, rise.0, is, le))
 rise_past low pid (other ∷ pids) le rise (inr its) = rise_past other pid pids (omega (arith, rise.0, le)) rise.1 its
 
--- the pid of a child that ends is given to none behind it
+-- the pid of a child that ends is given to none after it
 pub never_again : (limits : Limits) (gives : ℕ → Bool) (before behind : List PmEvent) (pid : ℕ) (k : Kind) (status : Status) (was_active : Bool) (at : ℕ)
     → IsLegal limits gives (before ++ entry.Exited pid k status was_active at ∷ behind) → IsPidOf pid (pids_in behind) → ⊥
 never_again limits gives before behind pid k status was_active at legal =

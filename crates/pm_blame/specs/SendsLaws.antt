@@ -141,7 +141,7 @@ unreached n pid s (move ∷ moves) fresh none =
     (λ its. fresh_all (pid_either pid (pids_in (entries_by s move)) (pids_in (entries_from (seating_by s move) moves)) (inr its)))
     (nowhere_by pid s move (λ its. fresh_all (pid_either pid (pids_in (entries_by s move)) (pids_in (entries_from (seating_by s move) moves)) (inl its))) none))
 
--- so none sits there behind them either
+-- so none sits there after them either
 pub nowhere_from : (pid : ℕ) (s : Seating) (moves : List Move) → (IsPidOf pid (pids_in (entries_from s moves)) → ⊥) → SitsNowhere pid s.seats → SitsNowhere pid (seating_from s moves).seats
 nowhere_from pid s [] fresh none = none
 nowhere_from pid s (move ∷ moves) fresh none =
@@ -151,7 +151,7 @@ nowhere_from pid s (move ∷ moves) fresh none =
     (λ its. fresh_all (pid_either pid (pids_in (entries_by s move)) (pids_in (entries_from (seating_by s move) moves)) (inr its)))
     (nowhere_by pid s move (λ its. fresh_all (pid_either pid (pids_in (entries_by s move)) (pids_in (entries_from (seating_by s move) moves)) (inl its))) none)
 
--- ---- behind the last entry
+-- ---- after the last entry
 
 not_sitting : (pid k : ℕ) (c : Enrolled) (seats : List (Option Enrolled)) → SitsNowhere pid seats → seat_at k seats ≡ Some c → c.pid ≢ pid
 not_sitting pid k c [] none sits = (let never : None ≡ Some c = sits in absurd cc)

@@ -123,7 +123,7 @@ module _ (xs ys : List RosterStep) (before after : ℕ → ℕ → Type 0) (grow
     still = λ number small. subst (λ (z : ℕ). times_given number h.given + bit_at latch number ≤ z) (sym (sent-append number pid xs ys)) (omega (arith, r.still number small));
   }
 
--- what stands behind the gate's word stays where another word changes
+-- the words after the gate's stay where another word changes
 far : (n j i word : ℕ) (words : List ℕ) → i ≤ n → (latch_at n (set words i word) j ≡ latch_at n words j) × (cancel_at n (set words i word) j ≡ cancel_at n words j)
 far n j i word words le = (get_or-set_other words i (n + 1 + j) word 0 (λ e. absurd (omega arith)), get_or-set_other words i (n + 1 + n + j) word 0 (λ e. absurd (omega arith)))
 

@@ -470,11 +470,11 @@ module _ {J D : Type 0} (letter : Letter.Ghosts J D) (limit : ℕ) where
   abbrev Owes : (s : St letter) (id i : ℕ) (me : Seated J D) (f : ℕ → ℕ) (tells : ℕ → Seated J D → Type 0) → Type 0
   Owes s id i me f tells = (v : View D) × (a : Act (Option J)) × Valid s.homes me.1 a × Kept letter limit (stepped s i (f (get_or s.words i 0)) id me.1 v a) × tells (get_or s.words i 0) (v, carried_after me.1 a)
 
-  -- the gate's part, where a word behind the gate's changes
+  -- the gate's part, where a word after the gate's changes
   far_gate : (n k i word : ℕ) (words : List ℕ) (d : RosterView D) (cells : ℕ → Cell D) → n < i → GateOk limit n (get_or (set words k (get_or words k 0)) n 0) (gate_of d) cells → GateOk limit n (get_or (set words i word) n 0) (gate_of d) cells
   far_gate n k i word words d cells behind ok = subst (λ (z : ℕ). GateOk limit n z (gate_of d) cells) (ap (λ (l : List ℕ). get_or l n 0) (set-get_or words k 0) ∙ sym (get_or-set_other words i n word 0 (λ e. absurd (omega arith)))) ok
 
-  -- a worker's step behind the gate's word that changes its notes alone
+  -- a worker's step after the gate's word that changes its notes alone
   notes_step : (s : St letter) (r : Kept letter limit s) (id k i word : ℕ) (w : PostView D) (notes : PostNotes) → get_elem? s.views id ≡ some (Worker k w) → child_slots (length s.homes) < i → notes.session_limit ≡ w.notes.session_limit → notes.steps ≡ w.notes.steps
       → Latches (child_slots (length s.homes)) (set s.words i word) r.1 (put r.2 k record { phase = (r.2 k).phase; seat = id; post = with_notes w notes })
       → Kept letter limit record { words = set s.words i word; homes = s.homes; views = set s.views id (Worker k (with_notes w notes)) }

@@ -116,7 +116,7 @@ module _ {J D : Type 0} (letter : Letter.Ghosts J D) where
             (λ at_k. absurd (other (sym f.0 ∙ (ap (λ (q : ℕ). (cells q).seat) (sym at_k) ∙ is)))) (λ _ _. f) refl
         others is j Spent other f = tt
 
-  -- the rule of the slots doesn't speak of the words behind them
+  -- the rule of the slots doesn't speak of the words after them
   pub other_word : (s : St) (m : ℕ) (d : RosterView D) (cells : ℕ → Cell D) (i word : ℕ) → child_slots (length s.homes) ≤ i → Holds letter m d cells s → Holds letter m d cells record { words = set s.words i word; homes = s.homes; views = s.views }
   other_word s m d cells i word behind h = record {
     wide = length-set s.words i word ∙ h.wide;

@@ -8,7 +8,7 @@ use Rattle.pm_board.specs.declared.views.Signal.{Signal}
 use Rattle.pm_board.specs.declared.views.Signal.TheVariants.{Quit, Terminate, Kill, Checkpoint}
 use Rattle.pm_board.specs.Words.{flag}
 
--- Behind the words of n slots and the word of the gate stand those of the latches, and then those of the cancels
+-- After the words of n slots and the word of the gate stand those of the latches, and then those of the cancels
 abbrev pub latch_place : ℕ → ℕ → ℕ
 latch_place n k = n + 1 + k
 

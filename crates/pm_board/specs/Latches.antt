@@ -143,7 +143,7 @@ module _ {D : Type 0} where
   OfUnreleased P gathered = Unit {0}
 
   -- what was sent to the child that is offered stands, to the one that runs until it was told, and what a child leaves untold that
-  -- exits stands on behind it
+  -- exits stands on after it
   abbrev pub ReachesIn : List RosterStep → ℕ → List Signals → Phase D → Type 0
   ReachesIn steps latch given (offered o) = Reaches steps latch o.pid []
   ReachesIn steps latch given (running o active) = Reaches steps latch o.pid given

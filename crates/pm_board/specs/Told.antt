@@ -223,7 +223,7 @@ module _ {D : Type 0} where
   reposted (Postmaster d) w' = Postmaster d
   reposted Spent w' = Spent
 
--- behind the notice of a stop no other is given in its generation
+-- after the notice of a stop no other is given in its generation
 abbrev pub MayQuit : Option Reason → Reason → Type 0
 MayQuit noticed why = noticed ≡ Some Stop → why ≡ Stop
 

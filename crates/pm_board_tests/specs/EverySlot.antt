@@ -14,7 +14,7 @@ pub record IsFresh (d : RosterView ℕ) (count k : ℕ) : Type 0 where
   pub reaped : (j last : ℕ) → IsReaped last (slot_at d j) (slot_at d j).sight
   pub last_pid : d.notes.last_pid ≡ k
 
--- the slot k has had a child, of the pid behind it, and is unused; the others are as before
+-- the slot k has had a child, of the pid after it, and is unused; the others are as before
 pub record HasServed (k : ℕ) (before after : RosterView ℕ) : Type 0 where
   pub count : length after.slots ≡ length before.slots
   pub others : (j : ℕ) → j ≢ k → slot_at after j ≡ slot_at before j

@@ -28,7 +28,7 @@ pub record IsUntouched (d : RosterView ℕ) : Type 0 where
   pub each : (k : ℕ) → slot_at d k ≡ slot_view [] Unused
   pub last_pid : d.notes.last_pid ≡ 0
 
--- the gate of this generation, before it is opened and behind that
+-- the gate of this generation, before it is opened and after that
 abbrev pub shut_gate : ℕ → Gate
 shut_gate generation = record { generation = generation; is_open = false; noticed = None }
 

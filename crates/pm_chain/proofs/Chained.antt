@@ -161,7 +161,7 @@ module _ (journal : List PmEvent) (book : List BookEntry) (es : List PmEvent) (b
             (all_map _ _ (λ user is. exit-behind user.number is) users adds.ended));
       }
 
--- ---- what holds behind each step but one that runs on
+-- ---- what holds after each step but one that runs on
 
 record Sound (journal : List PmEvent) (book : List BookEntry) (last : Option Step) (lost : List ℕ) : Type 0 where
   linked : Linked journal book

@@ -24,7 +24,7 @@ IsPidOf pid (other ∷ pids) = (pid ≡ other) ⊎ IsPidOf pid pids
 
 -- ---- what the journal says
 
--- the generations that it begins behind the first
+-- the generations that it begins after the first
 abbrev pub resets_of : List PmEvent → List ℕ
 resets_of [] = []
 resets_of (event.Reset generation ∷ journal) = generation ∷ resets_of journal
@@ -40,7 +40,7 @@ users_from generation (event.Accepted pid decision.Ok ∷ journal) =
 users_from generation (event.Reset next ∷ journal) = users_from next journal
 users_from generation (_ ∷ journal) = users_from generation journal
 
--- the generation behind these entries
+-- the generation after these entries
 abbrev pub generation_in : ℕ → List PmEvent → ℕ
 generation_in generation [] = generation
 generation_in generation (event.Reset next ∷ journal) = generation_in next journal
@@ -59,14 +59,14 @@ exits_of [] = []
 exits_of (event.Exited pid kind status was_active at ∷ journal) = pid ∷ exits_of journal
 exits_of (_ ∷ journal) = exits_of journal
 
--- for each reset the children that ended in the generation before it while their slots were active, behind those so far
+-- for each reset the children that ended in the generation before it while their slots were active, after those so far
 abbrev pub lost_from : List ℕ → List PmEvent → List (List ℕ)
 lost_from so_far [] = []
 lost_from so_far (event.Exited pid kind status true at ∷ journal) = lost_from (so_far ++ pid ∷ []) journal
 lost_from so_far (event.Reset generation ∷ journal) = so_far ∷ lost_from [] journal
 lost_from so_far (_ ∷ journal) = lost_from so_far journal
 
--- the children that ended while their slots were active since the last reset, behind those so far
+-- the children that ended while their slots were active since the last reset, after those so far
 abbrev pub lost_since : List ℕ → List PmEvent → List ℕ
 lost_since so_far [] = so_far
 lost_since so_far (event.Exited pid kind status true at ∷ journal) = lost_since (so_far ++ pid ∷ []) journal
@@ -101,14 +101,14 @@ abbrev pub kept_of : List Redo → List InGeneration
 kept_of [] = []
 kept_of (redo ∷ redos) = redo.kept ∷ kept_of redos
 
--- for each generation the children that are gone before it, behind those so far
+-- for each generation the children that are gone before it, after those so far
 abbrev pub gone_from : List ℕ → List BookEntry → List (List ℕ)
 gone_from so_far [] = []
 gone_from so_far (entry.Gone pid ∷ book) = gone_from (so_far ++ pid ∷ []) book
 gone_from so_far (entry.Opened generation ∷ book) = so_far ∷ gone_from [] book
 gone_from so_far (_ ∷ book) = gone_from so_far book
 
--- the children that are gone since the last generation was opened, behind those so far
+-- the children that are gone since the last generation was opened, after those so far
 abbrev pub gone_since : List ℕ → List BookEntry → List ℕ
 gone_since so_far [] = so_far
 gone_since so_far (entry.Gone pid ∷ book) = gone_since (so_far ++ pid ∷ []) book

@@ -1,4 +1,4 @@
--- Laws of what journal and book say, as entries are put behind those so far.
+-- Laws of what journal and book say, as entries are put after those so far.
 use Rattle.std.proofs.Common.{◌≡◌, ℕ, true, List, [], ◌∷◌, ◌++◌, refl, ap, inl, inr}
 use Rattle.std.proofs.lemmas.Grind.{flat_map-append}
 use Rattle.pm_admit.specs.declared.Cac.TheVariants as decision

@@ -30,7 +30,7 @@ pub record ChildRun : Type 0 where
 pub data Step : Type 0 where
   -- an entry of the journal that stands by itself
   Notes : (noted : PmEvent) → Step
-  -- what a child noted in the book, and then its end in the journal, with the end of redo behind it
+  -- what a child noted in the book, and then its end in the journal, with the end of redo after it
   Runs : (run : ChildRun) → (at : ℕ) → Step
   -- the same of a child whose end isn't noted, since memory was short
   RunsOn : (run : ChildRun) → Step
@@ -63,7 +63,7 @@ journal_of steps = flat_map journal_by steps
 abbrev pub book_of : List Step → List BookEntry
 book_of steps = flat_map book_by steps
 
--- behind the opening of the store
+-- after the opening of the store
 abbrev pub whole_book : List Step → List BookEntry
 whole_book steps = entry.Opened 1 ∷ book_of steps
 
@@ -128,7 +128,7 @@ lost_in before = fold lost_after [] before
 
 -- ---- which step may come next
 
--- A renewal comes right behind the reset of its generation, and nothing else comes there. Behind a child that runs on there
+-- A renewal comes right after the reset of its generation, and nothing else comes there. After a child that runs on there
 -- is nothing.
 abbrev pub MayFollow : Option Step → Step → Type 0
 MayFollow (Some (RunsOn run)) step = ⊥
@@ -155,7 +155,7 @@ FitsIn replay lost (Runs run at) = IsThere replay run × IsRunOf run
 FitsIn replay lost (RunsOn run) = IsThere replay run × IsRunOf run
 FitsIn replay lost (Renews generation gone) = gone ≡ lost
 
--- the step may stand behind these
+-- the step may stand after these
 pub record MayStep (limits : Limits) (before : List Step) (step : Step) : Type 0 where
   pub follows : MayFollow (last_or None before) step
   pub fits : FitsIn (replay_of limits before) (lost_in before) step
@@ -164,6 +164,6 @@ abbrev pub AreStepsBehind : Limits → (before steps : List Step) → Type 0
 AreStepsBehind limits before [] = Unit {0}
 AreStepsBehind limits before (step ∷ steps) = MayStep limits before step × AreStepsBehind limits (before ++ step ∷ []) steps
 
--- each step may stand behind those before it
+-- each step may stand after those before it
 abbrev pub AreSteps : Limits → List Step → Type 0
 AreSteps limits steps = AreStepsBehind limits [] steps

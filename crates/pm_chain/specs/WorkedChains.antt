@@ -21,7 +21,7 @@ started =
 abbrev pub read : List BookEntry
 read = book.Opened 1 ∷ book.Attached 1 1 ∷ book.Redone 1 1 3 ∷ book.Detached 1 ∷ []
 
--- A session comes and goes, a connection is refused behind a smart request, and the last checkpoint is written.
+-- A session comes and goes, a connection is refused after a smart request, and the last checkpoint is written.
 abbrev pub clean_journal : List PmEvent
 clean_journal =
     started

@@ -29,7 +29,7 @@ pub fn broken_chains()
 {}
 
 /// A server that keeps journal and book side by side, step after step: where its journal is legal and each step may stand
-/// behind those before it, journal and book are chained.
+/// after those before it, journal and book are chained.
 pub fn steps_are_chained()
     ensures { StepsAreChained }
 {}

@@ -165,7 +165,7 @@ module _ (manner : Manner) (count : ℕ) (moves : List Move) (d : RosterView Mai
   lost_are_once : AllByRecursion AreDistinct ([] ∷ lost_from [] journal)
   lost_are_once = (tt, lost_once [] journal (exits_once (empty count) moves exit_once))
 
-  -- who came behind those whose ends the moves tell of, has no exit
+  -- who came after those whose ends the moves tell of, has no exit
   others_stay : (k : ℕ) (told : AreRedosOf k moves (slot_at d k).past) (pid : ℕ) → IsPidOf pid (map (λ child. child.offer.pid) told.others) → IsPidOf pid (exits_of journal) → ⊥
   others_stay k told pid its there = (let found = exit_in pid (empty count) moves there in clash found.0 found.1 (found.0 == k) refl)
     where

@@ -30,7 +30,7 @@ abbrev IsAsked : Move → Type 0
 IsAsked (Notes noted slot) = ⊥
 IsAsked _ = Unit {0}
 
--- What says nothing of requests is the same behind them.
+-- What says nothing of requests is the same after them.
 module _ {T : Type 0} (told : List PmEvent → T) (passes_ask : (mode : Mode) (at : ℕ) (rest : List PmEvent) → told (entry.Asked mode at ∷ rest) ≡ told rest)
     (passes_kill : (pid : ℕ) (rest : List PmEvent) → told (entry.KillAsked pid ∷ rest) ≡ told rest) where
   asks_pass : (s : Seating) (move : Move) (rest : List PmEvent) → IsAsked move → told (entries_by s move ++ rest) ≡ told rest

@@ -304,7 +304,7 @@ fn a_checkpointer_ends_so(rt: HostRuntime) -> Result<(), Fail> {
 }
 
 // Refused twice to enter and once for the checkpoint that is due, each time 20 pauses before the next call; then that checkpoint
-// is made, and behind it the last one.
+// is made, and after it the last one.
 #[test]
 fn a_checkpointer_tries_again(rt: HostRuntime) -> Result<(), Fail> {
     let alloc = rt.alloc();

@@ -16,7 +16,7 @@ fn script_of(alloc: Global, text: &str) -> Result<Script, Fail> {
     Ok(script)
 }
 
-// Told at its 45th ask, which comes behind the 44th pause: the store is asked at once, behind 20 pauses, behind 40, and then at
+// Told at its 45th ask, which comes after the 44th pause: the store is asked at once, after 20 pauses, after 40, and then at
 // once again.
 #[test]
 fn the_store_is_asked_behind_every_twentieth_pause(rt: HostRuntime) -> Result<(), Fail> {

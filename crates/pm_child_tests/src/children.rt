@@ -53,7 +53,7 @@ pub const ALL: Signals = Signals {
 pub enum Before {
     Unread,
     Read,
-    /// As many bytes stand behind its base as make a checkpoint due.
+    /// As many bytes stand after its base as make a checkpoint due.
     Due,
     /// The log broke at tick 12.
     Broken,

@@ -174,7 +174,7 @@ fn a_cancel_ends_the_query_in_progress(rt: HostRuntime) -> Result<(), Fail> {
     Ok(())
 }
 
-// What the life tells behind its session.
+// What the life tells after its session.
 #[test]
 fn a_life_tells_what_its_session_did(rt: HostRuntime) -> Result<(), Fail> {
     let cases: [(&str, &[Signals], Option<u32>, Option<(u32, u32)>); 4] = [

@@ -178,7 +178,7 @@ abbrev IsDone : BookEntry → Type 0
 IsDone (CheckpointEnded pid done clean) = done ≡ true
 IsDone _ = Unit {0}
 
--- behind a redo each checkpoint of the generation was made
+-- after a redo each checkpoint of the generation was made
 abbrev AreDone : List BookEntry → Type 0
 AreDone book = is_some (kept_by_redo book) ≡ true → AllByRecursion IsDone (present book)
 
@@ -220,7 +220,7 @@ done_on base before [] may has = subst AreDone (sym (append-nil before)) has
 done_on base before (entry ∷ entries) may has =
     subst AreDone (append_assoc before (entry ∷ []) entries) (done_on base (before ++ entry ∷ []) entries may.1 (done_more base before entry may.0 has))
 
--- ---- a redo, and no fault behind it
+-- ---- a redo, and no fault after it
 
 no_openings_here : (so_far entries : List BookEntry) → NoOpenings so_far → NoOpenings (fold present_after so_far entries)
 no_openings_here so_far [] none = none

@@ -359,7 +359,7 @@ module _ (safely : RestartsSafely) (limits : Limits) (manner : Manner) (count : 
           let ends : EndsInLast run = ends_in_last k run less run_there last other in
           has_redo.none_undone (to_any undoes _ (latest J) ends.there undone)
 
-  -- the book was left clean, and has no fault behind its last redo
+  -- the book was left clean, and has no fault after its last redo
   book_whole : IsWhole book
   book_whole = whole its.remains.base book has_redo.pid has_redo.generation has_redo.kept has_last.pid has_last.done legal has_redo.there has_last.there unbroken
 

@@ -25,7 +25,7 @@ abbrev pub generation_after : ℕ → PmEvent → ℕ
 generation_after before (entry.Reset generation) = generation
 generation_after before _ = before
 
--- the generation behind these entries
+-- the generation after these entries
 abbrev pub generation_behind : Replay → List PmEvent → ℕ
 generation_behind r journal = (all_replayed r journal).shown.generation
 
@@ -160,7 +160,7 @@ children_same : (s : Shared) (opens : Bool) → (shared_after s (supervisor.Redo
 children_same s true = refl
 children_same s false = refl
 
--- an end of a child is that of this one, or this one is there behind it
+-- an end of a child is that of this one, or this one is there after it
 abbrev EndsOrStays : ℕ → Replay → PmEvent → Type 0
 EndsOrStays pid r e = IsIn pid (pids_of r.shown.children) → HasEnded pid (e ∷ []) ⊎ IsIn pid (pids_of (replayed r e).shown.children)
 
@@ -205,7 +205,7 @@ latest_all entries (e ∷ journal) none =
     one (entry.Reset generation) plain = absurd plain
     one x plain = refl
 
--- a child that begins here is there behind the entry
+-- a child that begins here is there after the entry
 begins_there : (r : Replay) (e : PmEvent) (b : Begun) → IsIn b (begins r.shown.generation e) → (b.generation ≡ r.shown.generation) × IsNoReset e × IsIn b.pid (pids_of (replayed r e).shown.children)
 begins_there r (entry.Started pid k) b (inl is) = (ap (λ (x : Begun). x.generation) is, tt, inl (ap (λ (x : Begun). x.pid) is))
 begins_there r (entry.Accepted pid decision) b (inl is) = (ap (λ (x : Begun). x.generation) is, tt, inl (ap (λ (x : Begun). x.pid) is))
@@ -242,14 +242,14 @@ ended_in_last gives r entries (e ∷ journal) b legal nobody there last =
 
 -- ---- an entry of the last generation
 
--- it stands in the journal, with no Reset behind it
+-- it stands in the journal, with no Reset after it
 pub record IsLatest (x : PmEvent) (journal : List PmEvent) : Type 0 where
   pub before : List PmEvent
   pub behind : List PmEvent
   pub is : journal ≡ before ++ x ∷ behind
   pub none : NoResets behind
 
--- or it stands among those so far, with no Reset behind them
+-- or it stands among those so far, with no Reset after them
 abbrev StaysOr : PmEvent → (entries journal : List PmEvent) → Type 0
 StaysOr x entries journal = (IsIn x entries × NoResets journal) ⊎ IsLatest x journal
 

@@ -114,7 +114,7 @@ so_on gives r entries clean (e ∷ journal) legal counted mild so =
     (subst (λ (s : Seen). InOrder s (replayed r e)) (seen_next entries clean e)
     (entry_on gives (seen_by entries clean) r e legal.0 counted.0 mild.0 so))
 
--- ---- behind a clean end
+-- ---- after a clean end
 
 nobody_counted : (m : Machine) (cs : List Child) → has_nobody m ≡ true → Counts m cs → cs ≡ []
 nobody_counted m cs none counts =

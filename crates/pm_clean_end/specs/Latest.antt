@@ -7,7 +7,7 @@ abbrev pub latest_after : List PmEvent → PmEvent → List PmEvent
 latest_after entries (entry.Reset generation) = []
 latest_after entries e = entries ++ e ∷ []
 
--- those behind the last Reset, or all where there is none
+-- those after the last Reset, or all where there is none
 abbrev pub latest : List PmEvent → List PmEvent
 latest journal = fold latest_after [] journal
 

@@ -21,7 +21,7 @@ use Rattle.pm_chain.specs.WorkedChains.{clean_journal, started}
 use Rattle.pm_chain.specs.WorkedSteps.{limits}
 use Rattle.pm_clean_end.specs.CleanEnd.{HasEndedClean}
 
--- a session comes and goes, a connection is refused behind a smart request, and the last checkpoint is written
+-- a session comes and goes, a connection is refused after a smart request, and the last checkpoint is written
 abbrev pub up_to_its_end : List PmEvent
 up_to_its_end =
     started

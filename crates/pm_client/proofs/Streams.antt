@@ -9,13 +9,13 @@ use Rattle.pm_wire.specs.Stream.{HasNoMessage, IsStream}
 use Rattle.pm_wire_back.specs.CountLaws.{has_count}
 use Rattle.pm_wire_back.specs.Received.{IsWholeAt, behind_header, behind_body}
 
--- messages behind messages
+-- messages after messages
 pub stream_then : (a more rest left : List ℕ) (ms ns : List BackMessage) → IsStream IsBack a ms rest → IsStream IsBack (rest ++ more) ns left → IsStream IsBack (a ++ more) (ms ++ ns) left
 stream_then a more rest left [] ns one two = subst (λ (l : List ℕ). IsStream IsBack (l ++ more) ns left) (sym one) two
 stream_then a more rest left (m ∷ ms) ns one two =
     (one.0, one.1 ++ more, ap (λ (l : List ℕ). l ++ more) one.2 ∙ append_assoc one.0 one.1 more, one.3, stream_then one.1 more rest left ms ns one.4 two)
 
--- bytes behind them
+-- bytes after them
 pub stream_grows : (a more rest : List ℕ) (ms : List BackMessage) → IsStream IsBack a ms rest → IsStream IsBack (a ++ more) ms (rest ++ more)
 stream_grows a more rest [] one = ap (λ (l : List ℕ). l ++ more) one
 stream_grows a more rest (m ∷ ms) one =

@@ -89,7 +89,7 @@ ends_so (BadReply fault) user texts answered ms ns went request part missing uns
     subst (λ (n : ℕ). HasAsked user texts n (went ++ part)) (sym count) (subst (λ (l : List ℕ). HasAsked user texts answered (went ++ l)) (sym (all_went request part missing whole sent)) asked)
 ends_so NoMemory user texts answered ms ns went request part missing unsent unread unshown b c number asked whole sent none cut = tt
 
--- in a request, of which these are the bytes behind
+-- in a request, of which these are the bytes after it
 pub talked_cut : (played : Played) (user : List ℕ) (texts : List (List ℕ)) (went request after unread left : List ℕ) (answered : ℕ) (a b c : Sides) → Talked went answered unread a b → all_sent user texts ≡ (went ++ request) ++ after
     → HasAsked user texts answered (went ++ request) → Asks (Err played) request unread left b c → HasPlayed user texts played a c
 talked_cut played user texts went request after unread left answered a b c t all asked asks = record {

@@ -24,7 +24,7 @@ IsGot (Ok true) came before now = came ≢ []
 IsGot (Ok false) came before now = came ≡ []
 IsGot (Err played) came before now = (came ≡ []) × IsNoMore played before now
 
--- what came stands behind what wasn't looked at yet
+-- what came comes after what wasn't looked at yet
 pub record Reads (result : Result Bool Played) (unread_before unread_now : List ℕ) (before now : LinkView) : Type 0 where
   pub came : List ℕ
   pub unread : unread_now ≡ unread_before ++ came

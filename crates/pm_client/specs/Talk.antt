@@ -15,7 +15,7 @@ use Rattle.pm_client.specs.Sides.{Carries, HasEnded, Prints, Sides}
 abbrev pub answers_in : List BackMessage → ℕ
 answers_in messages = count_by is_ready messages
 
--- so many answers, and nothing behind the last
+-- so many answers, and nothing after the last
 pub record AreAnswers (count : ℕ) (messages : List BackMessage) : Type 0 where
   pub front : List BackMessage
   pub last : messages ≡ front ++ Ready ∷ []
@@ -49,7 +49,7 @@ abbrev pub IsWholeOr : Played → (unread unshown : List ℕ) → (before now : 
 IsWholeOr (Done false) unread unshown before now = unshown ≡ []
 IsWholeOr played unread unshown before now = IsCutOff played unread unshown before now
 
--- A talk from one moment to another. These bytes came in: these messages and what stands behind them. These bytes went out, of all
+-- A talk from one moment to another. These bytes came in: these messages and what comes after them. These bytes went out, of all
 -- that is to be sent, and this was shown, of the messages' lines.
 pub record HasPlayed (user : List ℕ) (texts : List (List ℕ)) (played : Played) (before now : Sides) : Type 0 where
   pub messages : List BackMessage

@@ -56,7 +56,7 @@ impl Inbox {
         self.start += count;
     }
 
-    /// Reads bytes that came in, behind those that stand. It tells whether there were any yet.
+    /// Reads bytes that came in, after those that stand. It tells whether there were any yet.
     pub(crate) fn read_from<L: Link>(&mut self, link: &mut L) -> Result<bool, Played>
         ensures { Reads result self.old self.new (link_view (L.traffic link.old) (L.faults link.old))
             (link_view (L.traffic link.new) (L.faults link.new)) }
@@ -76,7 +76,7 @@ impl Inbox {
     }
 }
 
-// Where the bytes from `start` to `end` stand with room behind them. Where there is none they are moved to the front, or there
+// Where the bytes from `start` to `end` stand with room after them. Where there is none they are moved to the front, or there
 // is twice as much. Where memory runs out, nothing is changed.
 fn room_behind(bytes: &mut Vec<u8>, start: usize, end: usize) -> Result<(usize, usize), AllocError>
     requires order { start ≤ end }

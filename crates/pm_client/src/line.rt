@@ -32,7 +32,7 @@ pub(crate) fn put_line(page: &mut Vec<u8>, message: &Back) -> Result<(), AllocEr
     }
 }
 
-/// Whether the server waits for the next query behind this message.
+/// Whether the server waits for the next query after this message.
 pub(crate) fn ends_answer(message: &Back) -> bool
     requires { IsPlain message.now }
     ensures { result ≡ is_ready (back_message message.now) }

@@ -17,7 +17,7 @@ use std::sync::Wait;
 /// Begins a session of this user, asks each text as a query once the one before is answered, shows the answers, and ends the session.
 /// An answer is all that comes up to a ReadyForQuery. `pm_wire_front::can_say` tells whether a text may stand here.
 ///
-/// A link that has nothing yet is asked again behind a pause of the clock.
+/// A link that has nothing yet is asked again after a pause of the clock.
 pub fn play<R: Wait, C: Clock, L: Link, O: Sink>(
     means: &Means<'_, R, C>,
     link: &mut L,

@@ -45,7 +45,7 @@ pub const PLAIN: Case<'static> = Case {
     shown: "",
 };
 
-// The messages of these names, one behind the other.
+// The messages of these names, one after the other.
 fn joined(alloc: Global, names: &str) -> Result<Vec<u8>, AllocError> {
     let mut all = Vec::new(alloc);
     for name in names.split_whitespace() {

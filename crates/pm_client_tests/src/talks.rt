@@ -3,8 +3,8 @@ use crate::bytes::SEVENS;
 use crate::scripted::{Case, PLAIN, check};
 use std::test::Fail;
 
-/// Behind `# ` what a talk is, how many bytes a call moves at most, which call of the link or of what is shown fails, what is asked, what comes
-/// in, how the talk ends, and what goes out. What stands behind that line is all that is shown.
+/// After `# ` what a talk is, how many bytes a call moves at most, which call of the link or of what is shown fails, what is asked, what comes
+/// in, how the talk ends, and what goes out. What comes after that line is all that is shown.
 const TALKS: &str = "
 # a row | any | - | SEVENS | GREETING INSERTED SEVEN | Done { link_ended: false } | PACKET INSERT_SEVEN SELECT_SEVEN TERMINATE
 INSERT 0 1

@@ -215,7 +215,7 @@ writer_calm h m pid status now was_active its ends = record { orderly = rw ends 
 pub session_calm : (h : Heard) (m : Machine) (pid : ℕ) (status : Status) (now : ℕ) (was_active : Bool) → IsCalmSo h [] m → ((is_exit_0 status || is_exit_1 status) && not was_active) ≡ true → EndsCalm h kind.Backend m pid status now was_active
 session_calm h m pid status now was_active its ends = record { orderly = rw ends refl; calm = rw ends (less_one_calm kind.Backend h m its) }
 
--- ---- behind a child that left its work undone
+-- ---- after a child that left its work undone
 
 -- the server goes on by this act, or ends clean
 abbrev is_more : Action → Bool

@@ -69,7 +69,7 @@ done_or true one asked is = inl refl
 done_or false one true is = inl refl
 done_or false one false is = inr (is, refl)
 
--- ---- behind a child that left its work undone
+-- ---- after a child that left its work undone
 
 -- no child is left that can end
 none_ends : (gives : ℕ → Bool) (h : Heard) (r : Replay) (run : ChildRun) (at : ℕ) (k : Kind) → IsRunAs h k run → IsSomeAnd (child_of run.pid r.shown.children) (λ c. c.kind ≡ k)
@@ -145,7 +145,7 @@ heard_redo : (h : Heard) (generation : ℕ) (kept : Option ℕ) → fold heard_a
 heard_redo h generation None = refl
 heard_redo h generation (Some kept) = refl
 
--- behind the end of a child that ended redo
+-- after the end of a child that ended redo
 redo_on : (gives : ℕ → Bool) (h : Heard) (r : Replay) (generation : ℕ) (kept : Option ℕ) (journal : List PmEvent)
     → ((next : Replay) → AreLegal gives next journal → AreCounted next journal → IsCalmSo h (acts_in next.due) next.machine → AreOrderlySoFar next journal)
     → AreLegal gives r (redo_end generation kept ++ journal) → AreCounted r (redo_end generation kept ++ journal) → IsCalmSo h (acts_in r.due) r.machine
@@ -164,7 +164,7 @@ redo_lost gives h r generation (Some kept) journal on legal counted lost =
     let redone = entry_on IsLost IsBehindUndone keeps_lost gives h r (entry.RedoEnded generation kept) legal.0 tt lost in
     (tt, on (replayed r (entry.RedoEnded generation kept)) legal.1 counted.1 redone.1)
 
--- the end of a child, and what is behind it
+-- the end of a child, and what is after it
 run_on : (gives : ℕ → Bool) (h : Heard) (r : Replay) (run : ChildRun) (at : ℕ) (journal : List PmEvent)
     → ((next : Replay) → AreLegal gives next journal → AreCounted next journal → IsCalmSo h (acts_in next.due) next.machine → AreOrderlySoFar next journal)
     → ((next : Replay) → AreLegal gives next journal → AreCounted next journal → IsLost h (acts_in next.due) next.machine → AllByRecursion IsBehindUndone journal)

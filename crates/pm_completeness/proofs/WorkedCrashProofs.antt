@@ -25,7 +25,7 @@ unfolding settled row_of crash_rule startup_exited start_recovery restart_writer
 takes_unmade =
     inr (tt, inr (refl, inr (tt, inr (tt, inr (tt, inr (tt, inr (tt, inr (tt, inr (tt, inr (tt, inr (refl, inr (tt, inl (refl, (tt, (tt, (tt, (tt, (tt, tt))))))))))))))))))
 
--- what stands behind a front of an orderly journal
+-- what stands after a front of an orderly journal
 behind : (r : Replay) (front rest : List PmEvent) → AreOrderly r (front ++ rest) → AreOrderly (all_replayed r front) rest
 behind r [] rest orderly = orderly
 behind r (e ∷ front) rest orderly = behind (replayed r e) front rest orderly.1

@@ -38,7 +38,7 @@ is_undone (entry.Exited pid kinds.Startup status was_active at) = is_exit_1 stat
 is_undone (entry.Exited pid kinds.Checkpointer status was_active at) = is_exit_1 status
 is_undone _ = false
 
--- what comes behind that: no child ends, no generation begins, and the server doesn't end clean
+-- what comes after that: no child ends, no generation begins, and the server doesn't end clean
 abbrev pub IsBehindUndone : PmEvent → Type 0
 IsBehindUndone (entry.Exited pid kind status was_active at) = ⊥
 IsBehindUndone (entry.Reset generation) = ⊥
@@ -47,7 +47,7 @@ IsBehindUndone _ = Unit {0}
 
 -- ---- whole journals
 
--- each entry, behind what those before it leave
+-- each entry, after what those before it leave
 abbrev pub AreOrderly : Replay → List PmEvent → Type 0
 AreOrderly r [] = Unit {0}
 AreOrderly r (e ∷ journal) = IsOrderly r.machine e × AreOrderly (replayed r e) journal

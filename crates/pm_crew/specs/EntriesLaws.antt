@@ -1,4 +1,4 @@
--- Behind the join the book has of each child what its run noted.
+-- After the join the book has of each child what its run noted.
 use Rattle.std.proofs.Common.{◌≡◌, ◌≢◌, inl, inr, ℕ, ◌+◌, ◌<◌, Bool, true, false, List, [], ◌∷◌, ◌++◌, None, Some, get_or, refl, sym, ap, subst, ◌∙◌, arith, append-nil}
 use Rattle.std.specs.Prelude.{cond, map, slice_get, ◌&&◌, ◌==◌}
 use Rattle.std.specs.List.{AllByRecursion}

@@ -97,7 +97,7 @@ later_write read synced image span spans at bytes leaves =
       };
     }
 
--- any image behind a write comes from an image before it
+-- any image after a write comes from an image before it
 pub torn_from : (state : State) (at : ℕ) (bytes image : List ℕ) → MayLeave (after_write state at bytes) image → TornFrom state at (length bytes) image
 torn_from state at bytes image leaves = from state.read state.synced state.written leaves
   where

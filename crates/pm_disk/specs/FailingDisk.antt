@@ -14,7 +14,7 @@ inner_of failing = failing.disk
 abbrev pub passes_left : {D : Type 0} {g : _} → FailingDisk D g → ℕ
 passes_left failing = failing.passes
 
--- how many calls behind these fail. Then it passes on all again.
+-- how many calls after these fail. Then it passes on all again.
 abbrev pub fails_left : {D : Type 0} {g : _} → FailingDisk D g → ℕ
 fails_left failing = failing.fails
 

@@ -38,7 +38,7 @@ state_at past tick = fold (λ state entry. changed state entry.change) empty (fi
 abbrev pub IsOutside : List Span → ℕ → Type 0
 IsOutside spans i = All (λ span. (i < span.at) ⊎ (span.at + span.count ≤ i)) spans
 
--- A stop leaves what was synced, in all places but those written since; behind its end may stand anything.
+-- A stop leaves what was synced, in all places but those written since; after its end may stand anything.
 pub record MayLeave (state : State) (image : List ℕ) : Type 0 where
   pub no_shorter : length state.synced ≤ length image
   pub outside : (i : ℕ) → i < length state.synced → IsOutside state.written i → slice_get image i ≡ slice_get state.synced i

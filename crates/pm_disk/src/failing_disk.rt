@@ -36,7 +36,7 @@ impl<D: Disk> FailingDisk<D> {
         FailingDisk::new(disk, at.saturating_sub(1), at.min(1))
     }
 
-    /// So many calls are the disk's own, and each behind them fails.
+    /// So many calls are the disk's own, and each after them fails.
     pub fn fuse(disk: D, passes: u64) -> FailingDisk<D>
         ensures wraps { Wraps disk result }
         ensures passes { passes_left result ≡ passes }
@@ -45,7 +45,7 @@ impl<D: Disk> FailingDisk<D> {
         FailingDisk::new(disk, passes, u64::MAX)
     }
 
-    // It passes on so many calls, fails the next `fails` ones, and passes on all behind them.
+    // It passes on so many calls, fails the next `fails` ones, and passes on all after them.
     fn new(disk: D, passes: u64, fails: u64) -> FailingDisk<D>
         ensures wraps { Wraps disk result }
         ensures passes { passes_left result ≡ passes }

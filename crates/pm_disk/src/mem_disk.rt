@@ -113,7 +113,7 @@ impl MemDisk {
         Ok(())
     }
 
-    // AddsChange a sync and counts the call. An `Err` counts nothing.
+    // Adds a sync and counts the call. An `Err` counts nothing.
     fn sync_to(&mut self, file: Which) -> Result<(), AllocError>
         requires { self.old.ticks < 2 ^ 64 - 1 }
         ensures ok { OnOk result (Syncs self.old self.new file) }

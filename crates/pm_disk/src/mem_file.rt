@@ -57,7 +57,7 @@ impl MemFile {
         }
     }
 
-    /// Writes over what stands there, in the call behind so many ticks. Room comes first: an `Err` changes nothing.
+    /// Writes over what stands there, in the call after so many ticks. Room comes first: an `Err` changes nothing.
     pub(crate) fn write(&mut self, ticks: u64, at: u64, bytes: &[u8]) -> Result<(), AllocError>
         requires ticks { ticks < 2 ^ 64 - 1 }
         requires earlier { All (λ entry. entry.tick ≤ ticks) self.old.past.items }
@@ -80,7 +80,7 @@ impl MemFile {
         Ok(())
     }
 
-    /// AddsChange a sync, in the call behind so many ticks. An `Err` changes nothing.
+    /// Adds a sync, in the call after so many ticks. An `Err` changes nothing.
     pub(crate) fn sync(&mut self, ticks: u64) -> Result<(), AllocError>
         requires ticks { ticks < 2 ^ 64 - 1 }
         requires earlier { All (λ entry. entry.tick ≤ ticks) self.old.past.items }

@@ -39,7 +39,7 @@ EndsSo pid fault last left =
     ⊎ (((refusal : StoreNo) × (fault ≡ Some refusal) × (refusal ≡ stores.NoMemory → ⊥) × (since : ℕ) × (faults : ℕ) × (last ≡ Broke pid since faults ∷ []) × (left ≡ []))
     ⊎ ((refusal : StoreNo) × (fault ≡ Some refusal) × (last ≡ []) × (left ≡ Detached pid ∷ [])))
 
--- behind checkpoints that weren't the last
+-- after checkpoints that weren't the last
 pub record HasEnded (pid home : ℕ) (fault : Option StoreNo) (noted : List BookEntry) : Type 0 where
   pub passing : List BookEntry
   pub last : List BookEntry
@@ -273,7 +273,7 @@ EndsBy pid home noted fault work = ClosesBy pid home noted (made_by fault work)
 out_notes : (pid home : ℕ) (work : Work) (noted : List BookEntry) → noted ≡ [] → ClosesBy pid home noted (made_by (Some stores.NoMemory) work)
 out_notes pid home work noted none = inl none
 
--- the entries of its work are those behind its coming
+-- the entries of its work are those after its coming
 of_last : (pid home : ℕ) (passing last left noted : List BookEntry) → noted ≡ Attached pid home ∷ ((passing ++ last) ++ left) → IsOfLast (work_in noted) → IsOfLast (work_in (passing ++ (last ++ left)))
 of_last pid home passing last left noted is of = subst IsOfLast (ap work_in (is ∙ ap (λ (l : List BookEntry). Attached pid home ∷ l) (grouped passing last left))) of
   where

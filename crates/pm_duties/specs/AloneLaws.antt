@@ -68,7 +68,7 @@ reads_log who redone noted before now moves notes reason kept unread = record {
   done = inr (inl (refl, redone, refl, record { who = who; notes = subst (RedoNotes who redone) (sym (redo_works who redone noted notes)) notes; reason = reason; kept = kept; unread = unread }));
 }
 
--- ---- one behind the other
+-- ---- one after the other
 
 keeps_none : (at : Moment) → Keeps at at
 keeps_none at = record { files = refl; live = refl; rows = refl }
@@ -86,7 +86,7 @@ read_before redone noted entries a b c is keeps read = record {
   unread = read.unread;
 }
 
--- nor behind that
+-- nor after that
 read_behind : (redone : Result ℕ StoreNo) (noted entries : List BookEntry) (a b c : Moment) → entries ≡ noted → HasRead redone noted a b → Keeps b c → HasRead redone entries a c
 read_behind redone noted entries a b c is read keeps = record {
   who = read.who;

@@ -1,4 +1,4 @@
--- The children that serve no connection, behind an act, behind the end of a child, and where one is taken off.
+-- The children that serve no connection, after an act, after the end of a child, and where one is taken off.
 use Rattle.std.proofs.Common.{ℕ, Option, None, Some, ◌≡◌, sym, subst, ap, List, [], ◌∷◌, refl, arith, ◌∙◌, ◌+◌, ◌⊎◌, inl, inr}
 use Rattle.std.specs.Prelude.{Bool, true, false, ◌==◌, if◌then◌else◌}
 use Rattle.std.proofs.lemmas.Bool.{eqb-false, eqb-true, ne_eqb}

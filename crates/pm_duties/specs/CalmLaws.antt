@@ -140,7 +140,7 @@ asks_state state.Shutdown m now = refl
 asks_state state.WaitDeadEnd m now = refl
 asks_state state.NoChildren m now = refl
 
--- behind it one stands
+-- after it one stands
 pub asked_stands : (m : Machine) (now : ℕ) → is_some (asked_with (strengthen_of m.shutdown Smart) m now).after.shutdown ≡ true
 asked_stands m now = by_mode m.shutdown refl
   where

@@ -70,7 +70,7 @@ refused_same before now earlier step (inl still) same refused =
 refused_kind : (last : Option ChildRun) (why : StartWhy) (run : ChildRun) → IsRefusedRun why run → startup_or last run.kind run ≡ Some run
 refused_kind last why run refused = ap (λ k. startup_or last k run) (ap (λ (r : ChildRun). r.kind) refused.1)
 
--- behind the run of a child
+-- after the run of a child
 refused_ran : (before now : Option Outcome) (earlier : List Step) (step : Step) (run : ChildRun) → startup_after (last_startup earlier) step ≡ startup_or (last_startup earlier) run.kind run
     → ComesTo run before now → IsRefusedSo before earlier → IsRefusedSo now (earlier ++ step ∷ [])
 refused_ran before None earlier step run is came refused = tt

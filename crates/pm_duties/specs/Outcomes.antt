@@ -32,7 +32,7 @@ HasComeTo (Some (Closed Short)) from at = Unit {0}
 -- ---- the end of a server
 
 -- how the server ends where its machine does: by what the last auxiliary child came to, or since its log is broken. There is
--- nothing else but want of memory behind such an end
+-- nothing else but want of memory after such an end
 abbrev pub end_in : Ending → Option Outcome → Bool → ServerEnd
 end_in endings.Clean (Some (Closed Made)) broken = Clean
 end_in endings.AfterCrash (Some (Closed Full)) broken = Abnormal AfterCrash
@@ -41,7 +41,7 @@ end_in endings.StartupFailed (Some (Refused why)) broken = Abnormal (StartupFail
 end_in endings.RestartOff outcome broken = Abnormal RestartOff
 end_in ending outcome broken = NoMemory
 
--- ---- behind the run of a child
+-- ---- after the run of a child
 
 -- nobody has used the store
 pub record Stays (before now : Moment) : Type 0 where

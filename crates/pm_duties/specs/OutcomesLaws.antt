@@ -1,4 +1,4 @@
--- What is known of the store behind a child that used it and serves no connection.
+-- What is known of the store after a child that used it and serves no connection.
 use Rattle.std.proofs.Common.{ℕ, Option, sym, ◌∙◌, subst, None, Some, ◌≡◌, List, Err, refl, arith, ◌≢◌}
 use Rattle.std.specs.Prelude.{IfSome, All, option_map}
 use Rattle.pm_disk.specs.Files.{Files}

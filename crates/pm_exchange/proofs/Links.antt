@@ -80,7 +80,7 @@ has_ended : (before now : Option Traffic) (into : List ℕ) → now ≡ option_m
 has_ended None now into is = subst HasEnded (sym is) tt
 has_ended (Some t) now into is = subst HasEnded (sym is) refl
 
--- what one read did, where what it gave stands behind what stood
+-- what one read did, where what it gave comes after what stood
 pub has_read : (result : Got) (into unread_before unread_now : List ℕ) (before now : LinkView) → GotWithin result (length into) → now.traffic ≡ option_map (λ t. after_read t result into) before.traffic → now.number ≡ before.number
     → IsCounted before.faults now.faults (result ≡ Failed) → unread_now ≡ unread_before ++ got_bytes result into → Reads result unread_before unread_now before now
 has_read (Bytes count) into unread_before unread_now before now within is same counted behind = record {

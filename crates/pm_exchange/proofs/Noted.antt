@@ -75,7 +75,7 @@ wait_stops user front Panicked stops = absurd stops
 wait_stops user front ToldToTerminate stops = absurd stops
 wait_stops user front Overtaken stops = absurd stops
 
--- a refused `seen` behind calls that noted nothing
+-- a refused `seen` after calls that noted nothing
 pub wait_ends : {S : Type 0} (notes : List BookEntry → S → S → Type 0) (who user : User) (front : ℕ) (refusal : StoreNo) (before between now : S) → GoesInTurn notes → who ≡ user → notes [] before between
     → (entries : List BookEntry) × notes entries between now × SeenNotes who front (Err refusal) entries
     → (entries : List BookEntry) × notes entries before now × WaitNotes user front (no_release refusal) entries
@@ -132,7 +132,7 @@ refused_fits (nos.Full need room) script before now = λ text utf8 query. record
 refused_fits (nos.Redo fault) script before now = tt
 refused_fits nos.NoMemory script before now = λ text utf8 query. record { sayable = tt; piece = refl; read = utf8; cancelled = λ is. absurd is }
 
--- an answer that was staged, and behind it nothing
+-- an answer that was staged, and after it nothing
 unreleased : (pid : ℕ) (text : List ℕ) (script : List Stmt) (staged : Staged) (first second : List BookEntry) → IsQueryText text script → NotesStaged pid script staged first → second ≡ [] → IsUnreleased pid text (first ++ second)
 unreleased pid text script staged first second query run none =
     inr (script, staged.reply, staged.front, run.commit, query, subst (λ (es : List BookEntry). NotesAnswer pid script staged.reply staged.front run.commit es) (sym (ap (λ (es : List BookEntry). first ++ es) none ∙ append-nil first)) run.answer)

@@ -1,4 +1,4 @@
--- Queries one behind the other, up to the end of a session.
+-- Queries one after the other, up to the end of a session.
 use Rattle.std.proofs.Common.{◌≡◌, ℕ, ◌*◌, List, [], ◌∷◌, ◌++◌, Option, Result, Ok, Err, IfOk, subst}
 use Rattle.pm_sql.specs.declared.stmt.Stmt.{Stmt}
 use Rattle.pm_sql.specs.Statements.{IsQueryText}

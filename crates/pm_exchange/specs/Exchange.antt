@@ -78,7 +78,7 @@ pub record SentAllBut (rest bytes : List ℕ) (before now : LinkView) : Type 0 w
   pub whole : bytes ≡ went ++ rest
   pub passes : Passes [] went before now
 
--- bytes came in behind those that weren't looked at yet, or none did
+-- bytes came in after those that weren't looked at yet, or none did
 pub record Receives (unread_before unread_now : List ℕ) (before now : LinkView) : Type 0 where
   pub came : List ℕ
   pub some : came ≢ []

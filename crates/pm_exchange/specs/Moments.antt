@@ -92,7 +92,7 @@ IsUntold told = IfSome told (λ t. t ≡ nothing_told)
 
 -- ---- bytes
 
--- Bytes came in behind those that weren't looked at yet. Where the wait for so many of them was broken off, all are passed
+-- Bytes came in after those that weren't looked at yet. Where the wait for so many of them was broken off, all are passed
 -- over.
 pub record Comes (wanted : ℕ) (result : Result (Unit {0}) Cause) (unread_before unread_now : List ℕ) (before now : LinkView) : Type 0 where
   pub came : List ℕ

@@ -101,7 +101,7 @@ turn_messages text Memory = fixed_message fixes.ErrorMemory ∷ Ready ∷ []
 abbrev pub one : Fixed → List BackMessage
 one fixed = fixed_message fixed ∷ []
 
--- a packet that is refused; behind a length that no packet has nothing is said
+-- a packet that is refused; after a length that no packet has nothing is said
 abbrev pub packet_refusal : StartFault → List BackMessage
 packet_refusal (packets.Length seen) = []
 packet_refusal (packets.Version major minor) = told (conditions.Version major minor) ∷ []

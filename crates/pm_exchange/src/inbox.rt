@@ -60,7 +60,7 @@ impl Inbox {
         self.start += count;
     }
 
-    /// Reads bytes that came in, behind those that stand.
+    /// Reads bytes that came in, after those that stand.
     pub fn read_from<L: Link>(&mut self, link: &mut L) -> Got
         requires { length self.old < buffer_bytes }
         ensures reads { Reads result self.old self.new
@@ -81,7 +81,7 @@ impl Inbox {
     }
 }
 
-// Where the bytes from `start` to `end` stand with room behind them: they are moved to the front where there is none.
+// Where the bytes from `start` to `end` stand with room after them: they are moved to the front where there is none.
 fn room_behind(bytes: &mut [u8], start: usize, end: usize) -> (usize, usize)
     requires order { start ≤ end }
     requires within { end ≤ length bytes.old }

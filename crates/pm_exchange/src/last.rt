@@ -36,7 +36,7 @@ impl<L: Link, F: Life> Line<L, F> {
         }
     }
 
-    /// Says the last words. A Kill breaks them off, a fault of the link is passed over, and behind them the child takes
+    /// Says the last words. A Kill breaks them off, a fault of the link is passed over, and after them the child takes
     /// its signals once more.
     pub fn say_last(&mut self, words: &[u8])
         ensures { SaysLast words.now (outside self.old.link [] self.old.child)

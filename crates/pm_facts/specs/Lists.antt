@@ -11,7 +11,7 @@ use lib.ListN.{get_elem?}
 -- ---- what holds of each item
 
 module _ {X : Type 0} (P : X → Type 0) where
-  -- of two lists, one behind the other
+  -- of two lists, one after the other
   pub each_both : (xs ys : List X) → AllByRecursion P xs → AllByRecursion P ys → AllByRecursion P (xs ++ ys)
   each_both [] ys one two = two
   each_both (x ∷ xs) ys one two = (one.0, each_both xs ys one.1 two)
@@ -76,17 +76,17 @@ module _ {X : Type 0} (P : X → Type 0) where
 
 -- ---- bytes that are read and written piece by piece
 
--- what is left behind the first n, as the code takes it
+-- what is left after the first n, as the code takes it
 pub rest_of : (xs : List ℕ) (n : ℕ) → take (length xs - n) (drop n xs) ≡ drop n xs
 rest_of xs n = take_all _ _ (omega (arith, length-drop n xs))
 
--- the front of a slice that got more bytes behind what it had
+-- the front of a slice that got more bytes after what it had
 take_filled : (have count : ℕ) (xs ys rest : List ℕ) → have ≤ length xs → count ≤ length ys → take (have + count) (take have xs ++ (ys ++ rest)) ≡ take have xs ++ take count ys
 take_filled have count xs ys rest within fits =
     let front : length (take have xs) ≡ have = length-take-le have xs within in
     ap (λ (n : ℕ). take (n + count) (take have xs ++ (ys ++ rest))) (sym front) ∙ take-append-add (take have xs) (ys ++ rest) count ∙ ap (λ (l : List ℕ). take have xs ++ l) (take-append-le count ys rest fits)
 
--- what stands in a buffer into which bytes were read behind what stood
+-- what stands in a buffer into which bytes were read after what stood
 pub stands_behind : (start have count size : ℕ) (xs ys post rest : List ℕ) → start ≤ have → have ≤ length xs → count ≤ length ys → have + count ≤ size
     → drop start (take (have + count) (take size ((take have xs ++ (ys ++ post)) ++ rest))) ≡ drop start (take have xs) ++ take count ys
 stands_behind start have count size xs ys post rest order within fits room =

@@ -3,7 +3,7 @@
 ghost use Rattle.std.specs.Prelude.{◌↔◌, ◌<◌, ◌^◌, IsTrue, is_some};
 
 /// The faults of one part of the outside: how many there were, up to 2^64 - 1, and the first. The first one is mostly the
-/// cause of those behind it.
+/// cause of those after it.
 #[derive(Debug, Drop)]
 pub struct Faults<F> {
     first: Option<F>,

@@ -88,7 +88,7 @@ impl LogFile {
     }
 
     /// Makes durable what was written, with the length that it gave the file, by the call that PostgreSQL uses on this
-    /// system unless it is told otherwise. Behind a sync that failed every call of the file fails.
+    /// system unless it is told otherwise. After a sync that failed every call of the file fails.
     pub fn sync(&mut self) -> Result<(), FileFault> {
         self.find()?;
         let Some(file) = &self.handle else {
@@ -148,7 +148,7 @@ impl LogFile {
 
 // Makes the file durable as it reads, and its name with it. The system may keep pages that a failed sync of an earlier
 // program couldn't write: they read as they were written, count as clean, and the disk doesn't have them. So what it
-// keeps of the file is dropped behind the sync, and what is read from then on comes from the disk.
+// keeps of the file is dropped after the sync, and what is read from then on comes from the disk.
 fn settle(file: &File, folder: &File) -> io::Result<()> {
     file.sync_all()?;
     let refused = libc::posix_fadvise(file.as_raw_fd(), 0, 0, libc::POSIX_FADV_DONTNEED);

@@ -320,7 +320,7 @@ stands-next writes tells limits told now s h a rest due adds was =
       pids = pids-next a rest s due was.pids;
     }
 
--- behind a turn nothing moves any more
+-- after a turn nothing moves any more
 pub settled-next : (s : Standing) (a : Action) (rest : List Action) → s.due ≡ a ∷ rest → IsSettled s → IsSettled (done a s)
 settled-next s a rest due was =
     let left : rest ≡ without_first s.due = sym (ap without_first due) in

@@ -47,7 +47,7 @@ replay_by limits journal = all_replayed (replay_begun limits) journal
 abbrev pub with_due : Limits → List PmEvent → Standing → List PmEvent
 with_due limits journal s = journal ++ entries_due s (replay_by limits journal)
 
--- the same behind a call, whose own entries are noted
+-- the same after a call, whose own entries are noted
 abbrev pub with_call : Limits → List PmEvent → Standing → Making → List PmEvent
 with_call limits journal s making = with_due limits (journal ++ making.entries) (made making s)
 

@@ -234,7 +234,7 @@ pub record Next : Type 0 where
   pub entries : List PmEvent
   pub after : Standing
 
--- behind this generation there is none
+-- after this generation there is none
 abbrev pub last_generation : ℕ
 last_generation = 4294967295
 

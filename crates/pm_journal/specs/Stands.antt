@@ -31,7 +31,7 @@ pub record Remembers (s : Standing) (r : Replay) : Type 0 where
 abbrev pub entries_due : Standing → Replay → List PmEvent
 entries_due s r = entries_of 0 s.called_at r (dues s.due)
 
--- the acts that are due may come next, and behind them journal, machine and supervisor are in step
+-- the acts that are due may come next, and after them journal, machine and supervisor are in step
 pub record IsComing (limits : Limits) (s : Standing) (r : Replay) (h : Trace) : Type 0 where
   pub legal : AreLegal any_moment r (entries_due s r)
   pub in_step :
@@ -56,13 +56,13 @@ starts_left_in _ crashed = 0
 abbrev pub starts_left : Machine → ℕ
 starts_left m = starts_left_in m.state (m.fatal || is_immediate m.shutdown)
 
--- no pid is above this one: behind the last pid a few children are still started
+-- no pid is above this one: after the last pid a few children are still started
 abbrev pub highest_pid : ℕ
 highest_pid = last_pid + 6
 
 -- pids are left for all children that may still be started
 pub record HasPids (s : Standing) : Type 0 where
-  -- a smart shutdown is owed only behind the last pid
+  -- a smart shutdown is owed only after the last pid
   pub owed : s.owes_smart ≡ true → last_pid ≤ s.last_pid
   pub not_asked : is_some s.machine.shutdown ≡ false → s.owes_smart ≡ false → s.last_pid < last_pid
   pub few : is_some s.machine.shutdown ≡ false → s.last_pid + starts_in any_kind s.due ≤ last_pid + 4
@@ -84,7 +84,7 @@ pub record Stands (limits : Limits) (told : Option (List PmEvent)) (s : Standing
   pub past : HasRun limits h
   pub pids : HasPids s
 
--- the supervisor behind a call and the starts that it asks for
+-- the supervisor after a call and the starts that it asks for
 abbrev pub behind : Machine → Call → Trace → Trace
 behind m call h =
     let called : Trace = all_happened h (events_of_call m call) in
@@ -109,6 +109,6 @@ GoesOnBy call before now =
 abbrev pub GoesOn : AtWork → AtWork → Type 0
 GoesOn before now = (limits : Limits) (h : Trace) → Stands limits before.told before.standing h → Stands limits now.told now.standing h
 
--- behind the acts that are due no move that leaves no entry waits, so that a connection may be accepted
+-- after the acts that are due no move that leaves no entry waits, so that a connection may be accepted
 abbrev pub IsSettled : Standing → Type 0
 IsSettled s = settled (all_reported s.due s.machine) ≡ all_reported s.due s.machine

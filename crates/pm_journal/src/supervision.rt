@@ -106,7 +106,7 @@ impl<J: Chronicle<PmEvent>> Supervision<J> {
         self.memory.owes_smart
     }
 
-    /// Whether a connection may be accepted behind a turn: the machine takes one, and the last pid wasn't drawn.
+    /// Whether a connection may be accepted after a turn: the machine takes one, and the last pid wasn't drawn.
     pub fn may_accept(&self) -> bool
         ensures { IsTrue result ↔ MayTake (standing self.now) }
     {
@@ -222,7 +222,7 @@ impl<J: Chronicle<PmEvent>> Supervision<J> {
         self.reserve(1)
     }
 
-    /// The next connection is accepted, right behind a turn, under the next pid, where room was made for it.
+    /// The next connection is accepted, right after a turn, under the next pid, where room was made for it.
     pub fn take(&mut self) -> Taken
         requires stands { HasPast (at_work self.old) }
         requires rests { IsAtRest (standing self.old) }
@@ -269,7 +269,7 @@ impl<J: Chronicle<PmEvent>> Supervision<J> {
     }
 
     /// A child that is there has ended, at this moment or at that of the last entry where that is later. Of a startup child that
-    /// ended with code 0 its number of kept commits is noted behind its end.
+    /// ended with code 0 its number of kept commits is noted after its end.
     pub fn exited(&mut self, exit: ChildExit, at: u64) -> Result<(), AllocError>
         requires stands { HasPast (at_work self.old) }
         requires rests { IsAtRest (standing self.old) }
@@ -293,7 +293,7 @@ impl<J: Chronicle<PmEvent>> Supervision<J> {
         Ok(())
     }
 
-    // Notes the end of a child, and the end of redo behind it.
+    // Notes the end of a child, and the end of redo after it.
     fn note_exit(&mut self, exit: ChildExit, at: u64)
         requires room { length (standing self.old).due + 2 ≤ J.spare self.old.journal }
         requires kept { ends_redo exit ≡ true → IsSome exit.kept }
@@ -320,7 +320,7 @@ impl<J: Chronicle<PmEvent>> Supervision<J> {
     }
 
     /// The next act that is due, if there is one: its entry is noted, and the caller does it at once. A start that was noted is
-    /// reported to the machine. Refused is only a further generation behind the last one; then nothing was noted.
+    /// reported to the machine. Refused is only a further generation after the last one; then nothing was noted.
     pub fn next(&mut self) -> Result<Option<Act>, GenerationsSpent>
         requires stands { HasPast (at_work self.old) }
         ensures act { result ≡ (next_of (standing self.old)).answer }

@@ -1,4 +1,4 @@
--- The signals of one answer, and what stands behind it.
+-- The signals of one answer, and what stands after it.
 use Rattle.std.proofs.Common.{◌≡◌, ◌≢◌, ◌↔◌, ◌⊎◌, inl, inr, ℕ, ◌+◌, ◌-◌, ◌<◌, ◌||◌, Bool, true, false, IsTrue, List, [], ◌∷◌, ◌++◌, length, get_or, Option, None, Some, refl, sym, ◌∙◌, ap, subst, arith}
 use Rattle.std.specs.Option.{option_map, option_or}
 use Rattle.std.specs.List.{Contains}
@@ -83,7 +83,7 @@ in_took s x has =
       ]
     ]
 
--- ---- what was told behind one more answer
+-- ---- what was told after one more answer
 
 contains_numbered : (n : ℕ) (xs : List Signal) (s : Signal) → Contains xs s → Contains (numbered n xs) (n, s)
 contains_numbered n xs s (k, lt, is) = (k, omega (arith, length-map {B = ℕ × Signal} xs (λ (x : Signal). (n, x)), lt), get_or-map {Y = ℕ × Signal} (λ (x : Signal). (n, x)) xs k s (n, s) lt ∙ ap {B = ℕ × Signal} (λ (x : Signal). (n, x)) is)
@@ -108,7 +108,7 @@ told_or_now s told signal (ask, has) = elim (Contains-append_cases told.given (n
   | inr h ↦ inr ((numbered_contains (next_ask told.asked) ask (signals_in s) signal h).1)
 ]
 
--- ---- what stands behind one more answer
+-- ---- what stands after one more answer
 
 either_in : (stood stands : Bool) (told now P : Type 0) → (IsTrue stood → told) → (IsTrue stands → now) → (told → P) → (now → P) → IsTrue (stood || stands) → P
 either_in true stands told now P before more one two is = one (before refl)

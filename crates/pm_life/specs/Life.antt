@@ -50,7 +50,7 @@ pub record Told : Type 0 where
 abbrev pub nothing_told : Told
 nothing_told = record { asked = 0; given = []; met = None; cancels = [] }
 
--- the number of the ask behind this one, up to the last number
+-- the number of the ask after this one, up to the last number
 abbrev pub next_ask : ℕ → ℕ
 next_ask asked = min (asked + 1) (2 ^ 64 - 1)
 

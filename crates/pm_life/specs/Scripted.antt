@@ -26,7 +26,7 @@ told_by_script life = record {
 abbrev pub no_signals : Signals
 no_signals = record { kill = false; quit = None; terminate = false; cancel = false; checkpoint = false }
 
--- it answers the next one of its script, and none behind the last
+-- it answers the next one of its script, and none after the last
 abbrev pub GivesNext : ScriptedLife → Signals → ScriptedLife → Type 0
 GivesNext before signals now =
     (now.script ≡ before.script) × (signals ≡ slice_index_or before.script.items before.given no_signals)

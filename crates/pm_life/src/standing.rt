@@ -29,7 +29,7 @@ impl Standing {
         }
     }
 
-    // What stands behind one more answer.
+    // What stands after one more answer.
     fn with(self, signals: Signals) -> Standing
         ensures { result ≡ with_signals signals self }
     {

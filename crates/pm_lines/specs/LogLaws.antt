@@ -24,7 +24,7 @@ says_nothing at = record {
   later = omega arith;
 }
 
--- a text behind another
+-- a text after another
 pub printed_more : (text more : List ℕ) (first mid now : LogView) → HasPrinted text first mid → Says more mid now → HasPrinted (text ++ more) first now
 printed_more text more first mid now so_far says =
     elim mid.is_cut as (λ (b : Bool). mid.is_cut ≡ b → HasPrinted (text ++ more) first now) [

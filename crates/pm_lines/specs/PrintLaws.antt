@@ -41,7 +41,7 @@ all_of text rest cut before now up none = record { front = up.front; rest = rest
 pub cut_off : (text rest : List ℕ) (cut : Type 0) (before mid now : Option (List ℕ)) → IsUpTo text rest before mid → now ≡ option_map (λ w. w) mid → cut → IsPrinted text cut before now
 cut_off text rest cut before mid now up none failed = record { front = up.front; rest = rest; parts = up.parts; written = none ∙ nothing_put mid ∙ up.written; whole = inr failed }
 
--- ---- texts one behind the other
+-- ---- texts one after the other
 
 pub nothing_printed : (cut : Type 0) (told : Option (List ℕ)) → IsPrinted [] cut told told
 nothing_printed cut told = record { front = []; rest = []; parts = refl; written = added_none told; whole = inl refl }

@@ -1,4 +1,4 @@
-//! Text for a sink, and a server's log: the lines that its journal tells of, and none behind a fault of the sink.
+//! Text for a sink, and a server's log: the lines that its journal tells of, and none after a fault of the sink.
 #![tactic(auto)]
 
 mod log;

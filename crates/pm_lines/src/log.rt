@@ -8,7 +8,7 @@ use pm_outside::Sink;
 use pm_record::RedoFault;
 use pm_state::Line;
 
-/// A server's log: lines for a sink. Behind a fault of the sink none is written any more.
+/// A server's log: lines for a sink. After a fault of the sink none is written any more.
 #[derive(Drop)]
 pub struct Log<O: Sink> {
     pub(crate) sink: O,

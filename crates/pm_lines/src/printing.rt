@@ -74,7 +74,7 @@ fn print_damage<O: Sink>(sink: &mut O, file: Which, at: u64) -> Result<(), SinkF
     print_with(sink, b" at ", at)
 }
 
-/// Writes a number behind some bytes, and ends the line.
+/// Writes a number after some bytes, and ends the line.
 pub fn print_with<O: Sink>(sink: &mut O, front: &[u8], number: u64) -> Result<(), SinkFailed>
     ensures said { IsPrinted (front.now ++ decimal number ++ codes "\n") (IsErr result)
         (O.written sink.old) (O.written sink.new) }

@@ -18,7 +18,7 @@ use Rattle.pm_load.specs.Queries.{queries}
 abbrev pub new_standing : Standing
 new_standing = record { rows = empty; count = 0 }
 
--- behind these changes; none are no commit
+-- after these changes; none are no commit
 abbrev pub behind : Standing → List Change → Standing
 behind standing [] = standing
 behind standing (change ∷ changes) = record { rows = committed standing.rows (change ∷ changes); count = standing.count + 1 }
@@ -27,14 +27,14 @@ behind standing (change ∷ changes) = record { rows = committed standing.rows (
 abbrev pub answer_messages : Standing → List Stmt → List BackMessage
 answer_messages standing script = flat_map item_messages (items_of standing.rows script) ++ Ready ∷ []
 
--- The text spells a script; these messages are its answer, and this is left behind it.
+-- The text spells a script; these messages are its answer, and this is left after it.
 pub record IsAnswered (text : List ℕ) (before now : Standing) (messages : List BackMessage) : Type 0 where
   pub script : List Stmt
   pub query : IsQueryText text script
   pub answer : messages ≡ answer_messages before script
   pub left : now ≡ behind before (commit_of before.rows script)
 
--- So does each of these texts, one behind the other.
+-- So does each of these texts, one after the other.
 abbrev pub AreAnswered : List (List ℕ) → (before now : Standing) → List BackMessage → Type 0
 AreAnswered [] before now messages = (now ≡ before) × (messages ≡ [])
 AreAnswered (text ∷ texts) before now messages =
@@ -52,7 +52,7 @@ replayed_code =
     code_by (RowMap × (ℕ × List ℕ)) (coded× row_map_code (coded× coded_ℕ (coded_list coded_ℕ))) (λ r. (r.standing.rows, (r.standing.count, r.sent)))
     (λ p. record { standing = record { rows = p.0; count = p.1.0 }; sent = p.1.1 }) (λ _. refl)
 
--- Behind the first queries of a workload, on a new cluster: it was sent a greeting and the answers, and this stands.
+-- After the first queries of a workload, on a new cluster: it was sent a greeting and the answers, and this stands.
 pub record IsReplay (number pid key : ℕ) (replayed : Replayed) : Type 0 where
   pub messages : List BackMessage
   pub answered : AreAnswered (queries number) new_standing replayed.standing messages

@@ -1,4 +1,4 @@
--- What appending a batch leaves, at any moment and behind it.
+-- What appending a batch leaves, at any moment and after it.
 use Rattle.std.specs.Prelude.{◌≡◌, ◌⊎◌, ℕ, ◌+◌, ◌-◌, List, ◌∷◌, [], ◌++◌, length}
 use Rattle.pm_disk.specs.declared.disk.Which.{Which}
 use Rattle.pm_disk.specs.Files.{Files}

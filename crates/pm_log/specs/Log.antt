@@ -7,7 +7,7 @@ use Rattle.pm_record.specs.OnDisk.{Rests}
 use Rattle.pm_record.specs.declared.found.Found.{Found}
 use Rattle.pm_log.specs.declared.log.Log.{Log}
 
--- the length of a file up to the first gate behind its base
+-- the length of a file up to the first gate after its base
 abbrev pub base_length : Content → ℕ
 base_length content = 1 + length (base_bytes content.epoch content.clean content.base_count content.base_rows)
 

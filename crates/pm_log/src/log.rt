@@ -1,4 +1,4 @@
-//! The commit log on the disk, as it goes on behind a redo.
+//! The commit log on the disk, as it goes on after a redo.
 //!
 //! A batch counts where the gate in front of it is open. `append` writes everything behind the closed gate first and
 //! makes that durable, and only then opens the gate, so a stop leaves the batch whole or not at all.
@@ -63,14 +63,14 @@ pub struct Receipt {
     pub tick: u64,
 }
 
-/// The log in one of the two files, as it goes on behind a redo.
+/// The log in one of the two files, as it goes on after a redo.
 #[derive(Clone, Copy, Debug, PartialEq, Eq)]
 pub struct Log {
     pub file: Which,
     pub epoch: u64,
-    /// The place of the first gate behind the base.
+    /// The place of the first gate after the base.
     pub base_end: u64,
-    /// The place of the closed gate behind the last batch.
+    /// The place of the closed gate after the last batch.
     pub end: u64,
     /// The number of commits since `initdb`.
     pub count: u64,
@@ -100,7 +100,7 @@ impl Log {
         }
     }
 
-    /// How many bytes of batches stand behind the base.
+    /// How many bytes of batches stand after the base.
     pub fn behind(&self) -> u64
         ensures { result ≡ self.now.end - self.now.base_end }
     {

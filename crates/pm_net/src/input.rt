@@ -11,7 +11,7 @@ use std::time::{self, Duration};
 /// How long a server in the background waits before it looks again whether it may read from its terminal, in milliseconds.
 const BACKGROUND_MS: u64 = 500;
 
-/// Reads lines to the end of the input, and leaves each in the mailbox, cut at 64 bytes. What stands behind the last line
+/// Reads lines to the end of the input, and leaves each in the mailbox, cut at 64 bytes. What comes after the last line
 /// feed is no line, since it may be the front of another one.
 pub fn read_lines<R: Wait, I: Read>(rt: &R, input: &mut I, mailbox: &Mailbox, bells: &Bells) {
     let mut line = Line::empty();
@@ -31,7 +31,7 @@ pub fn read_lines<R: Wait, I: Read>(rt: &R, input: &mut I, mailbox: &Mailbox, be
     leave(rt, Left::End, mailbox, bells);
 }
 
-// Leaves each line that ends in these bytes. The first of them began with `line`. Answers what stands behind the last.
+// Leaves each line that ends in these bytes. The first of them began with `line`. Answers what comes after the last.
 fn leave_lines<R: Wait>(
     rt: &R,
     line: Line,

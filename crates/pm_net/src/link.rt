@@ -12,7 +12,7 @@ use std::time::Duration;
 /// How long a read waits at most up to the greeting, in milliseconds. The limit of time is looked at in between.
 const ENTRY_MS: u64 = 100;
 
-/// How long a read waits at most behind the greeting, in milliseconds.
+/// How long a read waits at most after the greeting, in milliseconds.
 const IDLE_MS: u64 = 60_000;
 
 /// The most bytes that are sent up to the greeting: an answer to each request for encryption.
@@ -32,8 +32,8 @@ const SOCKET: Token = Token(0);
 const CALL: Token = Token(1);
 
 /// A connection. A read waits for bytes or a call to all children: 100 ms at most as long as the client was only answered
-/// its requests for encryption, and a minute behind that. Up to then it has a limit of time, and behind it the link has ended.
-/// A write waits for a client that takes nothing: an hour at most, and a second behind a call, and then it fails.
+/// its requests for encryption, and a minute after that. Up to then it has a limit of time, and after it the link has ended.
+/// A write waits for a client that takes nothing: an hour at most, and a second after a call, and then it fails.
 #[derive(Drop)]
 pub struct TcpLink {
     number: u64,

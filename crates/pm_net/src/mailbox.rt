@@ -25,7 +25,7 @@ impl Line {
         }
     }
 
-    /// The line with a byte behind it, where it has room.
+    /// The line with a byte after it, where it has room.
     #[tactic(auto, using(crate::proofs::Bytes::full_line, crate::proofs::Bytes::longer_line))]
     pub(crate) fn with(self, byte: u8) -> Line
         ensures { line_bytes result ≡ take 64 (line_bytes self ++ byte ∷ []) }

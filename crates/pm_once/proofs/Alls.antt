@@ -61,7 +61,7 @@ ended_in end steps next a b c so_far one = record {
   listens = one.listens ∙ so_far.listens;
 }
 
--- one behind the other
+-- one after the other
 abbrev AllDone : {S X : Type 0} → (view : S → View) → (store : S → X) → Result (Unit {0}) ServerEnd → (before now : S) → Type 0
 AllDone view store result before now =
     (steps : List Step) × Acts result steps (view before) (view now) × (AreSays (view before).work.standing.due → IsOk result × (store now ≡ store before))

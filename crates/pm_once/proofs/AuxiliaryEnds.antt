@@ -1,4 +1,4 @@
--- A child that serves no connection runs, and what is due behind its end is done.
+-- A child that serves no connection runs, and what is due after its end is done.
 use Rattle.std.proofs.Common.{◌≡◌, inl, inr, ℕ, List, [], ◌∷◌, ◌++◌, Result, Ok, Err, refl, sym, ◌∙◌, ap, subst, arith, append-nil}
 use Rattle.std.specs.Prelude.{true}
 use Rattle.pm_chain.specs.Laws.{StepsGoOn}
@@ -68,7 +68,7 @@ ran_without run before now auxiliaries off less auxiliary = record {
   alone = auxiliary.alone;
 }
 
--- ---- what is due behind its end
+-- ---- what is due after its end
 
 pub ran_finishes : (gives : ℕ → Type 0) (run : ChildRun) (at : ℕ) (result : Result (Unit {0}) ServerEnd) (steps : List Step) (before mid now : View) → IsNoted gives run at before mid → if_session run.kind run ≡ []
     → Finishes gives result steps mid now → Finishes gives result ((Runs run (later at before.work.standing) ∷ []) ++ steps) before now

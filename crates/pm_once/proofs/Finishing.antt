@@ -132,7 +132,7 @@ finishes_ok gives steps before now goes_on acts unowed = record {
 owed_drawn : (n : ℕ) → last_pid ≤ n → is_last_drawn n ≡ true
 owed_drawn n le = grind (arith, nat_tests)
 
--- a request is owed only behind the last pid
+-- a request is owed only after the last pid
 pub is_drawn : (v : View) → IsRunning v → v.work.standing.owes_smart ≡ true → is_last_drawn v.work.standing.last_pid ≡ true
 is_drawn v running owes = owed_drawn v.work.standing.last_pid (running.2.stands.pids.owed owes)
 

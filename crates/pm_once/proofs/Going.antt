@@ -1,4 +1,4 @@
--- Steps of a server, some behind others.
+-- Steps of a server, some after others.
 use Rattle.std.proofs.Common.{ℕ, List, [], ◌∷◌, ◌++◌, Result, Ok, Err, refl, sym, ◌∙◌, ap, subst, append_assoc, append-nil}
 use Rattle.std.specs.Prelude.{OnOk, IfErr}
 use Rattle.pm_facts.specs.Lists.{each_first, each_second}

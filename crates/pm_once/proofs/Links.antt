@@ -64,7 +64,7 @@ all_back_as cs c given back start before mid now is_given is_back same was gave 
     (subst (λ (b : LinkView). IfSome before (λ v. b.number ≡ length v.given + 1)) (sym is_back) (subst (λ (n : ℕ). IfSome before (λ v. n ≡ length v.given + 1)) (sym same) numbered))
     (subst (λ (b : LinkView). now ≡ option_map (λ v. after_done v b.number b.traffic b.faults) mid) (sym is_back) done)
 
--- one change behind another
+-- one change after another
 pub both_changes : (f h : Visits → Visits) (start mid now : Option Visits) → mid ≡ option_map f start → now ≡ option_map h mid → now ≡ option_map (λ v. h (f v)) start
 both_changes f h None mid now first second = second ∙ ap (option_map h) first
 both_changes f h (Some v) mid now first second = second ∙ ap (option_map h) first

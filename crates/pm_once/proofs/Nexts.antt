@@ -95,7 +95,7 @@ pub record IsActed (a : Action) (before now : View) : Type 0 where
 moved_disk : (from : ℕ) (before now : View) → Moves [] before.store now.store → GoesOnDisk from before now
 moved_disk from before now moves = record { later = moves.spans.later; counts = λ counted. (moves.spans.counts from counted).counted }
 
--- the steps behind the entry
+-- the steps after the entry
 pub at_entry : StepsGoOn → GoesOnOverItsJournal → (a : Action) (before now : View) → IsActed a before now → now.lost ≡ before.lost → (now.outcome ≡ before.outcome) ⊎ (now.outcome ≡ None) → ((from : ℕ) → GoesOnDisk from before now)
     → (outset : Outset) (earlier : List Step) → IsAt outset earlier before → IsOpen earlier before → IsAt outset (earlier ++ Notes (entry_for a before.work.standing) ∷ []) now
 at_entry goes work a before now acted lost came disk outset earlier at opened =

@@ -1,4 +1,4 @@
--- A connection is served, and others behind it.
+-- A connection is served, and others after it.
 use Rattle.std.proofs.Common.{◌≡◌, ◌⊎◌, inl, inr, ℕ, ◌+◌, ◌≤◌, List, [], ◌∷◌, ◌++◌, length, Option, None, Some, Result, Ok, Err, option_map, refl, sym, ◌∙◌, ap, subst, arith, append_assoc, append-nil, length-append}
 use Rattle.std.specs.Prelude.{Bool, true, false, if◌then◌else◌, map, IfErr, IfSome, OnOk}
 use Rattle.std.proofs.lemmas.List.{length-map, map-append}
@@ -126,7 +126,7 @@ end_served seed limit gives steps v now none is = record {
   sessions = none.sessions;
 }
 
--- ---- one round, and others behind it
+-- ---- one round, and others after it
 
 pub serves_on : (gives : ℕ → Type 0) (result : Result (Unit {0}) ServerEnd) (xs ys : List Connection) (x y : Bool) (one two : List Step) (a b c : View)
     → Serves gives (Ok tt) xs x one a b → Serves gives result ys y two b c → Serves gives result (xs ++ ys) (if x then true else y) (one ++ two) a c

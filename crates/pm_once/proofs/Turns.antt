@@ -1,4 +1,4 @@
--- A turn of the machine, and what is done behind it.
+-- A turn of the machine, and what is done after it.
 use Rattle.std.proofs.Common.{◌≡◌, inl, inr, ℕ, List, [], ◌++◌, Option, Result, Ok, Err, refl, sym, ◌∙◌, ap, subst}
 use Rattle.std.specs.Prelude.{Bool, true, false, OnOk}
 use Rattle.std.proofs.lemmas.Bool.{false≢true}
@@ -52,11 +52,11 @@ turns_err before w standing told = subst (λ (x : AtWork). Turns (Err NoMemory) 
   listens = refl;
 })
 
--- it ended the server, or what is done behind it serves nobody yet
+-- it ended the server, or what is done after it serves nobody yet
 pub turn_finishes : (gives : ℕ → Type 0) (result : Result (Unit {0}) ServerEnd) (steps : List Step) (before now : View) → Turns result steps before now → OnOk result (IsIdle now.work.standing) → Finishes gives result steps before now
 turn_finishes gives result steps before now turns idle = record { does = does_any gives result steps before now turns.does; idle = idle; deaf = inl turns.listens; drawn = turns.drawn }
 
--- a request was owed behind it
+-- a request was owed after it
 pub turn_asks : (gives : ℕ → Type 0) (result : Result (Unit {0}) ServerEnd) (one two : List Step) (before mid now : View) → Turns (Ok tt) one before mid → IsRunning mid → mid.work.standing.owes_smart ≡ true
     → Asks gives result two mid now → Finishes gives result (one ++ two) before now
 turn_asks gives result one two before mid now turns running owes asks = record {

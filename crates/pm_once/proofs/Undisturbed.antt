@@ -102,7 +102,7 @@ unrestarted from (act.End endings.RestartOff) v ours calm (inl rose) is = rose
 unrestarted from (act.End endings.RestartOff) v ours calm (inr (inl asked)) is = absurd (never_both _ asked ours.0)
 unrestarted from (act.End endings.RestartOff) v ours calm (inr (inr quiet)) is = absurd (calm quiet)
 
--- behind an act and its entry
+-- after an act and its entry
 pub acted_disturbed : (from : ℕ) (earlier : List Step) (a : Action) (before now : View) → GoesOnDisk from before now → first_due before.work.standing.due ≡ Some a
     → now.work.standing ≡ done a before.work.standing → now.auxiliaries ≡ auxiliaries_after (act_for a before.work.standing) before.auxiliaries
     → AreOurs (is_some before.work.standing.machine.shutdown) (a ∷ without_first before.work.standing.due)

@@ -203,7 +203,7 @@ whole_rose goes work limits gives end cs ended steps v now begun serves why =
       | inr spent ↦ spent_disturbed v.store.faults now (subst (λ (e : ServerEnd). IsEndOf e steps now) spent serves.ends).1 at.acts at.disturbed.stage
     ]
 
--- a renewal stands behind the reset of its generation
+-- a renewal stands after the reset of its generation
 resets : (e : PmEvent) (generation : ℕ) (gone : List ℕ) → MayFollow (Some (Notes e)) (Renews generation gone) → is_behind_crash e ≡ true
 resets (entry.Started pid kind) generation gone may = absurd may
 resets (entry.Accepted pid decision) generation gone may = absurd may
@@ -227,7 +227,7 @@ renewed_behind (Some (Runs run at)) generation gone may = absurd may
 renewed_behind (Some (RunsOn run)) generation gone may = absurd may
 renewed_behind (Some (Renews next pids)) generation gone may = absurd may
 
--- what this step is behind, if it is an entry, is no crash
+-- what this step comes after, if it is an entry, is no crash
 abbrev IsCalmStep : Option Step → Type 0
 IsCalmStep last = (e : PmEvent) → last ≡ Some (Notes e) → is_behind_crash e ≡ false
 
@@ -273,7 +273,7 @@ whole_runs goes work limits gives end cs ended steps v now begun serves =
     let at : IsAt (outset_of limits v) steps now = serves.goes.at (outset_of limits v) [] (begins_at goes work limits v begun) (begins_open limits v begun) in
     at.causes.runs
 
--- the line of the end behind those of the journal
+-- the line of the end after those of the journal
 pub whole_log : StepsGoOn → GoesOnOverItsJournal → (limits : Limits) (gives : ℕ → Type 0) (end : ServerEnd) (cs : List Connection) (ended : Bool) (steps : List Step) (v now : View) (last : LogView) → HasBegun limits v
     → Serves gives (Err end) cs ended steps v now → Says (end_line end) now.log last → HasLogged (log_of (journal_of steps) ++ end_line end) v.log.written last.written v.log.faults last.faults
 whole_log goes work limits gives end cs ended steps v now last begun serves says =

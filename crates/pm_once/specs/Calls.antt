@@ -38,7 +38,7 @@ use Rattle.pm_duties.specs.Outcomes.{end_in, Stays, ComesTo}
 abbrev pub end_by : Ending → View → ServerEnd
 end_by ending v = end_in ending v.outcome (is_broken v.store.live)
 
--- the store and those that it lost, behind an act that may have renewed it: nothing was noted where memory was short
+-- the store and those that it lost, after an act that may have renewed it: nothing was noted where memory was short
 abbrev pub StoreBehind : Act → Result (Unit {0}) ServerEnd → View → View → Type 0
 StoreBehind (act.Reset generation) (Ok done) before now =
     (now.outcome ≡ None) × (now.lost ≡ []) × (others : List ℕ) × HasRenewed generation before.lost others before.store now.store
@@ -166,7 +166,7 @@ pub record HasAuxiliaryRun (run : ChildRun) (before now : View) : Type 0 where
   pub ran : HasRun run before now
   pub alone : if_session run.kind run ≡ []
 
--- all acts that are due were done, and the shutdown was asked for that is owed behind the last pid
+-- all acts that are due were done, and the shutdown was asked for that is owed after the last pid
 pub record Finishes (gives : ℕ → Type 0) (result : Result (Unit {0}) ServerEnd) (steps : List Step) (before now : View) : Type 0 where
   pub does : Does gives result steps before now
   pub idle : OnOk result (IsIdle now.work.standing)

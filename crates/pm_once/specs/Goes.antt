@@ -74,7 +74,7 @@ pub record Goes (gives : ℕ → Type 0) (steps : List Step) (before now : View)
   pub unread : AllByRecursion IsNoRenewal steps → StaysUnread (book_of steps) before.store now.store
   pub knows : (from : ℕ) → Knows from before → Knows from now
 
--- it can go on behind them
+-- it can go on after them
 abbrev pub StaysOpen : List Step → View → View → Type 0
 StaysOpen steps before now = (earlier : List Step) → IsOpen earlier before → IsOpen (earlier ++ steps) now
 

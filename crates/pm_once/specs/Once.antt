@@ -32,7 +32,7 @@ abbrev pub is_spent_of_pids : Limits → List Step → Bool
 is_spent_of_pids limits steps = is_last_drawn (replay_of limits steps).shown.last_pid
 
 -- Smart shutdowns alone were asked for: none but where the port's end had come, or the last pid was drawn, and one for each at
--- most. Behind the port's end one was asked for, unless memory was short.
+-- most. After the port's end one was asked for, unless memory was short.
 pub record IsAsked (limits : Limits) (end : ServerEnd) (ended : Bool) (steps : List Step) : Type 0 where
   pub smart : All (λ mode. mode ≡ Smart) (asked_in (journal_of steps))
   pub few : length (asked_in (journal_of steps)) ≤ 1 + one_if (is_spent_of_pids limits steps)

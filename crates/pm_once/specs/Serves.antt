@@ -26,7 +26,7 @@ passed connections ended visits = if ended then with_end (with_connections conne
 abbrev pub IsServed : (seed : List ℕ) → (limit : ℕ) → (gives : ℕ → Type 0) → Connection → Type 0
 IsServed seed limit gives connection = IsServedAs (cancel_key seed connection.pid) limit gives connection
 
--- their links have the numbers behind this one, in order
+-- their links have the numbers after this one, in order
 abbrev pub AreNumbered : ℕ → List Connection → Type 0
 AreNumbered last [] = Unit {0}
 AreNumbered last (connection ∷ connections) = (connection.given.number ≡ last + 1) × AreNumbered (last + 1) connections
@@ -46,10 +46,10 @@ pub record Serves (gives : ℕ → Type 0) (result : Result (Unit {0}) ServerEnd
   pub stays : OnOk result (StaysOpen steps before now)
   pub ends : IfErr result (λ end. IsEndOf end steps now)
   pub idle : OnOk result (IsIdle now.work.standing)
-  -- links are served only where they are asked for, and they are asked for until the port's end, or behind the last pid
+  -- links are served only where they are asked for, and they are asked for until the port's end, or after the last pid
   pub deaf : before.listens ≡ false → (now.listens ≡ false) × (connections ≡ []) × (ended ≡ false)
   pub at_end : ended ≡ true → now.listens ≡ false
-  -- behind the port's end a shutdown was asked for, unless memory was short
+  -- after the port's end a shutdown was asked for, unless memory was short
   pub asked : ended ≡ true → (1 ≤ length (asked_in (journal_of steps))) ⊎ (result ≡ Err NoMemory)
   pub drawn : is_last_drawn before.work.standing.last_pid ≡ true → is_last_drawn now.work.standing.last_pid ≡ true
   pub why : now.listens ≡ false → (before.listens ≡ false) ⊎ ((ended ≡ true) ⊎ (is_last_drawn now.work.standing.last_pid ≡ true))

@@ -51,7 +51,7 @@ pub record IsAlone (connection : Connection) : Type 0 where
 abbrev pub user_in : Connection → User
 user_in connection = newcomer (Some connection.generation) connection.pid connection.generation
 
--- A link on which nothing had passed came back behind the session of a child with this key, which was admitted into its
+-- A link on which nothing had passed came back after the session of a child with this key, which was admitted into its
 -- generation and was given no signal. The session is told by the link's bytes and by what was noted.
 pub record IsServedAs (key limit : ℕ) (gives : ℕ → Type 0) (connection : Connection) : Type 0 where
   pub told : Told

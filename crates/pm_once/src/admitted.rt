@@ -7,6 +7,6 @@ use pm_server::ServerEnd;
 pub struct Admitted {
     /// Its child's number.
     pub pid: u32,
-    /// Whether the server can go on behind the session: it can't where memory was short for the shutdown that was owed.
+    /// Whether the server can go on after the session: it can't where memory was short for the shutdown that was owed.
     pub settled: Result<(), ServerEnd>,
 }

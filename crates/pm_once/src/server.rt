@@ -51,7 +51,7 @@ impl<J: Chronicle<PmEvent>, O: Sink, D: Disk, B: Chronicle<BookEntry>> Server<J,
     ghost use Rattle.pm_once.specs.View.{view_of};
 
     // How the server ends where its machine does: by what the last auxiliary child came to, or since its log is broken.
-    // Behind such an end there is nothing else but want of memory.
+    // After such an end there is nothing else but want of memory.
     fn end_of(&self, ending: Ending) -> ServerEnd
         ensures { result ≡ end_by ending (view_of self.now) }
     {
@@ -175,7 +175,7 @@ impl<J: Chronicle<PmEvent>, O: Sink, D: Disk, B: Chronicle<BookEntry>> Server<J,
         }
     }
 
-    // Does all acts that are due, and asks for the shutdown that is owed behind the last pid.
+    // Does all acts that are due, and asks for the shutdown that is owed after the last pid.
     fn finish<C: Clock>(&mut self, clock: &C) -> Result<(), ServerEnd>
         requires running { IsRunning (view_of self.old) }
         requires goes_on { (standing self.old.supervision).ended ≡ false }
@@ -269,7 +269,7 @@ impl<J: Chronicle<PmEvent>, O: Sink, D: Disk, B: Chronicle<BookEntry>> Server<J,
         }
     }
 
-    // Lets the next child run that has something to do, if there is one, and does what is due behind its end.
+    // Lets the next child run that has something to do, if there is one, and does what is due after its end.
     pub(crate) fn run_one<R: Wait, C: Clock>(
         &mut self,
         rt: &R,
@@ -330,7 +330,7 @@ impl<J: Chronicle<PmEvent>, O: Sink, D: Disk, B: Chronicle<BookEntry>> Server<J,
         }
     }
 
-    // Serves the port's next link, and does what is due behind the end of its session; or asks for a shutdown at the port's end.
+    // Serves the port's next link, and does what is due after the end of its session; or asks for a shutdown at the port's end.
     pub(crate) fn serve_next<R: Wait, P: Port, C: Clock>(
         &mut self,
         rt: &R,

@@ -1,4 +1,4 @@
--- The lines of a console behind those that it has given.
+-- The lines of a console after those that it has given.
 use Rattle.std.proofs.Common.{◌≡◌, ℕ, suc, ◌+◌, ◌<◌, ◌≤◌, List, [], ◌∷◌, ◌++◌, length, take, drop, get_or, min, map, sym, ap, subst, refl, ◌∙◌, arith, drop-cons, length-take-le}
 use Rattle.std.proofs.lemmas.List.{map_more, take_at, take_min}
 use Rattle.pm_outside.specs.MemConsole.{GivesFirst, cut_line}

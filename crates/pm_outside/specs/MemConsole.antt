@@ -34,7 +34,7 @@ abbrev pub FirstWaits : List ScriptLine → Type 0
 FirstWaits [] = ⊥
 FirstWaits (line ∷ lines) = line.behind ≢ None
 
--- the first of these lines is given so, and these are left behind it
+-- the first of these lines is given so, and these are left after it
 abbrev pub GivesFirst : List ScriptLine → List ℕ → List ScriptLine → Type 0
 GivesFirst [] bytes rest = ⊥
 GivesFirst (line ∷ lines) bytes rest = (bytes ≡ cut_line line) × (rest ≡ lines)

@@ -70,7 +70,7 @@ abbrev pub bytes_free : MemLink → List Hold → ℕ
 bytes_free link holds = min (first_place holds (length link.incoming.items)) (length link.incoming.items) - link.taken
 
 -- What a read may answer, into so much room, once the first hold has gone or stayed: as many bytes as stand in front of
--- the next one; nothing yet where there are none; and the end behind the last byte, or where 10,000 asks were in vain.
+-- the next one; nothing yet where there are none; and the end after the last byte, or where 10,000 asks were in vain.
 abbrev pub AnswersBy : MemLink → MemLink → ℕ → Got → Type 0
 AnswersBy old new room (Bytes count) = LetsGo (holds_left (link_holds old)) (holds_left (link_holds new))
     × (count ≡ min (min (bytes_free old (holds_left (link_holds new))) room) (read_limit old))

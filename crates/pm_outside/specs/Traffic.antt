@@ -6,7 +6,7 @@ use Rattle.pm_outside.specs.declared.link.Put.{Put}
 use Rattle.pm_outside.specs.declared.link.Put.TheVariants.{Count, Failed as PutFailed}
 
 -- all bytes that came in and went out, whether the end was given, whether the last read found nothing yet, whether a read or a
--- write has failed, and whether a call was made behind a failed one, or a read behind the end
+-- write has failed, and whether a call was made after a failed one, or a read after the end
 pub record Traffic : Type 0 where
   pub came_in : List ℕ
   pub went_out : List ℕ
@@ -50,7 +50,7 @@ abbrev pub is_put_failed : Put → Bool
 is_put_failed (Count count) = false
 is_put_failed PutFailed = true
 
--- bytes behind those that stand, as many as a write took
+-- bytes after those that stand, as many as a write took
 abbrev pub put_behind : List ℕ → Put → List ℕ → List ℕ
 put_behind stands (Count count) from = stands ++ take count from
 put_behind stands PutFailed from = stands

@@ -13,7 +13,7 @@ pub record Visit : Type 0 where
   pub faults_back : ℕ
 
 -- The links given, which number 1, 2, .. in this order, by how often each had failed by then; the links taken back, in
--- order; and behind how many links the end was given first, if it was.
+-- order; and after how many links the end was given first, if it was.
 pub record Visits : Type 0 where
   pub given : List ℕ
   pub back : List Visit

@@ -15,7 +15,7 @@ pub enum Withheld {
 }
 
 /// A disk over another one, whose calls are its own. The first read, or the first write, isn't made before a cue has
-/// come, or before it was asked for 10,000 times, each a tenth of a millisecond behind the other.
+/// come, or before it was asked for 10,000 times, each a tenth of a millisecond after the other.
 #[derive(Drop)]
 pub struct Held<D, R> {
     disk: D,

@@ -63,7 +63,7 @@ impl MemLink {
         self.number
     }
 
-    // Whether a read would be made behind a failed call or behind the end.
+    // Whether a read would be made after a failed call or after the end.
     fn goes_on(&self) -> bool
         ensures { result ≡ goes_on_reading (link_traffic self.now) }
     {

@@ -6,8 +6,8 @@ use std::test::Fail;
 
 /// Calls on two files. `blip` and `fuse` make a new disk, some of whose calls fail. A call answers whether it was done, how
 /// many calls there were, how many of them failed and how many reached the disk within, and how file A reads. `stop` answers
-/// how file A reads behind a stop after so many ticks, with at most so many bytes past its length at the last sync, and with
-/// these bytes over and over where nothing is durable, or zeros.
+/// how file A reads once the disk has stopped after so many ticks, with at most so many bytes past its length at the last sync,
+/// and with these bytes over and over where nothing is durable, or zeros.
 const SCRIPT: &str = "
 # a write overlaps and grows the file
 blip 0
@@ -80,7 +80,7 @@ stop 6 0 -+ -> [a-+-]
 stop 7 all -> [a\0\0\0\0\0]
 stop 8 0 - -> [aXYZ!?]";
 
-/// A line's first word, and what stands behind it.
+/// A line's first word, and what comes after it.
 pub fn parted(line: &str) -> (&str, &str) {
     line.split_once(' ').unwrap_or((line, ""))
 }
@@ -89,13 +89,13 @@ pub fn number(word: &str) -> Result<u64, Fail> {
     Ok(word.parse::<u64>().ok().ok_or("a number")?)
 }
 
-// How file A reads, in brackets, behind a word.
+// How file A reads, in brackets, after a word.
 fn shown(alloc: Global, word: &str, disk: &MemDisk) -> Result<String, Fail> {
     let text = str::from_utf8(disk.file(Which::A)).ok().ok_or("a text")?;
     Ok(format!(in alloc; "{word}[{text}]")?)
 }
 
-// How file A reads behind a stop.
+// How file A reads after a stop.
 fn stopped(alloc: Global, disk: &MemDisk, tick: u64, words: &str) -> Result<String, Fail> {
     let (beyond, fill) = parted(words);
     let beyond = beyond.parse::<u64>().unwrap_or(u64::MAX);
@@ -103,7 +103,7 @@ fn stopped(alloc: Global, disk: &MemDisk, tick: u64, words: &str) -> Result<Stri
     shown(alloc, "", &left)
 }
 
-// What a call answers: a word, and two numbers or a text behind some of them.
+// What a call answers: a word, and two numbers or a text after some of them.
 fn answer(
     rt: &impl Abort,
     alloc: Global,

@@ -7,7 +7,7 @@ use std::time::Instant;
 #[test]
 fn clocks_go_on_with_pauses_of_all_or_of_one_or_stand(rt: HostRuntime) -> Result<(), Fail> {
     let alloc = rt.alloc();
-    // A clock, and its moments behind two pauses of others and behind one of its own.
+    // A clock, and its moments after two pauses of others and after one of its own.
     let clocks = [
         (MemClock::new(alloc, 5, rt)?, 7, 8),
         (MemClock::new(alloc, u64::MAX, rt)?, u64::MAX, u64::MAX),

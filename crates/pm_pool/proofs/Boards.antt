@@ -16,7 +16,7 @@ use Rattle.pm_seating.specs.Standing.{AreClosing, IsFinal}
 use Rattle.pm_worker.specs.declared.mail.MailTold.{MailTold}
 use Rattle.pm_pool.specs.Closing.{HasHadLast, KeepsBoard}
 
--- with one child more behind those so far
+-- with one child more after those so far
 one_behind : {A B : Type 0} (f : A → B) (past past' : List A) (x : A) (told others : List B) → past' ≡ past ++ x ∷ [] → map f past ≡ told ++ others → map f past' ≡ told ++ (others ++ f x ∷ [])
 one_behind f past past' x told others is so = ap (map f) is ∙ map-append f past (x ∷ []) ∙ ap (λ xs. xs ++ f x ∷ []) so ∙ append_assoc told others (f x ∷ [])
 

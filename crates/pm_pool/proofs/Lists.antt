@@ -44,7 +44,7 @@ module _ {A : Type 0} (P : ℕ → A → Type 0) where
   one_before first x xs p each zero y is = subst (λ (k : ℕ). P k y) (omega arith) (subst (P first) (same_Some x y is) p)
   one_before first x xs p each (suc i) y is = subst (λ (k : ℕ). P k y) (omega arith) (each i y is)
 
-  -- those in front, and those behind
+  -- those in front, and those after
   pub front_of_all : (first : ℕ) (xs ys : List A) → EachFrom P first (xs ++ ys) → EachFrom P first xs
   front_of_all first xs ys each i x is = each i x (got_front xs ys i x is)
 

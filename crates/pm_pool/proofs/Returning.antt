@@ -1,4 +1,4 @@
--- Tokens that come back unused, and the store behind them.
+-- Tokens that come back unused, and the store after them.
 use Rattle.std.proofs.Common.{◌≡◌, ℕ, ◌+◌, List, [], ◌∷◌, ◌++◌, length, refl, sym, ap, ◌∙◌, subst, append-nil, append_assoc, length-append}
 use Rattle.std.specs.Prelude.{Option, Some, IfSome}
 use Rattle.atomic_table.specs.Seated.{TableId}

@@ -76,7 +76,7 @@ watched_on k o before now after word last w b =
       last_pid = ap (λ n. n.last_pid) b.notes_are ∙ w.last_pid;
     }
 
--- the look that found it exited, and the release behind it
+-- the look that found it exited, and the release after it
 pub released_at_last : (k : ℕ) (o : Offer MailTold) (before now found after : RosterView MailTold) (word : ℕ) (status : Status) (active : _) (back : MailTold) → IsWatched k o before now
     → SlotBecame k (record { past = (slot_at now k).past; sight = Exited o status active; found_running = 0 }) (noted_look now.notes word) now found
     → SlotBecame k (released_slot (slot_at found k) (past_child o status active back)) (noted_release found.notes o) found after → IsReleased k o before after

@@ -22,7 +22,7 @@ use Rattle.pm_pool.proofs.Returning.{unused_works}
 pub idle_new : {F : Type 0} (n : ℕ) (first : F) (s : SharedModel F) → IsNewShared n first s → IsIdleShared s
 idle_new n first s new = record { own = new.own; unused = subst (λ (joined : List Joined). AreUnused joined) (sym new.none_joined) tt }
 
--- behind workers that were closed at once
+-- after workers that were closed at once
 pub idle_closed : {F : Type 0} (manner : Manner) (n tokens count limit posts : ℕ) (d e : RosterView MailTold) (first : F) (s t : SharedModel F) → d ≡ new_roster count limit posts → IsNewShared tokens first s
     → AreClosed manner n d e s t → IsIdleShared t
 idle_closed {F} manner n tokens count limit posts d e first s t d_is new closed =

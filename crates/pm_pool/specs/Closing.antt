@@ -49,7 +49,7 @@ pub record IsReleased (k : ℕ) (o : Offer MailTold) (before after : RosterView 
 abbrev pub KeepsBoard : RosterView MailTold → RosterView MailTold → Type 0
 KeepsBoard before after = (count : ℕ) (moves : List Move) → IsBoardOf count moves before → IsBoardOf count moves after
 
--- behind those before, the slot k has had one child more, under the pid for that, which closed its worker
+-- after those before, the slot k has had one child more, under the pid for that, which closed its worker
 pub record HasHadLast (k : ℕ) (before after : RosterView MailTold) : Type 0 where
   pub child : PastChild MailTold
   pub pid : child.offer.pid ≡ closing_pid k

@@ -27,7 +27,7 @@ impl<
     B: Chronicle<BookEntry> + Drop,
 > Pool<R, C, L, D, B> {
     /// Ends all workers, where nobody sits on the board: each is told to end and joined, the first slot first. The roster has
-    /// taken in their posts then, and the store comes out behind all that they noted.
+    /// taken in their posts then, and the store comes out after all that they noted.
     pub fn close(self, rt: &R, roster: &mut Roster<Mail<L>>, shared: Shared<D, B>) -> Segment<D, B>
         requires pool { IsPool C.gives roster.old.table shared.table self }
         requires board { MayClose (slots_of self.terms.plan) roster.old.knows }

@@ -30,7 +30,7 @@ fn take_all_back<
     }
 }
 
-/// Takes apart works that were not started, and the store behind them.
+/// Takes apart works that were not started, and the store after them.
 pub(crate) fn give_up<
     R: Wait + Drop,
     C: Clock + Drop,

@@ -70,7 +70,7 @@ module _ {D : Type 0} where
   LivesAs pid (Some token) (Attached o g) = (pid ≡ o.pid) × (token.generation ≡ g)
   LivesAs pid _ _ = ⊥
 
-  -- it runs, and stands neither before nor behind the gate's word
+  -- it runs, and stands neither before nor after the gate's word
   abbrev pub IsLiving : Work D → Type 0
   IsLiving (Inactive o) = Unit {0}
   IsLiving (Attached o g) = Unit {0}

@@ -98,7 +98,7 @@ module _ {D C : Type 0} (gives : C → ℕ → Type 0) where
     pub leaves : Leaves gives before now
     pub slots : length now.board.slots ≡ length before.board.slots
 
-  -- what holds behind an act, and these moves
+  -- what holds after an act, and these moves
   pub record Stands (outset : Outset D C) (moves : List Move) (now : View D C) : Type 0 where
     pub at : seating.IsAt outset.limits outset.count moves (view now.work now.board)
     pub holds : Holds gives outset moves now

@@ -90,7 +90,7 @@ none_accepted (Kill pid) at seats = by (is_seated pid seats)
     by true = refl
     by false = refl
 
--- the first end stands behind all that were accepted
+-- the first end stands after all that were accepted
 end_behind : (n at : ℕ) (s : Seating) (moves : List Move) → port_ends_in moves ≡ 0
     → end_from n (moves ++ PortEnds at ∷ []) ≡ Some (n + length (pids_accepted (entries_from s moves)))
 end_behind n at s [] none = ap (λ (k : ℕ). Some k) (omega arith)
@@ -117,7 +117,7 @@ pids_more (PidsEnd at ∷ xs) ys = omega (arith, pids_more xs ys)
 
 -- ---- the last pid
 
--- what is owed behind the last pid goes on: so many more were asked for
+-- what is owed after the last pid goes on: so many more were asked for
 pub record OwesOn (more : ℕ) (s t : Standing) : Type 0 where
   pub pids : (n : ℕ) → n + one_if s.owes_smart ≡ one_if (is_last_drawn s.last_pid) → n + more + one_if t.owes_smart ≡ one_if (is_last_drawn t.last_pid)
   pub owed : (s.owes_smart ≡ true → MayOwe s) → t.owes_smart ≡ true → MayOwe t
@@ -258,7 +258,7 @@ module _ {L : Type 0} (faults : L → ℕ) (visits now : Option Visits) (is : no
       by (Some its) are given =
           ap (λ (e : Option ℕ). Some (unwrap_or e (length its.given))) (are ∙ no_end 0 earlier none) ∙ (ap (λ (k : ℕ). Some k) given ∙ sym behind)
 
-  -- so it has come behind some link
+  -- so it has come after some link
   pub has_come : (n : ℕ) × IfSome (ended_in now) (λ it. it ≡ Some n)
   has_come = subst (λ (o : Option Visits). (n : ℕ) × IfSome (ended_in o) (λ it. it ≡ Some n)) (sym is) (by visits)
     where

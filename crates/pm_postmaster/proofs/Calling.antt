@@ -94,7 +94,7 @@ module _ {D C : Type 0} (gives : C → ℕ → Type 0) (before now : View D C) (
       subst (λ (v : Option Visits). IsAsked NoMemory moves now.lines (ended_in v) now.work.standing.last_pid) (sym visits)
       (asked_but_line NoMemory moves before.lines (ended_in before.visits) before.listens now.work.standing asks unowed line now.lines given))
 
-  -- for the shutdown behind the port's end
+  -- for the shutdown after the port's end
   pub short_end : (n : ℕ) → LinksStay now.board before.visits now.visits → before.listens ≡ true → IfSome (ended_in now.visits) (λ it. it ≡ Some n) → now.lines ≡ before.lines
       → now.work.standing.owes_smart ≡ false → Stops gives NoMemory before now
   short_end n stay hears came lines unowed =

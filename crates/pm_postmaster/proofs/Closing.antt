@@ -1,4 +1,4 @@
--- Behind the closing of all workers no two children had one pid.
+-- After the closing of all workers no two children had one pid.
 use Rattle.std.proofs.Common.{◌≡◌, ◌≢◌, ◌⊎◌, inl, inr, ℕ, ◌<◌, ◌≤◌, List, [], ◌∷◌, ◌++◌, refl, sym, ap, subst, ◌∙◌, arith}
 use Rattle.std.specs.Prelude.{Bool, true, false, map, nat_lt}
 use Rattle.std.specs.List.{AllByRecursion}

@@ -94,7 +94,7 @@ given_back g h first disk given book (inl same) =
     (inl same.1, ap g.seen same.0, subst (λ (d : _). GoesOn (g.ticks first) (g.ticks d) (g.images first) (g.images d)) (sym same.0) (time_still (g.ticks first) (g.images first)))
 given_back g h first disk given book (inr alone) = let it = opened_alone g h first disk book alone in (inr it.0, it.1, it.2)
 
--- a cause stays one behind children that were released later
+-- a cause stays one after children that were released later
 pub caused_more : (end : ServerEnd) (moves : List Move) (past more now : List (PastChild MailTold)) → now ≡ past ++ more → IsCausedBehind end moves past → IsCausedBehind end moves now
 caused_more (Abnormal (StartupFailed reason)) moves past more now is cause = record {
   front = cause.front;
@@ -117,7 +117,7 @@ pub asked_behind : (end : ServerEnd) (moves : List Move) (lines : Option (List (
     → IsAsked end moves lines now last_pid
 asked_behind end moves lines before now last_pid is asked = subst (λ (o : Option (Option ℕ)). IsAsked end moves lines o last_pid) (sym is) asked
 
--- behind all slots there is nobody
+-- after all slots there is nobody
 pub none_behind : (d : RosterView MailTold) (k : ℕ) → length d.slots ≤ k → (slot_at d k).past ≡ []
 none_behind d k far = ap (λ (x : SlotView MailTold). x.past) (get_or_past d.slots k (slot_view [] Unused) far)
 

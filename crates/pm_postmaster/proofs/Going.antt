@@ -29,7 +29,7 @@ use Rattle.pm_postmaster.proofs.Asked.{AsksNone, OwesOn, asked_all, asks_none}
 use Rattle.pm_postmaster.proofs.Redoing.{TellNone, redos_still, redos_told}
 use Rattle.pm_postmaster.proofs.Renewing.{AreQuiet, renews_as_told, renews_quiet}
 
--- the last pid of a journal is that of who stands behind it
+-- the last pid of a journal is that of the standing after it
 pub pid_at : (limits : Limits) (journal : List PmEvent) (s : Standing) (h : Trace) → Stands limits (Some journal) s h → s.last_pid ≡ last_pid_in limits journal
 pid_at limits journal s h stands = stands.remembers.last_pid ∙ ap (last_pid_in limits) (sym stands.told_is)
 
@@ -78,7 +78,7 @@ module _ {D C : Type 0} (gives : C → ℕ → Type 0) where
   abbrev pub AsksAt : List Move → View D C → Type 0
   AsksAt moves v = AsksSoFar moves v.lines (ended_in v.visits) v.listens v.work.standing
 
-  -- whatever was asked for before, it is so behind these moves too
+  -- whatever was asked for before, it is so after these moves too
   abbrev pub AsksOn : Outset D C → List Move → View D C → View D C → Type 0
   AsksOn outset more before now = (was : IsServing gives outset before) → AsksAt (was.moves ++ more) now
 

@@ -1,4 +1,4 @@
--- A smart shutdown is owed behind the last pid: what calls and acts of the machine leave of that, and what they ask for.
+-- A smart shutdown is owed after the last pid: what calls and acts of the machine leave of that, and what they ask for.
 use Rattle.std.proofs.Common.{◌≡◌, ℕ, ◌<◌, ◌≤◌, List, [], ◌∷◌, refl, sym, ap, subst, ◌∙◌, arith}
 use Rattle.std.specs.Prelude.{Bool, true, false, ◌==◌, ◌||◌, not, if◌then◌else◌, Option, None, Some, unwrap_or}
 use Rattle.std.proofs.Math.Bool.{or-true}

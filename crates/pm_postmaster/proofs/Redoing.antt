@@ -118,7 +118,7 @@ pub redos_exited : (earlier : List Move) (slot at : ℕ) (exit : ChildExit) (s :
 redos_exited earlier slot at exit s o status active back notes d e became kind is_status kept generation were =
     redos_push earlier slot at exit s o status active back notes d e became (told_exit o status active back exit s kind is_status kept generation) were
 
--- behind the last entry children were released that nothing tells of
+-- after the last entry children were released that nothing tells of
 pub redos_behind : (moves : List Move) (d e : RosterView MailTold) → ((k : ℕ) → (others : List (PastChild MailTold)) × ((slot_at e k).past ≡ (slot_at d k).past ++ others))
     → RedosAreThose moves d → RedosAreThose moves e
 redos_behind moves d e more were k =

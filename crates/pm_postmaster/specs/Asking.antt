@@ -7,7 +7,7 @@ use Rattle.pm_server.specs.declared.end.ServerEnd.{ServerEnd}
 use Rattle.pm_postmaster.specs.Serving.{Goes, IsAlive}
 use Rattle.pm_postmaster.specs.View.{View}
 
--- a console that tells has given this line behind these
+-- a console that tells has given this line after these
 abbrev pub GivesLine : List ℕ → (before now : Option (List (List ℕ))) → Type 0
 GivesLine line before now = now ≡ option_map (λ lines. lines ++ line ∷ []) before
 

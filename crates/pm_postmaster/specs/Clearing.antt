@@ -11,7 +11,7 @@ use Rattle.pm_worker.specs.declared.mail.MailTold.{MailTold}
 use Rattle.pm_postmaster.specs.Links.{HasLinks}
 use Rattle.pm_postmaster.specs.Requests.{ended_in}
 
--- behind these moves nothing is noted any more, and the links that are out are those of children
+-- after these moves nothing is noted any more, and the links that are out are those of children
 pub record MayClear (d : RosterView MailTold) (visits : Option Visits) : Type 0 where
   pub count : ℕ
   pub moves : List Move
@@ -19,7 +19,7 @@ pub record MayClear (d : RosterView MailTold) (visits : Option Visits) : Type 0 
   pub accepted : ℕ
   pub links : IfSome visits (HasLinks accepted d)
 
--- Behind the last entry children were killed and released. Each slot has had those that it had before, and perhaps others.
+-- After the last entry children were killed and released. Each slot has had those that it had before, and perhaps others.
 pub record Clears (table_before : TableId) (before : RosterView MailTold) (visits_before : Option Visits) (table_now : TableId) (now : RosterView MailTold) (visits_now : Option Visits) : Type 0 where
   pub table : table_now ≡ table_before
   pub slots : length now.slots ≡ length before.slots

@@ -34,7 +34,7 @@ fault_in _ = None
 abbrev pub came_by : Kind → Status → MailTold → Option Came → Option Came
 came_by kind status back before = if is_startup_child kind then Some (record { status = status; fault = fault_in back }) else before
 
--- so it is behind these children of a slot, where it was so before them
+-- so it is after these children of a slot, where it was so before them
 abbrev pub came_from : Option Came → List (PastChild MailTold) → Option Came
 came_from before [] = before
 came_from before (child ∷ past) = came_from (came_by child.offer.kind child.status child.back before) past

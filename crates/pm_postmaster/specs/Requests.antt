@@ -11,11 +11,11 @@ use Rattle.pm_server.specs.declared.end.ServerEnd.{ServerEnd}
 use Rattle.pm_server.specs.declared.end.ServerEnd.TheVariants.{NoMemory}
 use Rattle.pm_supervisor.specs.Children.{one_if}
 
--- behind how many links a port gave its end, if it did, where it tells
+-- after how many links a port gave its end, if it did, where it tells
 abbrev pub ended_in : Option Visits → Option (Option ℕ)
 ended_in visits = option_map (λ its. its.ended_behind) visits
 
--- behind how many connections accepted the moves tell of the port's end, if they do, where so many were accepted before them
+-- after how many connections accepted the moves tell of the port's end, if they do, where so many were accepted before them
 abbrev pub end_from : ℕ → List Move → Option ℕ
 end_from n [] = None
 end_from n (Notes noted slot ∷ moves) = end_from (n + length (pids_accepted (noted ∷ []))) moves
@@ -36,7 +36,7 @@ pub record IsAsked (end : ServerEnd) (moves : List Move) (lines : Option (List (
   pub ended_behind : Option ℕ
   pub ended_is : IfSome ended (λ it. it ≡ ended_behind)
   pub asks : AsksAsTold IsNumber moves given (is_some ended_behind) (is_last_drawn last_pid) (ended_short end)
-  -- the port's end stands where it came, behind the links that were given by then
+  -- the port's end stands where it came, after the links that were given by then
   pub place : (n : ℕ) → end_from 0 moves ≡ Some n → ended_behind ≡ Some n
 
 -- ---- at every moment

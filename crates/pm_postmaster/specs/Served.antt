@@ -69,7 +69,7 @@ pub record IsServed (conf : Conf) (end : ServerEnd) (before now : ServeView) : T
   -- it ended as its machine did, or for want of memory or of a generation
   pub ends : IsEndBehind conf.limits end (journal_of (slots_by conf.limits) moves)
   pub cause : IsCausedBehind end moves (slot_at board 0).past
-  -- the store's generations are those that the journal begins, each behind the children that were lost before it
+  -- the store's generations are those that the journal begins, each after the children that were lost before it
   pub renewals : RenewsAsTold (journal_of (slots_by conf.limits) moves) own
   -- the ends of redo are those that startup children told
   pub redos : RedosAreThose moves board

@@ -64,7 +64,7 @@ pub record Moments (gives : ℕ → Type 0) (s : Standing) : Type 0 where
   pub last : (s.moment ≡ 0) ⊎ gives s.moment
   pub called : KillsAll s.due → gives s.called_at
 
--- Those that were lost in this generation are at hand. The shared side opened the generations that the journal begins, each behind
+-- Those that were lost in this generation are at hand. The shared side opened the generations that the journal begins, each after
 -- those that were lost before it.
 pub record Renews (journal : List PmEvent) (lost : List ℕ) (own : List Noted) : Type 0 where
   pub lost_is : lost ≡ lost_since [] journal
@@ -93,7 +93,7 @@ EndsWith last journal = (front : List PmEvent) × (journal ≡ front ++ last ∷
 abbrev pub last_pid_in : Limits → List PmEvent → ℕ
 last_pid_in limits journal = (all_replayed (replay_begun limits) journal).shown.last_pid
 
--- a server may end so behind this journal
+-- a server may end so after this journal
 abbrev pub IsEndBehind : Limits → ServerEnd → List PmEvent → Type 0
 IsEndBehind limits end journal = IsEndBy (λ how. EndsWith (entry.Ended how) journal) limits end journal
 
@@ -103,7 +103,7 @@ IsReason why.Killed came = came.status ≡ Signal 9
 IsReason (why.Redo fault) came = came.fault ≡ Some (RedoNo fault)
 
 -- The last startup child came out for this reason, of the children of its slot whose ends the moves tell of. The others were released
--- behind the last entry.
+-- after the last entry.
 pub record FailsFor (reason : StartWhy) (moves : List Move) (past : List (PastChild MailTold)) : Type 0 where
   pub front : List (PastChild MailTold)
   pub others : List (PastChild MailTold)
@@ -119,7 +119,7 @@ IsCausedBehind (Abnormal (StartupFailed reason)) moves past = FailsFor reason mo
 IsCausedBehind end moves past = Unit {0}
 
 module _ {D C : Type 0} (gives : C → ℕ → Type 0) where
-  -- behind these moves, while entries are noted and behind the last one
+  -- after these moves, while entries are noted and after the last one
   pub record Holds (outset : Outset D C) (moves : List Move) (v : View D C) : Type 0 where
     pub stays : StaysWith outset v
     pub slots : length v.board.slots ≡ outset.count
@@ -140,7 +140,7 @@ module _ {D C : Type 0} (gives : C → ℕ → Type 0) where
     pub came : v.came ≡ came_of (slot_at v.board 0).past
     pub asks : AsksSoFar moves v.lines (ended_in v.visits) v.listens v.work.standing
 
-  -- behind the last entry, of a server that ends so
+  -- after the last entry, of a server that ends so
   pub record HasStopped (outset : Outset D C) (end : ServerEnd) (v : View D C) : Type 0 where
     pub moves : List Move
     pub ending : IsEndingAt outset.count moves v.board

@@ -24,7 +24,7 @@ use pm_state::PmEvent;
 use pm_worker::{Mail, NewLink};
 use std::sync::Wait;
 
-/// How many slots behind the others are for children that refuse a connection alone.
+/// How many slots after the others are for children that refuse a connection alone.
 const DEAD_END_SLOTS: u32 = 4;
 
 /// How many slots before the others are for children that serve no connection.
@@ -106,7 +106,7 @@ impl<
         }
     }
 
-    /// Takes the next connection, if there is one, right behind a turn of the machine. It tells whether there was one, or the
+    /// Takes the next connection, if there is one, right after a turn of the machine. It tells whether there was one, or the
     /// port's end.
     pub(crate) fn accept<R: Wait>(&mut self, rt: &R) -> Result<bool, ServerEnd>
         requires alive { IsAlive C.gives (view_of self.old) }

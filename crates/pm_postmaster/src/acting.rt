@@ -64,7 +64,7 @@ impl<
     J: Chronicle<PmEvent>,
     B: Chronicle<BookEntry> + Drop,
 > Server<L, P, K, O, D, C, J, B> {
-    // The store begins its next generation, behind the children that were lost.
+    // The store begins its next generation, after the children that were lost.
     fn renew<R: Wait>(&mut self, rt: &R, generation: u32) -> Result<(), ServerEnd>
         requires { generation ≡ self.old.shared.generation + 1 }
         ensures performs { Performs (Reset generation) result (view_of self.old) (view_of self.new) }
@@ -124,7 +124,7 @@ impl<
         }
     }
 
-    // Asks for the smart shutdown that is owed behind the last pid.
+    // Asks for the smart shutdown that is owed after the last pid.
     fn ask_owed(&mut self) -> Result<(), ServerEnd>
         requires alive { IsAlive C.gives (view_of self.old) }
         requires rests { IsAtRest (view_of self.old).work.standing }
@@ -143,7 +143,7 @@ impl<
         }
     }
 
-    /// Does all acts that are due, and asks for the shutdown that is owed behind the last pid. It tells whether there was any.
+    /// Does all acts that are due, and asks for the shutdown that is owed after the last pid. It tells whether there was any.
     pub(crate) fn settle<R: Wait>(&mut self, rt: &R) -> Result<bool, ServerEnd>
         requires alive { IsAlive C.gives (view_of self.old) }
         requires goes_on { (view_of self.old).work.standing.ended ≡ false }

@@ -95,7 +95,7 @@ impl<
         }
     }
 
-    /// Reads at most one line of the console, and does what is due behind it. It tells whether there was one.
+    /// Reads at most one line of the console, and does what is due after it. It tells whether there was one.
     pub(crate) fn read_line<R: Wait>(&mut self, rt: &R) -> Result<bool, ServerEnd>
         requires alive { IsAlive C.gives (view_of self.old) }
         requires idle { IsIdle (view_of self.old).work.standing }

@@ -51,7 +51,7 @@ fn clear_once<L: Link + Drop, P: Port<Link = L>>(roster: &mut Roster<Mail<L>>, p
     running
 }
 
-/// Kills every child that is left, behind the last entry, and waits until each has ended.
+/// Kills every child that is left, after the last entry, and waits until each has ended.
 pub(crate) fn clear<R: Wait, L: Link + Drop, P: Port<Link = L>, C: Clock>(
     rt: &R,
     roster: &mut Roster<Mail<L>>,

@@ -2,7 +2,7 @@
 //!
 //! [`supervise`] is the whole run. It makes the pool, and then goes on turn by turn (`server`): it looks at every slot (`looking`),
 //! reads a line of the console (`asking`), tells its machine the time and lets it do what it does by itself (`turning`), and takes a
-//! connection (`accepting`). The acts of the machine are done at once behind each of these (`acting`). Where a turn came to nothing
+//! connection (`accepting`). The acts of the machine are done at once after each of these (`acting`). Where a turn came to nothing
 //! it pauses. At its end it kills who is left (`clearing`), and closes the pool.
 #![tactic(auto)]
 

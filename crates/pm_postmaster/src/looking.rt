@@ -99,7 +99,7 @@ impl<
         }
     }
 
-    // Looks at a slot, and does what is due behind the end of its child.
+    // Looks at a slot, and does what is due after the end of its child.
     fn look<R: Wait>(&mut self, rt: &R, slot: u32) -> Result<bool, ServerEnd>
         requires alive { IsAlive C.gives (view_of self.old) }
         requires idle { IsIdle (view_of self.old).work.standing }

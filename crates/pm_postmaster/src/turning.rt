@@ -91,7 +91,7 @@ impl<
         Ok(ended || read || acted || accepted)
     }
 
-    /// Goes on turn by turn until the server ends. It pauses behind a turn in which nothing happened.
+    /// Goes on turn by turn until the server ends. It pauses after a turn in which nothing happened.
     pub(crate) fn run<R: Wait>(&mut self, rt: &R) -> ServerEnd
         requires alive { IsAlive C.gives (view_of self.old) }
         requires idle { IsIdle (view_of self.old).work.standing }

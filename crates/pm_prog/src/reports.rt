@@ -1,4 +1,4 @@
-//! What the program tells behind a run: what failed first in each part of its outside.
+//! What the program tells after a run: what failed first in each part of its outside.
 use pm_disk::MemDisk;
 use pm_files::LogFiles;
 use pm_net::{StandardConsole, TcpPort};

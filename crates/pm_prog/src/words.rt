@@ -8,7 +8,7 @@ use std::io::ErrorKind;
 /// The longest word that is looked at once more, in bytes, where a word isn't UTF-8.
 const LONGEST: usize = 4096;
 
-/// The words behind the program's name. Where one isn't UTF-8 there are none, which is no command line either, and it is told
+/// The words after the program's name. Where one isn't UTF-8 there are none, which is no command line either, and it is told
 /// which one that is.
 pub fn given_words(rt: &HostRuntime) -> Result<Vec<Text>, AllocError> {
     let mut words = Vec::new(rt.alloc());

@@ -14,7 +14,7 @@ use Rattle.pm_query.specs.Book.{AnswersUpTo, Base, Course, KeepsNumber, MayFollo
 use Rattle.pm_query.specs.BookLaws.{AckedIsWithin, AckedNeverFalls, AcknowledgedStays, RepeatChangesNothing}
 use Rattle.pm_query.specs.HistoryLaws.{base-with_commit, count_of-with_commit, cut_count, going-append, history_push, number_of, present_push, redone_push}
 
--- ---- one history behind another
+-- ---- one history after another
 
 -- The later one has acknowledged no less, and the same numbers up to what was acknowledged.
 pub record GoesOn (before now : History) : Type 0 where

@@ -152,7 +152,7 @@ effect_keeps rows (stmts.Sleep seconds) short = answer_keeps rows 0 items.Slept 
 
 -- ---- a script
 
--- what holds of the progress of a script on a table, behind so many statements that write
+-- what holds of the progress of a script on a table, after so many statements that write
 pub record IsKept (table : RowMap) (writing : ℕ) (progress : Progress) : Type 0 where
   pub within : IsWithinRowLimits table → IsWithinRowLimits progress.rows
   pub rows_short : HasShortRows table → HasShortRows progress.rows

@@ -94,7 +94,7 @@ no_item : (before after : List Item) (item : Item) → [] ≡ before ++ item ∷
 no_item [] after item e = cc
 no_item (b ∷ before) after item e = cc
 
--- one item more behind items without an error
+-- one item more after items without an error
 one_more : (items : List Item) (last : Item) → list_any is_error items ≡ false → ErrorsComeLast (items ++ last ∷ [])
 one_more [] last none [] after item e h = cc
 one_more [] last none (b ∷ before) after item e h = no_item before after item cc
@@ -138,7 +138,7 @@ commit_limits rows script limits =
       | false ↦ record { few = is.few; short = is.changes_short }
     ]
 
--- the rows that are committed are the table, or those behind the script
+-- the rows that are committed are the table, or those after the script
 either_rows : (P : RowMap → Type 0) (rows : RowMap) (script : List Stmt) → P rows → P (after_script rows script).rows → P (committed rows (commit_of rows script))
 either_rows P rows script before behind =
     elim (has_failed (after_script rows script)) as (λ b. P (committed rows (cond b [] (after_script rows script).changes))) [

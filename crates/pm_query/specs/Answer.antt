@@ -101,7 +101,7 @@ advanced progress effect = record {
   changes = progress.changes ++ option_to_list effect.change;
 }
 
--- after a statement; behind an error none is run
+-- after a statement; after an error none is run
 abbrev pub after_statement : Progress → Stmt → Progress
 after_statement progress stmt = cond (has_failed progress) progress (advanced progress (effect_of progress.rows stmt))
 

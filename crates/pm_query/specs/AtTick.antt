@@ -17,6 +17,6 @@ abbrev pub up_to : ℕ → List BookEntry → List BookEntry
 up_to t [] = []
 up_to t (entry ∷ book) = if list_any (is_by t) (entry ∷ book) then entry ∷ up_to t book else []
 
--- the history behind them
+-- the history after them
 abbrev pub history_at : Base → List BookEntry → ℕ → History
 history_at base book t = history_of base (up_to t book)

@@ -57,7 +57,7 @@ fault_here None (Redone pid generation count) = Some []
 fault_here (Some faults) (Broke pid since count) = Some (faults ++ (since, count) ∷ [])
 fault_here here _ = here
 
--- the faults of the disk behind that redo, if there was one: the tick of each, and the disk's count of them from then on
+-- the faults of the disk after that redo, if there was one: the tick of each, and the disk's count of them from then on
 abbrev pub faults_here : List BookEntry → Option (List (ℕ × ℕ))
 faults_here book = fold fault_here None book
 
@@ -175,7 +175,7 @@ pub record MayRedo (base : Base) (before : List BookEntry) (pid generation count
   pub attached : IsAttached before pid
   pub number : KeepsNumber before (kept_by_redo before) (history_of base before) count
 
--- An answer, behind a redo, to a child that is attached: reply and commit are those of the script on the rows here. Behind
+-- An answer, after a redo, to a child that is attached: reply and commit are those of the script on the rows here. After
 -- a checkpoint that left the log clean it commits nothing.
 pub record MayAnswer (base : Base) (before : List BookEntry) (pid : ℕ) (script : List Stmt) (reply : List Item) (commit : List Change) (front tick : ℕ) : Type 0 where
   pub redone : IsRedone before
@@ -202,7 +202,7 @@ pub record MayEndCheckpoint (before : List BookEntry) (pid : ℕ) (done : Bool) 
   pub attached : IsAttached before pid
   pub made : done ≡ is_some (kept_by_redo before)
 
--- A fault behind the generation's first redo repeats one that stands there already, where there is one. Any other has a
+-- A fault after the generation's first redo repeats one that stands there already, where there is one. Any other has a
 -- count that is greater than the base's and than that of every fault before, or the last number.
 abbrev pub TellsFault : Base → List BookEntry → Option (List (ℕ × ℕ)) → ℕ → ℕ → Type 0
 TellsFault base before (Some (fault ∷ faults)) since count = Contains (fault ∷ faults) (since, count)
@@ -213,7 +213,7 @@ pub record MayBreak (base : Base) (before : List BookEntry) (pid since count : �
   pub attached : IsAttached before pid
   pub fault : TellsFault base before (faults_here before) since count
 
--- A log without room, behind a redo, for the commit of this script on the rows here: the numbers are spent, or the log
+-- A log without room, after a redo, for the commit of this script on the rows here: the numbers are spent, or the log
 -- is as long as it may be, but for 1,024 bytes.
 pub record MayBeFull (base : Base) (before : List BookEntry) (pid : ℕ) (script : List Stmt) (need room : ℕ) : Type 0 where
   pub redone : IsRedone before
@@ -245,7 +245,7 @@ BeginsRenewal (Gone pid ∷ behind) = BeginsRenewal behind
 BeginsRenewal (Opened generation ∷ behind) = Unit {0}
 BeginsRenewal _ = ⊥
 
--- so it is behind each child that is gone
+-- so it is after each child that is gone
 abbrev pub RenewsBehindGone : List BookEntry → Type 0
 RenewsBehindGone [] = Unit {0}
 RenewsBehindGone (Gone pid ∷ behind) = BeginsRenewal behind × RenewsBehindGone behind

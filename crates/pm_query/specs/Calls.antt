@@ -110,7 +110,7 @@ pub record NotesStaged (pid : ℕ) (script : List Stmt) (staged : Staged) (entri
   pub answer : NotesAnswer pid script staged.reply staged.front commit entries
   pub wrote : IsTrue staged.wrote ↔ (commit ≢ [])
 
--- an answer that wasn't given, since the disk failed behind it
+-- an answer that wasn't given, since the disk failed after it
 pub record NotesLostAnswer (pid : ℕ) (script : List Stmt) (entries : List BookEntry) : Type 0 where
   pub reply : List Item
   pub front : ℕ
@@ -156,7 +156,7 @@ RedoNotes user (Err (Redo redo.Disk)) entries = NotesFault user.pid entries
 RedoNotes user (Err (Redo _)) entries = entries ≡ []
 RedoNotes user (Err _) entries = ⊥
 
--- the bytes of batches behind the log's base with which a checkpoint is due
+-- the bytes of batches after the log's base with which a checkpoint is due
 abbrev pub due_bytes : ℕ
 due_bytes = 67108864
 

@@ -1,10 +1,10 @@
--- The history of the store's commits: a base, the commits behind it, and how many of all of them are acknowledged.
+-- The history of the store's commits: a base, the commits after it, and how many of all of them are acknowledged.
 use Rattle.std.specs.Prelude.{ℕ, ◌+◌, ◌-◌, max, List, [], ◌∷◌, ◌++◌, length, take}
 use Rattle.pm_rows.specs.Fold.{RowMap, folded}
 use Rattle.pm_rows.specs.declared.commit.Change.{Change}
 use Rattle.pm_rows.specs.Standing.{Standing}
 
--- Number n of a history is its base with the first commits behind it, up to the n-th since the cluster was made.
+-- Number n of a history is its base with the first commits after it, up to the n-th since the cluster was made.
 pub record History : Type 0 where
   pub base : Standing
   pub commits : List (List Change)
@@ -22,7 +22,7 @@ rows_of history = folded history.base.rows history.commits
 abbrev pub number : History → ℕ → Standing
 number history n = record { rows = folded history.base.rows (take (n - history.base.count) history.commits); count = n }
 
--- no commit behind the base yet
+-- no commit after the base yet
 abbrev pub beginning : Standing → History
 beginning base = record { base = base; commits = []; acked = base.count }
 

@@ -22,7 +22,7 @@ pub redone_is : (course : Course) (book : List BookEntry) → (fold course_after
 redone_is course [] = refl
 redone_is course (entry ∷ book) = redone_is (course_after course entry) book
 
--- the history behind one entry more
+-- the history after one entry more
 pub history_push : (base : Base) (book : List BookEntry) (entry : BookEntry) → history_of base (book ++ entry ∷ []) ≡ history_after (kept_by_redo book) (history_of base book) entry
 history_push base book entry =
     ap (λ (c : Course). c.history) (fold-append course_after (record { history = beginning (standing_of base); redone = None }) book (entry ∷ []))
@@ -74,7 +74,7 @@ pub base-with_commit : (history : History) (commit : List Change) → (with_comm
 base-with_commit history [] = refl
 base-with_commit history (change ∷ changes) = refl
 
--- the rows behind a commit
+-- the rows after a commit
 pub rows_of-with_commit : (history : History) (commit : List Change) → rows_of (with_commit history commit) ≡ committed (rows_of history) commit
 rows_of-with_commit history [] = refl
 rows_of-with_commit history (change ∷ changes) = fold-append committed history.base.rows history.commits ((change ∷ changes) ∷ [])

@@ -18,7 +18,7 @@ pub none_behind : {S : Type 0} (notes : List BookEntry → S → S → Type 0) (
     → (entries : List BookEntry) × notes entries between now × (entries ≡ []) → notes [] before now
 none_behind notes before between now in_turn none call = subst (λ (es : List BookEntry). notes es before now) call.2 (in_turn before between now [] call.0 none call.1)
 
--- ---- who the child is, behind a call
+-- ---- who the child is, after a call
 
 pub same_user : (stamp_before stamp_now : Option ℕ) (before now : PassView) → stamp_now ≡ stamp_before → now ≡ before → user_of stamp_now now ≡ user_of stamp_before before
 same_user stamp_before stamp_now before now e f = rw (e, f) refl

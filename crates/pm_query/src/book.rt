@@ -22,7 +22,7 @@ pub enum BookEntry {
         generation: u32,
         kept: u64,
     },
-    /// A script was run. `front` is the number of commits behind it, and `tick` the disk's count of calls before its
+    /// A script was run. `front` is the number of commits after it, and `tick` the disk's count of calls before its
     /// commit was written.
     Answered {
         pid: u32,
@@ -42,7 +42,7 @@ pub enum BookEntry {
     Detached {
         pid: u32,
     },
-    /// A child is gone without having left. Only the next generation, and more of the kind before it, come behind this.
+    /// A child is gone without having left. Only the next generation, and more of the kind before it, come after this.
     Gone {
         pid: u32,
     },

@@ -165,7 +165,7 @@ fn keeps_limit(bytes: u128, added: u128) -> bool
     bytes.saturating_add(added) <= u128::from(MAX_ROWS_BYTES)
 }
 
-// The rows and the changes over them, both by rising key, as one list behind none.
+// The rows and the changes over them, both by rising key, as one list.
 fn merged<'a>(
     mut listing: Listing,
     mut rows: RowsIter<'a>,

@@ -56,7 +56,7 @@ pub fn present_is_whole()
     ensures { PresentIsWhole }
 {}
 
-/// The bytes behind a base with which a checkpoint is due are the number of the definition.
+/// The bytes after a base with which a checkpoint is due are the number of the definition.
 pub fn checkpoint_bytes_are_the_number()
     ensures { CHECKPOINT_BYTES ≡ due_bytes }
 {}

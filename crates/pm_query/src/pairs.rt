@@ -76,7 +76,7 @@ impl Listing {
         })
     }
 
-    // Adds a row behind the others.
+    // Adds a row after the others.
     pub(crate) fn push(&mut self, row: (i64, &Text)) -> Result<(), AllocError>
         ensures { OnOk result (self.new ≡ self.old ++ shown_row row.entry ∷ []) }
     {

@@ -101,7 +101,7 @@ impl<'a> Run<'a> {
         Ok(())
     }
 
-    // Runs the last statement, unless an error was answered. Nobody asks for the rows behind it, so they aren't made.
+    // Runs the last statement, unless an error was answered. Nobody asks for the rows after it, so they aren't made.
     fn finish(&mut self, stmt: &Stmt) -> Result<(), AllocError>
         requires { KnowsFailure self.old }
         ensures items { OnOk result (self.new.reply ≡ (after_statement

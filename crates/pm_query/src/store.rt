@@ -14,7 +14,7 @@ use pm_sql::Script;
 use std::alloc::AllocError;
 use thiserror::Error;
 
-/// With so many bytes of batches behind its base, the log is due for a checkpoint.
+/// With so many bytes of batches after its base, the log is due for a checkpoint.
 pub const CHECKPOINT_BYTES: u64 = 67_108_864;
 
 /// Why the store refused a call.
@@ -77,7 +77,7 @@ pub enum Checkpointed {
     Done { epoch: u64 },
     /// Redo hasn't ended in this generation, and nothing was written.
     Skipped,
-    /// Only so many bytes of batches stand behind the log's base, and nothing was written.
+    /// Only so many bytes of batches stand after the log's base, and nothing was written.
     NotDue { behind: u64 },
 }
 
@@ -87,14 +87,14 @@ pub enum Checkpointed {
 /// Each call notes entries in the book. A caller sees those that this store's own calls have noted, in order; what else
 /// stands between them, and what the book as a whole keeps, is each store's own.
 ///
-/// Behind a fault of the disk a store stands broken, and its calls still may be made: those that would write, and `seen`
+/// After a fault of the disk a store stands broken, and its calls still may be made: those that would write, and `seen`
 /// above what is flushed, answer `Broken` and note the same fault again, until the log is read again.
 pub trait Store {
     /// The leave of one child to use the store, from `enter` to `leave`.
     type Pass: Drop;
 
     /// Between two moments this store's own calls have noted these entries, and no others. A store says here too what its
-    /// calls keep, so that who knows the store finds it again behind any code that is generic over stores.
+    /// calls keep, so that who knows the store finds it again after any code that is generic over stores.
     ghost notes: { List BookEntry → Self → Self → Type 0 };
 
     /// An `enter` of this store answered the pass, which has not left.
@@ -162,7 +162,7 @@ pub trait Store {
         ensures stale { MetLater (met self.new) (view pass.old).generation result };
 
     /// Writes all rows as the base of the log's other file, where redo has ended in this generation. A clean one is the
-    /// last: no changes are committed behind it. Any other is made once so many bytes of batches stand behind the base
+    /// last: no changes are committed after it. Any other is made once so many bytes of batches stand after the base
     /// that the log is due for it.
     fn checkpoint(&mut self, pass: &mut Self::Pass, clean: bool) -> Result<Checkpointed, StoreNo>
         requires { admits self.old pass.old }
@@ -183,7 +183,7 @@ pub trait Store {
     /// Where no call is made, nothing is noted.
     ghost at_rest: { (store : Self) → notes [] store store };
 
-    /// What is noted later stands behind what was noted before.
+    /// What is noted later stands after what was noted before.
     ghost in_turn: { (before between now : Self) (first second : List BookEntry)
         → notes first before between → notes second between now → notes (first ++ second) before now };
 

@@ -23,7 +23,7 @@ use Rattle.pm_record.proofs.Repeats.{MayAll, counted_bytes, counted_reads}
 abbrev Row : Type 0
 Row = ℤ × List ℕ
 
--- a row whose key stands at this place or behind it, with room for so many keys
+-- a row whose key stands at this place or after it, with room for so many keys
 abbrev pub MayRow : ℕ → ℕ → ℤ × List ℕ → Type 0
 MayRow n from row = FitsSigned w64 row.0 × (from ≤ place row.0) × (place row.0 + n < 2 ^ 64) × IsUtf8 row.1 × (length row.1 ≤ max_value_bytes)
 

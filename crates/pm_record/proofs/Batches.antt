@@ -1,4 +1,4 @@
--- The batches of a file, made in the rows of a standing, which pass a test behind each commit.
+-- The batches of a file, made in the rows of a standing, which pass a test after each commit.
 use Rattle.std.proofs.Common.{◌≡◌, ℕ, zero, suc, ◌+◌, ◌-◌, ◌^◌, ◌<◌, ◌≤◌, Bool, true, List, [], ◌∷◌, length, refl, ap, arith, inl}
 use Rattle.std.specs.Prelude.{fold}
 use Rattle.std.specs.Int.{w32, to_be_bytes}

@@ -23,7 +23,7 @@ use Rattle.pm_record.proofs.Changes.{Fills, MayChange, change_reads, change_some
 
 -- ---- counts
 
--- so many items can take the bytes with what is behind them
+-- so many items can take the bytes with what is after them
 abbrev pub Takes : ℕ → ℕ → ℕ → ℕ → ℕ → ℕ → Type 0
 Takes low high least most long n = (n * low + least ≡ long) ⊎ ((n * low + least + 4 ≤ long) × (long ≤ n * high + most))
 

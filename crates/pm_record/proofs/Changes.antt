@@ -24,7 +24,7 @@ use Rattle.pm_record.proofs.Strings.{text_of, key_bytes, key_reads, string_bytes
 abbrev pub Fills : ℕ → ℕ → ℕ → Type 0
 Fills n c left = (left ≡ least n c) ⊎ ((least n c + 4 ≤ left) × (left ≤ most n c))
 
--- A change that may stand where so many bytes are left for it, and so many changes and commits behind it.
+-- A change that may stand where so many bytes are left for it, and so many changes and commits after it.
 abbrev pub MayChange : ℕ → ℕ → ℕ → Change → Type 0
 MayChange n c left change = IsChange change × (length (change_bytes change) ≤ left) × Fills n c (left - length (change_bytes change))
 
@@ -43,7 +43,7 @@ lacks_is n c left = elim (cases_lt left (17 + least n c)) [
   | inr a ↦ inr (a, rw (le-ltb left (17 + least n c) a) refl)
 ]
 
--- a value's length is within the ranges just where the changes and commits behind it can take the rest
+-- a value's length is within the ranges just where the changes and commits after it can take the rest
 count_to : (n c left count : ℕ) → HasRoom n c left → IsWithin (value_ranges n c left) count → (count ≤ max_value_bytes) × (13 + count ≤ left) × Fills n c (left - (13 + count))
 count_to n c left count room is = elim is [
   | inl a ↦ (omega (arith, a, room), omega (arith, a, room), inl (omega (arith, a, room)))
@@ -117,7 +117,7 @@ module _ (n c left : ℕ) where
   tag_del : 9 ≤ left → Fills n c (left - 9) → MayTag 2
   tag_del long is = (rw (le-leb 9 left long, fills_from n c (left - 9) is) refl, omega arith)
 
-  -- ---- a put behind its tag
+  -- ---- a put after its tag
 
   abbrev PutIs : Change → List ℕ → Type 0
   PutIs (Put key value) word = MayChange n c left (Put key value) × (word ≡ key_bytes key ++ string_bytes value)
@@ -172,7 +172,7 @@ module _ (n c left : ℕ) where
         first_key
         (λ key fits. let v = a_put key fits in (Put key v.0, string_bytes v.0, (v.1, refl)))
 
-  -- ---- a deletion behind its tag
+  -- ---- a deletion after its tag
 
   abbrev DelIs : Change → List ℕ → Type 0
   DelIs (Put key value) word = ⊥

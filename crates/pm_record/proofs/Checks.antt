@@ -1,4 +1,4 @@
--- A test behind a word, and items of which each has one.
+-- A test after a word, and items of which each has one.
 use Rattle.std.proofs.Common.{◌≡◌, ℕ, zero, suc, ◌<◌, Bool, true, false, cond, List, [], ◌∷◌, ◌++◌, length, Ok, Err, refl, sym, ap, subst, ◌∙◌, append_assoc, append-nil, arith, ◌⊎◌, inl, inr}
 use Rattle.pm_record.specs.Reading.{Read, ◌>>=◌, checked}
 use Rattle.pm_record.specs.Repeated.{items_at}

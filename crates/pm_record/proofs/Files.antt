@@ -23,7 +23,7 @@ use Rattle.pm_record.proofs.Meaning.{AreBatchesIn, within_to, within_from, kept_
 use Rattle.pm_record.proofs.Fronts.{BatchesWait, gated_wait_to, gated_wait_from}
 use Rattle.pm_record.proofs.Batches as of
 
--- ---- a base, and the batches behind it
+-- ---- a base, and the batches after it
 
 abbrev Parts : Type 0
 Parts = Base × List Batch
@@ -104,7 +104,7 @@ content_legal content is = legal_from content.batches content.base_count content
 -- a file of these parts, up to and with its closed gate
 file_to : (parts : Parts) (word : List ℕ) → FileIs parts word → (front : List ℕ) × (word ≡ base_spell parts.0 ++ (front ++ 0 ∷ [])) × AreBatches front parts.1 × IsContent (content_of parts)
 file_to parts word is =
-    -- base, its word, what is behind it, that it is small, how they are joined, the batches
+    -- base, its word, what is after it, that it is small, how they are joined, the batches
     let tail = is.5 in
     let g = gated_to (most is.0) (start is.0) tail.0 tail.1 tail.3 in
     let behind_is : is.2 ≡ g.0 ++ 0 ∷ [] = tail.4 ∙ ap (λ (t : List ℕ). tail.1 ++ t) tail.5.1 ∙ append-nil tail.1 ∙ g.1 in
@@ -407,7 +407,7 @@ one_content (gate ∷ bytes) all one other end till s t =
     let same = ok_is (parts_of one, r.0) (parts_of other, q.0) (sym r.1 ∙ q.1) in
     (ap (λ (p : Parts × List ℕ). content_of p.0) same, r.2 ∙ ap (λ (p : Parts × List ℕ). length bytes - length p.1) same ∙ sym q.2)
 
--- a longer front goes on behind a shorter one
+-- a longer front goes on after a shorter one
 longer : (a b c d : List ℕ) → a ++ b ≡ c ++ d → length a < length c → (byte : ℕ) × (more : List ℕ) × (c ≡ a ++ byte ∷ more) × (b ≡ byte ∷ (more ++ d))
 longer [] b [] d e lt = absurd (omega (arith, lt))
 longer [] b (y ∷ c) d e lt = (y, c, refl, e)

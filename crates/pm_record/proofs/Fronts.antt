@@ -1,4 +1,4 @@
--- The fronts that reading waits behind are those that can go on.
+-- The fronts after which reading waits are those that can go on.
 use Rattle.std.proofs.Common.{◌≡◌, ◌⊎◌, ℕ, zero, suc, ◌-◌, ◌<◌, ◌≤◌, List, [], ◌∷◌, ◌++◌, length, take, refl, sym, ap, subst, ◌∙◌, append_assoc, length-append, arith, inl, inr}
 use Rattle.std.specs.Prelude.{All}
 use Rattle.std.specs.Int.{w32, to_be_bytes}
@@ -19,7 +19,7 @@ use Rattle.pm_record.proofs.Steps.{Batch, appended}
 use Rattle.pm_record.proofs.Meaning.{within_to, within_from, kept_last, body_some, filled, batch_to, batch_from, filling, Legal, above, suc_open, behind, behind_cons, behind_none}
 use Rattle.pm_record.proofs.Batches as of
 
--- ---- the fronts that reading waits behind
+-- ---- the fronts after which reading waits
 
 abbrev pub CommitsWait : ℕ → ℕ × RowMap → List ℕ → Type 0
 CommitsWait = of.CommitsWait RowMap committed is_within
@@ -30,7 +30,7 @@ BatchWaits = of.BatchWaits RowMap committed is_within
 abbrev pub BatchesWait : ℕ → State → List ℕ → Type 0
 BatchesWait = of.BatchesWait RowMap committed is_within
 
--- ---- a front of two parts: of the first alone, or of the second behind the first
+-- ---- a front of two parts: of the first alone, or of the second after the first
 
 cons_is : (a b : ℕ) (xs ys : List ℕ) → a ∷ xs ≡ b ∷ ys → (a ≡ b) × (xs ≡ ys)
 cons_is a b xs ys e = (cc, cc)
@@ -48,7 +48,7 @@ split_either (x ∷ a) b (y ∷ c) d e same =
 
 -- ---- commits
 
--- the rows keep the limits behind the commits that are whole
+-- the rows keep the limits after the commits that are whole
 abbrev Whole : RowMap → Batch → List ℕ → Type 0
 Whole rows xs bytes = (k : ℕ) → k ≤ length xs → length (flat_commits (take k xs)) ≤ length bytes → IsWithinRowLimits (folded rows (take k xs))
 
@@ -201,7 +201,7 @@ batch_wait_from top rows batch bytes top_few some few commits limits front =
           )
     ]
 
--- ---- what stands behind whole batches
+-- ---- what comes after whole batches
 
 abbrev at : ℕ → RowMap → Standing
 at count rows = record { rows = rows; count = count }

@@ -158,7 +158,7 @@ module _ {X State : Type 0} (Waits : State → List ℕ → Type 0) (Is : State 
       (λ gate word is. by_gate most state gate is.0 (λ x word is. gated_reads most (next state x) (omega (arith, falls state x word is, few)))))
       (waits_to most state) (waits_from most state) (are_to most state) (are_from most state)
 
--- ---- the state behind the items
+-- ---- the state after the items
 
 module _ {X State : Type 0} (item_at : State → List ℕ → Read X) (next : State → X → State) (room : State → ℕ) where
   abbrev step : State → List ℕ → Read State

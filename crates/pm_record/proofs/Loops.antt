@@ -43,7 +43,7 @@ pub fold_more : {X State : Type 0} (next : State → X → State) (state : State
 fold_more next state [] x = refl
 fold_more next state (y ∷ xs) x = fold_more next (next state y) xs x
 
--- what fails, fails with something behind it
+-- what fails, fails with something after it
 pub fails_behind : {A B : Type 0} (e : Unread) (r : Result A ℕ) (f : A → Result B ℕ) → Fails e r → Fails e (r >>= f)
 fails_behind unread.NoMemory r f h = tt
 fails_behind (unread.Bad left) r f h = ap (λ (t : Result _ ℕ). t >>= f) h
@@ -78,7 +78,7 @@ module _ {State : Type 0} (step : ℕ → State → List ℕ → Read State) (co
         let k : m ≡ count - 1 - i = omega (arith, is, lt) in
         ap (λ (n : ℕ). through_at step n s after) k ∙ sym (one_step ∙ ap (λ (r : Read State). r >>= λ s. through_at step (count - 1 - i) s.0 s.1) h)
 
--- the state behind a list of items, and one more in front of a list
+-- the state after a list of items, and one more in front of a list
 abbrev pub behind_items : {X State : Type 0} → (State → X → State) → State → Read (List X) → Read State
 behind_items next state r = r >>= λ p. Ok (fold next state p.0, p.1)
 
@@ -89,7 +89,7 @@ pub behind_cons : {X State : Type 0} (next : State → X → State) (state : Sta
 behind_cons next state x (Ok p) = refl
 behind_cons next state x (Err left) = refl
 
--- the steps over items give the state behind their list
+-- the steps over items give the state after their list
 module _ {X State : Type 0} (item_at : ℕ → State → List ℕ → Read X) (next : State → X → State) where
   abbrev step_over : ℕ → State → List ℕ → Read State
   step_over n state bytes = stepped next state (item_at n state bytes)

@@ -1,4 +1,4 @@
--- The words that reading finds behind a base are batches within the limits, each behind an open gate.
+-- The words that reading finds after a base are batches within the limits, each behind an open gate.
 use Rattle.std.proofs.Common.{◌≡◌, ◌≢◌, ℕ, zero, suc, ◌+◌, ◌-◌, ◌^◌, ◌<◌, ◌≤◌, true, List, [], ◌∷◌, ◌++◌, length, take, leb, refl, sym, ap, subst, ◌∙◌, append_assoc, length-append, arith, inl, inr}
 use Rattle.std.specs.Prelude.{All, fold}
 use Rattle.std.specs.Int.{w32, to_be_bytes}
@@ -41,7 +41,7 @@ within_to rows e = let p = and_parts (leb (map.len rows) max_rows) (leb (size_of
 pub within_from : (rows : RowMap) → IsWithinRowLimits rows → is_within rows ≡ true
 within_from rows w = rw (le-leb (map.len rows) max_rows w.few, le-leb (size_of rows) max_rows_bytes w.small) refl
 
--- the rows keep the limits behind each commit
+-- the rows keep the limits after each commit
 abbrev pub Kept : RowMap → Batch → Type 0
 Kept rows [] = Unit {0}
 Kept rows (commit ∷ commits) = IsWithinRowLimits (committed rows commit) × Kept (committed rows commit) commits
@@ -67,7 +67,7 @@ pub each_kept : (xs : Batch) (rows : RowMap) → ((n : ℕ) → n ≤ length xs 
 each_kept [] rows each = tt
 each_kept (x ∷ xs) rows each = (each (suc zero) (omega arith), each_kept xs (committed rows x) (λ n le. each (suc n) (omega (arith, le))))
 
--- ... and behind the last
+-- ... and after the last
 pub kept_last : (xs : Batch) (rows : RowMap) → IsWithinRowLimits rows → Kept rows xs → IsWithinRowLimits (folded rows xs)
 kept_last [] rows within kept = within
 kept_last (x ∷ xs) rows within kept = kept_last xs (committed rows x) kept.0 kept.1
@@ -146,7 +146,7 @@ batch_from top rows batch top_few some few commits kept =
 
 -- ---- all batches
 
--- batches that may stand behind so many commits and these rows
+-- batches that may come after so many commits and these rows
 abbrev pub Legal : ℕ → RowMap → List Batch → Type 0
 Legal count rows [] = Unit {0}
 Legal count rows (batch ∷ batches) = IsBatch batch × (count + length batch < 2 ^ 64) × Kept rows batch × Legal (count + length batch) (folded rows batch) batches
@@ -216,7 +216,7 @@ legal_from (batch ∷ batches) count rows all kept small =
     let k = kept_split batch (flat batches) rows (subst (Kept rows) (flat_cons batch batches) kept) in
     (all.0, omega (arith, long, small), k.0, legal_from batches (count + length batch) (folded rows batch) all.1 k.1 (omega (arith, long, small)))
 
--- what stands behind the batches
+-- what comes after the batches
 abbrev pub behind : ℕ → RowMap → List Batch → Standing
 behind count rows batches = record { rows = folded rows (flat batches); count = count + length (flat batches) }
 

@@ -9,7 +9,7 @@ use Rattle.std.proofs.lemmas.Bool.{cases_lt, leb-true, le-leb, and_parts, or_cas
 use Rattle.pm_record.specs.declared.number.Ranges.{Ranges}
 use Rattle.pm_record.proofs.Readers.{ok, ok_is, err_not_ok, bind_ok, IsBytes, Reading, Spelled, Behind, same_words, field_then, done_reads, byte_reads}
 
--- the number that bytes are, behind what is read of it
+-- the number that bytes are, after what is read of it
 abbrev pub horner : ℕ → List ℕ → ℕ
 horner value [] = value
 horner value (b ∷ bytes) = horner (value * 256 + b) bytes

@@ -47,7 +47,7 @@ bind_err (Err d) f left e = let same : d ≡ left = cc in inl (ap Err same)
 -- ---- readers
 
 -- Reading stops so many bytes before the end: what is in front of them waits for more, and with the next byte, whatever
--- stands behind it, reading stops there too.
+-- comes after it, reading stops there too.
 pub record Stops {X : Type 0} (Waits : List ℕ → Type 0) (read : List ℕ → Read X) (bytes : List ℕ) (left : ℕ) : Type 0 where
   pub front : List ℕ
   pub rest : List ℕ
@@ -56,7 +56,7 @@ pub record Stops {X : Type 0} (Waits : List ℕ → Type 0) (read : List ℕ →
   pub waits : Waits front
   pub sticks : (byte : ℕ) (others : List ℕ) → rest ≡ byte ∷ others → (tail : List ℕ) → read (front ++ byte ∷ tail) ≡ Err (suc (length tail))
 
--- What reading finds is a word for it; a word is read, whatever stands behind it; bytes that wait for more are too short;
+-- What reading finds is a word for it; a word is read, whatever comes after it; bytes that wait for more are too short;
 -- and otherwise it stops at the first byte that is wrong.
 pub record Reads {X : Type 0} (Waits : List ℕ → Type 0) (Is : X → List ℕ → Type 0) (read : List ℕ → Read X) : Type 0 where
   pub fits : (x : X) (word : List ℕ) → Is x word → IsBytes word
@@ -78,9 +78,9 @@ becomes r on back to from = record {
   stops = λ bytes left fits e. let s = r.stops bytes left fits e in record { front = s.front; rest = s.rest; parts = s.parts; size = s.size; waits = on s.front s.waits; sticks = s.sticks };
 }
 
--- ---- one reader behind another
+-- ---- one reader after another
 
--- one word waits, or it is whole and what is behind it waits
+-- one word waits, or it is whole and what is after it waits
 abbrev pub ThenWaits : {A : Type 0} → (List ℕ → Type 0) → (A → List ℕ → Type 0) → (A → List ℕ → Type 0) → List ℕ → Type 0
 ThenWaits {A} V Is W bytes = V bytes ⊎ ((a : A) × (word : List ℕ) × (behind : List ℕ) × Is a word × (bytes ≡ word ++ behind) × W a behind)
 
@@ -164,9 +164,9 @@ module _ {X : Type 0} (Waits : List ℕ → Type 0) (Is : X → List ℕ → Typ
   pub as_begins : ((bytes : List ℕ) → Waits bytes → Begins Is bytes) → Reads (Begins Is) Is read
   as_begins mends = becomes reads mends begins_waits (λ x word is. is) (λ x word is. is)
 
--- ---- a field, and what stands behind it
+-- ---- a field, and what comes after it
 
--- words behind a front
+-- words after a front
 abbrev pub Behind : {B : Type 0} → (B → List ℕ → Type 0) → List ℕ → B → List ℕ → Type 0
 Behind Is front b word = Is b (front ++ word)
 
@@ -179,7 +179,7 @@ same_words Was Is read r to from = becomes r (λ bytes b. (b.0, b.1, b.2, to b.0
 
 module _ {A B : Type 0} (May : A → Type 0) (spell : A → List ℕ) (read : List ℕ → Read A) (Is : B → List ℕ → Type 0) (go : A → List ℕ → Read B)
     (first : Reading (Spelled May spell) read) (second : (a : A) → May a → Reading (Behind Is (spell a)) (go a))
-    -- each word begins with a field that may stand here, and behind each that may something can stand
+    -- each word begins with a field that may stand here, and after each that may something can stand
     (split : (b : B) (word : List ℕ) → Is b word → (a : A) × (behind : List ℕ) × May a × (word ≡ spell a ++ behind))
     (on : (a : A) → May a → (b : B) × (behind : List ℕ) × Is b (spell a ++ behind)) where
   abbrev Wait : List ℕ → Type 0

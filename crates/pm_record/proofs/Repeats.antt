@@ -1,4 +1,4 @@
--- So many items, one behind another.
+-- So many items, one after another.
 use Rattle.std.proofs.Common.{◌≡◌, ℕ, zero, suc, List, [], ◌∷◌, ◌++◌, length, Ok, refl, sym, ap, subst, ◌∙◌}
 use Rattle.std.specs.List.{flat_map}
 use Rattle.std.proofs.lemmas.List.Concat.{flat_map-cons}
@@ -7,7 +7,7 @@ use Rattle.pm_record.specs.Repeated.{items_at}
 use Rattle.pm_record.proofs.Words.{Begins}
 use Rattle.pm_record.proofs.Readers.{Reading, Behind, Spelled, same_words, field_then, done_reads, made_reads, one_word}
 
--- each may stand where it does, and behind the last may what has to
+-- each may stand where it does, and after the last may what has to
 abbrev pub MayAll : {X State : Type 0} → (ℕ → State → X → Type 0) → (State → X → State) → (ℕ → State → Type 0) → ℕ → State → List X → Type 0
 MayAll May next Can zero state [] = Can zero state
 MayAll May next Can zero state (x ∷ xs) = ⊥

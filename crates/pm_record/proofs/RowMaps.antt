@@ -51,7 +51,7 @@ sooner : (from then : ℕ) (rows : List Row) → from ≤ then → Rising then r
 sooner from then [] le rise = tt
 sooner from then (row ∷ rows) le rise = (omega (arith, le, rise.0), rise.1, rise.2)
 
--- behind a row at that place, which leaves room for the others
+-- after a row at that place, which leaves room for the others
 rise_behind : (n : ℕ) (state : ℕ × RowMap) (rows : List Row) (at : ℕ) → at + n < 2 ^ 64 → state.0 ≡ min (at + 1) 18446744073709551615 → AllRows n state rows → Rising state.0 rows → Rising (at + 1) rows
 rise_behind zero state [] at room is all rise = tt
 rise_behind zero state (row ∷ rows) at room is all rise = absurd all
@@ -70,7 +70,7 @@ all_rows zero state (row ∷ rows) all = absurd all
 all_rows (suc n) state [] all = absurd all
 all_rows (suc n) state (row ∷ rows) all = ((all.0.0.0, all.0.0.3, all.0.0.4), all_rows n (added state row) rows all.1)
 
--- there is room for the keys behind
+-- there is room for the keys after it
 rising_room : (from : ℕ) (rows : List Row) → from ≤ 2 ^ 64 → Rising from rows → from + length rows ≤ 2 ^ 64
 rising_room from [] le rise = omega (arith, le)
 rising_room from (row ∷ rows) le rise = let small = place_small row.0 in let rest = rising_room (place row.0 + 1) rows (omega (arith, small)) rise.2 in omega (arith, rest, rise.0)

@@ -25,7 +25,7 @@ batch_in = of.batch_in RowMap committed is_within
 abbrev pub batches_in : State → List ℕ → Read (List Batch)
 batches_in = of.batches_in RowMap committed is_within
 
--- ---- the rows behind commits
+-- ---- the rows after commits
 
 fold_rows : (commits : Batch) (state : ℕ × RowMap) → (fold made state commits).1 ≡ fold committed state.1 commits
 fold_rows [] state = refl

@@ -29,6 +29,6 @@ one_more f out head r s xs i x lt is before now =
 pub row_written : (out head rest now then row all : List ℕ) → now ++ (row ++ rest) ≡ out ++ all → then ≡ now ++ row → then ++ rest ≡ out ++ all
 row_written out head rest now then row all before is = ap (λ (l : List ℕ). l ++ rest) is ∙ append_assoc now row rest ∙ before
 
--- one piece more behind others
+-- one piece more after others
 pub onto : (a b c c' r s : List ℕ) → r ≡ a ++ b → s ≡ r ++ c → c ≡ c' → s ≡ a ++ (b ++ c')
 onto a b c c' r s p q e = q ∙ ap (λ (t : List ℕ). t ++ c) p ∙ append_assoc a b c ∙ ap (λ (t : List ℕ). a ++ (b ++ t)) e

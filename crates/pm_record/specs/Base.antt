@@ -1,4 +1,4 @@
--- How the base of a file is read: its header, and rows whose keys rise, each of which leaves room for the keys behind it.
+-- How the base of a file is read: its header, and rows whose keys rise, each of which leaves room for the keys after it.
 use Rattle.std.specs.Prelude.{ℕ, ◌+◌, ◌-◌, ◌%◌, min, nat_lt, nat_eq, ℤ, List, Ok, if◌then◌else◌}
 use Rattle.std.specs.Int.{w64, cast_signed, cast_unsigned}
 use Rattle.std.specs.FinMap as map
@@ -17,7 +17,7 @@ place_of word = (word + 9223372036854775808) % 18446744073709551616
 abbrev pub place : ℤ → ℕ
 place key = place_of (cast_unsigned w64 key)
 
--- words of keys from this place on, with room for so many behind
+-- words of keys from this place on, with room for so many after it
 abbrev pub key_ranges : ℕ → ℕ → Ranges
 key_ranges n from = record {
   low = from - 9223372036854775808;

@@ -9,8 +9,8 @@ use Rattle.pm_record.specs.Reading.{Read, ◌>>=◌, number_at, may_be}
 use Rattle.pm_record.specs.Changes.{change_at}
 use Rattle.pm_record.specs.Repeated.{items_at}
 
--- Numbers of items, at most so many, that can take exactly so many bytes with what stands behind them. Each takes from
--- `low` to `high` bytes, and what is behind them takes from `least` to `most`.
+-- Numbers of items, at most so many, that can take exactly so many bytes with what comes after them. Each takes from
+-- `low` to `high` bytes, and what is after them takes from `least` to `most`.
 abbrev pub count_ranges : ℕ → ℕ → ℕ → ℕ → ℕ → ℕ → Ranges
 count_ranges low high least most top long = record {
   low = max 1 ((long - most + (high - 1)) / high);
@@ -28,7 +28,7 @@ commits_ranges top long = count_ranges 11 max_commit_bytes 0 0 top long
 abbrev pub change_left : ℕ → Change → ℕ
 change_left left change = left - length (change_bytes change)
 
--- a commit with so many commits behind it
+-- a commit with so many commits after it
 unfoldable pub commit_at : ℕ → ℕ → List ℕ → Read (List Change)
 commit_at c left bytes = do
   count ← number_at (may_be (changes_ranges c (left - 2))) 2 0 bytes

@@ -1,4 +1,4 @@
--- How a change is read, where so many changes and commits of the same body stand behind it.
+-- How a change is read, where so many changes and commits of the same body come after it.
 use Rattle.std.specs.Prelude.{ℕ, ◌+◌, ◌-◌, ◌*◌, ◌==◌, ◌&&◌, ◌||◌, nat_le, nat_lt, nat_eq, min, max, ℤ, Bool, List, Ok, if◌then◌else◌}
 use Rattle.std.specs.Int.{w64, cast_signed}
 use Rattle.pm_rows.specs.declared.commit.Change.{Change}
@@ -30,11 +30,11 @@ any64 = record { low = 0; high = 18446744073709551615; low2 = 1; high2 = 0 }
 abbrev pub key_at : List ℕ → Read ℤ
 key_at bytes = number_at (may_be any64) 8 0 bytes >>= λ key. Ok (cast_signed w64 key.0, key.1)
 
--- a text behind its length, which is within ranges
+-- a text after its length, which is within ranges
 abbrev pub string_at : Ranges → List ℕ → Read (List ℕ)
 string_at ranges bytes = number_at (may_be ranges) 4 0 bytes >>= λ count. text_at count.0 boundary count.1
 
--- a put's value leaves what the changes and commits behind it can take
+-- a put's value leaves what the changes and commits after it can take
 abbrev pub value_ranges : ℕ → ℕ → ℕ → Ranges
 value_ranges n c left = record {
   low = left - (13 + least n c);

@@ -1,4 +1,4 @@
--- Where a file is damaged: at the first byte that nothing behind it mends.
+-- Where a file is damaged: at the first byte that nothing after it mends.
 use Rattle.std.specs.Prelude.{◌≡◌, ◌≢◌, ◌⊎◌, ℕ, ◌+◌, ◌^◌, ◌≤◌, ◌<◌, Bool, List, [], ◌∷◌, ◌++◌, length, take, All}
 use Rattle.std.specs.FinMap as map
 use Rattle.std.specs.List.{flat_map}
@@ -30,7 +30,7 @@ pub record BeginsBase (bytes : List ℕ) : Type 0 where
 abbrev pub first_bytes : ℕ → List (List Change) → ℕ
 first_bytes n batch = 8 + length (flat_map commit_bytes (take n batch))
 
--- The front of a batch behind this, without its gate: some batch begins so, for which the number of commits has room. Its
+-- The front of a batch after this, without its gate: some batch begins so, for which the number of commits has room. Its
 -- commits that are whole here keep the limits on rows; whether one does shows at its last byte.
 pub record BeginsBatch (standing : Standing) (bytes : List ℕ) : Type 0 where
   pub batch : List (List Change)
@@ -39,7 +39,7 @@ pub record BeginsBatch (standing : Standing) (bytes : List ℕ) : Type 0 where
   pub limits : (n : ℕ) → n ≤ length batch → first_bytes n batch ≤ length bytes → IsWithinRowLimits (folded standing.rows (take n batch))
   pub begins : IsFrontOf bytes (batch_bytes batch)
 
--- the front of what stands behind whole batches: nothing yet, or an open gate and the front of one more
+-- the front of what comes after whole batches: nothing yet, or an open gate and the front of one more
 abbrev pub BeginsNext : Standing → List ℕ → Type 0
 BeginsNext standing bytes = (bytes ≡ []) ⊎ ((gate : ℕ) × (behind : List ℕ) × (gate ≢ 0) × (bytes ≡ gate ∷ behind) × BeginsBatch standing behind)
 
@@ -51,7 +51,7 @@ pub record EndsInBase (bytes : List ℕ) : Type 0 where
   pub parts : bytes ≡ gate ∷ behind
   pub base : BeginsBase behind
 
--- A base and some batches, whole and within the limits, and the front of what stands behind them.
+-- A base and some batches, whole and within the limits, and the front of what comes after them.
 pub record EndsBehindBase (bytes : List ℕ) : Type 0 where
   pub content : Content
   pub front : List ℕ
@@ -69,7 +69,7 @@ CanGoOn bytes = EndsInBase bytes ⊎ EndsBehindBase bytes
 abbrev pub IsRight : List ℕ → Type 0
 IsRight bytes = CanGoOn bytes ⊎ ((content : Content) × (end : ℕ) × StandsFor bytes content end)
 
--- The first wrong byte is at this place: the bytes in front of it can go on, and with it, whatever bytes stand behind it,
+-- The first wrong byte is at this place: the bytes in front of it can go on, and with it, whatever bytes come after it,
 -- they are wrong. Where the file is cut, the place is its length.
 pub record IsFirstWrong (bytes : List ℕ) (at : ℕ) : Type 0 where
   pub front : List ℕ

@@ -21,7 +21,7 @@ is_within rows = nat_le (map.len rows) max_rows && nat_le (size_of rows) max_row
 
 -- ---- commits, made in the rows
 
--- a commit is wrong at its last byte where the rows behind it pass their limits
+-- a commit is wrong at its last byte where the rows after it pass their limits
 abbrev pub commit_in : ℕ → ℕ × RowMap → List ℕ → Read (List Change)
 commit_in c state bytes = checked (λ commit. is_within (committed state.1 commit)) (commit_at c state.0 bytes)
 

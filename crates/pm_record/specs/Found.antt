@@ -15,7 +15,7 @@ abbrev pub IsClosed : List ℕ → Type 0
 IsClosed [] = Unit {0}
 IsClosed (gate ∷ rest) = gate ≡ 0
 
--- what was found are this content's epoch, rows and counts; it is clean where no batch stands behind a clean base
+-- what was found are this content's epoch, rows and counts; it is clean where no batch comes after a clean base
 pub record IsFound (found : Found) (content : Content) : Type 0 where
   pub epoch : found.epoch ≡ content.epoch
   pub base_end : found.base_end ≡ 1 + length (base_bytes content.epoch content.clean content.base_count content.base_rows)

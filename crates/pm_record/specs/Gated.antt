@@ -2,7 +2,7 @@
 use Rattle.std.specs.Prelude.{ℕ, zero, suc, ◌==◌, ◌||◌, nat_lt, List, Ok}
 use Rattle.pm_record.specs.Reading.{Read, ◌>>=◌, byte_at}
 
--- the state behind the items, where it stays at a closed gate
+-- the state after the items, where it stays at a closed gate
 abbrev pub past_gate : {State : Type 0} → (List ℕ → Read State) → State → ℕ → List ℕ → Read State
 past_gate onward state zero bytes = Ok (state, bytes)
 past_gate onward state (suc gate) bytes = onward bytes

@@ -7,7 +7,7 @@ use Rattle.pm_record.specs.declared.number.Ranges.{Ranges}
 use Rattle.pm_record.specs.declared.fault.Unread.{Unread}
 use Rattle.pm_record.specs.declared.fault.Unread.TheVariants as unread
 
--- A value and the bytes behind it; or how many bytes are left from the first wrong one on, none where they end too early.
+-- A value and the bytes after it; or how many bytes are left from the first wrong one on, none where they end too early.
 abbrev pub Read : Type 0 → Type 0
 Read X = Result (X × List ℕ) ℕ
 
@@ -35,7 +35,7 @@ abbrev pub byte_at : (ℕ → Bool) → List ℕ → Read ℕ
 byte_at may [] = Err 0
 byte_at may (b ∷ bytes) = if may b then Ok (b, bytes) else Err (suc (length bytes))
 
--- A number of so many bytes, behind a part of it that was read: `may` says whether a number whose first bytes are this
+-- A number of so many bytes, after a part of it that was read: `may` says whether a number whose first bytes are this
 -- one may stand here when so many are still to come.
 unfoldable pub number_at : (ℕ → ℕ → Bool) → ℕ → ℕ → List ℕ → Read ℕ
 number_at may zero value bytes = Ok (value, bytes)
@@ -64,7 +64,7 @@ abbrev pub has_room : Option Awaited → ℕ → Bool
 has_room None n = false
 has_room (Some next) n = nat_le next.more n
 
--- whether a byte may stand here with so many bytes behind it
+-- whether a byte may stand here with so many bytes after it
 abbrev pub may_follow : Awaited → ℕ → ℕ → Bool
 may_follow state n b = has_room (after state b) n
 

@@ -7,7 +7,7 @@ use Rattle.pm_rows.specs.declared.commit.Change.{Change}
 use Rattle.pm_rows.specs.declared.commit.Change.TheVariants.{Put, Del}
 use Rattle.pm_rows.specs.Fold.{RowMap}
 
--- a change: its tag and its key, and for a put the value behind its length
+-- a change: its tag and its key, and for a put the value after its length
 abbrev pub change_bytes : Change → List ℕ
 change_bytes (Put key value) = 1 ∷ to_be_bytes w64 (cast_unsigned w64 key) ++ to_be_bytes w32 (length value) ++ value
 change_bytes (Del key) = 2 ∷ to_be_bytes w64 (cast_unsigned w64 key)
@@ -24,7 +24,7 @@ body_bytes batch = to_be_bytes w32 (length batch) ++ flat_map commit_bytes batch
 abbrev pub batch_bytes : List (List Change) → List ℕ
 batch_bytes batch = to_be_bytes w32 (length (body_bytes batch)) ++ body_bytes batch
 
--- a row: its key, and its value behind the value's length
+-- a row: its key, and its value after the value's length
 abbrev pub row_bytes : ℤ × List ℕ → List ℕ
 row_bytes row = to_be_bytes w64 (cast_unsigned w64 row.0) ++ to_be_bytes w32 (length row.1) ++ row.1
 

@@ -13,7 +13,7 @@ use Rattle.pm_record.specs.Spelling.{base_bytes, batch_bytes}
 
 -- ---- what a file may stand for
 
--- A base, and batches of commits behind it.
+-- A base, and batches of commits after it.
 pub record Content : Type 0 where
   pub epoch : ℕ
   pub clean : Bool
@@ -52,12 +52,12 @@ checkpointed content clean = record {
 abbrev pub IsRow : ℤ × List ℕ → Type 0
 IsRow row = FitsSigned w64 row.0 × IsUtf8 row.1 × (length row.1 ≤ max_value_bytes)
 
--- Commits may stand behind this: it keeps the limits after each of them.
+-- Commits may come after this: it keeps the limits after each of them.
 pub record MayFollow (standing : Standing) (commits : List (List Change)) : Type 0 where
   pub limits : (n : ℕ) → n ≤ length commits → IsWithinRowLimits (folded standing.rows (take n commits))
   pub number : standing.count + length commits < 2 ^ 64
 
--- A batch that may stand behind this.
+-- A batch that may come after this.
 pub record MayAppend (standing : Standing) (batch : List (List Change)) : Type 0 where
   pub batch_is : IsBatch batch
   pub follows : MayFollow standing batch
@@ -86,7 +86,7 @@ pub record Spells (front : List ℕ) (content : Content) : Type 0 where
   pub batches : AreBatches behind content.batches
 
 -- The bytes stand for this content, and their closed gate is at that place: what is in front of it spells the content,
--- and what is behind it is free.
+-- and what is after it is free.
 pub record StandsFor (bytes : List ℕ) (content : Content) (end : ℕ) : Type 0 where
   pub front : List ℕ
   pub free : List ℕ

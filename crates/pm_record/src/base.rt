@@ -60,7 +60,7 @@ fn place(key: i64) -> u64
     key.cast_unsigned().wrapping_add(1 << 63)
 }
 
-// Words of keys from this place on, with room for so many behind.
+// Words of keys from this place on, with room for so many after it.
 fn key_ranges(n: u64, from: u64) -> Ranges
     requires { n ≤ max_rows }
     ensures { result ≡ key_ranges n from }
@@ -73,7 +73,7 @@ fn key_ranges(n: u64, from: u64) -> Ranges
     }
 }
 
-// A row whose key stands at this place or behind it, with room for so many keys.
+// A row whose key stands at this place or after it, with room for so many keys.
 fn read_row(alloc: Global, n: u64, from: u64, bytes: &[u8]) -> Result<(i64, Text, &[u8]), Unread>
     requires { n ≤ max_rows }
     ensures read { Gives (λ x. ((x.0, x.1), x.2.now)) result (row_at n from bytes.now) }

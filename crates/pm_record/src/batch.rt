@@ -27,7 +27,7 @@ pub fn is_within(rows: &Rows) -> bool
     rows.len() <= MAX_ROWS && rows.size() <= MAX_ROWS_BYTES
 }
 
-// A commit, made in the rows: how many bytes are left behind it, the rows, and the bytes behind it.
+// A commit, made in the rows: how many bytes are left after it, the rows, and the bytes after it.
 fn commit_into(
     alloc: Global,
     c: u64,
@@ -73,7 +73,7 @@ fn commits_into(
     Ok((rows, rest))
 }
 
-// How many commits a batch behind so many commits may have.
+// How many commits a batch after so many commits may have.
 fn top_for(count: u64) -> u64
     ensures { result ≡ top_for count }
 {
@@ -119,7 +119,7 @@ fn batch_into(alloc: Global, progress: Progress, bytes: &[u8]) -> Result<(Progre
     Ok((behind, rest))
 }
 
-// A gate behind so many commits, which is closed where there is no room for more.
+// A gate after so many commits, which is closed where there is no room for more.
 fn read_gate(count: u64, bytes: &[u8]) -> Result<(u8, &[u8]), Unread>
     ensures { Gives (λ x. (x.0, x.1.now)) result
         (byte_at (λ gate. gate == 0 || nat_lt 0 (room_for count)) bytes.now) }
@@ -133,7 +133,7 @@ fn read_gate(count: u64, bytes: &[u8]) -> Result<(u8, &[u8]), Unread>
     Ok((gate, rest))
 }
 
-/// The batches behind a base, up to the closed gate, and the bytes behind that.
+/// The batches after a base, up to the closed gate, and the bytes after that.
 pub fn batches_into(
     alloc: Global,
     start: Progress,

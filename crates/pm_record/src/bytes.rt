@@ -36,7 +36,7 @@ impl Bytes {
         &self.held
     }
 
-    /// Adds a byte behind the others. Where memory is short the bytes stay as they were.
+    /// Adds a byte after the others. Where memory is short the bytes stay as they were.
     pub fn push(&mut self, byte: u8) -> Result<(), AllocError>
         ensures ok { OnOk result (self.new ≡ self.old ++ byte ∷ []) }
         ensures err { OnErr result (self.new ≡ self.old) }
@@ -45,7 +45,7 @@ impl Bytes {
         Ok(())
     }
 
-    /// Adds bytes behind the others. Where memory is short the bytes stay as they were.
+    /// Adds bytes after the others. Where memory is short the bytes stay as they were.
     pub fn extend(&mut self, bytes: &[u8]) -> Result<(), AllocError>
         ensures ok { OnOk result (self.new ≡ self.old ++ bytes.now) }
         ensures err { OnErr result (self.new ≡ self.old) }

@@ -1,4 +1,4 @@
-//! A change, where so many changes and commits stand behind it in a body.
+//! A change, where so many changes and commits come after it in a body.
 
 ghost use Rattle.std.specs.Prelude.{◌≡◌, ◌≤◌, length};
 ghost use Rattle.pm_rows.specs.Limits.{max_changes, max_commits};

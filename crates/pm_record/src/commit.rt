@@ -1,4 +1,4 @@
-//! The changes of a commit, where so many commits stand behind it in a body.
+//! The changes of a commit, where so many commits come after it in a body.
 
 ghost use Rattle.std.specs.Prelude.{◌≡◌, ◌≤◌, ◌<◌, ◌^◌, IfOk, fold};
 ghost use Rattle.pm_rows.specs.Limits.{max_changes, max_commits};
@@ -13,8 +13,8 @@ use crate::number::{Ranges, read_number};
 use pm_rows::{Change, Commit, MAX_CHANGE_BYTES, MAX_CHANGES, MAX_COMMIT_BYTES};
 use std::alloc::Global;
 
-/// Numbers of items, at most `top`, that can take exactly `long` bytes with what stands behind them. Each takes from
-/// `low` to `high` bytes, and what is behind them from `least` to `most`.
+/// Numbers of items, at most `top`, that can take exactly `long` bytes with what comes after them. Each takes from
+/// `low` to `high` bytes, and what is after them from `least` to `most`.
 pub fn count_ranges(low: u64, high: u64, least: u64, most: u64, top: u64, long: u64) -> Ranges
     requires some { (0 < low) × (0 < high) }
     requires small { (low < 2 ^ 32) × (high < 2 ^ 32) × (least < 2 ^ 32) × (long < 2 ^ 32) }
@@ -36,14 +36,14 @@ fn changes_ranges(c: u64, long: u64) -> Ranges
     count_ranges(9, MAX_CHANGE_BYTES, 11 * c, most, MAX_CHANGES as u64, long)
 }
 
-// How many bytes are left behind a change.
+// How many bytes are left after a change.
 fn less(left: u64, change: &Change) -> u64
     ensures { result ≡ change_left left change.now }
 {
     left.saturating_sub(size(change))
 }
 
-// So many changes, and how many bytes are left behind them.
+// So many changes, and how many bytes are left after them.
 fn read_changes(
     alloc: Global,
     count: u64,
@@ -68,7 +68,7 @@ fn read_changes(
     Ok((commit, left, rest))
 }
 
-/// A commit with so many commits behind it, and how many bytes are left behind it.
+/// A commit with so many commits after it, and how many bytes are left after it.
 #[tactic(auto, unfolding(crate::specs::Bodies::commit_at))]
 pub fn read_commit(
     alloc: Global,

@@ -8,19 +8,19 @@ use pm_rows::Rows;
 pub struct Found {
     pub file: Which,
     pub epoch: u64,
-    /// The place of the first gate behind the base.
+    /// The place of the first gate after the base.
     pub base_end: u64,
-    /// The place of the closed gate behind the last batch.
+    /// The place of the closed gate after the last batch.
     pub end: u64,
-    /// The rows behind all commits.
+    /// The rows after all commits.
     pub rows: Rows,
     /// The number of commits since `initdb` that the base holds.
     pub base_count: u64,
     /// The number of commits since `initdb`.
     pub count: u64,
-    /// The number of batches behind the base.
+    /// The number of batches after the base.
     pub batches: u64,
-    /// Whether no batch stands behind a base that was written by a clean shutdown.
+    /// Whether no batch comes after a base that was written by a clean shutdown.
     pub clean: bool,
 }
 

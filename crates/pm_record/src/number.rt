@@ -44,7 +44,7 @@ fn may_be(ranges: &Ranges, value: u64, left: usize) -> bool
             && value <= ranges.high2 / span
 }
 
-// The first byte, and those behind it.
+// The first byte, and those after it.
 pub fn first_of(bytes: &[u8]) -> Option<(u8, &[u8])>
     ensures some { IfSome result (λ x. bytes.now ≡ x.0 ∷ x.1.now) }
     ensures small { IfSome result (λ x. x.0 < 256) }

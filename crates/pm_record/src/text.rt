@@ -19,7 +19,7 @@ pub const ANY: Ranges = Ranges {
     high2: 0,
 };
 
-// What may follow a byte that has so many bytes behind it, where the byte may stand here.
+// What may follow a byte that has so many bytes after it, where the byte may stand here.
 fn follow(state: Awaited, n: usize, byte: u8) -> Option<Awaited>
     ensures some { IfSome result (λ next. (may_follow state n byte ≡ true)
         × (next ≡ next_of state byte)) }
@@ -32,7 +32,7 @@ fn follow(state: Awaited, n: usize, byte: u8) -> Option<Awaited>
 }
 
 // Where bytes stop being the front of a text of so many bytes: how many are left from there on. None where they are such
-// a text, with bytes behind it.
+// a text, with bytes after it.
 fn text_left(count: usize, bytes: &[u8]) -> Option<usize>
     ensures { result ≡ left_of (text_at count boundary bytes.now) }
 {
@@ -73,7 +73,7 @@ pub fn read_key(bytes: &[u8]) -> Result<(i64, &[u8]), Unread>
     Ok((key.cast_signed(), rest))
 }
 
-/// A text behind its length, which is within ranges.
+/// A text after its length, which is within ranges.
 pub fn read_string<'a>(
     alloc: Global,
     ranges: &Ranges,

@@ -1,4 +1,4 @@
-//! Recovery: what the two files of the log stand for, read behind a barrier.
+//! Recovery: what the two files of the log stand for, read after a barrier.
 #![tactic(auto)]
 
 mod pair;

@@ -60,7 +60,7 @@ pub fn recover<D: Disk>(alloc: Global, disk: &mut D) -> Result<Found, RedoFault>
 }
 
 /// What the two files stand for, as `recover` finds it, with no byte written: a file that doesn't count stays open. It
-/// makes both durable first, so that what is told holds behind a stop as well. Memory and time are those of `recover`.
+/// makes both durable first, so that what is told holds after a stop as well. Memory and time are those of `recover`.
 ///
 /// What is answered is all that the files stand for, and a stop at the end of the call leaves these files alone. Both
 /// files read as before, whatever is answered, and at every tick of the call a stop leaves only what it could leave at

@@ -58,7 +58,7 @@ waiting first at log time waited opening = record {
     each None = tt
     each (Some f) = inl waited.reads
 
--- ---- behind it
+-- ---- after it
 
 going : (first : DiskView) (at : Moment) (log : List BookEntry) → GoesOn first.ticks at.ticks first.images at.images → generation_of log ≡ at.generation → RestsAt at
     → (base : Base) → base.faults ≡ first.faults → IsBaseOf (origin_of first) base log → (IsSureAt at → IsReplay base at log) → IfSome at.files (λ _. IsRun (origin_of first) base at log)

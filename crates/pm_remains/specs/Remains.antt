@@ -1,4 +1,4 @@
--- What is left of a store, behind all that was noted since it was opened over a disk.
+-- What is left of a store, after all that was noted since it was opened over a disk.
 use Rattle.std.specs.Prelude.{◌≡◌, ◌⊎◌, ℕ, ◌≤◌, true, false, List, [], All, Option, Some, IfSome}
 use Rattle.pm_disk.specs.Files.{Files}
 use Rattle.pm_disk.specs.declared.disk.Disk as Disk
@@ -33,7 +33,7 @@ abbrev pub AreReadable : Files → Type 0
 AreReadable files = (reason : RedoFault) → IsReason reason files → SaysNothing reason
 
 -- What a book leaves that tells: it is legal from a base; at every tick since the opening what a stop leaves means a number of its
--- history, behind the first redo, and before that what it meant at first. Where the log was left clean, and the disk hasn't failed
+-- history, after the first redo, and before that what it meant at first. Where the log was left clean, and the disk hasn't failed
 -- since, the files are clean. They can be read again, or they are those that were handed in.
 pub record IsLeft (first now : DiskView) (log : List BookEntry) : Type 0 where
   pub base : Base

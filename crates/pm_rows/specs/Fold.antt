@@ -13,7 +13,7 @@ RowMap = FinMap int_cmp (List ℕ)
 abbrev pub put_pair : RowMap → ℤ × List ℕ → RowMap
 put_pair rows pair = insert rows pair.0 pair.1
 
--- the rows of pairs, put one behind the other: of those of one key the last is left
+-- the rows of pairs, put one after the other: of those of one key the last is left
 abbrev pub rows_of_pairs : List (ℤ × List ℕ) → RowMap
 rows_of_pairs pairs = fold put_pair empty pairs
 

@@ -8,6 +8,6 @@ pub record Standing : Type 0 where
   pub rows : RowMap
   pub count : ℕ
 
--- with these commits behind them
+-- with these commits after them
 abbrev pub after : Standing → List (List Change) → Standing
 after standing commits = record { rows = folded standing.rows commits; count = standing.count + length commits }

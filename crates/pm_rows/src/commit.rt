@@ -75,7 +75,7 @@ impl Commit {
         }
     }
 
-    /// Adds a change behind the others. Where memory is short the commit stays as it was.
+    /// Adds a change after the others. Where memory is short the commit stays as it was.
     pub fn push(&mut self, change: Change) -> Result<(), AllocError>
         ensures ok { OnOk result (self.new ≡ self.old ++ change ∷ []) }
         ensures err { OnErr result (self.new ≡ self.old) }

@@ -56,7 +56,7 @@ impl Rows {
         }
     }
 
-    /// The rows of pairs of a key and its value, put one behind the other: of those of one key the last is left. It fails
+    /// The rows of pairs of a key and its value, put one after the other: of those of one key the last is left. It fails
     /// only where memory is short. Where the keys rise it takes time of the order of the list's length, and else that
     /// times its logarithm.
     pub fn of_pairs(alloc: Global, pairs: Vec<(i64, Text)>) -> Result<Rows, AllocError>

@@ -11,7 +11,7 @@ use Rattle.pm_query.specs.NotedLaws.{GoesInTurn}
 use Rattle.pm_rows_tests.specs.declared.tending.Tended.{Tended}
 use Rattle.pm_rows_tests.specs.Asking.{AnsweredThen, RedoneThen, ReplyNotes, TendNotes, TendingNotes, VisitNotes, Visits}
 
--- an answer, and a look behind it
+-- an answer, and a look after it
 pub answered_then : {S : Type 0} (notes : List BookEntry → S → S → Type 0) (user who : User) (script : List Stmt) (staged : Staged) (result looked : Result Seen StoreNo) (before between now : S) → GoesInTurn notes → who ≡ user → result ≡ looked
     → (entries : List BookEntry) × notes entries before between × NotesStaged user.pid script staged entries
     → (entries : List BookEntry) × notes entries between now × SeenNotes who staged.front result entries
@@ -50,7 +50,7 @@ pub tending_notes : (user : User) (clean : Bool) (result : Result Tended StoreNo
 tending_notes user clean (Ok tended) entries visit = visit
 tending_notes user clean (Err refusal) entries visit = inl visit
 
--- ---- a redo, and what stands behind it
+-- ---- a redo, and what stands after it
 
 pub redone_then : {S : Type 0} (notes : List BookEntry → S → S → Type 0) (user who : User) (kept : ℕ) (Then : User → List BookEntry → Type 0) (before between now : S) → GoesInTurn notes → who ≡ user
     → (entries : List BookEntry) × notes entries before between × RedoNotes user (Ok kept) entries

@@ -17,7 +17,7 @@ use Rattle.pm_query.specs.HistoryLaws.{rows_of-with_commit}
 use Rattle.pm_rows_tests.specs.MemStore.{Goes, Holds, IsOf, Moment, count_behind}
 use Rattle.pm_rows_tests.specs.MemStoreLaws.{goes_nowhere}
 
--- the course behind one entry more
+-- the course after one entry more
 course_push : (base : Base) (book : List BookEntry) (entry : BookEntry) → course_of base (book ++ entry ∷ []) ≡ course_after (course_of base book) entry
 course_push base book entry = fold-append course_after (record { history = beginning (standing_of base); redone = None }) book (entry ∷ [])
 

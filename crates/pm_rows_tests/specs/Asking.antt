@@ -40,7 +40,7 @@ abbrev pub VisitNotes : User → List Stmt → Result (Option (List Item)) Store
 VisitNotes user script (Ok answer) entries = Visits user (ReplyNotes user script (Ok answer)) entries
 VisitNotes user script (Err refusal) entries = Visits user (ReplyNotes user script (Err refusal)) entries ⊎ EnterNotes {P = ℕ} user (Err refusal) entries
 
--- the log was read, and these entries stand behind that
+-- the log was read, and these entries stand after that
 pub record RedoneThen (user : User) (kept : ℕ) (Then : List BookEntry → Type 0) (entries : List BookEntry) : Type 0 where
   pub behind : List BookEntry
   pub goes_on : Then behind

@@ -23,7 +23,7 @@ pub struct Fault {
 }
 
 /// The rows, how many commits left them, how many of these are flushed and how many redo has kept, the log's epoch and
-/// its bytes behind its base, and the book.
+/// its bytes after its base, and the book.
 #[derive(Debug, Drop)]
 pub struct MemStore<B> {
     pub(crate) book: B,
@@ -67,7 +67,7 @@ impl<B: Chronicle<BookEntry>> MemStore<B> {
         }
     }
 
-    /// Lets the log have so many bytes behind its base.
+    /// Lets the log have so many bytes after its base.
     pub fn grow(&mut self, behind: u64)
         ensures { self.new ≡ record self.old { behind = behind } }
     {

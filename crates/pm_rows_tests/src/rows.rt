@@ -171,7 +171,7 @@ fn found(alloc: Global, rows: &Rows, key: &str) -> Result<String, Fail> {
     Ok(String::from_str(alloc, text)?)
 }
 
-// The rows behind a commit.
+// The rows after a commit.
 fn behind(rows: &mut Rows, commit: Commit, word: &str) -> Result<(), Fail> {
     match word {
         "cancel" => *rows = rows.prepare(&commit)?.cancel(),

@@ -9,7 +9,7 @@ use pm_query::{Checkpointed, Store, StoreNo};
 /// What came of it.
 #[derive(Clone, Copy, Debug, PartialEq, Eq)]
 pub struct Tended {
-    /// How many commits stood behind the redo.
+    /// How many commits stood after the redo.
     pub kept: u64,
     /// How many were flushed before the checkpoint.
     pub flushed: u64,

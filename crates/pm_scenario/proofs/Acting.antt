@@ -124,7 +124,7 @@ pub on-the-way : NotesWhatIsDue → (limits : Limits) (s t : Server) (h : Trace)
 on-the-way law limits s t h few after adds settled was now =
     on-in law (standing_in s).due limits s t h refl few after adds settled was now
 
--- one behind the other
+-- one after the other
 pub on-further : (limits : Limits) (first s t : Server) (h : Trace) → IsOnTheWay limits first s h → IsOnTheWay limits s t h → IsOnTheWay limits first t h
 on-further limits first s t h one two =
     record {

@@ -3,7 +3,7 @@
 //!
 //! It is the smallest caller of `pm_state`, and shows how a caller keeps its conditions: it gives pids that rise by one, does
 //! the acts of each call at once and in order, notes each of them, reports each start as it does it, and takes a connection
-//! only right behind a turn. Children never attach here, since there is nothing to attach to.
+//! only right after a turn. Children never attach here, since there is nothing to attach to.
 #![tactic(auto)]
 
 mod happening;

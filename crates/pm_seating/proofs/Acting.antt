@@ -283,7 +283,7 @@ module _ {D : Type 0} where
   acted_seated count moves d e seats seats' s ordered (action.End how) rest was may many has =
       plainly count moves d e seats seats' s (done (action.End how) s) 0 (entry.Ended how) [] was has refl refl (λ x. refl) (λ g. refl) refl refl refl refl
 
-  -- ---- and the acts behind it
+  -- ---- and the acts after it
 
   same-gate-from : (d : RosterView D) (who : Audience) (what : Signal) (g k : ℕ) (seats : List (Option Enrolled))
       → gate_of (after_steps d (sends_from who what g k seats)) ≡ gate_of d

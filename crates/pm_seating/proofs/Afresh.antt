@@ -199,7 +199,7 @@ module _ {D : Type 0} where
 
   -- ---- an act
 
-  -- behind a next generation every slot is a new one's
+  -- after a next generation every slot is a new one's
   afresh_reset : (d e : RosterView D) (g : ℕ) (rest : List Action) (m : Machine) → e ≡ after_step d (step.Reset g) → g ≡ d.generation + 1
       → ((k : ℕ) → AllByRecursion (λ x. x.offer.generation ≤ d.generation) (slot_at d k).past) → StartsAfresh e rest m
   afresh_reset d e g rest m is next past = record {

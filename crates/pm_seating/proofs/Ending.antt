@@ -1,4 +1,4 @@
--- Behind the last entry.
+-- After the last entry.
 use Rattle.std.proofs.Common.{◌≡◌, ◌≢◌, ℕ, suc, ◌+◌, ◌<◌, ◌≤◌, List, [], ◌∷◌, ◌++◌, refl, sym, ap, subst, ◌∙◌, length, set, get_or, map, arith, nat_eq, append-nil, append_assoc}
 use Rattle.std.proofs.lemmas.List.{get_or-set_same, get_or-set_other, get_or_past, map-append, set-get_or}
 use Rattle.std.specs.Prelude.{nat_lt, Option, Some, None}
@@ -42,7 +42,7 @@ StayAt k seats among = (j : ℕ) (c : Enrolled) → seat_at j seats ≡ Some c �
 stay_next : (k : ℕ) (seat : Option Enrolled) (seats among : List (Option Enrolled)) → StayAt k (seat ∷ seats) among → StayAt (k + 1) seats among
 stay_next k seat seats among stay j c sits = subst (λ (n : ℕ). seat_at n among ≡ Some c) (let same : suc j + k ≡ j + (k + 1) = omega arith in same) (stay (suc j) c sits)
 
--- a Kill may be sent behind the last entry to who sits there
+-- a Kill may be sent after the last entry to who sits there
 kills_final : (g k : ℕ) (seats among : List (Option Enrolled)) → StayAt k seats among → AllByRecursion (IsFinal among) (sends_from Everyone signal.Kill g k seats)
 kills_final g k [] among stay = tt
 kills_final g k (None ∷ seats) among stay = kills_final g (k + 1) seats among (stay_next k None seats among stay)
@@ -59,7 +59,7 @@ module _ {D : Type 0} where
   abbrev EndedBehind : RosterView D → RosterView D → ℕ → Type 0
   EndedBehind d e k = (gone : List (PastChild D)) × (map ended_of (slot_at e k).past ≡ map ended_of (slot_at d k).past ++ map ended_of gone)
 
-  -- who sits there behind it sat there before
+  -- who sits there after it sat there before
   abbrev Stays : RosterView D → RosterView D → Type 0
   Stays d e = (k : ℕ) (c : Enrolled) → seat_at k (seats_of e) ≡ Some c → seat_at k (seats_of d) ≡ Some c
 

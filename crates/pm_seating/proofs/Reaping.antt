@@ -33,7 +33,7 @@ below : (j k : ℕ) → j < k + 1 → nat_eq j k ≡ false → j < k
 below j k near isnt = grind arith
 
 module _ {D : Type 0} where
-  -- this slot, behind a step that leaves the last connection
+  -- this slot, after a step that leaves the last connection
   reaped_as : (d e : RosterView D) (j : ℕ) → e.notes.last_connection ≡ d.notes.last_connection → slot_at e j ≡ slot_at d j
       → IsReaped d.notes.last_connection (slot_at d j) (slot_at d j).sight → IsReaped e.notes.last_connection (slot_at e j) (slot_at e j).sight
   reaped_as d e j last same reaped =

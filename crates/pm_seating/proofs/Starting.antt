@@ -1,4 +1,4 @@
--- Which children a call of the machine starts, and which may still be started behind it.
+-- Which children a call of the machine starts, and which may still be started after it.
 use Rattle.std.proofs.Common.{◌≡◌, ℕ, ◌≤◌, ◌+◌, List, [], ◌∷◌, ◌++◌, refl, sym, ap, subst, ◌∙◌, arith}
 use Rattle.std.specs.Prelude.{nat_le, Bool, true, false, not, ◌==◌, ◌&&◌, ◌||◌, if◌then◌else◌, Option, Some, None, is_some, IsSomeAnd}
 use Rattle.std.proofs.lemmas.Bool.{or_right, or_from}
@@ -48,7 +48,7 @@ use Rattle.pm_seating.proofs.Turning.{in_order, inside, rest0, rest1, rest2, res
 abbrev pub yet : Bool → Machine → Bool
 yet b m = if b then is_init m.state else not (m.fatal || is_immediate m.shutdown) || not (is_not_running m.startup)
 
--- where a startup child is there, another may be started behind it
+-- where a startup child is there, another may be started after it
 behind_startup : (m : Machine) → is_not_running m.startup ≡ false → yet false m ≡ true
 behind_startup m runs = or_right (not (m.fatal || is_immediate m.shutdown)) (not (is_not_running m.startup)) (ap not runs)
 
@@ -78,7 +78,7 @@ crash_yet false m exit is = by m.fatal (is_immediate m.shutdown) m.startup is
     by false true st is = is
     by false false st is = refl
 
--- behind it only a startup child that is there may be followed by another child
+-- after it only a startup child that is there may be followed by another child
 crash_ends : (m : Machine) (exit : _) → is_not_running m.startup ≡ true → yet false (crash_rule m exit).after ≡ false
 unfolding crash_rule
 crash_ends m exit off = by m.fatal (is_immediate m.shutdown) m.startup off
@@ -645,7 +645,7 @@ abbrev pub EndsOne : Trace → Call → Type 0
 EndsOne h (Exits pid k status was_active now) = IsSomeAnd (child_of pid h.now.shared.children) (λ c. c.kind ≡ k)
 EndsOne h _ = Unit {0}
 
--- what may be started behind a call with no next generation might be before it
+-- what may be started after a call with no next generation might be before it
 pub call_yet : (limits : Limits) (m : Machine) (h : Trace) (call : Call) (kind : Kind) → Facts limits m h.now → EndsOne h call
     → renews (acts_of_call m call) ≡ false → may_start kind (machine_after m call) ≡ true → may_start kind m ≡ true
 call_yet limits m h (Accepts pid) kind facts there none is = accept_yet (is_startup_child kind) (decide_of (view_of m)) m is

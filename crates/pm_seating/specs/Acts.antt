@@ -61,7 +61,7 @@ renews (action.Reset ∷ acts) = true
 renews (_ ∷ acts) = renews acts
 
 -- The machine may still start such a child in the present generation: a startup child only at first, and another only where
--- neither a crash nor an immediate request stands, or behind a startup child that is there.
+-- neither a crash nor an immediate request stands, or after a startup child that is there.
 abbrev pub may_start : Kind → Machine → Bool
 may_start kind m =
     if is_startup_child kind then is_init m.state
@@ -100,7 +100,7 @@ module _ {D : Type 0} where
   abbrev pub HasLostNone : RosterView D → Kind → Type 0
   HasLostNone d kind = is_auxiliary kind ≡ true → lost is_auxiliary d.generation (slot_at d (slot_of kind)).past ≡ 0
 
-  -- In the slot of each kind of which a child is due to be started, or may still be started behind the acts that are due,
+  -- In the slot of each kind of which a child is due to be started, or may still be started after the acts that are due,
   -- none has died attached in the present generation.
   pub record StartsAfresh (d : RosterView D) (acts : List Action) (m : Machine) : Type 0 where
     pub due : StartOnly (HasLostNone d) acts
@@ -131,7 +131,7 @@ module _ {D : Type 0} where
   IsDone (Ok (Some a)) ordered d e = Performs a ordered d (seats_of d) e (seats_of e)
   IsDone answer ordered d e = e ≡ d
 
--- the children behind a call's own entry
+-- the children after a call's own entry
 abbrev pub roll_behind : Call → List Enrolled → List Enrolled
 roll_behind (Exits pid kind status was_active now) roll = without pid roll
 roll_behind _ roll = roll

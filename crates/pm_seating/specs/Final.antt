@@ -1,4 +1,4 @@
--- What comes behind the last entry: the final Kill, and the last releases.
+-- What comes after the last entry: the final Kill, and the last releases.
 use Rattle.std.specs.Prelude.{◌≡◌, ℕ, ◌<◌, ◌≤◌, Bool, true, false, List, map, None, length, slice_set}
 use Rattle.pm_supervisor.specs.declared.Limits.{Limits}
 use Rattle.pm_board.specs.declared.views.Letter as Letter
@@ -20,7 +20,7 @@ module _ {D : Type 0} where
   abbrev pub seen : RosterView D → Seating
   seen d = record { seats = seats_of d; generation = d.generation }
 
-  -- behind these moves nothing is noted any more
+  -- after these moves nothing is noted any more
   abbrev pub IsEndingAt : ℕ → List Move → RosterView D → Type 0
   IsEndingAt count moves d = IsEnding count moves d (seen d)
 
@@ -31,7 +31,7 @@ module _ {D : Type 0} where
   abbrev pub NobodySits : RosterView D → Type 0
   NobodySits d = AreFree (length (seats_of d)) d
 
-  -- Whatever the moves are behind which nothing is noted any more, they stay those. No child is assigned.
+  -- Whatever the moves are after which nothing is noted any more, they stay those. No child is assigned.
   pub record KeepsEnding (before after : RosterView D) : Type 0 where
     pub ending : (count : ℕ) (moves : List Move) → IsEndingAt count moves before → IsEndingAt count moves after
     pub last_pid : after.notes.last_pid ≡ before.notes.last_pid
@@ -41,7 +41,7 @@ is_running rest.Running = true
 is_running _ = false
 
 module _ {J D : Type 0} (letter : Letter.Ghosts J D) (slot : ℕ) where
-  -- a look at the slot, behind the last entry
+  -- a look at the slot, after the last entry
   abbrev pub HasFound : Rest J → RosterView D → RosterView D → Type 0
   HasFound rest.Nobody before after = (seat_at slot (seats_of before) ≡ None) × (after ≡ before)
   HasFound rest.Running before after = (c : Enrolled) × StillRuns slot c before after × (seats_of after ≡ seats_of before)

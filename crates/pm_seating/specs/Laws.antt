@@ -29,7 +29,7 @@ CallsMayBeDone =
     (limits : Limits) (p : ServerState) (call : Call) → IsInStep limits p → IsFit limits p.machine p.trace call
     → MayDo (acts_of_call p.machine call) (gate_shown p.trace.now.shared) (roll_behind call (roll_of p.trace.now.shared.children))
 
--- a call's acts leave the gate as the supervisor has it behind the call
+-- a call's acts leave the gate as the supervisor has it after the call
 abbrev pub CallsLeaveTheGate : Type 0
 CallsLeaveTheGate =
     (m : Machine) (h : Trace) (call : Call)

@@ -84,7 +84,7 @@ steps_of k s (entry.KillAsked pid) = sends (One pid) signal.Kill s.generation s.
 steps_of k s entry.CheckpointAsked = sends Checkpointer signal.Checkpoint s.generation s.seats
 steps_of k s _ = []
 
--- the seating behind it, where the child that it tells of has the slot k
+-- the seating after it, where the child that it tells of has the slot k
 abbrev pub seated : ℕ → PmEvent → Seating → Seating
 seated k (entry.Started pid kind) s = with_seat k (Some (child pid kind)) s
 seated k (entry.Accepted pid decision) s = with_seat k (Some (child pid (kind_for decision))) s

@@ -20,7 +20,7 @@ module _ {D : Type 0} where
     pub generation : offer.generation ≡ d.generation
 
   -- Since the last connection was accepted a look has found the child of each of the first n slots running, where that was
-  -- there then. Behind a look at each slot a connection may be accepted.
+  -- there then. After a look at each slot a connection may be accepted.
   abbrev pub AreReaped : ℕ → RosterView D → Type 0
   AreReaped n d = (k : ℕ) → k < n → IsReaped d.notes.last_connection (slot_at d k) (slot_at d k).sight
 

@@ -76,7 +76,7 @@ module _ {D : Type 0} where
     pub begun : (k : ℕ) → map begun_of (slot_at d k).past ++ sitting s.generation (seat_at k s.seats) ≡ begun_at count k moves
     pub ended : (k : ℕ) → map ended_of (slot_at d k).past ≡ ended_at k moves
 
-  -- the steps of the roster are those of these moves, and it sees who sits where behind them
+  -- the steps of the roster are those of these moves, and it sees who sits where after them
   pub record IsSeated (count : ℕ) (moves : List Move) (d : RosterView D) (seats : List (Option Enrolled)) (work : Standing) : Type 0 where
     pub seating : Seating
     pub is_that : seating ≡ seating_of count moves
@@ -98,7 +98,7 @@ module _ {D : Type 0} where
     pub past : Trace
     pub stands : Stands limits (Some (journal_of count moves)) v.work.standing past
     pub told : IfSome v.work.told (λ entries. entries ≡ journal_of count moves)
-    -- behind the acts that are due the gate is as the supervisor has it
+    -- after the acts that are due the gate is as the supervisor has it
     pub gate : gate_by v.work.standing.due (gate_of v.board) ≡ gate_shown past.now.shared
     pub seated : IsSeated count moves v.board v.seats v.work.standing
     -- the acts that are due may be done, one after the other
@@ -126,9 +126,9 @@ module _ {D : Type 0} where
   abbrev pub IsRunning : View D → Type 0
   IsRunning v = (limits : Limits) × (count : ℕ) × (moves : List Move) × IsAt limits count moves v
 
-  -- ---- behind the last entry
+  -- ---- after the last entry
 
-  -- Nothing is noted any more. The steps of the roster are those of these moves, and behind them there are only final ones, for
+  -- Nothing is noted any more. The steps of the roster are those of these moves, and after them there are only final ones, for
   -- those that the moves leave; the children of each slot are those that the moves tell of, and no others; these sit there now.
   pub record IsEnding (count : ℕ) (moves : List Move) (d : RosterView D) (s : Seating) : Type 0 where
     pub last : List RosterStep

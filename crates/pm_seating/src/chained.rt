@@ -14,7 +14,7 @@ pub fn calls_may_be_done()
     ensures { CallsMayBeDone }
 {}
 
-/// And behind them the gate is as the supervisor has it behind the call.
+/// And after them the gate is as the supervisor has it after the call.
 pub fn calls_leave_the_gate()
     ensures { CallsLeaveTheGate }
 {}

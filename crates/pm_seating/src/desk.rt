@@ -46,7 +46,7 @@ impl<J: Chronicle<PmEvent>, M: Report + Drop> Desk<J, M> {
     ghost use Rattle.pm_seating.specs.Standing.{Goes, IsRunning, SeatServes, view};
     ghost use Rattle.pm_seating.specs.Calls.{accepts, HasLookedAt};
 
-    /// Takes the next connection, right behind a turn, for a child in a slot that is free and serves it.
+    /// Takes the next connection, right after a turn, for a child in a slot that is free and serves it.
     pub fn admit(&mut self, slot: u32, mail: M) -> Taken
         requires fits { M.fits mail (kind_for (decision_on (standing self.old.supervision))) }
         requires running { IsRunning (view (at_work self.old.supervision) self.old.roster.knows) }

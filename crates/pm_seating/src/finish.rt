@@ -1,4 +1,4 @@
-//! The end of a supervisor: behind its last entry the children that are left are killed and released.
+//! The end of a supervisor: after its last entry the children that are left are killed and released.
 ghost use Rattle.std.specs.Prelude.{◌≡◌, ◌+◌, ◌<◌, ℕ, false, length};
 ghost use Rattle.pm_board.specs.declared.views.Signal.TheVariants as signal;
 ghost use Rattle.pm_seating.specs.Acts.{ShowsNow};
@@ -37,7 +37,7 @@ pub fn kill_rest<M: Letter + Drop>(roster: &mut Roster<M>)
     tell(roster, Audience::Everyone, Signal::Kill);
 }
 
-/// What a look at a slot finds behind the last entry.
+/// What a look at a slot finds after the last entry.
 #[derive(Drop)]
 pub enum Rest<M> {
     Nobody,

@@ -95,7 +95,7 @@ closed_push book entry = ap (list_any ends_cleanly) (present_push book entry)
 pub checkpoint_push : (book : List BookEntry) (entry : BookEntry) → has_checkpoint (book ++ entry ∷ []) ≡ list_any ends_checkpoint (present_after (present book) entry)
 checkpoint_push book entry = ap (list_any ends_checkpoint) (present_push book entry)
 
--- a test of the entries behind one more
+-- a test of the entries after one more
 pub any_push : (p : BookEntry → Bool) (entries : List BookEntry) (entry : BookEntry) (was is : Bool) → list_any p entries ≡ was → p entry ≡ is → list_any p (entries ++ entry ∷ []) ≡ was || is
 any_push p entries entry was is so this =
     list_any-append p entries (entry ∷ []) ∙ ap (λ (b : Bool). b || (p entry || false)) so ∙ ap (λ (b : Bool). was || (b || false)) this ∙ ap (λ (b : Bool). was || b) (or-false is)
@@ -106,7 +106,7 @@ any_still p entries entry was so this = any_push p entries entry was false so th
 fault_later : (before now : ℕ) → before ≤ now → (fault : ℕ × ℕ) → IsFaultBy before fault → IsFaultBy now fault
 fault_later before now le fault by = omega (arith, le, by)
 
--- ---- the store behind one entry more
+-- ---- the store after one entry more
 
 -- each child is attached as often as it is inside
 pub attended_push : (inside inside_now : List ℕ) (book : List BookEntry) (entry : BookEntry) → IsAttendedBy inside book

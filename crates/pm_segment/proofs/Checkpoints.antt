@@ -89,7 +89,7 @@ rows_fit laws base at live book is =
 all_flushed : (base : Base) (before now : Moment) (live new : Live) (book : List BookEntry) → Checkpoints before now live new → HasGone base before live book → new.log.count ≡ count_of (history_of base book)
 all_flushed base before now live new book moves is = moves.count ∙ sym moves.front ∙ is.count_is moves.unbroken
 
--- what a stop leaves, behind it and an entry that leaves the history alone
+-- what a stop leaves, after it and an entry that leaves the history alone
 moved_held : Laws → (origin : Origin) (base : Base) (before now : Moment) (live new : Live) (book : List BookEntry) (entry : BookEntry) (seen : Files) → before.files ≡ Some seen → Checkpoints before now live new
     → (new.mark ≡ live.mark) ⊎ (new.mark ≡ now.ticks)
     → HasGone base before live book → history_after (Some live.kept) (history_of base book) entry ≡ history_of base book → ((start mark : ℕ) → IsWithin start mark entry) → ((t : ℕ) → is_by t entry ≡ false)
@@ -242,7 +242,7 @@ checkpoint_fails laws before now live new pid since moves broke closed mark faul
 
 -- ---- one that is left out
 
--- the moment with another book, behind a checkpoint that was left out
+-- the moment with another book, after a checkpoint that was left out
 abbrev pub with_skip : Option (List BookEntry) → Moment → Moment
 with_skip book at = record {
   book = book;
@@ -334,7 +334,7 @@ through_same (Some files) live rows clean from to i k rests unbroken stops = λ 
     (means_same (standing_of h.content) (standing rows live.log.count) (live.log.end + 1) (base_length moved + 1) image (content_is live rows files (i from) h)
     (stops h.content h.lives h.rows_are t le ge image there)))
 
--- a base with nothing behind it ends where the file does
+-- a base with nothing after it ends where the file does
 bare_end : (bytes : List ℕ) (content : Content) (end : ℕ) → StandsFor bytes content end → content.batches ≡ [] → end ≡ base_length content
 bare_end bytes content end log bare =
     let spelled = log.spelled in

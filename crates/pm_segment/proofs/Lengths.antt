@@ -60,7 +60,7 @@ base_size epoch clean count rows = omega (
   rows_length rows,
 )
 
--- ---- a base with batches behind it
+-- ---- a base with batches after it
 
 -- the bytes of a batch are counted by the crate of the rows
 abbrev pub NeedsAreCounted : Type 0

@@ -65,7 +65,7 @@ no_closed : (file : Which) (files : Files) (content : Content) (end : ℕ) → P
 no_closed A files content end pair closed = not_closed files.a content end pair.stands closed.0
 no_closed B files content end pair closed = not_closed files.b content end pair.stands closed.1
 
--- ---- a store behind its first redo
+-- ---- a store after its first redo
 
 means_no_reason : (files : Files) (most least : ℕ) (history : History) (reason : RedoFault) → HoldsFrom (MeansWithin most) least history files → IsReason reason files → SaysNothing reason
 means_no_reason files most least history fault.Disk holds is = tt

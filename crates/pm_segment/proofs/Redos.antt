@@ -283,7 +283,7 @@ redoes_again past present_whole at live book_now pid read inside notes =
 
 -- ---- the first redo of all
 
--- what was found, in the files as they read before and behind it
+-- what was found, in the files as they read before and after it
 abbrev pub FindsNow : Found → (Files → Type 0) → Files → Files → Type 0
 FindsNow found images files now = FindsPair found files (λ content. LogRests found.file content found.end now images)
 
@@ -316,7 +316,7 @@ pub record Redoes (before now : Moment) (found : Found) (new : Live) : Type 0 wh
 abbrev pub base_found : Found → ℕ → Base
 base_found found faults = record { rows = found.rows; count = found.count; bytes = found.end + 1; faults = faults }
 
--- a history behind it begins
+-- a history after it begins
 begun_at : (base : Base) (book : List BookEntry) (pid generation : ℕ) → history_of base book ≡ beginning (standing_of base) → kept_by_redo book ≡ None
     → history_after (kept_by_redo book) (history_of base book) (Redone pid generation base.count) ≡ beginning (standing_of base)
 begun_at base book pid generation fresh unredone =

@@ -60,9 +60,9 @@ renews_itself : (pids : List ℕ) (generation : ℕ) → RenewsBehindGone (renew
 renews_itself [] generation = tt
 renews_itself (pid ∷ pids) generation = (begins_renewal pids generation, renews_itself pids generation)
 
--- ---- what a book says behind a renewal
+-- ---- what a book says after a renewal
 
--- Behind these entries a new generation has begun, and nothing else has changed.
+-- After these entries a new generation has begun, and nothing else has changed.
 pub record IsOpened (generation : ℕ) (before book : List BookEntry) : Type 0 where
   pub generation_is : generation_of book ≡ generation
   pub unredone : kept_by_redo book ≡ None
@@ -191,7 +191,7 @@ no_redo (pid ∷ pids) generation = no_redo pids generation
 
 -- ---- the store goes on
 
--- the moment behind a renewal
+-- the moment after a renewal
 abbrev pub with_renewal : Option (List BookEntry) → ℕ → List ℕ → RowMap → List (List Change) → Moment → Moment
 with_renewal book generation inside rows staged at = record {
   book = book;

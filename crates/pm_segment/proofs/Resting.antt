@@ -98,7 +98,7 @@ through_of (Some files) live rows from to i k commit rests unbroken may stops = 
     one_of (standing_of h.content) (standing rows live.log.count) (live.log.end + 1) (log.need_of (commit ∷ [])) commit image same
     (stops h.content h.lives (subst (λ (s : Standing). MayAppend s (commit ∷ [])) (sym same) may) t le ge image there))
 
--- and of the log behind it
+-- and of the log after it
 abbrev pub LivesWith : Live → Live → List (List Change) → (Files → Type 0) → (Files → Type 0) → Files → Files → Type 0
 LivesWith live new batch before now files files_now =
     (content : Content) → Lives live.log content files before → MayAppend (standing_of content) batch → Lives new.log (with_batch content batch) files_now now

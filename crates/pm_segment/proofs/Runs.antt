@@ -28,7 +28,7 @@ use Rattle.pm_query.specs.HistoryLaws.{history_push, number_of}
 
 -- ---- histories along a book
 
--- one history has the commits of another one, and maybe more behind them
+-- one history has the commits of another one, and maybe more after them
 pub record Covers (shown whole : History) : Type 0 where
   pub base : shown.base ≡ whole.base
   pub acked : shown.acked ≡ whole.acked
@@ -212,7 +212,7 @@ module _ (past : PastStays) (present : PresentIsWhole) (base : Base) (book : Lis
       → Keeps Means base (book ++ entry ∷ []) start mark now flushed images
   another entry is within none = pushed entry (history_of base book) is within (λ t lt. none t) keeps.acked keeps.whole keeps.since
 
-  -- a later redo, behind which a stop leaves the number that it kept
+  -- a later redo, after which a stop leaves the number that it kept
   pub cut : (pid generation : ℕ) → kept_by_redo book ≡ None → flushed ≤ count_of (kept (history_of base book) flushed)
       → ((t : ℕ) → mark ≤ t → t ≤ now → (image : Files) → images t image → Means image (number (kept (history_of base book) flushed) flushed))
       → Keeps Means base (book ++ Redone pid generation flushed ∷ []) start mark now flushed images
@@ -241,7 +241,7 @@ notes_cut past present base book start now flushed images keeps pid generation u
     let same : t ≡ now = omega (arith, after, upto) in
     means image (subst (λ (n : ℕ). images n image) same there))
 
--- no commit stands behind the base
+-- no commit stands after the base
 pub beginning_number : (base : Standing) → base ≡ number (beginning base) base.count
 beginning_number base = sym (ap (number_of (beginning base) base.count) (take_all (base.count - base.count) [] (omega arith)))
 
@@ -269,7 +269,7 @@ opens base book now images is entries means = record {
       ) ∣₁;
 }
 
--- behind the last commit comes the next
+-- after the last commit comes the next
 pub next_commit : (history : History) (change : Change) (changes : List Change)
     → after (number history (count_of history)) ((change ∷ changes) ∷ []) ≡ number (with_commit history (change ∷ changes)) (count_of history + 1)
 next_commit history change changes =

@@ -294,12 +294,12 @@ pub record Writes (before now : Moment) (live new : Live) (k : ℕ) : Type 0 whe
   pub tells : before.files ≡ None → now.files ≡ None
   pub stops : IfSome before.files (StopsOneOf live (take k before.staged) before.ticks now.ticks (before.images before.ticks) now.images)
 
--- how long the log is with a batch behind it
+-- how long the log is with a batch after it
 abbrev pub with_batch_of : Live → List (List Change) → ℕ
 with_batch_of live batch = live.log.end + 1 + log.need_of batch
 
 module _ (before now : Moment) (live new : Live) (k : ℕ) (writes : Writes before now live new k) where
-  -- the number behind the batch
+  -- the number after the batch
   next_number : (base : Base) (book : List BookEntry) → HasGone base before live book → number (history_of base book) (live.log.count + k) ≡ after (number (history_of base book) live.log.count) (take k before.staged)
   next_number base book is = number_more (history_of base book) base.count live.log.count before.staged (ap (λ (s : Standing). s.count) is.base_is) is.based (is.behind writes.unbroken) k writes.few
 
@@ -313,7 +313,7 @@ module _ (before now : Moment) (live new : Live) (k : ℕ) (writes : Writes befo
       needs_parts_of : (staged : List (List Change)) (n : ℕ) → needs_alone (take n staged) ≤ needs_alone staged
       needs_parts_of staged n = omega (arith, needs_parts staged n)
 
-  -- inside it a stop leaves the flushed number, or the one behind the batch
+  -- inside it a stop leaves the flushed number, or the one after the batch
   stops_hold : (origin : Origin) (base : Base) (book : List BookEntry) (seen : Files) → before.files ≡ Some seen → HasGone base before live book → HasHeld origin base before book
       → Throughout before.ticks now.ticks now.images (HoldsFrom (MeansWithin (with_batch_of live (take k before.staged))) live.log.count (history_of base book))
   stops_hold origin base book seen tells is held = λ t after_it within image there.
@@ -420,7 +420,7 @@ flushes past present_whole before now live new k writes whole count end needs ma
             (subst (λ (x : List (List Change)). RestsAt new now.rows x files_now (now.images now.ticks) (after (number h live.log.count) (take k before.staged))) (sym staged)
             (subst (λ (r : RowMap). RestsAt new r (drop k before.staged) files_now (now.images now.ticks) (after (number h live.log.count) (take k before.staged))) (sym writes.rows) then))))
 
-    -- whatever a stop leaves now means the number behind the batch
+    -- whatever a stop leaves now means the number after the batch
     behind : (base : Base) (book : List BookEntry) (seen : Files) → before.files ≡ Some seen → HasGone base before live book → IsAnchored now (history_of base book) → (image : Files) → now.images now.ticks image
         → HoldsFrom (MeansWithin (with_batch_of live (take k before.staged))) new.log.count (history_of base book) image
     behind base book seen tells is rests image there =

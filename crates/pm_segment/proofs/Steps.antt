@@ -174,7 +174,7 @@ sure_before before now same tells (inr told) = each before.files refl
     each None none = absurd (no_files told.0 (sym told.1 ∙ tells none))
     each (Some files) is = inr (files, is)
 
--- behind the first redo
+-- after the first redo
 pub gone_on : (entries : List BookEntry) (before now : Moment) (origin : Origin) (base : Base) → Added entries before.book now.book → (before.files ≡ None → now.files ≡ None) → (IsSure now → IsSure before)
     → ((book : List BookEntry) → before.book ≡ Some book → IsSure now → HasBegun base before book → IfSome before.files (λ seen. HasHeld origin base before book) → HasBegun base now (book ++ entries))
     → ((book : List BookEntry) (seen : Files) → before.files ≡ Some seen → HasBegun base before book → HasHeld origin base before book → HasHeld origin base now (book ++ entries))
@@ -339,7 +339,7 @@ gone_quiet base at live book_now inside_now book entry quiet may attended is =
     (λ unbroken. subst (λ (n : ℕ). live.log.end + 1 + live.needs ≤ base.bytes + 1024 + n) (sym (quiet.need (needs_of book))) (is.fits unbroken))
     is.limit is.counted.later
 
--- how long an image is, behind an entry that leaves this history
+-- how long an image is, after an entry that leaves this history
 pub lengths_push : (base : Base) (book : List BookEntry) (entry : BookEntry) (then : History) (flushed : ℕ) (image : Files) → history_after (kept_by_redo book) (history_of base book) entry ≡ then
     → HoldsFrom (MeansWithin (most_bytes base book)) flushed then image → HoldsFrom (MeansWithin (most_bytes base (book ++ entry ∷ []))) flushed (history_of base (book ++ entry ∷ [])) image
 lengths_push base book entry then flushed image is holds =
@@ -668,7 +668,7 @@ means_some most h least image holds = holds_so (MeansWithin most) Means h least 
 pub means_more : (most more : ℕ) (h : History) (least : ℕ) (image : Files) → most ≤ more → HoldsFrom (MeansWithin most) least h image → HoldsFrom (MeansWithin more) least h image
 means_more most more h least image le holds = holds_so (MeansWithin most) (MeansWithin more) h least image (λ s m. (m.0, omega (arith, m.1, le), m.2)) holds
 
--- how long the log is with a commit behind it
+-- how long the log is with a commit after it
 abbrev pub with_need : Live → List Change → ℕ
 with_need live commit = live.log.end + 1 + log.need_of (commit ∷ [])
 
@@ -747,7 +747,7 @@ appended_stops base before now live book pid front script reply change changes c
     subst (λ (x : History). HoldsFrom Means live.log.count x image) (sym (history_push base book (Answered pid script reply commit front live.mark)))
     (means_some most (with_commit h commit) live.log.count image (holds_one h change changes most (standing before.rows live.log.count) live.log.count image one counted (through t after_it upto image there)))
 
--- how long an image is, behind an append and the answer
+-- how long an image is, after an append and the answer
 appended_lengths : (base : Base) (before now : Moment) (live : Live) (book : List BookEntry) (pid front : ℕ) (script : List Stmt) (reply : List Item) (change : Change) (changes : List Change) (least : ℕ)
     → live.log.since ≡ None → ((image : Files) → now.images now.ticks image → HoldsFrom (MeansWithin (with_need live (change ∷ changes))) least (with_commit (history_of base book) (change ∷ changes)) image)
     → HasGone base before live book → (image : Files) → now.images now.ticks image
@@ -759,7 +759,7 @@ appended_lengths base before now live book pid front script reply change changes
     subst (λ (x : History). HoldsFrom (MeansWithin (most_bytes base (book ++ entry ∷ []))) least x image) (sym grown)
     (means_more (with_need live commit) (most_bytes base (book ++ entry ∷ [])) (with_commit (history_of base book) commit) least image (omega (arith, is.fits unbroken, needs_push book entry)) (holds image there))
 
--- no commit is behind the last one
+-- no commit is after the last one
 pub drop_none : (h : History) (first n : ℕ) → h.base.count ≡ first → n ≡ count_of h → drop (n - first) h.commits ≡ []
 drop_none h first n same is = drop_all (n - first) h.commits (omega (arith, same, is))
 
@@ -769,7 +769,7 @@ none_told since count here unbroken tells = subst (λ (s : Option ℕ). TellsBre
 pub tells_none : (since : Option ℕ) (count : ℕ) (here : Option (List (ℕ × ℕ))) → since ≡ None → here ≡ Some [] → TellsBreak since count here
 tells_none since count here unbroken none = subst (λ (s : Option ℕ). TellsBreak s count here) (sym unbroken) none
 
--- the count behind a call of the disk, where the log now says this
+-- the count after a call of the disk, where the log now says this
 pub counted_now : (from before now since_count : ℕ) (o o_now : Option Live) (new : Live) → before ≤ now → o_now ≡ Some new → IsShownAt from now new.log.since → IsCountedFrom from before o → IsCountedFrom from now o_now
 counted_now from before now since_count o o_now new le read shown counted = record {
   later = omega (arith, counted.later, le);

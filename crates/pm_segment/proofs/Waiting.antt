@@ -121,7 +121,7 @@ pub oldest_batch : (commits : List (List Change)) → All IsCommit commits → 1
 oldest_batch commits each some = subst IsBatch (sym (oldest_is commits))
     (record { some = some; few = omega (arith, length-take max_commits commits); commits = All-take IsCommit max_commits commits each })
 
--- what is left behind it
+-- what is left after it
 pub oldest_left : (commits : List (List Change)) → drop (oldest commits) commits ≡ drop max_commits commits
 oldest_left commits = elim (cases_lt (length commits) max_commits) [
   | inl short ↦ drop_all (oldest commits) commits (omega (arith, short, length-take max_commits commits)) ∙ sym (drop_all max_commits commits (omega (arith, short)))
@@ -136,7 +136,7 @@ folded_more rows k n commits = sym (ap (λ (l : List (List Change)). folded rows
 pub folded_rest : (rows : RowMap) (k : ℕ) (commits : List (List Change)) → folded (folded rows (take k commits)) (drop k commits) ≡ folded rows commits
 folded_rest rows k commits = sym (fold-append committed rows (take k commits) (drop k commits)) ∙ ap (λ (l : List (List Change)). folded rows l) (take-append-drop k commits)
 
--- ---- numbers of the history behind the flushed one
+-- ---- numbers of the history after the flushed one
 
 module _ (h : History) (first flushed : ℕ) (staged : List (List Change)) (same : h.base.count ≡ first) (based : first ≤ flushed) (behind : drop (flushed - first) h.commits ≡ staged) where
   pub number_more : (j : ℕ) → j ≤ length staged → number h (flushed + j) ≡ after (number h flushed) (take j staged)

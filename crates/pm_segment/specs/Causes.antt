@@ -18,7 +18,7 @@ use Rattle.pm_segment.specs.declared.commits.Commits.{Commits}
 use Rattle.pm_segment.specs.declared.commits.Commits.TheVariants as ways
 use Rattle.pm_segment.specs.declared.live.Live.{Live}
 
--- the log goes on behind a redo, and the disk hasn't failed since
+-- the log goes on after a redo, and the disk hasn't failed since
 pub record IsUnbroken (live : Option Live) : Type 0 where
   pub its : Live
   pub read : live ≡ Some its
@@ -50,7 +50,7 @@ SeenCause live front (Err _) = ⊥
 
 -- ---- `run`
 
--- A log that goes on has no room for this commit: fewer bytes than it needs, behind all that is staged, or its numbers are
+-- A log that goes on has no room for this commit: fewer bytes than it needs, after all that is staged, or its numbers are
 -- spent.
 pub record IsFull (live : Option Live) (commit : List Change) (need room : ℕ) : Type 0 where
   pub its : Live
@@ -81,7 +81,7 @@ with_staged ways.AtOnce staged commit = staged
 with_staged ways.Staged staged [] = staged
 with_staged ways.Staged staged (change ∷ changes) = staged ++ (change ∷ changes) ∷ []
 
--- what is staged behind the call
+-- what is staged after the call
 abbrev pub staged_behind : Moment → List Stmt → Result Staged StoreNo → List (List Change)
 staged_behind at script (Ok staged) = with_staged at.commits at.staged (commit_of at.rows script)
 staged_behind at script (Err _) = at.staged

@@ -19,7 +19,7 @@ AreOthers inside gone others = (pid : ℕ) → times_in pid others ≡ cond (nat
 abbrev pub with_other : (others gone : List ℕ) → ℕ → List ℕ
 with_other others gone pid = cond (nat_lt 0 (times_in pid gone) || nat_lt 0 (times_in pid others)) others (others ++ pid ∷ [])
 
--- how often a child is inside behind these entries, where it was inside so often before them; a book's own entries, from
+-- how often a child is inside after these entries, where it was inside so often before them; a book's own entries, from
 -- never on, say how often it is attached
 abbrev pub times_behind : List BookEntry → ℕ → ℕ → ℕ
 times_behind entries who times = fold (times_after who) times entries

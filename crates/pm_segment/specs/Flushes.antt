@@ -14,7 +14,7 @@ use Rattle.pm_segment.specs.Moment.{Moment}
 use Rattle.pm_segment.specs.Redos.{IsBroken}
 use Rattle.pm_segment.specs.declared.live.Live.{Live}
 
--- The oldest of what was staged was written as one batch, and the log goes on behind it.
+-- The oldest of what was staged was written as one batch, and the log goes on after it.
 pub record HasWritten (before now : Moment) (its new : Live) : Type 0 where
   pub read : now.live ≡ Some new
   pub unbroken : new.log.since ≡ None
@@ -47,7 +47,7 @@ WritesNothing staged (Err _) = Unit {0}
 
 -- ---- a batch
 
--- one, or several of them, come to the log behind them, or to a fault of the disk, or to want of memory
+-- one, or several of them, come to the log after them, or to a fault of the disk, or to want of memory
 abbrev pub BatchNotes : ℕ → Result Live StoreNo → List BookEntry → Type 0
 BatchNotes pid (Ok new) entries = entries ≡ []
 BatchNotes pid (Err Disk) entries = NotesFault pid entries
@@ -61,7 +61,7 @@ BatchCause before now its (Err _) = Unit {0}
 
 -- ---- a checkpoint
 
--- behind one that was made nothing is staged
+-- after one that was made nothing is staged
 abbrev pub FlushesAll : Moment → Result Checkpointed StoreNo → Type 0
 FlushesAll now (Ok (Done epoch)) = now.staged ≡ []
 FlushesAll now _ = Unit {0}

@@ -8,7 +8,7 @@ use Rattle.pm_segment.specs.declared.commits.Commits.{Commits}
 use Rattle.pm_segment.specs.declared.live.Live.{Live}
 use Rattle.pm_segment.specs.declared.segment.Segment.{Segment}
 
--- The book where it tells, the generation, the pids of the children inside, the rows, the log behind this generation's
+-- The book where it tells, the generation, the pids of the children inside, the rows, the log after this generation's
 -- redo, whether a checkpoint was left out before that, when commits are written, and those that wait for that. Of the disk: the files as they read, what a stop may leave after
 -- so many calls, and its counts of calls and faults.
 pub record Moment : Type 1 where

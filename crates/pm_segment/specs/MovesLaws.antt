@@ -39,7 +39,7 @@ shown_later from before now le (LogFull pid script need room) shown = tt
 pub time_still : (tick : ℕ) (images : ℕ → Files → Type 0) → GoesOn tick tick images images
 time_still tick images = record { later = omega arith; past = λ t le image. (λ there. there, λ there. there) }
 
--- a base of a book is one of the book with more behind it
+-- a base of a book is one of the book with more after it
 pub base_on : (origin : Origin) (base : Base) (book more : List BookEntry) → IsBaseOf origin base book → IsBaseOf origin base (book ++ more)
 base_on origin base book more (inl breaks) = inl (breaks_on book more breaks)
 base_on origin base book more (inr means) = inr means
@@ -48,7 +48,7 @@ base_noted : (origin : Origin) (base : Base) (entries : List BookEntry) (before 
 base_noted origin base entries None now notes found = subst (λ (b : Option (List BookEntry)). IfSome b (IsBaseOf origin base)) (sym notes) tt
 base_noted origin base entries (Some book) now notes found = subst (λ (b : Option (List BookEntry)). IfSome b (IsBaseOf origin base)) (sym notes) (base_on origin base book entries found)
 
--- what has come behind its first redo stays so
+-- what has come past its first redo stays so
 pub begins_on : (origin : Origin) (entries : List BookEntry) (before now : Moment) → Added entries before.book now.book → ((base : Base) → GoesFrom origin base before → GoesFrom origin base now) → Begins origin before → Begins origin now
 begins_on origin entries before now notes goes_on begins = record {
   base = begins.base;
@@ -173,7 +173,7 @@ counts_on from first second between now later a b = record {
       (All-weaker (IsShown from between.faults) (IsShown from now.faults) (shown_later from between.faults now.faults later) first a.each) b.each;
 }
 
--- what waits for a beginning, or has begun, behind a call more
+-- what waits for a beginning, or has begun, after a call more
 pub stands_on : (origin : Origin) (second : List BookEntry) (between now : Moment) → Added second between.book now.book → (WaitsFrom origin between → WaitsFrom origin now ⊎ Begins origin now)
     → ((base : Base) → GoesFrom origin base between → GoesFrom origin base now) → WaitsFrom origin between ⊎ Begins origin between → WaitsFrom origin now ⊎ Begins origin now
 stands_on origin second between now notes waits_on goes_on (inl waits) = waits_on waits

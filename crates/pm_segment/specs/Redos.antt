@@ -17,7 +17,7 @@ use Rattle.pm_segment.specs.Fronts.{whole_of}
 use Rattle.pm_segment.specs.Moment.{Moment}
 use Rattle.pm_segment.specs.declared.live.Live.{Live}
 
--- the log goes on behind a redo
+-- the log goes on after a redo
 abbrev pub IsRead : Option Live → Type 0
 IsRead live = (its : Live) × (live ≡ Some its)
 
@@ -28,7 +28,7 @@ pub record IsDue (live : Option Live) (clean : Bool) : Type 0 where
   pub unbroken : its.log.since ≡ None
   pub due : (clean ≡ true) ⊎ (due_bytes ≤ its.log.end - its.log.base_end)
 
--- it goes on, and isn't, with so many bytes behind its base
+-- it goes on, and isn't, with so many bytes after its base
 pub record IsNotDue (live : Option Live) (clean : Bool) (behind : ℕ) : Type 0 where
   pub its : Live
   pub read : live ≡ Some its
@@ -92,7 +92,7 @@ SaysNothing reasons.Disk = Unit {0}
 SaysNothing reasons.NoMemory = Unit {0}
 SaysNothing _ = ⊥
 
--- The files stand for these rows after all commits, in this epoch: a base with nothing behind it, clean or not.
+-- The files stand for these rows after all commits, in this epoch: a base with nothing after it, clean or not.
 pub record StandsAfresh (epoch : ℕ) (clean : Bool) (its : Live) (rows : RowMap) (files : Files) : Type 0 where
   pub content : Content
   pub stands : StandsFor (file_of files its.log.file) content its.log.end
@@ -102,7 +102,7 @@ pub record StandsAfresh (epoch : ℕ) (clean : Bool) (its : Live) (rows : RowMap
   pub no_batch : content.batches ≡ []
   pub is : standing_of content ≡ record { rows = rows; count = whole_of its }
 
--- so the log goes on behind a checkpoint
+-- so the log goes on after a checkpoint
 abbrev pub IsAfreshAt : (epoch : ℕ) → (clean : Bool) → Option Live → RowMap → Option Files → Type 0
 IsAfreshAt epoch clean live rows seen =
     (its : Live) × (live ≡ Some its) × (its.log.since ≡ None) × (its.log.epoch ≡ epoch) × IfSome seen (λ files. ∥ StandsAfresh epoch clean its rows files ∥₁)
@@ -110,11 +110,11 @@ IsAfreshAt epoch clean live rows seen =
 abbrev pub IsCleanAt : ℕ → Option Live → RowMap → Option Files → Type 0
 IsCleanAt epoch live rows seen = IsAfreshAt epoch true live rows seen
 
--- so it does behind one that was made
+-- so it does after one that was made
 abbrev pub MadeAfresh : Bool → Moment → Result Checkpointed StoreNo → Type 0
 MadeAfresh clean at result = (epoch : ℕ) → result ≡ Ok (Done epoch) → IsAfreshAt epoch clean at.live at.rows at.files
 
--- The log stands in its last epoch, behind which there is none.
+-- The log stands in its last epoch, after which there is none.
 pub record IsAtLastEpoch (files : Files) : Type 0 where
   pub file : Which
   pub content : Content

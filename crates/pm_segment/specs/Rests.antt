@@ -9,12 +9,12 @@ use Rattle.pm_record.specs.StandsFor.{Content, standing_of}
 use Rattle.pm_log.specs.Log.{Lives}
 use Rattle.pm_segment.specs.declared.live.Live.{Live}
 
--- a clean base, and nothing behind it
+-- a clean base, and nothing after it
 pub record IsClean (content : Content) : Type 0 where
   pub clean : content.clean ≡ true
   pub bare : content.batches ≡ []
 
--- The log lives with a content, and the rows are its rows with the staged commits behind it, each of which keeps the
+-- The log lives with a content, and the rows are its rows with the staged commits after it, each of which keeps the
 -- limits. From a clean checkpoint on the content is clean, and nothing is staged.
 pub record HasRows (live : Live) (rows : RowMap) (staged : List (List Change)) (files : Files) (images : Files → Type 0) : Type 0 where
   pub content : Content
@@ -23,7 +23,7 @@ pub record HasRows (live : Live) (rows : RowMap) (staged : List (List Change)) (
   pub limits : (n : ℕ) → n ≤ length staged → IsWithinRowLimits (folded (standing_of content).rows (take n staged))
   pub closed : live.closed ≡ true → IsClean content × (staged ≡ [])
 
--- So it is behind a redo, up to a fault of the disk, where the disk tells its files.
+-- So it is after a redo, up to a fault of the disk, where the disk tells its files.
 abbrev pub Rests : Option Live → RowMap → List (List Change) → Option Files → (Files → Type 0) → Type 0
 Rests None rows staged seen images = Unit {0}
 Rests (Some live) rows staged seen images = live.log.since ≡ None → IfSome seen (λ files. HasRows live rows staged files images)

@@ -14,7 +14,7 @@ use Rattle.pm_segment.specs.Moment.{Moment}
 use Rattle.pm_segment.specs.Redos.{IsCleanAt, SaysNothing}
 use Rattle.pm_segment.specs.Stands.{Origin}
 
--- The book is legal from its base. Behind a redo of this generation the rows are those of all its commits, and so many were
+-- The book is legal from its base. After a redo of this generation the rows are those of all its commits, and so many were
 -- taken while the disk hasn't failed.
 pub record IsReplay (base : Base) (at : Moment) (book : List BookEntry) : Type 0 where
   pub legal : IsLegal base book
@@ -34,7 +34,7 @@ pub record LeavesAcknowledged (base : Base) (at : Moment) (book : List BookEntry
 abbrev pub CanBeRead : Moment → Type 0
 CanBeRead at = IfSome at.files (λ files. (reason : RedoFault) → IsReason reason files → SaysNothing reason)
 
--- Where the book says that the log was left clean, and no fault of the disk is behind the generation's redo, the log still
+-- Where the book says that the log was left clean, and no fault of the disk is after the generation's redo, the log still
 -- stands afresh in the files, clean, for all its rows.
 abbrev pub StaysClean : Moment → List BookEntry → Type 0
 StaysClean at book = is_closed book ≡ true → faults_here book ≡ Some [] → (epoch : ℕ) × IsCleanAt epoch at.live at.rows at.files

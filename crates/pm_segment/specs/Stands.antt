@@ -64,9 +64,9 @@ pub record HasWaited (origin : Origin) (at : Moment) (book : List BookEntry) : T
   pub reached : origin.tick ≤ at.ticks
   pub reads : (has_break book ≡ true) ⊎ (at.files ≡ origin.files)
 
--- ---- behind it
+-- ---- after it
 
--- no fault is behind the redo while the log goes on, and else the one that broke it is among them
+-- no fault is after the redo while the log goes on, and else the one that broke it is among them
 abbrev pub TellsBreak : Option ℕ → ℕ → Option (List (ℕ × ℕ)) → Type 0
 TellsBreak None count here = here ≡ Some []
 TellsBreak (Some since) count here = (first : ℕ × ℕ) × (rest : List (ℕ × ℕ)) × (here ≡ Some (first ∷ rest)) × Contains (first ∷ rest) (since, count)
@@ -81,7 +81,7 @@ abbrev pub most_bytes : Base → List BookEntry → ℕ
 most_bytes base book = base.bytes + 1024 + needs_of book
 
 -- The book is legal from its base, and rows and log are its replay: the rows with all of its commits, the log with those up
--- to the flushed number, and those behind that are staged.
+-- to the flushed number, and those after that are staged.
 pub record HasGone (base : Base) (at : Moment) (live : Live) (book : List BookEntry) : Type 0 where
   pub read : at.live ≡ Some live
   pub legal : IsLegal base book
@@ -104,7 +104,7 @@ pub record HasGone (base : Base) (at : Moment) (live : Live) (book : List BookEn
   pub marked : live.mark ≤ at.ticks
   pub counted : CountsFaults base.faults at.faults book
 
--- It has come into a later generation behind its first redo, and its log isn't read there yet. The book is legal from its
+-- It has come into a later generation after its first redo, and its log isn't read there yet. The book is legal from its
 -- base.
 pub record HasRenewed (base : Base) (at : Moment) (book : List BookEntry) : Type 0 where
   pub unread : at.live ≡ None
@@ -121,7 +121,7 @@ pub record HasRenewed (base : Base) (at : Moment) (book : List BookEntry) : Type
   pub in_time : last_tick book ≤ at.ticks
   pub counted : CountsFaults base.faults at.faults book
 
--- behind its first redo, in this generation or an earlier one
+-- after its first redo, in this generation or an earlier one
 abbrev pub HasBegun : Base → Moment → List BookEntry → Type 0
 HasBegun base at book = ((live : Live) × HasGone base at live book) ⊎ HasRenewed base at book
 
@@ -160,7 +160,7 @@ pub record HasHeld (origin : Origin) (base : Base) (at : Moment) (book : List Bo
 abbrev pub WaitsFrom : Origin → Moment → Type 0
 WaitsFrom origin at = IfSome at.book (HasWaited origin at) × Told at (λ book. IsOpening origin at.ticks at.images)
 
--- behind it, with what it found for its base
+-- after it, with what it found for its base
 abbrev pub GoesFrom : Origin → Base → Moment → Type 0
 GoesFrom origin base at = IfSome at.book (λ book. IsSure at → HasBegun base at book) × Told at (HasHeld origin base at)
 
@@ -170,7 +170,7 @@ abbrev pub IsBaseOf : Origin → Base → List BookEntry → Type 0
 IsBaseOf origin base book =
     (breaks_unread book ≡ true) ⊎ IfSome origin.files (λ files. MeansIn files (standing_of base) base.bytes)
 
--- it has come behind its first redo
+-- it has come past its first redo
 pub record Begins (origin : Origin) (at : Moment) : Type 0 where
   pub base : Base
   pub faults : base.faults ≡ origin.faults

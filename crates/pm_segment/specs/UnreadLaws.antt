@@ -21,7 +21,7 @@ break_before first second some = list_any-append is_break first second ∙ or_le
 pub break_behind : (first second : List BookEntry) → has_break second ≡ true → has_break (first ++ second) ≡ true
 break_behind first second some = list_any-append is_break first second ∙ or_right (has_break first) (has_break second) some
 
--- what failed before the first redo has failed before it, whatever comes behind
+-- what failed before the first redo has failed before it, whatever comes after
 pub breaks_on : (book more : List BookEntry) → breaks_unread book ≡ true → breaks_unread (book ++ more) ≡ true
 breaks_on [] more breaks = absurd (cc)
 breaks_on (Redone pid generation kept ∷ book) more breaks = absurd (cc)

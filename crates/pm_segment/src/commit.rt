@@ -50,7 +50,7 @@ impl<D: Disk, B: Chronicle<BookEntry>> Segment<D, B> {
         answer(&mut self.book, pass, ran, live.front, live.mark)
     }
 
-    // Takes the commit of a script, and answers. Behind a clean checkpoint, and behind the last number, it is refused.
+    // Takes the commit of a script, and answers. After a clean checkpoint, and after the last number, it is refused.
     pub(crate) fn write(&mut self, pass: &mut Pass, live: Live, ran: Ran) -> Result<Staged, StoreNo>
         requires admits { Admits pass.old (moment self.old) }
         requires room { length self.old.inside + 2 ≤ B.spare self.old.book }
@@ -85,7 +85,7 @@ impl<D: Disk, B: Chronicle<BookEntry>> Segment<D, B> {
         }
     }
 
-    // Refuses a commit behind the last number.
+    // Refuses a commit after the last number.
     fn refuse_spent(&mut self, pass: Pass, live: Live, ran: Ran) -> StoreNo
         requires admits { Admits pass (moment self.old) }
         requires room { length self.old.inside + 2 ≤ B.spare self.old.book }

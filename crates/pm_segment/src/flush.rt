@@ -9,7 +9,7 @@ use pm_log::LogFault;
 use pm_outside::Chronicle;
 use pm_query::{BookEntry, Checkpointed, StoreNo};
 
-/// How many bytes a commit of its own needs beside those that it needs in a batch behind others.
+/// How many bytes a commit of its own needs beside those that it needs in a batch after others.
 const ALONE: u64 = 9;
 
 impl<D: Disk, B: Chronicle<BookEntry>> Segment<D, B> {
@@ -22,7 +22,7 @@ impl<D: Disk, B: Chronicle<BookEntry>> Segment<D, B> {
     ghost use Rattle.pm_segment.specs.Passes.{Admits, user_in};
     ghost use Rattle.pm_segment.specs.Redos.{CheckpointCause, FullAtLast, MadeAfresh, MakesCalls};
 
-    // Appends the oldest of what is staged, as one batch, and answers the log behind it.
+    // Appends the oldest of what is staged, as one batch, and answers the log after it.
     pub(crate) fn write_batch(&mut self, pass: &Pass, live: Live) -> Result<Live, StoreNo>
         requires admits { Admits pass.now (moment self.old) }
         requires room { length self.old.inside + 1 ≤ B.spare self.old.book }
@@ -68,7 +68,7 @@ impl<D: Disk, B: Chronicle<BookEntry>> Segment<D, B> {
         }
     }
 
-    // Writes all that is staged, batch by batch, and answers the log behind it.
+    // Writes all that is staged, batch by batch, and answers the log after it.
     fn write_all(&mut self, pass: &Pass, live: Live) -> Result<Live, StoreNo>
         requires admits { Admits pass.now (moment self.old) }
         requires room { length self.old.inside + 1 ≤ B.spare self.old.book }

@@ -15,11 +15,11 @@ impl<D: Disk, B: Chronicle<BookEntry>> Segment<D, B> {
     ghost use Rattle.pm_segment.specs.Waits.{needs_alone};
     ghost use Rattle.pm_segment.specs.Stands.{GoesFrom, IsSure, Origin};
 
-    /// The law of a store behind its first redo, in whichever generation. Where book and disk tell, and in the first
-    /// generation wherever the book tells, the book is legal from its base; behind a redo of the generation rows and log
+    /// The law of a store after its first redo, in whichever generation. Where book and disk tell, and in the first
+    /// generation wherever the book tells, the book is legal from its base; after a redo of the generation rows and log
     /// are its replay, the latter up to a fault of the disk. Where both tell, at every tick since the store got the disk a
     /// stop leaves what a durable run leaves; the files as they read, and whatever a stop leaves now, hold every
-    /// acknowledged commit, also behind such a fault.
+    /// acknowledged commit, also after such a fault.
     pub fn keeps_its_run(&self)
         ensures replay { (origin : Origin) (base : Base) → GoesFrom origin base (moment self.now)
             → IfSome (moment self.now).book (λ book. IsSure (moment self.now)
@@ -47,7 +47,7 @@ impl<D: Disk, B: Chronicle<BookEntry>> Segment<D, B> {
     }
 
     /// The law of a clean log, in whichever generation. Where the book tells that a checkpoint of the generation has left the
-    /// log clean, it stays so while the disk doesn't fail: the files stand for all rows, clean, with no commit behind them.
+    /// log clean, it stays so while the disk doesn't fail: the files stand for all rows, clean, with no commit after them.
     pub fn stays_clean(&self)
         ensures { (origin : Origin) (base : Base) → GoesFrom origin base (moment self.now)
             → IfSome (moment self.now).book (λ book. IsSure (moment self.now)
@@ -56,7 +56,7 @@ impl<D: Disk, B: Chronicle<BookEntry>> Segment<D, B> {
         let _disk = &self.disk;
     }
 
-    /// The law of the files of a store behind its first redo, in whichever generation. Where book and disk tell, a redo of
+    /// The law of the files of a store after its first redo, in whichever generation. Where book and disk tell, a redo of
     /// the files as they read finds neither want of a cluster, nor damage, nor one epoch twice: it is refused by a fault of
     /// the disk, or for want of memory, alone.
     pub fn reads_its_files(&self)

@@ -2,7 +2,7 @@
 
 use pm_log::Log;
 
-/// The log behind a generation's redo.
+/// The log after a generation's redo.
 #[derive(Clone, Copy, Debug, PartialEq, Eq)]
 pub struct Live {
     pub log: Log,
@@ -10,7 +10,7 @@ pub struct Live {
     pub kept: u64,
     /// The epoch in which the redo has found it.
     pub epoch: u64,
-    /// The disk's count of faults behind the one that broke the log, and 0 before.
+    /// The disk's count of faults after the one that broke the log, and 0 before.
     pub faults: u64,
     /// Whether a clean checkpoint was made. Then nothing more is committed.
     pub closed: bool,

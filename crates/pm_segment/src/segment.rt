@@ -2,7 +2,7 @@
 //!
 //! `run` either appends its commit to the log before it answers, so that what a pass has seen is flushed already, or stages it
 //! without a call of the disk, until a flush. All memory that a call takes for that is taken before its first call of the disk,
-//! and its entries are noted behind it, so that each call of the disk has its entry.
+//! and its entries are noted after it, so that each call of the disk has its entry.
 
 ghost use Rattle.std.specs.Prelude.{◌≡◌, ◌≤◌, [], length};
 ghost use Rattle.pm_rows.specs.Limits.{IsWithinRowLimits};

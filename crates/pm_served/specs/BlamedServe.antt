@@ -21,7 +21,7 @@ use Rattle.pm_postmaster.specs.Served.{IsServed, manner_by, slots_by}
 use Rattle.pm_postmaster.specs.Serving.{EndsWith, IsEndBehind}
 use Rattle.pm_served.specs.PromisedServe.{journal_in}
 
--- it ended as behind a crash
+-- it ended as after a crash
 abbrev pub IsAfterCrash : ServerEnd → Type 0
 IsAfterCrash end = (end ≡ Abnormal AfterCrash) ⊎ (end ≡ Abnormal RestartOff)
 

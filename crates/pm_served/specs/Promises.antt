@@ -20,7 +20,7 @@ pub record Crew : Type 0 where
   pub seed : List ℕ
   pub runs : ℕ → List Run
 
--- The connections that the worker of each slot served, one behind the other, as their clients saw them: each reply is right.
+-- The connections that the worker of each slot served, one after the other, as their clients saw them: each reply is right.
 abbrev pub AllAnswersAreRight : Base → List BookEntry → Crew → Type 0
 AllAnswersAreRight base book crew =
     (k : ℕ) → k < crew.count → (talks : List Talk) × AreTalksOf crew.seed (crew.runs k) talks × AnswersAreRight (history_of base book) talks

@@ -76,7 +76,7 @@ IsCausedBy (Abnormal RestartOff) book before now = Rose before.disk.faults now.d
 IsCausedBy (Abnormal GenerationsSpent) book before now = Rose before.disk.faults now.disk.faults
 IsCausedBy _ book before now = Unit {0}
 
--- The disk hasn't failed, a redo reads the files that were handed in, and those that are left stand in an epoch behind which
+-- The disk hasn't failed, a redo reads the files that were handed in, and those that are left stand in an epoch after which
 -- there is another.
 pub record IsSound (before now : DiskView) : Type 0 where
   pub unfailed : ¬ (Rose before.faults now.faults)
@@ -112,7 +112,7 @@ IsKnownAt NoMemory from at = Unit {0}
 
 -- ---- what is told
 
--- the line of an end, behind those of the journal
+-- the line of an end, after those of the journal
 abbrev pub end_line : ServerEnd → List ℕ
 end_line Clean = []
 end_line (Abnormal AfterCrash) = []

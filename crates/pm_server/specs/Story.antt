@@ -1,4 +1,4 @@
--- What a run of a server leaves in its two files, behind whatever crash cycles.
+-- What a run of a server leaves in its two files, after whatever crash cycles.
 use Rattle.std.specs.Prelude.{◌≡◌, ◌⊎◌, ℕ, ◌≤◌, true, List, [], ◌∷◌, Option, Some, IfSome}
 use Rattle.std.specs.List.{AllByRecursion}
 use Rattle.pm_disk.specs.Files.{Files}
@@ -34,7 +34,7 @@ pub record KeepsMeaning (book : List BookEntry) (before now : DiskView) : Type 0
   pub keeps : IfSome now.files (λ _. (t : ℕ) → before.ticks ≤ t → t ≤ now.ticks
       → (image : Files) → now.images t image → MeansAsOne Means (before.images before.ticks) image)
 
--- ---- behind it
+-- ---- after it
 
 -- The base is what the files meant that were handed in, and so many bytes, where they are told, unless a fault of the disk
 -- stands in the book before its first redo. Where it tells its files at the end, at every tick whatever a stop leaves means a
@@ -43,7 +43,7 @@ pub record HoldsHistory (base : Base) (book : List BookEntry) (before now : Disk
   pub base_is : (breaks_unread book ≡ true) ⊎ IfSome before.files (λ files. MeansIn files (base_standing base) base.bytes)
   pub durable : IfSome now.files (λ _. IsDurable Means base book before.ticks now.ticks before.images now.images)
 
--- The files mean all commits of the history, and the log is clean: it says so, and no batch stands behind its base.
+-- The files mean all commits of the history, and the log is clean: it says so, and no batch stands after its base.
 pub record IsClean (history : History) (files : Files) : Type 0 where
   pub file : Which
   pub content : Content
@@ -69,7 +69,7 @@ abbrev pub IsSure : List BookEntry → Option Files → Type 0
 IsSure book files = HasOneGeneration book ⊎ ((its : Files) × (files ≡ Some its))
 
 -- What a run leaves that was handed an empty book: a book that is legal from a base, and files that at every tick hold its
--- history from its first redo on, and before it mean what they meant. Behind a clean end they stand for all its commits, and so
+-- history from its first redo on, and before it mean what they meant. After a clean end they stand for all its commits, and so
 -- does whatever a stop leaves.
 pub record IsStory (end : ServerEnd) (before now : DiskView) (book : List BookEntry) : Type 0 where
   pub base : Base

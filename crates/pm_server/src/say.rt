@@ -7,7 +7,7 @@ use crate::end::{ServerEnd, StartWhy, Why};
 use pm_lines::Log;
 use pm_outside::Sink;
 
-/// Writes the line of an end that has one behind those of the journal, unless the sink has failed.
+/// Writes the line of an end that has one after those of the journal, unless the sink has failed.
 pub fn say_end<O: Sink>(log: &mut Log<O>, end: ServerEnd)
     ensures { Says (end_line end) (view_of log.old) (view_of log.new) }
 {

@@ -34,7 +34,7 @@ use Rattle.pm_session.specs.Session.{Ending, AllNotes, AskInTurn, CausedBy, Ends
 use Rattle.pm_exchange.specs.Queries.{IsCancelledTurn, TurnNotes}
 use Rattle.pm_session.specs.Complete.{IsProper, AllProper, IsRun, AllRun, EndsForStore, Begins, EachQueryIsAnswered}
 
--- ---- what stands behind an opening
+-- ---- what stands after an opening
 
 abbrev pub PrefixFree : Type 0
 PrefixFree = (a b x y : List ℕ) (v w : Result Content StartFault) → Decides a v → Decides b w → a ++ x ≡ b ++ y → (a ≡ b) × (v ≡ w)

@@ -1,4 +1,4 @@
--- Queries one behind the other, up to the end of a session.
+-- Queries one after the other, up to the end of a session.
 use Rattle.std.proofs.Common.{◌≡◌, inl, inr, ℕ, zero, suc, ◌+◌, List, [], ◌∷◌, ◌++◌, length, Option, None, Result, Ok, Err, OnOk, refl, sym, ◌∙◌, ap, subst, arith, append_assoc, length-append}
 use Rattle.std.specs.List.{flat_map, Contains}
 use Rattle.std.proofs.lemmas.Grind.{flat_map-append}
@@ -85,7 +85,7 @@ input_then before came between more now texts more_texts one two =
     ∙ ap (λ (l : List ℕ). flat_map query_bytes texts ++ l) two ∙ sym (append_assoc (flat_map query_bytes texts) (flat_map query_bytes more_texts) now)
     ∙ ap (λ (l : List ℕ). l ++ now) (sym (flat_map-append query_bytes texts more_texts))
 
--- ---- queries one behind the other
+-- ---- queries one after the other
 
 read_then : (pid : ℕ) (texts more_texts : List (List ℕ)) (turns more_turns : List Turn) (asked : List BookEntry) → AllNotes pid texts turns asked → AllRead texts turns → AllRead more_texts more_turns → AllRead (texts ++ more_texts) (turns ++ more_turns)
 read_then pid [] more_texts [] more_turns asked each one two = two

@@ -1,4 +1,4 @@
--- Messages that are said one behind the other.
+-- Messages that are said one after the other.
 use Rattle.std.proofs.Common.{◌≡◌, ℕ, ℤ, ◌+◌, ◌^◌, FitsSigned, w64, ◌≤◌, List, [], ◌∷◌, ◌++◌, length, take, drop, suc, map, get_or, Result, Ok, Err, IfErr, refl, sym, ◌∙◌, ap, subst, arith, append_assoc, ◌<◌, take-append-drop, drop-cons, false}
 use Rattle.std.specs.List.{flat_map}
 use Rattle.std.proofs.lemmas.Grind.{flat_map-append}
@@ -73,7 +73,7 @@ says_none at = record {
   holds = λ sound. sound;
 }
 
--- more, behind what was said
+-- more, after what was said
 pub says_then : (result : Result (Unit {0}) Cause) (first second : List BackMessage) (before between now : Desk) → Says (Ok tt) first before between → Says result second between now → Says result (first ++ second) before now
 says_then result first second before between now one two = record {
   went = one.went ++ two.went;
@@ -91,7 +91,7 @@ says_then result first second before between now one two = record {
   holds = holds_then false result before.link between.link now.link one.holds two.holds;
 }
 
--- sending was broken off, and what was to be said behind it is missing too
+-- sending was broken off, and what was to be said after it is missing too
 pub says_cut : (cause : Cause) (first second : List BackMessage) (before now : Desk) → Says (Err cause) first before now → Says (Err cause) (first ++ second) before now
 says_cut cause first second before now one = record {
   went = one.went;
@@ -111,7 +111,7 @@ says_cut cause first second before now one = record {
 pub says_stopped : (cause : Cause) (first second third : List BackMessage) (before between now : Desk) → Says (Ok tt) first before between → Says (Err cause) second between now → Says (Err cause) (first ++ (second ++ third)) before now
 says_stopped cause first second third before between now one two = says_then (Err cause) first (second ++ third) before between now one (says_cut cause second third between now two)
 
--- one message stands in the outbox behind what stood there
+-- one message stands in the outbox after what stood there
 pub says_put : (m : BackMessage) (link : LinkView) (child : Attention) (before now : Outgoing) → now.bytes ≡ before.bytes ++ spelling m → before.capacity ≤ now.capacity → Says (Ok tt) (m ∷ []) (desk link before child) (desk link now child)
 says_put m link child before now is room = record {
   went = [];
@@ -203,7 +203,7 @@ says_stopped_items cause behind xs i d before between now lt one two =
 pub said_as : (result : Result (Unit {0}) Cause) (m n : BackMessage) (before now : Desk) → m ≡ n → Says result (m ∷ []) before now → Says result (n ∷ []) before now
 said_as result m n before now same says = subst (λ (one : BackMessage). Says result (one ∷ []) before now) same says
 
--- nothing behind what was said
+-- nothing after what was said
 pub says_no_more : (result : Result (Unit {0}) Cause) (messages : List BackMessage) (before between now : Desk) → Says (Ok tt) messages before between → Says result [] between now → Says result messages before now
 says_no_more result messages before between now one two = subst (λ (ms : List BackMessage). Says result ms before now) (append-nil messages) (says_then result messages [] before between now one two)
 

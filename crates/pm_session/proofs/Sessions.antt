@@ -48,7 +48,7 @@ use Rattle.pm_session.proofs.Said.{shows_since}
 use Rattle.pm_session.proofs.Conversing.{nothing_yet}
 use Rattle.pm_session.proofs.Entries.{enters_not, no_packet_yet}
 
--- ---- two texts, one behind the other
+-- ---- two texts, one after the other
 
 both_nil : (xs ys : List ℕ) → [] ≡ xs ++ ys → (xs ≡ []) × (ys ≡ [])
 both_nil [] ys e = (refl, sym e)
@@ -326,7 +326,7 @@ told_away notes decision user key generation gives cause ending link0 link2 unre
 
 -- ---- a session that was greeted
 
--- What passed behind the greeting's beginning, but for the last words.
+-- What passed after the greeting's beginning, but for the last words.
 pub record Talked {S : Type 0} (notes : List BookEntry → S → S → Type 0) (gives : ℕ → Type 0) (user : User) (key : ℕ) (cause : Cause) (before now : Moment S) : Type 0 where
   pub texts : List (List ℕ)
   pub turns : List Turn
@@ -489,7 +489,7 @@ ends_at user cause ends last beyond ended at here over (inr told) =
     let end = told_end user ends ended at (last ++ beyond) told.1 (quiet_end user cause last ended told.0 here) in
     ([], last ++ beyond, end.0, refl, end.1)
 
--- behind what was broken off nothing is said
+-- after what was broken off nothing is said
 cut_last : (decision : Cac) (stage : Stage) (cause ends : Cause) (at : Attention) → CutsOff cause → EndsBy cause ends at → (bytes_of (last_of decision stage ends) ≡ []) × CutsOff ends
 cut_last decision stage Terminated ends at cuts by = absurd cuts
 cut_last decision stage Cancelling ends at cuts by = absurd cuts
@@ -850,7 +850,7 @@ none_slept : (gives : ℕ → Type 0) (traffic : Option Traffic) → IfSome traf
 none_slept gives None = tt
 none_slept gives (Some t) = tt
 
--- what came in behind the startup packet tells the sleeps of all that came in
+-- what came in after the startup packet tells the sleeps of all that came in
 came_slept : (gives : ℕ → Type 0) (requests : List (List ℕ)) (phase : Phase) (packet came : List ℕ) (turns : List Turn) (texts : List (List ℕ)) (beyond : List ℕ) → AskInTurn first_phase requests phase → IsStart packet
     → AllSleep gives texts turns → came ≡ flat_map query_bytes texts ++ beyond → HasSlept gives turns (flat_map (λ p. p) requests ++ packet ++ came)
 came_slept gives requests phase packet came [] texts beyond asks start slept queries = tt

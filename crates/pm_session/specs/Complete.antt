@@ -63,7 +63,7 @@ pub record IsUndisturbed (generation : ℕ) (told : Told) (faults_before faults_
   pub given : told.given ≡ []
   pub sound : ¬ (Rose faults_before faults_now)
 
--- What came in is an opening, and behind it these queries, whatever is behind them.
+-- What came in is an opening, and after it these queries, whatever is after them.
 pub record Begins (texts : List (List ℕ)) (came_in : List ℕ) : Type 0 where
   pub opening : List ℕ
   pub beyond : List ℕ

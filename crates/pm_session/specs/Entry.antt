@@ -52,7 +52,7 @@ pub record Asked (phase : Phase) (before now : Moment (Unit {0})) : Type 0 where
   pub hears : Hears 0 before.child now.child
   pub holds : IsSound false before.link.traffic → IsSound false now.link.traffic
 
--- behind the requests this packet starts the session, or it goes no further
+-- after the requests this packet starts the session, or it goes no further
 abbrev pub GoesOn : Result (Unit {0}) Cause → Phase → (last beyond missing : List ℕ) → (before now : Moment (Unit {0})) → Type 0
 GoesOn (Ok done) phase last beyond missing before now = IsStart last × (beyond ≡ now.unread) × (missing ≡ [])
 GoesOn (Err cause) phase last beyond missing before now =
@@ -131,7 +131,7 @@ pub record Closes (decision : Cac) (cause : Cause) (ending : Ending) (before now
 abbrev pub ClosesBy : Cac → Stage → Cause → (exit : Cause) → (before now : Moment (Unit {0})) → Type 0
 ClosesBy decision stage cause exit before now = (ending : Ending) × (ending.stage ≡ stage) × (ending.exit ≡ exit) × Closes decision cause ending before now
 
--- ---- behind the startup packet
+-- ---- after the startup packet
 
 -- With any requests for encryption and any startup packet before it, this makes the text of a session.
 abbrev pub IsTextBehind : Cac → User → ℕ → Ending → List Turn → (came whole : List ℕ) → List BookEntry → Type 0
@@ -186,7 +186,7 @@ module _ {S P : Type 0} (its : Store.Ghosts S P) where
       × Serves its.notes (IsTextBehind decisions.Ok (newcomer (its.stamp before.store) before.child.child.pid generation) key) decisions.Ok generation gives ending before now
       × IsInside ending.stage
 
-  -- behind the startup packet
+  -- after the startup packet
   abbrev pub Admitted : Admission → (gives : ℕ → Type 0) → (exit : Cause) → (before now : Moment S) → Type 0
   Admitted admission gives exit before now =
       (ending : Ending) × (generation : ℕ) × (ending.exit ≡ exit) × IsAttachedBehind ending generation now.child.child

@@ -8,7 +8,7 @@ use Rattle.pm_exchange.specs.Queries.{IsReadAs}
 
 -- ---- signals
 
--- a signal behind which a session comes to its end
+-- a signal after which a session comes to its end
 abbrev pub IsEnding : Signal → Type 0
 IsEnding Kill = Unit {0}
 IsEnding (Quit reason) = Unit {0}
@@ -16,7 +16,7 @@ IsEnding Terminate = Unit {0}
 IsEnding Cancel = ⊥
 IsEnding Checkpoint = ⊥
 
--- A turn began behind one ask and was over behind another. Up to its beginning nothing was given that ends the session, and
+-- A turn began after one ask and was over after another. Up to its beginning nothing was given that ends the session, and
 -- a cancelled one was given its cancel at an ask of its own.
 pub record TurnHeeds (turn : Turn) (from began over : ℕ) (given : List (ℕ × Signal)) : Type 0 where
   pub later : next_ask from ≤ began
@@ -24,7 +24,7 @@ pub record TurnHeeds (turn : Turn) (from began over : ℕ) (given : List (ℕ ×
   pub unended : (ask : ℕ) (signal : Signal) → IsEnding signal → Contains given (ask, signal) → next_ask began ≤ ask
   pub cancelled : turn ≡ Cancelled → (ask : ℕ) × Contains given (ask, Cancel) × (next_ask began ≤ ask) × IsBy ask over
 
--- the turns one behind the other, each between asks of its own, of the signals that were given at these asks
+-- the turns one after the other, each between asks of its own, of the signals that were given at these asks
 abbrev pub TurnsHeed : (from : ℕ) → List Turn → (to : ℕ) → List (ℕ × Signal) → Type 0
 TurnsHeed from [] to given = IsBy from to
 TurnsHeed from (turn ∷ turns) to given = (began : ℕ) × (over : ℕ) × TurnHeeds turn from began over given × TurnsHeed over turns to given

@@ -86,7 +86,7 @@ AskInTurn before (packet ∷ packets) now =
 abbrev pub first_phase : Phase
 first_phase = record { ssl_used = false; gss_used = false }
 
--- a packet that is refused behind those requests
+-- a packet that is refused after those requests
 abbrev pub IsRefusedPacket : Phase → List ℕ → StartFault → Type 0
 IsRefusedPacket phase packet fault =
     Decides packet (Err fault) ⊎ ((content : Content) × Decides packet (Ok content) × (step_of phase content ≡ Refuse fault))
@@ -94,7 +94,7 @@ IsRefusedPacket phase packet fault =
 abbrev pub IsStart : List ℕ → Type 0
 IsStart packet = (user : List ℕ) × Decides packet (Ok (startup user))
 
--- the packet behind the requests, at an ending before the greeting
+-- the packet after the requests, at an ending before the greeting
 abbrev pub StopsAt : Phase → Cause → List ℕ → Type 0
 StopsAt phase Terminated last = ⊥
 StopsAt phase Cancelling last = (pid : ℕ) × (key : ℕ) × Decides last (Ok (cancel_request pid key))
@@ -117,7 +117,7 @@ abbrev pub TurnsAway : User → Stage → Phase → Cause → List ℕ → Type 
 TurnsAway user stage phase Overtaken last = (stage ≡ Entering) × MayBeOver user × IsStart last
 TurnsAway user stage phase cause last = StopsAt phase cause last
 
--- ---- what came in behind the greeting
+-- ---- what came in after the greeting
 
 abbrev pub IsRefusedMessage : MessageFault → List ℕ → Type 0
 IsRefusedMessage (BadLength seen) last = IsBadHeader last seen
@@ -134,7 +134,7 @@ BreaksOff pid last noted = (text : List ℕ) × (last ≡ query_bytes text) × I
 abbrev pub StopsInside : ℕ → List ℕ → List BookEntry → Type 0
 StopsInside pid last noted = (IsNoMessageYet last × (noted ≡ [])) ⊎ BreaksOff pid last noted
 
--- the last bytes behind the queries that were answered, and what is noted for them
+-- the last bytes after the queries that were answered, and what is noted for them
 abbrev pub EndsAt : User → Cause → List ℕ → List BookEntry → Type 0
 EndsAt user Terminated last noted = (last ≡ message (codes "X") []) × (noted ≡ [])
 EndsAt user Cancelling last noted = ⊥
@@ -165,7 +165,7 @@ NotesOutside user Entering cause noted =
     (noted ≡ []) ⊎ ((left : List BookEntry) × (noted ≡ Attached user.pid user.generation ∷ left) × Leaves user cause left)
 NotesOutside user Greeted cause noted = ⊥
 
--- Bytes that were read together with what ended the session are passed over; behind the link's end, and at the limit of
+-- Bytes that were read together with what ended the session are passed over; after the link's end, and at the limit of
 -- time, there are none.
 abbrev pub MayPassOver : Cause → List ℕ → Type 0
 MayPassOver LinkEnded beyond = beyond ≡ []
@@ -177,7 +177,7 @@ abbrev pub IsAdmitted : Stage → Cac → Type 0
 IsAdmitted Outside decision = Unit {0}
 IsAdmitted _ decision = decision ≡ decisions.Ok
 
--- it goes to the gate behind a whole startup packet alone
+-- it goes to the gate only after a whole startup packet
 abbrev pub IsBehindStart : Stage → List ℕ → Type 0
 IsBehindStart Outside last = Unit {0}
 IsBehindStart _ last = IsStart last
@@ -266,7 +266,7 @@ AllSleep gives (text ∷ texts) (turn ∷ turns) = IsFront (query_bytes text) (Q
 AllSleep gives [] (turn ∷ turns) = ⊥
 AllSleep gives (text ∷ texts) [] = ⊥
 
--- So have the queries behind the startup packet, one for each turn.
+-- So have the queries after the startup packet, one for each turn.
 pub record QueriesSlept (gives : ℕ → Type 0) (turns : List Turn) (came_in : List ℕ) : Type 0 where
   pub requests : List (List ℕ)
   pub phase : Phase
@@ -282,7 +282,7 @@ abbrev pub HasSlept : (ℕ → Type 0) → List Turn → List ℕ → Type 0
 HasSlept gives [] came_in = Unit {0}
 HasSlept gives (turn ∷ turns) came_in = QueriesSlept gives (turn ∷ turns) came_in
 
--- no call was made behind one that failed, nor a read behind the end, and behind a fault the exit isn't 0
+-- no call was made after one that failed, nor a read after the end, and after a fault the exit isn't 0
 abbrev pub EndsSoundly : Status → Option Traffic → Type 0
 EndsSoundly status link = IfSome link (λ traffic. (traffic.went_on ≡ false) × (traffic.failed ≡ true → status ≢ statuses.Code 0))
 
@@ -349,7 +349,7 @@ IsAttachedBehind ending generation child =
 
 -- ---- cancels
 
--- behind requests for encryption that were all answered, a whole packet that asks for this cancel
+-- after requests for encryption that were all answered, a whole packet that asks for this cancel
 pub record AsksCancel (came_in : List ℕ) (pid key : ℕ) : Type 0 where
   pub requests : List (List ℕ)
   pub phase : Phase

@@ -40,7 +40,7 @@ abbrev pub IsLeft : Result (Unit {0}) Cause → (missing stands : List ℕ) → 
 IsLeft (Ok done) missing stands = missing ≡ stands
 IsLeft (Err cause) missing stands = CutsOff cause × IsBreak cause
 
--- These messages were said: they stand in the outbox behind what stood there, and a front of it all went out.
+-- These messages were said: they stand in the outbox after what stood there, and a front of it all went out.
 pub record Says (result : Result (Unit {0}) Cause) (messages : List BackMessage) (before now : Desk) : Type 0 where
   pub went : List ℕ
   pub missing : List ℕ
@@ -114,7 +114,7 @@ pub record Conversing {S : Type 0} (notes : List BookEntry → S → S → Type 
   pub heeded : HeedInTurn turns before.child.told now.child.told
   pub cancelled : (turn : Turn) → Contains turns turn → IsCancelledTurn turn → was_given Cancel now.child.told
 
--- Queries were answered, maybe none; or this ended the session behind them.
+-- Queries were answered, maybe none; or this ended the session after them.
 abbrev pub Converses : {S : Type 0} → (notes : List BookEntry → S → S → Type 0) → (gives : ℕ → Type 0) → User → Result (Unit {0}) Cause → (before now : Moment S) → Type 0
 Converses notes gives user (Ok done) before now = Conversing notes gives user before now
 Converses notes gives user (Err cause) before now = Conversed notes gives user cause before now

@@ -118,7 +118,7 @@ impl<L: Link, F: Life> Desk<L, F> {
         }
     }
 
-    // Behind the startup packet: the decision, and the gate.
+    // After the startup packet: the decision, and the gate.
     fn admit<R: Wait, S: Store, C: Clock>(
         &mut self,
         means: &Means<'_, R, C>,
@@ -259,7 +259,7 @@ fn put_greeting(outbox: &mut Outbox, pid: u32, key: u32)
     Back::Ready.put(outbox);
 }
 
-// Puts a setting into the outbox, behind what stands there.
+// Puts a setting into the outbox, after what stands there.
 fn put_setting(outbox: &mut Outbox, name: &str, value: &str)
     requires words { HasNoZero name.now × HasNoZero value.now }
     requires short { length name.now + length value.now ≤ 60 }

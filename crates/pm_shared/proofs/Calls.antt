@@ -104,7 +104,7 @@ turns_none log ps = record {
   fair = λ p. ap (λ l. times_attached l p + live p (generation_of log) ps) (append-nil log);
 }
 
--- ---- a store is given back behind a call by which nobody comes or goes
+-- ---- a store is given back after a call by which nobody comes or goes
 
 abbrev pub hand_holding : {S F : Type 0} → ℕ → F → List Noted → List Pass → Taken S → Hand S F
 hand_holding k first own ps t = record { number = k; first = first; own = own; passes = ps; past = t.log; held = Some t }
@@ -173,7 +173,7 @@ pub past_goes_on : {D B : Type 0} {g h : _} {past : List BookEntry} (k : ℕ) (f
     → me ≡ resting k first own ps past → Tells Behind Knows me.0 (taken log x) → Continues past log
 past_goes_on {D} {B} {g} {h} k first own ps log x me is tells = (subst (λ (m : Seated (Segment D B g h) D). Tells Behind Knows m.0 (taken log x)) is tells).1
 
--- the generation that it meets is the store's, before a call and behind it
+-- the generation that it meets is the store's, before a call and after it
 pub met_there : {D B : Type 0} {g h : _} {past : List BookEntry} (k : ℕ) (first : D) (own : List Noted) (ps : List Pass) (log : List BookEntry) (x : Segment D B g h) (me : Seated (Segment D B g h) D)
     → me ≡ resting k first own ps past → Tells Behind Knows me.0 (taken log x) → generation_of log ≡ (moment x).generation
 met_there {D} {B} {g} {h} k first own ps log x me is tells = (subst (λ (m : Seated (Segment D B g h) D). Tells Behind Knows m.0 (taken log x)) is tells).0.0.generation
@@ -196,7 +196,7 @@ stale_here k first own ps ps' log es x me me' me'' c c' p found is was now tells
     let there = met_there k first own ps log x me is tells in
     (found_is ∙ sym there ∙ sym met, subst (λ (n : ℕ). p.generation < n) (sym met) (met_later k first own ps log x me p is tells in_ other))
 
--- the generation that a token shows behind a call is the store's
+-- the generation that a token shows after a call is the store's
 pub met_behind : {D B : Type 0} {g h : _} {past : List BookEntry} (k : ℕ) (first : D) (own : List Noted) (ps ps' : List Pass) (log es : List BookEntry) (x x' : Segment D B g h) (me me' me'' : Seated (Segment D B g h) D)
     (c c' : List (ℕ × Option (Segment D B g h))) → me ≡ resting k first own ps past → me' ≡ (with_held me.0 (Some (taken log x)), c) → me'' ≡ (given_back me'.0 es ps', c')
     → Tells Behind Knows me.0 (taken log x) → (moment x').generation ≡ (moment x).generation → (moment x').generation ≡ generation_of (past_of me''.0)
@@ -223,7 +223,7 @@ stale_told {D} {B} {g} {h} {past} k first own ps id id' me me' old pass refusal 
       later = subst (λ l. pass.generation < generation_of l) (sym past_now) (met_later k first own ps log x me pass is tells in_ other);
     }
 
--- what a token shows behind a call that renews its pass
+-- what a token shows after a call that renews its pass
 pub record IsCalled {F : Type 0} (es log : List BookEntry) (pass : Pass) (generation : ℕ) (old now : TokenModel F) : Type 0 where
   pub grew : Grew es old now
   pub among : Among pass now.passes

@@ -1,4 +1,4 @@
--- What holds of a store behind the entries so far.
+-- What holds of a store after the entries so far.
 use Rattle.std.specs.Prelude.{◌≡◌, ◌⊎◌, true, false, List, None, IfSome}
 use Rattle.pm_record.specs.OnDisk.{GoesOn}
 use Rattle.pm_query.specs.declared.book.BookEntry.{BookEntry}
@@ -12,7 +12,7 @@ use Rattle.pm_segment.specs.Passes.{HasAnswer, IsStaged}
 use Rattle.pm_segment.specs.Stands.{Begins, WaitsFrom}
 use Rattle.pm_segment.specs.Unread.{has_break, has_redo}
 
--- The store is behind these entries, from the disk as it got it. Where its book tells, the book is these entries. Children
+-- The store stands after these entries, from the disk as it got it. Where its book tells, the book is these entries. Children
 -- are inside as often as the entries attach them, each fault among them was counted, and what a stop could leave before is as
 -- it was. Before the first redo the files read as the store got them, unless a fault is among the entries. What held of the
 -- beginning holds still, or that redo has come.

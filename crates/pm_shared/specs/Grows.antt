@@ -18,7 +18,7 @@ pub record Grew {F : Type 0} (entries : List BookEntry) (before now : TokenModel
   pub added_are : entries_of added ≡ entries
   pub past : Continues before.past now.past
 
--- the passes behind an enter
+-- the passes after an enter
 abbrev pub passes_entered : Result Pass StoreNo → List Pass → List Pass
 passes_entered (Ok pass) ps = ps ++ pass ∷ []
 passes_entered (Err refusal) ps = ps

@@ -85,7 +85,7 @@ module _ {S F : Type 0} where
       (s.words ≡ 1 ∷ [])
       × (((s.homes ≡ some None ∷ []) × (s.views ≡ Vacant ∷ [])) ⊎ ((s.homes ≡ none ∷ []) × (s.views ≡ Founding ∷ [])))
 
--- what holds of a store that is behind these entries, as it was handed in first; and what of each pass of its generation
+-- what holds of a store that stands after these entries, as it was handed in first; and what of each pass of its generation
 module _ {S F : Type 0} (Is : F → List BookEntry → S → Type 0) (Knows : List BookEntry → S → Pass → Type 0) where
   pub record Holds (w : Where) (master dealt : ℕ) (first : F) (cells : ℕ → Cell) (log : List Line) (x : S) (s : State (Option S) (View S F)) : Type 0 where
     pub one_word : length s.words ≡ 1

@@ -104,7 +104,7 @@ module _ {S F : Type 0} where
   with_held (Worker h) t = Worker record { number = h.number; first = h.first; own = h.own; passes = h.passes; past = past_in t h.past; held = t }
   with_held v t = v
 
-  -- the view, once the store is given back with these entries behind those that were there, and these passes
+  -- the view, once the store is given back with these entries after those that were there, and these passes
   abbrev pub given_back : View S F → List BookEntry → List Pass → View S F
   given_back (Master d) es ps = Master record {
     dealt = d.dealt;
@@ -237,7 +237,7 @@ module _ {S F : Type 0} (Is : F → List BookEntry → S → Type 0) (Knows : Li
     pub others : (p : Pass) → p.generation ≡ generation_of was.log → Knows was.log was.store p → Knows (was.log ++ added) x' p
     pub mine : AllKnown (Knows (was.log ++ added) x') (generation_of was.log) ps'
 
-  -- A token may give back this store: it is the one that was taken, with entries behind it that a token may note.
+  -- A token may give back this store: it is the one that was taken, with entries after it that a token may note.
   pub record HandMay (told : List BookEntry → Type 0) (ps' : List Pass) (h : Hand S F) (x' : S) : Type 0 where
     pub was : Taken S
     pub added : List BookEntry

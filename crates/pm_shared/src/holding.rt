@@ -146,7 +146,7 @@ fn low_half(word: u64) -> u32 {
     (word % (1 << 32)) as u32
 }
 
-/// Gives the store back behind a call, and wakes one who sleeps for it. All but table, seat and store is for the proof alone.
+/// Gives the store back after a call, and wakes one who sleeps for it. All but table, seat and store is for the proof alone.
 pub(crate) fn give<C: Deed, D: Disk, B: Chronicle<BookEntry>, A, T>(
     table: &Guarded<D, B>,
     seat: &mut Holder<D, B>,
@@ -172,7 +172,7 @@ pub(crate) fn give<C: Deed, D: Disk, B: Chronicle<BookEntry>, A, T>(
     table.shared.wake_one(0);
 }
 
-/// Wakes all who sleep for the store: behind a flush each of them has something to stage or to send.
+/// Wakes all who sleep for the store: after a flush each of them has something to stage or to send.
 pub(crate) fn wake_all<D: Disk, B: Chronicle<BookEntry>>(table: &Guarded<D, B>)
     requires { IsSmall table.now.shared.table_id }
 {
@@ -201,7 +201,7 @@ pub(crate) fn give_unchanged<D: Disk, B: Chronicle<BookEntry>>(
     give::<Brand, D, B, (), ()>(table, seat, store, pass, pass, &(), &());
 }
 
-/// Gives the store back behind a renewal. All but table, seat and store is for the proof alone.
+/// Gives the store back after a renewal. All but table, seat and store is for the proof alone.
 pub(crate) fn give_renewed<C: Deed, D: Disk, B: Chronicle<BookEntry>>(
     table: &Guarded<D, B>,
     seat: &mut Holder<D, B>,

@@ -72,7 +72,7 @@ impl<D: Disk + Drop, B: Chronicle<BookEntry> + Drop> Tokens<D, B> {
         self.list.pop()
     }
 
-    /// Puts a token behind the others.
+    /// Puts a token after the others.
     pub fn put(&mut self, token: Token<D, B>) -> Result<(), AllocError>
         ensures { OnOk result (self.new ≡ self.old ++ token ∷ []) }
     {
@@ -311,7 +311,7 @@ impl<D: Disk + Drop, B: Chronicle<BookEntry> + Drop> Shared<D, B> {
         self.table.shared.join_seat::<Gathers>(&mut self.seat, seat);
     }
 
-    /// The store, once all tokens are back, behind all entries. It takes no memory and doesn't wait.
+    /// The store, once all tokens are back, after all entries. It takes no memory and doesn't wait.
     pub fn into_store(mut self, tokens: Tokens<D, B>) -> Segment<D, B>
         requires all { AreTokens self.table self.tokens tokens }
         requires none { self.joined ≡ [] }
@@ -343,7 +343,7 @@ impl<D: Disk + Drop, B: Chronicle<BookEntry> + Drop> Shared<D, B> {
         store.into_parts()
     }
 
-    /// The store, once each token was taken back, behind all entries. It takes no memory and doesn't wait, since nobody else
+    /// The store, once each token was taken back, after all entries. It takes no memory and doesn't wait, since nobody else
     /// has it.
     pub fn into_segment(self) -> Segment<D, B>
         requires { length self.joined ≡ self.tokens }

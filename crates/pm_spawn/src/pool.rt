@@ -10,7 +10,7 @@ use std::alloc::{AllocError, Global};
 use std::collections::VecDeque;
 use std::thread;
 
-/// Starts the works in order, up to the first for which there is no thread. It and those behind it are left.
+/// Starts the works in order, up to the first for which there is no thread. It and those after it are left.
 #[tactic(auto, using(crate::proofs::Works::started_more))]
 pub fn start_all<S: Spawner, W: Task + Send + Drop + 'static>(
     spawner: &mut S,

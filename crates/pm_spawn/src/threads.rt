@@ -47,7 +47,7 @@ impl<R: thread::Threads + Wait + Copy> Spawner for Threads<R> {
     }
 }
 
-/// The system's threads up to a number of them. Each behind these is refused.
+/// The system's threads up to a number of them. Each after these is refused.
 #[derive(Drop)]
 pub struct FewThreads<R> {
     rt: R,

@@ -36,7 +36,7 @@ Accepts kept done mode (t ∷ ts) stmts = AcceptsMove kept (move done mode t) (�
 pub record IsAccepted (kept : Kind) (done : List Stmt) (mode : Mode) (ts : List Token) (stmts : List Stmt) : Type 0 where
   pub is : Accepts kept done mode ts stmts
 
--- ---- behind tokens that lead there
+-- ---- after tokens that lead there
 
 led_on : (kept : Kind) (m : Move) (more : List Stmt → Mode → Option Place) (done' : List Stmt) (mode' : Mode) (A B : List Stmt → Mode → Type 0) → led_by m more ≡ Some (done', mode')
     → ((done : List Stmt) (mode : Mode) → more done mode ≡ Some (done', mode') → (A done mode → B done' mode') × (B done' mode' → A done mode))

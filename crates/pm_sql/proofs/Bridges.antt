@@ -186,7 +186,7 @@ digits_of fits here (Some (digits, rest)) = cond (fits (digits_value digits)) (c
 abbrev with_value : {V : Type 0} → (ℕ → V) → ℕ × List ℕ → Result (V × List ℕ) Fault
 with_value value found = Ok (value found.0, found.1)
 
--- digits, and what is behind them, as the productions read them
+-- digits, and what is after them, as the productions read them
 abbrev digits_read : {V : Type 0} → (ℕ → Bool) → (ℕ → V) → List ℕ → Result (V × List ℕ) Fault
 digits_read fits value text = digits_at text >>= (λ here. behind_digits (fits (digits_value (take (digits_len here) here))) here >>= (λ rest. with_value value (digits_value (take (digits_len here) here), rest)))
 
@@ -301,7 +301,7 @@ then_string : (text : List ℕ) (f : List ℕ × List ℕ → Found) (k : List �
 then_string text f k same =
     ap (λ r. r >>= f) (string_cut text) ∙ ap (λ s. string_of (skipped text) s >>= f) (string_seen (skipped text)) ∙ string_by text f k (next_token (skipped text)) refl same
 
--- ---- statements, behind their first words
+-- ---- statements, after their first words
 
 ends_run : (stmt : Stmt) (text : List ℕ) → Ok (stmt, text) ≡ run (ends stmt) text
 unfolding run

@@ -60,7 +60,7 @@ compared text (t ∷ front) (u ∷ other) here there (rest, is, apart, a) (left,
       | inr (inr more) ↦ inr (inr (more_behind text u rest other front is' apart' more))
     ])
 
--- behind all of a text no token follows
+-- after all of a text no token follows
 none_at_end : (text : List ℕ) (front : List Token) (token : Token) (rest : List ℕ) → IsUpTo text front [] → IsUpTo text (front ++ token ∷ []) rest → ⊥
 none_at_end text [] token rest e (left, is, apart, up) =
     no_token token left (ap next_token e ∙ front_next text token left is)
@@ -273,7 +273,7 @@ next_is text (t ∷ own) rest token left (mid, are, apart, taken) (other, is, aw
     let (same, at) = front_one text t t mid other are is in
     next_is mid own rest token left taken (subst (λ r. IsUpTo r (own ++ token ∷ []) left) (sym at) up)
 
--- behind digits that a letter continues stands no token
+-- after digits that a letter continues stands no token
 joined_none : (text : List ℕ) (own : List Token) (rest : List ℕ) (token next : Token) (left end : List ℕ) → Taken text own rest → IsFront rest token left → IsUpTo text ((own ++ token ∷ []) ++ next ∷ []) end → is_joined token left ≡ false
 joined_none text [] rest token next left end e is (mid, are, apart, up) =
     let (same, at) = front_one rest token token left mid is (subst (λ t. IsFront t token mid) e are) in
@@ -299,7 +299,7 @@ joined_skipped (Mark byte) left e = cc e
 -- ---- the fault where a text is stuck
 
 module _ (text : List ℕ) (own : List Token) (rest : List ℕ) (done' : List Stmt) (mode' : Mode) (taken : Taken text own rest) (there : leads [] start (lower own) ≡ Some (done', mode')) where
-  -- what goes on behind the tokens goes on from that place
+  -- what goes on after the tokens goes on from that place
   from_there : (kept : Kind) (more : List Token) (stmts : List Stmt) → IsQuery kept (lower own ++ more) stmts → Accepts kept done' mode' more stmts
   from_there kept more stmts is = (accepts_behind kept [] start (lower own) more stmts done' mode' there).0 (query_in kept (lower own ++ more) stmts is)
 

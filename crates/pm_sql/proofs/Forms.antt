@@ -103,7 +103,7 @@ seconds_form k = digits_form (λ n. nat_le n max_sleep_seconds) k
 abbrev pub key_form : (ℤ → Form) → Form
 key_form k = word_form (codes "k") (mark_form 61 (int_form k) nothing) nothing
 
--- ---- statements, behind their first words
+-- ---- statements, after their first words
 
 abbrev pub ends : Stmt → Form
 ends stmt = state (Some stmt) (λ t. refuse) (λ t. nothing)
@@ -154,7 +154,7 @@ sleep_form = mark_form 40 (seconds_form (λ seconds. mark_form 41 (ends (Sleep s
 abbrev pub select_form : Form
 select_form = mark_form 42 rows_form (word_form (codes "k") pairs_form (word_form (codes "count") count_form (word_form (codes "pg_sleep") sleep_form nothing)))
 
--- ---- a statement, behind so many that write
+-- ---- a statement, after so many that write
 
 abbrev pub first_form : List ℕ → ℕ → Form → Form → Form
 first_form letters writing k others = one (is_word letters) (λ t. within TooMany (nat_lt writing max_changes)) (λ t. k) others
@@ -199,7 +199,7 @@ pub data Mode : Type 0 where
   start : Mode
   inside : (form : Form) → Mode
 
--- behind the statements so far, and what a token leads to from there
+-- after the statements so far, and what a token leads to from there
 pub data Move : Type 0 where
   stop : Move
   go : (check : Check) (done : List Stmt) (mode : Mode) → Move
@@ -216,13 +216,13 @@ abbrev pub answer_of : Form → Option Stmt
 answer_of nothing = None
 answer_of (state answer check next) = answer
 
--- a `;` behind a statement that may end there
+-- a `;` after a statement that may end there
 abbrev pub end_move : List Stmt → Option Stmt → Bool → Move
 end_move done None semicolon = stop
 end_move done (Some stmt) false = stop
 end_move done (Some stmt) true = go fine (done ++ stmt ∷ []) start
 
--- what a check and the form behind the token make of it
+-- what a check and the form after the token make of it
 abbrev pub moved : List Stmt → Option Stmt → Bool → Form → Check → Move
 moved done answer semicolon next refuse = end_move done answer semicolon
 moved done answer semicolon next fine = go fine done (inside next)

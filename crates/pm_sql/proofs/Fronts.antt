@@ -54,7 +54,7 @@ no_white (Mark b) rest made = made.1
 pub behind_space : (space text : List ℕ) → IsWhite space → begins_with is_ascii_whitespace text ≡ false → skipped (space ++ text) ≡ text
 behind_space space text white stops = rw (passes_up_to is_ascii_whitespace space text white stops) (drop-append_seam space text)
 
--- behind the white space a text begins with its first token
+-- after the white space a text begins with its first token
 pub front_skipped : (text : List ℕ) (token : Token) (rest : List ℕ) → IsFront text token rest → skipped text ≡ spelling token ++ rest
 front_skipped text token rest is = ap skipped is.split ∙ behind_space is.space (spelling token ++ rest) is.white (no_white token rest is.made)
 

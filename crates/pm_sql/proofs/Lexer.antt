@@ -327,7 +327,7 @@ unfolding next_token
 digits_seen [] = refl
 digits_seen (b ∷ bs) = digits_by b bs (is_letter b) (is_ascii_digit b) (b == 39) (nat_lt b 128) refl refl
 
--- a string behind its opening quote, where one stands
+-- a string after its opening quote, where one stands
 abbrev pub string_behind : Option (List ℕ) → Option (List ℕ × List ℕ)
 string_behind None = None
 string_behind (Some begin) = string_in begin

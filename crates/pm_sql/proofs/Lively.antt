@@ -33,7 +33,7 @@ IfTaken refuse P = Unit {0}
 IfTaken fine P = P
 IfTaken (over kind) P = IsLimit kind × P
 
--- behind each token that has its place, a statement can end
+-- after each token that has its place, a statement can end
 abbrev pub Lively : Form → Type 0
 Lively nothing = Unit {0}
 Lively (state answer check next) = (t : Token) → IfTaken (check t) (CanEnd (next t) × Lively (next t))

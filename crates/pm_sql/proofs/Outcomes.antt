@@ -22,7 +22,7 @@ use Rattle.pm_sql.proofs.Bridges.{stmt_run}
 
 -- ---- a text up to a token's end
 
--- a text begins with these tokens, none of them right behind digits that a letter continues, and this is left
+-- a text begins with these tokens, none of them right after digits that a letter continues, and this is left
 abbrev pub Taken : List ℕ → List Token → List ℕ → Type 0
 Taken text [] rest = text ≡ rest
 Taken text (token ∷ tokens) rest = (mid : List ℕ) × IsFront text token mid × (is_joined token mid ≡ false) × Taken mid tokens rest
@@ -31,7 +31,7 @@ Taken text (token ∷ tokens) rest = (mid : List ℕ) × IsFront text token mid 
 abbrev pub lower : List Token → List Token
 lower tokens = map in_lower_case tokens
 
--- why it goes no further: no token leads on, or one is over a limit, or a letter stands right behind digits
+-- why it goes no further: no token leads on, or one is over a limit, or a letter comes right after digits
 abbrev pub Why : List Stmt → Mode → List ℕ → Fault → Type 0
 Why done mode rest fault =
     ((fault ≡ fault_at Syntax (skipped rest)) × ((token : Token) (left : List ℕ) → next_token (skipped rest) ≡ Some (token, left) → move done mode (in_lower_case token) ≡ stop) × (skipped rest ≡ [] → end_of done mode ≡ None))
@@ -110,7 +110,7 @@ front_shorter text token rest is =
 
 -- ---- one step of a form
 
--- what is done with a statement and what stands behind it
+-- what is done with a statement and what comes after it
 abbrev Later : Type 0
 Later = Stmt × List ℕ → Result (List Stmt) Fault
 
@@ -156,7 +156,7 @@ module _ (done : List Stmt) (mode : Mode) (text : List ℕ) (answer : Option Stm
 
 -- ---- a statement
 
--- what is done behind a statement has its outcome, where it isn't longer than this
+-- what is done after a statement has its outcome, where it isn't longer than this
 abbrev Behind : ℕ → List Stmt → Later → Type 0
 Behind n done later = (form : Form) (stmt : Stmt) (text : List ℕ) → length text ≤ n → answer_of form ≡ Some stmt → EndsHere done (inside form) stmt text → Outcome done (inside form) text (later (stmt, text))
 
@@ -179,7 +179,7 @@ whole_here done mode text stmts e f = record { own = []; rest = text; done' = do
 abbrev ScriptOutcome : ℕ → Type 0
 ScriptOutcome n = (steps : ℕ) (done : List Stmt) (text : List ℕ) → length text ≤ n → length text ≤ steps → Outcome done start text (script_within steps done text)
 
--- what is read behind a statement
+-- what is read after a statement
 abbrev rest_of_script : ℕ → List Stmt → Later
 rest_of_script steps done found = end_at found.1 >>= (λ rest. script_within steps (done ++ found.0 ∷ []) rest)
 

@@ -75,11 +75,11 @@ with_semicolon : (kept : Kind) (tokens : List Token) (stmts : List Stmt) → Are
 with_semicolon kept tokens [] is = (refl, is)
 with_semicolon kept tokens (stmt ∷ stmts) (semicolons, first, more, a, b, c, e) = (semicolons, first, more, a, b, c, ap (λ t. mark ";" ∷ t) e)
 
--- what is accepted behind statements, and how many of all of them write
+-- what is accepted after statements, and how many of all of them write
 abbrev QueryOut : Kind → List Stmt → List Token → List Stmt → Type 0
 QueryOut kept done ts stmts = (rest : List Stmt) × (stmts ≡ done ++ rest) × AreStatements kept ts rest × Keeps kept TooMany (count_by is_writing done ≤ max_changes → count_by is_writing stmts ≤ max_changes)
 
--- the same behind a statement
+-- the same after a statement
 abbrev MoreOut : Kind → List Stmt → List Token → List Stmt → Type 0
 MoreOut kept done ts stmts = (rest : List Stmt) × (stmts ≡ done ++ rest) × IsMore kept ts rest × Keeps kept TooMany (count_by is_writing done ≤ max_changes → count_by is_writing stmts ≤ max_changes)
 

@@ -189,7 +189,7 @@ module _ (kept : Kind) (done : List Stmt) (stmts : List Stmt) where
   abbrev Out : Form → List Token → Type 0
   Out form ts = Accepts kept done (inside form) ts stmts
 
-  -- a token, and what is accepted behind it
+  -- a token, and what is accepted after it
   abbrev Behind : Token → Form → List Token → Type 0
   Behind t k ts = (rest : List Token) × (ts ≡ t ∷ rest) × Out k rest
 
@@ -235,7 +235,7 @@ module _ (kept : Kind) (done : List Stmt) (stmts : List Stmt) where
       let both = left_beyond kept TooLong (nat_lt max_value_bytes (length (content_of t))) done None (is_mark 59 t) (k (content_of t)) rest stmts b in
       (t, content_of t, rest, e, (is_some_string t is, λ h. ltb-false max_value_bytes (length (content_of t)) (both.0 h)), both.1)
 
-  -- an int, and what is accepted behind it
+  -- an int, and what is accepted after it
   abbrev IntOut : (ℤ → Form) → List Token → Type 0
   IntOut k ts = (int : List Token) × (value : ℤ) × (rest : List Token) × (ts ≡ int ++ rest) × IsInt kept int value × Out (k value) rest
 
@@ -283,7 +283,7 @@ module _ (kept : Kind) (done : List Stmt) (stmts : List Stmt) where
     | inr b ↦ ([], ts, refl, inl refl, b)
   ]
 
-  -- a statement behind its first word, and what is accepted behind its end
+  -- a statement after its first word, and what is accepted after its end
   abbrev Spoken : Token → List Token → Type 0
   Spoken first ts = (own rest : List Token) × (stmt : Stmt) × (ts ≡ own ++ rest) × IsStatement kept (first ∷ own) stmt × Out (ends stmt) rest
 
@@ -443,7 +443,7 @@ module _ (kept : Kind) (done : List Stmt) (stmts : List Stmt) where
     ]
   ]
 
-  -- a whole statement, which there is room for, and what is accepted behind it
+  -- a whole statement, which there is room for, and what is accepted after it
   abbrev pub StmtOut : List Token → Type 0
   StmtOut ts = (first rest : List Token) × (stmt : Stmt) × (ts ≡ first ++ rest) × IsStatement kept first stmt × Keeps kept TooMany (is_writing stmt ≡ true → count_by is_writing done < max_changes) × Out (ends stmt) rest
 

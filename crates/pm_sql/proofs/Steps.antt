@@ -58,7 +58,7 @@ behind_stmt n i done input behind rest stmt writing next whole h more mark e f l
     let one : script_within (n - i) done input ≡ script_within (n - (i + 1)) (done ++ stmt ∷ []) rest = rw (one_step n i h, more, mark, e', f) refl in
     record { read = sym one ∙ is.read; counted = count ∙ ap (λ w. w + cond (is_writing stmt) 1 0) is.counted ∙ sym (sum_by_push (λ s. cond (is_writing s) 1 0) done stmt); limits = limits }
 
--- a fault in a statement, and one behind it
+-- a fault in a statement, and one after it
 pub fault_in_stmt : (stop : Stop) (n i : ℕ) (done : List Stmt) (input : List ℕ) (writing : ℕ) (whole : Result (List Stmt) Fault) → i < n → is_at_end (skipped input) ≡ false → behind_mark 59 (skipped input) ≡ None
     → Fails stop (stmt_at writing (skipped input)) → IsReading (n - i) done input writing whole → Fails stop whole
 unfolding script_within

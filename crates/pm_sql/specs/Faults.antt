@@ -17,8 +17,8 @@ CanGoOn kept front = (more : List Token) × (stmts : List Stmt) × IsQuery kept 
 abbrev pub SomeFollows : Kind → List ℕ → List Token → Type 0
 SomeFollows kept text front = (token : Token) × (rest : List ℕ) × IsUpTo text (front ++ token ∷ []) rest × CanGoOn kept (front ++ token ∷ [])
 
--- with what stands behind these tokens of a text no query can go on, whatever follows it: with a token, or with no token at all, as
--- at a word right behind digits, at a string that doesn't end, and at a character that isn't ASCII
+-- with what comes after these tokens of a text no query can go on, whatever follows it: with a token, or with no token at all, as
+-- at a word right after digits, at a string that doesn't end, and at a character that isn't ASCII
 abbrev pub NoneFollows : Kind → List ℕ → List Token → Type 0
 NoneFollows kept text front = (token : Token) (rest : List ℕ) → IsUpTo text (front ++ token ∷ []) rest → CanGoOn kept (front ++ token ∷ []) → ⊥
 

@@ -1,4 +1,4 @@
--- How the productions are read from left to right: what each stands for and what stands behind it, or the first fault. No
+-- How the productions are read from left to right: what each stands for and what comes after it, or the first fault. No
 -- public contract cites this; what a text stands for and which fault it has is told by `Statements` and `Faults`.
 use Rattle.std.specs.Prelude.{ℕ, ℤ, pos, neg_ℤ, ◌^◌, Bool, true, false, if◌then◌else◌, ◌==◌, List, [], ◌∷◌, length, drop, take, Option, Some, None, Result, Ok, Err, nat_le, nat_lt, codes}
 use Rattle.pm_sql.specs.declared.stmt.Stmt.{Stmt}
@@ -21,13 +21,13 @@ name_at input =
 unfoldable pub digits_at : List ℕ → Result (List ℕ) Fault
 digits_at input = if digits_len (skipped input) == 0 then Err (fault_at Syntax (skipped input)) else Ok (skipped input)
 
--- what stands behind digits: their number has to be in range, and no word follows at once
+-- what comes after digits: their number has to be in range, and no word follows at once
 unfoldable pub behind_digits : Bool → List ℕ → Result (List ℕ) Fault
 behind_digits is_in_range here =
     let rest = drop (digits_len here) here in
     if is_in_range then (if starts_with_letter rest then Err (fault_at Syntax rest) else Ok rest) else Err (fault_at Range here)
 
--- a sign, where one stands: whether it is `-`, and what stands behind it
+-- a sign, where one stands: whether it is `-`, and what comes after it
 abbrev pub sign_of : List ℕ → Bool × List ℕ
 sign_of [] = (false, [])
 sign_of (byte ∷ rest) = if byte == 45 then (true, rest) else (if byte == 43 then (false, rest) else (false, byte ∷ rest))
@@ -78,7 +78,7 @@ columns_in input (Some begin) = do
   c ← word_at (codes "v") b
   mark_at 41 c
 
--- INSERT, behind this word: INTO name [ "(" k "," v ")" ] VALUES "(" int "," string ")"
+-- INSERT, after this word: INTO name [ "(" k "," v ")" ] VALUES "(" int "," string ")"
 unfoldable pub insert_at : List ℕ → Result (Stmt × List ℕ) Fault
 insert_at input = do
   a ← word_at (codes "into") input
@@ -92,7 +92,7 @@ insert_at input = do
   rest ← mark_at 41 value.1
   Ok (Insert key.0 value.0, rest)
 
--- UPDATE, behind this word: name SET v "=" string WHERE k "=" int
+-- UPDATE, after this word: name SET v "=" string WHERE k "=" int
 unfoldable pub update_at : List ℕ → Result (Stmt × List ℕ) Fault
 update_at input = do
   a ← name_at input
@@ -104,7 +104,7 @@ update_at input = do
   key ← key_condition_at e
   Ok (Update key.0 value.0, key.1)
 
--- DELETE, behind this word: FROM name WHERE k "=" int
+-- DELETE, after this word: FROM name WHERE k "=" int
 unfoldable pub delete_at : List ℕ → Result (Stmt × List ℕ) Fault
 delete_at input = do
   a ← word_at (codes "from") input
@@ -133,7 +133,7 @@ order_in input (Some begin) = do
   a ← word_at (codes "by") begin
   word_at (codes "k") a
 
--- SELECT, behind its columns: FROM name [ WHERE k "=" int ] [ ORDER BY k ]
+-- SELECT, after its columns: FROM name [ WHERE k "=" int ] [ ORDER BY k ]
 unfoldable pub rows_at : List ℕ → Result (Stmt × List ℕ) Fault
 rows_at input = do
   a ← from_at input
@@ -141,14 +141,14 @@ rows_at input = do
   rest ← order_in key.1 (behind_word (codes "order") (skipped key.1))
   Ok (Select key.0, rest)
 
--- SELECT k, behind k: "," v and the rest
+-- SELECT k, after k: "," v and the rest
 unfoldable pub pairs_at : List ℕ → Result (Stmt × List ℕ) Fault
 pairs_at input = do
   a ← mark_at 44 input
   b ← word_at (codes "v") a
   rows_at b
 
--- SELECT count, behind count: "(" "*" ")" FROM name
+-- SELECT count, after count: "(" "*" ")" FROM name
 unfoldable pub count_at : List ℕ → Result (Stmt × List ℕ) Fault
 count_at input = do
   a ← mark_at 40 input
@@ -157,7 +157,7 @@ count_at input = do
   rest ← from_at c
   Ok (Count, rest)
 
--- SELECT pg_sleep, behind pg_sleep: "(" digits ")"
+-- SELECT pg_sleep, after pg_sleep: "(" digits ")"
 unfoldable pub sleep_at : List ℕ → Result (Stmt × List ℕ) Fault
 sleep_at input = do
   a ← mark_at 40 input
@@ -165,12 +165,12 @@ sleep_at input = do
   rest ← mark_at 41 seconds.1
   Ok (Sleep seconds.0, rest)
 
--- one of several words, each with what is read behind it
+-- one of several words, each with what is read after it
 abbrev pub or_else : {A : Type 0} → Option (List ℕ) → (List ℕ → Result A Fault) → Result A Fault → Result A Fault
 or_else None read others = others
 or_else (Some behind) read others = read behind
 
--- SELECT, behind this word
+-- SELECT, after this word
 unfoldable pub select_at : List ℕ → Result (Stmt × List ℕ) Fault
 select_at input =
     let here = skipped input in

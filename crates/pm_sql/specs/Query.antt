@@ -13,11 +13,11 @@ use Rattle.pm_sql.specs.Tokens.{skipped, behind_word, behind_mark}
 use Rattle.pm_sql.specs.Reading.{◌>>=◌, fault_at}
 use Rattle.pm_sql.specs.Grammar.{or_else, insert_at, update_at, delete_at, select_at}
 
--- a statement that writes, where there is room for one more behind so many
+-- a statement that writes, where there is room for one more after so many
 abbrev pub if_room : {A : Type 0} → ℕ → List ℕ → Result A Fault → Result A Fault
 if_room writing here read = if nat_lt writing max_changes then read else Err (fault_at TooMany here)
 
--- the statement that begins here, behind so many that write
+-- the statement that begins here, after so many that write
 unfoldable pub stmt_at : ℕ → List ℕ → Result (Stmt × List ℕ) Fault
 stmt_at writing here =
     or_else (behind_word (codes "insert") here) (λ rest. if_room writing here (insert_at rest))
@@ -31,7 +31,7 @@ abbrev pub may_end : List ℕ → Bool
 may_end [] = true
 may_end (byte ∷ rest) = byte == 59
 
--- behind a statement
+-- after a statement
 unfoldable pub end_at : List ℕ → Result (List ℕ) Fault
 end_at input = if may_end (skipped input) then Ok (skipped input) else Err (fault_at Syntax (skipped input))
 
@@ -39,7 +39,7 @@ abbrev pub is_at_end : List ℕ → Bool
 is_at_end [] = true
 is_at_end (byte ∷ rest) = false
 
--- behind the statements so far, in at most so many steps, of which each takes a `;` or a statement
+-- after the statements so far, in at most so many steps, of which each takes a `;` or a statement
 unfoldable pub script_within : ℕ → List Stmt → List ℕ → Result (List Stmt) Fault
 script_within zero done input = Ok done
 script_within (suc steps) done input =

@@ -34,7 +34,7 @@ abbrev pub found_or_fault : {A : Type 0} → Option A → List ℕ → Result A 
 found_or_fault None here = Err (fault_at Syntax here)
 found_or_fault (Some x) here = Ok x
 
--- this word comes next: what stands behind it
+-- this word comes next: what comes after it
 unfoldable pub word_at : List ℕ → List ℕ → Result (List ℕ) Fault
 word_at word input = found_or_fault (behind_word word (skipped input)) (skipped input)
 
@@ -42,7 +42,7 @@ word_at word input = found_or_fault (behind_word word (skipped input)) (skipped 
 unfoldable pub mark_at : ℕ → List ℕ → Result (List ℕ) Fault
 mark_at mark input = found_or_fault (behind_mark mark (skipped input)) (skipped input)
 
--- a string that was found, as its bytes, and what stands behind it
+-- a string that was found, as its bytes, and what comes after it
 abbrev pub contents_of : {Z : Type 0} → Option (String Z × Bor (List ℕ)) → Option (List ℕ × List ℕ)
 contents_of None = None
 contents_of (Some found) = Some (string_bytes found.0, found.1.now)

@@ -112,7 +112,7 @@ abbrev pub AreSemicolons : List Token → Type 0
 AreSemicolons [] = Unit {0}
 AreSemicolons (token ∷ tokens) = (token ≡ mark ";") × AreSemicolons tokens
 
--- behind a statement: { ";" { ";" } stmt } { ";" }
+-- after a statement: { ";" { ";" } stmt } { ";" }
 abbrev pub IsMore : Kind → List Token → List Stmt → Type 0
 IsMore kept tokens [] = AreSemicolons tokens
 IsMore kept tokens (stmt ∷ stmts) = (semicolons first more : List Token) × AreSemicolons semicolons × IsStatement kept first stmt × IsMore kept more stmts

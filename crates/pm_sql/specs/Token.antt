@@ -42,7 +42,7 @@ abbrev pub begins_with : (ℕ → Bool) → List ℕ → Bool
 begins_with test [] = false
 begins_with test (byte ∷ rest) = test byte
 
--- whether the text right behind a token would continue it
+-- whether the text right after a token would continue it
 abbrev pub is_continued : Token → List ℕ → Bool
 is_continued (Word letters) rest = begins_with is_word_byte rest
 is_continued (Digits digits) rest = begins_with is_ascii_digit rest
@@ -60,14 +60,14 @@ pub record IsFront (text : List ℕ) (token : Token) (rest : List ℕ) : Type 0 
   pub made : IsToken token
   pub ends : IsFalse (is_continued token rest)
 
--- whether a letter or `_` stands right behind digits: no token may stand there
+-- whether a letter or `_` comes right after digits: no token may stand there
 abbrev pub is_joined : Token → List ℕ → Bool
 is_joined (Word letters) rest = false
 is_joined (Digits digits) rest = starts_with_letter rest
 is_joined (Quoted content) rest = false
 is_joined (Mark byte) rest = false
 
--- behind a token stands this rest, and then come these tokens, if any
+-- after a token stands this rest, and then come these tokens, if any
 abbrev pub IsApart : Token → List ℕ → List Token → Type 0
 IsApart token rest [] = Unit {0}
 IsApart token rest (next ∷ tokens) = IsFalse (is_joined token rest)

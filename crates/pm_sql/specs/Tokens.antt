@@ -4,7 +4,7 @@ use Rattle.std.specs.Char.{is_ascii_whitespace, is_ascii_alphabetic, is_ascii_al
 use Rattle.std.specs.List.{prefix_len}
 use Rattle.std.specs.Str.{bytes_eq}
 
--- the text behind its white space: space, tab, line feed, form feed and carriage return
+-- the text after its white space: space, tab, line feed, form feed and carriage return
 abbrev pub skipped : List ℕ → List ℕ
 skipped text = drop (prefix_len is_ascii_whitespace text) text
 
@@ -19,7 +19,7 @@ abbrev pub starts_with_letter : List ℕ → Bool
 starts_with_letter [] = false
 starts_with_letter (byte ∷ rest) = is_letter byte
 
--- a word is a letter or `_`, and the letters, digits and `_` behind it; this is its length, or 0 where none stands at the front
+-- a word is a letter or `_`, and the letters, digits and `_` after it; this is its length, or 0 where none stands at the front
 abbrev pub word_len : List ℕ → ℕ
 word_len here = cond (starts_with_letter here) (prefix_len is_word_byte here) 0
 
@@ -35,11 +35,11 @@ digits_value digits = fold (λ number digit. number * 10 + (digit - 48)) 0 digit
 abbrev pub is_same_word : List ℕ → List ℕ → Bool
 is_same_word first second = bytes_eq (map to_ascii_lowercase first) (map to_ascii_lowercase second)
 
--- what stands behind this word, where it is the one at the front
+-- what comes after this word, where it is the one at the front
 abbrev pub behind_word : List ℕ → List ℕ → Option (List ℕ)
 behind_word word here = if is_same_word (take (word_len here) here) word then Some (drop (word_len here) here) else None
 
--- what stands behind this character, where it is the one at the front
+-- what comes after this character, where it is the one at the front
 abbrev pub behind_mark : ℕ → List ℕ → Option (List ℕ)
 behind_mark mark [] = None
 behind_mark mark (byte ∷ rest) = if byte == mark then Some rest else None
@@ -52,8 +52,8 @@ abbrev pub with_byte : ℕ → Option (List ℕ × List ℕ) → Option (List �
 with_byte byte None = None
 with_byte byte (Some found) = Some (byte ∷ found.0, found.1)
 
--- behind its opening quote, a string goes up to its closing one, and two quotes in it stand for one: its content, and
--- what stands behind it
+-- after its opening quote, a string goes up to its closing one, and two quotes in it stand for one: its content, and
+-- what comes after it
 unfoldable pub string_in : List ℕ → Option (List ℕ × List ℕ)
 string_in [] = None
 string_in (byte ∷ []) = if byte == quote then Some ([], []) else None
@@ -62,7 +62,7 @@ string_in (byte ∷ next ∷ rest) =
     then (if next == quote then with_byte quote (string_in rest) else Some ([], next ∷ rest))
     else with_byte byte (string_in (next ∷ rest))
 
--- what stands behind a string that was found
+-- what comes after a string that was found
 abbrev pub string_end : Option (List ℕ × List ℕ) → Option (List ℕ)
 string_end None = None
 string_end (Some found) = Some found.1

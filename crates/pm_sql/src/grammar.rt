@@ -36,7 +36,7 @@ fn name_at(input: &str) -> Result<&str, Stop>
     Ok(rest)
 }
 
-// A text that begins with digits: the whole, the digits, and what stands behind them.
+// A text that begins with digits: the whole, the digits, and what comes after them.
 #[derive(Clone, Copy)]
 struct Digits<'a> {
     here: &'a str,
@@ -62,7 +62,7 @@ fn digits_at(input: &str) -> Result<Digits<'_>, Stop>
     })
 }
 
-// What stands behind digits: their number has to be in range, and no word follows at once.
+// What comes after digits: their number has to be in range, and no word follows at once.
 #[tactic(auto, unfolding(crate::specs::Grammar::behind_digits))]
 fn behind_digits(found: Digits<'_>, is_in_range: bool) -> Result<&str, Stop>
     requires { IsSplit found }
@@ -77,7 +77,7 @@ fn behind_digits(found: Digits<'_>, is_in_range: bool) -> Result<&str, Stop>
     Ok(found.behind)
 }
 
-// A sign, where one stands: whether it is `-`, and what stands behind it.
+// A sign, where one stands: whether it is `-`, and what comes after it.
 fn sign_of(here: &str) -> (bool, &str)
     ensures { (result.0, result.1.now) ≡ sign_of here.now }
 {
@@ -170,7 +170,7 @@ fn columns_at(input: &str) -> Result<&str, Stop>
     mark_at(rest, ')')
 }
 
-/// INSERT, behind this word.
+/// INSERT, after this word.
 #[tactic(auto, unfolding(crate::specs::Grammar::insert_at))]
 pub(crate) fn insert_at(alloc: Global, input: &str) -> Result<(Stmt, &str), Stop>
     ensures read { Gives (λ found. (found.0, found.1.now)) result (insert_at input.now) }
@@ -188,7 +188,7 @@ pub(crate) fn insert_at(alloc: Global, input: &str) -> Result<(Stmt, &str), Stop
     Ok((Stmt::Insert { key, value }, rest))
 }
 
-/// UPDATE, behind this word.
+/// UPDATE, after this word.
 #[tactic(auto, unfolding(crate::specs::Grammar::update_at))]
 pub(crate) fn update_at(alloc: Global, input: &str) -> Result<(Stmt, &str), Stop>
     ensures read { Gives (λ found. (found.0, found.1.now)) result (update_at input.now) }
@@ -204,7 +204,7 @@ pub(crate) fn update_at(alloc: Global, input: &str) -> Result<(Stmt, &str), Stop
     Ok((Stmt::Update { key, value }, rest))
 }
 
-/// DELETE, behind this word.
+/// DELETE, after this word.
 #[tactic(auto, unfolding(crate::specs::Grammar::delete_at))]
 pub(crate) fn delete_at(input: &str) -> Result<(Stmt, &str), Stop>
     ensures read { Gives (λ found. (found.0, found.1.now)) result (delete_at input.now) }
@@ -250,7 +250,7 @@ fn order_at(input: &str) -> Result<&str, Stop>
     word_at(rest, "k")
 }
 
-// A SELECT of rows, behind its columns.
+// A SELECT of rows, after its columns.
 #[tactic(auto, unfolding(crate::specs::Grammar::rows_at))]
 fn rows_at(input: &str) -> Result<(Stmt, &str), Stop>
     ensures read { Gives (λ found. (found.0, found.1.now)) result (rows_at input.now) }
@@ -263,7 +263,7 @@ fn rows_at(input: &str) -> Result<(Stmt, &str), Stop>
     Ok((Stmt::Select { key }, rest))
 }
 
-// SELECT k, behind this word.
+// SELECT k, after this word.
 #[tactic(auto, unfolding(crate::specs::Grammar::pairs_at))]
 fn pairs_at(input: &str) -> Result<(Stmt, &str), Stop>
     ensures read { Gives (λ found. (found.0, found.1.now)) result (pairs_at input.now) }
@@ -275,7 +275,7 @@ fn pairs_at(input: &str) -> Result<(Stmt, &str), Stop>
     rows_at(rest)
 }
 
-// SELECT count, behind this word.
+// SELECT count, after this word.
 #[tactic(auto, unfolding(crate::specs::Grammar::count_at))]
 fn count_at(input: &str) -> Result<(Stmt, &str), Stop>
     ensures read { Gives (λ found. (found.0, found.1.now)) result (count_at input.now) }
@@ -289,7 +289,7 @@ fn count_at(input: &str) -> Result<(Stmt, &str), Stop>
     Ok((Stmt::Count, rest))
 }
 
-// SELECT pg_sleep, behind this word.
+// SELECT pg_sleep, after this word.
 #[tactic(auto, unfolding(crate::specs::Grammar::sleep_at))]
 fn sleep_at(input: &str) -> Result<(Stmt, &str), Stop>
     ensures read { Gives (λ found. (found.0, found.1.now)) result (sleep_at input.now) }
@@ -302,7 +302,7 @@ fn sleep_at(input: &str) -> Result<(Stmt, &str), Stop>
     Ok((Stmt::Sleep { seconds }, rest))
 }
 
-/// SELECT, behind this word.
+/// SELECT, after this word.
 #[tactic(auto, unfolding(crate::specs::Grammar::select_at))]
 pub(crate) fn select_at(input: &str) -> Result<(Stmt, &str), Stop>
     ensures read { Gives (λ found. (found.0, found.1.now)) result (select_at input.now) }

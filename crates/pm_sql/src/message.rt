@@ -46,7 +46,7 @@ fn syntax_text(alloc: Global, here: &str) -> Result<Text, AllocError>
     joined(alloc, "syntax error at or near \"", token, "\"")
 }
 
-// Three texts, one behind another.
+// Three texts, one after another.
 fn joined(alloc: Global, first: &str, second: &str, third: &str) -> Result<Text, AllocError>
     ensures { IfOk result (λ text. text ≡ (first.now ++ second.now) ++ third.now) }
 {

@@ -105,7 +105,7 @@ fn with_stmt(writing: usize, stmt: &Stmt) -> usize
     }
 }
 
-// The statement that begins here, behind so many that write.
+// The statement that begins here, after so many that write.
 #[tactic(auto, unfolding(crate::specs::Query::stmt_at))]
 fn stmt_at(alloc: Global, writing: usize, here: &str) -> Result<(Stmt, &str), Stop>
     ensures read { Gives (λ found. (found.0, found.1.now)) result (stmt_at writing here.now) }

@@ -36,7 +36,7 @@ impl Script {
         }
     }
 
-    /// Adds a statement behind the others. Where memory is short the script stays as it was.
+    /// Adds a statement after the others. Where memory is short the script stays as it was.
     pub fn push(&mut self, stmt: Stmt) -> Result<(), AllocError>
         requires { IsWithinScriptLimits (self.old ++ stmt ∷ []) }
         ensures ok { OnOk result (self.new ≡ self.old ++ stmt ∷ []) }

@@ -8,7 +8,7 @@ ghost use Rattle.pm_sql.specs.Reading.{Gives, word_at, mark_at, contents_of};
 use crate::fault::{Kind, Stop};
 use std::alloc::{AllocError, Global};
 
-/// The text behind its white space.
+/// The text after its white space.
 pub(crate) fn skipped(input: &str) -> &str
     ensures { result.now ≡ skipped input.now }
 {
@@ -58,7 +58,7 @@ fn run_len(here: &str) -> usize
         .count()
 }
 
-/// The word at the front, or nothing, and what stands behind it.
+/// The word at the front, or nothing, and what comes after it.
 pub(crate) fn split_word(here: &str) -> (&str, &str)
     ensures word { result.0.now ≡ take (word_len here.now) here.now }
     ensures rest { result.1.now ≡ drop (word_len here.now) here.now }
@@ -76,7 +76,7 @@ fn digits_len(here: &str) -> usize
         .count()
 }
 
-/// The digits at the front, and what stands behind them.
+/// The digits at the front, and what comes after them.
 pub(crate) fn split_digits(here: &str) -> (&str, &str)
     ensures digits { result.0.now ≡ take (digits_len here.now) here.now }
     ensures rest { result.1.now ≡ drop (digits_len here.now) here.now }
@@ -97,7 +97,7 @@ pub(crate) fn magnitude(digits: &str) -> u64
     number
 }
 
-/// What stands behind this word, where it is the one at the front.
+/// What comes after this word, where it is the one at the front.
 pub(crate) fn behind_word<'a>(here: &'a str, word: &str) -> Option<&'a str>
     ensures { option_copied result ≡ behind_word word.now here.now }
 {
@@ -109,7 +109,7 @@ pub(crate) fn behind_word<'a>(here: &'a str, word: &str) -> Option<&'a str>
     }
 }
 
-/// What stands behind this character, where it is the one at the front.
+/// What comes after this character, where it is the one at the front.
 pub(crate) fn behind_mark(here: &str, mark: char) -> Option<&str>
     requires { mark < 128 }
     ensures { option_copied result ≡ behind_mark mark here.now }
@@ -117,7 +117,7 @@ pub(crate) fn behind_mark(here: &str, mark: char) -> Option<&str>
     here.strip_prefix(mark)
 }
 
-/// This word comes next: what stands behind it.
+/// This word comes next: what comes after it.
 #[tactic(auto, unfolding(crate::specs::Reading::word_at))]
 pub(crate) fn word_at<'a>(input: &'a str, word: &str) -> Result<&'a str, Stop>
     ensures { Gives (λ rest. rest.now) result (word_at word.now input.now) }
@@ -129,7 +129,7 @@ pub(crate) fn word_at<'a>(input: &'a str, word: &str) -> Result<&'a str, Stop>
     }
 }
 
-/// This character comes next: what stands behind it.
+/// This character comes next: what comes after it.
 #[tactic(auto, unfolding(crate::specs::Reading::mark_at))]
 pub(crate) fn mark_at(input: &str, mark: char) -> Result<&str, Stop>
     requires { mark < 128 }
@@ -142,8 +142,8 @@ pub(crate) fn mark_at(input: &str, mark: char) -> Result<&str, Stop>
     }
 }
 
-/// Behind its opening quote, a string goes up to its closing one, and two quotes in it stand for one: its content, and
-/// what stands behind it. `None` where it doesn't end.
+/// After its opening quote, a string goes up to its closing one, and two quotes in it stand for one: its content, and
+/// what comes after it. `None` where it doesn't end.
 pub(crate) fn string_in(alloc: Global, input: &str) -> Result<Option<(String, &str)>, AllocError>
     ensures { IfOk result (λ found. contents_of found ≡ string_in input.now) }
 {
@@ -162,7 +162,7 @@ pub(crate) fn string_in(alloc: Global, input: &str) -> Result<Option<(String, &s
     Ok(None)
 }
 
-/// What stands behind a string, from behind its opening quote on. `None` where it doesn't end. It copies nothing.
+/// What comes after a string, from after its opening quote on. `None` where it doesn't end. It copies nothing.
 pub(crate) fn string_end(input: &str) -> Option<&str>
     ensures { option_copied result ≡ string_end (string_in input.now) }
 {

@@ -1,6 +1,6 @@
 //! Commits that were answered and wait for the log.
 //!
-//! A [`Stage`] knows up to which number the log is flushed, and holds each commit behind that, in order. The oldest of
+//! A [`Stage`] knows up to which number the log is flushed, and holds each commit after that, in order. The oldest of
 //! them go into the log as one batch.
 #![tactic(auto)]
 
@@ -33,7 +33,7 @@ impl Model for Stage {
 }
 
 impl Stage {
-    /// None, behind this number. It takes no memory.
+    /// None, after this number. It takes no memory.
     pub fn new(alloc: Global, front: u64) -> Stage
         ensures { result ≡ record { flushed = front; commits = [] } }
     {
@@ -66,7 +66,7 @@ impl Stage {
         &self.commits[..few]
     }
 
-    /// The log is flushed up to this number, which is none behind the batch. Those up to it wait no more.
+    /// The log is flushed up to this number, which is none after the batch. Those up to it wait no more.
     pub fn flushed(&mut self, upto: u64)
         requires later { self.old.flushed ≤ upto }
         requires within { upto ≤ self.old.flushed + length (batch_of self.old) }

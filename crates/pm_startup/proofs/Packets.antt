@@ -21,7 +21,7 @@ use Rattle.pm_startup.proofs.Bodies.{laid_out-same, laid_out-not_malformed, malf
 number-of : (bytes : List ℕ) → big_number 4 bytes ≡ from_be_bytes w32 bytes
 number-of bytes = omega arith
 
--- a number and what stands behind it
+-- a number and what comes after it
 pub int32-front : (bytes : List ℕ) → IsBytes bytes → 4 ≤ length bytes → bytes ≡ int32 (big_number 4 bytes) ++ drop 4 bytes
 unfolding int32
 int32-front bytes fits long =

@@ -32,7 +32,7 @@ string-before bytes i e =
     let inside : k < length bytes = omega (arith, p.0) in
     subst (λ (b : ℕ). b ≢ 0) (sym (get_or-take i bytes k d below ∙ get_or_default bytes k d 0 inside)) (eqb-false _ _ (p.2 k below)))
 
--- the bytes are that string and what stands behind its zero byte
+-- the bytes are that string and what comes after its zero byte
 pub string-ended : (bytes : List ℕ) (i : ℕ) → position (λ b. eqb b 0) bytes ≡ Some i → bytes ≡ string (take i bytes) ++ take (length bytes - (i + 1)) (drop (i + 1) bytes)
 string-ended bytes i e =
     let p = position-Some (λ b. eqb b 0) bytes i 0 e in

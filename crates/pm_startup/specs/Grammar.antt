@@ -93,7 +93,7 @@ pub record IsNoLength (bytes : List ℕ) (verdict : Result Content StartFault) :
   pub spelled : bytes ≡ int32 seen
   pub says : verdict ≡ Err (Length seen)
 
--- These bytes, and none behind them, decide.
+-- These bytes, and none after them, decide.
 abbrev pub Decides : List ℕ → Result Content StartFault → Type 0
 Decides bytes verdict = IsPacket bytes verdict ⊎ IsNoLength bytes verdict
 

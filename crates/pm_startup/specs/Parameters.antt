@@ -29,7 +29,7 @@ pub record IsParameter (p : Parameter) : Type 0 where
 abbrev pub pair : Parameter → List ℕ
 pair p = string p.name ++ string p.value
 
--- pairs, one behind the other
+-- pairs, one after the other
 abbrev pub pairs : List Parameter → List ℕ
 pairs ps = flat_map pair ps
 
@@ -38,7 +38,7 @@ pub record IsLaidOut (body : List ℕ) (ps : List Parameter) : Type 0 where
   pub each : AllByRecursion IsParameter ps
   pub spelled : body ≡ pairs ps ++ 0 ∷ []
 
--- What stands behind the whole pairs is no pair and no last zero byte, and `at` is where it fails:
+-- What comes after the whole pairs is no pair and no last zero byte, and `at` is where it fails:
 -- a name that doesn't end, or nothing at all: where it begins
 abbrev pub EndsInName : List ℕ → ℕ → Type 0
 EndsInName rest at = IsString rest × (at ≡ 0)
@@ -49,7 +49,7 @@ EndsInValue rest at =
     (name : List ℕ) × (value : List ℕ) × (name ≢ []) × IsString name × IsString value
     × (rest ≡ string name ++ value) × (at ≡ length name + 1)
 
--- an empty name that isn't the last byte: the place of the byte behind it
+-- an empty name that isn't the last byte: the place of the byte after it
 abbrev pub EndsEarly : List ℕ → ℕ → Type 0
 EndsEarly rest at = (next : ℕ) × (more : List ℕ) × (rest ≡ 0 ∷ next ∷ more) × (at ≡ 1)
 

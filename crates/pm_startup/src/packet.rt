@@ -13,7 +13,7 @@ pub enum Packet<'a> {
     Cancel { pid: u32, key: u32 },
 }
 
-/// Why a startup packet is refused. Behind a `Length` the frontend gets no reply.
+/// Why a startup packet is refused. After a `Length` the frontend gets no reply.
 #[derive(Clone, Copy, Debug, PartialEq, Eq, Error)]
 pub enum StartFault {
     /// The length is below 8 or above 10004, or is not the 16 of a CancelRequest.
@@ -28,8 +28,8 @@ pub enum StartFault {
     /// A replication connection is asked for.
     #[error("replication connections are not supported")]
     Replication,
-    /// The body is no list of pairs with one zero byte behind. `at` counts from the packet's first byte:
-    /// where the string begins that doesn't end, or the byte behind an empty name that is not the last.
+    /// The body is no list of pairs with one zero byte after it. `at` counts from the packet's first byte:
+    /// where the string begins that doesn't end, or the byte after an empty name that is not the last.
     #[error("invalid startup packet layout: expected terminator as last byte")]
     Malformed { at: usize },
     /// A name begins with `_pq_.`: a protocol option is asked for.

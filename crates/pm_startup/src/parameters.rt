@@ -40,7 +40,7 @@ fn zero_at(bytes: &[u8]) -> Option<usize>
     bytes.iter().position(|b| *b == 0)
 }
 
-/// The string at the front, and what stands behind its zero byte. `None` where it doesn't end.
+/// The string at the front, and what comes after its zero byte. `None` where it doesn't end.
 fn string_at(bytes: &[u8]) -> Option<(&[u8], &[u8])>
     ensures found { IfSome result (λ s. IsString s.0.now
         × (bytes.now ≡ string s.0.now ++ s.1.now)) }

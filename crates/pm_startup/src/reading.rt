@@ -35,7 +35,7 @@ const CANCEL_BYTES: usize = 8;
 /// What stands at the front of a connection's bytes.
 ///
 /// It is told once a packet is whole, or once four bytes are a length that no packet has, and then it
-/// stays, whatever comes behind. Of a packet that isn't whole only the first four bytes are looked at, so
+/// stays, whatever comes after. Of a packet that isn't whole only the first four bytes are looked at, so
 /// a caller may ask again after each byte that comes.
 pub fn read(bytes: &[u8]) -> Read<'_>
     ensures whole { (content : Content) (n : ℕ) → IsWhole result content n

@@ -85,7 +85,7 @@ OneMore r e =
     (recovers : Bool) → Rests recovers r.machine r.due
     → MayStand recovers e × Rests (recovers_after recovers e) (replayed r e).machine (replayed r e).due
 
--- where nothing is due and the machine isn't in Run, it isn't behind the entry either
+-- where nothing is due and the machine isn't in Run, it isn't in Run after the entry either
 still : (recovers : Bool) (r : Replay) → r.due ≡ [] → Rests recovers r.machine r.due → recovers ≡ true → is_run r.machine.state ≡ false
 still recovers r none rests is = by (subst (λ (ds : List Due). (is_run r.machine.state ≡ false) ⊎ IsEndOfRedoDue ds) none (rests is)) where
   by : (is_run r.machine.state ≡ false) ⊎ IsEndOfRedoDue [] → is_run r.machine.state ≡ false
@@ -96,7 +96,7 @@ reported-rests : (e : PmEvent) (m : Machine) → is_run m.state ≡ false → is
 reported-rests (entry.Started pid k) m rests = started-rests m k rests
 reported-rests e m rests = rests
 
--- what is left behind an entry, where nothing was due
+-- what is left after an entry, where nothing was due
 rested : (r : Replay) (e : PmEvent) → r.due ≡ [] → is_run (caused r.machine e).after.state ≡ false → is_run (replayed r e).machine.state ≡ false
 rested r e none calm = rw none (settled-rests (reported e (caused r.machine e).after) (reported-rests e (caused r.machine e).after calm))
 

@@ -299,7 +299,7 @@ startup-shutdown : (m : Machine) (exit : Exit) → (startup_exited m exit).after
 unfolding startup_exited crash_rule
 startup-shutdown m exit = grind arith
 
--- the request that the journal's machine knows behind the end of the startup child
+-- the request that the journal's machine knows after the end of the startup child
 known-request : (r : Replay) (m : Machine) (pid : ℕ) (status : Status) (a : Bool) (now : ℕ) → Agrees r m
     → (replayed r (entry.Exited pid kind.Startup status a now)).machine.shutdown ≡ m.shutdown
 known-request r m pid status a now agrees =

@@ -112,7 +112,7 @@ quit-arms m Turned quits = absurd (let none = (turned-orders m).0 in cc)
 pub request-arms : (m : Machine) (now : ℕ) → is_immediate m.shutdown ≡ false → (step m (Asked mode.Immediate now)).after.abort_at ≡ Some now
 request-arms m now other = grind arith
 
--- sessions are admitted behind a redo only after Ready
+-- sessions are admitted after a redo only after Ready
 
 startup-ready : (m : Machine) (exit : Exit) → is_run m.state ≡ false → is_run (startup_exited m exit).after.state ≡ true
     → has_act is_ready_act (startup_exited m exit).acts ≡ true

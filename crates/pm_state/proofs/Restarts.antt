@@ -365,7 +365,7 @@ ready limits m s there on kept =
 at-rest : (limits : Limits) (r : Replay) (there : List ℕ) → r.due ≡ [] → Kept limits r there → IsKept limits [] r.machine r.shown there
 at-rest limits r there none kept = subst (λ (ds : List Due). IsKept limits (acts_in ds) r.machine r.shown there) none kept
 
--- what is left behind an entry, where nothing was due
+-- what is left after an entry, where nothing was due
 rested : (limits : Limits) (r : Replay) (e : PmEvent) (acts : List Action) (there : List ℕ) → r.due ≡ [] → acts_in (dues_after r.machine e) ≡ acts
     → IsKept limits acts (reported e (caused r.machine e).after) (shown_after r.machine r.shown e) there → Kept limits (replayed r e) there
 rested limits r e acts there none is kept =

@@ -275,7 +275,7 @@ pub turn-writes : (gives : ℕ → Bool) (kept : ℕ) (r : Replay) (m : Machine)
     → Writes gives r (entries_of_call kept r m TakesTurn) (machine_with_reports m TakesTurn)
 turn-writes gives kept r m agrees on none = by-turn (TurnDoes gives kept r) (turn-does gives kept r) m agrees on none
 
--- behind a turn no move waits
+-- after a turn no move waits
 
 started-quiet : (k : Kind) (m : Machine) → is_quiet m.state ≡ true → is_quiet (started_as k m).state ≡ true
 started-quiet k m quiet = grind arith

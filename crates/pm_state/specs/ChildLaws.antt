@@ -19,7 +19,7 @@ pub nobody : (cs : List Child) → count_of is_session cs ≡ 0 → count_of is_
 nobody [] p q r s t = refl
 nobody (c ∷ cs) p q r s t = absurd (omega (arith, one_kind c.kind))
 
--- before the first child, and behind the last one
+-- before the first child, and after the last one
 abbrev pub is_deserted : PmState → Bool
 is_deserted state.Init = true
 is_deserted state.NoChildren = true

@@ -39,7 +39,7 @@ abbrev pub with_reports : ServerState → Call → List Call
 with_reports p call =
     call ∷ reports_of (all_happened p.trace (events_of_call p.machine call)).now.shared.last_pid (acts_of_call p.machine call)
 
--- behind a call whose acts are done and noted, and whose starts are reported
+-- after a call whose acts are done and noted, and whose starts are reported
 abbrev pub behind_call : ℕ → ServerState → Call → ServerState
 behind_call kept p call =
     record {
@@ -48,8 +48,8 @@ behind_call kept p call =
       trace = all_happened p.trace (events_in p.machine (with_reports p call));
     }
 
--- when a server makes a call that it may make: pids rise by one, moments never fall, an accept comes right behind a turn, and
--- behind the last pid a smart shutdown is asked for
+-- when a server makes a call that it may make: pids rise by one, moments never fall, an accept comes right after a turn, and
+-- after the last pid a smart shutdown is asked for
 abbrev pub IsTimely : (ℕ → Bool) → Replay → Machine → Call → Type 0
 IsTimely gives r m (Accepts pid) = (r.asks_smart ≡ false) × (settled m ≡ m) × (pid ≡ r.shown.last_pid + 1)
 IsTimely gives r m (Exits pid kind status was_active now) = (r.asks_smart ≡ false) × IsMoment gives r now
@@ -58,7 +58,7 @@ IsTimely gives r m (Ticks now) = (r.asks_smart ≡ false) × IsMoment gives r no
 IsTimely gives r m TakesTurn = r.asks_smart ≡ false
 IsTimely gives r m _ = ⊥
 
--- what the call writes is legal, the call and the reports are a run of the supervisor, and behind them all are in step again
+-- what the call writes is legal, the call and the reports are a run of the supervisor, and after them all are in step again
 pub record KeepsStep (gives : ℕ → Bool) (limits : Limits) (kept : ℕ) (p : ServerState) (call : Call) : Type 0 where
   pub legal : AreLegal gives p.replay (entries_of_call kept p.replay p.machine call)
   pub run : IsRun limits p.trace (events_in p.machine (with_reports p call))

@@ -268,8 +268,8 @@ entries_of_call kept r m _ = []
 abbrev pub machine_with_reports : Machine → Call → Machine
 machine_with_reports m call = all_reported (acts_of_call m call) (machine_after m call)
 
--- where a server makes a call and journals it: pids rise by one, moments never fall, an accept comes right behind a turn, and
--- behind the last pid a smart shutdown is asked for
+-- where a server makes a call and journals it: pids rise by one, moments never fall, an accept comes right after a turn, and
+-- after the last pid a smart shutdown is asked for
 abbrev pub MayWrite : (ℕ → Bool) → Replay → Machine → Call → Type 0
 MayWrite gives r m (Accepts pid) =
     (r.asks_smart ≡ false) × (MayAccept m × (settled m ≡ m) × (pid ≡ r.shown.last_pid + 1))
@@ -281,7 +281,7 @@ MayWrite gives r m (Ticks now) = (r.asks_smart ≡ false) × IsMoment gives r no
 MayWrite gives r m TakesTurn = r.asks_smart ≡ false
 MayWrite gives r m _ = ⊥
 
--- these entries are legal, and behind them journal and machine agree
+-- these entries are legal, and after them journal and machine agree
 pub record Writes (gives : ℕ → Bool) (r : Replay) (entries : List PmEvent) (m : Machine) : Type 0 where
   pub legal : AreLegal gives r entries
   pub agrees : Agrees (all_replayed r entries) m

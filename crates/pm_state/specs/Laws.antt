@@ -96,7 +96,7 @@ pub record WritesALegalJournal : Type 0 where
   pub call :
       (gives : ℕ → Bool) (kept : ℕ) (r : Replay) (m : Machine) (call : Call) → Agrees r m → m.ended ≡ false
       → MayWrite gives r m call → Writes gives r (entries_of_call kept r m call) (machine_with_reports m call)
-  -- behind a turn the moves that leave no entry are made, so that a connection may be accepted
+  -- after a turn the moves that leave no entry are made, so that a connection may be accepted
   pub turned : (m : Machine) → settled (machine_with_reports m TakesTurn) ≡ machine_with_reports m TakesTurn
   pub append :
       (gives : ℕ → Bool) (r : Replay) (xs ys : List PmEvent) → AreLegal gives r xs → AreLegal gives (all_replayed r xs) ys
@@ -172,7 +172,7 @@ pub record KeepsItsPromises : Type 0 where
   -- and nobody before
   pub waits :
       (m : Machine) (since now : ℕ) → m.abort_at ≡ Some since → now + 1 ≤ since + patience → (step m (Ticked now)).acts ≡ []
-  -- sessions are admitted behind a redo only after Ready
+  -- sessions are admitted after a redo only after Ready
   pub ready :
       (m : Machine) (pid : ℕ) (status : Status) (was_active : Bool) (now : ℕ) → is_run m.state ≡ false
       → is_run (step m (Exited pid Startup status was_active now)).after.state ≡ true

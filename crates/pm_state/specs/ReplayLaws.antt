@@ -57,7 +57,7 @@ pub record Keeps (H : Type 0) (heard_after : H → PmEvent → H) (U : H → Lis
   pub row : (h : H) (m : Machine) → m.ended ≡ false → U h [] m → U h (row_of m).acts (row_of m).after
   pub settled : (h : H) (acts : List Action) (m : Machine) → U h acts m → U h acts (settled m)
 
--- what is kept behind an entry
+-- what is kept after an entry
 abbrev pub Behind : (H : Type 0) (heard_after : H → PmEvent → H) (U : H → List Action → Machine → Type 0) (P : PmEvent → Type 0) → H → Replay → PmEvent → Type 0
 Behind H heard_after U P h r e = P e × U (heard_after h e) (acts_in (replayed r e).due) (replayed r e).machine
 

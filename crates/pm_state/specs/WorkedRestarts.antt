@@ -7,11 +7,11 @@ use Rattle.pm_state.specs.declared.event.PmEvent.{PmEvent}
 use Rattle.pm_state.specs.declared.event.PmEvent.TheVariants as entry
 use Rattle.pm_state.specs.Restarts.{AdmitsFrom, BeginsFrom}
 
--- a session is accepted behind a crash, before redo has ended
+-- a session is accepted after a crash, before redo has ended
 abbrev pub early : List PmEvent
 early = entry.Exited 4 Backend (Signal 6) true 9 ∷ entry.Accepted 5 Admitted ∷ []
 
--- and behind the end of redo
+-- and after the end of redo
 abbrev pub in_time : List PmEvent
 in_time = entry.Exited 4 Backend (Signal 6) true 9 ∷ entry.RedoEnded 2 7 ∷ entry.Accepted 5 Admitted ∷ []
 
@@ -19,7 +19,7 @@ in_time = entry.Exited 4 Backend (Signal 6) true 9 ∷ entry.RedoEnded 2 7 ∷ e
 abbrev pub beside : List PmEvent
 beside = entry.Accepted 5 Admitted ∷ entry.Reset 2 ∷ []
 
--- and behind its end
+-- and after its end
 abbrev pub behind : List PmEvent
 behind = entry.Accepted 5 Admitted ∷ entry.Exited 5 Backend (Signal 6) true 9 ∷ entry.Reset 2 ∷ []
 

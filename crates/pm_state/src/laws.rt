@@ -32,13 +32,13 @@ pub fn tells_of_each_start()
 {}
 
 /// What the calls write, done and reported in their order, is a legal journal, from any place at which journal and machine
-/// agree: and behind it they agree again.
+/// agree: and after it they agree again.
 pub fn writes_a_legal_journal()
     ensures { WritesALegalJournal }
 {}
 
 /// Journal, machine and supervisor stay in step, one call of a server at a time: what the call writes is legal, its events
-/// and the starts that it asks for are a run of the supervisor, and behind them the journal leaves the machine and, but for
+/// and the starts that it asks for are a run of the supervisor, and after them the journal leaves the machine and, but for
 /// who is attached, what the supervisor shares.
 pub fn stays_in_step()
     ensures { StaysInStep }
@@ -63,7 +63,7 @@ pub fn worked_restarts()
 /// What is told to end at once has five seconds: the moment is set by every Quit, by an abnormal exit, that of a startup child
 /// too, and by an immediate request, stays until children are killed or none is left, and whoever is left five seconds after it
 /// is killed. Sessions that are to end are told to, and the last checkpoint is asked for where it is waited for. Connections are
-/// served behind a redo only after Ready, which comes before the starts that come with it.
+/// served after a redo only after Ready, which comes before the starts that come with it.
 pub fn keeps_its_promises()
     ensures { KeepsItsPromises }
 {}

@@ -61,7 +61,7 @@ module _ {F : Type 0} (table : TableId) (n : ℕ) where
   pub comes_back : (listed more all others : List (TokenModel F)) (token : TokenModel F) → all ≡ others ++ token ∷ [] → more ≡ listed ++ token ∷ [] → AreParted table n listed all → AreParted table n more others
   comes_back listed more all others token is is' are = subst (λ l. AreParted table n l others) (sym is') (back listed others token (subst (AreParted table n listed) is are))
 
-  -- the others as a vector has them behind a write to all of it
+  -- the others as a vector has them after a write to all of it
   pub stays : (listed was now rest : List (TokenModel F)) (len : ℕ) → length now ≡ length was → len ≡ length now → AreSame was now → AreParted table n listed was → AreParted table n listed (take len (now ++ rest))
   stays listed was now rest len same_length is_length same are =
       let whole : take len (now ++ rest) ≡ now = ap (λ k. take k (now ++ rest)) is_length ∙ take-append_seam now rest in

@@ -12,7 +12,7 @@ module _ {F : Type 0} where
   abbrev pub AreSame : List (TokenModel F) → List (TokenModel F) → Type 0
   AreSame before now = (i : ℕ) (d : TokenModel F) → i < length before → IsSame (slice_index_or before i d) (slice_index_or now i d)
 
-  -- all n tokens of this table: those in the list by their numbers, and the others behind them, the last one first
+  -- all n tokens of this table: those in the list by their numbers, and the others after them, the last one first
   pub record AreParted (table : TableId) (n : ℕ) (listed others : List (TokenModel F)) : Type 0 where
     pub all : length listed + length others ≡ n
     pub first : (k : ℕ) (token : TokenModel F) → slice_get listed k ≡ Some token → (token.table ≡ table) × (token.number ≡ k)

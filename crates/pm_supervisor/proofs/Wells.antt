@@ -168,7 +168,7 @@ checkpointed-step limits h Reset may well = refl
 checkpointed-step limits h (End how) may well = refl
 checkpointed-step limits h (Move to) may well = grind (arith, well)
 
--- a clean end behind a smart or fast request has had its checkpoint
+-- a clean end after a smart or fast request has had its checkpoint
 pub clean-end : (limits : Limits) (h : Trace) → IsWell limits h → MayHappen limits h (End ending.Clean) → is_immediate h.now.request ≡ false
     → is_checkpointed h.past ≡ true
 clean-end limits h well may other =

@@ -90,6 +90,6 @@ pub record IsWell (limits : Limits) (h : Trace) : Type 0 where
   -- from the noticing of a crash until redo has ended nothing serves
   pub not_running : not (awaits_redo h.past) || not (is_running h.now.phase) ≡ true
   pub closed : not (awaits_redo h.past) || (is_some h.now.shared.noticed || not h.now.shared.is_open) ≡ true
-  -- with no crash and no immediate request the children are cleared only behind the last checkpoint
+  -- with no crash and no immediate request the children are cleared only after the last checkpoint
   pub checkpointed :
       not (is_clearing h.now.phase) || (h.now.crash || (is_immediate h.now.request || is_checkpointed h.past)) ≡ true

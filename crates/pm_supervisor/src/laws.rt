@@ -35,7 +35,7 @@ pub fn ends_for_good()
     ensures { EndsForGood }
 {}
 
-/// A clean end behind a smart or fast request has had its last checkpoint, in the same generation.
+/// A clean end after a smart or fast request has had its last checkpoint, in the same generation.
 pub fn ends_clean_behind_a_checkpoint()
     ensures { EndsCleanBehindACheckpoint }
 {}

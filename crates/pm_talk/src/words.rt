@@ -17,7 +17,7 @@ pub struct Asked<'a> {
     pub user: &'a str,
 }
 
-/// Reads `--port N` and `--user NAME`, behind the program's name. Both are required.
+/// Reads `--port N` and `--user NAME`, after the program's name. Both are required.
 pub fn read_words(alloc: Global, words: &[String]) -> Result<Asked<'_>, Fault>
     ensures user { IfOk result (λ asked. IsSayable asked.user.now) }
     ensures named { IfOk result (λ asked. asked.user.now ≢ []) }

@@ -224,7 +224,7 @@ says two\x20files\x20of\x20epoch\x201\n
 a ONE_ROW
 b OPEN HEADER CLOSED";
 
-/// Words behind the place of the first one that doesn't fit, from 0 on.
+/// Words after the place of the first one that doesn't fit, from 0 on.
 const MISFITS: &str = r"
 None:
 None: once

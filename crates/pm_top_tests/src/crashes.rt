@@ -2,7 +2,7 @@
 use crate::play::play;
 use std::test::Fail;
 
-/// A session that inserts two rows, behind the six calls that read the log: a server that isn't to restart, and then one that is.
+/// A session that inserts two rows, after the six calls that read the log: a server that isn't to restart, and then one that is.
 const SCENES: &str = r"
 # the first body
 files NEW | CLOSED | 7

@@ -195,7 +195,7 @@ REDO_2_OF_0 = RedoEnded { generation: 2, kept: 0 }\n
 REDO_2_OF_1 = RedoEnded { generation: 2, kept: 1 }\n
 REDO_2_OF_2 = RedoEnded { generation: 2, kept: 2 }\n"#;
 
-// What a list of names says behind a sign, or the word itself.
+// What a list of names says after a sign, or the word itself.
 fn meaning<'a>(word: &'a str, sign: &str) -> &'a str {
     for line in NAMES.lines() {
         if let Some((name, meaning)) = line.split_once(sign)
@@ -211,7 +211,7 @@ pub fn number(text: &str) -> Result<usize, Fail> {
     Ok(text.parse::<usize>().ok().ok_or("a number")?)
 }
 
-// Puts what a word stands for behind the bytes. `v*3` stands for it three times, and `..60` cuts there.
+// Puts what a word stands for after the bytes. `v*3` stands for it three times, and `..60` cuts there.
 fn put(alloc: Global, bytes: &mut Vec<u8>, word: &str) -> Result<(), Fail> {
     if let Some(length) = word.strip_prefix("..") {
         bytes.truncate(number(length)?);
@@ -225,7 +225,7 @@ fn put(alloc: Global, bytes: &mut Vec<u8>, word: &str) -> Result<(), Fail> {
     Ok(())
 }
 
-/// The bytes that words stand for, one behind the other. Between two stands a space or a comma.
+/// The bytes that words stand for, one after the other. Between two stands a space or a comma.
 pub fn spelled(alloc: Global, words: &str) -> Result<Vec<u8>, Fail> {
     let mut bytes = Vec::new(alloc);
     for word in words.split([' ', ',']) {

@@ -19,7 +19,7 @@ pub struct Setup {
     /// Which call of the disk waits, and for what.
     pub withheld: Withheld,
     pub until: Cue,
-    /// The number of the call of the disk that fails, and whether each behind it does.
+    /// The number of the call of the disk that fails, and whether each after it does.
     pub fails: u64,
     pub breaks: bool,
     pub links: Vec<LinkScript>,

@@ -6,7 +6,7 @@
 //! | line | what it says |
 //! |---|---|
 //! | `with connections 2`, `with threads 64`, `with time`, `with restart off` | what is not as for the others |
-//! | `fails 7`, `breaks 7` | that call of the disk fails, alone or with each behind it |
+//! | `fails 7`, `breaks 7` | that call of the disk fails, alone or with each after it |
 //! | `read CUE`, `write CUE` | the disk's first read or write waits for that |
 //! | `link CUE : WORDS` | a link over which this comes in, before which the port waits for the cue |
 //! | `end CUE` | the port's end waits for that |
@@ -255,7 +255,7 @@ fn play_scene<R: Threads + Wait + Clock + Copy + Drop + Abort + Send + 'static>(
     Ok(())
 }
 
-/// Goes through the scenes, each of which begins with a line of its own behind `# `.
+/// Goes through the scenes, each of which begins with a line of its own after `# `.
 pub fn play<R: Threads + Wait + Clock + Copy + Drop + Abort + Send + 'static>(
     rt: R,
     alloc: Global,

@@ -12,7 +12,7 @@ continued more = record { more = more; low = 128; high = 191 }
 abbrev pub boundary : Awaited
 boundary = continued 0
 
--- behind the first byte of a character, of which so many are to come
+-- after the first byte of a character, of which so many are to come
 abbrev pub begun : ℕ → ℕ → Awaited
 begun more byte = record { more = more; low = second_byte_min byte; high = second_byte_max byte }
 

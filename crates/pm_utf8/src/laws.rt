@@ -12,7 +12,7 @@ pub fn text_ends_between_characters()
 {}
 
 /// A text that is cut needs at least the bytes that are awaited there, and can have any greater number; one
-/// with a byte that can't stand where it does is mended by no bytes behind it.
+/// with a byte that can't stand where it does is mended by no bytes after it.
 pub fn text_needs_what_is_awaited()
     ensures at_least { (front rest : List ℕ) (state : Awaited) → run boundary front ≡ Some state
         → IsUtf8 (front ++ rest) → state.more ≤ length rest }

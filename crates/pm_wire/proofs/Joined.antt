@@ -4,7 +4,7 @@ use Rattle.std.proofs.lemmas.List.{append-nil}
 use Rattle.pm_wire.specs.Pieces.{int16, int32, string, counted}
 use Rattle.pm_wire.specs.Backend.{fields}
 
--- its zero bytes stand with the letters behind them
+-- its zero bytes stand with the letters after them
 pub plain_fields : (word code text : List ℕ) → (83 ∷ []) ++ (word ++ ((0 ∷ 86 ∷ []) ++ (word ++ ((0 ∷ 67 ∷ []) ++ (code ++ ((0 ∷ 77 ∷ []) ++ (text ++ ((0 ∷ 0 ∷ []) ++ []))))))))
     ≡ fields word code text None
 unfolding fields

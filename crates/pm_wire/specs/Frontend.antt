@@ -1,4 +1,4 @@
--- The messages that a client sends behind its startup packet (Message Formats), as this server tells them apart.
+-- The messages that a client sends after its startup packet (Message Formats), as this server tells them apart.
 use Rattle.std.specs.Prelude.{◌≡◌, ◌≢◌, ℕ, ◌+◌, ◌<◌, ◌≤◌, ◌^◌, ◌⊎◌, Bool, false, IsTrue, ◌==◌, List, [], ◌∷◌, ◌++◌, length, codes}
 use Rattle.std.specs.List.{list_any}
 use Rattle.pm_facts.specs.Zeros.{HasNoZero}

@@ -25,7 +25,7 @@ abbrev pub query_or_bad : Option (List ℕ) → FrontMessage
 query_or_bad None = BadQuery
 query_or_bad (Some text) = Query text
 
--- behind the type and the length
+-- after the type and the length
 abbrev pub query_of_length : ℕ → List ℕ → Take FrontMessage
 query_of_length seen rest =
     if nat_lt seen 4 then Bad (BadLength seen)
@@ -36,7 +36,7 @@ query_of_length seen rest =
 abbrev pub terminate_of_length : ℕ → Take FrontMessage
 terminate_of_length seen = if seen == 4 then Whole Terminate 5 else Bad (BadLength seen)
 
--- behind the type
+-- after the type
 unfoldable pub query_of : List ℕ → Take FrontMessage
 query_of rest = if nat_lt (length rest) 4 then Short 5 else query_of_length (big_number 4 rest) (drop 4 rest)
 

@@ -1,7 +1,7 @@
 -- A stream of messages, which comes in pieces of any size.
 use Rattle.std.specs.Prelude.{◌≡◌, ◌≢◌, ℕ, ◌+◌, List, [], ◌∷◌, ◌++◌, length}
 
--- The bytes are these messages, one behind the other, and then rest. Is says which bytes are which message.
+-- The bytes are these messages, one after the other, and then rest. Is says which bytes are which message.
 abbrev pub IsStream : {M : Type 0} → (List ℕ → M → Type 0) → List ℕ → List M → List ℕ → Type 0
 IsStream Is bytes [] rest = bytes ≡ rest
 IsStream Is bytes (m ∷ ms) rest = (spelled after : List ℕ) × (bytes ≡ spelled ++ after) × Is spelled m × IsStream Is after ms rest
@@ -37,12 +37,12 @@ pub record FailsAt {M F : Type 0} (Is : List ℕ → M → Type 0) (Fails : List
   pub fails : Fails rest fault
   pub stands : at + length rest ≡ length stream + place fault
 
--- a stream fails at one byte, behind one list of messages, for one fault
+-- a stream fails at one byte, after one list of messages, for one fault
 abbrev pub FailsOnce : {M F : Type 0} → (List ℕ → M → Type 0) → (List ℕ → F → Type 0) → (F → ℕ) → Type 0
 FailsOnce {M} {F} Is Fails place =
     (stream : List ℕ) (ms ns : List M) (f g : F) (a b : ℕ) → FailsAt Is Fails place stream ms f a → FailsAt Is Fails place stream ns g b → (ms ≡ ns) × (f ≡ g) × (a ≡ b)
 
--- What comes behind makes no difference.
+-- What comes after makes no difference.
 abbrev pub FailsForGood : {M F : Type 0} → (List ℕ → M → Type 0) → (List ℕ → F → Type 0) → (F → ℕ) → Type 0
 FailsForGood {M} {F} Is Fails place =
     (stream more : List ℕ) (ms : List M) (f : F) (at : ℕ) → FailsAt Is Fails place stream ms f at → FailsAt Is Fails place (stream ++ more) ms f at

@@ -1,4 +1,4 @@
-//! What a client sends behind its startup packet.
+//! What a client sends after its startup packet.
 
 ghost use Rattle.std.specs.Prelude.{◌≡◌, ◌≢◌, ℕ, ◌≤◌, ◌<◌, ◌++◌, ◌==◌, ◌↔◌, List, length, take, position};
 ghost use Rattle.std.specs.Option.{option_map};
@@ -53,7 +53,7 @@ fn text_of(body: &[u8]) -> Option<&[u8]>
     }
 }
 
-/// Reads a query behind its type.
+/// Reads a query after its type.
 #[tactic(auto, unfolding(crate::specs::Reading::query_of))]
 fn query_of(rest: &[u8]) -> Take<Front<'_>>
     ensures { seen_by front_message result ≡ query_of rest.now }
@@ -84,7 +84,7 @@ fn query_of(rest: &[u8]) -> Take<Front<'_>>
     Take::Whole { value, used: whole }
 }
 
-/// Reads the end of a session behind its type.
+/// Reads the end of a session after its type.
 #[tactic(auto, unfolding(crate::specs::Reading::terminate_of))]
 fn terminate_of(rest: &[u8]) -> Take<Front<'_>>
     ensures { seen_by front_message result ≡ terminate_of rest.now }

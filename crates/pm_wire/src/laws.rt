@@ -22,8 +22,8 @@ pub fn front_stream_has_one_reading()
     ensures in_pieces { SplitInPieces IsFront }
 {}
 
-/// A client's stream that goes wrong does so at one byte, however it was cut: behind the same messages, for the
-/// same fault, whatever comes behind.
+/// A client's stream that goes wrong does so at one byte, however it was cut: after the same messages, for the
+/// same fault, whatever comes after.
 pub fn front_stream_fails_at_one_byte()
     ensures once { FailsOnce IsFront FrontFails place_of }
     ensures for_good { FailsForGood IsFront FrontFails place_of }

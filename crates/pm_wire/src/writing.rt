@@ -39,7 +39,7 @@ fn total(pieces: &[&[u8]]) -> usize
     total
 }
 
-/// Appends the pieces, one behind the other, for which there is room.
+/// Appends the pieces, one after the other, for which there is room.
 fn append_all(out: &mut Outbox, pieces: &[&[u8]])
     requires { length (flat_map (λ piece. piece.now) pieces.now) ≤ room out.old }
     ensures bytes { out.new.bytes ≡ out.old.bytes ++ flat_map (λ piece. piece.now) pieces.now }

@@ -170,7 +170,7 @@ goes_known kind more m is =
 pub empty_goes : GoesOnAsBack []
 empty_goes = let g = known_goes 82 refl in (82 ∷ g.0, g.1, omega arith, g.3)
 
--- ---- a message behind its header
+-- ---- a message after its header
 
 pub record Unheaded (kind n : ℕ) (rest : List ℕ) (m : BackMessage) : Type 0 where
   pub size : 4 + length (body m) ≡ n

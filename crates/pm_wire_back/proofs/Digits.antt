@@ -65,7 +65,7 @@ zeros_are_digits : (k : ℕ) → all_ascii_digits (replicate k 48) ≡ true
 zeros_are_digits zero = refl
 zeros_are_digits (suc k) = zeros_are_digits k
 
--- behind a number that isn't 0 no zero leads
+-- after a number that isn't 0 no zero leads
 leads_behind : (zeros : Bool) (value : ℕ) (word : List ℕ) → 0 < value → Leads zeros value word
 leads_behind zeros value [] h = tt
 leads_behind zeros value (b ∷ bs) h = rw (ne_eqb (behind_digit value b) 0 (λ e. omega (arith, h, e))) refl

@@ -1,5 +1,5 @@
 -- Readers that are exact: what is read stands there, more bytes are wanted where they can complete it, and a byte departs
--- where no bytes behind it can. A language says which words are which values.
+-- where no bytes after it can. A language says which words are which values.
 use Rattle.std.proofs.Common.{◌≡◌, ℕ, suc, ◌<◌, List, [], ◌∷◌, ◌++◌, length, Result, Ok, Err, refl, sym, ap, subst, ◌∙◌, inl, inr, arith, append_assoc, ◌⊎◌}
 use Rattle.std.proofs.lemmas.List.{append-nil, length-append, append_cancel_left}
 use Rattle.pm_wire_back.specs.declared.parts.Stop.{Stop}
@@ -82,7 +82,7 @@ module _ {X Y : Type 0} (A : List ℕ → X → Type 0) (B : X → List ℕ → 
       let w = words (front ++ g.0) g.1 g.3 in
       (g.0 ++ w.0, w.1, omega (arith, length-append g.0 w.0, g.2), (front ++ g.0, w.0, g.1, sym (append_assoc front g.0 w.0), g.3, w.2))
 
-  -- the second part, read behind a first one
+  -- the second part, read after a first one
   second : (bytes u rest : List ℕ) (x : X) → A u x → bytes ≡ u ++ rest → (out : Result (Y × List ℕ) Stop) → Exact (B x) rest out → Exact (Then A B) bytes out
   second bytes u rest x at_x parts (Ok p) h =
       (u ++ h.0, parts ∙ ap (λ (w : List ℕ). u ++ w) h.1 ∙ sym (append_assoc u h.0 p.1), (u, h.0, x, refl, at_x, h.2))

@@ -20,7 +20,7 @@ use Rattle.std.proofs.lemmas.Bool.{eq-eqb}
 use Rattle.pm_wire_back.proofs.Walks.{fitting_is}
 use Rattle.pm_wire_back.proofs.Exact.{Apart, GoesOn, HasWord, Exact}
 
--- a reader that goes on behind the first byte
+-- a reader that goes on after the first byte
 pub exact_first : {X Y : Type 0} (L : List ℕ → Y → Type 0) (M : List ℕ → X → Type 0) (g : X → Y) (b : ℕ)
     → ((w : List ℕ) (x : X) → M w x → L (b ∷ w) (g x)) → ((w : List ℕ) (y : Y) → L (b ∷ w) y → (x : X) × M w x)
     → (bs : List ℕ) (read : Result (X × List ℕ) Stop) → Exact M bs read → Exact L (b ∷ bs) (read >>= λ p. Ok (g p.0, p.1))
@@ -264,7 +264,7 @@ positive_byte state next zero sound other step =
       | false ↦ λ e. let is = after_is state 0 next e step in absurd (omega (arith, is.0, sound.low))
     ] refl
 
--- a string goes on behind the byte
+-- a string goes on after the byte
 module _ (ending : Ending) (state : Awaited) (left b : ℕ) (sound : IsSound state) (le : state.more ≤ left) where
   -- a zero where no character is open is the end
   ends : (bs : List ℕ) → (state.more == 0 && b == 0) ≡ true

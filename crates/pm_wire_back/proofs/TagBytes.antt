@@ -179,7 +179,7 @@ detail_out (Some detail) word e text nonzero =
     ) in
     subst (λ (n : ℕ). Detail n word (Some detail)) two made
 
--- a report of this severity behind its first letter
+-- a report of this severity after its first letter
 record SaidIs (size : ℕ) (word : List ℕ) (s : Saying) : Type 0 where
   is : 83 ∷ word ≡ fields_of s
   size_is : suc (length word) ≡ size

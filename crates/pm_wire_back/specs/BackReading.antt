@@ -1,4 +1,4 @@
--- Reading a message of the server behind its type and its length, which leaves it size bytes.
+-- Reading a message of the server after its type and its length, which leaves it size bytes.
 use Rattle.std.specs.Prelude.{ℕ, ◌+◌, ◌-◌, ◌*◌, ◌^◌, Bool, true, not, ◌&&◌, ◌||◌, ◌==◌, nat_lt, if◌then◌else◌, List, [], ◌∷◌, ◌++◌, length, drop, Option, Some, None, Result, Ok, Err, codes}
 use Rattle.std.specs.List.{list_any}
 use Rattle.byteorder.specs.Endian.{big_number}
@@ -40,7 +40,7 @@ key_data_at bytes = do
   key ← int32_at pid.1
   Ok (Key pid.0 key.0, key.1)
 
--- a row, behind the number of its columns
+-- a row, after the number of its columns
 unfoldable pub one_at : ℕ → List ℕ → Read
 one_at size bytes = do
   count ← literal_at (int32 (size - 6)) bytes
@@ -108,7 +108,7 @@ detail_at left bytes =
     if left == 0 then (literal_at (0 ∷ []) bytes >>= λ end. Ok (None, end.1))
     else (literal_at (codes "D") bytes >>= λ letter. string_at Exactly boundary (left - 2) letter.1 >>= λ detail. literal_at (0 ∷ []) detail.1 >>= λ end. Ok (Some detail.0, end.1))
 
--- what stands before the code of a report of this severity, behind its first letter
+-- what stands before the code of a report of this severity, after its first letter
 abbrev pub severity_fields : Severity → List ℕ
 severity_fields severity = severity_word severity ++ 0 ∷ codes "V" ++ severity_word severity ++ 0 ∷ codes "C"
 

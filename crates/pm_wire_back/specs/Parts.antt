@@ -68,7 +68,7 @@ string_at ending state left (b ∷ bs) =
     if state.more == 0 && b == 0 then (if may_end ending left then Ok ([], bs) else departs (b ∷ bs))
     else option_map_or (λ next. with_first b (string_at ending next (left - 1) bs)) (fitting left (after state b)) (departs (b ∷ bs))
 
--- what a number is behind one more digit
+-- what a number is after one more digit
 abbrev pub behind_digit : ℕ → ℕ → ℕ
 behind_digit value b = 10 * value + (b - 48)
 

@@ -32,7 +32,7 @@ pub record HasNoSuchLength (bytes : List ℕ) (seen : ℕ) : Type 0 where
   pub known : GoesOnAsBack (kind ∷ [])
   pub none : (more : List ℕ) (m : BackMessage) → ¬ (IsBack (kind ∷ (int32 seen ++ more)) m)
 
--- At this place, the type's or one behind the length, stands a byte with which no message goes on, and one goes on up to it.
+-- At this place, the type's or one after the length, stands a byte with which no message goes on, and one goes on up to it.
 pub record DepartsHere (bytes : List ℕ) (at : ℕ) : Type 0 where
   pub front : List ℕ
   pub byte : ℕ

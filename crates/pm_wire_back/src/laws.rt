@@ -18,8 +18,8 @@ pub fn back_stream_has_one_reading()
     ensures in_pieces { SplitInPieces IsBack }
 {}
 
-/// A server's stream that goes wrong does so at one byte, however it was cut: behind the same messages, for the same
-/// fault, whatever comes behind.
+/// A server's stream that goes wrong does so at one byte, however it was cut: after the same messages, for the same
+/// fault, whatever comes after.
 pub fn back_stream_fails_at_one_byte()
     ensures once { FailsOnce IsBack BackFails place_of }
     ensures for_good { FailsForGood IsBack BackFails place_of }

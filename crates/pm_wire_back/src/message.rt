@@ -114,7 +114,7 @@ fn has_length(kind: u8, seen: u32) -> bool
     seen > 3 && seen < 1 << 31 && fits_type(kind, (seen - 4) as usize)
 }
 
-/// Reads a message behind its type and its length.
+/// Reads a message after its type and its length.
 fn behind_length(kind: u8, seen: u32, after: &[u8]) -> Take<Back<'_>>
     requires { length after.now < 2 ^ 63 }
     ensures seen { seen_by back_message result ≡ back_of_length kind seen after.now }

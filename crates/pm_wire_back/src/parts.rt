@@ -1,5 +1,5 @@
-//! Reading the parts of a message of the server, one behind the other. Each reader answers what it read
-//! and the bytes behind it, or where no message goes on.
+//! Reading the parts of a message of the server, one after the other. Each reader answers what it read
+//! and the bytes after it, or where no message goes on.
 
 ghost use Rattle.std.specs.Prelude.{◌≡◌, ◌≤◌, ◌<◌, ◌+◌, ◌==◌, ◌&&◌, length, take, drop, OnOk, IfOk, IfSome, IfNone, true, false, not, ◌*◌, ◌^◌, ◌/◌, ◌⊎◌};
 ghost use Rattle.std.specs.Str.{IsUtf8};
@@ -19,7 +19,7 @@ pub(crate) enum Stop {
     Departs { left: usize },
 }
 
-/// What was read, and the bytes behind it.
+/// What was read, and the bytes after it.
 pub(crate) type Read<'a, T> = Result<(T, &'a [u8]), Stop>;
 
 /// Where a string may end, by how many more bytes of text there is room for.
@@ -90,7 +90,7 @@ pub(crate) fn nonzero(bytes: &[u8], count: usize) -> Result<(), Stop>
     Ok(())
 }
 
-/// The state behind one more byte, of which there is room for `left`, or none where no text has the byte there.
+/// The state after one more byte, of which there is room for `left`, or none where no text has the byte there.
 fn fitting(state: Awaited, byte: u8, left: usize) -> Option<Awaited>
     ensures { result ≡ fitting left (after state byte) }
 {
@@ -175,7 +175,7 @@ pub(crate) fn string(bytes: &[u8], ending: Ending, room: usize) -> Read<'_, &str
     Ok((text, &bytes[end + 1..]))
 }
 
-/// The number behind one more digit, of which `more` are to come, or none where no number at most
+/// The number after one more digit, of which `more` are to come, or none where no number at most
 /// `limit` goes on so.
 fn behind_digit(value: u64, byte: u8, more: u32, limit: u64, zeros: bool) -> Option<u64>
     requires few { more < 20 }

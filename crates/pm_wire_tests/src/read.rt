@@ -8,7 +8,7 @@ use std::alloc::Global;
 use std::process::Abort;
 use std::test::Fail;
 
-/// Who sends, some bytes, and what is read of their fronts from none up to all, each answer behind the number of bytes
+/// Who sends, some bytes, and what is read of their fronts from none up to all, each answer after the number of bytes
 /// from which on it is given. In a server's messages and in packets the bytes of a code and of a kind are numbers.
 const TABLE: &str = r#"# lengths of a client's messages
 client | Q\0\0\0\0 | 0 wants 1, 1 wants 5, 5 BadLength { seen: 0 }

@@ -178,7 +178,7 @@ number-there before (Some number) is = all-there Workload before (command.Worklo
 number-there before None is =
     with-more Workload (Number 1) before (tt, is) (all-there Workload (with_choice (Number 1) before) (command.Workload 1) [] refl refl)
 
--- options behind any others can be ended so that the command has what it wants
+-- options after any others can be ended so that the command has what it wants
 pub ends : (verb : Verb) (before : Chosen) → BeginsOptions verb before []
 ends Initdb before = folder-alone Initdb command.Initdb before before.dir refl (λ chosen. refl) (λ chosen. refl) (λ folder. tt)
 ends Once before = folder-alone Once command.Once before before.dir refl (λ chosen. refl) (λ chosen. refl) (λ folder. tt)

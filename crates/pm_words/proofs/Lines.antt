@@ -16,7 +16,7 @@ by_length Controldata Controldata same = refl
 by_length Workload Workload same = refl
 by_length one two same = absurd (omega (arith, same))
 
--- what the words behind the verb leave
+-- what the words after the verb leave
 pub record Given (verb : Verb) (tail : List (List ℕ)) (command : Command) (dir : List ℕ) (conf : Conf) : Type 0 where
   pub after : Chosen
   pub leaves : Leaves verb nothing tail after

@@ -5,7 +5,7 @@ use Rattle.pm_words.specs.declared.words.Verb.{Verb}
 use Rattle.pm_words.specs.Words.{Choice, Chosen, IsLine, MayChoose, command_of, folder_of, option_name}
 use Rattle.pm_words.specs.Options.{Leaves}
 
--- with these words behind them, or with others, they are a command line
+-- with these words after them, or with others, they are a command line
 pub record BeginsLine (front : List (List ℕ)) : Type 0 where
   pub rest : List (List ℕ)
   pub command : Command
@@ -18,7 +18,7 @@ pub record IsMisfit (words : List (List ℕ)) (at : ℕ) : Type 0 where
   pub before : BeginsLine (take at words)
   pub not_with : ¬ (BeginsLine (take (at + 1) words))
 
--- ---- the same of the options, behind what was chosen before
+-- ---- the same of the options, after what was chosen before
 
 pub record BeginsOptions (verb : Verb) (before : Chosen) (front : List (List ℕ)) : Type 0 where
   pub rest : List (List ℕ)

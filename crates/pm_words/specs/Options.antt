@@ -36,7 +36,7 @@ IsName name = AllByRecursion (λ byte. byte ≢ 61) name
 abbrev pub IsPlain : List ℕ → Type 0
 IsPlain value = (value ≢ []) × (slice_get value 0 ≢ Some 45)
 
--- the words begin with a value behind its name
+-- the words begin with a value after its name
 pub record BeginsWith (words : List (List ℕ)) (name value : List ℕ) (behind : List (List ℕ)) : Type 0 where
   pub first : List (List ℕ)
   pub name_is : IsName name
@@ -49,7 +49,7 @@ pub record BeginsWithOption (words : List (List ℕ)) (choice : Choice) (behind 
   pub spells : Spells choice first
   pub words_are : words ≡ first ++ behind
 
--- options behind what was chosen before
+-- options after what was chosen before
 pub record Leaves (verb : Verb) (before : Chosen) (words : List (List ℕ)) (after : Chosen) : Type 0 where
   pub choices : List Choice
   pub choose : Choose verb before choices words after

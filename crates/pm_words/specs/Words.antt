@@ -52,7 +52,7 @@ Says (RestartAfterCrash false) value = value ≡ codes "off"
 Says (AuthenticationTimeout seconds) value = IsNumberIn 1 600 seconds value
 Says (Number number) value = IsNumberIn 0 100000 number value
 
--- A value stands behind its name and `=` (61) in one word, or is a word of its own that doesn't begin with `-` (45). It isn't
+-- A value comes after its name and `=` (61) in one word, or is a word of its own that doesn't begin with `-` (45). It isn't
 -- empty.
 abbrev pub IsGiven : (name value : List ℕ) → (words : List (List ℕ)) → Type 0
 IsGiven name value words =
@@ -117,7 +117,7 @@ with_choice (Number number) chosen = record chosen { number = Some number }
 abbrev pub MayChoose : Verb → Choice → Chosen → Type 0
 MayChoose verb choice chosen = IsFor verb choice × IsOpen choice chosen
 
--- The words spell these options, and behind what was chosen before they leave this.
+-- The words spell these options, and after what was chosen before they leave this.
 abbrev pub Choose : Verb → (before : Chosen) → List Choice → (words : List (List ℕ)) → (after : Chosen) → Type 0
 Choose verb before [] words after = (words ≡ []) × (after ≡ before)
 Choose verb before (choice ∷ choices) words after =

@@ -10,7 +10,7 @@ use crate::words::{Verb, verb_named};
 use pm_rows::Text;
 
 /// The place of the first word that doesn't fit, from 0 on: the words before it begin a command line, and with it they begin
-/// none. Where there is none the words are a command line, or some are missing behind them.
+/// none. Where there is none the words are a command line, or some are missing after them.
 pub fn misfit(words: &[Text]) -> Option<usize>
     ensures found { IfSome result (IsMisfit words.now) }
     ensures none { IfNone result (BeginsLine words.now) }
@@ -27,7 +27,7 @@ pub fn misfit(words: &[Text]) -> Option<usize>
     }
 }
 
-// The same of options behind those that were given before.
+// The same of options after those that were given before.
 fn option_misfit<'a>(verb: Verb, before: Settings<'a>, words: &'a [Text]) -> Option<usize>
     ensures found { IfSome result (IsOptionMisfit verb (chosen_of before.entry) words.now) }
     ensures none { IfNone result (BeginsOptions verb (chosen_of before.entry) words.now) }
@@ -47,7 +47,7 @@ fn option_misfit<'a>(verb: Verb, before: Settings<'a>, words: &'a [Text]) -> Opt
     }
 }
 
-// The same of words that begin with no option: a name of one, behind which its value is missing or is none, or a word that is
+// The same of words that begin with no option: a name of one, after which its value is missing or is none, or a word that is
 // no name.
 fn place_of_misfit(verb: Verb, before: &Settings<'_>, words: &[Text]) -> Option<usize>
     requires some { 0 < length words.now }

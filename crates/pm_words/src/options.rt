@@ -145,7 +145,7 @@ impl<'a> Settings<'a> {
     }
 }
 
-// The options of the words behind the command.
+// The options of the words after the command.
 pub(crate) fn read_settings<'a>(verb: Verb, words: &'a [Text]) -> Option<Settings<'a>>
     ensures found { IfSome result (λ settings. Leaves verb nothing words.now
         (chosen_of settings)) }
@@ -156,7 +156,7 @@ pub(crate) fn read_settings<'a>(verb: Verb, words: &'a [Text]) -> Option<Setting
     read_on(verb, Settings::new(), words)
 }
 
-// The same behind the options that were given before, of which each is given once.
+// The same after the options that were given before, of which each is given once.
 fn read_on<'a>(verb: Verb, before: Settings<'a>, words: &'a [Text]) -> Option<Settings<'a>>
     ensures found { IfSome result (λ settings. Leaves verb (chosen_of before.entry) words.now
         (chosen_of settings)) }
@@ -178,7 +178,7 @@ fn read_on<'a>(verb: Verb, before: Settings<'a>, words: &'a [Text]) -> Option<Se
     }
 }
 
-// The first option of some words, and the words behind it.
+// The first option of some words, and the words after it.
 #[derive(Clone, Copy)]
 pub(crate) struct Next<'a> {
     pub(crate) setting: Setting<'a>,
@@ -203,7 +203,7 @@ pub(crate) fn next_option<'a>(words: &'a [Text]) -> Option<Next<'a>>
     }
 }
 
-// A value with its name, and the words behind it.
+// A value with its name, and the words after it.
 #[derive(Clone, Copy)]
 struct Given<'a> {
     name: &'a str,
@@ -237,7 +237,7 @@ fn named_value<'a>(words: &'a [Text]) -> Option<Given<'a>>
     }
 }
 
-// A value in a word of its own, behind the word of its name.
+// A value in a word of its own, after the word of its name.
 fn word_value<'a>(name: &'a str, words: &'a [Text]) -> Option<Given<'a>>
     ensures found { IfSome result (λ given. (given.name.now ≡ name.now) × IsPlain given.value.now
         × (words.now ≡ given.value.now ∷ given.behind.now)) }

@@ -13,7 +13,7 @@ use pm_spawn::Task;
 use std::sync::Wait;
 
 /// Runs the children that the supervisor assigns to the post's slot, one after the other, up to the one that closes the worker.
-/// While none is offered it sleeps on its slot, and behind each exit it rings at the supervisor's clock.
+/// While none is offered it sleeps on its slot, and after each exit it rings at the supervisor's clock.
 fn work_off<R: Wait, C: Clock, L: Link + Drop, S: Store>(
     tools: &Tools<R, C>,
     post: Post<Mail<L>>,

@@ -1,4 +1,4 @@
-//! What the gate of a new board answers to a child of each kind, and that it counts nobody behind that.
+//! What the gate of a new board answers to a child of each kind, and that it counts nobody after that.
 ghost use Rattle.std.specs.Prelude.{◌≡◌, ◌≤◌, IfSome, false};
 ghost use Rattle.pm_board.specs.Places.{SlotServes, MayAssign};
 ghost use Rattle.pm_board.specs.declared.views.Work.TheVariants.{Idle};
@@ -76,7 +76,7 @@ fn serve_one(roster: &mut Roster<Note>, post: &mut Post<Note>, child: Newcomer) 
     })
 }
 
-// What a child meets at a gate that isn't open, behind a notice or not, and then a backend once it is open to one session.
+// What a child meets at a gate that isn't open, after a notice or not, and then a backend once it is open to one session.
 fn visits(
     alloc: Global,
     kind: Kind,

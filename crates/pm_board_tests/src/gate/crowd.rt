@@ -21,7 +21,7 @@ use std::test::Fail;
 use std::thread;
 use std::thread::Threads;
 
-/// They end by a notice. Behind them comes one that doesn't.
+/// They end by a notice. After them comes one that doesn't.
 const GENERATIONS: u32 = 1_000;
 
 /// How often each child of the last generation is attached.
@@ -181,7 +181,7 @@ fn reap_all<R: Wait>(rt: &R, roster: &mut Roster<Note>, round: u32) -> Tally
     tally
 }
 
-// A generation from its first assign to the reset behind it.
+// A generation from its first assign to the reset after it.
 fn one_generation<R: Wait>(
     rt: &R,
     roster: &mut Roster<Note>,
@@ -235,7 +235,7 @@ fn work_all<R: Threads + Wait + Sync>(
     )
 }
 
-// What the generations told, and the places at the gate behind them.
+// What the generations told, and the places at the gate after them.
 fn run<R: Threads + Wait + Sync>(
     rt: &R,
     alloc: Global,

@@ -23,7 +23,7 @@ const DYING: Newcomer = Newcomer {
     kind: Kind::Backend,
 };
 
-/// It leaves behind a notice.
+/// It leaves after a notice.
 const LEAVING: Newcomer = Newcomer {
     slot: FIRST + 1,
     pid: 2,
@@ -90,7 +90,7 @@ fn begin_both(roster: &mut Roster<Note>, dying: &mut Post<Note>, leaving: &mut P
     true
 }
 
-// The one dies attached, and the other leaves behind a notice.
+// The one dies attached, and the other leaves after a notice.
 fn leave_both(
     roster: &mut Roster<Note>,
     dying: &mut Post<Note>,

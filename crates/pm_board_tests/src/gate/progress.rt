@@ -76,7 +76,7 @@ impl Progress {
         }
     }
 
-    /// Whether it may have been let in: neither before the opening began, nor behind the notice.
+    /// Whether it may have been let in: neither before the opening began, nor after the notice.
     pub fn may_let_in(&self, before: Before, generation: u32) -> bool {
         generation == before.generation
             && self.opening.load(Ordering::SeqCst) >= generation

@@ -99,7 +99,7 @@ pub fn new_board(
     Board::new::<Note>(alloc, SLOTS, session_limit)
 }
 
-/// The post behind so many that are left out.
+/// The post after so many that are left out.
 pub fn take_post(posts: &mut Posts<Note>, skipped: u32) -> Option<Post<Note>>
     requires { AllIdle posts.old.left.items }
     ensures left { AllIdle posts.new.left.items }

@@ -135,7 +135,7 @@ fn stay(
     Some(note)
 }
 
-/// How many children are let in at an open gate, one behind the other, and what the next one is told.
+/// How many children are let in at an open gate, one after the other, and what the next one is told.
 pub fn places(
     roster: &mut Roster<Note>,
     workers: Vec<Worker>,

@@ -31,7 +31,7 @@ fn begin(roster: &mut Roster<Note>, post: &mut Post<Note>) -> bool
     start(post) == 1
 }
 
-// What the child of slot 3 is given behind these sends, and behind none.
+// What the child of slot 3 is given after these sends, and after none.
 fn give(roster: &mut Roster<Note>, post: &mut Post<Note>, sent: &[Signal]) -> (Signals, Signals)
     requires busy { IsBusy roster.old.knows 3 }
     requires runs { IsRunning post.old.knows.work }
@@ -45,7 +45,7 @@ fn give(roster: &mut Roster<Note>, post: &mut Post<Note>, sent: &[Signal]) -> (S
     (given, take(post))
 }
 
-// The answers behind these sends, one row of them after the other.
+// The answers after these sends, one row of them after the other.
 fn give_each(roster: &mut Roster<Note>, post: &mut Post<Note>) -> Option<[(Signals, Signals); 5]>
     requires roster { IsNew roster.old.knows }
     requires post { post.old.knows.work ≡ Idle }

@@ -31,7 +31,7 @@ pub(crate) fn begin<J: Letter + Drop>(roster: &mut Roster<J>, slot: u32, kind: K
     roster.assign(slot, slot + 1, kind, job);
 }
 
-/// Assigns a child of a connection to a slot that has none, behind a look at every slot.
+/// Assigns a child of a connection to a slot that has none, after a look at every slot.
 pub(crate) fn connect<J: Letter + Drop>(
     roster: &mut Roster<J>,
     slot: u32,

@@ -10,7 +10,7 @@ use std::test::Fail;
 use std::thread::{self, Threads};
 use std::time::{self, Instant};
 
-// What a console gives to its end: each line with a line feed, `!` for a failure, and `.` for the end. Behind it what failed
+// What a console gives to its end: each line with a line feed, `!` for a failure, and `.` for the end. After it what failed
 // first.
 fn heard<R: Wait + time::Clock + Copy + Drop>(
     rt: &R,

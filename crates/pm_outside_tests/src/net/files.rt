@@ -8,7 +8,7 @@ use std::os::unix::fs::symlink;
 use std::test::Fail;
 use std::{fs, io, process};
 
-/// What is done in a folder, which `folder` makes anew, and what is answered. `open` opens its files, on which the calls behind
+/// What is done in a folder, which `folder` makes anew, and what is answered. `open` opens its files, on which the calls after
 /// it are made, and `close` closes those that were opened first.
 const SCRIPT: &str = "
 # files keep what is written, each by its name

@@ -11,7 +11,7 @@ use std::thread::{self, Threads};
 use std::time::{Clock, Instant};
 
 /// What is done at a port, which `open` opens anew, and what it answers. Links and clients count from 0. From `start` on
-/// `within` says how many milliseconds have passed. `called` does a thing while the children are called behind so many
+/// `within` says how many milliseconds have passed. `called` does a thing while the children are called after so many
 /// milliseconds.
 const SCRIPT: &str = "
 # bytes and the end come together
@@ -143,7 +143,7 @@ start
 20 child called
 within 0..100";
 
-// Calls the children behind so many milliseconds.
+// Calls the children after so many milliseconds.
 fn call_later(rt: &impl Clock, bells: &Bells, ms: u64) {
     wait_ms(rt, ms);
     bells.call_all();

@@ -80,7 +80,7 @@ pub fn said(alloc: Global, answer: impl Debug + Drop) -> Result<String, Fail> {
     Ok(format!(in alloc; "{answer:?}")?)
 }
 
-/// A line's first word, and what stands behind it.
+/// A line's first word, and what comes after it.
 pub fn parted(line: &str) -> (&str, &str) {
     line.split_once(' ').unwrap_or((line, ""))
 }

@@ -5,7 +5,7 @@ use std::alloc::Global;
 use std::process::Abort;
 use std::test::Fail;
 
-/// A text, and behind `=>` its statements, or its fault with the fault's text.
+/// A text, and after `=>` its statements, or its fault with the fault's text.
 const TEXTS: &str = r#"# statements in every spelling
  => []
 ; => []

@@ -12,9 +12,9 @@ use std::test::Fail;
 
 type OnFailing = Sole<FailingDisk<MemDisk>, Kept<BookEntry>>;
 
-/// `store 5 | 7` begins a store on a disk behind `initdb` with five commits so far, by six calls, whose seventh call from
+/// `store 5 | 7` begins a store on a disk after `initdb` with five commits so far, by six calls, whose seventh call from
 /// then on fails, or none at 0, and `staged 5 | 7` one that stages its commits; `again` ends it, and begins the next one on
-/// its disk; `renew 9` brings it into its next generation, where 9 was in. `child 2 1 redo / leave` is the visit of child 2 of generation 1. Behind `->` stands what was
+/// its disk; `renew 9` brings it into its next generation, where 9 was in. `child 2 1 redo / leave` is the visit of child 2 of generation 1. After `->` stands what was
 /// answered, or what the store that was ended had noted. A redo takes six calls, and a batch four.
 const SCRIPT: &str = r#"
 # a later store finds what was committed

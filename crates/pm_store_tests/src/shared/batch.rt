@@ -16,7 +16,7 @@ use std::test::Fail;
 
 type Child = Token<FailingDisk<MemDisk>, Book>;
 
-// A child comes in behind a redo, and stages a row. It answers its pass, and the front that it waits for.
+// A child comes in after a redo, and stages a row. It answers its pass, and the front that it waits for.
 fn stage<R: Wait>(rt: &R, alloc: Global, child: &mut Child, pid: u32) -> Result<(Pass, u64), Fail>
     ensures { IfOk result (λ staged. Among staged.0 child.new.passes
         × HasReached (view_of staged.0) staged.1) }

@@ -70,7 +70,7 @@ fn work_all<R: Threads + Wait + Sync>(rt: &R, alloc: Global, seats: &mut [Seat])
     );
 }
 
-// The book behind so many threads, and behind a renewal.
+// The book after so many threads, and after a renewal.
 fn crowd<R: Threads + Wait + Sync>(
     rt: &R,
     alloc: Global,
@@ -112,7 +112,7 @@ fn list_of(alloc: Global, book: &[BookEntry], child: Option<u32>) -> Result<Vec<
     Ok(kinds)
 }
 
-// How many commits a book has, where each has the number behind the one before it.
+// How many commits a book has, where each has the number after the one before it.
 fn commits(book: &[BookEntry]) -> Option<u64> {
     let mut last = 0u64;
     for entry in book {

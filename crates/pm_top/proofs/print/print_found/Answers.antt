@@ -7,7 +7,7 @@ use Rattle.pm_lines.specs.Print.{file_letter}
 use Rattle.pm_lines.specs.PrintLaws.{nothing_yet, part_cut, part_last, part_more, printed_as}
 use Rattle.pm_top.proofs.print.print_found.Goals as goal
 
--- each line, and those behind it
+-- each line, and those after it
 abbrev file_part : Found → List ℕ
 file_part found = told_line (codes "file: ") (file_letter found.file)
 
