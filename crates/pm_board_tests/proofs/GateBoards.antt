@@ -91,15 +91,6 @@ stepped low high last s d e has is = subst (HasChildren low high last) (sym is) 
 pub untouched_by : (s : RosterStep) (d e : RosterView ℕ) → IsUntouched d → e ≡ after_step d s → IsUntouched e
 untouched_by s d e new is = subst IsUntouched (sym is) record { count = new.count; each = new.each; last_pid = new.last_pid }
 
-pub visited_new : (k pid : ℕ) (d e : RosterView ℕ) → IsUntouched d → HasVisited k pid d e → IsEmpty pid e
-visited_new k pid d e new was = record {
-  count = was.0.count ∙ new.count;
-  below = λ j l. absurd (omega arith);
-  within = λ j _ l. absurd (omega arith);
-  above = λ j _. dite (ℕ_discrete j k) (λ is. ap (λ (i : ℕ). (slot_at e i).sight) is ∙ was.1) (λ ne. ap (λ (x : SlotView ℕ). x.sight) (was.0.others j ne ∙ new.each j));
-  last_pid = was.0.last_pid;
-}
-
 pub empty_at : (k last : ℕ) (d : RosterView ℕ) → IsEmpty last d → HasChildren k k last d
 empty_at k last d has = record { count = has.count; below = λ j _. has.above j (omega arith); within = λ j from l. absurd (omega arith); above = λ j _. has.above j (omega arith); last_pid = has.last_pid }
 

@@ -55,7 +55,7 @@ HasBegun k pid before after = IsAtSlot k pid before after × ((o : Offer ℕ) ×
 abbrev pub HasReaped : ℕ → RosterView ℕ → RosterView ℕ → Type 0
 HasReaped k before after = IsAtSlot k before.notes.last_pid before after × ((slot_at after k).sight ≡ Unused)
 
--- a child of this pid was assigned to the slot k, and released
+-- the slot k alone was changed, this is the last pid, and its child was released
 abbrev pub HasVisited : ℕ → ℕ → RosterView ℕ → RosterView ℕ → Type 0
 HasVisited k pid before after = IsAtSlot k pid before after × ((slot_at after k).sight ≡ Unused)
 

@@ -1,4 +1,3 @@
 pub mod Drive
-pub mod EverySlot
 pub mod GateChildren
 pub mod LatchChildren

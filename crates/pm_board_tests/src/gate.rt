@@ -1,6 +1,5 @@
-//! Tests of the gate's public calls: what it answers to one child after the other, and many workers at once.
+//! Tests of the gate's public calls: a session that dies there, and many workers at once.
 
-mod answers;
 mod crowd;
 mod death;
 mod progress;

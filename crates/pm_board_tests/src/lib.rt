@@ -1,9 +1,7 @@
-//! Tests of the board's public calls: one slot, driven from a roster and from a worker's thread, and every slot of boards of each size;
-//! of its gate, and of its latches.
+//! Tests of the board's public calls: one slot, driven from a roster and from a worker's thread, and a board of as many slots as
+//! there may be; of its gate, and of its latches.
 #![tactic(auto)]
 
-#[cfg(test)]
-mod every_slot;
 #[cfg(test)]
 mod gate;
 #[cfg(test)]

@@ -129,3 +129,14 @@ fn a_thousand_children_of_one_slot(rt: HostRuntime) -> Result<(), Fail> {
     assert_eq!(rt; right, CHILDREN);
     Ok(())
 }
+
+#[test]
+fn a_board_has_as_many_slots_as_it_may(rt: HostRuntime) -> Result<(), Fail> {
+    let (roster, mut posts) = Board::new::<Note>(rt.alloc(), 407, 200)?;
+    assert_eq!(rt; (roster.slots(), roster.used()), (407, 0));
+    for _ in 0..407 {
+        assert!(rt; posts.take().is_some());
+    }
+    assert!(rt; posts.take().is_none());
+    Ok(())
+}

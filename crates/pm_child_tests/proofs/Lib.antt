@@ -1,2 +1,1 @@
 mod Crews
-pub mod Fresh

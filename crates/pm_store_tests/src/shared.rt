@@ -2,5 +2,4 @@
 
 mod batch;
 mod crowd;
-mod session;
 mod world;
