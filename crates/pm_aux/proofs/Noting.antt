@@ -11,15 +11,15 @@ use Rattle.pm_query.specs.declared.store.Checkpointed.{Checkpointed}
 use Rattle.pm_query.specs.declared.store.Checkpointed.TheVariants.{Done, Skipped, NotDue}
 use Rattle.pm_query.specs.Calls.{User, newcomer, EnterNotes, CheckpointNotes, MetAnother, MetLater}
 use Rattle.pm_query.specs.NotedLaws.{GoesInTurn, behind_none}
-use Rattle.pm_aux.specs.declared.cause.Cause.{Cause}
-use Rattle.pm_aux.specs.declared.cause.Cause.TheVariants.{Redone, Flushed, Closed, LeftOut, Refused, TurnedAway, ToldToTerminate, ToldToQuit, Killed}
+use Rattle.pm_aux.specs.declared.cause.AuxiliaryEnd.{AuxiliaryEnd}
+use Rattle.pm_aux.specs.declared.cause.AuxiliaryEnd.TheVariants.{Redone, Flushed, Closed, LeftOut, Refused, TurnedAway, ToldToTerminate, ToldToQuit, Killed}
 use Rattle.pm_aux.specs.Ends.{fault_by, lets_go, IsMetBehind}
 use Rattle.pm_aux.specs.Work.{IsPassing, ClosesBy, Checkpoints, Does, HasWorked, HasEntered, LeavesIf}
 
 -- ---- a child's way through the store
 
 -- its work, and then its leaving
-pub worked : {S : Type 0} (notes : List BookEntry → S → S → Type 0) (kind : Kind) (who user : User) (cause : Cause) (before between now : S) → GoesInTurn notes → who ≡ user
+pub worked : {S : Type 0} (notes : List BookEntry → S → S → Type 0) (kind : Kind) (who user : User) (cause : AuxiliaryEnd) (before between now : S) → GoesInTurn notes → who ≡ user
     → (work : List BookEntry) × notes work before between × Does kind user cause work → (left : List BookEntry) × notes left between now × LeavesIf (lets_go cause) who left
     → (noted : List BookEntry) × notes noted before now × HasWorked kind user cause noted
 worked notes kind who user cause before between now in_turn same work left = (
@@ -29,7 +29,7 @@ worked notes kind who user cause before between now in_turn same work left = (
 )
 
 -- its entering, and then its work and its leaving
-pub entered : {S : Type 0} (notes : List BookEntry → S → S → Type 0) (kind : Kind) (who user : User) (cause : Cause) (before between now : S) → GoesInTurn notes → who ≡ user
+pub entered : {S : Type 0} (notes : List BookEntry → S → S → Type 0) (kind : Kind) (who user : User) (cause : AuxiliaryEnd) (before between now : S) → GoesInTurn notes → who ≡ user
     → (first : List BookEntry) × notes first before between × (first ≡ Attached user.pid user.generation ∷ []) → (inside : List BookEntry) × notes inside between now × HasWorked kind who cause inside
     → (noted : List BookEntry) × notes noted before now × HasEntered kind user cause noted
 entered notes kind who user cause before between now in_turn same first inside = (
@@ -65,7 +65,7 @@ met_refused (stores.Redo fault) met later is same = tt
 met_refused stores.NoMemory met later is same = tt
 
 -- after its leaving, too
-pub met_left : (cause : Cause) (met later : ℕ) → IsMetBehind met (fault_by cause) → (lets_go cause ≡ false → later ≡ met) → IsMetBehind later (fault_by cause)
+pub met_left : (cause : AuxiliaryEnd) (met later : ℕ) → IsMetBehind met (fault_by cause) → (lets_go cause ≡ false → later ≡ met) → IsMetBehind later (fault_by cause)
 met_left (Redone kept) met later is same = tt
 met_left Flushed met later is same = tt
 met_left Closed met later is same = tt
@@ -130,7 +130,7 @@ passes_still notes P before between now in_turn passing call = (
 )
 
 -- checkpoints, and the last call by the cause of the end
-pub closes : {S : Type 0} (notes : List BookEntry → S → S → Type 0) (who user : User) (cause : Cause) (before between now : S) → GoesInTurn notes → who ≡ user
+pub closes : {S : Type 0} (notes : List BookEntry → S → S → Type 0) (who user : User) (cause : AuxiliaryEnd) (before between now : S) → GoesInTurn notes → who ≡ user
     → (passing : List BookEntry) × notes passing before between × All (IsPassing user.pid) passing → (last : List BookEntry) × notes last between now × ClosesBy who cause last
     → (noted : List BookEntry) × notes noted before now × Checkpoints user cause noted
 closes notes who user cause before between now in_turn same passing last = (

@@ -12,8 +12,8 @@ use Rattle.pm_life.specs.AttentionLaws.{given_of}
 use Rattle.pm_query.specs.declared.book.BookEntry.{BookEntry}
 use Rattle.pm_query.specs.declared.store.StoreNo.{StoreNo}
 use Rattle.pm_query.specs.declared.store.StoreNo.TheVariants.{NoMemory}
-use Rattle.pm_aux.specs.declared.cause.Cause.{Cause}
-use Rattle.pm_aux.specs.declared.cause.Cause.TheVariants.{Redone, Flushed, Closed, LeftOut, Refused, TurnedAway, ToldToTerminate, ToldToQuit, Killed}
+use Rattle.pm_aux.specs.declared.cause.AuxiliaryEnd.{AuxiliaryEnd}
+use Rattle.pm_aux.specs.declared.cause.AuxiliaryEnd.TheVariants.{Redone, Flushed, Closed, LeftOut, Refused, TurnedAway, ToldToTerminate, ToldToQuit, Killed}
 use Rattle.pm_aux.specs.Ends.{done_by, lets_go, unless, attached_behind}
 use Rattle.pm_aux.specs.Signals.{ends_by, ends_of, IsToldTo, EndsAtOnce, HeedsTerminate, HeedsTold, StandsAt, IsHurried, EndsInside}
 use Rattle.pm_aux.specs.Work.{GoesOn, NotesInside}
@@ -22,22 +22,22 @@ use Rattle.pm_aux.proofs.Listening.{Tells, tells_asked, tells_met}
 
 -- ---- what ends a child at once
 
-stands_by : (kill : Bool) (quit : Option Reason) (cause : Cause) (standing : Standing) → ends_of standing ≡ ends_by kill quit → ends_by kill quit ≡ Some cause → StandsAt cause standing × EndsAtOnce cause
+stands_by : (kill : Bool) (quit : Option Reason) (cause : AuxiliaryEnd) (standing : Standing) → ends_of standing ≡ ends_by kill quit → ends_by kill quit ≡ Some cause → StandsAt cause standing × EndsAtOnce cause
 stands_by true quit cause standing same is =
     let e : Killed ≡ cause = cc in
-    subst (λ (c : Cause). StandsAt c standing × EndsAtOnce c) e (same, tt)
+    subst (λ (c : AuxiliaryEnd). StandsAt c standing × EndsAtOnce c) e (same, tt)
 stands_by false (Some reason) cause standing same is =
     let e : ToldToQuit reason ≡ cause = cc in
-    subst (λ (c : Cause). StandsAt c standing × EndsAtOnce c) e (same, tt)
+    subst (λ (c : AuxiliaryEnd). StandsAt c standing × EndsAtOnce c) e (same, tt)
 stands_by false None cause standing same is = absurd cc
 
-at_once : (cause : Cause) (standing : Standing) → ends_of standing ≡ Some cause → StandsAt cause standing × EndsAtOnce cause
+at_once : (cause : AuxiliaryEnd) (standing : Standing) → ends_of standing ≡ Some cause → StandsAt cause standing × EndsAtOnce cause
 at_once cause standing is = stands_by standing.kill standing.quit cause standing refl is
 
-once_not_short : (cause : Cause) → EndsAtOnce cause → cause ≡ Refused NoMemory → ⊥
+once_not_short : (cause : AuxiliaryEnd) → EndsAtOnce cause → cause ≡ Refused NoMemory → ⊥
 once_not_short cause once is = subst EndsAtOnce is once
 
-pub told_inside : (kind : Kind) (cause : Cause) (standing : Standing) → ends_of standing ≡ Some cause → EndsInside kind cause standing
+pub told_inside : (kind : Kind) (cause : AuxiliaryEnd) (standing : Standing) → ends_of standing ≡ Some cause → EndsInside kind cause standing
 told_inside kind cause standing is = record { stands = (at_once cause standing is).0; short = λ e. absurd (once_not_short cause ((at_once cause standing is).1) e) }
 
 kill_stands : (kill : Bool) (quit : Option Reason) → ends_by kill quit ≡ Some Killed → kill ≡ true
@@ -57,7 +57,7 @@ none_stands false None is = (refl, refl)
 
 -- ---- what was told
 
-told_to : (cause : Cause) (at : Attention) → StandsAt cause at.standing → IsAttentive at → IsToldTo cause at.told
+told_to : (cause : AuxiliaryEnd) (at : Attention) → StandsAt cause at.standing → IsAttentive at → IsToldTo cause at.told
 told_to (Redone kept) at stands attentive = tt
 told_to Flushed at stands attentive = given_of at Terminate (λ t s. s.terminate.0 stands.0) attentive
 told_to Closed at stands attentive = given_of at Checkpoint (λ t s. s.checkpoint.0 stands.0) attentive
@@ -85,7 +85,7 @@ not_quit : (standing : Standing) (told : Told) → Stands standing told → stan
 not_quit standing told stands none reason has = stands.quits reason has none
 
 -- where neither a Kill nor a Quit stands
-heeds_none : (kind : Kind) (cause : Cause) (standing : Standing) (told : Told) → ends_of standing ≡ None → (was_told Terminate told → HeedsTerminate kind cause) → Stands standing told → HeedsTold kind cause told
+heeds_none : (kind : Kind) (cause : AuxiliaryEnd) (standing : Standing) (told : Told) → ends_of standing ≡ None → (was_told Terminate told → HeedsTerminate kind cause) → Stands standing told → HeedsTold kind cause told
 heeds_none kind cause standing told none terminate stands =
     let both = none_stands standing.kill standing.quit none in
     record {
@@ -94,7 +94,7 @@ heeds_none kind cause standing told none terminate stands =
       terminate = terminate;
     }
 
-once_heeds : (kind : Kind) (cause : Cause) → EndsAtOnce cause → HeedsTerminate kind cause
+once_heeds : (kind : Kind) (cause : AuxiliaryEnd) → EndsAtOnce cause → HeedsTerminate kind cause
 once_heeds kinds.Startup (Redone kept) once = once
 once_heeds kinds.Startup Flushed once = once
 once_heeds kinds.Startup Closed once = once
@@ -110,7 +110,7 @@ once_heeds kinds.Worker cause once = tt
 once_heeds kinds.Backend cause once = tt
 once_heeds kinds.DeadEnd cause once = tt
 
-goes_on_heeds : (kind : Kind) (cause : Cause) → GoesOn kind → HeedsTerminate kind cause
+goes_on_heeds : (kind : Kind) (cause : AuxiliaryEnd) → GoesOn kind → HeedsTerminate kind cause
 goes_on_heeds kinds.Startup cause goes = absurd goes
 goes_on_heeds kinds.Checkpointer cause goes = tt
 goes_on_heeds kinds.Writer cause goes = tt
@@ -119,7 +119,7 @@ goes_on_heeds kinds.Backend cause goes = tt
 goes_on_heeds kinds.DeadEnd cause goes = tt
 
 -- where it ends by what stands
-heeds_stands : (kind : Kind) (cause : Cause) (standing : Standing) (told : Told) → StandsAt cause standing → (was_told Terminate told → HeedsTerminate kind cause) → Stands standing told → HeedsTold kind cause told
+heeds_stands : (kind : Kind) (cause : AuxiliaryEnd) (standing : Standing) (told : Told) → StandsAt cause standing → (was_told Terminate told → HeedsTerminate kind cause) → Stands standing told → HeedsTold kind cause told
 heeds_stands kind (Redone kept) standing told at terminate stands = heeds_none kind (Redone kept) standing told at terminate stands
 heeds_stands kind Flushed standing told at terminate stands = heeds_none kind Flushed standing told at.1 terminate stands
 heeds_stands kind Closed standing told at terminate stands = heeds_none kind Closed standing told at.1 terminate stands
@@ -133,16 +133,16 @@ heeds_stands kind (ToldToQuit reason) standing told at terminate stands =
 heeds_stands kind Killed standing told at terminate stands = record { kill = λ has. refl; quit = λ other has. tt; terminate = terminate }
 
 -- it heeds a Terminate, whatever else stands
-abbrev pub HeedsItsEnd : Kind → Cause → Standing → Type 0
+abbrev pub HeedsItsEnd : Kind → AuxiliaryEnd → Standing → Type 0
 HeedsItsEnd kind cause standing = (t : Told) → Stands standing t → was_told Terminate t → HeedsTerminate kind cause
 
-heeds_told : (kind : Kind) (cause : Cause) (told : Option Told) (child : Child) (standing : Standing) → StandsAt cause standing → HeedsItsEnd kind cause standing → IsAttentive (attention told child standing) → IfSome told (HeedsTold kind cause)
+heeds_told : (kind : Kind) (cause : AuxiliaryEnd) (told : Option Told) (child : Child) (standing : Standing) → StandsAt cause standing → HeedsItsEnd kind cause standing → IsAttentive (attention told child standing) → IfSome told (HeedsTold kind cause)
 heeds_told kind cause None child standing at terminate attentive = tt
 heeds_told kind cause (Some told) child standing at terminate attentive = heeds_stands kind cause standing told at (terminate told attentive) attentive
 
 -- ---- a whole run
 
-run_of : (kind : Kind) (who : Runner) (cause : Cause) (gate : Option (Result ℕ GateNo)) (at : Attention) (noted : List BookEntry)
+run_of : (kind : Kind) (who : Runner) (cause : AuxiliaryEnd) (gate : Option (Result ℕ GateNo)) (at : Attention) (noted : List BookEntry)
     → StandsAt cause at.standing → (cause ≡ Refused NoMemory → MayBeShort kind at.told) → HeedsItsEnd kind cause at.standing → IsAttentive at → Tells gate at.told
     → at.child.attached ≡ attached_behind cause gate → NotesBehind kind who gate cause noted → IsRunOf kind who (at_end (done_by cause) at.told at.child) noted
 run_of kind who cause gate at noted stands short terminate attentive tells attached notes = record {
@@ -162,7 +162,7 @@ unless_none : (goes : Bool) (attached : Option ℕ) → attached ≡ None → at
 unless_none true attached is = is
 unless_none false attached is = is
 
-once_outside : (kind : Kind) (cause : Cause) → EndsAtOnce cause → EndsOutside kind cause
+once_outside : (kind : Kind) (cause : AuxiliaryEnd) → EndsAtOnce cause → EndsOutside kind cause
 once_outside kinds.Startup (Redone kept) once = once
 once_outside kinds.Startup Flushed once = once
 once_outside kinds.Startup Closed once = once
@@ -179,7 +179,7 @@ once_outside kinds.Backend cause once = once
 once_outside kinds.DeadEnd cause once = once
 
 -- it was told to end at once before it did anything
-pub told_first : (kind : Kind) (who : Runner) (cause : Cause) (at : Attention) → ends_of at.standing ≡ Some cause → IsAttentive at → Tells None at.told → at.child.attached ≡ None
+pub told_first : (kind : Kind) (who : Runner) (cause : AuxiliaryEnd) (at : Attention) → ends_of at.standing ≡ Some cause → IsAttentive at → Tells None at.told → at.child.attached ≡ None
     → IsRunOf kind who (at_end (done_by cause) at.told at.child) []
 told_first kind who cause at is attentive tells free =
     let both = at_once cause at.standing is in
@@ -199,21 +199,21 @@ turned_away kind who refusal at none terminate attentive tells free =
     run_of kind who (TurnedAway refusal) (Some (Err refusal)) at [] none (λ e. absurd cc) terminate attentive tells free (refl, refl)
 
 -- a writer or a checkpointer that was let in
-pub tended : (kind : Kind) (who : Runner) (cause : Cause) (generation : ℕ) (at : Attention) (noted : List BookEntry) → GoesOn kind → EndsInside kind cause at.standing → IsAttentive at
+pub tended : (kind : Kind) (who : Runner) (cause : AuxiliaryEnd) (generation : ℕ) (at : Attention) (noted : List BookEntry) → GoesOn kind → EndsInside kind cause at.standing → IsAttentive at
     → Tells (Some (Ok generation)) at.told → at.child.attached ≡ attached_behind cause (Some (Ok generation)) → NotesBehind kind who (Some (Ok generation)) cause noted
     → IsRunOf kind who (at_end (done_by cause) at.told at.child) noted
 tended kind who cause generation at noted goes ends attentive tells attached notes =
     run_of kind who cause (Some (Ok generation)) at noted ends.stands (λ e. hurried kind at (ends.short e) attentive) (λ t s h. goes_on_heeds kind cause goes) attentive tells attached notes
 
 -- a writer or a checkpointer heeds no Terminate at its start
-pub goes_on : (kind : Kind) (cause : Cause) (standing : Standing) → GoesOn kind → HeedsItsEnd kind cause standing
+pub goes_on : (kind : Kind) (cause : AuxiliaryEnd) (standing : Standing) → GoesOn kind → HeedsItsEnd kind cause standing
 goes_on kind cause standing goes = λ t s h. goes_on_heeds kind cause goes
 
 -- where no Terminate stands, none was told
-pub unterminated : (kind : Kind) (cause : Cause) (standing : Standing) → standing.terminate ≡ false → HeedsItsEnd kind cause standing
+pub unterminated : (kind : Kind) (cause : AuxiliaryEnd) (standing : Standing) → standing.terminate ≡ false → HeedsItsEnd kind cause standing
 unterminated kind cause standing none = λ t s h. absurd (true≢false (sym (s.terminate.1 h) ∙ none))
 
-calm_stands : (cause : Cause) (standing : Standing) (who : Runner) (generation : ℕ) (noted : List BookEntry) → NotesInside kinds.Startup (user_in who generation) cause noted → ends_of standing ≡ None → StandsAt cause standing
+calm_stands : (cause : AuxiliaryEnd) (standing : Standing) (who : Runner) (generation : ℕ) (noted : List BookEntry) → NotesInside kinds.Startup (user_in who generation) cause noted → ends_of standing ≡ None → StandsAt cause standing
 calm_stands (Redone kept) standing who generation noted notes none = none
 calm_stands (Refused refusal) standing who generation noted notes none = none
 calm_stands (TurnedAway refusal) standing who generation noted notes none = none
@@ -231,7 +231,7 @@ calm_stands Killed standing who generation noted (inl out) none = absurd out.0
 calm_stands Killed standing who generation noted (inr in_) none = absurd in_.worked.does
 
 -- a startup child that was let in
-pub redone : (who : Runner) (cause : Cause) (generation : ℕ) (at : Attention) (noted : List BookEntry) → ends_of at.standing ≡ None → at.standing.terminate ≡ false → IsAttentive at
+pub redone : (who : Runner) (cause : AuxiliaryEnd) (generation : ℕ) (at : Attention) (noted : List BookEntry) → ends_of at.standing ≡ None → at.standing.terminate ≡ false → IsAttentive at
     → Tells (Some (Ok generation)) at.told → at.child.attached ≡ attached_behind cause (Some (Ok generation)) → NotesInside kinds.Startup (user_in who generation) cause noted
     → IsRunOf kinds.Startup who (at_end (done_by cause) at.told at.child) noted
 redone who cause generation at noted none calm attentive tells attached notes =

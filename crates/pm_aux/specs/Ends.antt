@@ -6,8 +6,8 @@ use Rattle.pm_life.specs.declared.life.GateNo.{GateNo}
 use Rattle.pm_query.specs.declared.store.StoreNo.{StoreNo}
 use Rattle.pm_query.specs.declared.store.StoreNo.TheVariants as stores
 use Rattle.pm_aux.specs.declared.aux_done.AuxDone.{AuxDone}
-use Rattle.pm_aux.specs.declared.cause.Cause.{Cause}
-use Rattle.pm_aux.specs.declared.cause.Cause.TheVariants.{Redone, Flushed, Closed, LeftOut, Refused, TurnedAway, ToldToTerminate, ToldToQuit, Killed}
+use Rattle.pm_aux.specs.declared.cause.AuxiliaryEnd.{AuxiliaryEnd}
+use Rattle.pm_aux.specs.declared.cause.AuxiliaryEnd.TheVariants.{Redone, Flushed, Closed, LeftOut, Refused, TurnedAway, ToldToTerminate, ToldToQuit, Killed}
 
 -- after such a refusal what is shared may be half changed, or is another generation's
 abbrev pub status_refused : StoreNo → Status
@@ -18,7 +18,7 @@ status_refused (stores.Full need room) = Code 1
 status_refused (stores.Redo fault) = Code 1
 status_refused stores.NoMemory = Code 1
 
-abbrev pub status_by : Cause → Status
+abbrev pub status_by : AuxiliaryEnd → Status
 status_by (Redone kept) = Code 0
 status_by Flushed = Code 0
 status_by Closed = Code 0
@@ -30,7 +30,7 @@ status_by (ToldToQuit reason) = Code 2
 status_by Killed = Signal 9
 
 -- the refusal of the store, if it was one
-abbrev pub fault_by : Cause → Option StoreNo
+abbrev pub fault_by : AuxiliaryEnd → Option StoreNo
 fault_by (Redone kept) = None
 fault_by Flushed = None
 fault_by Closed = None
@@ -42,7 +42,7 @@ fault_by (ToldToQuit reason) = None
 fault_by Killed = None
 
 -- how many commits its redo kept, if it made one
-abbrev pub kept_by : Cause → Option ℕ
+abbrev pub kept_by : AuxiliaryEnd → Option ℕ
 kept_by (Redone kept) = Some kept
 kept_by Flushed = None
 kept_by Closed = None
@@ -53,7 +53,7 @@ kept_by ToldToTerminate = None
 kept_by (ToldToQuit reason) = None
 kept_by Killed = None
 
-abbrev pub done_by : Cause → AuxDone
+abbrev pub done_by : AuxiliaryEnd → AuxDone
 done_by cause = record { status = status_by cause; fault = fault_by cause; kept = kept_by cause }
 
 -- ---- what it lets go
@@ -68,7 +68,7 @@ lets_go_refused stores.NoMemory = true
 
 -- A child lets go of the store and of its attachment. It stays inside where what is shared may be half changed, and where it has
 -- to end at once.
-abbrev pub lets_go : Cause → Bool
+abbrev pub lets_go : AuxiliaryEnd → Bool
 lets_go (Redone kept) = true
 lets_go Flushed = true
 lets_go Closed = true
@@ -90,7 +90,7 @@ unless true attached = None
 unless false attached = attached
 
 -- where it is attached after its end
-abbrev pub attached_behind : Cause → Option (Result ℕ GateNo) → Option ℕ
+abbrev pub attached_behind : AuxiliaryEnd → Option (Result ℕ GateNo) → Option ℕ
 attached_behind cause gate = unless (lets_go cause) (let_in gate)
 
 -- Who ends by another generation is told the last one that the store has met.

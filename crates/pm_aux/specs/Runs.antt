@@ -9,8 +9,8 @@ use Rattle.pm_query.specs.declared.book.BookEntry.{BookEntry}
 use Rattle.pm_query.specs.declared.store.StoreNo.TheVariants.{NoMemory}
 use Rattle.pm_query.specs.Calls.{User}
 use Rattle.pm_aux.specs.declared.aux_done.AuxDone.{AuxDone}
-use Rattle.pm_aux.specs.declared.cause.Cause.{Cause}
-use Rattle.pm_aux.specs.declared.cause.Cause.TheVariants.{Refused, TurnedAway, ToldToTerminate}
+use Rattle.pm_aux.specs.declared.cause.AuxiliaryEnd.{AuxiliaryEnd}
+use Rattle.pm_aux.specs.declared.cause.AuxiliaryEnd.TheVariants.{Refused, TurnedAway, ToldToTerminate}
 use Rattle.pm_aux.specs.Ends.{done_by, attached_behind}
 use Rattle.pm_aux.specs.Signals.{IsToldTo, EndsAtOnce, HeedsTold}
 use Rattle.pm_aux.specs.Work.{NotesInside}
@@ -37,12 +37,12 @@ abbrev pub at_end : AuxDone → Option Told → Child → End
 at_end done told child = record { done = done; told = told; attached = child.attached }
 
 -- who ends outside: a startup child by a Terminate, any child by a Quit or a Kill
-abbrev pub EndsOutside : Kind → Cause → Type 0
+abbrev pub EndsOutside : Kind → AuxiliaryEnd → Type 0
 EndsOutside kinds.Startup ToldToTerminate = Unit {0}
 EndsOutside kind cause = EndsAtOnce cause
 
 -- what it noted that met this at the gate, if it was there, and ended by this cause
-abbrev pub NotesBehind : Kind → Runner → Option (Result ℕ GateNo) → Cause → List BookEntry → Type 0
+abbrev pub NotesBehind : Kind → Runner → Option (Result ℕ GateNo) → AuxiliaryEnd → List BookEntry → Type 0
 NotesBehind kind who None cause noted = EndsOutside kind cause × (noted ≡ [])
 NotesBehind kind who (Some (Err refusal)) cause noted = (cause ≡ TurnedAway refusal) × (noted ≡ [])
 NotesBehind kind who (Some (Ok generation)) cause noted = NotesInside kind (user_in who generation) cause noted
@@ -56,7 +56,7 @@ MayBeShort _ told = ⊥
 -- A run by its cause: what it was told to, that it heeded all that it was told, what it met at the gate, where it is after its
 -- end, and what it noted.
 pub record IsRunOf (kind : Kind) (who : Runner) (end : End) (noted : List BookEntry) : Type 0 where
-  pub cause : Cause
+  pub cause : AuxiliaryEnd
   pub gate : Option (Result ℕ GateNo)
   pub done : end.done ≡ done_by cause
   pub told_to : IsToldTo cause end.told

@@ -7,20 +7,20 @@ use Rattle.pm_life.specs.declared.standing.Standing.{Standing}
 use Rattle.pm_life.specs.Life.{Told, Kill, Quit, Terminate, Checkpoint, was_told}
 use Rattle.pm_life.specs.Attention.{Attention, HasAsked, IsAttentive, was_given}
 use Rattle.pm_query.specs.declared.store.StoreNo.TheVariants.{NoMemory}
-use Rattle.pm_aux.specs.declared.cause.Cause.{Cause}
-use Rattle.pm_aux.specs.declared.cause.Cause.TheVariants.{Redone, Flushed, Closed, LeftOut, Refused, TurnedAway, ToldToTerminate, ToldToQuit, Killed}
+use Rattle.pm_aux.specs.declared.cause.AuxiliaryEnd.{AuxiliaryEnd}
+use Rattle.pm_aux.specs.declared.cause.AuxiliaryEnd.TheVariants.{Redone, Flushed, Closed, LeftOut, Refused, TurnedAway, ToldToTerminate, ToldToQuit, Killed}
 
 -- by what it has to end at once: by a Kill before a Quit
-abbrev pub ends_by : (kill : Bool) → Option Reason → Option Cause
+abbrev pub ends_by : (kill : Bool) → Option Reason → Option AuxiliaryEnd
 ends_by true quit = Some Killed
 ends_by false (Some reason) = Some (ToldToQuit reason)
 ends_by false None = None
 
-abbrev pub ends_of : Standing → Option Cause
+abbrev pub ends_of : Standing → Option AuxiliaryEnd
 ends_of standing = ends_by standing.kill standing.quit
 
 -- what it was told that ends by this cause
-abbrev pub IsToldTo : Cause → Option Told → Type 0
+abbrev pub IsToldTo : AuxiliaryEnd → Option Told → Type 0
 IsToldTo (Redone kept) told = Unit {0}
 IsToldTo Flushed told = was_given Terminate told
 IsToldTo Closed told = was_given Checkpoint told
@@ -32,19 +32,19 @@ IsToldTo (ToldToQuit reason) told = was_given (Quit reason) told
 IsToldTo Killed told = was_given Kill told
 
 -- it ends at once
-abbrev pub EndsAtOnce : Cause → Type 0
+abbrev pub EndsAtOnce : AuxiliaryEnd → Type 0
 EndsAtOnce (ToldToQuit reason) = Unit {0}
 EndsAtOnce Killed = Unit {0}
 EndsAtOnce _ = ⊥
 
 -- a startup child that is told to terminate doesn't begin
-abbrev pub HeedsTerminate : Kind → Cause → Type 0
+abbrev pub HeedsTerminate : Kind → AuxiliaryEnd → Type 0
 HeedsTerminate kinds.Startup ToldToTerminate = Unit {0}
 HeedsTerminate kinds.Startup cause = EndsAtOnce cause
 HeedsTerminate _ cause = Unit {0}
 
 -- What it was told it has heeded: a Kill before all else, and then a Quit.
-pub record HeedsTold (kind : Kind) (cause : Cause) (told : Told) : Type 0 where
+pub record HeedsTold (kind : Kind) (cause : AuxiliaryEnd) (told : Told) : Type 0 where
   pub kill : was_told Kill told → cause ≡ Killed
   pub quit : (reason : Reason) → was_told (Quit reason) told → EndsAtOnce cause
   pub terminate : was_told Terminate told → HeedsTerminate kind cause
@@ -65,7 +65,7 @@ IsHurried kinds.Checkpointer standing = IsTrue standing.checkpoint
 IsHurried _ standing = ⊥
 
 -- what stands where it ends by this cause
-abbrev pub StandsAt : Cause → Standing → Type 0
+abbrev pub StandsAt : AuxiliaryEnd → Standing → Type 0
 StandsAt (Redone kept) standing = ends_of standing ≡ None
 StandsAt Flushed standing = IsTrue standing.terminate × (ends_of standing ≡ None)
 StandsAt Closed standing = IsTrue standing.checkpoint × (ends_of standing ≡ None)
@@ -76,12 +76,12 @@ StandsAt ToldToTerminate standing = IsTrue standing.terminate × (ends_of standi
 StandsAt (ToldToQuit reason) standing = ends_of standing ≡ Some (ToldToQuit reason)
 StandsAt Killed standing = ends_of standing ≡ Some Killed
 
-pub record EndsInside (kind : Kind) (cause : Cause) (standing : Standing) : Type 0 where
+pub record EndsInside (kind : Kind) (cause : AuxiliaryEnd) (standing : Standing) : Type 0 where
   pub stands : StandsAt cause standing
   pub short : cause ≡ Refused NoMemory → IsHurried kind standing
 
 -- it ends by the last checkpoint
-abbrev pub IsLast : Cause → Type 0
+abbrev pub IsLast : AuxiliaryEnd → Type 0
 IsLast Closed = Unit {0}
 IsLast LeftOut = Unit {0}
 IsLast (Refused refusal) = Unit {0}

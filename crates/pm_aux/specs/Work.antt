@@ -5,18 +5,18 @@ use Rattle.pm_exit.specs.declared.child.Kind.TheVariants as kinds
 use Rattle.pm_query.specs.declared.book.BookEntry.{BookEntry}
 use Rattle.pm_query.specs.declared.book.BookEntry.TheVariants.{Attached, CheckpointEnded}
 use Rattle.pm_query.specs.Calls.{User, EnterNotes, RedoNotes, FlushNotes, CheckpointNotes, LeaveNotes}
-use Rattle.pm_aux.specs.declared.cause.Cause.{Cause}
-use Rattle.pm_aux.specs.declared.cause.Cause.TheVariants.{Redone, Flushed, Closed, LeftOut, Refused, ToldToQuit, Killed}
+use Rattle.pm_aux.specs.declared.cause.AuxiliaryEnd.{AuxiliaryEnd}
+use Rattle.pm_aux.specs.declared.cause.AuxiliaryEnd.TheVariants.{Redone, Flushed, Closed, LeftOut, Refused, ToldToQuit, Killed}
 use Rattle.pm_aux.specs.Ends.{lets_go}
 
 -- a redo notes the number that it keeps, or why the log wasn't read
-abbrev pub ReadsLog : User → Cause → List BookEntry → Type 0
+abbrev pub ReadsLog : User → AuxiliaryEnd → List BookEntry → Type 0
 ReadsLog user (Redone kept) noted = RedoNotes user (Ok kept) noted
 ReadsLog user (Refused refusal) noted = RedoNotes user (Err refusal) noted
 ReadsLog user _ noted = ⊥
 
 -- flushes note nothing but the refusal that the writer ends by
-abbrev pub Flushes : User → Cause → List BookEntry → Type 0
+abbrev pub Flushes : User → AuxiliaryEnd → List BookEntry → Type 0
 Flushes user Flushed noted = noted ≡ []
 Flushes user (Refused refusal) noted = FlushNotes user (Err refusal) noted
 Flushes user (ToldToQuit reason) noted = noted ≡ []
@@ -28,7 +28,7 @@ abbrev pub IsPassing : ℕ → BookEntry → Type 0
 IsPassing pid entry = (made : Bool) × (entry ≡ CheckpointEnded pid made false)
 
 -- what the checkpointer notes last, by the cause of its end
-abbrev pub ClosesBy : User → Cause → List BookEntry → Type 0
+abbrev pub ClosesBy : User → AuxiliaryEnd → List BookEntry → Type 0
 ClosesBy user Closed noted = noted ≡ CheckpointEnded user.pid true true ∷ []
 ClosesBy user LeftOut noted = noted ≡ CheckpointEnded user.pid false true ∷ []
 ClosesBy user (Refused refusal) noted = CheckpointNotes user true (Err refusal) noted
@@ -37,7 +37,7 @@ ClosesBy user Killed noted = noted ≡ []
 ClosesBy user _ noted = ⊥
 
 -- checkpoints one after the other, the last by the cause of the end
-pub record Checkpoints (user : User) (cause : Cause) (noted : List BookEntry) : Type 0 where
+pub record Checkpoints (user : User) (cause : AuxiliaryEnd) (noted : List BookEntry) : Type 0 where
   pub passing : List BookEntry
   pub last : List BookEntry
   pub each : All (IsPassing user.pid) passing
@@ -45,7 +45,7 @@ pub record Checkpoints (user : User) (cause : Cause) (noted : List BookEntry) : 
   pub noted_is : noted ≡ passing ++ last
 
 -- what it does between its entering and its leaving, by its kind
-abbrev pub Does : Kind → User → Cause → List BookEntry → Type 0
+abbrev pub Does : Kind → User → AuxiliaryEnd → List BookEntry → Type 0
 Does kinds.Startup user cause noted = ReadsLog user cause noted
 Does kinds.Writer user cause noted = Flushes user cause noted
 Does kinds.Checkpointer user cause noted = Checkpoints user cause noted
@@ -60,7 +60,7 @@ GoesOn kinds.Checkpointer = Unit {0}
 GoesOn _ = ⊥
 
 -- Behind the gate it didn't come into the store: it was refused there, or was told to end before it came in.
-abbrev pub IsKeptOut : Kind → User → Cause → List BookEntry → Type 0
+abbrev pub IsKeptOut : Kind → User → AuxiliaryEnd → List BookEntry → Type 0
 IsKeptOut kind user (Refused refusal) noted = EnterNotes {P = Unit {0}} user (Err refusal) noted
 IsKeptOut kind user (ToldToQuit reason) noted = GoesOn kind × (noted ≡ [])
 IsKeptOut kind user Killed noted = GoesOn kind × (noted ≡ [])
@@ -72,7 +72,7 @@ LeavesIf true user noted = LeaveNotes user noted
 LeavesIf false user noted = noted ≡ []
 
 -- its work, and its leaving
-pub record HasWorked (kind : Kind) (user : User) (cause : Cause) (noted : List BookEntry) : Type 0 where
+pub record HasWorked (kind : Kind) (user : User) (cause : AuxiliaryEnd) (noted : List BookEntry) : Type 0 where
   pub work : List BookEntry
   pub left : List BookEntry
   pub does : Does kind user cause work
@@ -80,15 +80,15 @@ pub record HasWorked (kind : Kind) (user : User) (cause : Cause) (noted : List B
   pub noted_is : noted ≡ work ++ left
 
 -- it entered, did its work, and left
-pub record HasEntered (kind : Kind) (user : User) (cause : Cause) (noted : List BookEntry) : Type 0 where
+pub record HasEntered (kind : Kind) (user : User) (cause : AuxiliaryEnd) (noted : List BookEntry) : Type 0 where
   pub inside : List BookEntry
   pub worked : HasWorked kind user cause inside
   pub noted_is : noted ≡ Attached user.pid user.generation ∷ inside
 
-abbrev pub NotesInside : Kind → User → Cause → List BookEntry → Type 0
+abbrev pub NotesInside : Kind → User → AuxiliaryEnd → List BookEntry → Type 0
 NotesInside kind user cause noted = IsKeptOut kind user cause noted ⊎ HasEntered kind user cause noted
 
 -- what it noted that was let into the store, or was kept out of it by this cause
-abbrev pub ComesIn : {P : Type 0} → Kind → User → Result P Cause → List BookEntry → Type 0
+abbrev pub ComesIn : {P : Type 0} → Kind → User → Result P AuxiliaryEnd → List BookEntry → Type 0
 ComesIn kind user (Ok pass) noted = noted ≡ Attached user.pid user.generation ∷ []
 ComesIn kind user (Err cause) noted = IsKeptOut kind user cause noted

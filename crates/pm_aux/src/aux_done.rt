@@ -2,7 +2,7 @@
 ghost use Rattle.std.specs.Prelude.{◌≡◌};
 ghost use Rattle.pm_aux.specs.Ends.{done_by};
 
-use crate::cause::Cause;
+use crate::cause::AuxiliaryEnd;
 use pm_exit::Status;
 use pm_query::StoreNo;
 
@@ -17,7 +17,7 @@ pub struct AuxDone {
 
 impl AuxDone {
     /// How a child ends by this cause.
-    pub(crate) fn by(cause: Cause) -> AuxDone
+    pub(crate) fn by(cause: AuxiliaryEnd) -> AuxDone
         ensures { result ≡ done_by cause }
     {
         AuxDone {

@@ -9,7 +9,7 @@ use pm_supervisor::Reason;
 
 /// By what it came to its end.
 #[derive(Clone, Copy, Debug, PartialEq, Eq)]
-pub enum Cause {
+pub enum AuxiliaryEnd {
     /// The startup child read the log, and so many commits stand.
     Redone { kept: u64 },
     /// The writer was told to terminate, and after that two flushes in a row answered the same front.
@@ -27,21 +27,21 @@ pub enum Cause {
     Killed,
 }
 
-impl Cause {
+impl AuxiliaryEnd {
     /// How the child exits.
     pub fn status(self) -> Status
         ensures { result ≡ status_by self }
     {
         match self {
-            Cause::Redone { .. } | Cause::Flushed | Cause::Closed | Cause::LeftOut => {
-                Status::Code(0)
-            }
-            Cause::Refused(StoreNo::Stale { .. } | StoreNo::Disk | StoreNo::Broken { .. }) => {
-                Status::Signal(6)
-            }
-            Cause::Refused(_) | Cause::ToldToTerminate => Status::Code(1),
-            Cause::TurnedAway(_) | Cause::ToldToQuit(_) => Status::Code(2),
-            Cause::Killed => Status::Signal(9),
+            AuxiliaryEnd::Redone { .. }
+            | AuxiliaryEnd::Flushed
+            | AuxiliaryEnd::Closed
+            | AuxiliaryEnd::LeftOut => { Status::Code(0) }
+            AuxiliaryEnd::Refused(StoreNo::Stale { .. } | StoreNo::Disk | StoreNo::Broken { .. }) =>
+                { Status::Signal(6) }
+            AuxiliaryEnd::Refused(_) | AuxiliaryEnd::ToldToTerminate => Status::Code(1),
+            AuxiliaryEnd::TurnedAway(_) | AuxiliaryEnd::ToldToQuit(_) => Status::Code(2),
+            AuxiliaryEnd::Killed => Status::Signal(9),
         }
     }
 
@@ -50,7 +50,7 @@ impl Cause {
         ensures { result ≡ fault_by self }
     {
         match self {
-            Cause::Refused(no) => Some(no),
+            AuxiliaryEnd::Refused(no) => Some(no),
             _ => None,
         }
     }
@@ -60,7 +60,7 @@ impl Cause {
         ensures { result ≡ kept_by self }
     {
         match self {
-            Cause::Redone { kept } => Some(kept),
+            AuxiliaryEnd::Redone { kept } => Some(kept),
             _ => None,
         }
     }
@@ -71,8 +71,9 @@ impl Cause {
         ensures { result ≡ lets_go self }
     {
         match self {
-            Cause::Refused(StoreNo::Stale { .. } | StoreNo::Disk | StoreNo::Broken { .. }) => false,
-            Cause::ToldToQuit(_) | Cause::Killed => false,
+            AuxiliaryEnd::Refused(StoreNo::Stale { .. } | StoreNo::Disk | StoreNo::Broken { .. }) =>
+                false,
+            AuxiliaryEnd::ToldToQuit(_) | AuxiliaryEnd::Killed => false,
             _ => true,
         }
     }

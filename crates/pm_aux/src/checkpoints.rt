@@ -8,7 +8,7 @@ ghost use Rattle.pm_aux.specs.Ends.{fault_by, IsMetBehind};
 ghost use Rattle.pm_aux.specs.Signals.{Listens, EndsInside, IsLast};
 ghost use Rattle.pm_aux.specs.Work.{Checkpoints, ClosesBy};
 
-use crate::cause::Cause;
+use crate::cause::AuxiliaryEnd;
 use crate::rest::rest;
 use crate::signals::ends;
 use pm_life::{Life, Standing};
@@ -24,7 +24,7 @@ pub(crate) fn checkpoint_on<R: Wait, S: Store, C: Clock, F: Life>(
     clock: &C,
     life: &mut F,
     standing: &mut Standing,
-) -> Cause
+) -> AuxiliaryEnd
     requires admits { S.admits store.old pass.old }
     requires attentive { IsAttentive (attention (F.told life.old) (F.child life.old) standing.old) }
     ensures admits { S.admits store.new pass.new }
@@ -46,14 +46,14 @@ pub(crate) fn checkpoint_on<R: Wait, S: Store, C: Clock, F: Life>(
         match store.checkpoint(pass, false) {
             Ok(_) => rest(clock, life, standing),
             Err(StoreNo::NoMemory) => rest(clock, life, standing),
-            Err(no) => return Cause::Refused(no),
+            Err(no) => return AuxiliaryEnd::Refused(no),
         }
     }
     unreachable!()
 }
 
 // Makes the last checkpoint.
-fn close<S: Store>(store: &mut S, pass: &mut S::Pass) -> Cause
+fn close<S: Store>(store: &mut S, pass: &mut S::Pass) -> AuxiliaryEnd
     requires admits { S.admits store.old pass.old }
     ensures admits { S.admits store.new pass.new }
     ensures view { S.view pass.new ≡ S.view pass.old }
@@ -63,9 +63,9 @@ fn close<S: Store>(store: &mut S, pass: &mut S::Pass) -> Cause
     ensures met { IsMetBehind (S.met store.new) (fault_by result) }
 {
     match store.checkpoint(pass, true) {
-        Ok(Checkpointed::Done { .. }) => Cause::Closed,
-        Ok(Checkpointed::Skipped) => Cause::LeftOut,
+        Ok(Checkpointed::Done { .. }) => AuxiliaryEnd::Closed,
+        Ok(Checkpointed::Skipped) => AuxiliaryEnd::LeftOut,
         Ok(Checkpointed::NotDue { .. }) => unreachable!(),
-        Err(no) => Cause::Refused(no),
+        Err(no) => AuxiliaryEnd::Refused(no),
     }
 }

@@ -8,7 +8,7 @@ ghost use Rattle.pm_aux.specs.Ends.{fault_by, IsMetBehind};
 ghost use Rattle.pm_aux.specs.Signals.{Listens, EndsInside};
 ghost use Rattle.pm_aux.specs.Work.{Flushes};
 
-use crate::cause::Cause;
+use crate::cause::AuxiliaryEnd;
 use crate::rest::rest;
 use crate::signals::ends;
 use pm_life::{Life, Standing, listen};
@@ -25,7 +25,7 @@ pub(crate) fn flush_on<R: Wait, S: Store, C: Clock, F: Life>(
     clock: &C,
     life: &mut F,
     standing: &mut Standing,
-) -> Cause
+) -> AuxiliaryEnd
     requires admits { S.admits store.old pass.old }
     requires attentive { IsAttentive (attention (F.told life.old) (F.child life.old) standing.old) }
     ensures admits { S.admits store.new pass.new }
@@ -45,14 +45,14 @@ pub(crate) fn flush_on<R: Wait, S: Store, C: Clock, F: Life>(
         match store.flush(pass) {
             Ok(front) if standing.terminate => {
                 if last == Some(front) {
-                    return Cause::Flushed;
+                    return AuxiliaryEnd::Flushed;
                 }
                 last = Some(front);
                 listen(life, standing);
             }
             Ok(_) => rest(clock, life, standing),
             Err(StoreNo::NoMemory) => rest(clock, life, standing),
-            Err(no) => return Cause::Refused(no),
+            Err(no) => return AuxiliaryEnd::Refused(no),
         }
     }
     unreachable!()

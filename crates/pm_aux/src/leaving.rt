@@ -5,12 +5,12 @@ ghost use Rattle.pm_query.specs.Calls.{user_of};
 ghost use Rattle.pm_aux.specs.Ends.{lets_go, unless};
 ghost use Rattle.pm_aux.specs.Work.{LeavesIf};
 
-use crate::cause::Cause;
+use crate::cause::AuxiliaryEnd;
 use pm_life::Life;
 use pm_query::Store;
 
 /// Lets go of the attachment, if the cause lets it.
-pub(crate) fn step_out<F: Life>(life: &mut F, cause: Cause)
+pub(crate) fn step_out<F: Life>(life: &mut F, cause: AuxiliaryEnd)
     requires { (generation : ℕ) × ((F.child life.old).attached ≡ Some generation) }
     ensures attached { (F.child life.new).attached ≡ unless (lets_go cause)
         (F.child life.old).attached }
@@ -22,7 +22,7 @@ pub(crate) fn step_out<F: Life>(life: &mut F, cause: Cause)
 }
 
 /// Leaves the store, if the cause lets it.
-pub(crate) fn leave<S: Store>(store: &mut S, pass: S::Pass, cause: Cause)
+pub(crate) fn leave<S: Store>(store: &mut S, pass: S::Pass, cause: AuxiliaryEnd)
     requires { S.admits store.old pass }
     ensures notes { (noted : List BookEntry) × S.notes noted store.old store.new
         × LeavesIf (lets_go cause) (user_of (S.stamp store.old) (S.view pass)) noted }

@@ -13,6 +13,6 @@ mod startup_child;
 mod tending;
 
 pub use aux_done::AuxDone;
-pub use cause::Cause;
+pub use cause::AuxiliaryEnd;
 pub use startup_child::startup;
 pub use tending::{checkpointer, writer};

@@ -9,7 +9,7 @@ ghost use Rattle.pm_aux.specs.Runs.{at_end, runner, user_in, IsRunOf};
 ghost use Rattle.pm_aux.specs.Work.{HasWorked, NotesInside, ReadsLog};
 
 use crate::aux_done::AuxDone;
-use crate::cause::Cause;
+use crate::cause::AuxiliaryEnd;
 use crate::leaving::{leave, step_out};
 use crate::signals::ends;
 use pm_life::{Life, Standing, listen};
@@ -29,7 +29,7 @@ pub fn startup<S: Store, F: Life>(store: &mut S, life: &mut F) -> AuxDone
 }
 
 // The same, by what the child comes to its end.
-fn read_log<S: Store, F: Life>(store: &mut S, life: &mut F) -> Cause
+fn read_log<S: Store, F: Life>(store: &mut S, life: &mut F) -> AuxiliaryEnd
     requires free { (F.child life.old).attached ≡ None }
     requires may { ¬ (IsTrue (F.child life.old).is_dead_end) }
     requires untold { IfSome (F.told life.old) (λ told. told ≡ nothing_told) }
@@ -44,16 +44,16 @@ fn read_log<S: Store, F: Life>(store: &mut S, life: &mut F) -> Cause
         return cause;
     }
     if standing.terminate {
-        return Cause::ToldToTerminate;
+        return AuxiliaryEnd::ToldToTerminate;
     }
     match life.attach() {
         Ok(generation) => redo(store, life, generation),
-        Err(no) => Cause::TurnedAway(no),
+        Err(no) => AuxiliaryEnd::TurnedAway(no),
     }
 }
 
 // Behind the gate.
-fn redo<S: Store, F: Life>(store: &mut S, life: &mut F, generation: u32) -> Cause
+fn redo<S: Store, F: Life>(store: &mut S, life: &mut F, generation: u32) -> AuxiliaryEnd
     requires attached { (F.child life.old).attached ≡ Some generation }
     ensures notes { (noted : List BookEntry) × S.notes noted store.old store.new
         × NotesInside Startup (user_in (runner (S.stamp store.old) (F.child life.old)) generation)
@@ -67,18 +67,18 @@ fn redo<S: Store, F: Life>(store: &mut S, life: &mut F, generation: u32) -> Caus
     cause
 }
 
-fn enter_and_redo<S: Store>(store: &mut S, pid: u32, generation: u32) -> Cause
+fn enter_and_redo<S: Store>(store: &mut S, pid: u32, generation: u32) -> AuxiliaryEnd
     ensures notes { (noted : List BookEntry) × S.notes noted store.old store.new
         × NotesInside Startup (newcomer (S.stamp store.old) pid generation) result noted }
     ensures met { IsMetBehind (S.met store.new) (fault_by result) }
 {
     match store.enter(pid, generation) {
         Ok(pass) => redo_and_leave(store, pass),
-        Err(no) => Cause::Refused(no),
+        Err(no) => AuxiliaryEnd::Refused(no),
     }
 }
 
-fn redo_and_leave<S: Store>(store: &mut S, pass: S::Pass) -> Cause
+fn redo_and_leave<S: Store>(store: &mut S, pass: S::Pass) -> AuxiliaryEnd
     requires { S.admits store.old pass }
     ensures notes { (noted : List BookEntry) × S.notes noted store.old store.new
         × HasWorked Startup (user_of (S.stamp store.old) (S.view pass)) result noted }
@@ -90,7 +90,7 @@ fn redo_and_leave<S: Store>(store: &mut S, pass: S::Pass) -> Cause
     cause
 }
 
-fn read<S: Store>(store: &mut S, pass: &mut S::Pass) -> Cause
+fn read<S: Store>(store: &mut S, pass: &mut S::Pass) -> AuxiliaryEnd
     requires { S.admits store.old pass.old }
     ensures admits { S.admits store.new pass.new }
     ensures view { S.view pass.new ≡ S.view pass.old }
@@ -99,7 +99,7 @@ fn read<S: Store>(store: &mut S, pass: &mut S::Pass) -> Cause
     ensures met { IsMetBehind (S.met store.new) (fault_by result) }
 {
     match store.redo(pass) {
-        Ok(kept) => Cause::Redone { kept },
-        Err(no) => Cause::Refused(no),
+        Ok(kept) => AuxiliaryEnd::Redone { kept },
+        Err(no) => AuxiliaryEnd::Refused(no),
     }
 }

@@ -11,7 +11,7 @@ ghost use Rattle.pm_aux.specs.Runs.{at_end, runner, user_in, IsRunOf};
 ghost use Rattle.pm_aux.specs.Work.{ComesIn, Does, GoesOn, HasWorked, NotesInside};
 
 use crate::aux_done::AuxDone;
-use crate::cause::Cause;
+use crate::cause::AuxiliaryEnd;
 use crate::checkpoints::checkpoint_on;
 use crate::flushes::flush_on;
 use crate::leaving::{leave, step_out};
@@ -68,7 +68,7 @@ fn tend<R: Wait, S: Store, C: Clock, F: Life>(
     clock: &C,
     life: &mut F,
     kind: Kind,
-) -> Cause
+) -> AuxiliaryEnd
     requires goes_on { GoesOn kind }
     requires free { (F.child life.old).attached ≡ None }
     requires may { ¬ (IsTrue (F.child life.old).is_dead_end) }
@@ -85,7 +85,7 @@ fn tend<R: Wait, S: Store, C: Clock, F: Life>(
     }
     match life.attach() {
         Ok(generation) => tend_inside(rt, store, clock, life, &mut standing, kind, generation),
-        Err(no) => Cause::TurnedAway(no),
+        Err(no) => AuxiliaryEnd::TurnedAway(no),
     }
 }
 
@@ -98,7 +98,7 @@ fn tend_inside<R: Wait, S: Store, C: Clock, F: Life>(
     standing: &mut Standing,
     kind: Kind,
     generation: u32,
-) -> Cause
+) -> AuxiliaryEnd
     requires goes_on { GoesOn kind }
     requires attached { (F.child life.old).attached ≡ Some generation }
     requires attentive { IsAttentive (attention (F.told life.old) (F.child life.old) standing.old) }
@@ -125,7 +125,7 @@ fn enter_and_work<R: Wait, S: Store, C: Clock, F: Life>(
     standing: &mut Standing,
     kind: Kind,
     generation: u32,
-) -> Cause
+) -> AuxiliaryEnd
     requires goes_on { GoesOn kind }
     requires attentive { IsAttentive (attention (F.told life.old) (F.child life.old) standing.old) }
     ensures notes { (noted : List BookEntry) × S.notes noted store.old store.new
@@ -151,7 +151,7 @@ fn come_in<R: Wait, S: Store, C: Clock, F: Life>(
     standing: &mut Standing,
     kind: Kind,
     generation: u32,
-) -> Result<S::Pass, Cause>
+) -> Result<S::Pass, AuxiliaryEnd>
     requires goes_on { GoesOn kind }
     requires attentive { IsAttentive (attention (F.told life.old) (F.child life.old) standing.old) }
     ensures notes { (noted : List BookEntry) × S.notes noted store.old store.new
@@ -174,7 +174,7 @@ fn come_in<R: Wait, S: Store, C: Clock, F: Life>(
             Err(StoreNo::NoMemory) if is_patient || !standing.checkpoint => {
                 rest(clock, life, standing)
             }
-            Err(no) => return Err(Cause::Refused(no)),
+            Err(no) => return Err(AuxiliaryEnd::Refused(no)),
         }
     }
     unreachable!()
@@ -188,7 +188,7 @@ fn work_and_leave<R: Wait, S: Store, C: Clock, F: Life>(
     life: &mut F,
     standing: &mut Standing,
     kind: Kind,
-) -> Cause
+) -> AuxiliaryEnd
     requires goes_on { GoesOn kind }
     requires admits { S.admits store.old pass }
     requires attentive { IsAttentive (attention (F.told life.old) (F.child life.old) standing.old) }
@@ -213,7 +213,7 @@ fn work<R: Wait, S: Store, C: Clock, F: Life>(
     life: &mut F,
     standing: &mut Standing,
     kind: Kind,
-) -> Cause
+) -> AuxiliaryEnd
     requires goes_on { GoesOn kind }
     requires admits { S.admits store.old pass.old }
     requires attentive { IsAttentive (attention (F.told life.old) (F.child life.old) standing.old) }

@@ -28,8 +28,8 @@ use Rattle.pm_startup.specs.declared.packet.StartFault.TheVariants as start
 use Rattle.pm_exchange.specs.Sent.{Turn}
 use Rattle.pm_session.specs.Session.{CausedBy, Ending, EndsAt, IsAttachedAt, IsText, TurnsAway}
 use Rattle.pm_aux.specs.declared.aux_done.AuxDone.{AuxDone}
-use Rattle.pm_aux.specs.declared.cause.Cause.{Cause}
-use Rattle.pm_aux.specs.declared.cause.Cause.TheVariants.{Redone, Flushed, Closed, LeftOut, Refused, TurnedAway, ToldToTerminate, ToldToQuit, Killed}
+use Rattle.pm_aux.specs.declared.cause.AuxiliaryEnd.{AuxiliaryEnd}
+use Rattle.pm_aux.specs.declared.cause.AuxiliaryEnd.TheVariants.{Redone, Flushed, Closed, LeftOut, Refused, TurnedAway, ToldToTerminate, ToldToQuit, Killed}
 use Rattle.pm_aux.specs.Ends.{fault_by, kept_by, status_by}
 use Rattle.pm_aux.specs.Runs.{EndsOutside, MayBeShort, NotesBehind, Runner, user_in}
 use Rattle.pm_aux.specs.Signals.{IsToldTo}
@@ -150,7 +150,7 @@ module _ (manner : Manner) (run : Run) where
   -- ---- an auxiliary child
 
   -- who ended neither outside nor at the gate
-  inside : (kind : Kind) (who : Runner) (gate : Option (Result ℕ GateNo)) (cause : Cause) → NotesBehind kind who gate cause run.noted → (EndsOutside kind cause → ⊥)
+  inside : (kind : Kind) (who : Runner) (gate : Option (Result ℕ GateNo)) (cause : AuxiliaryEnd) → NotesBehind kind who gate cause run.noted → (EndsOutside kind cause → ⊥)
       → ((refusal : GateNo) → cause ≡ TurnedAway refusal → ⊥)
       → (generation : ℕ) × (IsKeptOut kind (user_in who generation) cause run.noted ⊎ HasEntered kind (user_in who generation) cause run.noted)
   inside kind who None cause notes out away = absurd (out notes.0)
@@ -158,7 +158,7 @@ module _ (manner : Manner) (run : Run) where
   inside kind who (Some (Ok generation)) cause notes out away = (generation, notes)
 
   -- a fault that its work noted
-  worked : (kind : Kind) (user : User) (cause : Cause) (entered : HasEntered kind user cause run.noted) → Breaks entered.worked.work → Breaks run.noted
+  worked : (kind : Kind) (user : User) (cause : AuxiliaryEnd) (entered : HasEntered kind user cause run.noted) → Breaks entered.worked.work → Breaks run.noted
   worked kind user cause entered breaks =
       breaks_within (Attached user.pid user.generation ∷ []) entered.worked.work entered.worked.left run.noted
       (entered.noted_is ∙ ap (λ (es : List BookEntry). Attached user.pid user.generation ∷ es) entered.worked.noted_is) breaks
@@ -177,7 +177,7 @@ module _ (manner : Manner) (run : Run) where
       absurd (let never : true ≡ false = sym (subst (MetRightly run.child.offer) met right) ∙ none in cc)
 
   -- what is known of an auxiliary child of this kind that ended by this cause
-  record Aux (kind : Kind) (cause : Cause) : Type 0 where
+  record Aux (kind : Kind) (cause : AuxiliaryEnd) : Type 0 where
     pub who : Runner
     pub gate : Option (Result ℕ GateNo)
     pub kind_is : run.child.offer.kind ≡ kind
@@ -203,7 +203,7 @@ module _ (manner : Manner) (run : Run) where
   told_here refusal is = absurd cc
 
   -- who came in, and what it did there
-  by_work : (kind : Kind) (cause : Cause) (a : Aux kind cause) → (EndsOutside kind cause → ⊥) → ((refusal : GateNo) → cause ≡ TurnedAway refusal → ⊥)
+  by_work : (kind : Kind) (cause : AuxiliaryEnd) (a : Aux kind cause) → (EndsOutside kind cause → ⊥) → ((refusal : GateNo) → cause ≡ TurnedAway refusal → ⊥)
       → ((user : User) → IsKeptOut kind user cause run.noted → ⊥) → ((user : User) → HasEntered kind user cause run.noted → Comes) → Comes
   by_work kind cause a out away never does = by (inside kind a.who a.gate cause a.notes out away)
     where
@@ -211,10 +211,10 @@ module _ (manner : Manner) (run : Run) where
       by (generation, inl kept) = absurd (never (user_in a.who generation) kept)
       by (generation, inr entered) = does (user_in a.who generation) entered
 
-  failed : (kind : Kind) (user : User) (cause : Cause) (entered : HasEntered kind user cause run.noted) → Breaks entered.worked.work → Comes
+  failed : (kind : Kind) (user : User) (cause : AuxiliaryEnd) (entered : HasEntered kind user cause run.noted) → Breaks entered.worked.work → Comes
   failed kind user cause entered breaks = DiskFailed (worked kind user cause entered breaks)
 
-  of_startup : (cause : Cause) → Aux kinds.Startup cause → Comes
+  of_startup : (cause : AuxiliaryEnd) → Aux kinds.Startup cause → Comes
   of_startup (Redone kept) a = fine kinds.Startup a.kind_is (ap is_exit_0 a.status)
   of_startup Flushed a = fine kinds.Startup a.kind_is (ap is_exit_0 a.status)
   of_startup Closed a = fine kinds.Startup a.kind_is (ap is_exit_0 a.status)
@@ -240,7 +240,7 @@ module _ (manner : Manner) (run : Run) where
   of_startup (Refused (Full need room)) a =
       by_work kinds.Startup (Refused (Full need room)) a (λ out. out) (refused_here (Full need room)) (λ user kept. kept) (λ user entered. absurd entered.worked.does)
 
-  of_writer : (cause : Cause) → Aux kinds.Writer cause → Comes
+  of_writer : (cause : AuxiliaryEnd) → Aux kinds.Writer cause → Comes
   of_writer (Redone kept) a = fine kinds.Writer a.kind_is (ap is_exit_0 a.status)
   of_writer Flushed a = fine kinds.Writer a.kind_is (ap is_exit_0 a.status)
   of_writer Closed a = fine kinds.Writer a.kind_is (ap is_exit_0 a.status)
@@ -265,12 +265,12 @@ module _ (manner : Manner) (run : Run) where
       by_work kinds.Writer (Refused (Full need room)) a (λ out. out) (refused_here (Full need room)) (λ user kept. kept) (λ user entered. absurd entered.worked.does)
 
   -- a fault that the last checkpoint noted
-  closed : (user : User) (cause : Cause) (entered : HasEntered kinds.Checkpointer user cause run.noted) → Breaks entered.worked.does.last → Comes
+  closed : (user : User) (cause : AuxiliaryEnd) (entered : HasEntered kinds.Checkpointer user cause run.noted) → Breaks entered.worked.does.last → Comes
   closed user cause entered breaks =
       failed kinds.Checkpointer user cause entered
       (subst Breaks (sym entered.worked.does.noted_is) (breaks_behind entered.worked.does.passing entered.worked.does.last breaks))
 
-  of_checkpointer : (cause : Cause) → Aux kinds.Checkpointer cause → Comes
+  of_checkpointer : (cause : AuxiliaryEnd) → Aux kinds.Checkpointer cause → Comes
   of_checkpointer (Redone kept) a =
       by_work kinds.Checkpointer (Redone kept) a (λ out. out) (λ refusal is. absurd cc) (λ user kept. kept) (λ user entered. absurd entered.worked.does.closes)
   of_checkpointer Flushed a =

@@ -26,8 +26,8 @@ use Rattle.pm_life.specs.Life.{Told}
 use Rattle.pm_session.specs.Session.{AllNotes, BreaksOff, EndsAt, Ending, HasEntered as HasEnteredSession, IsText, Leaves, NotesOutside, StopsInside}
 use Rattle.pm_board.specs.Places.{is_connection}
 use Rattle.pm_post_life.specs.Lives.{MetRightly}
-use Rattle.pm_aux.specs.declared.cause.Cause.{Cause}
-use Rattle.pm_aux.specs.declared.cause.Cause.TheVariants.{Redone as HasRedone, Flushed, Closed, LeftOut, Refused, TurnedAway, ToldToTerminate, ToldToQuit, Killed}
+use Rattle.pm_aux.specs.declared.cause.AuxiliaryEnd.{AuxiliaryEnd}
+use Rattle.pm_aux.specs.declared.cause.AuxiliaryEnd.TheVariants.{Redone as HasRedone, Flushed, Closed, LeftOut, Refused, TurnedAway, ToldToTerminate, ToldToQuit, Killed}
 use Rattle.pm_aux.specs.Runs.{NotesBehind, Runner, user_in}
 use Rattle.pm_aux.specs.Work.{ClosesBy, Does as DoesWork, Flushes, HasEntered, IsKeptOut, IsPassing, LeavesIf, ReadsLog}
 use Rattle.pm_aux.specs.Ends.{lets_go, status_by}
@@ -163,7 +163,7 @@ module _ (generation : ℕ) (bad : Type 0) where
 
   -- ---- an auxiliary child
 
-  of_read : (user : User) (cause : Cause) (noted : List BookEntry) → (is_bad kinds.Startup (status_by cause) ≡ true → bad) → ReadsLog user cause noted → AllMay generation bad noted
+  of_read : (user : User) (cause : AuxiliaryEnd) (noted : List BookEntry) → (is_bad kinds.Startup (status_by cause) ≡ true → bad) → ReadsLog user cause noted → AllMay generation bad noted
   of_read user (HasRedone kept) noted its is = one noted (Redone user.pid user.generation kept) is tt
   of_read user (Refused (Stale mine found)) noted its is = none noted is.1
   of_read user (Refused Disk) noted its is = absurd is
@@ -183,7 +183,7 @@ module _ (generation : ℕ) (bad : Type 0) where
   of_read user (ToldToQuit reason) noted its is = absurd is
   of_read user Killed noted its is = absurd is
 
-  of_flush : (user : User) (cause : Cause) (noted : List BookEntry) → (is_bad kinds.Writer (status_by cause) ≡ true → bad) → Flushes user cause noted → AllMay generation bad noted
+  of_flush : (user : User) (cause : AuxiliaryEnd) (noted : List BookEntry) → (is_bad kinds.Writer (status_by cause) ≡ true → bad) → Flushes user cause noted → AllMay generation bad noted
   of_flush user Flushed noted its is = none noted is
   of_flush user (Refused (Stale mine found)) noted its is = none noted is.1
   of_flush user (Refused Disk) noted its is = of_fault user.pid noted (its refl) is
@@ -199,7 +199,7 @@ module _ (generation : ℕ) (bad : Type 0) where
   of_flush user (TurnedAway refusal) noted its is = absurd is
   of_flush user ToldToTerminate noted its is = absurd is
 
-  of_close : (user : User) (cause : Cause) (noted : List BookEntry) → (is_bad kinds.Checkpointer (status_by cause) ≡ true → bad) → ClosesBy user cause noted → AllMay generation bad noted
+  of_close : (user : User) (cause : AuxiliaryEnd) (noted : List BookEntry) → (is_bad kinds.Checkpointer (status_by cause) ≡ true → bad) → ClosesBy user cause noted → AllMay generation bad noted
   of_close user Closed noted its is = one noted (CheckpointEnded user.pid true true) is tt
   of_close user LeftOut noted its is = one noted (CheckpointEnded user.pid false true) is tt
   of_close user (Refused (Stale mine found)) noted its is = none noted is.1
@@ -219,7 +219,7 @@ module _ (generation : ℕ) (bad : Type 0) where
   of_passing pid [] each = tt
   of_passing pid (entry ∷ passing) each = (subst (May generation bad) (sym each.0.1) tt, of_passing pid passing each.1)
 
-  of_work : (kind : Kind) (user : User) (cause : Cause) (noted : List BookEntry) → (is_bad kind (status_by cause) ≡ true → bad) → DoesWork kind user cause noted → AllMay generation bad noted
+  of_work : (kind : Kind) (user : User) (cause : AuxiliaryEnd) (noted : List BookEntry) → (is_bad kind (status_by cause) ≡ true → bad) → DoesWork kind user cause noted → AllMay generation bad noted
   of_work kinds.Startup user cause noted its does = of_read user cause noted its does
   of_work kinds.Writer user cause noted its does = of_flush user cause noted its does
   of_work kinds.Checkpointer user cause noted its does =
@@ -233,7 +233,7 @@ module _ (generation : ℕ) (bad : Type 0) where
   of_leaves_if true user noted is = of_leave user noted is
   of_leaves_if false user noted is = none noted is
 
-  of_kept_out : (kind : Kind) (user : User) (cause : Cause) (noted : List BookEntry) → IsKeptOut kind user cause noted → AllMay generation bad noted
+  of_kept_out : (kind : Kind) (user : User) (cause : AuxiliaryEnd) (noted : List BookEntry) → IsKeptOut kind user cause noted → AllMay generation bad noted
   of_kept_out kind user (Refused (Stale mine found)) noted is = none noted is.1
   of_kept_out kind user (Refused NoMemory) noted is = none noted is
   of_kept_out kind user (Refused Disk) noted is = absurd is
@@ -249,7 +249,7 @@ module _ (generation : ℕ) (bad : Type 0) where
   of_kept_out kind user (TurnedAway refusal) noted is = absurd is
   of_kept_out kind user ToldToTerminate noted is = absurd is
 
-  of_entered : (kind : Kind) (user : User) (cause : Cause) (noted : List BookEntry) → user.generation ≡ generation → (is_bad kind (status_by cause) ≡ true → bad) → HasEntered kind user cause noted
+  of_entered : (kind : Kind) (user : User) (cause : AuxiliaryEnd) (noted : List BookEntry) → user.generation ≡ generation → (is_bad kind (status_by cause) ≡ true → bad) → HasEntered kind user cause noted
       → AllMay generation bad noted
   of_entered kind user cause noted here its entered =
       let worked = entered.worked in
@@ -259,7 +259,7 @@ module _ (generation : ℕ) (bad : Type 0) where
             (of_leaves_if (lets_go cause) user worked.left worked.leaves),
       )
 
-  of_behind : (kind : Kind) (who : Runner) (gate : Option (Result ℕ GateNo)) (cause : Cause) (noted : List BookEntry) → ((let_in : ℕ) → gate ≡ Some (Ok let_in) → let_in ≡ generation)
+  of_behind : (kind : Kind) (who : Runner) (gate : Option (Result ℕ GateNo)) (cause : AuxiliaryEnd) (noted : List BookEntry) → ((let_in : ℕ) → gate ≡ Some (Ok let_in) → let_in ≡ generation)
       → (is_bad kind (status_by cause) ≡ true → bad) → NotesBehind kind who gate cause noted → AllMay generation bad noted
   of_behind kind who None cause noted here its is = none noted is.1
   of_behind kind who (Some (Err refusal)) cause noted here its is = none noted is.1
@@ -330,7 +330,7 @@ module _ (seed : List ℕ) (limit : ℕ) (gives : ℕ → Type 0) where
 
   -- ---- a startup child, and a checkpointer, that exit with code 0
 
-  startup_in : (user : User) (cause : Cause) (work : List BookEntry) → is_exit_0 (status_by cause) ≡ true → ReadsLog user cause work → NotesRedo user.pid work
+  startup_in : (user : User) (cause : AuxiliaryEnd) (work : List BookEntry) → is_exit_0 (status_by cause) ≡ true → ReadsLog user cause work → NotesRedo user.pid work
   startup_in user (HasRedone kept) work well is = record { generation = user.generation; kept = kept; there = subst (IsIn _) (sym is) (inl refl) }
   startup_in user (Refused (Stale mine found)) work well is = absurd cc
   startup_in user (Refused Disk) work well is = absurd cc
@@ -346,7 +346,7 @@ module _ (seed : List ℕ) (limit : ℕ) (gives : ℕ → Type 0) where
   startup_in user (ToldToQuit reason) work well is = absurd is
   startup_in user Killed work well is = absurd is
 
-  closes_in : (user : User) (cause : Cause) (last : List BookEntry) → is_exit_0 (status_by cause) ≡ true → ClosesBy user cause last → NotesLast user.pid last
+  closes_in : (user : User) (cause : AuxiliaryEnd) (last : List BookEntry) → is_exit_0 (status_by cause) ≡ true → ClosesBy user cause last → NotesLast user.pid last
   closes_in user Closed last well is = record { done = true; there = subst (IsIn _) (sym is) (inl refl) }
   closes_in user LeftOut last well is = record { done = false; there = subst (IsIn _) (sym is) (inl refl) }
   closes_in user (Refused (Stale mine found)) last well is = absurd cc
@@ -362,7 +362,7 @@ module _ (seed : List ℕ) (limit : ℕ) (gives : ℕ → Type 0) where
   closes_in user (ToldToQuit reason) last well is = absurd cc
   closes_in user Killed last well is = absurd cc
 
-  kept_out_badly : (kind : Kind) (user : User) (cause : Cause) (noted : List BookEntry) → IsKeptOut kind user cause noted → is_exit_0 (status_by cause) ≡ true → ⊥
+  kept_out_badly : (kind : Kind) (user : User) (cause : AuxiliaryEnd) (noted : List BookEntry) → IsKeptOut kind user cause noted → is_exit_0 (status_by cause) ≡ true → ⊥
   kept_out_badly kind user (Refused (Stale mine found)) noted is well = cc
   kept_out_badly kind user (Refused NoMemory) noted is well = cc
   kept_out_badly kind user (Refused Disk) noted is well = is
@@ -378,15 +378,15 @@ module _ (seed : List ℕ) (limit : ℕ) (gives : ℕ → Type 0) where
   kept_out_badly kind user (TurnedAway refusal) noted is well = is
   kept_out_badly kind user ToldToTerminate noted is well = is
 
-  inside_of : (entry : BookEntry) (kind : Kind) (user : User) (cause : Cause) (noted : List BookEntry) (entered : HasEntered kind user cause noted) → IsIn entry entered.worked.work → IsIn entry noted
+  inside_of : (entry : BookEntry) (kind : Kind) (user : User) (cause : AuxiliaryEnd) (noted : List BookEntry) (entered : HasEntered kind user cause noted) → IsIn entry entered.worked.work → IsIn entry noted
   inside_of entry kind user cause noted entered there =
       subst (IsIn entry) (sym entered.noted_is)
       (inr (subst (IsIn entry) (sym entered.worked.noted_is) (in_front entry entered.worked.work entered.worked.left there)))
 
-  turned_badly : (cause : Cause) (refusal : GateNo) → cause ≡ TurnedAway refusal → is_exit_0 (status_by cause) ≡ true → ⊥
-  turned_badly cause refusal is well = (let never : false ≡ true = sym (ap (λ (c : Cause). is_exit_0 (status_by c)) is) ∙ well in cc)
+  turned_badly : (cause : AuxiliaryEnd) (refusal : GateNo) → cause ≡ TurnedAway refusal → is_exit_0 (status_by cause) ≡ true → ⊥
+  turned_badly cause refusal is well = (let never : false ≡ true = sym (ap (λ (c : AuxiliaryEnd). is_exit_0 (status_by c)) is) ∙ well in cc)
 
-  startup_notes : (who : Runner) (gate : Option (Result ℕ GateNo)) (cause : Cause) (noted : List BookEntry) → is_exit_0 (status_by cause) ≡ true → NotesBehind kinds.Startup who gate cause noted
+  startup_notes : (who : Runner) (gate : Option (Result ℕ GateNo)) (cause : AuxiliaryEnd) (noted : List BookEntry) → is_exit_0 (status_by cause) ≡ true → NotesBehind kinds.Startup who gate cause noted
       → NotesRedo who.pid noted
   startup_notes who None ToldToTerminate noted well is = absurd cc
   startup_notes who None (ToldToQuit reason) noted well is = absurd cc
@@ -403,7 +403,7 @@ module _ (seed : List ℕ) (limit : ℕ) (gives : ℕ → Type 0) where
       let its : NotesRedo who.pid entered.worked.work = startup_in (user_in who let_in) cause entered.worked.work well entered.worked.does in
       record { generation = its.generation; kept = its.kept; there = inside_of _ kinds.Startup (user_in who let_in) cause noted entered its.there }
 
-  checkpointer_notes : (who : Runner) (gate : Option (Result ℕ GateNo)) (cause : Cause) (noted : List BookEntry) → is_exit_0 (status_by cause) ≡ true → NotesBehind kinds.Checkpointer who gate cause noted
+  checkpointer_notes : (who : Runner) (gate : Option (Result ℕ GateNo)) (cause : AuxiliaryEnd) (noted : List BookEntry) → is_exit_0 (status_by cause) ≡ true → NotesBehind kinds.Checkpointer who gate cause noted
       → NotesLast who.pid noted
   checkpointer_notes who None ToldToTerminate noted well is = absurd is.0
   checkpointer_notes who None (ToldToQuit reason) noted well is = absurd cc
@@ -425,7 +425,7 @@ module _ (seed : List ℕ) (limit : ℕ) (gives : ℕ → Type 0) where
             (subst (IsIn _) (sym does.noted_is) (in_back _ does.passing does.last its.there));
       }
 
-  of_status : (run : Run) (cause : Cause) → run.child.status ≡ status_by cause → is_exit_0 run.child.status ≡ true → is_exit_0 (status_by cause) ≡ true
+  of_status : (run : Run) (cause : AuxiliaryEnd) → run.child.status ≡ status_by cause → is_exit_0 run.child.status ≡ true → is_exit_0 (status_by cause) ≡ true
   of_status run cause is well = sym (ap is_exit_0 is) ∙ well
 
   redo_aux : (run : Run) → is_exit_0 run.child.status ≡ true → IsAuxRun None kinds.Startup run → NotesRedo run.child.offer.pid run.noted

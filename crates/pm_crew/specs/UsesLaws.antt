@@ -7,8 +7,8 @@ use Rattle.std.proofs.lemmas.Bool.{eq-eqb}
 use Rattle.pm_admit.specs.declared.Cac.{Cac}
 use Rattle.pm_admit.specs.declared.Cac.TheVariants as decisions
 use Rattle.pm_aux.specs.declared.aux_done.AuxDone.{AuxDone}
-use Rattle.pm_aux.specs.declared.cause.Cause.{Cause}
-use Rattle.pm_aux.specs.declared.cause.Cause.TheVariants.{Flushed, Closed, LeftOut, Refused, ToldToTerminate, ToldToQuit, Killed, Redone as HasRedone}
+use Rattle.pm_aux.specs.declared.cause.AuxiliaryEnd.{AuxiliaryEnd}
+use Rattle.pm_aux.specs.declared.cause.AuxiliaryEnd.TheVariants.{Flushed, Closed, LeftOut, Refused, ToldToTerminate, ToldToQuit, Killed, Redone as HasRedone}
 use Rattle.pm_aux.specs.Ends.{status_by}
 use Rattle.pm_aux.specs.Ends as ends
 use Rattle.pm_aux.specs.Runs.{EndsOutside, NotesBehind, Runner}
@@ -50,7 +50,7 @@ use Rattle.pm_worker.specs.Runs.{Does, IsAuxRun, IsRun, IsSessionRun, Run, told_
 use Rattle.pm_crew.specs.Uses.{AllBy, HasUsed, IsWorkOf, UsesStore}
 
 -- the end of redo that a child of this kind and generation tells of that ends by this cause
-abbrev redo_by : ℕ → Kind → Cause → List InGeneration
+abbrev redo_by : ℕ → Kind → AuxiliaryEnd → List InGeneration
 redo_by generation kind cause = told_if generation (kept_by kind (status_by cause) (ends.kept_by cause))
 
 -- what a child noted inside, where it was let into this generation: its entering, and its work
@@ -176,7 +176,7 @@ module _ (child : PastChild MailTold) where
 
     -- ---- an auxiliary child
 
-    of_read : (cause : Cause) (noted : List BookEntry) → redo_told child ≡ redo_by generation kinds.Startup cause
+    of_read : (cause : AuxiliaryEnd) (noted : List BookEntry) → redo_told child ≡ redo_by generation kinds.Startup cause
         → ReadsLog entrant cause noted → AllWork noted
     of_read (HasRedone kept) noted told is = one noted (Redone own generation kept) is (refl, told)
     of_read (Refused (Stale mine found)) noted told is = none noted is.1
@@ -187,7 +187,7 @@ module _ (child : PastChild MailTold) where
     of_read (Refused (Redo (redo.SameEpoch epoch))) noted told is = none noted is
     of_read _ noted told is = absurd is
 
-    of_flush : (cause : Cause) (noted : List BookEntry) → Flushes entrant cause noted → AllWork noted
+    of_flush : (cause : AuxiliaryEnd) (noted : List BookEntry) → Flushes entrant cause noted → AllWork noted
     of_flush Flushed noted is = none noted is
     of_flush (Refused (Stale mine found)) noted is = none noted is.1
     of_flush (Refused Disk) noted is = of_fault noted is
@@ -197,7 +197,7 @@ module _ (child : PastChild MailTold) where
     of_flush Killed noted is = none noted is
     of_flush _ noted is = absurd is
 
-    of_close : (cause : Cause) (noted : List BookEntry) → ClosesBy entrant cause noted → AllWork noted
+    of_close : (cause : AuxiliaryEnd) (noted : List BookEntry) → ClosesBy entrant cause noted → AllWork noted
     of_close Closed noted is = one noted (CheckpointEnded own true true) is refl
     of_close LeftOut noted is = one noted (CheckpointEnded own false true) is refl
     of_close (Refused (Stale mine found)) noted is = none noted is.1
@@ -209,7 +209,7 @@ module _ (child : PastChild MailTold) where
     of_close Killed noted is = none noted is
     of_close _ noted is = absurd is
 
-    of_work : (kind : Kind) (cause : Cause) (noted : List BookEntry) → redo_told child ≡ redo_by generation kind cause
+    of_work : (kind : Kind) (cause : AuxiliaryEnd) (noted : List BookEntry) → redo_told child ≡ redo_by generation kind cause
         → DoesWork kind entrant cause noted → AllWork noted
     of_work kinds.Startup cause noted told does = of_read cause noted told does
     of_work kinds.Writer cause noted told does = of_flush cause noted does
@@ -222,7 +222,7 @@ module _ (child : PastChild MailTold) where
     of_leaves_if true noted is = of_leave noted is
     of_leaves_if false noted is = none noted is
 
-    of_entered : (kind : Kind) (cause : Cause) (noted : List BookEntry) → redo_told child ≡ redo_by generation kind cause
+    of_entered : (kind : Kind) (cause : AuxiliaryEnd) (noted : List BookEntry) → redo_told child ≡ redo_by generation kind cause
         → HasEntered kind entrant cause noted → Entered child generation noted
     of_entered kind cause noted told entered =
         let worked = entered.worked in (
@@ -232,7 +232,7 @@ module _ (child : PastChild MailTold) where
               (of_leaves_if (ends.lets_go cause) worked.left worked.leaves),
         )
 
-  kept_out : (kind : Kind) (user : User) (cause : Cause) (noted : List BookEntry) → IsKeptOut kind user cause noted → noted ≡ []
+  kept_out : (kind : Kind) (user : User) (cause : AuxiliaryEnd) (noted : List BookEntry) → IsKeptOut kind user cause noted → noted ≡ []
   kept_out kind user (Refused (Stale mine found)) noted is = is.1
   kept_out kind user (Refused NoMemory) noted is = is
   kept_out kind user (ToldToQuit reason) noted is = is.1
@@ -250,7 +250,7 @@ module _ (child : PastChild MailTold) where
     serves = serves;
   }
 
-  aux_inside : (stamp : Option ℕ) (kind : Kind) (gate : Option (Result ℕ GateNo)) (cause : Cause) (noted : List BookEntry) → is_dead_end child.offer.kind ≡ false
+  aux_inside : (stamp : Option ℕ) (kind : Kind) (gate : Option (Result ℕ GateNo)) (cause : AuxiliaryEnd) (noted : List BookEntry) → is_dead_end child.offer.kind ≡ false
       → redo_told child ≡ redo_by child.offer.generation kind cause → MetRightly child.offer gate → NotesBehind kind (who stamp) gate cause noted → (noted ≡ []) ⊎ HasUsed child noted
   aux_inside stamp kind None cause noted serves told met notes = inl notes.1
   aux_inside stamp kind (Some (Err refusal)) cause noted serves told met notes = inl notes.1
@@ -266,7 +266,7 @@ module _ (child : PastChild MailTold) where
   tells_none : (noted : List BookEntry) → redo_told child ≡ [] → AllNoted noted (redo_told child)
   tells_none noted is = subst (AllNoted noted) (sym is) tt
 
-  outside_redo : (generation : ℕ) (cause : Cause) → EndsOutside kinds.Startup cause → redo_by generation kinds.Startup cause ≡ []
+  outside_redo : (generation : ℕ) (cause : AuxiliaryEnd) → EndsOutside kinds.Startup cause → redo_by generation kinds.Startup cause ≡ []
   outside_redo generation ToldToTerminate outside = refl
   outside_redo generation (ToldToQuit reason) outside = refl
   outside_redo generation Killed outside = refl
@@ -276,22 +276,22 @@ module _ (child : PastChild MailTold) where
   refused_redo generation (Stale mine found) = refl
   refused_redo generation _ = refl
 
-  kept_out_redo : (generation : ℕ) (user : User) (cause : Cause) (noted : List BookEntry) → IsKeptOut kinds.Startup user cause noted → redo_by generation kinds.Startup cause ≡ []
+  kept_out_redo : (generation : ℕ) (user : User) (cause : AuxiliaryEnd) (noted : List BookEntry) → IsKeptOut kinds.Startup user cause noted → redo_by generation kinds.Startup cause ≡ []
   kept_out_redo generation user (Refused refusal) noted is = refused_redo generation refusal
   kept_out_redo generation user (ToldToQuit reason) noted is = refl
   kept_out_redo generation user Killed noted is = refl
   kept_out_redo generation user _ noted is = absurd is
 
-  read_redo : (user : User) (cause : Cause) (work left : List BookEntry) → ReadsLog user cause work → AllNoted (work ++ left) (redo_by user.generation kinds.Startup cause)
+  read_redo : (user : User) (cause : AuxiliaryEnd) (work left : List BookEntry) → ReadsLog user cause work → AllNoted (work ++ left) (redo_by user.generation kinds.Startup cause)
   read_redo user (HasRedone kept) work left is =
       subst (λ (entries : List BookEntry). AllNoted (entries ++ left) (redo_by user.generation kinds.Startup (HasRedone kept))) (sym is) (inl (refl, refl), tt)
   read_redo user (Refused refusal) work left is = subst (AllNoted (work ++ left)) (sym (refused_redo user.generation refusal)) tt
   read_redo user _ work left is = absurd is
 
-  startup_redo : (stamp : Option ℕ) (gate : Option (Result ℕ GateNo)) (cause : Cause) (noted : List BookEntry) → redo_told child ≡ redo_by child.offer.generation kinds.Startup cause
+  startup_redo : (stamp : Option ℕ) (gate : Option (Result ℕ GateNo)) (cause : AuxiliaryEnd) (noted : List BookEntry) → redo_told child ≡ redo_by child.offer.generation kinds.Startup cause
       → MetRightly child.offer gate → NotesBehind kinds.Startup (who stamp) gate cause noted → AllNoted noted (redo_told child)
   startup_redo stamp None cause noted told met notes = tells_none noted (told ∙ outside_redo child.offer.generation cause notes.0)
-  startup_redo stamp (Some (Err refusal)) cause noted told met notes = tells_none noted (told ∙ ap (λ (c : Cause). redo_by child.offer.generation kinds.Startup c) notes.0)
+  startup_redo stamp (Some (Err refusal)) cause noted told met notes = tells_none noted (told ∙ ap (λ (c : AuxiliaryEnd). redo_by child.offer.generation kinds.Startup c) notes.0)
   startup_redo stamp (Some (Ok generation)) cause noted told met (inl out) =
       tells_none noted (told ∙ kept_out_redo child.offer.generation (entrant stamp generation) cause noted out)
   startup_redo stamp (Some (Ok generation)) cause noted told met (inr entered) =
@@ -303,7 +303,7 @@ module _ (child : PastChild MailTold) where
 -- ---- a run
 
 -- the redo of a child by its kind, status and mail
-told_by_cause : (child : PastChild MailTold) (kind : Kind) (cause : Cause) (fault : Option StoreNo) (kept : Option ℕ) → child.offer.kind ≡ kind → child.status ≡ status_by cause
+told_by_cause : (child : PastChild MailTold) (kind : Kind) (cause : AuxiliaryEnd) (fault : Option StoreNo) (kept : Option ℕ) → child.offer.kind ≡ kind → child.status ≡ status_by cause
     → child.back ≡ mail.Aux fault kept → kept ≡ ends.kept_by cause → redo_told child ≡ redo_by child.offer.generation kind cause
 told_by_cause child kind cause fault kept is_kind status back is_kept =
     ap (λ (k : Kind). told_if child.offer.generation (kept_by k child.status (kept_told child.back))) is_kind

@@ -12,8 +12,8 @@ use Rattle.pm_query.specs.declared.store.Checkpointed.TheVariants.{Done, Skipped
 use Rattle.pm_query.specs.declared.store.StoreNo.{StoreNo}
 use Rattle.pm_query.specs.declared.store.StoreNo.TheVariants as stores
 use Rattle.pm_query.specs.Calls.{User, newcomer, CheckpointNotes}
-use Rattle.pm_aux.specs.declared.cause.Cause.{Cause}
-use Rattle.pm_aux.specs.declared.cause.Cause.TheVariants as causes
+use Rattle.pm_aux.specs.declared.cause.AuxiliaryEnd.{AuxiliaryEnd}
+use Rattle.pm_aux.specs.declared.cause.AuxiliaryEnd.TheVariants as causes
 use Rattle.pm_aux.specs.Ends.{fault_by}
 use Rattle.pm_aux.specs.Runs.{NotesBehind}
 use Rattle.pm_aux.specs.Signals.{IsToldTo}
@@ -56,7 +56,7 @@ ClosesSo pid home fault noted = ((fault ≡ Some stores.NoMemory) × (noted ≡ 
 abbrev IsUntold : Told → Type 0
 IsUntold told = (is_told : Bool) × (told.given ≡ asked_given is_told)
 
-out_closes : (pid home : ℕ) (cause : Cause) (told : Told) (noted : List BookEntry) → IsUntold told → IsToldTo cause (Some told) → IsKeptOut Checkpointer (newcomer (Some home) pid home) cause noted → ClosesSo pid home (fault_by cause) noted
+out_closes : (pid home : ℕ) (cause : AuxiliaryEnd) (told : Told) (noted : List BookEntry) → IsUntold told → IsToldTo cause (Some told) → IsKeptOut Checkpointer (newcomer (Some home) pid home) cause noted → ClosesSo pid home (fault_by cause) noted
 out_closes pid home (causes.Redone kept) told noted untold to never = absurd never
 out_closes pid home causes.Flushed told noted untold to never = absurd never
 out_closes pid home causes.Closed told noted untold to never = absurd never
@@ -83,7 +83,7 @@ refused_ends pid home (stores.Full need room) noted entered = inr (inr (stores.F
 refused_ends pid home (stores.Redo fault) noted entered = absurd entered.worked.does.closes
 refused_ends pid home stores.NoMemory noted entered = inr (inr (stores.NoMemory, refl, entered.worked.does.closes, left_notes home pid _ entered.worked.leaves))
 
-work_ends : (pid home : ℕ) (cause : Cause) (told : Told) (noted : List BookEntry) → IsUntold told → IsToldTo cause (Some told) → (entered : HasEntered Checkpointer (newcomer (Some home) pid home) cause noted)
+work_ends : (pid home : ℕ) (cause : AuxiliaryEnd) (told : Told) (noted : List BookEntry) → IsUntold told → IsToldTo cause (Some told) → (entered : HasEntered Checkpointer (newcomer (Some home) pid home) cause noted)
     → EndsSo pid (fault_by cause) entered.worked.does.last entered.worked.left
 work_ends pid home (causes.Redone kept) told noted untold to entered = absurd entered.worked.does.closes
 work_ends pid home causes.Flushed told noted untold to entered = absurd entered.worked.does.closes
@@ -95,7 +95,7 @@ work_ends pid home causes.ToldToTerminate told noted untold to entered = absurd 
 work_ends pid home (causes.ToldToQuit reason) told noted untold to entered = absurd (never_quit reason (only_asked untold.0 told (Quit reason) untold.1 to))
 work_ends pid home causes.Killed told noted untold to entered = absurd (never_killed (only_asked untold.0 told Kill untold.1 to))
 
-inside_closes : (pid home : ℕ) (cause : Cause) (told : Told) (noted : List BookEntry) → IsUntold told → IsToldTo cause (Some told) → NotesInside Checkpointer (newcomer (Some home) pid home) cause noted → ClosesSo pid home (fault_by cause) noted
+inside_closes : (pid home : ℕ) (cause : AuxiliaryEnd) (told : Told) (noted : List BookEntry) → IsUntold told → IsToldTo cause (Some told) → NotesInside Checkpointer (newcomer (Some home) pid home) cause noted → ClosesSo pid home (fault_by cause) noted
 inside_closes pid home cause told noted untold to (inl out) = out_closes pid home cause told noted untold to out
 inside_closes pid home cause told noted untold to (inr entered) = inr (record {
   passing = entered.worked.does.passing;
@@ -107,7 +107,7 @@ inside_closes pid home cause told noted untold to (inr entered) = inr (record {
 })
 
 -- it goes to the gate
-at_gate : (pid home : ℕ) (cause : Cause) (told : Told) (noted : List BookEntry) → IsUntold told → IsToldTo cause (Some told) → NotesBehind Checkpointer (runner_of pid home) None cause noted → ⊥
+at_gate : (pid home : ℕ) (cause : AuxiliaryEnd) (told : Told) (noted : List BookEntry) → IsUntold told → IsToldTo cause (Some told) → NotesBehind Checkpointer (runner_of pid home) None cause noted → ⊥
 at_gate pid home (causes.Redone kept) told noted untold to notes = notes.0
 at_gate pid home causes.Flushed told noted untold to notes = notes.0
 at_gate pid home causes.Closed told noted untold to notes = notes.0
@@ -118,7 +118,7 @@ at_gate pid home causes.ToldToTerminate told noted untold to notes = notes.0
 at_gate pid home (causes.ToldToQuit reason) told noted untold to notes = never_quit reason (only_asked untold.0 told (Quit reason) untold.1 to)
 at_gate pid home causes.Killed told noted untold to notes = never_killed (only_asked untold.0 told Kill untold.1 to)
 
-pub run_closes : (pid home : ℕ) (cause : Cause) (gate : Option (Result ℕ GateNo)) (has is_told : Bool) (told : Told) (noted : List BookEntry) → told.given ≡ asked_given is_told → its_gate home has ≡ gate → IsToldTo cause (Some told)
+pub run_closes : (pid home : ℕ) (cause : AuxiliaryEnd) (gate : Option (Result ℕ GateNo)) (has is_told : Bool) (told : Told) (noted : List BookEntry) → told.given ≡ asked_given is_told → its_gate home has ≡ gate → IsToldTo cause (Some told)
     → NotesBehind Checkpointer (runner_of pid home) gate cause noted → ClosesSo pid home (fault_by cause) noted
 run_closes pid home cause None has is_told told noted given met to notes = absurd (at_gate pid home cause told noted (is_told, given) to notes)
 run_closes pid home cause (Some (Err refusal)) has is_told told noted given met to notes = absurd (never_refused home has refusal met)

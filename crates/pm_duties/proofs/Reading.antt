@@ -11,8 +11,8 @@ use Rattle.pm_query.specs.declared.book.BookEntry.TheVariants.{Attached, Detache
 use Rattle.pm_query.specs.declared.store.StoreNo.{StoreNo}
 use Rattle.pm_query.specs.declared.store.StoreNo.TheVariants as stores
 use Rattle.pm_query.specs.Calls.{User, newcomer, EnterNotes, RedoNotes, LeaveNotes}
-use Rattle.pm_aux.specs.declared.cause.Cause.{Cause}
-use Rattle.pm_aux.specs.declared.cause.Cause.TheVariants as causes
+use Rattle.pm_aux.specs.declared.cause.AuxiliaryEnd.{AuxiliaryEnd}
+use Rattle.pm_aux.specs.declared.cause.AuxiliaryEnd.TheVariants as causes
 use Rattle.pm_aux.specs.Ends.{fault_by}
 use Rattle.pm_aux.specs.Runs.{NotesBehind, Runner}
 use Rattle.pm_aux.specs.Signals.{IsToldTo}
@@ -55,7 +55,7 @@ pub stays_out : (pid home : ℕ) (refusal : StoreNo) (noted : List BookEntry) �
     → (fault_by (causes.Refused refusal) ≡ Some stores.NoMemory) × (noted ≡ [])
 stays_out pid home refusal noted notes = let out = kept_out pid home refusal noted notes in (ap (λ (no : StoreNo). Some no) out.0, out.1)
 
-out_reads : (pid home : ℕ) (cause : Cause) (noted : List BookEntry) → IsKeptOut Startup (newcomer (Some home) pid home) cause noted → ReadsSo pid home (fault_by cause) noted
+out_reads : (pid home : ℕ) (cause : AuxiliaryEnd) (noted : List BookEntry) → IsKeptOut Startup (newcomer (Some home) pid home) cause noted → ReadsSo pid home (fault_by cause) noted
 out_reads pid home (causes.Redone kept) noted never = absurd never
 out_reads pid home causes.Flushed noted never = absurd never
 out_reads pid home causes.Closed noted never = absurd never
@@ -75,7 +75,7 @@ refused_reads pid home (stores.Broken since) noted entered = absurd entered.work
 refused_reads pid home (stores.Full need room) noted entered = absurd entered.worked.does
 refused_reads pid home stores.NoMemory noted entered = absurd entered.worked.does
 
-entered_reads : (pid home : ℕ) (cause : Cause) (noted : List BookEntry) → HasEntered Startup (newcomer (Some home) pid home) cause noted → ReadsSo pid home (fault_by cause) noted
+entered_reads : (pid home : ℕ) (cause : AuxiliaryEnd) (noted : List BookEntry) → HasEntered Startup (newcomer (Some home) pid home) cause noted → ReadsSo pid home (fault_by cause) noted
 entered_reads pid home (causes.Redone kept) noted entered =
     inr (inl (kept, refl, entered_so (Attached pid home) noted entered.inside entered.worked.work entered.worked.left _ _ entered.noted_is entered.worked.noted_is entered.worked.does (left_notes home pid _ entered.worked.leaves)))
 entered_reads pid home causes.Flushed noted entered = absurd entered.worked.does
@@ -87,7 +87,7 @@ entered_reads pid home causes.ToldToTerminate noted entered = absurd entered.wor
 entered_reads pid home (causes.ToldToQuit reason) noted entered = absurd entered.worked.does
 entered_reads pid home causes.Killed noted entered = absurd entered.worked.does
 
-inside_reads : (pid home : ℕ) (cause : Cause) (noted : List BookEntry) → NotesInside Startup (newcomer (Some home) pid home) cause noted → ReadsSo pid home (fault_by cause) noted
+inside_reads : (pid home : ℕ) (cause : AuxiliaryEnd) (noted : List BookEntry) → NotesInside Startup (newcomer (Some home) pid home) cause noted → ReadsSo pid home (fault_by cause) noted
 inside_reads pid home cause noted (inl out) = out_reads pid home cause noted out
 inside_reads pid home cause noted (inr entered) = entered_reads pid home cause noted entered
 
@@ -95,7 +95,7 @@ abbrev pub runner_of : (pid home : ℕ) → Runner
 runner_of pid home = record { pid = pid; stamp = Some home }
 
 -- one that nothing is told goes to the gate
-at_gate : (pid home : ℕ) (cause : Cause) (told : Told) (noted : List BookEntry) → told.given ≡ [] → IsToldTo cause (Some told) → NotesBehind Startup (runner_of pid home) None cause noted → ⊥
+at_gate : (pid home : ℕ) (cause : AuxiliaryEnd) (told : Told) (noted : List BookEntry) → told.given ≡ [] → IsToldTo cause (Some told) → NotesBehind Startup (runner_of pid home) None cause noted → ⊥
 at_gate pid home (causes.Redone kept) told noted none to notes = notes.0
 at_gate pid home causes.Flushed told noted none to notes = notes.0
 at_gate pid home causes.Closed told noted none to notes = notes.0
@@ -106,7 +106,7 @@ at_gate pid home causes.ToldToTerminate told noted none to notes = never_told Te
 at_gate pid home (causes.ToldToQuit reason) told noted none to notes = never_told (Quit reason) told none to
 at_gate pid home causes.Killed told noted none to notes = never_told Kill told none to
 
-pub run_reads : (pid home : ℕ) (cause : Cause) (gate : Option (Result ℕ GateNo)) (has : Bool) (told : Told) (noted : List BookEntry) → told.given ≡ [] → its_gate home has ≡ gate → IsToldTo cause (Some told)
+pub run_reads : (pid home : ℕ) (cause : AuxiliaryEnd) (gate : Option (Result ℕ GateNo)) (has : Bool) (told : Told) (noted : List BookEntry) → told.given ≡ [] → its_gate home has ≡ gate → IsToldTo cause (Some told)
     → NotesBehind Startup (runner_of pid home) gate cause noted → ReadsSo pid home (fault_by cause) noted
 run_reads pid home cause None has told noted none met to notes = absurd (at_gate pid home cause told noted none to notes)
 run_reads pid home cause (Some (Err refusal)) has told noted none met to notes = absurd (never_refused home has refusal met)

@@ -12,8 +12,8 @@ use Rattle.pm_life.specs.Life.{Told}
 use Rattle.pm_query.specs.declared.book.BookEntry.{BookEntry}
 use Rattle.pm_query.specs.declared.store.StoreNo.TheVariants as stores
 use Rattle.pm_aux.specs.declared.aux_done.AuxDone.{AuxDone}
-use Rattle.pm_aux.specs.declared.cause.Cause.{Cause}
-use Rattle.pm_aux.specs.declared.cause.Cause.TheVariants.{Redone, Flushed, Closed, LeftOut, Refused, TurnedAway, ToldToTerminate, ToldToQuit, Killed}
+use Rattle.pm_aux.specs.declared.cause.AuxiliaryEnd.{AuxiliaryEnd}
+use Rattle.pm_aux.specs.declared.cause.AuxiliaryEnd.TheVariants.{Redone, Flushed, Closed, LeftOut, Refused, TurnedAway, ToldToTerminate, ToldToQuit, Killed}
 use Rattle.pm_aux.specs.Ends.{status_by, kept_by, attached_behind}
 use Rattle.pm_aux.specs.Runs.{Runner, End, NotesBehind, IsRunOf}
 use Rattle.pm_board.specs.Places.{is_auxiliary}
@@ -41,7 +41,7 @@ aux_kind kinds.DeadEnd child aux for_ = absurd (false≢true aux)
 -- ---- ends
 
 -- who ends attached doesn't exit with code 0
-well_by : (cause : Cause) (gate : Option (Result ℕ GateNo)) → is_some (attached_behind cause gate) ≡ true → is_exit_0 (status_by cause) ≡ false
+well_by : (cause : AuxiliaryEnd) (gate : Option (Result ℕ GateNo)) → is_some (attached_behind cause gate) ≡ true → is_exit_0 (status_by cause) ≡ false
 well_by (Redone kept) gate is = absurd (false≢true is)
 well_by Flushed gate is = absurd (false≢true is)
 well_by Closed gate is = absurd (false≢true is)
@@ -106,7 +106,7 @@ not_left_out who (Some (Err refusal)) noted h = let no_ : LeftOut ≡ TurnedAway
 not_left_out who (Some (Ok generation)) noted (inl h) = elim h [ ]
 not_left_out who (Some (Ok generation)) noted (inr w) = elim w.worked.does [ ]
 
-kept_first : (kind : Kind) (who : Runner) (gate : Option (Result ℕ GateNo)) (cause : Cause) (noted : List BookEntry) → NotesBehind kind who gate cause noted
+kept_first : (kind : Kind) (who : Runner) (gate : Option (Result ℕ GateNo)) (cause : AuxiliaryEnd) (noted : List BookEntry) → NotesBehind kind who gate cause noted
     → is_some (kept_by cause) ≡ true → kind ≡ kinds.Startup
 kept_first kind who gate (Redone kept) noted h is = reads kind who gate kept noted h
 kept_first kind who gate Flushed noted h is = absent _ is
@@ -118,7 +118,7 @@ kept_first kind who gate ToldToTerminate noted h is = absent _ is
 kept_first kind who gate (ToldToQuit reason) noted h is = absent _ is
 kept_first kind who gate Killed noted h is = absent _ is
 
-kept_done : (cause : Cause) → is_some (kept_by cause) ≡ true → status_by cause ≡ Code 0
+kept_done : (cause : AuxiliaryEnd) → is_some (kept_by cause) ≡ true → status_by cause ≡ Code 0
 kept_done (Redone kept) is = refl
 kept_done Flushed is = refl
 kept_done Closed is = refl
@@ -133,7 +133,7 @@ kept_done Killed is = absent _ is
 other : (B : Type 0) (status : Status) → is_exit_0 status ≡ false → status ≡ Code 0 → B
 other B status no_ e = absurd (false≢true (sym no_ ∙ ap is_exit_0 e))
 
-kept_told : (who : Runner) (gate : Option (Result ℕ GateNo)) (cause : Cause) (noted : List BookEntry) → NotesBehind kinds.Startup who gate cause noted → status_by cause ≡ Code 0
+kept_told : (who : Runner) (gate : Option (Result ℕ GateNo)) (cause : AuxiliaryEnd) (noted : List BookEntry) → NotesBehind kinds.Startup who gate cause noted → status_by cause ≡ Code 0
     → is_some (kept_by cause) ≡ true
 kept_told who gate (Redone kept) noted h e = refl
 kept_told who gate Flushed noted h e = absurd (not_flushed who gate noted h)

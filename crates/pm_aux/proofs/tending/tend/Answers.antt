@@ -4,7 +4,7 @@ use Rattle.pm_life.specs.Attention.{Attention, attention}
 use Rattle.pm_aux.specs.Signals.{ends_of}
 use Rattle.pm_aux.specs.Runs.{Runner, user_in}
 use Rattle.pm_aux.specs.Work.{NotesInside}
-use Rattle.pm_aux.specs.declared.cause.Cause.TheVariants.{TurnedAway}
+use Rattle.pm_aux.specs.declared.cause.AuxiliaryEnd.TheVariants.{TurnedAway}
 use Rattle.pm_life.specs.AttentionLaws.{attentive_at_gate}
 use Rattle.pm_aux.proofs.Listening.{asked_first, met_gate, tells_still}
 use Rattle.pm_aux.proofs.Reasons.{told_first, turned_away, goes_on, tended, same_runner}
