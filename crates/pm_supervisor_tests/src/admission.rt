@@ -1,34 +1,25 @@
 //! Which connection becomes a session, and how many are refused at one time.
 
-use crate::scene::*;
-use pm_admit::{Cac, PmState, View};
-use pm_scenario::Cause;
-use pm_state::{PmCore, PmEvent};
+use crate::runs::limits;
+use pm_admit::{PmState, View};
+use pm_state::PmCore;
 
-const CROWD: Scene = Scene {
-    happenings: &[
-        at!(3, Cause::Connection),
-        at!(4, Cause::Connection),
-        at!(5, Cause::Connection),
-        at!(6, Cause::Connection),
-        at!(7, Cause::Connection),
-        at!(8, Cause::Connection),
-    ],
-    entries: &[
-        accepted!(5, Cac::Ok),
-        accepted!(6, Cac::TooMany),
-        accepted!(7, Cac::TooMany),
-        accepted!(8, Cac::TooMany),
-        accepted!(9, Cac::TooMany),
-    ],
-};
+pub const SCENES: &str = "
+CROWD
+3 connect
+4 connect
+5 connect
+6 connect
+7 connect
+8 connect
+    Accepted { pid: 5, decision: Ok }
+    Accepted { pid: 6, decision: TooMany }
+    Accepted { pid: 7, decision: TooMany }
+    Accepted { pid: 8, decision: TooMany }
+    Accepted { pid: 9, decision: TooMany }";
 
-pub const RUNS: &[Run] = &[Run {
-    name: "twice the connections are taken, and four refused",
-    max_connections: 1,
-    restarts: true,
-    scenes: &[START, REDO_ENDS, ONE_SESSION, CROWD],
-}];
+pub const RUNS: &str = "
+twice the connections are taken, and four refused | on | START REDO_ENDS ONE_SESSION CROWD";
 
 #[test]
 fn a_new_machine_takes_no_connection(rt: HostRuntime) {

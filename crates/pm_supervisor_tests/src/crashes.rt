@@ -1,189 +1,79 @@
 //! Crashes of one child, and the restart after them.
 
-use crate::scene::*;
-use pm_admit::Cac;
-use pm_exit::Kind;
-use pm_scenario::Cause;
-use pm_state::{Line, PmEvent, Reason};
+pub const SCENES: &str = "
+KILL_AFTER_CRASH
+1001 connect
+1002 exit 5 code 0
+5999 time
+6000 time
+11000 time
+    Accepted { pid: 5, decision: Recovery }
+    Exited { pid: 5, kind: DeadEnd, status: Code(0), was_active: false, at: 1002 }
+    KillSent { at: 6000 }
 
-const KILL_AFTER_CRASH: Scene = Scene {
-    happenings: &[
-        at!(1_001, Cause::Connection),
-        exit!(1_002, 5, OK),
-        at!(5_999, Cause::Time),
-        at!(6_000, Cause::Time),
-        at!(11_000, Cause::Time),
-    ],
-    entries: &[
-        PmEvent::Accepted {
-            pid: 5,
-            decision: Cac::Recovery,
-        },
-        exited!(1_002, 5, Kind::DeadEnd, OK),
-        PmEvent::KillSent { at: 6_000 },
-    ],
-};
+ARMED_AGAIN
+12000 exit 3 signal 9 active
+16999 time
+17000 time
+17100 exit 2 signal 9 active
+    Exited { pid: 3, kind: Writer, status: Signal(9), was_active: true, at: 12000 }
+    KillSent { at: 17000 }
+    Exited { pid: 2, kind: Checkpointer, status: Signal(9), was_active: true, at: 17100 }
+    Said(Reinitializing)
+    Reset { generation: 2 }
+    Started { pid: 6, kind: Startup }
 
-const ARMED_AGAIN: Scene = Scene {
-    happenings: &[
-        crash!(12_000, 3, KILLED),
-        at!(16_999, Cause::Time),
-        at!(17_000, Cause::Time),
-        crash!(17_100, 2, KILLED),
-    ],
-    entries: &[
-        crashed!(12_000, 3, Kind::Writer, KILLED),
-        PmEvent::KillSent { at: 17_000 },
-        crashed!(17_100, 2, Kind::Checkpointer, KILLED),
-        PmEvent::Said(Line::Reinitializing),
-        PmEvent::Reset { generation: 2 },
-        PmEvent::Started {
-            pid: 6,
-            kind: Kind::Startup,
-        },
-    ],
-};
+NEXT_GENERATION
+17200 exit 6 code 0
+17300 connect
+    Exited { pid: 6, kind: Startup, status: Code(0), was_active: false, at: 17200 }
+    RedoEnded { generation: 2, kept: 0 }
+    Ready { generation: 2 }
+    Started { pid: 7, kind: Checkpointer }
+    Started { pid: 8, kind: Writer }
+    Said(Ready)
+    Accepted { pid: 9, decision: Ok }
 
-const NEXT_GENERATION: Scene = Scene {
-    happenings: &[exit!(17_200, 6, OK), at!(17_300, Cause::Connection)],
-    entries: &[
-        exited!(17_200, 6, Kind::Startup, OK),
-        PmEvent::RedoEnded {
-            generation: 2,
-            kept: 0,
-        },
-        PmEvent::Ready { generation: 2 },
-        PmEvent::Started {
-            pid: 7,
-            kind: Kind::Checkpointer,
-        },
-        PmEvent::Started {
-            pid: 8,
-            kind: Kind::Writer,
-        },
-        PmEvent::Said(Line::Ready),
-        PmEvent::Accepted {
-            pid: 9,
-            decision: Cac::Ok,
-        },
-    ],
-};
+FROM_THE_FIRST_MOMENT: the checkpointer is killed at the first moment of all, and the writer stays
+0 exit 1 code 0
+0 exit 2 signal 9 active
+4999 time
+5000 time
+10000 time
+    Exited { pid: 1, kind: Startup, status: Code(0), was_active: false, at: 0 }
+    RedoEnded { generation: 1, kept: 0 }
+    Ready { generation: 1 }
+    Started { pid: 2, kind: Checkpointer }
+    Started { pid: 3, kind: Writer }
+    Said(Ready)
+    Exited { pid: 2, kind: Checkpointer, status: Signal(9), was_active: true, at: 0 }
+    Said(ChildExit { pid: 2, kind: Checkpointer, status: Signal(9) })
+    Said(TerminatingOthers)
+    QuitSent(Crash)
+    KillSent { at: 5000 }
 
-// The checkpointer is killed at the first moment of all, and the writer stays.
-const FROM_THE_FIRST_MOMENT: Scene = Scene {
-    happenings: &[
-        exit!(0, 1, OK),
-        crash!(0, 2, KILLED),
-        at!(4_999, Cause::Time),
-        at!(5_000, Cause::Time),
-        at!(10_000, Cause::Time),
-    ],
-    entries: &[
-        exited!(0, 1, Kind::Startup, OK),
-        PmEvent::RedoEnded {
-            generation: 1,
-            kept: 0,
-        },
-        PmEvent::Ready { generation: 1 },
-        PmEvent::Started {
-            pid: 2,
-            kind: Kind::Checkpointer,
-        },
-        PmEvent::Started {
-            pid: 3,
-            kind: Kind::Writer,
-        },
-        PmEvent::Said(Line::Ready),
-        crashed!(0, 2, Kind::Checkpointer, KILLED),
-        tells_of!(2, Kind::Checkpointer, KILLED),
-        PmEvent::Said(Line::TerminatingOthers),
-        PmEvent::QuitSent(Reason::Crash),
-        PmEvent::KillSent { at: 5_000 },
-    ],
-};
+WRITER_AGAIN
+3 exit 3 code 0
+    Exited { pid: 3, kind: Writer, status: Code(0), was_active: false, at: 3 }
+    Started { pid: 5, kind: Writer }
 
-const WRITER_AGAIN: Scene = Scene {
-    happenings: &[exit!(3, 3, OK)],
-    entries: &[
-        exited!(3, 3, Kind::Writer, OK),
-        PmEvent::Started {
-            pid: 5,
-            kind: Kind::Writer,
-        },
-    ],
-};
+EARLY_CHECKPOINTER: a checkpointer that ends before the last checkpoint is asked for has crashed
+3 exit 2 code 0
+    Exited { pid: 2, kind: Checkpointer, status: Code(0), was_active: false, at: 3 }
+    Said(ChildExit { pid: 2, kind: Checkpointer, status: Code(0) })
+    Said(TerminatingOthers)
+    QuitSent(Crash)
 
-// A checkpointer that ends before the last checkpoint is asked for has crashed.
-const EARLY_CHECKPOINTER: Scene = Scene {
-    happenings: &[exit!(3, 2, OK)],
-    entries: &[
-        exited!(3, 2, Kind::Checkpointer, OK),
-        tells_of!(2, Kind::Checkpointer, OK),
-        PmEvent::Said(Line::TerminatingOthers),
-        PmEvent::QuitSent(Reason::Crash),
-    ],
-};
+KILLED_ALONE: only a child that is there is killed, or has ended
+3 kill 4
+4 kill 99
+5 exit 99 code 0
+    KillAsked { pid: 4 }";
 
-// Only a child that is there is killed, or has ended.
-const KILLED_ALONE: Scene = Scene {
-    happenings: &[
-        at!(3, Cause::Kill { pid: 4 }),
-        at!(4, Cause::Kill { pid: 99 }),
-        exit!(5, 99, OK),
-    ],
-    entries: &[PmEvent::KillAsked { pid: 4 }],
-};
-
-pub const RUNS: &[Run] = &[
-    Run {
-        name: "what is left is killed once, at 5,000",
-        max_connections: 1,
-        restarts: true,
-        scenes: &[START, FROM_THE_FIRST_MOMENT],
-    },
-    Run {
-        name: "what is left is killed, and a later crash arms it again",
-        max_connections: 1,
-        restarts: true,
-        scenes: &[
-            START,
-            REDO_ENDS,
-            ONE_SESSION,
-            SESSION_CRASHES,
-            KILL_AFTER_CRASH,
-            ARMED_AGAIN,
-            NEXT_GENERATION,
-        ],
-    },
-    Run {
-        name: "a server that isn't to restart ends",
-        max_connections: 1,
-        restarts: false,
-        scenes: &[
-            START,
-            REDO_ENDS,
-            ONE_SESSION,
-            SESSION_CRASHES,
-            OTHERS_QUIT,
-            RESTART_OFF,
-        ],
-    },
-    Run {
-        name: "a writer that ends is started again",
-        max_connections: 1,
-        restarts: true,
-        scenes: &[START, REDO_ENDS, ONE_SESSION, WRITER_AGAIN],
-    },
-    Run {
-        name: "a checkpointer that ends early",
-        max_connections: 1,
-        restarts: true,
-        scenes: &[START, REDO_ENDS, EARLY_CHECKPOINTER],
-    },
-    Run {
-        name: "one child is killed",
-        max_connections: 1,
-        restarts: true,
-        scenes: &[START, REDO_ENDS, ONE_SESSION, KILLED_ALONE],
-    },
-];
+pub const RUNS: &str = "
+what is left is killed once, at 5,000 | on | START FROM_THE_FIRST_MOMENT
+what is left is killed, and a later crash arms it again | on | START REDO_ENDS ONE_SESSION SESSION_CRASHES KILL_AFTER_CRASH ARMED_AGAIN NEXT_GENERATION
+a server that isn't to restart ends | off | START REDO_ENDS ONE_SESSION SESSION_CRASHES OTHERS_QUIT RESTART_OFF
+a writer that ends is started again | on | START REDO_ENDS ONE_SESSION WRITER_AGAIN
+a checkpointer that ends early | on | START REDO_ENDS EARLY_CHECKPOINTER
+one child is killed | on | START REDO_ENDS ONE_SESSION KILLED_ALONE";

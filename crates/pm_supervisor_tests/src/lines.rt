@@ -1,52 +1,47 @@
 //! The lines of the log that a journal tells of, as they are printed.
 
-use crate::scene::*;
+use crate::runs::journal_of;
 use pm_exit::{Kind, Status};
-use pm_modes::Mode;
-use pm_scenario::{Cause, Happening, journal_of};
 use pm_state::{Line, PmEvent};
 use std::test::Fail;
 
-const RUN: &[Happening] = &[
-    at!(0, Cause::Time),
-    exit!(1, 1, OK),
-    at!(2, Cause::Connection),
-    crash!(3, 4, KILLED),
-    exit!(4, 3, QUIT),
-    exit!(5, 2, QUIT),
-    exit!(6, 5, OK),
-    at!(7, Cause::Request(Mode::Smart)),
-    at!(8, Cause::Request(Mode::Fast)),
-    at!(9, Cause::Request(Mode::Immediate)),
-    exit!(10, 7, QUIT),
-    exit!(11, 6, QUIT),
-];
+/// A session is killed, and the server shuts down behind the restart.
+const RUN: &str = "
+0 time
+1 exit 1 code 0
+2 connect
+3 exit 4 signal 9 active
+4 exit 3 code 2
+5 exit 2 code 2
+6 exit 5 code 0
+7 smart
+8 fast
+9 immediate
+10 exit 7 code 2
+11 exit 6 code 2";
 
-const LINES: &[&str] = &[
-    "database system is ready to accept connections",
-    "child 4 (backend) was terminated by signal 9",
-    "terminating any other active server processes",
-    "all server processes terminated; reinitializing",
-    "database system is ready to accept connections",
-    "received smart shutdown request",
-    "received fast shutdown request",
-    "received immediate shutdown request",
-    "database system is shut down",
-];
+const LINES: &str = "
+database system is ready to accept connections
+child 4 (backend) was terminated by signal 9
+terminating any other active server processes
+all server processes terminated; reinitializing
+database system is ready to accept connections
+received smart shutdown request
+received fast shutdown request
+received immediate shutdown request
+database system is shut down";
 
 #[test]
 fn a_run_tells_of_what_it_does(rt: HostRuntime) -> Result<(), Fail> {
-    let journal = journal_of(rt.alloc(), limits(1, true), RUN)?;
-    let mut place = 0;
-    for entry in journal.as_slice() {
+    let alloc = rt.alloc();
+    let journal = journal_of(alloc, true, RUN)?;
+    let mut text = String::new(alloc);
+    for entry in journal.entries() {
         if let PmEvent::Said(line) = entry {
-            assert!(rt; place < LINES.len(), "{line}");
-            let written = format!(in rt.alloc(); "{line}")?;
-            assert_eq!(rt; written.as_str(), LINES[place], "line {place}");
-            place += 1;
+            text.push_str(format!(in alloc; "\n{line}")?.as_str())?;
         }
     }
-    assert_eq!(rt; place, LINES.len());
+    assert_eq!(rt; text.as_str(), LINES);
     Ok(())
 }
 

@@ -1,187 +1,71 @@
 //! Shutdowns in every mode, from every state that a request may meet.
 
-use crate::scene::*;
-use pm_admit::Cac;
-use pm_exit::Kind;
-use pm_modes::Mode;
-use pm_scenario::Cause;
-use pm_state::{Line, PmEvent};
+pub const SCENES: &str = "
+ABORTING
+    Said(AbortingTransactions)
 
-// A shutdown after a crash is no clean one.
-macro_rules! after_crash {
-    ($name:expr, $request:expr) => {
-        Run {
-            name: $name,
-            max_connections: 1,
-            restarts: true,
-            scenes: &[
-                START,
-                REDO_ENDS,
-                ONE_SESSION,
-                SESSION_CRASHES,
-                $request,
-                OTHERS_QUIT,
-                ABNORMAL,
-            ],
-        }
-    };
-}
+SESSION_ENDS
+1310 exit 4 code 1
+    Exited { pid: 4, kind: Backend, status: Code(1), was_active: false, at: 1310 }
 
-const ABORTING: Scene = Scene {
-    happenings: &[],
-    entries: &[PmEvent::Said(Line::AbortingTransactions)],
-};
+WRITER_ENDS
+1320 exit 3 code 0
+1325 connect
+    Exited { pid: 3, kind: Writer, status: Code(0), was_active: false, at: 1320 }
+    CheckpointAsked
+    Accepted { pid: 5, decision: Shutdown }
 
-const SESSION_ENDS: Scene = Scene {
-    happenings: &[exit!(1_310, 4, ONE)],
-    entries: &[exited!(1_310, 4, Kind::Backend, ONE)],
-};
+CHECKPOINT_ENDS
+1330 exit 2 code 0
+    Exited { pid: 2, kind: Checkpointer, status: Code(0), was_active: false, at: 1330 }
 
-const WRITER_ENDS: Scene = Scene {
-    happenings: &[exit!(1_320, 3, OK), at!(1_325, Cause::Connection)],
-    entries: &[
-        exited!(1_320, 3, Kind::Writer, OK),
-        PmEvent::CheckpointAsked,
-        PmEvent::Accepted {
-            pid: 5,
-            decision: Cac::Shutdown,
-        },
-    ],
-};
+REFUSED_ENDS
+1340 exit 5 code 0
+    Exited { pid: 5, kind: DeadEnd, status: Code(0), was_active: false, at: 1340 }
 
-const CHECKPOINT_ENDS: Scene = Scene {
-    happenings: &[exit!(1_330, 2, OK)],
-    entries: &[exited!(1_330, 2, Kind::Checkpointer, OK)],
-};
+WEAKER
+1200 smart
+    Asked { mode: Smart, at: 1200 }
 
-const REFUSED_ENDS: Scene = Scene {
-    happenings: &[exit!(1_340, 5, OK)],
-    entries: &[exited!(1_340, 5, Kind::DeadEnd, OK)],
-};
+KILLED_AFTER_IMMEDIATE
+6099 time
+6100 time
+6200 exit 4 signal 9 active
+6210 exit 3 code 2
+6220 exit 2 code 2
+    KillSent { at: 6100 }
+    Exited { pid: 4, kind: Backend, status: Signal(9), was_active: true, at: 6200 }
+    Exited { pid: 3, kind: Writer, status: Code(2), was_active: false, at: 6210 }
+    Exited { pid: 2, kind: Checkpointer, status: Code(2), was_active: false, at: 6220 }
 
-const WEAKER: Scene = Scene {
-    happenings: &[at!(1_200, Cause::Request(Mode::Smart))],
-    entries: &[PmEvent::Asked {
-        mode: Mode::Smart,
-        at: 1_200,
-    }],
-};
+LATE: nothing follows the end
+1 immediate
+9000 connect
+9000 exit 2 code 0
+9000 immediate
 
-const KILLED_AFTER_IMMEDIATE: Scene = Scene {
-    happenings: &[
-        at!(6_099, Cause::Time),
-        at!(6_100, Cause::Time),
-        crash!(6_200, 4, KILLED),
-        exit!(6_210, 3, QUIT),
-        exit!(6_220, 2, QUIT),
-    ],
-    entries: &[
-        PmEvent::KillSent { at: 6_100 },
-        crashed!(6_200, 4, Kind::Backend, KILLED),
-        exited!(6_210, 3, Kind::Writer, QUIT),
-        exited!(6_220, 2, Kind::Checkpointer, QUIT),
-    ],
-};
+STRONGER
+1110 fast
+1120 immediate
+1130 exit 4 code 2
+1140 exit 3 code 2
+1150 exit 2 code 2
+    Asked { mode: Fast, at: 1110 }
+    Said(Fast)
+    Said(AbortingTransactions)
+    TerminateSent
+    Asked { mode: Immediate, at: 1120 }
+    Said(Immediate)
+    QuitSent(Stop)
+    Exited { pid: 4, kind: Backend, status: Code(2), was_active: false, at: 1130 }
+    Exited { pid: 3, kind: Writer, status: Code(2), was_active: false, at: 1140 }
+    Exited { pid: 2, kind: Checkpointer, status: Code(2), was_active: false, at: 1150 }";
 
-// Nothing follows the end, and nothing is noted at a moment that has passed.
-const LATE: Scene = Scene {
-    happenings: &[
-        at!(1, Cause::Request(Mode::Immediate)),
-        at!(9_000, Cause::Connection),
-        exit!(9_000, 2, OK),
-        at!(9_000, Cause::Request(Mode::Immediate)),
-    ],
-    entries: &[],
-};
-
-const STRONGER: Scene = Scene {
-    happenings: &[
-        at!(1_110, Cause::Request(Mode::Fast)),
-        at!(1_120, Cause::Request(Mode::Immediate)),
-        exit!(1_130, 4, QUIT),
-        exit!(1_140, 3, QUIT),
-        exit!(1_150, 2, QUIT),
-    ],
-    entries: &[
-        PmEvent::Asked {
-            mode: Mode::Fast,
-            at: 1_110,
-        },
-        PmEvent::Said(Line::Fast),
-        PmEvent::Said(Line::AbortingTransactions),
-        PmEvent::TerminateSent,
-        PmEvent::Asked {
-            mode: Mode::Immediate,
-            at: 1_120,
-        },
-        PmEvent::Said(Line::Immediate),
-        PmEvent::QuitSent(pm_state::Reason::Stop),
-        exited!(1_130, 4, Kind::Backend, QUIT),
-        exited!(1_140, 3, Kind::Writer, QUIT),
-        exited!(1_150, 2, Kind::Checkpointer, QUIT),
-    ],
-};
-
-pub const RUNS: &[Run] = &[
-    Run {
-        name: "a smart shutdown waits for the last session",
-        max_connections: 1,
-        restarts: true,
-        scenes: &[
-            START,
-            REDO_ENDS,
-            ONE_SESSION,
-            SMART,
-            WEAKER,
-            SESSION_ENDS,
-            TERMINATE,
-            WRITER_ENDS,
-            CHECKPOINT_ENDS,
-            REFUSED_ENDS,
-            DOWN,
-            LATE,
-        ],
-    },
-    Run {
-        name: "a fast shutdown ends sessions and writes a checkpoint",
-        max_connections: 1,
-        restarts: true,
-        scenes: &[
-            START,
-            REDO_ENDS,
-            ONE_SESSION,
-            FAST,
-            ABORTING,
-            TERMINATE,
-            WEAKER,
-            SESSION_ENDS,
-            WRITER_ENDS,
-            CHECKPOINT_ENDS,
-            REFUSED_ENDS,
-            DOWN,
-        ],
-    },
-    Run {
-        name: "an immediate shutdown kills after five seconds",
-        max_connections: 1,
-        restarts: true,
-        scenes: &[
-            START,
-            REDO_ENDS,
-            ONE_SESSION,
-            IMMEDIATE,
-            WEAKER,
-            KILLED_AFTER_IMMEDIATE,
-            DOWN,
-        ],
-    },
-    Run {
-        name: "a stronger request takes over",
-        max_connections: 1,
-        restarts: true,
-        scenes: &[START, REDO_ENDS, ONE_SESSION, SMART, STRONGER, DOWN],
-    },
-    after_crash!("a smart shutdown after a crash", SMART),
-    after_crash!("a fast shutdown after a crash", FAST),
-    after_crash!("an immediate shutdown after a crash", IMMEDIATE),
-];
+pub const RUNS: &str = "
+a smart shutdown waits for the last session | on | START REDO_ENDS ONE_SESSION SMART WEAKER SESSION_ENDS TERMINATE WRITER_ENDS CHECKPOINT_ENDS REFUSED_ENDS DOWN LATE
+a fast shutdown ends sessions and writes a checkpoint | on | START REDO_ENDS ONE_SESSION FAST ABORTING TERMINATE WEAKER SESSION_ENDS WRITER_ENDS CHECKPOINT_ENDS REFUSED_ENDS DOWN
+an immediate shutdown kills after five seconds | on | START REDO_ENDS ONE_SESSION IMMEDIATE WEAKER KILLED_AFTER_IMMEDIATE DOWN
+a stronger request takes over | on | START REDO_ENDS ONE_SESSION SMART STRONGER DOWN
+a smart shutdown after a crash | on | START REDO_ENDS ONE_SESSION SESSION_CRASHES SMART OTHERS_QUIT ABNORMAL
+a fast shutdown after a crash | on | START REDO_ENDS ONE_SESSION SESSION_CRASHES FAST OTHERS_QUIT ABNORMAL
+an immediate shutdown after a crash | on | START REDO_ENDS ONE_SESSION SESSION_CRASHES IMMEDIATE OTHERS_QUIT ABNORMAL";
