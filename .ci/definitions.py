@@ -10,7 +10,7 @@ TOP = os.path.dirname(os.path.dirname(os.path.abspath(__file__)))
 CRATES = os.path.join(TOP, "crates")
 TOKEN = re.compile(r'"(?:\\.|[^"\\])*"|--.*|[(){};,]|[^\s(){};,"]+')
 MARKS = r"(?:(?:pattern|unfoldable|abbrev|opaque|pub)\s+)*"
-OPENING, CLOSING, SEPARATING = ["(", "{"], [")", "}"], [",", ";"]
+OPENING, CLOSING, SEPARATING = ["(", "{", "["], [")", "}", "]"], [",", ";"]
 OWN = set("Type → × : = ¬ λ in if then else case of where record let with _ | ∀ . Unit ⊥ tt ∥ ∥₁".split())  # words of the language
 OUTSIDE = None, False  # the meaning of a name that a library outside crates/ declares
 
@@ -63,9 +63,11 @@ class File:
                     self.read_members(name, kind[1], body)
             elif signature:
                 name = self.declare(signature[1], chunk, around + [("term", tokens(text[signature.end():]))])
-            elif name:
+            elif name and (text.startswith(name) or "◌" in name):
                 self.lines[name] += length(chunk)
                 self.parts[name].append(("clause", tokens(text)))
+            else:
+                raise SystemExit(f"crates/{self.crate}/{self.path}.antt: what is this? {text}")
 
     def declare(self, name, chunk, parts):
         self.lines[name], self.parts[name] = length(chunk), list(parts)
@@ -94,12 +96,18 @@ class File:
                 stems.pop()
             elif word not in (",", "as") and words[at - 1:at] != ["as"]:
                 first, *rest = word.rstrip(".").split(".")
-                path = (stems[-1] + [first] if stems[-1] else self.modules.get(first, [first])) + rest
+                path = (stems[-1] + [first] if stems[-1] else self.root(first)) + rest
                 if not word.endswith("."):
                     brought[words[at + 2] if words[at + 1:at + 2] == ["as"] else path[-1]] = path
         (self.items if "{" in words else self.modules).update(brought)
         if public:
             self.passed_on.update(brought)
+
+    def root(self, name):
+        """The path of what the path of a `use` line begins with: a module below this one, what another line has brought, or a library."""
+        module = self.path.removesuffix("/Lib").split("/")
+        below = find(self.crate, *module, name)
+        return ["Rattle", self.crate, *module, name] if below else self.modules.get(name, [name])
 
     def meaning(self, word):
         """What a name that isn't bound means here, as `resolve` tells it."""
@@ -169,20 +177,26 @@ def chunks(lines):
             comment = comment + [line] if line.strip() else []
         elif chunk:
             chunk, comment = chunk + comment + [line], []
-        opened += sum(word in "({" for word in words) - sum(word in ")}" for word in words)
+        opened += sum(word in OPENING for word in words) - sum(word in CLOSING for word in words)
     if chunk:
         yield chunk
 
 
+def find(crate, *path):
+    """The file of a module of a crate, by its path below the crate and without its ending, or None."""
+    names = ("/".join(path), "/".join(path) + "/Lib")
+    return next((name for name in names if os.path.exists(os.path.join(CRATES, crate, name + ".antt"))), None)
+
+
 @functools.cache
 def file_at(crate, *path):
-    """The file of a module of a crate, or None."""
-    for name in ("/".join(path), "/".join(path) + "/Lib"):
-        if os.path.exists(os.path.join(CRATES, crate, name + ".antt")):
-            file = File(crate, name)
-            file.read_block(read(os.path.join(CRATES, crate, name + ".antt")).splitlines(), [])
-            return file
-    return None
+    """What the file of a module of a crate has, or None."""
+    name = find(crate, *path)
+    if not name:
+        return None
+    file = File(crate, name)
+    file.read_block(read(os.path.join(CRATES, crate, name + ".antt")).splitlines(), [])
+    return file
 
 
 def resolve(path):

@@ -1,4 +1,5 @@
-"""The rooms, as the table in docs/ARCHITECTURE.md has them: their picture from crates.txt, and what doesn't fit."""
+"""The rooms: each has a page in docs/rooms, with a table of its crates. From these pages and from crates.txt comes the table of rooms in
+docs/ARCHITECTURE.md, but for what is said of each there, and their picture."""
 
 import dataclasses
 import functools
@@ -9,8 +10,9 @@ import re
 from definitions import TOP, read
 
 PAGE = os.path.join(TOP, "docs/ARCHITECTURE.md")
+PAGES = os.path.join(TOP, "docs/rooms")
+MOST_LINES = 40  # of the page of a room
 BEGIN, END = "<!-- made by .ci/believed -->\n", "<!-- end -->"
-LONGEST_PAGE = 40
 
 
 def generated(page):
@@ -38,20 +40,34 @@ def uses_of_crates():
 @dataclasses.dataclass
 class Room:
     title: str
+    what: str
     page: str
-    crates: list
-    beside: list  # its tests and measurements
+    crates: list  # by the table of its page, lowest first
+    beside: list  # the tests and measurements that its page names
+
+    def row(self):
+        """Its row in the table of rooms."""
+        cells = [" ".join(f"`{crate}`" for crate in crates) for crates in (self.crates, self.beside)]
+        return f"| [{self.title}](rooms/{self.page}) | {self.what} | {cells[0]} | {cells[1]} |".replace("|  |", "| |")
+
+
+ROW = re.compile(r"^\| \[(.*?)\]\(rooms/(\w+\.md)\) \| (.*?) \|.*$", re.M)
 
 
 @functools.cache
 def rooms():
-    """The rows of the table, by the names of their pages."""
-    section = re.search(r"^## The rooms\n(.*?)(?=^## |\Z)", read(PAGE), re.M | re.S)[1]
+    """The rooms in the order of the table, by the names of their pages."""
     found = {}
-    for title, page, _, crates, beside in re.findall(r"^\| \[(.*?)\]\((rooms/\w+\.md)\) \|(.*)\|(.*)\|(.*)\|$", section, re.M):
-        listed = [re.findall(r"`(\w+)`", cell) for cell in (crates, beside)]
-        found[page[len("rooms/"):-len(".md")]] = Room(title.replace("`", ""), "docs/" + page, *listed)
+    for title, page, what in ROW.findall(read(PAGE)):
+        text = read(os.path.join(PAGES, page))
+        crates, beside = re.findall(r"^\| `(\w+)` \|", text, re.M), re.findall(r"`(\w+_(?:tests|rates))`", text)
+        found[page[:-len(".md")]] = Room(title, what, page, crates, beside)
     return found
+
+
+def with_rows(text):
+    """The page with the rows of the table as the rooms' pages have them."""
+    return ROW.sub(lambda row: rooms()[row[2][:-len(".md")]].row(), text)
 
 
 def arrows():
@@ -78,7 +94,7 @@ def picture():
     reached = {}
     for name in order:
         reached[name] = below[name].union(*(reached[lower] for lower in below[name]))
-    lines = ["```mermaid", "flowchart TB"] + [f'    {name}["{room.title}"]' for name, room in rooms().items()]
+    lines = ["```mermaid", "flowchart TB"] + [f'    {name}["{room.title.replace("`", "")}"]' for name, room in rooms().items()]
     for name in rooms():
         follow = set().union(*(reached[lower] for lower in below[name]))
         lines += [f"    {name} --> {lower}" for lower in rooms() if lower in below[name] - follow]
@@ -90,33 +106,36 @@ def picture():
     return "\n".join(lines) + "\n"
 
 
-def write_picture():
+def write_page():
+    text = with_rows(read(PAGE))
+    with open(PAGE, "w", encoding="utf-8") as file:
+        file.write(text)
     write(PAGE, picture())
 
 
 def faults():
-    """What doesn't fit between crates.txt, the table, the picture and the rooms' pages."""
+    """What doesn't fit between crates.txt, the rooms' pages, the table and the picture."""
     order = list(uses_of_crates())
     housed = [crate for room in rooms().values() for crate in room.crates + room.beside]
     told = {
-        "crates.txt: {} stands in no room of docs/ARCHITECTURE.md": set(order).difference(housed),
-        "docs/ARCHITECTURE.md, The rooms: {} isn't in crates.txt": set(housed).difference(order),
-        "docs/ARCHITECTURE.md, The rooms: {} stands there twice": {crate for crate in housed if housed.count(crate) > 1},
+        "crates.txt: {} stands on no page of docs/rooms": set(order).difference(housed),
+        "docs/rooms: {} isn't in crates.txt": set(housed).difference(order),
+        "docs/rooms: {} stands there twice": {crate for crate in housed if housed.count(crate) > 1},
         "crates.txt: {} stands before one that it uses": {crate for crate in order if uses_later(crate, order)},
-        "docs/ARCHITECTURE.md, The rooms: {} stands before one that it uses": {
+        "docs/rooms: {} stands before one that it uses": {
             crate for room in rooms().values() for crate in room.crates if uses_later(crate, room.crates)
         },
+        f"docs/rooms/{{}} has more than {MOST_LINES} lines": {
+            room.page for room in rooms().values() if len(read(os.path.join(PAGES, room.page)).splitlines()) > MOST_LINES
+        },
     }
-    yield from (told_of.format(crate) for told_of, crates in told.items() for crate in sorted(crates))
-    for room in rooms().values():
-        text = read(os.path.join(TOP, room.page)) if os.path.exists(os.path.join(TOP, room.page)) else ""
-        if len(text.splitlines()) not in range(1, LONGEST_PAGE + 1):
-            yield f"{room.page} isn't there, or has more than {LONGEST_PAGE} lines"
-        yield from (f"{room.page} misses {crate}" for crate in room.crates + room.beside if f"`{crate}`" not in text)
+    yield from (told_of.format(name) for told_of, names in told.items() for name in sorted(names))
+    if with_rows(read(PAGE)) != read(PAGE):
+        yield "docs/ARCHITECTURE.md, The rooms: the table has other crates than the rooms' pages"
     if generated(PAGE) != picture():
         yield "docs/ARCHITECTURE.md has another picture than crates.txt"
 
 
 def uses_later(crate, order):
-    """Whether a crate lists one that stands after it in this order."""
+    """Whether a crate lists itself, or one that stands after it in this order."""
     return bool(set(uses_of_crates().get(crate, [])).intersection(order[order.index(crate):]))
