@@ -3,6 +3,7 @@ use Rattle.std.specs.Prelude.{ℕ, Bool, ◌≡◌, ◌+◌, ◌≤◌, List, le
 use Rattle.pm_modes.specs.declared.Mode.{Mode}
 use Rattle.pm_modes.specs.declared.Mode.TheVariants.{Smart}
 use Rattle.pm_supervisor.specs.Children.{one_if}
+use Rattle.pm_journal.specs.Due.{is_last_drawn}
 use Rattle.pm_journal.specs.Standing.{Standing}
 use Rattle.pm_exit.specs.declared.child.Kind.{Kind}
 use Rattle.pm_journal.specs.Roll.{kind_in}
