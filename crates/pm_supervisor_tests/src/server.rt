@@ -1,7 +1,5 @@
 //! A server without processes, over the servers' machine: it tells its supervisor what happens, and an act is done once it is noted.
-ghost use Rattle.std.specs.Prelude.{◌≡◌, ◌+◌, ◌≤◌, false, Some, IfSome, IsTrue, OnOk};
-ghost use Rattle.pm_journal.specs.Roll.{kind_in};
-ghost use Rattle.pm_journal.specs.Standing.{IsAtRest};
+ghost use Rattle.std.specs.Prelude.{◌+◌, ◌≤◌, IfSome, IsTrue, OnOk};
 ghost use Rattle.pm_journal.specs.Stands.{HasPast, IsSettled};
 ghost use Rattle.pm_journal.specs.Supervision.{at_work, standing};
 ghost use Rattle.pm_supervisor_tests.specs.Serving.{IsServing, IsUnowed};
@@ -59,6 +57,7 @@ fn goes_on(server: &Server) -> bool
 }
 
 // Does the acts that are due, one after the other.
+#[tactic(auto, using(crate::proofs::Servings::on, crate::proofs::Servings::none))]
 fn act_all(server: &mut Server) -> Option<()>
     requires { HasPast (at_work server.old) }
     ensures serving { IfSome result (λ _. IsServing (at_work server.new)) }
