@@ -57,7 +57,6 @@ fn goes_on(server: &Server) -> bool
 }
 
 // Does the acts that are due, one after the other.
-#[tactic(auto, using(crate::proofs::Servings::on, crate::proofs::Servings::none))]
 fn act_all(server: &mut Server) -> Option<()>
     requires { HasPast (at_work server.old) }
     ensures serving { IfSome result (λ _. IsServing (at_work server.new)) }
