@@ -1,11 +1,9 @@
 -- Whether a new connection may become a session: the first line that fits, in the order of PostgreSQL's
 -- canAcceptConnections.
 use Rattle.std.specs.Prelude.{Bool, true, false, nat_le, not, ◌&&◌, if◌then◌else◌}
-use Rattle.pm_admit.specs.declared.PmState.{PmState}
+use Rattle.pm_admit.specs.declared.{PmState.PmState, Cac.Cac, View.View}
 use Rattle.pm_admit.specs.declared.PmState.TheVariants as state
-use Rattle.pm_admit.specs.declared.Cac.{Cac}
 use Rattle.pm_admit.specs.declared.Cac.TheVariants as cac
-use Rattle.pm_admit.specs.declared.View.{View}
 
 abbrev pub is_run : PmState → Bool
 is_run state.Run = true

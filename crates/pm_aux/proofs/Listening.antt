@@ -1,10 +1,6 @@
 -- What a child was told, from one moment to the next.
-use Rattle.std.proofs.Common.{◌≡◌, ℕ, ◌+◌, ◌≤◌, Option, None, Some, IfSome, Result, refl, ◌∙◌, ap, arith}
-use Rattle.std.specs.Option.{option_map}
-use Rattle.pm_life.specs.declared.life.GateNo.{GateNo}
-use Rattle.pm_life.specs.Life.{Told, nothing_told, met_at_gate, IsUntried}
-use Rattle.pm_life.specs.Attention.{Attention, IsAttentive, HasAsked, Hears}
-use Rattle.pm_life.specs.AttentionLaws.{asked_none, asked_then, asked_fewer}
+use Rattle.std.{proofs.Common.{◌≡◌, ℕ, ◌+◌, ◌≤◌, Option, None, Some, IfSome, Result, refl, ◌∙◌, ap, arith}, specs.Option.option_map}
+use Rattle.pm_child_life.{specs.{declared.life.GateNo.GateNo, Life.{Told, nothing_told, met_at_gate, IsUntried}, Attention.{Attention, IsAttentive, HasAsked, Hears}}, proofs.AttentionLaws.{asked_none, asked_then, asked_fewer}}
 use Rattle.pm_aux.specs.Signals.{Listens}
 
 pub listens_none : (at : Attention) → IsAttentive at → Listens 0 at at

@@ -1,20 +1,9 @@
 -- What a child noted, put together from what the store's calls note.
-use Rattle.std.proofs.Common.{◌≡◌, ℕ, true, false, List, [], ◌∷◌, ◌++◌, All, Option, Some, Ok, Err, refl, sym, ◌∙◌, ap, subst, arith}
-use Rattle.std.proofs.lemmas.List.{append-nil}
-use Rattle.std.proofs.lemmas.List.Elements.{All-nil, All-cons, All-append}
+use Rattle.std.proofs.{Common.{◌≡◌, ℕ, true, false, List, [], ◌∷◌, ◌++◌, All, Option, Some, Ok, Err, refl, sym, ◌∙◌, ap, subst, arith}, lemmas.List.{append-nil, Elements.{All-nil, All-cons, All-append}}}
 use Rattle.pm_exit.specs.declared.child.Kind.{Kind}
-use Rattle.pm_query.specs.declared.book.BookEntry.{BookEntry}
-use Rattle.pm_query.specs.declared.book.BookEntry.TheVariants.{Attached, CheckpointEnded}
-use Rattle.pm_query.specs.declared.store.StoreNo.{StoreNo}
+use Rattle.pm_query.{specs.{declared.{book.BookEntry.{BookEntry, TheVariants.{Attached, CheckpointEnded}}, store.{StoreNo.StoreNo, Checkpointed.{Checkpointed, TheVariants.{Done, Skipped, NotDue}}}}, Calls.{User, newcomer, EnterNotes, CheckpointNotes, MetAnother, MetLater}}, proofs.NotedLaws.{GoesInTurn, behind_none}}
 use Rattle.pm_query.specs.declared.store.StoreNo.TheVariants as stores
-use Rattle.pm_query.specs.declared.store.Checkpointed.{Checkpointed}
-use Rattle.pm_query.specs.declared.store.Checkpointed.TheVariants.{Done, Skipped, NotDue}
-use Rattle.pm_query.specs.Calls.{User, newcomer, EnterNotes, CheckpointNotes, MetAnother, MetLater}
-use Rattle.pm_query.specs.NotedLaws.{GoesInTurn, behind_none}
-use Rattle.pm_aux.specs.declared.cause.AuxiliaryEnd.{AuxiliaryEnd}
-use Rattle.pm_aux.specs.declared.cause.AuxiliaryEnd.TheVariants.{Redone, Flushed, Closed, LeftOut, Refused, TurnedAway, ToldToTerminate, ToldToQuit, Killed}
-use Rattle.pm_aux.specs.Ends.{fault_by, lets_go, IsMetBehind}
-use Rattle.pm_aux.specs.Work.{IsPassing, ClosesBy, Checkpoints, Does, HasWorked, HasEntered, LeavesIf}
+use Rattle.pm_aux.specs.{declared.cause.AuxiliaryEnd.{AuxiliaryEnd, TheVariants.{Redone, Flushed, Closed, LeftOut, Refused, TurnedAway, ToldToTerminate, ToldToQuit, Killed}}, Ends.{fault_by, lets_go, IsMetBehind}, Work.{IsPassing, ClosesBy, Checkpoints, Does, HasWorked, HasEntered, LeavesIf}}
 
 -- ---- a child's way through the store
 

@@ -1,24 +1,10 @@
 -- Why a child comes to its end, and that it heeds what it was told.
-use Rattle.std.proofs.Common.{◌≡◌, ◌≢◌, inl, inr, ℕ, Bool, true, false, IsTrue, List, [], Option, None, Some, IfSome, Result, Ok, Err, refl, sym, ◌∙◌, subst}
-use Rattle.std.proofs.lemmas.Bool.{true≢false}
-use Rattle.pm_exit.specs.declared.child.Kind.{Kind}
-use Rattle.pm_exit.specs.declared.child.Kind.TheVariants as kinds
-use Rattle.pm_supervisor.specs.declared.Reason.{Reason}
-use Rattle.pm_life.specs.declared.life.GateNo.{GateNo}
-use Rattle.pm_life.specs.declared.standing.Standing.{Standing}
-use Rattle.pm_life.specs.Life.{Child, Told, Kill, Quit, Terminate, Checkpoint, was_told}
-use Rattle.pm_life.specs.Attention.{Attention, attention, Stands, IsAttentive}
-use Rattle.pm_life.specs.AttentionLaws.{given_of}
-use Rattle.pm_query.specs.declared.book.BookEntry.{BookEntry}
-use Rattle.pm_query.specs.declared.store.StoreNo.{StoreNo}
-use Rattle.pm_query.specs.declared.store.StoreNo.TheVariants.{NoMemory}
-use Rattle.pm_aux.specs.declared.cause.AuxiliaryEnd.{AuxiliaryEnd}
-use Rattle.pm_aux.specs.declared.cause.AuxiliaryEnd.TheVariants.{Redone, Flushed, Closed, LeftOut, Refused, TurnedAway, ToldToTerminate, ToldToQuit, Killed}
-use Rattle.pm_aux.specs.Ends.{done_by, lets_go, unless, attached_behind}
-use Rattle.pm_aux.specs.Signals.{ends_by, ends_of, IsToldTo, EndsAtOnce, HeedsTerminate, HeedsTold, StandsAt, IsHurried, EndsInside}
-use Rattle.pm_aux.specs.Work.{GoesOn, NotesInside}
-use Rattle.pm_aux.specs.Runs.{Runner, runner, user_in, at_end, EndsOutside, NotesBehind, MayBeShort, IsRunOf}
-use Rattle.pm_aux.proofs.Listening.{Tells, tells_asked, tells_met}
+use Rattle.std.proofs.{Common.{◌≡◌, ◌≢◌, inl, inr, ℕ, Bool, true, false, IsTrue, List, [], Option, None, Some, IfSome, Result, Ok, Err, refl, sym, ◌∙◌, subst}, lemmas.Bool.true≢false}
+use Rattle.pm_supervisor.specs.{pm_exit.declared.child.Kind.Kind, declared.Reason.Reason}
+use Rattle.pm_supervisor.specs.pm_exit.declared.child.Kind.TheVariants as kinds
+use Rattle.pm_child_life.{specs.{declared.{life.GateNo.GateNo, standing.Standing.Standing}, Life.{Child, Told, Kill, Quit, Terminate, Checkpoint, was_told}, Attention.{Attention, attention, Stands, IsAttentive}}, proofs.AttentionLaws.given_of}
+use Rattle.pm_query.specs.declared.{book.BookEntry.BookEntry, store.StoreNo.{StoreNo, TheVariants.NoMemory}}
+use Rattle.pm_aux.{specs.{declared.cause.AuxiliaryEnd.{AuxiliaryEnd, TheVariants.{Redone, Flushed, Closed, LeftOut, Refused, TurnedAway, ToldToTerminate, ToldToQuit, Killed}}, Ends.{done_by, lets_go, unless, attached_behind}, Signals.{ends_by, ends_of, IsToldTo, EndsAtOnce, HeedsTerminate, HeedsTold, StandsAt, IsHurried, EndsInside}, Work.{GoesOn, NotesInside}, Runs.{Runner, runner, user_in, at_end, EndsOutside, NotesBehind, MayBeShort, IsRunOf}}, proofs.Listening.{Tells, tells_asked, tells_met}}
 
 -- ---- what ends a child at once
 

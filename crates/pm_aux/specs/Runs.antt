@@ -2,18 +2,9 @@
 use Rattle.std.specs.Prelude.{◌≡◌, ℕ, ◌≤◌, List, [], Option, None, Some, IfSome, Result, Ok, Err}
 use Rattle.pm_exit.specs.declared.child.Kind.{Kind}
 use Rattle.pm_exit.specs.declared.child.Kind.TheVariants as kinds
-use Rattle.pm_life.specs.declared.life.GateNo.{GateNo}
-use Rattle.pm_life.specs.Life.{Child, Told, Checkpoint}
-use Rattle.pm_life.specs.Attention.{was_given}
-use Rattle.pm_query.specs.declared.book.BookEntry.{BookEntry}
-use Rattle.pm_query.specs.declared.store.StoreNo.TheVariants.{NoMemory}
-use Rattle.pm_query.specs.Calls.{User}
-use Rattle.pm_aux.specs.declared.aux_done.AuxDone.{AuxDone}
-use Rattle.pm_aux.specs.declared.cause.AuxiliaryEnd.{AuxiliaryEnd}
-use Rattle.pm_aux.specs.declared.cause.AuxiliaryEnd.TheVariants.{Refused, TurnedAway, ToldToTerminate}
-use Rattle.pm_aux.specs.Ends.{done_by, attached_behind}
-use Rattle.pm_aux.specs.Signals.{IsToldTo, EndsAtOnce, HeedsTold}
-use Rattle.pm_aux.specs.Work.{NotesInside}
+use Rattle.pm_child_life.specs.{declared.life.GateNo.GateNo, Life.{Child, Told, Checkpoint}, Attention.was_given}
+use Rattle.pm_query.specs.{declared.{book.BookEntry.BookEntry, store.StoreNo.TheVariants.NoMemory}, Calls.User}
+use Rattle.pm_aux.specs.{declared.{aux_done.AuxDone.AuxDone, cause.AuxiliaryEnd.{AuxiliaryEnd, TheVariants.{Refused, TurnedAway, ToldToTerminate}}}, Ends.{done_by, attached_behind}, Signals.{IsToldTo, EndsAtOnce, HeedsTold}, Work.NotesInside}
 
 -- who runs: a child's pid, and the generation that its store is in, where no other hand can bring it into the next
 pub record Runner : Type 0 where

@@ -1,14 +1,10 @@
 -- What signals end a child that serves no connection.
 use Rattle.std.specs.Prelude.{◌≡◌, ℕ, Bool, true, false, Option, None, Some, IsTrue}
-use Rattle.pm_supervisor.specs.declared.Reason.{Reason}
-use Rattle.pm_exit.specs.declared.child.Kind.{Kind}
-use Rattle.pm_exit.specs.declared.child.Kind.TheVariants as kinds
-use Rattle.pm_life.specs.declared.standing.Standing.{Standing}
-use Rattle.pm_life.specs.Life.{Told, Kill, Quit, Terminate, Checkpoint, was_told}
-use Rattle.pm_life.specs.Attention.{Attention, HasAsked, IsAttentive, was_given}
+use Rattle.pm_supervisor.specs.{declared.Reason.Reason, pm_exit.declared.child.Kind.Kind}
+use Rattle.pm_supervisor.specs.pm_exit.declared.child.Kind.TheVariants as kinds
+use Rattle.pm_child_life.specs.{declared.standing.Standing.Standing, Life.{Told, Kill, Quit, Terminate, Checkpoint, was_told}, Attention.{Attention, HasAsked, IsAttentive, was_given}}
 use Rattle.pm_query.specs.declared.store.StoreNo.TheVariants.{NoMemory}
-use Rattle.pm_aux.specs.declared.cause.AuxiliaryEnd.{AuxiliaryEnd}
-use Rattle.pm_aux.specs.declared.cause.AuxiliaryEnd.TheVariants.{Redone, Flushed, Closed, LeftOut, Refused, TurnedAway, ToldToTerminate, ToldToQuit, Killed}
+use Rattle.pm_aux.specs.declared.cause.AuxiliaryEnd.{AuxiliaryEnd, TheVariants.{Redone, Flushed, Closed, LeftOut, Refused, TurnedAway, ToldToTerminate, ToldToQuit, Killed}}
 
 -- by what it has to end at once: by a Kill before a Quit
 abbrev pub ends_by : (kill : Bool) → Option Reason → Option AuxiliaryEnd

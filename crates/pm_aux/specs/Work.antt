@@ -2,12 +2,8 @@
 use Rattle.std.specs.Prelude.{◌≡◌, ◌⊎◌, ℕ, ◌++◌, Bool, true, false, List, [], ◌∷◌, All, Result, Ok, Err}
 use Rattle.pm_exit.specs.declared.child.Kind.{Kind}
 use Rattle.pm_exit.specs.declared.child.Kind.TheVariants as kinds
-use Rattle.pm_query.specs.declared.book.BookEntry.{BookEntry}
-use Rattle.pm_query.specs.declared.book.BookEntry.TheVariants.{Attached, CheckpointEnded}
-use Rattle.pm_query.specs.Calls.{User, EnterNotes, RedoNotes, FlushNotes, CheckpointNotes, LeaveNotes}
-use Rattle.pm_aux.specs.declared.cause.AuxiliaryEnd.{AuxiliaryEnd}
-use Rattle.pm_aux.specs.declared.cause.AuxiliaryEnd.TheVariants.{Redone, Flushed, Closed, LeftOut, Refused, ToldToQuit, Killed}
-use Rattle.pm_aux.specs.Ends.{lets_go}
+use Rattle.pm_query.specs.{declared.book.BookEntry.{BookEntry, TheVariants.{Attached, CheckpointEnded}}, Calls.{User, EnterNotes, RedoNotes, FlushNotes, CheckpointNotes, LeaveNotes}}
+use Rattle.pm_aux.specs.{declared.cause.AuxiliaryEnd.{AuxiliaryEnd, TheVariants.{Redone, Flushed, Closed, LeftOut, Refused, ToldToQuit, Killed}}, Ends.lets_go}
 
 -- a redo notes the number that it keeps, or why the log wasn't read
 abbrev pub ReadsLog : User → AuxiliaryEnd → List BookEntry → Type 0

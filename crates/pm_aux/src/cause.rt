@@ -2,8 +2,8 @@
 ghost use Rattle.std.specs.Prelude.{◌≡◌};
 ghost use Rattle.pm_aux.specs.Ends.{status_by, fault_by, kept_by, lets_go};
 
+use pm_child_life::GateNo;
 use pm_exit::Status;
-use pm_life::GateNo;
 use pm_query::StoreNo;
 use pm_supervisor::Reason;
 

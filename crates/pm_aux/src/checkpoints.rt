@@ -1,17 +1,14 @@
 //! What the checkpointer does: it makes a checkpoint whenever one is due, and the last one when it is asked for it.
 ghost use Rattle.std.specs.Prelude.{◌≡◌, List};
 ghost use Rattle.pm_exit.specs.declared.child.Kind.TheVariants.{Checkpointer};
-ghost use Rattle.pm_query.specs.declared.book.BookEntry.{BookEntry};
-ghost use Rattle.pm_query.specs.Calls.{user_of};
-ghost use Rattle.pm_life.specs.Attention.{attention, IsAttentive};
-ghost use Rattle.pm_aux.specs.Ends.{fault_by, IsMetBehind};
-ghost use Rattle.pm_aux.specs.Signals.{Listens, EndsInside, IsLast};
-ghost use Rattle.pm_aux.specs.Work.{Checkpoints, ClosesBy};
+ghost use Rattle.pm_query.specs.{declared.book.BookEntry.BookEntry, Calls.user_of};
+ghost use Rattle.pm_child_life.specs.Attention.{attention, IsAttentive};
+ghost use Rattle.pm_aux.specs.{Ends.{fault_by, IsMetBehind}, Signals.{Listens, EndsInside, IsLast}, Work.{Checkpoints, ClosesBy}};
 
 use crate::cause::AuxiliaryEnd;
 use crate::rest::rest;
 use crate::signals::ends;
-use pm_life::{Life, Standing};
+use pm_child_life::{Life, Standing};
 use pm_outside::Clock;
 use pm_query::{Checkpointed, Store, StoreNo};
 use std::sync::Wait;

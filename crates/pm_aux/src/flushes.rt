@@ -1,17 +1,14 @@
 //! What the writer does: it flushes commits in the background.
 ghost use Rattle.std.specs.Prelude.{◌≡◌, List};
-ghost use Rattle.pm_query.specs.declared.book.BookEntry.{BookEntry};
-ghost use Rattle.pm_query.specs.Calls.{user_of};
-ghost use Rattle.pm_life.specs.Attention.{attention, IsAttentive};
+ghost use Rattle.pm_query.specs.{declared.book.BookEntry.BookEntry, Calls.user_of};
+ghost use Rattle.pm_child_life.specs.Attention.{attention, IsAttentive};
 ghost use Rattle.pm_exit.specs.declared.child.Kind.TheVariants.{Writer};
-ghost use Rattle.pm_aux.specs.Ends.{fault_by, IsMetBehind};
-ghost use Rattle.pm_aux.specs.Signals.{Listens, EndsInside};
-ghost use Rattle.pm_aux.specs.Work.{Flushes};
+ghost use Rattle.pm_aux.specs.{Ends.{fault_by, IsMetBehind}, Signals.{Listens, EndsInside}, Work.Flushes};
 
 use crate::cause::AuxiliaryEnd;
 use crate::rest::rest;
 use crate::signals::ends;
-use pm_life::{Life, Standing, listen};
+use pm_child_life::{Life, Standing, listen};
 use pm_outside::Clock;
 use pm_query::{Store, StoreNo};
 use std::sync::Wait;

@@ -1,12 +1,10 @@
 //! How a child lets go of what it holds, or stays inside, by the cause of its end.
 ghost use Rattle.std.specs.Prelude.{◌≡◌, ℕ, List, Some, false};
-ghost use Rattle.pm_query.specs.declared.book.BookEntry.{BookEntry};
-ghost use Rattle.pm_query.specs.Calls.{user_of};
-ghost use Rattle.pm_aux.specs.Ends.{lets_go, unless};
-ghost use Rattle.pm_aux.specs.Work.{LeavesIf};
+ghost use Rattle.pm_query.specs.{declared.book.BookEntry.BookEntry, Calls.user_of};
+ghost use Rattle.pm_aux.specs.{Ends.{lets_go, unless}, Work.LeavesIf};
 
 use crate::cause::AuxiliaryEnd;
-use pm_life::Life;
+use pm_child_life::Life;
 use pm_query::Store;
 
 /// Lets go of the attachment, if the cause lets it.

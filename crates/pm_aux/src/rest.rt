@@ -1,9 +1,9 @@
 //! How a child lets time pass between two calls of the store.
 ghost use Rattle.std.specs.Prelude.{◌≡◌};
-ghost use Rattle.pm_life.specs.Attention.{attention, IsAttentive};
+ghost use Rattle.pm_child_life.specs.Attention.{attention, IsAttentive};
 ghost use Rattle.pm_aux.specs.Signals.{Listens};
 
-use pm_life::{Life, Standing, listen};
+use pm_child_life::{Life, Standing, listen};
 use pm_outside::Clock;
 
 /// The store is asked again after so many pauses.

@@ -3,7 +3,7 @@ ghost use Rattle.std.specs.Prelude.{◌≡◌};
 ghost use Rattle.pm_aux.specs.Signals.{ends_of};
 
 use crate::cause::AuxiliaryEnd;
-use pm_life::Standing;
+use pm_child_life::Standing;
 
 /// By what a child has to end at once, if it has to: by a Kill before a Quit.
 pub(crate) fn ends(standing: Standing) -> Option<AuxiliaryEnd>

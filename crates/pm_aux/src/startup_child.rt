@@ -1,18 +1,15 @@
 //! The startup child, which reads the log.
 ghost use Rattle.std.specs.Prelude.{◌≡◌, ℕ, List, IfSome, IsTrue, Some, None, Ok};
 ghost use Rattle.pm_exit.specs.declared.child.Kind.TheVariants.{Startup};
-ghost use Rattle.pm_query.specs.declared.book.BookEntry.{BookEntry};
-ghost use Rattle.pm_query.specs.Calls.{newcomer, user_of};
-ghost use Rattle.pm_life.specs.Life.{nothing_told};
-ghost use Rattle.pm_aux.specs.Ends.{attached_behind, done_by, fault_by, IsMetBehind};
-ghost use Rattle.pm_aux.specs.Runs.{at_end, runner, user_in, IsRunOf};
-ghost use Rattle.pm_aux.specs.Work.{HasWorked, NotesInside, ReadsLog};
+ghost use Rattle.pm_query.specs.{declared.book.BookEntry.BookEntry, Calls.{newcomer, user_of}};
+ghost use Rattle.pm_child_life.specs.Life.{nothing_told};
+ghost use Rattle.pm_aux.specs.{Ends.{attached_behind, done_by, fault_by, IsMetBehind}, Runs.{at_end, runner, user_in, IsRunOf}, Work.{HasWorked, NotesInside, ReadsLog}};
 
 use crate::aux_done::AuxDone;
 use crate::cause::AuxiliaryEnd;
 use crate::leaving::{leave, step_out};
 use crate::signals::ends;
-use pm_life::{Life, Standing, listen};
+use pm_child_life::{Life, Standing, listen};
 use pm_query::Store;
 
 /// Goes through the gate, reads the log, and leaves again. It takes its signals once, before all of that.

@@ -1,14 +1,9 @@
 //! The children that go on until they are told to end: the writer and the checkpointer.
 ghost use Rattle.std.specs.Prelude.{◌≡◌, ℕ, List, IfSome, IfOk, IfErr, IsTrue, Some, None, Ok};
 ghost use Rattle.pm_exit.specs.declared.child.Kind.TheVariants.{Writer, Checkpointer};
-ghost use Rattle.pm_query.specs.declared.book.BookEntry.{BookEntry};
-ghost use Rattle.pm_query.specs.Calls.{new_pass, user_of};
-ghost use Rattle.pm_life.specs.Life.{nothing_told};
-ghost use Rattle.pm_life.specs.Attention.{attention, HasAsked, IsAttentive};
-ghost use Rattle.pm_aux.specs.Ends.{attached_behind, done_by, fault_by, IsMetBehind};
-ghost use Rattle.pm_aux.specs.Signals.{Listens, EndsInside};
-ghost use Rattle.pm_aux.specs.Runs.{at_end, runner, user_in, IsRunOf};
-ghost use Rattle.pm_aux.specs.Work.{ComesIn, Does, GoesOn, HasWorked, NotesInside};
+ghost use Rattle.pm_query.specs.{declared.book.BookEntry.BookEntry, Calls.{new_pass, user_of}};
+ghost use Rattle.pm_child_life.specs.{Life.nothing_told, Attention.{attention, HasAsked, IsAttentive}};
+ghost use Rattle.pm_aux.specs.{Ends.{attached_behind, done_by, fault_by, IsMetBehind}, Signals.{Listens, EndsInside}, Runs.{at_end, runner, user_in, IsRunOf}, Work.{ComesIn, Does, GoesOn, HasWorked, NotesInside}};
 
 use crate::aux_done::AuxDone;
 use crate::cause::AuxiliaryEnd;
@@ -17,8 +12,8 @@ use crate::flushes::flush_on;
 use crate::leaving::{leave, step_out};
 use crate::rest::rest;
 use crate::signals::ends;
+use pm_child_life::{Life, Standing, listen};
 use pm_exit::Kind;
-use pm_life::{Life, Standing, listen};
 use pm_outside::Clock;
 use pm_query::{Store, StoreNo};
 use std::sync::Wait;

@@ -1,9 +1,7 @@
 -- A slot's word, read back.
-use Rattle.std.proofs.Common.{◌≡◌, ◌≢◌, ℕ, zero, suc, ◌+◌, ◌*◌, ◌/◌, ◌%◌, ◌<◌, refl, sym, ap, ◌∙◌, arith}
-use Rattle.std.specs.Prelude.{Bool, true, false}
-use Rattle.pm_exit.specs.declared.child.Kind.{Kind}
+use Rattle.std.{proofs.Common.{◌≡◌, ◌≢◌, ℕ, zero, suc, ◌+◌, ◌*◌, ◌/◌, ◌%◌, ◌<◌, refl, sym, ap, ◌∙◌, arith}, specs.Prelude.{Bool, true, false}}
+use Rattle.pm_exit.specs.declared.child.{Kind.Kind, Status.Status}
 use Rattle.pm_exit.specs.declared.child.Kind.TheVariants as kind
-use Rattle.pm_exit.specs.declared.child.Status.{Status}
 use Rattle.pm_exit.specs.declared.child.Status.TheVariants as status
 use Rattle.pm_board.specs.Words.{bit, flag, kind_number, kind_of, signal_bit, status_number, status_of, SlotWord, packed, exit_step, stage_in, active_in, kind_in, status_in, pid_in, FitsWord}
 

@@ -1,22 +1,10 @@
 -- The counts of the gate's word, and how one child's place moves them.
-use Rattle.std.proofs.Common.{◌≡◌, ◌≢◌, ℕ, zero, suc, ◌+◌, ◌*◌, ◌/◌, ◌%◌, ◌<◌, ◌≤◌, ◌==◌, List, [], ◌∷◌, refl, ap, ◌∙◌, arith, ne_eqb}
-use Rattle.std.specs.Prelude.{Bool, true, false, ◌&&◌, Option, Some, None}
+use Rattle.std.{proofs.Common.{◌≡◌, ◌≢◌, ℕ, zero, suc, ◌+◌, ◌*◌, ◌/◌, ◌%◌, ◌<◌, ◌≤◌, ◌==◌, List, [], ◌∷◌, refl, ap, ◌∙◌, arith, ne_eqb}, specs.Prelude.{Bool, true, false, ◌&&◌, Option, Some, None}}
 use Rattle.pm_facts.specs.Numbers.{sum_below, sum_put}
-use Rattle.pm_exit.specs.declared.child.Kind.{Kind}
-use Rattle.pm_exit.specs.declared.child.Kind.TheVariants as kind
-use Rattle.pm_supervisor.specs.declared.Reason.{Reason}
+use Rattle.pm_supervisor.specs.{pm_exit.declared.child.Kind.Kind, declared.Reason.Reason, Children.{is_session, is_dead_end}}
+use Rattle.pm_supervisor.specs.pm_exit.declared.child.Kind.TheVariants as kind
 use Rattle.pm_supervisor.specs.declared.Reason.TheVariants as reason
-use Rattle.pm_supervisor.specs.Children.{is_session, is_dead_end}
-use Rattle.pm_board.specs.declared.views.Offer.{Offer}
-use Rattle.pm_board.specs.declared.views.PastChild.{PastChild}
-use Rattle.pm_board.specs.declared.views.Work.{Work}
-use Rattle.pm_board.specs.declared.views.Work.TheVariants.{Idle, Sees, Inactive, Active, Refused, Attached}
-use Rattle.pm_board.specs.declared.views.PostView.{PostView}
-use Rattle.pm_board.specs.Words.{bit, flag}
-use Rattle.pm_board.specs.Places.{is_auxiliary, lost}
-use Rattle.pm_board.specs.Gate.{Gate, notice_bits, notice_of, sessions_in, open_in, notice_in, generation_in, place_of, at_gate, attached, counted, staying, AllUpTo, GateOk}
-use Rattle.pm_board.specs.Rule.{Phase, unused, opened, offered, running, ended, collected, gathered, Does, OfLiving, Cell, put, at_put}
-use Rattle.pm_board.proofs.Bits.{bit_small, flag_bit}
+use Rattle.pm_board.{specs.{declared.views.{Offer.Offer, PastChild.PastChild, Work.{Work, TheVariants.{Idle, Sees, Inactive, Active, Refused, Attached}}, PostView.PostView}, Words.{bit, flag}, Places.{is_auxiliary, lost}, Gate.{Gate, notice_bits, notice_of, sessions_in, open_in, notice_in, generation_in, place_of, at_gate, attached, counted, staying, AllUpTo, GateOk}, Rule.{Phase, unused, opened, offered, running, ended, collected, gathered, Does, OfLiving, Cell, put, at_put}}, proofs.Bits.{bit_small, flag_bit}}
 
 pub sum_small : (n : ℕ) (f : ℕ → ℕ) → ((k : ℕ) → k < n → f k ≤ 1) → sum_below n f ≤ n
 sum_small zero f h = omega arith

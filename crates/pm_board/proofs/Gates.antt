@@ -1,21 +1,8 @@
 -- What stays of the gate when one slot moves.
-use Rattle.std.proofs.Common.{◌≡◌, ℕ, zero, suc, ◌+◌, ◌<◌, ◌≤◌, ◌==◌, List, [], ◌∷◌, ◌++◌, get_or, set, refl, sym, ap, ◌∙◌, subst, arith, eq-eqb, get_or-set_other}
-use Rattle.std.specs.Prelude.{Bool, true, false, ◌&&◌}
+use Rattle.std.{proofs.Common.{◌≡◌, ℕ, zero, suc, ◌+◌, ◌<◌, ◌≤◌, ◌==◌, List, [], ◌∷◌, ◌++◌, get_or, set, refl, sym, ap, ◌∙◌, subst, arith, eq-eqb, get_or-set_other}, specs.Prelude.{Bool, true, false, ◌&&◌}}
 use Rattle.pm_facts.specs.Numbers.{sum_below, sum_same, sum_zero}
-use Rattle.pm_exit.specs.declared.child.Kind.{Kind}
-use Rattle.pm_exit.specs.declared.child.Status.{Status}
-use Rattle.pm_supervisor.specs.Children.{is_session}
-use Rattle.pm_board.specs.declared.views.Offer.{Offer}
-use Rattle.pm_board.specs.declared.views.PastChild.{PastChild}
-use Rattle.pm_board.specs.declared.views.PostNotes.{PostNotes}
-use Rattle.pm_board.specs.declared.views.Work.{Work}
-use Rattle.pm_board.specs.declared.views.Work.TheVariants.{Idle, Sees, Inactive, Active, Refused, Attached}
-use Rattle.pm_board.specs.declared.views.PostView.{PostView}
-use Rattle.pm_board.specs.Words.{bit}
-use Rattle.pm_board.specs.Places.{is_auxiliary, lost}
-use Rattle.pm_board.specs.Gate.{Gate, gate_packed, at_gate, attached, counted, staying, IsCurrent, AllUpTo, InGeneration, AuxiliaryOnce, GateOk, first_gate}
-use Rattle.pm_board.specs.Rule.{Phase, unused, offered, running, ended, OfLiving, Cell, put, at_put, idle_post}
-use Rattle.pm_board.specs.Told.{MayEnd, post_view, with_notes, past_child}
+use Rattle.pm_supervisor.specs.{pm_exit.declared.child.{Kind.Kind, Status.Status}, Children.is_session}
+use Rattle.pm_board.specs.{declared.views.{Offer.Offer, PastChild.PastChild, PostNotes.PostNotes, Work.{Work, TheVariants.{Idle, Sees, Inactive, Active, Refused, Attached}}, PostView.PostView}, Words.bit, Places.{is_auxiliary, lost}, Gate.{Gate, gate_packed, at_gate, attached, counted, staying, IsCurrent, AllUpTo, InGeneration, AuxiliaryOnce, GateOk, first_gate}, Rule.{Phase, unused, offered, running, ended, OfLiving, Cell, put, at_put, idle_post}, Told.{MayEnd, post_view, with_notes, past_child}}
 
 module _ {D : Type 0} where
   pub lost-append : (test : Kind → Bool) (g : ℕ) (xs : List (PastChild D)) (x : PastChild D) → lost test g (xs ++ x ∷ []) ≡ lost test g xs + bit (x.was_active && ((x.offer.generation == g) && test x.offer.kind))

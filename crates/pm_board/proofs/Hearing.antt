@@ -2,29 +2,10 @@
 use Rattle.std.proofs.Common.{◌≡◌, ◌⊎◌, inl, inr, ℕ, zero, suc, ◌+◌, ◌==◌, ◌<◌, ◌≤◌, List, [], ◌∷◌, length, refl, sym, ap, ◌∙◌, subst, arith, append-nil, ne_eqb}
 use mathlib.Core.Logic.{dite}
 use native.Mathlib.Decide.{ℕ_discrete, dec_le}
-use Rattle.std.proofs.lemmas.List.{get_or_past}
-use Rattle.std.specs.Prelude.{true, false}
-use Rattle.std.specs.List.{Contains, AllByRecursion}
+use Rattle.std.{proofs.lemmas.List.get_or_past, specs.{Prelude.{true, false}, List.{Contains, AllByRecursion}}}
 use Rattle.pm_facts.specs.Numbers.{sum_below}
-use Rattle.pm_board.specs.declared.views.Cancel.{Cancel}
-use Rattle.pm_board.specs.declared.views.Heard.{Heard}
-use Rattle.pm_board.specs.declared.views.PastChild.{PastChild}
-use Rattle.pm_board.specs.declared.views.PostNotes.{PostNotes}
-use Rattle.pm_board.specs.declared.views.PostView.{PostView}
-use Rattle.pm_board.specs.declared.views.RosterStep.{RosterStep}
-use Rattle.pm_board.specs.declared.views.RosterView.{RosterView}
-use Rattle.pm_board.specs.declared.views.Sight.{Sight}
-use Rattle.pm_board.specs.declared.views.Sight.TheVariants.{Unused, Gathered}
-use Rattle.pm_board.specs.declared.views.SlotView.{SlotView}
-use Rattle.pm_board.specs.declared.views.View.{View}
-use Rattle.pm_board.specs.Heard.{HoldsCancel, KnowsCancel, WasMade, IsKnownAtLast, HeardAsSent}
-use Rattle.pm_board.specs.Latches.{HeardRightly, EachHeard, HeardBy, beside, waiting, times_made, WereMade, cancel_at, Latches}
+use Rattle.pm_board.{specs.{declared.views.{Cancel.Cancel, Heard.Heard, PastChild.PastChild, PostNotes.PostNotes, PostView.PostView, RosterStep.RosterStep, RosterView.RosterView, Sight.{Sight, TheVariants.{Unused, Gathered}}, SlotView.SlotView, View.View}, Heard.{HoldsCancel, KnowsCancel, WasMade, IsKnownAtLast, HeardAsSent}, Latches.{HeardRightly, EachHeard, HeardBy, beside, waiting, times_made, WereMade, cancel_at, Latches}, Words.bit, Places.{slot_view, slot_at}, Rule.{Cell, idle_post}, Seats.{is_gathered, HasSeat, held, taken, Seats}}, proofs.Latches.{heard-more, each-map}}
 use Rattle.pm_keys.specs.CancelKey.{cancel_key}
-use Rattle.pm_board.specs.Words.{bit}
-use Rattle.pm_board.specs.Places.{slot_view, slot_at}
-use Rattle.pm_board.specs.Rule.{Cell, idle_post}
-use Rattle.pm_board.specs.Seats.{is_gathered, HasSeat, held, taken, Seats}
-use Rattle.pm_board.proofs.Latches.{heard-more, each-map}
 
 module _ (steps : List RosterStep) (before after : ℕ → ℕ → Type 0) (grow : (pid times : ℕ) → before pid times → after pid times) where
   pub heard_known : (pid g : ℕ) (h : Heard) → HeardRightly steps before pid g h → HeardRightly steps after pid g h

@@ -2,32 +2,12 @@
 use Rattle.std.proofs.Common.{◌≡◌, ◌≢◌, ℕ, zero, suc, ◌+◌, ◌<◌, ◌≤◌, List, [], ◌∷◌, ◌++◌, length, set, refl, sym, ap, ◌∙◌, subst, ⊎_elim, arith, append-nil, get_or-set_other, ◌==◌, eq-eqb, ne_eqb}
 use mathlib.Core.Logic.{dite}
 use native.Mathlib.Decide.{ℕ_discrete}
-use Rattle.std.proofs.lemmas.List.{append_assoc}
-use Rattle.std.proofs.lemmas.Nat.Bits.{bit_at-zero}
-use Rattle.std.proofs.lemmas.List.Elements.{Contains-append_left, Contains-append_right, Contains-append_cases}
-use Rattle.std.specs.Prelude.{Bool, ◌&&◌, Some, None, Result, Ok, Err, slice_index_or}
-use Rattle.std.specs.Int.{bit_at}
-use Rattle.std.specs.List.{Contains, AllByRecursion}
+use Rattle.std.{proofs.lemmas.{List.{append_assoc, Elements.{Contains-append_left, Contains-append_right, Contains-append_cases}}, Nat.Bits.bit_at-zero}, specs.{Prelude.{Bool, ◌&&◌, Some, None, Result, Ok, Err, slice_index_or}, Int.bit_at, List.{Contains, AllByRecursion}}}
 use Rattle.pm_facts.specs.Numbers.{sum_below}
-use Rattle.pm_exit.specs.declared.child.Kind.{Kind}
-use Rattle.pm_supervisor.specs.declared.Reason.{Reason}
-use Rattle.pm_life.specs.declared.life.GateNo.{GateNo}
-use Rattle.pm_life.specs.declared.life.GateNo.TheVariants as gate_no
-use Rattle.pm_board.specs.declared.views.Heard.{Heard}
-use Rattle.pm_board.specs.declared.views.Offer.{Offer}
-use Rattle.pm_board.specs.declared.views.PastChild.{PastChild}
-use Rattle.pm_board.specs.declared.views.PostView.{PostView}
-use Rattle.pm_board.specs.declared.views.RosterStep.{RosterStep}
-use Rattle.pm_board.specs.declared.views.RosterStep.TheVariants.{Assign, Release, Quit, Ready, Reset, Send}
-use Rattle.pm_board.specs.declared.views.RosterView.{RosterView}
-use Rattle.pm_board.specs.declared.views.Signal.{Signal}
-use Rattle.pm_board.specs.Words.{bit}
-use Rattle.pm_board.proofs.Counts.{count_moves}
-use Rattle.pm_board.specs.Latch.{latch_pid, signal_number}
-use Rattle.pm_life.specs.declared.life.Signals.{Signals}
-use Rattle.pm_board.specs.Latches.{times_made_on, made_on, CallsIn, LatchesOf, is_send, times_sent, times_given, NotSent, Reaches, ReachesIn, NotReleased, NoticedBefore, HeardRightly, HearsRightly, OfRunning, OfUnreleased, EachHeard, beside, waiting, times_told, times_made, WereMade, LatchOk, latch_at, cancel_at, Latches}
-use Rattle.pm_board.specs.Rule.{Phase, unused, opened, offered, running, ended, collected, gathered, Cell, put, at_put, no_signals, idle_post}
-use Rattle.pm_board.specs.BoardLaws.{sent-append}
+use Rattle.pm_supervisor.specs.{pm_exit.declared.child.Kind.Kind, declared.Reason.Reason}
+use Rattle.pm_child_life.specs.declared.life.{GateNo.GateNo, Signals.Signals}
+use Rattle.pm_child_life.specs.declared.life.GateNo.TheVariants as gate_no
+use Rattle.pm_board.{specs.{declared.views.{Heard.Heard, Offer.Offer, PastChild.PastChild, PostView.PostView, RosterStep.{RosterStep, TheVariants.{Assign, Release, Quit, Ready, Reset, Send}}, RosterView.RosterView, Signal.Signal}, Words.bit, Latch.{latch_pid, signal_number}, Latches.{times_made_on, made_on, CallsIn, LatchesOf, is_send, times_sent, times_given, NotSent, Reaches, ReachesIn, NotReleased, NoticedBefore, HeardRightly, HearsRightly, OfRunning, OfUnreleased, EachHeard, beside, waiting, times_told, times_made, WereMade, LatchOk, latch_at, cancel_at, Latches}, Rule.{Phase, unused, opened, offered, running, ended, collected, gathered, Cell, put, at_put, no_signals, idle_post}}, proofs.{Counts.count_moves, BoardLaws.sent-append}}
 
 -- lists
 

@@ -12,3 +12,4 @@ pub mod Keeps
 pub mod Gating
 pub mod Latching
 pub mod Steps
+pub mod BoardLaws

@@ -5,21 +5,9 @@ use mathlib.Core.Option as maybe
 use lib.ListN.{get_elem?}
 use lib.Seq.{set-get_or}
 use Rattle.std.specs.Prelude.{Option}
-use Rattle.atomic_table.specs.Table.{State}
-use Rattle.atomic_table.proofs.Lists.{at_set}
-use Rattle.pm_board.specs.Slots.{child_slots}
+use Rattle.atomic_table.{specs.Table.State, proofs.Lists.at_set}
+use Rattle.pm_board.specs.{Slots.child_slots, declared.views.{Sight.TheVariants.Unused, SlotView.SlotView, RosterNotes.RosterNotes, RosterStep.RosterStep, RosterView.RosterView, PostView.PostView, View.{View, TheVariants.{Postmaster, Worker, Spent}}}, Places.{slot_view, slot_at}, Rule.{put, at_put, Phase, PidsOk, Cell, SlotOk, OfChild, IsPlaced, Agrees, Holds, idle_post}, Told.{with_slot, after_step}}
 use Rattle.pm_board.specs.declared.views.Letter as Letter
-use Rattle.pm_board.specs.declared.views.Sight.TheVariants.{Unused}
-use Rattle.pm_board.specs.declared.views.SlotView.{SlotView}
-use Rattle.pm_board.specs.declared.views.RosterNotes.{RosterNotes}
-use Rattle.pm_board.specs.declared.views.RosterStep.{RosterStep}
-use Rattle.pm_board.specs.declared.views.RosterView.{RosterView}
-use Rattle.pm_board.specs.declared.views.PostView.{PostView}
-use Rattle.pm_board.specs.declared.views.View.{View}
-use Rattle.pm_board.specs.declared.views.View.TheVariants.{Postmaster, Worker, Spent}
-use Rattle.pm_board.specs.Places.{slot_view, slot_at}
-use Rattle.pm_board.specs.Rule.{put, at_put, Phase, PidsOk, Cell, SlotOk, OfChild, IsPlaced, Agrees, Holds, idle_post}
-use Rattle.pm_board.specs.Told.{with_slot, after_step}
 
 get_or-set_at : (l : List ℕ) (i j a : ℕ) → j ≡ i → i < length l → get_or (set l i a) j 0 ≡ a
 get_or-set_at l i j a e h = ap (λ (k : ℕ). get_or (set l i a) k 0) e ∙ get_or-set_same l i a 0 h

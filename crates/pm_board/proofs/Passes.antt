@@ -2,32 +2,13 @@
 use Rattle.std.proofs.Common.{◌≡◌, ◌≢◌, ℕ, zero, suc, ◌+◌, ◌<◌, ◌≤◌, List, [], ◌∷◌, ◌++◌, length, map, append-nil, refl, sym, ap, ◌∙◌, subst, arith, ne_eqb, eq-eqb}
 use mathlib.Core.Logic.{dite}
 use native.Mathlib.Decide.{ℕ_discrete}
-use Rattle.std.specs.Prelude.{Bool, true, false, ◌&&◌, if◌then◌else◌, Option, Some, None}
-use Rattle.std.specs.List.{AllByRecursion}
+use Rattle.std.specs.{Prelude.{Bool, true, false, ◌&&◌, if◌then◌else◌, Option, Some, None}, List.AllByRecursion}
 use Rattle.atomic_table.specs.Table.{State}
 use Rattle.pm_facts.specs.Numbers.{sum_below}
-use Rattle.pm_exit.specs.declared.child.Kind.{Kind}
-use Rattle.pm_supervisor.specs.declared.Reason.{Reason}
-use Rattle.pm_supervisor.specs.Children.{Child, is_session, is_startup_child, child_of, without, marked, one_if, count_of, attached_sessions}
-use Rattle.pm_supervisor.specs.Supervisor.{Shared}
-use Rattle.pm_supervisor.specs.Shared.{SharedEvent, Notice, Open, Reset, Allows, after_shared}
-use Rattle.pm_supervisor.specs.CountLaws.{at_most_one}
-use Rattle.pm_board.specs.Slots.{child_slots}
+use Rattle.pm_supervisor.{specs.{pm_exit.declared.child.Kind.Kind, declared.Reason.Reason, Children.{Child, is_session, is_startup_child, child_of, without, marked, one_if, count_of, attached_sessions}, Supervisor.Shared, Shared.{SharedEvent, Notice, Open, Reset, Allows, after_shared}}, proofs.CountLaws.at_most_one}
+use Rattle.pm_board.{specs.{Slots.child_slots, declared.views.{Offer.Offer, PostStep.PostStep, RosterStep.RosterStep, RosterView.RosterView, Work.{Work, TheVariants.{Idle, Sees, Inactive, Active, Refused, Attached}}, View.View}, Words.bit, Gate.{attached, gate_of}, Rule.{Phase, unused, opened, offered, running, ended, collected, gathered, Does, Cell, Holds, put, at_put}, Told.after_step, History.{goes_on, supervisor_event, worker_event, leave_of, event_of, worker_step, living, is_attached, shown_child, ShowsChild, Shows, OwnPart, pid_and_kind, History}}, proofs.Histories.{child_hit, child_miss, without_hit, without_miss, without_other, Once, none_in, once_left, own_step, own_worker, own_part, other_part, no_part, shows_moves, pids_apart}}
 use Rattle.pm_board.specs.declared.views.Letter as Letter
-use Rattle.pm_board.specs.declared.views.Offer.{Offer}
-use Rattle.pm_board.specs.declared.views.PostStep.{PostStep}
-use Rattle.pm_board.specs.declared.views.RosterStep.{RosterStep}
 use Rattle.pm_board.specs.declared.views.RosterStep.TheVariants as step
-use Rattle.pm_board.specs.declared.views.RosterView.{RosterView}
-use Rattle.pm_board.specs.declared.views.Work.{Work}
-use Rattle.pm_board.specs.declared.views.Work.TheVariants.{Idle, Sees, Inactive, Active, Refused, Attached}
-use Rattle.pm_board.specs.declared.views.View.{View}
-use Rattle.pm_board.specs.Words.{bit}
-use Rattle.pm_board.specs.Gate.{attached, gate_of}
-use Rattle.pm_board.specs.Rule.{Phase, unused, opened, offered, running, ended, collected, gathered, Does, Cell, Holds, put, at_put}
-use Rattle.pm_board.specs.Told.{after_step}
-use Rattle.pm_board.specs.History.{goes_on, supervisor_event, worker_event, leave_of, event_of, worker_step, living, is_attached, shown_child, ShowsChild, Shows, OwnPart, pid_and_kind, History}
-use Rattle.pm_board.proofs.Histories.{child_hit, child_miss, without_hit, without_miss, without_other, Once, none_in, once_left, own_step, own_worker, own_part, other_part, no_part, shows_moves, pids_apart}
 
 -- lists of children, of which one attaches or detaches
 

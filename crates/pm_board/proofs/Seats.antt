@@ -6,18 +6,7 @@ use native.Mathlib.Decide.{ℕ_discrete}
 use lib.ListN.{get_elem?}
 use Rattle.std.specs.Prelude.{true, false}
 use Rattle.atomic_table.proofs.Lists.{at_longer, at_last, set_else}
-use Rattle.pm_board.specs.declared.views.PostView.{PostView}
-use Rattle.pm_board.specs.declared.views.RosterNotes.{RosterNotes}
-use Rattle.pm_board.specs.declared.views.RosterView.{RosterView}
-use Rattle.pm_board.specs.declared.views.Sight.{Sight}
-use Rattle.pm_board.specs.declared.views.Sight.TheVariants.{Unused, Gathered}
-use Rattle.pm_board.specs.declared.views.SlotView.{SlotView}
-use Rattle.pm_board.specs.declared.views.View.{View}
-use Rattle.pm_board.specs.declared.views.View.TheVariants.{Postmaster, Worker, Spent}
-use Rattle.pm_board.specs.Places.{slot_view, slot_at}
-use Rattle.pm_board.specs.Rule.{Phase, Cell, put, at_put, idle_post}
-use Rattle.pm_board.specs.Told.{with_slot, with_post}
-use Rattle.pm_board.specs.Seats.{is_gathered, HasSeat, held, taken, Seats}
+use Rattle.pm_board.specs.{declared.views.{PostView.PostView, RosterNotes.RosterNotes, RosterView.RosterView, Sight.{Sight, TheVariants.{Unused, Gathered}}, SlotView.SlotView, View.{View, TheVariants.{Postmaster, Worker, Spent}}}, Places.{slot_view, slot_at}, Rule.{Phase, Cell, put, at_put, idle_post}, Told.{with_slot, with_post}, Seats.{is_gathered, HasSeat, held, taken, Seats}}
 
 -- a view that was replaced is there
 set_at : {A : Type 0} (l : List A) (i : ℕ) (a b : A) → get_elem? l i ≡ some a → get_elem? (set l i b) i ≡ some b

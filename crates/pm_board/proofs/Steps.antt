@@ -1,54 +1,20 @@
 -- The steps, at a seat that is known by equations.
-use Rattle.std.proofs.Common.{◌≡◌, ℕ, zero, suc, ◌+◌, ◌-◌, ◌*◌, ◌%◌, ◌^◌, ◌<◌, ◌≤◌, ◌≢◌, ◌⊎◌, inl, inr, ⊎_elim, List, [], ◌∷◌, ◌++◌, length, get_or, set, sym, refl, ap, ◌∙◌, subst, arith, length-set, get_or-set_same, get_or-set_other}
-use Rattle.std.proofs.lemmas.List.{length-replicate}
+use Rattle.std.proofs.{Common.{◌≡◌, ℕ, zero, suc, ◌+◌, ◌-◌, ◌*◌, ◌%◌, ◌^◌, ◌<◌, ◌≤◌, ◌≢◌, ◌⊎◌, inl, inr, ⊎_elim, List, [], ◌∷◌, ◌++◌, length, get_or, set, sym, refl, ap, ◌∙◌, subst, arith, length-set, get_or-set_same, get_or-set_other}, lemmas.List.length-replicate}
 use mathlib.Core.Option.{none}
 use mathlib.Core.Logic.{dite}
 use native.Mathlib.Decide.{ℕ_discrete}
-use Rattle.std.specs.Prelude.{Bool, true, false, Option, Some, None, Result, Ok, Err, replicate, slice_get, eqb, max, bit_or, bit_and}
-use Rattle.std.proofs.lemmas.Option.{same_Some}
+use Rattle.std.{specs.Prelude.{Bool, true, false, Option, Some, None, Result, Ok, Err, replicate, slice_get, eqb, max, bit_or, bit_and}, proofs.lemmas.Option.same_Some}
 use prog.Atomic.{either}
-use Rattle.atomic_table.specs.Table.{step, rest, opening, Allows, Joins, Splits}
-use Rattle.atomic_table.specs.Seated.{TableId}
+use Rattle.atomic_table.specs.{Table.{step, rest, opening, Allows, Joins, Splits}, Seated.TableId}
 use Rattle.pm_facts.specs.Lists.{set_set, same_everywhere}
-use Rattle.pm_exit.specs.declared.child.Kind.{Kind}
-use Rattle.pm_exit.specs.declared.child.Status.{Status}
-use Rattle.pm_supervisor.specs.declared.Reason.{Reason}
-use Rattle.pm_life.specs.declared.life.GateNo.{GateNo}
-use Rattle.pm_board.specs.Slots.{all_slots, child_slots}
+use Rattle.pm_supervisor.specs.{pm_exit.declared.child.{Kind.Kind, Status.Status}, declared.Reason.Reason, Children.{is_session, is_dead_end}}
+use Rattle.pm_child_life.specs.declared.life.GateNo.{GateNo}
+use Rattle.pm_board.{specs.{Slots.{all_slots, child_slots}, declared.views.{Cancel.Cancel, Offer.Offer, PastChild.PastChild, PostNotes.PostNotes, RosterNotes.RosterNotes, Sight.{Sight, TheVariants.{Unused, Opened, Assigned, Exited, Collected}}, Signal.Signal, SlotView.SlotView, RosterView.RosterView, Work.{Work, TheVariants.{Idle, Sees, Inactive, Active, Refused, Attached}}, PostView.PostView, View.{View, TheVariants.{Postmaster, Worker, Spent}}}, Words.{exit_step, stage_in, active_in, kind_in, status_in, pid_in, status_number, bit}, Places.{slot_view, slot_at, is_auxiliary, lost, SlotServes, EndsWell, is_used, used_in}, Children.children_of, Gate.{place_of, gate_answer}, Latch.{latch_place, cancel_place, armed_word, signal_number}, Rule.{child_word, offer_word}, History.Kept, Told.{Seated, MayEnd, roster_of, post_of, post_view, with_notes, child_in, past_child, with_slot, with_sight, assigned_slot, running_slot, exited_slot, noted_assign, noted_release, noted_look, noted_exit, Arms, Sends, Takes, Heeds, LooksAtLatch, Cancels, Assigns, Loads, Starts, Ends, Looks, Releases, Clears, Compares, Marks, Unmarks, Tries, BacksOut, Detaches, Quits, Readies, Resets, tried, tried_by, MayQuit, quit_step, ready_step, new_gate, reposted, taken_in, dealt_more, next_post, newcomer}, Models.{HoldsMail, MayOpen, MayReset, RunsKind, RunsPid, IsWholePost, IsWholeRoster, SlotBecame}}, proofs.{Bits.{pid_again, kind_read, status_read, active_again}, Children.children_same, BoardLaws.bit_small}}
 use Rattle.pm_board.specs.declared.views.Letter as Letter
-use Rattle.pm_board.specs.declared.views.Cancel.{Cancel}
-use Rattle.pm_board.specs.declared.views.Offer.{Offer}
-use Rattle.pm_board.specs.declared.views.PastChild.{PastChild}
-use Rattle.pm_board.specs.declared.views.PostNotes.{PostNotes}
-use Rattle.pm_board.specs.declared.views.RosterNotes.{RosterNotes}
-use Rattle.pm_board.specs.declared.views.Sight.{Sight}
-use Rattle.pm_board.specs.declared.views.Sight.TheVariants.{Unused, Opened, Assigned, Exited, Collected}
-use Rattle.pm_board.specs.declared.views.Signal.{Signal}
-use Rattle.pm_board.specs.declared.views.SlotView.{SlotView}
-use Rattle.pm_board.specs.declared.views.RosterView.{RosterView}
-use Rattle.pm_board.specs.declared.views.Work.{Work}
-use Rattle.pm_board.specs.declared.views.Work.TheVariants.{Idle, Sees, Inactive, Active, Refused, Attached}
-use Rattle.pm_board.specs.declared.views.PostView.{PostView}
-use Rattle.pm_board.specs.declared.views.View.{View}
-use Rattle.pm_board.specs.declared.views.View.TheVariants.{Postmaster, Worker, Spent}
-use Rattle.pm_board.specs.Words.{exit_step, stage_in, active_in, kind_in, status_in, pid_in, status_number}
-use Rattle.pm_board.specs.Places.{slot_view, slot_at, is_auxiliary, lost, SlotServes, EndsWell, is_used, used_in}
-use Rattle.pm_board.specs.Children.{children_of}
-use Rattle.pm_board.specs.Words.{bit}
-use Rattle.pm_supervisor.specs.Children.{is_session, is_dead_end}
-use Rattle.pm_board.specs.Gate.{place_of, gate_answer}
 use Rattle.pm_keys.specs.CancelKey.{cancel_key}
-use Rattle.pm_board.specs.Latch.{latch_place, cancel_place, armed_word, signal_number}
-use Rattle.pm_board.specs.Rule.{child_word, offer_word}
-use Rattle.pm_board.specs.History.{Kept}
-use Rattle.pm_board.specs.Told.{Seated, MayEnd, roster_of, post_of, post_view, with_notes, child_in, past_child, with_slot, with_sight, assigned_slot, running_slot, exited_slot, noted_assign, noted_release, noted_look, noted_exit, Arms, Sends, Takes, Heeds, LooksAtLatch, Cancels, Assigns, Loads, Starts, Ends, Looks, Releases, Clears, Compares, Marks, Unmarks, Tries, BacksOut, Detaches, Quits, Readies, Resets, tried, tried_by, MayQuit, quit_step, ready_step, new_gate, reposted, taken_in, dealt_more, next_post, newcomer}
-use Rattle.pm_board.specs.Models.{HoldsMail, MayOpen, MayReset, RunsKind, RunsPid, IsWholePost, IsWholeRoster, SlotBecame}
-use Rattle.pm_board.proofs.Bits.{pid_again, kind_read, status_read, active_again}
-use Rattle.pm_board.proofs.Children.{children_same}
 use Rattle.pm_board.proofs.Keeps as keep
 use Rattle.pm_board.proofs.Gating as gate
 use Rattle.pm_board.proofs.Latching as latch
-use Rattle.pm_board.specs.BoardLaws.{bit_small}
 
 pub used_none : (D : Type 0) (n : ℕ) → used_in (replicate n (slot_view {D = D} [] Unused)) ≡ 0
 used_none D zero = refl

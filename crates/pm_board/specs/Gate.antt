@@ -1,22 +1,11 @@
 -- The gate: what its word tells, and which children it counts.
 use Rattle.std.specs.Prelude.{◌≡◌, ℕ, zero, suc, ◌+◌, ◌*◌, ◌/◌, ◌%◌, ◌<◌, ◌≤◌, Bool, true, false, not, nat_lt, if◌then◌else◌, List, [], ◌∷◌, Option, Some, None, Result, Ok, Err}
 use Rattle.pm_facts.specs.Numbers.{sum_below}
-use Rattle.pm_exit.specs.declared.child.Kind.{Kind}
-use Rattle.pm_supervisor.specs.declared.Reason.{Reason}
+use Rattle.pm_supervisor.specs.{pm_exit.declared.child.Kind.Kind, declared.Reason.Reason, Children.{is_session, is_dead_end}}
 use Rattle.pm_supervisor.specs.declared.Reason.TheVariants as reason
-use Rattle.pm_supervisor.specs.Children.{is_session, is_dead_end}
-use Rattle.pm_board.specs.declared.views.PastChild.{PastChild}
-use Rattle.pm_board.specs.declared.views.RosterStep.{RosterStep}
-use Rattle.pm_board.specs.declared.views.RosterStep.TheVariants.{Assign, Release, Quit, Ready, Reset, Send}
-use Rattle.pm_board.specs.declared.views.RosterView.{RosterView}
-use Rattle.pm_board.specs.declared.views.Work.{Work}
-use Rattle.pm_board.specs.declared.views.Work.TheVariants.{Idle, Sees, Inactive, Active, Refused, Attached}
-use Rattle.pm_board.specs.declared.views.PostView.{PostView}
-use Rattle.pm_life.specs.declared.life.GateNo.{GateNo}
-use Rattle.pm_life.specs.declared.life.GateNo.TheVariants as gate_no
-use Rattle.pm_board.specs.Words.{bit, flag}
-use Rattle.pm_board.specs.Places.{is_auxiliary, lost}
-use Rattle.pm_board.specs.Rule.{Cell, OfLiving}
+use Rattle.pm_board.specs.{declared.views.{PastChild.PastChild, RosterStep.{RosterStep, TheVariants.{Assign, Release, Quit, Ready, Reset, Send}}, RosterView.RosterView, Work.{Work, TheVariants.{Idle, Sees, Inactive, Active, Refused, Attached}}, PostView.PostView}, Words.{bit, flag}, Places.{is_auxiliary, lost}, Rule.{Cell, OfLiving}}
+use Rattle.pm_child_life.specs.declared.life.GateNo.{GateNo}
+use Rattle.pm_child_life.specs.declared.life.GateNo.TheVariants as gate_no
 
 -- what the supervisor has made of the gate
 pub record Gate : Type 0 where

@@ -1,20 +1,9 @@
 -- What children heard, as the seats know it.
-use Rattle.std.specs.Prelude.{◌≡◌, ℕ, ◌<◌, ◌⊎◌, true, List, length}
-use Rattle.std.specs.List.{Contains}
+use Rattle.std.specs.{Prelude.{◌≡◌, ℕ, ◌<◌, ◌⊎◌, true, List, length}, List.Contains}
 use mathlib.Core.Option.{some}
 use lib.ListN.{get_elem?}
 use Rattle.pm_keys.specs.CancelKey.{cancel_key}
-use Rattle.pm_board.specs.declared.views.Cancel.{Cancel}
-use Rattle.pm_board.specs.declared.views.PastChild.{PastChild}
-use Rattle.pm_board.specs.declared.views.PostNotes.{PostNotes}
-use Rattle.pm_board.specs.declared.views.PostView.{PostView}
-use Rattle.pm_board.specs.declared.views.RosterView.{RosterView}
-use Rattle.pm_board.specs.declared.views.Sight.TheVariants.{Gathered}
-use Rattle.pm_board.specs.declared.views.View.{View}
-use Rattle.pm_board.specs.declared.views.View.TheVariants.{Worker}
-use Rattle.pm_board.specs.Places.{slot_at}
-use Rattle.pm_board.specs.Latches.{EachHeard, HeardBy}
-use Rattle.pm_board.specs.Seats.{is_gathered}
+use Rattle.pm_board.specs.{declared.views.{Cancel.Cancel, PastChild.PastChild, PostNotes.PostNotes, PostView.PostView, RosterView.RosterView, Sight.TheVariants.Gathered, View.{View, TheVariants.Worker}}, Places.slot_at, Latches.{EachHeard, HeardBy}, Seats.is_gathered}
 
 -- a cancel for this pid, that was made with its key under the seed of that call
 abbrev pub IsCancelFor : ℕ → Cancel → Type 0

@@ -1,28 +1,11 @@
 -- The board shows the end of a run of the supervisor's events, from the first day, and what each seat did is its part of it.
-use Rattle.std.specs.Prelude.{◌≡◌, ℕ, ◌<◌, Bool, true, false, ◌==◌, if◌then◌else◌, List, [], ◌∷◌, ◌++◌, map, Option, Some, None, length, slice_index_or}
-use Rattle.std.specs.List.{flat_map}
+use Rattle.std.specs.{Prelude.{◌≡◌, ℕ, ◌<◌, Bool, true, false, ◌==◌, if◌then◌else◌, List, [], ◌∷◌, ◌++◌, map, Option, Some, None, length, slice_index_or}, List.flat_map}
 use Rattle.atomic_table.specs.Table.{State}
-use Rattle.pm_exit.specs.declared.child.Kind.{Kind}
-use Rattle.pm_supervisor.specs.Children.{Child, child_of, without}
-use Rattle.pm_supervisor.specs.Supervisor.{Shared, first}
-use Rattle.pm_supervisor.specs.Shared.{SharedEvent, Join, Attach, Touch, Detach, Leave, Notice, Open, Reset, Allows, after_shared}
-use Rattle.pm_board.specs.Slots.{child_slots}
+use Rattle.pm_supervisor.specs.{pm_exit.declared.child.Kind.Kind, Children.{Child, child_of, without}, Supervisor.{Shared, first}, Shared.{SharedEvent, Join, Attach, Touch, Detach, Leave, Notice, Open, Reset, Allows, after_shared}}
+use Rattle.pm_board.specs.{Slots.child_slots, declared.views.{Offer.Offer, PastChild.PastChild, RosterStep.RosterStep, PostStep.PostStep, RosterView.RosterView, Work.{Work, TheVariants.{Idle, Sees, Inactive, Active, Refused, Attached}}, PostView.PostView, View.View}, Gate.{Gate, GateOk, first_gate, gate_of, gate_of_steps}, Latches.Latches, Seats.Seats, Rule.{Phase, unused, opened, offered, running, ended, collected, gathered, Cell, Holds}}
 use Rattle.pm_board.specs.declared.views.Letter as Letter
-use Rattle.pm_board.specs.declared.views.Offer.{Offer}
-use Rattle.pm_board.specs.declared.views.PastChild.{PastChild}
-use Rattle.pm_board.specs.declared.views.RosterStep.{RosterStep}
 use Rattle.pm_board.specs.declared.views.RosterStep.TheVariants as step
-use Rattle.pm_board.specs.declared.views.PostStep.{PostStep}
 use Rattle.pm_board.specs.declared.views.PostStep.TheVariants as post_step
-use Rattle.pm_board.specs.declared.views.RosterView.{RosterView}
-use Rattle.pm_board.specs.declared.views.Work.{Work}
-use Rattle.pm_board.specs.declared.views.Work.TheVariants.{Idle, Sees, Inactive, Active, Refused, Attached}
-use Rattle.pm_board.specs.declared.views.PostView.{PostView}
-use Rattle.pm_board.specs.declared.views.View.{View}
-use Rattle.pm_board.specs.Gate.{Gate, GateOk, first_gate, gate_of, gate_of_steps}
-use Rattle.pm_board.specs.Latches.{Latches}
-use Rattle.pm_board.specs.Seats.{Seats}
-use Rattle.pm_board.specs.Rule.{Phase, unused, opened, offered, running, ended, collected, gathered, Cell, Holds}
 
 -- an event, and the slot whose word it was made on
 pub record Entry : Type 0 where

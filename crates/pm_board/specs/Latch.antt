@@ -1,12 +1,7 @@
 -- The words of a slot's latch and of its cancels: which signals stand for a child, and what it is given of them.
-use Rattle.std.specs.Prelude.{ℕ, zero, suc, ◌+◌, ◌*◌, ◌/◌, Bool, true, false, Option, Some, None}
-use Rattle.std.specs.Int.{bit_at}
-use Rattle.pm_supervisor.specs.declared.Reason.{Reason}
-use Rattle.pm_supervisor.specs.declared.Reason.TheVariants.{Crash, Stop}
-use Rattle.pm_life.specs.declared.life.Signals.{Signals}
-use Rattle.pm_board.specs.declared.views.Signal.{Signal}
-use Rattle.pm_board.specs.declared.views.Signal.TheVariants.{Quit, Terminate, Kill, Checkpoint}
-use Rattle.pm_board.specs.Words.{flag}
+use Rattle.std.specs.{Prelude.{ℕ, zero, suc, ◌+◌, ◌*◌, ◌/◌, Bool, true, false, Option, Some, None}, Int.bit_at}
+use Rattle.pm_child_life.specs.{pm_supervisor.declared.Reason.{Reason, TheVariants.{Crash, Stop}}, declared.life.Signals.Signals}
+use Rattle.pm_board.specs.{declared.views.Signal.{Signal, TheVariants.{Quit, Terminate, Kill, Checkpoint}}, Words.flag}
 
 -- After the words of n slots and the word of the gate stand those of the latches, and then those of the cancels
 abbrev pub latch_place : ℕ → ℕ → ℕ

@@ -1,23 +1,11 @@
 -- The rule of the latches: what stands for a child, and what it was given, was sent to it.
-use Rattle.std.specs.Prelude.{◌≡◌, ℕ, zero, suc, ◌+◌, ◌<◌, ◌≤◌, ◌⊎◌, Bool, true, ◌==◌, ◌&&◌, is_some, List, [], ◌∷◌, ◌++◌, Some, Ok, Err, slice_index_or}
-use Rattle.std.specs.Int.{bit_at}
-use Rattle.std.specs.List.{Contains, AllByRecursion}
+use Rattle.std.specs.{Prelude.{◌≡◌, ℕ, zero, suc, ◌+◌, ◌<◌, ◌≤◌, ◌⊎◌, Bool, true, ◌==◌, ◌&&◌, is_some, List, [], ◌∷◌, ◌++◌, Some, Ok, Err, slice_index_or}, Int.bit_at, List.{Contains, AllByRecursion}}
 use Rattle.pm_facts.specs.Numbers.{sum_below}
-use Rattle.pm_exit.specs.declared.child.Kind.{Kind}
+use Rattle.pm_supervisor.specs.{pm_exit.declared.child.Kind.Kind, declared.Reason.Reason}
 use Rattle.pm_keys.specs.CancelKey.{cancel_key}
-use Rattle.pm_supervisor.specs.declared.Reason.{Reason}
-use Rattle.pm_life.specs.declared.life.GateNo.TheVariants as gate_no
-use Rattle.pm_life.specs.declared.life.Signals.{Signals}
-use Rattle.pm_board.specs.declared.views.Cancel.{Cancel}
-use Rattle.pm_board.specs.declared.views.Heard.{Heard}
-use Rattle.pm_board.specs.declared.views.Offer.{Offer}
-use Rattle.pm_board.specs.declared.views.PastChild.{PastChild}
-use Rattle.pm_board.specs.declared.views.RosterStep.{RosterStep}
-use Rattle.pm_board.specs.declared.views.RosterStep.TheVariants.{Assign, Release, Quit, Ready, Reset, Send}
-use Rattle.pm_board.specs.declared.views.RosterView.{RosterView}
-use Rattle.pm_board.specs.Words.{bit}
-use Rattle.pm_board.specs.Latch.{latch_place, cancel_place, signal_number, latch_pid, is_given}
-use Rattle.pm_board.specs.Rule.{Phase, unused, opened, offered, running, ended, collected, gathered, Cell}
+use Rattle.pm_child_life.specs.declared.life.GateNo.TheVariants as gate_no
+use Rattle.pm_child_life.specs.declared.life.Signals.{Signals}
+use Rattle.pm_board.specs.{declared.views.{Cancel.Cancel, Heard.Heard, Offer.Offer, PastChild.PastChild, RosterStep.{RosterStep, TheVariants.{Assign, Release, Quit, Ready, Reset, Send}}, RosterView.RosterView}, Words.bit, Latch.{latch_place, cancel_place, signal_number, latch_pid, is_given}, Rule.{Phase, unused, opened, offered, running, ended, collected, gathered, Cell}}
 
 -- a step is a send of the signal of this number to this pid
 abbrev pub is_send : ℕ → ℕ → RosterStep → Bool

@@ -3,24 +3,9 @@ use Rattle.std.specs.Prelude.{◌≡◌, ℕ, ◌<◌, ◌≤◌, ◌⊎◌, tru
 use mathlib.Core.Option.{some}
 use lib.ListN.{get_elem?}
 use Rattle.atomic_table.specs.Table.{State}
-use Rattle.pm_supervisor.specs.Supervisor.{Shared}
-use Rattle.pm_supervisor.specs.Shared.{IsKept, Attach, Allows}
-use Rattle.pm_supervisor.specs.Children.{is_dead_end, is_session}
-use Rattle.pm_board.specs.Slots.{child_slots}
-use Rattle.pm_board.specs.Gate.{gate_answer}
+use Rattle.pm_supervisor.specs.{Supervisor.Shared, Shared.{IsKept, Attach, Allows}, Children.{is_dead_end, is_session}}
+use Rattle.pm_board.specs.{Slots.child_slots, Gate.gate_answer, declared.views.{Offer.Offer, PastChild.PastChild, RosterView.RosterView, Work.TheVariants.{Idle, Active}, PostView.PostView, View.{View, TheVariants.{Postmaster, Worker}}}, Places.{slot_at, used_in}, Heard.{WasMade, HeardAsSent}, Latches.{HeardRightly, EachHeard, HeardBy, Reaches, latch_at, cancel_at, times_made_on}, Told.child_in, History.{Entry, Kept, of_supervisor, events_of, of_worker, worker_step}}
 use Rattle.pm_board.specs.declared.views.Letter as Letter
-use Rattle.pm_board.specs.declared.views.Offer.{Offer}
-use Rattle.pm_board.specs.declared.views.PastChild.{PastChild}
-use Rattle.pm_board.specs.declared.views.RosterView.{RosterView}
-use Rattle.pm_board.specs.declared.views.Work.TheVariants.{Idle, Active}
-use Rattle.pm_board.specs.declared.views.PostView.{PostView}
-use Rattle.pm_board.specs.declared.views.View.{View}
-use Rattle.pm_board.specs.declared.views.View.TheVariants.{Postmaster, Worker}
-use Rattle.pm_board.specs.Places.{slot_at, used_in}
-use Rattle.pm_board.specs.Heard.{WasMade, HeardAsSent}
-use Rattle.pm_board.specs.Latches.{HeardRightly, EachHeard, HeardBy, Reaches, latch_at, cancel_at, times_made_on}
-use Rattle.pm_board.specs.Told.{child_in}
-use Rattle.pm_board.specs.History.{Entry, Kept, of_supervisor, events_of, of_worker, worker_step}
 
 module _ {J D : Type 0} (letter : Letter.Ghosts J D) where
   -- the events that have led to a state of the board, and what they leave

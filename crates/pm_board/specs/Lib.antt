@@ -6,7 +6,6 @@ pub mod Gate
 pub mod Rule
 pub mod Latch
 pub mod Latches
-pub mod BoardLaws
 pub mod Seats
 pub mod Heard
 pub mod History
@@ -14,3 +13,8 @@ pub mod Told
 pub mod Models
 pub mod Posts
 pub mod Laws
+pub use Rattle.pm_facts.specs as pm_facts
+pub use Rattle.pm_keys.specs as pm_keys
+pub use Rattle.pm_exit.specs as pm_exit
+pub use Rattle.pm_supervisor.specs as pm_supervisor
+pub use Rattle.pm_child_life.specs as pm_child_life

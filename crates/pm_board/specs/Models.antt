@@ -1,39 +1,12 @@
 -- What contracts see of a roster and of a post, and what their calls tell.
 use Rattle.std.specs.Prelude.{◌≡◌, ◌≢◌, ℕ, ◌+◌, ◌*◌, ◌<◌, ◌≤◌, ◌==◌, ◌++◌, Bool, false, List, [], ◌∷◌, Option, None, Some, Result, MatchOption, length, slice_get}
 use Rattle.atomic_table.specs.Seated.{TableId}
-use Rattle.pm_exit.specs.declared.child.Kind.{Kind}
-use Rattle.pm_exit.specs.declared.child.Status.{Status}
-use Rattle.pm_supervisor.specs.declared.Reason.{Reason}
-use Rattle.pm_supervisor.specs.Children.{is_dead_end, is_startup_child}
-use Rattle.pm_life.specs.declared.life.GateNo.{GateNo}
-use Rattle.pm_life.specs.declared.life.Signals.{Signals}
-use Rattle.pm_board.specs.Slots.{child_slots}
+use Rattle.pm_supervisor.specs.{pm_exit.declared.child.{Kind.Kind, Status.Status}, declared.Reason.Reason, Children.{is_dead_end, is_startup_child}}
+use Rattle.pm_child_life.specs.declared.life.{GateNo.GateNo, Signals.Signals}
+use Rattle.pm_board.specs.{Slots.child_slots, declared.{views.{Cancel.Cancel, Offer.Offer, RosterNotes.RosterNotes, RosterStep.{RosterStep, TheVariants.Send}, Sight.TheVariants.{Assigned, Exited, Gathered}, Signal.Signal, SlotView.SlotView, RosterView.RosterView, Work.{Work, TheVariants.{Idle, Sees, Inactive, Active, Refused, Attached}}, PostView.PostView, View.TheVariants.{Postmaster, Worker}}, roster.{Look.Look, Released.Released}, post.Started.Started}, Words.stage_in, Places.{slot_at, slot_view, used_in, EndsWell}, Children.children_of, Gate.{gate_answer, generation_in}, Latch.{latch_pid, signals_at}, Rule.{child_word, offer_word, idle_post}, Told.{Seated, MayEnd, roster_of, post_of, with_slot, with_post, assigned_slot, running_slot, exited_slot, released_slot, past_child, noted_assign, noted_release, noted_load, noted_start, noted_exit, noted_look, post_view, with_work, tried, detached, after_step, child_in, with_notes, noted_take, noted_heed, noted_latch_look, noted_cancel}}
 use Rattle.pm_board.specs.declared.views.Letter as Letter
-use Rattle.pm_board.specs.declared.views.Cancel.{Cancel}
-use Rattle.pm_board.specs.declared.views.Offer.{Offer}
-use Rattle.pm_board.specs.declared.views.RosterNotes.{RosterNotes}
-use Rattle.pm_board.specs.declared.views.RosterStep.{RosterStep}
-use Rattle.pm_board.specs.declared.views.RosterStep.TheVariants.{Send}
-use Rattle.pm_board.specs.declared.views.Sight.TheVariants.{Assigned, Exited, Gathered}
-use Rattle.pm_board.specs.declared.views.Signal.{Signal}
-use Rattle.pm_board.specs.declared.views.SlotView.{SlotView}
-use Rattle.pm_board.specs.declared.views.RosterView.{RosterView}
-use Rattle.pm_board.specs.declared.views.Work.{Work}
-use Rattle.pm_board.specs.declared.views.Work.TheVariants.{Idle, Sees, Inactive, Active, Refused, Attached}
-use Rattle.pm_board.specs.declared.views.PostView.{PostView}
-use Rattle.pm_board.specs.declared.views.View.TheVariants.{Postmaster, Worker}
-use Rattle.pm_board.specs.declared.roster.Look.{Look}
 use Rattle.pm_board.specs.declared.roster.Look.TheVariants as look
-use Rattle.pm_board.specs.declared.roster.Released.{Released}
-use Rattle.pm_board.specs.declared.post.Started.{Started}
 use Rattle.pm_board.specs.declared.post.Started.TheVariants as started
-use Rattle.pm_board.specs.Words.{stage_in}
-use Rattle.pm_board.specs.Places.{slot_at, slot_view, used_in, EndsWell}
-use Rattle.pm_board.specs.Children.{children_of}
-use Rattle.pm_board.specs.Gate.{gate_answer, generation_in}
-use Rattle.pm_board.specs.Latch.{latch_pid, signals_at}
-use Rattle.pm_board.specs.Rule.{child_word, offer_word, idle_post}
-use Rattle.pm_board.specs.Told.{Seated, MayEnd, roster_of, post_of, with_slot, with_post, assigned_slot, running_slot, exited_slot, released_slot, past_child, noted_assign, noted_release, noted_load, noted_start, noted_exit, noted_look, post_view, with_work, tried, detached, after_step, child_in, with_notes, noted_take, noted_heed, noted_latch_look, noted_cancel}
 
 -- which board it is, and what the supervisor knows
 pub record RosterModel (D : Type 0) : Type 0 where

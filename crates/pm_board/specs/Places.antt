@@ -1,16 +1,8 @@
 -- Which slot serves which kind of child, and when a child may be assigned.
 use Rattle.std.specs.Prelude.{◌≡◌, ℕ, ◌+◌, ◌<◌, ◌≤◌, Bool, true, false, ◌==◌, ◌&&◌, List, [], ◌∷◌, length, slice_index_or}
-use Rattle.pm_exit.specs.declared.child.Kind.{Kind}
+use Rattle.pm_exit.specs.{declared.child.{Kind.Kind, Status.Status}, Ends.is_exit_0}
 use Rattle.pm_exit.specs.declared.child.Kind.TheVariants as kind
-use Rattle.pm_exit.specs.declared.child.Status.{Status}
-use Rattle.pm_exit.specs.Ends.{is_exit_0}
-use Rattle.pm_board.specs.declared.views.Offer.{Offer}
-use Rattle.pm_board.specs.declared.views.PastChild.{PastChild}
-use Rattle.pm_board.specs.declared.views.Sight.{Sight}
-use Rattle.pm_board.specs.declared.views.Sight.TheVariants.{Unused, Opened, Assigned, Exited, Collected, Gathered}
-use Rattle.pm_board.specs.declared.views.SlotView.{SlotView}
-use Rattle.pm_board.specs.declared.views.RosterView.{RosterView}
-use Rattle.pm_board.specs.Words.{bit}
+use Rattle.pm_board.specs.{declared.views.{Offer.Offer, PastChild.PastChild, Sight.{Sight, TheVariants.{Unused, Opened, Assigned, Exited, Collected, Gathered}}, SlotView.SlotView, RosterView.RosterView}, Words.bit}
 
 -- The slots 0 to 2 are those of startup child, checkpointer and writer, the last four those of dead-end children, and
 -- those between serve sessions. A dead-end child fits every slot.

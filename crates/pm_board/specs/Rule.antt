@@ -8,23 +8,8 @@ use lib.ListN.{get_elem?}
 use Rattle.atomic_table.specs.Table.{State}
 use Rattle.pm_exit.specs.declared.child.Status.{Status}
 use Rattle.pm_exit.specs.declared.child.Status.TheVariants as status
-use Rattle.pm_board.specs.Slots.{child_slots}
+use Rattle.pm_board.specs.{Slots.child_slots, declared.views.{Heard.Heard, Offer.Offer, PastChild.PastChild, PostNotes.PostNotes, Sight.{Sight, TheVariants.{Unused, Opened, Assigned, Exited, Collected, Gathered}}, SlotView.SlotView, RosterView.RosterView, Work.{Work, TheVariants.{Idle, Sees, Inactive, Active, Refused, Attached}}, PostView.PostView, View.{View, TheVariants.{Postmaster, Worker, Spent}}}, Words.{packed, status_number}, Places.{slot_at, SlotServes, EndsWell}}
 use Rattle.pm_board.specs.declared.views.Letter as Letter
-use Rattle.pm_board.specs.declared.views.Heard.{Heard}
-use Rattle.pm_board.specs.declared.views.Offer.{Offer}
-use Rattle.pm_board.specs.declared.views.PastChild.{PastChild}
-use Rattle.pm_board.specs.declared.views.PostNotes.{PostNotes}
-use Rattle.pm_board.specs.declared.views.Sight.{Sight}
-use Rattle.pm_board.specs.declared.views.Sight.TheVariants.{Unused, Opened, Assigned, Exited, Collected, Gathered}
-use Rattle.pm_board.specs.declared.views.SlotView.{SlotView}
-use Rattle.pm_board.specs.declared.views.RosterView.{RosterView}
-use Rattle.pm_board.specs.declared.views.Work.{Work}
-use Rattle.pm_board.specs.declared.views.Work.TheVariants.{Idle, Sees, Inactive, Active, Refused, Attached}
-use Rattle.pm_board.specs.declared.views.PostView.{PostView}
-use Rattle.pm_board.specs.declared.views.View.{View}
-use Rattle.pm_board.specs.declared.views.View.TheVariants.{Postmaster, Worker, Spent}
-use Rattle.pm_board.specs.Words.{packed, status_number}
-use Rattle.pm_board.specs.Places.{slot_at, SlotServes, EndsWell}
 
 -- Where a slot stands. One that is opened has the pid that its latch is armed for, a child that runs its
 -- active bit, and one that has exited its status and whether it was active.

@@ -2,13 +2,7 @@
 use Rattle.std.specs.Prelude.{◌≡◌, ℕ, ◌<◌, ◌≤◌, Bool, true, false, List}
 use mathlib.Core.Option.{some}
 use lib.ListN.{get_elem?}
-use Rattle.pm_board.specs.declared.views.Sight.{Sight}
-use Rattle.pm_board.specs.declared.views.Sight.TheVariants.{Unused, Opened, Assigned, Exited, Collected, Gathered}
-use Rattle.pm_board.specs.declared.views.RosterView.{RosterView}
-use Rattle.pm_board.specs.declared.views.View.{View}
-use Rattle.pm_board.specs.declared.views.View.TheVariants.{Worker, Spent}
-use Rattle.pm_board.specs.Places.{slot_at}
-use Rattle.pm_board.specs.Rule.{Cell}
+use Rattle.pm_board.specs.{declared.views.{Sight.{Sight, TheVariants.{Unused, Opened, Assigned, Exited, Collected, Gathered}}, RosterView.RosterView, View.{View, TheVariants.{Worker, Spent}}}, Places.slot_at, Rule.Cell}
 
 module _ {D : Type 0} where
   -- the slot's post was taken in

@@ -1,6 +1,5 @@
 -- How many of a table's slots are for children.
-use Rattle.std.specs.Prelude.{◌≡◌, ℕ, ◌<◌}
-use Rattle.std.proofs.Common.{refl}
+use Rattle.std.{specs.Prelude.{◌≡◌, ℕ, ◌<◌}, proofs.Common.refl}
 
 -- Of a table of so many slots this many are child slots, which come first. Today they are all of them
 pub child_slots : ℕ → ℕ

@@ -1,38 +1,10 @@
 -- What each step tells the seat that makes it.
 use Rattle.std.specs.Prelude.{◌≡◌, ◌≢◌, ℕ, ◌+◌, ◌-◌, ◌*◌, ◌%◌, ◌^◌, ◌<◌, ◌==◌, min, Bool, true, false, ◌||◌, if◌then◌else◌, List, [], ◌∷◌, ◌++◌, Option, Some, None, Result, Ok, Err, slice_set, replicate}
 use Rattle.atomic_table.specs.Table.{Me, Step}
-use Rattle.pm_exit.specs.declared.child.Status.{Status}
-use Rattle.pm_board.specs.Slots.{child_slots}
+use Rattle.pm_supervisor.specs.{pm_exit.declared.child.Status.Status, declared.Reason.{Reason, TheVariants.Stop}}
+use Rattle.pm_board.specs.{Slots.child_slots, declared.views.{Cancel.Cancel, Heard.Heard, Offer.Offer, PastChild.PastChild, PostNotes.PostNotes, RosterNotes.RosterNotes, PostStep.TheVariants.{Attach, Detach, Exit}, RosterStep.{RosterStep, TheVariants.{Assign, Release, Quit, Ready, Reset, Send}}, Sight.{Sight, TheVariants.{Unused, Opened, Assigned, Exited, Collected, Gathered}}, Signal.Signal, SlotView.SlotView, RosterView.RosterView, Work.{Work, TheVariants.{Idle, Sees, Inactive, Active, Refused, Attached}}, PostView.PostView, View.{View, TheVariants.{Postmaster, Worker, Spent}}}, Words.{stage_in, active_in, status_in, status_number, exit_step}, Places.{slot_view, slot_at, is_connection, EndsWell}, Gate.{gate_of, gate_after, gate_answer, generation_in, notice_bits}, Heard.HeardAsSent, Latch.{latch_place, latch_pid, signal_number, armed_word, signals_at}, Rule.{child_word, offer_word, no_signals, idle_post}}
 use Rattle.pm_board.specs.declared.views.Letter as Letter
-use Rattle.pm_board.specs.declared.views.Cancel.{Cancel}
-use Rattle.pm_board.specs.declared.views.Heard.{Heard}
-use Rattle.pm_board.specs.declared.views.Offer.{Offer}
-use Rattle.pm_board.specs.declared.views.PastChild.{PastChild}
-use Rattle.pm_board.specs.declared.views.PostNotes.{PostNotes}
-use Rattle.pm_board.specs.declared.views.RosterNotes.{RosterNotes}
-use Rattle.pm_board.specs.declared.views.PostStep.TheVariants.{Attach, Detach, Exit}
-use Rattle.pm_board.specs.declared.views.RosterStep.{RosterStep}
-use Rattle.pm_board.specs.declared.views.RosterStep.TheVariants.{Assign, Release, Quit, Ready, Reset, Send}
-use Rattle.pm_board.specs.declared.views.Sight.{Sight}
-use Rattle.pm_board.specs.declared.views.Sight.TheVariants.{Unused, Opened, Assigned, Exited, Collected, Gathered}
-use Rattle.pm_board.specs.declared.views.Signal.{Signal}
-use Rattle.pm_board.specs.declared.views.SlotView.{SlotView}
-use Rattle.pm_board.specs.declared.views.RosterView.{RosterView}
-use Rattle.pm_board.specs.declared.views.Work.{Work}
-use Rattle.pm_board.specs.declared.views.Work.TheVariants.{Idle, Sees, Inactive, Active, Refused, Attached}
-use Rattle.pm_board.specs.declared.views.PostView.{PostView}
-use Rattle.pm_board.specs.declared.views.View.{View}
-use Rattle.pm_board.specs.declared.views.View.TheVariants.{Postmaster, Worker, Spent}
-use Rattle.pm_board.specs.Words.{stage_in, active_in, status_in, status_number, exit_step}
-use Rattle.pm_board.specs.Places.{slot_view, slot_at, is_connection, EndsWell}
-use Rattle.pm_supervisor.specs.declared.Reason.{Reason}
-use Rattle.pm_supervisor.specs.declared.Reason.TheVariants.{Stop}
-use Rattle.pm_life.specs.declared.life.GateNo.{GateNo}
-use Rattle.pm_life.specs.declared.life.Signals.{Signals}
-use Rattle.pm_board.specs.Gate.{gate_of, gate_after, gate_answer, generation_in, notice_bits}
-use Rattle.pm_board.specs.Heard.{HeardAsSent}
-use Rattle.pm_board.specs.Latch.{latch_place, latch_pid, signal_number, armed_word, signals_at}
-use Rattle.pm_board.specs.Rule.{child_word, offer_word, no_signals, idle_post}
+use Rattle.pm_child_life.specs.declared.life.{GateNo.GateNo, Signals.Signals}
 
 abbrev pub no_roster_notes : RosterNotes
 no_roster_notes = record { last_pid = 0; last_connection = 0; steps = []; met = [] }

@@ -1,15 +1,13 @@
 //! The steps at the gate, one call each. The crate of the gate makes its calls of them, and nobody else uses them.
 ghost use Rattle.std.specs.Prelude.{◌≡◌, ◌+◌};
-ghost use Rattle.pm_board.specs.declared.views.RosterStep.TheVariants.{Quit, Ready, Reset};
-ghost use Rattle.pm_board.specs.Told.{MayQuit};
-ghost use Rattle.pm_board.specs.Models.{MayAttach, MayTry, IsActive, IsRefused, IsAttached, HasMarked, HasUnmarked, HasTried, HasBackedOut, HasDetached, MayOpen, MayReset, HasStepped};
+ghost use Rattle.pm_board.specs.{declared.views.RosterStep.TheVariants.{Quit, Ready, Reset}, Told.MayQuit, Models.{MayAttach, MayTry, IsActive, IsRefused, IsAttached, HasMarked, HasUnmarked, HasTried, HasBackedOut, HasDetached, MayOpen, MayReset, HasStepped}};
 
 use crate::packing::{ACTIVE, answer_at, new_word, place, quit_adds, ready_adds};
 use crate::plays::{BacksOut, Detaches, Marks, Quits, Readies, Resets, Tries, Unmarks};
 use crate::post::Post;
 use crate::roster::Roster;
 use crate::views::Letter;
-use pm_life::GateNo;
+use pm_child_life::GateNo;
 use pm_supervisor::Reason;
 
 impl<J: Letter + Drop> Post<J> {

@@ -1,16 +1,14 @@
 //! The steps at latches and cancels, one call each. The crate of the latches makes its calls of them, and nobody else uses them.
 ghost use Rattle.std.specs.Prelude.{◌≡◌, ◌<◌};
 ghost use Rattle.pm_keys.specs.CancelKey.{cancel_key};
-ghost use Rattle.pm_board.specs.Slots.{child_slots};
-ghost use Rattle.pm_board.specs.Places.{IsAssigned};
-ghost use Rattle.pm_board.specs.Models.{RunsChild, HasSent, HasTakenSignals, HasHeeded, HasLookedAtLatch, HasCancelled, cancel_of};
+ghost use Rattle.pm_board.specs.{Slots.child_slots, Places.IsAssigned, Models.{RunsChild, HasSent, HasTakenSignals, HasHeeded, HasLookedAtLatch, HasCancelled, cancel_of}};
 
 use crate::packing::{NO_SIGNALS, armed_for, signal_bit, signals};
 use crate::plays::{Cancels, Heeds, LooksAtLatch, Made, Sends, Takes};
 use crate::post::Post;
 use crate::roster::Roster;
 use crate::views::{Letter, Signal};
-use pm_life::Signals;
+use pm_child_life::Signals;
 use std::marker::Brand;
 
 impl<J: Letter + Drop> Roster<J> {

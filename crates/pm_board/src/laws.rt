@@ -1,7 +1,6 @@
 //! What holds of a board between any two steps. Each law is stated in `specs/Laws`, and carried by the function of its name.
 
-ghost use Rattle.pm_board.specs.Children.{CountsChildren};
-ghost use Rattle.pm_board.specs.Laws.{ResetFindsNobody, ShowsASoundState, HistoryIsOfTheSeats, HearsWhatWasSent, LetsInRightly};
+ghost use Rattle.pm_board.specs.{Children.CountsChildren, Laws.{ResetFindsNobody, ShowsASoundState, HistoryIsOfTheSeats, HearsWhatWasSent, LetsInRightly}};
 
 use crate::views::Letter;
 use pm_supervisor::keeps_what_is_shared;

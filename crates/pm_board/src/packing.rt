@@ -1,14 +1,11 @@
 //! How the words of slots, gate and latches are packed. All bounds of their parts stand here.
 ghost use Rattle.std.specs.Prelude.{◌≡◌, ◌^◌, ◌/◌, ◌%◌, ◌<◌, ◌≤◌};
 ghost use Rattle.pm_supervisor.specs.Children.{is_session};
-ghost use Rattle.pm_board.specs.Gate.{notice_bits, notice_in, open_in, generation_in, place_of, gate_answer};
-ghost use Rattle.pm_board.specs.Latch.{armed_word, signal_number, quit_of, signals_at, latch_pid};
-ghost use Rattle.pm_board.specs.Told.{MayQuit, quit_step, ready_step, new_gate};
-ghost use Rattle.pm_board.specs.Words.{offered_word, exit_step, stage_in, active_in, kind_in, status_in, pid_in, flag, kind_number, status_number};
+ghost use Rattle.pm_board.specs.{Gate.{notice_bits, notice_in, open_in, generation_in, place_of, gate_answer}, Latch.{armed_word, signal_number, quit_of, signals_at, latch_pid}, Told.{MayQuit, quit_step, ready_step, new_gate}, Words.{offered_word, exit_step, stage_in, active_in, kind_in, status_in, pid_in, flag, kind_number, status_number}};
 
 use crate::views::Signal;
+use pm_child_life::{GateNo, Signals};
 use pm_exit::{Kind, Status};
-use pm_life::{GateNo, Signals};
 use pm_supervisor::Reason;
 
 /// The word of a slot that is unused.

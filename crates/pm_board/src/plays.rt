@@ -19,8 +19,7 @@ pub(crate) struct Slots<J> {
 }
 
 impl<J: Letter> TableRule<Option<J>, View<J::Told>, Limits> for Slots<J> {
-    ghost use Rattle.pm_board.specs.History.{Kept};
-    ghost use Rattle.pm_board.specs.Told.{newcomer};
+    ghost use Rattle.pm_board.specs.{History.Kept, Told.newcomer};
 
     ghost holds = { λ k. Kept J.Letter k.sessions };
 
@@ -82,8 +81,7 @@ impl<D> Split<View<D>> for Deals {
 pub(crate) struct Gathers;
 
 impl<D> Join<View<D>> for Gathers {
-    ghost use Rattle.pm_board.specs.Told.{taken_in};
-    ghost use Rattle.pm_board.specs.declared.views.View.TheVariants.{Spent};
+    ghost use Rattle.pm_board.specs.{Told.taken_in, declared.views.View.TheVariants.Spent};
 
     ghost both = { taken_in };
 

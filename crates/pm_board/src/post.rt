@@ -1,10 +1,6 @@
 //! A worker's seat.
-ghost use Rattle.std.specs.Prelude.{◌≡◌, ◌<◌};
-ghost use Rattle.std.specs.Arc.{arc_value};
-ghost use Rattle.pm_board.specs.declared.views.Work.TheVariants.{Idle};
-ghost use Rattle.pm_board.specs.Words.{status_number};
-ghost use Rattle.pm_board.specs.Told.{post_of};
-ghost use Rattle.pm_board.specs.Models.{PostModel, IsWholePost, MayExit, GivesBack, HasStarted, HasExited};
+ghost use Rattle.std.specs.{Prelude.{◌≡◌, ◌<◌}, Arc.arc_value};
+ghost use Rattle.pm_board.specs.{declared.views.Work.TheVariants.Idle, Words.status_number, Told.post_of, Models.{PostModel, IsWholePost, MayExit, GivesBack, HasStarted, HasExited}};
 
 use crate::packing::{NEXT_STAGE, OFFERED, ended, kind, low_half, pid, stage};
 use crate::plays::{Ends, Loads, Starts, Words};

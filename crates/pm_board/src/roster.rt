@@ -1,13 +1,6 @@
 //! The supervisor's seat.
-ghost use Rattle.std.specs.Prelude.{◌≡◌, ◌<◌, ◌≤◌, IfOk, None, Some, length, slice_set};
-ghost use Rattle.std.specs.Arc.{arc_value};
-ghost use Rattle.pm_board.specs.declared.views.Sight.TheVariants.{Unused};
-ghost use Rattle.pm_board.specs.declared.views.Work.TheVariants.{Idle};
-ghost use Rattle.pm_board.specs.Places.{slot_at, used_in, MayAssign, IsAssigned, HasEnded};
-ghost use Rattle.pm_board.specs.Children.{child_seen, children_of};
-ghost use Rattle.pm_board.specs.Heard.{HeardAsSent};
-ghost use Rattle.pm_board.specs.Told.{roster_of, new_roster};
-ghost use Rattle.pm_board.specs.Models.{RosterModel, IsWholeRoster, HasAssigned, HasLooked, HasReleased, HasGathered, HasDealt, AreNewPosts};
+ghost use Rattle.std.specs.{Prelude.{◌≡◌, ◌<◌, ◌≤◌, IfOk, None, Some, length, slice_set}, Arc.arc_value};
+ghost use Rattle.pm_board.specs.{declared.views.{Sight.TheVariants.Unused, Work.TheVariants.Idle}, Places.{slot_at, used_in, MayAssign, IsAssigned, HasEnded}, Children.{child_seen, children_of}, Heard.HeardAsSent, Told.{roster_of, new_roster}, Models.{RosterModel, IsWholeRoster, HasAssigned, HasLooked, HasReleased, HasGathered, HasDealt, AreNewPosts}};
 
 use crate::packing::{
     EXITED, FIRST_GATE, NEXT_STAGE, UNUSED, armed, is_active, kind, offered, pid, stage, status,

@@ -1,10 +1,9 @@
 //! What the seats of a board know. No value of a view is made: views exist in proofs alone.
 ghost use Rattle.std.specs.Prelude.{Bool};
-ghost use Rattle.pm_exit.specs.declared.child.Kind.{Kind};
-ghost use Rattle.pm_exit.specs.declared.child.Status.{Status};
+ghost use Rattle.pm_exit.specs.declared.child.{Kind.Kind, Status.Status};
 
+use pm_child_life::{GateNo, Reason, Signals};
 use pm_exit::{Kind, Status};
-use pm_life::{GateNo, Reason, Signals};
 use std::collections::LinkedList;
 
 /// A mail, by its content as plain data, and the children that it is for.

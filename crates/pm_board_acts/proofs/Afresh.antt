@@ -1,46 +1,14 @@
 -- In which slots no auxiliary child has died attached.
-use Rattle.std.proofs.Common.{◌≡◌, ℕ, ◌+◌, ◌<◌, ◌≤◌, List, [], ◌∷◌, ◌++◌, refl, sym, ap, subst, ◌∙◌, get_or, arith, nat_eq}
-use Rattle.std.specs.List.{AllByRecursion}
-use Rattle.std.specs.Prelude.{Bool, true, false, ◌==◌, ◌&&◌, Option}
-use Rattle.pm_facts.specs.Lists.{each_more}
-use Rattle.pm_facts.specs.Bools.{by_test}
-use Rattle.pm_exit.specs.declared.child.Kind.{Kind}
-use Rattle.pm_exit.specs.declared.child.Kind.TheVariants as kind
-use Rattle.pm_supervisor.specs.declared.Limits.{Limits}
-use Rattle.pm_supervisor.specs.Children.{child_of, is_startup_child}
-use Rattle.pm_supervisor.specs.Steps.{Trace}
-use Rattle.std.specs.Prelude.{IsSomeAnd}
-use Rattle.std.proofs.lemmas.Bool.{eqb-false, eqb-true, ne_eqb}
-use Rattle.pm_state.specs.declared.action.Action.{Action}
-use Rattle.pm_state.specs.declared.action.Action.TheVariants as action
-use Rattle.pm_state.specs.declared.machine.Machine.{Machine}
-use Rattle.pm_state.specs.Facts.{Facts}
-use Rattle.pm_state.specs.Journal.{acts_of_call, all_reported}
-use Rattle.pm_state.specs.Shows.{Call, Exits, machine_after}
-use Rattle.pm_board.specs.declared.views.PastChild.{PastChild}
-use Rattle.pm_board.specs.declared.views.RosterNotes.{RosterNotes}
-use Rattle.pm_board.specs.declared.views.RosterStep.{RosterStep}
+use Rattle.std.{proofs.{Common.{◌≡◌, ℕ, ◌+◌, ◌<◌, ◌≤◌, List, [], ◌∷◌, ◌++◌, refl, sym, ap, subst, ◌∙◌, get_or, arith, nat_eq}, lemmas.Bool.{eqb-false, eqb-true, ne_eqb}}, specs.{List.AllByRecursion, Prelude.{Bool, true, false, ◌==◌, ◌&&◌, Option, IsSomeAnd}}}
+use Rattle.pm_board.specs.{pm_facts.{Lists.each_more, Bools.by_test}, pm_exit.declared.child.Kind.Kind, pm_supervisor.{declared.Limits.Limits, Children.{child_of, is_startup_child}, Steps.Trace}, declared.{views.{PastChild.PastChild, RosterNotes.RosterNotes, RosterStep.RosterStep, RosterView.RosterView, Sight.TheVariants.Unused, SlotView.SlotView}, roster.Released.Released}, Places.{is_auxiliary, lost, slot_at, slot_view}, Models.SlotBecame, Told.after_step, Words.bit}
+use Rattle.pm_board.specs.pm_exit.declared.child.Kind.TheVariants as kind
+use Rattle.pm_supervisor_journal.specs.{pm_state.{declared.{action.Action.Action, machine.Machine.Machine}, Facts.Facts, Journal.{acts_of_call, all_reported}, Shows.{Call, Exits, machine_after}}, declared.roll.Enrolled.Enrolled, Standing.{Standing, act_for}}
+use Rattle.pm_supervisor_journal.specs.pm_state.declared.action.Action.TheVariants as action
 use Rattle.pm_board.specs.declared.views.RosterStep.TheVariants as step
-use Rattle.pm_board.specs.declared.views.RosterView.{RosterView}
-use Rattle.pm_board.specs.declared.views.Sight.TheVariants.{Unused}
 use Rattle.pm_board.specs.declared.views.Signal.TheVariants as signal
-use Rattle.pm_board.specs.declared.views.SlotView.{SlotView}
 use Rattle.pm_board.specs.declared.views.Letter as Letter
-use Rattle.pm_board.specs.declared.roster.Released.{Released}
-use Rattle.pm_board.specs.Places.{is_auxiliary, lost, slot_at, slot_view}
-use Rattle.pm_board.specs.Models.{SlotBecame}
-use Rattle.pm_board.specs.Told.{after_step}
-use Rattle.pm_board.specs.Words.{bit}
-use Rattle.pm_journal.specs.declared.act.Act.TheVariants as act
-use Rattle.pm_journal.specs.declared.roll.Enrolled.{Enrolled}
-use Rattle.pm_journal.specs.Standing.{Standing, act_for}
-use Rattle.pm_seating.specs.declared.audience.Audience.TheVariants.{Everyone, Stoppable, Checkpointer}
-use Rattle.pm_seating.specs.Acts.{HasLostNone, Performs, StartOnly, StartsAfresh, may_start, slot_of, steps_for}
-use Rattle.pm_seating.specs.Board.{after_steps}
-use Rattle.pm_seating.specs.Sitting.{HasReaped}
-use Rattle.pm_seating.specs.Standing.{SeatServes}
-use Rattle.pm_seating.proofs.Sends.{same-generation, same-slots}
-use Rattle.pm_seating.proofs.Starting.{EndsOne, MayFollow, call_starts, call_yet, exits_spoil, exits_start, only_also, report_yet, startup_runs}
+use Rattle.pm_supervisor_journal.specs.declared.act.Act.TheVariants as act
+use Rattle.pm_board_acts.{specs.{declared.audience.Audience.TheVariants.{Everyone, Stoppable, Checkpointer}, Acts.{HasLostNone, Performs, StartOnly, StartsAfresh, may_start, slot_of, steps_for}, Board.after_steps, Sitting.HasReaped, Standing.SeatServes}, proofs.{Sends.{same-generation, same-slots}, Starting.{EndsOne, MayFollow, call_starts, call_yet, exits_spoil, exits_start, only_also, report_yet, startup_runs}}}
 
 -- in the first three slots sits its own kind
 pub own_kind : (count : ℕ) (kind other : Kind) → is_auxiliary kind ≡ true → SeatServes count (slot_of kind) other → other ≡ kind

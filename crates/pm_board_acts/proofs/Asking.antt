@@ -1,44 +1,11 @@
 -- The calls of a turn that tell of no child.
-use Rattle.std.proofs.Common.{◌≡◌, ℕ, ◌<◌, List, [], ◌∷◌, ◌++◌, refl, sym, ap, subst, ◌∙◌, append-nil, nat_eq, length}
-use Rattle.std.specs.List.{flat_map}
-use Rattle.std.specs.Prelude.{Bool, true, false, if◌then◌else◌, Option, Some, None, IfSome, Result, Ok, Err, OnErr, OnOk, is_some}
-use Rattle.pm_modes.specs.declared.Mode.{Mode}
-use Rattle.pm_supervisor.specs.declared.Limits.{Limits}
-use Rattle.pm_supervisor.specs.Steps.{Trace}
-use Rattle.pm_state.specs.declared.action.Action.{Action}
-use Rattle.pm_state.specs.declared.event.PmEvent.{PmEvent}
+use Rattle.std.{proofs.Common.{◌≡◌, ℕ, ◌<◌, List, [], ◌∷◌, ◌++◌, refl, sym, ap, subst, ◌∙◌, append-nil, nat_eq, length}, specs.{List.flat_map, Prelude.{Bool, true, false, if◌then◌else◌, Option, Some, None, IfSome, Result, Ok, Err, OnErr, OnOk, is_some}}}
+use Rattle.pm_state.specs.{pm_modes.declared.Mode.Mode, pm_supervisor.{declared.Limits.Limits, Steps.Trace}, declared.{action.Action.Action, event.PmEvent.PmEvent}, Journal.acts_of_call, Laws.TellsOfEachStart, Machine.IsReady, Shows.{Call, IsFit}}
 use Rattle.pm_state.specs.declared.event.PmEvent.TheVariants as entry
-use Rattle.pm_state.specs.Journal.{acts_of_call}
-use Rattle.pm_state.specs.Laws.{TellsOfEachStart}
-use Rattle.pm_state.specs.Machine.{IsReady}
-use Rattle.pm_state.specs.Shows.{Call, IsFit}
-use Rattle.pm_board.specs.declared.views.RosterStep.{RosterStep}
-use Rattle.pm_board.specs.declared.views.RosterView.{RosterView}
+use Rattle.pm_board.specs.{declared.views.{RosterStep.RosterStep, RosterView.RosterView}, Gate.{Gate, gate_of}}
 use Rattle.pm_board.specs.declared.views.Signal.TheVariants as signal
-use Rattle.pm_board.specs.Gate.{Gate, gate_of}
-use Rattle.pm_journal.specs.declared.roll.Enrolled.{Enrolled}
-use Rattle.pm_journal.specs.Laws.{GoesOnOverItsJournal, KeepsALegalJournal}
-use Rattle.pm_journal.specs.Roll.{kind_in}
-use Rattle.pm_outside.specs.Added.{Added}
-use Rattle.pm_journal.specs.Standing.{IsAtRest, Making, MayAsk, Standing, asking, called, kill_entry, killed, later, made, ticking, turning}
-use Rattle.pm_journal.specs.Stands.{AtWork, Stands, behind}
-use Rattle.pm_seating.specs.declared.audience.Audience.TheVariants.{One}
-use Rattle.pm_seating.specs.Acts.{MayDo, StartsAfresh, gate_by, gate_shown, roll_behind}
-use Rattle.pm_seating.specs.Board.{after_steps}
-use Rattle.pm_seating.specs.Calls.{AsksFor, Makes, StandsStill}
-use Rattle.pm_seating.specs.Laws.{LinesMayAskForNothing}
-use Rattle.pm_seating.specs.Seating.{Move, Notes, Reads, PortEnds, PidsEnd, Kill, Seating, asked_by, entries_by, is_seated, journal_of, seating_of, sends, steps_of}
-use Rattle.pm_seating.specs.Standing.{AreOnRoll, Goes, IsAt, IsSeated, View, kind_seated}
-use Rattle.pm_seating.proofs.Acting.{moved, same-gate}
-use Rattle.pm_seating.proofs.Afresh.{afresh_called, afresh_still, stepped_same}
-use Rattle.pm_journal.specs.ToldLaws.{told_more}
-use Rattle.pm_journal.specs.NextsLaws.{noted-due}
-use Rattle.pm_seating.proofs.Calling.{afresh_noted, rested}
-use Rattle.pm_seating.specs.FoldingLaws.{journal-more, none_more}
-use Rattle.pm_seating.proofs.Gating.{calls_leave}
-use Rattle.pm_seating.proofs.Resting.{call_may}
-use Rattle.pm_seating.proofs.Sends.{same-generation}
-use Rattle.pm_seating.proofs.Starting.{EndsOne}
+use Rattle.pm_supervisor_journal.{specs.{declared.roll.Enrolled.Enrolled, Laws.{GoesOnOverItsJournal, KeepsALegalJournal}, Roll.kind_in, pm_outside.Added.Added, Standing.{IsAtRest, Making, MayAsk, Standing, asking, called, kill_entry, killed, later, made, ticking, turning}, Stands.{AtWork, Stands, behind}}, proofs.{ToldLaws.told_more, NextsLaws.noted-due}}
+use Rattle.pm_board_acts.{specs.{declared.audience.Audience.TheVariants.One, Acts.{MayDo, StartsAfresh, gate_by, gate_shown, roll_behind}, Board.after_steps, Calls.{AsksFor, Makes, StandsStill}, Laws.LinesMayAskForNothing, Seating.{Move, Notes, Reads, PortEnds, PidsEnd, Kill, Seating, asked_by, entries_by, is_seated, journal_of, seating_of, sends, steps_of}, Standing.{AreOnRoll, Goes, IsAt, IsSeated, View, kind_seated}}, proofs.{Acting.{moved, same-gate}, Afresh.{afresh_called, afresh_still, stepped_same}, Calling.{afresh_noted, rested}, FoldingLaws.{journal-more, none_more}, Gating.calls_leave, Resting.call_may, Sends.same-generation, Starting.EndsOne}}
 
 same_told : (told now : Option (List PmEvent)) → now ≡ told → Added [] told now
 same_told None now is = is

@@ -1,24 +1,8 @@
 -- Before the first move.
-use Rattle.std.proofs.Common.{◌≡◌, ℕ, zero, suc, ◌<◌, ◌≤◌, List, [], ◌∷◌, ◌++◌, refl, sym, ap, subst, ◌∙◌, length, get_or, map, replicate, arith}
-use Rattle.std.specs.List.{AllByRecursion}
-use Rattle.std.specs.Prelude.{Option, Some, None}
-use Rattle.pm_supervisor.specs.declared.Limits.{Limits}
-use Rattle.pm_supervisor.specs.Steps.{empty_trace}
-use Rattle.pm_board.specs.declared.views.RosterView.{RosterView}
-use Rattle.pm_board.specs.declared.views.Sight.TheVariants.{Unused}
-use Rattle.pm_board.specs.declared.views.SlotView.{SlotView}
-use Rattle.pm_board.specs.Children.{child_seen, children_of}
-use Rattle.pm_board.specs.Gate.{gate_of}
-use Rattle.pm_board.specs.Places.{is_auxiliary, lost, slot_at, slot_view}
-use Rattle.pm_board.specs.Told.{new_roster}
-use Rattle.pm_journal.specs.declared.roll.Enrolled.{Enrolled}
-use Rattle.pm_journal.specs.Laws.{GoesOnOverItsJournal}
-use Rattle.pm_journal.specs.Standing.{Standing}
-use Rattle.pm_journal.specs.Stands.{Stands}
-use Rattle.pm_seating.specs.Acts.{MayDo, StartsAfresh, gate_by, slot_of}
-use Rattle.pm_seating.specs.Board.{SeenAs, enrolled, begun_of, ended_of, seat_at, seats_of, sitting}
-use Rattle.pm_seating.specs.Seating.{empty}
-use Rattle.pm_seating.specs.Standing.{IsAt, IsSeated, IsUnbegun, SitApart, SitBelow, View, kind_seated}
+use Rattle.std.{proofs.Common.{◌≡◌, ℕ, zero, suc, ◌<◌, ◌≤◌, List, [], ◌∷◌, ◌++◌, refl, sym, ap, subst, ◌∙◌, length, get_or, map, replicate, arith}, specs.{List.AllByRecursion, Prelude.{Option, Some, None}}}
+use Rattle.pm_board.specs.{pm_supervisor.{declared.Limits.Limits, Steps.empty_trace}, declared.views.{RosterView.RosterView, Sight.TheVariants.Unused, SlotView.SlotView}, Children.{child_seen, children_of}, Gate.gate_of, Places.{is_auxiliary, lost, slot_at, slot_view}, Told.new_roster}
+use Rattle.pm_supervisor_journal.specs.{declared.roll.Enrolled.Enrolled, Laws.GoesOnOverItsJournal, Standing.Standing, Stands.Stands}
+use Rattle.pm_board_acts.specs.{Acts.{MayDo, StartsAfresh, gate_by, slot_of}, Board.{SeenAs, enrolled, begun_of, ended_of, seat_at, seats_of, sitting}, Seating.empty, Standing.{IsAt, IsSeated, IsUnbegun, SitApart, SitBelow, View, kind_seated}}
 
 read-replicate : {A : Type 0} (n k : ℕ) (x : A) → get_or (replicate n x) k x ≡ x
 read-replicate zero k x = refl

@@ -1,7 +1,6 @@
 -- An end among others.
-use Rattle.std.proofs.Common.{◌≡◌, inl, inr, List, [], ◌∷◌, ◌++◌}
-use Rattle.std.specs.Prelude.{◌⊎◌}
-use Rattle.pm_seating.specs.Seating.{Ended}
+use Rattle.std.{proofs.Common.{◌≡◌, inl, inr, List, [], ◌∷◌, ◌++◌}, specs.Prelude.◌⊎◌}
+use Rattle.pm_board_acts.specs.Seating.{Ended}
 
 abbrev pub Among : Ended → List Ended → Type 0
 Among end [] = ⊥

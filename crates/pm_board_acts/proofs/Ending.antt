@@ -1,39 +1,10 @@
 -- After the last entry.
-use Rattle.std.proofs.Common.{◌≡◌, ◌≢◌, ℕ, suc, ◌+◌, ◌<◌, ◌≤◌, List, [], ◌∷◌, ◌++◌, refl, sym, ap, subst, ◌∙◌, length, set, get_or, map, arith, nat_eq, append-nil, append_assoc}
-use Rattle.std.proofs.lemmas.List.{get_or-set_same, get_or-set_other, get_or_past, map-append, set-get_or}
-use Rattle.std.specs.Prelude.{nat_lt, Option, Some, None}
-use Rattle.std.specs.List.{AllByRecursion}
-use Rattle.std.proofs.lemmas.Bool.{eqb-false, eqb-true}
-use Rattle.pm_facts.specs.Lists.{each_both}
-use Rattle.pm_facts.specs.Bools.{by_test}
-use Rattle.pm_supervisor.specs.declared.Limits.{Limits}
-use Rattle.pm_board.specs.declared.views.Offer.{Offer}
-use Rattle.pm_board.specs.declared.views.PastChild.{PastChild}
-use Rattle.pm_board.specs.declared.views.RosterNotes.{RosterNotes}
-use Rattle.pm_board.specs.declared.views.RosterStep.{RosterStep}
-use Rattle.pm_board.specs.declared.views.RosterStep.TheVariants.{Release}
-use Rattle.pm_board.specs.declared.views.RosterView.{RosterView}
-use Rattle.pm_board.specs.declared.views.Sight.TheVariants.{Unused}
+use Rattle.std.{proofs.{Common.{◌≡◌, ◌≢◌, ℕ, suc, ◌+◌, ◌<◌, ◌≤◌, List, [], ◌∷◌, ◌++◌, refl, sym, ap, subst, ◌∙◌, length, set, get_or, map, arith, nat_eq, append-nil, append_assoc}, lemmas.{List.{get_or-set_same, get_or-set_other, get_or_past, map-append, set-get_or}, Bool.{eqb-false, eqb-true}}}, specs.{Prelude.{nat_lt, Option, Some, None}, List.AllByRecursion}}
+use Rattle.pm_board.specs.{pm_facts.{Lists.each_both, Bools.by_test}, pm_supervisor.declared.Limits.Limits, declared.{views.{Offer.Offer, PastChild.PastChild, RosterNotes.RosterNotes, RosterStep.{RosterStep, TheVariants.Release}, RosterView.RosterView, Sight.TheVariants.Unused, SlotView.SlotView}, roster.Released.Released}, Places.{slot_at, slot_view}, Told.past_child}
 use Rattle.pm_board.specs.declared.views.Signal.TheVariants as signal
-use Rattle.pm_board.specs.declared.views.SlotView.{SlotView}
 use Rattle.pm_board.specs.declared.views.Letter as Letter
-use Rattle.pm_board.specs.declared.roster.Released.{Released}
-use Rattle.pm_board.specs.Places.{slot_at, slot_view}
-use Rattle.pm_board.specs.Told.{past_child}
-use Rattle.pm_journal.specs.declared.roll.Enrolled.{Enrolled}
-use Rattle.pm_journal.specs.Laws.{KeepsALegalJournal}
-use Rattle.pm_journal.specs.Stands.{AtWork, highest_pid}
-use Rattle.pm_seating.specs.declared.audience.Audience.TheVariants.{Everyone}
-use Rattle.pm_seating.specs.Board.{SeenAs, Shows, after_steps, begun_of, ended_of, seat_at, seats_of, sitting}
-use Rattle.pm_seating.specs.Final.{EndsWithNobody, IsEndingAt, KeepsEnding, MayEndAnywhere, NobodySits, seen}
-use Rattle.pm_seating.specs.Seating.{Begun, Ended, Move, Seating, begun_at, board_steps, ended_at, seating_of, sends, sends_from, with_seat}
-use Rattle.pm_seating.specs.Sitting.{HasReaped, StillRuns}
-use Rattle.pm_seating.specs.Standing.{IsAt, IsEnding, IsFinal, view}
-use Rattle.pm_seating.proofs.Acting.{same-numbers}
-use Rattle.pm_seating.proofs.Rolls.{stood_before}
-use Rattle.pm_seating.proofs.Seen.{as_many}
-use Rattle.pm_seating.proofs.Sends.{noted-steps, same-generation, same-slots, seats_kept, shows_sends}
-use Rattle.pm_seating.proofs.Sitting.{shows_set}
+use Rattle.pm_supervisor_journal.specs.{declared.roll.Enrolled.Enrolled, Laws.KeepsALegalJournal, Stands.{AtWork, highest_pid}}
+use Rattle.pm_board_acts.{specs.{declared.audience.Audience.TheVariants.Everyone, Board.{SeenAs, Shows, after_steps, begun_of, ended_of, seat_at, seats_of, sitting}, Final.{EndsWithNobody, IsEndingAt, KeepsEnding, MayEndAnywhere, NobodySits, seen}, Seating.{Begun, Ended, Move, Seating, begun_at, board_steps, ended_at, seating_of, sends, sends_from, with_seat}, Sitting.{HasReaped, StillRuns}, Standing.{IsAt, IsEnding, IsFinal, view}}, proofs.{Acting.same-numbers, Rolls.stood_before, Seen.as_many, Sends.{noted-steps, same-generation, same-slots, seats_kept, shows_sends}, Sitting.shows_set}}
 
 -- who sits in these seats sits there in those too, that many seats further
 abbrev StayAt : ℕ → List (Option Enrolled) → List (Option Enrolled) → Type 0

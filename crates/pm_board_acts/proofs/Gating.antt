@@ -1,37 +1,17 @@
 -- What a call leaves of the gate: its acts leave it as its events do.
-use Rattle.std.proofs.Common.{◌≡◌, ℕ, ◌+◌, List, [], ◌∷◌, ◌++◌, refl, sym, ap, ◌∙◌}
-use Rattle.std.specs.Prelude.{nat_le, Bool, true, false, not, ◌==◌, ◌&&◌, ◌||◌, if◌then◌else◌, Option, Some, None, is_some, is_none}
-use Rattle.pm_exit.specs.declared.child.Kind.{Kind}
-use Rattle.pm_exit.specs.declared.child.Kind.TheVariants as kind
-use Rattle.pm_exit.specs.declared.child.Class.{Class}
-use Rattle.pm_exit.specs.declared.child.Class.TheVariants as class
-use Rattle.pm_exit.specs.Ends.{class_of, is_exit_0, is_exit_1}
-use Rattle.pm_modes.specs.declared.Mode.{Mode}
-use Rattle.pm_modes.specs.declared.Mode.TheVariants as mode
-use Rattle.pm_modes.specs.Strength.{is_immediate, strengthen_of}
-use Rattle.pm_admit.specs.declared.PmState.{PmState}
-use Rattle.pm_admit.specs.declared.PmState.TheVariants as state
-use Rattle.pm_admit.specs.Admission.{is_startup}
-use Rattle.pm_supervisor.specs.declared.Ending.TheVariants as ending
-use Rattle.pm_supervisor.specs.declared.Reason.TheVariants as reason
-use Rattle.pm_supervisor.specs.Phase.{Phase}
-use Rattle.pm_supervisor.specs.Steps.{SupervisorEvent, Trace, all_happened, happened, is_normal, shared_after}
-use Rattle.pm_supervisor.specs.Steps as supervisor
-use Rattle.pm_state.specs.declared.action.Action.{Action}
+use Rattle.std.{proofs.Common.{◌≡◌, ℕ, ◌+◌, List, [], ◌∷◌, ◌++◌, refl, sym, ap, ◌∙◌}, specs.Prelude.{nat_le, Bool, true, false, not, ◌==◌, ◌&&◌, ◌||◌, if◌then◌else◌, Option, Some, None, is_some, is_none}}
+use Rattle.pm_board.specs.{pm_exit.{declared.child.{Kind.Kind, Class.Class}, Ends.{class_of, is_exit_0, is_exit_1}}, pm_supervisor.{Phase.Phase, Steps.{SupervisorEvent, Trace, all_happened, happened, is_normal, shared_after}}, Gate.Gate}
+use Rattle.pm_board.specs.pm_exit.declared.child.Kind.TheVariants as kind
+use Rattle.pm_board.specs.pm_exit.declared.child.Class.TheVariants as class
+use Rattle.pm_state.specs.{pm_modes.{declared.Mode.Mode, Strength.{is_immediate, strengthen_of}}, pm_admit.{declared.PmState.PmState, Admission.is_startup}, declared.{action.Action.Action, machine.Machine.Machine}, Transition.{Transition, transition}, Exits.{redo_ended, waiting_state, exit_line, crash_rule, unless_normal, startup_exited, checkpointer_exited, exited_by, less_one, without_startup, signalled_state, is_running, is_shutdown}, Requests.{asked_in, asked_with, ticked_at}, TurnRules.{are_backends_gone, start_recovery, start_recovery_in, restart_writer, restart_writer_in, end_smart, end_smart_in, stop_backends, stop_backends_in, backends_gone, backends_gone_in, dead_ends_gone, dead_ends_gone_in, children_gone, children_gone_in, turned_of, startup_starts}, Shows.{Call, Accepts, Starts, Exits, Asks, Ticks, TakesTurn, Attaches, Touches, Detaches, events_of, events_of_exit, events_of_request, events_of_turn, events_of_call, events_in, machine_after, move_of, order_of, phase_of}, Journal.acts_of_call, InStep.reports_of}
+use Rattle.pm_state.specs.pm_modes.declared.Mode.TheVariants as mode
+use Rattle.pm_state.specs.pm_admit.declared.PmState.TheVariants as state
+use Rattle.pm_board.specs.pm_supervisor.declared.Ending.TheVariants as ending
+use Rattle.pm_board.specs.pm_supervisor.declared.Reason.TheVariants as reason
+use Rattle.pm_board.specs.pm_supervisor.Steps as supervisor
 use Rattle.pm_state.specs.declared.action.Action.TheVariants as action
 use Rattle.pm_state.specs.declared.action.Line.TheVariants as line
-use Rattle.pm_state.specs.declared.machine.Machine.{Machine}
-use Rattle.pm_state.specs.Transition.{Transition, transition}
-use Rattle.pm_state.specs.Exits.{redo_ended, waiting_state, exit_line, crash_rule, unless_normal, startup_exited, checkpointer_exited, exited_by, less_one, without_startup, signalled_state, is_running, is_shutdown}
-use Rattle.pm_state.specs.Requests.{asked_in, asked_with, ticked_at}
-use Rattle.pm_state.specs.TurnRules.{are_backends_gone, start_recovery, start_recovery_in, restart_writer, restart_writer_in, end_smart, end_smart_in, stop_backends, stop_backends_in, backends_gone, backends_gone_in, dead_ends_gone, dead_ends_gone_in, children_gone, children_gone_in, turned_of, startup_starts}
-use Rattle.pm_state.specs.Shows.{Call, Accepts, Starts, Exits, Asks, Ticks, TakesTurn, Attaches, Touches, Detaches, events_of, events_of_exit, events_of_request, events_of_turn, events_of_call, events_in, machine_after, move_of, order_of, phase_of}
-use Rattle.pm_state.specs.Journal.{acts_of_call}
-use Rattle.pm_state.specs.InStep.{reports_of}
-use Rattle.pm_board.specs.Gate.{Gate}
-use Rattle.pm_seating.specs.Acts.{gate_by, gate_shown}
-use Rattle.pm_seating.specs.Laws.{CallsLeaveTheGate}
-use Rattle.pm_seating.proofs.Turning.{in_order}
+use Rattle.pm_board_acts.{specs.{Acts.{gate_by, gate_shown}, Laws.CallsLeaveTheGate}, proofs.Turning.in_order}
 
 -- ---- events
 

@@ -1,25 +1,9 @@
 -- What leaves the children that were released, and whether the journal tells.
-use Rattle.std.proofs.Common.{◌≡◌, ℕ, ◌++◌, ◌∙◌, refl, ap, append-nil, get_or}
-use Rattle.std.specs.Prelude.{List, [], Option, None, Some, Result, Ok, Err, OnErr, OnOk, is_some}
-use Rattle.pm_state.specs.declared.event.PmEvent.{PmEvent}
-use Rattle.pm_outside.specs.Added.{Added}
-use Rattle.pm_journal.specs.Standing.{Standing}
-use Rattle.pm_exit.specs.declared.child.Kind.{Kind}
-use Rattle.pm_board.specs.declared.views.RosterNotes.{RosterNotes}
-use Rattle.pm_board.specs.declared.views.RosterStep.{RosterStep}
-use Rattle.pm_board.specs.declared.views.RosterView.{RosterView}
-use Rattle.pm_board.specs.declared.views.Sight.TheVariants.{Unused}
-use Rattle.pm_board.specs.declared.views.SlotView.{SlotView}
-use Rattle.pm_board.specs.Models.{SlotBecame}
-use Rattle.pm_board.specs.Places.{slot_at, slot_view}
-use Rattle.pm_journal.specs.declared.act.Act.{Act}
-use Rattle.pm_journal.specs.declared.act.Act.TheVariants as act
-use Rattle.pm_journal.specs.declared.roll.Enrolled.{Enrolled}
-use Rattle.pm_seating.specs.Acts.{Performs, slot_of, steps_for}
-use Rattle.pm_seating.specs.Board.{after_steps}
-use Rattle.pm_seating.specs.Sitting.{KeepsPast}
-use Rattle.pm_seating.proofs.Afresh.{became_same}
-use Rattle.pm_seating.proofs.Sends.{same-slots}
+use Rattle.std.{proofs.Common.{◌≡◌, ℕ, ◌++◌, ◌∙◌, refl, ap, append-nil, get_or}, specs.Prelude.{List, [], Option, None, Some, Result, Ok, Err, OnErr, OnOk, is_some}}
+use Rattle.pm_supervisor_journal.specs.{pm_state.declared.event.PmEvent.PmEvent, pm_outside.Added.Added, Standing.Standing, declared.{act.Act.Act, roll.Enrolled.Enrolled}}
+use Rattle.pm_board.specs.{pm_exit.declared.child.Kind.Kind, declared.views.{RosterNotes.RosterNotes, RosterStep.RosterStep, RosterView.RosterView, Sight.TheVariants.Unused, SlotView.SlotView}, Models.SlotBecame, Places.{slot_at, slot_view}}
+use Rattle.pm_supervisor_journal.specs.declared.act.Act.TheVariants as act
+use Rattle.pm_board_acts.{specs.{Acts.{Performs, slot_of, steps_for}, Board.after_steps, Sitting.KeepsPast}, proofs.{Afresh.became_same, Sends.same-slots}}
 
 pub adds_tells : (entries : List PmEvent) (before now : Option (List PmEvent)) → Added entries before now → is_some now ≡ is_some before
 adds_tells entries None now adds = ap is_some adds

@@ -16,3 +16,7 @@ pub mod Asking
 pub mod Beginning
 pub mod Reaping
 pub mod Ending
+pub mod EndedLaws
+pub mod FoldingLaws
+pub use Rattle.pm_board.proofs as pm_board
+pub use Rattle.pm_supervisor_chain.proofs as pm_supervisor_chain

@@ -1,38 +1,19 @@
 -- The acts that a call asks for, and the gate.
-use Rattle.std.proofs.Common.{◌≡◌, ℕ, ◌+◌, ◌≤◌, List, [], ◌∷◌, refl, sym, ap, subst, ◌∙◌, arith, nat_eq}
-use Rattle.std.specs.Prelude.{nat_le, Bool, true, false, not, ◌==◌, ◌&&◌, ◌||◌, if◌then◌else◌, Option, Some, None, is_some, IsSomeAnd}
-use Rattle.pm_exit.specs.declared.child.Kind.{Kind}
-use Rattle.pm_exit.specs.declared.child.Kind.TheVariants as kind
-use Rattle.pm_exit.specs.declared.child.Class.{Class}
-use Rattle.pm_exit.specs.declared.child.Class.TheVariants as class
-use Rattle.pm_exit.specs.Ends.{class_of, is_exit_0, is_exit_1}
-use Rattle.pm_modes.specs.declared.Mode.{Mode}
-use Rattle.pm_modes.specs.declared.Mode.TheVariants as mode
-use Rattle.pm_modes.specs.Strength.{is_immediate}
-use Rattle.pm_admit.specs.declared.PmState.{PmState}
-use Rattle.pm_admit.specs.declared.PmState.TheVariants as state
-use Rattle.pm_admit.specs.Admission.{is_startup}
-use Rattle.pm_supervisor.specs.declared.Limits.{Limits}
-use Rattle.pm_supervisor.specs.declared.Reason.{Reason}
+use Rattle.std.{proofs.Common.{◌≡◌, ℕ, ◌+◌, ◌≤◌, List, [], ◌∷◌, refl, sym, ap, subst, ◌∙◌, arith, nat_eq}, specs.Prelude.{nat_le, Bool, true, false, not, ◌==◌, ◌&&◌, ◌||◌, if◌then◌else◌, Option, Some, None, is_some, IsSomeAnd}}
+use Rattle.pm_board.specs.{pm_exit.{declared.child.{Kind.Kind, Class.Class}, Ends.{class_of, is_exit_0, is_exit_1}}, Gate.Gate}
+use Rattle.pm_board.specs.pm_exit.declared.child.Kind.TheVariants as kind
+use Rattle.pm_board.specs.pm_exit.declared.child.Class.TheVariants as class
+use Rattle.pm_state.specs.{pm_modes.{declared.Mode.Mode, Strength.is_immediate}, pm_admit.{declared.PmState.PmState, Admission.is_startup}, declared.machine.{Machine.Machine, StartupStatus.StartupStatus}, Transition.transition, Exits.{redo_ended, waiting_state, exit_line, crash_rule, unless_normal, startup_exited, checkpointer_exited, exited_by, less_one, without_startup, signalled_state, is_running, is_shutdown}, Requests.{asked_in, asked_with, ticked_at}, TurnRules.is_not_running, Facts.{Facts, IsAlone, is_stop_reason}}
+use Rattle.pm_state.specs.pm_modes.declared.Mode.TheVariants as mode
+use Rattle.pm_state.specs.pm_admit.declared.PmState.TheVariants as state
+use Rattle.pm_supervisor.{specs.{declared.{Limits.Limits, Reason.Reason}, Children.{Child, child_of, count_of, one_if, is_startup_child, is_checkpointer, is_writer}, Supervisor.Supervisor}, proofs.CountLaws.none_counted}
 use Rattle.pm_supervisor.specs.declared.Reason.TheVariants as reason
 use Rattle.pm_supervisor.specs.declared.Ending.TheVariants as ending
-use Rattle.pm_supervisor.specs.Children.{Child, child_of, count_of, one_if, is_startup_child, is_checkpointer, is_writer}
-use Rattle.pm_supervisor.specs.Supervisor.{Supervisor}
-use Rattle.pm_supervisor.specs.CountLaws.{none_counted}
 use Rattle.pm_state.specs.declared.action.Action.TheVariants as action
 use Rattle.pm_state.specs.declared.action.Line.TheVariants as line
-use Rattle.pm_state.specs.declared.machine.Machine.{Machine}
-use Rattle.pm_state.specs.declared.machine.StartupStatus.{StartupStatus}
 use Rattle.pm_state.specs.declared.machine.StartupStatus.TheVariants as startup
-use Rattle.pm_state.specs.Transition.{transition}
-use Rattle.pm_state.specs.Exits.{redo_ended, waiting_state, exit_line, crash_rule, unless_normal, startup_exited, checkpointer_exited, exited_by, less_one, without_startup, signalled_state, is_running, is_shutdown}
-use Rattle.pm_state.specs.Requests.{asked_in, asked_with, ticked_at}
-use Rattle.pm_state.specs.TurnRules.{is_not_running}
-use Rattle.pm_state.specs.Facts.{Facts, IsAlone, is_stop_reason}
-use Rattle.pm_board.specs.Gate.{Gate}
-use Rattle.pm_journal.specs.declared.roll.Enrolled.{Enrolled}
-use Rattle.pm_journal.specs.Roll.{roll_of, without}
-use Rattle.pm_seating.specs.Acts.{MayDo, NoneIs, gate_shown}
+use Rattle.pm_supervisor_journal.specs.{declared.roll.Enrolled.Enrolled, Roll.{roll_of, without}}
+use Rattle.pm_board_acts.specs.Acts.{MayDo, NoneIs, gate_shown}
 
 -- ---- who is there
 

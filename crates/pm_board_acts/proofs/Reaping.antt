@@ -1,33 +1,11 @@
 -- Which slots were looked at since the last connection.
-use Rattle.std.proofs.Common.{◌≡◌, ℕ, ◌+◌, ◌<◌, ◌≤◌, List, [], ◌∷◌, refl, sym, ap, subst, ◌∙◌, length, get_or, arith, nat_eq}
-use Rattle.std.specs.Prelude.{Bool, false, if◌then◌else◌, Option, None}
-use Rattle.std.proofs.lemmas.Bool.{eqb-false, eqb-true}
-use Rattle.pm_facts.specs.Bools.{by_test}
-use Rattle.pm_exit.specs.declared.child.Kind.{Kind}
-use Rattle.pm_state.specs.declared.action.Action.{Action}
-use Rattle.pm_state.specs.declared.action.Action.TheVariants as action
-use Rattle.pm_board.specs.declared.views.Offer.{Offer}
-use Rattle.pm_board.specs.declared.views.RosterNotes.{RosterNotes}
-use Rattle.pm_board.specs.declared.views.RosterStep.{RosterStep}
-use Rattle.pm_board.specs.declared.views.RosterView.{RosterView}
-use Rattle.pm_board.specs.declared.views.Sight.TheVariants.{Unused}
-use Rattle.pm_board.specs.declared.views.SlotView.{SlotView}
+use Rattle.std.{proofs.{Common.{◌≡◌, ℕ, ◌+◌, ◌<◌, ◌≤◌, List, [], ◌∷◌, refl, sym, ap, subst, ◌∙◌, length, get_or, arith, nat_eq}, lemmas.Bool.{eqb-false, eqb-true}}, specs.Prelude.{Bool, false, if◌then◌else◌, Option, None}}
+use Rattle.pm_board.{specs.{pm_facts.Bools.by_test, pm_exit.declared.child.Kind.Kind, declared.{views.{Offer.Offer, RosterNotes.RosterNotes, RosterStep.RosterStep, RosterView.RosterView, Sight.TheVariants.Unused, SlotView.SlotView}, roster.Released.Released}, Gate.gate_of, Models.SlotBecame, Places.{IsReaped, is_connection, slot_at}}, proofs.BoardLaws.no_connection}
+use Rattle.pm_supervisor_journal.specs.{pm_state.declared.action.Action.Action, declared.roll.Enrolled.Enrolled, Standing.{Standing, act_for}}
+use Rattle.pm_supervisor_journal.specs.pm_state.declared.action.Action.TheVariants as action
 use Rattle.pm_board.specs.declared.views.Letter as Letter
-use Rattle.pm_board.specs.declared.roster.Released.{Released}
-use Rattle.pm_board.specs.Gate.{gate_of}
-use Rattle.pm_board.specs.Models.{SlotBecame}
-use Rattle.pm_board.specs.Places.{IsReaped, is_connection, slot_at}
-use Rattle.pm_board.specs.BoardLaws.{no_connection}
-use Rattle.pm_journal.specs.declared.roll.Enrolled.{Enrolled}
-use Rattle.pm_journal.specs.Standing.{Standing, act_for}
-use Rattle.pm_seating.specs.Acts.{MayDo, Performs, slot_of, steps_for}
-use Rattle.pm_journal.specs.declared.act.Act.TheVariants as act
-use Rattle.pm_seating.specs.Board.{SeenAs, after_steps, seat_at}
-use Rattle.pm_seating.specs.Seating.{Move}
-use Rattle.pm_seating.specs.Sitting.{AreReaped, HasReaped, StillRuns}
-use Rattle.pm_seating.specs.Standing.{IsSeated}
-use Rattle.pm_seating.proofs.Acting.{same-numbers}
-use Rattle.pm_seating.proofs.Sends.{same-slots}
+use Rattle.pm_board_acts.{specs.{Acts.{MayDo, Performs, slot_of, steps_for}, Board.{SeenAs, after_steps, seat_at}, Seating.Move, Sitting.{AreReaped, HasReaped, StillRuns}, Standing.IsSeated}, proofs.{Acting.same-numbers, Sends.same-slots}}
+use Rattle.pm_supervisor_journal.specs.declared.act.Act.TheVariants as act
 
 below : (j k : ℕ) → j < k + 1 → nat_eq j k ≡ false → j < k
 below j k near isnt = grind arith

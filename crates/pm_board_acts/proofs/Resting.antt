@@ -1,41 +1,10 @@
 -- Where nothing is due, the acts of the next call may be done.
-use Rattle.std.proofs.Common.{◌≡◌, ℕ, List, [], ◌∷◌, refl, sym, ap, subst, ◌∙◌, length}
-use Rattle.std.specs.Prelude.{Bool, true, false, ◌||◌, if◌then◌else◌, Option, Some}
-use Rattle.pm_exit.specs.declared.child.Kind.{Kind}
-use Rattle.pm_supervisor.specs.declared.Limits.{Limits}
-use Rattle.pm_supervisor.specs.Between.{all_detached}
-use Rattle.pm_supervisor.specs.Children.{Child}
-use Rattle.pm_supervisor.specs.Steps.{Trace}
-use Rattle.pm_state.specs.declared.action.Action.{Action}
-use Rattle.pm_state.specs.declared.event.PmEvent.{PmEvent}
-use Rattle.pm_state.specs.Laws.{TellsOfEachStart}
-use Rattle.pm_state.specs.Machine.{IsReady}
-use Rattle.pm_state.specs.Starts.{Owes, has_end}
-use Rattle.pm_state.specs.Shows.{Call, Exits, IsFit}
-use Rattle.pm_state.specs.InStep.{IsInStep}
-use Rattle.pm_state.specs.Journal.{acts_of_call, all_replayed, replay_begun}
-use Rattle.pm_board.specs.Gate.{Gate, gate_of}
-use Rattle.pm_journal.specs.declared.roll.Enrolled.{Enrolled}
-use Rattle.pm_journal.specs.Laws.{KeepsALegalJournal}
-use Rattle.pm_journal.specs.Roll.{kind_in, roll_of, without}
-use Rattle.pm_journal.specs.Standing.{IsAtRest, Standing, all_noted, called, ends_redo, exit_call, exit_entry, exiting, later, made, redo_entries}
-use Rattle.pm_journal.specs.Stands.{Stands}
+use Rattle.std.{proofs.Common.{◌≡◌, ℕ, List, [], ◌∷◌, refl, sym, ap, subst, ◌∙◌, length}, specs.{Prelude.{Bool, true, false, ◌||◌, if◌then◌else◌, Option, Some}, Option.unwrap_or}}
+use Rattle.pm_board.specs.{pm_exit.declared.child.Kind.Kind, pm_supervisor.{declared.Limits.Limits, Between.all_detached, Children.Child, Steps.Trace}, Gate.{Gate, gate_of}, declared.roster.Released.Released}
+use Rattle.pm_supervisor_journal.{specs.{pm_state.{declared.{action.Action.Action, event.PmEvent.PmEvent}, Laws.TellsOfEachStart, Machine.IsReady, Starts.{Owes, has_end}, Shows.{Call, Exits, IsFit}, InStep.IsInStep, Journal.{acts_of_call, all_replayed, replay_begun}}, declared.{roll.Enrolled.Enrolled, exit.ChildExit.ChildExit}, Laws.KeepsALegalJournal, Roll.{kind_in, roll_of, without}, Standing.{IsAtRest, Standing, all_noted, called, ends_redo, exit_call, exit_entry, exiting, later, made, redo_entries}, Stands.Stands}, proofs.{RollLaws.on-roll, NextsLaws.noted-due}}
 use Rattle.pm_board.specs.declared.views.Letter as Letter
-use Rattle.pm_board.specs.declared.roster.Released.{Released}
-use Rattle.pm_seating.specs.Board.{seat_at}
-use Rattle.pm_seating.specs.Calls.{exit_of}
-use Rattle.pm_seating.specs.Sitting.{HasReaped}
-use Rattle.pm_seating.proofs.Afresh.{afresh_exited}
-use Rattle.pm_seating.specs.Acts.{StartsAfresh, MayDo, gate_by, gate_shown, roll_behind}
-use Rattle.pm_seating.specs.Seating.{Move, journal_of}
-use Rattle.pm_seating.specs.Standing.{IsAt, IsRunning, View}
-use Rattle.std.specs.Option.{unwrap_or}
-use Rattle.pm_state.specs.declared.event.PmEvent.TheVariants as entry
-use Rattle.pm_journal.specs.declared.exit.ChildExit.{ChildExit}
-use Rattle.pm_journal.specs.RollLaws.{on-roll}
-use Rattle.pm_journal.specs.NextsLaws.{noted-due}
-use Rattle.pm_seating.proofs.Calling.{on_the_roll}
-use Rattle.pm_seating.proofs.Turning.{calls_may}
+use Rattle.pm_board_acts.{specs.{Board.seat_at, Calls.exit_of, Sitting.HasReaped, Acts.{StartsAfresh, MayDo, gate_by, gate_shown, roll_behind}, Seating.{Move, journal_of}, Standing.{IsAt, IsRunning, View}}, proofs.{Afresh.afresh_exited, Calling.on_the_roll, Turning.calls_may}}
+use Rattle.pm_supervisor_journal.specs.pm_state.declared.event.PmEvent.TheVariants as entry
 
 ready : TellsOfEachStart → (limits : Limits) (told : Option (List PmEvent)) (s : Standing) (h : Trace) → Stands limits told s h → IsAtRest s → IsReady s.machine
 ready tells limits told s h stands rest =

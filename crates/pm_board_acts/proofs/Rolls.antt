@@ -1,13 +1,8 @@
 -- Who is on the roll, and who sits.
-use Rattle.std.proofs.Common.{◌≡◌, ◌≢◌, ℕ, zero, suc, ◌<◌, ◌≤◌, List, [], ◌∷◌, refl, sym, ap, subst, ◌∙◌, length, set, arith, nat_eq}
-use Rattle.std.specs.Prelude.{Bool, if◌then◌else◌, Option, Some, None, IfSome}
-use Rattle.std.proofs.lemmas.Bool.{eqb-true, eqb-false, ne_eqb, eq-eqb}
-use Rattle.pm_facts.specs.Bools.{by_test}
-use Rattle.pm_exit.specs.declared.child.Kind.{Kind}
-use Rattle.pm_journal.specs.declared.roll.Enrolled.{Enrolled}
-use Rattle.pm_journal.specs.Roll.{kind_in, without}
-use Rattle.pm_seating.specs.Board.{seat_at}
-use Rattle.pm_seating.specs.Standing.{kind_seated, DifferOn, SitBelow, AreOnRoll, SitApart}
+use Rattle.std.{proofs.{Common.{◌≡◌, ◌≢◌, ℕ, zero, suc, ◌<◌, ◌≤◌, List, [], ◌∷◌, refl, sym, ap, subst, ◌∙◌, length, set, arith, nat_eq}, lemmas.Bool.{eqb-true, eqb-false, ne_eqb, eq-eqb}}, specs.Prelude.{Bool, if◌then◌else◌, Option, Some, None, IfSome}}
+use Rattle.pm_board.specs.{pm_facts.Bools.by_test, pm_exit.declared.child.Kind.Kind}
+use Rattle.pm_supervisor_journal.specs.{declared.roll.Enrolled.Enrolled, Roll.{kind_in, without}}
+use Rattle.pm_board_acts.specs.{Board.seat_at, Standing.{kind_seated, DifferOn, SitBelow, AreOnRoll, SitApart}}
 
 -- a pid above all that sit isn't among them
 pub none_above : (pid last : ℕ) (seats : List (Option Enrolled)) → SitBelow last seats → last < pid → kind_seated pid seats ≡ None

@@ -1,17 +1,10 @@
 -- Ends in the journal, and runs.
-use Rattle.std.proofs.Common.{inl, inr, ℕ, ◌<◌, List, [], ◌∷◌, refl, sym, subst, ◌∙◌, map, nat_eq}
-use Rattle.std.specs.Prelude.{Bool, true, false, if◌then◌else◌, Option}
-use Rattle.std.specs.List.{AllByRecursion}
-use Rattle.std.proofs.lemmas.Bool.{eq-eqb}
-use Rattle.pm_facts.specs.Lists.{each_both}
-use Rattle.pm_state.specs.declared.event.PmEvent.{PmEvent}
-use Rattle.pm_state.specs.declared.event.PmEvent.TheVariants as entry
-use Rattle.pm_journal.specs.declared.roll.Enrolled.{Enrolled}
-use Rattle.pm_chain.specs.Steps.{ChildRun}
-use Rattle.pm_seating.specs.Seating.{Seating, Move, Notes, Reads, PortEnds, PidsEnd, Request, Nothing, Stop, Kill, Ended, empty, ends, ended_by, ended_at, entries_from, seating_by, is_seated, asked_by}
-use Rattle.pm_seating.specs.Runs.{IsEndOf, IsOnBoard, run_ended}
-use Rattle.pm_seating.specs.Laws.{EndsOfTheJournalAreRuns}
-use Rattle.pm_seating.specs.EndedLaws.{Among, among_behind, among_front}
+use Rattle.std.{proofs.{Common.{inl, inr, ℕ, ◌<◌, List, [], ◌∷◌, refl, sym, subst, ◌∙◌, map, nat_eq}, lemmas.Bool.eq-eqb}, specs.{Prelude.{Bool, true, false, if◌then◌else◌, Option}, List.AllByRecursion}}
+use Rattle.pm_board.specs.pm_facts.Lists.{each_both}
+use Rattle.pm_supervisor_journal.specs.{pm_state.declared.event.PmEvent.PmEvent, declared.roll.Enrolled.Enrolled}
+use Rattle.pm_supervisor_journal.specs.pm_state.declared.event.PmEvent.TheVariants as entry
+use Rattle.pm_supervisor_chain.specs.Steps.{ChildRun}
+use Rattle.pm_board_acts.{specs.{Seating.{Seating, Move, Notes, Reads, PortEnds, PidsEnd, Request, Nothing, Stop, Kill, Ended, empty, ends, ended_by, ended_at, entries_from, seating_by, is_seated, asked_by}, Runs.{IsEndOf, IsOnBoard, run_ended}, Laws.EndsOfTheJournalAreRuns}, proofs.EndedLaws.{Among, among_behind, among_front}}
 
 among_runs : (end : Ended) (runs : List ChildRun) → Among end (map run_ended runs) → IsEndOf end runs
 among_runs end [] on = elim on [ ]

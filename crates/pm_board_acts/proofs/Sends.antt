@@ -1,22 +1,8 @@
 -- Steps at a board that change no slot.
-use Rattle.std.proofs.Common.{◌≡◌, ℕ, ◌+◌, ◌<◌, List, [], ◌∷◌, ◌++◌, refl, sym, ap, subst, ◌∙◌, append_assoc, append-nil, length, get_or, map, take, arith}
-use Rattle.std.proofs.lemmas.List.{length-take-le, take_more}
-use Rattle.std.specs.Prelude.{Bool, true, false, Option, Some, None, if◌then◌else◌}
-use Rattle.pm_journal.specs.declared.roll.Enrolled.{Enrolled}
-use Rattle.pm_board.specs.declared.views.RosterStep.{RosterStep}
-use Rattle.pm_board.specs.declared.views.RosterStep.TheVariants.{Send}
-use Rattle.pm_board.specs.declared.views.RosterView.{RosterView}
-use Rattle.pm_board.specs.declared.views.Sight.TheVariants.{Unused}
-use Rattle.pm_board.specs.declared.views.SlotView.{SlotView}
-use Rattle.pm_board.specs.declared.views.Signal.{Signal}
-use Rattle.pm_board.specs.Children.{children_of}
-use Rattle.pm_board.specs.Places.{slot_at, slot_view, IsAssigned}
-use Rattle.pm_board.specs.Told.{after_step}
-use Rattle.pm_board.specs.Models.{HasSent}
-use Rattle.pm_seating.specs.declared.audience.Audience.{Audience}
-use Rattle.pm_seating.specs.Seating.{Seating, is_meant, is_told, send_to, sends, sends_from}
-use Rattle.pm_seating.specs.Board.{SeenAs, Shows, after_steps, enrolled, seat_at, seats_of}
-use Rattle.pm_seating.specs.Sitting.{Sits}
+use Rattle.std.{proofs.{Common.{◌≡◌, ℕ, ◌+◌, ◌<◌, List, [], ◌∷◌, ◌++◌, refl, sym, ap, subst, ◌∙◌, append_assoc, append-nil, length, get_or, map, take, arith}, lemmas.List.{length-take-le, take_more}}, specs.Prelude.{Bool, true, false, Option, Some, None, if◌then◌else◌}}
+use Rattle.pm_supervisor_journal.specs.declared.roll.Enrolled.{Enrolled}
+use Rattle.pm_board.specs.{declared.views.{RosterStep.{RosterStep, TheVariants.Send}, RosterView.RosterView, Sight.TheVariants.Unused, SlotView.SlotView, Signal.Signal}, Children.children_of, Places.{slot_at, slot_view, IsAssigned}, Told.after_step, Models.HasSent}
+use Rattle.pm_board_acts.specs.{declared.audience.Audience.Audience, Seating.{Seating, is_meant, is_told, send_to, sends, sends_from}, Board.{SeenAs, Shows, after_steps, enrolled, seat_at, seats_of}, Sitting.Sits}
 
 module _ {D : Type 0} where
   pub after-append : (d : RosterView D) (xs ys : List RosterStep) → after_steps d (xs ++ ys) ≡ after_steps (after_steps d xs) ys

@@ -1,28 +1,9 @@
 -- A child that sits down, and one that is gone.
-use Rattle.std.proofs.Common.{◌≡◌, ◌≢◌, ℕ, ◌<◌, ◌≤◌, List, [], ◌∷◌, ◌++◌, refl, sym, ap, subst, ◌∙◌, length, set, map, nat_eq, append-nil, length-set}
-use Rattle.std.proofs.lemmas.List.{get_or-set_same, get_or-set_other, map-append}
-use Rattle.std.specs.Prelude.{Bool, true, false, ◌==◌, if◌then◌else◌, Option, Some, None}
-use Rattle.std.proofs.lemmas.Bool.{eqb-true, eqb-false, ne_eqb, eq-eqb}
-use Rattle.pm_facts.specs.Lists.{set_set}
-use Rattle.pm_facts.specs.Bools.{by_test}
-use Rattle.pm_exit.specs.declared.child.Kind.{Kind}
-use Rattle.pm_exit.specs.declared.child.Status.{Status}
-use Rattle.pm_journal.specs.declared.roll.Enrolled.{Enrolled}
-use Rattle.pm_state.specs.declared.event.PmEvent.{PmEvent}
-use Rattle.pm_board.specs.declared.views.PastChild.{PastChild}
-use Rattle.pm_board.specs.declared.views.RosterNotes.{RosterNotes}
-use Rattle.pm_board.specs.declared.views.RosterView.{RosterView}
-use Rattle.pm_board.specs.declared.views.SlotView.{SlotView}
+use Rattle.std.{proofs.{Common.{◌≡◌, ◌≢◌, ℕ, ◌<◌, ◌≤◌, List, [], ◌∷◌, ◌++◌, refl, sym, ap, subst, ◌∙◌, length, set, map, nat_eq, append-nil, length-set}, lemmas.{List.{get_or-set_same, get_or-set_other, map-append}, Bool.{eqb-true, eqb-false, ne_eqb, eq-eqb}}}, specs.Prelude.{Bool, true, false, ◌==◌, if◌then◌else◌, Option, Some, None}}
+use Rattle.pm_board.specs.{pm_facts.{Lists.set_set, Bools.by_test}, pm_exit.declared.child.{Kind.Kind, Status.Status}, declared.{views.{PastChild.PastChild, RosterNotes.RosterNotes, RosterView.RosterView, SlotView.SlotView}, roster.Released.Released}, Places.{slot_at, EndsWell}, Told.{with_slot, exited_slot, released_slot, past_child, noted_look, noted_release}, Models.SlotBecame}
+use Rattle.pm_supervisor_journal.specs.{declared.roll.Enrolled.Enrolled, pm_state.declared.event.PmEvent.PmEvent}
 use Rattle.pm_board.specs.declared.views.Letter as Letter
-use Rattle.pm_board.specs.Places.{slot_at, EndsWell}
-use Rattle.pm_board.specs.declared.roster.Released.{Released}
-use Rattle.pm_board.specs.Told.{with_slot, exited_slot, released_slot, past_child, noted_look, noted_release}
-use Rattle.pm_board.specs.Models.{SlotBecame}
-use Rattle.pm_seating.specs.Seating.{Seating, Move, Notes, Begun, Ended, with_seat, begins, ends, begun_at, ended_at, begun_by, ended_by, seating_of}
-use Rattle.pm_seating.specs.Board.{SeenAs, Shows, begun_of, ended_of, seat_at, sitting}
-use Rattle.pm_seating.specs.Sitting.{Sits, HasReaped}
-use Rattle.pm_seating.specs.Standing.{HasHad}
-use Rattle.pm_seating.specs.FoldingLaws.{begun-more, ended-more}
+use Rattle.pm_board_acts.{specs.{Seating.{Seating, Move, Notes, Begun, Ended, with_seat, begins, ends, begun_at, ended_at, begun_by, ended_by, seating_of}, Board.{SeenAs, Shows, begun_of, ended_of, seat_at, sitting}, Sitting.{Sits, HasReaped}, Standing.HasHad}, proofs.FoldingLaws.{begun-more, ended-more}}
 
 module _ {D : Type 0} where
   -- a slot that became one thing and then another

@@ -1,48 +1,20 @@
 -- Which children a call of the machine starts, and which may still be started after it.
-use Rattle.std.proofs.Common.{◌≡◌, ℕ, ◌≤◌, ◌+◌, List, [], ◌∷◌, ◌++◌, refl, sym, ap, subst, ◌∙◌, arith}
-use Rattle.std.specs.Prelude.{nat_le, Bool, true, false, not, ◌==◌, ◌&&◌, ◌||◌, if◌then◌else◌, Option, Some, None, is_some, IsSomeAnd}
-use Rattle.std.proofs.lemmas.Bool.{or_right, or_from}
-use Rattle.pm_facts.specs.Bools.{by_test}
-use Rattle.pm_exit.specs.declared.child.Kind.{Kind}
-use Rattle.pm_exit.specs.declared.child.Kind.TheVariants as kind
-use Rattle.pm_exit.specs.declared.child.Class.{Class}
-use Rattle.pm_exit.specs.declared.child.Class.TheVariants as class
-use Rattle.pm_exit.specs.declared.child.Status.{Status}
-use Rattle.pm_exit.specs.Ends.{class_of, is_exit_0, is_exit_1}
-use Rattle.pm_modes.specs.declared.Mode.{Mode}
+use Rattle.std.{proofs.{Common.{◌≡◌, ℕ, ◌≤◌, ◌+◌, List, [], ◌∷◌, ◌++◌, refl, sym, ap, subst, ◌∙◌, arith}, lemmas.Bool.{or_right, or_from}}, specs.Prelude.{nat_le, Bool, true, false, not, ◌==◌, ◌&&◌, ◌||◌, if◌then◌else◌, Option, Some, None, is_some, IsSomeAnd}}
+use Rattle.pm_board.specs.{pm_facts.Bools.by_test, pm_exit.{declared.child.{Kind.Kind, Class.Class, Status.Status}, Ends.{class_of, is_exit_0, is_exit_1}}, Places.is_auxiliary}
+use Rattle.pm_board.specs.pm_exit.declared.child.Kind.TheVariants as kind
+use Rattle.pm_board.specs.pm_exit.declared.child.Class.TheVariants as class
+use Rattle.pm_modes.{specs.{declared.Mode.Mode, Strength.{is_immediate, strengthen_of}}, proofs.StrengthLaws.strengthens}
 use Rattle.pm_modes.specs.declared.Mode.TheVariants as mode
-use Rattle.pm_modes.specs.Strength.{is_immediate, strengthen_of}
-use Rattle.pm_modes.specs.StrengthLaws.{strengthens}
-use Rattle.pm_admit.specs.declared.Cac.{Cac}
-use Rattle.pm_admit.specs.declared.Cac.TheVariants as cac
-use Rattle.pm_admit.specs.declared.PmState.{PmState}
-use Rattle.pm_admit.specs.declared.PmState.TheVariants as state
-use Rattle.pm_admit.specs.Admission.{decide_of, is_startup}
-use Rattle.pm_supervisor.specs.declared.Limits.{Limits}
+use Rattle.pm_state.specs.{pm_admit.{declared.{Cac.Cac, PmState.PmState}, Admission.{decide_of, is_startup}}, declared.{action.Action.Action, machine.{Machine.Machine, StartupStatus.StartupStatus}}, Transition.{Transition, transition}, Exits.{redo_ended, waiting_state, exit_line, crash_rule, crashed_state, unless_normal, startup_exited, checkpointer_exited, exited_by, less_one, without_startup, signalled_of, signalled_state, is_running, is_shutdown}, Facts.{Facts, HoldsIn, is_init, is_stop_reason}, Journal.acts_of_call, Machine.{accepted_as, started_as, view_of}, Requests.{asked_in, asked_with, ticked_at}, Shows.{Call, Accepts, Starts, Exits, Asks, Ticks, TakesTurn, Attaches, Touches, Detaches, machine_after}, TurnRules.{startup_starts, is_not_running, are_backends_gone, start_recovery, start_recovery_in, restart_writer, restart_writer_in, end_smart, end_smart_in, stop_backends, stop_backends_in, backends_gone, backends_gone_in, dead_ends_gone, dead_ends_gone_in, children_gone, children_gone_in, turned_of}}
+use Rattle.pm_state.specs.pm_admit.declared.Cac.TheVariants as cac
+use Rattle.pm_state.specs.pm_admit.declared.PmState.TheVariants as state
+use Rattle.pm_supervisor.{specs.{declared.Limits.Limits, Children.{Child, child_of, count_of, one_if, is_startup_child, is_checkpointer, is_writer}, Supervisor.Supervisor, Steps.Trace}, proofs.CountLaws.none_counted}
 use Rattle.pm_supervisor.specs.declared.Reason.TheVariants as reason
 use Rattle.pm_supervisor.specs.declared.Ending.TheVariants as ending
-use Rattle.pm_supervisor.specs.Children.{Child, child_of, count_of, one_if, is_startup_child, is_checkpointer, is_writer}
-use Rattle.pm_supervisor.specs.Supervisor.{Supervisor}
-use Rattle.pm_supervisor.specs.Steps.{Trace}
-use Rattle.pm_supervisor.specs.CountLaws.{none_counted}
-use Rattle.pm_state.specs.declared.action.Action.{Action}
 use Rattle.pm_state.specs.declared.action.Action.TheVariants as action
 use Rattle.pm_state.specs.declared.action.Line.TheVariants as line
-use Rattle.pm_state.specs.declared.machine.Machine.{Machine}
-use Rattle.pm_state.specs.declared.machine.StartupStatus.{StartupStatus}
 use Rattle.pm_state.specs.declared.machine.StartupStatus.TheVariants as startup
-use Rattle.pm_state.specs.Transition.{Transition, transition}
-use Rattle.pm_state.specs.Exits.{redo_ended, waiting_state, exit_line, crash_rule, crashed_state, unless_normal, startup_exited, checkpointer_exited, exited_by, less_one, without_startup, signalled_of, signalled_state, is_running, is_shutdown}
-use Rattle.pm_state.specs.Facts.{Facts, HoldsIn, is_init, is_stop_reason}
-use Rattle.pm_state.specs.Journal.{acts_of_call}
-use Rattle.pm_state.specs.Machine.{accepted_as, started_as, view_of}
-use Rattle.pm_state.specs.Requests.{asked_in, asked_with, ticked_at}
-use Rattle.pm_state.specs.Shows.{Call, Accepts, Starts, Exits, Asks, Ticks, TakesTurn, Attaches, Touches, Detaches, machine_after}
-use Rattle.pm_state.specs.TurnRules.{startup_starts, is_not_running, are_backends_gone, start_recovery, start_recovery_in, restart_writer, restart_writer_in, end_smart, end_smart_in, stop_backends, stop_backends_in, backends_gone, backends_gone_in, dead_ends_gone, dead_ends_gone_in, children_gone, children_gone_in, turned_of}
-use Rattle.pm_board.specs.Places.{is_auxiliary}
-use Rattle.pm_seating.specs.Acts.{StartOnly, may_start, renews}
-use Rattle.pm_seating.proofs.MayBeDone.{alone_of, at_least, runs_of}
-use Rattle.pm_seating.proofs.Turning.{in_order, inside, rest0, rest1, rest2, rest3, rest_s, rest_w}
+use Rattle.pm_board_acts.{specs.Acts.{StartOnly, may_start, renews}, proofs.{MayBeDone.{alone_of, at_least, runs_of}, Turning.{in_order, inside, rest0, rest1, rest2, rest3, rest_s, rest_w}}}
 
 -- such a child may still be started: a startup child, or another
 abbrev pub yet : Bool → Machine → Bool

@@ -1,32 +1,15 @@
 -- The acts of a turn, and the gate.
-use Rattle.std.proofs.Common.{◌≡◌, List, [], ◌∷◌, ◌++◌, refl, sym, ap, subst, ◌∙◌, arith, append_assoc}
-use Rattle.std.specs.Prelude.{Bool, true, false, not, ◌==◌, ◌&&◌, ◌||◌, if◌then◌else◌, None, is_some}
-use Rattle.std.proofs.lemmas.Bool.{eqb-true, not-true, and_parts}
-use Rattle.pm_exit.specs.declared.child.Kind.{Kind}
-use Rattle.pm_exit.specs.declared.child.Kind.TheVariants as kind
-use Rattle.pm_modes.specs.Strength.{is_immediate}
-use Rattle.pm_admit.specs.declared.PmState.{PmState}
-use Rattle.pm_admit.specs.declared.PmState.TheVariants as state
-use Rattle.pm_supervisor.specs.declared.Limits.{Limits}
-use Rattle.pm_supervisor.specs.Children.{Child, count_of, one_if, is_session, is_startup_child, is_checkpointer, is_writer, is_dead_end}
-use Rattle.pm_supervisor.specs.Supervisor.{Supervisor}
-use Rattle.pm_state.specs.declared.action.Action.{Action}
+use Rattle.std.{proofs.{Common.{◌≡◌, List, [], ◌∷◌, ◌++◌, refl, sym, ap, subst, ◌∙◌, arith, append_assoc}, lemmas.Bool.{eqb-true, not-true, and_parts}}, specs.Prelude.{Bool, true, false, not, ◌==◌, ◌&&◌, ◌||◌, if◌then◌else◌, None, is_some}}
+use Rattle.pm_board.specs.{pm_exit.declared.child.Kind.Kind, Gate.Gate}
+use Rattle.pm_board.specs.pm_exit.declared.child.Kind.TheVariants as kind
+use Rattle.pm_state.specs.{pm_modes.Strength.{is_immediate, strengthen_of}, pm_admit.declared.PmState.PmState, declared.{action.Action.Action, machine.Machine.Machine}, Transition.{Transition, transition}, TurnRules.{startup_starts, is_not_running, are_backends_gone, start_recovery, restart_writer, end_smart, stop_backends, backends_gone, dead_ends_gone, children_gone, children_gone_in, turned_of}, Facts.{Facts, HoldsIn}, Shows.{Accepts, Starts, Exits, Asks, Ticks, TakesTurn, Attaches, Touches, Detaches}}
+use Rattle.pm_state.specs.pm_admit.declared.PmState.TheVariants as state
+use Rattle.pm_supervisor.{specs.{declared.Limits.Limits, Children.{Child, count_of, one_if, is_session, is_startup_child, is_checkpointer, is_writer, is_dead_end}, Supervisor.Supervisor}, proofs.CountLaws.none_counted}
 use Rattle.pm_state.specs.declared.action.Action.TheVariants as action
 use Rattle.pm_state.specs.declared.action.Line.TheVariants as line
 use Rattle.pm_supervisor.specs.declared.Ending.TheVariants as ending
-use Rattle.pm_supervisor.specs.CountLaws.{none_counted}
-use Rattle.pm_state.specs.declared.machine.Machine.{Machine}
-use Rattle.pm_state.specs.Transition.{Transition, transition}
-use Rattle.pm_state.specs.TurnRules.{startup_starts, is_not_running, are_backends_gone, start_recovery, restart_writer, end_smart, stop_backends, backends_gone, dead_ends_gone, children_gone, children_gone_in, turned_of}
-use Rattle.pm_state.specs.Facts.{Facts, HoldsIn}
-use Rattle.pm_board.specs.Gate.{Gate}
-use Rattle.pm_journal.specs.declared.roll.Enrolled.{Enrolled}
-use Rattle.pm_journal.specs.Roll.{roll_of}
-use Rattle.pm_seating.specs.Acts.{MayDo, NoneIs, gate_shown}
-use Rattle.pm_modes.specs.Strength.{strengthen_of}
-use Rattle.pm_state.specs.Shows.{Accepts, Starts, Exits, Asks, Ticks, TakesTurn, Attaches, Touches, Detaches}
-use Rattle.pm_seating.specs.Laws.{CallsMayBeDone}
-use Rattle.pm_seating.proofs.MayBeDone.{none_of_them, exits_may, requested_may, ticked_may}
+use Rattle.pm_supervisor_journal.specs.{declared.roll.Enrolled.Enrolled, Roll.roll_of}
+use Rattle.pm_board_acts.{specs.{Acts.{MayDo, NoneIs, gate_shown}, Laws.CallsMayBeDone}, proofs.MayBeDone.{none_of_them, exits_may, requested_may, ticked_may}}
 
 -- what the machine's counts tell of the roll
 record Counted (m : Machine) (roll : List Enrolled) : Type 0 where

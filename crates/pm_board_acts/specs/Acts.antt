@@ -1,34 +1,14 @@
 -- When the acts that are due may be done at the board.
-use Rattle.std.specs.Prelude.{◌≡◌, ◌≢◌, ℕ, ◌+◌, ◌<◌, ◌≤◌, Bool, true, false, not, ◌||◌, if◌then◌else◌, List, [], ◌∷◌, Option, None, Some, Result, Ok, length, slice_set}
-use Rattle.std.specs.List.{AllByRecursion}
-use Rattle.pm_exit.specs.declared.child.Kind.{Kind}
-use Rattle.pm_exit.specs.declared.child.Kind.TheVariants as kind
-use Rattle.pm_modes.specs.Strength.{is_immediate}
-use Rattle.pm_supervisor.specs.Children.{is_startup_child}
-use Rattle.pm_supervisor.specs.Supervisor.{Shared}
-use Rattle.pm_state.specs.declared.action.Action.{Action}
+use Rattle.std.specs.{Prelude.{◌≡◌, ◌≢◌, ℕ, ◌+◌, ◌<◌, ◌≤◌, Bool, true, false, not, ◌||◌, if◌then◌else◌, List, [], ◌∷◌, Option, None, Some, Result, Ok, length, slice_set}, List.AllByRecursion}
+use Rattle.pm_board.specs.{pm_exit.declared.child.Kind.Kind, pm_supervisor.{Children.is_startup_child, Supervisor.Shared}, Gate.Gate, Places.{is_auxiliary, MayAssign, lost, slot_at, used_in}, Told.MayQuit, Models.{HasAssigned, MayOpen}, declared.views.{RosterStep.RosterStep, RosterView.RosterView}}
+use Rattle.pm_board.specs.pm_exit.declared.child.Kind.TheVariants as kind
+use Rattle.pm_state.specs.{pm_modes.Strength.is_immediate, declared.{action.Action.Action, machine.Machine.Machine}, Facts.is_init, Shows.{Call, Exits}, TurnRules.is_not_running}
 use Rattle.pm_state.specs.declared.action.Action.TheVariants as action
-use Rattle.pm_state.specs.declared.machine.Machine.{Machine}
-use Rattle.pm_state.specs.Facts.{is_init}
-use Rattle.pm_state.specs.Shows.{Call, Exits}
-use Rattle.pm_state.specs.TurnRules.{is_not_running}
-use Rattle.pm_board.specs.Gate.{Gate}
-use Rattle.pm_journal.specs.Roll.{without}
-use Rattle.pm_board.specs.Places.{is_auxiliary}
-use Rattle.pm_board.specs.Told.{MayQuit}
-use Rattle.pm_board.specs.Places.{MayAssign, lost, slot_at, used_in}
-use Rattle.pm_board.specs.Models.{HasAssigned, MayOpen}
-use Rattle.pm_board.specs.declared.views.RosterStep.{RosterStep}
+use Rattle.pm_supervisor_journal.specs.{Roll.without, declared.{act.{Act.Act, GenerationsSpent.GenerationsSpent}, roll.Enrolled.Enrolled}}
 use Rattle.pm_board.specs.declared.views.RosterStep.TheVariants as step
-use Rattle.pm_board.specs.declared.views.RosterView.{RosterView}
 use Rattle.pm_board.specs.declared.views.Signal.TheVariants as signal
-use Rattle.pm_journal.specs.declared.act.Act.{Act}
-use Rattle.pm_journal.specs.declared.act.Act.TheVariants as act
-use Rattle.pm_journal.specs.declared.act.GenerationsSpent.{GenerationsSpent}
-use Rattle.pm_seating.specs.Board.{Shows, after_steps, seats_of}
-use Rattle.pm_seating.specs.Seating.{sends}
-use Rattle.pm_seating.specs.declared.audience.Audience.TheVariants.{Everyone, Stoppable, Checkpointer}
-use Rattle.pm_journal.specs.declared.roll.Enrolled.{Enrolled}
+use Rattle.pm_supervisor_journal.specs.declared.act.Act.TheVariants as act
+use Rattle.pm_board_acts.specs.{Board.{Shows, after_steps, seats_of}, Seating.sends, declared.audience.Audience.TheVariants.{Everyone, Stoppable, Checkpointer}}
 
 -- no child of this kind is there
 abbrev pub NoneIs : Kind → List Enrolled → Type 0

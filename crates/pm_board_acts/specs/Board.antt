@@ -1,17 +1,8 @@
 -- What a roster knows, beside a seating.
 use Rattle.std.specs.Prelude.{◌≡◌, ℕ, ◌<◌, ◌≤◌, List, [], ◌∷◌, map, Option, Some, None, length, slice_index_or}
-use Rattle.pm_exit.specs.declared.child.Kind.{Kind}
-use Rattle.pm_journal.specs.declared.roll.Enrolled.{Enrolled}
-use Rattle.pm_board.specs.declared.views.Offer.{Offer}
-use Rattle.pm_board.specs.declared.views.PastChild.{PastChild}
-use Rattle.pm_board.specs.declared.views.RosterStep.{RosterStep}
-use Rattle.pm_board.specs.declared.views.RosterView.{RosterView}
-use Rattle.pm_board.specs.declared.views.Sight.{Sight}
-use Rattle.pm_board.specs.declared.views.Sight.TheVariants.{Unused, Assigned}
-use Rattle.pm_board.specs.Children.{children_of}
-use Rattle.pm_board.specs.Places.{slot_at}
-use Rattle.pm_board.specs.Told.{after_step}
-use Rattle.pm_seating.specs.Seating.{Seating, Begun, Ended}
+use Rattle.pm_board.specs.{pm_exit.declared.child.Kind.Kind, declared.views.{Offer.Offer, PastChild.PastChild, RosterStep.RosterStep, RosterView.RosterView, Sight.{Sight, TheVariants.{Unused, Assigned}}}, Children.children_of, Places.slot_at, Told.after_step}
+use Rattle.pm_supervisor_journal.specs.declared.roll.Enrolled.{Enrolled}
+use Rattle.pm_board_acts.specs.Seating.{Seating, Begun, Ended}
 
 -- a child of a slot, as one of the supervisor's roll
 abbrev pub enrolled : Option (ℕ × Kind) → Option Enrolled

@@ -1,29 +1,13 @@
 -- The moves of a supervisor's calls.
 use Rattle.std.specs.Prelude.{◌≡◌, ℕ, if◌then◌else◌, List, [], ◌∷◌, map, Option, None, Some, Result, Ok, Err, unwrap_or}
-use Rattle.pm_exit.specs.declared.child.Kind.{Kind}
-use Rattle.pm_exit.specs.declared.child.Status.{Status}
-use Rattle.pm_exit.specs.Ends.{is_exit_0}
-use Rattle.pm_supervisor.specs.declared.Limits.{Limits}
-use Rattle.pm_supervisor.specs.Children.{is_startup_child}
-use Rattle.pm_state.specs.declared.event.PmEvent.{PmEvent}
+use Rattle.pm_board.specs.{pm_exit.{declared.child.{Kind.Kind, Status.Status}, Ends.is_exit_0}, pm_supervisor.{declared.Limits.Limits, Children.is_startup_child}, declared.roster.Released.Released}
+use Rattle.pm_state.specs.{declared.{event.PmEvent.PmEvent, action.Action.Action}, pm_modes.declared.Mode.Mode}
 use Rattle.pm_state.specs.declared.event.PmEvent.TheVariants as entry
-use Rattle.pm_board.specs.declared.roster.Released.{Released}
 use Rattle.pm_board.specs.declared.views.Letter as Letter
-use Rattle.pm_journal.specs.declared.roll.Enrolled.{Enrolled}
-use Rattle.pm_seating.specs.declared.desk.Looked.{Looked}
-use Rattle.pm_seating.specs.declared.desk.Looked.TheVariants.{Nothing, Ended, ShortOfMemory}
-use Rattle.pm_seating.specs.Sitting.{HasFoundNone, HasReaped, KeepsPast}
-use Rattle.pm_state.specs.declared.action.Action.{Action}
+use Rattle.pm_supervisor_journal.specs.{declared.{roll.Enrolled.Enrolled, act.{Act.Act, GenerationsSpent.GenerationsSpent}, exit.ChildExit.ChildExit}, Standing.{Making, Standing, entry_for, first_due, exiting, made, next_pid, decision_on}}
+use Rattle.pm_board_acts.specs.{declared.desk.Looked.{Looked, TheVariants.{Nothing, Ended, ShortOfMemory}}, Sitting.{HasFoundNone, HasReaped, KeepsPast}, Acts.slot_of, Seating.{Move, Notes, Reads, PortEnds, PidsEnd, Stop}, Standing.{View, Goes, IsAt, IsEnding}}
 use Rattle.pm_state.specs.declared.action.Action.TheVariants as action
-use Rattle.pm_modes.specs.declared.Mode.{Mode}
-use Rattle.pm_modes.specs.declared.Mode.TheVariants as mode
-use Rattle.pm_journal.specs.declared.act.Act.{Act}
-use Rattle.pm_journal.specs.declared.act.GenerationsSpent.{GenerationsSpent}
-use Rattle.pm_seating.specs.Acts.{slot_of}
-use Rattle.pm_journal.specs.declared.exit.ChildExit.{ChildExit}
-use Rattle.pm_journal.specs.Standing.{Making, Standing, entry_for, first_due, exiting, made, next_pid, decision_on}
-use Rattle.pm_seating.specs.Seating.{Move, Notes, Reads, PortEnds, PidsEnd, Stop}
-use Rattle.pm_seating.specs.Standing.{View, Goes, IsAt, IsEnding}
+use Rattle.pm_state.specs.pm_modes.declared.Mode.TheVariants as mode
 
 -- these entries, of the child in this slot
 abbrev pub notes_in : ℕ → List PmEvent → List Move

@@ -1,19 +1,11 @@
 -- Journal, book, board, console, port and the runs of children agree.
-use Rattle.std.specs.Prelude.{◌≡◌, ◌≢◌, ℕ, ◌+◌, ◌≤◌, Bool, true, List, [], ◌∷◌, ◌++◌, length, codes, Option, IfSome}
-use Rattle.std.specs.List.{AllByRecursion, Contains}
-use Rattle.pm_modes.specs.declared.Mode.{Mode}
-use Rattle.pm_modes.specs.declared.Mode.TheVariants as mode
-use Rattle.pm_supervisor.specs.Children.{one_if}
-use Rattle.pm_state.specs.declared.event.PmEvent.{PmEvent}
+use Rattle.std.specs.{Prelude.{◌≡◌, ◌≢◌, ℕ, ◌+◌, ◌≤◌, Bool, true, List, [], ◌∷◌, ◌++◌, length, codes, Option, IfSome}, List.{AllByRecursion, Contains}}
+use Rattle.pm_state.specs.{pm_modes.declared.Mode.Mode, pm_supervisor.Children.one_if, declared.event.PmEvent.PmEvent}
+use Rattle.pm_state.specs.pm_modes.declared.Mode.TheVariants as mode
 use Rattle.pm_state.specs.declared.event.PmEvent.TheVariants as entry
-use Rattle.pm_outside.specs.Visits.{Visit, Visits}
-use Rattle.pm_query.specs.declared.book.BookEntry.{BookEntry}
-use Rattle.pm_chain.specs.Chain.{AgreeOnGenerations, RedosEnd, RedosAreTold, UsersWereStarted, AttachOnce, AreDistinct, attached_of, gone_from, lost_from}
-use Rattle.pm_chain.specs.Steps.{ChildRun}
-use Rattle.pm_board.specs.declared.views.RosterView.{RosterView}
-use Rattle.pm_seating.specs.Seating.{Move, Notes, Reads, PortEnds, PidsEnd, Request, Nothing, Stop, Kill, ends, journal_of}
-use Rattle.pm_seating.specs.Standing.{IsBoardOf}
-use Rattle.pm_seating.specs.Runs.{AreGatheredRuns, EndsActiveAs, EndsAreRuns, IsOnBoard}
+use Rattle.pm_worker.specs.{pm_outside.Visits.{Visit, Visits}, pm_query.declared.book.BookEntry.BookEntry, pm_board.declared.views.RosterView.RosterView}
+use Rattle.pm_supervisor_chain.specs.{Chain.{AgreeOnGenerations, RedosEnd, RedosAreTold, UsersWereStarted, AttachOnce, AreDistinct, attached_of, gone_from, lost_from}, Steps.ChildRun}
+use Rattle.pm_board_acts.specs.{Seating.{Move, Notes, Reads, PortEnds, PidsEnd, Request, Nothing, Stop, Kill, ends, journal_of}, Standing.IsBoardOf, Runs.{AreGatheredRuns, EndsActiveAs, EndsAreRuns, IsOnBoard}}
 
 -- ---- journal and book
 

@@ -1,19 +1,10 @@
 -- What comes after the last entry: the final Kill, and the last releases.
 use Rattle.std.specs.Prelude.{◌≡◌, ℕ, ◌<◌, ◌≤◌, Bool, true, false, List, map, None, length, slice_set}
-use Rattle.pm_supervisor.specs.declared.Limits.{Limits}
+use Rattle.pm_board.specs.{pm_supervisor.declared.Limits.Limits, declared.views.{RosterView.RosterView, Sight.TheVariants.Unused}, Places.slot_at}
 use Rattle.pm_board.specs.declared.views.Letter as Letter
-use Rattle.pm_board.specs.declared.views.RosterView.{RosterView}
-use Rattle.pm_board.specs.declared.views.Sight.TheVariants.{Unused}
-use Rattle.pm_board.specs.Places.{slot_at}
-use Rattle.pm_journal.specs.declared.roll.Enrolled.{Enrolled}
-use Rattle.pm_journal.specs.Stands.{AtWork, highest_pid}
-use Rattle.pm_seating.specs.declared.finish.Rest.{Rest}
-use Rattle.pm_seating.specs.declared.finish.Rest.TheVariants as rest
-use Rattle.pm_seating.specs.Board.{begun_of, seat_at, seats_of}
-use Rattle.pm_seating.specs.Calls.{IsCutOff}
-use Rattle.pm_seating.specs.Seating.{Move, Seating, begun_at}
-use Rattle.pm_seating.specs.Sitting.{HasReaped, StillRuns}
-use Rattle.pm_seating.specs.Standing.{IsAt, IsBoardOf, IsEnding, view}
+use Rattle.pm_supervisor_journal.specs.{declared.roll.Enrolled.Enrolled, Stands.{AtWork, highest_pid}}
+use Rattle.pm_board_acts.specs.{declared.finish.Rest.Rest, Board.{begun_of, seat_at, seats_of}, Calls.IsCutOff, Seating.{Move, Seating, begun_at}, Sitting.{HasReaped, StillRuns}, Standing.{IsAt, IsBoardOf, IsEnding, view}}
+use Rattle.pm_board_acts.specs.declared.finish.Rest.TheVariants as rest
 
 module _ {D : Type 0} where
   -- who sits where, as the roster sees it

@@ -1,20 +1,9 @@
 -- The laws, one for each function of `chained.rt`, whose contract it is.
-use Rattle.std.specs.Prelude.{◌≡◌, ℕ, List, [], ◌∷◌, length}
-use Rattle.std.specs.List.{AllByRecursion}
-use Rattle.pm_chain.specs.Steps.{ChildRun}
-use Rattle.pm_board.specs.declared.views.RosterView.{RosterView}
-use Rattle.pm_supervisor.specs.declared.Limits.{Limits}
-use Rattle.pm_supervisor.specs.Steps.{Trace}
-use Rattle.pm_state.specs.declared.machine.Machine.{Machine}
-use Rattle.pm_journal.specs.Stands.{behind}
-use Rattle.pm_state.specs.InStep.{ServerState, IsInStep}
-use Rattle.pm_state.specs.Journal.{acts_of_call}
-use Rattle.pm_state.specs.Shows.{Call, IsFit}
-use Rattle.pm_journal.specs.Roll.{roll_of}
-use Rattle.pm_seating.specs.Acts.{MayDo, gate_by, gate_shown, roll_behind}
-use Rattle.pm_seating.specs.Seating.{Move, Reads, Request, asked_by, journal_of}
-use Rattle.pm_seating.specs.Standing.{Goes, IsBoardOf, View}
-use Rattle.pm_seating.specs.Runs.{AreGatheredRuns, EndsAreRuns, IsOnBoard}
+use Rattle.std.specs.{Prelude.{◌≡◌, ℕ, List, [], ◌∷◌, length}, List.AllByRecursion}
+use Rattle.pm_supervisor_chain.specs.Steps.{ChildRun}
+use Rattle.pm_board.specs.{declared.views.RosterView.RosterView, pm_supervisor.{declared.Limits.Limits, Steps.Trace}}
+use Rattle.pm_supervisor_journal.specs.{pm_state.{declared.machine.Machine.Machine, InStep.{ServerState, IsInStep}, Journal.acts_of_call, Shows.{Call, IsFit}}, Stands.behind, Roll.roll_of}
+use Rattle.pm_board_acts.specs.{Acts.{MayDo, gate_by, gate_shown, roll_behind}, Seating.{Move, Reads, Request, asked_by, journal_of}, Standing.{Goes, IsBoardOf, View}, Runs.{AreGatheredRuns, EndsAreRuns, IsOnBoard}}
 
 -- once the posts were taken in, each end that the journal tells of is that of a run
 abbrev pub EndsOfTheJournalAreRuns : Type 0 → Type 0

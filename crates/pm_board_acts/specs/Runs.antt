@@ -1,15 +1,9 @@
 -- What workers tell of the children that they ran, and how that is tied to the journal.
-use Rattle.std.specs.Prelude.{◌≡◌, ◌⊎◌, ℕ, ◌<◌, ◌==◌, Bool, true, false, List, [], ◌∷◌, map, length}
-use Rattle.std.specs.List.{AllByRecursion}
-use Rattle.pm_exit.specs.declared.child.Status.{Status}
-use Rattle.pm_exit.specs.declared.child.Status.TheVariants as status
-use Rattle.pm_state.specs.declared.event.PmEvent.{PmEvent}
-use Rattle.pm_chain.specs.Steps.{ChildRun}
-use Rattle.pm_board.specs.declared.views.PastChild.{PastChild}
-use Rattle.pm_board.specs.declared.views.RosterView.{RosterView}
-use Rattle.pm_board.specs.Places.{is_auxiliary, slot_at}
-use Rattle.pm_seating.specs.Seating.{Move, Notes, Begun, Ended, ends}
-use Rattle.pm_seating.specs.Board.{begun_of, ended_of}
+use Rattle.std.specs.{Prelude.{◌≡◌, ◌⊎◌, ℕ, ◌<◌, ◌==◌, Bool, true, false, List, [], ◌∷◌, map, length}, List.AllByRecursion}
+use Rattle.pm_board.specs.{pm_exit.declared.child.Status.Status, declared.views.{PastChild.PastChild, RosterView.RosterView}, Places.{is_auxiliary, slot_at}}
+use Rattle.pm_board.specs.pm_exit.declared.child.Status.TheVariants as status
+use Rattle.pm_supervisor_chain.specs.{pm_state.declared.event.PmEvent.PmEvent, Steps.ChildRun}
+use Rattle.pm_board_acts.specs.{Seating.{Move, Notes, Begun, Ended, ends}, Board.{begun_of, ended_of}}
 
 -- a run as it began, and as it ended
 abbrev pub run_begun : ChildRun → Begun

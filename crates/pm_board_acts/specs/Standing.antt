@@ -1,24 +1,11 @@
 -- What holds of a supervisor at work with its board, at every moment.
-use Rattle.std.specs.Prelude.{◌≡◌, ℕ, ◌<◌, ◌≤◌, ◌==◌, if◌then◌else◌, List, [], ◌∷◌, ◌++◌, map, Option, Some, None, IfSome, length}
-use Rattle.std.specs.List.{AllByRecursion}
-use Rattle.pm_exit.specs.declared.child.Kind.{Kind}
-use Rattle.pm_exit.specs.declared.child.Kind.TheVariants as kind
-use Rattle.pm_supervisor.specs.declared.Limits.{Limits}
-use Rattle.pm_supervisor.specs.Steps.{Trace}
-use Rattle.pm_board.specs.declared.views.RosterStep.{RosterStep}
+use Rattle.std.specs.{Prelude.{◌≡◌, ℕ, ◌<◌, ◌≤◌, ◌==◌, if◌then◌else◌, List, [], ◌∷◌, ◌++◌, map, Option, Some, None, IfSome, length}, List.AllByRecursion}
+use Rattle.pm_board.specs.{pm_exit.declared.child.Kind.Kind, pm_supervisor.{declared.Limits.Limits, Steps.Trace}, declared.views.{RosterStep.RosterStep, RosterView.RosterView}, Places.{slot_at, SlotServes}, Told.new_roster, Gate.gate_of}
+use Rattle.pm_board.specs.pm_exit.declared.child.Kind.TheVariants as kind
 use Rattle.pm_board.specs.declared.views.RosterStep.TheVariants as step
-use Rattle.pm_board.specs.declared.views.RosterView.{RosterView}
 use Rattle.pm_board.specs.declared.views.Signal.TheVariants as signal
-use Rattle.pm_board.specs.Places.{slot_at, SlotServes}
-use Rattle.pm_board.specs.Told.{new_roster}
-use Rattle.pm_journal.specs.declared.roll.Enrolled.{Enrolled}
-use Rattle.pm_journal.specs.Roll.{kind_in}
-use Rattle.pm_journal.specs.Standing.{Standing, nothing_done}
-use Rattle.pm_journal.specs.Stands.{AtWork, Stands}
-use Rattle.pm_seating.specs.Seating.{Move, Seating, Begun, Ended, child, journal_of, seating_of, board_steps, begun_at, ended_at}
-use Rattle.pm_board.specs.Gate.{gate_of}
-use Rattle.pm_seating.specs.Acts.{MayDo, StartsAfresh, gate_by, gate_shown}
-use Rattle.pm_seating.specs.Board.{Shows, begun_of, ended_of, seat_at, seats_of, sitting}
+use Rattle.pm_supervisor_journal.specs.{declared.roll.Enrolled.Enrolled, Roll.kind_in, Standing.{Standing, nothing_done}, Stands.{AtWork, Stands}}
+use Rattle.pm_board_acts.specs.{Seating.{Move, Seating, Begun, Ended, child, journal_of, seating_of, board_steps, begun_at, ended_at}, Acts.{MayDo, StartsAfresh, gate_by, gate_shown}, Board.{Shows, begun_of, ended_of, seat_at, seats_of, sitting}}
 
 -- what the child with this pid is for, if it sits somewhere
 abbrev pub kind_seated : ℕ → List (Option Enrolled) → Option Kind

@@ -1,12 +1,7 @@
 //! The calls of a turn that tell of no child.
 ghost use Rattle.std.specs.Prelude.{◌≡◌, ◌∷◌, ℕ, List, [], false, OnErr, OnOk, is_some};
-ghost use Rattle.pm_journal.specs.Standing.{IsAtRest, MayAsk, asking, later, ticking, turning};
-ghost use Rattle.pm_journal.specs.Stands.{IsSettled};
-ghost use Rattle.pm_journal.specs.Supervision.{at_work, standing, told};
-ghost use Rattle.pm_seating.specs.Calls.{AsksFor, Makes, StandsStill};
-ghost use Rattle.pm_seating.specs.Sitting.{AreReaped, KeepsPast};
-ghost use Rattle.pm_seating.specs.Seating.{Kill, Move, Reads};
-ghost use Rattle.pm_seating.specs.Standing.{Goes, IsRunning, view};
+ghost use Rattle.pm_supervisor_journal.specs.{Standing.{IsAtRest, MayAsk, asking, later, ticking, turning}, Stands.IsSettled, Supervision.{at_work, standing, told}};
+ghost use Rattle.pm_board_acts.specs.{Calls.{AsksFor, Makes, StandsStill}, Sitting.{AreReaped, KeepsPast}, Seating.{Kill, Move, Reads}, Standing.{Goes, IsRunning, view}};
 
 use crate::audience::Audience;
 use crate::desk::Desk;

@@ -1,6 +1,6 @@
 //! What follows once the workers were joined.
 
-ghost use Rattle.pm_seating.specs.Laws.{CallsLeaveTheGate, CallsMayBeDone, EndsOfTheJournalAreRuns, LinesMayAskForNothing};
+ghost use Rattle.pm_board_acts.specs.Laws.{CallsLeaveTheGate, CallsMayBeDone, EndsOfTheJournalAreRuns, LinesMayAskForNothing};
 
 use pm_board::Letter;
 

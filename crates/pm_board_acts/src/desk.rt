@@ -1,7 +1,5 @@
 //! A supervisor at work with its board: the calls of a turn that tell of children.
-ghost use Rattle.pm_seating.specs.Acts.{slot_of, ShowsNow, MayPerform, Performs};
-ghost use Rattle.pm_seating.specs.Calls.{exit_of};
-ghost use Rattle.pm_seating.specs.Sitting.{AreReaped, KeepsPast};
+ghost use Rattle.pm_board_acts.specs.{Acts.{slot_of, ShowsNow, MayPerform, Performs}, Calls.exit_of, Sitting.{AreReaped, KeepsPast}};
 ghost use Rattle.std.specs.Prelude.{◌≡◌, ◌+◌, ◌<◌, ℕ, List, Option, false, None, OnErr, OnOk, Some, is_some, length, option_map};
 
 use crate::audience::Audience;
@@ -12,9 +10,9 @@ use crate::seats::{reap, seat, seated};
 use crate::telling::{quit_all, tell};
 use pm_board::{Letter, Released, Roster, Signal};
 use pm_exit::{Kind, Status};
-use pm_journal::{Act, ChildExit, Enrolled, GenerationsSpent, Supervision, Taken};
 use pm_outside::Chronicle;
 use pm_state::PmEvent;
+use pm_supervisor_journal::{Act, ChildExit, Enrolled, GenerationsSpent, Supervision, Taken};
 
 /// What a look at a slot came to.
 #[derive(Drop)]
@@ -35,16 +33,9 @@ pub struct Desk<J: Chronicle<PmEvent>, M: Letter + Drop> {
 }
 
 impl<J: Chronicle<PmEvent>, M: Report + Drop> Desk<J, M> {
-    ghost use Rattle.pm_supervisor.specs.Steps.{kind_for};
-    ghost use Rattle.pm_board.specs.Models.{HasAssigned};
-    ghost use Rattle.pm_board.specs.Places.{AllReaped};
-    ghost use Rattle.pm_journal.specs.Standing.{IsAtRest, MayTake, accepting, decision_on, made, next_pid};
-    ghost use Rattle.pm_journal.specs.Stands.{IsSettled};
-    ghost use Rattle.pm_journal.specs.Supervision.{HasRoom, at_work, standing, told};
-    ghost use Rattle.pm_seating.specs.Board.{seat_at, seats_of};
-    ghost use Rattle.pm_seating.specs.Seating.{Move};
-    ghost use Rattle.pm_seating.specs.Standing.{Goes, IsRunning, SeatServes, view};
-    ghost use Rattle.pm_seating.specs.Calls.{accepts, HasLookedAt};
+    ghost use Rattle.pm_board.specs.{pm_supervisor.Steps.kind_for, Models.HasAssigned, Places.AllReaped};
+    ghost use Rattle.pm_supervisor_journal.specs.{Standing.{IsAtRest, MayTake, accepting, decision_on, made, next_pid}, Stands.IsSettled, Supervision.{HasRoom, at_work, standing, told}};
+    ghost use Rattle.pm_board_acts.specs.{Board.{seat_at, seats_of}, Seating.Move, Standing.{Goes, IsRunning, SeatServes, view}, Calls.{accepts, HasLookedAt}};
 
     /// Takes the next connection, right after a turn, for a child in a slot that is free and serves it.
     pub fn admit(&mut self, slot: u32, mail: M) -> Taken
@@ -113,17 +104,9 @@ impl<J: Chronicle<PmEvent>, M: Report + Drop> Desk<J, M> {
 
 impl<J: Chronicle<PmEvent>, M: Report + Drop> Desk<J, M> {
     ghost use Rattle.std.specs.Prelude.{Bool, Err, Ok, true};
-    ghost use Rattle.pm_exit.specs.declared.child.Kind.{Kind};
-    ghost use Rattle.pm_journal.specs.Standing.{next_of};
-    ghost use Rattle.pm_journal.specs.Stands.{IsSettled};
-    ghost use Rattle.pm_journal.specs.Supervision.{at_work, standing, told};
-    ghost use Rattle.pm_journal.specs.declared.act.Act.{Act};
-    ghost use Rattle.pm_journal.specs.declared.act.GenerationsSpent.{GenerationsSpent};
-    ghost use Rattle.pm_seating.specs.Acts.{IsDone, MayPerform, slot_of};
-    ghost use Rattle.pm_seating.specs.Board.{seats_of};
-    ghost use Rattle.pm_seating.specs.Calls.{DoesNext};
-    ghost use Rattle.pm_seating.specs.Seating.{Move};
-    ghost use Rattle.pm_seating.specs.Standing.{Goes, IsRunning, view};
+    ghost use Rattle.pm_board.specs.pm_exit.declared.child.Kind.{Kind};
+    ghost use Rattle.pm_supervisor_journal.specs.{Standing.next_of, Stands.IsSettled, Supervision.{at_work, standing, told}, declared.act.{Act.Act, GenerationsSpent.GenerationsSpent}};
+    ghost use Rattle.pm_board_acts.specs.{Acts.{IsDone, MayPerform, slot_of}, Board.seats_of, Calls.DoesNext, Seating.Move, Standing.{Goes, IsRunning, view}};
 
     /// Does the next act that is due, if there is one: its entry is noted, and then it is done at the board.
     pub fn do_next(&mut self) -> Result<Option<Act>, GenerationsSpent>

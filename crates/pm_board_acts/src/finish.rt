@@ -1,17 +1,13 @@
 //! The end of a supervisor: after its last entry the children that are left are killed and released.
 ghost use Rattle.std.specs.Prelude.{◌≡◌, ◌+◌, ◌<◌, ℕ, false, length};
 ghost use Rattle.pm_board.specs.declared.views.Signal.TheVariants as signal;
-ghost use Rattle.pm_seating.specs.Acts.{ShowsNow};
-ghost use Rattle.pm_seating.specs.Board.{after_steps, seats_of};
-ghost use Rattle.pm_seating.specs.Final.{AreFree, EndsWithNobody, HasFound, KeepsEnding, MayEndAnywhere, is_running};
-ghost use Rattle.pm_seating.specs.Seating.{sends};
-ghost use Rattle.pm_seating.specs.declared.audience.Audience.TheVariants.{Everyone};
+ghost use Rattle.pm_board_acts.specs.{Acts.ShowsNow, Board.{after_steps, seats_of}, Final.{AreFree, EndsWithNobody, HasFound, KeepsEnding, MayEndAnywhere, is_running}, Seating.sends, declared.audience.Audience.TheVariants.Everyone};
 
 use crate::audience::Audience;
 use crate::seats::{reap, seated};
 use crate::telling::tell;
 use pm_board::{Letter, Released, Roster, Signal};
-use pm_journal::keeps_a_legal_journal;
+use pm_supervisor_journal::keeps_a_legal_journal;
 
 /// A supervisor may end at every moment: what it has noted stays all that was noted.
 pub fn may_end_anywhere<M: Letter>()

@@ -1,9 +1,8 @@
 //! What a supervisor asks of the mails that it gives and gets back.
 ghost use Rattle.std.specs.Prelude.{◌≡◌, ◌≢◌, ℕ, Bool, Option, None, true};
-ghost use Rattle.pm_exit.specs.declared.child.Kind.{Kind};
-ghost use Rattle.pm_exit.specs.declared.child.Kind.TheVariants as kind;
-ghost use Rattle.pm_exit.specs.declared.child.Status.TheVariants as status;
-ghost use Rattle.pm_board.specs.Places.{is_auxiliary};
+ghost use Rattle.pm_board.specs.{pm_exit.declared.child.Kind.Kind, Places.is_auxiliary};
+ghost use Rattle.pm_board.specs.pm_exit.declared.child.Kind.TheVariants as kind;
+ghost use Rattle.pm_board.specs.pm_exit.declared.child.Status.TheVariants as status;
 
 use pm_board::Letter;
 use pm_exit::Kind;

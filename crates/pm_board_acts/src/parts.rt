@@ -1,16 +1,15 @@
 //! A supervisor at work with its board, and what it is made of.
 ghost use Rattle.std.specs.Prelude.{◌≡◌, ℕ, [], OnOk};
-ghost use Rattle.pm_supervisor.specs.declared.Limits.{Limits};
-ghost use Rattle.pm_journal.specs.Supervision.{HasRoom, at_work, standing, told};
-ghost use Rattle.pm_seating.specs.Standing.{IsAt, IsUnbegun, view};
+ghost use Rattle.pm_supervisor_journal.specs.{pm_supervisor.declared.Limits.Limits, Supervision.{HasRoom, at_work, standing, told}};
+ghost use Rattle.pm_board_acts.specs.Standing.{IsAt, IsUnbegun, view};
 
 use crate::desk::Desk;
 use crate::laws::laws;
 use crate::mail::Report;
 use pm_board::Roster;
-use pm_journal::Supervision;
 use pm_outside::Chronicle;
 use pm_state::PmEvent;
+use pm_supervisor_journal::Supervision;
 use std::alloc::AllocError;
 
 impl<J: Chronicle<PmEvent>, M: Report + Drop> Desk<J, M> {

@@ -1,14 +1,11 @@
 //! Who sits where.
 ghost use Rattle.std.specs.Prelude.{◌≡◌, ◌<◌, None, Some, IfNone, IfSome, length, slice_set};
-ghost use Rattle.pm_board.specs.Places.{MayAssign};
-ghost use Rattle.pm_board.specs.Models.{HasAssigned};
-ghost use Rattle.pm_seating.specs.Acts.{ShowsNow};
-ghost use Rattle.pm_seating.specs.Board.{seat_at, seats_of};
-ghost use Rattle.pm_seating.specs.Sitting.{HasReaped, StillRuns};
+ghost use Rattle.pm_board.specs.{Places.MayAssign, Models.HasAssigned};
+ghost use Rattle.pm_board_acts.specs.{Acts.ShowsNow, Board.{seat_at, seats_of}, Sitting.{HasReaped, StillRuns}};
 
 use pm_board::{Letter, Look, Released, Roster};
 use pm_exit::Kind;
-use pm_journal::Enrolled;
+use pm_supervisor_journal::Enrolled;
 
 /// The child that sits in a slot.
 pub fn seated<M: Letter + Drop>(roster: &Roster<M>, slot: u32) -> Option<Enrolled>

@@ -2,10 +2,7 @@
 ghost use Rattle.std.specs.Prelude.{◌≡◌, ◌∷◌};
 ghost use Rattle.pm_board.specs.declared.views.RosterStep.TheVariants as step;
 ghost use Rattle.pm_board.specs.Told.{MayQuit};
-ghost use Rattle.pm_seating.specs.Acts.{ShowsNow};
-ghost use Rattle.pm_seating.specs.Board.{after_steps, seats_of};
-ghost use Rattle.pm_seating.specs.Seating.{sends};
-ghost use Rattle.pm_seating.specs.declared.audience.Audience.TheVariants.{Everyone};
+ghost use Rattle.pm_board_acts.specs.{Acts.ShowsNow, Board.{after_steps, seats_of}, Seating.sends, declared.audience.Audience.TheVariants.Everyone};
 
 use crate::audience::Audience;
 use crate::meant::is_told;

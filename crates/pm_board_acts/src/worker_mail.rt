@@ -1,5 +1,5 @@
 //! The mails of workers, as a supervisor asks them.
-ghost use Rattle.pm_seating.specs.Mails.{kept_told};
+ghost use Rattle.pm_board_acts.specs.Mails.{kept_told};
 ghost use Rattle.pm_worker.specs.Mails.{aux_mail, mail_told};
 
 use crate::mail::Report;

@@ -1,32 +1,9 @@
 -- A child that runs on a post, as its life knows it.
-use Rattle.std.proofs.Common.{ℕ, ◌≡◌, inl, inr, ◌∙◌, ◌++◌, Bool, true, false, List, [], ◌∷◌, Option, Some, None, length, ap, sym, refl, subst}
-use Rattle.std.specs.Prelude.{IsTrue, Result, Ok, Err, not, nat_lt, if◌then◌else◌}
-use Rattle.std.specs.Option.{option_to_list}
-use Rattle.std.proofs.lemmas.List.{append-nil, append_assoc}
-use Rattle.std.proofs.lemmas.Grind.{fold-append}
-use Rattle.pm_supervisor.specs.Children.{is_dead_end, is_session}
-use Rattle.pm_supervisor.specs.declared.Reason.{Reason}
-use Rattle.pm_life.specs.declared.life.Cancelled.{Cancelled}
-use Rattle.pm_life.specs.declared.life.Cancelled.TheVariants.{Sent, NoSuchPid, WrongKey}
-use Rattle.pm_life.specs.declared.life.GateNo.{GateNo}
-use Rattle.pm_life.specs.declared.life.GateNo.TheVariants.{NotReady, TooMany}
-use Rattle.pm_life.specs.declared.life.Signals.{Signals}
-use Rattle.pm_life.specs.Life.{Told, nothing_told, asked_again, let_go}
-use Rattle.pm_board.specs.declared.views.Cancel.{Cancel}
-use Rattle.pm_board.specs.declared.views.Heard.{Heard}
-use Rattle.pm_board.specs.declared.views.Offer.{Offer}
-use Rattle.pm_board.specs.declared.views.PostView.{PostView}
-use Rattle.pm_board.specs.declared.views.Work.{Work}
-use Rattle.pm_board.specs.declared.views.Work.TheVariants.{Idle, Sees, Inactive, Active, Refused, Attached}
-use Rattle.pm_board.specs.Gate.{answer_to, gate_answer, generation_in, notice_in, open_in, sessions_in}
-use Rattle.pm_board.specs.Told.{child_in, answered}
-use Rattle.pm_board.specs.Models.{PostModel, MayAttach, RunsChild, cancel_of}
-use Rattle.pm_board.specs.Rule.{no_signals}
-use Rattle.pm_gate.specs.declared.tokens.Attached.{Attached as Token}
-use Rattle.pm_gate.specs.Attaching.{IsAttachedIn, HasAttached, HasLeft, answer_of, after_attach}
-use Rattle.pm_latch.specs.Taking.{HasTaken}
-use Rattle.pm_latch.specs.Cancelling.{HasAsked, request}
-use Rattle.pm_post_life.specs.Lives.{LifeModel, child_by, told_in_turn, told_by, IsAnswerTo, MetRightly, Makes, LivesAs, IsLiving, GoesOn, GoesOnFrom}
+use Rattle.std.{proofs.{Common.{ℕ, ◌≡◌, inl, inr, ◌∙◌, ◌++◌, Bool, true, false, List, [], ◌∷◌, Option, Some, None, length, ap, sym, refl, subst}, lemmas.{List.{append-nil, append_assoc}, Grind.fold-append}}, specs.{Prelude.{IsTrue, Result, Ok, Err, not, nat_lt, if◌then◌else◌}, Option.option_to_list}}
+use Rattle.pm_gate.specs.{pm_supervisor.{Children.{is_dead_end, is_session}, declared.Reason.Reason}, declared.tokens.Attached.Attached as Token, Attaching.{IsAttachedIn, HasAttached, HasLeft, answer_of, after_attach}}
+use Rattle.pm_board.specs.{pm_child_life.{declared.life.{Cancelled.{Cancelled, TheVariants.{Sent, NoSuchPid, WrongKey}}, GateNo.{GateNo, TheVariants.{NotReady, TooMany}}, Signals.Signals}, Life.{Told, nothing_told, asked_again, let_go}}, declared.views.{Cancel.Cancel, Heard.Heard, Offer.Offer, PostView.PostView, Work.{Work, TheVariants.{Idle, Sees, Inactive, Active, Refused, Attached}}}, Gate.{answer_to, gate_answer, generation_in, notice_in, open_in, sessions_in}, Told.{child_in, answered}, Models.{PostModel, MayAttach, RunsChild, cancel_of}, Rule.no_signals}
+use Rattle.pm_latch.specs.{Taking.HasTaken, Cancelling.{HasAsked, request}}
+use Rattle.pm_board_life.specs.Lives.{LifeModel, child_by, told_in_turn, told_by, IsAnswerTo, MetRightly, Makes, LivesAs, IsLiving, GoesOn, GoesOnFrom}
 
 -- ---- at the gate
 

@@ -1,20 +1,7 @@
 -- What the life of a child tells that runs on a post.
-use Rattle.std.specs.Prelude.{◌≡◌, ◌⊎◌, ℕ, Bool, true, false, List, [], ◌∷◌, ◌++◌, Option, Some, None, Result, Ok, Err, IfSome}
-use Rattle.std.specs.List.{fold}
-use Rattle.std.specs.Option.{option_to_list}
-use Rattle.pm_supervisor.specs.Children.{is_dead_end, is_session}
-use Rattle.pm_life.specs.declared.life.GateNo.{GateNo}
-use Rattle.pm_life.specs.declared.life.GateNo.TheVariants.{Quit, NotReady, TooMany}
-use Rattle.pm_life.specs.declared.life.Signals.{Signals}
-use Rattle.pm_life.specs.Life.{Child, Told, nothing_told, asked_again}
-use Rattle.pm_board.specs.declared.views.Cancel.{Cancel}
-use Rattle.pm_board.specs.declared.views.Heard.{Heard}
-use Rattle.pm_board.specs.declared.views.Offer.{Offer}
-use Rattle.pm_board.specs.declared.views.Work.{Work}
-use Rattle.pm_board.specs.declared.views.Work.TheVariants.{Idle, Sees, Inactive, Active, Refused, Attached}
-use Rattle.pm_board.specs.Told.{child_in}
-use Rattle.pm_board.specs.Models.{PostModel}
-use Rattle.pm_gate.specs.declared.tokens.Attached.{Attached as Token}
+use Rattle.std.specs.{Prelude.{◌≡◌, ◌⊎◌, ℕ, Bool, true, false, List, [], ◌∷◌, ◌++◌, Option, Some, None, Result, Ok, Err, IfSome}, List.fold, Option.option_to_list}
+use Rattle.pm_gate.specs.{pm_supervisor.Children.{is_dead_end, is_session}, declared.tokens.Attached.Attached as Token}
+use Rattle.pm_board.specs.{pm_child_life.{declared.life.{GateNo.{GateNo, TheVariants.{Quit, NotReady, TooMany}}, Signals.Signals}, Life.{Child, Told, nothing_told, asked_again}}, declared.views.{Cancel.Cancel, Heard.Heard, Offer.Offer, Work.{Work, TheVariants.{Idle, Sees, Inactive, Active, Refused, Attached}}}, Told.child_in, Models.PostModel}
 
 -- ---- what it was told
 

@@ -1,14 +1,11 @@
 //! The life of a child that runs on a post.
 ghost use Rattle.std.specs.Prelude.{◌≡◌, Some, None, Option};
-ghost use Rattle.pm_board.specs.declared.views.Work.TheVariants.{Inactive};
-ghost use Rattle.pm_board.specs.declared.views.Offer.{Offer};
-ghost use Rattle.pm_board.specs.Models.{PostModel};
-ghost use Rattle.pm_board.specs.Rule.{no_signals};
-ghost use Rattle.pm_post_life.specs.Lives.{LifeModel, LivesAs, GoesOnFrom, IsLiving};
+ghost use Rattle.pm_board.specs.{declared.views.{Work.TheVariants.Inactive, Offer.Offer}, Models.PostModel, Rule.no_signals};
+ghost use Rattle.pm_board_life.specs.Lives.{LifeModel, LivesAs, GoesOnFrom, IsLiving};
 
 use pm_board::{Letter, Post};
+use pm_child_life::{Cancelled, GateNo, Life, Signals};
 use pm_gate::Attached;
-use pm_life::{Cancelled, GateNo, Life, Signals};
 use std::marker::{Brand, Model, PhantomData};
 
 /// What a post knew when its child was started. Each call that runs a child picks it.
@@ -78,7 +75,7 @@ impl<J: Letter + Drop, K: Begun<J::Told>> PostLife<J, K> {
 
 impl<J: Letter + Drop, K: Begun<J::Told>> Life for PostLife<J, K> {
     ghost use Rattle.std.specs.Prelude.{Some};
-    ghost use Rattle.pm_post_life.specs.Lives.{child_by, told_by};
+    ghost use Rattle.pm_board_life.specs.Lives.{child_by, told_by};
 
     ghost child = { λ l. child_by l.post.knows.work };
 

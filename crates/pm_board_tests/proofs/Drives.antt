@@ -1,19 +1,9 @@
 -- How the driven slot moves.
-use Rattle.std.proofs.Common.{◌≡◌, ℕ, ◌<◌, ◌≤◌, [], length, sym, refl, ap, ◌∙◌, subst, arith}
-use Rattle.std.proofs.lemmas.List.{length-replicate}
+use Rattle.std.proofs.{Common.{◌≡◌, ℕ, ◌<◌, ◌≤◌, [], length, sym, refl, ap, ◌∙◌, subst, arith}, lemmas.List.length-replicate}
 use mathlib.Core.Logic.{dite}
 use native.Mathlib.Decide.{ℕ_discrete}
 use Rattle.std.specs.Prelude.{true, false}
-use Rattle.pm_facts.specs.Lists.{same_everywhere}
-use Rattle.pm_exit.specs.declared.child.Kind.{Kind}
-use Rattle.pm_board.specs.declared.views.RosterNotes.{RosterNotes}
-use Rattle.pm_board.specs.declared.views.RosterView.{RosterView}
-use Rattle.pm_board.specs.declared.views.Sight.{Sight}
-use Rattle.pm_board.specs.declared.views.Sight.TheVariants.{Unused}
-use Rattle.pm_board.specs.declared.views.SlotView.{SlotView}
-use Rattle.pm_board.specs.Places.{slot_at, slot_view, is_auxiliary, IsReaped, MayAssign}
-use Rattle.pm_board.specs.Told.{new_roster}
-use Rattle.pm_board.specs.Models.{SlotBecame}
+use Rattle.pm_board.specs.{pm_facts.Lists.same_everywhere, pm_exit.declared.child.Kind.Kind, declared.views.{RosterNotes.RosterNotes, RosterView.RosterView, Sight.{Sight, TheVariants.Unused}, SlotView.SlotView}, Places.{slot_at, slot_view, is_auxiliary, IsReaped, MayAssign}, Told.new_roster, Models.SlotBecame}
 use Rattle.pm_board_tests.specs.Drive.{Sees, IsFree, ServesFrom}
 
 pub may_assign : (d : RosterView ℕ) (last pid : ℕ) (kind : Kind) → IsFree d last → ServesFrom 9 4 kind → is_auxiliary kind ≡ false → last < pid → pid < 2147483648 → MayAssign d 4 pid kind

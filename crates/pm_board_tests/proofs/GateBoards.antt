@@ -1,26 +1,10 @@
 -- How a board of the tests moves.
-use Rattle.std.proofs.Common.{◌≡◌, ℕ, suc, ◌+◌, ◌<◌, ◌≤◌, List, [], ◌∷◌, length, get_or, refl, sym, ap, ◌∙◌, subst, arith}
-use Rattle.std.proofs.lemmas.List.{length-replicate}
+use Rattle.std.proofs.{Common.{◌≡◌, ℕ, suc, ◌+◌, ◌<◌, ◌≤◌, List, [], ◌∷◌, length, get_or, refl, sym, ap, ◌∙◌, subst, arith}, lemmas.List.length-replicate}
 use mathlib.Core.Logic.{dite}
 use native.Mathlib.Decide.{ℕ_discrete, dec_le}
 use Rattle.std.specs.Prelude.{true, false, Option, Some, None, IfSome, MatchOption}
-use Rattle.pm_facts.specs.Lists.{same_everywhere}
-use Rattle.pm_exit.specs.declared.child.Kind.{Kind}
+use Rattle.pm_board.specs.{pm_facts.Lists.same_everywhere, pm_exit.declared.child.Kind.Kind, declared.views.{Offer.Offer, RosterNotes.RosterNotes, RosterStep.RosterStep, RosterView.RosterView, Sight.{Sight, TheVariants.{Unused, Assigned}}, SlotView.SlotView, Work.TheVariants.Idle}, Places.{slot_at, slot_view, lost, is_auxiliary, is_connection, SlotServes, IsReaped, MayAssign, is_used, used_in}, Words.bit, Gate.gate_of, Told.{new_roster, after_step}, Models.{PostModel, SlotBecame, AreNewPosts, MayOpen, MayReset}, Posts.AllIdle}
 use Rattle.atomic_table.specs.Seated.{TableId}
-use Rattle.pm_board.specs.declared.views.Offer.{Offer}
-use Rattle.pm_board.specs.declared.views.RosterNotes.{RosterNotes}
-use Rattle.pm_board.specs.declared.views.RosterStep.{RosterStep}
-use Rattle.pm_board.specs.declared.views.RosterView.{RosterView}
-use Rattle.pm_board.specs.declared.views.Sight.{Sight}
-use Rattle.pm_board.specs.declared.views.Sight.TheVariants.{Unused, Assigned}
-use Rattle.pm_board.specs.declared.views.SlotView.{SlotView}
-use Rattle.pm_board.specs.declared.views.Work.TheVariants.{Idle}
-use Rattle.pm_board.specs.Places.{slot_at, slot_view, lost, is_auxiliary, is_connection, SlotServes, IsReaped, MayAssign, is_used, used_in}
-use Rattle.pm_board.specs.Words.{bit}
-use Rattle.pm_board.specs.Gate.{gate_of}
-use Rattle.pm_board.specs.Told.{new_roster, after_step}
-use Rattle.pm_board.specs.Models.{PostModel, SlotBecame, AreNewPosts, MayOpen, MayReset}
-use Rattle.pm_board.specs.Posts.{AllIdle}
 use Rattle.pm_board_tests.specs.GateChildren.{HasChildren, IsEmpty, IsUntouched, IsAtSlot, HasBegun, HasReaped, HasVisited}
 
 abbrev new_slot : SlotView ℕ

@@ -1,16 +1,6 @@
 -- How the board of the tests moves.
-use Rattle.std.proofs.Common.{◌≡◌, ◌≢◌, ℕ, ◌+◌, ◌<◌, ◌≤◌, [], length, sym, refl, ap, ◌∙◌, subst, arith}
-use Rattle.std.proofs.lemmas.List.{length-replicate}
-use Rattle.pm_facts.specs.Lists.{same_everywhere}
-use Rattle.pm_board.specs.declared.views.Offer.{Offer}
-use Rattle.pm_board.specs.declared.views.RosterNotes.{RosterNotes}
-use Rattle.pm_board.specs.declared.views.RosterStep.{RosterStep}
-use Rattle.pm_board.specs.declared.views.RosterView.{RosterView}
-use Rattle.pm_board.specs.declared.views.Sight.TheVariants.{Unused, Assigned}
-use Rattle.pm_board.specs.declared.views.SlotView.{SlotView}
-use Rattle.pm_board.specs.Places.{slot_view, IsAssigned}
-use Rattle.pm_board.specs.Told.{new_roster, after_step}
-use Rattle.pm_board.specs.Models.{SlotBecame}
+use Rattle.std.proofs.{Common.{◌≡◌, ◌≢◌, ℕ, ◌+◌, ◌<◌, ◌≤◌, [], length, sym, refl, ap, ◌∙◌, subst, arith}, lemmas.List.length-replicate}
+use Rattle.pm_board.specs.{pm_facts.Lists.same_everywhere, declared.views.{Offer.Offer, RosterNotes.RosterNotes, RosterStep.RosterStep, RosterView.RosterView, Sight.TheVariants.{Unused, Assigned}, SlotView.SlotView}, Places.{slot_view, IsAssigned}, Told.{new_roster, after_step}, Models.SlotBecame}
 use Rattle.pm_board_tests.specs.LatchChildren.{IsNew, CanBegin, IsBusy, Changed, HasBegun, HasStayed, HasFinished, TakesTurns, Waits}
 
 pub is_new : (d : RosterView ℕ) (limit dealt : ℕ) → d ≡ new_roster 9 limit dealt → IsNew d

@@ -1,10 +1,6 @@
 -- Laws of what a child was told and hears, from one moment to the next, and of what stands.
-use Rattle.std.proofs.Common.{◌≡◌, inl, inr, ℕ, ◌+◌, Option, None, Some, Result, refl, ◌∙◌, subst, arith}
-use Rattle.std.specs.Option.{option_map}
-use Rattle.pm_life.specs.declared.standing.Standing.{Standing}
-use Rattle.pm_life.specs.declared.life.GateNo.{GateNo}
-use Rattle.pm_life.specs.Life.{Child, Told, Signal, Cancel, met_at_gate, was_told}
-use Rattle.pm_life.specs.Attention.{Attention, attention, was_given, Stands, IsAttentive, IsBy, HasAsked, KeepsCancels, Gains, HasGained, GivenSince, Hears}
+use Rattle.std.{proofs.Common.{◌≡◌, inl, inr, ℕ, ◌+◌, Option, None, Some, Result, refl, ◌∙◌, subst, arith}, specs.Option.option_map}
+use Rattle.pm_child_life.specs.{declared.{standing.Standing.Standing, life.GateNo.GateNo}, Life.{Child, Told, Signal, Cancel, met_at_gate, was_told}, Attention.{Attention, attention, was_given, Stands, IsAttentive, IsBy, HasAsked, KeepsCancels, Gains, HasGained, GivenSince, Hears}}
 
 -- ---- what was told, from one moment to the next
 

@@ -1,10 +1,6 @@
 -- A script, one answer further.
-use Rattle.std.proofs.Common.{◌≡◌, ℕ, ◌+◌, ◌-◌, ◌^◌, ◌<◌, min, List, [], ◌∷◌, ◌++◌, length, take, get_or, Option, Some, Result, refl, sym, ◌∙◌, ap, subst, arith, append_assoc, length-take}
-use Rattle.std.proofs.lemmas.List.{append-nil, take_more}
-use Rattle.pm_life.specs.declared.life.Signals.{Signals}
-use Rattle.pm_life.specs.Life.{Signal, Told, signals_in, next_ask, numbered, asked_again}
-use Rattle.pm_life.specs.declared.life.GateNo.{GateNo}
-use Rattle.pm_life.specs.Scripted.{given_from}
+use Rattle.std.proofs.{Common.{◌≡◌, ℕ, ◌+◌, ◌-◌, ◌^◌, ◌<◌, min, List, [], ◌∷◌, ◌++◌, length, take, get_or, Option, Some, Result, refl, sym, ◌∙◌, ap, subst, arith, append_assoc, length-take}, lemmas.List.{append-nil, take_more}}
+use Rattle.pm_child_life.specs.{declared.life.{Signals.Signals, GateNo.GateNo}, Life.{Signal, Told, signals_in, next_ask, numbered, asked_again}, Scripted.given_from}
 
 pub given_from-push : (ask next : ℕ) (answers : List Signals) (signals : Signals) → next ≡ ask + length answers → given_from ask (answers ++ signals ∷ []) ≡ given_from ask answers ++ numbered next (signals_in signals)
 given_from-push ask next [] signals is =

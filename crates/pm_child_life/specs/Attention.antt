@@ -1,11 +1,7 @@
 -- What a child was told, and what of it still stands to be heeded.
-use Rattle.std.specs.Prelude.{◌≡◌, ◌≢◌, ◌⊎◌, ◌↔◌, ℕ, ◌+◌, ◌-◌, ◌^◌, ◌≤◌, ◌||◌, min, Bool, true, false, Option, None, Some, IfSome, IsTrue}
-use Rattle.std.specs.Option.{option_or}
-use Rattle.std.specs.List.{Contains}
+use Rattle.std.specs.{Prelude.{◌≡◌, ◌≢◌, ◌⊎◌, ◌↔◌, ℕ, ◌+◌, ◌-◌, ◌^◌, ◌≤◌, ◌||◌, min, Bool, true, false, Option, None, Some, IfSome, IsTrue}, Option.option_or, List.Contains}
 use Rattle.pm_supervisor.specs.declared.Reason.{Reason}
-use Rattle.pm_life.specs.declared.life.Signals.{Signals}
-use Rattle.pm_life.specs.Life.{Child, Told, Signal, Kill, Quit, Terminate, Cancel, Checkpoint, next_ask, was_told}
-use Rattle.pm_life.specs.declared.standing.Standing.{Standing}
+use Rattle.pm_child_life.specs.{declared.{life.Signals.Signals, standing.Standing.Standing}, Life.{Child, Told, Signal, Kill, Quit, Terminate, Cancel, Checkpoint, next_ask, was_told}}
 
 -- ---- what stands
 

@@ -1,4 +1,4 @@
 pub mod Attention
-pub mod AttentionLaws
 pub mod Life
 pub mod Scripted
+pub use Rattle.pm_supervisor.specs as pm_supervisor

@@ -1,9 +1,7 @@
 -- What a child's life tells.
-use Rattle.std.specs.Prelude.{◌≡◌, ℕ, ◌+◌, ◌-◌, ◌^◌, ◌++◌, min, cond, map, Bool, List, [], ◌∷◌, Option, None, Some, IfSome, Result}
-use Rattle.std.specs.List.{Contains}
+use Rattle.std.specs.{Prelude.{◌≡◌, ℕ, ◌+◌, ◌-◌, ◌^◌, ◌++◌, min, cond, map, Bool, List, [], ◌∷◌, Option, None, Some, IfSome, Result}, List.Contains}
 use Rattle.pm_supervisor.specs.declared.Reason.{Reason}
-use Rattle.pm_life.specs.declared.life.GateNo.{GateNo}
-use Rattle.pm_life.specs.declared.life.Signals.{Signals}
+use Rattle.pm_child_life.specs.declared.life.{GateNo.GateNo, Signals.Signals}
 
 -- whose life it is, whether it is a dead-end child's, and in which generation that child is attached, if it is
 pub record Child : Type 0 where

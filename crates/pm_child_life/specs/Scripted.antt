@@ -1,9 +1,6 @@
 -- What a scripted life tells.
-use Rattle.std.specs.Prelude.{◌≡◌, ℕ, ◌+◌, ◌++◌, min, false, length, slice_index_or, List, [], ◌∷◌, take, Option, None, Some}
-use Rattle.std.specs.Option.{option_to_list}
-use Rattle.pm_life.specs.declared.life.Signals.{Signals}
-use Rattle.pm_life.specs.declared.scripted.ScriptedLife.{ScriptedLife}
-use Rattle.pm_life.specs.Life.{Child, Signal, Told, signals_in, numbered}
+use Rattle.std.specs.{Prelude.{◌≡◌, ℕ, ◌+◌, ◌++◌, min, false, length, slice_index_or, List, [], ◌∷◌, take, Option, None, Some}, Option.option_to_list}
+use Rattle.pm_child_life.specs.{declared.{life.Signals.Signals, scripted.ScriptedLife.ScriptedLife}, Life.{Child, Signal, Told, signals_in, numbered}}
 
 abbrev pub child_of_script : ScriptedLife → Child
 child_of_script life = record { pid = life.pid; is_dead_end = life.is_dead_end; attached = life.attached }

@@ -1,6 +1,6 @@
 //! What a child's own life gives it: its pid, its signals, and its attachment at the gate.
 ghost use Rattle.std.specs.Prelude.{◌≡◌, ℕ, Option, Some, None, option_map, IfOk, IsTrue, OnErr};
-ghost use Rattle.pm_life.specs.Life.{Told, Child, IsUntried, HasNoCancel, asked_again, met_at_gate, asked_cancel, attached_in, let_go};
+ghost use Rattle.pm_child_life.specs.Life.{Told, Child, IsUntried, HasNoCancel, asked_again, met_at_gate, asked_cancel, attached_in, let_go};
 
 use pm_supervisor::Reason;
 

@@ -32,9 +32,7 @@ pub struct ScriptedLife {
 
 impl ScriptedLife {
     ghost use Rattle.std.specs.Prelude.{None, [], Ok, false};
-    ghost use Rattle.pm_life.specs.declared.life.Cancelled.TheVariants.{NoSuchPid};
-    ghost use Rattle.pm_life.specs.Life.{nothing_told};
-    ghost use Rattle.pm_life.specs.Scripted.{child_of_script, told_by_script};
+    ghost use Rattle.pm_child_life.specs.{declared.life.Cancelled.TheVariants.NoSuchPid, Life.nothing_told, Scripted.{child_of_script, told_by_script}};
 
     /// A life that isn't attached yet, and hasn't asked for anything.
     pub fn new(
@@ -85,7 +83,7 @@ impl ScriptedLife {
 
 impl ScriptedLife {
     ghost use Rattle.std.specs.Option.{option_to_list};
-    ghost use Rattle.pm_life.specs.Scripted.{child_of_script, told_by_script};
+    ghost use Rattle.pm_child_life.specs.Scripted.{child_of_script, told_by_script};
 
     /// The generation that it is attached in, if it is.
     pub fn attached(&self) -> Option<u32>
@@ -104,8 +102,7 @@ impl ScriptedLife {
 
 impl Life for ScriptedLife {
     ghost use Rattle.std.specs.Prelude.{None, Some, IsTrue, IfOk, OnErr, option_map};
-    ghost use Rattle.pm_life.specs.Life.{HasNoCancel, asked_again, asked_cancel, attached_in, met_at_gate};
-    ghost use Rattle.pm_life.specs.Scripted.{GivesNext, child_of_script, told_by_script};
+    ghost use Rattle.pm_child_life.specs.{Life.{HasNoCancel, asked_again, asked_cancel, attached_in, met_at_gate}, Scripted.{GivesNext, child_of_script, told_by_script}};
 
     ghost child = { child_of_script };
 

@@ -1,6 +1,6 @@
 //! The signals that a child has taken and not heeded yet.
 ghost use Rattle.std.specs.Prelude.{◌≡◌};
-ghost use Rattle.pm_life.specs.Attention.{attention, nothing_stands, with_signals, Hears, IsAttentive};
+ghost use Rattle.pm_child_life.specs.Attention.{attention, nothing_stands, with_signals, Hears, IsAttentive};
 
 use crate::life::{Life, Signals};
 use pm_supervisor::Reason;

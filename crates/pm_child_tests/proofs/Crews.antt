@@ -1,15 +1,7 @@
 -- How the board of the tests moves.
-use Rattle.std.proofs.Common.{◌≡◌, ℕ, [], length, sym, ap, ◌∙◌, subst}
-use Rattle.std.proofs.lemmas.List.{length-replicate}
-use Rattle.pm_facts.specs.Lists.{same_everywhere}
-use Rattle.pm_board.specs.declared.views.RosterNotes.{RosterNotes}
-use Rattle.pm_board.specs.declared.views.RosterStep.{RosterStep}
-use Rattle.pm_board.specs.declared.views.RosterView.{RosterView}
-use Rattle.pm_board.specs.declared.views.Sight.TheVariants.{Unused}
-use Rattle.pm_board.specs.declared.views.SlotView.{SlotView}
-use Rattle.pm_board.specs.Places.{slot_at, slot_view, IsReaped}
-use Rattle.pm_board.specs.Told.{new_roster, after_step}
-use Rattle.pm_board.specs.Models.{SlotBecame}
+use Rattle.std.proofs.{Common.{◌≡◌, ℕ, [], length, sym, ap, ◌∙◌, subst}, lemmas.List.length-replicate}
+use Rattle.pm_query.specs.pm_facts.Lists.{same_everywhere}
+use Rattle.pm_board.specs.{declared.views.{RosterNotes.RosterNotes, RosterStep.RosterStep, RosterView.RosterView, Sight.TheVariants.Unused, SlotView.SlotView}, Places.{slot_at, slot_view, IsReaped}, Told.{new_roster, after_step}, Models.SlotBecame}
 use Rattle.pm_child_tests.specs.Crew.{IsSettled, IsManned, IsFresh, HasLookedAt}
 
 -- ---- posts

@@ -2,8 +2,8 @@
 use crate::connection::{Case, PLAIN, check};
 use crate::signals::{ALL, KILL, QUIT, STOP};
 use pm_admit::Cac;
+use pm_child_life::{GateNo, Reason};
 use pm_exit::Status;
-use pm_life::{GateNo, Reason};
 use std::test::Fail;
 
 /// What a connection is, what it meets, what comes in, how it exits, and what goes out.

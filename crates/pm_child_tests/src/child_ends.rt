@@ -2,8 +2,8 @@
 
 use crate::children::*;
 use pm_aux::AuxDone;
+use pm_child_life::{GateNo, Reason};
 use pm_exit::{Kind, Status};
-use pm_life::{GateNo, Reason};
 use pm_query::{RedoFault, StoreNo};
 use pm_rows_tests::GENERATION;
 use std::test::Fail;

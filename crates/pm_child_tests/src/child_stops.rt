@@ -3,8 +3,8 @@
 use crate::children::*;
 use crate::short_book::ShortBook;
 use pm_aux::{startup, writer};
+use pm_child_life::{Cancelled, ScriptedLife, Signals};
 use pm_exit::{Kind, Status};
-use pm_life::{Cancelled, ScriptedLife, Signals};
 use pm_outside::{Kept, MemClock};
 use pm_rows_tests::{GENERATION, MemStore, ask};
 use pm_sql::{Script, parse};

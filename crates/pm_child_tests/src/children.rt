@@ -2,8 +2,8 @@
 
 use crate::short_book::ShortBook;
 use pm_aux::{AuxDone, checkpointer, startup, writer};
+use pm_child_life::{Cancelled, GateNo, Reason, ScriptedLife, Signals};
 use pm_exit::{Kind, Status};
-use pm_life::{Cancelled, GateNo, Reason, ScriptedLife, Signals};
 use pm_outside::{Clock, Kept, MemClock};
 use pm_query::{BookEntry, CHECKPOINT_BYTES, StoreNo};
 use pm_rows_tests::{Fault, GENERATION, MemStore};

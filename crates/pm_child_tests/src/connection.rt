@@ -1,12 +1,11 @@
 // One connection over memory, and how it ended.
 ghost use Rattle.std.specs.Prelude.{◌≡◌, ◌<◌, IfOk};
-ghost use Rattle.pm_outside.specs.MemLink.{link_traffic};
-ghost use Rattle.pm_outside.specs.Traffic.{no_traffic};
+ghost use Rattle.pm_outside.specs.{MemLink.link_traffic, Traffic.no_traffic};
 
 use crate::bytes::named;
 use pm_admit::Cac;
+use pm_child_life::{Cancelled, GateNo, Life, ScriptedLife, Signals};
 use pm_exit::Status;
-use pm_life::{Cancelled, GateNo, Life, ScriptedLife, Signals};
 use pm_outside::{Chronicle, Clock, Kept, LinkScript, MemClock, MemLink};
 use pm_query::{BookEntry, Store};
 use pm_rows_tests::{GENERATION, MemStore};

@@ -1,7 +1,7 @@
 // Sessions that are told to end.
 use crate::connection::{Case, KEY, NO_SIGNALS, PID, PLAIN, joined, serve_case, served};
+use pm_child_life::{Reason, Signals};
 use pm_exit::Status;
-use pm_life::{Reason, Signals};
 use pm_outside::MemClock;
 use pm_rows_tests::GENERATION;
 use std::alloc::{AllocError, Global};

@@ -1,26 +1,8 @@
 -- An answer that is read and shown.
-use Rattle.std.proofs.Common.{◌≡◌, ◌↔◌, ◌∙◌, ℕ, ◌+◌, ◌<◌, ◌≤◌, Bool, cond, true, false, List, [], ◌∷◌, ◌++◌, length, Result, Ok, Err, refl, sym, ap, subst, arith, append_assoc}
-use Rattle.std.proofs.lemmas.List.{append-nil}
-use Rattle.std.proofs.lemmas.List.Concat.{flat_map-append}
-use Rattle.std.proofs.lemmas.List.Sums.{sum_by-append, sum_by-cons}
-use Rattle.pm_wire.specs.declared.back.Back.{Back}
-use Rattle.pm_wire.specs.declared.take.Take.{Take}
-use Rattle.pm_wire.specs.declared.take.Take.TheVariants.{Bad}
-use Rattle.pm_wire.specs.Backend.{BackMessage, Auth, Param, Key, Ready, Fields, Pair, One, Complete, Empty, Fault, Notice, IsBack}
-use Rattle.pm_wire.specs.declared.take.WireFault.{WireFault}
-use Rattle.pm_wire.specs.declared.take.WireFault.TheVariants.{BadLength, BadForm}
-use Rattle.pm_wire.specs.Stream.{HasNoMessage, IsStream}
-use Rattle.pm_wire_back.specs.Failing.{BackFails}
-use Rattle.pm_wire_back.specs.Received.{DepartsHere, HasNoSuchLength, IsWholeAt}
-use Rattle.pm_client.specs.declared.played.Played.{Played}
-use Rattle.pm_client.specs.declared.played.Played.TheVariants.{Done, LinkFault, OutFault, BadReply, NoMemory}
-use Rattle.pm_client.specs.Show.{is_ready, line_of, lines_of}
-use Rattle.pm_client.specs.Sides.{Carries, LinkView, Prints, Shows, Sides, SinkView}
-use Rattle.pm_client.specs.Talk.{AreAnswers, answers_in}
-use Rattle.pm_client.specs.Hearing.{Awaits, Hearing, Hears, IsNoMore}
-use Rattle.pm_client.proofs.Links.{carries_in, carries_none, prints_both, prints_none}
-use Rattle.pm_client.proofs.Streams.{no_message, stream_grows, stream_more}
-use Rattle.pm_disk.specs.DiskLaws.{rose_from}
+use Rattle.std.proofs.{Common.{◌≡◌, ◌↔◌, ◌∙◌, ℕ, ◌+◌, ◌<◌, ◌≤◌, Bool, cond, true, false, List, [], ◌∷◌, ◌++◌, length, Result, Ok, Err, refl, sym, ap, subst, arith, append_assoc}, lemmas.List.{append-nil, Concat.flat_map-append, Sums.{sum_by-append, sum_by-cons}}}
+use Rattle.pm_wire_back.specs.{pm_wire.{declared.{back.Back.Back, take.{Take.{Take, TheVariants.Bad}, WireFault.{WireFault, TheVariants.{BadLength, BadForm}}}}, Backend.{BackMessage, Auth, Param, Key, Ready, Fields, Pair, One, Complete, Empty, Fault, Notice, IsBack}, Stream.{HasNoMessage, IsStream}}, Failing.BackFails, Received.{DepartsHere, HasNoSuchLength, IsWholeAt}}
+use Rattle.pm_client.{specs.{declared.played.Played.{Played, TheVariants.{Done, LinkFault, OutFault, BadReply, NoMemory}}, Show.{is_ready, line_of, lines_of}, Sides.{Carries, LinkView, Prints, Shows, Sides, SinkView}, Talk.{AreAnswers, answers_in}, Hearing.{Awaits, Hearing, Hears, IsNoMore}}, proofs.{Links.{carries_in, carries_none, prints_both, prints_none}, Streams.{no_message, stream_grows, stream_more}}}
+use Rattle.pm_outside.proofs.pm_disk.DiskLaws.{rose_from}
 
 pub answers_both : (ms ns : List BackMessage) → answers_in (ms ++ ns) ≡ answers_in ms + answers_in ns
 answers_both ms ns = sum_by-append _ ms ns

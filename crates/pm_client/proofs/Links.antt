@@ -1,18 +1,7 @@
 -- What passed on a link and was shown, from one moment to the next.
-use Rattle.std.proofs.Common.{◌≡◌, ◌∙◌, ℕ, ◌≤◌, List, [], ◌++◌, take, drop, Option, None, Some, Ok, Err, refl, sym, ap, subst, arith, append_assoc, take-append-drop}
-use Rattle.std.specs.Option.{option_map}
-use Rattle.std.proofs.lemmas.List.{append-nil}
-use Rattle.pm_disk.specs.Cause.{Rose}
-use Rattle.pm_disk.specs.DiskLaws.{rose_from}
-use Rattle.pm_outside.specs.Traffic.{Traffic, after_read, after_write, put_behind, came_in_of, went_out_of}
-use Rattle.pm_outside.specs.declared.link.Got.{Got}
-use Rattle.pm_outside.specs.declared.link.Got.TheVariants.{Bytes, End}
-use Rattle.pm_outside.specs.declared.link.Put.TheVariants.{Count, Failed as PutFailed}
-use Rattle.pm_outside.specs.Added.{Added}
-use Rattle.pm_outside.specs.AddedLaws.{added_both, added_none}
-use Rattle.pm_outside.specs.TrafficLaws.{got_in, got_none, got_out, wrote_in, wrote_none, wrote_out}
-use Rattle.pm_client.specs.Sides.{Carries, HasEnded, LinkView, Prints, Sends, Shows, SinkView}
-use Rattle.pm_client.specs.declared.played.Played.TheVariants.{LinkFault, OutFault}
+use Rattle.std.{proofs.{Common.{◌≡◌, ◌∙◌, ℕ, ◌≤◌, List, [], ◌++◌, take, drop, Option, None, Some, Ok, Err, refl, sym, ap, subst, arith, append_assoc, take-append-drop}, lemmas.List.append-nil}, specs.Option.option_map}
+use Rattle.pm_outside.{specs.{pm_disk.Cause.Rose, Traffic.{Traffic, after_read, after_write, put_behind, came_in_of, went_out_of}, declared.link.{Got.{Got, TheVariants.{Bytes, End}}, Put.TheVariants.{Count, Failed as PutFailed}}, Added.Added}, proofs.{pm_disk.DiskLaws.rose_from, AddedLaws.{added_both, added_none}, TrafficLaws.{got_in, got_none, got_out, wrote_in, wrote_none, wrote_out}}}
+use Rattle.pm_client.specs.{Sides.{Carries, HasEnded, LinkView, Prints, Sends, Shows, SinkView}, declared.played.Played.TheVariants.{LinkFault, OutFault}}
 
 pub carries_none : (at : LinkView) → Carries [] [] at at
 carries_none at = record { came_in = added_none (came_in_of at.traffic); went_out = added_none (went_out_of at.traffic); later = omega arith }

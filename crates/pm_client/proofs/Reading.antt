@@ -1,16 +1,7 @@
 -- What a read leaves in the inbox.
-use Rattle.std.proofs.Common.{◌≡◌, ◌≢◌, ◌∙◌, ℕ, ◌<◌, ◌≤◌, true, false, List, [], ◌++◌, length, take, drop, Ok, Err, refl, sym, ap, subst, arith, append_assoc, length-take, length-append}
-use Rattle.std.specs.Option.{option_map}
-use Rattle.std.proofs.lemmas.List.{append-nil, take-append-le, length-take-le, take-take, nil_from_length}
-use Rattle.pm_disk.specs.Cause.{Rose}
-use Rattle.pm_disk.specs.DiskLaws.{rose_from}
-use Rattle.pm_outside.specs.Traffic.{after_read}
-use Rattle.pm_outside.specs.declared.link.Got.TheVariants.{Bytes, NotYet, End, Failed}
-use Rattle.pm_client.specs.declared.played.Played.{Played}
-use Rattle.pm_client.specs.declared.played.Played.TheVariants.{Done, LinkFault, OutFault, BadReply, NoMemory}
-use Rattle.pm_client.specs.Sides.{Carries, LinkView}
-use Rattle.pm_client.specs.Hearing.{Awaits, IsNoMore, Reads, Receives}
-use Rattle.pm_client.proofs.Links.{carries_both, carries_none, got_bytes, got_nothing, has_ended}
+use Rattle.std.{proofs.{Common.{◌≡◌, ◌≢◌, ◌∙◌, ℕ, ◌<◌, ◌≤◌, true, false, List, [], ◌++◌, length, take, drop, Ok, Err, refl, sym, ap, subst, arith, append_assoc, length-take, length-append}, lemmas.List.{append-nil, take-append-le, length-take-le, take-take, nil_from_length}}, specs.Option.option_map}
+use Rattle.pm_outside.{specs.{pm_disk.Cause.Rose, Traffic.after_read, declared.link.Got.TheVariants.{Bytes, NotYet, End, Failed}}, proofs.pm_disk.DiskLaws.rose_from}
+use Rattle.pm_client.{specs.{declared.played.Played.{Played, TheVariants.{Done, LinkFault, OutFault, BadReply, NoMemory}}, Sides.{Carries, LinkView}, Hearing.{Awaits, IsNoMore, Reads, Receives}}, proofs.Links.{carries_both, carries_none, got_bytes, got_nothing, has_ended}}
 
 -- what stands in a buffer into which nothing was read
 pub stands_still : (start have size : ℕ) (xs ys post rest : List ℕ) → have ≤ length xs → have ≤ size → drop start (take have (take size ((take have xs ++ (ys ++ post)) ++ rest))) ≡ drop start (take have xs)

@@ -1,13 +1,7 @@
 -- Streams of the server's messages.
 use Rattle.std.proofs.Common.{◌≡◌, ◌∙◌, ℕ, suc, ◌+◌, ◌<◌, ◌^◌, List, [], ◌∷◌, ◌++◌, length, refl, sym, ap, subst, arith, append_assoc, length-append}
 use Rattle.byteorder.specs.Endian.{big_number}
-use Rattle.pm_wire.specs.Backend.{BackMessage, Auth, Param, Key, Ready, Fields, Pair, One, Complete, Empty, Fault, Notice, IsBack, body, kind_of}
-use Rattle.pm_wire.specs.Numbers.{length_int32, number_again}
-use Rattle.pm_wire.specs.Pieces.{int32}
-use Rattle.pm_wire.specs.Sizes.{short_iff}
-use Rattle.pm_wire.specs.Stream.{HasNoMessage, IsStream}
-use Rattle.pm_wire_back.specs.CountLaws.{has_count}
-use Rattle.pm_wire_back.specs.Received.{IsWholeAt, behind_header, behind_body}
+use Rattle.pm_wire_back.{specs.{pm_wire.{Backend.{BackMessage, Auth, Param, Key, Ready, Fields, Pair, One, Complete, Empty, Fault, Notice, IsBack, body, kind_of}, Numbers.{length_int32, number_again}, Pieces.int32, Sizes.short_iff, Stream.{HasNoMessage, IsStream}}, Received.{IsWholeAt, behind_header, behind_body}}, proofs.CountLaws.has_count}
 
 -- messages after messages
 pub stream_then : (a more rest left : List ℕ) (ms ns : List BackMessage) → IsStream IsBack a ms rest → IsStream IsBack (rest ++ more) ns left → IsStream IsBack (a ++ more) (ms ++ ns) left

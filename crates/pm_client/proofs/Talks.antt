@@ -1,22 +1,8 @@
 -- A talk, request by request.
-use Rattle.std.proofs.Common.{◌≡◌, ◌∙◌, ℕ, ◌+◌, ◌<◌, ◌≤◌, true, false, List, [], ◌∷◌, ◌++◌, length, take, drop, get_or, Result, Ok, Err, refl, sym, ap, subst, arith, append_assoc, take-append-drop}
-use Rattle.std.specs.List.{flat_map}
-use Rattle.std.proofs.lemmas.List.{append-nil, take_all, take_more}
-use Rattle.std.proofs.lemmas.List.Concat.{flat_map-append}
-use Rattle.pm_disk.specs.Cause.{Rose}
-use Rattle.pm_disk.specs.DiskLaws.{rose_from}
-use Rattle.pm_wire.specs.Backend.{BackMessage, Ready, IsBack}
-use Rattle.pm_wire.specs.Stream.{IsStream}
-use Rattle.pm_wire_front.specs.Requests.{all_sent, query, start_packet, terminate}
-use Rattle.pm_client.specs.declared.played.Played.{Played}
-use Rattle.pm_client.specs.declared.played.Played.TheVariants.{Done, LinkFault, OutFault, BadReply, NoMemory}
-use Rattle.pm_client.specs.Show.{lines_of}
-use Rattle.pm_client.specs.Sides.{Carries, Prints, Sends, Sides, SinkView}
-use Rattle.pm_client.specs.Talk.{EndsBy, HasAsked, HasPlayed, IsCutOff, IsWholeOr, answers_in, played_of}
-use Rattle.pm_client.specs.Hearing.{Asks, Hears, IsAsked, IsHeard, IsUnanswered}
-use Rattle.pm_client.proofs.Links.{carries_both, carries_none, carries_out, prints_both, prints_none}
-use Rattle.pm_client.proofs.Hearings.{answers_both}
-use Rattle.pm_client.proofs.Streams.{stream_then}
+use Rattle.std.{proofs.{Common.{◌≡◌, ◌∙◌, ℕ, ◌+◌, ◌<◌, ◌≤◌, true, false, List, [], ◌∷◌, ◌++◌, length, take, drop, get_or, Result, Ok, Err, refl, sym, ap, subst, arith, append_assoc, take-append-drop}, lemmas.List.{append-nil, take_all, take_more, Concat.flat_map-append}}, specs.List.flat_map}
+use Rattle.pm_outside.{specs.pm_disk.Cause.Rose, proofs.pm_disk.DiskLaws.rose_from}
+use Rattle.pm_wire_front.specs.{pm_wire.{Backend.{BackMessage, Ready, IsBack}, Stream.IsStream}, Requests.{all_sent, query, start_packet, terminate}}
+use Rattle.pm_client.{specs.{declared.played.Played.{Played, TheVariants.{Done, LinkFault, OutFault, BadReply, NoMemory}}, Show.lines_of, Sides.{Carries, Prints, Sends, Sides, SinkView}, Talk.{EndsBy, HasAsked, HasPlayed, IsCutOff, IsWholeOr, answers_in, played_of}, Hearing.{Asks, Hears, IsAsked, IsHeard, IsUnanswered}}, proofs.{Links.{carries_both, carries_none, carries_out, prints_both, prints_none}, Hearings.answers_both, Streams.stream_then}}
 
 -- So many answers were read and shown, and this was sent.
 pub record Talked (went : List ℕ) (answered : ℕ) (unread : List ℕ) (before now : Sides) : Type 0 where

@@ -1,13 +1,8 @@
 -- How an answer is read and shown, step by step.
 use Rattle.std.specs.Prelude.{◌≡◌, ◌≢◌, ◌<◌, ◌≤◌, ℕ, Bool, true, false, List, [], ◌++◌, length, Result, Ok, Err}
-use Rattle.pm_disk.specs.Cause.{Rose}
-use Rattle.pm_wire.specs.Backend.{BackMessage, IsBack}
-use Rattle.pm_wire.specs.Stream.{IsStream}
-use Rattle.pm_client.specs.declared.played.Played.{Played}
-use Rattle.pm_client.specs.declared.played.Played.TheVariants.{Done, LinkFault, OutFault, NoMemory}
-use Rattle.pm_client.specs.Show.{lines_of}
-use Rattle.pm_client.specs.Sides.{Carries, HasEnded, LinkView, Prints, Sides}
-use Rattle.pm_client.specs.Talk.{AreAnswers, IsCutOff, answers_in}
+use Rattle.pm_outside.specs.pm_disk.Cause.{Rose}
+use Rattle.pm_wire.specs.{Backend.{BackMessage, IsBack}, Stream.IsStream}
+use Rattle.pm_client.specs.{declared.played.Played.{Played, TheVariants.{Done, LinkFault, OutFault, NoMemory}}, Show.lines_of, Sides.{Carries, HasEnded, LinkView, Prints, Sides}, Talk.{AreAnswers, IsCutOff, answers_in}}
 
 -- ---- reading
 

@@ -1,7 +1,5 @@
 -- How a message of the server is shown.
-use Rattle.std.specs.Prelude.{ℕ, Bool, true, false, List, [], ◌++◌, codes}
-use Rattle.std.specs.Fmt.{signed_decimal}
-use Rattle.std.specs.List.{flat_map}
+use Rattle.std.specs.{Prelude.{ℕ, Bool, true, false, List, [], ◌++◌, codes}, Fmt.signed_decimal, List.flat_map}
 use Rattle.pm_wire.specs.Backend.{BackMessage, Ready, Pair, One, Complete, Fault, Notice, Saying, severity_word, tag_text}
 
 -- an error or a notice: SEVERITY:  CODE text

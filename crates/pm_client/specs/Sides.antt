@@ -1,10 +1,7 @@
 -- What passes on a client's link, and to where it shows what it reads.
 use Rattle.std.specs.Prelude.{◌≡◌, ◌≤◌, ℕ, true, List, [], ◌++◌, Option, IfSome, Result, Ok, Err}
-use Rattle.pm_outside.specs.Added.{Added}
-use Rattle.pm_disk.specs.Cause.{Rose}
-use Rattle.pm_outside.specs.Traffic.{Traffic, came_in_of, went_out_of}
-use Rattle.pm_client.specs.declared.played.Played.{Played}
-use Rattle.pm_client.specs.declared.played.Played.TheVariants.{LinkFault, OutFault}
+use Rattle.pm_outside.specs.{Added.Added, pm_disk.Cause.Rose, Traffic.{Traffic, came_in_of, went_out_of}}
+use Rattle.pm_client.specs.declared.played.Played.{Played, TheVariants.{LinkFault, OutFault}}
 
 -- a link at one moment: what has passed on it, where it tells that, and how often it failed
 pub record LinkView : Type 0 where

@@ -1,15 +1,9 @@
 -- A client's talk with a server: what it sends, reads and shows, and why it ends.
-use Rattle.std.specs.Prelude.{◌≡◌, ◌≤◌, ℕ, ◌+◌, true, false, List, [], ◌∷◌, ◌++◌, length, take, Result, Ok, Err}
-use Rattle.std.specs.List.{count_by, flat_map}
-use Rattle.pm_disk.specs.Cause.{Rose}
-use Rattle.pm_wire.specs.Backend.{BackMessage, Ready, IsBack}
-use Rattle.pm_wire.specs.Stream.{IsStream, HasNoMessage}
-use Rattle.pm_wire_back.specs.Failing.{BackFails}
+use Rattle.std.specs.{Prelude.{◌≡◌, ◌≤◌, ℕ, ◌+◌, true, false, List, [], ◌∷◌, ◌++◌, length, take, Result, Ok, Err}, List.{count_by, flat_map}}
+use Rattle.pm_outside.specs.pm_disk.Cause.{Rose}
+use Rattle.pm_wire_back.specs.{pm_wire.{Backend.{BackMessage, Ready, IsBack}, Stream.{IsStream, HasNoMessage}}, Failing.BackFails}
 use Rattle.pm_wire_front.specs.Requests.{all_sent, query, start_packet}
-use Rattle.pm_client.specs.declared.played.Played.{Played}
-use Rattle.pm_client.specs.declared.played.Played.TheVariants.{Done, LinkFault, OutFault, BadReply, NoMemory}
-use Rattle.pm_client.specs.Show.{is_ready, lines_of}
-use Rattle.pm_client.specs.Sides.{Carries, HasEnded, Prints, Sides}
+use Rattle.pm_client.specs.{declared.played.Played.{Played, TheVariants.{Done, LinkFault, OutFault, BadReply, NoMemory}}, Show.{is_ready, lines_of}, Sides.{Carries, HasEnded, Prints, Sides}}
 
 -- how many answers are at their end
 abbrev pub answers_in : List BackMessage → ℕ

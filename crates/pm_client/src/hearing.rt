@@ -1,7 +1,6 @@
 //! Reading an answer of the server, and showing it.
 ghost use Rattle.std.specs.Prelude.{◌≡◌, [], length};
-ghost use Rattle.pm_client.specs.Hearing.{Asks, Awaits, Hears, Receives};
-ghost use Rattle.pm_client.specs.Sides.{link_view, sides, sink_view};
+ghost use Rattle.pm_client.specs.{Hearing.{Asks, Awaits, Hears, Receives}, Sides.{link_view, sides, sink_view}};
 
 use crate::exchange::{send, show};
 use crate::inbox::Inbox;

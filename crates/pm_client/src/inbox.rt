@@ -1,7 +1,6 @@
 //! The bytes that came in and weren't looked at yet.
 ghost use Rattle.std.specs.Prelude.{◌≡◌, ◌<◌, ◌≤◌, [], IfOk, OnErr, drop, length, take};
-ghost use Rattle.pm_client.specs.Hearing.{Reads};
-ghost use Rattle.pm_client.specs.Sides.{link_view};
+ghost use Rattle.pm_client.specs.{Hearing.Reads, Sides.link_view};
 
 use crate::played::Played;
 use pm_outside::{Got, Link};

@@ -1,8 +1,6 @@
 //! A message of the server as a line of text.
-ghost use Rattle.std.specs.Prelude.{◌≡◌, ◌++◌, OnOk, codes, decimal};
-ghost use Rattle.std.specs.Fmt.{signed_decimal};
-ghost use Rattle.pm_wire.specs.Backend.{back_message, saying, severity_word, tag_text};
-ghost use Rattle.pm_wire_back.specs.Plain.{IsPlain};
+ghost use Rattle.std.specs.{Prelude.{◌≡◌, ◌++◌, OnOk, codes, decimal}, Fmt.signed_decimal};
+ghost use Rattle.pm_wire_back.specs.{pm_wire.Backend.{back_message, saying, severity_word, tag_text}, Plain.IsPlain};
 ghost use Rattle.pm_client.specs.Show.{is_ready, line_of, told_text};
 
 use itoa::Buffer;

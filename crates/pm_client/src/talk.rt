@@ -1,8 +1,7 @@
 //! A whole talk.
 ghost use Rattle.std.specs.Prelude.{◌≡◌, All};
 ghost use Rattle.pm_wire_front.specs.Requests.{IsSayable};
-ghost use Rattle.pm_client.specs.Sides.{link_view, sides, sink_view};
-ghost use Rattle.pm_client.specs.Talk.{HasPlayed, played_of};
+ghost use Rattle.pm_client.specs.{Sides.{link_view, sides, sink_view}, Talk.{HasPlayed, played_of}};
 
 use crate::exchange::send;
 use crate::hearing::ask;

@@ -2,14 +2,14 @@
 use crate::bytes::*;
 use crate::scripted::talk;
 use pm_admit::Cac;
+use pm_child_life::ScriptedLife;
 use pm_client::Played;
 use pm_exit::Status;
-use pm_life::ScriptedLife;
-use pm_net::{Bells, TcpLink, TcpPort};
 use pm_outside::{Accepted, Forgotten, MemClock, MemSink, Port};
+use pm_outside_net::{Bells, TcpLink, TcpPort};
+use pm_outside_streams::StandardLink;
 use pm_rows_tests::{GENERATION, MemStore};
 use pm_session::{Admission, Done, Means, SessionConf, serve};
-use pm_standard::StandardLink;
 use std::alloc::Global;
 use std::io::{self, Read, Write};
 use std::net::{Net, TcpStream};

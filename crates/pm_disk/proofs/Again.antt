@@ -1,17 +1,6 @@
 -- The changes of a file made again, up to a tick.
-use Rattle.std.proofs.Common.{◌≡◌, ℕ, ◌+◌, ◌≤◌, List, [], ◌∷◌, ◌++◌, length, drop, append-nil, refl, sym, ◌∙◌, ap, subst, arith}
-use Rattle.std.specs.Prelude.{fold, filter, nat_le, Vec}
-use Rattle.std.proofs.lemmas.List.{drop_all}
-use Rattle.std.proofs.lemmas.List.Elements.{All-push}
-use Rattle.std.specs.declared.alloc.Global.{Global}
-use Rattle.pm_disk.specs.Files.{overwritten}
-use Rattle.pm_disk.specs.Past.{IsKept, MayLeave, State, after_sync, changed, empty, state_at}
-use Rattle.pm_disk.specs.declared.mem_file.Change.TheVariants.{Written, Synced}
-use Rattle.pm_disk.specs.declared.mem_file.Entry.{Entry}
-use Rattle.pm_disk.specs.declared.mem_file.Replayed.{Replayed}
-use Rattle.pm_disk.specs.Stop.{Tells}
-use Rattle.pm_disk.proofs.AsRead.{kept}
-use Rattle.pm_disk.proofs.Replay.{state_at-push_now}
+use Rattle.std.{proofs.{Common.{◌≡◌, ℕ, ◌+◌, ◌≤◌, List, [], ◌∷◌, ◌++◌, length, drop, append-nil, refl, sym, ◌∙◌, ap, subst, arith}, lemmas.List.{drop_all, Elements.All-push}}, specs.{Prelude.{fold, filter, nat_le, Vec}, declared.alloc.Global.Global}}
+use Rattle.pm_disk.{specs.{Files.overwritten, Past.{IsKept, MayLeave, State, after_sync, changed, empty, state_at}, declared.mem_file.{Change.TheVariants.{Written, Synced}, Entry.Entry, Replayed.Replayed}, Stop.Tells}, proofs.{AsRead.kept, Replay.state_at-push_now}}
 
 abbrev through : ℕ → State → List Entry → State
 through tick state entries = fold (λ s e. changed s e.change) state (filter (λ e. nat_le e.tick tick) entries)

@@ -1,16 +1,6 @@
 -- A file as it reads is one of those that a stop may leave.
-use Rattle.std.proofs.Common.{◌≡◌, ◌⊎◌, ℕ, ◌+◌, ◌<◌, ◌≤◌, Some, List, [], ◌∷◌, ◌++◌, length, get_or, refl, sym, subst, ◌∙◌, ap, arith, rules}
-use Rattle.std.specs.Prelude.{All, filter, fold, slice_get, nat_le}
-use Rattle.std.proofs.lemmas.List.{places}
-use Rattle.std.proofs.lemmas.List.Elements.{All-pop}
-use Rattle.std.proofs.lemmas.Option.{slice_get-get_or}
-use Rattle.pm_disk.specs.Files.{overwritten}
-use Rattle.pm_disk.specs.Past.{State, IsKept, IsOutside, MayLeave, changed, empty, state_at}
-use Rattle.pm_disk.specs.declared.mem_file.Change.{Change}
-use Rattle.pm_disk.specs.declared.mem_file.Change.TheVariants.{Written, Synced}
-use Rattle.pm_disk.specs.declared.mem_file.Entry.{Entry}
-use Rattle.pm_disk.specs.declared.mem_file.Span.{Span}
-use Rattle.pm_disk.specs.DiskLaws.{length-overwritten}
+use Rattle.std.{proofs.{Common.{◌≡◌, ◌⊎◌, ℕ, ◌+◌, ◌<◌, ◌≤◌, Some, List, [], ◌∷◌, ◌++◌, length, get_or, refl, sym, subst, ◌∙◌, ap, arith, rules}, lemmas.{List.{places, Elements.All-pop}, Option.slice_get-get_or}}, specs.Prelude.{All, filter, fold, slice_get, nat_le}}
+use Rattle.pm_disk.{specs.{Files.overwritten, Past.{State, IsKept, IsOutside, MayLeave, changed, empty, state_at}, declared.mem_file.{Change.{Change, TheVariants.{Written, Synced}}, Entry.Entry, Span.Span}}, proofs.DiskLaws.length-overwritten}
 
 get_or-overwritten_outside : (old : List ℕ) (at : ℕ) (bytes : List ℕ) (i d : ℕ) → i < length old → (i < at) ⊎ (at + length bytes ≤ i) → get_or (overwritten old at bytes) i d ≡ get_or old i d
 get_or-overwritten_outside old at bytes i d within outside = search (rules, places)

@@ -1,8 +1,6 @@
 -- Laws of counts of faults, and of a file that was written over.
-use Rattle.std.proofs.Common.{ℕ, ◌-◌, ◌≤◌, List, length, arith, length-append}
-use Rattle.std.proofs.lemmas.List.{length-take, length-drop}
-use Rattle.pm_disk.specs.Cause.{Rose}
-use Rattle.pm_disk.specs.Files.{overwritten}
+use Rattle.std.proofs.{Common.{ℕ, ◌-◌, ◌≤◌, List, length, arith, length-append}, lemmas.List.{length-take, length-drop}}
+use Rattle.pm_disk.specs.{Cause.Rose, Files.overwritten}
 
 -- it rose, also from an earlier moment
 pub rose_from : (first mid now : ℕ) → first ≤ mid → Rose mid now → Rose first now

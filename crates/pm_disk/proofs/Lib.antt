@@ -4,3 +4,4 @@ pub mod Moments
 pub mod Replay
 pub mod Stopped
 pub mod Tear
+pub mod DiskLaws

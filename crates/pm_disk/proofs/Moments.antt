@@ -1,16 +1,6 @@
 -- What the calls of a disk in memory keep of its two files.
 use Rattle.std.proofs.Common.{◌≡◌, ◌↔◌, ℕ, ◌+◌, ◌-◌, ◌^◌, ◌<◌, ◌≤◌, List, [], refl, sym, ◌∙◌, ap, subst, arith}
-use Rattle.pm_disk.specs.Files.{Files, overwritten, with_file}
-use Rattle.pm_disk.specs.Disk.{Elapses, next_tick}
-use Rattle.pm_disk.specs.Past.{State, IsKept, MayLeave, AddsChange, after_sync, after_write, state_at}
-use Rattle.pm_disk.proofs.AsRead.{kept, reads_as_left}
-use Rattle.pm_disk.specs.MemDisk.{MayLeaveAt, ChangesNoFile, Stays, Syncs, Writes}
-use Rattle.pm_disk.specs.declared.disk.Which.TheVariants.{A, B}
-use Rattle.pm_disk.specs.declared.mem_file.Entry.{Entry}
-use Rattle.pm_disk.specs.declared.mem_file.MemFile.{MemFile}
-use Rattle.pm_disk.specs.declared.mem_disk.MemDisk.{MemDisk}
-use Rattle.pm_disk.proofs.Replay.{state_at_later}
-use Rattle.pm_disk.proofs.Tear.{torn_from}
+use Rattle.pm_disk.{specs.{Files.{Files, overwritten, with_file}, Disk.{Elapses, next_tick}, Past.{State, IsKept, MayLeave, AddsChange, after_sync, after_write, state_at}, MemDisk.{MayLeaveAt, ChangesNoFile, Stays, Syncs, Writes}, declared.{disk.Which.TheVariants.{A, B}, mem_file.{Entry.Entry, MemFile.MemFile}, mem_disk.MemDisk.MemDisk}}, proofs.{AsRead.{kept, reads_as_left}, Replay.state_at_later, Tear.torn_from}}
 
 kept_none : IsKept [] [] 0
 unfolding state_at

@@ -1,14 +1,6 @@
 -- One more entry at the end of those that a file keeps.
-use Rattle.std.proofs.Common.{◌≡◌, ℕ, suc, ◌+◌, ◌<◌, ◌≤◌, true, false, List, [], ◌∷◌, ◌++◌, append-nil, refl, sym, ◌∙◌, ap, arith}
-use Rattle.std.specs.Prelude.{All, filter, fold, nat_le, Vec}
-use Rattle.std.proofs.lemmas.List.Elements.{All-push, filter-append}
-use Rattle.std.proofs.lemmas.List.Sums.{fold-append}
-use Rattle.std.proofs.lemmas.Bool.Decides.{nat_tests}
-use Rattle.std.specs.declared.alloc.Global.{Global}
-use Rattle.pm_disk.specs.Past.{State, AddsChange, changed, after_write, after_sync, empty, state_at}
-use Rattle.pm_disk.specs.declared.mem_file.Change.{Change}
-use Rattle.pm_disk.specs.declared.mem_file.Change.TheVariants.{Written, Synced}
-use Rattle.pm_disk.specs.declared.mem_file.Entry.{Entry}
+use Rattle.std.{proofs.{Common.{◌≡◌, ℕ, suc, ◌+◌, ◌<◌, ◌≤◌, true, false, List, [], ◌∷◌, ◌++◌, append-nil, refl, sym, ◌∙◌, ap, arith}, lemmas.{List.{Elements.{All-push, filter-append}, Sums.fold-append}, Bool.Decides.nat_tests}}, specs.{Prelude.{All, filter, fold, nat_le, Vec}, declared.alloc.Global.Global}}
+use Rattle.pm_disk.specs.{Past.{State, AddsChange, changed, after_write, after_sync, empty, state_at}, declared.mem_file.{Change.{Change, TheVariants.{Written, Synced}}, Entry.Entry}}
 
 abbrev up_to : ℕ → List Entry → List Entry
 up_to tick past = filter (λ entry. nat_le entry.tick tick) past

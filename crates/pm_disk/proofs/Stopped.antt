@@ -1,17 +1,6 @@
 -- A file with other bytes in what was written since the last sync is one that a stop may leave.
-use Rattle.std.proofs.Common.{◌≡◌, ◌⊎◌, ℕ, ◌+◌, ◌<◌, ◌≤◌, Some, List, [], ◌∷◌, length, take, sym, ◌∙◌, ap, arith}
-use Rattle.std.specs.Prelude.{◌==◌, ◌%◌, if◌then◌else◌, slice_get, slice_index}
-use Rattle.std.proofs.lemmas.List.{get_or-take, length-take, take_all}
-use Rattle.std.proofs.lemmas.List.FromFn.{length-map-range_with_len}
-use Rattle.std.proofs.lemmas.List.Elements.{All-head, All-tail}
-use Rattle.std.proofs.lemmas.Option.{slice_get-get_or}
-use Rattle.pm_disk.specs.Files.{overwritten}
-use Rattle.pm_disk.specs.Past.{IsOutside, MayLeave, State, state_at}
-use Rattle.pm_disk.proofs.AsRead.{slice_get-overwritten_outside, reads_as_left}
-use Rattle.pm_disk.specs.Stop.{filled, spoiled, stopped}
-use Rattle.pm_disk.specs.declared.mem_file.Entry.{Entry}
-use Rattle.pm_disk.specs.declared.mem_file.Span.{Span}
-use Rattle.pm_disk.specs.DiskLaws.{length-overwritten}
+use Rattle.std.{proofs.{Common.{◌≡◌, ◌⊎◌, ℕ, ◌+◌, ◌<◌, ◌≤◌, Some, List, [], ◌∷◌, length, take, sym, ◌∙◌, ap, arith}, lemmas.{List.{get_or-take, length-take, take_all, FromFn.length-map-range_with_len, Elements.{All-head, All-tail}}, Option.slice_get-get_or}}, specs.Prelude.{◌==◌, ◌%◌, if◌then◌else◌, slice_get, slice_index}}
+use Rattle.pm_disk.{specs.{Files.overwritten, Past.{IsOutside, MayLeave, State, state_at}, Stop.{filled, spoiled, stopped}, declared.mem_file.{Entry.Entry, Span.Span}}, proofs.{AsRead.{slice_get-overwritten_outside, reads_as_left}, DiskLaws.length-overwritten}}
 
 length-filled : (fill : List ℕ) (count : ℕ) → length (filled fill count) ≡ count
 length-filled fill count = length-map-range_with_len (λ k. if length fill == 0 then 0 else slice_index fill (k % length fill)) 0 count

@@ -1,14 +1,6 @@
 -- What a stop leaves of a file after a write, it could leave before, but for the places written and what is past the end.
-use Rattle.std.proofs.Common.{◌≡◌, ◌⊎◌, inl, inr, ℕ, ◌+◌, ◌-◌, ◌<◌, ◌≤◌, min, List, [], ◌∷◌, length, take, drop, get_or, Some, refl, sym, ◌∙◌, ap, arith, rules}
-use Rattle.std.specs.Prelude.{slice_get}
-use Rattle.std.proofs.lemmas.Bool.{cases_lt}
-use Rattle.std.proofs.lemmas.List.{places, length-append, length-take, length-drop}
-use Rattle.std.proofs.lemmas.List.Elements.{All-push}
-use Rattle.std.proofs.lemmas.Option.{slice_get-get_or}
-use Rattle.pm_disk.specs.Files.{overwritten}
-use Rattle.pm_disk.specs.Past.{State, MayLeave, after_write}
-use Rattle.pm_disk.proofs.AsRead.{slice_get-overwritten_outside}
-use Rattle.pm_disk.specs.declared.mem_file.Span.{Span}
+use Rattle.std.{proofs.{Common.{◌≡◌, ◌⊎◌, inl, inr, ℕ, ◌+◌, ◌-◌, ◌<◌, ◌≤◌, min, List, [], ◌∷◌, length, take, drop, get_or, Some, refl, sym, ◌∙◌, ap, arith, rules}, lemmas.{Bool.cases_lt, List.{places, length-append, length-take, length-drop, Elements.All-push}, Option.slice_get-get_or}}, specs.Prelude.slice_get}
+use Rattle.pm_disk.{specs.{Files.overwritten, Past.{State, MayLeave, after_write}, declared.mem_file.Span.Span}, proofs.AsRead.slice_get-overwritten_outside}
 
 -- as `Torn`, of one file
 pub record TornFile (at count : ℕ) (old new : List ℕ) : Type 0 where

@@ -1,7 +1,6 @@
 -- What a device call may do to the files, and what a stop may leave of them.
 use Rattle.std.specs.Prelude.{◌≡◌, ◌⊎◌, ◌↔◌, ℕ, ◌+◌, ◌-◌, ◌^◌, ◌<◌, ◌≤◌, min, List, length, Option, None, Some, slice_get}
-use Rattle.pm_disk.specs.declared.disk.Which.{Which}
-use Rattle.pm_disk.specs.Files.{Files, file_of, other}
+use Rattle.pm_disk.specs.{declared.disk.Which.Which, Files.{Files, file_of, other}}
 
 -- one call more, up to the last number
 abbrev pub next_tick : ℕ → ℕ

@@ -1,10 +1,6 @@
 -- What a disk that fails some of its calls tells, and which calls these are.
 use Rattle.std.specs.Prelude.{◌≡◌, ◌⊎◌, ◌↔◌, ℕ, ◌+◌, ◌-◌, ◌^◌, ◌<◌}
-use Rattle.pm_disk.specs.Files.{Files}
-use Rattle.pm_disk.specs.Cause.{Rose}
-use Rattle.pm_disk.specs.Disk.{Elapses, StopsNoWider}
-use Rattle.pm_disk.specs.Skipped.{added, inner_tick}
-use Rattle.pm_disk.specs.declared.failing_disk.FailingDisk.{FailingDisk}
+use Rattle.pm_disk.specs.{Files.Files, Cause.Rose, Disk.{Elapses, StopsNoWider}, Skipped.{added, inner_tick}, declared.failing_disk.FailingDisk.FailingDisk}
 
 -- the disk within
 abbrev pub inner_of : {D : Type 0} {g : _} → FailingDisk D g → D

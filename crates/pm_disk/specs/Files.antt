@@ -1,7 +1,6 @@
 -- The two files of the commit log, as lists of bytes.
 use Rattle.std.specs.Prelude.{ℕ, ◌+◌, List, ◌++◌, length, take, drop}
-use Rattle.pm_disk.specs.declared.disk.Which.{Which}
-use Rattle.pm_disk.specs.declared.disk.Which.TheVariants.{A, B}
+use Rattle.pm_disk.specs.declared.disk.Which.{Which, TheVariants.{A, B}}
 
 pub record Files : Type 0 where
   pub a : List ℕ

@@ -1,6 +1,5 @@
 pub mod Cause
 pub mod Disk
-pub mod DiskLaws
 pub mod FailingDisk
 pub mod Files
 pub mod MemDisk

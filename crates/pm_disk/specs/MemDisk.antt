@@ -1,11 +1,6 @@
 -- What a disk in memory tells.
 use Rattle.std.specs.Prelude.{◌≡◌, ℕ, List, length}
-use Rattle.pm_disk.specs.Files.{Files, file_of, with_file, overwritten}
-use Rattle.pm_disk.specs.Disk.{Elapses, Follows, Only, StopsNoWider, Torn}
-use Rattle.pm_disk.specs.Past.{MayLeave, state_at}
-use Rattle.pm_disk.specs.Stop.{stopped}
-use Rattle.pm_disk.specs.declared.disk.Which.{Which}
-use Rattle.pm_disk.specs.declared.mem_disk.MemDisk.{MemDisk}
+use Rattle.pm_disk.specs.{Files.{Files, file_of, with_file, overwritten}, Disk.{Elapses, Follows, Only, StopsNoWider, Torn}, Past.{MayLeave, state_at}, Stop.stopped, declared.{disk.Which.Which, mem_disk.MemDisk.MemDisk}}
 
 -- the files as they read
 abbrev pub files_of : MemDisk → Files

@@ -1,10 +1,6 @@
 -- What a file in memory has been through, and what a stop after some tick may leave of it.
 use Rattle.std.specs.Prelude.{◌≡◌, ◌⊎◌, ℕ, ◌+◌, ◌<◌, ◌≤◌, nat_le, List, [], ◌∷◌, ◌++◌, length, All, filter, fold, slice_get}
-use Rattle.pm_disk.specs.Files.{overwritten}
-use Rattle.pm_disk.specs.declared.mem_file.Change.{Change}
-use Rattle.pm_disk.specs.declared.mem_file.Change.TheVariants.{Written, Synced}
-use Rattle.pm_disk.specs.declared.mem_file.Entry.{Entry}
-use Rattle.pm_disk.specs.declared.mem_file.Span.{Span}
+use Rattle.pm_disk.specs.{Files.overwritten, declared.mem_file.{Change.{Change, TheVariants.{Written, Synced}}, Entry.Entry, Span.Span}}
 
 -- One file: its bytes as they read, those at its last sync that succeeded, and what was written since.
 pub record State : Type 0 where

@@ -1,12 +1,7 @@
 -- One of the files that a stop may leave: the fill stands in each place written since the last sync, and the file may
 -- end before that.
-use Rattle.std.specs.Prelude.{◌≡◌, ℕ, ◌+◌, ◌==◌, ◌%◌, if◌then◌else◌, List, map, fold, length, take, slice_index}
-use Rattle.std.specs.List.{range_with_len}
-use Rattle.pm_disk.specs.Files.{overwritten}
-use Rattle.pm_disk.specs.Past.{State, changed}
-use Rattle.pm_disk.specs.declared.mem_file.Change.{Change}
-use Rattle.pm_disk.specs.declared.mem_file.Replayed.{Replayed}
-use Rattle.pm_disk.specs.declared.mem_file.Span.{Span}
+use Rattle.std.specs.{Prelude.{◌≡◌, ℕ, ◌+◌, ◌==◌, ◌%◌, if◌then◌else◌, List, map, fold, length, take, slice_index}, List.range_with_len}
+use Rattle.pm_disk.specs.{Files.overwritten, Past.{State, changed}, declared.mem_file.{Change.Change, Replayed.Replayed, Span.Span}}
 
 -- so many bytes of the fill, over and over from its first on, or of 0 where it has none
 abbrev pub filled : List ℕ → ℕ → List ℕ

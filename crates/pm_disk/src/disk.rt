@@ -1,8 +1,6 @@
 // What a device call does to the two files, and what a stop may leave of them.
 ghost use Rattle.std.specs.Prelude.{◌≡◌, ◌+◌, ◌-◌, ◌^◌, ◌≤◌, ◌<◌, ℕ, length, take, drop, IfOk, IfSome, IsErr, OnOk, OnErr, Option, option_map};
-ghost use Rattle.pm_disk.specs.Files.{Files, file_of, with_file, overwritten};
-ghost use Rattle.pm_disk.specs.Disk.{Elapses, Follows, Only, StopsNoWider, Torn, TellsStill};
-ghost use Rattle.pm_disk.specs.Cause.{IsCounted};
+ghost use Rattle.pm_disk.specs.{Files.{Files, file_of, with_file, overwritten}, Disk.{Elapses, Follows, Only, StopsNoWider, Torn, TellsStill}, Cause.IsCounted};
 
 use thiserror::Error;
 

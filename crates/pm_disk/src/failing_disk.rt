@@ -22,10 +22,8 @@ pub struct FailingDisk<D: Disk> {
 }
 
 impl<D: Disk> FailingDisk<D> {
-    ghost use Rattle.pm_disk.specs.Cause.{IsCounted};
-    ghost use Rattle.pm_disk.specs.Files.{Files};
+    ghost use Rattle.pm_disk.specs.{Cause.IsCounted, Files.Files, FailingDisk.{ChangesNoFile, IsDue, Wraps, failing_faults, failing_ticks, fails_left, inner_of, passes_left}};
     ghost use Rattle.std.specs.Prelude.{min};
-    ghost use Rattle.pm_disk.specs.FailingDisk.{ChangesNoFile, IsDue, Wraps, failing_faults, failing_ticks, fails_left, inner_of, passes_left};
 
     /// The call of this number alone fails, counted from 1. At 0 none does.
     pub fn blip(disk: D, at: u64) -> FailingDisk<D>
@@ -123,10 +121,7 @@ impl<D: Disk> FailingDisk<D> {
 
 impl<D: Disk> Disk for FailingDisk<D> {
     ghost use Rattle.std.proofs.Common.{sym, subst};
-    ghost use Rattle.pm_disk.specs.Cause.{IsCounted};
-    ghost use Rattle.pm_disk.specs.Disk.{Elapses, Follows, Only, TellsStill, Torn};
-    ghost use Rattle.pm_disk.specs.Files.{file_of, overwritten, with_file};
-    ghost use Rattle.pm_disk.specs.FailingDisk.{ChangesNoFile, FailsWhenDue, failing_faults, failing_images, failing_ticks, inner_of};
+    ghost use Rattle.pm_disk.specs.{Cause.IsCounted, Disk.{Elapses, Follows, Only, TellsStill, Torn}, Files.{file_of, overwritten, with_file}, FailingDisk.{ChangesNoFile, FailsWhenDue, failing_faults, failing_images, failing_ticks, inner_of}};
 
     ghost seen = { λ failing. D.seen (inner_of failing) };
 

@@ -20,9 +20,7 @@ pub struct MemDisk {
 }
 
 impl MemDisk {
-    ghost use Rattle.pm_disk.specs.Files.{Files, file_of};
-    ghost use Rattle.pm_disk.specs.Cause.{IsCounted, Rose};
-    ghost use Rattle.pm_disk.specs.MemDisk.{ChangesNoFile, Stays, Syncs, Writes, files_of, stopped_files};
+    ghost use Rattle.pm_disk.specs.{Files.{Files, file_of}, Cause.{IsCounted, Rose}, MemDisk.{ChangesNoFile, Stays, Syncs, Writes, files_of, stopped_files}};
 
     /// A disk with two files of length 0.
     pub fn new(alloc: Global) -> MemDisk
@@ -130,9 +128,7 @@ impl MemDisk {
 }
 
 impl Disk for MemDisk {
-    ghost use Rattle.pm_disk.specs.Cause.{IsCounted};
-    ghost use Rattle.pm_disk.specs.Files.{file_of};
-    ghost use Rattle.pm_disk.specs.MemDisk.{MayLeaveAt, ChangesNoFile, Syncs, Writes, files_of, mem_faults, mem_ticks};
+    ghost use Rattle.pm_disk.specs.{Cause.IsCounted, Files.file_of, MemDisk.{MayLeaveAt, ChangesNoFile, Syncs, Writes, files_of, mem_faults, mem_ticks}};
 
     ghost seen = { λ disk. Some (files_of disk) };
 

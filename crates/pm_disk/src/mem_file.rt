@@ -1,8 +1,6 @@
 // A file in memory, with the calls that a stop after an earlier tick asks for.
 ghost use Rattle.std.specs.Prelude.{◌≡◌, ℕ, ◌+◌, ◌-◌, ◌^◌, ◌<◌, ◌≤◌, List, [], length, IfOk, OnOk, OnErr, All};
-ghost use Rattle.pm_disk.specs.Files.{overwritten};
-ghost use Rattle.pm_disk.specs.Past.{IsKept, MayLeave, AddsChange, after_write, after_sync, state_at};
-ghost use Rattle.pm_disk.specs.Stop.{Redone, Tells, filled, spoiled, stopped};
+ghost use Rattle.pm_disk.specs.{Files.overwritten, Past.{IsKept, MayLeave, AddsChange, after_write, after_sync, state_at}, Stop.{Redone, Tells, filled, spoiled, stopped}};
 
 use std::alloc::{AllocError, Global};
 

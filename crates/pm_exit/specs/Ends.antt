@@ -1,11 +1,6 @@
 -- What the end of a child means, as the server's reaper of children sorts it.
 use Rattle.std.specs.Prelude.{Bool, false, ◌==◌, ◌&&◌, ◌||◌, if◌then◌else◌, not}
-use Rattle.pm_exit.specs.declared.child.Status.{Status}
-use Rattle.pm_exit.specs.declared.child.Status.TheVariants.{Code, Signal}
-use Rattle.pm_exit.specs.declared.child.Kind.{Kind}
-use Rattle.pm_exit.specs.declared.child.Kind.TheVariants.{Startup, Checkpointer, Writer, Worker, Backend, DeadEnd}
-use Rattle.pm_exit.specs.declared.child.Class.{Class}
-use Rattle.pm_exit.specs.declared.child.Class.TheVariants.{Normal, Crash, StartupFailed}
+use Rattle.pm_exit.specs.declared.child.{Status.{Status, TheVariants.{Code, Signal}}, Kind.{Kind, TheVariants.{Startup, Checkpointer, Writer, Worker, Backend, DeadEnd}}, Class.{Class, TheVariants.{Normal, Crash, StartupFailed}}}
 
 -- the child ended by itself with exit code 0
 abbrev pub is_exit_0 : Status → Bool

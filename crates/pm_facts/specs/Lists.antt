@@ -1,10 +1,5 @@
 -- Lists.
-use Rattle.std.proofs.Common.{◌∙◌, ◌-◌, inl, inr, refl, sym, ap, subst, arith, ⊎_elim, length-append, length-drop, append-nil, append_assoc}
-use Rattle.std.specs.Prelude.{◌≡◌, ◌⊎◌, ℕ, zero, suc, ◌+◌, ◌≤◌, List, [], ◌∷◌, ◌++◌, length, take, drop, Any, Some, replicate, get_or, set, slice_get}
-use Rattle.std.specs.List.{AllByRecursion}
-use Rattle.std.proofs.lemmas.Grind.{common_steps}
-use Rattle.std.proofs.lemmas.List.{take_all, take-append-le, drop-append-le, length-take-le, take-take}
-use Rattle.std.proofs.Math.Seq.{take-append-add}
+use Rattle.std.{proofs.{Common.{◌∙◌, ◌-◌, inl, inr, refl, sym, ap, subst, arith, ⊎_elim, length-append, length-drop, append-nil, append_assoc}, lemmas.{Grind.common_steps, List.{take_all, take-append-le, drop-append-le, length-take-le, take-take}}, Math.Seq.take-append-add}, specs.{Prelude.{◌≡◌, ◌⊎◌, ℕ, zero, suc, ◌+◌, ◌≤◌, List, [], ◌∷◌, ◌++◌, length, take, drop, Any, Some, replicate, get_or, set, slice_get}, List.AllByRecursion}}
 use mathlib.Core.Option.{some, some-ne-none, some-injective}
 use lib.ListN.{get_elem?}
 

@@ -1,8 +1,5 @@
 -- What is less.
-use Rattle.std.proofs.Common.{◌≡◌, T, refl, sym, subst}
-use Rattle.std.specs.declared.cmp.Ordering.{Ordering}
-use Rattle.std.specs.declared.cmp.Ordering.TheVariants.{Less, Equal, Greater}
-use Rattle.std.specs.Ordering.{is_lt}
+use Rattle.std.{proofs.Common.{◌≡◌, T, refl, sym, subst}, specs.{declared.cmp.Ordering.{Ordering, TheVariants.{Less, Equal, Greater}}, Ordering.is_lt}}
 
 pub is_less : (order : Ordering) → T (is_lt order) → order ≡ Less
 is_less Less h = refl

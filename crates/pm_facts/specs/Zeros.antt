@@ -1,7 +1,5 @@
 -- Texts that can be written with a zero byte as their end.
-use Rattle.std.proofs.Common.{◌≡◌, ◌∙◌, ℕ, ◌==◌, ◌||◌, false, List, ◌++◌, ap}
-use Rattle.std.specs.List.{list_any}
-use Rattle.std.proofs.lemmas.List.Folds.{list_any-append}
+use Rattle.std.{proofs.{Common.{◌≡◌, ◌∙◌, ℕ, ◌==◌, ◌||◌, false, List, ◌++◌, ap}, lemmas.List.Folds.list_any-append}, specs.List.list_any}
 
 -- no byte is zero
 abbrev pub HasNoZero : List ℕ → Type 0

@@ -1,13 +1,6 @@
 -- What a try at the gate leaves, told from before the slot was marked.
-use Rattle.std.proofs.Common.{◌≡◌, ℕ, sym, ap, ◌∙◌}
-use Rattle.std.specs.Prelude.{Ok, Err}
-use Rattle.pm_life.specs.declared.life.GateNo.{GateNo}
-use Rattle.pm_board.specs.declared.views.Offer.{Offer}
-use Rattle.pm_board.specs.declared.views.Work.TheVariants.{Active}
-use Rattle.pm_board.specs.declared.views.PostView.{PostView}
-use Rattle.pm_board.specs.Gate.{gate_answer, generation_in}
-use Rattle.pm_board.specs.Told.{with_work, tried_by}
-use Rattle.pm_board.specs.Models.{HasTried}
+use Rattle.std.{proofs.Common.{◌≡◌, ℕ, sym, ap, ◌∙◌}, specs.Prelude.{Ok, Err}}
+use Rattle.pm_board.specs.{pm_child_life.declared.life.GateNo.GateNo, declared.views.{Offer.Offer, Work.TheVariants.Active, PostView.PostView}, Gate.{gate_answer, generation_in}, Told.{with_work, tried_by}, Models.HasTried}
 
 module _ {D : Type 0} (w v u : PostView D) (o : Offer D) where
   pub let_in : (g : ℕ) → v ≡ with_work w (Active o) → HasTried (Ok g) v u → (word : ℕ) × (Ok g ≡ gate_answer o.kind w.notes.session_limit word) × (u ≡ tried_by w o word (Ok g)) × (generation_in word ≡ o.generation)

@@ -1,12 +1,6 @@
 -- What a child's calls at the gate tell.
 use Rattle.std.specs.Prelude.{◌≡◌, ℕ, Result, Ok, Err}
-use Rattle.pm_life.specs.declared.life.GateNo.{GateNo}
-use Rattle.pm_board.specs.declared.views.Offer.{Offer}
-use Rattle.pm_board.specs.declared.views.Work.{Work}
-use Rattle.pm_board.specs.declared.views.Work.TheVariants.{Inactive, Attached}
-use Rattle.pm_board.specs.declared.views.PostView.{PostView}
-use Rattle.pm_board.specs.Gate.{gate_answer, generation_in}
-use Rattle.pm_board.specs.Told.{with_work, tried_by, detached}
+use Rattle.pm_board.specs.{pm_child_life.declared.life.GateNo.GateNo, declared.views.{Offer.Offer, Work.{Work, TheVariants.{Inactive, Attached}}, PostView.PostView}, Gate.{gate_answer, generation_in}, Told.{with_work, tried_by, detached}}
 use Rattle.pm_gate.specs.declared.tokens.Attached.{Attached as Attached_}
 
 -- the generation of who was let in, or the refusal

@@ -1,1 +1,2 @@
 pub mod Attaching
+pub use Rattle.pm_supervisor.specs as pm_supervisor

@@ -3,15 +3,13 @@
 #![tactic(auto)]
 
 ghost use Rattle.std.specs.Prelude.{◌≡◌, ◌+◌, IfOk, OnErr};
-ghost use Rattle.pm_board.specs.declared.views.RosterStep.TheVariants.{Quit, Ready, Reset};
-ghost use Rattle.pm_board.specs.Told.{MayQuit};
-ghost use Rattle.pm_board.specs.Models.{MayAttach, MayOpen, MayReset, HasStepped};
+ghost use Rattle.pm_board.specs.{declared.views.RosterStep.TheVariants.{Quit, Ready, Reset}, Told.MayQuit, Models.{MayAttach, MayOpen, MayReset, HasStepped}};
 ghost use Rattle.pm_gate.specs.Attaching.{IsAttachedIn, Stays, HasAttached, HasLeft};
 
 mod tokens;
 
 use pm_board::{Letter, Post, Roster};
-use pm_life::GateNo;
+use pm_child_life::GateNo;
 use pm_supervisor::Reason;
 pub use tokens::{Attached, Generation};
 

@@ -1,15 +1,6 @@
 -- What becomes of a request to cancel.
-use Rattle.std.specs.Prelude.{◌≡◌, ◌≢◌, ℕ, ◌+◌, ◌<◌, ◌≤◌, ◌++◌, List, [], ◌∷◌, length}
-use Rattle.std.specs.List.{AllByRecursion}
-use Rattle.pm_keys.specs.CancelKey.{cancel_key}
-use Rattle.pm_life.specs.declared.life.Cancelled.{Cancelled}
-use Rattle.pm_life.specs.declared.life.Cancelled.TheVariants.{Sent, NoSuchPid, WrongKey}
-use Rattle.pm_board.specs.Slots.{child_slots}
-use Rattle.pm_board.specs.declared.views.LatchLook.{LatchLook}
-use Rattle.pm_board.specs.declared.views.PostNotes.{PostNotes}
-use Rattle.pm_board.specs.Latch.{latch_pid}
-use Rattle.pm_board.specs.Told.{with_notes, noted_cancel}
-use Rattle.pm_board.specs.Models.{PostModel, cancel_of}
+use Rattle.std.specs.{Prelude.{◌≡◌, ◌≢◌, ℕ, ◌+◌, ◌<◌, ◌≤◌, ◌++◌, List, [], ◌∷◌, length}, List.AllByRecursion}
+use Rattle.pm_board.specs.{pm_keys.CancelKey.cancel_key, pm_child_life.declared.life.Cancelled.{Cancelled, TheVariants.{Sent, NoSuchPid, WrongKey}}, Slots.child_slots, declared.views.{LatchLook.LatchLook, PostNotes.PostNotes}, Latch.latch_pid, Told.{with_notes, noted_cancel}, Models.{PostModel, cancel_of}}
 
 -- a request to cancel the query of the child with this pid, and what it is judged by
 pub record Request : Type 0 where

@@ -4,14 +4,12 @@
 #![tactic(auto)]
 
 ghost use Rattle.std.specs.Prelude.{◌≡◌};
-ghost use Rattle.pm_board.specs.Places.{IsAssigned};
-ghost use Rattle.pm_board.specs.Models.{RunsChild, HasSent};
-ghost use Rattle.pm_latch.specs.Taking.{HasTaken};
-ghost use Rattle.pm_latch.specs.Cancelling.{request, HasAsked};
+ghost use Rattle.pm_board.specs.{Places.IsAssigned, Models.{RunsChild, HasSent}};
+ghost use Rattle.pm_latch.specs.{Taking.HasTaken, Cancelling.{request, HasAsked}};
 
 pub use pm_board::Signal;
 use pm_board::{Letter, Post, Roster};
-use pm_life::{Cancelled, Signals};
+use pm_child_life::{Cancelled, Signals};
 
 /// Sends a signal to the child of a slot: it stands until the child takes its signals.
 pub fn send<J: Letter + Drop>(roster: &mut Roster<J>, slot: u32, signal: Signal)

@@ -1,20 +1,9 @@
 -- Queries run one after another.
-use Rattle.std.proofs.Common.{◌≡◌, ◌∙◌, ℕ, ◌+◌, ◌==◌, Bool, true, false, length, arith, List, [], ◌∷◌, ◌++◌, refl, sym, ap, subst, append_assoc, add-one}
-use Rattle.std.specs.List.{flat_map}
-use Rattle.std.proofs.lemmas.Grind.{common_steps}
-use Rattle.std.proofs.lemmas.List.{append-nil, nil_from_length}
-use Rattle.pm_rows.specs.Fold.{RowMap, committed}
-use Rattle.pm_rows.specs.Standing.{Standing}
-use Rattle.pm_rows.specs.declared.commit.Change.{Change}
-use Rattle.pm_sql.specs.Statements.{IsQueryText}
-use Rattle.pm_sql.specs.declared.stmt.Stmt.{Stmt}
-use Rattle.pm_query.specs.Answer.{commit_of, items_of}
-use Rattle.pm_query.specs.declared.item.Item.{Item}
+use Rattle.std.{proofs.{Common.{◌≡◌, ◌∙◌, ℕ, ◌+◌, ◌==◌, Bool, true, false, length, arith, List, [], ◌∷◌, ◌++◌, refl, sym, ap, subst, append_assoc, add-one}, lemmas.{Grind.common_steps, List.{append-nil, nil_from_length}}}, specs.List.flat_map}
+use Rattle.pm_query.specs.{pm_rows.{Fold.{RowMap, committed}, Standing.Standing, declared.commit.Change.Change}, pm_sql.{Statements.IsQueryText, declared.stmt.Stmt.Stmt}, Answer.{commit_of, items_of}, declared.item.Item.Item}
 use Rattle.pm_wire.specs.Backend.{BackMessage, Ready}
-use Rattle.pm_exchange.specs.Sent.{bytes_of, greeting, item_messages}
-use Rattle.pm_exchange.specs.SentLaws.{bytes_of-append}
-use Rattle.pm_load.specs.Queries.{queries, query_at}
-use Rattle.pm_load.specs.Replay.{AreAnswered, IsAnswered, IsReplay, Replayed, answer_messages, behind, new_standing}
+use Rattle.pm_session_exchange.{specs.Sent.{bytes_of, greeting, item_messages}, proofs.SentLaws.bytes_of-append}
+use Rattle.pm_load.specs.{Queries.{queries, query_at}, Replay.{AreAnswered, IsAnswered, IsReplay, Replayed, answer_messages, behind, new_standing}}
 
 pub said_more : (old first now : List ℕ) (ms : List BackMessage) (m : BackMessage) → first ≡ old ++ bytes_of ms → now ≡ first ++ bytes_of (m ∷ []) → now ≡ old ++ bytes_of (ms ++ m ∷ [])
 said_more old first now ms m so_far one =

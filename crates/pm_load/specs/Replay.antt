@@ -1,17 +1,8 @@
 -- What one client alone is answered to its queries, by their meaning.
-use Rattle.std.specs.Prelude.{◌≡◌, ℕ, ◌+◌, List, [], ◌∷◌, ◌++◌, refl}
-use Rattle.std.specs.List.{flat_map}
-use Rattle.std.specs.FinMap.{empty}
-use Rattle.std.specs.Coded.{Coded, code_by, coded×, coded_ℕ, coded_list}
-use Rattle.pm_rows.specs.Fold.{RowMap, committed}
-use Rattle.pm_rows.specs.Pending.{row_map_code}
-use Rattle.pm_rows.specs.Standing.{Standing}
-use Rattle.pm_rows.specs.declared.commit.Change.{Change}
-use Rattle.pm_sql.specs.Statements.{IsQueryText}
-use Rattle.pm_sql.specs.declared.stmt.Stmt.{Stmt}
-use Rattle.pm_query.specs.Answer.{commit_of, items_of}
+use Rattle.std.specs.{Prelude.{◌≡◌, ℕ, ◌+◌, List, [], ◌∷◌, ◌++◌, refl}, List.flat_map, FinMap.empty, Coded.{Coded, code_by, coded×, coded_ℕ, coded_list}}
+use Rattle.pm_query.specs.{pm_rows.{Fold.{RowMap, committed}, Pending.row_map_code, Standing.Standing, declared.commit.Change.Change}, pm_sql.{Statements.IsQueryText, declared.stmt.Stmt.Stmt}, Answer.{commit_of, items_of}}
 use Rattle.pm_wire.specs.Backend.{BackMessage, Ready}
-use Rattle.pm_exchange.specs.Sent.{bytes_of, greeting, item_messages}
+use Rattle.pm_session_exchange.specs.Sent.{bytes_of, greeting, item_messages}
 use Rattle.pm_load.specs.Queries.{queries}
 
 -- no row, and no commit

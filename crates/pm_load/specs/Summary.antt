@@ -1,7 +1,5 @@
 -- What a workload tells of the rows that it left.
-use Rattle.std.specs.Prelude.{ℕ, ℤ, pos, ◌+ℤ◌, List, ◌++◌, fold, codes, decimal, Option, None, Some}
-use Rattle.std.specs.Fmt.{signed_decimal}
-use Rattle.std.specs.FinMap.{entries, len}
+use Rattle.std.specs.{Prelude.{ℕ, ℤ, pos, ◌+ℤ◌, List, ◌++◌, fold, codes, decimal, Option, None, Some}, Fmt.signed_decimal, FinMap.{entries, len}}
 use Rattle.pm_rows.specs.Standing.{Standing}
 use Rattle.pm_load.specs.declared.summary.Summary.{Summary}
 

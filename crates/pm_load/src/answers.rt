@@ -1,10 +1,9 @@
 //! What a server sends for the items of a reply.
-ghost use Rattle.std.specs.Prelude.{◌≡◌, ◌≤◌, ◌∷◌, ◌++◌, [], OnOk, length};
-ghost use Rattle.std.specs.List.{flat_map};
+ghost use Rattle.std.specs.{Prelude.{◌≡◌, ◌≤◌, ◌∷◌, ◌++◌, [], OnOk, length}, List.flat_map};
 ghost use Rattle.pm_wire.specs.Backend.{Complete, Fields, One};
 ghost use Rattle.pm_wire.specs.declared.back.Tag.TheVariants as tags;
-ghost use Rattle.pm_query.specs.declared.item.Item.TheVariants as items;
-ghost use Rattle.pm_exchange.specs.Sent.{bytes_of, item_messages};
+ghost use Rattle.pm_session_exchange.specs.pm_query.declared.item.Item.TheVariants as items;
+ghost use Rattle.pm_session_exchange.specs.Sent.{bytes_of, item_messages};
 
 use crate::refusal::ReplayNo;
 use crate::say::say;

@@ -1,8 +1,7 @@
 //! What a server says first.
 ghost use Rattle.std.specs.Prelude.{◌≡◌, ◌≤◌, ◌+◌, ◌∷◌, ◌++◌, [], OnOk, length};
 ghost use Rattle.pm_wire.specs.Backend.{Param};
-ghost use Rattle.pm_facts.specs.Zeros.{HasNoZero};
-ghost use Rattle.pm_exchange.specs.Sent.{bytes_of, greeting};
+ghost use Rattle.pm_session_exchange.specs.{pm_query.pm_facts.Zeros.HasNoZero, Sent.{bytes_of, greeting}};
 
 use crate::say::say;
 use pm_wire::{Back, Bytes};

@@ -1,7 +1,7 @@
 //! The queries of a workload, run one after another as their meaning says.
 ghost use Rattle.std.specs.Prelude.{◌≡◌, ◌≤◌, ◌++◌, List, IfOk, OnOk};
 ghost use Rattle.pm_wire.specs.Backend.{BackMessage};
-ghost use Rattle.pm_exchange.specs.Sent.{bytes_of, greeting};
+ghost use Rattle.pm_session_exchange.specs.Sent.{bytes_of, greeting};
 ghost use Rattle.pm_load.specs.Replay.{IsAnswered, IsReplay, new_standing};
 
 use crate::answers::put_items;

@@ -1,19 +1,9 @@
 -- What was checked.
-use Rattle.std.proofs.Common.{◌≡◌, ◌∙◌, ℕ, ◌≤◌, ◌<◌, List, [], ◌∷◌, length, get_or, Option, IfOk, Result, Ok, Err, sym, ap, arith}
-use Rattle.std.specs.declared.alloc.AllocError.{AllocError}
-use Rattle.pm_disk.specs.Files.{Files}
-use Rattle.pm_outside.specs.MemLink.{link_traffic}
-use Rattle.pm_outside.specs.MemPort.{links_back}
-use Rattle.pm_outside.specs.declared.mem_link.MemLink.{MemLink}
-use Rattle.pm_outside.specs.declared.mem_port.MemPort.{MemPort}
-use Rattle.pm_rows.specs.Fold.{RowMap}
-use Rattle.pm_rows.specs.Standing.{Standing}
-use Rattle.pm_load.specs.Replay.{Replayed}
-use Rattle.pm_lines.specs.Print.{IsPrinted}
-use Rattle.pm_lines.specs.PrintLaws.{printed_as, printed_weaker}
-use Rattle.pm_load.specs.Summary.{summary_lines, summary_of}
-use Rattle.pm_load.specs.declared.summary.Summary.{Summary}
-use Rattle.pm_workload.specs.Worked.{HasTold, IsLeft, IsMeant, IsWorked}
+use Rattle.std.{proofs.Common.{◌≡◌, ◌∙◌, ℕ, ◌≤◌, ◌<◌, List, [], ◌∷◌, length, get_or, Option, IfOk, Result, Ok, Err, sym, ap, arith}, specs.declared.alloc.AllocError.AllocError}
+use Rattle.pm_server.specs.{pm_disk.Files.Files, pm_outside.{MemLink.link_traffic, MemPort.links_back, declared.{mem_link.MemLink.MemLink, mem_port.MemPort.MemPort}}, pm_rows.{Fold.RowMap, Standing.Standing}}
+use Rattle.pm_load.specs.{Replay.Replayed, Summary.{summary_lines, summary_of}, declared.summary.Summary.Summary}
+use Rattle.pm_server_lines.{specs.Print.IsPrinted, proofs.PrintLaws.{printed_as, printed_weaker}}
+use Rattle.pm_load_run.specs.Worked.{HasTold, IsLeft, IsMeant, IsWorked}
 
 pub single : (links : List MemLink) (link : MemLink) → 1 ≤ length links → length links < 2 → link ≡ get_or links 0 link → links ≡ link ∷ []
 single [] link some one is = absurd (omega (arith, some))

@@ -1,18 +1,9 @@
 -- What a workload has to come to.
 use Rattle.std.specs.Prelude.{◌≡◌, ℕ, List, [], ◌∷◌, replicate, Option}
-use Rattle.pm_disk.specs.Files.{Files}
-use Rattle.pm_outside.specs.MemLink.{link_traffic}
-use Rattle.pm_outside.specs.MemPort.{links_back}
-use Rattle.pm_outside.specs.declared.mem_link.MemLink.{MemLink}
-use Rattle.pm_outside.specs.declared.mem_port.MemPort.{MemPort}
+use Rattle.pm_server.specs.{pm_disk.Files.Files, pm_outside.{MemLink.link_traffic, MemPort.links_back, declared.{mem_link.MemLink.MemLink, mem_port.MemPort.MemPort}}, pm_record.declared.found.Found.Found, pm_rows.Standing.Standing, pm_server_lines.Print.IsPrinted}
 use Rattle.pm_keys.specs.CancelKey.{cancel_key}
-use Rattle.pm_record.specs.declared.found.Found.{Found}
-use Rattle.pm_rows.specs.Standing.{Standing}
 use Rattle.pm_redo.specs.Found.{FindsPair, MeansOnly, standing_in}
-use Rattle.pm_load.specs.Replay.{IsReplay, Replayed}
-use Rattle.pm_load.specs.Summary.{summary_lines, summary_of}
-use Rattle.pm_lines.specs.Print.{IsPrinted}
-use Rattle.pm_load.specs.declared.summary.Summary.{Summary}
+use Rattle.pm_load.specs.{Replay.{IsReplay, Replayed}, Summary.{summary_lines, summary_of}, declared.summary.Summary.Summary}
 
 -- the seed of the keys, and the pid of the session: those before it are the children of the server that serve no connection
 abbrev pub seed : List ℕ

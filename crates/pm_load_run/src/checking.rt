@@ -1,6 +1,6 @@
 //! What a workload has to come to.
 ghost use Rattle.std.specs.Prelude.{◌≡◌, ◌≤◌, ◌↔◌, IfOk, IfSome, IsTrue};
-ghost use Rattle.pm_workload.specs.Worked.{IsLeft, IsWorked};
+ghost use Rattle.pm_load_run.specs.Worked.{IsLeft, IsWorked};
 
 use pm_disk::{Disk, MemDisk};
 use pm_keys::key;

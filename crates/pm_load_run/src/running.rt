@@ -1,17 +1,16 @@
 //! The run of a workload.
 ghost use Rattle.std.specs.Prelude.{◌≡◌, ◌≢◌, ◌≤◌, Err, IfOk, string_bytes};
 ghost use Rattle.pm_disk.specs.Cause.{IsCounted};
-ghost use Rattle.pm_load.specs.Replay.{Replayed};
-ghost use Rattle.pm_load.specs.Summary.{summary_lines, summary_of};
-ghost use Rattle.pm_workload.specs.Worked.{HasTold, IsMeant};
+ghost use Rattle.pm_load.specs.{Replay.Replayed, Summary.{summary_lines, summary_of}};
+ghost use Rattle.pm_load_run.specs.Worked.{HasTold, IsMeant};
 
 use crate::checking::checked;
 use crate::memory::memory;
-use pm_lines::print;
 use pm_load::summary_text;
 use pm_once_promises::{Ended, once_as_promised};
 use pm_outside::Sink;
 use pm_server::{Conf, ServerEnd};
+use pm_server_lines::print;
 use pm_session::SessionConf;
 use pm_supervisor::Limits;
 use std::alloc::{AllocError, Global};
@@ -44,7 +43,7 @@ pub enum WorkloadNo {
 
 impl From<AllocError> for WorkloadNo {
     ghost use Rattle.std.specs.Prelude.{◌≡◌};
-    ghost use Rattle.pm_workload.specs.declared.running.WorkloadNo.TheVariants.{NoMemory};
+    ghost use Rattle.pm_load_run.specs.declared.running.WorkloadNo.TheVariants.{NoMemory};
 
     ghost from_gives = { λ _ no. no ≡ NoMemory };
 

@@ -1,21 +1,8 @@
 -- What the checkpoint of a log says, by what the move to the other file says.
-use Rattle.std.proofs.Common.{◌≡◌, inl, ℕ, ◌+◌, ◌-◌, ◌^◌, ◌<◌, Bool, List, [], ◌∷◌, ◌++◌, length, zero, suc, refl, ◌∙◌, ap, subst, arith, length-append}
-use Rattle.std.specs.Prelude.{Option, Some, None, IfSome, All, take}
+use Rattle.std.{proofs.Common.{◌≡◌, inl, ℕ, ◌+◌, ◌-◌, ◌^◌, ◌<◌, Bool, List, [], ◌∷◌, ◌++◌, length, zero, suc, refl, ◌∙◌, ap, subst, arith, length-append}, specs.Prelude.{Option, Some, None, IfSome, All, take}}
 use Rattle.std.specs.FinMap as map
-use Rattle.pm_rows.specs.Fold.{folded}
-use Rattle.pm_rows.specs.Limits.{IsWithinRowLimits}
-use Rattle.pm_disk.specs.Disk.{TellsStill}
-use Rattle.pm_disk.specs.declared.disk.Which.{Which}
-use Rattle.pm_disk.specs.Files.{Files, other}
-use Rattle.pm_rows.specs.Fold.{RowMap}
-use Rattle.pm_record.specs.Spelling.{base_bytes}
-use Rattle.pm_record.specs.StandsFor.{Content, IsContent, IsRow, checkpointed, standing_of}
-use Rattle.pm_log.specs.Append.{MeansOneOf}
-use Rattle.pm_record.specs.OnDisk.{Throughout}
-use Rattle.pm_log.specs.Move.{HasMoved, IsBase, KeepsMoving}
-use Rattle.pm_log.specs.Log.{Lives, base_length}
-use Rattle.pm_log.specs.declared.log.Log.{Log}
-use Rattle.pm_log.proofs.Steps.{means_now}
+use Rattle.pm_record.specs.{pm_rows.{Fold.{folded, RowMap}, Limits.IsWithinRowLimits}, pm_disk.{Disk.TellsStill, declared.disk.Which.Which, Files.{Files, other}}, Spelling.base_bytes, StandsFor.{Content, IsContent, IsRow, checkpointed, standing_of}, OnDisk.Throughout}
+use Rattle.pm_log.{specs.{Append.MeansOneOf, Move.{HasMoved, IsBase, KeepsMoving}, Log.{Lives, base_length}, declared.log.Log.Log}, proofs.Steps.means_now}
 
 -- a checkpoint of these rows leaves the same rows and count
 abbrev pub KeepsStanding : Log → RowMap → Bool → ℕ → ℕ → (Files → Type 0) → (ℕ → Files → Type 0) → Files → Type 0

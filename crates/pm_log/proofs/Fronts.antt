@@ -1,18 +1,7 @@
 -- Fronts of log files: how they grow, and what stands behind a gate that is open or closed.
-use Rattle.std.proofs.Common.{◌≡◌, ◌≢◌, inl, inr, ℕ, ◌+◌, ◌-◌, List, [], ◌∷◌, ◌++◌, length, take, refl, sym, ◌∙◌, ap, subst, arith, length-append, append_assoc, append-nil}
-use Rattle.std.proofs.lemmas.Bool.{cases_lt}
-use Rattle.std.proofs.lemmas.List.{take-append-le}
-use Rattle.std.proofs.lemmas.List.Elements.{All-push}
-use Rattle.std.proofs.lemmas.List.Sums.{fold-append}
-use Rattle.std.proofs.Math.Seq.{take-append-add}
-use Rattle.pm_rows.specs.declared.commit.Change.{Change}
-use Rattle.pm_rows.specs.Fold.{committed, folded}
-use Rattle.pm_record.specs.Spelling.{base_bytes, batch_bytes}
-use Rattle.pm_rows.specs.Standing.{Standing, after}
-use Rattle.pm_rows.specs.Limits.{IsWithinRowLimits}
-use Rattle.pm_rows.specs.Batch.{IsBatch}
-use Rattle.pm_record.specs.StandsFor.{AreBatches, Content, IsContent, MayAppend, MayFollow, Spells, StandsFor, base_of, commits_of, standing_of, with_batch}
-use Rattle.pm_log.specs.BatchLaws.{commits_push}
+use Rattle.std.proofs.{Common.{◌≡◌, ◌≢◌, inl, inr, ℕ, ◌+◌, ◌-◌, List, [], ◌∷◌, ◌++◌, length, take, refl, sym, ◌∙◌, ap, subst, arith, length-append, append_assoc, append-nil}, lemmas.{Bool.cases_lt, List.{take-append-le, Elements.All-push, Sums.fold-append}}, Math.Seq.take-append-add}
+use Rattle.pm_record.specs.{pm_rows.{declared.commit.Change.Change, Fold.{committed, folded}, Standing.{Standing, after}, Limits.IsWithinRowLimits, Batch.IsBatch}, Spelling.{base_bytes, batch_bytes}, StandsFor.{AreBatches, Content, IsContent, MayAppend, MayFollow, Spells, StandsFor, base_of, commits_of, standing_of, with_batch}}
+use Rattle.pm_log.proofs.BatchLaws.{commits_push}
 
 -- one batch more
 AreBatches-push : (bytes : List ℕ) (batches : List (List (List Change))) (batch : List (List Change)) (gate : ℕ) → gate ≢ 0 → AreBatches bytes batches

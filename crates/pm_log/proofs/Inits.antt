@@ -1,29 +1,8 @@
 -- What a stop leaves of the two files while a cluster is made in them.
-use Rattle.std.proofs.Common.{◌≡◌, ◌≢◌, ◌⊎◌, inl, inr, ℕ, zero, suc, ◌+◌, ◌≤◌, ◌<◌, true, List, [], ◌∷◌, ◌++◌, length, take, drop, refl, sym, ◌∙◌, ap, ap₂, subst, arith, append_assoc}
-use Rattle.std.specs.Prelude.{slice_get, sum_by, Option, Some, None, IfSome, option_map, ℤ}
-use Rattle.std.specs.Int.{w32, w64, to_be_bytes}
-use Rattle.std.specs.List.{flat_map}
-use Rattle.std.specs.Map.{values_of}
+use Rattle.std.{proofs.{Common.{◌≡◌, ◌≢◌, ◌⊎◌, inl, inr, ℕ, zero, suc, ◌+◌, ◌≤◌, ◌<◌, true, List, [], ◌∷◌, ◌++◌, length, take, drop, refl, sym, ◌∙◌, ap, ap₂, subst, arith, append_assoc}, lemmas.{Bool.cases_lt, List.{length-drop, nil_from_length}}}, specs.{Prelude.{slice_get, sum_by, Option, Some, None, IfSome, option_map, ℤ}, Int.{w32, w64, to_be_bytes}, List.flat_map, Map.values_of, Ordering.int_cmp}}
 use Rattle.std.specs.FinMap as map
-use Rattle.std.specs.Ordering.{int_cmp}
-use Rattle.std.proofs.lemmas.Bool.{cases_lt}
-use Rattle.std.proofs.lemmas.List.{length-drop, nil_from_length}
-use Rattle.pm_disk.specs.declared.disk.Which.TheVariants.{A, B}
-use Rattle.pm_disk.specs.Files.{Files, file_of, overwritten}
-use Rattle.pm_disk.specs.Disk.{Only, TellsStill, Torn}
-use Rattle.pm_rows.specs.Fold.{RowMap, folded}
-use Rattle.pm_rows.specs.Limits.{IsWithinRowLimits}
-use Rattle.pm_rows.specs.Size.{row_size, size_of}
-use Rattle.pm_record.specs.Spelling.{base_bytes, row_bytes, rows_bytes}
-use Rattle.pm_record.specs.StandsFor.{IsContent, StandsFor}
-use Rattle.pm_record.specs.Pair.{IsShut}
-use Rattle.pm_record.specs.OnDisk.{FollowsWithin, GoesOn}
-use Rattle.pm_log.specs.Init.{HasNew, HasNone, HasPart, IsBeingMade, IsNewCluster, OpensLast, new_log, with_new_log}
-use Rattle.pm_log.proofs.Lists.{over}
-use Rattle.pm_log.proofs.Moves.{base_stands}
-use Rattle.pm_log.proofs.Steps.{means_shut}
-use Rattle.pm_record.specs.GateLaws.{torn_first, written_at}
-use Rattle.pm_log.proofs.ToldMoves.{Wrote}
+use Rattle.pm_record.{specs.{pm_disk.{declared.disk.Which.TheVariants.{A, B}, Files.{Files, file_of, overwritten}, Disk.{Only, TellsStill, Torn}}, pm_rows.{Fold.{RowMap, folded}, Limits.IsWithinRowLimits, Size.{row_size, size_of}}, Spelling.{base_bytes, row_bytes, rows_bytes}, StandsFor.{IsContent, StandsFor}, Pair.IsShut, OnDisk.{FollowsWithin, GoesOn}}, proofs.GateLaws.{torn_first, written_at}}
+use Rattle.pm_log.{specs.Init.{HasNew, HasNone, HasPart, IsBeingMade, IsNewCluster, OpensLast, new_log, with_new_log}, proofs.{Lists.over, Moves.base_stands, Steps.means_shut, ToldMoves.Wrote}}
 
 -- ---- the new log
 

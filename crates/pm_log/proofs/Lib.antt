@@ -8,3 +8,4 @@ mod Moves
 mod Steps
 mod Told
 mod ToldMoves
+pub mod BatchLaws

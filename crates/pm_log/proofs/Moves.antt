@@ -1,22 +1,7 @@
 -- What a stop leaves of a log over the device calls of a checkpoint.
-use Rattle.std.proofs.Common.{◌≡◌, ◌≢◌, ◌⊎◌, inl, inr, ℕ, ◌+◌, ◌-◌, ◌≤◌, ◌<◌, Bool, List, [], ◌∷◌, ◌++◌, length, drop, refl, sym, ◌∙◌, ap, subst, arith, length-append, append_assoc, append-nil}
-use Rattle.std.specs.Prelude.{slice_get}
-use Rattle.std.proofs.lemmas.Bool.{cases_lt}
-use Rattle.std.proofs.lemmas.Option.{same_Some}
-use Rattle.std.proofs.Math.Arith.{le-zero}
-use Rattle.pm_disk.specs.declared.disk.Which.{Which}
-use Rattle.pm_disk.specs.Files.{Files, file_of, other, overwritten}
-use Rattle.pm_disk.specs.Disk.{Only, Torn}
-use Rattle.pm_rows.specs.declared.commit.Change.{Change}
-use Rattle.pm_record.specs.Spelling.{base_bytes}
-use Rattle.pm_record.specs.StandsFor.{AreBatches, Content, IsContent, StandsFor, checkpointed, standing_of}
-use Rattle.pm_record.specs.Pair.{IsShut, MeansIn, Yields}
-use Rattle.pm_log.specs.Append.{MeansOneOf}
-use Rattle.pm_record.specs.OnDisk.{FollowsWithin, GoesOn, Rests, Throughout}
-use Rattle.pm_log.specs.Move.{IsBase}
-use Rattle.pm_record.specs.GateLaws.{first_of, other-other, regated, same_standing, torn_first}
-use Rattle.pm_log.proofs.Lists.{over}
-use Rattle.pm_log.proofs.Steps.{means_shut}
+use Rattle.std.{proofs.{Common.{◌≡◌, ◌≢◌, ◌⊎◌, inl, inr, ℕ, ◌+◌, ◌-◌, ◌≤◌, ◌<◌, Bool, List, [], ◌∷◌, ◌++◌, length, drop, refl, sym, ◌∙◌, ap, subst, arith, length-append, append_assoc, append-nil}, lemmas.{Bool.cases_lt, Option.same_Some}, Math.Arith.le-zero}, specs.Prelude.slice_get}
+use Rattle.pm_record.{specs.{pm_disk.{declared.disk.Which.Which, Files.{Files, file_of, other, overwritten}, Disk.{Only, Torn}}, pm_rows.declared.commit.Change.Change, Spelling.base_bytes, StandsFor.{AreBatches, Content, IsContent, StandsFor, checkpointed, standing_of}, Pair.{IsShut, MeansIn, Yields}, OnDisk.{FollowsWithin, GoesOn, Rests, Throughout}}, proofs.GateLaws.{first_of, other-other, regated, same_standing, torn_first}}
+use Rattle.pm_log.{specs.{Append.MeansOneOf, Move.IsBase}, proofs.{Lists.over, Steps.means_shut}}
 
 -- ---- one file
 

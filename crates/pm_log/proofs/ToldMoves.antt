@@ -1,18 +1,7 @@
 -- A checkpoint where the disk tells its files.
-use Rattle.std.proofs.Common.{◌≡◌, ℕ, ◌≤◌, List, [], ◌∷◌, ◌++◌, length, take, drop, sym, ◌∙◌, ap, subst, arith}
-use Rattle.std.specs.Prelude.{Option, Some, None, IfSome, option_map, Bool}
-use Rattle.pm_disk.specs.declared.disk.Which.{Which}
-use Rattle.pm_disk.specs.Files.{Files, file_of, other, overwritten}
-use Rattle.pm_disk.specs.Disk.{Only, TellsStill, Torn}
-use Rattle.pm_record.specs.Spelling.{base_bytes}
-use Rattle.pm_record.specs.StandsFor.{Content, IsContent, checkpointed}
-use Rattle.pm_record.specs.Pair.{IsShut}
-use Rattle.pm_record.specs.OnDisk.{FollowsWithin, GoesOn}
-use Rattle.pm_log.specs.Move.{HasMoved, IsBase, KeepsMoving}
-use Rattle.pm_log.proofs.Lists.{over}
-use Rattle.pm_record.specs.Calls.{beside_with, file_with}
-use Rattle.pm_record.specs.GateLaws.{written_at}
-use Rattle.pm_log.proofs.Moves.{IsIn, base_in, moved, stops_base, stops_close, stops_open}
+use Rattle.std.{proofs.Common.{◌≡◌, ℕ, ◌≤◌, List, [], ◌∷◌, ◌++◌, length, take, drop, sym, ◌∙◌, ap, subst, arith}, specs.Prelude.{Option, Some, None, IfSome, option_map, Bool}}
+use Rattle.pm_record.{specs.{pm_disk.{declared.disk.Which.Which, Files.{Files, file_of, other, overwritten}, Disk.{Only, TellsStill, Torn}}, Spelling.base_bytes, StandsFor.{Content, IsContent, checkpointed}, Pair.IsShut, OnDisk.{FollowsWithin, GoesOn}, Calls.{beside_with, file_with}}, proofs.GateLaws.written_at}
+use Rattle.pm_log.{specs.Move.{HasMoved, IsBase, KeepsMoving}, proofs.{Lists.over, Moves.{IsIn, base_in, moved, stops_base, stops_close, stops_open}}}
 
 -- what stands in the other file, once the base is written, and once its gate is open
 abbrev pub based : Which → List ℕ → Files → List ℕ

@@ -1,13 +1,6 @@
 -- What appending a batch leaves, at any moment and after it.
 use Rattle.std.specs.Prelude.{◌≡◌, ◌⊎◌, ℕ, ◌+◌, ◌-◌, List, ◌∷◌, [], ◌++◌, length}
-use Rattle.pm_disk.specs.declared.disk.Which.{Which}
-use Rattle.pm_disk.specs.Files.{Files}
-use Rattle.pm_rows.specs.declared.commit.Change.{Change}
-use Rattle.pm_record.specs.Spelling.{batch_bytes}
-use Rattle.pm_rows.specs.Standing.{Standing, after}
-use Rattle.pm_record.specs.StandsFor.{Content, MayAppend, standing_of, with_batch}
-use Rattle.pm_record.specs.Pair.{MeansIn}
-use Rattle.pm_record.specs.OnDisk.{Rests, Throughout}
+use Rattle.pm_record.specs.{pm_disk.{declared.disk.Which.Which, Files.Files}, pm_rows.{declared.commit.Change.Change, Standing.{Standing, after}}, Spelling.batch_bytes, StandsFor.{Content, MayAppend, standing_of, with_batch}, Pair.MeansIn, OnDisk.{Rests, Throughout}}
 
 -- the files mean one of the two, each in so many bytes
 abbrev pub MeansOneOf : Standing → ℕ → Standing → ℕ → Files → Type 0

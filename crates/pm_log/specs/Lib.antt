@@ -1,5 +1,5 @@
 pub mod Append
-pub mod BatchLaws
 pub mod Init
 pub mod Log
 pub mod Move
+pub use Rattle.pm_rows.specs as pm_rows

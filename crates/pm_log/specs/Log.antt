@@ -1,10 +1,6 @@
 -- The log's calls: what its fields say of the content, and what a call may leave.
 use Rattle.std.specs.Prelude.{◌≡◌, ℕ, ◌+◌, ◌-◌, length, None}
-use Rattle.pm_disk.specs.Files.{Files}
-use Rattle.pm_record.specs.Spelling.{base_bytes}
-use Rattle.pm_record.specs.StandsFor.{Content, standing_of}
-use Rattle.pm_record.specs.OnDisk.{Rests}
-use Rattle.pm_record.specs.declared.found.Found.{Found}
+use Rattle.pm_record.specs.{pm_disk.Files.Files, Spelling.base_bytes, StandsFor.{Content, standing_of}, OnDisk.Rests, declared.found.Found.Found}
 use Rattle.pm_log.specs.declared.log.Log.{Log}
 
 -- the length of a file up to the first gate after its base

@@ -4,19 +4,9 @@
 //! makes that durable, and only then opens the gate, so a stop leaves the batch whole or not at all.
 
 ghost use Rattle.std.specs.Prelude.{All, ◌≡◌, ◌≢◌, ◌+◌, ◌-◌, ◌^◌, ◌≤◌, ◌<◌, [], ◌∷◌, ◌++◌, ℕ, ◌↔◌, length, IfOk, IfSome, IsErr, OnOk, OnErr, Some, None};
-ghost use Rattle.pm_disk.specs.Cause.{IsCounted};
-ghost use Rattle.pm_disk.specs.Disk.{TellsStill};
-ghost use Rattle.pm_disk.specs.Files.{file_of, other};
-ghost use Rattle.pm_rows.specs.Limits.{IsWithinRowLimits};
-ghost use Rattle.pm_rows.specs.LogSize.{need_of};
-ghost use Rattle.pm_rows.specs.Standing.{after};
-ghost use Rattle.pm_record.specs.Spelling.{base_bytes, batch_bytes};
-ghost use Rattle.pm_rows.specs.Batch.{IsBatch};
-ghost use Rattle.pm_record.specs.StandsFor.{Content, IsRow, MayAppend, checkpointed, standing_of, with_batch};
+ghost use Rattle.pm_record.specs.{pm_disk.{Cause.IsCounted, Disk.TellsStill, Files.{file_of, other}}, pm_rows.{Limits.IsWithinRowLimits, LogSize.need_of, Standing.after, Batch.IsBatch}, Spelling.{base_bytes, batch_bytes}, StandsFor.{Content, IsRow, MayAppend, checkpointed, standing_of, with_batch}, OnDisk.{GoesOn, Throughout}};
 ghost use Rattle.std.specs.FinMap as map;
-ghost use Rattle.pm_record.specs.OnDisk.{GoesOn, Throughout};
-ghost use Rattle.pm_log.specs.Append.{HasAppended, KeepsAppending};
-ghost use Rattle.pm_log.specs.Move.{HasMoved, KeepsMoving};
+ghost use Rattle.pm_log.specs.{Append.{HasAppended, KeepsAppending}, Move.{HasMoved, KeepsMoving}};
 
 use pm_disk::{Disk, DiskFault, Which};
 use pm_record::{
@@ -81,9 +71,7 @@ pub struct Log {
 }
 
 impl Log {
-    ghost use Rattle.pm_log.specs.Log.{Lives, base_length, resumed, room_of};
-    ghost use Rattle.pm_log.specs.Append.{MeansOneOf};
-    ghost use Rattle.pm_log.specs.declared.log.LogFault.{LogFault};
+    ghost use Rattle.pm_log.specs.{Log.{Lives, base_length, resumed, room_of}, Append.MeansOneOf, declared.log.LogFault.LogFault};
 
     /// The log that was found, as it goes on.
     pub fn resume(found: &Found, limit: u64) -> Log

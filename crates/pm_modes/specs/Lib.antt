@@ -1,2 +1,1 @@
 pub mod Strength
-pub mod StrengthLaws

@@ -1,7 +1,6 @@
 -- How strong a request to shut down is, and which request takes the place of the one that stands.
 use Rattle.std.specs.Prelude.{ℕ, Bool, true, false, Option, None, Some, nat_lt, if◌then◌else◌}
-use Rattle.pm_modes.specs.declared.Mode.{Mode}
-use Rattle.pm_modes.specs.declared.Mode.TheVariants.{Smart, Fast, Immediate}
+use Rattle.pm_modes.specs.declared.Mode.{Mode, TheVariants.{Smart, Fast, Immediate}}
 
 -- the strength of a request; no request has strength 0
 abbrev pub strength : Option Mode → ℕ

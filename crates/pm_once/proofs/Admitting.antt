@@ -1,54 +1,13 @@
 -- A connection is taken, and its session's child ends.
-use Rattle.std.proofs.Common.{◌≡◌, ◌⊎◌, inl, inr, ℕ, ◌+◌, List, [], ◌∷◌, ◌++◌, Option, None, Some, Result, Ok, Err, refl, sym, ◌∙◌, ap, subst, arith, append-nil}
-use Rattle.std.specs.Option.{option_map}
-use Rattle.std.specs.Prelude.{true, false, length, IfSome, OnOk}
-use Rattle.std.proofs.lemmas.List.Elements.{All-nil, All-cons}
-use Rattle.pm_facts.specs.Bools.{never_both}
-use Rattle.pm_admit.specs.declared.Cac.{Cac}
-use Rattle.pm_admit.specs.declared.Cac.TheVariants as decisions
-use Rattle.pm_exit.specs.declared.child.Kind.{Kind}
-use Rattle.pm_exit.specs.declared.child.Kind.TheVariants as kind
-use Rattle.pm_supervisor.specs.Steps.{kind_for}
-use Rattle.pm_state.specs.declared.event.PmEvent.TheVariants as entry
-use Rattle.pm_outside.specs.Visits.{Visits}
-use Rattle.pm_segment.specs.Moves.{Moves}
-use Rattle.pm_chain.specs.Laws.{StepsGoOn}
-use Rattle.pm_chain.specs.Steps.{ChildRun, Notes, Runs, RunsOn, Step, journal_of}
-use Rattle.pm_chain.specs.FoldsLaws.{journal-append}
-use Rattle.pm_journal.specs.Laws.{GoesOnOverItsJournal, KeepsALegalJournal}
-use Rattle.pm_journal.specs.declared.supervision.Taken.{Taken}
-use Rattle.pm_outside.specs.Added.{Added}
-use Rattle.pm_journal.specs.Standing.{IsAtRest, MayTake, Standing, accepting, decision_on, later, made, next_pid}
-use Rattle.pm_journal.specs.Stands.{AtWork, IsSettled}
-use Rattle.pm_once.specs.Calls.{Admits, Asks, Finishes, HasRun}
-use Rattle.pm_duties.specs.Outcomes.{ComesTo}
-use Rattle.pm_once.specs.Goes.{Goes, IsRunning}
-use Rattle.pm_journal.specs.Due.{IsIdle, is_last_drawn}
-use Rattle.pm_acts.specs.Acts.{IsPresent}
-use Rattle.pm_acts.specs.Steps.{sessions_in}
-use Rattle.pm_server.specs.Journal.{accepted_in}
-use Rattle.pm_duties.specs.Auxiliaries.{AreThere, HasLess}
-use Rattle.pm_duties.specs.declared.outcome.Outcome.{Outcome}
-use Rattle.pm_duties.specs.declared.auxiliaries.Auxiliaries.{Auxiliaries}
-use Rattle.pm_journal.specs.Roll.{kind_in}
-use Rattle.pm_segment.specs.MovesLaws.{moves_none}
-use Rattle.pm_once.specs.Serves.{HasServed, IsServed, Serves}
-use Rattle.pm_once.specs.Service.{Connection, IsServedAs, run_of, with_connections}
-use Rattle.pm_once.specs.View.{View}
-use Rattle.pm_once.specs.declared.admitted.Admitted.{Admitted}
-use Rattle.pm_server.specs.declared.end.ServerEnd.{ServerEnd}
-use Rattle.pm_server.specs.declared.end.ServerEnd.TheVariants.{NoMemory}
-use Rattle.pm_once.proofs.Ending.{IsNoted, IsTaken, ran_on, taken}
-use Rattle.pm_server.specs.JournalLaws.{accepted_in-append}
-use Rattle.pm_once.proofs.Finishing.{is_drawn}
-use Rattle.pm_once.proofs.SessionRuns.{session_run}
-use Rattle.pm_once.proofs.SessionEnds.{session_sound}
-use Rattle.pm_duties.specs.CalmLaws.{still_less}
-use Rattle.pm_once.proofs.Going.{goes_none, goes_on, stays_on}
-use Rattle.pm_acts.specs.StepsLaws.{sessions-append}
-use Rattle.pm_acts.specs.ActsLaws.{drawn_further}
-use Rattle.pm_once.proofs.Serving.{ends_on, one_numbered, open_on}
-use Rattle.pm_once.proofs.Knowing.{known_moved}
+use Rattle.std.{proofs.{Common.{◌≡◌, ◌⊎◌, inl, inr, ℕ, ◌+◌, List, [], ◌∷◌, ◌++◌, Option, None, Some, Result, Ok, Err, refl, sym, ◌∙◌, ap, subst, arith, append-nil}, lemmas.List.Elements.{All-nil, All-cons}}, specs.{Option.option_map, Prelude.{true, false, length, IfSome, OnOk}}}
+use Rattle.pm_server.{specs.{pm_facts.Bools.never_both, pm_admit.declared.Cac.Cac, pm_exit.declared.child.Kind.Kind, pm_supervisor.Steps.kind_for, pm_outside.{Visits.Visits, Added.Added}, pm_segment.{Moves.Moves, MovesLaws.moves_none}, pm_supervisor_journal.{Laws.{GoesOnOverItsJournal, KeepsALegalJournal}, declared.supervision.Taken.Taken, Standing.{IsAtRest, MayTake, Standing, accepting, decision_on, later, made, next_pid}, Stands.{AtWork, IsSettled}, Due.{IsIdle, is_last_drawn}, Roll.kind_in}, Journal.accepted_in, declared.end.ServerEnd.{ServerEnd, TheVariants.NoMemory}}, proofs.JournalLaws.accepted_in-append}
+use Rattle.pm_server.specs.pm_admit.declared.Cac.TheVariants as decisions
+use Rattle.pm_server.specs.pm_exit.declared.child.Kind.TheVariants as kind
+use Rattle.pm_server.specs.pm_state.declared.event.PmEvent.TheVariants as entry
+use Rattle.pm_supervisor_chain.{specs.{Laws.StepsGoOn, Steps.{ChildRun, Notes, Runs, RunsOn, Step, journal_of}}, proofs.FoldsLaws.journal-append}
+use Rattle.pm_once.{specs.{Calls.{Admits, Asks, Finishes, HasRun}, Goes.{Goes, IsRunning}, Serves.{HasServed, IsServed, Serves}, Service.{Connection, IsServedAs, run_of, with_connections}, View.View, declared.admitted.Admitted.Admitted}, proofs.{Ending.{IsNoted, IsTaken, ran_on, taken}, Finishing.is_drawn, SessionRuns.session_run, SessionEnds.session_sound, Going.{goes_none, goes_on, stays_on}, Serving.{ends_on, one_numbered, open_on}, Knowing.known_moved}}
+use Rattle.pm_once_children.{specs.{Outcomes.ComesTo, Auxiliaries.{AreThere, HasLess}, declared.{outcome.Outcome.Outcome, auxiliaries.Auxiliaries.Auxiliaries}}, proofs.CalmLaws.still_less}
+use Rattle.pm_once_acts.{specs.{Acts.IsPresent, Steps.sessions_in}, proofs.{StepsLaws.sessions-append, ActsLaws.drawn_further}}
 
 -- what the taking of a connection leaves
 pub record HasTaken (before : View) (w : AtWork) : Type 0 where

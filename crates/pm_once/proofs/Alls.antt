@@ -1,16 +1,8 @@
 -- All acts that are due are done.
-use Rattle.std.proofs.Common.{◌≡◌, ℕ, List, [], ◌∷◌, ◌++◌, Result, Ok, Err, refl, ◌∙◌}
-use Rattle.std.specs.Prelude.{Bool, true, false, IsOk}
-use Rattle.pm_chain.specs.Steps.{Step}
-use Rattle.pm_journal.specs.Due.{AreSays}
-use Rattle.pm_acts.specs.Acts.{Keeps}
-use Rattle.pm_acts.specs.Loop.{IsDoneThrough, last_answer}
-use Rattle.pm_once.specs.Calls.{Acts, DoesNext, DoesOne}
-use Rattle.pm_once.specs.Goes.{Does, Goes, IsRunning, StaysOpen}
-use Rattle.pm_once.specs.View.{View}
-use Rattle.pm_server.specs.declared.end.ServerEnd.{ServerEnd}
-use Rattle.pm_once.proofs.Going.{does_nothing, does_then}
-use Rattle.pm_acts.specs.ActsLaws.{keeps_on}
+use Rattle.std.{proofs.Common.{◌≡◌, ℕ, List, [], ◌∷◌, ◌++◌, Result, Ok, Err, refl, ◌∙◌}, specs.Prelude.{Bool, true, false, IsOk}}
+use Rattle.pm_once_acts.{specs.{pm_supervisor_chain.Steps.Step, Acts.Keeps, Loop.{IsDoneThrough, last_answer}}, proofs.ActsLaws.keeps_on}
+use Rattle.pm_server.specs.{pm_supervisor_journal.Due.AreSays, declared.end.ServerEnd.ServerEnd}
+use Rattle.pm_once.{specs.{Calls.{Acts, DoesNext, DoesOne}, Goes.{Does, Goes, IsRunning, StaysOpen}, View.View}, proofs.Going.{does_nothing, does_then}}
 
 pub running_on : (gives : ℕ → Type 0) (steps : List Step) (a b : View) → IsRunning a → Goes gives steps a b → StaysOpen steps a b → IsRunning b
 running_on gives steps a b running goes stays = (running.0, running.1 ++ steps, goes.at running.0 running.1 running.2 running.3, stays running.1 running.3)

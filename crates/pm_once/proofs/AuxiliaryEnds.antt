@@ -1,28 +1,9 @@
 -- A child that serves no connection runs, and what is due after its end is done.
-use Rattle.std.proofs.Common.{◌≡◌, inl, inr, ℕ, List, [], ◌∷◌, ◌++◌, Result, Ok, Err, refl, sym, ◌∙◌, ap, subst, arith, append-nil}
-use Rattle.std.specs.Prelude.{true}
-use Rattle.pm_chain.specs.Laws.{StepsGoOn}
-use Rattle.pm_chain.specs.Steps.{ChildRun, Runs, RunsOn, Step, journal_by}
-use Rattle.pm_journal.specs.Laws.{KeepsALegalJournal}
-use Rattle.pm_journal.specs.Standing.{Standing, later}
-use Rattle.pm_journal.specs.Stands.{AtWork}
-use Rattle.pm_once.specs.Calls.{Finishes, HasAuxiliaryRun, NotesNoExit}
-use Rattle.pm_once.specs.Goes.{Does, IsRunning}
-use Rattle.pm_journal.specs.Due.{IsIdle, is_last_drawn}
-use Rattle.pm_acts.specs.Steps.{if_session}
-use Rattle.pm_server.specs.Journal.{accepted_in}
-use Rattle.pm_duties.specs.Auxiliaries.{AreThere, HasLess}
-use Rattle.pm_duties.specs.AuxiliaryRuns.{Heard, IsRunAs}
-use Rattle.pm_once.specs.View.{View}
-use Rattle.pm_server.specs.declared.end.ServerEnd.{ServerEnd}
-use Rattle.pm_server.specs.declared.end.ServerEnd.TheVariants.{NoMemory}
-use Rattle.pm_duties.specs.declared.auxiliaries.Auxiliaries.{Auxiliaries}
-use Rattle.pm_once.proofs.Ending.{IsNoted, ran_on}
-use Rattle.pm_once.proofs.Going.{does_then}
-use Rattle.pm_acts.specs.RunsLaws.{no_accepts}
-use Rattle.pm_once.proofs.Undisturbed.{disturbed_on, less_follows}
-use Rattle.pm_duties.specs.CalmLaws.{no_more}
-use Rattle.pm_duties.specs.AuxiliariesLaws.{less_on}
+use Rattle.std.{proofs.Common.{◌≡◌, inl, inr, ℕ, List, [], ◌∷◌, ◌++◌, Result, Ok, Err, refl, sym, ◌∙◌, ap, subst, arith, append-nil}, specs.Prelude.true}
+use Rattle.pm_once_acts.{specs.{pm_supervisor_chain.{Laws.StepsGoOn, Steps.{ChildRun, Runs, RunsOn, Step, journal_by}}, Steps.if_session}, proofs.RunsLaws.no_accepts}
+use Rattle.pm_server.specs.{pm_supervisor_journal.{Laws.KeepsALegalJournal, Standing.{Standing, later}, Stands.AtWork, Due.{IsIdle, is_last_drawn}}, Journal.accepted_in, declared.end.ServerEnd.{ServerEnd, TheVariants.NoMemory}}
+use Rattle.pm_once.{specs.{Calls.{Finishes, HasAuxiliaryRun, NotesNoExit}, Goes.{Does, IsRunning}, View.View}, proofs.{Ending.{IsNoted, ran_on}, Going.does_then, Undisturbed.{disturbed_on, less_follows}}}
+use Rattle.pm_once_children.{specs.{Auxiliaries.{AreThere, HasLess}, AuxiliaryRuns.{Heard, IsRunAs}, declared.auxiliaries.Auxiliaries.Auxiliaries}, proofs.{CalmLaws.no_more, AuxiliariesLaws.less_on}}
 
 -- the server without it
 pub running_off : (before : View) (auxiliaries : Auxiliaries) → ((s : Standing) → AreThere before.auxiliaries s → AreThere auxiliaries s) → HasLess before.auxiliaries auxiliaries → IsRunning before → IsRunning (record before { auxiliaries = auxiliaries })

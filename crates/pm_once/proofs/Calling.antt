@@ -1,43 +1,13 @@
 -- The calls of the supervisor, and their entries.
-use Rattle.std.proofs.Common.{◌≡◌, ◌⊎◌, inl, inr, ℕ, ◌+◌, ◌<◌, ◌≤◌, List, [], ◌∷◌, ◌++◌, Option, None, Some, Ok, refl, sym, ◌∙◌, ap, subst, arith, append-nil, length-append}
-use Rattle.std.specs.Prelude.{Bool, true, false, is_some, max, nat_le, IfSome}
-use Rattle.std.specs.List.{last_or}
-use Rattle.std.proofs.lemmas.Bool.Decides.{nat_tests}
-use Rattle.std.proofs.lemmas.List.Elements.{All-push}
-use Rattle.pm_modes.specs.declared.Mode.{Mode}
-use Rattle.pm_modes.specs.declared.Mode.TheVariants.{Smart}
-use Rattle.pm_modes.specs.Strength.{strengthen_of}
-use Rattle.pm_state.specs.Requests.{asked_with}
-use Rattle.pm_state.specs.TurnRules.{turned_of}
-use Rattle.pm_supervisor.specs.Children.{one_if}
-use Rattle.pm_state.specs.declared.event.PmEvent.{PmEvent}
-use Rattle.pm_state.specs.declared.event.PmEvent.TheVariants as entry
-use Rattle.pm_chain.specs.Laws.{StepsGoOn}
-use Rattle.pm_chain.specs.Steps.{Step, Notes, journal_of}
-use Rattle.pm_journal.specs.Laws.{GoesOnOverItsJournal}
-use Rattle.pm_outside.specs.Added.{Added}
-use Rattle.pm_journal.specs.Standing.{IsAtRest, Standing, asking, later, made, turning}
-use Rattle.pm_journal.specs.Stands.{AtWork, Stands, behind}
-use Rattle.pm_journal.specs.Due.{AreOurs, IsIdle, is_last_drawn}
-use Rattle.pm_acts.specs.Acts.{AsksAsDue}
-use Rattle.pm_once.specs.Goes.{Does, IsAt, IsOpen}
-use Rattle.pm_acts.specs.Steps.{IsFree}
-use Rattle.pm_server.specs.Journal.{IsMoment, asked_in}
-use Rattle.pm_duties.specs.Auxiliaries.{AreThere}
-use Rattle.pm_lines.specs.Log.{HasSaid}
-use Rattle.pm_once.specs.View.{View}
-use Rattle.pm_acts.specs.RunsLaws.{notes_follow}
-use Rattle.pm_duties.specs.CausesLaws.{caused_entry}
-use Rattle.pm_outside.specs.AddedLaws.{added_none}
-use Rattle.pm_server.specs.JournalLaws.{asked_in-append}
-use Rattle.pm_acts.specs.StepsLaws.{serves_nothing}
-use Rattle.pm_journal.specs.ToldLaws.{told_more}
-use Rattle.pm_journal.specs.RulesLaws.{ask_says, says_ours, turn_rule}
-use Rattle.pm_once.proofs.Undisturbed.{asked_disturbed, turned_disturbed}
-use Rattle.pm_duties.specs.CalmLaws.{asked_stands, goes_on_so}
-use Rattle.pm_lines.specs.LogLaws.{said_same}
-use Rattle.pm_segment.specs.MovesLaws.{moves_none, spans_none}
-use Rattle.pm_duties.specs.AuxiliariesLaws.{auxiliaries_still}
+use Rattle.std.{proofs.{Common.{◌≡◌, ◌⊎◌, inl, inr, ℕ, ◌+◌, ◌<◌, ◌≤◌, List, [], ◌∷◌, ◌++◌, Option, None, Some, Ok, refl, sym, ◌∙◌, ap, subst, arith, append-nil, length-append}, lemmas.{Bool.Decides.nat_tests, List.Elements.All-push}}, specs.{Prelude.{Bool, true, false, is_some, max, nat_le, IfSome}, List.last_or}}
+use Rattle.pm_server.{specs.{pm_modes.{declared.Mode.{Mode, TheVariants.Smart}, Strength.strengthen_of}, pm_state.{Requests.asked_with, TurnRules.turned_of, declared.event.PmEvent.PmEvent}, pm_supervisor.Children.one_if, Journal.{IsMoment, asked_in}, pm_segment.MovesLaws.{moves_none, spans_none}}, proofs.JournalLaws.asked_in-append}
+use Rattle.pm_server.specs.pm_state.declared.event.PmEvent.TheVariants as entry
+use Rattle.pm_once_acts.{specs.{pm_supervisor_chain.{Laws.StepsGoOn, Steps.{Step, Notes, journal_of}}, Acts.AsksAsDue, Steps.IsFree}, proofs.{RunsLaws.notes_follow, StepsLaws.serves_nothing}}
+use Rattle.pm_supervisor_journal.{specs.{Laws.GoesOnOverItsJournal, Standing.{IsAtRest, Standing, asking, later, made, turning}, Stands.{AtWork, Stands, behind}, Due.{AreOurs, IsIdle, is_last_drawn}}, proofs.{ToldLaws.told_more, RulesLaws.{ask_says, says_ours, turn_rule}}}
+use Rattle.pm_outside.{specs.Added.Added, proofs.AddedLaws.added_none}
+use Rattle.pm_once.{specs.{Goes.{Does, IsAt, IsOpen}, View.View}, proofs.Undisturbed.{asked_disturbed, turned_disturbed}}
+use Rattle.pm_once_children.{specs.Auxiliaries.AreThere, proofs.{CausesLaws.caused_entry, CalmLaws.{asked_stands, goes_on_so}, AuxiliariesLaws.auxiliaries_still}}
+use Rattle.pm_server_lines.{specs.Log.HasSaid, proofs.LogLaws.said_same}
 
 -- ---- moments
 

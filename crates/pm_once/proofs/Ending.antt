@@ -1,55 +1,14 @@
 -- A child has run: its end is noted, or memory is short for that. And a connection is accepted.
-use Rattle.std.proofs.Common.{◌≡◌, ◌⊎◌, inl, ℕ, ◌+◌, ◌≤◌, List, [], ◌∷◌, ◌++◌, length, Option, None, Some, refl, sym, ◌∙◌, ap, subst, append-nil, eq-eqb}
-use Rattle.std.specs.Prelude.{Bool, true, false, if◌then◌else◌, is_some, IfSome, unwrap_or}
-use Rattle.std.specs.List.{last_or}
-use Rattle.pm_exit.specs.declared.child.Kind.{Kind}
-use Rattle.pm_exit.specs.declared.child.Kind.TheVariants as kind
-use Rattle.pm_exit.specs.declared.child.Status.{Status}
-use Rattle.pm_journal.specs.Moments.{AreGiven}
-use Rattle.pm_modes.specs.declared.Mode.{Mode}
-use Rattle.pm_supervisor.specs.Children.{one_if}
-use Rattle.pm_supervisor.specs.Steps.{kind_for}
-use Rattle.pm_state.specs.declared.event.PmEvent.{PmEvent}
-use Rattle.pm_state.specs.declared.event.PmEvent.TheVariants as entry
-use Rattle.pm_state.specs.Journal.{acts_of_call}
-use Rattle.pm_state.specs.Shows.{machine_after}
-use Rattle.pm_query.specs.declared.book.BookEntry.{BookEntry}
-use Rattle.pm_segment.specs.Children.{times_in}
-use Rattle.pm_segment.specs.Moves.{Moves, StaysUnread, Spans}
-use Rattle.pm_segment.specs.MovesLaws.{moves_none, moves_on, spans_none}
-use Rattle.pm_chain.specs.Laws.{StepsGoOn}
-use Rattle.pm_chain.specs.Steps.{ChildRun, Notes, Step, Runs, RunsOn, redo_end, journal_by, journal_of}
-use Rattle.pm_journal.specs.Laws.{GoesOnOverItsJournal, KeepsALegalJournal}
-use Rattle.pm_journal.specs.Roll.{kind_in, without}
-use Rattle.pm_journal.specs.declared.exit.ChildExit.{ChildExit}
-use Rattle.pm_outside.specs.Added.{Added}
-use Rattle.pm_journal.specs.Standing.{IsAtRest, MayTake, Standing, accepting, all_noted, called, decision_on, exit_call, exit_entry, exiting, later, made, next_pid, ends_redo}
-use Rattle.pm_journal.specs.Stands.{AtWork, IsSettled, Stands, behind}
-use Rattle.pm_duties.specs.Outcomes.{ComesTo}
-use Rattle.pm_once.specs.Calls.{HasRun, NotesExit, NotesNoExit}
-use Rattle.pm_acts.specs.Steps.{exit_of, IsFree}
-use Rattle.pm_journal.specs.Due.{AreOurs, IsIdle, is_last_drawn}
-use Rattle.pm_acts.specs.Acts.{AsksAsDue}
-use Rattle.pm_once.specs.Goes.{Goes, IsRunning, StaysOpen}
-use Rattle.pm_server.specs.Journal.{IsMoment, asked_in}
-use Rattle.pm_duties.specs.Auxiliaries.{AreThere, HasLess, heard_of}
-use Rattle.pm_duties.specs.declared.outcome.Outcome.{Outcome}
-use Rattle.pm_lines.specs.Log.{HasSaid, LogView}
-use Rattle.pm_once.specs.View.{View}
-use Rattle.pm_duties.specs.declared.auxiliaries.Auxiliaries.{Auxiliaries}
-use Rattle.pm_acts.specs.ActsLaws.{asks_drawn}
-use Rattle.pm_acts.specs.RunsLaws.{notes_follow, run_follows, runs_on_follows, exit_entries, lost_more, more_inside, no_asks, no_lines, run_inside, there_in}
-use Rattle.pm_once.proofs.Calling.{as_last, later_moment}
-use Rattle.pm_duties.specs.CausesLaws.{caused_entry, caused_on, caused_run}
-use Rattle.pm_outside.specs.AddedLaws.{added_none}
-use Rattle.pm_server.specs.JournalLaws.{asked_in-append}
-use Rattle.pm_journal.specs.ToldLaws.{told_more}
-use Rattle.pm_journal.specs.RulesLaws.{exit_ours}
-use Rattle.pm_duties.specs.AuxiliariesLaws.{auxiliaries_without, off_startup, auxiliaries_beside}
-use Rattle.pm_lines.specs.LogLaws.{said_same}
-use Rattle.pm_once.proofs.Undisturbed.{GoesOnDisk, ran_disturbed, ran_on_disturbed, taken_disturbed}
-use Rattle.pm_duties.specs.CalmLaws.{goes_on_so}
-use Rattle.pm_once.proofs.Knowing.{known_still}
+use Rattle.std.{proofs.Common.{◌≡◌, ◌⊎◌, inl, ℕ, ◌+◌, ◌≤◌, List, [], ◌∷◌, ◌++◌, length, Option, None, Some, refl, sym, ◌∙◌, ap, subst, append-nil, eq-eqb}, specs.{Prelude.{Bool, true, false, if◌then◌else◌, is_some, IfSome, unwrap_or}, List.last_or}}
+use Rattle.pm_server.{specs.{pm_exit.declared.child.{Kind.Kind, Status.Status}, pm_modes.declared.Mode.Mode, pm_supervisor.{Children.one_if, Steps.kind_for}, pm_state.{declared.event.PmEvent.PmEvent, Journal.acts_of_call, Shows.machine_after}, pm_query.declared.book.BookEntry.BookEntry, pm_segment.{Children.times_in, Moves.{Moves, StaysUnread, Spans}, MovesLaws.{moves_none, moves_on, spans_none}}, Journal.{IsMoment, asked_in}}, proofs.JournalLaws.asked_in-append}
+use Rattle.pm_server.specs.pm_exit.declared.child.Kind.TheVariants as kind
+use Rattle.pm_supervisor_journal.{specs.{Moments.AreGiven, Laws.{GoesOnOverItsJournal, KeepsALegalJournal}, Roll.{kind_in, without}, declared.exit.ChildExit.ChildExit, Standing.{IsAtRest, MayTake, Standing, accepting, all_noted, called, decision_on, exit_call, exit_entry, exiting, later, made, next_pid, ends_redo}, Stands.{AtWork, IsSettled, Stands, behind}, Due.{AreOurs, IsIdle, is_last_drawn}}, proofs.{ToldLaws.told_more, RulesLaws.exit_ours}}
+use Rattle.pm_server.specs.pm_state.declared.event.PmEvent.TheVariants as entry
+use Rattle.pm_once_acts.{specs.{pm_supervisor_chain.{Laws.StepsGoOn, Steps.{ChildRun, Notes, Step, Runs, RunsOn, redo_end, journal_by, journal_of}}, Steps.{exit_of, IsFree}, Acts.AsksAsDue}, proofs.{ActsLaws.asks_drawn, RunsLaws.{notes_follow, run_follows, runs_on_follows, exit_entries, lost_more, more_inside, no_asks, no_lines, run_inside, there_in}}}
+use Rattle.pm_outside.{specs.Added.Added, proofs.AddedLaws.added_none}
+use Rattle.pm_once_children.{specs.{Outcomes.ComesTo, Auxiliaries.{AreThere, HasLess, heard_of}, declared.{outcome.Outcome.Outcome, auxiliaries.Auxiliaries.Auxiliaries}}, proofs.{CausesLaws.{caused_entry, caused_on, caused_run}, AuxiliariesLaws.{auxiliaries_without, off_startup, auxiliaries_beside}, CalmLaws.goes_on_so}}
+use Rattle.pm_once.{specs.{Calls.{HasRun, NotesExit, NotesNoExit}, Goes.{Goes, IsRunning, StaysOpen}, View.View}, proofs.{Calling.{as_last, later_moment}, Undisturbed.{GoesOnDisk, ran_disturbed, ran_on_disturbed, taken_disturbed}, Knowing.known_still}}
+use Rattle.pm_server_lines.{specs.Log.{HasSaid, LogView}, proofs.LogLaws.said_same}
 
 -- what the end of a child leaves
 record HasExited (exit : ChildExit) (at : ℕ) (s t : Standing) : Type 0 where

@@ -1,36 +1,12 @@
 -- A shutdown is asked for, and all that is due is done.
-use Rattle.std.proofs.Common.{◌≡◌, ◌⊎◌, inl, inr, ℕ, ◌≤◌, List, [], ◌∷◌, ◌++◌, Some, Result, Ok, Err, refl, sym, ◌∙◌, ap, subst, arith, append-nil}
-use Rattle.std.specs.Prelude.{Bool, true, false, IfErr, IsOk, OnOk}
-use Rattle.std.proofs.lemmas.Bool.Decides.{nat_tests}
-use Rattle.pm_modes.specs.declared.Mode.{Mode}
-use Rattle.pm_modes.specs.declared.Mode.TheVariants.{Smart}
-use Rattle.pm_state.specs.declared.event.PmEvent.TheVariants as entry
-use Rattle.pm_state.specs.Journal.{last_pid}
-use Rattle.pm_chain.specs.Laws.{StepsGoOn}
-use Rattle.pm_chain.specs.Steps.{Step, Notes, journal_of}
-use Rattle.pm_journal.specs.Laws.{GoesOnOverItsJournal}
-use Rattle.pm_outside.specs.Added.{Added}
-use Rattle.pm_journal.specs.Standing.{IsAtRest, Standing, asking, later, made}
-use Rattle.pm_journal.specs.Stands.{AtWork}
-use Rattle.pm_once.specs.Calls.{Acts, Asks, Finishes}
-use Rattle.pm_journal.specs.Due.{AreSays, IsIdle, is_last_drawn}
-use Rattle.pm_acts.specs.Acts.{AsksAsDue}
-use Rattle.pm_once.specs.Goes.{IsAt, IsOpen, IsRunning, StaysOpen}
-use Rattle.pm_server.specs.Journal.{asked_in}
-use Rattle.pm_once.specs.View.{View}
-use Rattle.pm_server.specs.declared.end.ServerEnd.{ServerEnd}
-use Rattle.pm_server.specs.declared.end.ServerEnd.TheVariants.{NoMemory}
-use Rattle.pm_once.proofs.Calling.{asked, deaf}
-use Rattle.pm_duties.specs.AuxiliariesLaws.{auxiliary_still}
-use Rattle.pm_outside.specs.AddedLaws.{added_none}
-use Rattle.pm_server.specs.JournalLaws.{times_none}
-use Rattle.pm_once.proofs.Going.{does_any, does_then}
-use Rattle.pm_acts.specs.StepsLaws.{serves_nothing}
-use Rattle.pm_journal.specs.NextsLaws.{same_work}
-use Rattle.pm_journal.specs.RulesLaws.{ask_says}
-use Rattle.pm_once.proofs.Undisturbed.{disturbed_on, less_follows}
-use Rattle.pm_duties.specs.CalmLaws.{no_more, still_less}
-use Rattle.pm_segment.specs.MovesLaws.{moves_none, spans_none}
+use Rattle.std.{proofs.{Common.{◌≡◌, ◌⊎◌, inl, inr, ℕ, ◌≤◌, List, [], ◌∷◌, ◌++◌, Some, Result, Ok, Err, refl, sym, ◌∙◌, ap, subst, arith, append-nil}, lemmas.Bool.Decides.nat_tests}, specs.Prelude.{Bool, true, false, IfErr, IsOk, OnOk}}
+use Rattle.pm_server.{specs.{pm_modes.declared.Mode.{Mode, TheVariants.Smart}, pm_state.Journal.last_pid, Journal.asked_in, declared.end.ServerEnd.{ServerEnd, TheVariants.NoMemory}, pm_segment.MovesLaws.{moves_none, spans_none}}, proofs.JournalLaws.times_none}
+use Rattle.pm_server.specs.pm_state.declared.event.PmEvent.TheVariants as entry
+use Rattle.pm_once_acts.{specs.{pm_supervisor_chain.{Laws.StepsGoOn, Steps.{Step, Notes, journal_of}}, Acts.AsksAsDue}, proofs.StepsLaws.serves_nothing}
+use Rattle.pm_supervisor_journal.{specs.{Laws.GoesOnOverItsJournal, Standing.{IsAtRest, Standing, asking, later, made}, Stands.AtWork, Due.{AreSays, IsIdle, is_last_drawn}}, proofs.{NextsLaws.same_work, RulesLaws.ask_says}}
+use Rattle.pm_outside.{specs.Added.Added, proofs.AddedLaws.added_none}
+use Rattle.pm_once.{specs.{Calls.{Acts, Asks, Finishes}, Goes.{IsAt, IsOpen, IsRunning, StaysOpen}, View.View}, proofs.{Calling.{asked, deaf}, Going.{does_any, does_then}, Undisturbed.{disturbed_on, less_follows}}}
+use Rattle.pm_once_children.proofs.{AuxiliariesLaws.auxiliary_still, CalmLaws.{no_more, still_less}}
 
 never_err : {E : Type 0} (e : E) (r : Result (Unit {0}) E) → r ≡ Err e → IsOk r → ⊥
 never_err e (Ok done) is ok = cc

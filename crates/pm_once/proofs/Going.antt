@@ -1,24 +1,10 @@
 -- Steps of a server, some after others.
-use Rattle.std.proofs.Common.{ℕ, List, [], ◌∷◌, ◌++◌, Result, Ok, Err, refl, sym, ◌∙◌, ap, subst, append_assoc, append-nil}
-use Rattle.std.specs.Prelude.{OnOk, IfErr}
-use Rattle.pm_facts.specs.Lists.{each_first, each_second}
-use Rattle.pm_state.specs.declared.event.PmEvent.{PmEvent}
-use Rattle.pm_query.specs.declared.book.BookEntry.{BookEntry}
-use Rattle.pm_chain.specs.Steps.{Step, Notes, book_of, journal_of}
-use Rattle.pm_chain.specs.FoldsLaws.{journal-append}
-use Rattle.pm_outside.specs.Added.{Added}
-use Rattle.pm_segment.specs.Moves.{StaysUnread, Spans}
-use Rattle.pm_segment.specs.MovesLaws.{moves_none, unread_on, spans_none, spans_on}
-use Rattle.pm_once.specs.Goes.{Does, Goes, IsAt, IsEndOf, IsOpen, StaysOpen}
-use Rattle.pm_acts.specs.Steps.{EndsWith, IsNoRenewal}
-use Rattle.pm_server.specs.Journal.{Times}
-use Rattle.pm_once.specs.View.{View}
-use Rattle.pm_server.specs.declared.end.ServerEnd.{ServerEnd}
-use Rattle.pm_server.specs.declared.end.ServerEnd.TheVariants.{Clean, Abnormal, NoThread, NoMemory}
-use Rattle.pm_server.specs.declared.end.Why.TheVariants.{AfterCrash, StartupFailed, RestartOff, GenerationsSpent}
-use Rattle.pm_outside.specs.AddedLaws.{added_both, added_none}
-use Rattle.pm_server.specs.JournalLaws.{times_any, times_none, times_on}
-use Rattle.pm_acts.specs.StepsLaws.{book-append, serves_nothing, serves_both}
+use Rattle.std.{proofs.Common.{ℕ, List, [], ◌∷◌, ◌++◌, Result, Ok, Err, refl, sym, ◌∙◌, ap, subst, append_assoc, append-nil}, specs.Prelude.{OnOk, IfErr}}
+use Rattle.pm_server.{specs.{pm_facts.Lists.{each_first, each_second}, pm_state.declared.event.PmEvent.PmEvent, pm_query.declared.book.BookEntry.BookEntry, pm_segment.{Moves.{StaysUnread, Spans}, MovesLaws.{moves_none, unread_on, spans_none, spans_on}}, Journal.Times, declared.end.{ServerEnd.{ServerEnd, TheVariants.{Clean, Abnormal, NoThread, NoMemory}}, Why.TheVariants.{AfterCrash, StartupFailed, RestartOff, GenerationsSpent}}}, proofs.JournalLaws.{times_any, times_none, times_on}}
+use Rattle.pm_supervisor_chain.{specs.Steps.{Step, Notes, book_of, journal_of}, proofs.FoldsLaws.journal-append}
+use Rattle.pm_outside.{specs.Added.Added, proofs.AddedLaws.{added_both, added_none}}
+use Rattle.pm_once.specs.{Goes.{Does, Goes, IsAt, IsEndOf, IsOpen, StaysOpen}, View.View}
+use Rattle.pm_once_acts.{specs.Steps.{EndsWith, IsNoRenewal}, proofs.StepsLaws.{book-append, serves_nothing, serves_both}}
 
 pub goes_none : (gives : ℕ → Type 0) (v : View) → Goes gives [] v v
 goes_none gives v = record {

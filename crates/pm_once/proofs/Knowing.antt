@@ -1,23 +1,9 @@
 -- What is known of the store.
-use Rattle.std.proofs.Common.{◌≡◌, ◌≢◌, ℕ, List, Option, None, Some, Err, sym, subst}
-use Rattle.std.specs.Prelude.{IfSome, option_map}
-use Rattle.pm_record.specs.declared.fault.RedoFault.{RedoFault}
-use Rattle.pm_record.specs.declared.fault.RedoFault.TheVariants as redo
-use Rattle.pm_redo.specs.Found.{IsReason}
-use Rattle.pm_query.specs.declared.book.BookEntry.{BookEntry}
-use Rattle.pm_segment.specs.Moves.{Moves}
-use Rattle.pm_segment.specs.Redos.{IsAtLastEpoch, IsCleanAt}
-use Rattle.pm_duties.specs.AuxiliaryRuns.{CloseNotes, StartNotes}
-use Rattle.pm_duties.specs.Outcomes.{Stays, HasComeTo}
-use Rattle.pm_once.specs.Knows.{Knows}
-use Rattle.pm_once.specs.View.{View}
-use Rattle.pm_duties.specs.declared.checkpointer.Closed.{Closed as Its}
-use Rattle.pm_duties.specs.declared.checkpointer.Closed.TheVariants.{Made, Full}
-use Rattle.pm_server.specs.declared.end.StartWhy.{StartWhy}
-use Rattle.pm_server.specs.declared.end.StartWhy.TheVariants.{Redo}
-use Rattle.pm_duties.specs.declared.outcome.Outcome.{Outcome}
-use Rattle.pm_duties.specs.declared.outcome.Outcome.TheVariants.{Closed, Refused}
-use Rattle.pm_duties.specs.OutcomesLaws.{come_still, refused_now, reads_so, closed_now}
+use Rattle.std.{proofs.Common.{◌≡◌, ◌≢◌, ℕ, List, Option, None, Some, Err, sym, subst}, specs.Prelude.{IfSome, option_map}}
+use Rattle.pm_server.specs.{pm_record.declared.fault.RedoFault.RedoFault, pm_segment.{pm_redo.Found.IsReason, Moves.Moves, Redos.{IsAtLastEpoch, IsCleanAt}}, pm_query.declared.book.BookEntry.BookEntry, declared.end.StartWhy.{StartWhy, TheVariants.Redo}}
+use Rattle.pm_server.specs.pm_record.declared.fault.RedoFault.TheVariants as redo
+use Rattle.pm_once_children.{specs.{AuxiliaryRuns.{CloseNotes, StartNotes}, Outcomes.{Stays, HasComeTo}, declared.{checkpointer.Closed.{Closed as Its, TheVariants.{Made, Full}}, outcome.Outcome.{Outcome, TheVariants.{Closed, Refused}}}}, proofs.OutcomesLaws.{come_still, refused_now, reads_so, closed_now}}
+use Rattle.pm_once.specs.{Knows.Knows, View.View}
 
 pub known_still : (from : ℕ) (before now : View) → now.outcome ≡ before.outcome → Stays before.store now.store → Knows from before → Knows from now
 known_still from before now same stays known = record {

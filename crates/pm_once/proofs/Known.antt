@@ -1,22 +1,9 @@
 -- What is known of the store where a server ends.
-use Rattle.std.proofs.Common.{◌≡◌, ◌⊎◌, inl, inr, ℕ, List, Option, Some, refl, subst}
-use Rattle.std.specs.Prelude.{IfSome, true}
-use Rattle.pm_disk.specs.Cause.{Rose}
-use Rattle.pm_chain.specs.Steps.{Step}
-use Rattle.pm_segment.specs.Redos.{IsAtLastEpoch, is_broken}
-use Rattle.pm_server.specs.Ends.{IsKnownAt}
-use Rattle.pm_server.specs.StoryLaws.{broken_rose}
-use Rattle.pm_server.specs.declared.end.ServerEnd.{ServerEnd}
-use Rattle.pm_server.specs.declared.end.ServerEnd.TheVariants.{Clean, Abnormal, NoThread, NoMemory}
-use Rattle.pm_server.specs.declared.end.StartWhy.TheVariants.{Redo, Killed}
-use Rattle.pm_server.specs.declared.end.Why.TheVariants.{AfterCrash, StartupFailed, RestartOff, GenerationsSpent}
-use Rattle.pm_once.specs.Goes.{IsEndOf}
-use Rattle.pm_duties.specs.Outcomes.{HasComeTo}
-use Rattle.pm_once.specs.Knows.{Knows}
-use Rattle.pm_once.specs.View.{View}
-use Rattle.pm_duties.specs.declared.checkpointer.Closed.TheVariants.{Full}
-use Rattle.pm_duties.specs.declared.outcome.Outcome.{Outcome}
-use Rattle.pm_duties.specs.declared.outcome.Outcome.TheVariants.{Closed}
+use Rattle.std.{proofs.Common.{◌≡◌, ◌⊎◌, inl, inr, ℕ, List, Option, Some, refl, subst}, specs.Prelude.{IfSome, true}}
+use Rattle.pm_server.{specs.{pm_disk.Cause.Rose, pm_segment.Redos.{IsAtLastEpoch, is_broken}, Ends.IsKnownAt, declared.end.{ServerEnd.{ServerEnd, TheVariants.{Clean, Abnormal, NoThread, NoMemory}}, StartWhy.TheVariants.{Redo, Killed}, Why.TheVariants.{AfterCrash, StartupFailed, RestartOff, GenerationsSpent}}}, proofs.StoryLaws.broken_rose}
+use Rattle.pm_supervisor_chain.specs.Steps.{Step}
+use Rattle.pm_once.specs.{Goes.IsEndOf, Knows.Knows, View.View}
+use Rattle.pm_once_children.specs.{Outcomes.HasComeTo, declared.{checkpointer.Closed.TheVariants.Full, outcome.Outcome.{Outcome, TheVariants.Closed}}}
 
 crash_caused : (from : ℕ) (now : View) → Knows from now → (now.outcome ≡ Some (Closed Full)) ⊎ (is_broken now.store.live ≡ true)
     → Rose from now.store.faults ⊎ IfSome now.store.files (λ files. ∥ IsAtLastEpoch files ∥₁)

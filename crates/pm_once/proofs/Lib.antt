@@ -17,3 +17,4 @@ pub mod Turns
 pub mod Undisturbed
 pub mod Whole
 pub mod Known
+pub use Rattle.pm_server.proofs as pm_server

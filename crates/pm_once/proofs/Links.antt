@@ -1,11 +1,6 @@
 -- The links of a port: those that are out, and those that came back.
-use Rattle.std.proofs.Common.{◌≡◌, ℕ, ◌+◌, ◌-◌, ◌≤◌, ◌<◌, List, [], ◌∷◌, ◌++◌, length, Option, None, Some, option_map, IfSome, refl, sym, ◌∙◌, ap, subst, arith, append_assoc, append-nil, length-append}
-use Rattle.std.specs.Prelude.{map, slice_get, unwrap_or}
-use Rattle.std.proofs.lemmas.List.{length-map, map-append}
-use Rattle.std.proofs.lemmas.Option.{slice_get-get_or}
-use Rattle.std.proofs.Math.Seq.{get_or-append_seam}
-use Rattle.pm_outside.specs.Visits.{Visit, Visits, after_done, faults_when_given}
-use Rattle.pm_exchange.specs.Exchange.{LinkView}
+use Rattle.std.{proofs.{Common.{◌≡◌, ℕ, ◌+◌, ◌-◌, ◌≤◌, ◌<◌, List, [], ◌∷◌, ◌++◌, length, Option, None, Some, option_map, IfSome, refl, sym, ◌∙◌, ap, subst, arith, append_assoc, append-nil, length-append}, lemmas.{List.{length-map, map-append}, Option.slice_get-get_or}, Math.Seq.get_or-append_seam}, specs.Prelude.{map, slice_get, unwrap_or}}
+use Rattle.pm_session.specs.{pm_outside.Visits.{Visit, Visits, after_done, faults_when_given}, pm_session_exchange.Exchange.LinkView}
 use Rattle.pm_once.specs.Service.{Connection, visit_of, with_connections, with_link}
 
 -- one that was given is out

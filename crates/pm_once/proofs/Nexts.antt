@@ -1,61 +1,13 @@
 -- The next act that is due is done.
-use Rattle.std.proofs.Common.{◌≡◌, ◌⊎◌, inl, inr, ℕ, ◌+◌, nat_eq, cond, List, [], ◌∷◌, ◌++◌, length, Option, None, Some, Result, Ok, Err, refl, sym, ◌∙◌, ap, subst, arith, append_assoc, append-nil}
-use Rattle.std.specs.Prelude.{◌&&◌, nat_lt, is_some, Bool, true, false, map, IfSome, IfErr, OnOk}
-use Rattle.std.specs.List.{last_or}
-use Rattle.std.proofs.lemmas.Bool.Decides.{nat_tests}
-use Rattle.std.proofs.lemmas.List.Sums.{sum_by-cons}
-use Rattle.pm_state.specs.declared.action.Action.{Action}
-use Rattle.pm_state.specs.declared.action.Action.TheVariants as act
-use Rattle.pm_state.specs.declared.event.PmEvent.{PmEvent}
-use Rattle.pm_state.specs.declared.event.PmEvent.TheVariants as entry
-use Rattle.pm_state.specs.Journal.{without_first}
-use Rattle.pm_supervisor.specs.declared.Ending.{Ending}
-use Rattle.pm_supervisor.specs.declared.Ending.TheVariants as endings
-use Rattle.pm_query.specs.declared.book.BookEntry.{BookEntry}
-use Rattle.pm_query.specs.declared.book.BookEntry.TheVariants.{Gone, Opened}
-use Rattle.pm_segment.specs.Children.{AreOthers, once, times_in}
-use Rattle.pm_segment.specs.Moves.{Moves, Spans}
-use Rattle.pm_segment.specs.Redos.{is_broken}
-use Rattle.pm_chain.specs.Laws.{StepsGoOn}
-use Rattle.pm_chain.specs.Steps.{Step, Notes, Renews, MayFollow, book_of, journal_of}
-use Rattle.pm_journal.specs.Laws.{GoesOnOverItsJournal}
-use Rattle.pm_outside.specs.Added.{Added}
-use Rattle.pm_journal.specs.Standing.{Standing, act_for, done, entry_for, first_due}
-use Rattle.pm_journal.specs.Stands.{AtWork, IsSettled, Stands}
-use Rattle.pm_journal.specs.Due.{AreSays, AreOurs}
-use Rattle.pm_server.specs.Acted.{LogBehind}
-use Rattle.pm_acts.specs.Acts.{AsksAsDue}
-use Rattle.pm_once.specs.Calls.{DoesNext, Performs, end_by, outcome}
-use Rattle.pm_duties.specs.Outcomes.{Stays, end_in, HasComeTo}
-use Rattle.pm_once.specs.Knows.{Knows}
-use Rattle.pm_once.specs.Goes.{Does, Goes, IsAt, IsEndOf, IsOpen, IsRunning, Outset, StaysOpen}
-use Rattle.pm_acts.specs.Steps.{IsFree}
-use Rattle.pm_server.specs.Journal.{IsMoment, asked_in}
-use Rattle.pm_duties.specs.Auxiliaries.{AreThere, auxiliaries_after, heard_of}
-use Rattle.pm_lines.specs.Log.{HasSaid}
-use Rattle.pm_once.specs.View.{View}
-use Rattle.pm_server.specs.declared.end.ServerEnd.{ServerEnd}
-use Rattle.pm_server.specs.declared.end.ServerEnd.TheVariants.{NoMemory}
-use Rattle.pm_duties.specs.declared.checkpointer.Closed.TheVariants.{Made, Crashed, Full, Short}
-use Rattle.pm_duties.specs.declared.outcome.Outcome.{Outcome}
-use Rattle.pm_duties.specs.declared.outcome.Outcome.TheVariants.{Closed, Refused}
-use Rattle.pm_acts.specs.ActsLaws.{asks_acted, due_kept, not_accepted, not_asked, ours_tail}
-use Rattle.pm_server.specs.ActedLaws.{said_acted}
-use Rattle.pm_duties.specs.AuxiliariesLaws.{auxiliaries_acted}
-use Rattle.pm_acts.specs.RunsLaws.{notes_follow, stands_by_itself}
-use Rattle.pm_duties.specs.CausesLaws.{acted_heard, caused_entry, caused_renewal}
-use Rattle.pm_server.specs.JournalLaws.{asked_in-append}
-use Rattle.pm_once.proofs.Going.{goes_none, stays_none}
-use Rattle.pm_acts.specs.StepsLaws.{serves_nothing}
-use Rattle.pm_once.proofs.Knowing.{known_still}
-use Rattle.pm_server.specs.Renewed.{HasRenewed}
-use Rattle.pm_server.specs.RenewedLaws.{spans_renewal}
-use Rattle.pm_once.proofs.Undisturbed.{GoesOnDisk, acted_disturbed, renewed_disturbed}
-use Rattle.pm_duties.specs.CalmLaws.{shutdown_done}
-use Rattle.pm_journal.specs.NextsLaws.{first_is, shorter, generation_kept, ended_kept, same_work}
-use Rattle.pm_journal.specs.ToldLaws.{told_more}
-use Rattle.pm_acts.specs.NextsLaws.{no_moment, moment_kept, entry_free, says_tail, says_owes, keeps_done, same_told, still_keeps, IsLine}
-use Rattle.pm_acts.specs.Loop.{answer_of}
+use Rattle.std.{proofs.{Common.{◌≡◌, ◌⊎◌, inl, inr, ℕ, ◌+◌, nat_eq, cond, List, [], ◌∷◌, ◌++◌, length, Option, None, Some, Result, Ok, Err, refl, sym, ◌∙◌, ap, subst, arith, append_assoc, append-nil}, lemmas.{Bool.Decides.nat_tests, List.Sums.sum_by-cons}}, specs.{Prelude.{◌&&◌, nat_lt, is_some, Bool, true, false, map, IfSome, IfErr, OnOk}, List.last_or}}
+use Rattle.pm_server.{specs.{pm_state.{declared.{action.Action.Action, event.PmEvent.PmEvent}, Journal.without_first}, pm_supervisor.declared.Ending.Ending, pm_query.declared.book.BookEntry.{BookEntry, TheVariants.{Gone, Opened}}, pm_segment.{Children.{AreOthers, once, times_in}, Moves.{Moves, Spans}, Redos.is_broken}, pm_outside.Added.Added, Acted.LogBehind, Journal.{IsMoment, asked_in}, pm_server_lines.Log.HasSaid, declared.end.ServerEnd.{ServerEnd, TheVariants.NoMemory}, Renewed.HasRenewed}, proofs.{ActedLaws.said_acted, JournalLaws.asked_in-append, RenewedLaws.spans_renewal}}
+use Rattle.pm_server.specs.pm_state.declared.action.Action.TheVariants as act
+use Rattle.pm_server.specs.pm_state.declared.event.PmEvent.TheVariants as entry
+use Rattle.pm_server.specs.pm_supervisor.declared.Ending.TheVariants as endings
+use Rattle.pm_once_acts.{specs.{pm_supervisor_chain.{Laws.StepsGoOn, Steps.{Step, Notes, Renews, MayFollow, book_of, journal_of}}, Acts.AsksAsDue, Steps.IsFree, Loop.answer_of}, proofs.{ActsLaws.{asks_acted, due_kept, not_accepted, not_asked, ours_tail}, RunsLaws.{notes_follow, stands_by_itself}, StepsLaws.serves_nothing, NextsLaws.{no_moment, moment_kept, entry_free, says_tail, says_owes, keeps_done, same_told, still_keeps, IsLine}}}
+use Rattle.pm_supervisor_journal.{specs.{Laws.GoesOnOverItsJournal, Standing.{Standing, act_for, done, entry_for, first_due}, Stands.{AtWork, IsSettled, Stands}, Due.{AreSays, AreOurs}}, proofs.{NextsLaws.{first_is, shorter, generation_kept, ended_kept, same_work}, ToldLaws.told_more}}
+use Rattle.pm_once.{specs.{Calls.{DoesNext, Performs, end_by, outcome}, Knows.Knows, Goes.{Does, Goes, IsAt, IsEndOf, IsOpen, IsRunning, Outset, StaysOpen}, View.View}, proofs.{Going.{goes_none, stays_none}, Knowing.known_still, Undisturbed.{GoesOnDisk, acted_disturbed, renewed_disturbed}}}
+use Rattle.pm_once_children.{specs.{Outcomes.{Stays, end_in, HasComeTo}, Auxiliaries.{AreThere, auxiliaries_after, heard_of}, declared.{checkpointer.Closed.TheVariants.{Made, Crashed, Full, Short}, outcome.Outcome.{Outcome, TheVariants.{Closed, Refused}}}}, proofs.{AuxiliariesLaws.auxiliaries_acted, CausesLaws.{acted_heard, caused_entry, caused_renewal}, CalmLaws.shutdown_done}}
 
 -- ---- its entry
 

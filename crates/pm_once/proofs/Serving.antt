@@ -1,37 +1,11 @@
 -- A connection is served, and others after it.
-use Rattle.std.proofs.Common.{◌≡◌, ◌⊎◌, inl, inr, ℕ, ◌+◌, ◌≤◌, List, [], ◌∷◌, ◌++◌, length, Option, None, Some, Result, Ok, Err, option_map, refl, sym, ◌∙◌, ap, subst, arith, append_assoc, append-nil, length-append}
-use Rattle.std.specs.Prelude.{Bool, true, false, if◌then◌else◌, map, IfErr, IfSome, OnOk}
-use Rattle.std.proofs.lemmas.List.{length-map, map-append}
-use Rattle.std.proofs.lemmas.List.Elements.{All-nil, All-append}
-use Rattle.std.proofs.lemmas.Bool.{false≢true}
-use Rattle.pm_facts.specs.Bools.{never_both}
-use Rattle.pm_exit.specs.declared.child.Kind.TheVariants as kind
-use Rattle.pm_exit.specs.declared.child.Status.{Status}
-use Rattle.pm_outside.specs.Visits.{Visit, Visits}
-use Rattle.pm_startup.specs.declared.packet.StartFault.TheVariants as packets
-use Rattle.pm_exchange.specs.Ends.{status_by}
-use Rattle.pm_session.specs.Session.{status_of}
-use Rattle.pm_exchange.specs.declared.ending.Cause.{Cause}
-use Rattle.pm_exchange.specs.declared.ending.Cause.TheVariants.{Terminated, Cancelling, LinkEnded, LinkFailed, TimedOut, PacketRefused, MessageRefused, DecisionRefused, GateRefused, ShortOfMemory, Panicked, ToldToTerminate, ToldToQuit, Killed, Overtaken}
-use Rattle.pm_chain.specs.Steps.{ChildRun, Step, journal_of}
-use Rattle.pm_chain.specs.FoldsLaws.{journal-append}
-use Rattle.pm_journal.specs.declared.exit.ChildExit.{ChildExit}
-use Rattle.pm_journal.specs.declared.supervision.Taken.{Taken}
-use Rattle.pm_journal.specs.Standing.{later}
-use Rattle.pm_once.specs.Calls.{Asks, Finishes}
-use Rattle.pm_acts.specs.Steps.{exit_of, ServesNone, sessions_in}
-use Rattle.pm_once.specs.Goes.{IsEndOf, StaysOpen}
-use Rattle.pm_journal.specs.Due.{IsIdle, is_last_drawn}
-use Rattle.pm_server.specs.Journal.{accepted_in, asked_in}
-use Rattle.pm_once.specs.Serves.{AreNumbered, HasServed, IsServed, Serves, passed, taken_for}
-use Rattle.pm_once.specs.Service.{Connection, IsOfItself, IsServedAs, is_panic, is_signal, run_of, visit_of, with_connections, with_end}
-use Rattle.pm_once.specs.View.{View}
-use Rattle.pm_server.specs.declared.end.ServerEnd.{ServerEnd}
-use Rattle.pm_server.specs.declared.end.ServerEnd.TheVariants.{NoMemory}
-use Rattle.pm_server.specs.JournalLaws.{accepted_in-append, asked_in-append}
-use Rattle.pm_once.proofs.Going.{does_nothing, end_behind, goes_on, stays_on}
-use Rattle.pm_acts.specs.StepsLaws.{sessions-append}
-use Rattle.pm_once.proofs.Links.{both_changes, no_change}
+use Rattle.std.{proofs.{Common.{◌≡◌, ◌⊎◌, inl, inr, ℕ, ◌+◌, ◌≤◌, List, [], ◌∷◌, ◌++◌, length, Option, None, Some, Result, Ok, Err, option_map, refl, sym, ◌∙◌, ap, subst, arith, append_assoc, append-nil, length-append}, lemmas.{List.{length-map, map-append, Elements.{All-nil, All-append}}, Bool.false≢true}}, specs.Prelude.{Bool, true, false, if◌then◌else◌, map, IfErr, IfSome, OnOk}}
+use Rattle.pm_server.{specs.{pm_facts.Bools.never_both, pm_exit.declared.child.Status.Status, pm_outside.Visits.{Visit, Visits}, pm_session.{pm_session_exchange.{Ends.status_by, declared.ending.Cause.{Cause, TheVariants.{Terminated, Cancelling, LinkEnded, LinkFailed, TimedOut, PacketRefused, MessageRefused, DecisionRefused, GateRefused, ShortOfMemory, Panicked, ToldToTerminate, ToldToQuit, Killed, Overtaken}}}, Session.status_of}, pm_supervisor_journal.{declared.{exit.ChildExit.ChildExit, supervision.Taken.Taken}, Standing.later, Due.{IsIdle, is_last_drawn}}, Journal.{accepted_in, asked_in}, declared.end.ServerEnd.{ServerEnd, TheVariants.NoMemory}}, proofs.JournalLaws.{accepted_in-append, asked_in-append}}
+use Rattle.pm_server.specs.pm_exit.declared.child.Kind.TheVariants as kind
+use Rattle.pm_server.specs.pm_startup.declared.packet.StartFault.TheVariants as packets
+use Rattle.pm_supervisor_chain.{specs.Steps.{ChildRun, Step, journal_of}, proofs.FoldsLaws.journal-append}
+use Rattle.pm_once.{specs.{Calls.{Asks, Finishes}, Goes.{IsEndOf, StaysOpen}, Serves.{AreNumbered, HasServed, IsServed, Serves, passed, taken_for}, Service.{Connection, IsOfItself, IsServedAs, is_panic, is_signal, run_of, visit_of, with_connections, with_end}, View.View}, proofs.{Going.{does_nothing, end_behind, goes_on, stays_on}, Links.{both_changes, no_change}}}
+use Rattle.pm_once_acts.{specs.Steps.{exit_of, ServesNone, sessions_in}, proofs.StepsLaws.sessions-append}
 
 -- ---- how a session's child ends
 

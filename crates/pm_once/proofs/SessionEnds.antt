@@ -1,23 +1,11 @@
 -- The child of a session crashes only where the disk has failed.
-use Rattle.std.proofs.Common.{◌≡◌, ◌⊎◌, inl, inr, ℕ, List, [], ◌∷◌, ◌++◌, All, refl, sym, subst, append_assoc}
-use Rattle.std.specs.Prelude.{true, not, ◌&&◌, ◌||◌}
-use Rattle.std.proofs.lemmas.List.Elements.{All-head, All-tail}
-use Rattle.std.proofs.lemmas.Option.{same_Some}
-use Rattle.pm_admit.specs.declared.Cac.TheVariants as decisions
-use Rattle.pm_disk.specs.Cause.{Rose}
-use Rattle.pm_exit.specs.declared.child.Kind.TheVariants as kind
-use Rattle.pm_exit.specs.Ends.{is_exit_0, is_exit_1}
-use Rattle.pm_query.specs.declared.book.BookEntry.{BookEntry}
-use Rattle.pm_query.specs.declared.book.BookEntry.TheVariants.{Attached, Broke}
-use Rattle.pm_segment.specs.Moves.{IsCountedFrom, IsShown, Moves}
-use Rattle.pm_session.specs.Session.{EndsAt, IsText, TurnsAway}
-use Rattle.pm_exchange.specs.Ends.{status_by}
-use Rattle.pm_exchange.specs.declared.ending.Cause.{Cause}
-use Rattle.pm_exchange.specs.declared.ending.Cause.TheVariants.{Terminated, Cancelling, LinkEnded, LinkFailed, TimedOut, PacketRefused, MessageRefused, DecisionRefused, GateRefused, ShortOfMemory, Panicked, ToldToTerminate, ToldToQuit, Killed, Overtaken}
-use Rattle.pm_startup.specs.declared.packet.StartFault.TheVariants as packets
-use Rattle.pm_duties.specs.Calm.{IsFineExit}
-use Rattle.pm_once.specs.Service.{Connection, IsOfItself, IsServedAs, is_panic, run_of, user_in}
-use Rattle.pm_once.specs.View.{View}
+use Rattle.std.{proofs.{Common.{◌≡◌, ◌⊎◌, inl, inr, ℕ, List, [], ◌∷◌, ◌++◌, All, refl, sym, subst, append_assoc}, lemmas.{List.Elements.{All-head, All-tail}, Option.same_Some}}, specs.Prelude.{true, not, ◌&&◌, ◌||◌}}
+use Rattle.pm_server.specs.pm_admit.declared.Cac.TheVariants as decisions
+use Rattle.pm_server.specs.{pm_disk.Cause.Rose, pm_exit.Ends.{is_exit_0, is_exit_1}, pm_query.declared.book.BookEntry.{BookEntry, TheVariants.{Attached, Broke}}, pm_segment.Moves.{IsCountedFrom, IsShown, Moves}, pm_session.{Session.{EndsAt, IsText, TurnsAway}, pm_session_exchange.{Ends.status_by, declared.ending.Cause.{Cause, TheVariants.{Terminated, Cancelling, LinkEnded, LinkFailed, TimedOut, PacketRefused, MessageRefused, DecisionRefused, GateRefused, ShortOfMemory, Panicked, ToldToTerminate, ToldToQuit, Killed, Overtaken}}}}}
+use Rattle.pm_server.specs.pm_exit.declared.child.Kind.TheVariants as kind
+use Rattle.pm_server.specs.pm_startup.declared.packet.StartFault.TheVariants as packets
+use Rattle.pm_once_children.specs.Calm.{IsFineExit}
+use Rattle.pm_once.specs.{Service.{Connection, IsOfItself, IsServedAs, is_panic, run_of, user_in}, View.View}
 
 -- what ends a session of itself, but for a panic, is no crash
 fine_by : (cause : Cause) → IsOfItself cause → (cause ≡ Panicked) ⊎ (((is_exit_0 (status_by cause) || is_exit_1 (status_by cause)) && not (is_panic cause)) ≡ true)

@@ -1,21 +1,8 @@
 -- What sessions note is the work of their children.
-use Rattle.std.proofs.Common.{◌≡◌, ◌⊎◌, inl, inr, ℕ, List, [], ◌∷◌, ◌++◌, All, Some, refl, sym, ◌∙◌, ap, subst, append_assoc}
-use Rattle.std.specs.Prelude.{Bool, false, if◌then◌else◌}
-use Rattle.std.specs.List.{AllByRecursion}
-use Rattle.std.proofs.lemmas.List.Elements.{All-nil, All-cons, All-head, All-tail, All-same, All-append}
-use Rattle.std.proofs.lemmas.Option.{same_Some}
-use Rattle.pm_admit.specs.declared.Cac.TheVariants as decisions
-use Rattle.pm_query.specs.Calls.{User, LeaveNotes}
-use Rattle.pm_query.specs.declared.book.BookEntry.{BookEntry}
-use Rattle.pm_query.specs.declared.book.BookEntry.TheVariants.{Attached, Answered, Released, Detached, Broke, LogFull}
-use Rattle.pm_exchange.specs.Sent.{Turn, Ran, Faulted, NotUtf8, Cancelled, LogIsFull, Memory}
-use Rattle.pm_session.specs.Session.{AllNotes, EndsAt, IsText, Leaves, NotesOutside, StopsInside, TurnsAway}
-use Rattle.pm_exchange.specs.Queries.{IsUnreleased, TurnNotes}
-use Rattle.pm_exchange.specs.declared.ending.Cause.{Cause}
-use Rattle.pm_exchange.specs.declared.ending.Cause.TheVariants.{Terminated, Cancelling, LinkEnded, LinkFailed, TimedOut, PacketRefused, MessageRefused, DecisionRefused, GateRefused, ShortOfMemory, Panicked, ToldToTerminate, ToldToQuit, Killed, Overtaken}
-use Rattle.pm_exchange.specs.declared.ending.Stage.{Stage}
-use Rattle.pm_exchange.specs.declared.ending.Stage.TheVariants.{Outside, Entering, Greeted}
-use Rattle.pm_chain.specs.Steps.{ChildRun, HasEntered, IsRunOf, IsWorkOf, StaysOutside, leaving}
+use Rattle.std.{proofs.{Common.{◌≡◌, ◌⊎◌, inl, inr, ℕ, List, [], ◌∷◌, ◌++◌, All, Some, refl, sym, ◌∙◌, ap, subst, append_assoc}, lemmas.{List.Elements.{All-nil, All-cons, All-head, All-tail, All-same, All-append}, Option.same_Some}}, specs.{Prelude.{Bool, false, if◌then◌else◌}, List.AllByRecursion}}
+use Rattle.pm_session.specs.pm_admit.declared.Cac.TheVariants as decisions
+use Rattle.pm_session.specs.{pm_query.{Calls.{User, LeaveNotes}, declared.book.BookEntry.{BookEntry, TheVariants.{Attached, Answered, Released, Detached, Broke, LogFull}}}, pm_session_exchange.{Sent.{Turn, Ran, Faulted, NotUtf8, Cancelled, LogIsFull, Memory}, Queries.{IsUnreleased, TurnNotes}, declared.ending.{Cause.{Cause, TheVariants.{Terminated, Cancelling, LinkEnded, LinkFailed, TimedOut, PacketRefused, MessageRefused, DecisionRefused, GateRefused, ShortOfMemory, Panicked, ToldToTerminate, ToldToQuit, Killed, Overtaken}}, Stage.{Stage, TheVariants.{Outside, Entering, Greeted}}}}, Session.{AllNotes, EndsAt, IsText, Leaves, NotesOutside, StopsInside, TurnsAway}}
+use Rattle.pm_supervisor_chain.specs.Steps.{ChildRun, HasEntered, IsRunOf, IsWorkOf, StaysOutside, leaving}
 use Rattle.pm_once.specs.Service.{Connection, IsOfItself, IsServedAs, is_panic, run_of, user_in}
 
 none_work : (run : ChildRun) (entries : List BookEntry) → entries ≡ [] → All (IsWorkOf run) entries

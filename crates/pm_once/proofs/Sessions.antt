@@ -1,24 +1,8 @@
 -- The session of a child to which nothing happens.
-use Rattle.std.proofs.Common.{◌≡◌, ◌⊎◌, inl, inr, ℕ, ◌≤◌, List, [], ◌∷◌, ◌++◌, All, Option, None, Some, Ok, refl, sym, ◌∙◌, ap, subst, append_assoc}
-use Rattle.std.specs.Prelude.{Bool}
-use Rattle.std.proofs.lemmas.List.Elements.{All-nil, All-cons}
-use Rattle.pm_outside.specs.Traffic.{Traffic, IsFresh}
-use Rattle.pm_admit.specs.declared.Cac.TheVariants as decisions
-use Rattle.pm_life.specs.declared.life.GateNo.{GateNo}
-use Rattle.pm_life.specs.Life.{Child, Told, nothing_told, Kill, Quit, Terminate, Cancel}
-use Rattle.pm_query.specs.Calls.{newcomer}
-use Rattle.pm_query.specs.declared.book.BookEntry.{BookEntry}
-use Rattle.pm_exchange.specs.Exchange.{LinkView, HasFailed}
-use Rattle.pm_exchange.specs.Sent.{Turn}
-use Rattle.pm_session.specs.Session.{Ending, HasAskedFor, HasCancelled, HeedsTold, IsAttachedAt, IsAttachedBehind, status_of, IsText, IsSession, IsCaused, CausedBy, HasEntered, NotesOutside, EndsAt, TurnsAway, between}
-use Rattle.pm_exchange.specs.Ends.{LetsGo}
-use Rattle.pm_exchange.specs.Queries.{IsCancelledTurn}
-use Rattle.pm_exchange.specs.declared.ending.Cause.{Cause}
-use Rattle.pm_exchange.specs.declared.ending.Cause.TheVariants.{Terminated, Cancelling, LinkEnded, LinkFailed, TimedOut, PacketRefused, MessageRefused, DecisionRefused, GateRefused, ShortOfMemory, Panicked, ToldToTerminate, ToldToQuit, Killed, Overtaken}
-use Rattle.pm_exchange.specs.declared.ending.Stage.{Stage}
-use Rattle.pm_exchange.specs.declared.ending.Stage.TheVariants.{Outside, Entering, Greeted}
-use Rattle.pm_startup.specs.declared.phase.Phase.{Phase}
-use Rattle.pm_quiet.specs.QuietLaws.{its_gate, same_gate, never_refused, never_told}
+use Rattle.std.{proofs.{Common.{◌≡◌, ◌⊎◌, inl, inr, ℕ, ◌≤◌, List, [], ◌∷◌, ◌++◌, All, Option, None, Some, Ok, refl, sym, ◌∙◌, ap, subst, append_assoc}, lemmas.List.Elements.{All-nil, All-cons}}, specs.Prelude.Bool}
+use Rattle.pm_server.specs.{pm_outside.Traffic.{Traffic, IsFresh}, pm_query.{Calls.newcomer, declared.book.BookEntry.BookEntry}, pm_session.{pm_session_exchange.{Exchange.{LinkView, HasFailed}, Sent.Turn, Ends.LetsGo, Queries.IsCancelledTurn, declared.ending.{Cause.{Cause, TheVariants.{Terminated, Cancelling, LinkEnded, LinkFailed, TimedOut, PacketRefused, MessageRefused, DecisionRefused, GateRefused, ShortOfMemory, Panicked, ToldToTerminate, ToldToQuit, Killed, Overtaken}}, Stage.{Stage, TheVariants.{Outside, Entering, Greeted}}}}, Session.{Ending, HasAskedFor, HasCancelled, HeedsTold, IsAttachedAt, IsAttachedBehind, status_of, IsText, IsSession, IsCaused, CausedBy, HasEntered, NotesOutside, EndsAt, TurnsAway, between}}, pm_startup.declared.phase.Phase.Phase}
+use Rattle.pm_server.specs.pm_admit.declared.Cac.TheVariants as decisions
+use Rattle.pm_once_lives.{specs.pm_child_life.{declared.life.GateNo.GateNo, Life.{Child, Told, nothing_told, Kill, Quit, Terminate, Cancel}}, proofs.QuietLaws.{its_gate, same_gate, never_refused, never_told}}
 use Rattle.pm_once.specs.Service.{IsOfItself, IsServedAs}
 
 -- ---- its generation

@@ -1,27 +1,9 @@
 -- A turn of the machine, and what is done after it.
-use Rattle.std.proofs.Common.{◌≡◌, inl, inr, ℕ, List, [], ◌++◌, Option, Result, Ok, Err, refl, sym, ◌∙◌, ap, subst}
-use Rattle.std.specs.Prelude.{Bool, true, false, OnOk}
-use Rattle.std.proofs.lemmas.Bool.{false≢true}
-use Rattle.pm_outside.specs.Visits.{Visits}
-use Rattle.pm_chain.specs.Steps.{Step}
-use Rattle.pm_journal.specs.Laws.{GoesOnOverItsJournal}
-use Rattle.pm_journal.specs.Standing.{IsAtRest, Standing, made, turning}
-use Rattle.pm_journal.specs.Stands.{AtWork, IsSettled}
-use Rattle.pm_once.specs.Calls.{Acts, Asks, Finishes, Turns}
-use Rattle.pm_journal.specs.Due.{IsIdle, is_last_drawn}
-use Rattle.pm_once.specs.Goes.{IsRunning}
-use Rattle.pm_once.specs.Serves.{HasServed, Serves}
-use Rattle.pm_once.specs.Service.{Connection}
-use Rattle.pm_once.specs.View.{View}
-use Rattle.pm_server.specs.declared.end.ServerEnd.{ServerEnd}
-use Rattle.pm_server.specs.declared.end.ServerEnd.TheVariants.{NoMemory}
-use Rattle.pm_once.proofs.Alls.{running_on}
-use Rattle.pm_once.proofs.Calling.{turned}
-use Rattle.pm_once.proofs.Finishing.{is_drawn}
-use Rattle.pm_once.proofs.Going.{does_any, does_then, goes_none}
-use Rattle.pm_acts.specs.StepsLaws.{serves_nothing}
-use Rattle.pm_journal.specs.NextsLaws.{same_work}
-use Rattle.pm_once.proofs.Serving.{finishes_serves, nothing_served, served_on, serves_on}
+use Rattle.std.{proofs.{Common.{◌≡◌, inl, inr, ℕ, List, [], ◌++◌, Option, Result, Ok, Err, refl, sym, ◌∙◌, ap, subst}, lemmas.Bool.false≢true}, specs.Prelude.{Bool, true, false, OnOk}}
+use Rattle.pm_server.specs.{pm_outside.Visits.Visits, declared.end.ServerEnd.{ServerEnd, TheVariants.NoMemory}}
+use Rattle.pm_once_acts.{specs.pm_supervisor_chain.Steps.Step, proofs.StepsLaws.serves_nothing}
+use Rattle.pm_supervisor_journal.{specs.{Laws.GoesOnOverItsJournal, Standing.{IsAtRest, Standing, made, turning}, Stands.{AtWork, IsSettled}, Due.{IsIdle, is_last_drawn}}, proofs.NextsLaws.same_work}
+use Rattle.pm_once.{specs.{Calls.{Acts, Asks, Finishes, Turns}, Goes.IsRunning, Serves.{HasServed, Serves}, Service.Connection, View.View}, proofs.{Alls.running_on, Calling.turned, Finishing.is_drawn, Going.{does_any, does_then, goes_none}, Serving.{finishes_serves, nothing_served, served_on, serves_on}}}
 
 pub turn_running : GoesOnOverItsJournal → (before : View) (w : AtWork) → IsRunning before → IsIdle before.work.standing → w.standing ≡ made turning before.work.standing → w.told ≡ before.work.told → IsRunning (record before { work = w })
 turn_running work before w running idle standing told =

@@ -1,41 +1,17 @@
 -- A server that nothing has disturbed stays so, call by call and act by act.
-use Rattle.std.proofs.Common.{◌≡◌, ◌⊎◌, inl, inr, ℕ, ◌≤◌, List, [], ◌∷◌, ◌++◌, None, Some, refl, sym, ◌∙◌, ap, subst, arith}
-use Rattle.std.specs.Prelude.{Bool, true, false, ◌||◌, is_some}
-use Rattle.std.specs.List.{AllByRecursion, list_any}
-use Rattle.std.proofs.lemmas.List.Folds.{list_any-append}
-use Rattle.std.proofs.Math.Bool.{or-false}
-use Rattle.pm_facts.specs.Lists.{each_more}
-use Rattle.pm_facts.specs.Bools.{never_both}
-use Rattle.pm_disk.specs.Cause.{Rose}
-use Rattle.pm_disk.specs.DiskLaws.{rose_further}
-use Rattle.pm_exit.specs.declared.child.Kind.TheVariants as kind
-use Rattle.pm_modes.specs.declared.Mode.{Mode}
-use Rattle.pm_admit.specs.declared.Cac.{Cac}
-use Rattle.pm_admit.specs.declared.PmState.TheVariants as state
-use Rattle.pm_supervisor.specs.declared.Ending.TheVariants as endings
-use Rattle.pm_state.specs.declared.action.Action.{Action}
+use Rattle.std.{proofs.{Common.{◌≡◌, ◌⊎◌, inl, inr, ℕ, ◌≤◌, List, [], ◌∷◌, ◌++◌, None, Some, refl, sym, ◌∙◌, ap, subst, arith}, lemmas.List.Folds.list_any-append, Math.Bool.or-false}, specs.{Prelude.{Bool, true, false, ◌||◌, is_some}, List.{AllByRecursion, list_any}}}
+use Rattle.pm_server.specs.{pm_facts.{Lists.each_more, Bools.never_both}, pm_modes.declared.Mode.Mode, pm_admit.declared.Cac.Cac, pm_segment.{Moment.Moment, Moves.IsCountedFrom}}
+use Rattle.pm_disk.{specs.Cause.Rose, proofs.DiskLaws.rose_further}
+use Rattle.pm_server.specs.pm_exit.declared.child.Kind.TheVariants as kind
+use Rattle.pm_server.specs.pm_admit.declared.PmState.TheVariants as state
+use Rattle.pm_server.specs.pm_supervisor.declared.Ending.TheVariants as endings
+use Rattle.pm_state.{specs.{declared.{action.Action.Action, machine.Machine.Machine}, Exits.exited_by, Journal.without_first, Machine.accepted_as, TurnRules.turned_of}, proofs.ChildLaws.accepted_shutdown}
 use Rattle.pm_state.specs.declared.action.Action.TheVariants as act
 use Rattle.pm_state.specs.declared.event.PmEvent.TheVariants as entry
-use Rattle.pm_state.specs.declared.machine.Machine.{Machine}
-use Rattle.pm_state.specs.Exits.{exited_by}
-use Rattle.pm_state.specs.Journal.{without_first}
-use Rattle.pm_state.specs.Machine.{accepted_as}
-use Rattle.pm_state.specs.TurnRules.{turned_of}
-use Rattle.pm_state.specs.ChildLaws.{accepted_shutdown}
-use Rattle.pm_chain.specs.Steps.{ChildRun, Notes, Renews, Runs, RunsOn, Step, journal_of}
-use Rattle.pm_chain.specs.FoldsLaws.{journal-append}
-use Rattle.pm_journal.specs.Standing.{Standing, act_for, done, entry_for, first_due}
-use Rattle.pm_segment.specs.Moment.{Moment}
-use Rattle.pm_segment.specs.Moves.{IsCountedFrom}
-use Rattle.pm_duties.specs.Auxiliaries.{HasLess, auxiliaries_after, heard_of}
-use Rattle.pm_duties.specs.AuxiliaryRuns.{IsRunAs}
-use Rattle.pm_journal.specs.Due.{AreOurs}
-use Rattle.pm_duties.specs.Calm.{AreCalm, HasFineSession, IsCalm, IsFineExit, is_behind_crash}
-use Rattle.pm_once.specs.Undisturbed.{IsDisturbedAt, IsDisturbedSo}
-use Rattle.pm_once.specs.View.{View}
-use Rattle.pm_duties.specs.declared.auxiliaries.Auxiliaries.{Auxiliaries}
-use Rattle.pm_journal.specs.NextsLaws.{first_is}
-use Rattle.pm_duties.specs.CalmLaws.{acted_calm, shutdown_done, IsQuiet, quiet_of, calm_of, accepted_quiet, still_less, less_startup, exited_quiet, exit_keeps, turned_quiet, HasNotCrashed, no_more, sessions_on, later_one, one_more, ended_run}
+use Rattle.pm_supervisor_chain.{specs.Steps.{ChildRun, Notes, Renews, Runs, RunsOn, Step, journal_of}, proofs.FoldsLaws.journal-append}
+use Rattle.pm_supervisor_journal.{specs.{Standing.{Standing, act_for, done, entry_for, first_due}, Due.AreOurs}, proofs.NextsLaws.first_is}
+use Rattle.pm_once_children.{specs.{Auxiliaries.{HasLess, auxiliaries_after, heard_of}, AuxiliaryRuns.IsRunAs, Calm.{AreCalm, HasFineSession, IsCalm, IsFineExit, is_behind_crash}, declared.auxiliaries.Auxiliaries.Auxiliaries}, proofs.CalmLaws.{acted_calm, shutdown_done, IsQuiet, quiet_of, calm_of, accepted_quiet, still_less, less_startup, exited_quiet, exit_keeps, turned_quiet, HasNotCrashed, no_more, sessions_on, later_one, one_more, ended_run}}
+use Rattle.pm_once.specs.{Undisturbed.{IsDisturbedAt, IsDisturbedSo}, View.View}
 
 -- ---- from one moment to another
 

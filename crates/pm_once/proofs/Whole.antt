@@ -1,64 +1,16 @@
 -- A whole run.
-use Rattle.std.proofs.Common.{◌≡◌, ◌⊎◌, inl, inr, ℕ, ◌+◌, ◌≤◌, List, [], ◌∷◌, ◌++◌, length, Option, None, Some, Result, Err, refl, sym, ◌∙◌, ap, subst, arith}
-use Rattle.std.specs.Prelude.{Bool, true, false, is_some, IfSome}
-use Rattle.std.specs.List.{AllByRecursion, last_or, list_any}
-use Rattle.std.proofs.lemmas.List.Folds.{list_any-append}
-use Rattle.pm_facts.specs.Bools.{never_both}
-use Rattle.pm_disk.specs.Cause.{Rose}
-use Rattle.std.proofs.lemmas.List.Elements.{All-nil}
-use Rattle.std.proofs.Math.Bool.{or-true}
-use Rattle.std.proofs.lemmas.Bool.{or_parts}
-use Rattle.std.proofs.lemmas.Option.{same_Some}
-use Rattle.pm_modes.specs.declared.Mode.{Mode}
-use Rattle.pm_modes.specs.declared.Mode.TheVariants.{Smart}
-use Rattle.pm_supervisor.specs.Children.{one_if}
-use Rattle.pm_supervisor.specs.declared.Limits.{Limits}
-use Rattle.pm_supervisor.specs.Steps.{empty_trace}
-use Rattle.pm_state.specs.declared.event.PmEvent.{PmEvent}
-use Rattle.pm_state.specs.declared.event.PmEvent.TheVariants as entry
+use Rattle.std.{proofs.{Common.{◌≡◌, ◌⊎◌, inl, inr, ℕ, ◌+◌, ◌≤◌, List, [], ◌∷◌, ◌++◌, length, Option, None, Some, Result, Err, refl, sym, ◌∙◌, ap, subst, arith}, lemmas.{List.{Folds.list_any-append, Elements.All-nil}, Bool.or_parts, Option.same_Some}, Math.Bool.or-true}, specs.{Prelude.{Bool, true, false, is_some, IfSome}, List.{AllByRecursion, last_or, list_any}}}
+use Rattle.pm_server.{specs.{pm_facts.Bools.never_both, pm_disk.Cause.Rose, pm_modes.declared.Mode.{Mode, TheVariants.Smart}, pm_state.{declared.event.PmEvent.PmEvent, Journal.{Follows, all_replayed, replay_begun}, Laws.RestartsSafely, Restarts.AreAsSet}, pm_query.declared.book.BookEntry.{BookEntry, TheVariants.Opened}, pm_segment.{Children.times_in, Moves.BreakIsShown, declared.live.Live.Live}, Journal.{IsMoment, asked_in, IsJournal}, Ends.{IsBook, end_line}, declared.end.{ServerEnd.{ServerEnd, TheVariants.{Clean, Abnormal, NoThread, NoMemory}}, Why.TheVariants.{AfterCrash, StartupFailed, RestartOff, GenerationsSpent}}}, proofs.JournalLaws.all_weaker}
+use Rattle.pm_supervisor.{specs.{Children.one_if, declared.Limits.Limits, Steps.empty_trace}, proofs.CountLaws.at_most_one}
+use Rattle.pm_server.specs.pm_state.declared.event.PmEvent.TheVariants as entry
 use Rattle.pm_supervisor.specs.declared.Ending.TheVariants as endings
-use Rattle.pm_supervisor.specs.CountLaws.{at_most_one}
-use Rattle.pm_state.specs.Journal.{Follows, all_replayed, replay_begun}
-use Rattle.pm_state.specs.Laws.{RestartsSafely}
-use Rattle.pm_state.specs.Restarts.{AreAsSet}
-use Rattle.pm_state.specs.declared.action.Action.TheVariants as act
-use Rattle.pm_query.specs.declared.book.BookEntry.{BookEntry}
-use Rattle.pm_query.specs.declared.book.BookEntry.TheVariants.{Opened}
-use Rattle.pm_segment.specs.Children.{times_in}
-use Rattle.pm_outside.specs.Added.{Added}
-use Rattle.pm_segment.specs.Moves.{BreakIsShown}
-use Rattle.pm_segment.specs.declared.live.Live.{Live}
-use Rattle.pm_outside.specs.AddedLaws.{added_both, added_none}
-use Rattle.pm_chain.specs.Laws.{StepsGoOn}
-use Rattle.pm_chain.specs.Steps.{AreSteps, AreStepsBehind, MayFollow, MayStep, Notes, Renews, Runs, RunsOn, Step, book_of, journal_by, journal_of, replay_of, whole_book}
-use Rattle.pm_chain.specs.FoldsLaws.{journal-append}
-use Rattle.pm_journal.specs.Laws.{GoesOnOverItsJournal, KeepsALegalJournal}
-use Rattle.pm_journal.specs.Standing.{Standing, first_due, nothing_done}
-use Rattle.pm_journal.specs.Stands.{Remembers, Stands, any_moment}
-use Rattle.pm_duties.specs.Outcomes.{AreCaused, IsRefusedSo}
-use Rattle.pm_journal.specs.Due.{AreOurs, IsIdle, is_last_drawn}
-use Rattle.pm_acts.specs.Acts.{AsksAsDue}
-use Rattle.pm_acts.specs.Steps.{EndsWith, IsNoRenewal}
-use Rattle.pm_once.specs.Goes.{IsAt, IsEndOf, IsOpen, IsRunning, Outset}
-use Rattle.pm_server.specs.Journal.{IsMoment, asked_in, IsJournal}
-use Rattle.pm_duties.specs.Auxiliaries.{AreThere, nobody}
-use Rattle.pm_lines.specs.Log.{HasLogged, LogView, Says, log_of, opened}
-use Rattle.pm_lines.specs.LogLaws.{logged_by, printed_more, said_first}
-use Rattle.pm_once.specs.Once.{IsAsked, IsOnceEnd, is_spent_of_pids}
-use Rattle.pm_server.specs.Ends.{IsBook, end_line}
-use Rattle.pm_once.specs.Serves.{Serves}
-use Rattle.pm_once.specs.Service.{Connection}
-use Rattle.pm_duties.specs.Calm.{HasFineSession, IsCalm, is_behind_crash}
-use Rattle.pm_once.specs.View.{View}
-use Rattle.pm_server.specs.declared.end.ServerEnd.{ServerEnd}
-use Rattle.pm_server.specs.declared.end.ServerEnd.TheVariants.{Clean, Abnormal, NoThread, NoMemory}
-use Rattle.pm_server.specs.declared.end.Why.TheVariants.{AfterCrash, StartupFailed, RestartOff, GenerationsSpent}
-use Rattle.pm_duties.specs.AuxiliaryRuns.{AreToldBehind, nothing_heard}
-use Rattle.pm_duties.specs.declared.auxiliaries.Auxiliaries.{Auxiliaries}
-use Rattle.pm_duties.specs.declared.outcome.Outcome.{Outcome}
-use Rattle.pm_server.specs.JournalLaws.{all_weaker}
-use Rattle.pm_journal.specs.EndsLaws.{last_set, spent_next}
-use Rattle.pm_once.proofs.Undisturbed.{spent_disturbed}
+use Rattle.pm_server.specs.pm_state.declared.action.Action.TheVariants as act
+use Rattle.pm_outside.{specs.Added.Added, proofs.AddedLaws.{added_both, added_none}}
+use Rattle.pm_supervisor_chain.{specs.{Laws.StepsGoOn, Steps.{AreSteps, AreStepsBehind, MayFollow, MayStep, Notes, Renews, Runs, RunsOn, Step, book_of, journal_by, journal_of, replay_of, whole_book}}, proofs.FoldsLaws.journal-append}
+use Rattle.pm_supervisor_journal.{specs.{Laws.{GoesOnOverItsJournal, KeepsALegalJournal}, Standing.{Standing, first_due, nothing_done}, Stands.{Remembers, Stands, any_moment}, Due.{AreOurs, IsIdle, is_last_drawn}}, proofs.EndsLaws.{last_set, spent_next}}
+use Rattle.pm_once_children.specs.{Outcomes.{AreCaused, IsRefusedSo}, pm_once_acts.{Acts.AsksAsDue, Steps.{EndsWith, IsNoRenewal}}, Auxiliaries.{AreThere, nobody}, Calm.{HasFineSession, IsCalm, is_behind_crash}, AuxiliaryRuns.{AreToldBehind, nothing_heard}, declared.{auxiliaries.Auxiliaries.Auxiliaries, outcome.Outcome.Outcome}}
+use Rattle.pm_once.{specs.{Goes.{IsAt, IsEndOf, IsOpen, IsRunning, Outset}, Once.{IsAsked, IsOnceEnd, is_spent_of_pids}, Serves.Serves, Service.Connection, View.View}, proofs.Undisturbed.spent_disturbed}
+use Rattle.pm_server_lines.{specs.Log.{HasLogged, LogView, Says, log_of, opened}, proofs.LogLaws.{logged_by, printed_more, said_first}}
 
 -- a server before it does anything
 pub record HasBegun (limits : Limits) (v : View) : Type 0 where

@@ -1,37 +1,12 @@
 -- What the parts of a server's calls do.
-use Rattle.std.specs.Prelude.{IsOk, ◌≡◌, ◌⊎◌, ℕ, ◌+◌, ◌≤◌, Bool, true, false, if◌then◌else◌, List, [], ◌∷◌, ◌++◌, length, None, Some, Result, Ok, Err, IfErr, OnOk}
-use Rattle.std.specs.declared.alloc.AllocError.{AllocError}
-use Rattle.pm_exit.specs.declared.child.Kind.{Kind}
-use Rattle.pm_exit.specs.declared.child.Kind.TheVariants as kinds
-use Rattle.pm_supervisor.specs.declared.Ending.{Ending}
-use Rattle.pm_disk.specs.Cause.{Rose}
-use Rattle.pm_segment.specs.Moves.{IsCountedFrom, Moves}
-use Rattle.pm_segment.specs.Redos.{is_broken}
-use Rattle.pm_admit.specs.declared.Cac.TheVariants as decisions
-use Rattle.pm_chain.specs.Steps.{ChildRun, IsRunOf, Step, journal_of}
-use Rattle.pm_journal.specs.declared.act.Act.{Act}
-use Rattle.pm_journal.specs.declared.act.Act.TheVariants as act
-use Rattle.pm_journal.specs.declared.exit.ChildExit.{ChildExit}
-use Rattle.pm_journal.specs.Roll.{kind_in}
-use Rattle.pm_outside.specs.Added.{Added}
-use Rattle.pm_journal.specs.Standing.{IsAtRest, Standing, exiting, made}
-use Rattle.pm_journal.specs.Stands.{IsSettled}
-use Rattle.pm_once.specs.Goes.{Does, Goes, StaysOpen}
-use Rattle.pm_journal.specs.Due.{IsIdle, is_last_drawn, AreSays}
-use Rattle.pm_server.specs.Acted.{LogBehind}
-use Rattle.pm_acts.specs.Acts.{Keeps, IsPresent}
-use Rattle.pm_acts.specs.Steps.{if_session, sessions_in}
-use Rattle.pm_server.specs.Journal.{accepted_in, asked_in}
-use Rattle.pm_duties.specs.Auxiliaries.{AreThere, HasLess, auxiliaries_after, heard_of, IsOff}
-use Rattle.pm_duties.specs.AuxiliaryRuns.{IsRunAs}
-use Rattle.pm_once.specs.Knows.{Knows}
-use Rattle.pm_duties.specs.Calm.{IsFineExit}
-use Rattle.pm_once.specs.View.{View}
-use Rattle.pm_server.specs.declared.end.ServerEnd.{ServerEnd}
-use Rattle.pm_server.specs.declared.end.ServerEnd.TheVariants.{NoMemory}
-use Rattle.pm_server.specs.Renewed.{HasRenewed}
-use Rattle.pm_once.specs.declared.admitted.Admitted.{Admitted}
-use Rattle.pm_duties.specs.Outcomes.{end_in, Stays, ComesTo}
+use Rattle.std.specs.{Prelude.{IsOk, ◌≡◌, ◌⊎◌, ℕ, ◌+◌, ◌≤◌, Bool, true, false, if◌then◌else◌, List, [], ◌∷◌, ◌++◌, length, None, Some, Result, Ok, Err, IfErr, OnOk}, declared.alloc.AllocError.AllocError}
+use Rattle.pm_server.specs.{pm_exit.declared.child.Kind.Kind, pm_supervisor.declared.Ending.Ending, pm_disk.Cause.Rose, pm_segment.{Moves.{IsCountedFrom, Moves}, Redos.is_broken}, pm_supervisor_journal.{declared.{act.Act.Act, exit.ChildExit.ChildExit}, Roll.kind_in, Standing.{IsAtRest, Standing, exiting, made}, Stands.IsSettled, Due.{IsIdle, is_last_drawn, AreSays}}, pm_outside.Added.Added, Acted.LogBehind, Journal.{accepted_in, asked_in}, declared.end.ServerEnd.{ServerEnd, TheVariants.NoMemory}, Renewed.HasRenewed}
+use Rattle.pm_server.specs.pm_exit.declared.child.Kind.TheVariants as kinds
+use Rattle.pm_server.specs.pm_admit.declared.Cac.TheVariants as decisions
+use Rattle.pm_once_acts.specs.{pm_supervisor_chain.Steps.{ChildRun, IsRunOf, Step, journal_of}, Acts.{Keeps, IsPresent}, Steps.{if_session, sessions_in}}
+use Rattle.pm_server.specs.pm_supervisor_journal.declared.act.Act.TheVariants as act
+use Rattle.pm_once.specs.{Goes.{Does, Goes, StaysOpen}, Knows.Knows, View.View, declared.admitted.Admitted.Admitted}
+use Rattle.pm_once_children.specs.{Auxiliaries.{AreThere, HasLess, auxiliaries_after, heard_of, IsOff}, AuxiliaryRuns.IsRunAs, Calm.IsFineExit, Outcomes.{end_in, Stays, ComesTo}}
 
 -- ---- an act
 

@@ -1,33 +1,12 @@
 -- What a server's calls do from one moment to another, and what holds of it at every moment.
-use Rattle.std.specs.Prelude.{◌≡◌, ◌⊎◌, ℕ, true, List, ◌++◌, None, Some, is_some, Result, IfErr, IfSome, OnOk}
-use Rattle.std.specs.List.{AllByRecursion, last_or}
-use Rattle.pm_supervisor.specs.declared.Limits.{Limits}
-use Rattle.pm_supervisor.specs.declared.Ending.TheVariants as endings
-use Rattle.pm_supervisor.specs.Steps.{Trace}
-use Rattle.pm_state.specs.declared.action.Action.TheVariants as act
-use Rattle.pm_state.specs.declared.event.PmEvent.TheVariants as entry
-use Rattle.pm_segment.specs.Children.{times_in}
-use Rattle.pm_segment.specs.Moves.{StaysUnread, Spans}
-use Rattle.pm_segment.specs.Redos.{is_broken}
-use Rattle.pm_chain.specs.Steps.{Step, AreSteps, book_of, journal_of, lost_in}
-use Rattle.pm_outside.specs.Added.{Added}
-use Rattle.pm_journal.specs.Standing.{first_due}
-use Rattle.pm_journal.specs.Stands.{Stands}
-use Rattle.pm_server.specs.Journal.{Times, asked_in}
-use Rattle.pm_duties.specs.Auxiliaries.{AreThere}
-use Rattle.pm_once.specs.Knows.{Knows}
-use Rattle.pm_lines.specs.Log.{HasSaid, LogView}
-use Rattle.pm_once.specs.Undisturbed.{IsDisturbedAt}
-use Rattle.pm_once.specs.View.{View}
-use Rattle.pm_duties.specs.declared.checkpointer.Closed.TheVariants.{Full, Made}
-use Rattle.pm_duties.specs.declared.outcome.Outcome.TheVariants.{Closed, Refused}
-use Rattle.pm_server.specs.declared.end.ServerEnd.{ServerEnd}
-use Rattle.pm_server.specs.declared.end.ServerEnd.TheVariants.{Clean, Abnormal, NoThread, NoMemory}
-use Rattle.pm_server.specs.declared.end.Why.TheVariants.{AfterCrash, StartupFailed, RestartOff, GenerationsSpent}
-use Rattle.pm_acts.specs.Acts.{AsksAsDue}
-use Rattle.pm_journal.specs.Due.{AreOurs}
-use Rattle.pm_duties.specs.Outcomes.{AreCaused}
-use Rattle.pm_acts.specs.Steps.{IsFree, IsNoRenewal, EndsWith, ServesNone}
+use Rattle.std.specs.{Prelude.{◌≡◌, ◌⊎◌, ℕ, true, List, ◌++◌, None, Some, is_some, Result, IfErr, IfSome, OnOk}, List.{AllByRecursion, last_or}}
+use Rattle.pm_server.specs.{pm_supervisor.{declared.Limits.Limits, Steps.Trace}, pm_segment.{Children.times_in, Moves.{StaysUnread, Spans}, Redos.is_broken}, pm_outside.Added.Added, pm_supervisor_journal.{Standing.first_due, Stands.Stands, Due.AreOurs}, Journal.{Times, asked_in}, pm_server_lines.Log.{HasSaid, LogView}, declared.end.{ServerEnd.{ServerEnd, TheVariants.{Clean, Abnormal, NoThread, NoMemory}}, Why.TheVariants.{AfterCrash, StartupFailed, RestartOff, GenerationsSpent}}}
+use Rattle.pm_server.specs.pm_supervisor.declared.Ending.TheVariants as endings
+use Rattle.pm_server.specs.pm_state.declared.action.Action.TheVariants as act
+use Rattle.pm_server.specs.pm_state.declared.event.PmEvent.TheVariants as entry
+use Rattle.pm_once_acts.specs.{pm_supervisor_chain.Steps.{Step, AreSteps, book_of, journal_of, lost_in}, Acts.AsksAsDue, Steps.{IsFree, IsNoRenewal, EndsWith, ServesNone}}
+use Rattle.pm_once_children.specs.{Auxiliaries.AreThere, declared.{checkpointer.Closed.TheVariants.{Full, Made}, outcome.Outcome.TheVariants.{Closed, Refused}}, Outcomes.AreCaused}
+use Rattle.pm_once.specs.{Knows.Knows, Undisturbed.IsDisturbedAt, View.View}
 
 -- ---- at every moment
 

@@ -1,29 +1,11 @@
 -- What a run of `once` leaves: its journal and its book, step after step, its log, and the links that it served.
 use Rattle.std.specs.Prelude.{◌≡◌, ◌⊎◌, ◌+◌, ◌≤◌, Bool, true, List, [], ◌++◌, All, Some, IfSome, length}
-use Rattle.pm_disk.specs.Cause.{Rose}
-use Rattle.pm_modes.specs.declared.Mode.TheVariants.{Smart}
-use Rattle.pm_supervisor.specs.declared.Limits.{Limits}
-use Rattle.pm_supervisor.specs.declared.Ending.TheVariants as endings
-use Rattle.pm_supervisor.specs.Children.{one_if}
-use Rattle.pm_state.specs.declared.event.PmEvent.TheVariants as entry
-use Rattle.pm_segment.specs.Moves.{IsShown}
-use Rattle.pm_chain.specs.Chain.{IsChained}
-use Rattle.pm_chain.specs.Steps.{AreSteps, Step, book_of, journal_of, replay_of, whole_book}
-use Rattle.pm_server.specs.declared.conf.Conf.{Conf}
-use Rattle.pm_duties.specs.AuxiliaryRuns.{AreToldBehind, IsRefusedLast, nothing_heard}
-use Rattle.pm_acts.specs.Steps.{EndsWith}
-use Rattle.pm_journal.specs.Due.{is_last_drawn}
-use Rattle.pm_server.specs.Journal.{IsJournal, asked_in}
-use Rattle.pm_lines.specs.Log.{HasLogged, log_of}
-use Rattle.pm_server.specs.Outside.{OutsideView, store_view}
-use Rattle.pm_server.specs.Ends.{EndsWell, IsBook, IsCausedBy, IsEndBy, end_line}
-use Rattle.pm_once.specs.Serves.{HasServed}
-use Rattle.pm_once.specs.Service.{Connection}
-use Rattle.pm_server.specs.Story.{IsStory}
-use Rattle.pm_server.specs.declared.end.ServerEnd.{ServerEnd}
-use Rattle.pm_server.specs.declared.end.ServerEnd.TheVariants.{Abnormal, NoMemory}
-use Rattle.pm_server.specs.declared.end.Why.TheVariants.{StartupFailed}
-use Rattle.pm_duties.specs.Calm.{EndThemselves}
+use Rattle.pm_server.specs.{pm_disk.Cause.Rose, pm_modes.declared.Mode.TheVariants.Smart, pm_supervisor.{declared.Limits.Limits, Children.one_if}, pm_segment.Moves.IsShown, declared.{conf.Conf.Conf, end.{ServerEnd.{ServerEnd, TheVariants.{Abnormal, NoMemory}}, Why.TheVariants.StartupFailed}}, pm_supervisor_journal.Due.is_last_drawn, Journal.{IsJournal, asked_in}, pm_server_lines.Log.{HasLogged, log_of}, Outside.{OutsideView, store_view}, Ends.{EndsWell, IsBook, IsCausedBy, IsEndBy, end_line}, Story.IsStory}
+use Rattle.pm_server.specs.pm_supervisor.declared.Ending.TheVariants as endings
+use Rattle.pm_server.specs.pm_state.declared.event.PmEvent.TheVariants as entry
+use Rattle.pm_once_acts.specs.{pm_supervisor_chain.{Chain.IsChained, Steps.{AreSteps, Step, book_of, journal_of, replay_of, whole_book}}, Steps.EndsWith}
+use Rattle.pm_once_children.specs.{AuxiliaryRuns.{AreToldBehind, IsRefusedLast, nothing_heard}, Calm.EndThemselves}
+use Rattle.pm_once.specs.{Serves.HasServed, Service.Connection}
 
 -- ---- its requests
 

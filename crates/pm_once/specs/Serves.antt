@@ -1,18 +1,10 @@
 -- What a server serves: connections, one after another.
 use Rattle.std.specs.Prelude.{◌≡◌, ◌⊎◌, ℕ, ◌+◌, ◌≤◌, Bool, true, false, if◌then◌else◌, List, [], ◌∷◌, length, map, All, Option, option_map, Result, Err, IfErr, IfSome, OnOk}
-use Rattle.pm_admit.specs.declared.Cac.TheVariants as decisions
+use Rattle.pm_server.specs.pm_admit.declared.Cac.TheVariants as decisions
 use Rattle.pm_keys.specs.CancelKey.{cancel_key}
-use Rattle.pm_outside.specs.Visits.{Visits}
-use Rattle.pm_chain.specs.Steps.{Step, journal_of}
-use Rattle.pm_journal.specs.declared.supervision.Taken.{Taken}
-use Rattle.pm_once.specs.Goes.{Goes, IsEndOf, StaysOpen}
-use Rattle.pm_journal.specs.Due.{IsIdle, is_last_drawn}
-use Rattle.pm_acts.specs.Steps.{sessions_in}
-use Rattle.pm_server.specs.Journal.{accepted_in, asked_in}
-use Rattle.pm_once.specs.Service.{Connection, IsServedAs, run_of, with_connections, with_end}
-use Rattle.pm_once.specs.View.{View}
-use Rattle.pm_server.specs.declared.end.ServerEnd.{ServerEnd}
-use Rattle.pm_server.specs.declared.end.ServerEnd.TheVariants.{NoMemory}
+use Rattle.pm_server.specs.{pm_outside.Visits.Visits, pm_supervisor_journal.{declared.supervision.Taken.Taken, Due.{IsIdle, is_last_drawn}}, Journal.{accepted_in, asked_in}, declared.end.ServerEnd.{ServerEnd, TheVariants.NoMemory}}
+use Rattle.pm_once_acts.specs.{pm_supervisor_chain.Steps.{Step, journal_of}, Steps.sessions_in}
+use Rattle.pm_once.specs.{Goes.{Goes, IsEndOf, StaysOpen}, Service.{Connection, IsServedAs, run_of, with_connections, with_end}, View.View}
 
 -- it was accepted, and not refused
 abbrev pub taken_for : Connection → Taken

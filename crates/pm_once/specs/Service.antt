@@ -1,22 +1,12 @@
 -- The connections that a server serves, one after another.
 use Rattle.std.specs.Prelude.{◌≡◌, ℕ, ◌≤◌, Bool, true, false, List, [], ◌∷◌, ◌++◌, length, map, All, None, Some, unwrap_or}
-use Rattle.pm_admit.specs.declared.Cac.TheVariants as decisions
+use Rattle.pm_session.specs.pm_admit.declared.Cac.TheVariants as decisions
 use Rattle.pm_exit.specs.declared.child.Kind.TheVariants as kinds
 use Rattle.pm_exit.specs.declared.child.Status.{Status}
 use Rattle.pm_exit.specs.declared.child.Status.TheVariants as statuses
-use Rattle.pm_life.specs.Life.{Child, Told, nothing_told}
-use Rattle.pm_outside.specs.Traffic.{IsFresh}
-use Rattle.pm_outside.specs.Visits.{Visit, Visits}
-use Rattle.pm_query.specs.Calls.{User, newcomer}
-use Rattle.pm_query.specs.declared.book.BookEntry.{BookEntry}
-use Rattle.pm_outside.specs.Added.{Added}
-use Rattle.pm_exchange.specs.Exchange.{LinkView, HasFailed}
-use Rattle.pm_exchange.specs.Sent.{Turn}
-use Rattle.pm_session.specs.Session.{Ending, HasAskedFor, HasCancelled, HeedsTold, IsAttachedBehind, IsSession, IsCaused, between, status_of}
-use Rattle.pm_exchange.specs.Queries.{IsCancelledTurn}
-use Rattle.pm_exchange.specs.declared.ending.Cause.{Cause}
-use Rattle.pm_exchange.specs.declared.ending.Cause.TheVariants.{DecisionRefused, GateRefused, Panicked, ToldToTerminate, ToldToQuit, Killed, Overtaken}
-use Rattle.pm_chain.specs.Steps.{ChildRun}
+use Rattle.pm_once_lives.specs.pm_child_life.Life.{Child, Told, nothing_told}
+use Rattle.pm_session.specs.{pm_outside.{Traffic.IsFresh, Visits.{Visit, Visits}, Added.Added}, pm_query.{Calls.{User, newcomer}, declared.book.BookEntry.BookEntry}, pm_session_exchange.{Exchange.{LinkView, HasFailed}, Sent.Turn, Queries.IsCancelledTurn, declared.ending.Cause.{Cause, TheVariants.{DecisionRefused, GateRefused, Panicked, ToldToTerminate, ToldToQuit, Killed, Overtaken}}}, Session.{Ending, HasAskedFor, HasCancelled, HeedsTold, IsAttachedBehind, IsSession, IsCaused, between, status_of}}
+use Rattle.pm_supervisor_chain.specs.Steps.{ChildRun}
 
 -- One connection: its child's pid and generation, its link as it was given and as it came back, how its queries were answered,
 -- how its session ended, and what was noted of it.

@@ -1,11 +1,9 @@
 -- A server that nothing has disturbed: no fault of its disk was counted, and nobody has asked it to shut down.
-use Rattle.std.specs.Prelude.{◌≡◌, ◌⊎◌, ℕ, true, List, is_some}
-use Rattle.std.specs.List.{AllByRecursion, list_any}
-use Rattle.pm_disk.specs.Cause.{Rose}
-use Rattle.pm_chain.specs.Steps.{Step, journal_of}
-use Rattle.pm_segment.specs.Moves.{IsCountedFrom}
+use Rattle.std.specs.{Prelude.{◌≡◌, ◌⊎◌, ℕ, true, List, is_some}, List.{AllByRecursion, list_any}}
+use Rattle.pm_segment.specs.{pm_disk.Cause.Rose, Moves.IsCountedFrom}
+use Rattle.pm_supervisor_chain.specs.Steps.{Step, journal_of}
 use Rattle.pm_once.specs.View.{View}
-use Rattle.pm_duties.specs.Calm.{IsCalm, is_behind_crash, HasFineSession}
+use Rattle.pm_once_children.specs.Calm.{IsCalm, is_behind_crash, HasFineSession}
 
 -- a fault of the disk was counted, or a shutdown was asked for, or it is calm
 abbrev pub IsDisturbedSo : (from : ℕ) → View → Type 0

@@ -1,11 +1,8 @@
 -- A server at one moment.
 use Rattle.std.specs.Prelude.{ℕ, Bool, List, Option}
-use Rattle.pm_journal.specs.Stands.{AtWork}
-use Rattle.pm_journal.specs.Supervision.{at_work}
-use Rattle.pm_segment.specs.Moment.{Moment, moment}
-use Rattle.pm_lines.specs.Log.{LogView, view_of as log_view_of}
-use Rattle.pm_duties.specs.declared.auxiliaries.Auxiliaries.{Auxiliaries}
-use Rattle.pm_duties.specs.declared.outcome.Outcome.{Outcome}
+use Rattle.pm_supervisor_journal.specs.{Stands.AtWork, Supervision.at_work}
+use Rattle.pm_once_children.specs.{pm_segment.Moment.{Moment, moment}, declared.{auxiliaries.Auxiliaries.Auxiliaries, outcome.Outcome.Outcome}}
+use Rattle.pm_server_lines.specs.Log.{LogView, view_of as log_view_of}
 use Rattle.pm_once.specs.declared.server.Server.{Server}
 
 -- The supervisor at work, the store, the log, the children that ended inside the store in this generation, the auxiliary ones,

@@ -1,12 +1,11 @@
 //! The laws on which a server stands.
 
-ghost use Rattle.pm_chain.specs.Laws.{StepsAreChained, StepsGoOn};
-ghost use Rattle.pm_journal.specs.Laws.{GoesOnOverItsJournal, KeepsALegalJournal};
-ghost use Rattle.pm_state.specs.Laws.{RestartsSafely};
+ghost use Rattle.pm_supervisor_chain.specs.Laws.{StepsAreChained, StepsGoOn};
+ghost use Rattle.pm_supervisor_journal.specs.{Laws.{GoesOnOverItsJournal, KeepsALegalJournal}, pm_state.Laws.RestartsSafely};
 
-use pm_chain::{steps_are_chained, steps_go_on};
-use pm_journal::{goes_on_over_its_journal, keeps_a_legal_journal};
 use pm_state::restarts_safely;
+use pm_supervisor_chain::{steps_are_chained, steps_go_on};
+use pm_supervisor_journal::{goes_on_over_its_journal, keeps_a_legal_journal};
 
 // The supervisor at work, its journal, and the steps of journal and book.
 pub(crate) fn laws()

@@ -1,7 +1,7 @@
 //! The loop of a server.
 
 ghost use Rattle.std.specs.Prelude.{◌≡◌, List};
-ghost use Rattle.pm_chain.specs.Steps.{Step};
+ghost use Rattle.pm_supervisor_chain.specs.Steps.{Step};
 
 use crate::laws::laws;
 use crate::server::Server;
@@ -17,14 +17,8 @@ use std::sync::Wait;
 
 impl<J: Chronicle<PmEvent>, O: Sink, D: Disk, B: Chronicle<BookEntry>> Server<J, O, D, B> {
     ghost use Rattle.std.specs.Prelude.{Bool, Err};
-    ghost use Rattle.pm_journal.specs.Stands.{IsSettled};
-    ghost use Rattle.pm_journal.specs.Supervision.{standing};
-    ghost use Rattle.pm_once.specs.Calls.{Turns};
-    ghost use Rattle.pm_journal.specs.Due.{IsIdle};
-    ghost use Rattle.pm_once.specs.Goes.{IsRunning};
-    ghost use Rattle.pm_once.specs.Serves.{HasServed, Serves};
-    ghost use Rattle.pm_once.specs.Service.{Connection};
-    ghost use Rattle.pm_once.specs.View.{view_of};
+    ghost use Rattle.pm_supervisor_journal.specs.{Stands.IsSettled, Supervision.standing, Due.IsIdle};
+    ghost use Rattle.pm_once.specs.{Calls.Turns, Goes.IsRunning, Serves.{HasServed, Serves}, Service.Connection, View.view_of};
 
     // Lets the machine do what it does by itself, and does the acts of that.
     fn turn(&mut self) -> Result<(), ServerEnd>

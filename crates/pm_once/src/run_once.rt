@@ -8,14 +8,14 @@ use crate::ended::Ended;
 use crate::laws::laws;
 use crate::server::Server;
 use pm_disk::Disk;
-use pm_duties::Auxiliaries;
-use pm_journal::Supervision;
-use pm_lines::Log;
+use pm_once_children::Auxiliaries;
 use pm_outside::{Chronicle, Clock, Port, Sink};
 use pm_query::BookEntry;
 use pm_segment::{Commits, Sole};
 use pm_server::{Conf, Outside, ServerEnd, say_end};
+use pm_server_lines::Log;
 use pm_state::PmEvent;
+use pm_supervisor_journal::Supervision;
 use std::alloc::Global;
 use std::sync::Wait;
 

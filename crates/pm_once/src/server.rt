@@ -1,27 +1,27 @@
 //! The server at work.
 
 ghost use Rattle.std.specs.Prelude.{◌≡◌, List, false, None, option_map};
-ghost use Rattle.pm_chain.specs.Steps.{Step};
+ghost use Rattle.pm_once_acts.specs.pm_supervisor_chain.Steps.{Step};
 ghost use Rattle.pm_once.specs.Service.{is_signal};
-ghost use Rattle.pm_duties.specs.declared.outcome.Outcome.{Outcome};
+ghost use Rattle.pm_once_children.specs.declared.outcome.Outcome.{Outcome};
 
 use crate::admitted::Admitted;
 use crate::laws::laws;
 use crate::session::{Served, next_link, serve_link};
-use pm_acts::{Acting, act_all};
 use pm_disk::Disk;
-use pm_duties::{Auxiliaries, Closed, Duty, Outcome, read_log, write_last};
 use pm_exit::{Kind, Status};
-use pm_journal::{Act, ChildExit, GenerationsSpent, Supervision, Taken};
-use pm_lines::Log;
 use pm_modes::Mode;
+use pm_once_acts::{Acting, act_all};
+use pm_once_children::{Auxiliaries, Closed, Duty, Outcome, read_log, write_last};
 use pm_outside::{Chronicle, Clock, Port, Sink};
 use pm_query::BookEntry;
 use pm_segment::Sole;
 use pm_server::{ServerEnd, StartWhy, Why};
+use pm_server_lines::Log;
 use pm_session::SessionConf;
 use pm_state::PmEvent;
 use pm_supervisor::Ending;
+use pm_supervisor_journal::{Act, ChildExit, GenerationsSpent, Supervision, Taken};
 use std::alloc::{AllocError, Global};
 use std::sync::Wait;
 
@@ -42,13 +42,9 @@ pub(crate) struct Server<J: Chronicle<PmEvent>, O: Sink, D: Disk, B: Chronicle<B
 
 impl<J: Chronicle<PmEvent>, O: Sink, D: Disk, B: Chronicle<BookEntry>> Server<J, O, D, B> {
     ghost use Rattle.std.specs.Prelude.{◌+◌, ℕ, IsOk};
-    ghost use Rattle.pm_journal.specs.Supervision.{standing};
-    ghost use Rattle.pm_journal.specs.declared.act.Act.TheVariants.{Reset, Say};
+    ghost use Rattle.pm_supervisor_journal.specs.{Supervision.standing, declared.act.Act.TheVariants.{Reset, Say}, Due.AreSays};
     ghost use Rattle.pm_state.specs.declared.action.Line.{Line};
-    ghost use Rattle.pm_once.specs.Calls.{Acts, Performs, RenewsStore, end_by};
-    ghost use Rattle.pm_journal.specs.Due.{AreSays};
-    ghost use Rattle.pm_once.specs.Goes.{IsRunning};
-    ghost use Rattle.pm_once.specs.View.{view_of};
+    ghost use Rattle.pm_once.specs.{Calls.{Acts, Performs, RenewsStore, end_by}, Goes.IsRunning, View.view_of};
 
     // How the server ends where its machine does: by what the last auxiliary child came to, or since its log is broken.
     // After such an end there is nothing else but want of memory.
@@ -119,10 +115,8 @@ impl<J: Chronicle<PmEvent>, O: Sink, D: Disk, B: Chronicle<BookEntry>> Server<J,
 impl<J: Chronicle<PmEvent>, O: Sink, D: Disk, B: Chronicle<BookEntry>> Acting
     for Server<J, O, D, B> {
     ghost use Rattle.std.specs.Prelude.{length};
-    ghost use Rattle.pm_journal.specs.Supervision.{standing};
-    ghost use Rattle.pm_once.specs.Calls.{DoesOne};
-    ghost use Rattle.pm_once.specs.Goes.{IsRunning};
-    ghost use Rattle.pm_once.specs.View.{view_of};
+    ghost use Rattle.pm_supervisor_journal.specs.Supervision.{standing};
+    ghost use Rattle.pm_once.specs.{Calls.DoesOne, Goes.IsRunning, View.view_of};
 
     ghost may = { λ server. IsRunning (view_of server) };
 
@@ -145,17 +139,10 @@ impl<J: Chronicle<PmEvent>, O: Sink, D: Disk, B: Chronicle<BookEntry>> Acting
 
 impl<J: Chronicle<PmEvent>, O: Sink, D: Disk, B: Chronicle<BookEntry>> Server<J, O, D, B> {
     ghost use Rattle.std.specs.Prelude.{◌⊎◌, ◌≢◌, ℕ, Some, IfNone, IfSome, IsSome, OnErr, OnOk, true, false};
-    ghost use Rattle.pm_exit.specs.declared.child.Kind.TheVariants.{Checkpointer, Startup};
-    ghost use Rattle.pm_chain.specs.Steps.{ChildRun};
-    ghost use Rattle.pm_journal.specs.Roll.{kind_in};
-    ghost use Rattle.pm_journal.specs.Standing.{IsAtRest, ends_redo};
-    ghost use Rattle.pm_journal.specs.Stands.{HasPast};
-    ghost use Rattle.pm_journal.specs.Supervision.{at_work, standing};
-    ghost use Rattle.pm_once.specs.Calls.{Asks, Finishes, HasAuxiliaryRun, NotesExit, NotesNoExit};
-    ghost use Rattle.pm_acts.specs.Steps.{exit_of};
-    ghost use Rattle.pm_journal.specs.Due.{IsIdle};
-    ghost use Rattle.pm_once.specs.Goes.{IsRunning};
-    ghost use Rattle.pm_once.specs.View.{view_of};
+    ghost use Rattle.pm_state.specs.pm_exit.declared.child.Kind.TheVariants.{Checkpointer, Startup};
+    ghost use Rattle.pm_once_acts.specs.{pm_supervisor_chain.Steps.ChildRun, Steps.exit_of};
+    ghost use Rattle.pm_supervisor_journal.specs.{Roll.kind_in, Standing.{IsAtRest, ends_redo}, Stands.HasPast, Supervision.{at_work, standing}, Due.IsIdle};
+    ghost use Rattle.pm_once.specs.{Calls.{Asks, Finishes, HasAuxiliaryRun, NotesExit, NotesNoExit}, Goes.IsRunning, View.view_of};
 
     // Asks for a smart shutdown, and does the acts of that. No further link is asked for.
     pub(crate) fn ask_smart<C: Clock>(&mut self, clock: &C) -> Result<(), ServerEnd>
@@ -294,17 +281,10 @@ impl<J: Chronicle<PmEvent>, O: Sink, D: Disk, B: Chronicle<BookEntry>> Server<J,
 
 impl<J: Chronicle<PmEvent>, O: Sink, D: Disk, B: Chronicle<BookEntry>> Server<J, O, D, B> {
     ghost use Rattle.std.specs.Prelude.{Bool, IfNone, IfSome, length, option_map, true, ◌<◌};
-    ghost use Rattle.pm_chain.specs.Steps.{ChildRun};
-    ghost use Rattle.pm_admit.specs.declared.Cac.{Cac};
-    ghost use Rattle.pm_journal.specs.Standing.{MayTake, decision_on};
-    ghost use Rattle.pm_journal.specs.Stands.{IsSettled};
-    ghost use Rattle.pm_journal.specs.Supervision.{HasRoom, standing};
-    ghost use Rattle.pm_once.specs.Calls.{Admits};
-    ghost use Rattle.pm_journal.specs.Due.{IsIdle};
-    ghost use Rattle.pm_once.specs.Goes.{IsRunning};
-    ghost use Rattle.pm_once.specs.Serves.{HasServed, Serves};
-    ghost use Rattle.pm_once.specs.Service.{Connection};
-    ghost use Rattle.pm_once.specs.View.{view_of};
+    ghost use Rattle.pm_once_acts.specs.pm_supervisor_chain.Steps.{ChildRun};
+    ghost use Rattle.pm_state.specs.pm_admit.declared.Cac.{Cac};
+    ghost use Rattle.pm_supervisor_journal.specs.{Standing.{MayTake, decision_on}, Stands.IsSettled, Supervision.{HasRoom, standing}, Due.IsIdle};
+    ghost use Rattle.pm_once.specs.{Calls.Admits, Goes.IsRunning, Serves.{HasServed, Serves}, Service.Connection, View.view_of};
 
     // Takes the next connection, and asks for the shutdown that is owed where its pid is the last.
     fn admit<C: Clock>(&mut self, clock: &C) -> Admitted

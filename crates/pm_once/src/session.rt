@@ -2,19 +2,16 @@
 
 ghost use Rattle.std.specs.Prelude.{◌≡◌, ◌+◌, ◌<◌, ◌≤◌, length, option_map, IfNone, IfSome};
 ghost use Rattle.pm_keys.specs.CancelKey.{cancel_key};
-ghost use Rattle.pm_outside.specs.Traffic.{IsFresh};
-ghost use Rattle.pm_segment.specs.Moment.{moment};
-ghost use Rattle.pm_segment.specs.Moves.{Moves};
-ghost use Rattle.pm_exchange.specs.Exchange.{link_view};
-ghost use Rattle.pm_session.specs.Session.{status_of};
+ghost use Rattle.pm_session.specs.{pm_outside.Traffic.IsFresh, pm_session_exchange.Exchange.link_view, Session.status_of};
+ghost use Rattle.pm_segment.specs.{Moment.moment, Moves.Moves};
 ghost use Rattle.pm_once.specs.Service.{Connection, IsServedAs, with_end, with_link};
 
 use pm_admit::Cac;
 use pm_disk::Disk;
 use pm_exit::Status;
+use pm_once_lives::{Home, Quiet};
 use pm_outside::{Accepted, Chronicle, Clock, Link, Port};
 use pm_query::BookEntry;
-use pm_quiet::{Home, Quiet};
 use pm_segment::Sole;
 use pm_session::{Admission, Done, Means, SessionConf, serve};
 use std::alloc::Global;

@@ -1,21 +1,9 @@
 -- An act is given and done, and its entry is noted.
-use Rattle.std.proofs.Common.{◌≡◌, ℕ, refl, eq-eqb, ◌+◌, ◌≤◌, arith, cond, Some, ◌∙◌, ap, [], ◌∷◌, sym, subst, List, length}
-use Rattle.std.specs.Prelude.{true, ◌==◌, false, Bool, nat_le, ◌||◌}
-use Rattle.std.proofs.lemmas.Bool.{eqb-true, le-leb, leb-true, lt-leb, ne_eqb}
-use Rattle.std.proofs.Math.Bool.{or-false}
-use Rattle.pm_exit.specs.declared.child.Kind.{Kind}
-use Rattle.pm_state.specs.declared.action.Action.{Action}
-use Rattle.pm_state.specs.declared.action.Action.TheVariants as act
-use Rattle.pm_journal.specs.Roll.{kind_in}
-use Rattle.pm_journal.specs.Standing.{Standing, done, next_pid, entry_for}
-use Rattle.pm_acts.specs.Acts.{IsPresent, AsksAsDue, Keeps}
-use Rattle.pm_journal.specs.Due.{is_last_drawn, AreOurs}
-use Rattle.pm_server.specs.Journal.{asked_in, accepted_in}
-use Rattle.pm_supervisor.specs.Children.{one_if}
-use Rattle.pm_modes.specs.declared.Mode.{Mode}
-use Rattle.pm_state.specs.Journal.{without_first, last_pid}
-use Rattle.pm_supervisor.specs.declared.Ending.TheVariants as endings
-use Rattle.pm_supervisor.specs.CountLaws.{at_most_one}
+use Rattle.std.{proofs.{Common.{◌≡◌, ℕ, refl, eq-eqb, ◌+◌, ◌≤◌, arith, cond, Some, ◌∙◌, ap, [], ◌∷◌, sym, subst, List, length}, lemmas.Bool.{eqb-true, le-leb, leb-true, lt-leb, ne_eqb}, Math.Bool.or-false}, specs.Prelude.{true, ◌==◌, false, Bool, nat_le, ◌||◌}}
+use Rattle.pm_server.{specs.{pm_exit.declared.child.Kind.Kind, pm_state.{declared.action.Action.Action, Journal.{without_first, last_pid}}, pm_supervisor_journal.{Roll.kind_in, Standing.{Standing, done, next_pid, entry_for}, Due.{is_last_drawn, AreOurs}}, Journal.{asked_in, accepted_in}, pm_supervisor.Children.one_if, pm_modes.declared.Mode.Mode}, proofs.pm_supervisor.CountLaws.at_most_one}
+use Rattle.pm_server.specs.pm_state.declared.action.Action.TheVariants as act
+use Rattle.pm_once_acts.specs.Acts.{IsPresent, AsksAsDue, Keeps}
+use Rattle.pm_server.specs.pm_supervisor.declared.Ending.TheVariants as endings
 
 -- ---- the children
 

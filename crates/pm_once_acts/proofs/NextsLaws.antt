@@ -1,20 +1,9 @@
 -- What the next act is that is due, of those that these servers do.
-use Rattle.std.proofs.Common.{◌≡◌, [], ◌∷◌, Some, List, Option, Err, refl, sym, ◌∙◌, ap, None, ℕ, subst, append-nil}
-use Rattle.std.specs.Prelude.{Bool, true, false}
-use Rattle.pm_state.specs.declared.action.Action.{Action}
-use Rattle.pm_state.specs.declared.action.Action.TheVariants as act
-use Rattle.pm_outside.specs.Added.{Added}
-use Rattle.pm_journal.specs.Standing.{Standing, done, entry_for, first_due, next_in}
-use Rattle.pm_journal.specs.declared.act.GenerationsSpent.{GenerationsSpent}
-use Rattle.pm_journal.specs.Moments.{AreGiven}
-use Rattle.pm_journal.specs.Due.{AreOurs, AreSays, is_last_drawn}
-use Rattle.pm_acts.specs.Acts.{Keeps, IsPresent}
-use Rattle.pm_state.specs.declared.event.PmEvent.{PmEvent}
-use Rattle.pm_chain.specs.Steps.{Notes}
-use Rattle.pm_acts.specs.Steps.{IsFree}
-use Rattle.pm_acts.specs.ActsLaws.{drawn_kept, auxiliary_kept, unowed_kept}
-use Rattle.pm_journal.specs.Stands.{IsSettled}
-use Rattle.pm_state.specs.declared.action.Line.{Line}
+use Rattle.std.{proofs.Common.{◌≡◌, [], ◌∷◌, Some, List, Option, Err, refl, sym, ◌∙◌, ap, None, ℕ, subst, append-nil}, specs.Prelude.{Bool, true, false}}
+use Rattle.pm_server.specs.{pm_state.declared.{action.{Action.Action, Line.Line}, event.PmEvent.PmEvent}, pm_outside.Added.Added, pm_supervisor_journal.{Standing.{Standing, done, entry_for, first_due, next_in}, declared.act.GenerationsSpent.GenerationsSpent, Moments.AreGiven, Due.{AreOurs, AreSays, is_last_drawn}, Stands.IsSettled}}
+use Rattle.pm_server.specs.pm_state.declared.action.Action.TheVariants as act
+use Rattle.pm_once_acts.{specs.{Acts.{Keeps, IsPresent}, Steps.IsFree}, proofs.ActsLaws.{drawn_kept, auxiliary_kept, unowed_kept}}
+use Rattle.pm_supervisor_chain.specs.Steps.{Notes}
 
 -- ---- its entry
 

@@ -1,28 +1,11 @@
 -- A step after others: which may follow, and the run of a child.
-use Rattle.std.proofs.Common.{Option, None, Some, ℕ, ◌≡◌, refl, List, [], ◌∷◌, ◌∙◌, ap, ◌+◌, nat_eq, cond, arith, ◌-◌, ◌⊎◌, inl, inr, ◌++◌, sym, subst}
-use Rattle.std.specs.List.{AllByRecursion}
-use Rattle.std.specs.Prelude.{Bool, true, false, if◌then◌else◌, unwrap_or}
-use Rattle.std.proofs.lemmas.List.Sums.{fold-append, sum_by-append, sum_by-cons}
-use Rattle.pm_state.specs.declared.event.PmEvent.{PmEvent}
-use Rattle.pm_state.specs.declared.event.PmEvent.TheVariants as entry
-use Rattle.pm_chain.specs.Steps.{MayFollow, Notes, Renews, Runs, RunsOn, Step, ChildRun, StandsByItself, IsWorkOf, HasEntered, StaysOutside, leaving, IsThere, TellsRedo, redo_end, IsRunOf, journal_by}
-use Rattle.pm_acts.specs.Steps.{IsFree, exit_of}
-use Rattle.pm_state.specs.declared.action.Action.{Action}
-use Rattle.pm_state.specs.declared.action.Action.TheVariants as act
-use Rattle.pm_journal.specs.Standing.{Standing, entry_for, redo_entries, exiting, later}
-use Rattle.pm_query.specs.Book.{times_after}
-use Rattle.pm_query.specs.declared.book.BookEntry.{BookEntry}
-use Rattle.pm_query.specs.declared.book.BookEntry.TheVariants as noted
-use Rattle.pm_segment.specs.Children.{times_behind, once, times_in}
-use Rattle.pm_journal.specs.Roll.{kind_in}
-use Rattle.pm_supervisor.specs.declared.Limits.{Limits}
-use Rattle.pm_supervisor.specs.Steps.{Trace}
-use Rattle.pm_state.specs.Journal.{all_replayed, replay_begun, lines_of}
-use Rattle.pm_chain.specs.Laws.{StepsGoOn}
-use Rattle.pm_journal.specs.Laws.{KeepsALegalJournal}
-use Rattle.pm_journal.specs.Stands.{Remembers, Stands}
-use Rattle.pm_journal.specs.RollLaws.{on-roll}
-use Rattle.pm_server.specs.Journal.{asked_in, accepted_in}
+use Rattle.std.{proofs.{Common.{Option, None, Some, ℕ, ◌≡◌, refl, List, [], ◌∷◌, ◌∙◌, ap, ◌+◌, nat_eq, cond, arith, ◌-◌, ◌⊎◌, inl, inr, ◌++◌, sym, subst}, lemmas.List.Sums.{fold-append, sum_by-append, sum_by-cons}}, specs.{List.AllByRecursion, Prelude.{Bool, true, false, if◌then◌else◌, unwrap_or}}}
+use Rattle.pm_server.{specs.{pm_state.{declared.{event.PmEvent.PmEvent, action.Action.Action}, Journal.{all_replayed, replay_begun, lines_of}}, pm_supervisor_journal.{Standing.{Standing, entry_for, redo_entries, exiting, later}, Roll.kind_in, Laws.KeepsALegalJournal, Stands.{Remembers, Stands}}, pm_query.{Book.times_after, declared.book.BookEntry.BookEntry}, pm_segment.Children.{times_behind, once, times_in}, pm_supervisor.{declared.Limits.Limits, Steps.Trace}, Journal.{asked_in, accepted_in}}, proofs.pm_supervisor_journal.RollLaws.on-roll}
+use Rattle.pm_server.specs.pm_state.declared.event.PmEvent.TheVariants as entry
+use Rattle.pm_supervisor_chain.specs.{Steps.{MayFollow, Notes, Renews, Runs, RunsOn, Step, ChildRun, StandsByItself, IsWorkOf, HasEntered, StaysOutside, leaving, IsThere, TellsRedo, redo_end, IsRunOf, journal_by}, Laws.StepsGoOn}
+use Rattle.pm_once_acts.specs.Steps.{IsFree, exit_of}
+use Rattle.pm_server.specs.pm_state.declared.action.Action.TheVariants as act
+use Rattle.pm_server.specs.pm_query.declared.book.BookEntry.TheVariants as noted
 
 -- ---- which step may follow
 

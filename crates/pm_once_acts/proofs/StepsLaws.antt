@@ -1,19 +1,8 @@
 -- Steps of a server, some after others, and the openings of the store in their book.
-use Rattle.std.proofs.Common.{◌≡◌, List, ◌++◌, [], ◌∷◌, refl, ◌∙◌, ap, ℕ, inl, inr, sym, subst}
-use Rattle.std.proofs.lemmas.Grind.{flat_map-append}
-use Rattle.std.specs.List.{AllByRecursion}
-use Rattle.std.specs.Prelude.{map, Bool, true, false, if◌then◌else◌}
-use Rattle.pm_facts.specs.Lists.{each_both, each_first, each_second}
-use Rattle.pm_chain.specs.Steps.{Step, journal_of, book_by, book_of, ChildRun, Notes, Renews, Runs, RunsOn, IsWorkOf, IsRunOf, AreStepsBehind}
-use Rattle.pm_chain.specs.FoldsLaws.{journal-append}
-use Rattle.pm_acts.specs.Steps.{session_by, sessions_in, ServesNone, IsNoRenewal}
-use Rattle.pm_journal.specs.declared.supervision.Taken.{Taken}
-use Rattle.pm_server.specs.Journal.{accepted_in}
-use Rattle.pm_server.specs.JournalLaws.{accepted_in-append}
-use Rattle.pm_query.specs.declared.book.BookEntry.TheVariants.{Opened, Gone, Attached, Redone, Answered, Released, Detached, CheckpointEnded, Broke, LogFull}
-use Rattle.pm_server.specs.Story.{IsNoOpening}
-use Rattle.pm_query.specs.declared.book.BookEntry.{BookEntry}
-use Rattle.pm_supervisor.specs.declared.Limits.{Limits}
+use Rattle.std.{proofs.{Common.{◌≡◌, List, ◌++◌, [], ◌∷◌, refl, ◌∙◌, ap, ℕ, inl, inr, sym, subst}, lemmas.Grind.flat_map-append}, specs.{List.AllByRecursion, Prelude.{map, Bool, true, false, if◌then◌else◌}}}
+use Rattle.pm_server.{specs.{pm_facts.Lists.{each_both, each_first, each_second}, pm_supervisor_journal.declared.supervision.Taken.Taken, Journal.accepted_in, pm_query.declared.book.BookEntry.{TheVariants.{Opened, Gone, Attached, Redone, Answered, Released, Detached, CheckpointEnded, Broke, LogFull}, BookEntry}, Story.IsNoOpening, pm_supervisor.declared.Limits.Limits}, proofs.JournalLaws.accepted_in-append}
+use Rattle.pm_supervisor_chain.{specs.Steps.{Step, journal_of, book_by, book_of, ChildRun, Notes, Renews, Runs, RunsOn, IsWorkOf, IsRunOf, AreStepsBehind}, proofs.FoldsLaws.journal-append}
+use Rattle.pm_once_acts.specs.Steps.{session_by, sessions_in, ServesNone, IsNoRenewal}
 
 pub book-append : (one two : List Step) → book_of (one ++ two) ≡ book_of one ++ book_of two
 book-append one two = flat_map-append book_by one two

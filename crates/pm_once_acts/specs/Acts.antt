@@ -1,13 +1,6 @@
 -- The requests of a server, and what acts keep of where its supervisor stands.
 use Rattle.std.specs.Prelude.{ℕ, Bool, ◌≡◌, ◌+◌, ◌≤◌, List, length, All, false, Option, None, Some, true}
-use Rattle.pm_modes.specs.declared.Mode.{Mode}
-use Rattle.pm_modes.specs.declared.Mode.TheVariants.{Smart}
-use Rattle.pm_supervisor.specs.Children.{one_if}
-use Rattle.pm_journal.specs.Due.{is_last_drawn}
-use Rattle.pm_journal.specs.Standing.{Standing}
-use Rattle.pm_exit.specs.declared.child.Kind.{Kind}
-use Rattle.pm_journal.specs.Roll.{kind_in}
-use Rattle.pm_journal.specs.Stands.{IsSettled}
+use Rattle.pm_server.specs.{pm_modes.declared.Mode.{Mode, TheVariants.Smart}, pm_supervisor.Children.one_if, pm_supervisor_journal.{Due.is_last_drawn, Standing.Standing, Roll.kind_in, Stands.IsSettled}, pm_exit.declared.child.Kind.Kind}
 
 -- ---- requests
 

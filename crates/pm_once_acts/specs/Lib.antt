@@ -2,7 +2,4 @@ pub mod Loop
 pub mod Acts
 pub mod Steps
 pub mod Laws
-pub mod StepsLaws
-pub mod RunsLaws
-pub mod ActsLaws
-pub mod NextsLaws
+pub use Rattle.pm_supervisor_chain.specs as pm_supervisor_chain

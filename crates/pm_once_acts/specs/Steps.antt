@@ -1,13 +1,9 @@
 -- What steps tell: which may come next, how they end, and the runs of sessions among them.
-use Rattle.std.specs.Prelude.{Option, Some, ◌≡◌, List, [], ◌∷◌, ◌++◌}
-use Rattle.std.specs.List.{flat_map}
-use Rattle.pm_state.specs.declared.event.PmEvent.TheVariants as entry
-use Rattle.pm_chain.specs.Steps.{Step, Notes, RunsOn, Renews, ChildRun, Runs, journal_of}
-use Rattle.pm_state.specs.declared.event.PmEvent.{PmEvent}
-use Rattle.pm_exit.specs.declared.child.Kind.{Kind}
-use Rattle.pm_exit.specs.declared.child.Kind.TheVariants as kinds
-use Rattle.pm_server.specs.Journal.{accepted_in}
-use Rattle.pm_journal.specs.declared.exit.ChildExit.{ChildExit}
+use Rattle.std.specs.{Prelude.{Option, Some, ◌≡◌, List, [], ◌∷◌, ◌++◌}, List.flat_map}
+use Rattle.pm_server.specs.pm_state.declared.event.PmEvent.TheVariants as entry
+use Rattle.pm_supervisor_chain.specs.Steps.{Step, Notes, RunsOn, Renews, ChildRun, Runs, journal_of}
+use Rattle.pm_server.specs.{pm_state.declared.event.PmEvent.PmEvent, pm_exit.declared.child.Kind.Kind, Journal.accepted_in, pm_supervisor_journal.declared.exit.ChildExit.ChildExit}
+use Rattle.pm_server.specs.pm_exit.declared.child.Kind.TheVariants as kinds
 
 -- any step may follow this one, but for a renewal
 abbrev pub IsFree : Option Step → Type 0

@@ -1,6 +1,6 @@
 //! The acts that are due, one after the other.
 
-ghost use Rattle.pm_acts.specs.Loop.{AreDone};
+ghost use Rattle.pm_once_acts.specs.Loop.{AreDone};
 
 use pm_server::ServerEnd;
 

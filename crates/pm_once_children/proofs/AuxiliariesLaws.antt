@@ -1,21 +1,10 @@
 -- The children that serve no connection, after an act, after the end of a child, and where one is taken off.
-use Rattle.std.proofs.Common.{ℕ, Option, None, Some, ◌≡◌, sym, subst, ap, List, [], ◌∷◌, refl, arith, ◌∙◌, ◌+◌, ◌⊎◌, inl, inr}
-use Rattle.std.specs.Prelude.{Bool, true, false, ◌==◌, if◌then◌else◌}
-use Rattle.std.proofs.lemmas.Bool.{eqb-false, eqb-true, ne_eqb}
-use Rattle.std.proofs.lemmas.Option.{same_Some}
-use Rattle.pm_exit.specs.declared.child.Kind.{Kind}
-use Rattle.pm_state.specs.declared.action.Action.{Action}
-use Rattle.pm_journal.specs.Standing.{Standing, done, act_for}
-use Rattle.pm_acts.specs.Acts.{IsPresent}
-use Rattle.pm_acts.specs.ActsLaws.{auxiliary_kept, auxiliary_started, other_pid}
-use Rattle.pm_exit.specs.declared.child.Kind.TheVariants as kind
-use Rattle.pm_duties.specs.Auxiliaries.{AreThere, auxiliaries_after, IsOff, IsTakenOff, HasLess, heard_of}
-use Rattle.pm_duties.specs.declared.auxiliaries.Auxiliaries.{Auxiliaries}
-use Rattle.pm_state.specs.declared.action.Action.TheVariants as act
-use Rattle.pm_journal.specs.Roll.{kind_in, without}
-use Rattle.pm_journal.specs.declared.roll.Enrolled.{Enrolled}
-use Rattle.pm_chain.specs.Steps.{ChildRun}
-use Rattle.pm_acts.specs.Steps.{if_session}
+use Rattle.std.{proofs.{Common.{ℕ, Option, None, Some, ◌≡◌, sym, subst, ap, List, [], ◌∷◌, refl, arith, ◌∙◌, ◌+◌, ◌⊎◌, inl, inr}, lemmas.{Bool.{eqb-false, eqb-true, ne_eqb}, Option.same_Some}}, specs.Prelude.{Bool, true, false, ◌==◌, if◌then◌else◌}}
+use Rattle.pm_server.specs.{pm_exit.declared.child.Kind.Kind, pm_state.declared.action.Action.Action, pm_supervisor_journal.{Standing.{Standing, done, act_for}, Roll.{kind_in, without}, declared.roll.Enrolled.Enrolled}}
+use Rattle.pm_once_acts.{specs.{Acts.IsPresent, pm_supervisor_chain.Steps.ChildRun, Steps.if_session}, proofs.ActsLaws.{auxiliary_kept, auxiliary_started, other_pid}}
+use Rattle.pm_server.specs.pm_exit.declared.child.Kind.TheVariants as kind
+use Rattle.pm_once_children.specs.{Auxiliaries.{AreThere, auxiliaries_after, IsOff, IsTakenOff, HasLess, heard_of}, declared.auxiliaries.Auxiliaries.Auxiliaries}
+use Rattle.pm_server.specs.pm_state.declared.action.Action.TheVariants as act
 
 maybe_kept : (a : Action) (s : Standing) (auxiliary : Option ℕ) (k' : Kind) → IsPresent auxiliary k' s → IsPresent auxiliary k' (done a s)
 maybe_kept a s None k' there = tt

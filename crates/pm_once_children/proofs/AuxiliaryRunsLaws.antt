@@ -1,23 +1,11 @@
 -- The runs of the children that serve no connection are runs of children.
-use Rattle.std.proofs.Common.{inr, ℕ, List, [], Option, Err, refl, inl, ◌∷◌, None, Some, Result, Ok, sym, subst, ◌≡◌, ◌⊎◌, ap, option_map}
-use Rattle.std.specs.Prelude.{true, false}
-use Rattle.pm_record.specs.declared.fault.RedoFault.TheVariants as redo
-use Rattle.pm_query.specs.declared.book.BookEntry.{BookEntry}
-use Rattle.pm_chain.specs.Steps.{IsRunOf}
-use Rattle.pm_duties.specs.AuxiliaryRuns.{GoesThrough, startup_run, StartNotes, CloseNotes, checkpointer_run, idle_run, Heard, IsRunAs, startup_or}
-use Rattle.pm_server.specs.declared.end.StartWhy.{StartWhy}
-use Rattle.pm_query.specs.declared.book.BookEntry.TheVariants.{Redone, Broke, CheckpointEnded}
-use Rattle.pm_chain.specs.Chain.{IsAmong, kept_of, redos_of}
-use Rattle.pm_server.specs.declared.end.StartWhy.TheVariants.{Redo, Killed}
-use Rattle.pm_duties.specs.declared.checkpointer.Closed.{Closed}
-use Rattle.pm_duties.specs.declared.checkpointer.Closed.TheVariants.{Made, Crashed, Full, Short}
-use Rattle.pm_exit.specs.declared.child.Kind.{Kind}
-use Rattle.pm_exit.specs.declared.child.Kind.TheVariants as kind
-use Rattle.pm_exit.specs.declared.child.Status.{Status}
-use Rattle.pm_exit.specs.declared.child.Status.TheVariants.{Code}
-use Rattle.pm_duties.specs.Outcomes.{ComesTo}
-use Rattle.pm_duties.specs.declared.outcome.Outcome.{Outcome}
-use Rattle.pm_duties.specs.declared.outcome.Outcome.TheVariants as outcomes
+use Rattle.std.{proofs.Common.{inr, ℕ, List, [], Option, Err, refl, inl, ◌∷◌, None, Some, Result, Ok, sym, subst, ◌≡◌, ◌⊎◌, ap, option_map}, specs.Prelude.{true, false}}
+use Rattle.pm_server.specs.pm_record.declared.fault.RedoFault.TheVariants as redo
+use Rattle.pm_server.specs.{pm_query.declared.book.BookEntry.{BookEntry, TheVariants.{Redone, Broke, CheckpointEnded}}, declared.end.StartWhy.{StartWhy, TheVariants.{Redo, Killed}}, pm_exit.declared.child.{Kind.Kind, Status.{Status, TheVariants.Code}}}
+use Rattle.pm_once_acts.specs.pm_supervisor_chain.{Steps.IsRunOf, Chain.{IsAmong, kept_of, redos_of}}
+use Rattle.pm_once_children.specs.{AuxiliaryRuns.{GoesThrough, startup_run, StartNotes, CloseNotes, checkpointer_run, idle_run, Heard, IsRunAs, startup_or}, declared.{checkpointer.Closed.{Closed, TheVariants.{Made, Crashed, Full, Short}}, outcome.Outcome.Outcome}, Outcomes.ComesTo}
+use Rattle.pm_server.specs.pm_exit.declared.child.Kind.TheVariants as kind
+use Rattle.pm_once_children.specs.declared.outcome.Outcome.TheVariants as outcomes
 
 went_through : (pid generation : ℕ) (why : Option StartWhy) (noted : List BookEntry) → GoesThrough pid generation noted → IsRunOf (startup_run pid generation (Err why) noted)
 went_through pid generation why noted is = record {

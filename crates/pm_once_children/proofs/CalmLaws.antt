@@ -1,57 +1,17 @@
 -- A supervisor that nothing has disturbed stays so, call by call and act by act.
-use Rattle.std.proofs.Common.{List, ◌∷◌, ◌≡◌, ◌⊎◌, inl, inr, None, sym, ◌∙◌, ap, subst, refl, Some, ℕ, Option, [], Result, Ok, Err, ◌++◌, ◌≤◌}
-use Rattle.std.specs.Prelude.{Bool, is_some, true, false, if◌then◌else◌, ◌&&◌, ◌||◌}
-use Rattle.std.specs.List.{AllByRecursion, list_any}
-use Rattle.std.proofs.lemmas.List.Folds.{list_any-append}
-use Rattle.std.proofs.Math.Bool.{or-false}
-use Rattle.pm_facts.specs.Lists.{each_more}
-use Rattle.pm_facts.specs.Bools.{never_both}
-use Rattle.pm_exit.specs.declared.child.Kind.TheVariants as kind
-use Rattle.pm_admit.specs.declared.PmState.{PmState}
-use Rattle.pm_supervisor.specs.declared.Ending.TheVariants as endings
-use Rattle.pm_state.specs.declared.action.Action.{Action}
-use Rattle.pm_state.specs.declared.action.Action.TheVariants as act
-use Rattle.pm_state.specs.declared.action.Line.TheVariants as line
-use Rattle.pm_duties.specs.Calm.{AreCalm, IsCalm, IsUp, IsFineExit, HasFineSession, is_behind_crash}
-use Rattle.pm_admit.specs.declared.PmState.TheVariants as state
-use Rattle.pm_state.specs.declared.machine.StartupStatus.{StartupStatus}
-use Rattle.pm_state.specs.Journal.{without_first}
-use Rattle.pm_journal.specs.Standing.{Standing, done, act_for, first_due, IsAtRest}
-use Rattle.pm_duties.specs.Auxiliaries.{heard_of, auxiliaries_after, HasLess}
-use Rattle.pm_duties.specs.AuxiliaryRuns.{nothing_heard, start_status, Heard, IsCheckpointerRun, IsWriterRun, IsRunAs}
-use Rattle.pm_duties.specs.declared.auxiliaries.Auxiliaries.{Auxiliaries}
-use Rattle.pm_journal.specs.NextsLaws.{first_is}
-use Rattle.pm_acts.specs.ActsLaws.{due_kept}
-use Rattle.pm_modes.specs.declared.Mode.TheVariants.{Smart, Fast, Immediate}
-use Rattle.pm_state.specs.declared.machine.Machine.{Machine}
-use Rattle.pm_state.specs.Requests.{asked_in, asked_with}
-use Rattle.pm_modes.specs.declared.Mode.{Mode}
-use Rattle.pm_modes.specs.Strength.{strengthen_of}
-use Rattle.pm_admit.specs.declared.Cac.{Cac}
-use Rattle.pm_admit.specs.declared.Cac.TheVariants as decisions
-use Rattle.pm_state.specs.Machine.{accepted_as}
-use Rattle.pm_state.specs.Transition.{Transition, transition}
-use Rattle.pm_exit.specs.declared.child.Status.TheVariants.{Code}
-use Rattle.pm_state.specs.Exits.{redo_ended, startup_exited, exit_line, without_startup, less_one, unless_normal, exited_by, crash_rule, is_running, signalled_state, checkpointer_exited, is_shutdown}
-use Rattle.pm_state.specs.declared.machine.StartupStatus.TheVariants.{Running}
-use Rattle.pm_chain.specs.Steps.{ChildRun, Step, journal_of, Runs, redo_end}
-use Rattle.pm_chain.specs.FoldsLaws.{journal-append}
-use Rattle.pm_server.specs.declared.end.StartWhy.{StartWhy}
-use Rattle.pm_exit.specs.declared.child.Class.TheVariants as class
-use Rattle.pm_exit.specs.declared.child.Kind.{Kind}
-use Rattle.pm_exit.specs.declared.child.Status.{Status}
-use Rattle.pm_exit.specs.Ends.{is_exit_0, is_exit_1, class_of}
-use Rattle.pm_admit.specs.Admission.{is_startup}
-use Rattle.pm_exit.specs.declared.child.Class.{Class}
-use Rattle.pm_state.specs.TurnRules.{backends_gone, children_gone, dead_ends_gone, end_smart, restart_writer, start_recovery, startup_starts, stop_backends, turned_of}
-use Rattle.pm_state.specs.declared.event.PmEvent.{PmEvent}
-use Rattle.pm_supervisor.specs.declared.Limits.{Limits}
-use Rattle.pm_journal.specs.Stands.{Stands}
-use Rattle.pm_state.specs.Starts.{has_end}
-use Rattle.pm_disk.specs.Cause.{Rose}
-use Rattle.pm_disk.specs.DiskLaws.{rose_further}
-use Rattle.pm_state.specs.declared.event.PmEvent.TheVariants as entry
-use Rattle.pm_state.specs.TurnLaws.{turn-startup, turn-serving}
+use Rattle.std.{proofs.{Common.{List, ◌∷◌, ◌≡◌, ◌⊎◌, inl, inr, None, sym, ◌∙◌, ap, subst, refl, Some, ℕ, Option, [], Result, Ok, Err, ◌++◌, ◌≤◌}, lemmas.List.Folds.list_any-append, Math.Bool.or-false}, specs.{Prelude.{Bool, is_some, true, false, if◌then◌else◌, ◌&&◌, ◌||◌}, List.{AllByRecursion, list_any}}}
+use Rattle.pm_server.{specs.{pm_facts.{Lists.each_more, Bools.never_both}, pm_admit.{declared.{PmState.PmState, Cac.Cac}, Admission.is_startup}, pm_state.{declared.{action.Action.Action, machine.{StartupStatus.{StartupStatus, TheVariants.Running}, Machine.Machine}, event.PmEvent.PmEvent}, Journal.without_first, Requests.{asked_in, asked_with}, Machine.accepted_as, Transition.{Transition, transition}, Exits.{redo_ended, startup_exited, exit_line, without_startup, less_one, unless_normal, exited_by, crash_rule, is_running, signalled_state, checkpointer_exited, is_shutdown}, TurnRules.{backends_gone, children_gone, dead_ends_gone, end_smart, restart_writer, start_recovery, startup_starts, stop_backends, turned_of}, Starts.has_end}, pm_supervisor_journal.{Standing.{Standing, done, act_for, first_due, IsAtRest}, Stands.Stands}, pm_modes.{declared.Mode.{TheVariants.{Smart, Fast, Immediate}, Mode}, Strength.strengthen_of}, pm_exit.{declared.child.{Status.{TheVariants.Code, Status}, Kind.Kind, Class.Class}, Ends.{is_exit_0, is_exit_1, class_of}}, declared.end.StartWhy.StartWhy, pm_supervisor.declared.Limits.Limits}, proofs.{pm_supervisor_journal.NextsLaws.first_is, pm_state.TurnLaws.{turn-startup, turn-serving}}}
+use Rattle.pm_server.specs.pm_exit.declared.child.Kind.TheVariants as kind
+use Rattle.pm_server.specs.pm_supervisor.declared.Ending.TheVariants as endings
+use Rattle.pm_server.specs.pm_state.declared.action.Action.TheVariants as act
+use Rattle.pm_server.specs.pm_state.declared.action.Line.TheVariants as line
+use Rattle.pm_once_children.specs.{Calm.{AreCalm, IsCalm, IsUp, IsFineExit, HasFineSession, is_behind_crash}, Auxiliaries.{heard_of, auxiliaries_after, HasLess}, AuxiliaryRuns.{nothing_heard, start_status, Heard, IsCheckpointerRun, IsWriterRun, IsRunAs}, declared.auxiliaries.Auxiliaries.Auxiliaries}
+use Rattle.pm_server.specs.pm_admit.declared.PmState.TheVariants as state
+use Rattle.pm_once_acts.{proofs.{ActsLaws.due_kept, pm_supervisor_chain.FoldsLaws.journal-append}, specs.pm_supervisor_chain.Steps.{ChildRun, Step, journal_of, Runs, redo_end}}
+use Rattle.pm_server.specs.pm_admit.declared.Cac.TheVariants as decisions
+use Rattle.pm_server.specs.pm_exit.declared.child.Class.TheVariants as class
+use Rattle.pm_disk.{specs.Cause.Rose, proofs.DiskLaws.rose_further}
+use Rattle.pm_server.specs.pm_state.declared.event.PmEvent.TheVariants as entry
 
 -- ---- an act is done
 

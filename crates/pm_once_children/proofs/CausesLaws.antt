@@ -1,21 +1,10 @@
 -- What the children that serve no connection were told, step by step, and what they came to.
-use Rattle.std.proofs.Common.{◌≡◌, List, ◌++◌, [], ◌∷◌, subst, refl, Option, None, Some, ◌⊎◌, inl, inr, sym, ◌∙◌, ap}
-use Rattle.std.specs.Prelude.{fold, IsSomeAnd}
-use Rattle.std.proofs.lemmas.List.Sums.{fold-append}
-use Rattle.pm_state.specs.declared.event.PmEvent.{PmEvent}
-use Rattle.pm_duties.specs.AuxiliaryRuns.{Heard, heard_after, AreToldBehind, IsToldRun, last_startup, startup_after, IsRefusedRun, startup_or, heard_in, nothing_heard, IsRunAs}
-use Rattle.pm_chain.specs.Steps.{Step, journal_by, journal_of, redo_end, ChildRun, Notes, Renews, Runs, RunsOn}
-use Rattle.pm_chain.specs.FoldsLaws.{journal-append}
-use Rattle.pm_exit.specs.declared.child.Kind.TheVariants as kind
-use Rattle.pm_state.specs.declared.action.Action.{Action}
-use Rattle.pm_state.specs.declared.action.Action.TheVariants as act
-use Rattle.pm_journal.specs.Standing.{Standing, act_for, entry_for}
-use Rattle.pm_duties.specs.Auxiliaries.{auxiliaries_after, heard_of}
-use Rattle.pm_duties.specs.declared.auxiliaries.Auxiliaries.{Auxiliaries}
-use Rattle.pm_duties.specs.Outcomes.{IsRefusedSo, ComesTo, AreCaused}
-use Rattle.pm_duties.specs.declared.outcome.Outcome.{Outcome}
-use Rattle.pm_duties.specs.declared.outcome.Outcome.TheVariants.{Closed, Refused}
-use Rattle.pm_server.specs.declared.end.StartWhy.{StartWhy}
+use Rattle.std.{proofs.{Common.{◌≡◌, List, ◌++◌, [], ◌∷◌, subst, refl, Option, None, Some, ◌⊎◌, inl, inr, sym, ◌∙◌, ap}, lemmas.List.Sums.fold-append}, specs.Prelude.{fold, IsSomeAnd}}
+use Rattle.pm_server.specs.{pm_state.declared.{event.PmEvent.PmEvent, action.Action.Action}, pm_supervisor_journal.Standing.{Standing, act_for, entry_for}, declared.end.StartWhy.StartWhy}
+use Rattle.pm_once_children.specs.{AuxiliaryRuns.{Heard, heard_after, AreToldBehind, IsToldRun, last_startup, startup_after, IsRefusedRun, startup_or, heard_in, nothing_heard, IsRunAs}, Auxiliaries.{auxiliaries_after, heard_of}, declared.{auxiliaries.Auxiliaries.Auxiliaries, outcome.Outcome.{Outcome, TheVariants.{Closed, Refused}}}, Outcomes.{IsRefusedSo, ComesTo, AreCaused}}
+use Rattle.pm_once_acts.{specs.pm_supervisor_chain.Steps.{Step, journal_by, journal_of, redo_end, ChildRun, Notes, Renews, Runs, RunsOn}, proofs.pm_supervisor_chain.FoldsLaws.journal-append}
+use Rattle.pm_server.specs.pm_exit.declared.child.Kind.TheVariants as kind
+use Rattle.pm_server.specs.pm_state.declared.action.Action.TheVariants as act
 
 -- ---- what was told
 

@@ -1,36 +1,12 @@
 -- What a checkpointer notes that is alone and is asked for the last checkpoint, by what it remembers of that.
-use Rattle.std.proofs.Common.{◌≡◌, ◌⊎◌, inl, inr, ℕ, All, List, [], ◌∷◌, ◌++◌, Option, None, Some, Result, Ok, Err, refl, sym, ◌∙◌, ap, subst}
-use Rattle.std.specs.Prelude.{Bool, true, false, IfSome}
-use Rattle.std.proofs.lemmas.List.Elements.{All-head}
-use Rattle.pm_exit.specs.declared.child.Kind.TheVariants.{Checkpointer}
-use Rattle.pm_life.specs.declared.life.GateNo.{GateNo}
-use Rattle.pm_life.specs.Life.{Told, Kill, Quit}
-use Rattle.pm_query.specs.declared.book.BookEntry.{BookEntry}
-use Rattle.pm_query.specs.declared.book.BookEntry.TheVariants.{Attached, Detached, CheckpointEnded, Broke}
-use Rattle.pm_query.specs.declared.store.Checkpointed.{Checkpointed}
-use Rattle.pm_query.specs.declared.store.Checkpointed.TheVariants.{Done, Skipped, NotDue}
-use Rattle.pm_query.specs.declared.store.StoreNo.{StoreNo}
-use Rattle.pm_query.specs.declared.store.StoreNo.TheVariants as stores
-use Rattle.pm_query.specs.Calls.{User, newcomer, CheckpointNotes}
-use Rattle.pm_aux.specs.declared.cause.AuxiliaryEnd.{AuxiliaryEnd}
+use Rattle.std.{proofs.{Common.{◌≡◌, ◌⊎◌, inl, inr, ℕ, All, List, [], ◌∷◌, ◌++◌, Option, None, Some, Result, Ok, Err, refl, sym, ◌∙◌, ap, subst}, lemmas.List.Elements.All-head}, specs.Prelude.{Bool, true, false, IfSome}}
+use Rattle.pm_server.specs.{pm_exit.declared.child.Kind.TheVariants.Checkpointer, pm_query.{declared.{book.BookEntry.{BookEntry, TheVariants.{Attached, Detached, CheckpointEnded, Broke}}, store.{Checkpointed.{Checkpointed, TheVariants.{Done, Skipped, NotDue}}, StoreNo.StoreNo}}, Calls.{User, newcomer, CheckpointNotes}}, pm_disk.Files.Files, pm_rows.Fold.RowMap, pm_segment.{declared.live.Live.Live, Moment.Moment, Redos.{FullAtLast, IsAtLastEpoch, IsCleanAt}}}
+use Rattle.pm_once_lives.{specs.pm_child_life.{declared.life.GateNo.GateNo, Life.{Told, Kill, Quit}}, proofs.QuietLaws.{its_gate, same_gate, never_refused}}
+use Rattle.pm_server.specs.pm_query.declared.store.StoreNo.TheVariants as stores
+use Rattle.pm_aux.specs.{declared.cause.AuxiliaryEnd.AuxiliaryEnd, Ends.fault_by, Runs.NotesBehind, Signals.IsToldTo, Work.{HasEntered, IsKeptOut, IsPassing, NotesInside}}
 use Rattle.pm_aux.specs.declared.cause.AuxiliaryEnd.TheVariants as causes
-use Rattle.pm_aux.specs.Ends.{fault_by}
-use Rattle.pm_aux.specs.Runs.{NotesBehind}
-use Rattle.pm_aux.specs.Signals.{IsToldTo}
-use Rattle.pm_aux.specs.Work.{HasEntered, IsKeptOut, IsPassing, NotesInside}
-use Rattle.pm_disk.specs.Files.{Files}
-use Rattle.pm_rows.specs.Fold.{RowMap}
-use Rattle.pm_segment.specs.declared.live.Live.{Live}
-use Rattle.pm_segment.specs.Moment.{Moment}
-use Rattle.pm_segment.specs.Redos.{FullAtLast, IsAtLastEpoch, IsCleanAt}
-use Rattle.pm_duties.specs.declared.checkpointer.Closed.TheVariants.{Made, Full}
-use Rattle.pm_duties.specs.declared.alone.Work.{Work}
-use Rattle.pm_duties.specs.declared.alone.Work.TheVariants as works
-use Rattle.pm_duties.specs.Alone.{HasDone, made_by, work_in}
-use Rattle.pm_duties.specs.AuxiliaryRuns.{CloseNotes, closed_as}
-use Rattle.pm_quiet.specs.QuietLaws.{its_gate, same_gate, never_refused}
-use Rattle.pm_duties.proofs.Lives.{asked_given, never_killed, never_quit, only_asked}
-use Rattle.pm_duties.proofs.Reading.{entered_so, left_notes, runner_of, stays_out}
+use Rattle.pm_once_children.{specs.{declared.{checkpointer.Closed.TheVariants.{Made, Full}, alone.Work.Work}, Alone.{HasDone, made_by, work_in}, AuxiliaryRuns.{CloseNotes, closed_as}}, proofs.{Lives.{asked_given, never_killed, never_quit, only_asked}, Reading.{entered_so, left_notes, runner_of, stays_out}}}
+use Rattle.pm_once_children.specs.declared.alone.Work.TheVariants as works
 
 -- how its work ends: the last checkpoint was made or left out, the disk failed, or nothing was noted
 abbrev pub EndsSo : (pid : ℕ) → Option StoreNo → (last left : List BookEntry) → Type 0

@@ -1,18 +1,9 @@
 -- Where the disk hasn't failed, each child ends by itself.
-use Rattle.std.proofs.Common.{List, Option, Result, Ok, Err, ℕ, refl, ◌≡◌, ◌⊎◌, inl, inr, true, ap, sym, subst, [], ◌∷◌}
-use Rattle.std.specs.Prelude.{fold}
-use Rattle.std.specs.List.{AllByRecursion}
-use Rattle.pm_query.specs.declared.book.BookEntry.{BookEntry}
-use Rattle.pm_duties.specs.AuxiliaryRuns.{startup_run, CloseNotes, checkpointer_run, Heard, IsRunAs, AreToldBehind, heard_after}
-use Rattle.pm_duties.specs.Calm.{IsFineExit, EndsItself, HasFineSession, EndThemselves}
-use Rattle.pm_server.specs.declared.end.StartWhy.{StartWhy}
-use Rattle.pm_segment.specs.Unread.{has_break}
-use Rattle.pm_duties.specs.declared.checkpointer.Closed.{Closed}
-use Rattle.pm_duties.specs.declared.checkpointer.Closed.TheVariants.{Made, Crashed, Full, Short}
-use Rattle.pm_exit.specs.declared.child.Kind.{Kind}
-use Rattle.pm_exit.specs.declared.child.Kind.TheVariants as kind
-use Rattle.pm_chain.specs.Steps.{ChildRun, Runs, Notes, Renews, RunsOn, Step, book_by, book_of, journal_by}
-use Rattle.pm_segment.specs.UnreadLaws.{break_before, break_behind}
+use Rattle.std.{proofs.Common.{List, Option, Result, Ok, Err, ℕ, refl, ◌≡◌, ◌⊎◌, inl, inr, true, ap, sym, subst, [], ◌∷◌}, specs.{Prelude.fold, List.AllByRecursion}}
+use Rattle.pm_server.specs.{pm_query.declared.book.BookEntry.BookEntry, declared.end.StartWhy.StartWhy, pm_segment.{Unread.has_break, UnreadLaws.{break_before, break_behind}}, pm_exit.declared.child.Kind.Kind}
+use Rattle.pm_once_children.specs.{AuxiliaryRuns.{startup_run, CloseNotes, checkpointer_run, Heard, IsRunAs, AreToldBehind, heard_after}, Calm.{IsFineExit, EndsItself, HasFineSession, EndThemselves}, declared.checkpointer.Closed.{Closed, TheVariants.{Made, Crashed, Full, Short}}}
+use Rattle.pm_server.specs.pm_exit.declared.child.Kind.TheVariants as kind
+use Rattle.pm_once_acts.specs.pm_supervisor_chain.Steps.{ChildRun, Runs, Notes, Renews, RunsOn, Step, book_by, book_of, journal_by}
 
 start_fine : (pid generation : ℕ) (read : Result ℕ (Option StartWhy)) (noted : List BookEntry) → IsFineExit (startup_run pid generation read noted)
 start_fine pid generation (Ok kept) noted = refl

@@ -1,8 +1,7 @@
 -- The life of a checkpointer that is alone: what it was told.
-use Rattle.std.proofs.Common.{◌≡◌, ℕ, ◌<◌, List, [], ◌∷◌, length, zero, suc, sym, ap, arith}
-use Rattle.std.specs.Prelude.{Bool, true, false, cond, slice_index_or}
-use Rattle.pm_supervisor.specs.declared.Reason.{Reason}
-use Rattle.pm_life.specs.Life.{Told, Signal, Kill, Quit, Terminate, Checkpoint, was_told}
+use Rattle.std.{proofs.Common.{◌≡◌, ℕ, ◌<◌, List, [], ◌∷◌, length, zero, suc, sym, ap, arith}, specs.Prelude.{Bool, true, false, cond, slice_index_or}}
+use Rattle.pm_server.specs.pm_supervisor.declared.Reason.{Reason}
+use Rattle.pm_once_lives.specs.pm_child_life.Life.{Told, Signal, Kill, Quit, Terminate, Checkpoint, was_told}
 
 -- all that it can have been given
 abbrev pub asked_given : Bool → List (ℕ × Signal)

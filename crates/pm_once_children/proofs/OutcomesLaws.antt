@@ -1,27 +1,8 @@
 -- What is known of the store after a child that used it and serves no connection.
-use Rattle.std.proofs.Common.{ℕ, Option, sym, ◌∙◌, subst, None, Some, ◌≡◌, List, Err, refl, arith, ◌≢◌}
-use Rattle.std.specs.Prelude.{IfSome, All, option_map}
-use Rattle.pm_disk.specs.Files.{Files}
-use Rattle.pm_disk.specs.Cause.{Rose}
-use Rattle.pm_record.specs.declared.fault.RedoFault.{RedoFault}
-use Rattle.pm_record.specs.declared.fault.RedoFault.TheVariants as redo
-use Rattle.pm_redo.specs.Found.{IsReason}
-use Rattle.pm_segment.specs.Moment.{Moment}
-use Rattle.pm_duties.specs.Outcomes.{Stays, HasComeTo}
-use Rattle.pm_server.specs.Ends.{HasRefused}
-use Rattle.pm_rows.specs.Fold.{RowMap}
-use Rattle.pm_segment.specs.Redos.{IsAtLastEpoch, IsCleanAt}
-use Rattle.pm_segment.specs.declared.live.Live.{Live}
-use Rattle.pm_duties.specs.declared.checkpointer.Closed.TheVariants.{Made, Crashed, Full, Short}
-use Rattle.pm_server.specs.declared.end.StartWhy.TheVariants.{Redo, Killed}
-use Rattle.pm_duties.specs.declared.outcome.Outcome.{Outcome}
-use Rattle.pm_duties.specs.declared.outcome.Outcome.TheVariants.{Closed, Refused}
-use Rattle.pm_query.specs.declared.book.BookEntry.{BookEntry}
-use Rattle.pm_query.specs.declared.book.BookEntry.TheVariants.{Detached}
-use Rattle.pm_segment.specs.Moves.{IsShown}
-use Rattle.pm_duties.specs.AuxiliaryRuns.{StartNotes, CloseNotes}
-use Rattle.pm_server.specs.declared.end.StartWhy.{StartWhy}
-use Rattle.pm_duties.specs.declared.checkpointer.Closed.{Closed as Its}
+use Rattle.std.{proofs.Common.{ℕ, Option, sym, ◌∙◌, subst, None, Some, ◌≡◌, List, Err, refl, arith, ◌≢◌}, specs.Prelude.{IfSome, All, option_map}}
+use Rattle.pm_server.specs.{pm_disk.{Files.Files, Cause.Rose}, pm_record.declared.fault.RedoFault.RedoFault, pm_segment.{pm_redo.Found.IsReason, Moment.Moment, Redos.{IsAtLastEpoch, IsCleanAt}, declared.live.Live.Live, Moves.IsShown}, Ends.HasRefused, pm_rows.Fold.RowMap, declared.end.StartWhy.{TheVariants.{Redo, Killed}, StartWhy}, pm_query.declared.book.BookEntry.{BookEntry, TheVariants.Detached}}
+use Rattle.pm_server.specs.pm_record.declared.fault.RedoFault.TheVariants as redo
+use Rattle.pm_once_children.specs.{Outcomes.{Stays, HasComeTo}, declared.{checkpointer.Closed.{TheVariants.{Made, Crashed, Full, Short}, Closed as Its}, outcome.Outcome.{Outcome, TheVariants.{Closed, Refused}}}, AuxiliaryRuns.{StartNotes, CloseNotes}}
 
 -- ---- nobody has used it
 

@@ -1,28 +1,14 @@
 -- What a startup child notes that is alone, by what it remembers of its redo.
-use Rattle.std.proofs.Common.{◌≡◌, ◌⊎◌, inl, inr, ℕ, List, [], ◌∷◌, ◌++◌, Option, None, Some, Result, Ok, Err, refl, sym, ◌∙◌, ap, subst}
-use Rattle.std.specs.Prelude.{Bool}
-use Rattle.pm_exit.specs.declared.child.Kind.TheVariants.{Startup}
-use Rattle.pm_life.specs.declared.life.GateNo.{GateNo}
-use Rattle.pm_life.specs.Life.{Told, Kill, Quit, Terminate}
-use Rattle.pm_record.specs.declared.fault.RedoFault.{RedoFault}
-use Rattle.pm_record.specs.declared.fault.RedoFault.TheVariants as redo
-use Rattle.pm_query.specs.declared.book.BookEntry.{BookEntry}
-use Rattle.pm_query.specs.declared.book.BookEntry.TheVariants.{Attached, Detached, Redone, Broke}
-use Rattle.pm_query.specs.declared.store.StoreNo.{StoreNo}
+use Rattle.std.{proofs.Common.{◌≡◌, ◌⊎◌, inl, inr, ℕ, List, [], ◌∷◌, ◌++◌, Option, None, Some, Result, Ok, Err, refl, sym, ◌∙◌, ap, subst}, specs.Prelude.Bool}
+use Rattle.pm_aux.specs.{pm_exit.declared.child.Kind.TheVariants.Startup, declared.cause.AuxiliaryEnd.AuxiliaryEnd, Ends.fault_by, Runs.{NotesBehind, Runner}, Signals.IsToldTo, Work.{HasEntered, IsKeptOut, NotesInside}}
+use Rattle.pm_once_lives.{specs.pm_child_life.{declared.life.GateNo.GateNo, Life.{Told, Kill, Quit, Terminate}}, proofs.QuietLaws.{its_gate, same_gate, never_refused, never_told}}
+use Rattle.pm_query.specs.{pm_record.declared.fault.RedoFault.RedoFault, declared.{book.BookEntry.{BookEntry, TheVariants.{Attached, Detached, Redone, Broke}}, store.StoreNo.StoreNo}, Calls.{User, newcomer, EnterNotes, RedoNotes, LeaveNotes}}
+use Rattle.pm_query.specs.pm_record.declared.fault.RedoFault.TheVariants as redo
 use Rattle.pm_query.specs.declared.store.StoreNo.TheVariants as stores
-use Rattle.pm_query.specs.Calls.{User, newcomer, EnterNotes, RedoNotes, LeaveNotes}
-use Rattle.pm_aux.specs.declared.cause.AuxiliaryEnd.{AuxiliaryEnd}
 use Rattle.pm_aux.specs.declared.cause.AuxiliaryEnd.TheVariants as causes
-use Rattle.pm_aux.specs.Ends.{fault_by}
-use Rattle.pm_aux.specs.Runs.{NotesBehind, Runner}
-use Rattle.pm_aux.specs.Signals.{IsToldTo}
-use Rattle.pm_aux.specs.Work.{HasEntered, IsKeptOut, NotesInside}
 use Rattle.pm_segment.specs.Moment.{Moment}
-use Rattle.pm_duties.specs.declared.alone.Work.{Work}
-use Rattle.pm_duties.specs.declared.alone.Work.TheVariants as works
-use Rattle.pm_duties.specs.Alone.{HasDone, redone_by, work_in}
-use Rattle.pm_duties.specs.AuxiliaryRuns.{StartNotes, started_as}
-use Rattle.pm_quiet.specs.QuietLaws.{its_gate, same_gate, never_refused, never_told}
+use Rattle.pm_once_children.specs.{declared.alone.Work.Work, Alone.{HasDone, redone_by, work_in}, AuxiliaryRuns.{StartNotes, started_as}}
+use Rattle.pm_once_children.specs.declared.alone.Work.TheVariants as works
 
 -- a child of the store's generation that leaves says so
 pub left_notes : (home pid : ℕ) (entries : List BookEntry) → LeaveNotes (newcomer (Some home) pid home) entries → entries ≡ Detached pid ∷ []

@@ -1,16 +1,7 @@
 -- What a child does that is alone with its store: one piece of work, besides its coming and its going.
 use Rattle.std.specs.Prelude.{◌≡◌, ◌⊎◌, ℕ, true, List, [], ◌∷◌, Option, Some, Result, Err}
-use Rattle.pm_query.specs.declared.book.BookEntry.{BookEntry}
-use Rattle.pm_query.specs.declared.book.BookEntry.TheVariants.{Attached, Detached}
-use Rattle.pm_query.specs.declared.store.Checkpointed.{Checkpointed}
-use Rattle.pm_query.specs.declared.store.StoreNo.{StoreNo}
-use Rattle.pm_query.specs.declared.store.StoreNo.TheVariants.{NoMemory}
-use Rattle.pm_query.specs.Calls.{User, RedoNotes, CheckpointNotes}
-use Rattle.pm_segment.specs.Moment.{Moment}
-use Rattle.pm_segment.specs.Moves.{Moves}
-use Rattle.pm_segment.specs.Redos.{FullAtLast, HasReason, LeavesFiles, LeavesUnread, MadeAfresh}
-use Rattle.pm_duties.specs.declared.alone.Work.{Work}
-use Rattle.pm_duties.specs.declared.alone.Work.TheVariants.{ToRead, Redone, ToClose, Made}
+use Rattle.pm_segment.specs.{pm_query.{declared.{book.BookEntry.{BookEntry, TheVariants.{Attached, Detached}}, store.{Checkpointed.Checkpointed, StoreNo.{StoreNo, TheVariants.NoMemory}}}, Calls.{User, RedoNotes, CheckpointNotes}}, Moment.Moment, Moves.Moves, Redos.{FullAtLast, HasReason, LeavesFiles, LeavesUnread, MadeAfresh}}
+use Rattle.pm_once_children.specs.declared.alone.Work.{Work, TheVariants.{ToRead, Redone, ToClose, Made}}
 
 -- the entries of its work, without those of its coming and its going
 abbrev pub work_in : List BookEntry → List BookEntry

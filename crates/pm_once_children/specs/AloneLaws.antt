@@ -1,23 +1,9 @@
 -- Laws of what a child does that is alone with its store.
-use Rattle.std.proofs.Common.{◌≡◌, inl, inr, ℕ, ◌≤◌, List, [], ◌∷◌, ◌++◌, Option, Some, Result, Ok, Err, refl, sym, ◌∙◌, ap, subst}
-use Rattle.std.specs.Prelude.{true}
-use Rattle.pm_disk.specs.Files.{Files}
-use Rattle.pm_rows.specs.Fold.{RowMap}
-use Rattle.pm_query.specs.declared.book.BookEntry.{BookEntry}
-use Rattle.pm_query.specs.declared.book.BookEntry.TheVariants.{Opened, Attached, Redone as WasRedone, Answered, Released, Detached, Gone, CheckpointEnded, Broke, LogFull}
-use Rattle.pm_query.specs.declared.store.Checkpointed.{Checkpointed}
-use Rattle.pm_record.specs.declared.fault.RedoFault.TheVariants as redo
-use Rattle.pm_query.specs.declared.store.StoreNo.{StoreNo}
-use Rattle.pm_query.specs.declared.store.StoreNo.TheVariants as stores
-use Rattle.pm_query.specs.Calls.{User, RedoNotes, CheckpointNotes}
-use Rattle.pm_segment.specs.declared.live.Live.{Live}
-use Rattle.pm_segment.specs.Moment.{Moment}
-use Rattle.pm_segment.specs.Moves.{Moves}
-use Rattle.pm_segment.specs.MovesLaws.{moves_none, moves_on, never_falls}
-use Rattle.pm_segment.specs.Redos.{FullAtLast, HasReason, IsAfreshAt, LeavesFiles, LeavesUnread}
-use Rattle.pm_duties.specs.declared.alone.Work.{Work}
-use Rattle.pm_duties.specs.declared.alone.Work.TheVariants.{ToRead, Redone, ToClose, Made}
-use Rattle.pm_duties.specs.Alone.{Does, HasClosed, HasDone, HasRead, Keeps, work_in}
+use Rattle.std.{proofs.Common.{◌≡◌, inl, inr, ℕ, ◌≤◌, List, [], ◌∷◌, ◌++◌, Option, Some, Result, Ok, Err, refl, sym, ◌∙◌, ap, subst}, specs.Prelude.true}
+use Rattle.pm_server.specs.{pm_disk.Files.Files, pm_rows.Fold.RowMap, pm_query.{declared.{book.BookEntry.{BookEntry, TheVariants.{Opened, Attached, Redone as WasRedone, Answered, Released, Detached, Gone, CheckpointEnded, Broke, LogFull}}, store.{Checkpointed.Checkpointed, StoreNo.StoreNo}}, Calls.{User, RedoNotes, CheckpointNotes}}, pm_segment.{declared.live.Live.Live, Moment.Moment, Moves.Moves, MovesLaws.{moves_none, moves_on, never_falls}, Redos.{FullAtLast, HasReason, IsAfreshAt, LeavesFiles, LeavesUnread}}}
+use Rattle.pm_server.specs.pm_record.declared.fault.RedoFault.TheVariants as redo
+use Rattle.pm_server.specs.pm_query.declared.store.StoreNo.TheVariants as stores
+use Rattle.pm_once_children.specs.{declared.alone.Work.{Work, TheVariants.{ToRead, Redone, ToClose, Made}}, Alone.{Does, HasClosed, HasDone, HasRead, Keeps, work_in}}
 
 -- ---- its entries
 

@@ -1,16 +1,10 @@
 -- The children that serve no connection.
 use Rattle.std.specs.Prelude.{false, None, ℕ, Some, ◌≡◌, ◌⊎◌, true, Option}
-use Rattle.pm_duties.specs.declared.auxiliaries.Auxiliaries.{Auxiliaries}
-use Rattle.pm_exit.specs.declared.child.Kind.{Kind}
-use Rattle.pm_exit.specs.declared.child.Kind.TheVariants.{Startup, Checkpointer, Writer}
-use Rattle.pm_duties.specs.AuxiliaryRuns.{Heard}
-use Rattle.pm_journal.specs.declared.act.Act.{Act}
-use Rattle.pm_journal.specs.declared.act.Act.TheVariants as act
-use Rattle.pm_duties.specs.declared.auxiliaries.Duty.{Duty}
-use Rattle.pm_duties.specs.declared.auxiliaries.Duty.TheVariants.{Redo, Checkpoint, Quit, Terminate}
-use Rattle.pm_journal.specs.Standing.{Standing}
-use Rattle.pm_acts.specs.Acts.{IsPresent}
-use Rattle.pm_exit.specs.declared.child.Kind.TheVariants as kind
+use Rattle.pm_once_children.specs.{declared.auxiliaries.{Auxiliaries.Auxiliaries, Duty.{Duty, TheVariants.{Redo, Checkpoint, Quit, Terminate}}}, AuxiliaryRuns.Heard}
+use Rattle.pm_server.specs.{pm_exit.declared.child.Kind.{Kind, TheVariants.{Startup, Checkpointer, Writer}}, pm_supervisor_journal.{declared.act.Act.Act, Standing.Standing}}
+use Rattle.pm_server.specs.pm_supervisor_journal.declared.act.Act.TheVariants as act
+use Rattle.pm_once_acts.specs.Acts.{IsPresent}
+use Rattle.pm_server.specs.pm_exit.declared.child.Kind.TheVariants as kind
 
 abbrev pub nobody : Auxiliaries
 nobody = record { startup = None; checkpointer = None; writer = None; is_quit = false; is_terminated = false; is_asked = false }

@@ -1,23 +1,13 @@
 -- The runs of the children that serve no connection.
 use Rattle.std.specs.Prelude.{Bool, false, true, List, fold, Option, None, Some, ◌≡◌, ℕ, [], ◌∷◌, ◌⊎◌, Result, Ok, Err, IsSomeAnd}
-use Rattle.pm_exit.specs.declared.child.Kind.TheVariants as kinds
-use Rattle.pm_state.specs.declared.event.PmEvent.{PmEvent}
-use Rattle.pm_state.specs.declared.event.PmEvent.TheVariants as entry
-use Rattle.pm_record.specs.declared.fault.RedoFault.TheVariants as redo
-use Rattle.pm_query.specs.declared.store.StoreNo.{StoreNo}
-use Rattle.pm_query.specs.declared.store.StoreNo.TheVariants as stores
-use Rattle.pm_server.specs.declared.end.StartWhy.{StartWhy}
-use Rattle.pm_server.specs.declared.end.StartWhy.TheVariants.{Redo, Killed}
-use Rattle.pm_query.specs.declared.book.BookEntry.{BookEntry}
-use Rattle.pm_query.specs.declared.book.BookEntry.TheVariants.{Attached, Detached, Redone, Broke, CheckpointEnded}
-use Rattle.pm_exit.specs.declared.child.Status.{Status}
-use Rattle.pm_exit.specs.declared.child.Status.TheVariants.{Code, Signal}
-use Rattle.pm_chain.specs.Steps.{ChildRun, Runs, RunsOn, Step, journal_by}
-use Rattle.pm_query.specs.declared.store.Checkpointed.{Checkpointed}
-use Rattle.pm_query.specs.declared.store.Checkpointed.TheVariants as made
-use Rattle.pm_duties.specs.declared.checkpointer.Closed.{Closed}
-use Rattle.pm_duties.specs.declared.checkpointer.Closed.TheVariants.{Made, Crashed, Full, Short}
-use Rattle.pm_exit.specs.declared.child.Kind.{Kind}
+use Rattle.pm_server.specs.pm_exit.declared.child.Kind.TheVariants as kinds
+use Rattle.pm_server.specs.{pm_state.declared.event.PmEvent.PmEvent, pm_query.declared.{store.{StoreNo.StoreNo, Checkpointed.Checkpointed}, book.BookEntry.{BookEntry, TheVariants.{Attached, Detached, Redone, Broke, CheckpointEnded}}}, declared.end.StartWhy.{StartWhy, TheVariants.{Redo, Killed}}, pm_exit.declared.child.{Status.{Status, TheVariants.{Code, Signal}}, Kind.Kind}}
+use Rattle.pm_server.specs.pm_state.declared.event.PmEvent.TheVariants as entry
+use Rattle.pm_server.specs.pm_record.declared.fault.RedoFault.TheVariants as redo
+use Rattle.pm_server.specs.pm_query.declared.store.StoreNo.TheVariants as stores
+use Rattle.pm_once_acts.specs.pm_supervisor_chain.Steps.{ChildRun, Runs, RunsOn, Step, journal_by}
+use Rattle.pm_server.specs.pm_query.declared.store.Checkpointed.TheVariants as made
+use Rattle.pm_once_children.specs.declared.checkpointer.Closed.{Closed, TheVariants.{Made, Crashed, Full, Short}}
 
 -- ---- what they were told
 

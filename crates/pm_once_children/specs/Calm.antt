@@ -1,22 +1,13 @@
 -- A supervisor that nothing has disturbed: nobody has crashed, and nobody has asked for a shutdown.
 use Rattle.std.specs.Prelude.{◌≡◌, Bool, true, List, [], ◌∷◌, ◌⊎◌, false, None, is_some, not, ◌&&◌, ◌||◌, fold}
-use Rattle.pm_admit.specs.declared.PmState.{PmState}
-use Rattle.pm_admit.specs.declared.PmState.TheVariants as state
-use Rattle.pm_state.specs.declared.machine.StartupStatus.{StartupStatus}
-use Rattle.pm_state.specs.declared.machine.StartupStatus.TheVariants.{Running}
-use Rattle.pm_exit.specs.declared.child.Kind.TheVariants as kinds
-use Rattle.pm_supervisor.specs.declared.Ending.TheVariants as endings
-use Rattle.pm_state.specs.declared.action.Action.{Action}
-use Rattle.pm_state.specs.declared.action.Action.TheVariants as act
-use Rattle.pm_journal.specs.Standing.{Standing}
-use Rattle.pm_duties.specs.Auxiliaries.{heard_of}
-use Rattle.pm_duties.specs.AuxiliaryRuns.{nothing_heard, Heard, IsIdleRun, heard_after}
-use Rattle.pm_duties.specs.declared.auxiliaries.Auxiliaries.{Auxiliaries}
-use Rattle.pm_state.specs.declared.event.PmEvent.{PmEvent}
-use Rattle.pm_state.specs.declared.event.PmEvent.TheVariants as entry
-use Rattle.pm_exit.specs.Ends.{is_exit_0, is_exit_1}
-use Rattle.pm_chain.specs.Steps.{ChildRun, Runs, Step, journal_by}
-use Rattle.pm_exit.specs.declared.child.Status.TheVariants.{Code}
+use Rattle.pm_server.specs.{pm_admit.declared.PmState.PmState, pm_state.declared.{machine.StartupStatus.{StartupStatus, TheVariants.Running}, action.Action.Action, event.PmEvent.PmEvent}, pm_supervisor_journal.Standing.Standing, pm_exit.{Ends.{is_exit_0, is_exit_1}, declared.child.Status.TheVariants.Code}}
+use Rattle.pm_server.specs.pm_admit.declared.PmState.TheVariants as state
+use Rattle.pm_server.specs.pm_exit.declared.child.Kind.TheVariants as kinds
+use Rattle.pm_server.specs.pm_supervisor.declared.Ending.TheVariants as endings
+use Rattle.pm_server.specs.pm_state.declared.action.Action.TheVariants as act
+use Rattle.pm_once_children.specs.{Auxiliaries.heard_of, AuxiliaryRuns.{nothing_heard, Heard, IsIdleRun, heard_after}, declared.auxiliaries.Auxiliaries.Auxiliaries}
+use Rattle.pm_server.specs.pm_state.declared.event.PmEvent.TheVariants as entry
+use Rattle.pm_once_acts.specs.pm_supervisor_chain.Steps.{ChildRun, Runs, Step, journal_by}
 
 -- it comes up, or it serves
 abbrev pub IsUp : PmState → StartupStatus → Bool → Type 0

@@ -4,9 +4,6 @@ pub mod AuxiliaryRuns
 pub mod Auxiliaries
 pub mod Outcomes
 pub mod Calm
-pub mod AuxiliariesLaws
-pub mod AuxiliaryRunsLaws
-pub mod CausesLaws
-pub mod OutcomesLaws
-pub mod CalmLaws
-pub mod EndsLaws
+pub use Rattle.pm_exit.specs as pm_exit
+pub use Rattle.pm_segment.specs as pm_segment
+pub use Rattle.pm_once_acts.specs as pm_once_acts

@@ -1,23 +1,9 @@
 -- What the last child came to that used the store and serves no connection, and what is known of the store by it.
 use Rattle.std.specs.Prelude.{ℕ, Option, None, Some, IfSome, Bool, true, ◌≡◌, [], ◌⊎◌, List}
-use Rattle.pm_disk.specs.Cause.{Rose}
-use Rattle.pm_segment.specs.Moment.{Moment}
-use Rattle.pm_segment.specs.Redos.{IsAtLastEpoch, IsCleanAt}
-use Rattle.pm_server.specs.Ends.{HasRefused}
-use Rattle.pm_duties.specs.declared.checkpointer.Closed.TheVariants.{Made, Crashed, Full, Short}
-use Rattle.pm_server.specs.declared.end.StartWhy.TheVariants.{Redo, Killed}
-use Rattle.pm_duties.specs.declared.outcome.Outcome.{Outcome}
-use Rattle.pm_duties.specs.declared.outcome.Outcome.TheVariants.{Refused, Closed}
-use Rattle.pm_supervisor.specs.declared.Ending.{Ending}
-use Rattle.pm_supervisor.specs.declared.Ending.TheVariants as endings
-use Rattle.pm_server.specs.declared.end.ServerEnd.{ServerEnd}
-use Rattle.pm_server.specs.declared.end.ServerEnd.TheVariants.{Clean, Abnormal, NoMemory}
-use Rattle.pm_server.specs.declared.end.Why.TheVariants.{AfterCrash, RestartOff, StartupFailed}
-use Rattle.pm_segment.specs.Moves.{Moves}
-use Rattle.pm_chain.specs.Steps.{ChildRun, Step, journal_of}
-use Rattle.pm_duties.specs.AuxiliaryRuns.{IsRefusedRun, startup_or, IsRefusedLast, AreToldBehind, heard_in, nothing_heard}
-use Rattle.pm_duties.specs.Auxiliaries.{heard_of}
-use Rattle.pm_duties.specs.declared.auxiliaries.Auxiliaries.{Auxiliaries}
+use Rattle.pm_server.specs.{pm_disk.Cause.Rose, pm_segment.{Moment.Moment, Redos.{IsAtLastEpoch, IsCleanAt}, Moves.Moves}, Ends.HasRefused, declared.end.{StartWhy.TheVariants.{Redo, Killed}, ServerEnd.{ServerEnd, TheVariants.{Clean, Abnormal, NoMemory}}, Why.TheVariants.{AfterCrash, RestartOff, StartupFailed}}, pm_supervisor.declared.Ending.Ending}
+use Rattle.pm_once_children.specs.{declared.{checkpointer.Closed.TheVariants.{Made, Crashed, Full, Short}, outcome.Outcome.{Outcome, TheVariants.{Refused, Closed}}, auxiliaries.Auxiliaries.Auxiliaries}, AuxiliaryRuns.{IsRefusedRun, startup_or, IsRefusedLast, AreToldBehind, heard_in, nothing_heard}, Auxiliaries.heard_of}
+use Rattle.pm_server.specs.pm_supervisor.declared.Ending.TheVariants as endings
+use Rattle.pm_once_acts.specs.pm_supervisor_chain.Steps.{ChildRun, Step, journal_of}
 
 -- the last auxiliary child that used the store came to this, and nobody has used it since
 abbrev pub HasComeTo : Option Outcome → (from : ℕ) → Moment → Type 0

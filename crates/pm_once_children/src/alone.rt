@@ -1,11 +1,8 @@
 //! A store as one of its children has it that is alone with it: the startup child, or the checkpointer at a shutdown.
 
-ghost use Rattle.std.specs.Prelude.{◌≡◌, Some};
-ghost use Rattle.std.proofs.Common.{◌∙◌, refl};
-ghost use Rattle.pm_segment.specs.Moment.{moment};
-ghost use Rattle.pm_segment.specs.Passes.{Admits, view_of};
-ghost use Rattle.pm_duties.specs.Alone.{Does, made_by, redone_by};
-ghost use Rattle.pm_duties.specs.AloneLaws.{does_nothing, does_on, meets, stays_in};
+ghost use Rattle.std.{specs.Prelude.{◌≡◌, Some}, proofs.Common.{◌∙◌, refl}};
+ghost use Rattle.pm_segment.specs.{Moment.moment, Passes.{Admits, view_of}};
+ghost use Rattle.pm_once_children.specs.{Alone.{Does, made_by, redone_by}, AloneLaws.{does_nothing, does_on, meets, stays_in}};
 
 use pm_disk::Disk;
 use pm_outside::Chronicle;

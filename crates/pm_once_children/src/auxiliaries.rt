@@ -1,7 +1,7 @@
 //! The children that serve no connection, and what they have to do.
 
 ghost use Rattle.std.specs.Prelude.{◌≡◌, true, None};
-ghost use Rattle.pm_duties.specs.Auxiliaries.{IsDue, IsNextDuty, nobody, with_started};
+ghost use Rattle.pm_once_children.specs.Auxiliaries.{IsDue, IsNextDuty, nobody, with_started};
 
 use pm_exit::Kind;
 

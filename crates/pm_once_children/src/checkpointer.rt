@@ -1,19 +1,16 @@
 //! The run of the checkpointer at a shutdown, which writes the last checkpoint.
 
 ghost use Rattle.std.specs.Prelude.{◌≡◌, ℕ, true, List, IfSome};
-ghost use Rattle.pm_query.specs.declared.book.BookEntry.{BookEntry};
-ghost use Rattle.pm_segment.specs.Moment.{moment};
-ghost use Rattle.pm_segment.specs.Moves.{Moves};
-ghost use Rattle.pm_segment.specs.Redos.{FullAtLast, IsAtLastEpoch, IsCleanAt, MadeAfresh};
-ghost use Rattle.pm_duties.specs.AuxiliaryRuns.{CloseNotes, closed_as, is_crashed, status_of_closed};
+ghost use Rattle.pm_segment.specs.{pm_query.declared.book.BookEntry.BookEntry, Moment.moment, Moves.Moves, Redos.{FullAtLast, IsAtLastEpoch, IsCleanAt, MadeAfresh}};
+ghost use Rattle.pm_once_children.specs.AuxiliaryRuns.{CloseNotes, closed_as, is_crashed, status_of_closed};
 
 use crate::alone::{Alone, Work};
 use pm_aux::checkpointer;
 use pm_disk::Disk;
 use pm_exit::Status;
+use pm_once_lives::{Asked, Home};
 use pm_outside::{Chronicle, Clock};
 use pm_query::{BookEntry, Checkpointed, StoreNo};
-use pm_quiet::{Asked, Home};
 use pm_segment::Sole;
 use std::marker::Brand;
 use std::sync::Wait;

@@ -1,20 +1,16 @@
 //! The run of a startup child, which reads the log.
 
 ghost use Rattle.std.specs.Prelude.{◌≡◌, ◌≢◌, List, IfSome, Some, Err};
-ghost use Rattle.pm_query.specs.declared.book.BookEntry.{BookEntry};
-ghost use Rattle.pm_record.specs.declared.fault.RedoFault.{RedoFault};
-ghost use Rattle.pm_redo.specs.Found.{IsReason};
-ghost use Rattle.pm_segment.specs.Moment.{moment};
-ghost use Rattle.pm_segment.specs.Moves.{Moves};
-ghost use Rattle.pm_segment.specs.Redos.{HasReason, LeavesFiles, LeavesUnread};
-ghost use Rattle.pm_duties.specs.AuxiliaryRuns.{StartNotes, refused_start, started_as};
+ghost use Rattle.pm_query.specs.{declared.book.BookEntry.BookEntry, pm_record.declared.fault.RedoFault.RedoFault};
+ghost use Rattle.pm_segment.specs.{pm_redo.Found.IsReason, Moment.moment, Moves.Moves, Redos.{HasReason, LeavesFiles, LeavesUnread}};
+ghost use Rattle.pm_once_children.specs.AuxiliaryRuns.{StartNotes, refused_start, started_as};
 
 use crate::alone::{Alone, Work};
 use pm_aux::startup;
 use pm_disk::Disk;
+use pm_once_lives::{Home, Quiet};
 use pm_outside::Chronicle;
 use pm_query::{BookEntry, StoreNo};
-use pm_quiet::{Home, Quiet};
 use pm_record::RedoFault;
 use pm_segment::Sole;
 use pm_server::StartWhy;

@@ -1,15 +1,7 @@
 -- What the law on crashes says of a run of `once`.
 use Rattle.std.proofs.Common.{◌≡◌, ◌⊎◌, inl, inr, subst}
-use Rattle.pm_disk.specs.Cause.{Rose}
-use Rattle.pm_state.specs.Journal.{replay_begun}
-use Rattle.pm_chain.specs.Steps.{journal_of}
-use Rattle.pm_server.specs.Ends.{IsSound}
-use Rattle.pm_server.specs.declared.conf.Conf.{Conf}
-use Rattle.pm_server.specs.declared.end.ServerEnd.{ServerEnd}
-use Rattle.pm_server.specs.declared.end.ServerEnd.TheVariants.{Clean, NoMemory}
-use Rattle.pm_completeness.specs.Crashes.{AreOrderly, AreOrderlySoFar, AreUnharmed, CompletesItsRuns}
-use Rattle.pm_once.specs.Once.{IsOnceEnd, IsOnceRun}
-use Rattle.pm_server.specs.Outside.{OutsideView}
+use Rattle.pm_once.specs.{pm_disk.Cause.Rose, pm_state.Journal.replay_begun, pm_supervisor_chain.Steps.journal_of, pm_server.{Ends.IsSound, declared.{conf.Conf.Conf, end.ServerEnd.{ServerEnd, TheVariants.{Clean, NoMemory}}}, Outside.OutsideView}, Once.{IsOnceEnd, IsOnceRun}}
+use Rattle.pm_once_completeness.specs.Crashes.{AreOrderly, AreOrderlySoFar, AreUnharmed, CompletesItsRuns}
 
 pub run_unharmed : (conf : Conf) (end : ServerEnd) (before now : OutsideView) (run : IsOnceRun conf end before now)
     → ¬ (Rose before.disk.faults now.disk.faults) → AreUnharmed conf.limits run.steps

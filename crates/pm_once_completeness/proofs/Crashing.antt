@@ -1,31 +1,12 @@
 -- Where children end by themselves none crashes, but for a checkpointer without its last checkpoint.
-use Rattle.std.proofs.Common.{◌≡◌, ℕ, Bool, true, false, not, ◌&&◌, ◌||◌, List, [], ◌∷◌, refl, sym, ap, subst, arith}
-use Rattle.std.specs.Prelude.{is_some}
-use Rattle.pm_exit.specs.declared.child.Kind.{Kind}
-use Rattle.pm_exit.specs.declared.child.Kind.TheVariants as kind
-use Rattle.pm_exit.specs.declared.child.Status.{Status}
-use Rattle.pm_exit.specs.Ends.{is_exit_0, is_exit_1}
-use Rattle.pm_modes.specs.declared.Mode.TheVariants.{Smart}
-use Rattle.pm_modes.specs.Strength.{strengthen_of}
-use Rattle.pm_admit.specs.Admission.{decide_of, is_startup}
-use Rattle.pm_supervisor.specs.declared.Ending.TheVariants as ending
-use Rattle.pm_supervisor.specs.Supervisor.{Shared}
-use Rattle.pm_state.specs.declared.action.Action.{Action}
-use Rattle.pm_state.specs.declared.action.Action.TheVariants as act
-use Rattle.pm_state.specs.declared.event.PmEvent.{PmEvent}
-use Rattle.pm_state.specs.declared.event.PmEvent.TheVariants as entry
-use Rattle.pm_state.specs.declared.machine.Machine.{Machine}
-use Rattle.pm_state.specs.Exits.{crash_rule, is_shutdown, less_one, startup_exited}
-use Rattle.pm_state.specs.Known.{is_signalled, is_waiting}
-use Rattle.pm_state.specs.Machine.{Exited, accepted_as, started_as, step, view_of}
-use Rattle.pm_state.specs.Promises.{has_act, is_ask_checkpoint, is_quit}
-use Rattle.pm_state.specs.Requests.{asked_with, ticked_at}
-use Rattle.pm_state.specs.TurnRules.{are_backends_gone, backends_gone, children_gone, dead_ends_gone, end_smart, is_not_running, restart_writer, start_recovery, stop_backends}
-use Rattle.pm_state.specs.Journal.{Do, Fits, reported, row_of, settled}
-use Rattle.pm_server.specs.CalmLaws as machine
-use Rattle.pm_duties.specs.AuxiliaryRuns.{Heard, heard_after}
-use Rattle.pm_completeness.specs.Crashes.{IsBehindUndone, IsOrderly}
-use Rattle.pm_completeness.proofs.Replaying.{KeepsPlain}
+use Rattle.std.{proofs.Common.{◌≡◌, ℕ, Bool, true, false, not, ◌&&◌, ◌||◌, List, [], ◌∷◌, refl, sym, ap, subst, arith}, specs.Prelude.is_some}
+use Rattle.pm_once.specs.{pm_state.{pm_exit.{declared.child.{Kind.Kind, Status.Status}, Ends.{is_exit_0, is_exit_1}}, pm_modes.{declared.Mode.TheVariants.Smart, Strength.strengthen_of}, pm_admit.Admission.{decide_of, is_startup}, pm_supervisor.Supervisor.Shared, declared.{action.Action.Action, event.PmEvent.PmEvent, machine.Machine.Machine}, Exits.{crash_rule, is_shutdown, less_one, startup_exited}, Known.{is_signalled, is_waiting}, Machine.{Exited, accepted_as, started_as, step, view_of}, Promises.{has_act, is_ask_checkpoint, is_quit}, Requests.{asked_with, ticked_at}, TurnRules.{are_backends_gone, backends_gone, children_gone, dead_ends_gone, end_smart, is_not_running, restart_writer, start_recovery, stop_backends}, Journal.{Do, Fits, reported, row_of, settled}}, pm_once_children.AuxiliaryRuns.{Heard, heard_after}}
+use Rattle.pm_once.specs.pm_state.pm_exit.declared.child.Kind.TheVariants as kind
+use Rattle.pm_once.specs.pm_state.pm_supervisor.declared.Ending.TheVariants as ending
+use Rattle.pm_once.specs.pm_state.declared.action.Action.TheVariants as act
+use Rattle.pm_once.specs.pm_state.declared.event.PmEvent.TheVariants as entry
+use Rattle.pm_once.proofs.pm_server.CalmLaws as machine
+use Rattle.pm_once_completeness.{specs.Crashes.{IsBehindUndone, IsOrderly}, proofs.Replaying.KeepsPlain}
 
 -- ---- nobody has crashed
 

@@ -1,40 +1,12 @@
 -- A whole journal: no child crashes, but for one that left its work undone.
-use Rattle.std.proofs.Common.{◌≡◌, ◌⊎◌, inl, inr, ℕ, ◌+◌, Bool, true, false, not, ◌&&◌, ◌||◌, List, [], ◌∷◌, ◌++◌, Option, Some, None, refl, sym, ◌∙◌, ap, subst, arith}
-use Rattle.std.specs.Prelude.{IsSomeAnd, All, fold, is_some}
-use Rattle.std.specs.List.{AllByRecursion}
-use Rattle.std.proofs.lemmas.Bool.{both_ways, or_cases}
-use Rattle.std.proofs.lemmas.Grind.{flat_map-append}
-use Rattle.std.proofs.lemmas.List.Elements.{All-head, All-tail}
-use Rattle.pm_facts.specs.Lists.{each_last}
-use Rattle.pm_exit.specs.declared.child.Kind.{Kind}
-use Rattle.pm_exit.specs.declared.child.Kind.TheVariants as kind
-use Rattle.pm_exit.specs.declared.child.Status.{Status}
-use Rattle.pm_exit.specs.Ends.{is_exit_0, is_exit_1}
-use Rattle.pm_modes.specs.declared.Mode.{Mode}
-use Rattle.pm_modes.specs.declared.Mode.TheVariants.{Smart}
-use Rattle.pm_supervisor.specs.Children.{child_of, count_of, is_checkpointer, is_session, is_startup_child, is_writer}
-use Rattle.pm_supervisor.specs.declared.Limits.{Limits}
-use Rattle.pm_supervisor.specs.declared.Ending.TheVariants as endings
-use Rattle.pm_state.specs.declared.action.Action.{Action}
-use Rattle.pm_state.specs.declared.event.PmEvent.{PmEvent}
+use Rattle.std.{proofs.{Common.{◌≡◌, ◌⊎◌, inl, inr, ℕ, ◌+◌, Bool, true, false, not, ◌&&◌, ◌||◌, List, [], ◌∷◌, ◌++◌, Option, Some, None, refl, sym, ◌∙◌, ap, subst, arith}, lemmas.{Bool.{both_ways, or_cases}, Grind.flat_map-append, List.Elements.{All-head, All-tail}}}, specs.{Prelude.{IsSomeAnd, All, fold, is_some}, List.AllByRecursion}}
+use Rattle.pm_once.specs.{pm_facts.Lists.each_last, pm_supervisor_chain.Steps.{AreSteps, AreStepsBehind, ChildRun, Notes, Renews, Runs, RunsOn, StandsByItself, Step, journal_by, journal_of, redo_end}, pm_supervisor_journal.Stands.any_moment, pm_server.Journal.asked_in, pm_once_children.{AuxiliaryRuns.{AreToldBehind, Heard, IsRunAs, heard_after, nothing_heard}, Calm.{EndThemselves, EndsItself, IsFineExit}}, pm_once_acts.Steps.EndsWith}
+use Rattle.pm_state.{specs.{pm_exit.{declared.child.{Kind.Kind, Status.Status}, Ends.{is_exit_0, is_exit_1}}, pm_modes.declared.Mode.{Mode, TheVariants.Smart}, pm_supervisor.{Children.{child_of, count_of, is_checkpointer, is_session, is_startup_child, is_writer}, declared.Limits.Limits}, declared.{action.Action.Action, event.PmEvent.PmEvent, machine.Machine.Machine}, Laws.RestartsSafely, Restarts.Counts, Machine.{Exited, begun, step}, TurnRules.is_not_running, Journal.{AreLegal, Due, IsLegal, Replay, replay_begun, replayed}}, proofs.ReplayLaws.{AreCounted, acts_behind_redo, acts_in, are_counted, ends_in, rested, startup_there, there_counts, was_there}}
+use Rattle.pm_state.specs.pm_exit.declared.child.Kind.TheVariants as kind
+use Rattle.pm_state.specs.pm_supervisor.declared.Ending.TheVariants as endings
 use Rattle.pm_state.specs.declared.event.PmEvent.TheVariants as entry
-use Rattle.pm_state.specs.declared.machine.Machine.{Machine}
-use Rattle.pm_state.specs.Laws.{RestartsSafely}
-use Rattle.pm_state.specs.Restarts.{Counts}
-use Rattle.pm_state.specs.Machine.{Exited, begun, step}
-use Rattle.pm_state.specs.TurnRules.{is_not_running}
-use Rattle.pm_state.specs.Journal.{AreLegal, Due, IsLegal, Replay, replay_begun, replayed}
-use Rattle.pm_state.specs.ReplayLaws.{AreCounted, acts_behind_redo, acts_in, are_counted, ends_in, rested, startup_there, there_counts, was_there}
-use Rattle.pm_chain.specs.Steps.{AreSteps, AreStepsBehind, ChildRun, Notes, Renews, Runs, RunsOn, StandsByItself, Step, journal_by, journal_of, redo_end}
-use Rattle.pm_journal.specs.Stands.{any_moment}
-use Rattle.pm_server.specs.CalmLaws as machine
-use Rattle.pm_server.specs.Journal.{asked_in}
-use Rattle.pm_duties.specs.AuxiliaryRuns.{AreToldBehind, Heard, IsRunAs, heard_after, nothing_heard}
-use Rattle.pm_completeness.specs.Crashes.{AreOrderly, AreOrderlySoFar, CompletesItsRuns, IsBehindUndone, is_undone}
-use Rattle.pm_duties.specs.Calm.{EndThemselves, EndsItself, IsFineExit}
-use Rattle.pm_acts.specs.Steps.{EndsWith}
-use Rattle.pm_completeness.proofs.Replaying.{IsPlain, entry_on}
-use Rattle.pm_completeness.proofs.Crashing.{EndsCalm, IsCalmSo, IsLost, IsAlwaysOrderly, checkpointer_calm, checkpointer_lost, keeps_calm, keeps_lost, nobody_left, session_calm, startup_calm, startup_lost, writer_calm}
+use Rattle.pm_once.proofs.pm_server.CalmLaws as machine
+use Rattle.pm_once_completeness.{specs.Crashes.{AreOrderly, AreOrderlySoFar, CompletesItsRuns, IsBehindUndone, is_undone}, proofs.{Replaying.{IsPlain, entry_on}, Crashing.{EndsCalm, IsCalmSo, IsLost, IsAlwaysOrderly, checkpointer_calm, checkpointer_lost, keeps_calm, keeps_lost, nobody_left, session_calm, startup_calm, startup_lost, writer_calm}}}
 
 -- ---- requests
 

@@ -1,20 +1,9 @@
 -- What each entry of a legal journal keeps, by what the entry is: but for the ends of children.
 use Rattle.std.proofs.Common.{◌≡◌, ℕ, Bool, false, List, [], ◌∷◌, refl, sym, subst}
-use Rattle.pm_modes.specs.declared.Mode.{Mode}
-use Rattle.pm_modes.specs.declared.Mode.TheVariants.{Smart}
-use Rattle.pm_modes.specs.Strength.{strengthen_of}
-use Rattle.pm_admit.specs.declared.Cac.{Cac}
-use Rattle.pm_state.specs.declared.action.Action.{Action}
+use Rattle.pm_state.{specs.{pm_modes.{declared.Mode.{Mode, TheVariants.Smart}, Strength.strengthen_of}, pm_admit.{declared.Cac.Cac, Admission.decide_of}, declared.{action.Action.Action, event.PmEvent.PmEvent, machine.Machine.Machine}, Machine.{accepted_as, view_of}, Requests.{asked_with, ticked_at}, Journal.{Follows, MayCome, Replay}}, proofs.ReplayLaws.{Behind, Keeps, acts_in, acts_in_dues, first_on, follows_on, rested}}
 use Rattle.pm_state.specs.declared.action.Action.TheVariants as act
-use Rattle.pm_state.specs.declared.event.PmEvent.{PmEvent}
 use Rattle.pm_state.specs.declared.event.PmEvent.TheVariants as entry
-use Rattle.pm_state.specs.declared.machine.Machine.{Machine}
-use Rattle.pm_state.specs.Machine.{accepted_as, view_of}
-use Rattle.pm_admit.specs.Admission.{decide_of}
-use Rattle.pm_state.specs.Requests.{asked_with, ticked_at}
-use Rattle.pm_state.specs.Journal.{Follows, MayCome, Replay}
-use Rattle.pm_state.specs.ReplayLaws.{Behind, Keeps, acts_in, acts_in_dues, first_on, follows_on, rested}
-use Rattle.pm_duties.specs.AuxiliaryRuns.{Heard, heard_after}
+use Rattle.pm_once.specs.pm_once_children.AuxiliaryRuns.{Heard, heard_after}
 
 -- the entry is no end of a child, and asks for no other shutdown than a smart one
 abbrev pub IsPlain : PmEvent → Type 0

@@ -1,17 +1,8 @@
 -- Why the worked journals pass, or don't.
-use Rattle.std.proofs.Common.{◌≡◌, true, false, List, [], ◌∷◌, ◌++◌, refl, sym, ◌∙◌, inl, inr}
-use Rattle.std.specs.List.{AllByRecursion}
-use Rattle.pm_exit.specs.declared.child.Kind.TheVariants.{Backend, Checkpointer}
-use Rattle.pm_exit.specs.declared.child.Status.TheVariants.{Code, Signal}
-use Rattle.pm_state.specs.declared.event.PmEvent.{PmEvent}
-use Rattle.pm_state.specs.declared.event.PmEvent.TheVariants as entry
-use Rattle.pm_state.specs.Exits.{crash_rule, startup_exited}
-use Rattle.pm_state.specs.Journal.{Replay, all_replayed, replay_begun, replayed, row_of, settled}
-use Rattle.pm_state.specs.TurnRules.{backends_gone, children_gone, dead_ends_gone, end_smart, restart_writer, start_recovery, stop_backends}
-use Rattle.pm_chain.specs.WorkedChains.{clean_journal, failed_journal, started}
-use Rattle.pm_chain.specs.WorkedSteps.{limits}
-use Rattle.pm_completeness.specs.Crashes.{AreOrderly, AreOrderlySoFar, IsOrderly, is_undone}
-use Rattle.pm_completeness.specs.WorkedCrashes.{closing, crashed, served, unasked, unmade}
+use Rattle.std.{proofs.Common.{◌≡◌, true, false, List, [], ◌∷◌, ◌++◌, refl, sym, ◌∙◌, inl, inr}, specs.List.AllByRecursion}
+use Rattle.pm_once.specs.{pm_state.{pm_exit.declared.child.{Kind.TheVariants.{Backend, Checkpointer}, Status.TheVariants.{Code, Signal}}, declared.event.PmEvent.PmEvent, Exits.{crash_rule, startup_exited}, Journal.{Replay, all_replayed, replay_begun, replayed, row_of, settled}, TurnRules.{backends_gone, children_gone, dead_ends_gone, end_smart, restart_writer, start_recovery, stop_backends}}, pm_supervisor_chain.{WorkedChains.{clean_journal, failed_journal, started}, WorkedSteps.limits}}
+use Rattle.pm_once.specs.pm_state.declared.event.PmEvent.TheVariants as entry
+use Rattle.pm_once_completeness.specs.{Crashes.{AreOrderly, AreOrderlySoFar, IsOrderly, is_undone}, WorkedCrashes.{closing, crashed, served, unasked, unmade}}
 
 pub takes_clean : AreOrderly (replay_begun limits) clean_journal
 unfolding settled row_of crash_rule startup_exited start_recovery restart_writer end_smart stop_backends backends_gone dead_ends_gone children_gone

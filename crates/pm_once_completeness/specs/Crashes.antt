@@ -1,24 +1,9 @@
 -- Crashes of children, as a journal notes them.
-use Rattle.std.specs.Prelude.{◌≡◌, ◌⊎◌, Bool, true, false, ◌&&◌, ◌||◌, List, [], ◌∷◌, All, is_some}
-use Rattle.std.specs.List.{AllByRecursion}
-use Rattle.pm_exit.specs.declared.child.Kind.TheVariants as kinds
-use Rattle.pm_exit.specs.Ends.{class_of, is_exit_1}
-use Rattle.pm_modes.specs.declared.Mode.TheVariants.{Smart}
-use Rattle.pm_supervisor.specs.declared.Ending.TheVariants as endings
-use Rattle.pm_supervisor.specs.declared.Limits.{Limits}
-use Rattle.pm_supervisor.specs.Children.{is_startup_child}
-use Rattle.pm_supervisor.specs.Steps.{is_normal}
-use Rattle.pm_state.specs.declared.event.PmEvent.{PmEvent}
-use Rattle.pm_state.specs.declared.event.PmEvent.TheVariants as entry
-use Rattle.pm_state.specs.declared.machine.Machine.{Machine}
-use Rattle.pm_state.specs.Exits.{is_shutdown}
-use Rattle.pm_state.specs.Journal.{IsLegal, Replay, replay_begun, replayed}
-use Rattle.pm_chain.specs.Steps.{AreSteps, Step, journal_of}
-use Rattle.pm_journal.specs.Stands.{any_moment}
-use Rattle.pm_server.specs.Journal.{asked_in}
-use Rattle.pm_duties.specs.AuxiliaryRuns.{AreToldBehind, nothing_heard}
-use Rattle.pm_acts.specs.Steps.{EndsWith}
-use Rattle.pm_duties.specs.Calm.{EndThemselves}
+use Rattle.std.specs.{Prelude.{◌≡◌, ◌⊎◌, Bool, true, false, ◌&&◌, ◌||◌, List, [], ◌∷◌, All, is_some}, List.AllByRecursion}
+use Rattle.pm_once.specs.pm_state.pm_exit.declared.child.Kind.TheVariants as kinds
+use Rattle.pm_once.specs.{pm_state.{pm_exit.Ends.{class_of, is_exit_1}, pm_modes.declared.Mode.TheVariants.Smart, pm_supervisor.{declared.Limits.Limits, Children.is_startup_child, Steps.is_normal}, declared.{event.PmEvent.PmEvent, machine.Machine.Machine}, Exits.is_shutdown, Journal.{IsLegal, Replay, replay_begun, replayed}}, pm_supervisor_chain.Steps.{AreSteps, Step, journal_of}, pm_supervisor_journal.Stands.any_moment, pm_server.Journal.asked_in, pm_once_children.{AuxiliaryRuns.{AreToldBehind, nothing_heard}, Calm.EndThemselves}, pm_once_acts.Steps.EndsWith}
+use Rattle.pm_once.specs.pm_state.pm_supervisor.declared.Ending.TheVariants as endings
+use Rattle.pm_once.specs.pm_state.declared.event.PmEvent.TheVariants as entry
 
 -- ---- entries
 

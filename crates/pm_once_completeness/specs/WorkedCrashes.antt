@@ -1,18 +1,11 @@
 -- Journals that the definitions of crashes let pass, and some that they refuse.
 use Rattle.std.specs.Prelude.{false, true, List, [], ◌∷◌, ◌++◌}
-use Rattle.pm_exit.specs.declared.child.Kind.TheVariants.{Backend, Checkpointer, Writer}
-use Rattle.pm_exit.specs.declared.child.Status.TheVariants.{Code, Signal}
-use Rattle.pm_modes.specs.declared.Mode.TheVariants.{Smart}
-use Rattle.pm_admit.specs.declared.Cac.TheVariants.{Ok as Admitted}
-use Rattle.pm_supervisor.specs.declared.Reason.TheVariants as reason
-use Rattle.pm_supervisor.specs.declared.Ending.TheVariants as endings
-use Rattle.pm_state.specs.declared.action.Line.TheVariants as line
-use Rattle.pm_state.specs.declared.event.PmEvent.{PmEvent}
-use Rattle.pm_state.specs.declared.event.PmEvent.TheVariants as entry
-use Rattle.pm_state.specs.Journal.{replay_begun}
-use Rattle.pm_chain.specs.WorkedChains.{clean_journal, failed_journal, started}
-use Rattle.pm_chain.specs.WorkedSteps.{limits}
-use Rattle.pm_completeness.specs.Crashes.{AreOrderly, AreOrderlySoFar}
+use Rattle.pm_once.specs.{pm_state.{pm_exit.declared.child.{Kind.TheVariants.{Backend, Checkpointer, Writer}, Status.TheVariants.{Code, Signal}}, pm_modes.declared.Mode.TheVariants.Smart, pm_admit.declared.Cac.TheVariants.Ok as Admitted, declared.event.PmEvent.PmEvent, Journal.replay_begun}, pm_supervisor_chain.{WorkedChains.{clean_journal, failed_journal, started}, WorkedSteps.limits}}
+use Rattle.pm_once.specs.pm_state.pm_supervisor.declared.Reason.TheVariants as reason
+use Rattle.pm_once.specs.pm_state.pm_supervisor.declared.Ending.TheVariants as endings
+use Rattle.pm_once.specs.pm_state.declared.action.Line.TheVariants as line
+use Rattle.pm_once.specs.pm_state.declared.event.PmEvent.TheVariants as entry
+use Rattle.pm_once_completeness.specs.Crashes.{AreOrderly, AreOrderlySoFar}
 
 -- the last checkpoint is asked for
 abbrev pub closing : List PmEvent

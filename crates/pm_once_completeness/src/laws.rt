@@ -1,6 +1,5 @@
 //! The laws of crashes.
-ghost use Rattle.pm_completeness.specs.Crashes.{CompletesItsRuns};
-ghost use Rattle.pm_completeness.specs.WorkedCrashes.{WorkedCrashes};
+ghost use Rattle.pm_once_completeness.specs.{Crashes.CompletesItsRuns, WorkedCrashes.WorkedCrashes};
 
 use pm_state::restarts_safely;
 

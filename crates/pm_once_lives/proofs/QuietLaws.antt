@@ -1,8 +1,6 @@
 -- Laws of the lives of children that are alone.
-use Rattle.std.proofs.Common.{◌≡◌, ℕ, [], Option, None, Some, Result, Ok, Err, ap, arith, length}
-use Rattle.std.specs.Prelude.{Bool, true, false, cond}
-use Rattle.pm_life.specs.declared.life.GateNo.{GateNo}
-use Rattle.pm_life.specs.Life.{Told, Signal, was_told}
+use Rattle.std.{proofs.Common.{◌≡◌, ℕ, [], Option, None, Some, Result, Ok, Err, ap, arith, length}, specs.Prelude.{Bool, true, false, cond}}
+use Rattle.pm_child_life.specs.{declared.life.GateNo.GateNo, Life.{Told, Signal, was_told}}
 
 -- what the gate can have answered
 abbrev pub its_gate : ℕ → Bool → Option (Result ℕ GateNo)

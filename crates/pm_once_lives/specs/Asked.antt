@@ -1,9 +1,8 @@
 -- What the life tells of one that is asked for the last checkpoint: its first ask gave it that signal, no ask gave it another,
 -- and the gate can have let it into its generation alone.
-use Rattle.std.specs.Prelude.{false, cond, [], ◌∷◌, None, Some, Ok}
-use Rattle.std.specs.Option.{option_to_list}
-use Rattle.pm_life.specs.Life.{Child, Told, Checkpoint}
-use Rattle.pm_quiet.specs.declared.asked.Asked.{Asked}
+use Rattle.std.specs.{Prelude.{false, cond, [], ◌∷◌, None, Some, Ok}, Option.option_to_list}
+use Rattle.pm_child_life.specs.Life.{Child, Told, Checkpoint}
+use Rattle.pm_once_lives.specs.declared.asked.Asked.{Asked}
 
 abbrev pub asked_child : {H : Type 0} {g : _} → Asked H g → Child
 asked_child life = record { pid = life.pid; is_dead_end = false; attached = life.attached }

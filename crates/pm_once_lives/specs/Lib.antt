@@ -1,3 +1,3 @@
 pub mod Asked
 pub mod Quiet
-pub mod QuietLaws
+pub use Rattle.pm_child_life.specs as pm_child_life

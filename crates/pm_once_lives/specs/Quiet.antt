@@ -1,8 +1,7 @@
 -- What a quiet life tells: it was never given a signal, and the gate can have let it into its generation alone.
-use Rattle.std.specs.Prelude.{false, cond, [], None, Some, Ok}
-use Rattle.std.specs.Option.{option_to_list}
-use Rattle.pm_life.specs.Life.{Child, Told}
-use Rattle.pm_quiet.specs.declared.quiet.Quiet.{Quiet}
+use Rattle.std.specs.{Prelude.{false, cond, [], None, Some, Ok}, Option.option_to_list}
+use Rattle.pm_child_life.specs.Life.{Child, Told}
+use Rattle.pm_once_lives.specs.declared.quiet.Quiet.{Quiet}
 
 abbrev pub quiet_child : {H : Type 0} {g : _} → Quiet H g → Child
 quiet_child life = record { pid = life.pid; is_dead_end = false; attached = life.attached }

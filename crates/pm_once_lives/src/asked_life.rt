@@ -4,12 +4,12 @@ ghost use Rattle.std.specs.Prelude.{◌≡◌};
 
 use crate::asked::Asked;
 use crate::quiet::Home;
-use pm_life::{Cancelled, GateNo, Life, Signals};
+use pm_child_life::{Cancelled, GateNo, Life, Signals};
 use std::marker::PhantomData;
 
 impl<H: Home> Asked<H> {
-    ghost use Rattle.pm_life.specs.Life.{nothing_told};
-    ghost use Rattle.pm_quiet.specs.Asked.{asked_child, asked_told};
+    ghost use Rattle.pm_child_life.specs.Life.{nothing_told};
+    ghost use Rattle.pm_once_lives.specs.Asked.{asked_child, asked_told};
     ghost use Rattle.std.specs.Prelude.{None, false};
 
     /// One that isn't attached, and hasn't asked for anything. The gate lets it into its generation.
@@ -34,7 +34,7 @@ impl<H: Home> Asked<H> {
 
 impl<H: Home> Life for Asked<H> {
     ghost use Rattle.std.specs.Prelude.{Some};
-    ghost use Rattle.pm_quiet.specs.Asked.{asked_child, asked_told};
+    ghost use Rattle.pm_once_lives.specs.Asked.{asked_child, asked_told};
 
     ghost child = { asked_child };
 

@@ -3,12 +3,12 @@
 ghost use Rattle.std.specs.Prelude.{◌≡◌};
 
 use crate::quiet::{Home, Quiet};
-use pm_life::{Cancelled, GateNo, Life, Signals};
+use pm_child_life::{Cancelled, GateNo, Life, Signals};
 use std::marker::PhantomData;
 
 impl<H: Home> Quiet<H> {
-    ghost use Rattle.pm_life.specs.Life.{nothing_told};
-    ghost use Rattle.pm_quiet.specs.Quiet.{quiet_child, quiet_told};
+    ghost use Rattle.pm_child_life.specs.Life.{nothing_told};
+    ghost use Rattle.pm_once_lives.specs.Quiet.{quiet_child, quiet_told};
     ghost use Rattle.std.specs.Prelude.{None, false};
 
     /// One that isn't attached, and hasn't asked for anything. The gate lets it into its generation.
@@ -32,7 +32,7 @@ impl<H: Home> Quiet<H> {
 
 impl<H: Home> Life for Quiet<H> {
     ghost use Rattle.std.specs.Prelude.{Some};
-    ghost use Rattle.pm_quiet.specs.Quiet.{quiet_child, quiet_told};
+    ghost use Rattle.pm_once_lives.specs.Quiet.{quiet_child, quiet_told};
 
     ghost child = { quiet_child };
 

@@ -1,26 +1,9 @@
 -- A run of `once` keeps all promises.
-use Rattle.std.proofs.Common.{inr, List, Option, Some, None}
-use Rattle.std.specs.Prelude.{map, IfSome}
-use Rattle.pm_disk.specs.Files.{Files}
-use Rattle.pm_answers.specs.Laws.{RepliesAreRight}
-use Rattle.pm_query.specs.BookLaws.{AckedNeverFalls}
-use Rattle.pm_query.specs.Book.{Base, history_of}
-use Rattle.pm_query.specs.declared.book.BookEntry.{BookEntry}
-use Rattle.pm_chain.specs.Steps.{journal_of}
-use Rattle.pm_journal.specs.Stands.{any_moment}
-use Rattle.pm_state.specs.Laws.{RestartsSafely}
-use Rattle.pm_state.specs.Restarts.{RestartsInOrder}
-use Rattle.pm_server.specs.declared.conf.Conf.{Conf}
-use Rattle.pm_once.specs.Once.{IsOnceRun}
-use Rattle.pm_server.specs.Outside.{OutsideView}
-use Rattle.pm_server.specs.Story.{IsClean, IsStory}
-use Rattle.pm_server.specs.declared.end.ServerEnd.{ServerEnd}
-use Rattle.pm_promises.specs.Promises.{IsPromised}
-use Rattle.pm_once_promises.specs.PromisedOnce.{IsPromisedRun, IsTold, talk_of}
-use Rattle.pm_once_promises.proofs.Replying.{once_answers_right}
-use Rattle.pm_promises.specs.Stops.{AcknowledgedStays}
-use Rattle.pm_promises.specs.StopsLaws.{at_each, whole_each, base_is}
-use Rattle.pm_once_promises.proofs.Telling.{its_story, opens_empty}
+use Rattle.std.{proofs.Common.{inr, List, Option, Some, None}, specs.Prelude.{map, IfSome}}
+use Rattle.pm_server.specs.{pm_disk.Files.Files, pm_query.{BookLaws.AckedNeverFalls, Book.{Base, history_of}, declared.book.BookEntry.BookEntry}, pm_supervisor_journal.Stands.any_moment, pm_state.{Laws.RestartsSafely, Restarts.RestartsInOrder}, declared.{conf.Conf.Conf, end.ServerEnd.ServerEnd}, Outside.OutsideView, Story.{IsClean, IsStory}}
+use Rattle.pm_promises.{specs.{pm_session_answers.Laws.RepliesAreRight, Promises.IsPromised, Stops.AcknowledgedStays}, proofs.StopsLaws.{at_each, whole_each, base_is}}
+use Rattle.pm_once.specs.{pm_supervisor_chain.Steps.journal_of, Once.IsOnceRun}
+use Rattle.pm_once_promises.{specs.PromisedOnce.{IsPromisedRun, IsTold, talk_of}, proofs.{Replying.once_answers_right, Telling.{its_story, opens_empty}}}
 
 both : {A : Type 0} (P Q : A → Type 0) (o : Option A) → IfSome o P → IfSome o Q → IfSome o (λ x. P x × Q x)
 both P Q None p q = tt

@@ -1,25 +1,10 @@
 -- Each reply of a session is right.
-use Rattle.std.proofs.Common.{◌≡◌, ◌⊎◌, inl, inr, ℕ, List, [], ◌∷◌, ◌++◌, Option, Some, refl, sym, ap, subst}
-use Rattle.std.specs.Prelude.{map, unwrap_or}
-use Rattle.std.specs.List.{AllByRecursion}
-use Rattle.std.proofs.lemmas.List.Elements.{All-from_recursion, recursion_from_All}
-use Rattle.pm_query.specs.declared.book.BookEntry.{BookEntry}
-use Rattle.pm_query.specs.Book.{Base, IsLegal, history_of}
-use Rattle.pm_answers.specs.Laws.{RepliesAreRight}
-use Rattle.pm_answers.specs.Own.{StandIn}
-use Rattle.pm_answers.specs.Replies.{AnswersAreRight, IsAnswered, IsTurnedOff}
-use Rattle.pm_server.specs.declared.conf.Conf.{Conf}
-use Rattle.pm_chain.specs.Steps.{Step, whole_book}
-use Rattle.pm_server.specs.Ends.{IsBook}
-use Rattle.pm_once.specs.Once.{IsOnceRun}
-use Rattle.pm_server.specs.Outside.{OutsideView}
-use Rattle.pm_once.specs.Serves.{IsServed as IsServedLink}
-use Rattle.pm_once.specs.Service.{Connection, run_of, user_in}
-use Rattle.pm_server.specs.declared.end.ServerEnd.{ServerEnd}
+use Rattle.std.{proofs.{Common.{◌≡◌, ◌⊎◌, inl, inr, ℕ, List, [], ◌∷◌, ◌++◌, Option, Some, refl, sym, ap, subst}, lemmas.List.Elements.{All-from_recursion, recursion_from_All}}, specs.{Prelude.{map, unwrap_or}, List.AllByRecursion}}
+use Rattle.pm_server.specs.{pm_query.{declared.book.BookEntry.BookEntry, Book.{Base, IsLegal, history_of}}, declared.{conf.Conf.Conf, end.ServerEnd.ServerEnd}, Ends.IsBook, Outside.OutsideView}
+use Rattle.pm_session_answers.{specs.{Laws.RepliesAreRight, Own.StandIn, Replies.{AnswersAreRight, IsAnswered, IsTurnedOff}}, proofs.pm_session.PassedLaws.passed_anyhow}
+use Rattle.pm_once.specs.{pm_supervisor_chain.Steps.{Step, whole_book}, Once.IsOnceRun, Serves.IsServed as IsServedLink, Service.{Connection, run_of, user_in}}
 use Rattle.pm_server.specs.declared.end.ServerEnd.TheVariants as ends
-use Rattle.pm_once_promises.specs.PromisedOnce.{talk_of}
-use Rattle.pm_once_promises.proofs.Blocks.{AreBlocksIn, IsBlockIn, blocks_are}
-use Rattle.pm_session.specs.PassedLaws.{passed_anyhow}
+use Rattle.pm_once_promises.{specs.PromisedOnce.talk_of, proofs.Blocks.{AreBlocksIn, IsBlockIn, blocks_are}}
 
 -- what stands in one piece has nothing between its entries
 block_stands : (pid : ℕ) (noted behind : List BookEntry) → StandIn pid noted (noted ++ behind)

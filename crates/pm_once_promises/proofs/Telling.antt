@@ -1,15 +1,9 @@
 -- A run whose book is told has its story.
-use Rattle.std.proofs.Common.{◌∷◌, inr, List, [], Option, subst}
-use Rattle.std.specs.Prelude.{IfSome}
-use Rattle.pm_query.specs.declared.book.BookEntry.{BookEntry}
-use Rattle.pm_server.specs.declared.conf.Conf.{Conf}
+use Rattle.std.{proofs.Common.{◌∷◌, inr, List, [], Option, subst}, specs.Prelude.IfSome}
+use Rattle.pm_server.specs.{pm_query.declared.book.BookEntry.BookEntry, declared.{conf.Conf.Conf, end.ServerEnd.ServerEnd}, Outside.OutsideView, Story.IsStory}
 use Rattle.pm_once.specs.Once.{IsOnceRun}
-use Rattle.pm_server.specs.Outside.{OutsideView}
-use Rattle.pm_server.specs.Story.{IsStory}
-use Rattle.pm_server.specs.declared.end.ServerEnd.{ServerEnd}
 use Rattle.pm_once_promises.specs.PromisedOnce.{IsTold}
-use Rattle.pm_promises.specs.Restarts.{OpensEmpty}
-use Rattle.pm_promises.specs.RestartsLaws.{legal_opens_empty}
+use Rattle.pm_promises.{specs.Restarts.OpensEmpty, proofs.RestartsLaws.legal_opens_empty}
 
 pub its_story : (conf : Conf) (end : ServerEnd) (before now : OutsideView) → IsOnceRun conf end before now → (book : List BookEntry) → IsTold before now book
     → IsStory end before.disk now.disk book

@@ -1,19 +1,9 @@
 -- A run of `once` that keeps what a user counts on.
 use Rattle.std.specs.Prelude.{◌≡◌, ℕ, List, [], map, Some}
-use Rattle.pm_disk.specs.Files.{Files}
-use Rattle.pm_keys.specs.CancelKey.{cancel_key}
-use Rattle.pm_admit.specs.declared.Cac.TheVariants as decisions
-use Rattle.pm_state.specs.Restarts.{RestartsInOrder}
-use Rattle.pm_query.specs.declared.book.BookEntry.{BookEntry}
-use Rattle.pm_query.specs.Book.{Base}
-use Rattle.pm_chain.specs.Steps.{journal_of}
-use Rattle.pm_answers.specs.Replies.{Talk}
-use Rattle.pm_server.specs.declared.conf.Conf.{Conf}
-use Rattle.pm_server.specs.declared.end.ServerEnd.{ServerEnd}
-use Rattle.pm_server.specs.Outside.{OutsideView}
-use Rattle.pm_once.specs.Once.{IsOnceRun}
-use Rattle.pm_once.specs.Service.{Connection}
-use Rattle.pm_promises.specs.Promises.{IsPromised}
+use Rattle.pm_server.specs.{pm_disk.Files.Files, pm_state.Restarts.RestartsInOrder, pm_query.{declared.book.BookEntry.BookEntry, Book.Base}, declared.{conf.Conf.Conf, end.ServerEnd.ServerEnd}, Outside.OutsideView}
+use Rattle.pm_once.specs.{pm_keys.CancelKey.cancel_key, pm_supervisor_chain.Steps.journal_of, Once.IsOnceRun, Service.Connection}
+use Rattle.pm_server.specs.pm_admit.declared.Cac.TheVariants as decisions
+use Rattle.pm_promises.specs.{pm_session_answers.Replies.Talk, Promises.IsPromised}
 
 -- a connection of `once` as its client saw it
 abbrev pub talk_of : List ℕ → Connection → Talk

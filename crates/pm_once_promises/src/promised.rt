@@ -4,12 +4,12 @@ ghost use Rattle.std.specs.Prelude.{◌≡◌, ◌≤◌, ◌+◌, [], IfSome};
 ghost use Rattle.pm_server.specs.Outside.{outside_view};
 ghost use Rattle.pm_once_promises.specs.PromisedOnce.{IsPromisedRun};
 
-use pm_answers::replies_are_right;
 use pm_disk::Disk;
 use pm_once::{Ended, once};
 use pm_outside::{Chronicle, Clock, Port, Sink};
 use pm_query::{BookEntry, acked_never_falls};
 use pm_server::{Conf, Outside};
+use pm_session_answers::replies_are_right;
 use pm_state::{PmEvent, restarts_safely};
 use std::alloc::Global;
 use std::sync::Wait;

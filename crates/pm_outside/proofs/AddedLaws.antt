@@ -1,6 +1,5 @@
 -- The laws of what was added.
-use Rattle.std.proofs.Common.{List, [], ◌++◌, Option, None, Some, refl, sym, ◌∙◌, ap, append_assoc, append-nil}
-use Rattle.std.specs.Option.{option_map}
+use Rattle.std.{proofs.Common.{List, [], ◌++◌, Option, None, Some, refl, sym, ◌∙◌, ap, append_assoc, append-nil}, specs.Option.option_map}
 use Rattle.pm_outside.specs.Added.{Added}
 
 -- nothing

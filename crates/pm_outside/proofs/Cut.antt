@@ -1,7 +1,5 @@
 -- The next bytes of a list, copied to the front of another.
-use Rattle.std.proofs.Common.{◌≡◌, ℕ, ◌+◌, ◌≤◌, List, ◌++◌, length, take, drop, length-take-le}
-use Rattle.std.proofs.lemmas.List.{take_at, take-append-drop, drop-drop}
-use Rattle.std.proofs.Math.Seq.{take-add}
+use Rattle.std.proofs.{Common.{◌≡◌, ℕ, ◌+◌, ◌≤◌, List, ◌++◌, length, take, drop, length-take-le}, lemmas.List.{take_at, take-append-drop, drop-drop}, Math.Seq.take-add}
 
 -- what was taken, then the copy, is what is taken now
 pub taken_more : (at count : ℕ) (bytes copy rest : List ℕ) → count ≤ length (drop at bytes) → copy ≡ take count (drop at bytes)

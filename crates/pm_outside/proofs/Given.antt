@@ -1,13 +1,6 @@
 -- What a port tells, whose links had not failed when they were given.
-use Rattle.std.proofs.Common.{◌≡◌, ℕ, suc, zero, ◌+◌, ◌-◌, List, [], ◌∷◌, ◌++◌, Some, length, refl, ap, arith}
-use Rattle.std.specs.Prelude.{Option, map, replicate, slice_get, unwrap_or}
-use Rattle.std.proofs.lemmas.List.{length-replicate, map-append}
-use Rattle.pm_outside.specs.Calls.{Calls}
-use Rattle.pm_outside.specs.MemLink.{Begins, link_faults, link_number, link_traffic}
-use Rattle.pm_outside.specs.MemPort.{visit_of}
-use Rattle.pm_outside.specs.Visits.{Visits, after_done}
-use Rattle.pm_outside.specs.declared.link_script.LinkScript.{LinkScript}
-use Rattle.pm_outside.specs.declared.mem_link.MemLink.{MemLink}
+use Rattle.std.{proofs.{Common.{◌≡◌, ℕ, suc, zero, ◌+◌, ◌-◌, List, [], ◌∷◌, ◌++◌, Some, length, refl, ap, arith}, lemmas.List.{length-replicate, map-append}}, specs.Prelude.{Option, map, replicate, slice_get, unwrap_or}}
+use Rattle.pm_outside.specs.{Calls.Calls, MemLink.{Begins, link_faults, link_number, link_traffic}, MemPort.visit_of, Visits.{Visits, after_done}, declared.{link_script.LinkScript.LinkScript, mem_link.MemLink.MemLink}}
 
 abbrev tells : ℕ → List MemLink → Option ℕ → Visits
 tells given back ended = record { given = replicate given 0; back = map visit_of back; ended_behind = ended }

@@ -1,9 +1,6 @@
 -- A port whose holds were looked at.
 use Rattle.std.proofs.Common.{◌≡◌, ◌⊎◌, inl, inr, ◌≤◌, List, [], ◌∷◌, length, refl, ap, sym, ◌∙◌, arith}
-use Rattle.pm_outside.specs.Holds.{IsFree, LetsGo, holds_left}
-use Rattle.pm_outside.specs.MemPort.{PassesHolds, links_given, port_holds, scripts_left}
-use Rattle.pm_outside.specs.declared.link_script.LinkScript.{LinkScript}
-use Rattle.pm_outside.specs.declared.mem_port.MemPort.{MemPort}
+use Rattle.pm_outside.specs.{Holds.{IsFree, LetsGo, holds_left}, MemPort.{PassesHolds, links_given, port_holds, scripts_left}, declared.{link_script.LinkScript.LinkScript, mem_port.MemPort.MemPort}}
 
 -- where a script is left, its link may be given
 pub free_link : (old now : MemPort) (script : LinkScript) (rest : List LinkScript) → PassesHolds old now → scripts_left now ≡ script ∷ rest

@@ -1,8 +1,6 @@
 -- The lines of a console after those that it has given.
-use Rattle.std.proofs.Common.{◌≡◌, ℕ, suc, ◌+◌, ◌<◌, ◌≤◌, List, [], ◌∷◌, ◌++◌, length, take, drop, get_or, min, map, sym, ap, subst, refl, ◌∙◌, arith, drop-cons, length-take-le}
-use Rattle.std.proofs.lemmas.List.{map_more, take_at, take_min}
-use Rattle.pm_outside.specs.MemConsole.{GivesFirst, cut_line}
-use Rattle.pm_outside.specs.declared.mem_console.ScriptLine.{ScriptLine}
+use Rattle.std.proofs.{Common.{◌≡◌, ℕ, suc, ◌+◌, ◌<◌, ◌≤◌, List, [], ◌∷◌, ◌++◌, length, take, drop, get_or, min, map, sym, ap, subst, refl, ◌∙◌, arith, drop-cons, length-take-le}, lemmas.List.{map_more, take_at, take_min}}
+use Rattle.pm_outside.specs.{MemConsole.{GivesFirst, cut_line}, declared.mem_console.ScriptLine.ScriptLine}
 
 first_left : (n : ℕ) (lines : List ScriptLine) (line : ScriptLine) → n < length lines → line ≡ get_or lines n line
     → drop n lines ≡ line ∷ drop (n + 1) lines

@@ -1,13 +1,6 @@
 -- The laws of what one read or one write adds to what passed.
-use Rattle.std.proofs.Common.{◌≡◌, ◌∙◌, ℕ, List, [], take, Option, None, Some, ap}
-use Rattle.std.specs.Option.{option_map}
-use Rattle.pm_outside.specs.declared.link.Got.{Got}
-use Rattle.pm_outside.specs.declared.link.Got.TheVariants.{Bytes, NotYet, End, Failed}
-use Rattle.pm_outside.specs.declared.link.Put.{Put}
-use Rattle.pm_outside.specs.declared.link.Put.TheVariants.{Count, Failed as PutFailed}
-use Rattle.pm_outside.specs.Added.{Added}
-use Rattle.pm_outside.specs.AddedLaws.{added_none}
-use Rattle.pm_outside.specs.Traffic.{Traffic, after_read, after_write, came_in_of, went_out_of}
+use Rattle.std.{proofs.Common.{◌≡◌, ◌∙◌, ℕ, List, [], take, Option, None, Some, ap}, specs.Option.option_map}
+use Rattle.pm_outside.{specs.{declared.link.{Got.{Got, TheVariants.{Bytes, NotYet, End, Failed}}, Put.{Put, TheVariants.{Count, Failed as PutFailed}}}, Added.Added, Traffic.{Traffic, after_read, after_write, came_in_of, went_out_of}}, proofs.AddedLaws.added_none}
 
 -- ---- one write
 

@@ -1,6 +1,5 @@
 -- Which calls of an object in memory fail, and how many there were.
-use Rattle.std.specs.Prelude.{ℕ, ◌+◌, ◌-◌, ◌^◌, ◌==◌, min, Bool, List, if◌then◌else◌}
-use Rattle.std.specs.List.{list_any}
+use Rattle.std.specs.{Prelude.{ℕ, ◌+◌, ◌-◌, ◌^◌, ◌==◌, min, Bool, List, if◌then◌else◌}, List.list_any}
 
 -- the numbers of the calls that fail, counted from 1, how many calls there were, and how many of them failed
 pub record Calls : Type 0 where

@@ -1,7 +1,6 @@
 -- Where a script waits for what others see.
 use Rattle.std.specs.Prelude.{◌≡◌, ◌⊎◌, ◌<◌, ℕ, List, [], ◌∷◌}
-use Rattle.pm_outside.specs.declared.holds.Hold.{Hold}
-use Rattle.pm_outside.specs.declared.holds.Holds.{Holds}
+use Rattle.pm_outside.specs.declared.holds.{Hold.Hold, Holds.Holds}
 
 -- the holds whose cue hasn't come, by their places
 abbrev pub holds_left : Holds → List Hold

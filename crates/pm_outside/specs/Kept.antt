@@ -1,7 +1,6 @@
 -- What the chronicles in memory stand for.
 use Rattle.std.specs.Prelude.{ℕ, List}
-use Rattle.pm_outside.specs.declared.kept.Kept.{Kept}
-use Rattle.pm_outside.specs.declared.forgotten.Forgotten.{Forgotten}
+use Rattle.pm_outside.specs.declared.{kept.Kept.Kept, forgotten.Forgotten.Forgotten}
 
 -- all entries, in the order in which they were noted
 abbrev pub kept_entries : {E : Type 0} → Kept E → List E

@@ -1,5 +1,4 @@
 pub mod Added
-pub mod AddedLaws
 pub mod Calls
 pub mod Held
 pub mod Holds
@@ -11,5 +10,5 @@ pub mod MemLink
 pub mod MemPort
 pub mod MemSink
 pub mod Traffic
-pub mod TrafficLaws
 pub mod Visits
+pub use Rattle.pm_disk.specs as pm_disk

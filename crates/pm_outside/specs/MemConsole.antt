@@ -1,10 +1,6 @@
 -- What a console in memory stands for, and what one question does to it.
 use Rattle.std.specs.Prelude.{◌≡◌, ◌≢◌, ℕ, Bool, true, false, List, [], ◌∷◌, map, take, drop, None}
-use Rattle.pm_outside.specs.Calls.{Calls}
-use Rattle.pm_outside.specs.declared.console.Asked.{Asked}
-use Rattle.pm_outside.specs.declared.console.Asked.TheVariants.{Line, NotYet, End, Failed}
-use Rattle.pm_outside.specs.declared.mem_console.MemConsole.{MemConsole}
-use Rattle.pm_outside.specs.declared.mem_console.ScriptLine.{ScriptLine}
+use Rattle.pm_outside.specs.{Calls.Calls, declared.{console.Asked.{Asked, TheVariants.{Line, NotYet, End, Failed}}, mem_console.{MemConsole.MemConsole, ScriptLine.ScriptLine}}}
 
 -- a line as it is given
 abbrev pub cut_line : ScriptLine → List ℕ

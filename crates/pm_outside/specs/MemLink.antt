@@ -1,16 +1,6 @@
 -- What a link in memory stands for, and what its calls do to it.
 use Rattle.std.specs.Prelude.{◌≡◌, ◌≢◌, ◌⊎◌, ℕ, ◌+◌, ◌-◌, ◌^◌, ◌<◌, ◌≤◌, min, Bool, true, false, List, [], take, drop, length}
-use Rattle.pm_outside.specs.Calls.{Calls, no_calls, after_call}
-use Rattle.pm_outside.specs.Holds.{LetsGo, first_place, holds_left}
-use Rattle.pm_outside.specs.MemSink.{sink_bytes, sink_limit, sink_calls}
-use Rattle.pm_outside.specs.Traffic.{Traffic, no_traffic}
-use Rattle.pm_outside.specs.declared.link.Got.{Got}
-use Rattle.pm_outside.specs.declared.link.Got.TheVariants.{Bytes, NotYet, End, Failed}
-use Rattle.pm_outside.specs.declared.holds.Hold.{Hold}
-use Rattle.pm_outside.specs.declared.holds.Holds.{Holds}
-use Rattle.pm_outside.specs.declared.mem_link.MemLink.{MemLink}
-use Rattle.pm_outside.specs.declared.mem_sink.MemSink.{MemSink}
-use Rattle.pm_outside.specs.declared.link_script.LinkScript.{LinkScript}
+use Rattle.pm_outside.specs.{Calls.{Calls, no_calls, after_call}, Holds.{LetsGo, first_place, holds_left}, MemSink.{sink_bytes, sink_limit, sink_calls}, Traffic.{Traffic, no_traffic}, declared.{link.Got.{Got, TheVariants.{Bytes, NotYet, End, Failed}}, holds.{Hold.Hold, Holds.Holds}, mem_link.MemLink.MemLink, mem_sink.MemSink.MemSink, link_script.LinkScript.LinkScript}}
 
 -- what it will still give
 abbrev pub bytes_left : MemLink → List ℕ

@@ -1,15 +1,6 @@
 -- What a port in memory stands for, and what its calls do to it.
 use Rattle.std.specs.Prelude.{◌≡◌, ◌≢◌, ◌⊎◌, ◌<◌, ◌≤◌, ℕ, Bool, true, false, List, [], ◌∷◌, Some, map, replicate}
-use Rattle.pm_outside.specs.Calls.{Calls}
-use Rattle.pm_outside.specs.Holds.{IsFree, LetsGo, holds_left}
-use Rattle.pm_outside.specs.MemLink.{Begins, link_faults, link_number, link_traffic}
-use Rattle.pm_outside.specs.Visits.{Visit, Visits}
-use Rattle.pm_outside.specs.declared.holds.Holds.{Holds}
-use Rattle.pm_outside.specs.declared.link_script.LinkScript.{LinkScript}
-use Rattle.pm_outside.specs.declared.mem_link.MemLink.{MemLink}
-use Rattle.pm_outside.specs.declared.mem_port.MemPort.{MemPort}
-use Rattle.pm_outside.specs.declared.port.Accepted.{Accepted}
-use Rattle.pm_outside.specs.declared.port.Accepted.TheVariants.{Link, NotYet, End, Failed}
+use Rattle.pm_outside.specs.{Calls.Calls, Holds.{IsFree, LetsGo, holds_left}, MemLink.{Begins, link_faults, link_number, link_traffic}, Visits.{Visit, Visits}, declared.{holds.Holds.Holds, link_script.LinkScript.LinkScript, mem_link.MemLink.MemLink, mem_port.MemPort.MemPort, port.Accepted.{Accepted, TheVariants.{Link, NotYet, End, Failed}}}}
 
 -- the scripts of the links that it will still give
 abbrev pub scripts_left : MemPort → List LinkScript

@@ -1,10 +1,6 @@
 -- What a sink in memory keeps, and what one write does to it.
 use Rattle.std.specs.Prelude.{◌≡◌, ℕ, List}
-use Rattle.pm_outside.specs.Calls.{Calls, after_call}
-use Rattle.pm_outside.specs.Traffic.{is_put_failed}
-use Rattle.pm_outside.specs.declared.link.Put.{Put}
-use Rattle.pm_outside.specs.declared.link.Put.TheVariants.{Count, Failed}
-use Rattle.pm_outside.specs.declared.mem_sink.MemSink.{MemSink}
+use Rattle.pm_outside.specs.{Calls.{Calls, after_call}, Traffic.is_put_failed, declared.{link.Put.{Put, TheVariants.{Count, Failed}}, mem_sink.MemSink.MemSink}}
 
 -- all bytes written, in order
 abbrev pub sink_bytes : MemSink → List ℕ

@@ -1,9 +1,6 @@
 -- What passes on a link, and what one read or one write adds to it.
 use Rattle.std.specs.Prelude.{◌≡◌, ℕ, ◌≤◌, Bool, true, false, ◌||◌, List, [], ◌++◌, take, Option, None, Some, option_map}
-use Rattle.pm_outside.specs.declared.link.Got.{Got}
-use Rattle.pm_outside.specs.declared.link.Got.TheVariants.{Bytes, NotYet, End, Failed}
-use Rattle.pm_outside.specs.declared.link.Put.{Put}
-use Rattle.pm_outside.specs.declared.link.Put.TheVariants.{Count, Failed as PutFailed}
+use Rattle.pm_outside.specs.declared.link.{Got.{Got, TheVariants.{Bytes, NotYet, End, Failed}}, Put.{Put, TheVariants.{Count, Failed as PutFailed}}}
 
 -- all bytes that came in and went out, whether the end was given, whether the last read found nothing yet, whether a read or a
 -- write has failed, and whether a call was made after a failed one, or a read after the end

@@ -1,8 +1,6 @@
 -- The links that a port gave and took back.
 use Rattle.std.specs.Prelude.{ℕ, ◌-◌, List, [], ◌∷◌, ◌++◌, length, Option, None, Some, slice_get, unwrap_or}
-use Rattle.pm_outside.specs.declared.port.Accepted.{Accepted}
-use Rattle.pm_outside.specs.declared.port.Accepted.TheVariants.{Link, NotYet, End, Failed}
-use Rattle.pm_outside.specs.Traffic.{Traffic}
+use Rattle.pm_outside.specs.{declared.port.Accepted.{Accepted, TheVariants.{Link, NotYet, End, Failed}}, Traffic.Traffic}
 
 -- a link that came back: its number, what had passed on it, if it tells, and how often it had failed when it was given
 -- and when it came back

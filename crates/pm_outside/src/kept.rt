@@ -1,6 +1,5 @@
 // A chronicle that keeps its entries.
-ghost use Rattle.std.specs.Prelude.{◌+◌, ◌≤◌, length};
-ghost use Rattle.std.specs.Vec.{vec_len, vec_capacity};
+ghost use Rattle.std.specs.{Prelude.{◌+◌, ◌≤◌, length}, Vec.{vec_len, vec_capacity}};
 
 use crate::chronicle::Chronicle;
 use std::alloc::{AllocError, Global};

@@ -29,8 +29,7 @@ pub struct MemConsole {
 
 impl MemConsole {
     ghost use Rattle.std.specs.Prelude.{◌≡◌, ◌<◌, ◌∷◌, ◌++◌, [], take, true};
-    ghost use Rattle.pm_outside.specs.Calls.{no_calls};
-    ghost use Rattle.pm_outside.specs.MemConsole.{lines_given, lines_left, console_calls, FirstWaits, GivesFirst};
+    ghost use Rattle.pm_outside.specs.{Calls.no_calls, MemConsole.{lines_given, lines_left, console_calls, FirstWaits, GivesFirst}};
 
     /// A console for these lines. The calls with these numbers, counted from 1, fail. Without a scene no cue comes.
     pub fn new(lines: Vec<ScriptLine>, failing: Vec<u64>, scene: Option<Scene>) -> Self
@@ -108,9 +107,7 @@ impl MemConsole {
 impl Console for MemConsole {
     ghost use Rattle.std.specs.Prelude.{◌≡◌, ◌↔◌, IsTrue, Some};
     ghost use Rattle.pm_disk.specs.Cause.{IsCounted};
-    ghost use Rattle.pm_outside.specs.Calls.{is_next_listed, after_call};
-    ghost use Rattle.pm_outside.specs.Lines.{AskedWithin, after_next};
-    ghost use Rattle.pm_outside.specs.MemConsole.{lines_given, lines_left, console_calls, is_asked_failed, GivesLine};
+    ghost use Rattle.pm_outside.specs.{Calls.{is_next_listed, after_call}, Lines.{AskedWithin, after_next}, MemConsole.{lines_given, lines_left, console_calls, is_asked_failed, GivesLine}};
 
     ghost lines = { λ c. Some (lines_given c) };
 

@@ -32,9 +32,7 @@ pub struct MemLink {
 
 impl MemLink {
     ghost use Rattle.std.specs.Prelude.{◌≡◌};
-    ghost use Rattle.pm_outside.specs.MemLink.{Begins, link_number, link_sink, link_traffic};
-    ghost use Rattle.pm_outside.specs.MemSink.{sink_bytes};
-    ghost use Rattle.pm_outside.specs.Traffic.{goes_on_reading};
+    ghost use Rattle.pm_outside.specs.{MemLink.{Begins, link_number, link_sink, link_traffic}, MemSink.sink_bytes, Traffic.goes_on_reading};
 
     /// The link of this number and this script, on which nothing has passed yet. Without a scene no cue comes.
     pub fn new(alloc: Global, number: u64, script: LinkScript, scene: Option<Scene>) -> Self
@@ -81,10 +79,7 @@ impl MemLink {
 impl Link for MemLink {
     ghost use Rattle.std.specs.Prelude.{◌≡◌, ◌≢◌, ◌↔◌, ◌+◌, ◌-◌, ◌^◌, ◌++◌, length, take, drop, min, IsTrue, Some};
     ghost use Rattle.pm_disk.specs.Cause.{IsCounted};
-    ghost use Rattle.pm_outside.specs.Calls.{is_next_listed};
-    ghost use Rattle.pm_outside.specs.MemLink.{bytes_left, link_traffic, link_sink, link_number, link_faults, got_count, read_calls, AnswersBy, CountsRead, ChangesSinkOnly};
-    ghost use Rattle.pm_outside.specs.MemSink.{sink_bytes, sink_limit, sink_calls, TakesOrFails, CountsWrite};
-    ghost use Rattle.pm_outside.specs.Traffic.{PutWithin, GotWithin, after_read, after_write};
+    ghost use Rattle.pm_outside.specs.{Calls.is_next_listed, MemLink.{bytes_left, link_traffic, link_sink, link_number, link_faults, got_count, read_calls, AnswersBy, CountsRead, ChangesSinkOnly}, MemSink.{sink_bytes, sink_limit, sink_calls, TakesOrFails, CountsWrite}, Traffic.{PutWithin, GotWithin, after_read, after_write}};
 
     ghost traffic = { λ l. Some (link_traffic l) };
 

@@ -1,6 +1,5 @@
 // A port whose links are given beforehand, and which keeps those that come back.
-ghost use Rattle.std.specs.Prelude.{◌≤◌, length};
-ghost use Rattle.std.specs.Vec.{vec_capacity};
+ghost use Rattle.std.specs.{Prelude.{◌≤◌, length}, Vec.vec_capacity};
 
 use crate::failing_calls::FailingCalls;
 use crate::holds::{Hold, Holds};
@@ -30,10 +29,7 @@ pub struct MemPort {
 
 impl MemPort {
     ghost use Rattle.std.specs.Prelude.{◌≡◌, ◌≢◌, ◌<◌, [], true, false};
-    ghost use Rattle.pm_outside.specs.Calls.{no_calls};
-    ghost use Rattle.pm_outside.specs.Holds.{holds_left};
-    ghost use Rattle.pm_outside.specs.MemPort.{PassesHolds, ChangesHoldsOnly, scripts_left, port_holds, links_given, links_back, accept_calls, port_visits};
-    ghost use Rattle.pm_outside.specs.Visits.{no_visits};
+    ghost use Rattle.pm_outside.specs.{Calls.no_calls, Holds.holds_left, MemPort.{PassesHolds, ChangesHoldsOnly, scripts_left, port_holds, links_given, links_back, accept_calls, port_visits}, Visits.no_visits};
 
     /// A port for these links, on no scene. The accepts with these numbers, counted from 1, fail.
     pub fn new(alloc: Global, scripts: Vec<LinkScript>, failing: Vec<u64>) -> Self
@@ -121,15 +117,9 @@ impl MemPort {
 impl Port for MemPort {
     type Link = MemLink;
 
-    ghost use Rattle.std.proofs.Common.{sym, subst};
-    ghost use Rattle.std.proofs.lemmas.List.{length-map, length-replicate};
-    ghost use Rattle.std.specs.Prelude.{◌≡◌, ◌+◌, ◌<◌, ◌≤◌, ℕ, [], ◌∷◌, ◌++◌, length, IsTrue, Some};
+    ghost use Rattle.std.{proofs.{Common.{sym, subst}, lemmas.List.{length-map, length-replicate}}, specs.Prelude.{◌≡◌, ◌+◌, ◌<◌, ◌≤◌, ℕ, [], ◌∷◌, ◌++◌, length, IsTrue, Some}};
     ghost use Rattle.pm_disk.specs.Cause.{IsCounted};
-    ghost use Rattle.pm_outside.specs.Calls.{is_next_listed, after_call};
-    ghost use Rattle.pm_outside.specs.MemLink.{link_faults, link_number, link_traffic};
-    ghost use Rattle.pm_outside.specs.MemPort.{links_given, links_back, accept_calls, port_visits, visit_of, links_in, is_accept_failed, GivesNext, ChangesBackOnly};
-    ghost use Rattle.pm_outside.specs.Traffic.{IsFresh};
-    ghost use Rattle.pm_outside.specs.Visits.{after_accept, after_done, IfLink};
+    ghost use Rattle.pm_outside.specs.{Calls.{is_next_listed, after_call}, MemLink.{link_faults, link_number, link_traffic}, MemPort.{links_given, links_back, accept_calls, port_visits, visit_of, links_in, is_accept_failed, GivesNext, ChangesBackOnly}, Traffic.IsFresh, Visits.{after_accept, after_done, IfLink}};
 
     ghost visits = { λ p. Some (port_visits p) };
 

@@ -18,8 +18,7 @@ pub struct MemSink {
 
 impl MemSink {
     ghost use Rattle.std.specs.Prelude.{◌≡◌, []};
-    ghost use Rattle.pm_outside.specs.Calls.{no_calls};
-    ghost use Rattle.pm_outside.specs.MemSink.{sink_bytes, sink_limit, sink_calls};
+    ghost use Rattle.pm_outside.specs.{Calls.no_calls, MemSink.{sink_bytes, sink_limit, sink_calls}};
 
     /// An empty sink. A write takes at most `per_call` bytes, and the writes with these numbers, counted from 1, fail.
     pub fn new(alloc: Global, per_call: usize, failing: Vec<u64>) -> Self
@@ -46,9 +45,7 @@ impl MemSink {
 impl Sink for MemSink {
     ghost use Rattle.std.specs.Prelude.{◌≡◌, length, min, IsTrue, Some};
     ghost use Rattle.pm_disk.specs.Cause.{IsCounted};
-    ghost use Rattle.pm_outside.specs.Calls.{is_next_listed};
-    ghost use Rattle.pm_outside.specs.MemSink.{sink_bytes, sink_limit, sink_calls, TakesOrFails, CountsWrite};
-    ghost use Rattle.pm_outside.specs.Traffic.{PutWithin, put_behind};
+    ghost use Rattle.pm_outside.specs.{Calls.is_next_listed, MemSink.{sink_bytes, sink_limit, sink_calls, TakesOrFails, CountsWrite}, Traffic.{PutWithin, put_behind}};
 
     ghost written = { λ s. Some (sink_bytes s) };
 

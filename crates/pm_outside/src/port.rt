@@ -1,8 +1,7 @@
 // Where links come from, and where they go back to.
 ghost use Rattle.std.specs.Prelude.{◌≡◌, ◌+◌, ◌<◌, ◌≤◌, ℕ, length, IfSome, Option, option_map};
 ghost use Rattle.pm_disk.specs.Cause.{IsCounted};
-ghost use Rattle.pm_outside.specs.Traffic.{IsFresh};
-ghost use Rattle.pm_outside.specs.Visits.{Visits, after_accept, after_done, IfLink};
+ghost use Rattle.pm_outside.specs.{Traffic.IsFresh, Visits.{Visits, after_accept, after_done, IfLink}};
 
 use crate::link::Link;
 

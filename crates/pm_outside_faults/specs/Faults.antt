@@ -1,6 +1,6 @@
 -- The faults of one part of the outside.
 use Rattle.std.specs.Prelude.{◌≡◌, ℕ, Option, Some, IfSome}
-use Rattle.pm_faults.specs.declared.faults.Faults.{Faults}
+use Rattle.pm_outside_faults.specs.declared.faults.Faults.{Faults}
 
 -- how many there were, up to 2^64 - 1
 abbrev pub count_of : {F : Type 0} → Faults F → ℕ

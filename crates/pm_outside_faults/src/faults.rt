@@ -14,7 +14,7 @@ pub struct Faults<F> {
 
 impl<F: Copy> Faults<F> {
     ghost use Rattle.std.specs.Prelude.{◌≡◌, ◌+◌, ◌-◌, min, IsSome, None, Some, unwrap_or};
-    ghost use Rattle.pm_faults.specs.Faults.{count_of, first_of};
+    ghost use Rattle.pm_outside_faults.specs.Faults.{count_of, first_of};
 
     /// Nothing has failed yet.
     pub fn new() -> Self

@@ -1,8 +1,7 @@
 -- How often the files of a folder have failed, and what failed first.
 use Rattle.std.specs.Prelude.{ℕ, Option}
-use Rattle.pm_faults.specs.Faults.{count_of, first_of}
-use Rattle.pm_files.specs.declared.fault.FileFault.{FileFault}
-use Rattle.pm_files.specs.declared.log_files.LogFiles.{LogFiles}
+use Rattle.pm_outside_faults.specs.Faults.{count_of, first_of}
+use Rattle.pm_outside_files.specs.declared.{fault.FileFault.FileFault, log_files.LogFiles.LogFiles}
 
 abbrev pub disk_faults : LogFiles → ℕ
 disk_faults disk = count_of disk.faults

@@ -4,7 +4,7 @@ ghost use Rattle.std.specs.Prelude.{◌<◌, ◌^◌};
 use crate::fault::{FileFault, Step};
 use crate::log_file::LogFile;
 use pm_disk::{Disk, DiskFault, Which};
-use pm_faults::Faults;
+use pm_outside_faults::Faults;
 use std::alloc::{AllocError, Global};
 use std::io;
 
@@ -36,10 +36,9 @@ impl Pair {
 
 impl LogFiles {
     ghost use Rattle.std.specs.Prelude.{◌≡◌, ◌↔◌, ◌-◌, IfErr, IfOk, IsErr, IsSome, MatchResult, None, Ok, Some};
-    ghost use Rattle.pm_disk.specs.Cause.{IsCounted};
-    ghost use Rattle.pm_disk.specs.Disk.{next_tick};
-    ghost use Rattle.pm_faults.specs.Faults.{StaysFirst};
-    ghost use Rattle.pm_files.specs.Faults.{disk_faults, first_disk_fault};
+    ghost use Rattle.pm_disk.specs.{Cause.IsCounted, Disk.next_tick};
+    ghost use Rattle.pm_outside_faults.specs.Faults.{StaysFirst};
+    ghost use Rattle.pm_outside_files.specs.Faults.{disk_faults, first_disk_fault};
 
     /// The files of this folder. No call has touched them yet.
     pub fn of(rt: HostRuntime, alloc: Global, folder: &str) -> Result<LogFiles, AllocError>
@@ -100,7 +99,7 @@ impl LogFiles {
 
 impl Disk for LogFiles {
     ghost use Rattle.std.specs.Prelude.{None, ⊤};
-    ghost use Rattle.pm_files.specs.Faults.{disk_faults};
+    ghost use Rattle.pm_outside_files.specs.Faults.{disk_faults};
 
     // It tells nothing of the files, and claims nothing of a stop.
     ghost seen = { λ _. None };

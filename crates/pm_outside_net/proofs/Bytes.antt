@@ -1,6 +1,5 @@
 -- The bytes of a line with one byte more.
-use Rattle.std.proofs.Common.{◌≡◌, ℕ, ◌+◌, ◌<◌, ◌≤◌, List, [], ◌∷◌, ◌++◌, length, take, set, sym, ◌∙◌, arith, length-append, length-take-le}
-use Rattle.std.proofs.lemmas.List.{take_all, take_at, take_more_set}
+use Rattle.std.proofs.{Common.{◌≡◌, ℕ, ◌+◌, ◌<◌, ◌≤◌, List, [], ◌∷◌, ◌++◌, length, take, set, sym, ◌∙◌, arith, length-append, length-take-le}, lemmas.List.{take_all, take_at, take_more_set}}
 
 -- one that is full stays
 pub full_line : (n : ℕ) (bytes : List ℕ) (byte : ℕ) → n ≡ 64 → length bytes ≡ 64 → take n bytes ≡ take 64 (take n bytes ++ byte ∷ [])

@@ -1,12 +1,8 @@
 -- How often a port, a link and a console have failed, up to the last number, what failed first of a port and of a console, and
 -- which of its port's links a link is.
 use Rattle.std.specs.Prelude.{ℕ, Option}
-use Rattle.pm_faults.specs.Faults.{count_of, first_of}
-use Rattle.pm_net.specs.declared.console.ConsoleFault.{ConsoleFault}
-use Rattle.pm_net.specs.declared.console.StandardConsole.{StandardConsole}
-use Rattle.pm_net.specs.declared.link.TcpLink.{TcpLink}
-use Rattle.pm_net.specs.declared.port.AcceptFault.{AcceptFault}
-use Rattle.pm_net.specs.declared.port.TcpPort.{TcpPort}
+use Rattle.pm_outside_faults.specs.Faults.{count_of, first_of}
+use Rattle.pm_outside_net.specs.declared.{console.{ConsoleFault.ConsoleFault, StandardConsole.StandardConsole}, link.TcpLink.TcpLink, port.{AcceptFault.AcceptFault, TcpPort.TcpPort}}
 
 abbrev pub console_faults : {R : Type 0} → StandardConsole R → ℕ
 console_faults console = count_of console.faults

@@ -2,8 +2,8 @@
 use crate::bells::Bells;
 use crate::input::{ForegroundInput, read_lines};
 use crate::mailbox::{Left, Mailbox};
-use pm_faults::Faults;
 use pm_outside::{Asked, Console};
+use pm_outside_faults::Faults;
 use std::alloc::Global;
 use std::io::{self, ErrorKind, Stdin};
 use std::sync::{Arc, Wait};
@@ -28,7 +28,7 @@ pub struct StandardConsole<R> {
 
 impl<R: Wait + Drop> StandardConsole<R> {
     ghost use Rattle.std.specs.Prelude.{◌≡◌};
-    ghost use Rattle.pm_net.specs.Counts.{console_faults};
+    ghost use Rattle.pm_outside_net.specs.Counts.{console_faults};
 
     /// A console over what a reader leaves.
     pub fn new(mailbox: Arc<Mailbox, Global>, rt: R) -> Self
@@ -44,7 +44,7 @@ impl<R: Wait + Drop> StandardConsole<R> {
 
 impl<R> StandardConsole<R> {
     ghost use Rattle.std.specs.Prelude.{◌≡◌, ◌↔◌, ◌<◌, IsSome};
-    ghost use Rattle.pm_net.specs.Counts.{console_faults, first_console_fault};
+    ghost use Rattle.pm_outside_net.specs.Counts.{console_faults, first_console_fault};
 
     /// What failed first.
     pub fn first_fault(&self) -> Option<ConsoleFault>
@@ -75,10 +75,9 @@ pub fn standard_console<R: Wait + Threads + time::Clock + Copy + Drop + Send + '
 
 impl<R: Wait + Drop> Console for StandardConsole<R> {
     ghost use Rattle.std.specs.Prelude.{◌≡◌, None};
-    ghost use Rattle.pm_disk.specs.Cause.{IsCounted};
-    ghost use Rattle.pm_faults.specs.Faults.{StaysFirst};
-    ghost use Rattle.pm_outside.specs.Lines.{AskedWithin};
-    ghost use Rattle.pm_net.specs.Counts.{console_faults, first_console_fault};
+    ghost use Rattle.pm_outside.specs.{pm_disk.Cause.IsCounted, Lines.AskedWithin};
+    ghost use Rattle.pm_outside_faults.specs.Faults.{StaysFirst};
+    ghost use Rattle.pm_outside_net.specs.Counts.{console_faults, first_console_fault};
 
     // It doesn't tell its lines.
     ghost lines = { λ _. None };

@@ -68,8 +68,8 @@ enum Waited {
 
 impl TcpLink {
     ghost use Rattle.std.specs.Prelude.{◌≡◌, ◌≤◌, IfOk};
-    ghost use Rattle.pm_disk.specs.Cause.{Rose};
-    ghost use Rattle.pm_net.specs.Counts.{link_faults, link_limit, link_number};
+    ghost use Rattle.pm_outside.specs.pm_disk.Cause.{Rose};
+    ghost use Rattle.pm_outside_net.specs.Counts.{link_faults, link_limit, link_number};
 
     /// The link of this number over a stream whose calls don't wait. A call from before isn't heard. Its client may take so
     /// many milliseconds up to the greeting.
@@ -199,7 +199,7 @@ impl TcpLink {
 
 impl Link for TcpLink {
     ghost use Rattle.std.specs.Prelude.{None};
-    ghost use Rattle.pm_net.specs.Counts.{link_faults, link_number};
+    ghost use Rattle.pm_outside_net.specs.Counts.{link_faults, link_number};
 
     // It doesn't tell what passes.
     ghost traffic = { λ _. None };

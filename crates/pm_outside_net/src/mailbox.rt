@@ -14,7 +14,7 @@ pub(crate) struct Line {
 
 impl Line {
     ghost use Rattle.std.specs.Prelude.{◌≡◌, ◌∷◌, ◌++◌, [], take};
-    ghost use Rattle.pm_net.specs.Lines.{line_bytes};
+    ghost use Rattle.pm_outside_net.specs.Lines.{line_bytes};
 
     pub(crate) fn empty() -> Line
         ensures { line_bytes result ≡ [] }

@@ -1,13 +1,12 @@
 // A port over TCP.
-ghost use Rattle.std.specs.Prelude.{◌≡◌};
-ghost use Rattle.std.specs.Option.{ForSome};
-ghost use Rattle.pm_faults.specs.Faults.{first_of};
+ghost use Rattle.std.specs.{Prelude.◌≡◌, Option.ForSome};
+ghost use Rattle.pm_outside_faults.specs.Faults.{first_of};
 
 use crate::bells::Bells;
 use crate::link::TcpLink;
 use mio::net::TcpListener;
-use pm_faults::Faults;
 use pm_outside::{Accepted, Port};
+use pm_outside_faults::Faults;
 use std::alloc::Global;
 use std::io::{self, ErrorKind};
 use std::net::{Net, SocketAddr};
@@ -51,7 +50,7 @@ pub struct TcpPort<N> {
 
 impl<N: Net + Drop> TcpPort<N> {
     ghost use Rattle.std.specs.Prelude.{◌↔◌, ◌<◌, IfErr, IfOk, IfSome, IsSome};
-    ghost use Rattle.pm_net.specs.Counts.{asked_port, entry_limit, first_port_fault, link_limit, link_number, links_given, port_faults};
+    ghost use Rattle.pm_outside_net.specs.Counts.{asked_port, entry_limit, first_port_fault, link_limit, link_number, links_given, port_faults};
 
     /// Listens on this port of 127.0.0.1, or on a free one at 0. A port whose connections were broken off may be taken
     /// again at once. Its clients may take as long as they want up to the greeting.
@@ -143,10 +142,9 @@ impl<N: Net + Drop> Port for TcpPort<N> {
     type Link = TcpLink;
 
     ghost use Rattle.std.specs.Prelude.{None, min, ◌+◌, ◌-◌, ◌^◌};
-    ghost use Rattle.pm_disk.specs.Cause.{IsCounted};
-    ghost use Rattle.pm_faults.specs.Faults.{StaysFirst};
-    ghost use Rattle.pm_outside.specs.Visits.{IfLink};
-    ghost use Rattle.pm_net.specs.Counts.{asked_port, first_port_fault, link_number, links_given, port_faults};
+    ghost use Rattle.pm_outside.specs.{pm_disk.Cause.IsCounted, Visits.IfLink};
+    ghost use Rattle.pm_outside_faults.specs.Faults.{StaysFirst};
+    ghost use Rattle.pm_outside_net.specs.Counts.{asked_port, first_port_fault, link_number, links_given, port_faults};
 
     // It doesn't tell its links.
     ghost visits = { λ _. None };

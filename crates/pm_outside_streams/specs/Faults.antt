@@ -1,8 +1,7 @@
 -- How often a sink over a writer has failed, and what failed first.
 use Rattle.std.specs.Prelude.{ℕ, List, Option}
-use Rattle.pm_faults.specs.Faults.{count_of, first_of}
-use Rattle.pm_standard.specs.declared.streams.SinkFault.{SinkFault}
-use Rattle.pm_standard.specs.declared.streams.StandardSink.{StandardSink}
+use Rattle.pm_outside_faults.specs.Faults.{count_of, first_of}
+use Rattle.pm_outside_streams.specs.declared.streams.{SinkFault.SinkFault, StandardSink.StandardSink}
 
 -- its name
 abbrev pub stream_name : {W : Type 0} → StandardSink W → List ℕ

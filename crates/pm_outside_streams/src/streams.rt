@@ -1,10 +1,9 @@
 //! Readers and writers as links, a port and a sink.
-ghost use Rattle.std.specs.Prelude.{◌≡◌, ◌<◌, ◌≤◌, None, IfOk, length};
-ghost use Rattle.std.specs.Option.{ForSome};
-ghost use Rattle.pm_faults.specs.Faults.{first_of};
+ghost use Rattle.std.specs.{Prelude.{◌≡◌, ◌<◌, ◌≤◌, None, IfOk, length}, Option.ForSome};
+ghost use Rattle.pm_outside_faults.specs.Faults.{first_of};
 
-use pm_faults::Faults;
 use pm_outside::{Accepted, Got, Link, Port, Put, Sink};
+use pm_outside_faults::Faults;
 use std::io::{self, ErrorKind, Read, Write};
 use thiserror::Error;
 
@@ -120,7 +119,7 @@ pub struct StandardSink<W> {
 
 impl<W: Write> StandardSink<W> {
     ghost use Rattle.std.specs.Prelude.{◌↔◌, IfSome, IsSome};
-    ghost use Rattle.pm_standard.specs.Faults.{first_sink_fault, sink_faults, stream_name};
+    ghost use Rattle.pm_outside_streams.specs.Faults.{first_sink_fault, sink_faults, stream_name};
 
     /// The sink over this writer, of this name.
     pub fn new(writer: W, stream: &'static str) -> Self
@@ -145,10 +144,9 @@ impl<W: Write> StandardSink<W> {
 }
 
 impl<W: Write> Sink for StandardSink<W> {
-    ghost use Rattle.pm_disk.specs.Cause.{IsCounted};
-    ghost use Rattle.pm_outside.specs.Traffic.{PutWithin};
-    ghost use Rattle.pm_faults.specs.Faults.{StaysFirst};
-    ghost use Rattle.pm_standard.specs.Faults.{first_sink_fault, sink_faults, stream_name};
+    ghost use Rattle.pm_outside.specs.{pm_disk.Cause.IsCounted, Traffic.PutWithin};
+    ghost use Rattle.pm_outside_faults.specs.Faults.{StaysFirst};
+    ghost use Rattle.pm_outside_streams.specs.Faults.{first_sink_fault, sink_faults, stream_name};
 
     // It doesn't tell what was written.
     ghost written = { λ _. None };

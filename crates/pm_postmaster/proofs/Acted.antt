@@ -1,37 +1,12 @@
 -- The acts of the machine.
-use Rattle.std.proofs.Common.{◌≡◌, ℕ, List, [], ◌∷◌, ◌++◌, refl, sym, ap, subst, ◌∙◌, length}
-use Rattle.std.specs.Prelude.{Option, None, Some, IfSome}
-use Rattle.pm_exit.specs.declared.child.Kind.{Kind}
-use Rattle.pm_board.specs.declared.views.RosterStep.{RosterStep}
-use Rattle.pm_board.specs.declared.views.RosterView.{RosterView}
-use Rattle.pm_board.specs.Children.{CountsChildren}
-use Rattle.pm_board.specs.BoardLaws.{no_connection}
-use Rattle.pm_server.specs.Acted.{LogBehind}
-use Rattle.pm_server.specs.ActedLaws.{said_acted}
-use Rattle.pm_journal.specs.declared.act.Act.{Act}
-use Rattle.pm_journal.specs.declared.act.Act.TheVariants as act
-use Rattle.pm_journal.specs.declared.roll.Enrolled.{Enrolled}
-use Rattle.pm_journal.specs.Standing.{Standing, act_for, done, entry_for, first_due}
-use Rattle.pm_outside.specs.Visits.{Visits}
-use Rattle.pm_seating.specs.Acts.{MayPerform, Performs, slot_of, steps_for}
-use Rattle.pm_seating.specs.Board.{after_steps}
-use Rattle.pm_seating.specs.Calls.{slot_for}
-use Rattle.pm_seating.specs.Chained.{pids_accepted}
-use Rattle.pm_seating.specs.FoldingLaws.{journal-more}
-use Rattle.pm_seating.specs.Seating.{Move, Notes, journal_of}
-use Rattle.pm_seating.specs.Standing.{view}
-use Rattle.pm_seating.specs.Standing as seating
-use Rattle.pm_state.specs.declared.action.Action.{Action}
-use Rattle.pm_state.specs.declared.action.Action.TheVariants as action
-use Rattle.pm_state.specs.declared.event.PmEvent.{PmEvent}
-use Rattle.pm_worker.specs.declared.mail.MailTold.{MailTold}
-use Rattle.pm_postmaster.specs.Links.{HasLinks}
-use Rattle.pm_postmaster.specs.Serving.{Holds, IsServing, KillsAll, Moments, Outset}
-use Rattle.pm_postmaster.specs.View.{View}
-use Rattle.pm_postmaster.proofs.Going.{GoesBy, Leaves, holds_on}
-use Rattle.pm_postmaster.proofs.Linking.{links_same, links_started, same_slots}
-use Rattle.pm_postmaster.proofs.Moments.{done_given, done_moments}
-use Rattle.pm_postmaster.proofs.Steps.{count_more}
+use Rattle.std.{proofs.Common.{◌≡◌, ℕ, List, [], ◌∷◌, ◌++◌, refl, sym, ap, subst, ◌∙◌, length}, specs.Prelude.{Option, None, Some, IfSome}}
+use Rattle.pm_server.{specs.{pm_exit.declared.child.Kind.Kind, Acted.LogBehind, pm_supervisor_journal.{declared.{act.Act.Act, roll.Enrolled.Enrolled}, Standing.{Standing, act_for, done, entry_for, first_due}}, pm_outside.Visits.Visits, pm_state.declared.{action.Action.Action, event.PmEvent.PmEvent}}, proofs.ActedLaws.said_acted}
+use Rattle.pm_board.{specs.{declared.views.{RosterStep.RosterStep, RosterView.RosterView}, Children.CountsChildren}, proofs.BoardLaws.no_connection}
+use Rattle.pm_server.specs.pm_supervisor_journal.declared.act.Act.TheVariants as act
+use Rattle.pm_board_acts.{specs.{Acts.{MayPerform, Performs, slot_of, steps_for}, Board.after_steps, Calls.slot_for, Chained.pids_accepted, Seating.{Move, Notes, journal_of}, Standing.view, pm_worker.declared.mail.MailTold.MailTold}, proofs.FoldingLaws.journal-more}
+use Rattle.pm_board_acts.specs.Standing as seating
+use Rattle.pm_server.specs.pm_state.declared.action.Action.TheVariants as action
+use Rattle.pm_postmaster.{specs.{Links.HasLinks, Serving.{Holds, IsServing, KillsAll, Moments, Outset}, View.View}, proofs.{Going.{GoesBy, Leaves, holds_on}, Linking.{links_same, links_started, same_slots}, Moments.{done_given, done_moments}, Steps.count_more}}
 
 -- no act accepts a connection
 none_accepted : (a : Action) (s : Standing) → pids_accepted (entry_for a s ∷ []) ≡ []

@@ -1,42 +1,14 @@
 -- A connection is taken.
-use Rattle.std.proofs.Common.{◌≡◌, ℕ, ◌+◌, ◌<◌, List, [], ◌∷◌, ◌++◌, refl, sym, ap, subst, ◌∙◌, length}
-use Rattle.std.proofs.lemmas.List.{length_push}
-use Rattle.std.specs.Prelude.{true, false, Option, None, Some, IfSome, option_map}
-use Rattle.pm_admit.specs.declared.Cac.{Cac}
-use Rattle.pm_admit.specs.declared.Cac.TheVariants as decisions
-use Rattle.pm_exit.specs.declared.child.Kind.TheVariants as kinds
-use Rattle.pm_board.specs.declared.views.RosterView.{RosterView}
-use Rattle.pm_board.specs.declared.views.Sight.TheVariants.{Unused}
-use Rattle.pm_board.specs.Children.{CountsChildren}
-use Rattle.pm_board.specs.Models.{HasAssigned}
-use Rattle.pm_board.specs.Places.{is_connection, slot_at}
-use Rattle.pm_journal.specs.declared.roll.Enrolled.{Enrolled}
-use Rattle.pm_journal.specs.Standing.{Standing, accepting, decision_on, made, next_pid}
-use Rattle.pm_lines.specs.Log.{HasSaid}
-use Rattle.pm_lines.specs.LogLaws.{said_same}
-use Rattle.pm_outside.specs.Visits.{Visits, after_accept}
-use Rattle.pm_outside.specs.declared.port.Accepted.{Accepted}
-use Rattle.pm_outside.specs.declared.port.Accepted.TheVariants as answers
-use Rattle.pm_seating.specs.Board.{SeenAs, seat_at, seats_of}
-use Rattle.pm_seating.specs.Calls.{accepts}
-use Rattle.pm_seating.specs.Chained.{pids_accepted}
-use Rattle.pm_seating.specs.FoldingLaws.{journal-more}
-use Rattle.pm_seating.specs.Seating.{Notes, journal_of}
-use Rattle.pm_seating.specs.Standing.{view}
-use Rattle.pm_seating.specs.Standing as seating
-use Rattle.pm_state.specs.declared.event.PmEvent.{PmEvent}
-use Rattle.pm_state.specs.declared.event.PmEvent.TheVariants as entry
-use Rattle.pm_supervisor.specs.Steps.{kind_for}
-use Rattle.pm_worker.specs.declared.mail.MailTold.{MailTold}
-use Rattle.pm_postmaster.specs.Links.{GivesLink, HasLinks}
-use Rattle.pm_postmaster.specs.Serving.{IsServing, Moments, Outset}
-use Rattle.pm_postmaster.specs.View.{View}
-use Rattle.pm_postmaster.specs.Requests.{ended_in}
-use Rattle.pm_postmaster.proofs.Going.{GoesBy, Leaves, LeavesStore, asks_nothing, count_in, serves_on}
-use Rattle.pm_postmaster.proofs.Linking.{links_accepted}
-use Rattle.pm_postmaster.proofs.Moments.{accepted_moments}
-use Rattle.pm_postmaster.proofs.Owed.{owes_accepted}
-use Rattle.pm_postmaster.proofs.Asked.{accepted-append}
+use Rattle.std.{proofs.{Common.{◌≡◌, ℕ, ◌+◌, ◌<◌, List, [], ◌∷◌, ◌++◌, refl, sym, ap, subst, ◌∙◌, length}, lemmas.List.length_push}, specs.Prelude.{true, false, Option, None, Some, IfSome, option_map}}
+use Rattle.pm_board_acts.{specs.{pm_admit.declared.Cac.Cac, pm_board.{declared.views.{RosterView.RosterView, Sight.TheVariants.Unused}, Children.CountsChildren, Models.HasAssigned, Places.{is_connection, slot_at}}, pm_supervisor_journal.{declared.roll.Enrolled.Enrolled, Standing.{Standing, accepting, decision_on, made, next_pid}}, Board.{SeenAs, seat_at, seats_of}, Calls.accepts, Chained.pids_accepted, Seating.{Notes, journal_of}, Standing.view, pm_state.declared.event.PmEvent.PmEvent, pm_supervisor.Steps.kind_for}, proofs.FoldingLaws.journal-more}
+use Rattle.pm_board_acts.specs.pm_admit.declared.Cac.TheVariants as decisions
+use Rattle.pm_board_acts.specs.pm_exit.declared.child.Kind.TheVariants as kinds
+use Rattle.pm_server_lines.{specs.Log.HasSaid, proofs.LogLaws.said_same}
+use Rattle.pm_worker.specs.{pm_outside.{Visits.{Visits, after_accept}, declared.port.Accepted.Accepted}, declared.mail.MailTold.MailTold}
+use Rattle.pm_worker.specs.pm_outside.declared.port.Accepted.TheVariants as answers
+use Rattle.pm_board_acts.specs.Standing as seating
+use Rattle.pm_board_acts.specs.pm_state.declared.event.PmEvent.TheVariants as entry
+use Rattle.pm_postmaster.{specs.{Links.{GivesLink, HasLinks}, Serving.{IsServing, Moments, Outset}, View.View, Requests.ended_in}, proofs.{Going.{GoesBy, Leaves, LeavesStore, asks_nothing, count_in, serves_on}, Linking.links_accepted, Moments.accepted_moments, Owed.owes_accepted, Asked.accepted-append}}
 
 -- the port has answered without a link
 pub no_link : {L : Type 0} (faults : L → ℕ) (n : ℕ) (d : RosterView MailTold) (visits : Option Visits) (answer : Accepted L) → ((link : L) → answer ≡ answers.Link link → ⊥)

@@ -1,28 +1,11 @@
 -- What a server was asked for, as its moves go on.
-use Rattle.std.proofs.Common.{◌≡◌, ℕ, ◌+◌, ◌≤◌, List, [], ◌∷◌, ◌++◌, refl, sym, ap, subst, ◌∙◌, length, arith, append-nil, length-append}
-use Rattle.std.proofs.lemmas.List.{length_push}
-use Rattle.std.specs.Prelude.{Bool, true, false, ◌==◌, ◌||◌, if◌then◌else◌, Option, None, Some, IfSome, is_some, nat_le, option_map, unwrap_or}
-use Rattle.std.specs.List.{AllByRecursion}
-use Rattle.std.proofs.Math.Bool.{or-true, or-false}
-use Rattle.pm_facts.specs.Lists.{each_both}
-use Rattle.pm_journal.specs.Due.{is_last_drawn}
-use Rattle.pm_journal.specs.Standing.{Standing}
-use Rattle.pm_outside.specs.Visits.{Visits, after_accept}
-use Rattle.pm_outside.specs.declared.port.Accepted.TheVariants.{End}
-use Rattle.pm_requests.specs.Requests.{IsNumber}
-use Rattle.pm_journal.specs.declared.roll.Enrolled.{Enrolled}
-use Rattle.pm_seating.specs.Chained.{IsReadAs, IsUnasked, pids_accepted, lines_in, pids_end_in, port_ends_in}
-use Rattle.pm_seating.specs.Seating.{Kill, Move, Nothing, Notes, PidsEnd, PortEnds, Reads, Request, Seating, Stop, asked_by, empty, entries_from, is_seated, journal_of, seating_by}
-use Rattle.pm_state.specs.declared.event.PmEvent.{PmEvent}
-use Rattle.pm_state.specs.declared.event.PmEvent.TheVariants as entry
-use Rattle.pm_state.specs.Journal.{last_pid}
-use Rattle.pm_server.specs.declared.end.ServerEnd.{ServerEnd}
-use Rattle.pm_server.specs.declared.end.ServerEnd.TheVariants.{NoMemory}
-use Rattle.pm_supervisor.specs.Children.{one_if}
-use Rattle.pm_worker.specs.declared.mail.MailTold.{MailTold}
-use Rattle.pm_worker.specs.declared.mail.MailTold.TheVariants as mail
-use Rattle.pm_postmaster.specs.Looking.{opened}
-use Rattle.pm_postmaster.specs.Requests.{AsksSoFar, IsAsked, MayOwe, end_from, ended_in, ended_short}
+use Rattle.std.{proofs.{Common.{◌≡◌, ℕ, ◌+◌, ◌≤◌, List, [], ◌∷◌, ◌++◌, refl, sym, ap, subst, ◌∙◌, length, arith, append-nil, length-append}, lemmas.List.length_push, Math.Bool.{or-true, or-false}}, specs.{Prelude.{Bool, true, false, ◌==◌, ◌||◌, if◌then◌else◌, Option, None, Some, IfSome, is_some, nat_le, option_map, unwrap_or}, List.AllByRecursion}}
+use Rattle.pm_server.specs.{pm_facts.Lists.each_both, pm_supervisor_journal.{Due.is_last_drawn, Standing.Standing, declared.roll.Enrolled.Enrolled}, pm_outside.{Visits.{Visits, after_accept}, declared.port.Accepted.TheVariants.End}, pm_state.{declared.event.PmEvent.PmEvent, Journal.last_pid}, declared.end.ServerEnd.{ServerEnd, TheVariants.NoMemory}, pm_supervisor.Children.one_if}
+use Rattle.pm_serve_requests.specs.Requests.{IsNumber}
+use Rattle.pm_board_acts.specs.{Chained.{IsReadAs, IsUnasked, pids_accepted, lines_in, pids_end_in, port_ends_in}, Seating.{Kill, Move, Nothing, Notes, PidsEnd, PortEnds, Reads, Request, Seating, Stop, asked_by, empty, entries_from, is_seated, journal_of, seating_by}, pm_worker.declared.mail.MailTold.MailTold}
+use Rattle.pm_server.specs.pm_state.declared.event.PmEvent.TheVariants as entry
+use Rattle.pm_board_acts.specs.pm_worker.declared.mail.MailTold.TheVariants as mail
+use Rattle.pm_postmaster.specs.{Looking.opened, Requests.{AsksSoFar, IsAsked, MayOwe, end_from, ended_in, ended_short}}
 
 -- ---- moves more
 

@@ -1,37 +1,11 @@
 -- A server begins.
-use Rattle.std.proofs.Common.{◌≡◌, inl, ℕ, zero, suc, ◌+◌, ◌≤◌, List, [], ◌∷◌, refl, sym, ap, subst, ◌∙◌, length, arith, get_or, replicate}
-use Rattle.std.proofs.lemmas.List.{length-replicate}
-use Rattle.std.specs.Prelude.{true, false, Option, None, Some, IfSome, is_some}
-use Rattle.std.specs.List.{Contains, flat_map}
-use Rattle.pm_board.specs.declared.views.PastChild.{PastChild}
-use Rattle.pm_board.specs.declared.views.RosterView.{RosterView}
-use Rattle.pm_board.specs.declared.views.Sight.TheVariants.{Unused}
-use Rattle.pm_board.specs.declared.views.SlotView.{SlotView}
-use Rattle.pm_board.specs.Children.{children_of, count_of}
-use Rattle.pm_board.specs.Places.{is_connection, slot_at, slot_view}
-use Rattle.pm_board.specs.Told.{new_roster}
-use Rattle.pm_crew.specs.Redos.{redo_told}
-use Rattle.pm_journal.specs.Standing.{Standing, nothing_done}
-use Rattle.pm_lines.specs.Log.{HasSaid}
-use Rattle.pm_lines.specs.LogLaws.{said_first}
-use Rattle.pm_outside.specs.Visits.{Visits, no_visits}
-use Rattle.pm_query.specs.declared.book.BookEntry.TheVariants.{Opened}
-use Rattle.pm_journal.specs.Stands.{AtWork}
-use Rattle.pm_postmaster.specs.Served.{slots_by}
-use Rattle.pm_seating.specs.Standing.{IsAt, IsUnbegun, view}
-use Rattle.pm_shared.specs.declared.views.Noted.{Noted}
-use Rattle.pm_shared.specs.Log.{noted}
-use Rattle.pm_state.specs.declared.event.PmEvent.{PmEvent}
-use Rattle.pm_supervisor.specs.declared.Limits.{Limits}
-use Rattle.pm_worker.specs.declared.mail.MailTold.{MailTold}
-use Rattle.pm_postmaster.specs.Links.{HasLinks}
-use Rattle.pm_postmaster.specs.Looking.{came_of}
-use Rattle.pm_postmaster.specs.Requests.{MayOwe, ended_in}
-use Rattle.pm_supervisor.specs.Children.{one_if}
-use Rattle.pm_supervisor.specs.CountLaws.{at_most_one}
-use Rattle.pm_journal.specs.Due.{is_last_drawn}
-use Rattle.pm_postmaster.specs.Serving.{IsServing, KillsAll, Outset, Renews}
-use Rattle.pm_postmaster.specs.View.{View}
+use Rattle.std.{proofs.{Common.{◌≡◌, inl, ℕ, zero, suc, ◌+◌, ◌≤◌, List, [], ◌∷◌, refl, sym, ap, subst, ◌∙◌, length, arith, get_or, replicate}, lemmas.List.length-replicate}, specs.{Prelude.{true, false, Option, None, Some, IfSome, is_some}, List.{Contains, flat_map}}}
+use Rattle.pm_board_acts.specs.{pm_board.{declared.views.{PastChild.PastChild, RosterView.RosterView, Sight.TheVariants.Unused, SlotView.SlotView}, Children.{children_of, count_of}, Places.{is_connection, slot_at, slot_view}, Told.new_roster}, pm_supervisor_journal.{Standing.{Standing, nothing_done}, Stands.AtWork, Due.is_last_drawn}, Standing.{IsAt, IsUnbegun, view}, pm_state.declared.event.PmEvent.PmEvent}
+use Rattle.pm_serve_pool.specs.{pm_serve_crew.Redos.redo_told, pm_store_shared.{declared.views.Noted.Noted, Log.noted}}
+use Rattle.pm_server_lines.{specs.Log.HasSaid, proofs.LogLaws.said_first}
+use Rattle.pm_worker.specs.{pm_outside.Visits.{Visits, no_visits}, pm_query.declared.book.BookEntry.TheVariants.Opened, declared.mail.MailTold.MailTold}
+use Rattle.pm_postmaster.specs.{Served.slots_by, Links.HasLinks, Looking.came_of, Requests.{MayOwe, ended_in}, Serving.{IsServing, KillsAll, Outset, Renews}, View.View}
+use Rattle.pm_supervisor.{specs.{declared.Limits.Limits, Children.one_if}, proofs.CountLaws.at_most_one}
 
 abbrev no_slot : SlotView MailTold
 no_slot = slot_view [] Unused

@@ -1,27 +1,9 @@
 -- The calls of a desk, as a server makes them.
-use Rattle.std.proofs.Common.{◌≡◌, ℕ, List, [], ◌∷◌, refl, ap, sym, subst, ◌∙◌, arith}
-use Rattle.std.specs.Prelude.{true, false, Option, None, Some, IfSome, is_some, length, option_map}
-use Rattle.pm_board.specs.declared.views.RosterView.{RosterView}
-use Rattle.pm_board.specs.Places.{slot_at}
-use Rattle.pm_journal.specs.Laws.{KeepsALegalJournal}
-use Rattle.pm_outside.specs.Visits.{Visits, after_accept}
-use Rattle.pm_outside.specs.declared.port.Accepted.TheVariants.{End}
-use Rattle.pm_requests.specs.Requests.{IsNumber}
-use Rattle.pm_seating.specs.Chained.{AsksFor}
-use Rattle.pm_seating.specs.Final.{MayEndAnywhere}
-use Rattle.pm_seating.specs.Seating.{Move, PidsEnd, PortEnds, Reads, Request}
-use Rattle.pm_seating.specs.Sitting.{KeepsPast}
-use Rattle.pm_server.specs.declared.end.ServerEnd.TheVariants.{NoMemory}
-use Rattle.pm_supervisor.specs.Children.{one_if}
-use Rattle.pm_worker.specs.declared.mail.MailTold.{MailTold}
-use Rattle.pm_postmaster.specs.Asking.{GivesLine}
-use Rattle.pm_postmaster.specs.Requests.{AsksSoFar, IsAsked, ended_in}
-use Rattle.pm_postmaster.specs.Links.{HasLinks}
-use Rattle.pm_postmaster.specs.Serving.{Keeps, Outset, Stops}
-use Rattle.pm_postmaster.specs.View.{View}
-use Rattle.pm_postmaster.proofs.Asked.{OwesOn, asked_all, asked_but_end, asked_but_line, asks_on, ends_now, ends_still, none_read}
-use Rattle.pm_postmaster.proofs.Going.{AsksOn, Leaves, LeavesAsking, LeavesOutside, LeavesStore, stopped_as}
-use Rattle.pm_postmaster.proofs.Steps.{LinksStay, links_stay, still_on}
+use Rattle.std.{proofs.Common.{◌≡◌, ℕ, List, [], ◌∷◌, refl, ap, sym, subst, ◌∙◌, arith}, specs.Prelude.{true, false, Option, None, Some, IfSome, is_some, length, option_map}}
+use Rattle.pm_board_acts.specs.{pm_board.{declared.views.RosterView.RosterView, Places.slot_at}, Chained.AsksFor, Final.MayEndAnywhere, Seating.{Move, PidsEnd, PortEnds, Reads, Request}, Sitting.KeepsPast, pm_worker.declared.mail.MailTold.MailTold}
+use Rattle.pm_server.specs.{pm_supervisor_journal.Laws.KeepsALegalJournal, pm_outside.{Visits.{Visits, after_accept}, declared.port.Accepted.TheVariants.End}, declared.end.ServerEnd.TheVariants.NoMemory, pm_supervisor.Children.one_if}
+use Rattle.pm_serve_requests.specs.Requests.{IsNumber}
+use Rattle.pm_postmaster.{specs.{Asking.GivesLine, Requests.{AsksSoFar, IsAsked, ended_in}, Links.HasLinks, Serving.{Keeps, Outset, Stops}, View.View}, proofs.{Asked.{OwesOn, asked_all, asked_but_end, asked_but_line, asks_on, ends_now, ends_still, none_read}, Going.{AsksOn, Leaves, LeavesAsking, LeavesOutside, LeavesStore, stopped_as}, Steps.{LinksStay, links_stay, still_on}}}
 
 module _ {D C : Type 0} (gives : C → ℕ → Type 0) (before now : View D C) where
   -- all but the supervisor, its board, and where links and lines come from is as it was

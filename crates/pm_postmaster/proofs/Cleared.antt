@@ -1,30 +1,9 @@
 -- The clearing of a board.
-use Rattle.std.proofs.Common.{◌≡◌, ℕ, ◌<◌, List, [], ◌++◌, refl, sym, ap, subst, ◌∙◌, length, get_or, append-nil, append_assoc, arith, nat_eq}
-use Rattle.std.proofs.lemmas.List.{length-map}
-use Rattle.std.specs.Prelude.{Bool, Option, None, Some, IfSome, option_map}
+use Rattle.std.{proofs.{Common.{◌≡◌, ℕ, ◌<◌, List, [], ◌++◌, refl, sym, ap, subst, ◌∙◌, length, get_or, append-nil, append_assoc, arith, nat_eq}, lemmas.List.length-map}, specs.Prelude.{Bool, Option, None, Some, IfSome, option_map}}
 use Rattle.atomic_table.specs.Seated.{TableId}
-use Rattle.pm_facts.specs.Bools.{by_test}
-use Rattle.pm_exit.specs.declared.child.Kind.{Kind}
-use Rattle.pm_exit.specs.declared.child.Status.{Status}
-use Rattle.pm_board.specs.declared.views.PastChild.{PastChild}
-use Rattle.pm_board.specs.declared.views.RosterView.{RosterView}
-use Rattle.pm_board.specs.declared.views.SlotView.{SlotView}
-use Rattle.pm_board.specs.Children.{CountsChildren, child_in_slot, children_of}
-use Rattle.pm_journal.specs.declared.roll.Enrolled.{Enrolled}
-use Rattle.pm_seating.specs.Board.{enrolled, seats_of}
-use Rattle.pm_board.specs.declared.views.Sight.TheVariants.{Unused}
-use Rattle.pm_board.specs.Places.{slot_at, slot_view}
-use Rattle.pm_outside.specs.Visits.{Visits}
-use Rattle.pm_seating.specs.Final.{KeepsEnding}
-use Rattle.pm_seating.specs.Sitting.{HasFoundNone, StillRuns}
-use Rattle.pm_worker.specs.declared.mail.MailTold.{MailTold}
-use Rattle.pm_postmaster.specs.Clearing.{Clears, MayClear}
-use Rattle.pm_postmaster.specs.Links.{HasLinks}
-use Rattle.pm_postmaster.specs.Looking.{opened}
-use Rattle.pm_postmaster.specs.Requests.{ended_in}
-use Rattle.pm_postmaster.proofs.Asked.{ended_opened}
-use Rattle.pm_postmaster.proofs.Linking.{links_same}
-use Rattle.pm_postmaster.proofs.Reaped.{Leaving, links_back, links_still, past_more, slots_found}
+use Rattle.pm_server.specs.{pm_facts.Bools.by_test, pm_exit.declared.child.{Kind.Kind, Status.Status}, pm_supervisor_journal.declared.roll.Enrolled.Enrolled, pm_outside.Visits.Visits}
+use Rattle.pm_board_acts.specs.{pm_board.{declared.views.{PastChild.PastChild, RosterView.RosterView, SlotView.SlotView, Sight.TheVariants.Unused}, Children.{CountsChildren, child_in_slot, children_of}, Places.{slot_at, slot_view}}, Board.{enrolled, seats_of}, Final.KeepsEnding, Sitting.{HasFoundNone, StillRuns}, pm_worker.declared.mail.MailTold.MailTold}
+use Rattle.pm_postmaster.{specs.{Clearing.{Clears, MayClear}, Links.HasLinks, Looking.opened, Requests.ended_in}, proofs.{Asked.ended_opened, Linking.links_same, Reaped.{Leaving, links_back, links_still, past_more, slots_found}}}
 
 -- slots that are the same
 pub clears_same : (t u : TableId) (d e : RosterView MailTold) (visits now : Option Visits) → u ≡ t → KeepsEnding d e → e.slots ≡ d.slots → now ≡ visits → Clears t d visits u e now

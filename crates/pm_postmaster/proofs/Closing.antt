@@ -1,15 +1,7 @@
 -- After the closing of all workers no two children had one pid.
-use Rattle.std.proofs.Common.{◌≡◌, ◌≢◌, ◌⊎◌, inl, inr, ℕ, ◌<◌, ◌≤◌, List, [], ◌∷◌, ◌++◌, refl, sym, ap, subst, ◌∙◌, arith}
-use Rattle.std.specs.Prelude.{Bool, true, false, map, nat_lt}
-use Rattle.std.specs.List.{AllByRecursion}
-use Rattle.pm_board.specs.declared.views.PastChild.{PastChild}
-use Rattle.pm_board.specs.declared.views.RosterView.{RosterView}
-use Rattle.pm_board.specs.Places.{slot_at}
-use Rattle.pm_chain.specs.Chain.{AreDistinct, IsPidOf}
-use Rattle.pm_journal.specs.Stands.{highest_pid}
-use Rattle.pm_worker.specs.declared.mail.MailTold.{MailTold}
-use Rattle.pm_pool.specs.Closing.{HasHadLast, closing_pid}
-use Rattle.pm_crew.specs.Pids.{AreUsedOnce, pids_at}
+use Rattle.std.{proofs.Common.{◌≡◌, ◌≢◌, ◌⊎◌, inl, inr, ℕ, ◌<◌, ◌≤◌, List, [], ◌∷◌, ◌++◌, refl, sym, ap, subst, ◌∙◌, arith}, specs.{Prelude.{Bool, true, false, map, nat_lt}, List.AllByRecursion}}
+use Rattle.pm_board_acts.specs.{pm_board.{declared.views.{PastChild.PastChild, RosterView.RosterView}, Places.slot_at}, pm_supervisor_chain.Chain.{AreDistinct, IsPidOf}, pm_supervisor_journal.Stands.highest_pid, pm_worker.declared.mail.MailTold.MailTold}
+use Rattle.pm_serve_pool.specs.{Closing.{HasHadLast, closing_pid}, pm_serve_crew.Pids.{AreUsedOnce, pids_at}}
 
 -- no child had a pid above the highest that a supervisor draws
 abbrev pub AreDrawn : RosterView MailTold → Type 0

@@ -1,48 +1,12 @@
 -- What a run leaves, by its parts.
-use Rattle.std.proofs.Common.{◌≡◌, ◌⊎◌, inl, inr, ℕ, ◌<◌, ◌≤◌, List, [], ◌∷◌, ◌++◌, refl, sym, ap, subst, ◌∙◌, length, map, arith, append-nil, append_assoc}
-use Rattle.std.proofs.lemmas.List.{get_or_past}
-use Rattle.std.specs.Prelude.{true, false, Option, None, Some, IfSome, is_some, nat_lt}
-use Rattle.pm_facts.specs.Bools.{by_test}
-use Rattle.pm_disk.specs.declared.disk.Disk as Disk
-use Rattle.pm_outside.specs.Added.{Added}
-use Rattle.pm_outside.specs.declared.chronicle.Chronicle as Chronicle
-use Rattle.pm_pool.specs.Given.{IsGivenBack, IsOpenedAlone}
-use Rattle.pm_query.specs.declared.book.BookEntry.{BookEntry}
-use Rattle.pm_query.specs.declared.book.BookEntry.TheVariants.{Opened}
-use Rattle.pm_record.specs.OnDisk.{GoesOn}
-use Rattle.pm_segment.specs.Moment.{moment}
-use Rattle.pm_segment.specs.MovesLaws.{time_still}
-use Rattle.pm_segment.specs.Unread.{has_break}
-use Rattle.pm_lines.specs.Log.{HasLogged, HasPrinted, LogView}
-use Rattle.pm_lines.specs.LogLaws.{logged_by, printed_more}
-use Rattle.pm_board.specs.declared.views.PastChild.{PastChild}
-use Rattle.pm_board.specs.declared.views.RosterView.{RosterView}
-use Rattle.pm_board.specs.declared.views.Sight.TheVariants.{Unused}
-use Rattle.pm_board.specs.declared.views.SlotView.{SlotView}
-use Rattle.pm_board.specs.Places.{slot_at, slot_view}
-use Rattle.pm_crew.specs.Left.{AreLeft, Manner}
-use Rattle.pm_crew.specs.Pids.{AreUsedOnce}
-use Rattle.pm_crew.specs.PidsLaws.{drawn_by, used_once}
-use Rattle.pm_journal.specs.Stands.{any_moment, highest_pid}
-use Rattle.pm_outside.specs.Visits.{Visits}
-use Rattle.pm_pool.specs.Closing.{HasHadLast}
-use Rattle.pm_seating.specs.Chained.{LinksCameBack, pids_accepted}
-use Rattle.pm_seating.specs.Final.{EndsWithNobody, IsEndingAt, NobodySits}
-use Rattle.pm_seating.specs.Seating.{Move, journal_of}
-use Rattle.pm_server.specs.declared.end.ServerEnd.{ServerEnd}
-use Rattle.pm_server.specs.declared.end.ServerEnd.TheVariants.{Clean, Abnormal, NoThread, NoMemory}
-use Rattle.pm_server.specs.declared.end.Why.TheVariants.{AfterCrash, StartupFailed, RestartOff, GenerationsSpent}
-use Rattle.pm_shared.specs.declared.views.Noted.{Noted}
-use Rattle.pm_state.specs.Journal.{IsLegal}
-use Rattle.pm_supervisor.specs.declared.Limits.{Limits}
-use Rattle.pm_worker.specs.declared.mail.MailTold.{MailTold}
-use Rattle.pm_postmaster.specs.Links.{AreBackIn, HasLinks}
-use Rattle.pm_postmaster.specs.Requests.{IsAsked}
-use Rattle.pm_postmaster.specs.Serving.{IsCausedBehind, last_pid_in}
-use Rattle.pm_postmaster.proofs.Closing.{still_once}
-use Rattle.pm_postmaster.proofs.Home.{back_home, links_home}
-use Rattle.pm_state.specs.declared.event.PmEvent.{PmEvent}
-use Rattle.pm_postmaster.specs.Served.{IsEnded}
+use Rattle.std.{proofs.{Common.{◌≡◌, ◌⊎◌, inl, inr, ℕ, ◌<◌, ◌≤◌, List, [], ◌∷◌, ◌++◌, refl, sym, ap, subst, ◌∙◌, length, map, arith, append-nil, append_assoc}, lemmas.List.get_or_past}, specs.Prelude.{true, false, Option, None, Some, IfSome, is_some, nat_lt}}
+use Rattle.pm_server.specs.{pm_facts.Bools.by_test, pm_outside.{Added.Added, Visits.Visits}, pm_query.declared.book.BookEntry.{BookEntry, TheVariants.Opened}, pm_record.OnDisk.GoesOn, pm_segment.{Moment.moment, MovesLaws.time_still, Unread.has_break}, pm_supervisor_journal.Stands.{any_moment, highest_pid}, declared.end.{ServerEnd.{ServerEnd, TheVariants.{Clean, Abnormal, NoThread, NoMemory}}, Why.TheVariants.{AfterCrash, StartupFailed, RestartOff, GenerationsSpent}}, pm_state.{Journal.IsLegal, declared.event.PmEvent.PmEvent}, pm_supervisor.declared.Limits.Limits}
+use Rattle.pm_server.specs.pm_disk.declared.disk.Disk as Disk
+use Rattle.pm_server.specs.pm_outside.declared.chronicle.Chronicle as Chronicle
+use Rattle.pm_serve_pool.{specs.{Given.{IsGivenBack, IsOpenedAlone}, pm_serve_crew.{Left.{AreLeft, Manner}, Pids.AreUsedOnce}, Closing.HasHadLast, pm_store_shared.declared.views.Noted.Noted}, proofs.pm_serve_crew.PidsLaws.{drawn_by, used_once}}
+use Rattle.pm_server_lines.{specs.Log.{HasLogged, HasPrinted, LogView}, proofs.LogLaws.{logged_by, printed_more}}
+use Rattle.pm_board_acts.specs.{pm_board.{declared.views.{PastChild.PastChild, RosterView.RosterView, Sight.TheVariants.Unused, SlotView.SlotView}, Places.{slot_at, slot_view}}, Chained.{LinksCameBack, pids_accepted}, Final.{EndsWithNobody, IsEndingAt, NobodySits}, Seating.{Move, journal_of}, pm_worker.declared.mail.MailTold.MailTold}
+use Rattle.pm_postmaster.{specs.{Links.{AreBackIn, HasLinks}, Requests.IsAsked, Serving.{IsCausedBehind, last_pid_in}, Served.IsEnded}, proofs.{Closing.still_once, Home.{back_home, links_home}}}
 
 -- these entries were added to a new journal
 pub adds_new : (journal : List PmEvent) (before now : Option (List PmEvent)) → IfSome before (λ entries. entries ≡ []) → is_some now ≡ is_some before

@@ -1,33 +1,9 @@
 -- A server goes on, and ends.
-use Rattle.std.proofs.Common.{◌≡◌, ℕ, ◌≤◌, List, ◌++◌, sym, ap, subst, ◌∙◌, length}
-use Rattle.std.specs.Prelude.{Bool, true, Option, Some, IfSome, Result, Ok, Err, is_some}
-use Rattle.pm_journal.specs.Laws.{KeepsALegalJournal}
-use Rattle.pm_journal.specs.Moments.{AreGiven}
-use Rattle.pm_journal.specs.Standing.{Standing}
-use Rattle.pm_journal.specs.Stands.{Stands, highest_pid}
-use Rattle.pm_supervisor.specs.declared.Limits.{Limits}
-use Rattle.pm_supervisor.specs.Steps.{Trace}
-use Rattle.pm_lines.specs.Log.{HasSaid}
-use Rattle.pm_seating.specs.Chained.{pids_accepted}
-use Rattle.pm_seating.specs.Final.{MayEndAnywhere}
-use Rattle.pm_seating.specs.Seating.{Move, journal_of}
-use Rattle.pm_seating.specs.Sitting.{KeepsPast}
-use Rattle.pm_shared.specs.declared.views.Noted.{Noted}
-use Rattle.pm_board.specs.Places.{slot_at}
-use Rattle.pm_seating.specs.Standing.{IsAt, IsRunning, view}
-use Rattle.pm_server.specs.JournalLaws.{all_given}
-use Rattle.pm_server.specs.declared.end.ServerEnd.{ServerEnd}
-use Rattle.pm_state.specs.declared.event.PmEvent.{PmEvent}
-use Rattle.pm_worker.specs.declared.mail.MailTold.{MailTold}
-use Rattle.pm_postmaster.specs.Links.{HasLinks}
-use Rattle.pm_postmaster.specs.Serving.{Goes, HasStopped, Holds, IsAlive, IsCausedBehind, IsEndBehind, IsServing, Keeps, Moments, Outset, Renews, StaysWith, Stops, last_pid_in}
-use Rattle.pm_postmaster.specs.Looking.{came_of}
-use Rattle.pm_postmaster.specs.Requests.{AsksSoFar, IsAsked, ended_in, ended_short}
-use Rattle.pm_postmaster.specs.View.{View}
-use Rattle.pm_outside.specs.Visits.{Visits}
-use Rattle.pm_postmaster.proofs.Asked.{AsksNone, OwesOn, asked_all, asks_none}
-use Rattle.pm_postmaster.proofs.Redoing.{TellNone, redos_still, redos_told}
-use Rattle.pm_postmaster.proofs.Renewing.{AreQuiet, renews_as_told, renews_quiet}
+use Rattle.std.{proofs.Common.{◌≡◌, ℕ, ◌≤◌, List, ◌++◌, sym, ap, subst, ◌∙◌, length}, specs.Prelude.{Bool, true, Option, Some, IfSome, Result, Ok, Err, is_some}}
+use Rattle.pm_server.{specs.{pm_supervisor_journal.{Laws.KeepsALegalJournal, Moments.AreGiven, Standing.Standing, Stands.{Stands, highest_pid}}, pm_supervisor.{declared.Limits.Limits, Steps.Trace}, pm_server_lines.Log.HasSaid, declared.end.ServerEnd.ServerEnd, pm_state.declared.event.PmEvent.PmEvent, pm_outside.Visits.Visits}, proofs.JournalLaws.all_given}
+use Rattle.pm_board_acts.specs.{Chained.pids_accepted, Final.MayEndAnywhere, Seating.{Move, journal_of}, Sitting.KeepsPast, pm_board.Places.slot_at, Standing.{IsAt, IsRunning, view}, pm_worker.declared.mail.MailTold.MailTold}
+use Rattle.pm_store_shared.specs.declared.views.Noted.{Noted}
+use Rattle.pm_postmaster.{specs.{Links.HasLinks, Serving.{Goes, HasStopped, Holds, IsAlive, IsCausedBehind, IsEndBehind, IsServing, Keeps, Moments, Outset, Renews, StaysWith, Stops, last_pid_in}, Looking.came_of, Requests.{AsksSoFar, IsAsked, ended_in, ended_short}, View.View}, proofs.{Asked.{AsksNone, OwesOn, asked_all, asks_none}, Redoing.{TellNone, redos_still, redos_told}, Renewing.{AreQuiet, renews_as_told, renews_quiet}}}
 
 -- the last pid of a journal is that of the standing after it
 pub pid_at : (limits : Limits) (journal : List PmEvent) (s : Standing) (h : Trace) → Stands limits (Some journal) s h → s.last_pid ≡ last_pid_in limits journal

@@ -1,27 +1,9 @@
 -- Each link came back once.
-use Rattle.std.proofs.Common.{◌≡◌, ◌≢◌, ◌⊎◌, inl, inr, ℕ, zero, suc, ◌+◌, ◌<◌, ◌≤◌, List, [], ◌∷◌, ◌++◌, refl, sym, ap, subst, ◌∙◌, length, map, arith, get_or}
-use Rattle.std.proofs.lemmas.List.{length-map}
-use Rattle.std.proofs.lemmas.List.Elements.{Contains-append_left, Contains-push, Contains-push_cases}
-use Rattle.std.proofs.lemmas.Option.{slice_get-get_or}
-use Rattle.std.specs.Prelude.{Bool, true, false, ◌==◌, if◌then◌else◌, None, nat_lt}
-use Rattle.std.specs.List.{AllByRecursion, Contains}
-use Rattle.pm_facts.specs.Bools.{by_test}
-use Rattle.pm_board.specs.declared.views.PastChild.{PastChild}
-use Rattle.pm_board.specs.declared.views.RosterView.{RosterView}
-use Rattle.pm_board.specs.declared.views.Sight.TheVariants.{Assigned, Unused}
-use Rattle.pm_board.specs.Places.{slot_at}
-use Rattle.pm_chain.specs.Chain.{IsPidOf}
-use Rattle.pm_crew.specs.Left.{AreLeft, Manner}
-use Rattle.pm_outside.specs.Visits.{Visit, Visits}
-use Rattle.pm_pool.specs.Closing.{HasHadLast}
-use Rattle.pm_query.specs.declared.book.BookEntry.{BookEntry}
-use Rattle.pm_seating.specs.Chained.{LinksCameBack, pids_accepted}
-use Rattle.pm_shared.specs.declared.views.Noted.{Noted}
-use Rattle.pm_state.specs.declared.event.PmEvent.{PmEvent}
-use Rattle.pm_state.specs.Restarts.{without_pid}
-use Rattle.pm_worker.specs.declared.mail.MailTold.{MailTold}
-use Rattle.pm_worker.specs.declared.mail.MailTold.TheVariants as mail
-use Rattle.pm_worker.specs.Runs.{Does, IsRun, Run}
+use Rattle.std.{proofs.{Common.{◌≡◌, ◌≢◌, ◌⊎◌, inl, inr, ℕ, zero, suc, ◌+◌, ◌<◌, ◌≤◌, List, [], ◌∷◌, ◌++◌, refl, sym, ap, subst, ◌∙◌, length, map, arith, get_or}, lemmas.{List.{length-map, Elements.{Contains-append_left, Contains-push, Contains-push_cases}}, Option.slice_get-get_or}}, specs.{Prelude.{Bool, true, false, ◌==◌, if◌then◌else◌, None, nat_lt}, List.{AllByRecursion, Contains}}}
+use Rattle.pm_server.specs.{pm_facts.Bools.by_test, pm_outside.Visits.{Visit, Visits}, pm_query.declared.book.BookEntry.BookEntry, pm_state.{declared.event.PmEvent.PmEvent, Restarts.without_pid}}
+use Rattle.pm_board_acts.specs.{pm_board.{declared.views.{PastChild.PastChild, RosterView.RosterView, Sight.TheVariants.{Assigned, Unused}}, Places.slot_at}, pm_supervisor_chain.Chain.IsPidOf, Chained.{LinksCameBack, pids_accepted}, pm_worker.{declared.mail.MailTold.MailTold, Runs.{Does, IsRun, Run}}}
+use Rattle.pm_serve_pool.specs.{pm_serve_crew.Left.{AreLeft, Manner}, Closing.HasHadLast, pm_store_shared.declared.views.Noted.Noted}
+use Rattle.pm_board_acts.specs.pm_worker.declared.mail.MailTold.TheVariants as mail
 use Rattle.pm_postmaster.specs.Links.{AreBackIn, BackIn, GivesLink, HasLink, HasLinks, IsBackIn}
 
 -- ---- as many as there are

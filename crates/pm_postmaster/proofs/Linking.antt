@@ -1,33 +1,10 @@
 -- What the steps of a supervisor leave of the links that are out.
-use Rattle.std.proofs.Common.{◌≡◌, ◌⊎◌, inl, inr, ℕ, ◌+◌, ◌<◌, ◌≤◌, List, [], ◌∷◌, refl, sym, ap, subst, ◌∙◌, length, set, get_or, arith, nat_eq}
-use Rattle.std.proofs.lemmas.List.{get_or-map, length-map, length_push, map-set, set-get_or}
-use Rattle.std.proofs.lemmas.List.Elements.{Contains-append_left, Contains-push, Contains-push_cases}
-use Rattle.std.specs.Prelude.{Bool, false, Option, None, nat_le}
-use Rattle.std.specs.List.{Contains}
-use Rattle.pm_facts.specs.Bools.{by_test}
-use Rattle.pm_exit.specs.declared.child.Kind.{Kind}
-use Rattle.pm_exit.specs.declared.child.Status.{Status}
-use Rattle.pm_board.specs.declared.views.Offer.{Offer}
-use Rattle.pm_board.specs.declared.views.PastChild.{PastChild}
-use Rattle.pm_board.specs.declared.views.RosterNotes.{RosterNotes}
-use Rattle.pm_board.specs.declared.views.RosterStep.{RosterStep}
-use Rattle.pm_board.specs.declared.views.RosterView.{RosterView}
-use Rattle.pm_board.specs.declared.views.Sight.TheVariants.{Assigned, Unused}
-use Rattle.pm_board.specs.declared.views.SlotView.{SlotView}
-use Rattle.pm_board.specs.Children.{CountsChildren, child_in_slot, child_seen, children_of, count_of}
-use Rattle.pm_board.specs.Models.{HasAssigned, SlotBecame}
-use Rattle.pm_board.specs.Places.{is_connection, slot_at, slot_view}
-use Rattle.pm_board.specs.Told.{after_step, assigned_slot, past_child, released_slot, running_slot}
-use Rattle.pm_board.specs.Words.{bit}
-use Rattle.pm_board.specs.BoardLaws.{bit_small}
-use Rattle.pm_outside.specs.Visits.{Visit, Visits}
-use Rattle.pm_seating.specs.Board.{after_steps}
-use Rattle.pm_worker.specs.declared.mail.LinkTold.{LinkTold}
-use Rattle.pm_worker.specs.declared.mail.MailTold.{MailTold}
-use Rattle.pm_worker.specs.declared.mail.MailTold.TheVariants as mail
-use Rattle.pm_worker.specs.Mails.{ComesBack}
-use Rattle.pm_postmaster.specs.Links.{BackIn, GivesLink, HasLink, HasLinks, IsBackIn}
-use Rattle.pm_postmaster.specs.Looking.{opened}
+use Rattle.std.{proofs.{Common.{◌≡◌, ◌⊎◌, inl, inr, ℕ, ◌+◌, ◌<◌, ◌≤◌, List, [], ◌∷◌, refl, sym, ap, subst, ◌∙◌, length, set, get_or, arith, nat_eq}, lemmas.List.{get_or-map, length-map, length_push, map-set, set-get_or, Elements.{Contains-append_left, Contains-push, Contains-push_cases}}}, specs.{Prelude.{Bool, false, Option, None, nat_le}, List.Contains}}
+use Rattle.pm_server.specs.{pm_facts.Bools.by_test, pm_exit.declared.child.{Kind.Kind, Status.Status}, pm_outside.Visits.{Visit, Visits}}
+use Rattle.pm_board.{specs.{declared.views.{Offer.Offer, PastChild.PastChild, RosterNotes.RosterNotes, RosterStep.RosterStep, RosterView.RosterView, Sight.TheVariants.{Assigned, Unused}, SlotView.SlotView}, Children.{CountsChildren, child_in_slot, child_seen, children_of, count_of}, Models.{HasAssigned, SlotBecame}, Places.{is_connection, slot_at, slot_view}, Told.{after_step, assigned_slot, past_child, released_slot, running_slot}, Words.bit}, proofs.BoardLaws.bit_small}
+use Rattle.pm_board_acts.specs.{Board.after_steps, pm_worker.{declared.mail.{LinkTold.LinkTold, MailTold.MailTold}, Mails.ComesBack}}
+use Rattle.pm_board_acts.specs.pm_worker.declared.mail.MailTold.TheVariants as mail
+use Rattle.pm_postmaster.specs.{Links.{BackIn, GivesLink, HasLink, HasLinks, IsBackIn}, Looking.opened}
 
 abbrev Slots : Type 0
 Slots = List (SlotView MailTold)

@@ -1,19 +1,10 @@
 -- The moments of a supervisor at work.
-use Rattle.std.proofs.Common.{◌≡◌, inl, inr, ℕ, max, List, [], ◌∷◌, refl, subst, arith}
-use Rattle.std.specs.Prelude.{Bool, true, false, if◌then◌else◌, is_some, nat_le, unwrap_or}
-use Rattle.pm_facts.specs.Bools.{by_test}
-use Rattle.pm_state.specs.declared.action.Action.{Action}
-use Rattle.pm_state.specs.declared.action.Action.TheVariants as act
-use Rattle.pm_state.specs.declared.event.PmEvent.TheVariants as entry
-use Rattle.pm_state.specs.Journal.{acts_of_call, without_first}
-use Rattle.pm_state.specs.Shows.{TakesTurn}
-use Rattle.pm_journal.specs.declared.exit.ChildExit.{ChildExit}
-use Rattle.pm_journal.specs.Moments.{AreGiven}
-use Rattle.pm_journal.specs.Standing.{Standing, accepting, all_noted, asking, called, done, ends_redo, entry_for, exit_call, exit_entry, exiting, later, made, ticking, turning}
-use Rattle.pm_modes.specs.declared.Mode.{Mode}
-use Rattle.pm_supervisor.specs.declared.Ending.TheVariants as endings
-use Rattle.pm_journal.specs.Due.{AreOurs}
-use Rattle.pm_journal.specs.RulesLaws.{turn_rule}
+use Rattle.std.{proofs.Common.{◌≡◌, inl, inr, ℕ, max, List, [], ◌∷◌, refl, subst, arith}, specs.Prelude.{Bool, true, false, if◌then◌else◌, is_some, nat_le, unwrap_or}}
+use Rattle.pm_server.specs.{pm_facts.Bools.by_test, pm_state.{declared.action.Action.Action, Journal.{acts_of_call, without_first}, Shows.TakesTurn}, pm_modes.declared.Mode.Mode}
+use Rattle.pm_server.specs.pm_state.declared.action.Action.TheVariants as act
+use Rattle.pm_server.specs.pm_state.declared.event.PmEvent.TheVariants as entry
+use Rattle.pm_supervisor_journal.{specs.{declared.exit.ChildExit.ChildExit, Moments.AreGiven, Standing.{Standing, accepting, all_noted, asking, called, done, ends_redo, entry_for, exit_call, exit_entry, exiting, later, made, ticking, turning}, Due.AreOurs}, proofs.RulesLaws.turn_rule}
+use Rattle.pm_server.specs.pm_supervisor.declared.Ending.TheVariants as endings
 use Rattle.pm_postmaster.specs.Serving.{KillsAll, Moments}
 
 module _ (gives : ℕ → Type 0) where

@@ -1,26 +1,11 @@
 -- A smart shutdown is owed after the last pid: what calls and acts of the machine leave of that, and what they ask for.
-use Rattle.std.proofs.Common.{◌≡◌, ℕ, ◌<◌, ◌≤◌, List, [], ◌∷◌, refl, sym, ap, subst, ◌∙◌, arith}
-use Rattle.std.specs.Prelude.{Bool, true, false, ◌==◌, ◌||◌, not, if◌then◌else◌, Option, None, Some, unwrap_or}
-use Rattle.std.proofs.Math.Bool.{or-true}
-use Rattle.pm_admit.specs.declared.Cac.{Cac}
-use Rattle.pm_admit.specs.declared.Cac.TheVariants as decisions
-use Rattle.pm_journal.specs.NextsLaws.{first_is}
-use Rattle.pm_exit.specs.declared.child.Kind.{Kind}
-use Rattle.pm_exit.specs.declared.child.Kind.TheVariants as kinds
-use Rattle.pm_journal.specs.declared.exit.ChildExit.{ChildExit}
-use Rattle.pm_journal.specs.declared.roll.Enrolled.{Enrolled}
-use Rattle.pm_journal.specs.Standing.{Standing, accepting, all_noted, called, decision_on, done, ends_redo, entry_for, exit_call, exit_entry, exiting, first_due, later, made}
-use Rattle.pm_seating.specs.Calls.{exits, notes_in, slot_for}
-use Rattle.pm_seating.specs.Seating.{Kill, Notes, asked_by, is_seated}
-use Rattle.pm_seating.specs.Standing.{SitBelow}
-use Rattle.pm_state.specs.declared.action.Action.{Action}
-use Rattle.pm_state.specs.declared.action.Action.TheVariants as action
-use Rattle.pm_state.specs.declared.event.PmEvent.{PmEvent}
-use Rattle.pm_state.specs.declared.event.PmEvent.TheVariants as entry
-use Rattle.pm_state.specs.declared.machine.Machine.{Machine}
-use Rattle.pm_state.specs.Journal.{without_first}
-use Rattle.pm_state.specs.Machine.{accepted_as, started_as}
-use Rattle.pm_state.specs.Starts.{Owes, has_end}
+use Rattle.std.{proofs.{Common.{◌≡◌, ℕ, ◌<◌, ◌≤◌, List, [], ◌∷◌, refl, sym, ap, subst, ◌∙◌, arith}, Math.Bool.or-true}, specs.Prelude.{Bool, true, false, ◌==◌, ◌||◌, not, if◌then◌else◌, Option, None, Some, unwrap_or}}
+use Rattle.pm_board_acts.specs.{pm_admit.declared.Cac.Cac, pm_exit.declared.child.Kind.Kind, Calls.{exits, notes_in, slot_for}, Seating.{Kill, Notes, asked_by, is_seated}, Standing.SitBelow, pm_state.{declared.{action.Action.Action, event.PmEvent.PmEvent, machine.Machine.Machine}, Journal.without_first, Machine.{accepted_as, started_as}, Starts.{Owes, has_end}}}
+use Rattle.pm_board_acts.specs.pm_admit.declared.Cac.TheVariants as decisions
+use Rattle.pm_supervisor_journal.{proofs.NextsLaws.first_is, specs.{declared.{exit.ChildExit.ChildExit, roll.Enrolled.Enrolled}, Standing.{Standing, accepting, all_noted, called, decision_on, done, ends_redo, entry_for, exit_call, exit_entry, exiting, first_due, later, made}}}
+use Rattle.pm_board_acts.specs.pm_exit.declared.child.Kind.TheVariants as kinds
+use Rattle.pm_board_acts.specs.pm_state.declared.action.Action.TheVariants as action
+use Rattle.pm_board_acts.specs.pm_state.declared.event.PmEvent.TheVariants as entry
 use Rattle.pm_postmaster.proofs.Asked.{AsksNone, OwesOn, owes_drawn, owes_kept, owes_none}
 
 -- ---- what is asked for

@@ -1,69 +1,16 @@
 -- What an act comes to.
-use Rattle.std.proofs.Common.{◌≡◌, ℕ, ◌+◌, List, [], ◌∷◌, ◌++◌, refl, sym, ap, subst, ◌∙◌, map, arith, append-nil}
-use Rattle.std.specs.Prelude.{Bool, true, false, if◌then◌else◌, Option, None, Some, Result, Ok, Err, is_some}
-use Rattle.pm_exit.specs.declared.child.Kind.{Kind}
-use Rattle.pm_exit.specs.declared.child.Status.{Status}
-use Rattle.pm_board.specs.declared.views.PastChild.{PastChild}
-use Rattle.pm_board.specs.Children.{CountsChildren}
-use Rattle.pm_board.specs.Places.{slot_at}
-use Rattle.pm_server.specs.Acted.{LogBehind}
-use Rattle.pm_journal.specs.EndsLaws.{last_set, spent_next}
-use Rattle.pm_journal.specs.NextsLaws.{first_is, next_given, next_spent, ended_kept, generation_kept}
-use Rattle.pm_journal.specs.declared.act.Act.{Act}
-use Rattle.pm_journal.specs.Laws.{KeepsALegalJournal}
-use Rattle.pm_journal.specs.Standing.{Standing, act_for, done, entry_for, first_due, next_of}
-use Rattle.pm_journal.specs.Stands.{any_moment}
-use Rattle.pm_lines.specs.Log.{LogView}
-use Rattle.pm_seating.specs.Acts.{MayPerform, IsDone as IsDoneAtBoard, Performs as PerformsAtBoard, MayDo}
-use Rattle.pm_seating.specs.Board.{seats_of, ended_of}
-use Rattle.pm_seating.specs.Calls.{slot_for, DoesNext, StandsStill}
-use Rattle.pm_seating.specs.Final.{MayEndAnywhere}
-use Rattle.pm_seating.specs.FoldingLaws.{journal-more}
-use Rattle.pm_board.specs.Gate.{gate_of}
-use Rattle.pm_state.specs.Starts.{has_end}
-use Rattle.pm_seating.specs.Seating.{Move, Notes, ended_at, journal_of}
-use Rattle.pm_seating.specs.Sitting.{KeepsPast}
-use Rattle.pm_seating.specs.Standing.{view}
-use Rattle.pm_seating.specs.Standing as seating
-use Rattle.pm_server.specs.declared.end.ServerEnd.{ServerEnd}
-use Rattle.pm_server.specs.declared.end.ServerEnd.TheVariants.{Abnormal, NoMemory}
-use Rattle.pm_server.specs.declared.end.StartWhy.TheVariants.{Redo, Killed}
-use Rattle.pm_server.specs.declared.end.Why.TheVariants.{StartupFailed}
+use Rattle.std.{proofs.Common.{◌≡◌, ℕ, ◌+◌, List, [], ◌∷◌, ◌++◌, refl, sym, ap, subst, ◌∙◌, map, arith, append-nil}, specs.Prelude.{Bool, true, false, if◌then◌else◌, Option, None, Some, Result, Ok, Err, is_some}}
+use Rattle.pm_server.specs.{pm_exit.declared.child.{Kind.Kind, Status.{Status, TheVariants.{Code, Signal}}}, Acted.LogBehind, pm_server_lines.Log.LogView, pm_state.{Starts.has_end, Journal.{all_replayed, replay_begun}, Laws.RestartsSafely, Restarts.AreAsSet, declared.{action.Action.Action, event.PmEvent.PmEvent}}, declared.end.{ServerEnd.{ServerEnd, TheVariants.{Abnormal, NoMemory}}, StartWhy.TheVariants.{Redo, Killed}, Why.TheVariants.StartupFailed}, pm_query.declared.store.StoreNo.StoreNo, pm_segment.Renewal.renewal, pm_supervisor.declared.{Ending.Ending, Limits.Limits}}
+use Rattle.pm_board_acts.{specs.{pm_board.{declared.views.PastChild.PastChild, Children.CountsChildren, Places.slot_at, Gate.gate_of}, Acts.{MayPerform, IsDone as IsDoneAtBoard, Performs as PerformsAtBoard, MayDo}, Board.{seats_of, ended_of}, Calls.{slot_for, DoesNext, StandsStill}, Final.MayEndAnywhere, Seating.{Move, Notes, ended_at, journal_of}, Sitting.KeepsPast, Standing.view, pm_worker.declared.mail.MailTold.MailTold}, proofs.FoldingLaws.journal-more}
+use Rattle.pm_supervisor_journal.{proofs.{EndsLaws.{last_set, spent_next}, NextsLaws.{first_is, next_given, next_spent, ended_kept, generation_kept}}, specs.{declared.act.{Act.Act, GenerationsSpent.GenerationsSpent}, Laws.KeepsALegalJournal, Standing.{Standing, act_for, done, entry_for, first_due, next_of}, Stands.any_moment}}
+use Rattle.pm_board_acts.specs.Standing as seating
 use Rattle.pm_server.specs.declared.end.Why.TheVariants as whys
-use Rattle.pm_journal.specs.declared.act.GenerationsSpent.{GenerationsSpent}
-use Rattle.pm_query.specs.declared.store.StoreNo.{StoreNo}
-use Rattle.pm_query.specs.declared.store.StoreNo.TheVariants as nos
-use Rattle.pm_exit.specs.declared.child.Status.TheVariants.{Code, Signal}
-use Rattle.pm_crew.specs.Renewals.{RenewsAsTold}
-use Rattle.pm_shared.specs.declared.views.Noted.{Noted}
-use Rattle.pm_shared.specs.Log.{noted_from}
-use Rattle.pm_state.specs.Journal.{all_replayed, replay_begun}
-use Rattle.pm_segment.specs.Renewal.{renewal}
-use Rattle.pm_shared.specs.Renewed.{AreApart}
-use Rattle.pm_shared.specs.Told.{HasRenewed, SharedModel}
-use Rattle.pm_state.specs.Laws.{RestartsSafely}
-use Rattle.pm_state.specs.Restarts.{AreAsSet}
-use Rattle.pm_state.specs.declared.action.Action.{Action}
-use Rattle.pm_state.specs.declared.action.Action.TheVariants as action
-use Rattle.pm_state.specs.declared.event.PmEvent.{PmEvent}
-use Rattle.pm_state.specs.declared.event.PmEvent.TheVariants as entry
-use Rattle.pm_supervisor.specs.declared.Ending.{Ending}
-use Rattle.pm_supervisor.specs.declared.Ending.TheVariants as endings
-use Rattle.pm_supervisor.specs.declared.Limits.{Limits}
-use Rattle.pm_worker.specs.declared.mail.MailTold.{MailTold}
-use Rattle.pm_postmaster.specs.declared.server.Came.{Came}
-use Rattle.pm_postmaster.specs.Acting.{EndBehind, Performs, end_by, is_killed, is_short, refused_by}
-use Rattle.pm_postmaster.specs.Looking.{came_of}
-use Rattle.pm_postmaster.specs.Serving.{EndsWith, HasStopped, IsCausedBehind, IsEndBehind, IsServing, Outset, Renews, Stops}
-use Rattle.pm_postmaster.specs.View.{View}
-use Rattle.pm_postmaster.proofs.Acted.{Acts, Stands, acted, links_acted, slots_acted}
-use Rattle.pm_postmaster.proofs.Calling.{IsBeside, still}
-use Rattle.pm_postmaster.specs.Requests.{IsAsked, ended_in}
-use Rattle.pm_postmaster.proofs.Asked.{asked_all}
-use Rattle.pm_postmaster.proofs.Owed.{acts_ask_none, end_due, owes_acted}
-use Rattle.pm_postmaster.proofs.Going.{AsksAt, LeavesOutside, LeavesStore, asks_nothing, came_on, drawn_at, pid_at, renews_on, stopped_at}
-use Rattle.pm_postmaster.proofs.Redoing.{acts_tell_none, redos_still, redos_told}
-use Rattle.pm_postmaster.proofs.Renewing.{AreQuiet, renews_reset, renews_short}
+use Rattle.pm_server.specs.pm_query.declared.store.StoreNo.TheVariants as nos
+use Rattle.pm_serve_pool.specs.{pm_serve_crew.Renewals.RenewsAsTold, pm_store_shared.{declared.views.Noted.Noted, Log.noted_from, Renewed.AreApart, Told.{HasRenewed, SharedModel}}}
+use Rattle.pm_server.specs.pm_state.declared.action.Action.TheVariants as action
+use Rattle.pm_server.specs.pm_state.declared.event.PmEvent.TheVariants as entry
+use Rattle.pm_server.specs.pm_supervisor.declared.Ending.TheVariants as endings
+use Rattle.pm_postmaster.{specs.{declared.server.Came.Came, Acting.{EndBehind, Performs, end_by, is_killed, is_short, refused_by}, Looking.came_of, Serving.{EndsWith, HasStopped, IsCausedBehind, IsEndBehind, IsServing, Outset, Renews, Stops}, View.View, Requests.{IsAsked, ended_in}}, proofs.{Acted.{Acts, Stands, acted, links_acted, slots_acted}, Calling.{IsBeside, still}, Asked.asked_all, Owed.{acts_ask_none, end_due, owes_acted}, Going.{AsksAt, LeavesOutside, LeavesStore, asks_nothing, came_on, drawn_at, pid_at, renews_on, stopped_at}, Redoing.{acts_tell_none, redos_still, redos_told}, Renewing.{AreQuiet, renews_reset, renews_short}}}
 
 -- an act tells of no loss, and of no generation but a reset
 quiet_act : (a : Action) (s : Standing) → (a ≡ action.Reset → ⊥) → AreQuiet (entry_for a s ∷ [])

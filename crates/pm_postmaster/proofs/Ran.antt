@@ -1,31 +1,10 @@
 -- What a server leaves that has ended.
-use Rattle.std.proofs.Common.{◌≡◌, ℕ, ◌<◌, ◌≤◌, List, ◌++◌, sym, ap, subst, ◌∙◌, length, append_assoc}
-use Rattle.std.specs.Prelude.{Option, IfSome}
+use Rattle.std.{proofs.Common.{◌≡◌, ℕ, ◌<◌, ◌≤◌, List, ◌++◌, sym, ap, subst, ◌∙◌, length, append_assoc}, specs.Prelude.{Option, IfSome}}
 use Rattle.atomic_table.specs.Seated.{TableId}
-use Rattle.pm_board.specs.declared.views.PastChild.{PastChild}
-use Rattle.pm_board.specs.declared.views.RosterView.{RosterView}
-use Rattle.pm_board.specs.Places.{slot_at}
-use Rattle.pm_crew.specs.Left.{AreLeft, Manner}
-use Rattle.pm_crew.specs.Pids.{AreUsedOnce}
-use Rattle.pm_crew.specs.Redos.{RedosAreThose}
-use Rattle.pm_journal.specs.Stands.{highest_pid}
-use Rattle.pm_outside.specs.Visits.{Visits}
-use Rattle.pm_pool.specs.Closing.{HasHadLast, KeepsBoard, MayClose}
-use Rattle.pm_query.specs.declared.book.BookEntry.{BookEntry}
-use Rattle.pm_seating.specs.Chained.{LinksCameBack}
-use Rattle.pm_seating.specs.Final.{EndsWithNobody, IsEndingAt, NobodySits}
-use Rattle.pm_seating.specs.Seating.{journal_of}
-use Rattle.pm_seating.specs.Standing.{IsBoardOf}
-use Rattle.pm_server.specs.declared.end.ServerEnd.{ServerEnd}
-use Rattle.pm_shared.specs.declared.views.Noted.{Noted}
-use Rattle.pm_worker.specs.declared.mail.MailTold.{MailTold}
-use Rattle.pm_postmaster.specs.Clearing.{Clears, MayClear}
-use Rattle.pm_postmaster.specs.Links.{AreBackIn}
-use Rattle.pm_postmaster.specs.Requests.{IsAsked, ended_in}
-use Rattle.pm_postmaster.specs.Serving.{HasStopped, IsCausedBehind, Outset, last_pid_in}
-use Rattle.pm_postmaster.specs.View.{View}
-use Rattle.pm_postmaster.proofs.Finished.{asked_behind, back_if, caused_more, home_if, none_behind, once_after, past_after}
-use Rattle.pm_postmaster.proofs.Redoing.{redos_behind}
+use Rattle.pm_board_acts.specs.{pm_board.{declared.views.{PastChild.PastChild, RosterView.RosterView}, Places.slot_at}, Chained.LinksCameBack, Final.{EndsWithNobody, IsEndingAt, NobodySits}, Seating.journal_of, Standing.IsBoardOf, pm_worker.declared.mail.MailTold.MailTold}
+use Rattle.pm_serve_pool.specs.{pm_serve_crew.{Left.{AreLeft, Manner}, Pids.AreUsedOnce, Redos.RedosAreThose}, Closing.{HasHadLast, KeepsBoard, MayClose}, pm_store_shared.declared.views.Noted.Noted}
+use Rattle.pm_server.specs.{pm_supervisor_journal.Stands.highest_pid, pm_outside.Visits.Visits, pm_query.declared.book.BookEntry.BookEntry, declared.end.ServerEnd.ServerEnd}
+use Rattle.pm_postmaster.{specs.{Clearing.{Clears, MayClear}, Links.AreBackIn, Requests.{IsAsked, ended_in}, Serving.{HasStopped, IsCausedBehind, Outset, last_pid_in}, View.View}, proofs.{Finished.{asked_behind, back_if, caused_more, home_if, none_behind, once_after, past_after}, Redoing.redos_behind}}
 
 pub clears_at : (t u w : TableId) (d e f : RosterView MailTold) (a b : Option Visits) → t ≡ u → d ≡ e → Clears t d a w f b → Clears u e a w f b
 clears_at t u w d e f a b table board clears =

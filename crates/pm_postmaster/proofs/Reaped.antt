@@ -1,66 +1,15 @@
 -- A look at a slot.
-use Rattle.std.proofs.Common.{◌≡◌, inl, inr, ℕ, ◌<◌, List, [], ◌∷◌, ◌++◌, refl, sym, ap, subst, ◌∙◌, length, arith, append-nil, nat_eq}
-use Rattle.std.specs.Prelude.{Bool, true, false, if◌then◌else◌, Option, None, Some, IfSome, is_some, option_map, unwrap_or}
-use Rattle.pm_facts.specs.Bools.{by_test}
-use Rattle.pm_exit.specs.declared.child.Kind.{Kind}
-use Rattle.pm_exit.specs.declared.child.Kind.TheVariants as kinds
-use Rattle.pm_exit.specs.declared.child.Status.{Status}
-use Rattle.pm_board.specs.declared.views.Letter as Letter
-use Rattle.pm_board.specs.declared.views.Offer.{Offer}
-use Rattle.pm_board.specs.declared.views.RosterNotes.{RosterNotes}
-use Rattle.pm_board.specs.declared.views.RosterView.{RosterView}
-use Rattle.pm_board.specs.declared.views.PastChild.{PastChild}
-use Rattle.pm_board.specs.declared.views.Sight.TheVariants.{Assigned, Unused}
-use Rattle.pm_board.specs.declared.views.SlotView.{SlotView}
-use Rattle.pm_board.specs.declared.roster.Released.{Released}
-use Rattle.pm_board.specs.Children.{CountsChildren}
-use Rattle.pm_board.specs.Models.{SlotBecame}
-use Rattle.pm_board.specs.Places.{slot_at}
-use Rattle.pm_board.specs.Told.{past_child, released_slot}
-use Rattle.pm_journal.specs.declared.exit.ChildExit.{ChildExit}
-use Rattle.pm_journal.specs.declared.roll.Enrolled.{Enrolled}
-use Rattle.pm_journal.specs.Laws.{KeepsALegalJournal}
-use Rattle.pm_journal.specs.Standing.{Standing, all_noted, called, ends_redo, exit_call, exit_entry, exiting, later, made}
-use Rattle.pm_journal.specs.Stands.{AtWork}
-use Rattle.pm_lines.specs.Log.{HasSaid}
-use Rattle.pm_lines.specs.LogLaws.{said_same}
-use Rattle.pm_outside.specs.Visits.{Visits}
-use Rattle.pm_chain.specs.Chain.{lost_from, resets_of, lost_since}
-use Rattle.pm_crew.specs.Renewals.{RenewsAsTold}
-use Rattle.pm_seating.specs.Board.{SeenAs, seat_at, seats_of}
-use Rattle.pm_seating.specs.Calls.{IsCutOff, exit_of, exits, kept_by}
-use Rattle.pm_seating.specs.Mails.{kept_told}
-use Rattle.pm_seating.specs.Chained.{pids_accepted}
-use Rattle.pm_seating.specs.Final.{MayEndAnywhere}
-use Rattle.pm_seating.specs.FoldingLaws.{journal-notes, none_more}
-use Rattle.pm_seating.specs.Seating.{Move, journal_of}
-use Rattle.pm_seating.specs.Sitting.{HasFoundNone, HasReaped}
-use Rattle.pm_seating.specs.Standing.{view}
-use Rattle.pm_seating.specs.Standing as seating
-use Rattle.pm_server.specs.declared.end.ServerEnd.TheVariants.{NoMemory}
-use Rattle.pm_shared.specs.declared.views.Noted.{Noted}
-use Rattle.pm_state.specs.declared.event.PmEvent.{PmEvent}
-use Rattle.pm_state.specs.declared.event.PmEvent.TheVariants as entry
-use Rattle.pm_state.specs.Journal.{lines_of}
-use Rattle.pm_supervisor.specs.Children.{is_startup_child}
-use Rattle.pm_worker.specs.declared.mail.MailTold.{MailTold}
-use Rattle.pm_worker.specs.declared.mail.MailTold.TheVariants as mail
-use Rattle.pm_worker.specs.Mails.{ComesBack}
-use Rattle.pm_postmaster.specs.Links.{HasLinks}
-use Rattle.pm_postmaster.specs.declared.server.Came.{Came}
-use Rattle.pm_postmaster.proofs.Calling.{IsBeside}
-use Rattle.pm_postmaster.specs.Looking.{MayComeBack, TakesIn, came_by, came_from, came_of, fault_in, lost_with, opened}
-use Rattle.pm_postmaster.specs.Serving.{HasStopped, Holds, IsServing, Moments, Outset, Renews}
-use Rattle.pm_postmaster.specs.View.{View}
-use Rattle.pm_postmaster.specs.Requests.{IsAsked, ended_in}
-use Rattle.pm_postmaster.proofs.Asked.{asked_all, ended_opened, none_asked, owes_same}
-use Rattle.pm_postmaster.proofs.Owed.{exits_ask_none, owes_exited}
-use Rattle.pm_postmaster.proofs.Going.{GoesBy, Leaves, LeavesAsking, LeavesOutside, LeavesStore, asks_nothing, drawn_at, holds_on, pid_at, serves_on}
-use Rattle.pm_postmaster.proofs.Linking.{is_out, links_released, links_running, links_same}
-use Rattle.pm_postmaster.proofs.Moments.{exited_given, exited_moments, later_given}
-use Rattle.pm_postmaster.proofs.Redoing.{redos_behind, redos_exited, redos_told}
-use Rattle.pm_postmaster.proofs.Renewing.{renews_as_told, renews_exited}
-use Rattle.pm_postmaster.proofs.Steps.{count_more, quiet_none}
+use Rattle.std.{proofs.Common.{◌≡◌, inl, inr, ℕ, ◌<◌, List, [], ◌∷◌, ◌++◌, refl, sym, ap, subst, ◌∙◌, length, arith, append-nil, nat_eq}, specs.Prelude.{Bool, true, false, if◌then◌else◌, Option, None, Some, IfSome, is_some, option_map, unwrap_or}}
+use Rattle.pm_server.specs.{pm_facts.Bools.by_test, pm_exit.declared.child.{Kind.Kind, Status.Status}, pm_supervisor_journal.{declared.{exit.ChildExit.ChildExit, roll.Enrolled.Enrolled}, Laws.KeepsALegalJournal, Standing.{Standing, all_noted, called, ends_redo, exit_call, exit_entry, exiting, later, made}, Stands.AtWork}, pm_outside.Visits.Visits, declared.end.ServerEnd.TheVariants.NoMemory, pm_state.{declared.event.PmEvent.PmEvent, Journal.lines_of}, pm_supervisor.Children.is_startup_child}
+use Rattle.pm_server.specs.pm_exit.declared.child.Kind.TheVariants as kinds
+use Rattle.pm_board_acts.specs.pm_board.declared.views.Letter as Letter
+use Rattle.pm_board_acts.{specs.{pm_board.{declared.{views.{Offer.Offer, RosterNotes.RosterNotes, RosterView.RosterView, PastChild.PastChild, Sight.TheVariants.{Assigned, Unused}, SlotView.SlotView}, roster.Released.Released}, Children.CountsChildren, Models.SlotBecame, Places.slot_at, Told.{past_child, released_slot}}, pm_supervisor_chain.Chain.{lost_from, resets_of, lost_since}, Board.{SeenAs, seat_at, seats_of}, Calls.{IsCutOff, exit_of, exits, kept_by}, Mails.kept_told, Chained.pids_accepted, Final.MayEndAnywhere, Seating.{Move, journal_of}, Sitting.{HasFoundNone, HasReaped}, Standing.view, pm_worker.{declared.mail.MailTold.MailTold, Mails.ComesBack}}, proofs.FoldingLaws.{journal-notes, none_more}}
+use Rattle.pm_server_lines.{specs.Log.HasSaid, proofs.LogLaws.said_same}
+use Rattle.pm_serve_pool.specs.{pm_serve_crew.Renewals.RenewsAsTold, pm_store_shared.declared.views.Noted.Noted}
+use Rattle.pm_board_acts.specs.Standing as seating
+use Rattle.pm_server.specs.pm_state.declared.event.PmEvent.TheVariants as entry
+use Rattle.pm_board_acts.specs.pm_worker.declared.mail.MailTold.TheVariants as mail
+use Rattle.pm_postmaster.{specs.{Links.HasLinks, declared.server.Came.Came, Looking.{MayComeBack, TakesIn, came_by, came_from, came_of, fault_in, lost_with, opened}, Serving.{HasStopped, Holds, IsServing, Moments, Outset, Renews}, View.View, Requests.{IsAsked, ended_in}}, proofs.{Calling.IsBeside, Asked.{asked_all, ended_opened, none_asked, owes_same}, Owed.{exits_ask_none, owes_exited}, Going.{GoesBy, Leaves, LeavesAsking, LeavesOutside, LeavesStore, asks_nothing, drawn_at, holds_on, pid_at, serves_on}, Linking.{is_out, links_released, links_running, links_same}, Moments.{exited_given, exited_moments, later_given}, Redoing.{redos_behind, redos_exited, redos_told}, Renewing.{renews_as_told, renews_exited}, Steps.{count_more, quiet_none}}}
 
 -- ---- links
 

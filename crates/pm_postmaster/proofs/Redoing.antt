@@ -1,34 +1,10 @@
 -- The ends of redo that the supervisor tells of, beside what its startup children kept.
-use Rattle.std.proofs.Common.{◌≡◌, ◌≢◌, ℕ, List, [], ◌∷◌, ◌++◌, refl, sym, ap, ◌∙◌, arith, append-nil, append_assoc}
-use Rattle.std.proofs.lemmas.Grind.{flat_map-append}
-use Rattle.std.specs.List.{flat_map}
-use Rattle.std.specs.Prelude.{Bool, true, false, ◌==◌, ◌&&◌, if◌then◌else◌, map, Option, None, Some, unwrap_or}
-use Rattle.pm_facts.specs.Bools.{by_test, cond-same}
-use Rattle.pm_exit.specs.declared.child.Kind.{Kind}
-use Rattle.pm_exit.specs.declared.child.Status.{Status}
-use Rattle.pm_exit.specs.Ends.{is_exit_0}
-use Rattle.pm_board.specs.declared.views.Offer.{Offer}
-use Rattle.pm_board.specs.declared.views.PastChild.{PastChild}
-use Rattle.pm_board.specs.declared.views.RosterNotes.{RosterNotes}
-use Rattle.pm_board.specs.Models.{SlotBecame}
-use Rattle.pm_board.specs.Told.{past_child, released_slot}
-use Rattle.pm_board.specs.declared.views.RosterView.{RosterView}
-use Rattle.pm_board.specs.declared.views.SlotView.{SlotView}
-use Rattle.pm_board.specs.Places.{slot_at}
-use Rattle.pm_chain.specs.Chain.{InGeneration}
-use Rattle.pm_crew.specs.Redos.{RedosAreThose, redo_ends_at, redo_ends_by, redo_told, told_if}
-use Rattle.pm_journal.specs.declared.exit.ChildExit.{ChildExit}
-use Rattle.pm_journal.specs.Standing.{Standing, ends_redo, entry_for, exit_entry, later}
-use Rattle.pm_seating.specs.Board.{ended_of}
-use Rattle.pm_seating.specs.Mails.{kept_told}
-use Rattle.pm_seating.specs.Calls.{exits, kept_by, notes_in, slot_for}
-use Rattle.pm_seating.specs.Seating.{Move, Notes, ended_at}
-use Rattle.pm_seating.specs.Sitting.{KeepsPast}
-use Rattle.pm_state.specs.declared.action.Action.{Action}
-use Rattle.pm_state.specs.declared.action.Action.TheVariants as action
-use Rattle.pm_state.specs.declared.event.PmEvent.TheVariants as entry
-use Rattle.pm_supervisor.specs.Children.{is_startup_child}
-use Rattle.pm_worker.specs.declared.mail.MailTold.{MailTold}
+use Rattle.std.{proofs.{Common.{◌≡◌, ◌≢◌, ℕ, List, [], ◌∷◌, ◌++◌, refl, sym, ap, ◌∙◌, arith, append-nil, append_assoc}, lemmas.Grind.flat_map-append}, specs.{List.flat_map, Prelude.{Bool, true, false, ◌==◌, ◌&&◌, if◌then◌else◌, map, Option, None, Some, unwrap_or}}}
+use Rattle.pm_server.specs.{pm_facts.Bools.{by_test, cond-same}, pm_exit.{declared.child.{Kind.Kind, Status.Status}, Ends.is_exit_0}, pm_supervisor_journal.{declared.exit.ChildExit.ChildExit, Standing.{Standing, ends_redo, entry_for, exit_entry, later}}, pm_state.declared.action.Action.Action, pm_supervisor.Children.is_startup_child}
+use Rattle.pm_board_acts.specs.{pm_board.{declared.views.{Offer.Offer, PastChild.PastChild, RosterNotes.RosterNotes, RosterView.RosterView, SlotView.SlotView}, Models.SlotBecame, Told.{past_child, released_slot}, Places.slot_at}, pm_supervisor_chain.Chain.InGeneration, Board.ended_of, Mails.kept_told, Calls.{exits, kept_by, notes_in, slot_for}, Seating.{Move, Notes, ended_at}, Sitting.KeepsPast, pm_worker.declared.mail.MailTold.MailTold}
+use Rattle.pm_serve_pool.specs.pm_serve_crew.Redos.{RedosAreThose, redo_ends_at, redo_ends_by, redo_told, told_if}
+use Rattle.pm_server.specs.pm_state.declared.action.Action.TheVariants as action
+use Rattle.pm_server.specs.pm_state.declared.event.PmEvent.TheVariants as entry
 use Rattle.pm_postmaster.specs.Serving.{TellsRedos}
 
 -- moves that tell of no end of redo

@@ -1,19 +1,10 @@
 -- Whom the supervisor lost, and whom its side of the store gave up.
-use Rattle.std.proofs.Common.{◌≡◌, inl, inr, ℕ, suc, ◌+◌, List, [], ◌∷◌, ◌++◌, refl, sym, ap, subst, ◌∙◌, length, arith, append-nil, append_assoc}
-use Rattle.std.proofs.lemmas.List.{map-append}
-use Rattle.std.specs.Prelude.{true, false}
-use Rattle.pm_state.specs.declared.event.PmEvent.{PmEvent}
-use Rattle.pm_state.specs.declared.event.PmEvent.TheVariants as entry
-use Rattle.pm_chain.specs.Chain.{gone_from, lost_from, opened_of, resets_of, lost_since, gone_since}
-use Rattle.pm_chain.specs.FoldsLaws.{gone-append, gone_since-append, lost-append, lost_since-append, opened-append, resets-append}
-use Rattle.pm_crew.specs.Renewals.{BeginsWithThose, EachBeginsSo, RenewsAsTold}
-use Rattle.pm_query.specs.declared.book.BookEntry.{BookEntry}
-use Rattle.pm_query.specs.declared.book.BookEntry.TheVariants as noted
-use Rattle.pm_shared.specs.declared.views.Noted.{Noted}
-use Rattle.pm_shared.specs.Log.{entries_of, noted_from}
-use Rattle.pm_segment.specs.Renewal.{renewal}
-use Rattle.pm_shared.specs.GrowsLaws.{entries_noted}
-use Rattle.pm_shared.specs.Renewed.{AreApart}
+use Rattle.std.{proofs.{Common.{◌≡◌, inl, inr, ℕ, suc, ◌+◌, List, [], ◌∷◌, ◌++◌, refl, sym, ap, subst, ◌∙◌, length, arith, append-nil, append_assoc}, lemmas.List.map-append}, specs.Prelude.{true, false}}
+use Rattle.pm_server.specs.{pm_state.declared.event.PmEvent.PmEvent, pm_query.declared.book.BookEntry.BookEntry, pm_segment.Renewal.renewal}
+use Rattle.pm_server.specs.pm_state.declared.event.PmEvent.TheVariants as entry
+use Rattle.pm_board_acts.{specs.pm_supervisor_chain.Chain.{gone_from, lost_from, opened_of, resets_of, lost_since, gone_since}, proofs.pm_supervisor_chain.FoldsLaws.{gone-append, gone_since-append, lost-append, lost_since-append, opened-append, resets-append}}
+use Rattle.pm_serve_pool.specs.{pm_serve_crew.Renewals.{BeginsWithThose, EachBeginsSo, RenewsAsTold}, pm_store_shared.{declared.views.Noted.Noted, Log.{entries_of, noted_from}, GrowsLaws.entries_noted, Renewed.AreApart}}
+use Rattle.pm_server.specs.pm_query.declared.book.BookEntry.TheVariants as noted
 use Rattle.pm_postmaster.specs.Serving.{Renews}
 
 -- ---- the book

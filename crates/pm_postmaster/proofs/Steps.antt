@@ -1,35 +1,12 @@
 -- The calls of a turn that tell of no child.
-use Rattle.std.proofs.Common.{◌≡◌, ℕ, List, [], ◌∷◌, ◌++◌, refl, sym, ap, subst, ◌∙◌, length, append-nil}
-use Rattle.std.specs.Prelude.{Bool, true, false, if◌then◌else◌, Option, None, Some, IfSome}
-use Rattle.pm_board.specs.declared.views.RosterView.{RosterView}
-use Rattle.pm_journal.specs.NextsLaws.{same_work}
-use Rattle.pm_journal.specs.declared.roll.Enrolled.{Enrolled}
-use Rattle.pm_journal.specs.Moments.{AreGiven}
-use Rattle.pm_journal.specs.Standing.{Making, Standing, asking, made, ticking, turning}
-use Rattle.pm_journal.specs.Stands.{AtWork}
-use Rattle.pm_lines.specs.Log.{HasSaid}
-use Rattle.pm_lines.specs.LogLaws.{said_same}
-use Rattle.pm_modes.specs.declared.Mode.{Mode}
-use Rattle.pm_outside.specs.Visits.{Visits}
-use Rattle.pm_seating.specs.Board.{seats_of}
-use Rattle.pm_seating.specs.Chained.{pids_accepted}
-use Rattle.pm_seating.specs.FoldingLaws.{journal-more, none_more}
-use Rattle.pm_seating.specs.Seating.{Kill, Move, Reads, Request, Seating, asked_by, entries_by, is_seated, journal_of, seating_of}
-use Rattle.pm_seating.specs.Standing.{view}
-use Rattle.pm_seating.specs.Standing as seating
-use Rattle.pm_state.specs.declared.event.PmEvent.{PmEvent}
-use Rattle.pm_state.specs.declared.event.PmEvent.TheVariants as entry
-use Rattle.pm_state.specs.Journal.{lines_of}
-use Rattle.pm_worker.specs.declared.mail.MailTold.{MailTold}
-use Rattle.pm_postmaster.specs.Links.{HasLinks}
-use Rattle.pm_postmaster.specs.Serving.{IsServing, Moments, Outset}
-use Rattle.pm_postmaster.specs.View.{View}
-use Rattle.pm_postmaster.proofs.Asked.{accepted-append, none_asked, owes_none, owes_same}
-use Rattle.pm_postmaster.proofs.Going.{AsksOn, GoesBy, Leaves, LeavesAsking, LeavesOutside, LeavesStore, asks_nothing, leaves_asking, serves_on}
-use Rattle.pm_postmaster.proofs.Redoing.{TellNone}
-use Rattle.pm_postmaster.proofs.Renewing.{AreQuiet}
-use Rattle.pm_postmaster.proofs.Linking.{links_same}
-use Rattle.pm_postmaster.proofs.Moments.{asked_moments, later_given, ticked_moments, turned_moments}
+use Rattle.std.{proofs.Common.{◌≡◌, ℕ, List, [], ◌∷◌, ◌++◌, refl, sym, ap, subst, ◌∙◌, length, append-nil}, specs.Prelude.{Bool, true, false, if◌then◌else◌, Option, None, Some, IfSome}}
+use Rattle.pm_board_acts.{specs.{pm_board.declared.views.RosterView.RosterView, pm_modes.declared.Mode.Mode, Board.seats_of, Chained.pids_accepted, Seating.{Kill, Move, Reads, Request, Seating, asked_by, entries_by, is_seated, journal_of, seating_of}, Standing.view, pm_state.{declared.event.PmEvent.PmEvent, Journal.lines_of}}, proofs.FoldingLaws.{journal-more, none_more}}
+use Rattle.pm_supervisor_journal.{proofs.NextsLaws.same_work, specs.{declared.roll.Enrolled.Enrolled, Moments.AreGiven, Standing.{Making, Standing, asking, made, ticking, turning}, Stands.AtWork}}
+use Rattle.pm_server_lines.{specs.Log.HasSaid, proofs.LogLaws.said_same}
+use Rattle.pm_worker.specs.{pm_outside.Visits.Visits, declared.mail.MailTold.MailTold}
+use Rattle.pm_board_acts.specs.Standing as seating
+use Rattle.pm_board_acts.specs.pm_state.declared.event.PmEvent.TheVariants as entry
+use Rattle.pm_postmaster.{specs.{Links.HasLinks, Serving.{IsServing, Moments, Outset}, View.View}, proofs.{Asked.{accepted-append, none_asked, owes_none, owes_same}, Going.{AsksOn, GoesBy, Leaves, LeavesAsking, LeavesOutside, LeavesStore, asks_nothing, leaves_asking, serves_on}, Redoing.TellNone, Renewing.AreQuiet, Linking.links_same, Moments.{asked_moments, later_given, ticked_moments, turned_moments}}}
 
 pub count_more : (journal more : List PmEvent) → pids_accepted more ≡ [] → length (pids_accepted (journal ++ more)) ≡ length (pids_accepted journal)
 count_more journal more none =

@@ -1,10 +1,6 @@
 -- Slots for connections.
 use Rattle.std.specs.Prelude.{◌≡◌, ℕ, ◌<◌, List, Option, None, length}
-use Rattle.pm_admit.specs.declared.Cac.{Cac}
-use Rattle.pm_journal.specs.declared.roll.Enrolled.{Enrolled}
-use Rattle.pm_seating.specs.Board.{seat_at}
-use Rattle.pm_seating.specs.Standing.{SeatServes}
-use Rattle.pm_supervisor.specs.Steps.{kind_for}
+use Rattle.pm_board_acts.specs.{pm_admit.declared.Cac.Cac, pm_supervisor_journal.declared.roll.Enrolled.Enrolled, Board.seat_at, Standing.SeatServes, pm_supervisor.Steps.kind_for}
 
 -- nobody sits there, and a child may that answers a connection so decided
 abbrev pub IsFreeFor : Cac → ℕ → List (Option Enrolled) → Type 0

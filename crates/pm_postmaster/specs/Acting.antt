@@ -1,25 +1,10 @@
 -- What an act does that was noted and done at the board.
 use Rattle.std.specs.Prelude.{◌≡◌, ◌==◌, ℕ, ◌++◌, Bool, true, false, if◌then◌else◌, List, [], Option, None, Some, Result, Ok, Err, IfErr}
-use Rattle.pm_exit.specs.declared.child.Status.{Status}
-use Rattle.pm_exit.specs.declared.child.Status.TheVariants.{Code, Signal}
-use Rattle.pm_journal.specs.declared.act.Act.{Act}
-use Rattle.pm_journal.specs.declared.act.Act.TheVariants as act
-use Rattle.pm_server.specs.Acted.{LogBehind}
-use Rattle.pm_query.specs.declared.store.StoreNo.{StoreNo}
-use Rattle.pm_query.specs.declared.store.StoreNo.TheVariants.{Redo as RedoNo}
-use Rattle.pm_record.specs.declared.fault.RedoFault.{RedoFault}
-use Rattle.pm_record.specs.declared.fault.RedoFault.TheVariants.{NoMemory as ShortOfMemory}
-use Rattle.pm_server.specs.declared.end.ServerEnd.{ServerEnd}
-use Rattle.pm_server.specs.declared.end.ServerEnd.TheVariants.{Clean, Abnormal, NoMemory}
-use Rattle.pm_server.specs.declared.end.StartWhy.TheVariants.{Redo, Killed}
-use Rattle.pm_server.specs.declared.end.Why.TheVariants.{AfterCrash, StartupFailed, RestartOff}
-use Rattle.pm_segment.specs.Renewal.{renewal}
-use Rattle.pm_shared.specs.Renewed.{AreApart}
-use Rattle.pm_shared.specs.Told.{HasRenewed}
-use Rattle.pm_supervisor.specs.declared.Ending.{Ending}
-use Rattle.pm_supervisor.specs.declared.Ending.TheVariants as endings
-use Rattle.pm_postmaster.specs.declared.server.Came.{Came}
-use Rattle.pm_postmaster.specs.View.{View}
+use Rattle.pm_server.specs.{pm_exit.declared.child.Status.{Status, TheVariants.{Code, Signal}}, pm_supervisor_journal.declared.act.Act.Act, Acted.LogBehind, pm_query.declared.store.StoreNo.{StoreNo, TheVariants.Redo as RedoNo}, pm_record.declared.fault.RedoFault.{RedoFault, TheVariants.NoMemory as ShortOfMemory}, declared.end.{ServerEnd.{ServerEnd, TheVariants.{Clean, Abnormal, NoMemory}}, StartWhy.TheVariants.{Redo, Killed}, Why.TheVariants.{AfterCrash, StartupFailed, RestartOff}}, pm_segment.Renewal.renewal, pm_supervisor.declared.Ending.Ending}
+use Rattle.pm_server.specs.pm_supervisor_journal.declared.act.Act.TheVariants as act
+use Rattle.pm_store_shared.specs.{Renewed.AreApart, Told.HasRenewed}
+use Rattle.pm_server.specs.pm_supervisor.declared.Ending.TheVariants as endings
+use Rattle.pm_postmaster.specs.{declared.server.Came.Came, View.View}
 
 abbrev pub is_short : RedoFault → Bool
 is_short ShortOfMemory = true

@@ -1,11 +1,8 @@
 -- A line of the console, and what is done of it.
 use Rattle.std.specs.Prelude.{◌≡◌, ℕ, ◌++◌, ◌∷◌, List, [], Option, Result, option_map}
-use Rattle.pm_requests.specs.Requests.{IsNumber}
-use Rattle.pm_seating.specs.Chained.{AsksFor}
-use Rattle.pm_seating.specs.Seating.{Request}
+use Rattle.pm_serve_requests.specs.{Requests.IsNumber, pm_board_acts.{Chained.AsksFor, Seating.Request}}
 use Rattle.pm_server.specs.declared.end.ServerEnd.{ServerEnd}
-use Rattle.pm_postmaster.specs.Serving.{Goes, IsAlive}
-use Rattle.pm_postmaster.specs.View.{View}
+use Rattle.pm_postmaster.specs.{Serving.{Goes, IsAlive}, View.View}
 
 -- a console that tells has given this line after these
 abbrev pub GivesLine : List ℕ → (before now : Option (List (List ℕ))) → Type 0

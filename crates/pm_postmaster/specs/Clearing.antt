@@ -1,15 +1,9 @@
 -- What the clearing of a board keeps.
 use Rattle.std.specs.Prelude.{◌≡◌, ℕ, List, ◌++◌, Option, IfSome, length}
 use Rattle.atomic_table.specs.Seated.{TableId}
-use Rattle.pm_board.specs.declared.views.PastChild.{PastChild}
-use Rattle.pm_board.specs.declared.views.RosterView.{RosterView}
-use Rattle.pm_board.specs.Places.{slot_at}
-use Rattle.pm_outside.specs.Visits.{Visits}
-use Rattle.pm_seating.specs.Final.{IsEndingAt, KeepsEnding}
-use Rattle.pm_seating.specs.Seating.{Move}
-use Rattle.pm_worker.specs.declared.mail.MailTold.{MailTold}
-use Rattle.pm_postmaster.specs.Links.{HasLinks}
-use Rattle.pm_postmaster.specs.Requests.{ended_in}
+use Rattle.pm_worker.specs.{pm_board.{declared.views.{PastChild.PastChild, RosterView.RosterView}, Places.slot_at}, pm_outside.Visits.Visits, declared.mail.MailTold.MailTold}
+use Rattle.pm_board_acts.specs.{Final.{IsEndingAt, KeepsEnding}, Seating.Move}
+use Rattle.pm_postmaster.specs.{Links.HasLinks, Requests.ended_in}
 
 -- after these moves nothing is noted any more, and the links that are out are those of children
 pub record MayClear (d : RosterView MailTold) (visits : Option Visits) : Type 0 where

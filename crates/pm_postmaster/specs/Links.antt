@@ -1,17 +1,7 @@
 -- The links that a port gave, and the children that have them.
-use Rattle.std.specs.Prelude.{◌≡◌, ◌⊎◌, ℕ, ◌+◌, ◌≤◌, List, length}
-use Rattle.std.specs.List.{Contains}
-use Rattle.pm_board.specs.declared.views.Offer.{Offer}
-use Rattle.pm_board.specs.declared.views.PastChild.{PastChild}
-use Rattle.pm_board.specs.declared.views.RosterView.{RosterView}
-use Rattle.pm_board.specs.declared.views.Sight.TheVariants.{Assigned}
-use Rattle.pm_board.specs.declared.views.SlotView.{SlotView}
-use Rattle.pm_board.specs.Children.{children_of, count_of}
-use Rattle.pm_board.specs.Places.{is_connection, slot_at}
-use Rattle.pm_outside.specs.Visits.{Visit, Visits}
-use Rattle.pm_worker.specs.declared.mail.MailTold.{MailTold}
+use Rattle.std.specs.{Prelude.{◌≡◌, ◌⊎◌, ℕ, ◌+◌, ◌≤◌, List, length}, List.Contains}
+use Rattle.pm_worker.specs.{pm_board.{declared.views.{Offer.Offer, PastChild.PastChild, RosterView.RosterView, Sight.TheVariants.Assigned, SlotView.SlotView}, Children.{children_of, count_of}, Places.{is_connection, slot_at}}, pm_outside.Visits.{Visit, Visits}, declared.mail.MailTold.MailTold, Mails.traffic_in}
 use Rattle.pm_worker.specs.declared.mail.MailTold.TheVariants as mail
-use Rattle.pm_worker.specs.Mails.{traffic_in}
 
 -- the mail gives the link of this number
 abbrev pub GivesLink : ℕ → MailTold → Type 0

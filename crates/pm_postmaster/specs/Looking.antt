@@ -1,16 +1,9 @@
 -- What is taken in of a child that was released.
 use Rattle.std.specs.Prelude.{◌≡◌, ℕ, ◌<◌, Bool, if◌then◌else◌, List, [], ◌∷◌, ◌++◌, Option, None, Some, IfSome, option_map, length}
-use Rattle.pm_exit.specs.declared.child.Kind.{Kind}
-use Rattle.pm_exit.specs.declared.child.Status.{Status}
-use Rattle.pm_board.specs.declared.views.PastChild.{PastChild}
-use Rattle.pm_outside.specs.Visits.{Visits, after_done}
-use Rattle.pm_query.specs.declared.store.StoreNo.{StoreNo}
-use Rattle.pm_supervisor.specs.Children.{is_startup_child}
-use Rattle.pm_worker.specs.declared.mail.MailTold.{MailTold}
+use Rattle.pm_board.specs.{pm_exit.declared.child.{Kind.Kind, Status.Status}, declared.views.PastChild.PastChild, pm_supervisor.Children.is_startup_child}
+use Rattle.pm_worker.specs.{pm_outside.Visits.{Visits, after_done}, pm_query.declared.store.StoreNo.StoreNo, declared.mail.MailTold.MailTold, Mails.traffic_in}
 use Rattle.pm_worker.specs.declared.mail.MailTold.TheVariants as mail
-use Rattle.pm_worker.specs.Mails.{traffic_in}
-use Rattle.pm_postmaster.specs.declared.server.Came.{Came}
-use Rattle.pm_postmaster.specs.View.{View}
+use Rattle.pm_postmaster.specs.{declared.server.Came.Came, View.View}
 
 -- a link is out, where the mail has one
 abbrev pub MayComeBack : MailTold → Option Visits → Type 0

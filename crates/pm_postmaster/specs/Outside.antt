@@ -1,8 +1,7 @@
 -- What is told of the things that a server of many connections works on, at one moment.
 use Rattle.std.specs.Prelude.{ℕ, List, Option}
-use Rattle.pm_outside.specs.declared.console.Console as Console
-use Rattle.pm_server.specs.declared.outside.Outside.{Outside}
-use Rattle.pm_server.specs.Outside.{OutsideView, outside_view}
+use Rattle.pm_server.specs.pm_outside.declared.console.Console as Console
+use Rattle.pm_server.specs.{declared.outside.Outside.Outside, Outside.{OutsideView, outside_view}}
 
 -- and the lines of its console
 pub record ServeView : Type 1 where

@@ -1,15 +1,7 @@
 -- What a server was asked for.
-use Rattle.std.specs.Prelude.{◌≡◌, ◌≢◌, ℕ, ◌+◌, ◌≤◌, ◌∷◌, Bool, true, false, List, [], Option, None, Some, IfSome, is_some, length, option_map}
-use Rattle.std.specs.List.{AllByRecursion}
-use Rattle.pm_journal.specs.Due.{is_last_drawn}
-use Rattle.pm_journal.specs.Standing.{Standing}
-use Rattle.pm_outside.specs.Visits.{Visits}
-use Rattle.pm_requests.specs.Requests.{IsNumber}
-use Rattle.pm_seating.specs.Chained.{AsksAsTold, IsReadAs, IsUnasked, pids_accepted, lines_in, pids_end_in, port_ends_in}
-use Rattle.pm_seating.specs.Seating.{Move, Notes, Reads, PortEnds, PidsEnd}
-use Rattle.pm_server.specs.declared.end.ServerEnd.{ServerEnd}
-use Rattle.pm_server.specs.declared.end.ServerEnd.TheVariants.{NoMemory}
-use Rattle.pm_supervisor.specs.Children.{one_if}
+use Rattle.std.specs.{Prelude.{◌≡◌, ◌≢◌, ℕ, ◌+◌, ◌≤◌, ◌∷◌, Bool, true, false, List, [], Option, None, Some, IfSome, is_some, length, option_map}, List.AllByRecursion}
+use Rattle.pm_server.specs.{pm_supervisor_journal.{Due.is_last_drawn, Standing.Standing}, pm_outside.Visits.Visits, declared.end.ServerEnd.{ServerEnd, TheVariants.NoMemory}, pm_supervisor.Children.one_if}
+use Rattle.pm_serve_requests.specs.{Requests.IsNumber, pm_board_acts.{Chained.{AsksAsTold, IsReadAs, IsUnasked, pids_accepted, lines_in, pids_end_in, port_ends_in}, Seating.{Move, Notes, Reads, PortEnds, PidsEnd}}}
 
 -- after how many links a port gave its end, if it did, where it tells
 abbrev pub ended_in : Option Visits → Option (Option ℕ)

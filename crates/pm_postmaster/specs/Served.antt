@@ -1,34 +1,11 @@
 -- What a run of a server of many connections leaves.
 use Rattle.std.specs.Prelude.{◌≡◌, ◌⊎◌, ◌+◌, ◌*◌, ℕ, List, [], ◌∷◌, ◌++◌, Option, IfSome}
-use Rattle.pm_board.specs.declared.views.RosterView.{RosterView}
-use Rattle.pm_board.specs.Places.{slot_at}
-use Rattle.pm_crew.specs.Left.{AreLeft, Manner}
-use Rattle.pm_crew.specs.Pids.{AreUsedOnce}
-use Rattle.pm_crew.specs.Redos.{RedosAreThose}
-use Rattle.pm_crew.specs.Renewals.{RenewsAsTold}
-use Rattle.pm_disk.specs.Cause.{Rose}
-use Rattle.pm_lines.specs.Log.{HasLogged, LogView, Says, log_of}
-use Rattle.pm_pool.specs.declared.pool.NoPool.{NoPool}
-use Rattle.pm_pool.specs.declared.pool.NoPool.TheVariants as pools
-use Rattle.pm_record.specs.OnDisk.{GoesOn}
-use Rattle.pm_query.specs.declared.book.BookEntry.{BookEntry}
-use Rattle.pm_query.specs.declared.book.BookEntry.TheVariants.{Opened}
-use Rattle.pm_remains.specs.Remains.{Remains}
-use Rattle.pm_seating.specs.Chained.{LinksCameBack}
-use Rattle.pm_seating.specs.Seating.{Move, journal_of}
-use Rattle.pm_seating.specs.Standing.{IsBoardOf}
-use Rattle.pm_server.specs.declared.conf.Conf.{Conf}
-use Rattle.pm_server.specs.declared.end.ServerEnd.{ServerEnd}
-use Rattle.pm_server.specs.declared.end.ServerEnd.TheVariants.{NoThread, NoMemory}
-use Rattle.pm_server.specs.Ends.{end_line}
-use Rattle.pm_server.specs.Journal.{IsJournal}
-use Rattle.pm_shared.specs.declared.views.Noted.{Noted}
-use Rattle.pm_supervisor.specs.declared.Limits.{Limits}
-use Rattle.pm_worker.specs.declared.mail.MailTold.{MailTold}
-use Rattle.pm_postmaster.specs.Links.{AreBackIn}
-use Rattle.pm_postmaster.specs.Outside.{ServeView}
-use Rattle.pm_postmaster.specs.Requests.{IsAsked, ended_in}
-use Rattle.pm_postmaster.specs.Serving.{IsCausedBehind, IsEndBehind, last_pid_in}
+use Rattle.pm_board_acts.specs.{pm_board.{declared.views.RosterView.RosterView, Places.slot_at}, Chained.LinksCameBack, Seating.{Move, journal_of}, Standing.IsBoardOf, pm_worker.declared.mail.MailTold.MailTold}
+use Rattle.pm_serve_pool.specs.{pm_serve_crew.{Left.{AreLeft, Manner}, Pids.AreUsedOnce, Redos.RedosAreThose, Renewals.RenewsAsTold}, declared.pool.NoPool.NoPool}
+use Rattle.pm_server.specs.{pm_disk.Cause.Rose, pm_server_lines.Log.{HasLogged, LogView, Says, log_of}, pm_record.OnDisk.GoesOn, pm_query.declared.book.BookEntry.{BookEntry, TheVariants.Opened}, declared.{conf.Conf.Conf, end.ServerEnd.{ServerEnd, TheVariants.{NoThread, NoMemory}}}, Ends.end_line, Journal.IsJournal, pm_supervisor.declared.Limits.Limits}
+use Rattle.pm_serve_pool.specs.declared.pool.NoPool.TheVariants as pools
+use Rattle.pm_store_remains.specs.{Remains.Remains, pm_store_shared.declared.views.Noted.Noted}
+use Rattle.pm_postmaster.specs.{Links.AreBackIn, Outside.ServeView, Requests.{IsAsked, ended_in}, Serving.{IsCausedBehind, IsEndBehind, last_pid_in}}
 
 -- how many slots the board of a server has
 abbrev pub slots_by : Limits → ℕ

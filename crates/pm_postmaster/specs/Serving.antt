@@ -1,46 +1,13 @@
 -- What holds of a server at every moment.
-use Rattle.std.specs.Prelude.{◌≡◌, ◌⊎◌, ℕ, ◌≤◌, Bool, List, [], ◌∷◌, ◌++◌, Some, IfSome, Result, Ok, Err, length, map, is_some}
-use Rattle.std.specs.List.{flat_map}
+use Rattle.std.specs.{Prelude.{◌≡◌, ◌⊎◌, ℕ, ◌≤◌, Bool, List, [], ◌∷◌, ◌++◌, Some, IfSome, Result, Ok, Err, length, map, is_some}, List.flat_map}
 use Rattle.atomic_table.specs.Seated.{TableId}
-use Rattle.pm_board.specs.declared.views.RosterView.{RosterView}
-use Rattle.pm_board.specs.Places.{slot_at}
-use Rattle.pm_chain.specs.Chain.{gone_from, lost_from, opened_of, resets_of, lost_since, gone_since}
-use Rattle.pm_crew.specs.Redos.{redo_ends_at, redo_told}
-use Rattle.pm_crew.specs.Renewals.{EachBeginsSo, RenewsAsTold}
-use Rattle.pm_crew.specs.Redos.{RedosAreThose}
-use Rattle.pm_journal.specs.Moments.{AreGiven}
-use Rattle.pm_journal.specs.Standing.{Standing}
-use Rattle.pm_journal.specs.Stands.{any_moment, highest_pid}
-use Rattle.pm_lines.specs.Log.{HasSaid, LogView}
-use Rattle.pm_seating.specs.Chained.{pids_accepted}
-use Rattle.pm_seating.specs.Final.{IsEndingAt}
-use Rattle.pm_seating.specs.Board.{ended_of}
-use Rattle.pm_seating.specs.Seating.{Move, ended_at, journal_of}
-use Rattle.pm_seating.specs.Standing.{IsAt, view}
-use Rattle.pm_server.specs.declared.end.ServerEnd.{ServerEnd}
-use Rattle.pm_server.specs.declared.end.ServerEnd.TheVariants.{Abnormal}
-use Rattle.pm_server.specs.declared.end.StartWhy.{StartWhy}
+use Rattle.pm_board_acts.specs.{pm_board.{declared.views.{RosterView.RosterView, PastChild.PastChild}, Places.slot_at}, pm_supervisor_chain.Chain.{gone_from, lost_from, opened_of, resets_of, lost_since, gone_since}, Chained.pids_accepted, Final.IsEndingAt, Board.ended_of, Seating.{Move, ended_at, journal_of}, Standing.{IsAt, view}, pm_worker.declared.mail.MailTold.MailTold}
+use Rattle.pm_serve_pool.specs.{pm_serve_crew.{Redos.{redo_ends_at, redo_told, RedosAreThose}, Renewals.{EachBeginsSo, RenewsAsTold}}, pm_store_shared.{Log.entries_of, Told.SharedModel, declared.views.Noted.Noted}}
+use Rattle.pm_server.specs.{pm_supervisor_journal.{Moments.AreGiven, Standing.Standing, Stands.{any_moment, highest_pid}}, pm_server_lines.Log.{HasSaid, LogView}, declared.end.{ServerEnd.{ServerEnd, TheVariants.Abnormal}, StartWhy.StartWhy, Why.TheVariants.StartupFailed}, pm_exit.declared.child.Status.TheVariants.Signal, pm_state.{declared.{action.Action.Action, event.PmEvent.PmEvent}, Journal.{IsLegal, all_replayed, replay_begun}}, Ends.IsEndBy, pm_supervisor.declared.Limits.Limits, pm_query.declared.store.StoreNo.TheVariants.Redo as RedoNo}
 use Rattle.pm_server.specs.declared.end.StartWhy.TheVariants as why
-use Rattle.pm_server.specs.declared.end.Why.TheVariants.{StartupFailed}
-use Rattle.pm_exit.specs.declared.child.Status.TheVariants.{Signal}
-use Rattle.pm_board.specs.declared.views.PastChild.{PastChild}
-use Rattle.pm_postmaster.specs.declared.server.Came.{Came}
-use Rattle.pm_postmaster.specs.Looking.{came_of}
-use Rattle.pm_shared.specs.Log.{entries_of}
-use Rattle.pm_shared.specs.Told.{SharedModel}
-use Rattle.pm_shared.specs.declared.views.Noted.{Noted}
-use Rattle.pm_state.specs.declared.action.Action.{Action}
-use Rattle.pm_state.specs.declared.action.Action.TheVariants as act
-use Rattle.pm_state.specs.declared.event.PmEvent.{PmEvent}
-use Rattle.pm_state.specs.declared.event.PmEvent.TheVariants as entry
-use Rattle.pm_server.specs.Ends.{IsEndBy}
-use Rattle.pm_state.specs.Journal.{IsLegal, all_replayed, replay_begun}
-use Rattle.pm_supervisor.specs.declared.Limits.{Limits}
-use Rattle.pm_worker.specs.declared.mail.MailTold.{MailTold}
-use Rattle.pm_postmaster.specs.Links.{HasLinks}
-use Rattle.pm_postmaster.specs.Requests.{AsksSoFar, IsAsked, ended_in}
-use Rattle.pm_postmaster.specs.View.{View}
-use Rattle.pm_query.specs.declared.store.StoreNo.TheVariants.{Redo as RedoNo}
+use Rattle.pm_postmaster.specs.{declared.server.Came.Came, Looking.came_of, Links.HasLinks, Requests.{AsksSoFar, IsAsked, ended_in}, View.View}
+use Rattle.pm_server.specs.pm_state.declared.action.Action.TheVariants as act
+use Rattle.pm_server.specs.pm_state.declared.event.PmEvent.TheVariants as entry
 
 -- How a server began: by what limits, on what board of so many slots, with what side of its store, log and clock, and whether its
 -- journal tells.

@@ -1,15 +1,11 @@
 -- A server at one moment.
 use Rattle.std.specs.Prelude.{ℕ, Bool, List, Option}
 use Rattle.atomic_table.specs.Seated.{TableId}
-use Rattle.pm_board.specs.declared.views.RosterView.{RosterView}
-use Rattle.pm_journal.specs.Stands.{AtWork}
-use Rattle.pm_journal.specs.Supervision.{at_work}
-use Rattle.pm_lines.specs.Log.{LogView, view_of as log_view_of}
-use Rattle.pm_outside.specs.Visits.{Visits}
-use Rattle.pm_shared.specs.Told.{SharedModel}
-use Rattle.pm_worker.specs.declared.mail.MailTold.{MailTold}
-use Rattle.pm_postmaster.specs.declared.server.Came.{Came}
-use Rattle.pm_postmaster.specs.declared.server.Server.{Server}
+use Rattle.pm_worker.specs.{pm_board.declared.views.RosterView.RosterView, pm_outside.Visits.Visits, declared.mail.MailTold.MailTold}
+use Rattle.pm_supervisor_journal.specs.{Stands.AtWork, Supervision.at_work}
+use Rattle.pm_server_lines.specs.Log.{LogView, view_of as log_view_of}
+use Rattle.pm_store_shared.specs.Told.{SharedModel}
+use Rattle.pm_postmaster.specs.declared.server.{Came.Came, Server.Server}
 
 -- The supervisor at work and its board, its side of the store, its log, the links of its port and the lines of its console, its
 -- clock, the children of this generation that ended while their slots were active, how the last startup child came out, and whether

@@ -1,24 +1,17 @@
 //! Connections.
 ghost use Rattle.std.specs.Prelude.{◌≡◌, ◌<◌, ◌≤◌, None, false, true, IfOk, IfSome, OnOk, length};
-ghost use Rattle.pm_journal.specs.Due.{IsIdle};
-ghost use Rattle.pm_board.specs.Places.{AllReaped};
-ghost use Rattle.pm_journal.specs.Standing.{MayTake, decision_on};
-ghost use Rattle.pm_journal.specs.Stands.{IsSettled};
-ghost use Rattle.pm_journal.specs.Supervision.{HasRoom};
-ghost use Rattle.pm_seating.specs.Board.{seat_at, seats_of};
-ghost use Rattle.pm_postmaster.specs.Accepting.{IsFreeFor};
-ghost use Rattle.pm_postmaster.specs.Serving.{Goes, IsAlive};
-ghost use Rattle.pm_postmaster.specs.View.{view_of};
+ghost use Rattle.pm_board_acts.specs.{pm_supervisor_journal.{Due.IsIdle, Standing.{MayTake, decision_on}, Stands.IsSettled, Supervision.HasRoom}, pm_board.Places.AllReaped, Board.{seat_at, seats_of}};
+ghost use Rattle.pm_postmaster.specs.{Accepting.IsFreeFor, Serving.{Goes, IsAlive}, View.view_of};
 
 use crate::laws::laws;
 use crate::server::Server;
 use pm_admit::Cac;
 use pm_board::Roster;
+use pm_board_acts::seated;
 use pm_disk::Disk;
 use pm_modes::Mode;
 use pm_outside::{Accepted, Chronicle, Clock, Console, Link, Port, Sink};
 use pm_query::BookEntry;
-use pm_seating::seated;
 use pm_server::ServerEnd;
 use pm_state::PmEvent;
 use pm_worker::{Mail, NewLink};

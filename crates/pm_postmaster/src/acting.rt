@@ -1,19 +1,12 @@
 //! The acts of the machine.
 ghost use Rattle.std.specs.Prelude.{◌≡◌, ◌+◌, ℕ, [], false, true, Ok, OnOk};
-ghost use Rattle.pm_journal.specs.Due.{IsIdle};
-ghost use Rattle.pm_journal.specs.Standing.{IsAtRest};
-ghost use Rattle.pm_journal.specs.Stands.{IsSettled};
-ghost use Rattle.pm_journal.specs.declared.act.Act.TheVariants.{Reset};
-ghost use Rattle.pm_seating.specs.Sitting.{AreReaped};
-ghost use Rattle.pm_postmaster.specs.Acting.{Performs, end_by, failed_by};
-ghost use Rattle.pm_postmaster.specs.Serving.{Goes, IsAlive};
-ghost use Rattle.pm_postmaster.specs.View.{view_of};
+ghost use Rattle.pm_board_acts.specs.{pm_supervisor_journal.{Due.IsIdle, Standing.IsAtRest, Stands.IsSettled, declared.act.Act.TheVariants.Reset}, Sitting.AreReaped};
+ghost use Rattle.pm_postmaster.specs.{Acting.{Performs, end_by, failed_by}, Serving.{Goes, IsAlive}, View.view_of};
 
 use crate::laws::laws;
 use crate::server::{Came, Server};
 use pm_disk::Disk;
 use pm_exit::Status;
-use pm_journal::{Act, GenerationsSpent};
 use pm_modes::Mode;
 use pm_outside::{Chronicle, Clock, Console, Link, Port, Sink};
 use pm_query::{BookEntry, StoreNo};
@@ -21,6 +14,7 @@ use pm_record::RedoFault;
 use pm_server::{ServerEnd, StartWhy, Why};
 use pm_state::PmEvent;
 use pm_supervisor::Ending;
+use pm_supervisor_journal::{Act, GenerationsSpent};
 use std::sync::Wait;
 
 // How a server ends where its machine does, by how its last startup child came out.

@@ -1,19 +1,15 @@
 //! What the operator asks for.
 ghost use Rattle.std.specs.Prelude.{◌≡◌, ◌+◌, ◌≤◌, ℕ, List, false, IfOk, OnOk, take, option_map};
-ghost use Rattle.pm_journal.specs.Due.{IsIdle};
-ghost use Rattle.pm_requests.specs.Requests.{meant};
-ghost use Rattle.pm_seating.specs.Seating.{Kill};
-ghost use Rattle.pm_seating.specs.Sitting.{AreReaped};
-ghost use Rattle.pm_postmaster.specs.Asking.{HasRead, Heeds};
-ghost use Rattle.pm_postmaster.specs.Serving.{Goes, IsAlive};
-ghost use Rattle.pm_postmaster.specs.View.{view_of};
+ghost use Rattle.pm_board_acts.specs.{pm_supervisor_journal.Due.IsIdle, Seating.Kill, Sitting.AreReaped};
+ghost use Rattle.pm_serve_requests.specs.Requests.{meant};
+ghost use Rattle.pm_postmaster.specs.{Asking.{HasRead, Heeds}, Serving.{Goes, IsAlive}, View.view_of};
 
 use crate::laws::laws;
 use crate::server::Server;
 use pm_disk::Disk;
 use pm_outside::{Asked, Chronicle, Clock, Console, Link, Port, Sink};
 use pm_query::BookEntry;
-use pm_requests::{Request, read_request};
+use pm_serve_requests::{Request, read_request};
 use pm_server::ServerEnd;
 use pm_state::PmEvent;
 use std::sync::Wait;

@@ -1,14 +1,12 @@
 //! The end of a server's children.
 ghost use Rattle.std.specs.Prelude.{◌≡◌, ◌+◌, ◌<◌, ℕ, false, IfSome, length, option_map};
-ghost use Rattle.pm_seating.specs.Acts.{ShowsNow};
-ghost use Rattle.pm_seating.specs.Board.{seats_of};
-ghost use Rattle.pm_seating.specs.Final.{AreFree, NobodySits};
+ghost use Rattle.pm_board_acts.specs.{Acts.ShowsNow, Board.seats_of, Final.{AreFree, NobodySits}};
 ghost use Rattle.pm_postmaster.specs.Clearing.{Clears, MayClear};
 
 use crate::looking::open_mail;
 use pm_board::{Roster, counts_children};
+use pm_board_acts::{Rest, kill_rest, reap_rest};
 use pm_outside::{Clock, Link, Port};
-use pm_seating::{Rest, kill_rest, reap_rest};
 use pm_worker::Mail;
 use std::sync::Wait;
 

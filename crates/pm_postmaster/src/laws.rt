@@ -1,17 +1,12 @@
 //! The laws on which a server of many connections stands.
 
-ghost use Rattle.pm_board.specs.Children.{CountsChildren};
-ghost use Rattle.pm_journal.specs.Laws.{GoesOnOverItsJournal, KeepsALegalJournal};
-ghost use Rattle.pm_seating.specs.Final.{EndsWithNobody, MayEndAnywhere};
-ghost use Rattle.pm_seating.specs.Laws.{LinesMayAskForNothing};
-ghost use Rattle.pm_state.specs.Laws.{RestartsSafely};
-ghost use Rattle.pm_worker.specs.declared.mail.MailTold.{MailTold};
+ghost use Rattle.pm_board_acts.specs.{pm_board.Children.CountsChildren, pm_supervisor_journal.Laws.{GoesOnOverItsJournal, KeepsALegalJournal}, Final.{EndsWithNobody, MayEndAnywhere}, Laws.LinesMayAskForNothing, pm_state.Laws.RestartsSafely, pm_worker.declared.mail.MailTold.MailTold};
 
 use pm_board::counts_children;
-use pm_journal::{goes_on_over_its_journal, keeps_a_legal_journal};
+use pm_board_acts::{ends_with_nobody, lines_may_ask_for_nothing, may_end_anywhere};
 use pm_outside::Link;
-use pm_seating::{ends_with_nobody, lines_may_ask_for_nothing, may_end_anywhere};
 use pm_state::restarts_safely;
+use pm_supervisor_journal::{goes_on_over_its_journal, keeps_a_legal_journal};
 use pm_worker::Mail;
 
 pub(crate) fn laws<L: Link + Drop>()

@@ -1,21 +1,16 @@
 //! A look at every slot.
 ghost use Rattle.std.specs.Prelude.{◌≡◌, ◌+◌, ◌<◌, ℕ, false, true, OnOk, IfOk, IfSome, length, option_map};
-ghost use Rattle.pm_journal.specs.Due.{IsIdle};
-ghost use Rattle.pm_seating.specs.Board.{seats_of};
-ghost use Rattle.pm_seating.specs.Sitting.{AreReaped};
-ghost use Rattle.pm_postmaster.specs.Looking.{IsOpened, MayComeBack, TakesIn, fault_in};
-ghost use Rattle.pm_worker.specs.Mails.{mail_told};
-ghost use Rattle.pm_postmaster.specs.Serving.{Goes, IsAlive};
-ghost use Rattle.pm_postmaster.specs.View.{view_of};
+ghost use Rattle.pm_board_acts.specs.{pm_supervisor_journal.Due.IsIdle, Board.seats_of, Sitting.AreReaped, pm_worker.Mails.mail_told};
+ghost use Rattle.pm_postmaster.specs.{Looking.{IsOpened, MayComeBack, TakesIn, fault_in}, Serving.{Goes, IsAlive}, View.view_of};
 
 use crate::laws::laws;
 use crate::server::{Came, Server};
 use pm_board::Released;
+use pm_board_acts::Looked;
 use pm_disk::Disk;
 use pm_exit::Kind;
 use pm_outside::{Chronicle, Clock, Console, Link, Port, Sink};
 use pm_query::{BookEntry, StoreNo};
-use pm_seating::Looked;
 use pm_server::ServerEnd;
 use pm_state::PmEvent;
 use pm_worker::Mail;

@@ -1,25 +1,22 @@
 //! A whole run of a server.
 ghost use Rattle.std.specs.Prelude.{◌≡◌, ◌≤◌, ◌+◌, [], IfSome, option_map};
-ghost use Rattle.pm_outside.specs.Visits.{no_visits};
-ghost use Rattle.pm_postmaster.specs.Outside.{serve_view};
-ghost use Rattle.pm_postmaster.specs.Served.{IsEnded, IsServeRun, unmade_by};
-ghost use Rattle.pm_lines.specs.Log.{view_of};
-ghost use Rattle.pm_server.specs.Ends.{end_line};
+ghost use Rattle.pm_server.specs.{pm_outside.Visits.no_visits, pm_server_lines.Log.view_of, Ends.end_line};
+ghost use Rattle.pm_postmaster.specs.{Outside.serve_view, Served.{IsEnded, IsServeRun, unmade_by}};
 
 use crate::clearing::clear;
 use crate::laws::laws;
 use crate::server::Server;
+use pm_board_acts::Desk;
 use pm_disk::Disk;
-use pm_journal::Supervision;
-use pm_lines::Log;
 use pm_outside::{Chronicle, Clock, Console, Link, Port, Sink};
-use pm_pool::{Made, NoPool, Plan, Unmade, make};
 use pm_query::BookEntry;
-use pm_remains::part;
-use pm_seating::Desk;
+use pm_serve_pool::{Made, NoPool, Plan, Unmade, make};
 use pm_server::{Conf, Outside, ServerEnd, say_end};
+use pm_server_lines::Log;
 use pm_spawn::Spawner;
 use pm_state::PmEvent;
+use pm_store_remains::part;
+use pm_supervisor_journal::Supervision;
 use std::alloc::Global;
 use std::sync::Wait;
 use std::thread::Threads;

@@ -2,14 +2,14 @@
 
 ghost use Rattle.std.specs.Prelude.{◌≡◌, ℕ};
 
+use pm_board_acts::Desk;
 use pm_disk::Disk;
 use pm_exit::Status;
-use pm_lines::Log;
 use pm_outside::{Chronicle, Clock, Console, Link, Port, Sink};
 use pm_query::{BookEntry, StoreNo};
-use pm_seating::Desk;
-use pm_shared::Shared;
+use pm_server_lines::Log;
 use pm_state::PmEvent;
+use pm_store_shared::Shared;
 use pm_worker::Mail;
 
 /// How a startup child came out: its status, and the refusal of the store that it told, if it did.

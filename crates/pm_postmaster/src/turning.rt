@@ -1,10 +1,7 @@
 //! The turns of a server.
 ghost use Rattle.std.specs.Prelude.{◌≡◌, ◌+◌, ℕ, false, true, OnOk, length, option_map};
-ghost use Rattle.pm_journal.specs.Due.{IsIdle};
-ghost use Rattle.pm_journal.specs.Stands.{IsSettled};
-ghost use Rattle.pm_seating.specs.Sitting.{AreReaped};
-ghost use Rattle.pm_postmaster.specs.Serving.{Goes, IsAlive, Stops};
-ghost use Rattle.pm_postmaster.specs.View.{view_of};
+ghost use Rattle.pm_board_acts.specs.{pm_supervisor_journal.{Due.IsIdle, Stands.IsSettled}, Sitting.AreReaped};
+ghost use Rattle.pm_postmaster.specs.{Serving.{Goes, IsAlive, Stops}, View.view_of};
 
 use crate::laws::laws;
 use crate::server::Server;

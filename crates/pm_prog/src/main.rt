@@ -2,8 +2,7 @@
 #![tactic(auto)]
 
 ghost use Rattle.std.specs.Prelude.{◌≡◌, [], IfSome};
-ghost use Rattle.pm_outside.specs.MemConsole.{lines_given};
-ghost use Rattle.pm_outside.specs.Visits.{no_visits};
+ghost use Rattle.pm_outside.specs.{MemConsole.lines_given, Visits.no_visits};
 
 mod network;
 mod reports;
@@ -13,10 +12,10 @@ use crate::network::{Endpoint, Network, StartFault, open};
 use crate::reports::Reports;
 use crate::words::{given_words, print_misfit};
 use pm_disk::{Disk, MemDisk};
-use pm_files::LogFiles;
 use pm_outside::{Console, Forgotten, Link, MemClock, MemConsole, MemPort, Port, Sink};
+use pm_outside_files::LogFiles;
+use pm_outside_streams::{StandardPort, StandardSink, SystemClock, fill_standard_streams};
 use pm_rows::Text;
-use pm_standard::{StandardPort, StandardSink, SystemClock, fill_standard_streams};
 use pm_top::{Command, Ended, Outside, Top, read_words, run};
 use std::alloc::Global;
 use std::env::Env;

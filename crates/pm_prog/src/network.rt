@@ -1,5 +1,5 @@
 //! The parts of a server's outside whose waits end one another: its port over TCP, its clock and its console.
-use pm_net::{Bells, BindFault, ServerClock, StandardConsole, TcpPort, standard_console};
+use pm_outside_net::{Bells, BindFault, ServerClock, StandardConsole, TcpPort, standard_console};
 use std::alloc::{AllocError, Global};
 use std::io::{self, Stdin};
 use std::net::Net;

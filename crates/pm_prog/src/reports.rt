@@ -1,9 +1,9 @@
 //! What the program tells after a run: what failed first in each part of its outside.
 use pm_disk::MemDisk;
-use pm_files::LogFiles;
-use pm_net::{StandardConsole, TcpPort};
 use pm_outside::{MemConsole, MemPort};
-use pm_standard::{StandardPort, StandardSink};
+use pm_outside_files::LogFiles;
+use pm_outside_net::{StandardConsole, TcpPort};
+use pm_outside_streams::{StandardPort, StandardSink};
 use std::fmt::Display;
 use std::io::Write;
 use std::net::Net;

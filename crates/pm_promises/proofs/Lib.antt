@@ -1,1 +1,3 @@
 pub mod Wronging
+pub mod RestartsLaws
+pub mod StopsLaws

@@ -1,27 +1,8 @@
 -- What a stop leaves holds what was acknowledged, and each commit as a whole.
-use Rattle.std.proofs.Common.{◌≡◌, ◌⊎◌, inl, inr, ℕ, zero, suc, ◌+◌, ◌-◌, ◌≤◌, ◌<◌, Bool, true, false, cond, ◌||◌, List, [], ◌∷◌, ◌++◌, take, length, Option, None, Some, fold, refl, sym, ap, subst, ◌∙◌, arith, append_assoc, append-nil}
-use Rattle.std.proofs.Math.Logic.{∥∥₁_map}
-use Rattle.std.proofs.Math.Seq.{length-take-le}
-use Rattle.std.specs.Prelude.{IfSome, nat_le}
-use Rattle.std.specs.List.{AllByRecursion, list_any}
-use Rattle.std.proofs.lemmas.List.Elements.{recursion_from_All}
-use Rattle.pm_disk.specs.Files.{Files}
-use Rattle.pm_rows.specs.Fold.{folded}
-use Rattle.pm_rows.specs.Standing.{Standing}
-use Rattle.pm_rows.specs.declared.commit.Change.{Change}
-use Rattle.pm_record.specs.Pair.{Means}
-use Rattle.pm_query.specs.declared.book.BookEntry.{BookEntry}
-use Rattle.pm_query.specs.declared.book.BookEntry.TheVariants.{Opened, Redone, Attached, Answered, Released, Detached, Gone, CheckpointEnded, Broke, LogFull}
-use Rattle.pm_query.specs.AtTick.{history_at, is_by, up_to}
-use Rattle.pm_query.specs.Book.{Base, Course, course_after, history_after, history_of, standing_of}
-use Rattle.pm_query.specs.BookLaws.{AckedNeverFalls}
-use Rattle.pm_query.specs.Durable.{HoldsAcknowledged, IsDurable, IsWithin}
-use Rattle.pm_query.specs.History.{History, beginning, number}
-use Rattle.pm_server.specs.Views.{DiskView}
-use Rattle.pm_server.specs.Story.{HoldsHistory, IsNoAnswer, KeepsMeaning}
-use Rattle.pm_promises.specs.Stops.{AcknowledgedStays, AreSomeOf, IsAsAtFirst, MeansWhole, WholeOrNot, commit_by, commits_in}
-use Rattle.pm_promises.specs.Promises.{IsBaseOf}
-use Rattle.pm_answers.specs.HistoryLaws.{base_stays}
+use Rattle.std.{proofs.{Common.{◌≡◌, ◌⊎◌, inl, inr, ℕ, zero, suc, ◌+◌, ◌-◌, ◌≤◌, ◌<◌, Bool, true, false, cond, ◌||◌, List, [], ◌∷◌, ◌++◌, take, length, Option, None, Some, fold, refl, sym, ap, subst, ◌∙◌, arith, append_assoc, append-nil}, Math.{Logic.∥∥₁_map, Seq.length-take-le}, lemmas.List.Elements.recursion_from_All}, specs.{Prelude.{IfSome, nat_le}, List.{AllByRecursion, list_any}}}
+use Rattle.pm_server.specs.{pm_disk.Files.Files, pm_rows.{Fold.folded, Standing.Standing, declared.commit.Change.Change}, pm_record.Pair.Means, Views.DiskView, Story.{HoldsHistory, IsNoAnswer, KeepsMeaning}}
+use Rattle.pm_session_answers.{specs.pm_query.{declared.book.BookEntry.{BookEntry, TheVariants.{Opened, Redone, Attached, Answered, Released, Detached, Gone, CheckpointEnded, Broke, LogFull}}, AtTick.{history_at, is_by, up_to}, Book.{Base, Course, course_after, history_after, history_of, standing_of}, BookLaws.AckedNeverFalls, Durable.{HoldsAcknowledged, IsDurable, IsWithin}, History.{History, beginning, number}}, proofs.HistoryLaws.base_stays}
+use Rattle.pm_promises.specs.{Stops.{AcknowledgedStays, AreSomeOf, IsAsAtFirst, MeansWhole, WholeOrNot, commit_by, commits_in}, Promises.IsBaseOf}
 
 -- ---- before the first answer
 

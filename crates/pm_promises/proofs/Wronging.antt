@@ -1,10 +1,7 @@
 -- What the promises don't let through.
 use Rattle.std.proofs.Common.{◌≤◌, List, [], ◌∷◌, ap, arith}
-use Rattle.pm_rows.specs.Standing.{Standing}
-use Rattle.pm_rows.specs.declared.commit.Change.{Change}
-use Rattle.pm_query.specs.Answer.{commit_of}
-use Rattle.pm_query.specs.History.{number}
-use Rattle.pm_answers.specs.Replies.{with_changes}
+use Rattle.pm_server.specs.pm_rows.{Standing.Standing, declared.commit.Change.Change}
+use Rattle.pm_session_answers.specs.{pm_query.{Answer.commit_of, History.number}, Replies.with_changes}
 use Rattle.pm_promises.specs.Laws.{NoneBeyond}
 
 grows : (changes : List Change) (s : Standing) → s.count ≤ (with_changes changes s).count

@@ -1,14 +1,7 @@
 -- What a clean end leaves.
 use Rattle.std.specs.Prelude.{◌≡◌, ◌≢◌, All, List, IfSome}
-use Rattle.pm_disk.specs.Files.{Files}
-use Rattle.pm_modes.specs.declared.Mode.TheVariants.{Immediate}
-use Rattle.pm_query.specs.History.{History}
-use Rattle.pm_state.specs.declared.event.PmEvent.{PmEvent}
-use Rattle.pm_server.specs.Journal.{asked_in}
-use Rattle.pm_server.specs.Views.{DiskView}
-use Rattle.pm_server.specs.Story.{IsClean}
-use Rattle.pm_server.specs.declared.end.ServerEnd.{ServerEnd}
-use Rattle.pm_server.specs.declared.end.ServerEnd.TheVariants.{Clean}
+use Rattle.pm_server.specs.{pm_disk.Files.Files, pm_modes.declared.Mode.TheVariants.Immediate, pm_state.declared.event.PmEvent.PmEvent, Journal.asked_in, Views.DiskView, Story.IsClean, declared.end.ServerEnd.{ServerEnd, TheVariants.Clean}}
+use Rattle.pm_session_answers.specs.pm_query.History.{History}
 
 -- the files mean all commits of the history, and the log says that it is clean; so does whatever a stop leaves
 abbrev pub AreLeftClean : History → DiskView → Files → Type 0

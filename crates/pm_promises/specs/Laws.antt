@@ -1,9 +1,6 @@
 -- What the promises don't let through, and what they do: a law of `laws.rt`.
 use Rattle.std.specs.Prelude.{ℕ, ◌<◌, List, [], ◌∷◌}
-use Rattle.pm_query.specs.declared.item.Item.{Item}
-use Rattle.pm_query.specs.History.{History}
-use Rattle.pm_exchange.specs.Sent.{Ran}
-use Rattle.pm_answers.specs.Replies.{AreRight}
+use Rattle.pm_session_answers.specs.{pm_query.{declared.item.Item.Item, History.History}, pm_session_exchange.Sent.Ran, Replies.AreRight}
 
 -- no reply is right that would show more than is acknowledged, or less than the session has seen
 abbrev pub NoneBeyond : Type 0

@@ -3,5 +3,4 @@ pub mod Restarts
 pub mod Ends
 pub mod Promises
 pub mod Laws
-pub mod StopsLaws
-pub mod RestartsLaws
+pub use Rattle.pm_session_answers.specs as pm_session_answers

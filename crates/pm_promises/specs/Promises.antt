@@ -1,20 +1,8 @@
 -- What a user counts on of any run of a server, by what it leaves: its journal, its book, its links and its files.
-use Rattle.std.specs.Prelude.{◌≡◌, ◌⊎◌, true, List, IfSome}
-use Rattle.std.specs.List.{AllByRecursion}
-use Rattle.pm_supervisor.specs.declared.Limits.{Limits}
-use Rattle.pm_record.specs.Pair.{MeansIn}
-use Rattle.pm_state.specs.declared.event.PmEvent.{PmEvent}
-use Rattle.pm_state.specs.Restarts.{RestartsInOrder}
-use Rattle.pm_query.specs.declared.book.BookEntry.{BookEntry}
-use Rattle.pm_query.specs.Book.{Base, history_of, standing_of}
-use Rattle.pm_segment.specs.Unread.{breaks_unread}
-use Rattle.pm_server.specs.Views.{DiskView}
-use Rattle.pm_server.specs.Story.{IsNoAnswer}
-use Rattle.pm_server.specs.declared.end.ServerEnd.{ServerEnd}
-use Rattle.pm_promises.specs.Ends.{EndsClean}
-use Rattle.pm_answers.specs.Replies.{AnswersAreRight, Talk}
-use Rattle.pm_promises.specs.Restarts.{OpensEmpty}
-use Rattle.pm_promises.specs.Stops.{AcknowledgedStays, WholeOrNot}
+use Rattle.std.specs.{Prelude.{◌≡◌, ◌⊎◌, true, List, IfSome}, List.AllByRecursion}
+use Rattle.pm_server.specs.{pm_supervisor.declared.Limits.Limits, pm_record.Pair.MeansIn, pm_state.{declared.event.PmEvent.PmEvent, Restarts.RestartsInOrder}, pm_segment.Unread.breaks_unread, Views.DiskView, Story.IsNoAnswer, declared.end.ServerEnd.ServerEnd}
+use Rattle.pm_session_answers.specs.{pm_query.{declared.book.BookEntry.BookEntry, Book.{Base, history_of, standing_of}}, Replies.{AnswersAreRight, Talk}}
+use Rattle.pm_promises.specs.{Ends.EndsClean, Restarts.OpensEmpty, Stops.{AcknowledgedStays, WholeOrNot}}
 
 -- The base is what the files meant that were handed in, unless a fault of the disk stands in the book before its first redo,
 -- or nothing was answered.

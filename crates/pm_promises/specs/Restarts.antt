@@ -1,8 +1,6 @@
 -- What a crash keeps from connections, by the store's book. The journal's half is that of the supervisor.
 use Rattle.std.specs.Prelude.{◌≡◌, ℕ, List, ◌∷◌, ◌++◌}
-use Rattle.pm_query.specs.declared.book.BookEntry.{BookEntry}
-use Rattle.pm_query.specs.declared.book.BookEntry.TheVariants.{Opened}
-use Rattle.pm_query.specs.Book.{times_attached}
+use Rattle.pm_session_answers.specs.pm_query.{declared.book.BookEntry.{BookEntry, TheVariants.Opened}, Book.times_attached}
 
 -- a generation of the store begins where nobody is inside it
 abbrev pub OpensEmpty : List BookEntry → Type 0

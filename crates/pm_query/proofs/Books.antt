@@ -1,18 +1,7 @@
 -- What holds of the history along a legal book.
-use Rattle.std.proofs.Common.{◌≡◌, ℕ, ◌-◌, ◌≤◌, List, [], ◌∷◌, ◌++◌, Option, None, Some, fold, refl, sym, ap, subst, ◌∙◌, arith, append_assoc, append-nil, true≢false}
-use Rattle.std.specs.Prelude.{All, Any, IsSome, is_some}
-use Rattle.std.proofs.lemmas.List.{take-append-le}
-use Rattle.std.proofs.lemmas.List.Elements.{All-nil, All-push, All-weaker}
-use Rattle.std.proofs.lemmas.List.Sums.{fold-append}
-use Rattle.std.proofs.Math.Seq.{take-take}
-use Rattle.pm_rows.specs.declared.commit.Change.{Change}
-use Rattle.pm_query.specs.declared.book.BookEntry.{BookEntry}
-use Rattle.pm_query.specs.declared.book.BookEntry.TheVariants.{Opened, Redone, Attached, Answered, Released, Detached, Gone, CheckpointEnded, Broke, LogFull}
-use Rattle.pm_rows.specs.Standing.{Standing}
-use Rattle.pm_query.specs.History.{History, acknowledged, beginning, count_of, kept, number, with_commit}
-use Rattle.pm_query.specs.Book.{AnswersUpTo, Base, Course, KeepsNumber, MayFollow, MayGoOn, course_after, course_of, history_after, history_of, kept_after, kept_by_redo, present, present_after, standing_of}
-use Rattle.pm_query.specs.BookLaws.{AckedIsWithin, AckedNeverFalls, AcknowledgedStays, RepeatChangesNothing}
-use Rattle.pm_query.specs.HistoryLaws.{base-with_commit, count_of-with_commit, cut_count, going-append, history_push, number_of, present_push, redone_push}
+use Rattle.std.{proofs.{Common.{◌≡◌, ℕ, ◌-◌, ◌≤◌, List, [], ◌∷◌, ◌++◌, Option, None, Some, fold, refl, sym, ap, subst, ◌∙◌, arith, append_assoc, append-nil, true≢false}, lemmas.List.{take-append-le, Elements.{All-nil, All-push, All-weaker}, Sums.fold-append}, Math.Seq.take-take}, specs.Prelude.{All, Any, IsSome, is_some}}
+use Rattle.pm_rows.specs.{declared.commit.Change.Change, Standing.Standing}
+use Rattle.pm_query.{specs.{declared.book.BookEntry.{BookEntry, TheVariants.{Opened, Redone, Attached, Answered, Released, Detached, Gone, CheckpointEnded, Broke, LogFull}}, History.{History, acknowledged, beginning, count_of, kept, number, with_commit}, Book.{AnswersUpTo, Base, Course, KeepsNumber, MayFollow, MayGoOn, course_after, course_of, history_after, history_of, kept_after, kept_by_redo, present, present_after, standing_of}, BookLaws.{AckedIsWithin, AckedNeverFalls, AcknowledgedStays, RepeatChangesNothing}}, proofs.HistoryLaws.{base-with_commit, count_of-with_commit, cut_count, going-append, history_push, number_of, present_push, redone_push}}
 
 -- ---- one history after another
 

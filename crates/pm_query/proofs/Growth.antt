@@ -1,18 +1,8 @@
 -- How rows grow with commits.
-use Rattle.std.proofs.Common.{◌≡◌, ℕ, ◌+◌, ◌-◌, ◌≤◌, List, [], ◌∷◌, ◌++◌, take, Option, None, Some, fold, sum_by, refl, ap, arith}
-use Rattle.std.proofs.lemmas.List.Sums.{sum_by-cons, sum_by-append, sum_by-take-le}
-use Rattle.pm_rows.specs.Fold.{RowMap, changed, committed, folded}
+use Rattle.std.proofs.{Common.{◌≡◌, ℕ, ◌+◌, ◌-◌, ◌≤◌, List, [], ◌∷◌, ◌++◌, take, Option, None, Some, fold, sum_by, refl, ap, arith}, lemmas.List.Sums.{sum_by-cons, sum_by-append, sum_by-take-le}}
+use Rattle.pm_rows.{specs.{Fold.{RowMap, changed, committed, folded}, Size.size_of, declared.commit.Change.{Change, TheVariants.{Put, Del}}, Standing.Standing}, proofs.RowLaws.{size-insert, size-remove}}
 use Rattle.pm_rows.specs.LogSize as log
-use Rattle.pm_rows.specs.Size.{size_of}
-use Rattle.pm_rows.specs.declared.commit.Change.{Change}
-use Rattle.pm_rows.specs.declared.commit.Change.TheVariants.{Put, Del}
-use Rattle.pm_query.specs.declared.book.BookEntry.{BookEntry}
-use Rattle.pm_query.specs.declared.book.BookEntry.TheVariants.{Opened, Redone, Attached, Answered, Released, Detached, Gone, CheckpointEnded, Broke, LogFull}
-use Rattle.pm_rows.specs.Standing.{Standing}
-use Rattle.pm_query.specs.History.{History, beginning}
-use Rattle.pm_query.specs.Book.{Course, course_after, history_after, history_of, need_after, need_of, needs_of, standing_of}
-use Rattle.pm_query.specs.BookLaws.{CommitsAddTheirBytes, RowsAreWithinNeeds}
-use Rattle.pm_rows.specs.RowLaws.{size-insert, size-remove}
+use Rattle.pm_query.specs.{declared.book.BookEntry.{BookEntry, TheVariants.{Opened, Redone, Attached, Answered, Released, Detached, Gone, CheckpointEnded, Broke, LogFull}}, History.{History, beginning}, Book.{Course, course_after, history_after, history_of, need_after, need_of, needs_of, standing_of}, BookLaws.{CommitsAddTheirBytes, RowsAreWithinNeeds}}
 
 changed_size : (rows : RowMap) (change : Change) → size_of (changed rows change) ≤ size_of rows + log.change_length change
 changed_size rows (Put key value) = omega (arith, size-insert rows key value)

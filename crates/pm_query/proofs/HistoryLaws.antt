@@ -1,20 +1,7 @@
 -- Laws of a book that goes on by an entry, and of its history.
-use Rattle.std.proofs.Common.{◌≡◌, ℕ, ◌-◌, ◌≤◌, ℤ, List, [], ◌∷◌, ◌++◌, length, Option, None, fold, refl, sym, ap, subst, ◌∙◌, arith, length-append, append_assoc, append-nil}
-use Rattle.std.specs.Ordering.{int_cmp}
-use Rattle.std.specs.Prelude.{All}
-use Rattle.std.specs.FinMap.{empty, entries, len-empty, len-entries}
-use Rattle.std.proofs.lemmas.List.{take_all}
-use Rattle.std.proofs.lemmas.List.Elements.{All-nil}
-use Rattle.std.proofs.lemmas.List.Sums.{fold-append}
-use Rattle.std.proofs.Math.Seq.{length-take-le}
-use Rattle.pm_rows.specs.Fold.{committed, folded}
-use Rattle.pm_rows.specs.declared.commit.Change.{Change}
-use Rattle.pm_rows.specs.Standing.{Standing}
-use Rattle.pm_query.specs.declared.book.BookEntry.{BookEntry}
-use Rattle.pm_query.specs.declared.book.BookEntry.TheVariants.{Opened, Attached, Redone, Answered, Released, Detached, Gone, CheckpointEnded, Broke, LogFull}
-use Rattle.pm_query.specs.History.{History, beginning, count_of, kept, number, rows_of, with_commit}
-use Rattle.pm_query.specs.Limits.{HasShortRows, IsShortRow}
-use Rattle.pm_query.specs.Book.{Base, Course, MayGoOn, course_after, generation_after, generation_of, history_after, history_of, kept_after, kept_by_redo, present, present_after, standing_of, times_after, times_attached}
+use Rattle.std.{proofs.{Common.{◌≡◌, ℕ, ◌-◌, ◌≤◌, ℤ, List, [], ◌∷◌, ◌++◌, length, Option, None, fold, refl, sym, ap, subst, ◌∙◌, arith, length-append, append_assoc, append-nil}, lemmas.List.{take_all, Elements.All-nil, Sums.fold-append}, Math.Seq.length-take-le}, specs.{Ordering.int_cmp, Prelude.All, FinMap.{empty, entries, len-empty, len-entries}}}
+use Rattle.pm_rows.specs.{Fold.{committed, folded}, declared.commit.Change.Change, Standing.Standing}
+use Rattle.pm_query.specs.{declared.book.BookEntry.{BookEntry, TheVariants.{Opened, Attached, Redone, Answered, Released, Detached, Gone, CheckpointEnded, Broke, LogFull}}, History.{History, beginning, count_of, kept, number, rows_of, with_commit}, Limits.{HasShortRows, IsShortRow}, Book.{Base, Course, MayGoOn, course_after, generation_after, generation_of, history_after, history_of, kept_after, kept_by_redo, present, present_after, standing_of, times_after, times_attached}}
 
 -- ---- one entry more
 

@@ -1,29 +1,11 @@
 -- What a script keeps from statement to statement: rows within their limits, short values, and no more changes than
 -- statements that write.
-use Rattle.std.proofs.Common.{◌≡◌, ℕ, ℤ, ◌+◌, ◌-◌, ◌≤◌, ◌<◌, Bool, true, false, cond, List, [], ◌∷◌, length, length-append, Some, None, fold, nat_lt, nat_le, refl, sym, ap, subst, ◌∙◌, arith}
-use Rattle.std.specs.Prelude.{All, count_by}
-use Rattle.std.specs.Option.{option_to_list}
-use Rattle.std.specs.declared.cmp.Ordering.TheVariants.{Less, Equal, Greater}
-use Rattle.std.specs.Ordering.{int_cmp, eq_by_cmp}
-use Rattle.std.specs.Cmp.{int_cmp_total}
-use Rattle.std.specs.FinMap.{get, insert, remove, contains_key, len, entries, find, put, entries-insert, get-entries, len-insert, len-remove}
-use Rattle.std.specs.FinMap.Entries.{by_order}
-use Rattle.std.proofs.lemmas.List.Elements.{All-nil, All-cons, All-head, All-tail, All-append, All-push, All-same, All-filter}
-use Rattle.std.proofs.lemmas.List.Sums.{sum_by-cons}
-use Rattle.std.proofs.lemmas.Bool.Decides.{nat_tests}
-use Rattle.pm_rows.specs.Fold.{RowMap, changed}
-use Rattle.pm_rows.specs.Limits.{max_rows, max_rows_bytes, max_value_bytes, IsWithinRowLimits}
-use Rattle.pm_rows.specs.declared.commit.Change.{Change}
-use Rattle.pm_rows.specs.declared.commit.Change.TheVariants.{Put, Del}
-use Rattle.pm_sql.specs.declared.stmt.Stmt.{Stmt}
+use Rattle.std.{proofs.{Common.{◌≡◌, ℕ, ℤ, ◌+◌, ◌-◌, ◌≤◌, ◌<◌, Bool, true, false, cond, List, [], ◌∷◌, length, length-append, Some, None, fold, nat_lt, nat_le, refl, sym, ap, subst, ◌∙◌, arith}, lemmas.{List.{Elements.{All-nil, All-cons, All-head, All-tail, All-append, All-push, All-same, All-filter}, Sums.sum_by-cons}, Bool.Decides.nat_tests}}, specs.{Prelude.{All, count_by}, Option.option_to_list, declared.cmp.Ordering.TheVariants.{Less, Equal, Greater}, Ordering.{int_cmp, eq_by_cmp}, Cmp.int_cmp_total, FinMap.{get, insert, remove, contains_key, len, entries, find, put, entries-insert, get-entries, len-insert, len-remove, Entries.by_order}}}
+use Rattle.pm_rows.{specs.{Fold.{RowMap, changed}, Limits.{max_rows, max_rows_bytes, max_value_bytes, IsWithinRowLimits}, declared.commit.Change.{Change, TheVariants.{Put, Del}}}, proofs.RowLaws.{entries-remove, size-remove}}
+use Rattle.pm_sql.specs.{declared.stmt.Stmt.Stmt, Limits.{is_writing, HasShortValue}}
 use Rattle.pm_sql.specs.declared.stmt.Stmt.TheVariants as stmts
-use Rattle.pm_sql.specs.Limits.{is_writing, HasShortValue}
-use Rattle.pm_query.specs.declared.item.Item.{Item}
+use Rattle.pm_query.specs.{declared.{item.Item.Item, effect.Effect.Effect}, Answer.{Progress, answers, makes, is_full, is_too_large, row_at, insertion, replacement, deletion, effect_of, with_change, has_failed, advanced, after_statement}, Limits.{IsShortRow, HasShortRows, IsShortChange, HasShortValues}}
 use Rattle.pm_query.specs.declared.item.Item.TheVariants as items
-use Rattle.pm_query.specs.declared.effect.Effect.{Effect}
-use Rattle.pm_query.specs.Answer.{Progress, answers, makes, is_full, is_too_large, row_at, insertion, replacement, deletion, effect_of, with_change, has_failed, advanced, after_statement}
-use Rattle.pm_query.specs.Limits.{IsShortRow, HasShortRows, IsShortChange, HasShortValues}
-use Rattle.pm_rows.specs.RowLaws.{entries-remove, size-remove}
 
 -- ---- rows with one change
 

@@ -1,24 +1,9 @@
 -- Proofs of the laws of the answer, along the statements.
-use Rattle.std.proofs.Common.{◌≡◌, true, false, cond, List, [], ◌∷◌, ◌++◌, Option, Some, None, fold, refl, sym, ap, subst, ◌∙◌, arith}
-use Rattle.std.specs.Bool.{IsTrue}
-use Rattle.std.specs.List.{list_any}
-use Rattle.std.specs.Option.{option_to_list}
-use Rattle.std.specs.Prelude.{All}
-use Rattle.std.proofs.lemmas.Bool.{or_parts}
-use Rattle.std.proofs.lemmas.List.Elements.{All-nil, All-cons}
-use Rattle.pm_rows.specs.Fold.{RowMap, changed, committed}
-use Rattle.pm_rows.specs.RowLaws.{committed-push}
-use Rattle.pm_rows.specs.Limits.{max_changes, IsWithinRowLimits}
-use Rattle.pm_rows.specs.declared.commit.Change.{Change}
-use Rattle.pm_sql.specs.declared.stmt.Stmt.{Stmt}
+use Rattle.std.{proofs.{Common.{◌≡◌, true, false, cond, List, [], ◌∷◌, ◌++◌, Option, Some, None, fold, refl, sym, ap, subst, ◌∙◌, arith}, lemmas.{Bool.or_parts, List.Elements.{All-nil, All-cons}}}, specs.{Bool.IsTrue, List.list_any, Option.option_to_list, Prelude.All}}
+use Rattle.pm_rows.{specs.{Fold.{RowMap, changed, committed}, Limits.{max_changes, IsWithinRowLimits}, declared.commit.Change.Change}, proofs.RowLaws.committed-push}
+use Rattle.pm_sql.specs.{declared.stmt.Stmt.Stmt, Limits.{IsWithinScriptLimits, is_writing}}
 use Rattle.pm_sql.specs.declared.stmt.Stmt.TheVariants as stmts
-use Rattle.pm_sql.specs.Limits.{IsWithinScriptLimits, is_writing}
-use Rattle.pm_query.specs.declared.item.Item.{Item}
-use Rattle.pm_query.specs.declared.item.Item.TheVariants.{Empty}
-use Rattle.pm_query.specs.Answer.{Progress, is_error, has_error, has_failed, with_change, effect_of, advanced, after_statement, start_on, after_script, items_of, commit_of}
-use Rattle.pm_query.specs.Laws.{CommitLeavesRows, ErrorsComeLast, OnlyWritesCommit}
-use Rattle.pm_query.specs.Limits.{HasShortRows, HasShortValues, IsShortChange, IsWithinCommitLimits}
-use Rattle.pm_query.proofs.Keeping.{IsKept, kept_script}
+use Rattle.pm_query.{specs.{declared.item.Item.{Item, TheVariants.Empty}, Answer.{Progress, is_error, has_error, has_failed, with_change, effect_of, advanced, after_statement, start_on, after_script, items_of, commit_of}, Laws.{CommitLeavesRows, ErrorsComeLast, OnlyWritesCommit}, Limits.{HasShortRows, HasShortValues, IsShortChange, IsWithinCommitLimits}}, proofs.Keeping.{IsKept, kept_script}}
 
 none_last : (rows : RowMap) (changes : List Change) → committed rows (changes ++ []) ≡ committed rows changes
 none_last rows [] = refl

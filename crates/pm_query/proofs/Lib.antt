@@ -9,3 +9,5 @@ pub mod Books
 pub mod WorkedBookProofs
 pub mod Ticks
 pub mod Growth
+pub mod HistoryLaws
+pub mod NotedLaws

@@ -1,15 +1,7 @@
 -- How rows in order and changes over them become one list, from the front on.
-use Rattle.std.proofs.Common.{◌≡◌, ℕ, ℤ, Bool, true, false, cond, not, T, List, [], ◌∷◌, ◌++◌, Option, Some, None, refl, sym, ap, subst, ◌∙◌, append_assoc}
-use Rattle.std.specs.declared.cmp.Ordering.TheVariants.{Less, Equal, Greater}
-use Rattle.std.specs.Ordering.{int_cmp, eq_by_cmp, is_lt, is_eq, ordering_reverse}
-use Rattle.std.specs.Cmp.{int_cmp_total, tied_itself}
-use Rattle.std.specs.Map.Iter.{TakesFirst}
-use Rattle.std.specs.FinMap.{is_sorted, int_cmp-IsAntisymmetric}
-use Rattle.std.specs.FinMap.Entries.{below_all, by_order, put, where_key}
-use Rattle.pm_facts.specs.Bools.{hold_both, holds_first, holds_second}
-use Rattle.pm_facts.specs.Orders.{is_less, less_is}
-use Rattle.pm_query.specs.Answer.{row_at}
-use Rattle.pm_query.specs.Merge.{put_or_drop, laid}
+use Rattle.std.{proofs.Common.{◌≡◌, ℕ, ℤ, Bool, true, false, cond, not, T, List, [], ◌∷◌, ◌++◌, Option, Some, None, refl, sym, ap, subst, ◌∙◌, append_assoc}, specs.{declared.cmp.Ordering.TheVariants.{Less, Equal, Greater}, Ordering.{int_cmp, eq_by_cmp, is_lt, is_eq, ordering_reverse}, Cmp.{int_cmp_total, tied_itself}, Map.Iter.TakesFirst, FinMap.{is_sorted, int_cmp-IsAntisymmetric, Entries.{below_all, by_order, put, where_key}}}}
+use Rattle.pm_rows.specs.pm_facts.{Bools.{hold_both, holds_first, holds_second}, Orders.{is_less, less_is}}
+use Rattle.pm_query.specs.{Answer.row_at, Merge.{put_or_drop, laid}}
 
 -- what is left where one item was taken ahead
 abbrev pub left : {A X : Type 0} → (A → X) → Option A → List X → List X

@@ -1,7 +1,6 @@
 -- Laws of what a child noted, put together from what the calls of any store note.
 use Rattle.std.proofs.Common.{◌≡◌, ℕ, List, [], ◌++◌, Option, refl, subst}
-use Rattle.pm_query.specs.declared.book.BookEntry.{BookEntry}
-use Rattle.pm_query.specs.Calls.{PassView, user_of, newcomer, new_pass, with_front}
+use Rattle.pm_query.specs.{declared.book.BookEntry.BookEntry, Calls.{PassView, user_of, newcomer, new_pass, with_front}}
 
 -- ---- what was noted in turn
 

@@ -1,14 +1,8 @@
 -- What changes over rows make of them.
-use Rattle.std.proofs.Common.{◌≡◌, ℕ, ℤ, Bool, true, false, cond, List, [], ◌∷◌, Option, Some, None, unwrap_or, refl, sym, ap, subst, ◌∙◌}
-use Rattle.std.specs.Ordering.{int_cmp, eq_by_cmp}
-use Rattle.std.specs.Cmp.{int_cmp_total, eq_by_cmp_equiv}
-use Rattle.std.specs.FinMap.{get, get-insert, get-remove}
-use Rattle.std.specs.Map.{lookup}
+use Rattle.std.{proofs.Common.{◌≡◌, ℕ, ℤ, Bool, true, false, cond, List, [], ◌∷◌, Option, Some, None, unwrap_or, refl, sym, ap, subst, ◌∙◌}, specs.{Ordering.{int_cmp, eq_by_cmp}, Cmp.{int_cmp_total, eq_by_cmp_equiv}, FinMap.{get, get-insert, get-remove}, Map.lookup, BTreeMap.{BTreeMap, is_at, Updates}}}
 use Rattle.std.specs.BTreeMap as tree
-use Rattle.std.specs.BTreeMap.{BTreeMap, is_at, Updates}
-use Rattle.pm_rows.specs.Fold.{RowMap}
+use Rattle.pm_rows.{specs.Fold.RowMap, proofs.RowLaws.same_rows}
 use Rattle.pm_query.specs.Changes.{left_at, laid_over}
-use Rattle.pm_rows.specs.RowLaws.{same_rows}
 
 pub get-left_at : (rows : RowMap) (key : ℤ) (value : Option (List ℕ)) (q : ℤ) → get (left_at rows key value) q ≡ cond (eq_by_cmp int_cmp q key) value (get rows q)
 get-left_at rows key None q = get-remove int_cmp_total rows key q

@@ -1,11 +1,7 @@
 -- How far a script has come.
-use Rattle.std.proofs.Common.{◌≡◌, List, [], ◌∷◌, ◌++◌, refl, ap}
-use Rattle.std.proofs.lemmas.List.Sums.{fold-append}
-use Rattle.pm_rows.specs.Fold.{RowMap}
-use Rattle.pm_sql.specs.declared.stmt.Stmt.{Stmt}
-use Rattle.pm_query.specs.declared.run.Run.{Run}
-use Rattle.pm_query.specs.Answer.{after_script, after_statement, start_on, items_of}
-use Rattle.pm_query.specs.Run.{progress_of, KnowsFailure}
+use Rattle.std.proofs.{Common.{◌≡◌, List, [], ◌∷◌, ◌++◌, refl, ap}, lemmas.List.Sums.fold-append}
+use Rattle.pm_sql.specs.{pm_rows.Fold.RowMap, declared.stmt.Stmt.Stmt}
+use Rattle.pm_query.specs.{declared.run.Run.Run, Answer.{after_script, after_statement, start_on, items_of}, Run.{progress_of, KnowsFailure}}
 
 -- a run has come to the end of these statements
 pub record IsOnTheWay (run : Run) (rows : RowMap) (script : List Stmt) : Type 0 where

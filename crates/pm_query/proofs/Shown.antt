@@ -1,13 +1,7 @@
 -- The entries of rows with changes over them.
-use Rattle.std.proofs.Common.{◌≡◌, ℕ, ℤ, not, List, [], ◌∷◌, Option, Some, None, refl, ap, ◌∙◌}
-use Rattle.std.specs.Ordering.{int_cmp, eq_by_cmp}
-use Rattle.std.specs.Cmp.{int_cmp_total}
-use Rattle.std.specs.FinMap.{entries, entries-insert, put}
-use Rattle.std.specs.FinMap.Entries.{where_key}
-use Rattle.pm_rows.specs.Fold.{RowMap}
-use Rattle.pm_rows.specs.RowLaws.{entries-remove}
-use Rattle.pm_query.specs.Changes.{laid_over}
-use Rattle.pm_query.specs.Merge.{laid}
+use Rattle.std.{proofs.Common.{◌≡◌, ℕ, ℤ, not, List, [], ◌∷◌, Option, Some, None, refl, ap, ◌∙◌}, specs.{Ordering.{int_cmp, eq_by_cmp}, Cmp.int_cmp_total, FinMap.{entries, entries-insert, put, Entries.where_key}}}
+use Rattle.pm_rows.{specs.Fold.RowMap, proofs.RowLaws.entries-remove}
+use Rattle.pm_query.specs.{Changes.laid_over, Merge.laid}
 
 -- the entries of rows with changes over them are those of the rows with each change
 pub entries-laid_over : (rows : RowMap) (changes : List (ℤ × Option (List ℕ))) → entries (laid_over rows changes) ≡ laid (entries rows) changes

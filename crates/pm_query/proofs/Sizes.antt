@@ -1,11 +1,6 @@
 -- How the number of rows and their size change with one of them.
-use Rattle.std.proofs.Common.{◌≡◌, ℕ, ℤ, suc, ◌+◌, ◌-◌, ◌≤◌, true, false, cond, List, [], ◌∷◌, length, Option, Some, None, is_some, ap, arith}
-use Rattle.std.specs.Ordering.{int_cmp, eq_by_cmp}
-use Rattle.std.specs.Cmp.{int_cmp_total}
-use Rattle.std.specs.FinMap.{get, len, entries, find, get-entries, len-entries, len-insert, len-remove}
-use Rattle.pm_rows.specs.Fold.{RowMap}
-use Rattle.pm_rows.specs.RowLaws.{size-insert, size-remove}
-use Rattle.pm_rows.specs.Size.{size_of}
+use Rattle.std.{proofs.Common.{◌≡◌, ℕ, ℤ, suc, ◌+◌, ◌-◌, ◌≤◌, true, false, cond, List, [], ◌∷◌, length, Option, Some, None, is_some, ap, arith}, specs.{Ordering.{int_cmp, eq_by_cmp}, Cmp.int_cmp_total, FinMap.{get, len, entries, find, get-entries, len-entries, len-insert, len-remove}}}
+use Rattle.pm_rows.{specs.{Fold.RowMap, Size.size_of}, proofs.RowLaws.{size-insert, size-remove}}
 use Rattle.pm_query.specs.Changes.{left_at, rows_at, size_at}
 
 -- a key that has a row is one of the rows

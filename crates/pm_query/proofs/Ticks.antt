@@ -1,11 +1,6 @@
 -- What one entry more does to the history at a tick.
-use Rattle.std.proofs.Common.{◌≡◌, ℕ, Bool, true, false, ◌||◌, cond, List, [], ◌∷◌, ◌++◌, refl, ap, ◌∙◌}
-use Rattle.std.specs.List.{list_any}
-use Rattle.std.proofs.Math.Bool.{or-false, or-true}
-use Rattle.pm_query.specs.declared.book.BookEntry.{BookEntry}
-use Rattle.pm_query.specs.Book.{history_of}
-use Rattle.pm_query.specs.AtTick.{is_by, up_to}
-use Rattle.pm_query.specs.TickLaws.{PastStays, PresentIsWhole}
+use Rattle.std.{proofs.{Common.{◌≡◌, ℕ, Bool, true, false, ◌||◌, cond, List, [], ◌∷◌, ◌++◌, refl, ap, ◌∙◌}, Math.Bool.{or-false, or-true}}, specs.List.list_any}
+use Rattle.pm_query.specs.{declared.book.BookEntry.BookEntry, Book.history_of, AtTick.{is_by, up_to}, TickLaws.{PastStays, PresentIsWhole}}
 
 list_any-last : (t : ℕ) (book : List BookEntry) (entry : BookEntry) → list_any (is_by t) (book ++ entry ∷ []) ≡ list_any (is_by t) book || is_by t entry
 list_any-last t [] entry = or-false (is_by t entry)

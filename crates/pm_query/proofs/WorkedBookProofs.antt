@@ -1,25 +1,8 @@
 -- Why the worked books are legal, or not.
-use Rattle.std.proofs.Common.{◌≡◌, ℕ, ℤ, pos, ◌≤◌, false, cond, List, [], ◌∷◌, ◌++◌, length, is_some, nat_le, refl, sym, ap, arith, lit≤, lit<}
-use Rattle.std.specs.Prelude.{All, codes}
-use Rattle.std.specs.Ordering.{int_cmp}
-use Rattle.std.specs.FinMap.{empty, get, insert, get-empty, len-empty}
-use Rattle.std.proofs.lemmas.List.Elements.{All-nil, All-cons}
-use Rattle.std.proofs.lemmas.Bool.Decides.{nat_tests}
-use Rattle.pm_rows.specs.Limits.{max_rows, max_value_bytes}
-use Rattle.pm_rows.specs.Size.{row_size, size_of}
-use Rattle.pm_query.specs.declared.effect.Effect.{Effect}
-use Rattle.std.specs.Option.{option_to_list}
-use Rattle.pm_rows.specs.declared.commit.Change.{Change}
-use Rattle.pm_query.specs.Answer.{makes, insertion, is_full, is_too_large, has_error}
+use Rattle.std.{proofs.{Common.{◌≡◌, ℕ, ℤ, pos, ◌≤◌, false, cond, List, [], ◌∷◌, ◌++◌, length, is_some, nat_le, refl, sym, ap, arith, lit≤, lit<}, lemmas.{List.Elements.{All-nil, All-cons}, Bool.Decides.nat_tests}}, specs.{Prelude.{All, codes}, Ordering.int_cmp, FinMap.{empty, get, insert, get-empty, len-empty}, Option.option_to_list}}
+use Rattle.pm_rows.{specs.{Limits.{max_rows, max_value_bytes}, Size.{row_size, size_of, size_at}, declared.commit.Change.{Change, TheVariants.Put}}, proofs.RowLaws.{size-empty, size-insert}}
+use Rattle.pm_query.{specs.{declared.{effect.Effect.Effect, book.BookEntry.{BookEntry, TheVariants.{Attached, Answered, Redone}}}, Answer.{makes, insertion, is_full, is_too_large, has_error}, Book.IsLegal, WorkedBooks.{nothing, insert_seven, seven_inserted, one_insert, answered, forgotten, unanswered}}, proofs.Books.{AnswersWithin, answer_within}}
 use Rattle.pm_query.specs.declared.item.Item.TheVariants as items
-use Rattle.pm_rows.specs.declared.commit.Change.TheVariants.{Put}
-use Rattle.pm_query.specs.declared.book.BookEntry.{BookEntry}
-use Rattle.pm_query.specs.declared.book.BookEntry.TheVariants.{Attached, Answered, Redone}
-use Rattle.pm_rows.specs.Size.{size_at}
-use Rattle.pm_query.specs.Book.{IsLegal}
-use Rattle.pm_query.specs.WorkedBooks.{nothing, insert_seven, seven_inserted, one_insert, answered, forgotten, unanswered}
-use Rattle.pm_rows.specs.RowLaws.{size-empty, size-insert}
-use Rattle.pm_query.proofs.Books.{AnswersWithin, answer_within}
 
 -- the first row is inserted
 first_row : (key : ℤ) (value : List ℕ) → length value ≤ max_value_bytes → insertion empty key value ≡ makes items.Insert (Put key value)

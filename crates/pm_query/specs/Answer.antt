@@ -1,18 +1,9 @@
 -- The answer of a script: its statements, one after another on the rows so far, up to the first error.
-use Rattle.std.specs.Prelude.{ℕ, ℤ, IsTrue, Bool, true, false, cond, if◌then◌else◌, List, [], ◌∷◌, ◌++◌, Option, Some, None, option_to_list, nat_lt, nat_le, fold}
-use Rattle.std.specs.List.{list_any}
-use Rattle.std.specs.FinMap.{get, contains_key, insert, entries, len}
-use Rattle.pm_rows.specs.Fold.{RowMap, changed}
-use Rattle.pm_rows.specs.Limits.{max_rows, max_rows_bytes}
-use Rattle.pm_rows.specs.Size.{size_of}
-use Rattle.pm_rows.specs.declared.commit.Change.{Change}
-use Rattle.pm_rows.specs.declared.commit.Change.TheVariants.{Put, Del}
-use Rattle.pm_sql.specs.Limits.{is_writing}
-use Rattle.pm_sql.specs.declared.stmt.Stmt.{Stmt}
+use Rattle.std.specs.{Prelude.{ℕ, ℤ, IsTrue, Bool, true, false, cond, if◌then◌else◌, List, [], ◌∷◌, ◌++◌, Option, Some, None, option_to_list, nat_lt, nat_le, fold}, List.list_any, FinMap.{get, contains_key, insert, entries, len}}
+use Rattle.pm_sql.specs.{pm_rows.{Fold.{RowMap, changed}, Limits.{max_rows, max_rows_bytes}, Size.size_of, declared.commit.Change.{Change, TheVariants.{Put, Del}}}, Limits.is_writing, declared.stmt.Stmt.Stmt}
 use Rattle.pm_sql.specs.declared.stmt.Stmt.TheVariants as stmts
-use Rattle.pm_query.specs.declared.item.Item.{Item}
+use Rattle.pm_query.specs.declared.{item.Item.Item, effect.Effect.Effect}
 use Rattle.pm_query.specs.declared.item.Item.TheVariants as items
-use Rattle.pm_query.specs.declared.effect.Effect.{Effect}
 
 -- how far a script has come: the rows as its statements so far leave them, their items, and the changes that they made
 pub record Progress : Type 0 where

@@ -1,10 +1,6 @@
 -- The history as it was at a tick of the disk.
-use Rattle.std.specs.Prelude.{ℕ, Bool, false, if◌then◌else◌, nat_le, List, [], ◌∷◌}
-use Rattle.std.specs.List.{list_any}
-use Rattle.pm_query.specs.declared.book.BookEntry.{BookEntry}
-use Rattle.pm_query.specs.declared.book.BookEntry.TheVariants.{Answered, Released}
-use Rattle.pm_query.specs.History.{History}
-use Rattle.pm_query.specs.Book.{Base, history_of}
+use Rattle.std.specs.{Prelude.{ℕ, Bool, false, if◌then◌else◌, nat_le, List, [], ◌∷◌}, List.list_any}
+use Rattle.pm_query.specs.{declared.book.BookEntry.{BookEntry, TheVariants.{Answered, Released}}, History.History, Book.{Base, history_of}}
 
 -- whether the entry was made at that tick or before; only an answer and a release tell their tick
 abbrev pub is_by : ℕ → BookEntry → Bool

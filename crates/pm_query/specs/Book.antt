@@ -1,17 +1,8 @@
 -- Which books are legal: what has to hold of the entries before an entry, for each kind of entry.
-use Rattle.std.specs.Prelude.{◌≡◌, ◌⊎◌, ℕ, ◌+◌, ◌-◌, ◌^◌, ◌<◌, ◌≤◌, max, cond, nat_eq, Bool, true, false, ◌&&◌, List, [], ◌∷◌, ◌++◌, fold, Any, All, Option, None, Some, is_some, IsSome, IsTrue}
-use Rattle.std.specs.List.{Contains, list_any}
-use Rattle.pm_rows.specs.Fold.{RowMap}
-use Rattle.pm_rows.specs.Limits.{max_file_bytes}
-use Rattle.pm_rows.specs.LogSize as log
-use Rattle.pm_rows.specs.declared.commit.Change.{Change}
-use Rattle.pm_sql.specs.declared.stmt.Stmt.{Stmt}
-use Rattle.pm_query.specs.declared.item.Item.{Item}
-use Rattle.pm_query.specs.declared.book.BookEntry.{BookEntry}
-use Rattle.pm_query.specs.declared.book.BookEntry.TheVariants.{Opened, Redone, Attached, Answered, Released, Detached, Gone, CheckpointEnded, Broke, LogFull}
-use Rattle.pm_query.specs.Answer.{items_of, commit_of}
-use Rattle.pm_rows.specs.Standing.{Standing}
-use Rattle.pm_query.specs.History.{History, beginning, count_of, rows_of, with_commit, acknowledged, kept}
+use Rattle.std.specs.{Prelude.{◌≡◌, ◌⊎◌, ℕ, ◌+◌, ◌-◌, ◌^◌, ◌<◌, ◌≤◌, max, cond, nat_eq, Bool, true, false, ◌&&◌, List, [], ◌∷◌, ◌++◌, fold, Any, All, Option, None, Some, is_some, IsSome, IsTrue}, List.{Contains, list_any}}
+use Rattle.pm_sql.specs.{pm_rows.{Fold.RowMap, Limits.max_file_bytes, declared.commit.Change.Change, Standing.Standing}, declared.stmt.Stmt.Stmt}
+use Rattle.pm_sql.specs.pm_rows.LogSize as log
+use Rattle.pm_query.specs.{declared.{item.Item.Item, book.BookEntry.{BookEntry, TheVariants.{Opened, Redone, Attached, Answered, Released, Detached, Gone, CheckpointEnded, Broke, LogFull}}}, Answer.{items_of, commit_of}, History.{History, beginning, count_of, rows_of, with_commit, acknowledged, kept}}
 
 -- What the first redo finds: the rows, the number of commits that left them, the bytes of the log file up to and with
 -- its closed gate, and the disk's count of faults as it was handed in.

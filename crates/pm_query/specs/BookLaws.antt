@@ -1,13 +1,7 @@
 -- Laws of legal books.
 use Rattle.std.specs.Prelude.{◌≡◌, ℕ, ◌+◌, ◌≤◌, List, [], ◌∷◌, ◌++◌, Some, sum_by}
-use Rattle.pm_rows.specs.declared.commit.Change.{Change}
-use Rattle.pm_rows.specs.Fold.{RowMap, folded}
-use Rattle.pm_rows.specs.LogSize.{commit_length}
-use Rattle.pm_rows.specs.Size.{size_of}
-use Rattle.pm_query.specs.declared.book.BookEntry.{BookEntry}
-use Rattle.pm_query.specs.declared.book.BookEntry.TheVariants.{Redone}
-use Rattle.pm_query.specs.History.{count_of, number}
-use Rattle.pm_query.specs.Book.{Base, IsLegal, history_of, kept_by_redo, needs_of}
+use Rattle.pm_rows.specs.{declared.commit.Change.Change, Fold.{RowMap, folded}, LogSize.commit_length, Size.size_of}
+use Rattle.pm_query.specs.{declared.book.BookEntry.{BookEntry, TheVariants.Redone}, History.{count_of, number}, Book.{Base, IsLegal, history_of, kept_by_redo, needs_of}}
 
 -- in a legal book no more commits are acknowledged than there are
 abbrev pub AckedIsWithin : Type 0

@@ -1,19 +1,9 @@
 -- What a store's calls note, by what they answer.
 use Rattle.std.specs.Prelude.{◌≡◌, ◌≢◌, ◌⊎◌, ◌≤◌, ◌<◌, ◌↔◌, ◌++◌, ℕ, Bool, true, false, List, [], ◌∷◌, Option, None, Some, Result, Ok, Err, IsTrue}
 use Rattle.pm_record.specs.declared.fault.RedoFault.TheVariants as redo
-use Rattle.pm_rows.specs.declared.commit.Change.{Change}
+use Rattle.pm_record.specs.pm_rows.declared.commit.Change.{Change}
 use Rattle.pm_sql.specs.declared.stmt.Stmt.{Stmt}
-use Rattle.pm_query.specs.Answer.{Writes}
-use Rattle.pm_query.specs.declared.item.Item.{Item}
-use Rattle.pm_query.specs.declared.book.BookEntry.{BookEntry}
-use Rattle.pm_query.specs.declared.book.BookEntry.TheVariants.{Attached, Redone, Answered, Released, Detached, CheckpointEnded, Broke, LogFull}
-use Rattle.pm_query.specs.declared.store.Staged.{Staged}
-use Rattle.pm_query.specs.declared.store.Seen.{Seen}
-use Rattle.pm_query.specs.declared.store.Seen.TheVariants.{Released as CanBeSent, NotFlushed}
-use Rattle.pm_query.specs.declared.store.Checkpointed.{Checkpointed}
-use Rattle.pm_query.specs.declared.store.Checkpointed.TheVariants.{Done, Skipped, NotDue}
-use Rattle.pm_query.specs.declared.store.StoreNo.{StoreNo}
-use Rattle.pm_query.specs.declared.store.StoreNo.TheVariants.{Stale, Disk, Broken, Full, Redo, NoMemory}
+use Rattle.pm_query.specs.{Answer.Writes, declared.{item.Item.Item, book.BookEntry.{BookEntry, TheVariants.{Attached, Redone, Answered, Released, Detached, CheckpointEnded, Broke, LogFull}}, store.{Staged.Staged, Seen.{Seen, TheVariants.{Released as CanBeSent, NotFlushed}}, Checkpointed.{Checkpointed, TheVariants.{Done, Skipped, NotDue}}, StoreNo.{StoreNo, TheVariants.{Stale, Disk, Broken, Full, Redo, NoMemory}}}}}
 
 -- ---- a pass
 

@@ -1,6 +1,5 @@
 -- What a change leaves at its key.
-use Rattle.std.specs.Prelude.{ℕ, ℤ, List, [], ◌∷◌, Option, Some, None}
-use Rattle.std.specs.FinMap.{insert, remove}
+use Rattle.std.specs.{Prelude.{ℕ, ℤ, List, [], ◌∷◌, Option, Some, None}, FinMap.{insert, remove}}
 use Rattle.pm_rows.specs.Fold.{RowMap}
 pub use Rattle.pm_rows.specs.Size.{size_at}
 

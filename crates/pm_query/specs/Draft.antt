@@ -1,10 +1,6 @@
 -- How changes lie over a table.
-use Rattle.std.specs.Prelude.{◌≡◌, ℕ, ℤ, List, Option, IfSome}
-use Rattle.std.specs.Ordering.{int_cmp}
-use Rattle.std.specs.FinMap.{len, entries}
-use Rattle.std.specs.BTreeMap.{BTreeMap, IsOrdered}
-use Rattle.pm_rows.specs.Fold.{RowMap}
-use Rattle.pm_rows.specs.Size.{size_of}
+use Rattle.std.specs.{Prelude.{◌≡◌, ℕ, ℤ, List, Option, IfSome}, Ordering.int_cmp, FinMap.{len, entries}, BTreeMap.{BTreeMap, IsOrdered}}
+use Rattle.pm_rows.specs.{Fold.RowMap, Size.size_of}
 use Rattle.pm_query.specs.Changes.{laid_over}
 
 -- the keys of the changes rise, and the number of rows, their size and, once it was made, their list are kept

@@ -1,12 +1,8 @@
 -- What a stop leaves of a history. Which standings two files mean is the log's to say: `Means` stands for that.
 use Rattle.std.specs.Prelude.{ℕ, ◌≤◌, ◌<◌, List, All}
 use Rattle.pm_disk.specs.Files.{Files}
-use Rattle.pm_query.specs.declared.book.BookEntry.{BookEntry}
-use Rattle.pm_query.specs.declared.book.BookEntry.TheVariants.{Answered, Released}
+use Rattle.pm_query.specs.{declared.book.BookEntry.{BookEntry, TheVariants.{Answered, Released}}, History.{History, count_of, number}, Book.{Base, history_of}, AtTick.history_at}
 use Rattle.pm_rows.specs.Standing.{Standing}
-use Rattle.pm_query.specs.History.{History, count_of, number}
-use Rattle.pm_query.specs.Book.{Base, history_of}
-use Rattle.pm_query.specs.AtTick.{history_at}
 
 -- the image means a number of the history that is at least this one
 abbrev pub HoldsFrom : (Files → Standing → Type 0) → ℕ → History → Files → Type 0

@@ -1,8 +1,6 @@
 -- The history of the store's commits: a base, the commits after it, and how many of all of them are acknowledged.
 use Rattle.std.specs.Prelude.{ℕ, ◌+◌, ◌-◌, max, List, [], ◌∷◌, ◌++◌, length, take}
-use Rattle.pm_rows.specs.Fold.{RowMap, folded}
-use Rattle.pm_rows.specs.declared.commit.Change.{Change}
-use Rattle.pm_rows.specs.Standing.{Standing}
+use Rattle.pm_rows.specs.{Fold.{RowMap, folded}, declared.commit.Change.Change, Standing.Standing}
 
 -- Number n of a history is its base with the first commits after it, up to the n-th since the cluster was made.
 pub record History : Type 0 where

@@ -1,9 +1,7 @@
 -- Laws of the answer of a script.
 use Rattle.std.specs.Prelude.{◌≡◌, ◌≢◌, IsTrue, false, List, [], ◌∷◌, ◌++◌}
-use Rattle.pm_rows.specs.Fold.{RowMap, committed}
-use Rattle.pm_sql.specs.declared.stmt.Stmt.{Stmt}
-use Rattle.pm_query.specs.declared.item.Item.{Item}
-use Rattle.pm_query.specs.Answer.{is_error, has_error, after_script, items_of, commit_of, Writes}
+use Rattle.pm_sql.specs.{pm_rows.Fold.{RowMap, committed}, declared.stmt.Stmt.Stmt}
+use Rattle.pm_query.specs.{declared.item.Item.Item, Answer.{is_error, has_error, after_script, items_of, commit_of, Writes}}
 
 -- an error is the last item of a reply
 abbrev pub ErrorsComeLast : List Item → Type 0

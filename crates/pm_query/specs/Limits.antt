@@ -1,10 +1,6 @@
 -- The limits that a commit keeps, and values that are short enough, in rows, in a commit and in a reply.
-use Rattle.std.specs.Prelude.{ℕ, ℤ, ◌≤◌, List, length, All}
-use Rattle.std.specs.FinMap.{entries}
-use Rattle.pm_rows.specs.Fold.{RowMap, committed}
-use Rattle.pm_rows.specs.Limits.{max_changes, max_value_bytes, IsWithinRowLimits}
-use Rattle.pm_rows.specs.declared.commit.Change.{Change}
-use Rattle.pm_rows.specs.declared.commit.Change.TheVariants.{Put, Del}
+use Rattle.std.specs.{Prelude.{ℕ, ℤ, ◌≤◌, List, length, All}, FinMap.entries}
+use Rattle.pm_rows.specs.{Fold.{RowMap, committed}, Limits.{max_changes, max_value_bytes, IsWithinRowLimits}, declared.commit.Change.{Change, TheVariants.{Put, Del}}}
 use Rattle.pm_query.specs.declared.item.Item.{Item}
 use Rattle.pm_query.specs.declared.item.Item.TheVariants as items
 

@@ -1,7 +1,5 @@
 -- Rows in order, with changes over them.
-use Rattle.std.specs.Prelude.{ℕ, ℤ, not, List, [], ◌∷◌, Option, Some, None}
-use Rattle.std.specs.Ordering.{int_cmp, eq_by_cmp}
-use Rattle.std.specs.FinMap.Entries.{put, where_key}
+use Rattle.std.specs.{Prelude.{ℕ, ℤ, not, List, [], ◌∷◌, Option, Some, None}, Ordering.{int_cmp, eq_by_cmp}, FinMap.Entries.{put, where_key}}
 
 -- the rows with a value at a key, in its place, or without the key
 abbrev pub put_or_drop : ℤ × Option (List ℕ) → List (ℤ × List ℕ) → List (ℤ × List ℕ)

@@ -1,8 +1,7 @@
 -- How far a run has come.
 use Rattle.std.specs.Prelude.{◌≡◌, ◌++◌, Option, option_to_list}
 use Rattle.pm_rows.specs.declared.commit.Change.{Change}
-use Rattle.pm_query.specs.declared.run.Run.{Run}
-use Rattle.pm_query.specs.Answer.{Progress, has_failed, with_change}
+use Rattle.pm_query.specs.{declared.run.Run.Run, Answer.{Progress, has_failed, with_change}}
 
 -- the progress that the fields of a run tell
 abbrev pub progress_of : Run → Progress

@@ -1,8 +1,6 @@
 -- Laws of the history at a tick.
 use Rattle.std.specs.Prelude.{◌≡◌, ℕ, false, List, [], ◌∷◌, ◌++◌, IsTrue}
-use Rattle.pm_query.specs.declared.book.BookEntry.{BookEntry}
-use Rattle.pm_query.specs.Book.{Base, history_of}
-use Rattle.pm_query.specs.AtTick.{history_at, is_by}
+use Rattle.pm_query.specs.{declared.book.BookEntry.BookEntry, Book.{Base, history_of}, AtTick.{history_at, is_by}}
 
 -- an entry that isn't made by a tick changes nothing of the history at it
 abbrev pub PastStays : Type 0

@@ -1,15 +1,9 @@
 -- Three small books over a cluster without commits: one is legal, and two are not.
-use Rattle.std.specs.Prelude.{pos, List, [], ◌∷◌, ◌++◌, codes}
-use Rattle.std.specs.FinMap.{empty}
-use Rattle.pm_rows.specs.declared.commit.Change.{Change}
-use Rattle.pm_rows.specs.declared.commit.Change.TheVariants.{Put}
-use Rattle.pm_sql.specs.declared.stmt.Stmt.{Stmt}
+use Rattle.std.specs.{Prelude.{pos, List, [], ◌∷◌, ◌++◌, codes}, FinMap.empty}
+use Rattle.pm_sql.specs.{pm_rows.declared.commit.Change.{Change, TheVariants.Put}, declared.stmt.Stmt.Stmt}
 use Rattle.pm_sql.specs.declared.stmt.Stmt.TheVariants as stmts
-use Rattle.pm_query.specs.declared.item.Item.{Item}
+use Rattle.pm_query.specs.{declared.{item.Item.Item, book.BookEntry.{BookEntry, TheVariants.{Opened, Redone, Attached, Answered, Released, Detached}}}, Book.Base}
 use Rattle.pm_query.specs.declared.item.Item.TheVariants as items
-use Rattle.pm_query.specs.declared.book.BookEntry.{BookEntry}
-use Rattle.pm_query.specs.declared.book.BookEntry.TheVariants.{Opened, Redone, Attached, Answered, Released, Detached}
-use Rattle.pm_query.specs.Book.{Base}
 
 -- a log file of 31 bytes holds no commit
 abbrev pub nothing : Base

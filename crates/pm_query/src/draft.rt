@@ -1,15 +1,8 @@
 //! The rows as a script's statements so far leave them.
-ghost use Rattle.std.specs.Prelude.{◌≡◌, ◌+◌, ◌≤◌, ◌++◌, ◌↔◌, [], IsTrue, IfOk, OnOk};
+ghost use Rattle.std.specs.{Prelude.{◌≡◌, ◌+◌, ◌≤◌, ◌++◌, ◌↔◌, [], IsTrue, IfOk, OnOk}, Option.option_copied, Ordering.int_cmp, FinMap.Entries.is_sorted};
 ghost use Rattle.std.specs.FinMap as map;
-ghost use Rattle.std.specs.Option.{option_copied};
-ghost use Rattle.pm_rows.specs.Fold.{changed};
-ghost use Rattle.pm_rows.specs.Limits.{max_rows_bytes};
-ghost use Rattle.pm_rows.specs.Size.{size_of};
-ghost use Rattle.pm_query.specs.Changes.{left_at, rows_at, size_at};
-ghost use Rattle.std.specs.Ordering.{int_cmp};
-ghost use Rattle.std.specs.FinMap.Entries.{is_sorted};
-ghost use Rattle.pm_query.specs.Merge.{laid};
-ghost use Rattle.pm_query.specs.Answer.{row_at};
+ghost use Rattle.pm_rows.specs.{Fold.changed, Limits.max_rows_bytes, Size.size_of};
+ghost use Rattle.pm_query.specs.{Changes.{left_at, rows_at, size_at}, Merge.laid, Answer.row_at};
 
 use crate::pairs::{Listing, Pairs};
 use pm_rows::{Change, MAX_ROWS_BYTES, Rows, RowsIter, Text};
@@ -38,8 +31,7 @@ impl<'a> Model for Draft<'a> {
 
     ghost coded = { map.code coded_ℤ (coded_list coded_ℕ) };
 
-    ghost use Rattle.pm_query.specs.Changes.{laid_over};
-    ghost use Rattle.pm_query.specs.Draft.{IsDraft};
+    ghost use Rattle.pm_query.specs.{Changes.laid_over, Draft.IsDraft};
 
     ghost view = { λ draft. laid_over draft.table.now draft.changes.entries };
 

@@ -1,11 +1,6 @@
 //! Laws of answers and of books, for the layers above. Their bodies are empty.
 ghost use Rattle.std.specs.Prelude.{◌≡◌};
-ghost use Rattle.pm_query.specs.Book.{IsLegal, needs_of};
-ghost use Rattle.pm_query.specs.Calls.{due_bytes};
-ghost use Rattle.pm_query.specs.BookLaws.{AckedIsWithin, AckedNeverFalls, AcknowledgedStays, CommitsAddTheirBytes, RepeatChangesNothing, RowsAreWithinNeeds};
-ghost use Rattle.pm_query.specs.Laws.{CommitLeavesRows, OnlyWritesCommit};
-ghost use Rattle.pm_query.specs.TickLaws.{PastStays, PresentIsWhole};
-ghost use Rattle.pm_query.specs.WorkedBooks.{answered, forgotten, nothing, unanswered};
+ghost use Rattle.pm_query.specs.{Book.{IsLegal, needs_of}, Calls.due_bytes, BookLaws.{AckedIsWithin, AckedNeverFalls, AcknowledgedStays, CommitsAddTheirBytes, RepeatChangesNothing, RowsAreWithinNeeds}, Laws.{CommitLeavesRows, OnlyWritesCommit}, TickLaws.{PastStays, PresentIsWhole}, WorkedBooks.{answered, forgotten, nothing, unanswered}};
 
 use crate::store::CHECKPOINT_BYTES;
 

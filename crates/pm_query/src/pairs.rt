@@ -1,7 +1,6 @@
 //! The rows that a statement shows.
 ghost use Rattle.std.specs.Prelude.{◌≡◌, [], ◌∷◌, ◌++◌, All, IfOk, OnOk};
-ghost use Rattle.pm_rows.specs.RowsIter.{shown_row};
-ghost use Rattle.pm_rows.specs.Typed.{IsTypedRow};
+ghost use Rattle.pm_rows.specs.{RowsIter.shown_row, Typed.IsTypedRow};
 
 use pm_rows::Text;
 use std::alloc::{AllocError, Global};
@@ -17,8 +16,7 @@ pub struct Pairs {
 }
 
 impl Model for Pairs {
-    ghost use Rattle.std.specs.Prelude.{All, ℕ, ℤ, List};
-    ghost use Rattle.std.specs.Arc.{arc_slice_items};
+    ghost use Rattle.std.specs.{Prelude.{All, ℕ, ℤ, List}, Arc.arc_slice_items};
 
     ghost Value = { List (ℤ × List ℕ) };
 

@@ -1,8 +1,6 @@
 //! The answer of a script.
 ghost use Rattle.std.specs.Prelude.{◌≡◌, [], cond, IfOk, IsTrue, OnOk};
-ghost use Rattle.pm_query.specs.Answer.{after_statement, start_on, has_error, items_of, commit_of};
-ghost use Rattle.pm_query.specs.Laws.{ErrorsComeLast};
-ghost use Rattle.pm_query.specs.Limits.{IsWithinCommitLimits, KeepsRowLimits, KeepsShortRows, ShowsShortValues};
+ghost use Rattle.pm_query.specs.{Answer.{after_statement, start_on, has_error, items_of, commit_of}, Laws.ErrorsComeLast, Limits.{IsWithinCommitLimits, KeepsRowLimits, KeepsShortRows, ShowsShortValues}};
 
 use crate::draft::Draft;
 use crate::effect::{Effect, effect_of};

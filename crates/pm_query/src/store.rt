@@ -1,10 +1,6 @@
 //! What a child asks of the store.
 ghost use Rattle.std.specs.Prelude.{◌≡◌, ◌≤◌, ◌⊎◌, ◌++◌, ◌∷◌, [], ℕ, List, Option, All, IfOk, OnErr};
-ghost use Rattle.pm_query.specs.declared.book.BookEntry.{BookEntry};
-ghost use Rattle.pm_query.specs.declared.book.BookEntry.TheVariants.{Detached};
-ghost use Rattle.pm_query.specs.declared.store.StoreNo.TheVariants.{Disk, NoMemory};
-ghost use Rattle.pm_query.specs.Calls.{PassView, user_of, newcomer, new_pass, with_front, ReachesNoLess, HasReached, IsPast, MetAnother, MetLater, EnterNotes, RunNotes, SeenNotes, FlushNotes, RedoNotes, CheckpointNotes, LeaveNotes};
-ghost use Rattle.pm_query.specs.Limits.{HasShortValues};
+ghost use Rattle.pm_query.specs.{declared.{book.BookEntry.{BookEntry, TheVariants.Detached}, store.StoreNo.TheVariants.{Disk, NoMemory}}, Calls.{PassView, user_of, newcomer, new_pass, with_front, ReachesNoLess, HasReached, IsPast, MetAnother, MetLater, EnterNotes, RunNotes, SeenNotes, FlushNotes, RedoNotes, CheckpointNotes, LeaveNotes}, Limits.HasShortValues};
 
 use crate::book::BookEntry;
 use crate::reply::Reply;

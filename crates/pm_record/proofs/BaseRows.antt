@@ -1,24 +1,8 @@
 -- The rows of a base.
-use Rattle.std.proofs.Common.{◌≡◌, ℕ, ◌+◌, ◌%◌, ◌^◌, ◌<◌, ◌≤◌, ◌⊎◌, cond, ltb, ℤ, List, ◌++◌, length, Ok, refl, sym, ap, ◌∙◌, arith, inl, inr}
-use Rattle.std.proofs.lemmas.Bool.{cases_lt, lt-ltb, le-ltb}
-use Rattle.std.proofs.lemmas.Int.{to_z-of_z, of_z-to_z}
-use Rattle.std.proofs.Math.Facts.{Fits-of_z, sfits_to_z}
-use Rattle.std.specs.Int.{w32, w64, to_be_bytes, cast_signed, cast_unsigned}
-use Rattle.std.specs.Int.RustNames.{FitsSigned}
-use Rattle.std.specs.Str.{IsUtf8}
-use Rattle.pm_record.specs.Reading.{Read, ◌>>=◌, number_at, may_be}
+use Rattle.std.{proofs.{Common.{◌≡◌, ℕ, ◌+◌, ◌%◌, ◌^◌, ◌<◌, ◌≤◌, ◌⊎◌, cond, ltb, ℤ, List, ◌++◌, length, Ok, refl, sym, ap, ◌∙◌, arith, inl, inr}, lemmas.{Bool.{cases_lt, lt-ltb, le-ltb}, Int.{to_z-of_z, of_z-to_z}}, Math.Facts.{Fits-of_z, sfits_to_z}}, specs.{Int.{w32, w64, to_be_bytes, cast_signed, cast_unsigned, RustNames.FitsSigned}, Str.IsUtf8}}
+use Rattle.pm_record.{specs.{Reading.{Read, ◌>>=◌, number_at, may_be}, Spelling.row_bytes, Repeated.items_at, Changes.string_at, Base.{place_of, place, key_ranges, any_text, row_counts, row_at, added}}, proofs.{Words.{Begins, Spelled}, Readers.{Reading, Behind, field_then, made_reads, same_words, one_word}, Numbers.{MayBe, limited_reads, wide4, wide8}, Strings.{text_of, string_bytes, string_reads, MayString}, Repeats.{MayAll, counted_bytes, counted_reads}}}
 use Rattle.std.specs.FinMap as map
-use Rattle.pm_rows.specs.Fold.{RowMap}
-use Rattle.pm_rows.specs.Limits.{max_rows, max_value_bytes}
-use Rattle.pm_record.specs.Spelling.{row_bytes}
-use Rattle.pm_record.specs.Repeated.{items_at}
-use Rattle.pm_record.specs.Changes.{string_at}
-use Rattle.pm_record.specs.Base.{place_of, place, key_ranges, any_text, row_counts, row_at, added}
-use Rattle.pm_record.proofs.Words.{Begins, Spelled}
-use Rattle.pm_record.proofs.Readers.{Reading, Behind, field_then, made_reads, same_words, one_word}
-use Rattle.pm_record.proofs.Numbers.{MayBe, limited_reads, wide4, wide8}
-use Rattle.pm_record.proofs.Strings.{text_of, string_bytes, string_reads, MayString}
-use Rattle.pm_record.proofs.Repeats.{MayAll, counted_bytes, counted_reads}
+use Rattle.pm_rows.specs.{Fold.RowMap, Limits.{max_rows, max_value_bytes}}
 
 abbrev Row : Type 0
 Row = ℤ × List ℕ

@@ -1,17 +1,7 @@
 -- The base of a file: magic and version, epoch, clean byte, count, and rows.
-use Rattle.std.proofs.Common.{◌≡◌, ℕ, ◌^◌, ◌<◌, ◌≤◌, Bool, true, false, eqb, List, ◌++◌, Ok, Err, refl, sym, ap, subst, ◌∙◌, arith, inl, zero, suc}
-use Rattle.std.specs.Int.{w8, w64, to_be_bytes}
+use Rattle.std.{proofs.Common.{◌≡◌, ℕ, ◌^◌, ◌<◌, ◌≤◌, Bool, true, false, eqb, List, ◌++◌, Ok, Err, refl, sym, ap, subst, ◌∙◌, arith, inl, zero, suc}, specs.Int.{w8, w64, to_be_bytes}}
 use Rattle.pm_rows.specs.Fold.{RowMap}
-use Rattle.pm_record.specs.declared.base.Base.{Base}
-use Rattle.pm_record.specs.Reading.{Read, ◌>>=◌, number_at, may_be}
-use Rattle.pm_record.specs.Spelling.{base_bytes, rows_bytes}
-use Rattle.pm_record.specs.Changes.{any64}
-use Rattle.pm_record.specs.Base.{magic_ranges, bit_ranges, rows_at, base_at}
-use Rattle.pm_record.proofs.Words.{Spelled}
-use Rattle.pm_record.proofs.Readers.{Reading, made_reads}
-use Rattle.pm_record.proofs.Numbers.{MayBe, limited_reads, wide1, wide8}
-use Rattle.pm_record.proofs.Repeats.{MayPair, pair_bytes, pair_at, pair_reads}
-use Rattle.pm_record.proofs.RowMaps.{MayRowMap, rows_read, no_row_map}
+use Rattle.pm_record.{specs.{declared.base.Base.Base, Reading.{Read, ◌>>=◌, number_at, may_be}, Spelling.{base_bytes, rows_bytes}, Changes.any64, Base.{magic_ranges, bit_ranges, rows_at, base_at}}, proofs.{Words.Spelled, Readers.{Reading, made_reads}, Numbers.{MayBe, limited_reads, wide1, wide8}, Repeats.{MayPair, pair_bytes, pair_at, pair_reads}, RowMaps.{MayRowMap, rows_read, no_row_map}}}
 
 abbrev Magic : ℕ → Type 0
 Magic x = MayBe 8 (2 ^ 64) (to_be_bytes w64) wide8 magic_ranges x

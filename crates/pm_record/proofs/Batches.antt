@@ -1,22 +1,7 @@
 -- The batches of a file, made in the rows of a standing, which pass a test after each commit.
-use Rattle.std.proofs.Common.{◌≡◌, ℕ, zero, suc, ◌+◌, ◌-◌, ◌^◌, ◌<◌, ◌≤◌, Bool, true, List, [], ◌∷◌, length, refl, ap, arith, inl}
-use Rattle.std.specs.Prelude.{fold}
-use Rattle.std.specs.Int.{w32, to_be_bytes}
-use Rattle.pm_rows.specs.declared.commit.Change.{Change}
-use Rattle.pm_rows.specs.Limits.{max_commits}
-use Rattle.pm_record.specs.Reading.{Read, ◌>>=◌, number_at, may_be, checked}
-use Rattle.pm_record.specs.Repeated.{items_at}
-use Rattle.pm_record.specs.Spelling.{commit_bytes}
-use Rattle.pm_record.specs.Bodies.{commit_left, commit_at, commits_ranges, body_ranges}
-use Rattle.pm_record.specs.File.{room_for, top_for}
-use Rattle.pm_record.proofs.Gated.{gated_at}
-use Rattle.pm_record.proofs.Words.{Begins, Spelled}
-use Rattle.pm_record.proofs.Changes.{Fills}
-use Rattle.pm_record.proofs.Readers.{Reads, ThenWaits, ThenIs, then_reads}
-use Rattle.pm_record.proofs.Numbers.{limited_reads, wide4}
-use Rattle.pm_record.proofs.Bodies.{MayCommit, commit_reads, CanBody, MayCommits, MayLong, commits_may, may_commits, body_count, long_can, can_long, long_commit}
-use Rattle.pm_record.proofs.Checks.{checked_reads, ItemsWait, AreItems, items_wait}
-use Rattle.pm_record.proofs.Gates.{GatedWait, AreGated, gated_reads}
+use Rattle.std.{proofs.Common.{◌≡◌, ℕ, zero, suc, ◌+◌, ◌-◌, ◌^◌, ◌<◌, ◌≤◌, Bool, true, List, [], ◌∷◌, length, refl, ap, arith, inl}, specs.{Prelude.fold, Int.{w32, to_be_bytes}}}
+use Rattle.pm_rows.specs.{declared.commit.Change.Change, Limits.max_commits}
+use Rattle.pm_record.{specs.{Reading.{Read, ◌>>=◌, number_at, may_be, checked}, Repeated.items_at, Spelling.commit_bytes, Bodies.{commit_left, commit_at, commits_ranges, body_ranges}, File.{room_for, top_for}}, proofs.{Gated.gated_at, Words.{Begins, Spelled}, Changes.Fills, Readers.{Reads, ThenWaits, ThenIs, then_reads}, Numbers.{limited_reads, wide4}, Bodies.{MayCommit, commit_reads, CanBody, MayCommits, MayLong, commits_may, may_commits, body_count, long_can, can_long, long_commit}, Checks.{checked_reads, ItemsWait, AreItems, items_wait}, Gates.{GatedWait, AreGated, gated_reads}}}
 
 module _ (Rows : Type 0) (committed : Rows → List Change → Rows) (fits : Rows → Bool) where
   -- ---- the commits of a body: how many of its bytes are left, and the rows

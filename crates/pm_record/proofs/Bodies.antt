@@ -1,25 +1,7 @@
 -- The body of a batch.
-use Rattle.std.proofs.Common.{◌≡◌, ℕ, zero, suc, ◌+◌, ◌-◌, ◌*◌, ◌/◌, ◌^◌, ◌<◌, ◌≤◌, ◌⊎◌, List, [], ◌∷◌, length, refl, sym, ap, subst, ◌∙◌, arith, inl, inr, length-append, mul-le-mul_right}
-use Rattle.std.specs.Prelude.{fold}
-use Rattle.std.specs.List.{flat_map, AllByRecursion}
-use Rattle.std.specs.Int.{w16, w32, to_be_bytes}
-use Rattle.std.proofs.lemmas.Bool.{cases_lt}
-use Rattle.std.proofs.lemmas.Nat.{le-div, div_below, mod_below, div-add-mod'}
-use Rattle.std.proofs.lemmas.List.Concat.{flat_map-cons}
-use Rattle.pm_rows.specs.declared.commit.Change.{Change}
-use Rattle.pm_rows.specs.declared.commit.Change.TheVariants.{Put, Del}
-use Rattle.pm_record.specs.Spelling.{change_bytes, commit_bytes, body_bytes}
-use Rattle.pm_rows.specs.Batch.{IsChange, IsCommit}
-use Rattle.pm_record.specs.Changes.{least, most, change_at}
-use Rattle.std.proofs.lemmas.List.Elements.{All-from_recursion, recursion_from_All}
-use Rattle.pm_rows.specs.Limits.{max_changes, max_commits}
-use Rattle.pm_rows.specs.Longest.{max_change_bytes, max_commit_bytes}
-use Rattle.pm_record.specs.Bodies.{count_ranges, changes_ranges, commits_ranges, change_left, commit_left, commit_at, body_ranges}
-use Rattle.pm_record.specs.Reading.{number_at, may_be, IsWithin}
-use Rattle.pm_record.proofs.Readers.{Reading, Spelled}
-use Rattle.pm_record.proofs.Numbers.{MayBe, limited_reads, wide2, wide4}
-use Rattle.pm_record.proofs.Repeats.{MayAll, all_some, counted_reads}
-use Rattle.pm_record.proofs.Changes.{Fills, MayChange, change_reads, change_some}
+use Rattle.std.{proofs.{Common.{◌≡◌, ℕ, zero, suc, ◌+◌, ◌-◌, ◌*◌, ◌/◌, ◌^◌, ◌<◌, ◌≤◌, ◌⊎◌, List, [], ◌∷◌, length, refl, sym, ap, subst, ◌∙◌, arith, inl, inr, length-append, mul-le-mul_right}, lemmas.{Bool.cases_lt, Nat.{le-div, div_below, mod_below, div-add-mod'}, List.{Concat.flat_map-cons, Elements.{All-from_recursion, recursion_from_All}}}}, specs.{Prelude.fold, List.{flat_map, AllByRecursion}, Int.{w16, w32, to_be_bytes}}}
+use Rattle.pm_rows.specs.{declared.commit.Change.{Change, TheVariants.{Put, Del}}, Batch.{IsChange, IsCommit}, Limits.{max_changes, max_commits}, Longest.{max_change_bytes, max_commit_bytes}}
+use Rattle.pm_record.{specs.{Spelling.{change_bytes, commit_bytes, body_bytes}, Changes.{least, most, change_at}, Bodies.{count_ranges, changes_ranges, commits_ranges, change_left, commit_left, commit_at, body_ranges}, Reading.{number_at, may_be, IsWithin}}, proofs.{Readers.{Reading, Spelled}, Numbers.{MayBe, limited_reads, wide2, wide4}, Repeats.{MayAll, all_some, counted_reads}, Changes.{Fills, MayChange, change_reads, change_some}}}
 
 -- ---- counts
 

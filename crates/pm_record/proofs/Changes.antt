@@ -1,24 +1,7 @@
 -- A change that may stand where so many bytes are left.
-use Rattle.std.proofs.Common.{◌≡◌, ℕ, suc, ◌+◌, ◌-◌, ◌<◌, ◌≤◌, ◌⊎◌, ◌&&◌, ◌||◌, Bool, true, cond, eqb, ltb, leb, eq-eqb, ℤ, pos, List, [], ◌∷◌, ◌++◌, length, Ok, refl, sym, ap, subst, arith, inl, inr}
-use Rattle.std.proofs.lemmas.Bool.{cases_lt, leb-true, le-leb, lt-ltb, le-ltb, and_parts, eq-eqb}
-use Rattle.std.proofs.lemmas.Bool.{eqb-true}
-use Rattle.std.proofs.Math.Facts.{sfits_to_z}
-use Rattle.std.proofs.lemmas.Bool.{or_cases}
-use Rattle.std.proofs.Math.Bool.{or-true}
-use Rattle.std.specs.Int.{w64}
-use Rattle.std.specs.Int.RustNames.{FitsSigned}
-use Rattle.std.specs.Str.{IsUtf8}
-use Rattle.pm_rows.specs.declared.commit.Change.{Change}
-use Rattle.pm_rows.specs.declared.commit.Change.TheVariants.{Put, Del}
-use Rattle.pm_rows.specs.Limits.{max_value_bytes}
-use Rattle.pm_rows.specs.Longest.{max_change_bytes}
-use Rattle.pm_record.proofs.Words.{Begins}
-use Rattle.pm_record.specs.Spelling.{change_bytes}
-use Rattle.pm_rows.specs.Batch.{IsChange}
-use Rattle.pm_record.specs.Changes.{least, most, fills, key_at, string_at, put_at, del_at, change_at, value_ranges, may_tag}
-use Rattle.pm_record.specs.Reading.{Read, ◌>>=◌, byte_at, IsWithin}
-use Rattle.pm_record.proofs.Readers.{Reading, Behind, Spelled, same_words, field_then, made_reads, one_word, byte_reads}
-use Rattle.pm_record.proofs.Strings.{text_of, key_bytes, key_reads, string_bytes, string_reads, MayString, MayCount}
+use Rattle.std.{proofs.{Common.{◌≡◌, ℕ, suc, ◌+◌, ◌-◌, ◌<◌, ◌≤◌, ◌⊎◌, ◌&&◌, ◌||◌, Bool, true, cond, eqb, ltb, leb, eq-eqb, ℤ, pos, List, [], ◌∷◌, ◌++◌, length, Ok, refl, sym, ap, subst, arith, inl, inr}, lemmas.Bool.{cases_lt, leb-true, le-leb, lt-ltb, le-ltb, and_parts, eq-eqb, eqb-true, or_cases}, Math.{Facts.sfits_to_z, Bool.or-true}}, specs.{Int.{w64, RustNames.FitsSigned}, Str.IsUtf8}}
+use Rattle.pm_rows.specs.{declared.commit.Change.{Change, TheVariants.{Put, Del}}, Limits.max_value_bytes, Longest.max_change_bytes, Batch.IsChange}
+use Rattle.pm_record.{proofs.{Words.Begins, Readers.{Reading, Behind, Spelled, same_words, field_then, made_reads, one_word, byte_reads}, Strings.{text_of, key_bytes, key_reads, string_bytes, string_reads, MayString, MayCount}}, specs.{Spelling.change_bytes, Changes.{least, most, fills, key_at, string_at, put_at, del_at, change_at, value_ranges, may_tag}, Reading.{Read, ◌>>=◌, byte_at, IsWithin}}}
 
 -- They can take exactly so many: deletions alone take the least, and a put takes at least four more.
 abbrev pub Fills : ℕ → ℕ → ℕ → Type 0

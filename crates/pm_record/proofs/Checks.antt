@@ -1,9 +1,6 @@
 -- A test after a word, and items of which each has one.
 use Rattle.std.proofs.Common.{◌≡◌, ℕ, zero, suc, ◌<◌, Bool, true, false, cond, List, [], ◌∷◌, ◌++◌, length, Ok, Err, refl, sym, ap, subst, ◌∙◌, append_assoc, append-nil, arith, ◌⊎◌, inl, inr}
-use Rattle.pm_record.specs.Reading.{Read, ◌>>=◌, checked}
-use Rattle.pm_record.specs.Repeated.{items_at}
-use Rattle.pm_record.proofs.Words.{Begins}
-use Rattle.pm_record.proofs.Readers.{IsBytes, ok, ok_is, err_not_ok, err_is, Reads, Reading, Stops, ThenWaits, ThenIs, becomes, then_reads}
+use Rattle.pm_record.{specs.{Reading.{Read, ◌>>=◌, checked}, Repeated.items_at}, proofs.{Words.Begins, Readers.{IsBytes, ok, ok_is, err_not_ok, err_is, Reads, Reading, Stops, ThenWaits, ThenIs, becomes, then_reads}}}
 
 word_last : (word : List ℕ) → 0 < length word → (front : List ℕ) × (last : ℕ) × (word ≡ front ++ last ∷ [])
 word_last [] some = absurd (omega (arith, some))

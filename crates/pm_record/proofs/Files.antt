@@ -1,26 +1,9 @@
 -- A file whole: what reading finds behind its open gate is what it stands for, and where reading stops is its first wrong
 -- byte.
-use Rattle.std.proofs.Common.{◌≡◌, ◌≢◌, ◌⊎◌, ℕ, zero, suc, ◌+◌, ◌-◌, ◌<◌, ◌&&◌, Bool, true, false, eqb, cond, List, [], ◌∷◌, ◌++◌, length, Ok, Err, refl, sym, ap, subst, ◌∙◌, append_assoc, append-nil, length-append, arith, inl, inr}
-use Rattle.std.specs.Prelude.{All, fold}
-use Rattle.std.proofs.lemmas.Bool.{cases_lt}
-use Rattle.std.proofs.lemmas.List.Elements.{All-from_recursion, recursion_from_All}
+use Rattle.std.{proofs.{Common.{◌≡◌, ◌≢◌, ◌⊎◌, ℕ, zero, suc, ◌+◌, ◌-◌, ◌<◌, ◌&&◌, Bool, true, false, eqb, cond, List, [], ◌∷◌, ◌++◌, length, Ok, Err, refl, sym, ap, subst, ◌∙◌, append_assoc, append-nil, length-append, arith, inl, inr}, lemmas.{Bool.cases_lt, List.Elements.{All-from_recursion, recursion_from_All}}}, specs.Prelude.{All, fold}}
 use Rattle.pm_disk.specs.declared.disk.Which.{Which}
 use Rattle.pm_rows.specs.Fold.{RowMap, committed}
-use Rattle.pm_record.specs.declared.base.Base.{Base}
-use Rattle.pm_record.specs.declared.found.Found.{Found}
-use Rattle.pm_record.specs.Reading.{Read, ◌>>=◌}
-use Rattle.pm_record.specs.StandsFor.{Content, StandsFor, IsContent, AreBatches}
-use Rattle.pm_record.specs.Damage.{CanGoOn, IsRight, IsFirstWrong}
-use Rattle.pm_record.specs.Found.{IsClosed, IsFound, MeansNothing}
-use Rattle.pm_record.specs.Base.{base_at}
-use Rattle.pm_record.specs.File.{State, is_within, room_in, small_base_at, batches_at, found_at}
-use Rattle.pm_record.proofs.Words.{Begins, Spelled}
-use Rattle.pm_record.proofs.Readers.{IsBytes, bytes_behind, bytes_in_front, bytes_both, ok, ok_is, err_not_ok, err_is, bind_ok, bind_err, Reads, ThenWaits, ThenIs, then_reads}
-use Rattle.pm_record.proofs.Checks.{checked_reads, done_waits}
-use Rattle.pm_record.proofs.Bases.{MayBase, base_spell, base_reads}
-use Rattle.pm_record.proofs.Steps.{Batch, appended, batches_in, batches_made}
-use Rattle.pm_record.proofs.Meaning.{AreBatchesIn, within_to, within_from, kept_each, each_kept, Legal, gated_to, gated_from, flat, legal_to, legal_from, behind, counted}
-use Rattle.pm_record.proofs.Fronts.{BatchesWait, gated_wait_to, gated_wait_from}
+use Rattle.pm_record.{specs.{declared.{base.Base.Base, found.Found.Found}, Reading.{Read, ◌>>=◌}, StandsFor.{Content, StandsFor, IsContent, AreBatches}, Damage.{CanGoOn, IsRight, IsFirstWrong}, Found.{IsClosed, IsFound, MeansNothing}, Base.base_at, File.{State, is_within, room_in, small_base_at, batches_at, found_at}}, proofs.{Words.{Begins, Spelled}, Readers.{IsBytes, bytes_behind, bytes_in_front, bytes_both, ok, ok_is, err_not_ok, err_is, bind_ok, bind_err, Reads, ThenWaits, ThenIs, then_reads}, Checks.{checked_reads, done_waits}, Bases.{MayBase, base_spell, base_reads}, Steps.{Batch, appended, batches_in, batches_made}, Meaning.{AreBatchesIn, within_to, within_from, kept_each, each_kept, Legal, gated_to, gated_from, flat, legal_to, legal_from, behind, counted}, Fronts.{BatchesWait, gated_wait_to, gated_wait_from}}}
 use Rattle.pm_record.proofs.Batches as of
 
 -- ---- a base, and the batches after it

@@ -1,22 +1,7 @@
 -- The fronts after which reading waits are those that can go on.
-use Rattle.std.proofs.Common.{◌≡◌, ◌⊎◌, ℕ, zero, suc, ◌-◌, ◌<◌, ◌≤◌, List, [], ◌∷◌, ◌++◌, length, take, refl, sym, ap, subst, ◌∙◌, append_assoc, length-append, arith, inl, inr}
-use Rattle.std.specs.Prelude.{All}
-use Rattle.std.specs.Int.{w32, to_be_bytes}
-use Rattle.std.proofs.lemmas.List.Concat.{flat_map-cons}
-use Rattle.pm_rows.specs.declared.commit.Change.{Change}
-use Rattle.pm_rows.specs.Fold.{RowMap, committed, folded}
-use Rattle.pm_rows.specs.Limits.{IsWithinRowLimits, max_commits}
-use Rattle.pm_record.specs.Spelling.{commit_bytes, body_bytes, batch_bytes}
-use Rattle.pm_rows.specs.Standing.{Standing}
-use Rattle.pm_rows.specs.Batch.{IsCommit}
-use Rattle.pm_record.specs.StandsFor.{AreBatches}
-use Rattle.pm_record.specs.Damage.{IsFrontOf, first_bytes, BeginsNext}
-use Rattle.pm_record.specs.Bodies.{commit_left}
-use Rattle.pm_record.specs.File.{State, is_within, made, room_for, top_for}
-use Rattle.pm_record.proofs.Readers.{IsBytes, bytes_behind}
-use Rattle.pm_record.proofs.Bodies.{AllCommits, commits_some, long_commits, flat_commits, long_can, can_long, commits_may, may_commits, body_count}
-use Rattle.pm_record.proofs.Steps.{Batch, appended}
-use Rattle.pm_record.proofs.Meaning.{within_to, within_from, kept_last, body_some, filled, batch_to, batch_from, filling, Legal, above, suc_open, behind, behind_cons, behind_none}
+use Rattle.std.{proofs.{Common.{◌≡◌, ◌⊎◌, ℕ, zero, suc, ◌-◌, ◌<◌, ◌≤◌, List, [], ◌∷◌, ◌++◌, length, take, refl, sym, ap, subst, ◌∙◌, append_assoc, length-append, arith, inl, inr}, lemmas.List.Concat.flat_map-cons}, specs.{Prelude.All, Int.{w32, to_be_bytes}}}
+use Rattle.pm_rows.specs.{declared.commit.Change.Change, Fold.{RowMap, committed, folded}, Limits.{IsWithinRowLimits, max_commits}, Standing.Standing, Batch.IsCommit}
+use Rattle.pm_record.{specs.{Spelling.{commit_bytes, body_bytes, batch_bytes}, StandsFor.AreBatches, Damage.{IsFrontOf, first_bytes, BeginsNext}, Bodies.commit_left, File.{State, is_within, made, room_for, top_for}}, proofs.{Readers.{IsBytes, bytes_behind}, Bodies.{AllCommits, commits_some, long_commits, flat_commits, long_can, can_long, commits_may, may_commits, body_count}, Steps.{Batch, appended}, Meaning.{within_to, within_from, kept_last, body_some, filled, batch_to, batch_from, filling, Legal, above, suc_open, behind, behind_cons, behind_none}}}
 use Rattle.pm_record.proofs.Batches as of
 
 -- ---- the fronts after which reading waits

@@ -1,14 +1,8 @@
 -- Laws of a file whose gate is being written, and of the pair it stands in.
-use Rattle.std.proofs.Common.{◌≡◌, ◌≢◌, ◌⊎◌, inl, inr, ℕ, suc, ◌+◌, ◌≤◌, ◌<◌, List, [], ◌∷◌, ◌++◌, length, drop, refl, sym, ◌∙◌, ap, subst, arith, append_assoc}
-use Rattle.std.specs.Prelude.{slice_get}
-use Rattle.std.proofs.lemmas.Option.{same_Some}
-use Rattle.pm_disk.specs.declared.disk.Which.{Which}
-use Rattle.pm_disk.specs.declared.disk.Which.TheVariants.{A, B}
-use Rattle.pm_disk.specs.Files.{Files, file_of, other, overwritten, with_file}
-use Rattle.pm_rows.specs.Fold.{RowMap}
-use Rattle.pm_record.specs.Spelling.{base_bytes}
-use Rattle.pm_rows.specs.Standing.{Standing}
-use Rattle.pm_record.specs.StandsFor.{Content, StandsFor}
+use Rattle.std.{proofs.{Common.{◌≡◌, ◌≢◌, ◌⊎◌, inl, inr, ℕ, suc, ◌+◌, ◌≤◌, ◌<◌, List, [], ◌∷◌, ◌++◌, length, drop, refl, sym, ◌∙◌, ap, subst, arith, append_assoc}, lemmas.Option.same_Some}, specs.Prelude.slice_get}
+use Rattle.pm_disk.specs.{declared.disk.Which.{Which, TheVariants.{A, B}}, Files.{Files, file_of, other, overwritten, with_file}}
+use Rattle.pm_rows.specs.{Fold.RowMap, Standing.Standing}
+use Rattle.pm_record.specs.{Spelling.base_bytes, StandsFor.{Content, StandsFor}}
 
 pub other-other : (file : Which) → other (other file) ≡ file
 other-other A = refl

@@ -1,6 +1,5 @@
 -- The list of items behind gates, up to a closed gate.
-use Rattle.std.proofs.Common.{ℕ, zero, suc, ◌||◌, List, [], ◌∷◌, Ok}
-use Rattle.std.specs.Prelude.{◌==◌, nat_lt}
+use Rattle.std.{proofs.Common.{ℕ, zero, suc, ◌||◌, List, [], ◌∷◌, Ok}, specs.Prelude.{◌==◌, nat_lt}}
 use Rattle.pm_record.specs.Reading.{Read, ◌>>=◌, byte_at}
 
 -- Behind a gate: nothing more where it is closed.

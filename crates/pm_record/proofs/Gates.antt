@@ -1,18 +1,6 @@
 -- Items behind open gates, up to a closed gate.
-use Rattle.std.proofs.Common.{◌≡◌, ◌≢◌, ℕ, zero, suc, ◌<◌, ◌≤◌, ◌||◌, Bool, true, eqb, ltb, List, [], ◌∷◌, ◌++◌, length, Ok, Err, refl, sym, ap, subst, ◌∙◌, append-nil, length-append, arith, ◌⊎◌, inl, inr}
-use Rattle.std.proofs.lemmas.Bool.{eqb-true, ltb-true, lt-ltb}
-use Rattle.pm_record.specs.Reading.{Read, ◌>>=◌, byte_at}
-use Rattle.pm_record.specs.Repeated.{stepped}
-use Rattle.pm_record.specs.Gated.{past_gate, through_gates}
-use Rattle.pm_record.proofs.Gated.{behind_gate, gated_at}
-use Rattle.pm_record.proofs.Words.{Begins, Spelled}
-use Rattle.pm_record.proofs.Readers.{Reads, ThenWaits, ThenIs, becomes, then_reads, byte_reads}
-use Rattle.std.proofs.lemmas.Bool.{or_cases}
-use Rattle.std.proofs.Math.Bool.{or-true}
-use Rattle.pm_record.proofs.Checks.{done_waits}
-use Rattle.pm_record.specs.declared.fault.Unread.{Unread}
-use Rattle.pm_record.specs.Reading.{Fails}
-use Rattle.pm_record.proofs.Loops.{behind_items, cons_items, behind_cons, fails_behind}
+use Rattle.std.proofs.{Common.{◌≡◌, ◌≢◌, ℕ, zero, suc, ◌<◌, ◌≤◌, ◌||◌, Bool, true, eqb, ltb, List, [], ◌∷◌, ◌++◌, length, Ok, Err, refl, sym, ap, subst, ◌∙◌, append-nil, length-append, arith, ◌⊎◌, inl, inr}, lemmas.Bool.{eqb-true, ltb-true, lt-ltb, or_cases}, Math.Bool.or-true}
+use Rattle.pm_record.{specs.{Reading.{Read, ◌>>=◌, byte_at, Fails}, Repeated.stepped, Gated.{past_gate, through_gates}, declared.fault.Unread.Unread}, proofs.{Gated.{behind_gate, gated_at}, Words.{Begins, Spelled}, Readers.{Reads, ThenWaits, ThenIs, becomes, then_reads, byte_reads}, Checks.done_waits, Loops.{behind_items, cons_items, behind_cons, fails_behind}}}
 
 abbrev single : ℕ → List ℕ
 single gate = gate ∷ []

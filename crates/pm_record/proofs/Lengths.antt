@@ -1,14 +1,7 @@
 -- The spelling of changes, commits and batches is as long as the crate of the rows says.
-use Rattle.std.proofs.Common.{◌≡◌, ℕ, ◌+◌, ◌≤◌, List, [], ◌∷◌, length, sum_by, refl, ap, arith, length-append}
-use Rattle.std.specs.List.{flat_map}
-use Rattle.std.proofs.lemmas.List.Concat.{flat_map-cons}
-use Rattle.std.proofs.lemmas.List.Sums.{sum_by-cons}
-use Rattle.pm_rows.specs.declared.commit.Change.{Change}
-use Rattle.pm_rows.specs.declared.commit.Change.TheVariants.{Put, Del}
-use Rattle.pm_rows.specs.LogSize.{change_length, commit_length, body_length, need_of}
-use Rattle.pm_rows.specs.Longest.{max_change_bytes}
+use Rattle.std.{proofs.{Common.{◌≡◌, ℕ, ◌+◌, ◌≤◌, List, [], ◌∷◌, length, sum_by, refl, ap, arith, length-append}, lemmas.List.{Concat.flat_map-cons, Sums.sum_by-cons}}, specs.List.flat_map}
+use Rattle.pm_rows.specs.{declared.commit.Change.{Change, TheVariants.{Put, Del}}, LogSize.{change_length, commit_length, body_length, need_of}, Longest.max_change_bytes, Batch.IsChange}
 use Rattle.pm_record.specs.Spelling.{change_bytes, commit_bytes, body_bytes, batch_bytes}
-use Rattle.pm_rows.specs.Batch.{IsChange}
 
 -- pieces are as long together as their lengths say
 flat_long : {A : Type 0} (spell : A → List ℕ) (size : A → ℕ) → ((x : A) → length (spell x) ≡ size x) → (xs : List A) → length (flat_map spell xs) ≡ sum_by size xs

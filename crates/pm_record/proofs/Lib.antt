@@ -20,3 +20,5 @@ pub mod Strings
 pub mod Texts
 pub mod Words
 pub mod Writing
+pub mod GateLaws
+pub use Rattle.pm_rows.proofs as pm_rows

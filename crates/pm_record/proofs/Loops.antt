@@ -1,11 +1,7 @@
 -- The loop over items.
-use Rattle.std.proofs.Common.{◌≡◌, ℕ, zero, suc, ◌+◌, ◌-◌, ◌<◌, ◌≤◌, List, [], ◌∷◌, ◌++◌, length, Result, Ok, Err, refl, sym, ap, ◌∙◌, append-nil, append_assoc, arith}
-use Rattle.std.specs.Prelude.{fold}
-use Rattle.pm_record.specs.declared.fault.Unread.{Unread}
+use Rattle.std.{proofs.Common.{◌≡◌, ℕ, zero, suc, ◌+◌, ◌-◌, ◌<◌, ◌≤◌, List, [], ◌∷◌, ◌++◌, length, Result, Ok, Err, refl, sym, ap, ◌∙◌, append-nil, append_assoc, arith}, specs.Prelude.fold}
+use Rattle.pm_record.{specs.{declared.fault.Unread.Unread, Reading.{Read, ◌>>=◌, Fails}, Repeated.{items_at, stepped, through_at}}, proofs.Readers.{ok, ok_is, bind_ok}}
 use Rattle.pm_record.specs.declared.fault.Unread.TheVariants as unread
-use Rattle.pm_record.specs.Reading.{Read, ◌>>=◌, Fails}
-use Rattle.pm_record.specs.Repeated.{items_at, stepped, through_at}
-use Rattle.pm_record.proofs.Readers.{ok, ok_is, bind_ok}
 
 -- what was read before, in front
 abbrev pub with_front : {X : Type 0} → List X → Read (List X) → Read (List X)

@@ -1,25 +1,8 @@
 -- The words that reading finds after a base are batches within the limits, each behind an open gate.
-use Rattle.std.proofs.Common.{◌≡◌, ◌≢◌, ℕ, zero, suc, ◌+◌, ◌-◌, ◌^◌, ◌<◌, ◌≤◌, true, List, [], ◌∷◌, ◌++◌, length, take, leb, refl, sym, ap, subst, ◌∙◌, append_assoc, length-append, arith, inl, inr}
-use Rattle.std.specs.Prelude.{All, fold}
-use Rattle.std.specs.Int.{w32, to_be_bytes}
-use Rattle.std.specs.List.{flat_map, AllByRecursion}
+use Rattle.std.{proofs.{Common.{◌≡◌, ◌≢◌, ℕ, zero, suc, ◌+◌, ◌-◌, ◌^◌, ◌<◌, ◌≤◌, true, List, [], ◌∷◌, ◌++◌, length, take, leb, refl, sym, ap, subst, ◌∙◌, append_assoc, length-append, arith, inl, inr}, lemmas.{Bool.{leb-true, le-leb, and_parts}, List.{Concat.flat_map-cons, Elements.{All-from_recursion, recursion_from_All}}}}, specs.{Prelude.{All, fold}, Int.{w32, to_be_bytes}, List.{flat_map, AllByRecursion}}}
 use Rattle.std.specs.FinMap as map
-use Rattle.std.proofs.lemmas.Bool.{leb-true, le-leb, and_parts}
-use Rattle.std.proofs.lemmas.List.Concat.{flat_map-cons}
-use Rattle.std.proofs.lemmas.List.Elements.{All-from_recursion, recursion_from_All}
-use Rattle.pm_rows.specs.Fold.{RowMap, committed, folded}
-use Rattle.pm_rows.specs.Size.{size_of}
-use Rattle.pm_rows.specs.Limits.{IsWithinRowLimits, max_commits, max_rows, max_rows_bytes}
-use Rattle.pm_record.specs.Spelling.{commit_bytes, body_bytes, batch_bytes}
-use Rattle.pm_rows.specs.Standing.{Standing}
-use Rattle.pm_rows.specs.Batch.{IsCommit, IsBatch}
-use Rattle.pm_record.specs.StandsFor.{AreBatches}
-use Rattle.pm_record.specs.Bodies.{commit_left}
-use Rattle.pm_record.specs.File.{State, is_within, made, room_for, top_for}
-use Rattle.pm_record.proofs.Readers.{IsBytes, bytes_behind}
-use Rattle.pm_record.proofs.Changes.{Fills}
-use Rattle.pm_record.proofs.Bodies.{AllCommits, CanBody, commits_count, commits_to, commits_from, flat_commits, long_body, batch_can, can_long, long_can, commits_may, may_commits}
-use Rattle.pm_record.proofs.Steps.{Batch, appended}
+use Rattle.pm_rows.specs.{Fold.{RowMap, committed, folded}, Size.size_of, Limits.{IsWithinRowLimits, max_commits, max_rows, max_rows_bytes}, Standing.Standing, Batch.{IsCommit, IsBatch}}
+use Rattle.pm_record.{specs.{Spelling.{commit_bytes, body_bytes, batch_bytes}, StandsFor.AreBatches, Bodies.commit_left, File.{State, is_within, made, room_for, top_for}}, proofs.{Readers.{IsBytes, bytes_behind}, Changes.Fills, Bodies.{AllCommits, CanBody, commits_count, commits_to, commits_from, flat_commits, long_body, batch_can, can_long, long_can, commits_may, may_commits}, Steps.{Batch, appended}}}
 use Rattle.pm_record.proofs.Batches as of
 
 -- ---- the words that reading finds

@@ -1,13 +1,6 @@
 -- Numbers of so many bytes, within ranges.
-use Rattle.std.proofs.Common.{◌≡◌, ℕ, zero, suc, ◌+◌, ◌*◌, ◌/◌, ◌^◌, ◌%◌, ◌<◌, ◌≤◌, Bool, true, false, List, [], ◌∷◌, length, get_or, cond, Ok, Err, refl, sym, ap, mul-le-mul_right, ◌-◌, subst, ◌∙◌, arith, inl, inr, add-one}
-use Rattle.std.specs.Int.{w8, w16, w32, w64, to_be_bytes, bytes_high_first}
-use Rattle.std.proofs.lemmas.Nat.{be_bytes_2, be_bytes_4, be_bytes_8, from_be_bytes-to_be_bytes_2, from_be_bytes-to_be_bytes_4, from_be_bytes-to_be_bytes_8, le-div, div_below, mod_below, div-add-mod'}
-use Rattle.std.proofs.Math.Bool.{or-true}
-use Rattle.std.proofs.Math.Nat.{pow-succ', pow-le-pow_right}
-use Rattle.pm_record.specs.Reading.{Read, ◌>>=◌, byte_at, number_at, in_part, may_be, IsWithin}
-use Rattle.std.proofs.lemmas.Bool.{cases_lt, leb-true, le-leb, and_parts, or_cases}
-use Rattle.pm_record.specs.declared.number.Ranges.{Ranges}
-use Rattle.pm_record.proofs.Readers.{ok, ok_is, err_not_ok, bind_ok, IsBytes, Reading, Spelled, Behind, same_words, field_then, done_reads, byte_reads}
+use Rattle.std.{proofs.{Common.{◌≡◌, ℕ, zero, suc, ◌+◌, ◌*◌, ◌/◌, ◌^◌, ◌%◌, ◌<◌, ◌≤◌, Bool, true, false, List, [], ◌∷◌, length, get_or, cond, Ok, Err, refl, sym, ap, mul-le-mul_right, ◌-◌, subst, ◌∙◌, arith, inl, inr, add-one}, lemmas.{Nat.{be_bytes_2, be_bytes_4, be_bytes_8, from_be_bytes-to_be_bytes_2, from_be_bytes-to_be_bytes_4, from_be_bytes-to_be_bytes_8, le-div, div_below, mod_below, div-add-mod'}, Bool.{cases_lt, leb-true, le-leb, and_parts, or_cases}}, Math.{Bool.or-true, Nat.{pow-succ', pow-le-pow_right}}}, specs.Int.{w8, w16, w32, w64, to_be_bytes, bytes_high_first}}
+use Rattle.pm_record.{specs.{Reading.{Read, ◌>>=◌, byte_at, number_at, in_part, may_be, IsWithin}, declared.number.Ranges.Ranges}, proofs.Readers.{ok, ok_is, err_not_ok, bind_ok, IsBytes, Reading, Spelled, Behind, same_words, field_then, done_reads, byte_reads}}
 
 -- the number that bytes are, after what is read of it
 abbrev pub horner : ℕ → List ℕ → ℕ

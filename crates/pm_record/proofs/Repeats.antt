@@ -1,11 +1,6 @@
 -- So many items, one after another.
-use Rattle.std.proofs.Common.{◌≡◌, ℕ, zero, suc, List, [], ◌∷◌, ◌++◌, length, Ok, refl, sym, ap, subst, ◌∙◌}
-use Rattle.std.specs.List.{flat_map}
-use Rattle.std.proofs.lemmas.List.Concat.{flat_map-cons}
-use Rattle.pm_record.specs.Reading.{Read, ◌>>=◌}
-use Rattle.pm_record.specs.Repeated.{items_at}
-use Rattle.pm_record.proofs.Words.{Begins}
-use Rattle.pm_record.proofs.Readers.{Reading, Behind, Spelled, same_words, field_then, done_reads, made_reads, one_word}
+use Rattle.std.{proofs.{Common.{◌≡◌, ℕ, zero, suc, List, [], ◌∷◌, ◌++◌, length, Ok, refl, sym, ap, subst, ◌∙◌}, lemmas.List.Concat.flat_map-cons}, specs.List.flat_map}
+use Rattle.pm_record.{specs.{Reading.{Read, ◌>>=◌}, Repeated.items_at}, proofs.{Words.Begins, Readers.{Reading, Behind, Spelled, same_words, field_then, done_reads, made_reads, one_word}}}
 
 -- each may stand where it does, and after the last may what has to
 abbrev pub MayAll : {X State : Type 0} → (ℕ → State → X → Type 0) → (State → X → State) → (ℕ → State → Type 0) → ℕ → State → List X → Type 0

@@ -1,30 +1,8 @@
 -- The rows of a base as a map: rows of rising keys, each added in turn, are the map's rows in order.
-use Rattle.std.proofs.Common.{◌≡◌, ℕ, zero, suc, ◌+◌, ◌^◌, ◌<◌, ◌≤◌, min, ℤ, List, [], ◌∷◌, ◌++◌, length, Ok, Err, refl, sym, ap, subst, ◌∙◌, append_assoc, append-nil, arith, inl, Less, Greater}
-use Rattle.std.specs.Prelude.{T, fold, All, FitsSigned}
-use Rattle.std.specs.declared.cmp.Ordering.{Ordering}
-use Rattle.std.specs.Ordering.{int_cmp, is_lt, ordering_reverse}
-use Rattle.std.specs.Cmp.{int_cmp_total, int_ranked, int_cmp_is}
-use Rattle.std.specs.Int.{w32, w64, to_be_bytes}
-use Rattle.std.proofs.lemmas.Int.{ints}
-use Rattle.std.specs.List.{flat_map, AllByRecursion}
+use Rattle.std.{proofs.{Common.{◌≡◌, ℕ, zero, suc, ◌+◌, ◌^◌, ◌<◌, ◌≤◌, min, ℤ, List, [], ◌∷◌, ◌++◌, length, Ok, Err, refl, sym, ap, subst, ◌∙◌, append_assoc, append-nil, arith, inl, Less, Greater}, lemmas.{Int.ints, List.Elements.{All-from_recursion, recursion_from_All}}}, specs.{Prelude.{T, fold, All, FitsSigned}, declared.cmp.Ordering.Ordering, Ordering.{int_cmp, is_lt, ordering_reverse}, Cmp.{int_cmp_total, int_ranked, int_cmp_is}, Int.{w32, w64, to_be_bytes}, List.{flat_map, AllByRecursion}, FinMap.{put, entries-insert, is_sorted, entries_sorted, same_entries_map, len-empty, len-entries, Entries.{below_all, by_order}}}}
 use Rattle.std.specs.FinMap as map
-use Rattle.std.specs.FinMap.{put, entries-insert, is_sorted, entries_sorted, same_entries_map, len-empty, len-entries}
-use Rattle.std.specs.FinMap.Entries.{below_all, by_order}
-use Rattle.std.proofs.lemmas.List.Elements.{All-from_recursion, recursion_from_All}
-use Rattle.pm_facts.specs.Bools.{hold_both, holds_first, holds_second}
-use Rattle.pm_facts.specs.Orders.{is_less, less_is}
-use Rattle.pm_rows.specs.Fold.{RowMap}
-use Rattle.pm_rows.specs.Limits.{max_rows}
-use Rattle.pm_record.specs.Spelling.{row_bytes, rows_bytes}
-use Rattle.pm_record.specs.StandsFor.{IsRow}
-use Rattle.pm_record.specs.Reading.{Read, ◌>>=◌, number_at, may_be}
-use Rattle.pm_record.specs.Base.{place, added, row_counts, row_step, rows_at}
-use Rattle.pm_record.specs.Repeated.{items_at, through_at}
-use Rattle.pm_record.proofs.Words.{Spelled}
-use Rattle.pm_record.proofs.Readers.{Reading, made_reads}
-use Rattle.pm_record.proofs.Repeats.{counted_bytes}
-use Rattle.pm_record.proofs.Loops.{behind_items, through_items}
-use Rattle.pm_record.proofs.BaseRows.{AllRows, MayRows, row_in, list_at, list_reads}
+use Rattle.pm_rows.specs.{pm_facts.{Bools.{hold_both, holds_first, holds_second}, Orders.{is_less, less_is}}, Fold.RowMap, Limits.max_rows}
+use Rattle.pm_record.{specs.{Spelling.{row_bytes, rows_bytes}, StandsFor.IsRow, Reading.{Read, ◌>>=◌, number_at, may_be}, Base.{place, added, row_counts, row_step, rows_at}, Repeated.{items_at, through_at}}, proofs.{Words.Spelled, Readers.{Reading, made_reads}, Repeats.counted_bytes, Loops.{behind_items, through_items}, BaseRows.{AllRows, MayRows, row_in, list_at, list_reads}}}
 
 abbrev Row : Type 0
 Row = ℤ × List ℕ

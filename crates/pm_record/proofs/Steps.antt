@@ -1,16 +1,7 @@
 -- What the steps of reading a file make of its rows, as lists of batches and commits.
-use Rattle.std.proofs.Common.{◌≡◌, ℕ, suc, ◌+◌, ◌-◌, List, [], ◌∷◌, Ok, Err, refl, sym, ap, ap₂, ◌∙◌}
-use Rattle.std.specs.Prelude.{fold}
-use Rattle.pm_rows.specs.declared.commit.Change.{Change}
-use Rattle.pm_rows.specs.Fold.{RowMap, committed}
-use Rattle.pm_record.specs.Reading.{Read, ◌>>=◌, number_at, may_be}
-use Rattle.pm_record.specs.Repeated.{items_at, stepped}
-use Rattle.pm_record.specs.Gated.{through_gates}
-use Rattle.pm_record.specs.Bodies.{body_ranges, commits_ranges}
-use Rattle.pm_record.specs.File.{State, is_within, made, commit_in, rows_behind, top_for, room_in, batch_step, batches_at}
-use Rattle.pm_record.proofs.Readers.{ok}
-use Rattle.pm_record.proofs.Loops.{behind_items, through_items, items_long}
-use Rattle.pm_record.proofs.Gates.{through_gated}
+use Rattle.std.{proofs.Common.{◌≡◌, ℕ, suc, ◌+◌, ◌-◌, List, [], ◌∷◌, Ok, Err, refl, sym, ap, ap₂, ◌∙◌}, specs.Prelude.fold}
+use Rattle.pm_rows.specs.{declared.commit.Change.Change, Fold.{RowMap, committed}}
+use Rattle.pm_record.{specs.{Reading.{Read, ◌>>=◌, number_at, may_be}, Repeated.{items_at, stepped}, Gated.through_gates, Bodies.{body_ranges, commits_ranges}, File.{State, is_within, made, commit_in, rows_behind, top_for, room_in, batch_step, batches_at}}, proofs.{Readers.ok, Loops.{behind_items, through_items, items_long}, Gates.through_gated}}
 use Rattle.pm_record.proofs.Batches as of
 
 abbrev pub Batch : Type 0

@@ -1,20 +1,7 @@
 -- A key, and a text after its length.
-use Rattle.std.proofs.Common.{◌≡◌, ℕ, ◌^◌, ◌<◌, ℤ, List, ◌++◌, length, refl, sym, ap, subst, ◌∙◌, arith, inl}
-use Rattle.std.specs.Int.{w32, w64, to_be_bytes, cast_signed, cast_unsigned}
-use Rattle.std.specs.Int.RustNames.{FitsSigned}
-use Rattle.std.specs.Str.{IsUtf8}
-use Rattle.std.proofs.lemmas.Int.{to_z-of_z, of_z-to_z}
-use Rattle.std.proofs.Math.Facts.{Fits-of_z, sfits_to_z}
-use Rattle.pm_utf8.specs.Utf8.{boundary}
-use Rattle.pm_utf8.specs.States.{boundary_sound, fill}
-use Rattle.pm_utf8.specs.Characters.{is_utf8}
-use Rattle.pm_record.specs.declared.number.Ranges.{Ranges}
-use Rattle.pm_record.proofs.Words.{Begins}
-use Rattle.pm_record.specs.Changes.{any64, key_at, string_at}
-use Rattle.pm_record.specs.Reading.{number_at, text_at, may_be, IsWithin}
-use Rattle.pm_record.proofs.Readers.{Reading, Behind, Spelled, same_words, field_then, made_reads, one_word}
-use Rattle.pm_record.proofs.Numbers.{MayBe, limited_reads, wide4, wide8}
-use Rattle.pm_record.proofs.Texts.{IsText, utf8_reads}
+use Rattle.std.{proofs.{Common.{◌≡◌, ℕ, ◌^◌, ◌<◌, ℤ, List, ◌++◌, length, refl, sym, ap, subst, ◌∙◌, arith, inl}, lemmas.Int.{to_z-of_z, of_z-to_z}, Math.Facts.{Fits-of_z, sfits_to_z}}, specs.{Int.{w32, w64, to_be_bytes, cast_signed, cast_unsigned, RustNames.FitsSigned}, Str.IsUtf8}}
+use Rattle.pm_utf8.specs.{Utf8.boundary, States.{boundary_sound, fill}, Characters.is_utf8}
+use Rattle.pm_record.{specs.{declared.number.Ranges.Ranges, Changes.{any64, key_at, string_at}, Reading.{number_at, text_at, may_be, IsWithin}}, proofs.{Words.Begins, Readers.{Reading, Behind, Spelled, same_words, field_then, made_reads, one_word}, Numbers.{MayBe, limited_reads, wide4, wide8}, Texts.{IsText, utf8_reads}}}
 
 -- a text of this length
 pub text_of : (n : ℕ) → (text : List ℕ) × (length text ≡ n) × IsUtf8 text

@@ -1,15 +1,7 @@
 -- Texts of so many bytes.
-use Rattle.std.proofs.Common.{◌≡◌, ℕ, zero, suc, ◌+◌, ◌-◌, ◌<◌, ◌≤◌, Bool, true, false, List, [], ◌∷◌, ◌++◌, length, length-append, take, drop, take_at, drop_at, Option, Some, None, Result, Ok, Err, cond, ap₂, refl, sym, ap, subst, ◌∙◌, arith}
-use Rattle.std.proofs.lemmas.Bool.{leb-true, le-leb}
-use Rattle.std.specs.Str.{IsUtf8}
-use Rattle.std.specs.Option.{unwrap_or}
-use Rattle.pm_utf8.specs.declared.Awaited.{Awaited}
-use Rattle.pm_utf8.specs.Utf8.{boundary, after, run, IsSound}
-use Rattle.pm_utf8.specs.States.{boundary_sound, after_sound, byte_below, fill, needs}
-use Rattle.pm_utf8.specs.Steps.{run_first, run_step}
-use Rattle.pm_utf8.specs.Characters.{accepts, is_utf8}
-use Rattle.pm_record.specs.Reading.{Read, ◌>>=◌, byte_at, text_at, may_follow, has_room, next_of, left_of}
-use Rattle.pm_record.proofs.Readers.{IsBytes, ok, Reading, Behind, same_words, field_then, done_reads, made_reads, byte_reads}
+use Rattle.std.{proofs.{Common.{◌≡◌, ℕ, zero, suc, ◌+◌, ◌-◌, ◌<◌, ◌≤◌, Bool, true, false, List, [], ◌∷◌, ◌++◌, length, length-append, take, drop, take_at, drop_at, Option, Some, None, Result, Ok, Err, cond, ap₂, refl, sym, ap, subst, ◌∙◌, arith}, lemmas.Bool.{leb-true, le-leb}}, specs.{Str.IsUtf8, Option.unwrap_or}}
+use Rattle.pm_utf8.specs.{declared.Awaited.Awaited, Utf8.{boundary, after, run, IsSound}, States.{boundary_sound, after_sound, byte_below, fill, needs}, Steps.{run_first, run_step}, Characters.{accepts, is_utf8}}
+use Rattle.pm_record.{specs.Reading.{Read, ◌>>=◌, byte_at, text_at, may_follow, has_room, next_of, left_of}, proofs.Readers.{IsBytes, ok, Reading, Behind, same_words, field_then, done_reads, made_reads, byte_reads}}
 
 -- ---- one byte
 

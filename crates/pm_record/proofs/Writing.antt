@@ -1,8 +1,5 @@
 -- How bytes are put together that are appended in turn.
-use Rattle.std.proofs.Common.{◌≡◌, ℕ, ◌+◌, ◌<◌, List, [], ◌∷◌, ◌++◌, length, get_or, take, refl, sym, ◌∙◌, ap, append_assoc, add-one}
-use Rattle.std.specs.List.{flat_map}
-use Rattle.std.proofs.lemmas.List.{flat_map_more}
-use Rattle.std.proofs.Math.Seq.{take-suc}
+use Rattle.std.{proofs.{Common.{◌≡◌, ℕ, ◌+◌, ◌<◌, List, [], ◌∷◌, ◌++◌, length, get_or, take, refl, sym, ◌∙◌, ap, append_assoc, add-one}, lemmas.List.flat_map_more, Math.Seq.take-suc}, specs.List.flat_map}
 
 -- pieces appended in turn
 pub appended-four : (a b c d e r s t u c' d' e' : List ℕ) → r ≡ a ++ b → s ≡ r ++ c → t ≡ s ++ d → u ≡ t ++ e → c ≡ c' → d ≡ d' → e ≡ e' → u ≡ a ++ (b ++ (c' ++ (d' ++ e')))

@@ -1,14 +1,8 @@
 -- How the base of a file is read: its header, and rows whose keys rise, each of which leaves room for the keys after it.
-use Rattle.std.specs.Prelude.{ℕ, ◌+◌, ◌-◌, ◌%◌, min, nat_lt, nat_eq, ℤ, List, Ok, if◌then◌else◌}
-use Rattle.std.specs.Int.{w64, cast_signed, cast_unsigned}
+use Rattle.std.specs.{Prelude.{ℕ, ◌+◌, ◌-◌, ◌%◌, min, nat_lt, nat_eq, ℤ, List, Ok, if◌then◌else◌}, Int.{w64, cast_signed, cast_unsigned}}
 use Rattle.std.specs.FinMap as map
-use Rattle.pm_rows.specs.Fold.{RowMap}
-use Rattle.pm_rows.specs.Limits.{max_rows, max_value_bytes}
-use Rattle.pm_record.specs.declared.number.Ranges.{Ranges}
-use Rattle.pm_record.specs.declared.base.Base.{Base}
-use Rattle.pm_record.specs.Reading.{Read, ◌>>=◌, number_at, may_be}
-use Rattle.pm_record.specs.Repeated.{stepped, through_at}
-use Rattle.pm_record.specs.Changes.{any64, string_at}
+use Rattle.pm_rows.specs.{Fold.RowMap, Limits.{max_rows, max_value_bytes}}
+use Rattle.pm_record.specs.{declared.{number.Ranges.Ranges, base.Base.Base}, Reading.{Read, ◌>>=◌, number_at, may_be}, Repeated.{stepped, through_at}, Changes.{any64, string_at}}
 
 -- the place of a word among the keys, from the lowest on
 abbrev pub place_of : ℕ → ℕ

@@ -1,13 +1,7 @@
 -- How the body of a batch is read: as many commits of as many changes as fill it exactly.
 use Rattle.std.specs.Prelude.{ℕ, ◌+◌, ◌-◌, ◌*◌, ◌/◌, min, max, List, length}
-use Rattle.pm_rows.specs.declared.commit.Change.{Change}
-use Rattle.pm_rows.specs.Limits.{max_changes}
-use Rattle.pm_rows.specs.Longest.{max_change_bytes, max_commit_bytes}
-use Rattle.pm_record.specs.declared.number.Ranges.{Ranges}
-use Rattle.pm_record.specs.Spelling.{change_bytes, commit_bytes}
-use Rattle.pm_record.specs.Reading.{Read, ◌>>=◌, number_at, may_be}
-use Rattle.pm_record.specs.Changes.{change_at}
-use Rattle.pm_record.specs.Repeated.{items_at}
+use Rattle.pm_rows.specs.{declared.commit.Change.Change, Limits.max_changes, Longest.{max_change_bytes, max_commit_bytes}}
+use Rattle.pm_record.specs.{declared.number.Ranges.Ranges, Spelling.{change_bytes, commit_bytes}, Reading.{Read, ◌>>=◌, number_at, may_be}, Changes.change_at, Repeated.items_at}
 
 -- Numbers of items, at most so many, that can take exactly so many bytes with what comes after them. Each takes from
 -- `low` to `high` bytes, and what is after them takes from `least` to `most`.

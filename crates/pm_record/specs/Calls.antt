@@ -1,10 +1,6 @@
 -- Lemmas on spans of device calls, for the proofs of callers.
-use Rattle.std.proofs.Common.{◌≡◌, ℕ, List, refl, subst, arith, inl, inr}
-use Rattle.std.proofs.lemmas.Bool.{cases_lt}
-use Rattle.pm_disk.specs.declared.disk.Which.{Which}
-use Rattle.pm_disk.specs.declared.disk.Which.TheVariants.{A, B}
-use Rattle.pm_disk.specs.Files.{Files, file_of, other, with_file}
-use Rattle.pm_disk.specs.Disk.{Elapses, Follows, StopsNoWider, Torn}
+use Rattle.std.proofs.{Common.{◌≡◌, ℕ, List, refl, subst, arith, inl, inr}, lemmas.Bool.cases_lt}
+use Rattle.pm_disk.specs.{declared.disk.Which.{Which, TheVariants.{A, B}}, Files.{Files, file_of, other, with_file}, Disk.{Elapses, Follows, StopsNoWider, Torn}}
 use Rattle.pm_record.specs.OnDisk.{FollowsWithin, GoesOn}
 
 pub file_with : (files : Files) (file : Which) (bytes : List ℕ) → file_of (with_file files file bytes) file ≡ bytes

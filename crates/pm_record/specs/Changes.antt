@@ -1,13 +1,8 @@
 -- How a change is read, where so many changes and commits of the same body come after it.
-use Rattle.std.specs.Prelude.{ℕ, ◌+◌, ◌-◌, ◌*◌, ◌==◌, ◌&&◌, ◌||◌, nat_le, nat_lt, nat_eq, min, max, ℤ, Bool, List, Ok, if◌then◌else◌}
-use Rattle.std.specs.Int.{w64, cast_signed}
-use Rattle.pm_rows.specs.declared.commit.Change.{Change}
-use Rattle.pm_rows.specs.declared.commit.Change.TheVariants.{Put, Del}
-use Rattle.pm_rows.specs.Limits.{max_value_bytes}
-use Rattle.pm_rows.specs.Longest.{max_change_bytes, max_commit_bytes}
+use Rattle.std.specs.{Prelude.{ℕ, ◌+◌, ◌-◌, ◌*◌, ◌==◌, ◌&&◌, ◌||◌, nat_le, nat_lt, nat_eq, min, max, ℤ, Bool, List, Ok, if◌then◌else◌}, Int.{w64, cast_signed}}
+use Rattle.pm_rows.specs.{declared.commit.Change.{Change, TheVariants.{Put, Del}}, Limits.max_value_bytes, Longest.{max_change_bytes, max_commit_bytes}}
 use Rattle.pm_utf8.specs.Utf8.{boundary}
-use Rattle.pm_record.specs.declared.number.Ranges.{Ranges}
-use Rattle.pm_record.specs.Reading.{Read, ◌>>=◌, byte_at, number_at, may_be, text_at}
+use Rattle.pm_record.specs.{declared.number.Ranges.Ranges, Reading.{Read, ◌>>=◌, byte_at, number_at, may_be, text_at}}
 
 -- ---- how many bytes changes and commits can take
 

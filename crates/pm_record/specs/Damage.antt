@@ -1,14 +1,8 @@
 -- Where a file is damaged: at the first byte that nothing after it mends.
-use Rattle.std.specs.Prelude.{◌≡◌, ◌≢◌, ◌⊎◌, ℕ, ◌+◌, ◌^◌, ◌≤◌, ◌<◌, Bool, List, [], ◌∷◌, ◌++◌, length, take, All}
+use Rattle.std.specs.{Prelude.{◌≡◌, ◌≢◌, ◌⊎◌, ℕ, ◌+◌, ◌^◌, ◌≤◌, ◌<◌, Bool, List, [], ◌∷◌, ◌++◌, length, take, All}, List.flat_map}
 use Rattle.std.specs.FinMap as map
-use Rattle.std.specs.List.{flat_map}
-use Rattle.pm_rows.specs.declared.commit.Change.{Change}
-use Rattle.pm_rows.specs.Fold.{RowMap, folded}
-use Rattle.pm_rows.specs.Limits.{max_rows, IsWithinRowLimits}
-use Rattle.pm_record.specs.Spelling.{base_bytes, batch_bytes, commit_bytes}
-use Rattle.pm_rows.specs.Standing.{Standing}
-use Rattle.pm_rows.specs.Batch.{IsBatch}
-use Rattle.pm_record.specs.StandsFor.{Content, StandsFor, Spells, IsContent, IsRow, standing_of}
+use Rattle.pm_rows.specs.{declared.commit.Change.Change, Fold.{RowMap, folded}, Limits.{max_rows, IsWithinRowLimits}, Standing.Standing, Batch.IsBatch}
+use Rattle.pm_record.specs.{Spelling.{base_bytes, batch_bytes, commit_bytes}, StandsFor.{Content, StandsFor, Spells, IsContent, IsRow, standing_of}}
 
 -- the bytes are those of the whole up to some byte of it
 abbrev pub IsFrontOf : List ℕ → List ℕ → Type 0

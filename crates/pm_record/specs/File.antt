@@ -1,19 +1,9 @@
 -- How a file is read whole: a base, and batches whose commits are made in the rows one by one.
 use Rattle.std.specs.Prelude.{ℕ, suc, ◌+◌, ◌-◌, ◌&&◌, nat_le, nat_eq, min, Bool, List, length, Result, Ok}
 use Rattle.std.specs.FinMap as map
-use Rattle.pm_rows.specs.declared.commit.Change.{Change}
-use Rattle.pm_rows.specs.Fold.{RowMap, committed}
-use Rattle.pm_rows.specs.Size.{size_of}
-use Rattle.pm_rows.specs.Limits.{max_commits, max_rows, max_rows_bytes}
+use Rattle.pm_rows.specs.{declared.commit.Change.Change, Fold.{RowMap, committed}, Size.size_of, Limits.{max_commits, max_rows, max_rows_bytes}}
 use Rattle.pm_disk.specs.declared.disk.Which.{Which}
-use Rattle.pm_record.specs.declared.base.Base.{Base}
-use Rattle.pm_record.specs.declared.batch.Progress.{Progress}
-use Rattle.pm_record.specs.declared.found.Found.{Found}
-use Rattle.pm_record.specs.Reading.{Read, ◌>>=◌, number_at, may_be, checked}
-use Rattle.pm_record.specs.Repeated.{stepped, through_at}
-use Rattle.pm_record.specs.Gated.{through_gates}
-use Rattle.pm_record.specs.Bodies.{body_ranges, commits_ranges, commit_at, commit_left}
-use Rattle.pm_record.specs.Base.{base_at}
+use Rattle.pm_record.specs.{declared.{base.Base.Base, batch.Progress.Progress, found.Found.Found}, Reading.{Read, ◌>>=◌, number_at, may_be, checked}, Repeated.{stepped, through_at}, Gated.through_gates, Bodies.{body_ranges, commits_ranges, commit_at, commit_left}, Base.base_at}
 
 -- whether rows are few and small enough
 abbrev pub is_within : RowMap → Bool

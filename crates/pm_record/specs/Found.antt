@@ -1,14 +1,7 @@
 -- What reading finds in one file.
 use Rattle.std.specs.Prelude.{◌≡◌, ℕ, ◌+◌, false, nat_eq, List, [], ◌∷◌, length, if◌then◌else◌}
 use Rattle.pm_disk.specs.declared.disk.Which.{Which}
-use Rattle.pm_record.specs.Spelling.{base_bytes}
-use Rattle.pm_record.specs.StandsFor.{Content, StandsFor, standing_of}
-use Rattle.pm_record.specs.Damage.{IsFirstWrong}
-use Rattle.pm_record.specs.declared.found.Found.{Found}
-use Rattle.pm_record.specs.declared.found.Contents.{Contents}
-use Rattle.pm_record.specs.declared.found.Contents.TheVariants.{Closed, Standing}
-use Rattle.pm_record.specs.declared.fault.FileFault.{FileFault}
-use Rattle.pm_record.specs.declared.fault.FileFault.TheVariants.{Bad, NoMemory}
+use Rattle.pm_record.specs.{Spelling.base_bytes, StandsFor.{Content, StandsFor, standing_of}, Damage.IsFirstWrong, declared.{found.{Found.Found, Contents.{Contents, TheVariants.{Closed, Standing}}}, fault.FileFault.{FileFault, TheVariants.{Bad, NoMemory}}}}
 
 -- the file is empty, or its gate is closed
 abbrev pub IsClosed : List ℕ → Type 0

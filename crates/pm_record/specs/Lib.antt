@@ -5,7 +5,6 @@ pub mod Changes
 pub mod Damage
 pub mod File
 pub mod Found
-pub mod GateLaws
 pub mod Gated
 pub mod OnDisk
 pub mod Pair
@@ -13,3 +12,6 @@ pub mod Reading
 pub mod Repeated
 pub mod Spelling
 pub mod StandsFor
+pub use Rattle.pm_rows.specs.pm_facts as pm_facts
+pub use Rattle.pm_rows.specs as pm_rows
+pub use Rattle.pm_disk.specs as pm_disk

@@ -1,10 +1,7 @@
 -- A log on the disk, and what a stop may leave of it over a span of device calls.
 use Rattle.std.specs.Prelude.{◌↔◌, ℕ, ◌≤◌}
-use Rattle.pm_disk.specs.declared.disk.Which.{Which}
-use Rattle.pm_disk.specs.Files.{Files, file_of, other}
-use Rattle.pm_disk.specs.Disk.{Follows, Only}
-use Rattle.pm_record.specs.StandsFor.{Content, StandsFor}
-use Rattle.pm_record.specs.Pair.{IsShut}
+use Rattle.pm_disk.specs.{declared.disk.Which.Which, Files.{Files, file_of, other}, Disk.{Follows, Only}}
+use Rattle.pm_record.specs.{StandsFor.{Content, StandsFor}, Pair.IsShut}
 
 -- The log rests in this file: it stands for the content, durably, and a stop leaves the other file shut. Behind its gate
 -- the other file may hold anything, and a stop may leave anything of it.

@@ -1,7 +1,6 @@
 -- What the two log files stand for together.
 use Rattle.std.specs.Prelude.{◌≡◌, ◌⊎◌, ℕ, ◌+◌, ◌<◌, List, ◌∷◌}
-use Rattle.pm_disk.specs.declared.disk.Which.{Which}
-use Rattle.pm_disk.specs.Files.{Files, file_of, other}
+use Rattle.pm_disk.specs.{declared.disk.Which.Which, Files.{Files, file_of, other}}
 use Rattle.pm_rows.specs.Standing.{Standing}
 use Rattle.pm_record.specs.StandsFor.{Content, StandsFor, standing_of}
 

@@ -1,10 +1,7 @@
 -- How a file is read: from left to right, with the first wrong byte that is met. What it stands for doesn't rest on this.
-use Rattle.std.specs.Prelude.{◌≡◌, ℕ, zero, suc, ◌+◌, ◌*◌, ◌/◌, ◌^◌, ◌≤◌, ◌⊎◌, ◌&&◌, ◌||◌, nat_le, Bool, List, [], ◌∷◌, length, Option, Some, None, false, Result, Ok, Err, if◌then◌else◌}
-use Rattle.std.specs.Option.{unwrap_or}
-use Rattle.pm_utf8.specs.declared.Awaited.{Awaited}
-use Rattle.pm_utf8.specs.Utf8.{boundary, after}
-use Rattle.pm_record.specs.declared.number.Ranges.{Ranges}
-use Rattle.pm_record.specs.declared.fault.Unread.{Unread}
+use Rattle.std.specs.{Prelude.{◌≡◌, ℕ, zero, suc, ◌+◌, ◌*◌, ◌/◌, ◌^◌, ◌≤◌, ◌⊎◌, ◌&&◌, ◌||◌, nat_le, Bool, List, [], ◌∷◌, length, Option, Some, None, false, Result, Ok, Err, if◌then◌else◌}, Option.unwrap_or}
+use Rattle.pm_utf8.specs.{declared.Awaited.Awaited, Utf8.{boundary, after}}
+use Rattle.pm_record.specs.declared.{number.Ranges.Ranges, fault.Unread.Unread}
 use Rattle.pm_record.specs.declared.fault.Unread.TheVariants as unread
 
 -- A value and the bytes after it; or how many bytes are left from the first wrong one on, none where they end too early.

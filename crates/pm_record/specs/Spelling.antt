@@ -1,11 +1,7 @@
 -- The bytes of a log file's parts: docs/LOG_FORMAT.md.
-use Rattle.std.specs.Prelude.{ℕ, ℤ, Bool, true, false, List, ◌∷◌, ◌++◌, length}
-use Rattle.std.specs.Int.{w16, w32, w64, to_be_bytes, cast_unsigned}
-use Rattle.std.specs.List.{flat_map}
+use Rattle.std.specs.{Prelude.{ℕ, ℤ, Bool, true, false, List, ◌∷◌, ◌++◌, length}, Int.{w16, w32, w64, to_be_bytes, cast_unsigned}, List.flat_map}
 use Rattle.std.specs.FinMap as map
-use Rattle.pm_rows.specs.declared.commit.Change.{Change}
-use Rattle.pm_rows.specs.declared.commit.Change.TheVariants.{Put, Del}
-use Rattle.pm_rows.specs.Fold.{RowMap}
+use Rattle.pm_rows.specs.{declared.commit.Change.{Change, TheVariants.{Put, Del}}, Fold.RowMap}
 
 -- a change: its tag and its key, and for a put the value after its length
 abbrev pub change_bytes : Change → List ℕ

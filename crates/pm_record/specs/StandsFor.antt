@@ -1,14 +1,7 @@
 -- What the bytes of one log file stand for.
-use Rattle.std.specs.Prelude.{◌≡◌, ◌≢◌, ℕ, ◌+◌, ◌^◌, ◌≤◌, ◌<◌, ℤ, Bool, List, [], ◌∷◌, ◌++◌, length, take, All, FitsSigned}
-use Rattle.std.specs.Int.{w64}
-use Rattle.std.specs.List.{flat_map}
-use Rattle.std.specs.Str.{IsUtf8}
+use Rattle.std.specs.{Prelude.{◌≡◌, ◌≢◌, ℕ, ◌+◌, ◌^◌, ◌≤◌, ◌<◌, ℤ, Bool, List, [], ◌∷◌, ◌++◌, length, take, All, FitsSigned}, Int.w64, List.flat_map, Str.IsUtf8}
 use Rattle.std.specs.FinMap as map
-use Rattle.pm_rows.specs.declared.commit.Change.{Change}
-use Rattle.pm_rows.specs.Batch.{IsBatch}
-use Rattle.pm_rows.specs.Fold.{RowMap, folded}
-use Rattle.pm_rows.specs.Standing.{Standing, after}
-use Rattle.pm_rows.specs.Limits.{max_value_bytes, IsWithinRowLimits}
+use Rattle.pm_rows.specs.{declared.commit.Change.Change, Batch.IsBatch, Fold.{RowMap, folded}, Standing.{Standing, after}, Limits.{max_value_bytes, IsWithinRowLimits}}
 use Rattle.pm_record.specs.Spelling.{base_bytes, batch_bytes}
 
 -- ---- what a file may stand for

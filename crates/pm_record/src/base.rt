@@ -1,10 +1,8 @@
 //! The base of a log file: its header, and its rows by rising key.
 
-ghost use Rattle.std.specs.Prelude.{◌≡◌, ◌≤◌, ◌<◌, ◌^◌, FitsSigned, IfOk};
-ghost use Rattle.std.specs.Int.{w64};
+ghost use Rattle.std.specs.{Prelude.{◌≡◌, ◌≤◌, ◌<◌, ◌^◌, FitsSigned, IfOk}, Int.w64};
 ghost use Rattle.pm_rows.specs.Limits.{max_rows};
-ghost use Rattle.pm_record.specs.Reading.{Gives};
-ghost use Rattle.pm_record.specs.Base.{base_at, key_ranges, place, row_at, rows_at};
+ghost use Rattle.pm_record.specs.{Reading.Gives, Base.{base_at, key_ranges, place, row_at, rows_at}};
 
 use crate::fault::Unread;
 use crate::number::{Ranges, read_number};

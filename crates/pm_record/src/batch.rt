@@ -2,9 +2,7 @@
 
 ghost use Rattle.std.specs.Prelude.{◌≡◌, ◌-◌, ◌==◌, ◌||◌, ◌≤◌, ◌<◌, ◌^◌, nat_lt, IfOk};
 ghost use Rattle.pm_rows.specs.Limits.{max_commits};
-ghost use Rattle.pm_record.specs.Reading.{Gives, byte_at};
-ghost use Rattle.pm_record.specs.Bodies.{body_ranges, commits_ranges};
-ghost use Rattle.pm_record.specs.File.{told, batch_step, batches_at, commit_step, is_within, room_for, rows_behind, top_for};
+ghost use Rattle.pm_record.specs.{Reading.{Gives, byte_at}, Bodies.{body_ranges, commits_ranges}, File.{told, batch_step, batches_at, commit_step, is_within, room_for, rows_behind, top_for}};
 
 use crate::commit::{count_ranges, read_commit};
 use crate::fault::Unread;

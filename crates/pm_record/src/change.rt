@@ -2,9 +2,7 @@
 
 ghost use Rattle.std.specs.Prelude.{◌≡◌, ◌≤◌, length};
 ghost use Rattle.pm_rows.specs.Limits.{max_changes, max_commits};
-ghost use Rattle.pm_record.specs.Spelling.{change_bytes};
-ghost use Rattle.pm_record.specs.Reading.{Gives};
-ghost use Rattle.pm_record.specs.Changes.{change_at, fills, least, may_tag, most, value_ranges};
+ghost use Rattle.pm_record.specs.{Spelling.change_bytes, Reading.Gives, Changes.{change_at, fills, least, may_tag, most, value_ranges}};
 
 use crate::fault::Unread;
 use crate::number::{Ranges, first_of};

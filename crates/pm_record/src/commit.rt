@@ -2,10 +2,7 @@
 
 ghost use Rattle.std.specs.Prelude.{◌≡◌, ◌≤◌, ◌<◌, ◌^◌, IfOk, fold};
 ghost use Rattle.pm_rows.specs.Limits.{max_changes, max_commits};
-ghost use Rattle.pm_record.specs.Reading.{Gives};
-ghost use Rattle.pm_record.specs.Changes.{change_at};
-ghost use Rattle.pm_record.specs.Repeated.{items_at};
-ghost use Rattle.pm_record.specs.Bodies.{change_left, changes_ranges, commit_at, commit_left, count_ranges};
+ghost use Rattle.pm_record.specs.{Reading.Gives, Changes.change_at, Repeated.items_at, Bodies.{change_left, changes_ranges, commit_at, commit_left, count_ranges}};
 
 use crate::change::{read_change, size};
 use crate::fault::Unread;

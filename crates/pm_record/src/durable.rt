@@ -1,9 +1,7 @@
 //! A write that stays.
 
 ghost use Rattle.std.specs.Prelude.{◌≤◌, ◌≡◌, length, IfSome, IsErr, OnOk, OnErr, option_map};
-ghost use Rattle.pm_disk.specs.Cause.{IsCounted};
-ghost use Rattle.pm_disk.specs.Disk.{Only, TellsStill, Torn};
-ghost use Rattle.pm_disk.specs.Files.{file_of, overwritten, with_file};
+ghost use Rattle.pm_disk.specs.{Cause.IsCounted, Disk.{Only, TellsStill, Torn}, Files.{file_of, overwritten, with_file}};
 ghost use Rattle.pm_record.specs.OnDisk.{FollowsWithin, GoesOn};
 
 use pm_disk::{Disk, DiskFault, Which};

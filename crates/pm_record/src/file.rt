@@ -1,10 +1,7 @@
 //! A log file, read whole.
 
 ghost use Rattle.std.specs.Prelude.{◌≡◌, ◌∷◌, ◌<◌, ℕ, length, IfOk, IfErr};
-ghost use Rattle.pm_record.specs.Reading.{Gives};
-ghost use Rattle.pm_record.specs.File.{found_at, small_base_at};
-ghost use Rattle.pm_record.specs.Found.{Damages, Holds, IsOf};
-ghost use Rattle.pm_record.specs.StandsFor.{Content, StandsFor};
+ghost use Rattle.pm_record.specs.{Reading.Gives, File.{found_at, small_base_at}, Found.{Damages, Holds, IsOf}, StandsFor.{Content, StandsFor}};
 
 use crate::base::{Base, read_base};
 use crate::batch::{Progress, batches_into, is_within};

@@ -1,8 +1,7 @@
 //! What holds of every file. The functions do nothing: each stands for the law in its contract.
 
 ghost use Rattle.std.specs.Prelude.{◌≡◌, ◌<◌, ℕ, List, All};
-ghost use Rattle.pm_record.specs.StandsFor.{Content, StandsFor};
-ghost use Rattle.pm_record.specs.Damage.{IsFirstWrong};
+ghost use Rattle.pm_record.specs.{StandsFor.{Content, StandsFor}, Damage.IsFirstWrong};
 
 /// A file stands for one content at most, with its closed gate at one place.
 pub fn a_file_stands_for_one_content()

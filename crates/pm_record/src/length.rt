@@ -1,11 +1,8 @@
 //! How many bytes a batch takes in a file, counted without writing it.
 
 ghost use Rattle.std.specs.Prelude.{◌≡◌, ◌+◌, ◌*◌, ◌≤◌, ◌<◌, ◌^◌, ℕ, List, length};
-ghost use Rattle.pm_rows.specs.declared.commit.Change.{Change};
-ghost use Rattle.pm_rows.specs.LogSize.{change_length, commit_length, body_length, need_of};
-ghost use Rattle.pm_rows.specs.Longest.{max_body_bytes, max_commit_bytes};
+ghost use Rattle.pm_rows.specs.{declared.commit.Change.Change, LogSize.{change_length, commit_length, body_length, need_of}, Longest.{max_body_bytes, max_commit_bytes}, Batch.{IsBatch, IsCommit}};
 ghost use Rattle.pm_record.specs.Spelling.{change_bytes, commit_bytes, body_bytes, batch_bytes};
-ghost use Rattle.pm_rows.specs.Batch.{IsBatch, IsCommit};
 
 use crate::change::size;
 use pm_rows::Commit;

@@ -2,10 +2,8 @@
 
 ghost use Rattle.std.specs.Prelude.{◌≡◌, ◌≤◌, ◌++◌, ◌∷◌, All, length, OnOk};
 ghost use Rattle.std.specs.FinMap as map;
-ghost use Rattle.pm_rows.specs.Limits.{max_rows, max_value_bytes};
-ghost use Rattle.pm_record.specs.Spelling.{base_bytes, batch_bytes, change_bytes, commit_bytes, row_bytes, rows_bytes};
-ghost use Rattle.pm_rows.specs.Batch.{IsBatch, IsChange, IsCommit};
-ghost use Rattle.pm_record.specs.StandsFor.{IsRow};
+ghost use Rattle.pm_rows.specs.{Limits.{max_rows, max_value_bytes}, Batch.{IsBatch, IsChange, IsCommit}};
+ghost use Rattle.pm_record.specs.{Spelling.{base_bytes, batch_bytes, change_bytes, commit_bytes, row_bytes, rows_bytes}, StandsFor.IsRow};
 
 use crate::bytes::Bytes;
 use crate::length::body_length;

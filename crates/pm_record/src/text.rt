@@ -2,8 +2,7 @@
 
 ghost use Rattle.std.specs.Prelude.{◌≡◌, true, false, IfSome, IfNone};
 ghost use Rattle.pm_utf8.specs.Utf8.{boundary};
-ghost use Rattle.pm_record.specs.Reading.{Gives, left_of, may_follow, next_of, text_at};
-ghost use Rattle.pm_record.specs.Changes.{key_at, string_at};
+ghost use Rattle.pm_record.specs.{Reading.{Gives, left_of, may_follow, next_of, text_at}, Changes.{key_at, string_at}};
 
 use crate::fault::Unread;
 use crate::number::{Ranges, first_of, read_number};

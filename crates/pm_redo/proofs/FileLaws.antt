@@ -1,9 +1,6 @@
 -- Laws of a file that stands for something.
-use Rattle.std.proofs.Common.{◌≡◌, ℕ, List, ◌∷◌, ◌++◌, take, drop, ◌∙◌, ap, subst}
-use Rattle.std.specs.Int.{w64, from_be_bytes}
-use Rattle.std.proofs.lemmas.Nat.{from_be_bytes-to_be_bytes_8}
-use Rattle.pm_record.specs.StandsFor.{Content, StandsFor}
-use Rattle.pm_record.specs.Found.{IsClosed}
+use Rattle.std.{proofs.{Common.{◌≡◌, ℕ, List, ◌∷◌, ◌++◌, take, drop, ◌∙◌, ap, subst}, lemmas.Nat.from_be_bytes-to_be_bytes_8}, specs.Int.{w64, from_be_bytes}}
+use Rattle.pm_record.specs.{StandsFor.{Content, StandsFor}, Found.IsClosed}
 
 -- the epoch that the bytes say
 pub epoch_in : List ℕ → ℕ

@@ -1,24 +1,7 @@
 -- The rows of a content can be spelled, as those of its base and its commits can, and keep the limits.
-use Rattle.std.proofs.Common.{ℕ, ℤ, Bool, List, [], ◌∷◌, length, sym, subst, arith, Less, Equal, Greater}
-use Rattle.std.specs.Prelude.{All}
-use Rattle.std.specs.List.{flat_map}
-use Rattle.std.specs.Ordering.{int_cmp}
-use Rattle.std.specs.Cmp.{int_cmp_total}
-use Rattle.std.specs.FinMap.{entries, put, entries-insert}
-use Rattle.std.specs.FinMap.Entries.{by_order}
-use Rattle.std.proofs.lemmas.List.{take_all}
-use Rattle.std.proofs.lemmas.List.Elements.{All-nil, All-cons, All-head, All-tail, All-append, All-same, All-filter}
-use Rattle.pm_rows.specs.declared.commit.Change.{Change}
-use Rattle.pm_rows.specs.declared.commit.Change.TheVariants.{Put, Del}
-use Rattle.pm_rows.specs.Fold.{RowMap, changed, committed, folded}
-use Rattle.pm_rows.specs.RowLaws.{entries-remove}
-use Rattle.pm_rows.specs.Limits.{IsWithinRowLimits}
-use Rattle.pm_disk.specs.Files.{Files, file_of}
-use Rattle.pm_record.specs.Found.{IsFound}
+use Rattle.std.{proofs.{Common.{ℕ, ℤ, Bool, List, [], ◌∷◌, length, sym, subst, arith, Less, Equal, Greater}, lemmas.List.{take_all, Elements.{All-nil, All-cons, All-head, All-tail, All-append, All-same, All-filter}}}, specs.{Prelude.All, List.flat_map, Ordering.int_cmp, Cmp.int_cmp_total, FinMap.{entries, put, entries-insert, Entries.by_order}}}
+use Rattle.pm_record.{specs.{pm_rows.{declared.commit.Change.{Change, TheVariants.{Put, Del}}, Fold.{RowMap, changed, committed, folded}, Limits.IsWithinRowLimits, Batch.{IsBatch, IsChange, IsCommit}}, pm_disk.Files.{Files, file_of}, Found.IsFound, declared.found.Found.Found, StandsFor.{Content, IsContent, IsRow, StandsFor, commits_of, standing_of}}, proofs.pm_rows.RowLaws.entries-remove}
 use Rattle.pm_redo.specs.Found.{Finds}
-use Rattle.pm_record.specs.declared.found.Found.{Found}
-use Rattle.pm_rows.specs.Batch.{IsBatch, IsChange, IsCommit}
-use Rattle.pm_record.specs.StandsFor.{Content, IsContent, IsRow, StandsFor, commits_of, standing_of}
 
 -- ---- one change
 

@@ -1,24 +1,7 @@
 -- What reading the two files leaves of what they mean.
-use Rattle.std.proofs.Common.{◌≡◌, ◌⊎◌, inl, inr, ℕ, ◌≤◌, ◌<◌, Bool, true, false, List, [], ◌∷◌, ◌++◌, drop, refl, sym, ◌∙◌, ap, subst, arith}
-use Rattle.std.specs.Prelude.{Option, Some, None, IfSome, option_map}
-use Rattle.std.proofs.lemmas.Bool.{cases_lt, false≢true, true≢false}
-use Rattle.std.proofs.Math.Arith.{le-zero}
-use Rattle.pm_disk.specs.declared.disk.Which.{Which}
-use Rattle.pm_disk.specs.declared.disk.Which.TheVariants.{A, B}
-use Rattle.pm_disk.specs.Files.{Files, file_of, other, overwritten}
-use Rattle.pm_disk.specs.Disk.{Only, TellsStill, Torn}
-use Rattle.pm_record.specs.GateLaws.{first_of, other-other, regated, same_standing, torn_first, written_at}
-use Rattle.pm_record.specs.StandsFor.{Content, StandsFor, standing_of}
-use Rattle.pm_record.specs.Pair.{IsShut, MeansIn, MeansWhat, PairStandsFor, Yields}
-use Rattle.pm_record.specs.OnDisk.{FollowsWithin, GoesOn, Rests, Throughout}
-use Rattle.pm_redo.specs.Redo.{IsOnly, IsQuiet, Same}
-use Rattle.pm_record.specs.Found.{Holds, IsClosed, IsFound}
-use Rattle.pm_redo.specs.FileLaws.{epoch_is, not_closed}
-use Rattle.pm_redo.specs.Found.{Finds, FindsOnly, FindsPair, IsDamaged, MeansOnly, standing_in}
-use Rattle.pm_record.specs.declared.found.Contents.{Contents}
-use Rattle.pm_record.specs.declared.found.Found.{Found}
-use Rattle.pm_record.specs.declared.found.Contents.TheVariants.{Closed, Standing as Stood}
-use Rattle.pm_record.specs.Calls.{beside_with, file_with}
+use Rattle.std.{proofs.{Common.{◌≡◌, ◌⊎◌, inl, inr, ℕ, ◌≤◌, ◌<◌, Bool, true, false, List, [], ◌∷◌, ◌++◌, drop, refl, sym, ◌∙◌, ap, subst, arith}, lemmas.Bool.{cases_lt, false≢true, true≢false}, Math.Arith.le-zero}, specs.Prelude.{Option, Some, None, IfSome, option_map}}
+use Rattle.pm_record.{specs.{pm_disk.{declared.disk.Which.{Which, TheVariants.{A, B}}, Files.{Files, file_of, other, overwritten}, Disk.{Only, TellsStill, Torn}}, StandsFor.{Content, StandsFor, standing_of}, Pair.{IsShut, MeansIn, MeansWhat, PairStandsFor, Yields}, OnDisk.{FollowsWithin, GoesOn, Rests, Throughout}, Found.{Holds, IsClosed, IsFound}, declared.found.{Contents.{Contents, TheVariants.{Closed, Standing as Stood}}, Found.Found}, Calls.{beside_with, file_with}}, proofs.GateLaws.{first_of, other-other, regated, same_standing, torn_first, written_at}}
+use Rattle.pm_redo.{specs.{Redo.{IsOnly, IsQuiet, Same}, Found.{Finds, FindsOnly, FindsPair, IsDamaged, MeansOnly, standing_in}}, proofs.FileLaws.{epoch_is, not_closed}}
 
 -- ---- one file
 

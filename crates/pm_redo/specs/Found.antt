@@ -1,15 +1,6 @@
 -- What reading finds in the pair of files, and why it finds nothing.
 use Rattle.std.specs.Prelude.{◌≡◌, ◌⊎◌, ℕ, ◌+◌, Bool, true, false, []}
-use Rattle.pm_disk.specs.declared.disk.Which.{Which}
-use Rattle.pm_disk.specs.declared.disk.Which.TheVariants.{A, B}
-use Rattle.pm_disk.specs.Files.{Files, file_of, other}
-use Rattle.pm_rows.specs.Standing.{Standing}
-use Rattle.pm_record.specs.StandsFor.{Content, StandsFor}
-use Rattle.pm_record.specs.Damage.{IsFirstWrong}
-use Rattle.pm_record.specs.Found.{IsClosed, IsFound, MeansNothing}
-use Rattle.pm_record.specs.Pair.{IsShut, MeansIn, PairStandsFor}
-use Rattle.pm_record.specs.declared.found.Found.{Found}
-use Rattle.pm_record.specs.declared.fault.RedoFault.{RedoFault}
+use Rattle.pm_record.specs.{pm_disk.{declared.disk.Which.{Which, TheVariants.{A, B}}, Files.{Files, file_of, other}}, pm_rows.Standing.Standing, StandsFor.{Content, StandsFor}, Damage.IsFirstWrong, Found.{IsClosed, IsFound, MeansNothing}, Pair.{IsShut, MeansIn, PairStandsFor}, declared.{found.Found.Found, fault.RedoFault.RedoFault}}
 use Rattle.pm_record.specs.declared.fault.RedoFault.TheVariants as redo
 
 -- the rows and the count that were found

@@ -1,8 +1,6 @@
 -- What reading the two files leaves as it was.
 use Rattle.std.specs.Prelude.{◌≡◌, ℕ, Option}
-use Rattle.pm_disk.specs.Disk.{TellsStill}
-use Rattle.pm_disk.specs.Files.{Files}
-use Rattle.pm_record.specs.OnDisk.{FollowsWithin, GoesOn}
+use Rattle.pm_record.specs.{pm_disk.{Disk.TellsStill, Files.Files}, OnDisk.{FollowsWithin, GoesOn}}
 
 -- the same files
 abbrev pub Same : Files → Files → Type 0

@@ -1,9 +1,7 @@
 //! What two files stand for together.
 
 ghost use Rattle.std.specs.Prelude.{◌≡◌, ◌≢◌, ◌⊎◌, ℕ, [], IfOk, IfErr, IsTrue, false};
-ghost use Rattle.pm_record.specs.StandsFor.{Content, StandsFor};
-ghost use Rattle.pm_record.specs.Damage.{IsFirstWrong};
-ghost use Rattle.pm_record.specs.Found.{Holds, IsClosed, IsOf, MeansNothing};
+ghost use Rattle.pm_record.specs.{StandsFor.{Content, StandsFor}, Damage.IsFirstWrong, Found.{Holds, IsClosed, IsOf, MeansNothing}};
 ghost use Rattle.pm_redo.specs.Found.{Finds, FindsOnly, IsReason};
 
 use pm_disk::Which;

@@ -2,16 +2,8 @@
 
 ghost use Rattle.std.specs.Prelude.{◌≡◌, ◌≢◌, ◌⊎◌, ◌+◌, ◌≤◌, ℕ, All, List, IfOk, IfSome, IsErr, OnOk};
 ghost use Rattle.std.specs.FinMap as map;
-ghost use Rattle.pm_disk.specs.Cause.{IsCounted};
-ghost use Rattle.pm_disk.specs.Disk.{TellsStill};
-ghost use Rattle.pm_disk.specs.Files.{file_of};
-ghost use Rattle.pm_record.specs.OnDisk.{FollowsWithin, GoesOn, Rests, Throughout};
-ghost use Rattle.pm_record.specs.Pair.{MeansWhat};
-ghost use Rattle.pm_record.specs.Found.{IsFound};
-ghost use Rattle.pm_record.specs.StandsFor.{Content, IsRow, StandsFor};
-ghost use Rattle.pm_rows.specs.Limits.{IsWithinRowLimits};
-ghost use Rattle.pm_redo.specs.Found.{Finds, FindsOnly, FindsPair, IsReason, MeansOnly};
-ghost use Rattle.pm_redo.specs.Redo.{GoesOnTelling, IsQuiet, IsOnly, Same};
+ghost use Rattle.pm_record.specs.{pm_disk.{Cause.IsCounted, Disk.TellsStill, Files.file_of}, OnDisk.{FollowsWithin, GoesOn, Rests, Throughout}, Pair.MeansWhat, Found.IsFound, StandsFor.{Content, IsRow, StandsFor}, pm_rows.Limits.IsWithinRowLimits};
+ghost use Rattle.pm_redo.specs.{Found.{Finds, FindsOnly, FindsPair, IsReason, MeansOnly}, Redo.{GoesOnTelling, IsQuiet, IsOnly, Same}};
 
 use crate::pair::pair_in;
 use pm_disk::{Disk, DiskFault, Which};

@@ -1,16 +1,8 @@
 -- What the entries of an ordered table are as a finite map.
-use Rattle.std.proofs.Common.{◌≡◌, ℤ, Bool, true, cond, T, List, [], ◌∷◌, Option, Some, None, sym, ap, subst, ◌∙◌}
-use Rattle.std.specs.Prelude.{fold}
-use Rattle.std.specs.Ordering.{int_cmp, eq_by_cmp}
-use Rattle.std.specs.Cmp.{int_cmp_total}
+use Rattle.std.{proofs.{Common.{◌≡◌, ℤ, Bool, true, cond, T, List, [], ◌∷◌, Option, Some, None, sym, ap, subst, ◌∙◌}, lemmas.Cmp.eq_by_cmp_equiv}, specs.{Prelude.fold, Ordering.{int_cmp, eq_by_cmp}, Cmp.int_cmp_total, FinMap.{FinMap, from_sorted, is_sorted, same_map, int_cmp-IsAntisymmetric, get-from_sorted, get-insert, get-remove, get-empty}, Map.{keys_of, lookup, update, update_all}, List.Sorted.IsStrictlySortedBy, BTreeMap.{BTreeMap, is_at, IsFromIterResult, IsOrdered, Updates}}}
 use Rattle.std.specs.FinMap as map
-use Rattle.std.specs.FinMap.{FinMap, from_sorted, is_sorted, same_map, int_cmp-IsAntisymmetric, get-from_sorted, get-insert, get-remove, get-empty}
-use Rattle.std.specs.Map.{keys_of, lookup, update, update_all}
-use Rattle.std.specs.List.Sorted.{IsStrictlySortedBy}
 use Rattle.std.specs.BTreeMap as tree
-use Rattle.std.specs.BTreeMap.{BTreeMap, is_at, IsFromIterResult, IsOrdered, Updates}
-use Rattle.std.proofs.lemmas.Cmp.{eq_by_cmp_equiv}
-use Rattle.pm_rows.specs.RowLaws.{find-lookup, rises}
+use Rattle.pm_rows.proofs.RowLaws.{find-lookup, rises}
 
 holds : (b : Bool) → b ≡ true → T b
 holds b e = subst T (sym e) tt

@@ -1,13 +1,7 @@
 -- What a change leaves at a key.
-use Rattle.std.proofs.Common.{◌≡◌, ℤ, Bool, true, cond}
-use Rattle.std.specs.Ordering.{int_cmp, eq_by_cmp}
-use Rattle.std.specs.Cmp.{int_cmp_total}
+use Rattle.std.{proofs.{Common.{◌≡◌, ℤ, Bool, true, cond}, lemmas.Cmp.eq_by_cmp_equiv}, specs.{Ordering.{int_cmp, eq_by_cmp}, Cmp.int_cmp_total, FinMap.{get-insert, get-remove}}}
 use Rattle.std.specs.FinMap as map
-use Rattle.std.specs.FinMap.{get-insert, get-remove}
-use Rattle.std.proofs.lemmas.Cmp.{eq_by_cmp_equiv}
-use Rattle.pm_rows.specs.declared.commit.Change.{Change}
-use Rattle.pm_rows.specs.declared.commit.Change.TheVariants.{Put, Del}
-use Rattle.pm_rows.specs.Fold.{RowMap, changed, key_of, value_left}
+use Rattle.pm_rows.specs.{declared.commit.Change.{Change, TheVariants.{Put, Del}}, Fold.{RowMap, changed, key_of, value_left}}
 
 -- whether two keys are equal
 abbrev pub same_key : ℤ → ℤ → Bool

@@ -5,3 +5,4 @@ pub mod Room
 pub mod Settle
 pub mod Sizes
 pub mod Tables
+pub mod RowLaws

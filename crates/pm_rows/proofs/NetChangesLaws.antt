@@ -1,17 +1,8 @@
 -- The net of a commit, change by change, and what it makes of rows.
-use Rattle.std.proofs.Common.{◌≡◌, ℕ, ℤ, ◌+◌, ◌<◌, Bool, true, false, cond, List, [], length, Option, Some, take, get_or, refl, sym, ap, ◌∙◌, unwrap_or}
-use Rattle.std.specs.Ordering.{int_cmp}
-use Rattle.std.specs.Cmp.{int_cmp_total}
+use Rattle.std.{proofs.{Common.{◌≡◌, ℕ, ℤ, ◌+◌, ◌<◌, Bool, true, false, cond, List, [], length, Option, Some, take, get_or, refl, sym, ap, ◌∙◌, unwrap_or}, lemmas.{Cmp.eq_by_cmp_equiv, List.Sums.fold_more}}, specs.{Ordering.int_cmp, Cmp.int_cmp_total, Map.lookup, BTreeMap.{IsOrdered, Updates, is_at}}}
 use Rattle.std.specs.FinMap as map
-use Rattle.std.specs.Map.{lookup}
 use Rattle.std.specs.BTreeMap as tree
-use Rattle.std.specs.BTreeMap.{IsOrdered, Updates, is_at}
-use Rattle.std.proofs.lemmas.Cmp.{eq_by_cmp_equiv}
-use Rattle.std.proofs.lemmas.List.Sums.{fold_more}
-use Rattle.pm_rows.specs.declared.commit.Change.{Change}
-use Rattle.pm_rows.specs.Fold.{changed, committed, key_of, value_left}
-use Rattle.pm_rows.specs.NetChanges.{NetChanges, IsNet}
-use Rattle.pm_rows.proofs.FoldLaws.{get-changed, same_key}
+use Rattle.pm_rows.{specs.{declared.commit.Change.Change, Fold.{changed, committed, key_of, value_left}, NetChanges.{NetChanges, IsNet}}, proofs.FoldLaws.{get-changed, same_key}}
 
 -- no change leaves everything as it was
 pub net_none : (net : NetChanges) → IsOrdered int_cmp net → net.entries ≡ [] → IsNet [] net

@@ -1,19 +1,7 @@
 -- Room for the keys that get a value and have no row, and how it is undone.
-use Rattle.std.proofs.Common.{◌≡◌, ℕ, zero, suc, ℤ, Bool, true, false, cond, ◌||◌, List, [], ◌∷◌, Option, Some, None, IsSome, is_some, map, fold, take, refl, sym, ap, ◌∙◌, inl, inr}
-use Rattle.std.specs.Prelude.{is_none, filter}
-use Rattle.std.specs.Ordering.{int_cmp}
-use Rattle.std.specs.Cmp.{int_cmp_total}
+use Rattle.std.{proofs.{Common.{◌≡◌, ℕ, zero, suc, ℤ, Bool, true, false, cond, ◌||◌, List, [], ◌∷◌, Option, Some, None, IsSome, is_some, map, fold, take, refl, sym, ap, ◌∙◌, inl, inr}, lemmas.{Bool.{false≢true, and_parts, and_from, or_cases, or_left, or_right, or_from, or_parts}, Map.{Lookups.exact_signed, Views.tells_apart}}}, specs.{Prelude.{is_none, filter}, Ordering.int_cmp, Cmp.int_cmp_total, FinMap.{get-insert, get-remove, same_map, int_cmp-IsAntisymmetric}, Map.lookup, BTreeMap.is_at, List.list_any}}
 use Rattle.std.specs.FinMap as finite
-use Rattle.std.specs.FinMap.{get-insert, get-remove, same_map, int_cmp-IsAntisymmetric}
-use Rattle.std.specs.Map.{lookup}
-use Rattle.std.specs.BTreeMap.{is_at}
-use Rattle.std.specs.List.{list_any}
-use Rattle.std.proofs.lemmas.Bool.{false≢true, and_parts, and_from, or_cases, or_left, or_right, or_from, or_parts}
-use Rattle.std.proofs.lemmas.Map.Lookups.{exact_signed}
-use Rattle.std.proofs.lemmas.Map.Views.{tells_apart}
-use Rattle.pm_rows.specs.Fold.{RowMap}
-use Rattle.pm_rows.specs.NetChanges.{NetChanges, lacks_row, missing_keys, HasRoom}
-use Rattle.pm_rows.proofs.FoldLaws.{same_key}
+use Rattle.pm_rows.{specs.{Fold.RowMap, NetChanges.{NetChanges, lacks_row, missing_keys, HasRoom}}, proofs.FoldLaws.same_key}
 
 -- the rows with an empty text at a key
 abbrev pub with_empty : RowMap → ℤ → RowMap

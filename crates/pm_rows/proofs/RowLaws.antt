@@ -1,24 +1,7 @@
 -- Laws of rows as a finite map: their list by rising key, their size, and one change more.
-use Rattle.std.proofs.Common.{◌≡◌, ℕ, ℤ, ◌+◌, Bool, true, false, cond, not, T, List, [], ◌∷◌, ◌++◌, length, None, Some, arith, refl, sym, ap, subst, ◌∙◌, Less, Equal, Greater}
-use Rattle.std.specs.declared.cmp.Ordering.{Ordering}
-use Rattle.std.specs.Ordering.{int_cmp, eq_by_cmp, is_eq, is_lt, match_ordering}
-use Rattle.std.specs.Cmp.{int_cmp_total, alike_right, eq_by_cmp_equiv, tied_itself}
-use Rattle.std.specs.FinMap.{get, insert, remove, empty, keys, entries, find, from_sorted, entries_sorted, entries-from_sorted, entries-insert, get-entries, get-insert, get-remove, get-from_sorted, get_tied, same_map, int_cmp-IsAntisymmetric, is_sorted, put, len-entries, len-empty}
-use Rattle.std.specs.FinMap.Entries.{below_all, by_order, where_key, is_sorted-where_key, find-where_key}
-use Rattle.std.specs.Map.{keys_of, values_of, lookup}
-use Rattle.std.specs.BTreeMap.{is_at, insert_entry}
-use Rattle.std.specs.List.{AllByRecursion}
-use Rattle.std.specs.List.Sorted.{IsStrictlySortedBy}
-use Rattle.std.specs.Prelude.{sum_by}
-use Rattle.std.proofs.lemmas.Bool.{and_from, and_parts}
-use Rattle.std.proofs.lemmas.List.Sums.{fold-append}
-use Rattle.std.proofs.lemmas.Map.Entries.{sum_by-insert_entry}
-use Rattle.std.proofs.lemmas.Map.Keys.{sorted_head, sorted_tail}
-use Rattle.pm_facts.specs.Bools.{cond-not, true_of}
-use Rattle.pm_facts.specs.Orders.{is_less}
-use Rattle.pm_rows.specs.declared.commit.Change.{Change}
-use Rattle.pm_rows.specs.Fold.{RowMap, changed, committed}
-use Rattle.pm_rows.specs.Size.{row_size, size_at, size_of}
+use Rattle.std.{proofs.{Common.{◌≡◌, ℕ, ℤ, ◌+◌, Bool, true, false, cond, not, T, List, [], ◌∷◌, ◌++◌, length, None, Some, arith, refl, sym, ap, subst, ◌∙◌, Less, Equal, Greater}, lemmas.{Bool.{and_from, and_parts}, List.Sums.fold-append, Map.{Entries.sum_by-insert_entry, Keys.{sorted_head, sorted_tail}}}}, specs.{declared.cmp.Ordering.Ordering, Ordering.{int_cmp, eq_by_cmp, is_eq, is_lt, match_ordering}, Cmp.{int_cmp_total, alike_right, eq_by_cmp_equiv, tied_itself}, FinMap.{get, insert, remove, empty, keys, entries, find, from_sorted, entries_sorted, entries-from_sorted, entries-insert, get-entries, get-insert, get-remove, get-from_sorted, get_tied, same_map, int_cmp-IsAntisymmetric, is_sorted, put, len-entries, len-empty, Entries.{below_all, by_order, where_key, is_sorted-where_key, find-where_key}}, Map.{keys_of, values_of, lookup}, BTreeMap.{is_at, insert_entry}, List.{AllByRecursion, Sorted.IsStrictlySortedBy}, Prelude.sum_by}}
+use Rattle.pm_facts.specs.{Bools.{cond-not, true_of}, Orders.is_less}
+use Rattle.pm_rows.specs.{declared.commit.Change.Change, Fold.{RowMap, changed, committed}, Size.{row_size, size_at, size_of}}
 
 -- two maps that answer alike are one
 pub same_rows : (m n : RowMap) → ((q : ℤ) → get m q ≡ get n q) → m ≡ n

@@ -1,23 +1,8 @@
 -- What settling an net makes of rows that have room for it.
-use Rattle.std.proofs.Common.{◌≡◌, ℕ, ℤ, true, false, cond, List, [], ◌∷◌, Option, Some, None, IsSome, is_some, fold, unwrap_or, refl, sym, ap, ◌∙◌}
-use Rattle.std.specs.Ordering.{int_cmp, eq_by_cmp}
-use Rattle.std.specs.Cmp.{int_cmp_total}
+use Rattle.std.{proofs.{Common.{◌≡◌, ℕ, ℤ, true, false, cond, List, [], ◌∷◌, Option, Some, None, IsSome, is_some, fold, unwrap_or, refl, sym, ap, ◌∙◌}, lemmas.{Bool.false≢true, Cmp.eq_by_cmp_equiv, Map.{lookup-none, Entries.none_past_head, Keys.{IsDistinct-from_sorted, sorted_tail}}}}, specs.{Ordering.{int_cmp, eq_by_cmp}, Cmp.int_cmp_total, FinMap.{get-insert, get-remove, same_map, int_cmp-IsAntisymmetric}, Map.{lookup, keys_of}, BTreeMap.is_at, List.Sorted.IsStrictlySortedBy}}
 use Rattle.std.specs.FinMap as finite
-use Rattle.std.specs.FinMap.{get-insert, get-remove, same_map, int_cmp-IsAntisymmetric}
-use Rattle.std.specs.Map.{lookup, keys_of}
 use Rattle.std.specs.BTreeMap as tree
-use Rattle.std.specs.BTreeMap.{is_at}
-use Rattle.std.specs.List.Sorted.{IsStrictlySortedBy}
-use Rattle.std.proofs.lemmas.Bool.{false≢true}
-use Rattle.std.proofs.lemmas.Cmp.{eq_by_cmp_equiv}
-use Rattle.std.proofs.lemmas.Map.{lookup-none}
-use Rattle.std.proofs.lemmas.Map.Entries.{none_past_head}
-use Rattle.std.proofs.lemmas.Map.Keys.{IsDistinct-from_sorted, sorted_tail}
-use Rattle.pm_rows.specs.declared.commit.Change.{Change}
-use Rattle.pm_rows.specs.Fold.{RowMap, committed}
-use Rattle.pm_rows.specs.Pending.{Pending}
-use Rattle.pm_rows.specs.NetChanges.{NetChanges, IsNet, HasRoom, settled, IsReady}
-use Rattle.pm_rows.proofs.FoldLaws.{same_key, same_key-refl}
+use Rattle.pm_rows.{specs.{declared.commit.Change.Change, Fold.{RowMap, committed}, Pending.Pending, NetChanges.{NetChanges, IsNet, HasRoom, settled, IsReady}}, proofs.FoldLaws.{same_key, same_key-refl}}
 
 -- one entry decides what its key has, and no other key
 get-settled_one : (rows : RowMap) (e : ℤ × Option (List ℕ)) (q : ℤ) → finite.get (settled rows e) q ≡ cond (same_key q e.0) e.1 (finite.get rows q)

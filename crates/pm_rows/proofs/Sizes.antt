@@ -1,12 +1,5 @@
 -- How the size of a table's rows changes with one of them.
-use Rattle.std.proofs.Common.{◌≡◌, ℕ, ℤ, ◌+◌, ◌*◌, ◌^◌, ◌<◌, ◌≤◌, List, length, All, sum_by, arith}
-use Rattle.std.specs.Ordering.{int_cmp}
-use Rattle.std.specs.Cmp.{int_cmp_total}
-use Rattle.std.specs.Map.{keys_of, values_of, lookup, remove_entry}
-use Rattle.std.specs.BTreeMap.{is_at, insert_entry}
-use Rattle.std.specs.List.Sorted.{IsStrictlySortedBy}
-use Rattle.std.proofs.lemmas.List.Sums.{sum_by-le}
-use Rattle.std.proofs.lemmas.Map.Entries.{sum_by-insert_entry, sum_by-remove_entry, length-values_of}
+use Rattle.std.{proofs.{Common.{◌≡◌, ℕ, ℤ, ◌+◌, ◌*◌, ◌^◌, ◌<◌, ◌≤◌, List, length, All, sum_by, arith}, lemmas.{List.Sums.sum_by-le, Map.Entries.{sum_by-insert_entry, sum_by-remove_entry, length-values_of}}}, specs.{Ordering.int_cmp, Cmp.int_cmp_total, Map.{keys_of, values_of, lookup, remove_entry}, BTreeMap.{is_at, insert_entry}, List.Sorted.IsStrictlySortedBy}}
 use Rattle.pm_rows.specs.Size.{row_size, size_at}
 
 -- what the rows of entries take

@@ -1,22 +1,8 @@
 -- What an insertion and a removal in an ordered table are on the map that it stands for.
-use Rattle.std.proofs.Common.{◌≡◌, ℕ, ℤ, ◌+◌, ◌^◌, ◌<◌, List, length, All, w64, FitsSigned, Some, None, sym, ap, subst, ◌∙◌, arith}
-use Rattle.std.specs.Ordering.{int_cmp}
+use Rattle.std.{proofs.{Common.{◌≡◌, ℕ, ℤ, ◌+◌, ◌^◌, ◌<◌, List, length, All, w64, FitsSigned, Some, None, sym, ap, subst, ◌∙◌, arith}, lemmas.{List.{get_or-map, Elements.{All-map, same_from_all_zip}}, Map.{Entries.{length-keys_of, length-values_of}, Views.{All-keys-insert_entry, All-values-insert_entry, All-map-remove_entry}}}}, specs.{Ordering.int_cmp, FinMap.{entries-from_sorted, len-entries, entries}, Str.IsUtf8, Map.{remove_entry, keys_of, values_of}, List.Sorted.IsStrictlySortedBy, BTreeMap.{BTreeMap, is_at, insert_entry, IsClone, IsOrdered, Updates, btree_map_len}}}
 use Rattle.std.specs.FinMap as finite
-use Rattle.std.specs.FinMap.{entries-from_sorted, len-entries, entries}
-use Rattle.std.specs.Str.{IsUtf8}
-use Rattle.std.specs.Map.{remove_entry, keys_of, values_of}
-use Rattle.std.specs.List.Sorted.{IsStrictlySortedBy}
 use Rattle.std.specs.BTreeMap as tree
-use Rattle.std.specs.BTreeMap.{BTreeMap, is_at, insert_entry, IsClone, IsOrdered, Updates, btree_map_len}
-use Rattle.std.proofs.lemmas.List.{get_or-map}
-use Rattle.std.proofs.lemmas.List.Elements.{All-map, same_from_all_zip}
-use Rattle.std.proofs.lemmas.Map.Entries.{length-keys_of, length-values_of}
-use Rattle.std.proofs.lemmas.Map.Views.{All-keys-insert_entry, All-values-insert_entry, All-map-remove_entry}
-use Rattle.pm_rows.specs.Size.{row_size, size_at, size_of}
-use Rattle.pm_rows.specs.Table.{rows_in, IsTable}
-use Rattle.pm_rows.specs.Typed.{IsTypedRow}
-use Rattle.pm_rows.proofs.Entries.{sorted_from_ordered, table_put, table_remove}
-use Rattle.pm_rows.proofs.Sizes.{entries_size, size-insert_entry, size-remove_entry, size_small}
+use Rattle.pm_rows.{specs.{Size.{row_size, size_at, size_of}, Table.{rows_in, IsTable}, Typed.IsTypedRow}, proofs.{Entries.{sorted_from_ordered, table_put, table_remove}, Sizes.{entries_size, size-insert_entry, size-remove_entry, size_small}}}
 
 -- what `len` and `size` say of the map
 pub len-rows_in : (m : BTreeMap ℤ (List ℕ)) → IsOrdered int_cmp m → finite.len (rows_in m) ≡ btree_map_len m

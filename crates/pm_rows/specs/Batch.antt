@@ -1,10 +1,6 @@
 -- What goes into a log file at once: commits of a few changes each.
-use Rattle.std.specs.Prelude.{◌≤◌, List, length, All, FitsSigned}
-use Rattle.std.specs.Int.{w64}
-use Rattle.std.specs.Str.{IsUtf8}
-use Rattle.pm_rows.specs.declared.commit.Change.{Change}
-use Rattle.pm_rows.specs.declared.commit.Change.TheVariants.{Put, Del}
-use Rattle.pm_rows.specs.Limits.{max_value_bytes, max_changes, max_commits}
+use Rattle.std.specs.{Prelude.{◌≤◌, List, length, All, FitsSigned}, Int.w64, Str.IsUtf8}
+use Rattle.pm_rows.specs.{declared.commit.Change.{Change, TheVariants.{Put, Del}}, Limits.{max_value_bytes, max_changes, max_commits}}
 
 -- a key is an i64, and a value is UTF-8 and short enough
 abbrev pub IsChange : Change → Type 0

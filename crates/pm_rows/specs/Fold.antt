@@ -1,9 +1,6 @@
 -- The rows as a finite map, and what commits make of them.
-use Rattle.std.specs.Prelude.{ℕ, ℤ, List, Option, Some, None, fold}
-use Rattle.std.specs.Ordering.{int_cmp}
-use Rattle.std.specs.FinMap.{FinMap, empty, insert, remove}
-use Rattle.pm_rows.specs.declared.commit.Change.{Change}
-use Rattle.pm_rows.specs.declared.commit.Change.TheVariants.{Put, Del}
+use Rattle.std.specs.{Prelude.{ℕ, ℤ, List, Option, Some, None, fold}, Ordering.int_cmp, FinMap.{FinMap, empty, insert, remove}}
+use Rattle.pm_rows.specs.declared.commit.Change.{Change, TheVariants.{Put, Del}}
 
 -- rows: each key has at most one value, a list of bytes
 abbrev pub RowMap : Type 0

@@ -5,9 +5,9 @@ pub mod LogSize
 pub mod Longest
 pub mod NetChanges
 pub mod Pending
-pub mod RowLaws
 pub mod RowsIter
 pub mod Size
 pub mod Standing
 pub mod Table
 pub mod Typed
+pub use Rattle.pm_facts.specs as pm_facts

@@ -1,8 +1,6 @@
 -- The limits of the whole server, each as a number, and what it is for rows to be within theirs.
-use Rattle.std.specs.Prelude.{ℕ, ◌≤◌}
-use Rattle.std.specs.FinMap.{len}
-use Rattle.pm_rows.specs.Fold.{RowMap}
-use Rattle.pm_rows.specs.Size.{size_of}
+use Rattle.std.specs.{Prelude.{ℕ, ◌≤◌}, FinMap.len}
+use Rattle.pm_rows.specs.{Fold.RowMap, Size.size_of}
 
 -- the rows of the table
 abbrev pub max_rows : ℕ

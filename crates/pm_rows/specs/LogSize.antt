@@ -1,7 +1,6 @@
 -- How many bytes changes take in a log file.
 use Rattle.std.specs.Prelude.{ℕ, ◌+◌, List, length, sum_by}
-use Rattle.pm_rows.specs.declared.commit.Change.{Change}
-use Rattle.pm_rows.specs.declared.commit.Change.TheVariants.{Put, Del}
+use Rattle.pm_rows.specs.declared.commit.Change.{Change, TheVariants.{Put, Del}}
 
 -- a change: its tag, its key, and for a put the length of the value and the value
 abbrev pub change_length : Change → ℕ

@@ -1,11 +1,8 @@
 -- How a commit is made: what it leaves at each of its keys, room for those that have no row yet, and then the values.
-use Rattle.std.specs.Prelude.{◌≡◌, ℕ, ℤ, Bool, ◌&&◌, List, [], ◌∷◌, Option, Some, None, is_some, is_none, IsSome, map, filter, unwrap_or}
-use Rattle.std.specs.Ordering.{int_cmp}
+use Rattle.std.specs.{Prelude.{◌≡◌, ℕ, ℤ, Bool, ◌&&◌, List, [], ◌∷◌, Option, Some, None, is_some, is_none, IsSome, map, filter, unwrap_or}, Ordering.int_cmp, BTreeMap.{BTreeMap, IsOrdered}}
 use Rattle.std.specs.FinMap as rows
 use Rattle.std.specs.BTreeMap as tree
-use Rattle.std.specs.BTreeMap.{BTreeMap, IsOrdered}
-use Rattle.pm_rows.specs.declared.commit.Change.{Change}
-use Rattle.pm_rows.specs.Fold.{RowMap, committed}
+use Rattle.pm_rows.specs.{declared.commit.Change.Change, Fold.{RowMap, committed}}
 
 -- by rising key, the value that a key has afterwards, or `None` where it has no row
 abbrev pub NetChanges : Type 0

@@ -1,9 +1,6 @@
 -- A commit whose memory is taken, and which isn't made yet.
-use Rattle.std.specs.Prelude.{List, refl}
-use Rattle.std.specs.Coded.{Coded, code_by, coded×, coded_ℤ, coded_ℕ, coded_list}
-use Rattle.std.specs.FinMap.{code}
-use Rattle.pm_rows.specs.declared.commit.Change.{Change}
-use Rattle.pm_rows.specs.Fold.{RowMap, committed}
+use Rattle.std.specs.{Prelude.{List, refl}, Coded.{Coded, code_by, coded×, coded_ℤ, coded_ℕ, coded_list}, FinMap.code}
+use Rattle.pm_rows.specs.{declared.commit.Change.Change, Fold.{RowMap, committed}}
 
 -- the rows without the commit, and the rows with it
 pub record Pending : Type 0 where

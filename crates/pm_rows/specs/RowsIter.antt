@@ -1,6 +1,5 @@
 -- What an iterator over rows gives.
-use Rattle.std.specs.Prelude.{ℕ, ℤ, List}
-use Rattle.std.specs.Borrow.{Bor}
+use Rattle.std.specs.{Prelude.{ℕ, ℤ, List}, Borrow.Bor}
 
 -- a key with the value that the reference points to
 abbrev pub shown_row : ℤ × Bor (List ℕ) → ℤ × List ℕ

@@ -1,7 +1,5 @@
 -- How large rows are.
-use Rattle.std.specs.Prelude.{ℕ, ◌+◌, List, Option, length, sum_by, unwrap_or}
-use Rattle.std.specs.FinMap.{values}
-use Rattle.std.specs.Option.{option_map}
+use Rattle.std.specs.{Prelude.{ℕ, ◌+◌, List, Option, length, sum_by, unwrap_or}, FinMap.values, Option.option_map}
 use Rattle.pm_rows.specs.Fold.{RowMap}
 
 -- a row takes twelve bytes, for its key and the length of its value, and the bytes of the value

@@ -1,7 +1,6 @@
 -- What commits come to.
 use Rattle.std.specs.Prelude.{ℕ, ◌+◌, List, length}
-use Rattle.pm_rows.specs.Fold.{RowMap, folded}
-use Rattle.pm_rows.specs.declared.commit.Change.{Change}
+use Rattle.pm_rows.specs.{Fold.{RowMap, folded}, declared.commit.Change.Change}
 
 -- the rows after so many commits since the cluster was made
 pub record Standing : Type 0 where

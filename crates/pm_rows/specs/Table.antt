@@ -1,12 +1,6 @@
 -- How the fields of `Rows` stand for a finite map.
-use Rattle.std.specs.Prelude.{◌≡◌, ℕ, ℤ, ◌<◌, ◌^◌, List, length, All, FitsSigned, sum_by}
-use Rattle.std.specs.Ordering.{int_cmp}
-use Rattle.std.specs.Int.{w64}
-use Rattle.std.specs.Str.{IsUtf8}
-use Rattle.std.specs.BTreeMap.{BTreeMap, IsOrdered, keys, values}
-use Rattle.std.specs.FinMap.{from_sorted}
-use Rattle.pm_rows.specs.Fold.{RowMap}
-use Rattle.pm_rows.specs.Size.{row_size}
+use Rattle.std.specs.{Prelude.{◌≡◌, ℕ, ℤ, ◌<◌, ◌^◌, List, length, All, FitsSigned, sum_by}, Ordering.int_cmp, Int.w64, Str.IsUtf8, BTreeMap.{BTreeMap, IsOrdered, keys, values}, FinMap.from_sorted}
+use Rattle.pm_rows.specs.{Fold.RowMap, Size.row_size}
 
 -- the map of the table's entries
 abbrev pub rows_in : BTreeMap ℤ (List ℕ) → RowMap

@@ -1,9 +1,6 @@
 -- What the types of the table's columns are: a key is a bigint, and a value is a text.
-use Rattle.std.specs.Prelude.{ℕ, ℤ, List, FitsSigned}
-use Rattle.std.specs.Int.{w64}
-use Rattle.std.specs.Str.{IsUtf8}
-use Rattle.pm_rows.specs.declared.commit.Change.{Change}
-use Rattle.pm_rows.specs.declared.commit.Change.TheVariants.{Put, Del}
+use Rattle.std.specs.{Prelude.{ℕ, ℤ, List, FitsSigned}, Int.w64, Str.IsUtf8}
+use Rattle.pm_rows.specs.declared.commit.Change.{Change, TheVariants.{Put, Del}}
 
 -- the key of a change fits 64 bits, and its value is UTF-8
 abbrev pub IsTypedChange : Change → Type 0

@@ -4,12 +4,9 @@
 //! The first finds what it leaves at each of its keys, and gives each key that gets a row one with an empty text. The
 //! second sets the values and takes the deleted keys out, or takes the empty rows out again. Between the two the rows
 //! are held in a [`Prepared`].
-ghost use Rattle.std.specs.Prelude.{◌≡◌, fold, FitsSigned, IfOk, OnOk, OnErr};
+ghost use Rattle.std.specs.{Prelude.{◌≡◌, fold, FitsSigned, IfOk, OnOk, OnErr}, Int.w64};
 ghost use Rattle.std.specs.FinMap as map;
-ghost use Rattle.std.specs.Int.{w64};
-ghost use Rattle.pm_rows.specs.Fold.{committed, key_of, value_left};
-ghost use Rattle.pm_rows.specs.NetChanges.{IsNet, missing_keys, HasRoom, settled, IsReady};
-ghost use Rattle.pm_rows.specs.Pending.{pending};
+ghost use Rattle.pm_rows.specs.{Fold.{committed, key_of, value_left}, NetChanges.{IsNet, missing_keys, HasRoom, settled, IsReady}, Pending.pending};
 
 use crate::commit::{Change, Commit};
 use crate::rows::Rows;
@@ -31,8 +28,7 @@ pub struct Prepared {
 impl Model for Prepared {
     ghost use Rattle.std.specs.Prelude.{fold};
     ghost use Rattle.std.specs.FinMap as map;
-    ghost use Rattle.pm_rows.specs.Pending.{Pending, pending_code};
-    ghost use Rattle.pm_rows.specs.NetChanges.{settled, IsReady};
+    ghost use Rattle.pm_rows.specs.{Pending.{Pending, pending_code}, NetChanges.{settled, IsReady}};
 
     ghost Value = { Pending };
 

@@ -1,7 +1,6 @@
 //! The limits of the whole server, as numbers of the program.
 ghost use Rattle.std.specs.Prelude.{◌≡◌};
-ghost use Rattle.pm_rows.specs.Limits.{max_rows, max_rows_bytes, max_value_bytes, max_changes, max_commits, max_file_bytes};
-ghost use Rattle.pm_rows.specs.Longest.{max_change_bytes, max_commit_bytes};
+ghost use Rattle.pm_rows.specs.{Limits.{max_rows, max_rows_bytes, max_value_bytes, max_changes, max_commits, max_file_bytes}, Longest.{max_change_bytes, max_commit_bytes}};
 
 /// How many rows the table has at most.
 pub const MAX_ROWS: usize = 100_000;

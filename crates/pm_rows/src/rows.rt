@@ -1,16 +1,7 @@
 //! The rows of the table.
-ghost use Rattle.std.specs.Prelude.{◌≡◌, ◌+◌, ◌-◌, ◌^◌, ◌<◌, min, All, FitsSigned, IfOk, IfSome, OnOk, OnErr};
-ghost use Rattle.std.specs.Int.{w64};
+ghost use Rattle.std.specs.{Prelude.{◌≡◌, ◌+◌, ◌-◌, ◌^◌, ◌<◌, min, All, FitsSigned, IfOk, IfSome, OnOk, OnErr}, Int.w64, Map.Iter.ShowsInOrder, Option.option_copied, Str.IsUtf8};
 ghost use Rattle.std.specs.FinMap as map;
-ghost use Rattle.std.specs.Map.Iter.{ShowsInOrder};
-ghost use Rattle.std.specs.Option.{option_copied};
-ghost use Rattle.pm_rows.specs.Fold.{rows_of_pairs};
-ghost use Rattle.pm_rows.specs.Limits.{IsWithinRowLimits};
-ghost use Rattle.pm_rows.specs.RowsIter.{shown_row};
-ghost use Rattle.pm_rows.specs.Size.{row_size, size_of};
-ghost use Rattle.pm_rows.specs.Table.{IsTable};
-ghost use Rattle.pm_rows.specs.Typed.{IsTypedRow};
-ghost use Rattle.std.specs.Str.{IsUtf8};
+ghost use Rattle.pm_rows.specs.{Fold.rows_of_pairs, Limits.IsWithinRowLimits, RowsIter.shown_row, Size.{row_size, size_of}, Table.IsTable, Typed.IsTypedRow};
 
 use crate::rows_iter::RowsIter;
 use crate::text::Text;

@@ -1,7 +1,5 @@
 //! The iterator over rows.
-ghost use Rattle.std.specs.Prelude.{◌≡◌, length};
-ghost use Rattle.std.specs.Iterator.{at_most};
-ghost use Rattle.std.specs.Map.Iter.{TakesFirst, ShowsInOrder};
+ghost use Rattle.std.specs.{Prelude.{◌≡◌, length}, Iterator.at_most, Map.Iter.{TakesFirst, ShowsInOrder}};
 ghost use Rattle.pm_rows.specs.RowsIter.{shown_row};
 
 use crate::text::Text;

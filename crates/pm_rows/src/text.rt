@@ -1,6 +1,5 @@
 //! Text that a row keeps.
-ghost use Rattle.std.specs.Prelude.{◌≡◌, IfOk};
-ghost use Rattle.std.specs.Str.{IsUtf8};
+ghost use Rattle.std.specs.{Prelude.{◌≡◌, IfOk}, Str.IsUtf8};
 
 use std::alloc::{AllocError, Global};
 use std::marker::Model;
@@ -15,9 +14,7 @@ pub struct Text {
 }
 
 impl Model for Text {
-    ghost use Rattle.std.specs.Prelude.{ℕ, List};
-    ghost use Rattle.std.specs.Arc.{arc_str_bytes};
-    ghost use Rattle.std.specs.Str.{IsUtf8};
+    ghost use Rattle.std.specs.{Prelude.{ℕ, List}, Arc.arc_str_bytes, Str.IsUtf8};
 
     ghost Value = { List ℕ };
 

@@ -1,15 +1,7 @@
 -- One question of a child, put together from what the calls of any store note.
 use Rattle.std.proofs.Common.{◌≡◌, ℕ, Bool, List, ◌++◌, Option, Result, Ok, Err, inl, refl, ap, subst}
-use Rattle.pm_sql.specs.declared.stmt.Stmt.{Stmt}
-use Rattle.pm_query.specs.declared.item.Item.{Item}
-use Rattle.pm_query.specs.declared.book.BookEntry.{BookEntry}
-use Rattle.pm_query.specs.declared.store.Staged.{Staged}
-use Rattle.pm_query.specs.declared.store.Seen.{Seen}
-use Rattle.pm_query.specs.declared.store.StoreNo.{StoreNo}
-use Rattle.pm_query.specs.Calls.{EnterNotes, FlushNotes, LeaveNotes, NotesStaged, RedoNotes, SeenNotes, User}
-use Rattle.pm_query.specs.NotedLaws.{GoesInTurn}
-use Rattle.pm_rows_tests.specs.declared.tending.Tended.{Tended}
-use Rattle.pm_rows_tests.specs.Asking.{AnsweredThen, RedoneThen, ReplyNotes, TendNotes, TendingNotes, VisitNotes, Visits}
+use Rattle.pm_query.{specs.{pm_sql.declared.stmt.Stmt.Stmt, declared.{item.Item.Item, book.BookEntry.BookEntry, store.{Staged.Staged, Seen.Seen, StoreNo.StoreNo}}, Calls.{EnterNotes, FlushNotes, LeaveNotes, NotesStaged, RedoNotes, SeenNotes, User}}, proofs.NotedLaws.GoesInTurn}
+use Rattle.pm_rows_tests.specs.{declared.tending.Tended.Tended, Asking.{AnsweredThen, RedoneThen, ReplyNotes, TendNotes, TendingNotes, VisitNotes, Visits}}
 
 -- an answer, and a look after it
 pub answered_then : {S : Type 0} (notes : List BookEntry → S → S → Type 0) (user who : User) (script : List Stmt) (staged : Staged) (result looked : Result Seen StoreNo) (before between now : S) → GoesInTurn notes → who ≡ user → result ≡ looked

@@ -1,21 +1,7 @@
 -- What an entry does to the store in memory.
-use Rattle.std.proofs.Common.{rules, ◌≡◌, ◌≢◌, ◌↔◌, ◌==◌, Bool, not, IsTrue, ℕ, ◌-◌, List, [], ◌∷◌, ◌++◌, length, length-append, Option, None, Some, refl, sym, ◌∙◌, ap, subst, arith}
-use Rattle.std.specs.Option.{option_map}
-use Rattle.std.proofs.lemmas.List.{take_all}
-use Rattle.std.proofs.lemmas.List.Sums.{fold-append}
-use Rattle.pm_rows.specs.Fold.{RowMap, committed}
-use Rattle.pm_rows.specs.declared.commit.Change.{Change}
-use Rattle.pm_sql.specs.declared.stmt.Stmt.{Stmt}
-use Rattle.pm_query.specs.declared.item.Item.{Item}
-use Rattle.pm_query.specs.declared.book.BookEntry.{BookEntry}
-use Rattle.pm_query.specs.declared.book.BookEntry.TheVariants.{Answered, Broke, CheckpointEnded, Detached, Redone, Released}
-use Rattle.pm_query.specs.declared.store.StoreNo.{StoreNo}
-use Rattle.pm_query.specs.declared.store.StoreNo.TheVariants.{Broken}
-use Rattle.pm_query.specs.History.{History, beginning, count_of, kept, rows_of, with_commit}
-use Rattle.pm_query.specs.Book.{Base, Course, course_after, course_of, history_after, history_of, kept_after, standing_of}
-use Rattle.pm_query.specs.HistoryLaws.{rows_of-with_commit}
-use Rattle.pm_rows_tests.specs.MemStore.{Goes, Holds, IsOf, Moment, count_behind}
-use Rattle.pm_rows_tests.specs.MemStoreLaws.{goes_nowhere}
+use Rattle.std.{proofs.{Common.{rules, ◌≡◌, ◌≢◌, ◌↔◌, ◌==◌, Bool, not, IsTrue, ℕ, ◌-◌, List, [], ◌∷◌, ◌++◌, length, length-append, Option, None, Some, refl, sym, ◌∙◌, ap, subst, arith}, lemmas.List.{take_all, Sums.fold-append}}, specs.Option.option_map}
+use Rattle.pm_query.{specs.{pm_rows.{Fold.{RowMap, committed}, declared.commit.Change.Change}, pm_sql.declared.stmt.Stmt.Stmt, declared.{item.Item.Item, book.BookEntry.{BookEntry, TheVariants.{Answered, Broke, CheckpointEnded, Detached, Redone, Released}}, store.StoreNo.{StoreNo, TheVariants.Broken}}, History.{History, beginning, count_of, kept, rows_of, with_commit}, Book.{Base, Course, course_after, course_of, history_after, history_of, kept_after, standing_of}}, proofs.HistoryLaws.rows_of-with_commit}
+use Rattle.pm_rows_tests.specs.{MemStore.{Goes, Holds, IsOf, Moment, count_behind}, MemStoreLaws.goes_nowhere}
 
 -- the course after one entry more
 course_push : (base : Base) (book : List BookEntry) (entry : BookEntry) → course_of base (book ++ entry ∷ []) ≡ course_after (course_of base book) entry

@@ -1,14 +1,6 @@
 -- What a child notes that asks a store one thing, or tends its log.
 use Rattle.std.specs.Prelude.{◌≡◌, ◌⊎◌, ℕ, Bool, ◌∷◌, ◌++◌, List, Option, None, Some, Result, Ok, Err}
-use Rattle.pm_sql.specs.declared.stmt.Stmt.{Stmt}
-use Rattle.pm_query.specs.declared.item.Item.{Item}
-use Rattle.pm_query.specs.declared.book.BookEntry.{BookEntry}
-use Rattle.pm_query.specs.declared.book.BookEntry.TheVariants.{Redone}
-use Rattle.pm_query.specs.declared.store.Staged.{Staged}
-use Rattle.pm_query.specs.declared.store.Seen.{Seen}
-use Rattle.pm_query.specs.declared.store.Seen.TheVariants.{Released, NotFlushed}
-use Rattle.pm_query.specs.declared.store.StoreNo.{StoreNo}
-use Rattle.pm_query.specs.Calls.{CheckpointNotes, EnterNotes, FlushNotes, LeaveNotes, NotesStaged, RedoNotes, RunNotes, SeenNotes, User}
+use Rattle.pm_query.specs.{pm_sql.declared.stmt.Stmt.Stmt, declared.{item.Item.Item, book.BookEntry.{BookEntry, TheVariants.Redone}, store.{Staged.Staged, Seen.{Seen, TheVariants.{Released, NotFlushed}}, StoreNo.StoreNo}}, Calls.{CheckpointNotes, EnterNotes, FlushNotes, LeaveNotes, NotesStaged, RedoNotes, RunNotes, SeenNotes, User}}
 use Rattle.pm_rows_tests.specs.declared.tending.Tended.{Tended}
 
 -- an answer, and a look whether it may be sent

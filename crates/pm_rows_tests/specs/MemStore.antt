@@ -1,11 +1,7 @@
 -- What the store in memory keeps.
 use Rattle.std.specs.Prelude.{◌≡◌, ℕ, ◌+◌, ◌≤◌, List, [], ◌∷◌, Option, None, Some}
 use Rattle.pm_outside.specs.Added.{Added}
-use Rattle.pm_rows.specs.Fold.{RowMap}
-use Rattle.pm_rows.specs.declared.commit.Change.{Change}
-use Rattle.pm_query.specs.declared.book.BookEntry.{BookEntry}
-use Rattle.pm_query.specs.History.{count_of, rows_of}
-use Rattle.pm_query.specs.Book.{Base, course_of, history_of}
+use Rattle.pm_query.specs.{pm_rows.{Fold.RowMap, declared.commit.Change.Change}, declared.book.BookEntry.BookEntry, History.{count_of, rows_of}, Book.{Base, course_of, history_of}}
 
 -- what is seen of it
 pub record Moment : Type 0 where

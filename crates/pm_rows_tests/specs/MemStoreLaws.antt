@@ -1,6 +1,6 @@
 -- The laws of the store in memory.
 use Rattle.std.proofs.Common.{◌≡◌, ℕ, ◌≤◌, arith, List, [], ◌++◌}
-use Rattle.pm_outside.specs.AddedLaws.{added_both, added_none}
+use Rattle.pm_outside.proofs.AddedLaws.{added_both, added_none}
 use Rattle.pm_query.specs.declared.book.BookEntry.{BookEntry}
 use Rattle.pm_rows_tests.specs.MemStore.{Goes, Moment}
 

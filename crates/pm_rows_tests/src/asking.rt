@@ -1,7 +1,6 @@
 //! A child that asks a store one thing.
 ghost use Rattle.std.specs.Prelude.{◌≡◌, List, IfOk};
-ghost use Rattle.pm_query.specs.declared.book.BookEntry.{BookEntry};
-ghost use Rattle.pm_query.specs.Calls.{newcomer, user_of};
+ghost use Rattle.pm_query.specs.{declared.book.BookEntry.BookEntry, Calls.{newcomer, user_of}};
 ghost use Rattle.pm_rows_tests.specs.Asking.{ReplyNotes, VisitNotes};
 
 use pm_query::{Reply, Seen, Staged, Store, StoreNo};

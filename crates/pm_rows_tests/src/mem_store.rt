@@ -109,8 +109,7 @@ impl<B: Chronicle<BookEntry>> MemStore<B> {
 
 impl<B: Chronicle<BookEntry>> Store for MemStore<B> {
     ghost use Rattle.std.proofs.Common.{Some, refl};
-    ghost use Rattle.pm_rows_tests.specs.MemStore.{Moment, Goes, Admits};
-    ghost use Rattle.pm_rows_tests.specs.MemStoreLaws.{goes_nowhere, goes_on, same_number};
+    ghost use Rattle.pm_rows_tests.specs.{MemStore.{Moment, Goes, Admits}, MemStoreLaws.{goes_nowhere, goes_on, same_number}};
 
     type Pass = MemPass;
 

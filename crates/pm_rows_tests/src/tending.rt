@@ -1,7 +1,6 @@
 //! A child that tends a store's log.
 ghost use Rattle.std.specs.Prelude.{◌≡◌, List};
-ghost use Rattle.pm_query.specs.declared.book.BookEntry.{BookEntry};
-ghost use Rattle.pm_query.specs.Calls.{newcomer, user_of};
+ghost use Rattle.pm_query.specs.{declared.book.BookEntry.BookEntry, Calls.{newcomer, user_of}};
 ghost use Rattle.pm_rows_tests.specs.Asking.{TendNotes, TendingNotes};
 
 use pm_query::{Checkpointed, Store, StoreNo};

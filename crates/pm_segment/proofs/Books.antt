@@ -1,25 +1,7 @@
 -- Books of a store that go on by an entry.
-use Rattle.std.proofs.Common.{◌≡◌, Bool, true, false, ◌||◌, ◌⊎◌, inl, inr, ℕ, ◌+◌, ◌-◌, ◌^◌, ◌<◌, ◌≤◌, List, [], ◌∷◌, ◌++◌, drop, All, Option, None, Some, refl, sym, ◌∙◌, ap, subst, arith, append_assoc, append-nil, length-append}
-use Rattle.std.specs.List.{list_any}
-use Rattle.std.proofs.lemmas.Bool.{cases_lt}
-use Rattle.std.proofs.lemmas.List.Sums.{fold-append}
-use Rattle.std.proofs.lemmas.List.Folds.{list_any-append}
-use Rattle.std.proofs.lemmas.List.Elements.{All-push, All-weaker}
-use Rattle.std.proofs.Math.Bool.{or-false}
-use Rattle.pm_disk.specs.Cause.{Rose}
-use Rattle.pm_rows.specs.declared.commit.Change.{Change}
-use Rattle.pm_rows.specs.Limits.{max_file_bytes}
-use Rattle.pm_query.specs.declared.book.BookEntry.{BookEntry}
-use Rattle.pm_query.specs.declared.book.BookEntry.TheVariants.{Opened, Attached, Redone, Answered, Released, Detached, Gone, CheckpointEnded, Broke, LogFull}
-use Rattle.pm_query.specs.History.{History, beginning, count_of, rows_of, with_commit}
-use Rattle.pm_query.specs.Book.{Base, BeginsRenewal, IsLegal, MayFollow, MayGoOn, RenewsBehindGone, ends_checkpoint, ends_cleanly, fault_here, faults_after, faults_here, faults_of, generation_after, generation_of, has_checkpoint, history_after, history_of, is_closed, kept_after, kept_by_redo, last_tick, need_after, needs_of, present, present_after, standing_of, tick_after, times_after}
-use Rattle.pm_query.specs.HistoryLaws.{generation_push, history_push, present_push, redone_push, times_push}
-use Rattle.pm_segment.specs.declared.live.Live.{Live}
-use Rattle.pm_segment.specs.Moment.{Moment}
-use Rattle.pm_segment.specs.Children.{IsAttendedBy, times_in}
-use Rattle.pm_segment.specs.Stands.{HasGone, HasNoTick, HasRenewed, HasWaited, IsFaultBy, Origin, TellsBreak, bytes_of_rows, most_bytes}
-use Rattle.pm_segment.specs.Unread.{has_break, has_redo, is_redo}
-use Rattle.pm_segment.specs.UnreadLaws.{break_before, redo_neither}
+use Rattle.std.{proofs.{Common.{◌≡◌, Bool, true, false, ◌||◌, ◌⊎◌, inl, inr, ℕ, ◌+◌, ◌-◌, ◌^◌, ◌<◌, ◌≤◌, List, [], ◌∷◌, ◌++◌, drop, All, Option, None, Some, refl, sym, ◌∙◌, ap, subst, arith, append_assoc, append-nil, length-append}, lemmas.{Bool.cases_lt, List.{Sums.fold-append, Folds.list_any-append, Elements.{All-push, All-weaker}}}, Math.Bool.or-false}, specs.List.list_any}
+use Rattle.pm_query.{specs.{pm_disk.Cause.Rose, pm_rows.{declared.commit.Change.Change, Limits.max_file_bytes}, declared.book.BookEntry.{BookEntry, TheVariants.{Opened, Attached, Redone, Answered, Released, Detached, Gone, CheckpointEnded, Broke, LogFull}}, History.{History, beginning, count_of, rows_of, with_commit}, Book.{Base, BeginsRenewal, IsLegal, MayFollow, MayGoOn, RenewsBehindGone, ends_checkpoint, ends_cleanly, fault_here, faults_after, faults_here, faults_of, generation_after, generation_of, has_checkpoint, history_after, history_of, is_closed, kept_after, kept_by_redo, last_tick, need_after, needs_of, present, present_after, standing_of, tick_after, times_after}}, proofs.HistoryLaws.{generation_push, history_push, present_push, redone_push, times_push}}
+use Rattle.pm_segment.specs.{declared.live.Live.Live, Moment.Moment, Children.{IsAttendedBy, times_in}, Stands.{HasGone, HasNoTick, HasRenewed, HasWaited, IsFaultBy, Origin, TellsBreak, bytes_of_rows, most_bytes}, Unread.{has_break, has_redo, is_redo}, UnreadLaws.{break_before, redo_neither}}
 
 -- ---- legal books
 

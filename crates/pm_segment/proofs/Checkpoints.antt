@@ -1,47 +1,10 @@
 -- What a checkpoint keeps.
-use Rattle.std.proofs.Common.{◌≡◌, Bool, true, false, ◌||◌, ◌⊎◌, inl, inr, ℕ, ◌+◌, ◌-◌, ◌^◌, ◌<◌, ◌≤◌, List, [], ◌∷◌, ◌++◌, length, Option, None, Some, refl, sym, ◌∙◌, ap, subst, arith, length-append}
-use Rattle.std.specs.Prelude.{IfSome, is_some, max}
-use Rattle.std.proofs.Math.Logic.{∥∥₁_map, ∥∥₁_elim}
-use Rattle.std.proofs.Math.Bridge.{le_prop}
-use Rattle.std.proofs.Math.Bool.{or-false, or-true}
-use Rattle.pm_disk.specs.Cause.{Rose}
-use Rattle.pm_disk.specs.Disk.{TellsStill}
-use Rattle.pm_disk.specs.Files.{Files, file_of, other}
-use Rattle.pm_rows.specs.declared.commit.Change.{Change}
-use Rattle.pm_rows.specs.Fold.{RowMap, folded}
-use Rattle.pm_rows.specs.Standing.{Standing}
-use Rattle.pm_record.specs.GateLaws.{same_standing, standing}
-use Rattle.pm_record.specs.Pair.{IsShut, Means}
-use Rattle.pm_record.specs.Spelling.{base_bytes}
-use Rattle.pm_record.specs.StandsFor.{AreBatches, Content, StandsFor, checkpointed, standing_of}
-use Rattle.pm_log.specs.Append.{MeansOneOf}
-use Rattle.pm_log.specs.Log.{Lives, base_length}
-use Rattle.pm_record.specs.OnDisk.{GoesOn, Throughout}
-use Rattle.pm_query.specs.declared.book.BookEntry.{BookEntry}
-use Rattle.pm_query.specs.declared.book.BookEntry.TheVariants.{Broke, CheckpointEnded}
-use Rattle.pm_query.specs.History.{count_of, number}
-use Rattle.pm_query.specs.Book.{Base, TellsFault, ends_checkpoint, ends_cleanly, fault_here, faults_here, faults_of, history_after, history_of, kept_after, kept_by_redo, needs_of, present}
-use Rattle.pm_query.specs.BookLaws.{RowsAreWithinNeeds}
-use Rattle.pm_query.specs.TickLaws.{PastStays, PresentIsWhole}
-use Rattle.pm_query.specs.AtTick.{is_by}
-use Rattle.pm_query.specs.Calls.{due_bytes}
-use Rattle.pm_query.specs.Durable.{HoldsFrom, IsWithin, Keeps}
-use Rattle.pm_query.specs.HistoryLaws.{history_push, whole_number}
-use Rattle.pm_segment.specs.declared.live.Live.{Live}
-use Rattle.pm_segment.specs.Moment.{Moment}
-use Rattle.pm_segment.specs.MovesLaws.{ahead_still, time_still, unread_never, unread_still}
-use Rattle.pm_segment.specs.Redos.{StandsAfresh}
-use Rattle.pm_segment.specs.Rests.{HasRows, Rests}
+use Rattle.std.{proofs.{Common.{◌≡◌, Bool, true, false, ◌||◌, ◌⊎◌, inl, inr, ℕ, ◌+◌, ◌-◌, ◌^◌, ◌<◌, ◌≤◌, List, [], ◌∷◌, ◌++◌, length, Option, None, Some, refl, sym, ◌∙◌, ap, subst, arith, length-append}, Math.{Logic.{∥∥₁_map, ∥∥₁_elim}, Bridge.le_prop, Bool.{or-false, or-true}}}, specs.Prelude.{IfSome, is_some, max}}
+use Rattle.pm_query.{specs.{pm_disk.{Cause.Rose, Disk.TellsStill, Files.{Files, file_of, other}}, pm_rows.{declared.commit.Change.Change, Fold.{RowMap, folded}, Standing.Standing}, declared.book.BookEntry.{BookEntry, TheVariants.{Broke, CheckpointEnded}}, History.{count_of, number}, Book.{Base, TellsFault, ends_checkpoint, ends_cleanly, fault_here, faults_here, faults_of, history_after, history_of, kept_after, kept_by_redo, needs_of, present}, BookLaws.RowsAreWithinNeeds, TickLaws.{PastStays, PresentIsWhole}, AtTick.is_by, Calls.due_bytes, Durable.{HoldsFrom, IsWithin, Keeps}}, proofs.HistoryLaws.{history_push, whole_number}}
+use Rattle.pm_record.{proofs.GateLaws.{same_standing, standing}, specs.{Pair.{IsShut, Means}, Spelling.base_bytes, StandsFor.{AreBatches, Content, StandsFor, checkpointed, standing_of}, OnDisk.{GoesOn, Throughout}}}
+use Rattle.pm_log.specs.{Append.MeansOneOf, Log.{Lives, base_length}}
+use Rattle.pm_segment.{specs.{declared.live.Live.Live, Moment.Moment, MovesLaws.{ahead_still, time_still, unread_never, unread_still}, Redos.StandsAfresh, Rests.{HasRows, Rests}, Moves.{IsShownAt, Moves}, Children.IsAttendedBy, Fronts.{flushed_of, whole_of}, Stands.{HasGone, HasHeld, IsAnchored, MeansWithin, Origin, TellsBreak, bytes_of_rows, most_bytes}}, proofs.{Books.{any_push, any_still, attended_still, breaks_push, each_later, each_push, gone_push, renewed_push, tells_new, waited_push}, Lengths.base_size, Resting.content_is, Runs.{another, later, marks}, Steps.{Attends, ahead_more, anchored_broken, anchored_whole, attends_in, began_on, counted_now, drop_none, gone_read, gone_unread, held_alone, held_on, keeps_by, lengths_push, means_more, means_some, never_waits, no_fault_shown, nobody_moves, none_told, some_none, up_to_more, tells_none, waited_on}}}
 use Rattle.pm_outside.specs.Added.{Added}
-use Rattle.pm_segment.specs.Moves.{IsShownAt, Moves}
-use Rattle.pm_segment.specs.Children.{IsAttendedBy}
-use Rattle.pm_segment.specs.Fronts.{flushed_of, whole_of}
-use Rattle.pm_segment.specs.Stands.{HasGone, HasHeld, IsAnchored, MeansWithin, Origin, TellsBreak, bytes_of_rows, most_bytes}
-use Rattle.pm_segment.proofs.Books.{any_push, any_still, attended_still, breaks_push, each_later, each_push, gone_push, renewed_push, tells_new, waited_push}
-use Rattle.pm_segment.proofs.Lengths.{base_size}
-use Rattle.pm_segment.proofs.Resting.{content_is}
-use Rattle.pm_segment.proofs.Runs.{another, later, marks}
-use Rattle.pm_segment.proofs.Steps.{Attends, ahead_more, anchored_broken, anchored_whole, attends_in, began_on, counted_now, drop_none, gone_read, gone_unread, held_alone, held_on, keeps_by, lengths_push, means_more, means_some, never_waits, no_fault_shown, nobody_moves, none_told, some_none, up_to_more, tells_none, waited_on}
 
 -- the same rows and number, in at most so many bytes
 abbrev pub Same : ℕ → Standing → Files → Type 0

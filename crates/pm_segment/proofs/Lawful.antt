@@ -1,20 +1,7 @@
 -- What follows from what a store keeps.
-use Rattle.std.proofs.Common.{◌≡◌, true, ℕ, inl, inr, List, [], length, Option, None, Some, refl, sym, ◌∙◌, ap, arith, true≢false}
-use Rattle.std.specs.Prelude.{IfSome, unwrap_or}
-use Rattle.std.proofs.Math.Logic.{∥∥₁_map}
-use Rattle.pm_disk.specs.Files.{Files}
-use Rattle.pm_record.specs.Pair.{Means}
-use Rattle.pm_query.specs.declared.book.BookEntry.{BookEntry}
-use Rattle.pm_query.specs.Book.{Base, faults_here, history_of}
-use Rattle.pm_query.specs.TickLaws.{PastStays, PresentIsWhole}
-use Rattle.pm_query.specs.Durable.{HoldsAcknowledged}
-use Rattle.pm_segment.specs.declared.live.Live.{Live}
-use Rattle.pm_segment.specs.Moment.{Moment, Told}
-use Rattle.pm_segment.specs.Redos.{StandsAfresh}
-use Rattle.pm_segment.specs.Runs.{IsReplay, IsRun, LeavesAcknowledged, StaysClean}
-use Rattle.pm_segment.specs.Stands.{GoesFrom, HasBegun, HasHeld, IsSure, Origin, TellsBreak}
-use Rattle.pm_segment.proofs.Runs.{durable}
-use Rattle.pm_segment.proofs.Steps.{gone_at, not_both}
+use Rattle.std.{proofs.{Common.{◌≡◌, true, ℕ, inl, inr, List, [], length, Option, None, Some, refl, sym, ◌∙◌, ap, arith, true≢false}, Math.Logic.∥∥₁_map}, specs.Prelude.{IfSome, unwrap_or}}
+use Rattle.pm_query.specs.{pm_disk.Files.Files, pm_record.Pair.Means, declared.book.BookEntry.BookEntry, Book.{Base, faults_here, history_of}, TickLaws.{PastStays, PresentIsWhole}, Durable.HoldsAcknowledged}
+use Rattle.pm_segment.{specs.{declared.live.Live.Live, Moment.{Moment, Told}, Redos.StandsAfresh, Runs.{IsReplay, IsRun, LeavesAcknowledged, StaysClean}, Stands.{GoesFrom, HasBegun, HasHeld, IsSure, Origin, TellsBreak}}, proofs.{Runs.durable, Steps.{gone_at, not_both}}}
 
 -- where the book tells
 book_then : (book : Option (List BookEntry)) (P Q : List BookEntry → Type 0) → ((list : List BookEntry) → P list → Q list) → IfSome book P → IfSome book Q

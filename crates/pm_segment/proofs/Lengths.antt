@@ -1,17 +1,7 @@
 -- How long a log's file is.
-use Rattle.std.proofs.Common.{◌≡◌, ℕ, ℤ, Bool, ◌+◌, ◌≤◌, List, [], ◌∷◌, ◌++◌, length, map, sum_by, refl, ap, arith, length-append}
-use Rattle.std.specs.Int.{w32, w64, to_be_bytes, cast_unsigned}
-use Rattle.std.specs.List.{flat_map}
-use Rattle.std.specs.FinMap.{entries, len}
-use Rattle.std.proofs.lemmas.List.Concat.{length-flat_map}
-use Rattle.std.proofs.lemmas.List.Sums.{sum_by-append, sum_by-cons}
-use Rattle.pm_rows.specs.declared.commit.Change.{Change}
-use Rattle.pm_rows.specs.Fold.{RowMap}
-use Rattle.pm_rows.specs.LogSize as log
-use Rattle.pm_rows.specs.Size.{row_size, size_of}
-use Rattle.pm_record.specs.Spelling.{base_bytes, batch_bytes, clean_byte, row_bytes, rows_bytes}
-use Rattle.pm_record.specs.StandsFor.{AreBatches, Content, StandsFor, commits_of, standing_of}
-use Rattle.pm_query.specs.BookLaws.{CommitsAddTheirBytes}
+use Rattle.std.{proofs.{Common.{◌≡◌, ℕ, ℤ, Bool, ◌+◌, ◌≤◌, List, [], ◌∷◌, ◌++◌, length, map, sum_by, refl, ap, arith, length-append}, lemmas.List.{Concat.length-flat_map, Sums.{sum_by-append, sum_by-cons}}}, specs.{Int.{w32, w64, to_be_bytes, cast_unsigned}, List.flat_map, FinMap.{entries, len}}}
+use Rattle.pm_query.specs.{pm_rows.{declared.commit.Change.Change, Fold.RowMap, Size.{row_size, size_of}}, pm_record.{Spelling.{base_bytes, batch_bytes, clean_byte, row_bytes, rows_bytes}, StandsFor.{AreBatches, Content, StandsFor, commits_of, standing_of}}, BookLaws.CommitsAddTheirBytes}
+use Rattle.pm_query.specs.pm_rows.LogSize as log
 use Rattle.pm_segment.specs.Stands.{bytes_of_rows}
 
 -- ---- a base

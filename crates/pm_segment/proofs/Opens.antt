@@ -1,18 +1,7 @@
 -- A store that begins.
-use Rattle.std.specs.FinMap.{empty, entries}
-use Rattle.pm_rows.specs.Fold.{RowMap}
-use Rattle.pm_query.specs.Limits.{HasShortRows}
-use Rattle.std.proofs.Common.{◌≡◌, inr, ℕ, List, [], ◌∷◌, ◌++◌, Option, None, Some, refl, sym, ◌∙◌, ap, subst, arith, false}
-use Rattle.std.specs.Prelude.{IfSome}
-use Rattle.std.specs.Option.{option_map}
-use Rattle.std.proofs.lemmas.List.Elements.{All-nil, All-push}
-use Rattle.pm_disk.specs.Files.{Files}
-use Rattle.pm_query.specs.declared.book.BookEntry.{BookEntry}
-use Rattle.pm_query.specs.declared.book.BookEntry.TheVariants.{Opened}
-use Rattle.pm_query.specs.HistoryLaws.{short_rows-empty}
-use Rattle.pm_segment.specs.Children.{times_in}
-use Rattle.pm_segment.specs.Moment.{Moment}
-use Rattle.pm_segment.specs.Stands.{HasNoTick, HasWaited, IsFaultBy, IsOpening, Origin, WaitsFrom}
+use Rattle.std.{specs.{FinMap.{empty, entries}, Prelude.IfSome, Option.option_map}, proofs.{Common.{◌≡◌, inr, ℕ, List, [], ◌∷◌, ◌++◌, Option, None, Some, refl, sym, ◌∙◌, ap, subst, arith, false}, lemmas.List.Elements.{All-nil, All-push}}}
+use Rattle.pm_query.{specs.{pm_rows.Fold.RowMap, Limits.HasShortRows, pm_disk.Files.Files, declared.book.BookEntry.{BookEntry, TheVariants.Opened}}, proofs.HistoryLaws.short_rows-empty}
+use Rattle.pm_segment.specs.{Children.times_in, Moment.Moment, Stands.{HasNoTick, HasWaited, IsFaultBy, IsOpening, Origin, WaitsFrom}}
 
 begins : (at : Moment) → at.live ≡ None → at.skipped ≡ false → at.generation ≡ 1 → at.inside ≡ [] → HasWaited (record { files = at.files; tick = at.ticks; faults = at.faults }) at (Opened 1 ∷ [])
 begins at unread unskipped first empty = record {

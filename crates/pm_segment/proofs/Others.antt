@@ -1,17 +1,8 @@
 -- Who is inside and isn't named.
-use Rattle.std.proofs.Common.{◌≡◌, Bool, true, false, ◌&&◌, ◌||◌, ◌⊎◌, inl, inr, ℕ, zero, suc, ◌+◌, ◌<◌, ◌≤◌, List, [], ◌∷◌, ◌++◌, length, map, take, refl, sym, ◌∙◌, ap, subst, arith}
-use Rattle.std.specs.Prelude.{Option, cond, nat_eq, nat_lt, slice_index_or}
-use Rattle.std.specs.List.{list_any}
-use Rattle.std.specs.Option.{option_map}
-use Rattle.std.proofs.Math.Seq.{take-suc}
-use Rattle.std.proofs.lemmas.Bool.Decides.{nat_tests}
-use Rattle.std.proofs.lemmas.List.{map-append, take_all}
-use Rattle.std.proofs.lemmas.List.Sums.{sum_by-append, sum_by-cons, sum_by_more}
-use Rattle.pm_query.specs.declared.book.BookEntry.{BookEntry}
-use Rattle.pm_query.specs.declared.book.BookEntry.TheVariants.{Gone}
+use Rattle.std.{proofs.{Common.{◌≡◌, Bool, true, false, ◌&&◌, ◌||◌, ◌⊎◌, inl, inr, ℕ, zero, suc, ◌+◌, ◌<◌, ◌≤◌, List, [], ◌∷◌, ◌++◌, length, map, take, refl, sym, ◌∙◌, ap, subst, arith}, Math.Seq.take-suc, lemmas.{Bool.Decides.nat_tests, List.{map-append, take_all, Sums.{sum_by-append, sum_by-cons, sum_by_more}}}}, specs.{Prelude.{Option, cond, nat_eq, nat_lt, slice_index_or}, List.list_any, Option.option_map}}
+use Rattle.pm_query.specs.declared.book.BookEntry.{BookEntry, TheVariants.Gone}
 use Rattle.pm_segment.specs.Children.{AreOthers, once, times_in, with_other}
-use Rattle.pm_outside.specs.Added.{Added}
-use Rattle.pm_outside.specs.AddedLaws.{added_both}
+use Rattle.pm_outside.{specs.Added.Added, proofs.AddedLaws.added_both}
 
 -- ---- each of a list is noted
 

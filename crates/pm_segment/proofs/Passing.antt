@@ -1,23 +1,8 @@
 -- Passes as the book goes on.
-use Rattle.std.proofs.Common.{◌≡◌, Bool, ℕ, ◌+◌, ◌≤◌, List, [], ◌∷◌, ◌++◌, Option, None, Some, refl, sym, ◌∙◌, ap, subst, arith}
-use Rattle.std.specs.Prelude.{IfSome, Any, cond}
-use Rattle.std.proofs.lemmas.Bool.{eq-eqb}
-use Rattle.std.proofs.lemmas.List.Quantifiers.{Any-push}
-use Rattle.pm_rows.specs.declared.commit.Change.{Change}
-use Rattle.pm_sql.specs.declared.stmt.Stmt.{Stmt}
-use Rattle.pm_facts.specs.Lists.{Any-append}
-use Rattle.pm_query.specs.declared.item.Item.{Item}
-use Rattle.pm_query.specs.declared.book.BookEntry.{BookEntry}
-use Rattle.pm_query.specs.declared.book.BookEntry.TheVariants.{Opened, Attached, Redone, Answered, Released, Detached, Gone, CheckpointEnded, Broke, LogFull}
-use Rattle.pm_query.specs.Book.{AnswersUpTo, present, present_after, times_after, times_attached}
-use Rattle.pm_query.specs.Calls.{IsNoLess, IsWithin}
-use Rattle.pm_query.specs.HistoryLaws.{present_push, times_push}
-use Rattle.pm_segment.specs.declared.live.Live.{Live}
-use Rattle.pm_segment.specs.declared.pass.Pass.{Pass}
-use Rattle.pm_segment.specs.Moment.{Moment}
+use Rattle.std.{proofs.{Common.{◌≡◌, Bool, ℕ, ◌+◌, ◌≤◌, List, [], ◌∷◌, ◌++◌, Option, None, Some, refl, sym, ◌∙◌, ap, subst, arith}, lemmas.{Bool.eq-eqb, List.Quantifiers.Any-push}}, specs.Prelude.{IfSome, Any, cond}}
+use Rattle.pm_query.{specs.{pm_rows.declared.commit.Change.Change, pm_sql.declared.stmt.Stmt.Stmt, pm_facts.Lists.Any-append, declared.{item.Item.Item, book.BookEntry.{BookEntry, TheVariants.{Opened, Attached, Redone, Answered, Released, Detached, Gone, CheckpointEnded, Broke, LogFull}}}, Book.{AnswersUpTo, present, present_after, times_after, times_attached}, Calls.{IsNoLess, IsWithin}}, proofs.HistoryLaws.{present_push, times_push}}
+use Rattle.pm_segment.{specs.{declared.{live.Live.Live, pass.Pass.Pass}, Moment.Moment, Passes.{Admits, HasAnswer, IsStaged, IsInside}}, proofs.Steps.Attends}
 use Rattle.pm_outside.specs.Added.{Added}
-use Rattle.pm_segment.specs.Passes.{Admits, HasAnswer, IsStaged, IsInside}
-use Rattle.pm_segment.proofs.Steps.{Attends}
 
 -- the child of a pass is attached
 pub attends : (pass : Pass) (at : Moment) → Admits pass at → Attends pass.pid at.book

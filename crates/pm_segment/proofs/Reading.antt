@@ -1,26 +1,9 @@
 -- Files that mean something can be read.
-use Rattle.std.proofs.Common.{◌≡◌, inl, inr, ℕ, List, [], length, Option, None, Some, refl, sym, ap, subst, arith}
-use Rattle.std.specs.Prelude.{IfSome}
-use Rattle.std.proofs.Math.Logic.{∥∥₁_elim}
-use Rattle.pm_disk.specs.declared.disk.Which.{Which}
-use Rattle.pm_disk.specs.declared.disk.Which.TheVariants.{A, B}
-use Rattle.pm_disk.specs.Files.{Files, file_of}
-use Rattle.pm_record.specs.StandsFor.{Content, StandsFor}
-use Rattle.pm_record.specs.Found.{IsClosed}
-use Rattle.pm_record.specs.Pair.{IsShut, PairStandsFor, Yields}
-use Rattle.pm_record.specs.declared.fault.RedoFault.{RedoFault}
-use Rattle.pm_record.specs.declared.fault.RedoFault.TheVariants as fault
-use Rattle.pm_redo.specs.FileLaws.{epoch_is, not_closed}
-use Rattle.pm_redo.specs.Found.{HaveEpoch, IsDamaged, IsFirstDamaged, IsReason}
-use Rattle.pm_query.specs.declared.book.BookEntry.{BookEntry}
-use Rattle.pm_query.specs.Book.{Base, history_of}
-use Rattle.pm_query.specs.History.{History}
-use Rattle.pm_query.specs.Durable.{HoldsFrom}
-use Rattle.pm_segment.specs.Moment.{Moment, Told}
-use Rattle.pm_segment.specs.Redos.{SaysNothing}
-use Rattle.pm_segment.specs.Runs.{CanBeRead}
-use Rattle.pm_segment.specs.Stands.{GoesFrom, HasBegun, HasHeld, IsSure, MeansWithin, Origin, most_bytes}
-use Rattle.pm_segment.proofs.Lawful.{told_then}
+use Rattle.std.{proofs.{Common.{◌≡◌, inl, inr, ℕ, List, [], length, Option, None, Some, refl, sym, ap, subst, arith}, Math.Logic.∥∥₁_elim}, specs.Prelude.IfSome}
+use Rattle.pm_query.specs.{pm_disk.{declared.disk.Which.{Which, TheVariants.{A, B}}, Files.{Files, file_of}}, pm_record.{StandsFor.{Content, StandsFor}, Found.IsClosed, Pair.{IsShut, PairStandsFor, Yields}, declared.fault.RedoFault.RedoFault}, declared.book.BookEntry.BookEntry, Book.{Base, history_of}, History.History, Durable.HoldsFrom}
+use Rattle.pm_query.specs.pm_record.declared.fault.RedoFault.TheVariants as fault
+use Rattle.pm_redo.{proofs.FileLaws.{epoch_is, not_closed}, specs.Found.{HaveEpoch, IsDamaged, IsFirstDamaged, IsReason}}
+use Rattle.pm_segment.{specs.{Moment.{Moment, Told}, Redos.SaysNothing, Runs.CanBeRead, Stands.{GoesFrom, HasBegun, HasHeld, IsSure, MeansWithin, Origin, most_bytes}}, proofs.Lawful.told_then}
 
 -- ---- one file that stands for something
 

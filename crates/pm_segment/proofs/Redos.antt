@@ -1,59 +1,14 @@
 -- What a redo keeps.
-use Rattle.std.proofs.Common.{◌≡◌, ◌≢◌, true, false, ◌||◌, ◌⊎◌, inl, inr, ℕ, length, get_or, ◌+◌, ◌-◌, ◌^◌, ◌<◌, ◌≤◌, List, [], ◌∷◌, ◌++◌, All, Option, None, Some, refl, sym, ◌∙◌, ap, subst, arith, append-nil, true≢false}
-use Rattle.std.specs.Prelude.{IfSome, is_some}
-use Rattle.std.specs.Option.{option_map}
-use Rattle.std.specs.FinMap.{get}
-use Rattle.std.proofs.Math.Bridge.{le_prop}
-use Rattle.std.proofs.Math.Logic.{∥∥₁_map, ∥∥₁_elim}
-use Rattle.std.proofs.Math.Nat.{ℕ_set}
-use Rattle.std.proofs.lemmas.List.{ext_get_or}
-use Rattle.std.proofs.lemmas.Bool.{cases_lt}
-use Rattle.std.proofs.lemmas.List.Elements.{All-nil, All-push}
-use Rattle.pm_disk.specs.Cause.{Rose}
-use Rattle.pm_disk.specs.Disk.{TellsStill}
-use Rattle.pm_disk.specs.Files.{Files}
-use Rattle.pm_rows.specs.Limits.{IsWithinRowLimits, max_file_bytes}
-use Rattle.pm_rows.specs.Standing.{Standing}
-use Rattle.pm_record.specs.GateLaws.{same_standing, standing}
+use Rattle.std.{proofs.{Common.{◌≡◌, ◌≢◌, true, false, ◌||◌, ◌⊎◌, inl, inr, ℕ, length, get_or, ◌+◌, ◌-◌, ◌^◌, ◌<◌, ◌≤◌, List, [], ◌∷◌, ◌++◌, All, Option, None, Some, refl, sym, ◌∙◌, ap, subst, arith, append-nil, true≢false}, Math.{Bridge.le_prop, Logic.{∥∥₁_map, ∥∥₁_elim}, Nat.ℕ_set, Bool.or-false}, lemmas.{List.{ext_get_or, Elements.{All-nil, All-push}}, Bool.cases_lt}}, specs.{Prelude.{IfSome, is_some, Err}, Option.option_map, FinMap.get}}
+use Rattle.pm_query.{specs.{pm_disk.{Cause.Rose, Disk.TellsStill, Files.Files}, declared.{book.BookEntry.{BookEntry, TheVariants.{Broke, Redone}}, store.StoreNo.TheVariants.Redo}, History.{History, beginning, count_of, kept, number}, Book.{Base, KeepsNumber, TellsFault, ends_checkpoint, ends_cleanly, fault_here, faults_here, faults_of, history_after, history_of, kept_after, kept_by_redo, present, standing_of}, BookLaws.AckedNeverFalls, TickLaws.{PastStays, PresentIsWhole}, Durable.{HoldsFrom, IsWithin}, Calls.{RedoNotes, User}}, proofs.HistoryLaws.{cut_count, history_push}}
+use Rattle.pm_rows.{specs.{Limits.{IsWithinRowLimits, max_file_bytes}, Standing.Standing}, proofs.RowLaws.same_rows}
+use Rattle.pm_record.{proofs.GateLaws.{same_standing, standing}, specs.{Pair.{Means, MeansIn, MeansWhat, PairStandsFor}, OnDisk.{FollowsWithin, GoesOn, Rests as LogRests}, declared.{found.Found.Found, fault.RedoFault.RedoFault}}}
 use Rattle.pm_record.specs.StandsFor as record_specs
-use Rattle.pm_record.specs.Pair.{Means, MeansIn, MeansWhat}
-use Rattle.pm_record.specs.OnDisk.{FollowsWithin, GoesOn, Rests as LogRests}
-use Rattle.pm_record.specs.declared.found.Found.{Found}
 use Rattle.pm_redo.specs.Found.{FindsPair, MeansOnly}
-use Rattle.pm_log.specs.Log.{Lives, resumed}
-use Rattle.pm_log.specs.declared.log.Log.{Log}
-use Rattle.pm_query.specs.declared.book.BookEntry.{BookEntry}
-use Rattle.pm_query.specs.declared.book.BookEntry.TheVariants.{Broke, Redone}
-use Rattle.pm_query.specs.History.{History, beginning, count_of, kept, number}
-use Rattle.pm_query.specs.Book.{Base, KeepsNumber, TellsFault, ends_checkpoint, ends_cleanly, fault_here, faults_here, faults_of, history_after, history_of, kept_after, kept_by_redo, present, standing_of}
-use Rattle.pm_query.specs.BookLaws.{AckedNeverFalls}
-use Rattle.pm_query.specs.TickLaws.{PastStays, PresentIsWhole}
-use Rattle.pm_query.specs.Durable.{HoldsFrom, IsWithin}
-use Rattle.pm_segment.specs.declared.live.Live.{Live}
-use Rattle.pm_segment.specs.Moment.{Moment}
+use Rattle.pm_log.specs.{Log.{Lives, resumed}, declared.log.Log.Log}
+use Rattle.pm_segment.{specs.{declared.live.Live.Live, Moment.Moment, Moves.{BreakIsShown, IsCountedFrom, IsShown, IsShownAt, Moves}, MovesLaws.unread_still, Unread.{has_break, has_redo}, UnreadLaws.{break_behind, breaks_early}, Rests.{HasRows, Rests}, Children.IsAttendedBy, Stands.{Begins, HasBegun, HasGone, HasHeld, HasRenewed, HasWaited, IsAnchored, IsBaseOf, IsOpening, IsSure, MeansWithin, Origin, WaitsFrom, bytes_of_rows, most_bytes}, Fronts.{flushed_of, whole_of}, Redos.IsFoundIn}, proofs.{Books.{any_still, attended_still, each_later, each_push, gone_push, renewed_push, tells_new, waited_push}, Resting.{limits_bare, means_now, tells_nothing}, Runs.{beginning_kept, beginning_number, cut_number, goes_by, notes_cut, opens}, Steps.{Attends, IsQuiet, ahead_found, ahead_unread, anchored_unread, anchored_whole, attends_in, began_unread, counted_now, drop_none, gone_quiet, gone_unread, held_alone, held_quiet, lengths_push, means_some, no_fault_shown, no_files, nobody_moves, not_both, opening_on, same_live, some_none, up_to_unread, still, tells_none, waited_on, with_book}}}
 use Rattle.pm_outside.specs.Added.{Added}
-use Rattle.pm_segment.specs.Moves.{BreakIsShown, IsCountedFrom, IsShown, IsShownAt, Moves}
-use Rattle.pm_segment.specs.MovesLaws.{unread_still}
-use Rattle.pm_segment.specs.Unread.{has_break, has_redo}
-use Rattle.pm_segment.specs.UnreadLaws.{break_behind, breaks_early}
-use Rattle.pm_segment.specs.Rests.{HasRows, Rests}
-use Rattle.pm_query.specs.Calls.{RedoNotes, User}
-use Rattle.pm_record.specs.declared.fault.RedoFault.{RedoFault}
 use Rattle.pm_record.specs.declared.fault.RedoFault.TheVariants as fault
-use Rattle.pm_query.specs.declared.store.StoreNo.TheVariants.{Redo}
-use Rattle.pm_rows.specs.RowLaws.{same_rows}
-use Rattle.pm_query.specs.HistoryLaws.{cut_count, history_push}
-use Rattle.std.specs.Prelude.{Err}
-use Rattle.std.proofs.Math.Bool.{or-false}
-use Rattle.pm_segment.specs.Children.{IsAttendedBy}
-use Rattle.pm_segment.specs.Stands.{Begins, HasBegun, HasGone, HasHeld, HasRenewed, HasWaited, IsAnchored, IsBaseOf, IsOpening, IsSure, MeansWithin, Origin, WaitsFrom, bytes_of_rows, most_bytes}
-use Rattle.pm_segment.proofs.Books.{any_still, attended_still, each_later, each_push, gone_push, renewed_push, tells_new, waited_push}
-use Rattle.pm_segment.proofs.Resting.{limits_bare, means_now, tells_nothing}
-use Rattle.pm_segment.proofs.Runs.{beginning_kept, beginning_number, cut_number, goes_by, notes_cut, opens}
-use Rattle.pm_record.specs.Pair.{PairStandsFor}
-use Rattle.pm_segment.specs.Fronts.{flushed_of, whole_of}
-use Rattle.pm_segment.specs.Redos.{IsFoundIn}
-use Rattle.pm_segment.proofs.Steps.{Attends, IsQuiet, ahead_found, ahead_unread, anchored_unread, anchored_whole, attends_in, began_unread, counted_now, drop_none, gone_quiet, gone_unread, held_alone, held_quiet, lengths_push, means_some, no_fault_shown, no_files, nobody_moves, not_both, opening_on, same_live, some_none, up_to_unread, still, tells_none, waited_on, with_book}
 
 -- the laws of books that a redo keeps: of ticks, and of what is acknowledged
 pub record Laws : Type 0 where

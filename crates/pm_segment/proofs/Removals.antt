@@ -1,11 +1,5 @@
 -- One child less.
-use Rattle.std.proofs.Common.{◌≡◌, Bool, true, false, ℕ, ◌+◌, ◌-◌, ◌<◌, ◌≤◌, List, length, take, refl, sym, ◌∙◌, ap, arith}
-use Rattle.std.specs.Prelude.{cond, nat_eq, slice_index_or}
-use Rattle.std.specs.List.{swap_remove}
-use Rattle.std.proofs.lemmas.Bool.Decides.{nat_tests}
-use Rattle.std.proofs.lemmas.Grind.{get_or_default_zero}
-use Rattle.std.proofs.lemmas.List.{take_all}
-use Rattle.std.proofs.lemmas.List.Sums.{sum_by-le, sum_by-swap_remove, sum_by_more}
+use Rattle.std.{proofs.{Common.{◌≡◌, Bool, true, false, ℕ, ◌+◌, ◌-◌, ◌<◌, ◌≤◌, List, length, take, refl, sym, ◌∙◌, ap, arith}, lemmas.{Bool.Decides.nat_tests, Grind.get_or_default_zero, List.{take_all, Sums.{sum_by-le, sum_by-swap_remove, sum_by_more}}}}, specs.{Prelude.{cond, nat_eq, slice_index_or}, List.swap_remove}}
 use Rattle.pm_segment.specs.Children.{once, times_in}
 
 none_here : (pid other : ℕ) → (other ≡ pid → ⊥) → once pid other ≡ 0

@@ -1,28 +1,8 @@
 -- From one generation to the next.
-use Rattle.std.proofs.Common.{◌≡◌, Bool, true, false, ◌⊎◌, inl, inr, ℕ, zero, suc, ◌+◌, ◌≤◌, List, [], ◌∷◌, ◌++◌, All, map, Option, None, Some, refl, sym, ◌∙◌, ap, subst, arith, append_assoc, append-nil}
-use Rattle.std.specs.Prelude.{cond, nat_eq, nat_lt, fold, ◌&&◌}
-use Rattle.std.specs.FinMap.{empty}
-use Rattle.std.proofs.lemmas.Bool.Decides.{nat_tests}
-use Rattle.std.proofs.lemmas.List.Elements.{All-append, All-nil, All-push}
-use Rattle.std.proofs.lemmas.List.Sums.{fold-append, sum_by-append, sum_by-cons}
-use Rattle.pm_rows.specs.declared.commit.Change.{Change}
-use Rattle.pm_rows.specs.Fold.{RowMap}
-use Rattle.pm_query.specs.declared.book.BookEntry.{BookEntry}
-use Rattle.pm_query.specs.declared.book.BookEntry.TheVariants.{Opened, Attached, Redone, Answered, Released, Detached, Gone, CheckpointEnded, Broke, LogFull}
-use Rattle.pm_query.specs.History.{History}
-use Rattle.pm_query.specs.Book.{Base, BeginsRenewal, IsLegal, MayGoOn, RenewsBehindGone, faults_here, faults_of, generation_of, has_checkpoint, history_after, history_of, is_closed, kept_after, kept_by_redo, last_tick, needs_of, standing_of, times_after, times_attached}
-use Rattle.pm_query.specs.TickLaws.{PastStays, PresentIsWhole}
-use Rattle.pm_query.specs.HistoryLaws.{generation_push, history_push, redone_push, times_push}
-use Rattle.pm_segment.specs.Children.{AreOthers, IsAttendedBy, once, times_in}
-use Rattle.pm_segment.specs.Moment.{Moment}
+use Rattle.std.{proofs.{Common.{◌≡◌, Bool, true, false, ◌⊎◌, inl, inr, ℕ, zero, suc, ◌+◌, ◌≤◌, List, [], ◌∷◌, ◌++◌, All, map, Option, None, Some, refl, sym, ◌∙◌, ap, subst, arith, append_assoc, append-nil}, lemmas.{Bool.Decides.nat_tests, List.{Elements.{All-append, All-nil, All-push}, Sums.{fold-append, sum_by-append, sum_by-cons}}}}, specs.{Prelude.{cond, nat_eq, nat_lt, fold, ◌&&◌}, FinMap.empty}}
+use Rattle.pm_query.{specs.{pm_rows.{declared.commit.Change.Change, Fold.RowMap}, declared.book.BookEntry.{BookEntry, TheVariants.{Opened, Attached, Redone, Answered, Released, Detached, Gone, CheckpointEnded, Broke, LogFull}}, History.History, Book.{Base, BeginsRenewal, IsLegal, MayGoOn, RenewsBehindGone, faults_here, faults_of, generation_of, has_checkpoint, history_after, history_of, is_closed, kept_after, kept_by_redo, last_tick, needs_of, standing_of, times_after, times_attached}, TickLaws.{PastStays, PresentIsWhole}}, proofs.HistoryLaws.{generation_push, history_push, redone_push, times_push}}
+use Rattle.pm_segment.{specs.{Children.{AreOthers, IsAttendedBy, once, times_in}, Moment.Moment, Moves.Renews, Renewal.renewal, Stands.{CountsFaults, HasBegun, HasHeld, HasNoTick, HasRenewed, HasWaited, IsFaultBy, IsSure, Origin, bytes_of_rows}, Unread.has_redo, UnreadLaws.redo_neither}, proofs.{Books.{breaks_push, checkpoint_push, closed_push, faults_push, goes_on, here_push, needs_push, tick_push}, Steps.{gone_on, held_alone, not_both, waited_on}}}
 use Rattle.pm_outside.specs.Added.{Added}
-use Rattle.pm_segment.specs.Moves.{Renews}
-use Rattle.pm_segment.specs.Renewal.{renewal}
-use Rattle.pm_segment.specs.Stands.{CountsFaults, HasBegun, HasHeld, HasNoTick, HasRenewed, HasWaited, IsFaultBy, IsSure, Origin, bytes_of_rows}
-use Rattle.pm_segment.specs.Unread.{has_redo}
-use Rattle.pm_segment.specs.UnreadLaws.{redo_neither}
-use Rattle.pm_segment.proofs.Books.{breaks_push, checkpoint_push, closed_push, faults_push, goes_on, here_push, needs_push, tick_push}
-use Rattle.pm_segment.proofs.Steps.{gone_on, held_alone, not_both, waited_on}
 
 -- ---- legal books
 

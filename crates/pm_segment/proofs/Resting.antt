@@ -1,36 +1,12 @@
 -- How the log of a store rests on its disk, from call to call.
-use Rattle.std.proofs.Common.{◌≡◌, ◌≢◌, ◌⊎◌, inl, inr, ℕ, zero, suc, ◌+◌, ◌^◌, ◌<◌, ◌≤◌, List, [], ◌∷◌, length, get_or, take, All, Option, None, Some, refl, sym, ◌∙◌, ap, subst, arith, length-append, false, true≢false}
-use Rattle.std.specs.Prelude.{IfSome}
-use Rattle.std.proofs.Math.Logic.{∥∥₁_map, ∥∥₁_elim}
-use Rattle.std.proofs.Math.Bridge.{le_prop}
-use Rattle.std.proofs.lemmas.List.{take_all}
-use Rattle.std.proofs.lemmas.List.Elements.{All-nil, All-push}
-use Rattle.pm_disk.specs.Disk.{TellsStill}
-use Rattle.pm_disk.specs.Files.{Files, file_of}
-use Rattle.pm_rows.specs.declared.commit.Change.{Change}
-use Rattle.pm_rows.specs.declared.commit.Change.TheVariants.{Put, Del}
-use Rattle.pm_rows.specs.Fold.{RowMap, committed, folded}
-use Rattle.pm_rows.specs.Limits.{IsWithinRowLimits}
-use Rattle.pm_rows.specs.LogSize as log
-use Rattle.pm_rows.specs.Standing.{Standing, after}
-use Rattle.pm_rows.specs.Typed.{IsTypedChange}
-use Rattle.pm_rows.specs.Batch.{IsBatch, IsChange, IsCommit}
-use Rattle.pm_record.specs.GateLaws.{same_standing, standing}
-use Rattle.pm_record.specs.StandsFor.{Content, MayAppend, StandsFor, standing_of, with_batch}
-use Rattle.pm_record.specs.Pair.{MeansIn}
-use Rattle.pm_record.specs.OnDisk.{Rests as LogRests, Throughout}
-use Rattle.pm_log.specs.Append.{MeansOneOf}
-use Rattle.pm_log.specs.BatchLaws.{standing-push}
-use Rattle.pm_log.specs.Log.{Lives}
-use Rattle.pm_log.specs.declared.log.LogFault.{LogFault}
+use Rattle.std.{proofs.{Common.{◌≡◌, ◌≢◌, ◌⊎◌, inl, inr, ℕ, zero, suc, ◌+◌, ◌^◌, ◌<◌, ◌≤◌, List, [], ◌∷◌, length, get_or, take, All, Option, None, Some, refl, sym, ◌∙◌, ap, subst, arith, length-append, false, true≢false}, Math.{Logic.{∥∥₁_map, ∥∥₁_elim}, Bridge.le_prop}, lemmas.List.{take_all, Elements.{All-nil, All-push}}}, specs.Prelude.IfSome}
+use Rattle.pm_query.specs.{pm_disk.{Disk.TellsStill, Files.{Files, file_of}, declared.disk.Which.Which}, pm_rows.{declared.commit.Change.{Change, TheVariants.{Put, Del}}, Fold.{RowMap, committed, folded}, Limits.IsWithinRowLimits, Standing.{Standing, after}, Typed.IsTypedChange, Batch.{IsBatch, IsChange, IsCommit}}, Limits.{IsShortChange, IsWithinCommitLimits}}
+use Rattle.pm_query.specs.pm_rows.LogSize as log
+use Rattle.pm_record.{proofs.GateLaws.{same_standing, standing}, specs.{StandsFor.{Content, MayAppend, StandsFor, standing_of, with_batch}, Pair.MeansIn, OnDisk.{Rests as LogRests, Throughout}}}
+use Rattle.pm_log.{specs.{Append.MeansOneOf, Log.Lives, declared.log.LogFault.LogFault}, proofs.BatchLaws.standing-push}
 use Rattle.pm_log.specs.declared.log.LogFault.TheVariants as fault
-use Rattle.pm_query.specs.Limits.{IsShortChange, IsWithinCommitLimits}
-use Rattle.pm_disk.specs.declared.disk.Which.{Which}
 use Rattle.pm_query.specs.Book as book
-use Rattle.pm_segment.specs.declared.live.Live.{Live}
-use Rattle.pm_segment.specs.Rests.{HasRows, Rests}
-use Rattle.pm_segment.specs.Stands.{MeansWithin}
-use Rattle.pm_segment.proofs.Steps.{OneOf, some_none, with_need}
+use Rattle.pm_segment.{specs.{declared.live.Live.Live, Rests.{HasRows, Rests}, Stands.MeansWithin}, proofs.Steps.{OneOf, some_none, with_need}}
 
 -- whatever a stop leaves of a log that rests means its content
 pub means_now : (file : Which) (content : Content) (end : ℕ) (files : Files) (images : Files → Type 0) → LogRests file content end files images → (image : Files) → images image → MeansIn image (standing_of content) (end + 1)

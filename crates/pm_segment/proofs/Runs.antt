@@ -1,30 +1,7 @@
 -- The steps of a run keep what a stop leaves of its history.
-use Rattle.std.proofs.Common.{◌≡◌, inl, inr, ℕ, suc, ◌+◌, ◌-◌, ◌≤◌, ◌<◌, true, false, List, [], ◌∷◌, ◌++◌, length, get_or, take, drop, refl, sym, ◌∙◌, ap, subst, arith, length-append, append_assoc, append-nil, take-append-drop}
-use Rattle.std.specs.Prelude.{Option, Some, None, nat_le, All}
-use Rattle.std.proofs.Math.Logic.{∥∥₁_map}
-use Rattle.std.proofs.lemmas.Bool.{cases_lt}
-use Rattle.std.proofs.lemmas.Bool.Decides.{nat_tests}
-use Rattle.std.proofs.lemmas.List.{take-append-le, take_all}
-use Rattle.std.proofs.lemmas.List.Elements.{All-push}
-use Rattle.std.proofs.lemmas.List.Sums.{fold-append}
-use Rattle.std.proofs.Math.Seq.{take-take}
-use Rattle.pm_disk.specs.Files.{Files}
-use Rattle.pm_rows.specs.declared.commit.Change.{Change}
-use Rattle.pm_rows.specs.Fold.{committed, folded}
-use Rattle.pm_rows.specs.Standing.{Standing, after}
-use Rattle.pm_record.specs.Pair.{Means}
-use Rattle.pm_record.specs.GateLaws.{same_standing}
-use Rattle.pm_record.specs.OnDisk.{GoesOn, Throughout}
-use Rattle.pm_query.specs.declared.book.BookEntry.{BookEntry}
-use Rattle.pm_query.specs.declared.book.BookEntry.TheVariants.{Opened, Attached, Redone, Answered, Released, Detached, Gone, CheckpointEnded, Broke, LogFull}
-use Rattle.pm_sql.specs.declared.stmt.Stmt.{Stmt}
-use Rattle.pm_query.specs.declared.item.Item.{Item}
-use Rattle.pm_query.specs.History.{History, acknowledged, beginning, count_of, kept, number, with_commit}
-use Rattle.pm_query.specs.Book.{Base, history_after, history_of, kept_by_redo, standing_of}
-use Rattle.pm_query.specs.AtTick.{history_at, is_by}
-use Rattle.pm_query.specs.TickLaws.{PastStays, PresentIsWhole}
-use Rattle.pm_query.specs.Durable.{HoldsAcknowledged, HoldsFrom, IsDurable, IsWithin, Keeps, MeansAsOne}
-use Rattle.pm_query.specs.HistoryLaws.{history_push, number_of}
+use Rattle.std.{proofs.{Common.{◌≡◌, inl, inr, ℕ, suc, ◌+◌, ◌-◌, ◌≤◌, ◌<◌, true, false, List, [], ◌∷◌, ◌++◌, length, get_or, take, drop, refl, sym, ◌∙◌, ap, subst, arith, length-append, append_assoc, append-nil, take-append-drop}, Math.{Logic.∥∥₁_map, Seq.take-take}, lemmas.{Bool.{cases_lt, Decides.nat_tests}, List.{take-append-le, take_all, Elements.All-push, Sums.fold-append}}}, specs.Prelude.{Option, Some, None, nat_le, All}}
+use Rattle.pm_query.{specs.{pm_disk.Files.Files, pm_rows.{declared.commit.Change.Change, Fold.{committed, folded}, Standing.{Standing, after}}, declared.{book.BookEntry.{BookEntry, TheVariants.{Opened, Attached, Redone, Answered, Released, Detached, Gone, CheckpointEnded, Broke, LogFull}}, item.Item.Item}, pm_sql.declared.stmt.Stmt.Stmt, History.{History, acknowledged, beginning, count_of, kept, number, with_commit}, Book.{Base, history_after, history_of, kept_by_redo, standing_of}, AtTick.{history_at, is_by}, TickLaws.{PastStays, PresentIsWhole}, Durable.{HoldsAcknowledged, HoldsFrom, IsDurable, IsWithin, Keeps, MeansAsOne}}, proofs.HistoryLaws.{history_push, number_of}}
+use Rattle.pm_record.{specs.{Pair.Means, OnDisk.{GoesOn, Throughout}}, proofs.GateLaws.same_standing}
 
 -- ---- histories along a book
 

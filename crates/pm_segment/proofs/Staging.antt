@@ -1,53 +1,10 @@
 -- What staging a commit, and writing what is staged, keep.
-use Rattle.std.proofs.Common.{◌≡◌, ◌≢◌, false, true≢false, inl, inr, ℕ, ◌+◌, ◌-◌, ◌^◌, ◌<◌, ◌≤◌, List, [], ◌∷◌, ◌++◌, length, take, drop, Option, None, Some, refl, sym, ◌∙◌, ap, subst, arith, append-nil, length-append}
-use Rattle.std.specs.Prelude.{IfSome}
-use Rattle.std.proofs.Math.Logic.{∥∥₁_map}
-use Rattle.std.proofs.Math.Seq.{length-take-le, take-take}
-use Rattle.std.proofs.lemmas.Bool.{cases_lt}
-use Rattle.std.proofs.lemmas.List.{length-drop, take-append-le, take_all}
-use Rattle.std.proofs.lemmas.List.Elements.{All-nil}
-use Rattle.std.proofs.lemmas.List.Sums.{fold-append}
-use Rattle.pm_disk.specs.Cause.{Rose}
-use Rattle.pm_disk.specs.Disk.{TellsStill}
-use Rattle.pm_disk.specs.Files.{Files}
-use Rattle.pm_rows.specs.declared.commit.Change.{Change}
-use Rattle.pm_rows.specs.Batch.{IsBatch}
-use Rattle.pm_rows.specs.Fold.{RowMap, committed, folded}
-use Rattle.pm_rows.specs.Limits.{IsWithinRowLimits}
-use Rattle.pm_rows.specs.LogSize as log
-use Rattle.pm_rows.specs.Standing.{Standing, after}
-use Rattle.pm_record.specs.StandsFor.{Content, MayAppend, standing_of, with_batch}
-use Rattle.pm_record.specs.Pair.{Means, MeansIn}
-use Rattle.pm_record.specs.OnDisk.{GoesOn, Throughout}
-use Rattle.pm_log.specs.Append.{MeansOneOf}
-use Rattle.pm_log.specs.Log.{Lives}
-use Rattle.pm_log.specs.declared.log.Log.{Log}
-use Rattle.pm_log.specs.BatchLaws.{standing-push}
-use Rattle.pm_sql.specs.declared.stmt.Stmt.{Stmt}
-use Rattle.pm_query.specs.declared.item.Item.{Item}
-use Rattle.pm_query.specs.declared.book.BookEntry.{BookEntry}
-use Rattle.pm_query.specs.declared.book.BookEntry.TheVariants.{Answered, Broke}
-use Rattle.pm_query.specs.Answer.{commit_of, items_of}
-use Rattle.pm_query.specs.History.{History, count_of, number, with_commit}
-use Rattle.pm_query.specs.Book.{Base, TellsFault, ends_cleanly, fault_here, faults_here, faults_of, history_after, history_of, kept_after, kept_by_redo, present}
-use Rattle.pm_query.specs.TickLaws.{PastStays, PresentIsWhole}
-use Rattle.pm_query.specs.Durable.{HoldsFrom, Keeps}
-use Rattle.pm_query.specs.HistoryLaws.{base-with_commit, history_push, rows_of-with_commit}
-use Rattle.pm_segment.specs.declared.live.Live.{Live}
-use Rattle.pm_segment.specs.Children.{IsAttendedBy}
-use Rattle.pm_segment.specs.Moment.{Moment}
+use Rattle.std.{proofs.{Common.{◌≡◌, ◌≢◌, false, true≢false, inl, inr, ℕ, ◌+◌, ◌-◌, ◌^◌, ◌<◌, ◌≤◌, List, [], ◌∷◌, ◌++◌, length, take, drop, Option, None, Some, refl, sym, ◌∙◌, ap, subst, arith, append-nil, length-append}, Math.{Logic.∥∥₁_map, Seq.{length-take-le, take-take}}, lemmas.{Bool.cases_lt, List.{length-drop, take-append-le, take_all, Elements.All-nil, Sums.fold-append}}}, specs.Prelude.IfSome}
+use Rattle.pm_query.{specs.{pm_disk.{Cause.Rose, Disk.TellsStill, Files.Files}, pm_rows.{declared.commit.Change.Change, Batch.IsBatch, Fold.{RowMap, committed, folded}, Limits.IsWithinRowLimits, Standing.{Standing, after}}, pm_record.{StandsFor.{Content, MayAppend, standing_of, with_batch}, Pair.{Means, MeansIn}, OnDisk.{GoesOn, Throughout}}, pm_sql.declared.stmt.Stmt.Stmt, declared.{item.Item.Item, book.BookEntry.{BookEntry, TheVariants.{Answered, Broke}}}, Answer.{commit_of, items_of}, History.{History, count_of, number, with_commit}, Book.{Base, TellsFault, ends_cleanly, fault_here, faults_here, faults_of, history_after, history_of, kept_after, kept_by_redo, present}, TickLaws.{PastStays, PresentIsWhole}, Durable.{HoldsFrom, Keeps}}, proofs.HistoryLaws.{base-with_commit, history_push, rows_of-with_commit}}
+use Rattle.pm_query.specs.pm_rows.LogSize as log
+use Rattle.pm_log.{specs.{Append.MeansOneOf, Log.Lives, declared.log.Log.Log}, proofs.BatchLaws.standing-push}
+use Rattle.pm_segment.{specs.{declared.live.Live.Live, Children.IsAttendedBy, Moment.Moment, Moves.{IsShown, IsShownAt, Moves}, MovesLaws.{time_still, unread_never}, Rests.{HasRows, Rests, RestsAt}, Stands.{HasGone, HasHeld, IsAnchored, MeansWithin, Origin, TellsBreak, most_bytes}, Fronts.{flushed_of, whole_of}, Waits.needs_alone}, proofs.{Books.{any_still, attended_still, count-with_commit, each_later, each_push, gone_push, tells_new}, Resting.{LivesWith, StopsOneOf, means_now}, Runs.{another, answered, covers_commit, goes_by, holds_in, later}, Steps.{Attends, ahead_more, anchored_broken, anchored_push, attends_in, began_on, counted_now, flushed_number, gone_read, held_on, keeps_by, lengths_by, lengths_push, may_answer, means_more, means_some, never_waits, no_fault_shown, nobody_moves, none_told, same_live, some_none, up_to_more, tells_none}, Waiting.{behind_added, behind_more, folded_more, folded_rest, need_some, needs_parts, number_more}}}
 use Rattle.pm_outside.specs.Added.{Added}
-use Rattle.pm_segment.specs.Moves.{IsShown, IsShownAt, Moves}
-use Rattle.pm_segment.specs.MovesLaws.{time_still, unread_never}
-use Rattle.pm_segment.specs.Rests.{HasRows, Rests, RestsAt}
-use Rattle.pm_segment.specs.Stands.{HasGone, HasHeld, IsAnchored, MeansWithin, Origin, TellsBreak, most_bytes}
-use Rattle.pm_segment.specs.Fronts.{flushed_of, whole_of}
-use Rattle.pm_segment.specs.Waits.{needs_alone}
-use Rattle.pm_segment.proofs.Books.{any_still, attended_still, count-with_commit, each_later, each_push, gone_push, tells_new}
-use Rattle.pm_segment.proofs.Resting.{LivesWith, StopsOneOf, means_now}
-use Rattle.pm_segment.proofs.Runs.{another, answered, covers_commit, goes_by, holds_in, later}
-use Rattle.pm_segment.proofs.Steps.{Attends, ahead_more, anchored_broken, anchored_push, attends_in, began_on, counted_now, flushed_number, gone_read, held_on, keeps_by, lengths_by, lengths_push, may_answer, means_more, means_some, never_waits, no_fault_shown, nobody_moves, none_told, same_live, some_none, up_to_more, tells_none}
-use Rattle.pm_segment.proofs.Waiting.{behind_added, behind_more, folded_more, folded_rest, need_some, needs_parts, number_more}
 
 -- ---- how the rows stand on the disk
 

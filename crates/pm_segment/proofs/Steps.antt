@@ -1,49 +1,10 @@
 -- What each step of a store keeps.
-use Rattle.std.proofs.Common.{◌≡◌, ◌≢◌, Bool, true, false, ◌⊎◌, inl, inr, ℕ, ◌+◌, ◌-◌, ◌^◌, ◌<◌, ◌≤◌, List, [], ◌∷◌, ◌++◌, All, drop, Option, None, Some, refl, sym, ◌∙◌, ap, subst, arith, append_assoc, true≢false}
-use Rattle.std.specs.Prelude.{IfSome, is_some, Any, unwrap_or, cond, nat_eq}
-use Rattle.std.specs.List.{list_any}
-use Rattle.std.specs.Option.{option_map}
-use Rattle.std.proofs.Math.Logic.{∥∥₁_map}
-use Rattle.std.proofs.lemmas.List.{drop_all}
-use Rattle.std.proofs.lemmas.List.Elements.{All-nil, All-push, Contains-append_left}
-use Rattle.std.proofs.lemmas.List.Sums.{sum_by-append, sum_by-cons}
-use Rattle.pm_disk.specs.Cause.{Rose}
-use Rattle.pm_disk.specs.Files.{Files}
-use Rattle.pm_rows.specs.declared.commit.Change.{Change}
-use Rattle.pm_rows.specs.Fold.{RowMap, committed, folded}
-use Rattle.pm_rows.specs.Limits.{max_file_bytes}
-use Rattle.pm_rows.specs.LogSize as log
-use Rattle.pm_rows.specs.Standing.{Standing, after}
-use Rattle.pm_record.specs.GateLaws.{same_standing, standing}
-use Rattle.pm_record.specs.Pair.{Means}
-use Rattle.pm_record.specs.StandsFor.{standing_of as content_standing}
-use Rattle.pm_record.specs.OnDisk.{GoesOn, Throughout}
-use Rattle.pm_sql.specs.declared.stmt.Stmt.{Stmt}
-use Rattle.pm_query.specs.declared.item.Item.{Item}
-use Rattle.pm_query.specs.declared.book.BookEntry.{BookEntry}
-use Rattle.pm_query.specs.declared.book.BookEntry.TheVariants.{Attached, Answered, Released, Detached, Broke, LogFull}
-use Rattle.pm_query.specs.Answer.{commit_of, items_of}
-use Rattle.pm_query.specs.History.{History, acknowledged, beginning, count_of, number, rows_of, with_commit}
-use Rattle.pm_query.specs.Book.{AnswersUpTo, Base, IsAttached, MayAnswer, MayFollow, TellsFault, ends_checkpoint, ends_cleanly, fault_here, faults_after, faults_here, faults_of, generation_after, generation_of, history_after, history_of, kept_after, kept_by_redo, last_tick, need_after, need_of, needs_of, present, present_after, standing_of, tick_after}
-use Rattle.pm_query.specs.AtTick.{is_by}
-use Rattle.pm_query.specs.TickLaws.{PastStays, PresentIsWhole}
-use Rattle.pm_query.specs.Durable.{HoldsFrom, Keeps}
-use Rattle.pm_query.specs.HistoryLaws.{base-with_commit, generation_push, history_push, redone_push, rows_of-with_commit, times_push, whole_number}
-use Rattle.pm_segment.specs.declared.live.Live.{Live}
-use Rattle.pm_segment.specs.Moment.{Moment}
-use Rattle.pm_outside.specs.Added.{Added}
-use Rattle.pm_segment.specs.Moves.{BreakIsShown, IsCountedFrom, IsShown, IsShownAt, Moves}
-use Rattle.pm_segment.specs.Epochs.{BeganIn, IsAheadBy, epochs_in}
-use Rattle.pm_outside.specs.AddedLaws.{added_none}
-use Rattle.pm_segment.specs.MovesLaws.{ahead_still, moves_none, time_still, unread_never, unread_still}
-use Rattle.pm_segment.specs.Unread.{has_redo}
-use Rattle.pm_segment.specs.Children.{IsAttendedBy, once, times_behind, times_in}
-use Rattle.pm_segment.specs.Fronts.{flushed_of, whole_of}
-use Rattle.pm_segment.specs.Passes.{IsUpTo}
-use Rattle.pm_segment.specs.Rests.{Rests, RestsAt}
-use Rattle.pm_segment.specs.Stands.{Begins, GoesFrom, HasBegun, HasGone, HasHeld, HasNoTick, HasRenewed, HasWaited, IsAnchored, IsFaultBy, IsOpening, IsSure, MeansWithin, Origin, TellsBreak, WaitsFrom, most_bytes}
-use Rattle.pm_segment.proofs.Books.{IsNotGone, any_still, attended_push, attended_still, breaks_push, closed_push, count-with_commit, each_later, each_push, faults_push, gone_push, here_push, legal_push, most_grows, needs_push, renewed_push, tells_new, tick_push, waited_push}
-use Rattle.pm_segment.proofs.Runs.{another, answered, covers_commit, covers_number, goes_by, holds_in, holds_so, later, next_commit, released}
+use Rattle.std.{proofs.{Common.{◌≡◌, ◌≢◌, Bool, true, false, ◌⊎◌, inl, inr, ℕ, ◌+◌, ◌-◌, ◌^◌, ◌<◌, ◌≤◌, List, [], ◌∷◌, ◌++◌, All, drop, Option, None, Some, refl, sym, ◌∙◌, ap, subst, arith, append_assoc, true≢false}, Math.Logic.∥∥₁_map, lemmas.List.{drop_all, Elements.{All-nil, All-push, Contains-append_left}, Sums.{sum_by-append, sum_by-cons}}}, specs.{Prelude.{IfSome, is_some, Any, unwrap_or, cond, nat_eq}, List.list_any, Option.option_map}}
+use Rattle.pm_query.{specs.{pm_disk.{Cause.Rose, Files.Files}, pm_rows.{declared.commit.Change.Change, Fold.{RowMap, committed, folded}, Limits.max_file_bytes, Standing.{Standing, after}}, pm_sql.declared.stmt.Stmt.Stmt, declared.{item.Item.Item, book.BookEntry.{BookEntry, TheVariants.{Attached, Answered, Released, Detached, Broke, LogFull}}}, Answer.{commit_of, items_of}, History.{History, acknowledged, beginning, count_of, number, rows_of, with_commit}, Book.{AnswersUpTo, Base, IsAttached, MayAnswer, MayFollow, TellsFault, ends_checkpoint, ends_cleanly, fault_here, faults_after, faults_here, faults_of, generation_after, generation_of, history_after, history_of, kept_after, kept_by_redo, last_tick, need_after, need_of, needs_of, present, present_after, standing_of, tick_after}, AtTick.is_by, TickLaws.{PastStays, PresentIsWhole}, Durable.{HoldsFrom, Keeps}}, proofs.HistoryLaws.{base-with_commit, generation_push, history_push, redone_push, rows_of-with_commit, times_push, whole_number}}
+use Rattle.pm_query.specs.pm_rows.LogSize as log
+use Rattle.pm_record.{proofs.GateLaws.{same_standing, standing}, specs.{Pair.Means, StandsFor.standing_of as content_standing, OnDisk.{GoesOn, Throughout}}}
+use Rattle.pm_segment.{specs.{declared.live.Live.Live, Moment.Moment, Moves.{BreakIsShown, IsCountedFrom, IsShown, IsShownAt, Moves}, Epochs.{BeganIn, IsAheadBy, epochs_in}, MovesLaws.{ahead_still, moves_none, time_still, unread_never, unread_still}, Unread.has_redo, Children.{IsAttendedBy, once, times_behind, times_in}, Fronts.{flushed_of, whole_of}, Passes.IsUpTo, Rests.{Rests, RestsAt}, Stands.{Begins, GoesFrom, HasBegun, HasGone, HasHeld, HasNoTick, HasRenewed, HasWaited, IsAnchored, IsFaultBy, IsOpening, IsSure, MeansWithin, Origin, TellsBreak, WaitsFrom, most_bytes}}, proofs.{Books.{IsNotGone, any_still, attended_push, attended_still, breaks_push, closed_push, count-with_commit, each_later, each_push, faults_push, gone_push, here_push, legal_push, most_grows, needs_push, renewed_push, tells_new, tick_push, waited_push}, Runs.{another, answered, covers_commit, covers_number, goes_by, holds_in, holds_so, later, next_commit, released}}}
+use Rattle.pm_outside.{specs.Added.Added, proofs.AddedLaws.added_none}
 
 -- the moment with another book, and other children inside
 abbrev pub with_child : Option (List BookEntry) → List ℕ → Moment → Moment

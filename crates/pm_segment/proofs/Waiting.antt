@@ -1,29 +1,11 @@
 -- What is staged, as lists: its bytes, its oldest batch, and its place in the history.
-use Rattle.std.proofs.Common.{◌≡◌, ℕ, ◌+◌, ◌-◌, ◌*◌, ◌≤◌, List, [], ◌∷◌, ◌++◌, length, take, drop, All, Option, Some, None, refl, sym, ◌∙◌, ap, subst, arith, inl, inr}
-use Rattle.std.specs.Prelude.{IfSome}
-use Rattle.std.proofs.Math.Bridge.{le_prop}
-use Rattle.std.proofs.Math.Logic.{∥∥₁_elim}
-use Rattle.std.proofs.Math.Nat.{ℕ_set}
-use Rattle.std.proofs.Math.Seq.{take-add, length-take-le}
-use Rattle.std.proofs.lemmas.Bool.{cases_lt}
-use Rattle.std.proofs.lemmas.List.{drop-append-le, drop-drop, drop_all, length-take, take-append-drop, take_min}
-use Rattle.std.proofs.lemmas.List.Elements.{All-take}
-use Rattle.std.proofs.lemmas.List.Sums.{fold-append, sum_by-append, sum_by-cons, sum_by-take-drop}
-use Rattle.pm_disk.specs.Files.{Files}
-use Rattle.pm_record.specs.GateLaws.{same_standing}
-use Rattle.pm_rows.specs.declared.commit.Change.{Change}
-use Rattle.pm_rows.specs.Batch.{IsBatch, IsCommit}
-use Rattle.pm_rows.specs.Fold.{RowMap, committed, folded}
-use Rattle.pm_rows.specs.Limits.{max_commits}
-use Rattle.pm_rows.specs.LogSize as log
-use Rattle.pm_rows.specs.Standing.{after}
+use Rattle.std.{proofs.{Common.{◌≡◌, ℕ, ◌+◌, ◌-◌, ◌*◌, ◌≤◌, List, [], ◌∷◌, ◌++◌, length, take, drop, All, Option, Some, None, refl, sym, ◌∙◌, ap, subst, arith, inl, inr}, Math.{Bridge.le_prop, Logic.∥∥₁_elim, Nat.ℕ_set, Seq.{take-add, length-take-le}}, lemmas.{Bool.cases_lt, List.{drop-append-le, drop-drop, drop_all, length-take, take-append-drop, take_min, Elements.All-take, Sums.{fold-append, sum_by-append, sum_by-cons, sum_by-take-drop}}}}, specs.Prelude.IfSome}
+use Rattle.pm_query.specs.{pm_disk.Files.Files, pm_rows.{declared.commit.Change.Change, Batch.{IsBatch, IsCommit}, Fold.{RowMap, committed, folded}, Limits.max_commits, Standing.after}, History.{History, number}}
+use Rattle.pm_record.proofs.GateLaws.{same_standing}
+use Rattle.pm_query.specs.pm_rows.LogSize as log
 use Rattle.pm_stage.specs.Stage.{Waiting}
-use Rattle.pm_query.specs.History.{History, number}
-use Rattle.pm_segment.specs.declared.commits.Commits.{Commits}
+use Rattle.pm_segment.specs.{declared.{commits.Commits.Commits, live.Live.Live}, Rests.Rests, Waits.{IsBehind, Waits, needs_alone}}
 use Rattle.pm_segment.specs.declared.commits.Commits.TheVariants as ways
-use Rattle.pm_segment.specs.declared.live.Live.{Live}
-use Rattle.pm_segment.specs.Rests.{Rests}
-use Rattle.pm_segment.specs.Waits.{IsBehind, Waits, needs_alone}
 
 -- ---- how much it needs
 

@@ -1,8 +1,6 @@
 -- The answer of a script that was run.
 use Rattle.std.specs.Prelude.{◌≡◌, ◌≢◌, []}
-use Rattle.pm_rows.specs.Fold.{RowMap}
-use Rattle.pm_query.specs.Answer.{Writes, commit_of, items_of}
-use Rattle.pm_query.specs.Limits.{IsWithinCommitLimits, KeepsRowLimits, KeepsShortRows, ShowsShortValues}
+use Rattle.pm_query.specs.{pm_rows.Fold.RowMap, Answer.{Writes, commit_of, items_of}, Limits.{IsWithinCommitLimits, KeepsRowLimits, KeepsShortRows, ShowsShortValues}}
 use Rattle.pm_segment.specs.declared.ran.Ran.{Ran}
 
 -- It is that of its script on these rows, and keeps the limits.

@@ -1,22 +1,9 @@
 -- Why `run` and `seen` answer what they do.
 use Rattle.std.specs.Prelude.{◌≡◌, ◌≢◌, ◌⊎◌, ℕ, ◌^◌, ◌-◌, ◌<◌, ◌≤◌, List, [], ◌∷◌, ◌++◌, Option, None, Some, Result, Ok, Err}
-use Rattle.pm_rows.specs.Fold.{RowMap}
-use Rattle.pm_rows.specs.declared.commit.Change.{Change}
-use Rattle.pm_sql.specs.declared.stmt.Stmt.{Stmt}
+use Rattle.pm_query.specs.{pm_rows.{Fold.RowMap, declared.commit.Change.Change}, pm_sql.declared.stmt.Stmt.Stmt, Answer.commit_of, Book.need_of, declared.store.{Seen.{Seen, TheVariants.{NotFlushed, Released}}, Staged.Staged, StoreNo.{StoreNo, TheVariants.{Broken, Disk, Full, NoMemory}}}}
 use Rattle.pm_log.specs.Log.{room_of}
-use Rattle.pm_query.specs.Answer.{commit_of}
-use Rattle.pm_query.specs.Book.{need_of}
-use Rattle.pm_query.specs.declared.store.Seen.{Seen}
-use Rattle.pm_query.specs.declared.store.Seen.TheVariants.{NotFlushed, Released}
-use Rattle.pm_query.specs.declared.store.Staged.{Staged}
-use Rattle.pm_query.specs.declared.store.StoreNo.{StoreNo}
-use Rattle.pm_query.specs.declared.store.StoreNo.TheVariants.{Broken, Disk, Full, NoMemory}
-use Rattle.pm_segment.specs.Fronts.{flushed_of, whole_of}
-use Rattle.pm_segment.specs.Moment.{Moment}
-use Rattle.pm_segment.specs.Redos.{IsBroken}
-use Rattle.pm_segment.specs.declared.commits.Commits.{Commits}
+use Rattle.pm_segment.specs.{Fronts.{flushed_of, whole_of}, Moment.Moment, Redos.IsBroken, declared.{commits.Commits.Commits, live.Live.Live}}
 use Rattle.pm_segment.specs.declared.commits.Commits.TheVariants as ways
-use Rattle.pm_segment.specs.declared.live.Live.{Live}
 
 -- the log goes on after a redo, and the disk hasn't failed since
 pub record IsUnbroken (live : Option Live) : Type 0 where

@@ -1,7 +1,6 @@
 -- The children inside a store.
 use Rattle.std.specs.Prelude.{◌≡◌, ℕ, cond, nat_eq, nat_lt, ◌&&◌, ◌||◌, List, [], ◌∷◌, ◌++◌, fold, sum_by}
-use Rattle.pm_query.specs.declared.book.BookEntry.{BookEntry}
-use Rattle.pm_query.specs.Book.{times_after, times_attached}
+use Rattle.pm_query.specs.{declared.book.BookEntry.BookEntry, Book.{times_after, times_attached}}
 
 -- once, where it is this pid
 abbrev pub once : ℕ → ℕ → ℕ

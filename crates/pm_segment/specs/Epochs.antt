@@ -1,7 +1,6 @@
 -- The epochs of a log within one generation.
 use Rattle.std.specs.Prelude.{◌≡◌, ℕ, ◌+◌, true, List, Option, None, Some, sum_by}
-use Rattle.pm_query.specs.declared.book.BookEntry.{BookEntry}
-use Rattle.pm_query.specs.declared.book.BookEntry.TheVariants.{CheckpointEnded}
+use Rattle.pm_query.specs.declared.book.BookEntry.{BookEntry, TheVariants.CheckpointEnded}
 use Rattle.pm_segment.specs.declared.live.Live.{Live}
 
 -- a checkpoint that was made begins an epoch

@@ -1,18 +1,7 @@
 -- What a flush comes to.
 use Rattle.std.specs.Prelude.{◌≡◌, ◌≢◌, ℕ, ◌+◌, List, [], length, take, drop, None, Some, Result, Ok, Err}
-use Rattle.pm_rows.specs.declared.commit.Change.{Change}
-use Rattle.pm_rows.specs.Limits.{max_commits}
-use Rattle.pm_query.specs.Calls.{NotesFault}
-use Rattle.pm_query.specs.declared.book.BookEntry.{BookEntry}
-use Rattle.pm_query.specs.declared.store.Checkpointed.{Checkpointed}
-use Rattle.pm_query.specs.declared.store.Checkpointed.TheVariants.{Done}
-use Rattle.pm_query.specs.declared.store.StoreNo.{StoreNo}
-use Rattle.pm_query.specs.declared.store.StoreNo.TheVariants.{Broken, Disk, NoMemory}
-use Rattle.pm_segment.specs.Causes.{IsUnbroken}
-use Rattle.pm_segment.specs.Fronts.{flushed_of}
-use Rattle.pm_segment.specs.Moment.{Moment}
-use Rattle.pm_segment.specs.Redos.{IsBroken}
-use Rattle.pm_segment.specs.declared.live.Live.{Live}
+use Rattle.pm_query.specs.{pm_rows.{declared.commit.Change.Change, Limits.max_commits}, Calls.NotesFault, declared.{book.BookEntry.BookEntry, store.{Checkpointed.{Checkpointed, TheVariants.Done}, StoreNo.{StoreNo, TheVariants.{Broken, Disk, NoMemory}}}}}
+use Rattle.pm_segment.specs.{Causes.IsUnbroken, Fronts.flushed_of, Moment.Moment, Redos.IsBroken, declared.live.Live.Live}
 
 -- The oldest of what was staged was written as one batch, and the log goes on after it.
 pub record HasWritten (before now : Moment) (its new : Live) : Type 0 where

@@ -16,3 +16,8 @@ pub mod Stands
 pub mod Unread
 pub mod UnreadLaws
 pub mod Waits
+pub use Rattle.pm_disk.specs as pm_disk
+pub use Rattle.pm_outside.specs as pm_outside
+pub use Rattle.pm_record.specs as pm_record
+pub use Rattle.pm_query.specs as pm_query
+pub use Rattle.pm_redo.specs as pm_redo

@@ -1,12 +1,7 @@
 -- A store at one moment.
 use Rattle.std.specs.Prelude.{◌≡◌, ℕ, Bool, List, Option, IfSome}
-use Rattle.pm_disk.specs.Files.{Files}
-use Rattle.pm_rows.specs.declared.commit.Change.{Change}
-use Rattle.pm_rows.specs.Fold.{RowMap}
-use Rattle.pm_query.specs.declared.book.BookEntry.{BookEntry}
-use Rattle.pm_segment.specs.declared.commits.Commits.{Commits}
-use Rattle.pm_segment.specs.declared.live.Live.{Live}
-use Rattle.pm_segment.specs.declared.segment.Segment.{Segment}
+use Rattle.pm_query.specs.{pm_disk.Files.Files, pm_rows.{declared.commit.Change.Change, Fold.RowMap}, declared.book.BookEntry.BookEntry}
+use Rattle.pm_segment.specs.declared.{commits.Commits.Commits, live.Live.Live, segment.Segment.Segment}
 
 -- The book where it tells, the generation, the pids of the children inside, the rows, the log after this generation's
 -- redo, whether a checkpoint was left out before that, when commits are written, and those that wait for that. Of the disk: the files as they read, what a stop may leave after

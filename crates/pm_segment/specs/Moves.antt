@@ -1,19 +1,8 @@
 -- What the calls of a store do from one moment to another.
-use Rattle.std.specs.Prelude.{◌≡◌, ◌⊎◌, ℕ, ◌+◌, ◌≤◌, ◌||◌, true, false, List, [], All, Option, None, Some, is_some}
-use Rattle.std.specs.FinMap.{empty}
+use Rattle.std.specs.{Prelude.{◌≡◌, ◌⊎◌, ℕ, ◌+◌, ◌≤◌, ◌||◌, true, false, List, [], All, Option, None, Some, is_some}, FinMap.empty}
 use Rattle.pm_outside.specs.Added.{Added}
-use Rattle.pm_disk.specs.Cause.{Rose}
-use Rattle.pm_record.specs.OnDisk.{GoesOn}
-use Rattle.pm_query.specs.declared.book.BookEntry.{BookEntry}
-use Rattle.pm_query.specs.declared.book.BookEntry.TheVariants.{Broke}
-use Rattle.pm_query.specs.Book.{Base}
-use Rattle.pm_segment.specs.declared.live.Live.{Live}
-use Rattle.pm_segment.specs.Children.{times_behind, times_in}
-use Rattle.pm_segment.specs.Epochs.{BeganIn, IsAheadBy, epochs_in}
-use Rattle.pm_segment.specs.Moment.{Moment}
-use Rattle.pm_segment.specs.Passes.{IsFlushed, IsStaged}
-use Rattle.pm_segment.specs.Stands.{Begins, GoesFrom, Origin, WaitsFrom}
-use Rattle.pm_segment.specs.Unread.{has_break, has_redo}
+use Rattle.pm_query.specs.{pm_disk.Cause.Rose, pm_record.OnDisk.GoesOn, declared.book.BookEntry.{BookEntry, TheVariants.Broke}, Book.Base}
+use Rattle.pm_segment.specs.{declared.live.Live.Live, Children.{times_behind, times_in}, Epochs.{BeganIn, IsAheadBy, epochs_in}, Moment.Moment, Passes.{IsFlushed, IsStaged}, Stands.{Begins, GoesFrom, Origin, WaitsFrom}, Unread.{has_break, has_redo}}
 
 -- all that a store keeps of its own is as it was
 pub record IsAsBefore (before now : Moment) : Type 0 where

@@ -1,28 +1,9 @@
 -- The laws of what the calls of a store do.
-use Rattle.std.proofs.Common.{◌≡◌, ◌⊎◌, inl, inr, Bool, true, false, ℕ, ◌+◌, ◌≤◌, All, List, [], ◌∷◌, ◌++◌, Option, None, Some, refl, sym, ◌∙◌, ap, subst, arith}
-use Rattle.std.specs.Prelude.{IfSome, is_some, ◌||◌}
-use Rattle.std.proofs.lemmas.List.Elements.{All-nil, All-cons, All-append, All-head, All-tail, All-weaker}
-use Rattle.std.proofs.lemmas.List.Folds.{list_any-append}
-use Rattle.std.proofs.lemmas.List.Sums.{fold-append, sum_by-append}
-use Rattle.pm_disk.specs.Cause.{Rose}
-use Rattle.pm_disk.specs.Files.{Files}
-use Rattle.pm_disk.specs.DiskLaws.{rose_further}
-use Rattle.pm_record.specs.Calls.{goes_two}
-use Rattle.pm_record.specs.OnDisk.{GoesOn}
-use Rattle.pm_query.specs.declared.book.BookEntry.{BookEntry}
-use Rattle.pm_query.specs.declared.book.BookEntry.TheVariants.{Opened, Attached, Redone, Answered, Released, Detached, Gone, CheckpointEnded, Broke, LogFull}
-use Rattle.pm_query.specs.Book.{Base, times_after}
-use Rattle.pm_segment.specs.Children.{times_behind, times_in}
-use Rattle.pm_segment.specs.declared.live.Live.{Live}
-use Rattle.pm_segment.specs.Epochs.{IsAheadBy, begun_by, epochs_in}
-use Rattle.pm_segment.specs.Moment.{Moment}
-use Rattle.pm_outside.specs.Added.{Added}
-use Rattle.pm_outside.specs.AddedLaws.{added_both, added_none}
-use Rattle.pm_segment.specs.Renewal.{renewal}
-use Rattle.pm_segment.specs.Moves.{IsShown, CountsEntries, Moves, Spans, StaysUnread}
-use Rattle.pm_segment.specs.Stands.{Begins, GoesFrom, IsBaseOf, Origin, WaitsFrom}
-use Rattle.pm_segment.specs.Unread.{has_break, has_redo, is_redo}
-use Rattle.pm_segment.specs.UnreadLaws.{break_before, break_behind, breaks_on}
+use Rattle.std.{proofs.{Common.{◌≡◌, ◌⊎◌, inl, inr, Bool, true, false, ℕ, ◌+◌, ◌≤◌, All, List, [], ◌∷◌, ◌++◌, Option, None, Some, refl, sym, ◌∙◌, ap, subst, arith}, lemmas.List.{Elements.{All-nil, All-cons, All-append, All-head, All-tail, All-weaker}, Folds.list_any-append, Sums.{fold-append, sum_by-append}}}, specs.Prelude.{IfSome, is_some, ◌||◌}}
+use Rattle.pm_disk.{specs.{Cause.Rose, Files.Files}, proofs.DiskLaws.rose_further}
+use Rattle.pm_query.specs.{pm_record.{Calls.goes_two, OnDisk.GoesOn}, declared.book.BookEntry.{BookEntry, TheVariants.{Opened, Attached, Redone, Answered, Released, Detached, Gone, CheckpointEnded, Broke, LogFull}}, Book.{Base, times_after}}
+use Rattle.pm_segment.specs.{Children.{times_behind, times_in}, declared.live.Live.Live, Epochs.{IsAheadBy, begun_by, epochs_in}, Moment.Moment, Renewal.renewal, Moves.{IsShown, CountsEntries, Moves, Spans, StaysUnread}, Stands.{Begins, GoesFrom, IsBaseOf, Origin, WaitsFrom}, Unread.{has_break, has_redo, is_redo}, UnreadLaws.{break_before, break_behind, breaks_on}}
+use Rattle.pm_outside.{specs.Added.Added, proofs.AddedLaws.{added_both, added_none}}
 
 pub shown_later : (from before now : ℕ) → before ≤ now → (entry : BookEntry) → IsShown from before entry → IsShown from now entry
 shown_later from before now le (Broke pid since count) shown = rose_further from before now le shown

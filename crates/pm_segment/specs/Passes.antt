@@ -1,13 +1,7 @@
 -- A pass of a store.
 use Rattle.std.specs.Prelude.{◌≡◌, ℕ, ◌≤◌, List, Any, Option, None, Some, IfSome}
-use Rattle.pm_query.specs.declared.book.BookEntry.{BookEntry}
-use Rattle.pm_query.specs.Book.{AnswersUpTo, IsAttached, present}
-use Rattle.pm_query.specs.Calls.{PassView, User, user_of}
-use Rattle.pm_segment.specs.declared.live.Live.{Live}
-use Rattle.pm_segment.specs.declared.pass.Pass.{Pass}
-use Rattle.pm_segment.specs.Children.{times_in}
-use Rattle.pm_segment.specs.Fronts.{flushed_of, whole_of}
-use Rattle.pm_segment.specs.Moment.{Moment}
+use Rattle.pm_query.specs.{declared.book.BookEntry.BookEntry, Book.{AnswersUpTo, IsAttached, present}, Calls.{PassView, User, user_of}}
+use Rattle.pm_segment.specs.{declared.{live.Live.Live, pass.Pass.Pass}, Children.times_in, Fronts.{flushed_of, whole_of}, Moment.Moment}
 
 abbrev pub view_of : Pass → PassView
 view_of pass = record { pid = pass.pid; generation = pass.generation; front = pass.front }

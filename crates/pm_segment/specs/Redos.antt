@@ -1,21 +1,9 @@
 -- What redo and checkpoints come to, and where.
 use Rattle.std.specs.Prelude.{◌≡◌, ◌≢◌, ◌⊎◌, ℕ, ◌^◌, ◌-◌, ◌<◌, ◌≤◌, Bool, true, false, [], Option, None, Some, is_some, IfSome, Result, Ok, Err}
-use Rattle.pm_disk.specs.Files.{Files, file_of, other}
-use Rattle.pm_rows.specs.Fold.{RowMap}
-use Rattle.pm_disk.specs.declared.disk.Which.{Which}
-use Rattle.pm_record.specs.Pair.{IsShut, PairStandsFor}
-use Rattle.pm_record.specs.StandsFor.{Content, StandsFor, standing_of}
-use Rattle.pm_record.specs.declared.fault.RedoFault.{RedoFault}
-use Rattle.pm_record.specs.declared.fault.RedoFault.TheVariants as reasons
-use Rattle.pm_query.specs.declared.store.Checkpointed.{Checkpointed}
-use Rattle.pm_query.specs.declared.store.Checkpointed.TheVariants.{Done, Skipped, NotDue}
-use Rattle.pm_query.specs.declared.store.StoreNo.{StoreNo}
-use Rattle.pm_query.specs.declared.store.StoreNo.TheVariants.{Disk, Broken, Full, Redo}
-use Rattle.pm_query.specs.Calls.{due_bytes}
+use Rattle.pm_query.specs.{pm_disk.{Files.{Files, file_of, other}, declared.disk.Which.Which}, pm_rows.Fold.RowMap, pm_record.{Pair.{IsShut, PairStandsFor}, StandsFor.{Content, StandsFor, standing_of}, declared.fault.RedoFault.RedoFault}, declared.store.{Checkpointed.{Checkpointed, TheVariants.{Done, Skipped, NotDue}}, StoreNo.{StoreNo, TheVariants.{Disk, Broken, Full, Redo}}}, Calls.due_bytes}
+use Rattle.pm_query.specs.pm_record.declared.fault.RedoFault.TheVariants as reasons
 use Rattle.pm_redo.specs.Found.{IsReason}
-use Rattle.pm_segment.specs.Fronts.{whole_of}
-use Rattle.pm_segment.specs.Moment.{Moment}
-use Rattle.pm_segment.specs.declared.live.Live.{Live}
+use Rattle.pm_segment.specs.{Fronts.whole_of, Moment.Moment, declared.live.Live.Live}
 
 -- the log goes on after a redo
 abbrev pub IsRead : Option Live → Type 0

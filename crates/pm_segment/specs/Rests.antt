@@ -1,11 +1,6 @@
 -- How the rows of a store stand on its disk.
 use Rattle.std.specs.Prelude.{◌≡◌, ℕ, ◌≤◌, true, List, [], length, take, Option, Some, None, IfSome}
-use Rattle.pm_disk.specs.Files.{Files}
-use Rattle.pm_rows.specs.declared.commit.Change.{Change}
-use Rattle.pm_rows.specs.Fold.{RowMap, folded}
-use Rattle.pm_rows.specs.Limits.{IsWithinRowLimits}
-use Rattle.pm_rows.specs.Standing.{Standing}
-use Rattle.pm_record.specs.StandsFor.{Content, standing_of}
+use Rattle.pm_record.specs.{pm_disk.Files.Files, pm_rows.{declared.commit.Change.Change, Fold.{RowMap, folded}, Limits.IsWithinRowLimits, Standing.Standing}, StandsFor.{Content, standing_of}}
 use Rattle.pm_log.specs.Log.{Lives}
 use Rattle.pm_segment.specs.declared.live.Live.{Live}
 

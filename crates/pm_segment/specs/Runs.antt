@@ -1,18 +1,8 @@
 -- What a store keeps of its run.
 use Rattle.std.specs.Prelude.{◌≡◌, ℕ, true, List, [], None, Some, IfSome}
-use Rattle.pm_disk.specs.Files.{Files}
-use Rattle.pm_record.specs.Pair.{Means}
-use Rattle.pm_record.specs.declared.fault.RedoFault.{RedoFault}
+use Rattle.pm_query.specs.{pm_disk.Files.Files, pm_record.{Pair.Means, declared.fault.RedoFault.RedoFault}, declared.book.BookEntry.BookEntry, History.{count_of, rows_of}, Book.{Base, IsLegal, faults_here, history_of, is_closed}, Durable.{HoldsAcknowledged, IsDurable}}
 use Rattle.pm_redo.specs.Found.{IsReason}
-use Rattle.pm_query.specs.declared.book.BookEntry.{BookEntry}
-use Rattle.pm_query.specs.History.{count_of, rows_of}
-use Rattle.pm_query.specs.Book.{Base, IsLegal, faults_here, history_of, is_closed}
-use Rattle.pm_query.specs.Durable.{HoldsAcknowledged, IsDurable}
-use Rattle.pm_segment.specs.declared.live.Live.{Live}
-use Rattle.pm_segment.specs.Fronts.{whole_of}
-use Rattle.pm_segment.specs.Moment.{Moment}
-use Rattle.pm_segment.specs.Redos.{IsCleanAt, SaysNothing}
-use Rattle.pm_segment.specs.Stands.{Origin}
+use Rattle.pm_segment.specs.{declared.live.Live.Live, Fronts.whole_of, Moment.Moment, Redos.{IsCleanAt, SaysNothing}, Stands.Origin}
 
 -- The book is legal from its base. After a redo of this generation the rows are those of all its commits, and so many were
 -- taken while the disk hasn't failed.

@@ -1,22 +1,7 @@
 -- What a store keeps of its book and its disk, from the moment at which it got them.
-use Rattle.std.specs.Prelude.{◌≡◌, ◌⊎◌, ℕ, ◌+◌, ◌-◌, ◌≤◌, true, false, List, [], ◌∷◌, drop, All, Option, None, Some, IfSome}
-use Rattle.std.specs.List.{Contains}
-use Rattle.pm_disk.specs.Files.{Files}
-use Rattle.pm_rows.specs.Fold.{RowMap}
-use Rattle.pm_rows.specs.Limits.{max_file_bytes}
-use Rattle.pm_rows.specs.Size.{size_of}
-use Rattle.pm_rows.specs.Standing.{Standing}
-use Rattle.pm_record.specs.Pair.{Means, MeansIn}
-use Rattle.pm_query.specs.declared.book.BookEntry.{BookEntry}
-use Rattle.pm_query.specs.History.{History, beginning, count_of, number, rows_of}
-use Rattle.pm_query.specs.Book.{Base, IsLegal, faults_here, faults_of, generation_of, has_checkpoint, history_of, is_closed, kept_by_redo, last_tick, needs_of, standing_of}
-use Rattle.pm_query.specs.Durable.{HoldsFrom, IsWithin, Keeps, MeansAsOne}
-use Rattle.pm_segment.specs.declared.live.Live.{Live}
-use Rattle.pm_segment.specs.Children.{IsAttendedBy}
-use Rattle.pm_segment.specs.Fronts.{flushed_of, whole_of}
-use Rattle.pm_segment.specs.Moment.{Moment, Told}
-use Rattle.pm_segment.specs.Rests.{RestsAt}
-use Rattle.pm_segment.specs.Unread.{breaks_unread, has_break, has_redo}
+use Rattle.std.specs.{Prelude.{◌≡◌, ◌⊎◌, ℕ, ◌+◌, ◌-◌, ◌≤◌, true, false, List, [], ◌∷◌, drop, All, Option, None, Some, IfSome}, List.Contains}
+use Rattle.pm_query.specs.{pm_disk.Files.Files, pm_rows.{Fold.RowMap, Limits.max_file_bytes, Size.size_of, Standing.Standing}, pm_record.Pair.{Means, MeansIn}, declared.book.BookEntry.BookEntry, History.{History, beginning, count_of, number, rows_of}, Book.{Base, IsLegal, faults_here, faults_of, generation_of, has_checkpoint, history_of, is_closed, kept_by_redo, last_tick, needs_of, standing_of}, Durable.{HoldsFrom, IsWithin, Keeps, MeansAsOne}}
+use Rattle.pm_segment.specs.{declared.live.Live.Live, Children.IsAttendedBy, Fronts.{flushed_of, whole_of}, Moment.{Moment, Told}, Rests.RestsAt, Unread.{breaks_unread, has_break, has_redo}}
 
 -- The disk as the store got it: the files as they read, and its counts of calls and of faults.
 pub record Origin : Type 0 where

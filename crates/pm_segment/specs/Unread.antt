@@ -1,8 +1,6 @@
 -- What was noted before the first redo had ended.
-use Rattle.std.specs.Prelude.{Bool, true, false, List, [], ◌∷◌}
-use Rattle.std.specs.List.{list_any}
-use Rattle.pm_query.specs.declared.book.BookEntry.{BookEntry}
-use Rattle.pm_query.specs.declared.book.BookEntry.TheVariants.{Broke, Redone}
+use Rattle.std.specs.{Prelude.{Bool, true, false, List, [], ◌∷◌}, List.list_any}
+use Rattle.pm_query.specs.declared.book.BookEntry.{BookEntry, TheVariants.{Broke, Redone}}
 
 abbrev pub is_redo : BookEntry → Bool
 is_redo (Redone pid generation kept) = true

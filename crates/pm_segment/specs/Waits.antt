@@ -1,11 +1,9 @@
 -- What is staged, as the log's fields tell it.
 use Rattle.std.specs.Prelude.{◌≡◌, ℕ, ◌≤◌, List, [], ◌∷◌, sum_by, Option, None, Some}
-use Rattle.pm_rows.specs.declared.commit.Change.{Change}
-use Rattle.pm_rows.specs.LogSize as log
-use Rattle.pm_log.specs.Log.{room_of}
+use Rattle.pm_log.specs.{pm_rows.declared.commit.Change.Change, Log.room_of}
+use Rattle.pm_log.specs.pm_rows.LogSize as log
 use Rattle.pm_stage.specs.Stage.{Waiting, front_of}
-use Rattle.pm_segment.specs.declared.live.Live.{Live}
-use Rattle.pm_segment.specs.Fronts.{flushed_of, whole_of}
+use Rattle.pm_segment.specs.{declared.live.Live.Live, Fronts.{flushed_of, whole_of}}
 
 -- the bytes of these commits, each as a batch of its own: no batch of some of them needs more
 abbrev pub needs_alone : List (List Change) → ℕ

@@ -1,9 +1,7 @@
 //! What a script that was run does to the store.
 
 ghost use Rattle.std.specs.Prelude.{◌≡◌, ◌≢◌, ◌+◌, ◌≤◌, [], ◌∷◌, length, Some};
-ghost use Rattle.pm_query.specs.declared.book.BookEntry.TheVariants.{Answered, Broke, LogFull};
-ghost use Rattle.pm_query.specs.declared.store.StoreNo.{StoreNo};
-ghost use Rattle.pm_query.specs.Calls.{NotesStaged};
+ghost use Rattle.pm_query.specs.{declared.{book.BookEntry.TheVariants.{Answered, Broke, LogFull}, store.StoreNo.StoreNo}, Calls.NotesStaged};
 ghost use Rattle.pm_outside.specs.Added.{Added};
 
 use crate::commits::Commits;
@@ -21,13 +19,8 @@ use std::slice;
 
 impl<D: Disk, B: Chronicle<BookEntry>> Segment<D, B> {
     ghost use Rattle.std.specs.Prelude.{◌<◌, ◌-◌, ◌^◌, List, None, Err, IfOk, OnErr, false};
-    ghost use Rattle.pm_query.specs.declared.book.BookEntry.{BookEntry};
-    ghost use Rattle.pm_query.specs.Calls.{with_front, RunNotes, ReachesNoLess};
-    ghost use Rattle.pm_segment.specs.Answers.{IsAnswerOn};
-    ghost use Rattle.pm_segment.specs.Causes.{MakesNoCall, RunCause, staged_behind};
-    ghost use Rattle.pm_segment.specs.Moment.{HasLogOf, disk_of, moment};
-    ghost use Rattle.pm_segment.specs.Moves.{Moves};
-    ghost use Rattle.pm_segment.specs.Passes.{Admits, user_in, view_of};
+    ghost use Rattle.pm_query.specs.{declared.book.BookEntry.BookEntry, Calls.{with_front, RunNotes, ReachesNoLess}};
+    ghost use Rattle.pm_segment.specs.{Answers.IsAnswerOn, Causes.{MakesNoCall, RunCause, staged_behind}, Moment.{HasLogOf, disk_of, moment}, Moves.Moves, Passes.{Admits, user_in, view_of}};
 
     // Answers a script that commits nothing.
     pub(crate) fn read(&mut self, pass: &mut Pass, live: Live, ran: Ran) -> Staged

@@ -14,13 +14,8 @@ const ALONE: u64 = 9;
 
 impl<D: Disk, B: Chronicle<BookEntry>> Segment<D, B> {
     ghost use Rattle.std.specs.Prelude.{◌≡◌, ◌⊎◌, ◌+◌, ◌-◌, ◌≤◌, [], length, List, Some, None, IfOk, OnOk, true};
-    ghost use Rattle.pm_query.specs.declared.book.BookEntry.{BookEntry};
-    ghost use Rattle.pm_query.specs.Calls.{CheckpointNotes, due_bytes};
-    ghost use Rattle.pm_segment.specs.Flushes.{BatchCause, BatchNotes, FlushesAll, WritesNothing};
-    ghost use Rattle.pm_segment.specs.Moment.{HasDiskOf, HasLogOf, moment};
-    ghost use Rattle.pm_segment.specs.Moves.{Moves};
-    ghost use Rattle.pm_segment.specs.Passes.{Admits, user_in};
-    ghost use Rattle.pm_segment.specs.Redos.{CheckpointCause, FullAtLast, MadeAfresh, MakesCalls};
+    ghost use Rattle.pm_query.specs.{declared.book.BookEntry.BookEntry, Calls.{CheckpointNotes, due_bytes}};
+    ghost use Rattle.pm_segment.specs.{Flushes.{BatchCause, BatchNotes, FlushesAll, WritesNothing}, Moment.{HasDiskOf, HasLogOf, moment}, Moves.Moves, Passes.{Admits, user_in}, Redos.{CheckpointCause, FullAtLast, MadeAfresh, MakesCalls}};
 
     // Appends the oldest of what is staged, as one batch, and answers the log after it.
     pub(crate) fn write_batch(&mut self, pass: &Pass, live: Live) -> Result<Live, StoreNo>

@@ -9,11 +9,7 @@ use pm_query::BookEntry;
 impl<D: Disk, B: Chronicle<BookEntry>> Segment<D, B> {
     ghost use Rattle.std.specs.Prelude.{◌≡◌, ◌+◌, [], length, IfSome};
     ghost use Rattle.pm_query.specs.Book.{Base};
-    ghost use Rattle.pm_segment.specs.Fronts.{flushed_of, whole_of};
-    ghost use Rattle.pm_segment.specs.Moment.{Told, moment};
-    ghost use Rattle.pm_segment.specs.Runs.{CanBeRead, IsReplay, IsRun, LeavesAcknowledged, StaysClean};
-    ghost use Rattle.pm_segment.specs.Waits.{needs_alone};
-    ghost use Rattle.pm_segment.specs.Stands.{GoesFrom, IsSure, Origin};
+    ghost use Rattle.pm_segment.specs.{Fronts.{flushed_of, whole_of}, Moment.{Told, moment}, Runs.{CanBeRead, IsReplay, IsRun, LeavesAcknowledged, StaysClean}, Waits.needs_alone, Stands.{GoesFrom, IsSure, Origin}};
 
     /// The law of a store after its first redo, in whichever generation. Where book and disk tell, and in the first
     /// generation wherever the book tells, the book is legal from its base; after a redo of the generation rows and log

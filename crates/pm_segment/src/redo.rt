@@ -15,13 +15,8 @@ use pm_stage::Stage;
 
 impl<D: Disk, B: Chronicle<BookEntry>> Segment<D, B> {
     ghost use Rattle.std.specs.Prelude.{◌≡◌, ◌⊎◌, ◌+◌, ◌-◌, ◌≤◌, [], length, List, Some, None, OnOk, true, false};
-    ghost use Rattle.pm_query.specs.declared.book.BookEntry.{BookEntry};
-    ghost use Rattle.pm_query.specs.declared.store.StoreNo.{StoreNo};
-    ghost use Rattle.pm_query.specs.Calls.{CheckpointNotes, RedoNotes, due_bytes};
-    ghost use Rattle.pm_segment.specs.Moment.{HasDiskOf, moment};
-    ghost use Rattle.pm_segment.specs.Moves.{Moves};
-    ghost use Rattle.pm_segment.specs.Passes.{Admits, user_in};
-    ghost use Rattle.pm_segment.specs.Redos.{CheckpointCause, FullAtLast, GoesOnAsFound, HasReason, IsRead, LeavesFiles, LeavesUnread, MadeAfresh, MakesCalls};
+    ghost use Rattle.pm_query.specs.{declared.{book.BookEntry.BookEntry, store.StoreNo.StoreNo}, Calls.{CheckpointNotes, RedoNotes, due_bytes}};
+    ghost use Rattle.pm_segment.specs.{Moment.{HasDiskOf, moment}, Moves.Moves, Passes.{Admits, user_in}, Redos.{CheckpointCause, FullAtLast, GoesOnAsFound, HasReason, IsRead, LeavesFiles, LeavesUnread, MadeAfresh, MakesCalls}};
 
     // Reads the log for the first time in this generation.
     pub(crate) fn read_log(&mut self, pass: &Pass) -> Result<u64, StoreNo>

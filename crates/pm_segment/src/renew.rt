@@ -16,9 +16,7 @@ use std::alloc::AllocError;
 impl<D: Disk, B: Chronicle<BookEntry>> Segment<D, B> {
     ghost use Rattle.std.specs.Prelude.{◌++◌, ◌∷◌, [], ℕ, List, OnOk, OnErr};
     ghost use Rattle.pm_query.specs.declared.book.BookEntry.TheVariants.{Opened};
-    ghost use Rattle.pm_segment.specs.Children.{AreOthers};
-    ghost use Rattle.pm_segment.specs.Moment.{book_of, disk_of, moment};
-    ghost use Rattle.pm_segment.specs.Moves.{IsAsBefore, Renews};
+    ghost use Rattle.pm_segment.specs.{Children.AreOthers, Moment.{book_of, disk_of, moment}, Moves.{IsAsBefore, Renews}};
 
     /// Begins the next generation: the children named are gone, and so is every other one that is still inside. Its rows
     /// are those of no commit, nothing is staged, and its log isn't read, until its redo. Where memory is short nothing has changed.

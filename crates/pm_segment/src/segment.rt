@@ -5,14 +5,8 @@
 //! and its entries are noted after it, so that each call of the disk has its entry.
 
 ghost use Rattle.std.specs.Prelude.{◌≡◌, ◌≤◌, [], length};
-ghost use Rattle.pm_rows.specs.Limits.{IsWithinRowLimits};
-ghost use Rattle.pm_query.specs.Limits.{HasShortRows};
-ghost use Rattle.pm_query.specs.BookLaws.{AckedNeverFalls};
-ghost use Rattle.pm_query.specs.TickLaws.{PastStays, PresentIsWhole};
-ghost use Rattle.pm_segment.specs.Rests.{Rests};
-ghost use Rattle.pm_segment.specs.Waits.{IsBehind};
-ghost use Rattle.pm_segment.specs.declared.commits.Commits.{Commits};
-ghost use Rattle.pm_segment.specs.declared.commits.Commits.TheVariants.{AtOnce};
+ghost use Rattle.pm_query.specs.{pm_rows.Limits.IsWithinRowLimits, Limits.HasShortRows, BookLaws.AckedNeverFalls, TickLaws.{PastStays, PresentIsWhole}};
+ghost use Rattle.pm_segment.specs.{Rests.Rests, Waits.IsBehind, declared.commits.Commits.{Commits, TheVariants.AtOnce}};
 
 use crate::children::Children;
 use crate::commits::Commits;
@@ -70,10 +64,8 @@ pub type Sole<D, B> = Segment<D, B>;
 impl<D: Disk, B: Chronicle<BookEntry>> Segment<D, B> {
     ghost use Rattle.std.specs.Prelude.{[], ◌∷◌, Some, IfOk, IfErr};
     ghost use Rattle.pm_query.specs.declared.book.BookEntry.{BookEntry};
-    ghost use Rattle.pm_segment.specs.Moment.{book_of, disk_of, moment};
+    ghost use Rattle.pm_segment.specs.{Moment.{book_of, disk_of, moment}, Redos.is_broken, Stands.WaitsFrom};
     ghost use Rattle.pm_outside.specs.Added.{Added};
-    ghost use Rattle.pm_segment.specs.Redos.{is_broken};
-    ghost use Rattle.pm_segment.specs.Stands.{WaitsFrom};
 
     /// A store in its first generation, which has no rows before its redo. Where memory is short disk and book come back.
     pub fn new(alloc: Global, commits: Commits, disk: D, book: B) -> Result<Segment<D, B>, (D, B)>
@@ -154,19 +146,9 @@ impl<D: Disk, B: Chronicle<BookEntry>> Segment<D, B> {
 }
 
 impl<D: Disk, B: Chronicle<BookEntry>> Store for Segment<D, B> {
-    ghost use Rattle.std.proofs.Common.{Some, ap};
-    ghost use Rattle.std.specs.Prelude.{◌≡◌, ◌⊎◌, ◌∷◌, [], All, List, IfOk, OnOk, OnErr};
-    ghost use Rattle.pm_query.specs.declared.book.BookEntry.{BookEntry};
-    ghost use Rattle.pm_query.specs.declared.store.StoreNo.{StoreNo};
-    ghost use Rattle.pm_query.specs.Calls.{CheckpointNotes, EnterNotes, FlushNotes, HasReached, IsPast, LeaveNotes, MetAnother, MetLater, ReachesNoLess, RedoNotes, RunNotes, SeenNotes, new_pass, newcomer, with_front};
-    ghost use Rattle.pm_query.specs.Limits.{HasShortValues};
-    ghost use Rattle.pm_segment.specs.Causes.{MakesNoCall, RunCause, SeenCause, staged_behind};
-    ghost use Rattle.pm_segment.specs.Flushes.{FlushCause, FlushesAll, WritesNothing};
-    ghost use Rattle.pm_segment.specs.Moment.{HasDiskOf, HasLogOf, disk_of, moment};
-    ghost use Rattle.pm_segment.specs.Moves.{Moves};
-    ghost use Rattle.pm_segment.specs.MovesLaws.{moves_none, moves_on, never_falls};
-    ghost use Rattle.pm_segment.specs.Passes.{Admits, user_in, view_of};
-    ghost use Rattle.pm_segment.specs.Redos.{CheckpointCause, FullAtLast, GoesOnAsFound, HasReason, IsRead, LeavesFiles, LeavesUnread, MadeAfresh, MakesCalls};
+    ghost use Rattle.std.{proofs.Common.{Some, ap}, specs.Prelude.{◌≡◌, ◌⊎◌, ◌∷◌, [], All, List, IfOk, OnOk, OnErr}};
+    ghost use Rattle.pm_query.specs.{declared.{book.BookEntry.BookEntry, store.StoreNo.StoreNo}, Calls.{CheckpointNotes, EnterNotes, FlushNotes, HasReached, IsPast, LeaveNotes, MetAnother, MetLater, ReachesNoLess, RedoNotes, RunNotes, SeenNotes, new_pass, newcomer, with_front}, Limits.HasShortValues};
+    ghost use Rattle.pm_segment.specs.{Causes.{MakesNoCall, RunCause, SeenCause, staged_behind}, Flushes.{FlushCause, FlushesAll, WritesNothing}, Moment.{HasDiskOf, HasLogOf, disk_of, moment}, Moves.Moves, MovesLaws.{moves_none, moves_on, never_falls}, Passes.{Admits, user_in, view_of}, Redos.{CheckpointCause, FullAtLast, GoesOnAsFound, HasReason, IsRead, LeavesFiles, LeavesUnread, MadeAfresh, MakesCalls}};
 
     type Pass = Pass;
 
@@ -399,11 +381,8 @@ impl<D: Disk, B: Chronicle<BookEntry>> Store for Segment<D, B> {
 
 impl<D: Disk, B: Chronicle<BookEntry>> Segment<D, B> {
     ghost use Rattle.std.specs.Prelude.{◌+◌, ◌≤◌, ◌∷◌, [], length, Some};
-    ghost use Rattle.pm_query.specs.declared.book.BookEntry.{BookEntry};
-    ghost use Rattle.pm_query.specs.declared.store.StoreNo.{StoreNo};
-    ghost use Rattle.pm_segment.specs.Moment.{HasLogOf, moment};
-    ghost use Rattle.pm_segment.specs.Moves.{Moves};
-    ghost use Rattle.pm_segment.specs.Passes.{Admits};
+    ghost use Rattle.pm_query.specs.declared.{book.BookEntry.BookEntry, store.StoreNo.StoreNo};
+    ghost use Rattle.pm_segment.specs.{Moment.{HasLogOf, moment}, Moves.Moves, Passes.Admits};
 
     // Tells the fault again that broke the log, under this child.
     fn broken(&mut self, pass: &Pass, live: Live, since: u64) -> StoreNo

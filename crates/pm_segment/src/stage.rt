@@ -15,13 +15,8 @@ use std::slice;
 
 impl<D: Disk, B: Chronicle<BookEntry>> Segment<D, B> {
     ghost use Rattle.std.specs.Prelude.{◌≡◌, ◌≢◌, ◌+◌, ◌<◌, ◌≤◌, ◌^◌, [], length, List, Some, None, IfOk, OnErr, false};
-    ghost use Rattle.pm_query.specs.declared.book.BookEntry.{BookEntry};
-    ghost use Rattle.pm_query.specs.Calls.{with_front, RunNotes, ReachesNoLess};
-    ghost use Rattle.pm_segment.specs.Answers.{IsAnswerOn};
-    ghost use Rattle.pm_segment.specs.Causes.{MakesNoCall, RunCause, staged_behind};
-    ghost use Rattle.pm_segment.specs.Moment.{HasLogOf, disk_of, moment};
-    ghost use Rattle.pm_segment.specs.Moves.{Moves};
-    ghost use Rattle.pm_segment.specs.Passes.{Admits, user_in, view_of};
+    ghost use Rattle.pm_query.specs.{declared.book.BookEntry.BookEntry, Calls.{with_front, RunNotes, ReachesNoLess}};
+    ghost use Rattle.pm_segment.specs.{Answers.IsAnswerOn, Causes.{MakesNoCall, RunCause, staged_behind}, Moment.{HasLogOf, disk_of, moment}, Moves.Moves, Passes.{Admits, user_in, view_of}};
 
     // Stages a commit, and answers. What is staged has room in the log, so that no flush finds it full.
     pub(crate) fn stage(&mut self, pass: &mut Pass, live: Live, ran: Ran) -> Result<Staged, StoreNo>

@@ -1,14 +1,6 @@
 -- What holds of a book by those who noted its entries: the tokens, and the shared side.
-use Rattle.std.proofs.Common.{◌≡◌, ◌≢◌, inl, inr, ℕ, ◌+◌, ◌<◌, ◌≤◌, Bool, true, false, List, [], ◌∷◌, ◌++◌, length, refl, sym, ap, subst, ◌∙◌, arith}
-use Rattle.std.specs.Prelude.{cond, nat_eq, ◌&&◌, ◌==◌}
-use Rattle.std.specs.List.{AllByRecursion}
-use Rattle.pm_answers.specs.Own.{entries_by, is_by}
-use Rattle.pm_chain.specs.Chain.{AttachOnce, InGeneration, IsAmong, attached_of, gone_from, kept_of, opened_of, redos_of}
-use Rattle.pm_query.specs.declared.book.BookEntry.{BookEntry}
-use Rattle.pm_query.specs.declared.book.BookEntry.TheVariants.{Opened, Attached, Redone, Gone}
-use Rattle.pm_shared.specs.declared.views.Noted.{Noted}
-use Rattle.pm_shared.specs.Log.{AllBelow, Line, book_of, entries_of, is_own, noted as noted_at, placed, placed_rest}
-use Rattle.pm_crew.specs.OpenedLaws.{opened_rest}
+use Rattle.std.{proofs.Common.{◌≡◌, ◌≢◌, inl, inr, ℕ, ◌+◌, ◌<◌, ◌≤◌, Bool, true, false, List, [], ◌∷◌, ◌++◌, length, refl, sym, ap, subst, ◌∙◌, arith}, specs.{Prelude.{cond, nat_eq, ◌&&◌, ◌==◌}, List.AllByRecursion}}
+use Rattle.pm_serve_crew.{specs.{pm_session_answers.Own.{entries_by, is_by}, pm_supervisor_chain.Chain.{AttachOnce, InGeneration, IsAmong, attached_of, gone_from, kept_of, opened_of, redos_of}, pm_query.declared.book.BookEntry.{BookEntry, TheVariants.{Opened, Attached, Redone, Gone}}, pm_store_shared.{declared.views.Noted.Noted, Log.{AllBelow, Line, book_of, entries_of, is_own, noted as noted_at, placed, placed_rest}}}, proofs.OpenedLaws.opened_rest}
 
 -- ---- all entries
 

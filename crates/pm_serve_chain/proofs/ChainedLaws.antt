@@ -1,39 +1,7 @@
 -- Journal and book of a server of many connections are chained.
-use Rattle.std.proofs.Common.{◌≡◌, ◌⊎◌, inl, inr, ℕ, ◌<◌, ◌≤◌, Bool, true, false, List, [], ◌∷◌, ◌++◌, refl, sym, ap, subst, ◌∙◌, arith, nat_lt}
-use Rattle.std.specs.Prelude.{map, ◌==◌}
-use Rattle.std.specs.List.{AllByRecursion, flat_map}
-use Rattle.std.proofs.lemmas.Grind.{flat_map-append}
-use Rattle.std.proofs.lemmas.List.{get_or_past}
-use Rattle.pm_facts.specs.Lists.{each_both, each_first, each_second}
-use Rattle.pm_board.specs.declared.views.PastChild.{PastChild}
-use Rattle.pm_board.specs.declared.views.RosterView.{RosterView}
-use Rattle.pm_board.specs.declared.views.Sight.TheVariants.{Unused}
-use Rattle.pm_board.specs.declared.views.SlotView.{SlotView}
-use Rattle.pm_board.specs.Places.{slot_at, slot_view}
-use Rattle.pm_chain.specs.Chain.{AgreeOnGenerations, AreDistinct, InGeneration, IsAmong, IsPidOf, exits_of, gone_from, attached_of, kept_of, lost_from, redo_ends_of, redos_of, resets_of, users_from}
-use Rattle.pm_chain.specs.FoldsLaws.{pid_left, pid_right}
-use Rattle.pm_crew.specs.EntriesLaws.{entries_at, entries_of_runs, its_list, runs_use, worked}
-use Rattle.pm_crew.specs.Left.{AreLeft, IsWorked, Manner}
-use Rattle.pm_crew.specs.Pids.{AreUsedOnce, pids_at}
-use Rattle.pm_crew.specs.Redos.{AreRedosOf, RedosAreThose, redo_told}
-use Rattle.pm_crew.specs.Uses.{UsesStore}
-use Rattle.pm_crew.specs.Renewals.{EachBeginsSo, RenewsAsTold}
-use Rattle.pm_query.specs.declared.book.BookEntry.{BookEntry}
-use Rattle.pm_query.specs.declared.book.BookEntry.TheVariants.{Attached, Redone}
-use Rattle.pm_seating.specs.Board.{begun_of, ended_of}
-use Rattle.pm_seating.specs.Chained.{IsChainedLoosely, LostAreGone}
-use Rattle.pm_seating.specs.Seating.{Begun, Ended, Move, begun_at, empty, ended_at, journal_of}
-use Rattle.pm_seating.specs.Standing.{AreClosing, IsBoardOf}
-use Rattle.pm_shared.specs.declared.views.Noted.{Noted}
-use Rattle.pm_shared.specs.Log.{entries_of, is_own}
-use Rattle.pm_state.specs.declared.event.PmEvent.{PmEvent}
-use Rattle.pm_supervisor.specs.Children.{is_dead_end}
-use Rattle.pm_worker.specs.declared.mail.MailTold.{MailTold}
-use Rattle.pm_worker.specs.Runs.{noted_by}
-use Rattle.pm_chained.specs.BookLaws.{AttachedOnce, OfRedo, OfUser, all_entries, all_redos, all_users, attach_once, gone_own, opened_own}
-use Rattle.pm_chained.specs.JournalLaws.{ExitOnce, MayUse, all_ends, each_so, ends_among, exit_in, exits_once, lost_once, may_use, pids_of}
-use Rattle.pm_chained.specs.RunsLaws.{HasEnd, IsIn, IsToldIn, IsUser, all_in, all_run_ends, all_run_redos, all_run_users}
-use Rattle.pm_chained.specs.OnceLaws.{apart_joined, split}
+use Rattle.std.{proofs.{Common.{◌≡◌, ◌⊎◌, inl, inr, ℕ, ◌<◌, ◌≤◌, Bool, true, false, List, [], ◌∷◌, ◌++◌, refl, sym, ap, subst, ◌∙◌, arith, nat_lt}, lemmas.{Grind.flat_map-append, List.get_or_past}}, specs.{Prelude.{map, ◌==◌}, List.{AllByRecursion, flat_map}}}
+use Rattle.pm_serve_crew.{specs.{pm_facts.Lists.{each_both, each_first, each_second}, pm_board.{declared.views.{PastChild.PastChild, RosterView.RosterView, Sight.TheVariants.Unused, SlotView.SlotView}, Places.{slot_at, slot_view}}, pm_supervisor_chain.Chain.{AgreeOnGenerations, AreDistinct, InGeneration, IsAmong, IsPidOf, exits_of, gone_from, attached_of, kept_of, lost_from, redo_ends_of, redos_of, resets_of, users_from}, Left.{AreLeft, IsWorked, Manner}, Pids.{AreUsedOnce, pids_at}, Redos.{AreRedosOf, RedosAreThose, redo_told}, Uses.UsesStore, Renewals.{EachBeginsSo, RenewsAsTold}, pm_query.declared.book.BookEntry.{BookEntry, TheVariants.{Attached, Redone}}, pm_board_acts.{Board.{begun_of, ended_of}, Chained.{IsChainedLoosely, LostAreGone}, Seating.{Begun, Ended, Move, begun_at, empty, ended_at, journal_of}, Standing.{AreClosing, IsBoardOf}}, pm_store_shared.{declared.views.Noted.Noted, Log.{entries_of, is_own}}, pm_state.declared.event.PmEvent.PmEvent, pm_supervisor.Children.is_dead_end, pm_worker.{declared.mail.MailTold.MailTold, Runs.noted_by}}, proofs.{pm_supervisor_chain.FoldsLaws.{pid_left, pid_right}, EntriesLaws.{entries_at, entries_of_runs, its_list, runs_use, worked}}}
+use Rattle.pm_serve_chain.proofs.{BookLaws.{AttachedOnce, OfRedo, OfUser, all_entries, all_redos, all_users, attach_once, gone_own, opened_own}, JournalLaws.{ExitOnce, MayUse, all_ends, each_so, ends_among, exit_in, exits_once, lost_once, may_use, pids_of}, RunsLaws.{HasEnd, IsIn, IsToldIn, IsUser, all_in, all_run_ends, all_run_redos, all_run_users}, OnceLaws.{apart_joined, split}}
 
 -- ---- whom the supervisor gave up
 

@@ -1,20 +1,10 @@
 -- What holds of a journal by its moves, slot by slot.
-use Rattle.std.proofs.Common.{◌≡◌, ◌≢◌, inl, inr, ℕ, Bool, true, false, List, [], ◌∷◌, ◌++◌, refl, sym, subst, arith, append_assoc}
-use Rattle.std.specs.Prelude.{◌==◌, if◌then◌else◌, map}
-use Rattle.std.specs.List.{AllByRecursion}
-use Rattle.std.proofs.lemmas.Bool.{eq-eqb}
-use Rattle.pm_facts.specs.Lists.{each_both, each_second}
-use Rattle.pm_admit.specs.declared.Cac.TheVariants as decisions
-use Rattle.pm_chain.specs.Chain.{AreDistinct, InGeneration, IsAmong, IsPidOf, exits_of, lost_from, redo_ends_of, users_from}
-use Rattle.pm_modes.specs.declared.Mode.{Mode}
-use Rattle.pm_modes.specs.declared.Mode.TheVariants as mode
-use Rattle.pm_crew.specs.Redos.{redo_ends_at, redo_ends_by}
-use Rattle.pm_state.specs.declared.event.PmEvent.{PmEvent}
-use Rattle.pm_state.specs.declared.event.PmEvent.TheVariants as entry
-use Rattle.pm_seating.specs.Seating.{Begun, Ended, Kill, Move, Nothing, Notes, PidsEnd, PortEnds, Reads, Seating, Stop, begins, begun_by, begun_from, ended_at, ended_by, entries_by, entries_from, is_seated, seating_by}
-use Rattle.pm_supervisor.specs.Children.{is_dead_end}
-use Rattle.pm_crew.specs.PidsLaws.{differs}
-use Rattle.pm_chained.specs.OnceLaws.{AreSplit, never, split, without_one}
+use Rattle.std.{proofs.{Common.{◌≡◌, ◌≢◌, inl, inr, ℕ, Bool, true, false, List, [], ◌∷◌, ◌++◌, refl, sym, subst, arith, append_assoc}, lemmas.Bool.eq-eqb}, specs.{Prelude.{◌==◌, if◌then◌else◌, map}, List.AllByRecursion}}
+use Rattle.pm_serve_crew.{specs.{pm_facts.Lists.{each_both, each_second}, pm_supervisor_chain.Chain.{AreDistinct, InGeneration, IsAmong, IsPidOf, exits_of, lost_from, redo_ends_of, users_from}, pm_modes.declared.Mode.Mode, Redos.{redo_ends_at, redo_ends_by}, pm_state.declared.event.PmEvent.PmEvent, pm_board_acts.Seating.{Begun, Ended, Kill, Move, Nothing, Notes, PidsEnd, PortEnds, Reads, Seating, Stop, begins, begun_by, begun_from, ended_at, ended_by, entries_by, entries_from, is_seated, seating_by}, pm_supervisor.Children.is_dead_end}, proofs.PidsLaws.differs}
+use Rattle.pm_serve_crew.specs.pm_admit.declared.Cac.TheVariants as decisions
+use Rattle.pm_serve_crew.specs.pm_modes.declared.Mode.TheVariants as mode
+use Rattle.pm_serve_crew.specs.pm_state.declared.event.PmEvent.TheVariants as entry
+use Rattle.pm_serve_chain.proofs.OnceLaws.{AreSplit, never, split, without_one}
 
 module _ {X : Type 0} (P : X → Type 0) where
   pub each_so : (Q : X → Type 0) → ((x : X) → P x → Q x) → (xs : List X) → AllByRecursion P xs → AllByRecursion Q xs

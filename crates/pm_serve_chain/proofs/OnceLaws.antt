@@ -1,13 +1,6 @@
 -- Lists of pids, each once.
-use Rattle.std.proofs.Common.{◌≡◌, ◌≢◌, ◌⊎◌, inl, inr, ℕ, ◌≤◌, Bool, true, false, List, [], ◌∷◌, ◌++◌, refl, ap, subst, arith}
-use Rattle.std.specs.Prelude.{cond, nat_eq}
-use Rattle.std.specs.List.{AllByRecursion}
-use Rattle.std.proofs.lemmas.List.Sums.{sum_by-cons}
-use Rattle.pm_chain.specs.Chain.{AreDistinct, IsPidOf}
-use Rattle.pm_chain.specs.FoldsLaws.{pid_left, pid_right}
-use Rattle.pm_crew.specs.PidsLaws.{differs}
-use Rattle.pm_segment.specs.Children.{once, times_in}
-use Rattle.pm_shared.specs.Renewed.{AreApart}
+use Rattle.std.{proofs.{Common.{◌≡◌, ◌≢◌, ◌⊎◌, inl, inr, ℕ, ◌≤◌, Bool, true, false, List, [], ◌∷◌, ◌++◌, refl, ap, subst, arith}, lemmas.List.Sums.sum_by-cons}, specs.{Prelude.{cond, nat_eq}, List.AllByRecursion}}
+use Rattle.pm_serve_crew.{specs.{pm_supervisor_chain.Chain.{AreDistinct, IsPidOf}, pm_segment.Children.{once, times_in}, pm_store_shared.Renewed.AreApart}, proofs.{pm_supervisor_chain.FoldsLaws.{pid_left, pid_right}, PidsLaws.differs}}
 
 pub never : (pid : ℕ) (pids : List ℕ) → AllByRecursion (λ other. pid ≢ other) pids → IsPidOf pid pids → ⊥
 never pid [] differ there = there

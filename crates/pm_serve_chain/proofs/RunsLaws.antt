@@ -1,21 +1,7 @@
 -- What the runs of one slot are to the chain: whom they let into the store, and which redos they noted.
-use Rattle.std.proofs.Common.{◌≡◌, ◌⊎◌, inl, inr, ℕ, List, [], ◌∷◌, length, refl, sym, ap, subst, ◌∙◌, arith}
-use Rattle.std.specs.Prelude.{map}
-use Rattle.std.specs.List.{AllByRecursion, flat_map}
-use Rattle.pm_facts.specs.Lists.{each_both}
-use Rattle.pm_answers.specs.Own.{entries_by}
-use Rattle.pm_board.specs.declared.views.PastChild.{PastChild}
-use Rattle.pm_chain.specs.Chain.{InGeneration, IsAmong, IsPidOf, attached_of, kept_of, redos_of}
-use Rattle.pm_crew.specs.Pids.{AreEntriesOf}
-use Rattle.pm_crew.specs.Redos.{redo_told}
-use Rattle.pm_crew.specs.Uses.{HasUsed, IsWorkOf, UsesStore}
-use Rattle.pm_query.specs.declared.book.BookEntry.{BookEntry}
-use Rattle.pm_query.specs.declared.book.BookEntry.TheVariants.{Attached, Redone}
-use Rattle.pm_seating.specs.Board.{begun_of}
-use Rattle.pm_worker.specs.declared.mail.MailTold.{MailTold}
-use Rattle.pm_worker.specs.Runs.{Run, noted_by}
-use Rattle.pm_chained.specs.BookLaws.{AttachedOnce, OfRedo, OfUser, redos_by}
-use Rattle.pm_chained.specs.JournalLaws.{MayUse, each_so}
+use Rattle.std.{proofs.Common.{◌≡◌, ◌⊎◌, inl, inr, ℕ, List, [], ◌∷◌, length, refl, sym, ap, subst, ◌∙◌, arith}, specs.{Prelude.map, List.{AllByRecursion, flat_map}}}
+use Rattle.pm_serve_crew.specs.{pm_facts.Lists.each_both, pm_session_answers.Own.entries_by, pm_board.declared.views.PastChild.PastChild, pm_supervisor_chain.Chain.{InGeneration, IsAmong, IsPidOf, attached_of, kept_of, redos_of}, Pids.AreEntriesOf, Redos.redo_told, Uses.{HasUsed, IsWorkOf, UsesStore}, pm_query.declared.book.BookEntry.{BookEntry, TheVariants.{Attached, Redone}}, pm_board_acts.Board.begun_of, pm_worker.{declared.mail.MailTold.MailTold, Runs.{Run, noted_by}}}
+use Rattle.pm_serve_chain.proofs.{BookLaws.{AttachedOnce, OfRedo, OfUser, redos_by}, JournalLaws.{MayUse, each_so}}
 
 -- the facts of a run beside the chain: it may use the store, and its entries in the book are those that it noted
 pub record IsIn (users : List InGeneration) (book : List BookEntry) (run : Run) : Type 0 where

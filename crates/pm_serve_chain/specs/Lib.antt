@@ -1,5 +1,0 @@
-pub mod OnceLaws
-pub mod BookLaws
-pub mod JournalLaws
-pub mod RunsLaws
-pub mod ChainedLaws

@@ -1,17 +1,8 @@
 -- What a legal book tells of its last generation.
-use Rattle.std.proofs.Common.{◌≡◌, ◌⊎◌, inl, inr, ℕ, ◌+◌, ◌-◌, ◌≤◌, Bool, true, false, ◌&&◌, cond, fold, length, Option, None, Some, List, [], ◌∷◌, ◌++◌, refl, sym, ap, subst, ◌∙◌, arith, append_assoc, append-nil}
-use Rattle.std.specs.Prelude.{is_some, nat_eq}
-use Rattle.std.specs.List.{AllByRecursion, list_any}
-use Rattle.std.proofs.lemmas.List.Sums.{fold-append}
-use Rattle.pm_facts.specs.Lists.{each_more}
-use Rattle.pm_query.specs.declared.book.BookEntry.{BookEntry}
-use Rattle.pm_query.specs.declared.book.BookEntry.TheVariants.{Opened, Redone, Attached, Answered, Released, Detached, Gone, CheckpointEnded, Broke, LogFull}
-use Rattle.pm_query.specs.Book.{Base, IsLegal, KeepsNumber, MayFollow, MayGoOn, ends_checkpoint, ends_cleanly, fault_here, faults_here, generation_after, generation_of, history_of, is_closed, kept_after, kept_by_redo, present, present_after, times_after, times_attached}
-use Rattle.pm_query.specs.HistoryLaws.{generation_push, present_push, redone_push, times_push, generations_rise}
-use Rattle.pm_chain.specs.Chain.{opened_of}
-use Rattle.pm_segment.specs.Unread.{is_break}
-use Rattle.pm_server.specs.Story.{IsNoOpening}
-use Rattle.pm_clean_end.specs.Among.{IsIn, in_back, in_either, in_front, of_all, to_any}
+use Rattle.std.{proofs.{Common.{◌≡◌, ◌⊎◌, inl, inr, ℕ, ◌+◌, ◌-◌, ◌≤◌, Bool, true, false, ◌&&◌, cond, fold, length, Option, None, Some, List, [], ◌∷◌, ◌++◌, refl, sym, ap, subst, ◌∙◌, arith, append_assoc, append-nil}, lemmas.List.Sums.fold-append}, specs.{Prelude.{is_some, nat_eq}, List.{AllByRecursion, list_any}}}
+use Rattle.pm_serve_crew.specs.{pm_facts.Lists.each_more, pm_query.{declared.book.BookEntry.{BookEntry, TheVariants.{Opened, Redone, Attached, Answered, Released, Detached, Gone, CheckpointEnded, Broke, LogFull}}, Book.{Base, IsLegal, KeepsNumber, MayFollow, MayGoOn, ends_checkpoint, ends_cleanly, fault_here, faults_here, generation_after, generation_of, history_of, is_closed, kept_after, kept_by_redo, present, present_after, times_after, times_attached}}, pm_supervisor_chain.Chain.opened_of, pm_segment.Unread.is_break}
+use Rattle.pm_store_remains.{proofs.pm_query.HistoryLaws.{generation_push, present_push, redone_push, times_push, generations_rise}, specs.pm_server.Story.IsNoOpening}
+use Rattle.pm_serve_clean_end.specs.Among.{IsIn, in_back, in_either, in_front, of_all, to_any}
 
 -- ---- generations
 

@@ -1,23 +1,11 @@
 -- Who began in the last generation of a journal, and that each of them has ended.
-use Rattle.std.proofs.Common.{◌≡◌, ◌⊎◌, inl, inr, ℕ, ◌+◌, ◌≤◌, Bool, true, false, cond, fold, length, map, List, [], ◌∷◌, ◌++◌, refl, sym, ap, subst, ◌∙◌, arith, append_assoc, append-nil}
-use Rattle.std.specs.Prelude.{is_none, nat_eq}
-use Rattle.std.specs.List.{AllByRecursion}
-use Rattle.pm_exit.specs.declared.child.Kind.{Kind}
-use Rattle.pm_exit.specs.declared.child.Status.{Status}
-use Rattle.pm_supervisor.specs.Children.{Child, without}
-use Rattle.pm_supervisor.specs.Steps.{shared_after}
-use Rattle.pm_supervisor.specs.Steps as supervisor
-use Rattle.pm_supervisor.specs.Supervisor.{Shared}
-use Rattle.pm_state.specs.declared.action.Action.{Action}
-use Rattle.pm_state.specs.declared.action.Action.TheVariants as act
-use Rattle.pm_state.specs.declared.event.PmEvent.{PmEvent}
-use Rattle.pm_state.specs.declared.event.PmEvent.TheVariants as entry
-use Rattle.pm_state.specs.Journal.{AreLegal, Do, Due, EndRedo, Fits, FitsFirst, Follows, FollowsIn, Replay, all_replayed, replayed}
-use Rattle.pm_state.specs.ReplayLaws.{legal_behind, legal_front, replayed_append}
-use Rattle.pm_chain.specs.Chain.{resets_of}
-use Rattle.pm_seating.specs.Seating.{Begun, begins}
-use Rattle.pm_clean_end.specs.Among.{IsIn, in_back, in_either, in_front}
-use Rattle.pm_clean_end.specs.Latest.{latest, latest_after}
+use Rattle.std.{proofs.Common.{◌≡◌, ◌⊎◌, inl, inr, ℕ, ◌+◌, ◌≤◌, Bool, true, false, cond, fold, length, map, List, [], ◌∷◌, ◌++◌, refl, sym, ap, subst, ◌∙◌, arith, append_assoc, append-nil}, specs.{Prelude.{is_none, nat_eq}, List.AllByRecursion}}
+use Rattle.pm_serve_crew.specs.{pm_exit.declared.child.{Kind.Kind, Status.Status}, pm_supervisor.{Children.{Child, without}, Steps.shared_after, Supervisor.Shared}, pm_state.{declared.{action.Action.Action, event.PmEvent.PmEvent}, Journal.{AreLegal, Do, Due, EndRedo, Fits, FitsFirst, Follows, FollowsIn, Replay, all_replayed, replayed}}, pm_supervisor_chain.Chain.resets_of, pm_board_acts.Seating.{Begun, begins}}
+use Rattle.pm_serve_crew.specs.pm_supervisor.Steps as supervisor
+use Rattle.pm_serve_crew.specs.pm_state.declared.action.Action.TheVariants as act
+use Rattle.pm_serve_crew.specs.pm_state.declared.event.PmEvent.TheVariants as entry
+use Rattle.pm_store_remains.proofs.pm_state.ReplayLaws.{legal_behind, legal_front, replayed_append}
+use Rattle.pm_serve_clean_end.specs.{Among.{IsIn, in_back, in_either, in_front}, Latest.{latest, latest_after}}
 
 -- ---- generations
 

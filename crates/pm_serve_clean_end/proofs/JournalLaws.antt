@@ -1,30 +1,11 @@
 -- What a legal journal tells that ends clean.
-use Rattle.std.proofs.Common.{◌≡◌, ◌≢◌, ℕ, ◌+◌, Bool, true, false, not, ◌&&◌, ◌||◌, fold, List, [], ◌∷◌, ◌++◌, refl, ap, subst, ◌∙◌, arith}
-use Rattle.std.specs.List.{AllByRecursion, list_any}
-use Rattle.std.proofs.lemmas.List.Folds.{list_any-append}
-use Rattle.std.proofs.lemmas.List.Sums.{fold-append}
-use Rattle.pm_exit.specs.declared.child.Kind.TheVariants as kind
-use Rattle.pm_modes.specs.declared.Mode.TheVariants.{Immediate}
-use Rattle.pm_modes.specs.Strength.{strengthen_of}
-use Rattle.pm_supervisor.specs.declared.Ending.TheVariants as ending
-use Rattle.pm_supervisor.specs.declared.Limits.{Limits}
-use Rattle.pm_supervisor.specs.Children.{Child}
-use Rattle.pm_state.specs.declared.action.Action.{Action}
-use Rattle.pm_state.specs.declared.event.PmEvent.{PmEvent}
-use Rattle.pm_state.specs.declared.event.PmEvent.TheVariants as entry
-use Rattle.pm_state.specs.declared.machine.Machine.{Machine}
-use Rattle.pm_state.specs.Laws.{RestartsSafely}
-use Rattle.pm_state.specs.Machine.{Exited, step}
-use Rattle.pm_state.specs.Promises.{has_act}
-use Rattle.pm_state.specs.Requests.{asked_with}
-use Rattle.pm_state.specs.Restarts.{Counts}
-use Rattle.pm_state.specs.Journal.{AreLegal, Follows, IsLegal, MayCome, Replay, all_replayed, caused, dues_after, replay_begun, replayed, reported}
-use Rattle.pm_state.specs.ReplayLaws.{AreCounted, Keeps, acts_behind_redo, acts_in, acts_in_dues, are_counted, first_on, follows_on, rested}
-use Rattle.pm_state.specs.ChildLaws.{is_deserted}
-use Rattle.pm_state.specs.ChildLaws as children
-use Rattle.pm_clean_end.specs.Latest.{latest, latest_after}
-use Rattle.pm_clean_end.specs.Seen.{Seen, checks, harms, is_clean_end, redoes, seen_after, undoes}
-use Rattle.pm_clean_end.specs.MachineLaws.{IsInOrder, accepted_so, act_so, asked_so, begun_so, exited_so, has_nobody, is_clean_act, row_so, settled_so, ticked_so}
+use Rattle.std.{proofs.{Common.{◌≡◌, ◌≢◌, ℕ, Bool, true, false, not, ◌&&◌, ◌||◌, fold, List, [], ◌∷◌, ◌++◌, refl, ap, subst, ◌∙◌, arith}, lemmas.List.{Folds.list_any-append, Sums.fold-append}}, specs.List.{AllByRecursion, list_any}}
+use Rattle.pm_serve_crew.specs.{pm_modes.{declared.Mode.TheVariants.Immediate, Strength.strengthen_of}, pm_supervisor.{declared.Limits.Limits, Children.Child}, pm_state.{declared.{action.Action.Action, event.PmEvent.PmEvent, machine.Machine.Machine}, Laws.RestartsSafely, Machine.{Exited, step}, Promises.has_act, Requests.asked_with, Restarts.Counts, Journal.{AreLegal, Follows, IsLegal, MayCome, Replay, all_replayed, caused, dues_after, replay_begun, replayed, reported}}}
+use Rattle.pm_serve_crew.specs.pm_supervisor.declared.Ending.TheVariants as ending
+use Rattle.pm_serve_crew.specs.pm_state.declared.event.PmEvent.TheVariants as entry
+use Rattle.pm_store_remains.proofs.pm_state.{ReplayLaws.{AreCounted, Keeps, acts_behind_redo, acts_in, acts_in_dues, are_counted, first_on, follows_on, rested}, ChildLaws.is_deserted}
+use Rattle.pm_store_remains.proofs.pm_state.ChildLaws as children
+use Rattle.pm_serve_clean_end.{specs.{Latest.{latest, latest_after}, Seen.{Seen, checks, harms, is_clean_end, redoes, seen_after, undoes}}, proofs.MachineLaws.{IsInOrder, accepted_so, act_so, asked_so, begun_so, exited_so, has_nobody, is_clean_act, row_so, settled_so, ticked_so}}
 
 -- no shutdown that it asks for is an immediate one
 abbrev pub IsMild : PmEvent → Type 0

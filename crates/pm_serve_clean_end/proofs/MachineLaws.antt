@@ -1,38 +1,15 @@
 -- What the machine keeps on the way to a clean end.
-use Rattle.std.proofs.Common.{◌≡◌, ◌≢◌, ℕ, ◌<◌, Bool, true, false, not, ◌&&◌, ◌||◌, List, [], ◌∷◌, refl, sym, subst, arith}
-use Rattle.std.specs.Prelude.{◌==◌, if◌then◌else◌, IsSomeAnd}
-use Rattle.pm_exit.specs.declared.child.Kind.{Kind}
-use Rattle.pm_exit.specs.declared.child.Kind.TheVariants as kind
-use Rattle.pm_exit.specs.declared.child.Status.{Status}
-use Rattle.pm_exit.specs.Ends.{is_exit_0, is_exit_1}
-use Rattle.pm_exit.specs.declared.child.Class.TheVariants as class
-use Rattle.pm_modes.specs.declared.Mode.{Mode}
-use Rattle.pm_modes.specs.declared.Mode.TheVariants as mode
-use Rattle.pm_modes.specs.Strength.{is_immediate, strengthen_of}
-use Rattle.pm_admit.specs.declared.PmState.{PmState}
-use Rattle.pm_admit.specs.declared.PmState.TheVariants as state
-use Rattle.pm_admit.specs.Admission.{decide_of, is_startup}
-use Rattle.pm_supervisor.specs.declared.Ending.{Ending}
-use Rattle.pm_supervisor.specs.declared.Ending.TheVariants as ending
-use Rattle.pm_supervisor.specs.declared.Limits.{Limits}
-use Rattle.pm_supervisor.specs.Children.{Child, child_of, count_of, is_checkpointer, is_dead_end, is_session, is_startup_child, is_writer}
-use Rattle.pm_supervisor.specs.Supervisor.{Shared}
-use Rattle.pm_state.specs.declared.action.Action.{Action}
-use Rattle.pm_state.specs.declared.action.Action.TheVariants as act
-use Rattle.pm_state.specs.declared.event.PmEvent.{PmEvent}
-use Rattle.pm_state.specs.declared.event.PmEvent.TheVariants as entry
-use Rattle.pm_state.specs.declared.machine.Machine.{Machine}
-use Rattle.pm_state.specs.Exits.{crash_rule, less_one, startup_exited, unless_normal}
-use Rattle.pm_state.specs.Restarts.{Counts}
-use Rattle.pm_state.specs.Machine.{Exited, MayAccept, accepted_as, begun, started_as, step, view_of}
-use Rattle.pm_state.specs.Promises.{has_act}
-use Rattle.pm_state.specs.Requests.{asked_with, ticked_at}
-use Rattle.pm_state.specs.TurnRules.{backends_gone, children_gone, dead_ends_gone, end_smart, is_not_running, restart_writer, start_recovery, stop_backends}
-use Rattle.pm_state.specs.Journal.{Do, Fits, reported, row_of, settled}
-use Rattle.pm_state.specs.ReplayLaws.{startup_there, there_counts, was_there}
-use Rattle.pm_state.specs.ChildLaws.{is_deserted}
-use Rattle.pm_server.specs.CalmLaws.{is_late}
-use Rattle.pm_clean_end.specs.Seen.{Seen, nothing_seen, seen_after}
+use Rattle.std.{proofs.Common.{◌≡◌, ◌≢◌, ℕ, ◌<◌, Bool, true, false, not, ◌&&◌, ◌||◌, List, [], ◌∷◌, refl, sym, subst, arith}, specs.Prelude.{◌==◌, if◌then◌else◌, IsSomeAnd}}
+use Rattle.pm_serve_crew.specs.{pm_exit.{declared.child.{Kind.Kind, Status.Status}, Ends.{is_exit_0, is_exit_1}}, pm_modes.{declared.Mode.Mode, Strength.{is_immediate, strengthen_of}}, pm_admit.{declared.PmState.PmState, Admission.{decide_of, is_startup}}, pm_supervisor.{declared.{Ending.Ending, Limits.Limits}, Children.{Child, child_of, count_of, is_checkpointer, is_dead_end, is_session, is_startup_child, is_writer}, Supervisor.Shared}, pm_state.{declared.{action.Action.Action, event.PmEvent.PmEvent, machine.Machine.Machine}, Exits.{crash_rule, less_one, startup_exited, unless_normal}, Restarts.Counts, Machine.{Exited, MayAccept, accepted_as, begun, started_as, step, view_of}, Promises.has_act, Requests.{asked_with, ticked_at}, TurnRules.{backends_gone, children_gone, dead_ends_gone, end_smart, is_not_running, restart_writer, start_recovery, stop_backends}, Journal.{Do, Fits, reported, row_of, settled}}}
+use Rattle.pm_serve_crew.specs.pm_exit.declared.child.Kind.TheVariants as kind
+use Rattle.pm_serve_crew.specs.pm_exit.declared.child.Class.TheVariants as class
+use Rattle.pm_serve_crew.specs.pm_modes.declared.Mode.TheVariants as mode
+use Rattle.pm_serve_crew.specs.pm_admit.declared.PmState.TheVariants as state
+use Rattle.pm_serve_crew.specs.pm_supervisor.declared.Ending.TheVariants as ending
+use Rattle.pm_serve_crew.specs.pm_state.declared.action.Action.TheVariants as act
+use Rattle.pm_serve_crew.specs.pm_state.declared.event.PmEvent.TheVariants as entry
+use Rattle.pm_store_remains.proofs.{pm_state.{ReplayLaws.{startup_there, there_counts, was_there}, ChildLaws.is_deserted}, pm_server.CalmLaws.is_late}
+use Rattle.pm_serve_clean_end.specs.Seen.{Seen, nothing_seen, seen_after}
 
 -- ---- what is due
 

@@ -1,34 +1,9 @@
 -- From the entries of a journal to the children of the slots, and to the runs of their workers.
-use Rattle.std.proofs.Common.{◌≡◌, ◌≢◌, ◌⊎◌, inl, inr, ℕ, zero, suc, ◌<◌, Bool, true, false, fold, get_or, length, map, Option, None, Some, List, [], ◌∷◌, ◌++◌, refl, sym, ap, subst, ◌∙◌, arith}
-use Rattle.std.proofs.lemmas.Grind.{flat_map-append}
-use Rattle.std.specs.Prelude.{◌==◌, if◌then◌else◌, unwrap_or}
-use Rattle.std.specs.List.{AllByRecursion, flat_map}
-use Rattle.std.proofs.lemmas.Option.{slice_get-get_or}
-use Rattle.std.proofs.lemmas.Bool.{eq-eqb}
-use Rattle.pm_exit.specs.declared.child.Kind.TheVariants as kind
-use Rattle.pm_exit.specs.Ends.{is_exit_0}
-use Rattle.pm_supervisor.specs.Children.{is_startup_child}
-use Rattle.pm_state.specs.declared.event.PmEvent.{PmEvent}
-use Rattle.pm_state.specs.declared.event.PmEvent.TheVariants as entry
-use Rattle.pm_board.specs.declared.views.PastChild.{PastChild}
-use Rattle.pm_board.specs.declared.views.RosterView.{RosterView}
-use Rattle.pm_board.specs.declared.views.SlotView.{SlotView}
-use Rattle.pm_board.specs.Places.{slot_at}
-use Rattle.pm_chain.specs.Chain.{AreDistinct, InGeneration, IsPidOf}
-use Rattle.pm_seating.specs.Board.{begun_of, ended_of}
-use Rattle.pm_seating.specs.Mails.{kept_told}
-use Rattle.pm_seating.specs.Calls.{kept_by}
-use Rattle.pm_seating.specs.Seating.{Begun, Ended, Kill, Move, Nothing, Notes, PidsEnd, PortEnds, Reads, Request, Seating, Stop, asked_by, begins, begun_at, begun_by, begun_from, empty, ended_at, ended_by, entries_by, entries_from, is_seated, journal_of, seating_by}
-use Rattle.pm_seating.specs.Standing.{IsBoardOf}
-use Rattle.pm_shared.specs.declared.views.Noted.{Noted}
-use Rattle.pm_query.specs.declared.book.BookEntry.{BookEntry}
-use Rattle.pm_worker.specs.declared.mail.MailTold.{MailTold}
-use Rattle.pm_worker.specs.Runs.{IsRun, Run}
-use Rattle.pm_crew.specs.Left.{AreLeft, IsWorked, Manner}
-use Rattle.pm_crew.specs.Pids.{AreUsedOnce, pids_at}
-use Rattle.pm_crew.specs.Redos.{AreRedosOf, RedosAreThose, redo_ends_at, redo_ends_by, redo_told, told_if}
-use Rattle.pm_clean_end.specs.Among.{IsGiven, IsImage, IsIn, from_flat_map, from_map, in_back, in_either, in_flat_map, in_front, in_map, of_all}
-use Rattle.pm_clean_end.specs.EndsLaws.{begun_append, begun_in, generation_after}
+use Rattle.std.{proofs.{Common.{◌≡◌, ◌≢◌, ◌⊎◌, inl, inr, ℕ, zero, suc, ◌<◌, Bool, true, false, fold, get_or, length, map, Option, None, Some, List, [], ◌∷◌, ◌++◌, refl, sym, ap, subst, ◌∙◌, arith}, lemmas.{Grind.flat_map-append, Option.slice_get-get_or, Bool.eq-eqb}}, specs.{Prelude.{◌==◌, if◌then◌else◌, unwrap_or}, List.{AllByRecursion, flat_map}}}
+use Rattle.pm_serve_crew.specs.pm_exit.declared.child.Kind.TheVariants as kind
+use Rattle.pm_serve_crew.specs.{pm_exit.Ends.is_exit_0, pm_supervisor.Children.is_startup_child, pm_state.declared.event.PmEvent.PmEvent, pm_board.{declared.views.{PastChild.PastChild, RosterView.RosterView, SlotView.SlotView}, Places.slot_at}, pm_supervisor_chain.Chain.{AreDistinct, InGeneration, IsPidOf}, pm_board_acts.{Board.{begun_of, ended_of}, Mails.kept_told, Calls.kept_by, Seating.{Begun, Ended, Kill, Move, Nothing, Notes, PidsEnd, PortEnds, Reads, Request, Seating, Stop, asked_by, begins, begun_at, begun_by, begun_from, empty, ended_at, ended_by, entries_by, entries_from, is_seated, journal_of, seating_by}, Standing.IsBoardOf}, pm_store_shared.declared.views.Noted.Noted, pm_query.declared.book.BookEntry.BookEntry, pm_worker.{declared.mail.MailTold.MailTold, Runs.{IsRun, Run}}, Left.{AreLeft, IsWorked, Manner}, Pids.{AreUsedOnce, pids_at}, Redos.{AreRedosOf, RedosAreThose, redo_ends_at, redo_ends_by, redo_told, told_if}}
+use Rattle.pm_serve_crew.specs.pm_state.declared.event.PmEvent.TheVariants as entry
+use Rattle.pm_serve_clean_end.{specs.Among.{IsGiven, IsImage, IsIn, from_flat_map, from_map, in_back, in_either, in_flat_map, in_front, in_map, of_all}, proofs.EndsLaws.{begun_append, begun_in, generation_after}}
 
 -- ---- entries
 

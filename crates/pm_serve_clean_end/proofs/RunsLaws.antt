@@ -1,42 +1,12 @@
 -- What a run notes, by how it ended.
-use Rattle.std.proofs.Common.{◌≡◌, ◌⊎◌, inl, inr, ℕ, Bool, true, false, not, ◌&&◌, ◌||◌, List, [], ◌∷◌, ◌++◌, Option, Some, None, Result, Ok, Err, refl, sym, subst, ap, ◌∙◌, arith}
-use Rattle.std.specs.List.{AllByRecursion}
-use Rattle.std.proofs.lemmas.List.Elements.{recursion_from_All}
-use Rattle.pm_exit.specs.declared.child.Kind.{Kind}
-use Rattle.pm_exit.specs.declared.child.Kind.TheVariants as kinds
-use Rattle.pm_exit.specs.declared.child.Status.{Status}
-use Rattle.pm_exit.specs.Ends.{is_exit_0}
-use Rattle.pm_life.specs.declared.life.GateNo.{GateNo}
-use Rattle.pm_admit.specs.declared.Cac.{Cac}
-use Rattle.pm_admit.specs.declared.Cac.TheVariants as decisions
-use Rattle.pm_supervisor.specs.Children.{is_checkpointer, is_startup_child}
-use Rattle.pm_query.specs.declared.book.BookEntry.{BookEntry}
-use Rattle.pm_query.specs.declared.book.BookEntry.TheVariants.{Attached, Answered, Released, Detached, Redone, Broke, LogFull, CheckpointEnded}
-use Rattle.pm_query.specs.declared.store.StoreNo.TheVariants.{Stale, Disk, Broken, Full, Redo, NoMemory}
-use Rattle.pm_record.specs.declared.fault.RedoFault.TheVariants as redo
-use Rattle.pm_query.specs.Calls.{User, LeaveNotes, NotesFault}
-use Rattle.pm_exchange.specs.Sent.{Turn, Ran, Faulted, NotUtf8, Cancelled, LogIsFull, Memory}
-use Rattle.pm_exchange.specs.declared.ending.Cause.{Cause as SessionCause}
-use Rattle.pm_exchange.specs.declared.ending.Cause.TheVariants as why
-use Rattle.pm_exchange.specs.declared.ending.Stage.{Stage}
-use Rattle.pm_exchange.specs.declared.ending.Stage.TheVariants.{Outside, Entering, Greeted}
-use Rattle.pm_exchange.specs.Ends.{status_by as status_of_session}
-use Rattle.pm_exchange.specs.Queries.{IsReleased, IsUnreleased, TurnNotes}
-use Rattle.pm_life.specs.Life.{Told}
-use Rattle.pm_session.specs.Session.{AllNotes, BreaksOff, EndsAt, Ending, HasEntered as HasEnteredSession, IsText, Leaves, NotesOutside, StopsInside}
-use Rattle.pm_board.specs.Places.{is_connection}
-use Rattle.pm_post_life.specs.Lives.{MetRightly}
-use Rattle.pm_aux.specs.declared.cause.AuxiliaryEnd.{AuxiliaryEnd}
-use Rattle.pm_aux.specs.declared.cause.AuxiliaryEnd.TheVariants.{Redone as HasRedone, Flushed, Closed, LeftOut, Refused, TurnedAway, ToldToTerminate, ToldToQuit, Killed}
-use Rattle.pm_aux.specs.Runs.{NotesBehind, Runner, user_in}
-use Rattle.pm_aux.specs.Work.{ClosesBy, Does as DoesWork, Flushes, HasEntered, IsKeptOut, IsPassing, LeavesIf, ReadsLog}
-use Rattle.pm_aux.specs.Ends.{lets_go, status_by}
-use Rattle.pm_worker.specs.declared.mail.MailTold.{MailTold}
-use Rattle.pm_worker.specs.declared.mail.MailTold.TheVariants as mail
-use Rattle.pm_worker.specs.Mails.{IsFor}
-use Rattle.pm_worker.specs.Runs.{Does, IsAuxRun, IsRun, Run, told_in}
-use Rattle.pm_clean_end.specs.Among.{IsIn, in_back, in_front}
-use Rattle.pm_clean_end.specs.Seen.{is_harm}
+use Rattle.std.{proofs.{Common.{◌≡◌, ◌⊎◌, inl, inr, ℕ, Bool, true, false, not, ◌&&◌, ◌||◌, List, [], ◌∷◌, ◌++◌, Option, Some, None, Result, Ok, Err, refl, sym, subst, ap, ◌∙◌, arith}, lemmas.List.Elements.recursion_from_All}, specs.List.AllByRecursion}
+use Rattle.pm_serve_crew.specs.{pm_exit.{declared.child.{Kind.Kind, Status.Status}, Ends.is_exit_0}, pm_child_life.{declared.life.GateNo.GateNo, Life.Told}, pm_admit.declared.Cac.Cac, pm_supervisor.Children.{is_checkpointer, is_startup_child}, pm_query.{declared.{book.BookEntry.{BookEntry, TheVariants.{Attached, Answered, Released, Detached, Redone, Broke, LogFull, CheckpointEnded}}, store.StoreNo.TheVariants.{Stale, Disk, Broken, Full, Redo, NoMemory}}, Calls.{User, LeaveNotes, NotesFault}}, pm_session_exchange.{Sent.{Turn, Ran, Faulted, NotUtf8, Cancelled, LogIsFull, Memory}, declared.ending.{Cause.Cause as SessionCause, Stage.{Stage, TheVariants.{Outside, Entering, Greeted}}}, Ends.status_by as status_of_session, Queries.{IsReleased, IsUnreleased, TurnNotes}}, pm_session.Session.{AllNotes, BreaksOff, EndsAt, Ending, HasEntered as HasEnteredSession, IsText, Leaves, NotesOutside, StopsInside}, pm_board.Places.is_connection, pm_board_life.Lives.MetRightly, pm_aux.{declared.cause.AuxiliaryEnd.{AuxiliaryEnd, TheVariants.{Redone as HasRedone, Flushed, Closed, LeftOut, Refused, TurnedAway, ToldToTerminate, ToldToQuit, Killed}}, Runs.{NotesBehind, Runner, user_in}, Work.{ClosesBy, Does as DoesWork, Flushes, HasEntered, IsKeptOut, IsPassing, LeavesIf, ReadsLog}, Ends.{lets_go, status_by}}, pm_worker.{declared.mail.MailTold.MailTold, Mails.IsFor, Runs.{Does, IsAuxRun, IsRun, Run, told_in}}}
+use Rattle.pm_serve_crew.specs.pm_exit.declared.child.Kind.TheVariants as kinds
+use Rattle.pm_serve_crew.specs.pm_admit.declared.Cac.TheVariants as decisions
+use Rattle.pm_store_remains.specs.pm_record.declared.fault.RedoFault.TheVariants as redo
+use Rattle.pm_serve_crew.specs.pm_session_exchange.declared.ending.Cause.TheVariants as why
+use Rattle.pm_serve_crew.specs.pm_worker.declared.mail.MailTold.TheVariants as mail
+use Rattle.pm_serve_clean_end.specs.{Among.{IsIn, in_back, in_front}, Seen.is_harm}
 
 -- a child ended with harm, or a startup child without its redo
 abbrev pub is_bad : Kind → Status → Bool

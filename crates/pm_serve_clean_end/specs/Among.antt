@@ -1,7 +1,5 @@
 -- What stands somewhere in a list.
-use Rattle.std.proofs.Common.{◌≡◌, ◌⊎◌, inl, inr, Bool, true, false, ◌||◌, cond, map, List, [], ◌∷◌, ◌++◌, refl, sym, ap, subst, ◌∙◌}
-use Rattle.std.specs.List.{AllByRecursion, filter, flat_map, list_any}
-use Rattle.std.proofs.Math.Bool.{or-true}
+use Rattle.std.{proofs.{Common.{◌≡◌, ◌⊎◌, inl, inr, Bool, true, false, ◌||◌, cond, map, List, [], ◌∷◌, ◌++◌, refl, sym, ap, subst, ◌∙◌}, Math.Bool.or-true}, specs.List.{AllByRecursion, filter, flat_map, list_any}}
 
 abbrev pub IsIn : {X : Type 0} → X → List X → Type 0
 IsIn x [] = ⊥

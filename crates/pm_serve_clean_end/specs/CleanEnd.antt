@@ -1,28 +1,9 @@
 -- What a clean end of a server of many connections leaves.
-use Rattle.std.specs.Prelude.{◌≡◌, ◌≢◌, ℕ, true, All, List, [], ◌∷◌, ◌++◌, IfSome}
-use Rattle.std.specs.List.{list_any}
-use Rattle.pm_board.specs.declared.views.RosterView.{RosterView}
-use Rattle.pm_crew.specs.Left.{AreLeft, Manner}
-use Rattle.pm_crew.specs.Pids.{AreUsedOnce}
-use Rattle.pm_crew.specs.Redos.{RedosAreThose}
-use Rattle.pm_crew.specs.Renewals.{RenewsAsTold}
-use Rattle.pm_journal.specs.Stands.{any_moment}
-use Rattle.pm_modes.specs.declared.Mode.TheVariants.{Immediate}
-use Rattle.pm_query.specs.declared.book.BookEntry.{BookEntry}
-use Rattle.pm_query.specs.Book.{Base}
-use Rattle.pm_remains.specs.Remains.{AreClean, IsLeft}
-use Rattle.pm_seating.specs.Seating.{Move, journal_of}
-use Rattle.pm_seating.specs.Standing.{IsBoardOf}
-use Rattle.pm_server.specs.Journal.{asked_in}
-use Rattle.pm_server.specs.Views.{DiskView}
-use Rattle.pm_shared.specs.declared.views.Noted.{Noted}
-use Rattle.pm_state.specs.declared.event.PmEvent.{PmEvent}
-use Rattle.pm_state.specs.declared.event.PmEvent.TheVariants as entry
-use Rattle.pm_state.specs.Journal.{IsLegal}
-use Rattle.pm_supervisor.specs.declared.Ending.TheVariants.{Clean}
-use Rattle.pm_supervisor.specs.declared.Limits.{Limits}
-use Rattle.pm_worker.specs.declared.mail.MailTold.{MailTold}
-use Rattle.pm_clean_end.specs.Latest.{ends_redo, latest}
+use Rattle.std.specs.{Prelude.{◌≡◌, ◌≢◌, ℕ, true, All, List, [], ◌∷◌, ◌++◌, IfSome}, List.list_any}
+use Rattle.pm_serve_crew.specs.{pm_board.declared.views.RosterView.RosterView, Left.{AreLeft, Manner}, Pids.AreUsedOnce, Redos.RedosAreThose, Renewals.RenewsAsTold, pm_supervisor_journal.Stands.any_moment, pm_modes.declared.Mode.TheVariants.Immediate, pm_query.{declared.book.BookEntry.BookEntry, Book.Base}, pm_board_acts.{Seating.{Move, journal_of}, Standing.IsBoardOf}, pm_store_shared.declared.views.Noted.Noted, pm_state.{declared.event.PmEvent.PmEvent, Journal.IsLegal}, pm_supervisor.declared.{Ending.TheVariants.Clean, Limits.Limits}, pm_worker.declared.mail.MailTold.MailTold}
+use Rattle.pm_store_remains.specs.{Remains.{AreClean, IsLeft}, pm_server.{Journal.asked_in, Views.DiskView}}
+use Rattle.pm_serve_crew.specs.pm_state.declared.event.PmEvent.TheVariants as entry
+use Rattle.pm_serve_clean_end.specs.Latest.{ends_redo, latest}
 
 -- The server ended clean, no immediate shutdown was asked for, and redo had ended in its last generation. A shutdown that is asked
 -- for before redo has ended leaves the files as they are.

@@ -1,7 +1,7 @@
 -- The entries of a journal's last generation.
 use Rattle.std.specs.Prelude.{Bool, true, false, List, [], ◌∷◌, ◌++◌, fold}
-use Rattle.pm_state.specs.declared.event.PmEvent.{PmEvent}
-use Rattle.pm_state.specs.declared.event.PmEvent.TheVariants as entry
+use Rattle.pm_serve_crew.specs.pm_state.declared.event.PmEvent.{PmEvent}
+use Rattle.pm_serve_crew.specs.pm_state.declared.event.PmEvent.TheVariants as entry
 
 abbrev pub latest_after : List PmEvent → PmEvent → List PmEvent
 latest_after entries (entry.Reset generation) = []

@@ -2,11 +2,4 @@ pub mod Latest
 pub mod CleanEnd
 pub mod Seen
 pub mod Among
-pub mod MachineLaws
-pub mod JournalLaws
-pub mod EndsLaws
-pub mod MovesLaws
-pub mod RunsLaws
-pub mod BooksLaws
-pub mod CleanEndLaws
 pub mod WorkedCleanEnds

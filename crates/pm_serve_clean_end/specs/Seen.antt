@@ -1,13 +1,9 @@
 -- What was seen in the present generation, of that which a clean end depends on.
 use Rattle.std.specs.Prelude.{Bool, true, false, not, ◌&&◌, ◌||◌}
-use Rattle.pm_exit.specs.declared.child.Kind.{Kind}
-use Rattle.pm_exit.specs.declared.child.Kind.TheVariants as kind
-use Rattle.pm_exit.specs.declared.child.Status.{Status}
-use Rattle.pm_exit.specs.Ends.{is_exit_0, is_exit_1}
-use Rattle.pm_supervisor.specs.declared.Ending.TheVariants as ending
-use Rattle.pm_supervisor.specs.Children.{is_checkpointer, is_startup_child}
-use Rattle.pm_state.specs.declared.event.PmEvent.{PmEvent}
-use Rattle.pm_state.specs.declared.event.PmEvent.TheVariants as entry
+use Rattle.pm_serve_crew.specs.{pm_exit.{declared.child.{Kind.Kind, Status.Status}, Ends.{is_exit_0, is_exit_1}}, pm_supervisor.Children.{is_checkpointer, is_startup_child}, pm_state.declared.event.PmEvent.PmEvent}
+use Rattle.pm_serve_crew.specs.pm_exit.declared.child.Kind.TheVariants as kind
+use Rattle.pm_serve_crew.specs.pm_supervisor.declared.Ending.TheVariants as ending
+use Rattle.pm_serve_crew.specs.pm_state.declared.event.PmEvent.TheVariants as entry
 
 -- a child that used what is shared didn't end by itself, or a background child without its work done
 abbrev pub is_harm : Kind → Status → Bool

@@ -1,25 +1,9 @@
 -- A journal that ended clean with all that the law asks for, and two that didn't.
-use Rattle.std.proofs.Common.{◌≡◌, ◌≢◌, ℕ, ◌+◌, true, false, List, [], ◌∷◌, ◌++◌, refl}
-use Rattle.std.proofs.lemmas.List.Elements.{All-from_recursion, All-head}
-use Rattle.std.proofs.Math.Nat.{le-add_right}
-use Rattle.pm_facts.specs.Bools.{absurd_true}
-use Rattle.pm_exit.specs.declared.child.Kind.TheVariants.{Backend, Checkpointer, DeadEnd, Startup, Writer}
-use Rattle.pm_exit.specs.declared.child.Status.TheVariants.{Code}
-use Rattle.pm_admit.specs.declared.Cac.TheVariants as decision
-use Rattle.pm_modes.specs.declared.Mode.{Mode}
-use Rattle.pm_modes.specs.declared.Mode.TheVariants.{Immediate, Smart}
-use Rattle.pm_supervisor.specs.declared.Reason.TheVariants.{Stop}
-use Rattle.pm_supervisor.specs.declared.Ending.TheVariants.{Clean}
-use Rattle.pm_state.specs.declared.action.Line.TheVariants as line
-use Rattle.pm_state.specs.declared.event.PmEvent.{PmEvent}
-use Rattle.pm_state.specs.declared.event.PmEvent.TheVariants.{Accepted, Asked, CheckpointAsked, Ended, Exited, QuitSent, Said, Started, TerminateSent}
-use Rattle.pm_state.specs.Exits.{crash_rule, startup_exited}
-use Rattle.pm_state.specs.Journal.{IsLegal, row_of, settled}
-use Rattle.pm_state.specs.TurnRules.{backends_gone, children_gone, dead_ends_gone, end_smart, restart_writer, start_recovery, stop_backends}
-use Rattle.pm_journal.specs.Stands.{any_moment}
-use Rattle.pm_chain.specs.WorkedChains.{clean_journal, started}
-use Rattle.pm_chain.specs.WorkedSteps.{limits}
-use Rattle.pm_clean_end.specs.CleanEnd.{HasEndedClean}
+use Rattle.std.proofs.{Common.{◌≡◌, ◌≢◌, true, false, List, [], ◌∷◌, ◌++◌, refl}, lemmas.List.Elements.{All-from_recursion, All-head}, Math.Nat.le-add_right}
+use Rattle.pm_serve_crew.specs.{pm_facts.Bools.absurd_true, pm_exit.declared.child.{Kind.TheVariants.{Backend, Checkpointer, DeadEnd, Startup, Writer}, Status.TheVariants.Code}, pm_modes.declared.Mode.{Mode, TheVariants.{Immediate, Smart}}, pm_supervisor.declared.{Reason.TheVariants.Stop, Ending.TheVariants.Clean}, pm_state.{declared.event.PmEvent.{PmEvent, TheVariants.{Accepted, Asked, CheckpointAsked, Ended, Exited, QuitSent, Said, Started, TerminateSent}}, Exits.{crash_rule, startup_exited}, Journal.{IsLegal, row_of, settled}, TurnRules.{backends_gone, children_gone, dead_ends_gone, end_smart, restart_writer, start_recovery, stop_backends}}, pm_supervisor_journal.Stands.any_moment, pm_supervisor_chain.{WorkedChains.{clean_journal, started}, WorkedSteps.limits}}
+use Rattle.pm_serve_crew.specs.pm_admit.declared.Cac.TheVariants as decision
+use Rattle.pm_serve_crew.specs.pm_state.declared.action.Line.TheVariants as line
+use Rattle.pm_serve_clean_end.specs.CleanEnd.{HasEndedClean}
 
 -- a session comes and goes, a connection is refused after a smart request, and the last checkpoint is written
 abbrev pub up_to_its_end : List PmEvent
@@ -57,7 +41,7 @@ refuses_unread ended = (let never : false ≡ true = ended.redone in cc)
 pub refuses_immediate : ¬ (HasEndedClean immediate_journal)
 refuses_immediate ended = All-head (λ (mode : Mode). mode ≢ Immediate) Immediate [] ended.not_immediate refl
 
--- ---- they are legal; that the first is one `worked_steps` of `pm_chain` has
+-- ---- they are legal; that the first is one `worked_steps` of `pm_supervisor_chain` has
 
 pub unread_is_legal : IsLegal limits any_moment unread_journal
 unfolding settled row_of crash_rule startup_exited start_recovery restart_writer end_smart stop_backends backends_gone dead_ends_gone children_gone

@@ -1,24 +1,9 @@
 -- After the join the book has of each child what its run noted.
-use Rattle.std.proofs.Common.{◌≡◌, ◌≢◌, inl, inr, ℕ, ◌+◌, ◌<◌, Bool, true, false, List, [], ◌∷◌, ◌++◌, None, Some, get_or, refl, sym, ap, subst, ◌∙◌, arith, append-nil}
-use Rattle.std.specs.Prelude.{cond, map, slice_get, ◌&&◌, ◌==◌}
-use Rattle.std.specs.List.{AllByRecursion}
-use Rattle.std.proofs.lemmas.List.Elements.{filter-append}
-use Rattle.std.proofs.lemmas.Option.{slice_get-get_or}
-use Rattle.pm_board.specs.declared.views.RosterView.{RosterView}
-use Rattle.pm_board.specs.Places.{slot_at}
-use Rattle.pm_chain.specs.Chain.{AreDistinct, IsPidOf}
-use Rattle.pm_query.specs.declared.book.BookEntry.{BookEntry}
-use Rattle.pm_query.specs.declared.book.BookEntry.TheVariants.{Opened, Gone}
-use Rattle.pm_answers.specs.Own.{NoneBy, entries_by, is_by}
-use Rattle.pm_shared.specs.declared.views.Noted.{Noted}
-use Rattle.pm_shared.specs.Log.{AllBelow, Line, book_of, entries_of, is_own, noted as noted_at, placed}
-use Rattle.pm_worker.specs.declared.mail.MailTold.{MailTold}
-use Rattle.pm_worker.specs.Runs.{IsRun, Run, noted_by}
-use Rattle.pm_crew.specs.Left.{AreLeft, IsWorked, Manner}
-use Rattle.pm_crew.specs.Pids.{AreEntriesOf, AreUsedOnce, pids_at}
-use Rattle.pm_crew.specs.PidsLaws.{differs}
-use Rattle.pm_crew.specs.Uses.{AllBy, UsesStore}
-use Rattle.pm_crew.specs.UsesLaws.{own_entries, uses}
+use Rattle.std.{proofs.{Common.{◌≡◌, ◌≢◌, inl, inr, ℕ, ◌+◌, ◌<◌, Bool, true, false, List, [], ◌∷◌, ◌++◌, None, Some, get_or, refl, sym, ap, subst, ◌∙◌, arith, append-nil}, lemmas.{List.Elements.filter-append, Option.slice_get-get_or}}, specs.{Prelude.{cond, map, slice_get, ◌&&◌, ◌==◌}, List.AllByRecursion}}
+use Rattle.pm_board_acts.specs.{pm_board.{declared.views.RosterView.RosterView, Places.slot_at}, pm_supervisor_chain.Chain.{AreDistinct, IsPidOf}, pm_worker.{declared.mail.MailTold.MailTold, Runs.{IsRun, Run, noted_by}}}
+use Rattle.pm_session_answers.specs.{pm_query.declared.book.BookEntry.{BookEntry, TheVariants.{Opened, Gone}}, Own.{NoneBy, entries_by, is_by}}
+use Rattle.pm_store_shared.specs.{declared.views.Noted.Noted, Log.{AllBelow, Line, book_of, entries_of, is_own, noted as noted_at, placed}}
+use Rattle.pm_serve_crew.{specs.{Left.{AreLeft, IsWorked, Manner}, Pids.{AreEntriesOf, AreUsedOnce, pids_at}, Uses.{AllBy, UsesStore}}, proofs.{PidsLaws.differs, UsesLaws.{own_entries, uses}}}
 
 -- ---- filters
 

@@ -1,10 +1,8 @@
 -- The generations that a book opens are those that the shared side noted.
-use Rattle.std.proofs.Common.{◌≡◌, ℕ, ◌+◌, List, [], ◌∷◌, refl, ap}
-use Rattle.std.specs.Prelude.{cond}
-use Rattle.pm_query.specs.declared.book.BookEntry.{BookEntry}
-use Rattle.pm_query.specs.declared.book.BookEntry.TheVariants.{Opened, Gone}
-use Rattle.pm_chain.specs.Chain.{opened_of}
-use Rattle.pm_shared.specs.Log.{Line, book_of, entries_of, is_own, noted as noted_at, placed_rest}
+use Rattle.std.{proofs.Common.{◌≡◌, ℕ, ◌+◌, List, [], ◌∷◌, refl, ap}, specs.Prelude.cond}
+use Rattle.pm_session_answers.specs.pm_query.declared.book.BookEntry.{BookEntry, TheVariants.{Opened, Gone}}
+use Rattle.pm_board_acts.specs.pm_supervisor_chain.Chain.{opened_of}
+use Rattle.pm_store_shared.specs.Log.{Line, book_of, entries_of, is_own, noted as noted_at, placed_rest}
 
 opened_line : (n : ℕ) (entry : BookEntry) (log : List Line) → opened_of (book_of log) ≡ opened_of (entries_of (placed_rest (n + 1) log))
     → opened_of (entry ∷ book_of log) ≡ opened_of (entries_of (cond (is_own entry) (placed_rest (n + 1) log) (noted_at n entry ∷ placed_rest (n + 1) log)))

@@ -1,27 +1,11 @@
 -- No two children of a server have one pid.
-use Rattle.std.proofs.Common.{◌≡◌, ◌≢◌, ◌⊎◌, inl, inr, ℕ, ◌+◌, ◌≤◌, Bool, true, false, List, [], ◌∷◌, ◌++◌, refl, sym, ap, subst, ◌∙◌, arith, append_assoc}
-use Rattle.std.specs.Prelude.{◌==◌, if◌then◌else◌, is_none, map}
-use Rattle.std.specs.List.{AllByRecursion}
-use Rattle.pm_facts.specs.Bools.{cond-same}
-use Rattle.pm_exit.specs.declared.child.Kind.{Kind}
-use Rattle.pm_supervisor.specs.declared.Limits.{Limits}
-use Rattle.pm_supervisor.specs.Steps.{shared_after}
-use Rattle.pm_supervisor.specs.Steps as supervisor
-use Rattle.pm_supervisor.specs.Supervisor.{Shared}
-use Rattle.pm_state.specs.declared.action.Action.{Action}
-use Rattle.pm_state.specs.declared.action.Action.TheVariants as act
-use Rattle.pm_state.specs.declared.event.PmEvent.{PmEvent}
-use Rattle.pm_state.specs.declared.event.PmEvent.TheVariants as entry
-use Rattle.pm_state.specs.Journal.{AreLegal, Do, Due, EndRedo, Fits, FitsFirst, FollowsIn, IsLegal, Replay, all_replayed, replay_begun, replayed}
-use Rattle.pm_board.specs.declared.views.PastChild.{PastChild}
-use Rattle.pm_board.specs.declared.views.RosterView.{RosterView}
-use Rattle.pm_board.specs.Places.{slot_at}
-use Rattle.pm_chain.specs.Chain.{AreDistinct, IsPidOf}
-use Rattle.pm_chain.specs.FoldsLaws.{pid_left, pid_right}
-use Rattle.pm_seating.specs.Board.{begun_of}
-use Rattle.pm_seating.specs.Seating.{Begun, Kill, Move, Nothing, Notes, PidsEnd, PortEnds, Reads, Seating, Stop, begun_at, begun_by, begun_from, empty, entries_by, entries_from, is_seated, journal_of, seating_by}
-use Rattle.pm_worker.specs.declared.mail.MailTold.{MailTold}
-use Rattle.pm_crew.specs.Pids.{AreUsedOnce, pids_at}
+use Rattle.std.{proofs.Common.{◌≡◌, ◌≢◌, ◌⊎◌, inl, inr, ℕ, ◌+◌, ◌≤◌, Bool, true, false, List, [], ◌∷◌, ◌++◌, refl, sym, ap, subst, ◌∙◌, arith, append_assoc}, specs.{Prelude.{◌==◌, if◌then◌else◌, is_none, map}, List.AllByRecursion}}
+use Rattle.pm_session_answers.specs.pm_facts.Bools.{cond-same}
+use Rattle.pm_board_acts.{specs.{pm_exit.declared.child.Kind.Kind, pm_supervisor.{declared.Limits.Limits, Steps.shared_after, Supervisor.Shared}, pm_state.{declared.{action.Action.Action, event.PmEvent.PmEvent}, Journal.{AreLegal, Do, Due, EndRedo, Fits, FitsFirst, FollowsIn, IsLegal, Replay, all_replayed, replay_begun, replayed}}, pm_board.{declared.views.{PastChild.PastChild, RosterView.RosterView}, Places.slot_at}, pm_supervisor_chain.Chain.{AreDistinct, IsPidOf}, Board.begun_of, Seating.{Begun, Kill, Move, Nothing, Notes, PidsEnd, PortEnds, Reads, Seating, Stop, begun_at, begun_by, begun_from, empty, entries_by, entries_from, is_seated, journal_of, seating_by}, pm_worker.declared.mail.MailTold.MailTold}, proofs.pm_supervisor_chain.FoldsLaws.{pid_left, pid_right}}
+use Rattle.pm_board_acts.specs.pm_supervisor.Steps as supervisor
+use Rattle.pm_board_acts.specs.pm_state.declared.action.Action.TheVariants as act
+use Rattle.pm_board_acts.specs.pm_state.declared.event.PmEvent.TheVariants as entry
+use Rattle.pm_serve_crew.specs.Pids.{AreUsedOnce, pids_at}
 
 -- the pid of a child that begins here
 abbrev pub pids_by : PmEvent → List ℕ

@@ -1,21 +1,9 @@
 -- Each reply that a server of many connections sent is right.
-use Rattle.std.proofs.Common.{◌≡◌, ◌⊎◌, ℕ, List, [], ◌∷◌, None, refl, sym, subst}
-use Rattle.std.specs.List.{AllByRecursion}
-use Rattle.pm_admit.specs.declared.Cac.{Cac}
-use Rattle.pm_query.specs.declared.book.BookEntry.{BookEntry}
-use Rattle.pm_query.specs.Book.{Base, IsLegal, history_of}
-use Rattle.pm_query.specs.Calls.{newcomer}
-use Rattle.pm_answers.specs.Laws.{OwnEntriesStand, RepliesAreRight}
-use Rattle.pm_answers.specs.Own.{entries_by}
-use Rattle.pm_answers.specs.Replies.{IsAnswered, IsTurnedOff, Talk}
-use Rattle.pm_worker.specs.declared.mail.LinkTold.{LinkTold}
-use Rattle.pm_worker.specs.declared.mail.MailTold.{MailTold}
-use Rattle.pm_worker.specs.declared.mail.MailTold.TheVariants as mail
-use Rattle.pm_worker.specs.Mails.{traffic_in}
-use Rattle.pm_worker.specs.Runs.{Does, IsRun, IsSessionRun, Run}
-use Rattle.pm_crew.specs.Pids.{AreEntriesOf}
-use Rattle.pm_crew.specs.Talks.{AreTalksOf, IsOrNot}
-use Rattle.pm_session.specs.PassedLaws.{passed_anyhow}
+use Rattle.std.{proofs.Common.{◌≡◌, ◌⊎◌, ℕ, List, [], ◌∷◌, None, refl, sym, subst}, specs.List.AllByRecursion}
+use Rattle.pm_board_acts.specs.{pm_admit.declared.Cac.Cac, pm_worker.{declared.mail.{LinkTold.LinkTold, MailTold.MailTold}, Mails.traffic_in, Runs.{Does, IsRun, IsSessionRun, Run}}}
+use Rattle.pm_session_answers.{specs.{pm_query.{declared.book.BookEntry.BookEntry, Book.{Base, IsLegal, history_of}, Calls.newcomer}, Laws.{OwnEntriesStand, RepliesAreRight}, Own.entries_by, Replies.{IsAnswered, IsTurnedOff, Talk}}, proofs.pm_session.PassedLaws.passed_anyhow}
+use Rattle.pm_board_acts.specs.pm_worker.declared.mail.MailTold.TheVariants as mail
+use Rattle.pm_serve_crew.specs.{Pids.AreEntriesOf, Talks.{AreTalksOf, IsOrNot}}
 
 -- the client was turned away, or its replies are right
 abbrev pub IsFine : Base → List BookEntry → Talk → Type 0

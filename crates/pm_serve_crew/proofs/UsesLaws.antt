@@ -1,53 +1,15 @@
 -- Each run of a worker used the store once, or not at all, and has noted the end of redo that its child tells of.
-use Rattle.std.proofs.Common.{◌≡◌, ◌⊎◌, inl, inr, ℕ, Bool, true, false, List, [], ◌∷◌, ◌++◌, Option, Some, None, Result, Ok, Err, refl, sym, subst, ap, ◌∙◌}
-use Rattle.std.specs.Prelude.{nat_eq, if◌then◌else◌, unwrap_or}
-use Rattle.std.specs.List.{AllByRecursion}
-use Rattle.std.proofs.lemmas.List.Elements.{recursion_from_All}
-use Rattle.std.proofs.lemmas.Bool.{eq-eqb}
-use Rattle.pm_admit.specs.declared.Cac.{Cac}
-use Rattle.pm_admit.specs.declared.Cac.TheVariants as decisions
-use Rattle.pm_aux.specs.declared.aux_done.AuxDone.{AuxDone}
-use Rattle.pm_aux.specs.declared.cause.AuxiliaryEnd.{AuxiliaryEnd}
-use Rattle.pm_aux.specs.declared.cause.AuxiliaryEnd.TheVariants.{Flushed, Closed, LeftOut, Refused, ToldToTerminate, ToldToQuit, Killed, Redone as HasRedone}
-use Rattle.pm_aux.specs.Ends.{status_by}
-use Rattle.pm_aux.specs.Ends as ends
-use Rattle.pm_aux.specs.Runs.{EndsOutside, NotesBehind, Runner}
-use Rattle.pm_aux.specs.Work.{ClosesBy, Flushes, HasEntered, IsKeptOut, IsPassing, LeavesIf, ReadsLog, Does as DoesWork}
-use Rattle.pm_answers.specs.Own.{is_by}
-use Rattle.pm_board.specs.declared.views.PastChild.{PastChild}
-use Rattle.pm_board.specs.Places.{is_connection}
-use Rattle.pm_chain.specs.Chain.{InGeneration, IsAmong, kept_of, redos_of}
-use Rattle.pm_crew.specs.Redos.{redo_told, told_if}
-use Rattle.pm_exchange.specs.declared.ending.Cause.TheVariants as why
-use Rattle.pm_exchange.specs.declared.ending.Stage.{Stage}
-use Rattle.pm_exchange.specs.declared.ending.Stage.TheVariants.{Outside, Entering, Greeted}
-use Rattle.pm_exchange.specs.Queries.{IsUnreleased, TurnNotes}
-use Rattle.pm_exchange.specs.Sent.{Turn, Ran, Faulted, NotUtf8, Cancelled, LogIsFull, Memory}
-use Rattle.pm_exchange.specs.declared.ending.Cause.{Cause as SessionCause}
-use Rattle.pm_exit.specs.declared.child.Kind.{Kind}
-use Rattle.pm_exit.specs.declared.child.Kind.TheVariants as kinds
-use Rattle.pm_exit.specs.declared.child.Status.{Status}
-use Rattle.pm_exit.specs.Ends.{is_exit_0}
-use Rattle.pm_life.specs.declared.life.GateNo.{GateNo}
-use Rattle.pm_life.specs.Life.{Told}
-use Rattle.pm_post_life.specs.Lives.{MetRightly}
-use Rattle.pm_query.specs.Calls.{User, LeaveNotes, NotesFault, newcomer}
-use Rattle.pm_query.specs.declared.book.BookEntry.{BookEntry}
-use Rattle.pm_query.specs.declared.book.BookEntry.TheVariants.{Opened, Attached, Answered, Released, Detached, Gone, Redone, Broke, LogFull, CheckpointEnded}
-use Rattle.pm_query.specs.declared.store.StoreNo.{StoreNo}
-use Rattle.pm_query.specs.declared.store.StoreNo.TheVariants.{Stale, Disk, Broken, Full, Redo, NoMemory}
-use Rattle.pm_record.specs.declared.fault.RedoFault.TheVariants as redo
-use Rattle.pm_seating.specs.Calls.{kept_by}
-use Rattle.pm_seating.specs.Mails.{kept_told}
-use Rattle.pm_session.specs.Session.{AllNotes, BreaksOff, EndsAt, Ending, IsAdmitted, IsInside, IsText, Leaves, NotesOutside, StopsInside}
-use Rattle.pm_session.specs.Session as session
-use Rattle.pm_supervisor.specs.Children.{is_dead_end, is_startup_child}
-use Rattle.pm_worker.specs.declared.mail.LinkTold.{LinkTold}
-use Rattle.pm_worker.specs.declared.mail.MailTold.{MailTold}
-use Rattle.pm_worker.specs.declared.mail.MailTold.TheVariants as mail
-use Rattle.pm_worker.specs.Mails.{IsFor}
-use Rattle.pm_worker.specs.Runs.{Does, IsAuxRun, IsRun, IsSessionRun, Run, told_in}
-use Rattle.pm_crew.specs.Uses.{AllBy, HasUsed, IsWorkOf, UsesStore}
+use Rattle.std.{proofs.{Common.{◌≡◌, ◌⊎◌, inl, inr, ℕ, Bool, true, false, List, [], ◌∷◌, ◌++◌, Option, Some, None, Result, Ok, Err, refl, sym, subst, ap, ◌∙◌}, lemmas.{List.Elements.recursion_from_All, Bool.eq-eqb}}, specs.{Prelude.{nat_eq, if◌then◌else◌, unwrap_or}, List.AllByRecursion}}
+use Rattle.pm_board_acts.specs.{pm_admit.declared.Cac.Cac, pm_aux.{declared.{aux_done.AuxDone.AuxDone, cause.AuxiliaryEnd.{AuxiliaryEnd, TheVariants.{Flushed, Closed, LeftOut, Refused, ToldToTerminate, ToldToQuit, Killed, Redone as HasRedone}}}, Ends.status_by, Runs.{EndsOutside, NotesBehind, Runner}, Work.{ClosesBy, Flushes, HasEntered, IsKeptOut, IsPassing, LeavesIf, ReadsLog, Does as DoesWork}}, pm_board.{declared.views.PastChild.PastChild, Places.is_connection}, pm_supervisor_chain.Chain.{InGeneration, IsAmong, kept_of, redos_of}, pm_exit.{declared.child.{Kind.Kind, Status.Status}, Ends.is_exit_0}, pm_board_life.Lives.MetRightly, Calls.kept_by, Mails.kept_told, pm_supervisor.Children.{is_dead_end, is_startup_child}, pm_worker.{declared.mail.{LinkTold.LinkTold, MailTold.MailTold}, Mails.IsFor, Runs.{Does, IsAuxRun, IsRun, IsSessionRun, Run, told_in}}}
+use Rattle.pm_board_acts.specs.pm_admit.declared.Cac.TheVariants as decisions
+use Rattle.pm_board_acts.specs.pm_aux.Ends as ends
+use Rattle.pm_session_answers.specs.{Own.is_by, pm_session_exchange.{declared.ending.{Stage.{Stage, TheVariants.{Outside, Entering, Greeted}}, Cause.Cause as SessionCause}, Queries.{IsUnreleased, TurnNotes}, Sent.{Turn, Ran, Faulted, NotUtf8, Cancelled, LogIsFull, Memory}}, pm_child_life.{declared.life.GateNo.GateNo, Life.Told}, pm_query.{Calls.{User, LeaveNotes, NotesFault, newcomer}, declared.{book.BookEntry.{BookEntry, TheVariants.{Opened, Attached, Answered, Released, Detached, Gone, Redone, Broke, LogFull, CheckpointEnded}}, store.StoreNo.{StoreNo, TheVariants.{Stale, Disk, Broken, Full, Redo, NoMemory}}}}, pm_session.Session.{AllNotes, BreaksOff, EndsAt, Ending, IsAdmitted, IsInside, IsText, Leaves, NotesOutside, StopsInside}}
+use Rattle.pm_serve_crew.specs.{Redos.{redo_told, told_if}, Uses.{AllBy, HasUsed, IsWorkOf, UsesStore}}
+use Rattle.pm_session_answers.specs.pm_session_exchange.declared.ending.Cause.TheVariants as why
+use Rattle.pm_board_acts.specs.pm_exit.declared.child.Kind.TheVariants as kinds
+use Rattle.pm_store_shared.specs.pm_record.declared.fault.RedoFault.TheVariants as redo
+use Rattle.pm_session_answers.specs.pm_session.Session as session
+use Rattle.pm_board_acts.specs.pm_worker.declared.mail.MailTold.TheVariants as mail
 
 -- the end of redo that a child of this kind and generation tells of that ends by this cause
 abbrev redo_by : ℕ → Kind → AuxiliaryEnd → List InGeneration

@@ -1,17 +1,8 @@
 -- What the workers of a board leave once they were joined.
-use Rattle.std.specs.Prelude.{◌≡◌, ℕ, List, map, None, Some, length, slice_get}
-use Rattle.std.specs.List.{AllByRecursion}
-use Rattle.pm_board.specs.declared.views.PostNotes.{PostNotes}
-use Rattle.pm_board.specs.declared.views.RosterView.{RosterView}
-use Rattle.pm_board.specs.declared.views.Sight.TheVariants.{Gathered}
-use Rattle.pm_board.specs.Heard.{HeardAsSent}
-use Rattle.pm_board.specs.Places.{slot_at}
-use Rattle.pm_query.specs.declared.book.BookEntry.{BookEntry}
-use Rattle.pm_shared.specs.declared.views.Noted.{Noted}
-use Rattle.pm_shared.specs.Log.{IsShuffle, entries_of}
-use Rattle.pm_shared.specs.Places.{EachOnce}
-use Rattle.pm_worker.specs.declared.mail.MailTold.{MailTold}
-use Rattle.pm_worker.specs.Runs.{IsRun, Run, noted_by}
+use Rattle.std.specs.{Prelude.{◌≡◌, ℕ, List, map, None, Some, length, slice_get}, List.AllByRecursion}
+use Rattle.pm_board_acts.specs.{pm_board.{declared.views.{PostNotes.PostNotes, RosterView.RosterView, Sight.TheVariants.Gathered}, Heard.HeardAsSent, Places.slot_at}, pm_worker.{declared.mail.MailTold.MailTold, Runs.{IsRun, Run, noted_by}}}
+use Rattle.pm_session_answers.specs.pm_query.declared.book.BookEntry.{BookEntry}
+use Rattle.pm_store_shared.specs.{declared.views.Noted.Noted, Log.{IsShuffle, entries_of}, Places.EachOnce}
 
 -- what the workers go by: the seed of their keys, the limit of authentication, and the moments that their clocks give
 pub record Manner : Type 1 where

@@ -1,13 +1,7 @@
 -- The pids of the children that slots have had.
-use Rattle.std.specs.Prelude.{◌≡◌, ◌≢◌, ℕ, List, map}
-use Rattle.std.specs.List.{AllByRecursion}
-use Rattle.pm_board.specs.declared.views.RosterView.{RosterView}
-use Rattle.pm_board.specs.Places.{slot_at}
-use Rattle.pm_chain.specs.Chain.{AreDistinct, IsPidOf}
-use Rattle.pm_query.specs.declared.book.BookEntry.{BookEntry}
-use Rattle.pm_answers.specs.Own.{entries_by}
-use Rattle.pm_worker.specs.declared.mail.MailTold.{MailTold}
-use Rattle.pm_worker.specs.Runs.{Run}
+use Rattle.std.specs.{Prelude.{◌≡◌, ◌≢◌, ℕ, List, map}, List.AllByRecursion}
+use Rattle.pm_board_acts.specs.{pm_board.{declared.views.RosterView.RosterView, Places.slot_at}, pm_supervisor_chain.Chain.{AreDistinct, IsPidOf}, pm_worker.{declared.mail.MailTold.MailTold, Runs.Run}}
+use Rattle.pm_session_answers.specs.{pm_query.declared.book.BookEntry.BookEntry, Own.entries_by}
 
 -- of the children of the slot k that were released
 abbrev pub pids_at : RosterView MailTold → ℕ → List ℕ

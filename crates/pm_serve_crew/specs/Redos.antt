@@ -1,16 +1,7 @@
 -- The ends of redo that a supervisor told of, beside what its startup children kept.
-use Rattle.std.specs.Prelude.{◌≡◌, ◌==◌, ℕ, if◌then◌else◌, List, [], ◌∷◌, ◌++◌, map, Option, None, Some}
-use Rattle.std.specs.List.{flat_map}
-use Rattle.pm_state.specs.declared.event.PmEvent.TheVariants as entry
-use Rattle.pm_board.specs.declared.views.PastChild.{PastChild}
-use Rattle.pm_board.specs.declared.views.RosterView.{RosterView}
-use Rattle.pm_board.specs.Places.{slot_at}
-use Rattle.pm_chain.specs.Chain.{InGeneration}
-use Rattle.pm_seating.specs.Board.{ended_of}
-use Rattle.pm_seating.specs.Calls.{kept_by}
-use Rattle.pm_seating.specs.Mails.{kept_told}
-use Rattle.pm_seating.specs.Seating.{Move, Notes, ended_at}
-use Rattle.pm_worker.specs.declared.mail.MailTold.{MailTold}
+use Rattle.std.specs.{Prelude.{◌≡◌, ◌==◌, ℕ, if◌then◌else◌, List, [], ◌∷◌, ◌++◌, map, Option, None, Some}, List.flat_map}
+use Rattle.pm_board_acts.specs.pm_state.declared.event.PmEvent.TheVariants as entry
+use Rattle.pm_board_acts.specs.{pm_board.{declared.views.{PastChild.PastChild, RosterView.RosterView}, Places.slot_at}, pm_supervisor_chain.Chain.InGeneration, Board.ended_of, Calls.kept_by, Mails.kept_told, Seating.{Move, Notes, ended_at}, pm_worker.declared.mail.MailTold.MailTold}
 
 abbrev pub told_if : ℕ → Option ℕ → List InGeneration
 told_if generation None = []

@@ -1,10 +1,7 @@
 -- Whom the supervisor gave up before each generation that it began.
 use Rattle.std.specs.Prelude.{◌≡◌, ℕ, List, [], ◌∷◌, ◌++◌}
-use Rattle.pm_state.specs.declared.event.PmEvent.{PmEvent}
-use Rattle.pm_chain.specs.Chain.{AgreeOnGenerations, gone_from, lost_from}
-use Rattle.pm_shared.specs.declared.views.Noted.{Noted}
-use Rattle.pm_shared.specs.Log.{entries_of}
-use Rattle.pm_shared.specs.Renewed.{AreApart}
+use Rattle.pm_board_acts.specs.{pm_state.declared.event.PmEvent.PmEvent, pm_supervisor_chain.Chain.{AgreeOnGenerations, gone_from, lost_from}}
+use Rattle.pm_store_shared.specs.{declared.views.Noted.Noted, Log.entries_of, Renewed.AreApart}
 
 -- first the lost ones, in that order, and then others, each once and none of the lost
 pub record BeginsWithThose (gone lost : List ℕ) : Type 0 where

@@ -1,14 +1,8 @@
 -- The connections of a server as their clients saw them, by the runs of its children.
 use Rattle.std.specs.Prelude.{◌≡◌, ◌<◌, ℕ, List, [], ◌∷◌}
-use Rattle.pm_admit.specs.declared.Cac.{Cac}
-use Rattle.pm_keys.specs.CancelKey.{cancel_key}
-use Rattle.pm_session.specs.Session.{status_of}
-use Rattle.pm_answers.specs.Replies.{Talk}
-use Rattle.pm_worker.specs.declared.mail.LinkTold.{LinkTold}
-use Rattle.pm_worker.specs.declared.mail.MailTold.{MailTold}
-use Rattle.pm_worker.specs.declared.mail.MailTold.TheVariants as mail
-use Rattle.pm_worker.specs.Mails.{traffic_in}
-use Rattle.pm_worker.specs.Runs.{Run}
+use Rattle.pm_board_acts.specs.{pm_admit.declared.Cac.Cac, pm_keys.CancelKey.cancel_key, pm_worker.{declared.mail.{LinkTold.LinkTold, MailTold.MailTold}, Mails.traffic_in, Runs.Run}}
+use Rattle.pm_session_answers.specs.{pm_session.Session.status_of, Replies.Talk}
+use Rattle.pm_board_acts.specs.pm_worker.declared.mail.MailTold.TheVariants as mail
 
 -- A run that served a connection so decided, as its client saw it: under the key of its pid, with the status of its ending, and with
 -- what passed on the link that came back.

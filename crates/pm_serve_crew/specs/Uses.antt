@@ -1,14 +1,8 @@
 -- How a child used the store, and which end of redo it tells of.
-use Rattle.std.specs.Prelude.{◌≡◌, ◌⊎◌, ℕ, true, false, List, [], ◌∷◌}
-use Rattle.std.specs.List.{AllByRecursion}
-use Rattle.pm_answers.specs.Own.{is_by}
-use Rattle.pm_board.specs.declared.views.PastChild.{PastChild}
-use Rattle.pm_chain.specs.Chain.{IsAmong, kept_of, redos_of}
-use Rattle.pm_query.specs.declared.book.BookEntry.{BookEntry}
-use Rattle.pm_query.specs.declared.book.BookEntry.TheVariants.{Opened, Attached, Redone, Answered, Released, Detached, Gone, CheckpointEnded, Broke, LogFull}
-use Rattle.pm_supervisor.specs.Children.{is_dead_end}
-use Rattle.pm_worker.specs.declared.mail.MailTold.{MailTold}
-use Rattle.pm_crew.specs.Redos.{redo_told}
+use Rattle.std.specs.{Prelude.{◌≡◌, ◌⊎◌, ℕ, true, false, List, [], ◌∷◌}, List.AllByRecursion}
+use Rattle.pm_session_answers.specs.{Own.is_by, pm_query.declared.book.BookEntry.{BookEntry, TheVariants.{Opened, Attached, Redone, Answered, Released, Detached, Gone, CheckpointEnded, Broke, LogFull}}}
+use Rattle.pm_board_acts.specs.{pm_board.declared.views.PastChild.PastChild, pm_supervisor_chain.Chain.{IsAmong, kept_of, redos_of}, pm_supervisor.Children.is_dead_end, pm_worker.declared.mail.MailTold.MailTold}
+use Rattle.pm_serve_crew.specs.Redos.{redo_told}
 
 -- all of them are entries of this child
 abbrev pub AllBy : ℕ → List BookEntry → Type 0

@@ -1,60 +1,12 @@
 -- The laws: the first crash of a server's journal has a cause, and a server that ends after a crash has had one.
-use Rattle.std.proofs.Common.{◌≡◌, ◌⊎◌, inl, inr, ℕ, ◌+◌, ◌<◌, ◌≤◌, Bool, true, false, not, cond, ◌&&◌, ◌||◌, List, [], ◌∷◌, ◌++◌, Option, refl, sym, ap, subst, ◌∙◌, arith, append_assoc}
-use Rattle.std.specs.Prelude.{is_some}
-use Rattle.std.specs.List.{AllByRecursion, fold}
-use Rattle.std.proofs.lemmas.Bool.{both_ways, false≢true, true≢false}
-use Rattle.std.proofs.lemmas.List.Elements.{recursion_from_All}
-use Rattle.pm_facts.specs.Lists.{each_first, each_last}
-use Rattle.pm_disk.specs.Cause.{Rose}
-use Rattle.pm_exit.specs.declared.child.Class.TheVariants as class
-use Rattle.pm_exit.specs.declared.child.Kind.{Kind}
-use Rattle.pm_exit.specs.declared.child.Kind.TheVariants as kinds
-use Rattle.pm_exit.specs.declared.child.Status.TheVariants.{Code}
-use Rattle.pm_exit.specs.Ends.{is_exit_0, is_exit_1}
-use Rattle.pm_supervisor.specs.declared.Limits.{Limits}
-use Rattle.pm_supervisor.specs.declared.Reason.{Reason}
-use Rattle.pm_supervisor.specs.declared.Reason.TheVariants.{Crash, Stop}
-use Rattle.pm_supervisor.specs.Steps.{is_normal}
-use Rattle.pm_state.specs.declared.action.Action.{Action}
-use Rattle.pm_state.specs.declared.event.PmEvent.{PmEvent}
-use Rattle.pm_state.specs.declared.event.PmEvent.TheVariants as entry
-use Rattle.pm_state.specs.declared.machine.Machine.{Machine}
-use Rattle.pm_state.specs.Exits.{is_shutdown}
-use Rattle.pm_state.specs.Laws.{RestartsSafely}
-use Rattle.pm_state.specs.Promises.{has_act, is_ask_checkpoint, is_terminate}
-use Rattle.pm_state.specs.Journal.{IsLegal, Replay, all_replayed, replay_begun, replayed}
-use Rattle.pm_state.specs.ReplayLaws.{acts_in, ends_at, legal_behind, legal_front}
-use Rattle.pm_life.specs.Life.{Checkpoint, Quit, Told, was_told}
-use Rattle.pm_journal.specs.Stands.{any_moment}
-use Rattle.pm_board.specs.declared.views.RosterStep.{RosterStep}
-use Rattle.pm_board.specs.declared.views.RosterStep.TheVariants as step
-use Rattle.pm_board.specs.declared.views.RosterView.{RosterView}
-use Rattle.pm_board.specs.Heard.{IsKnownAtLast}
-use Rattle.pm_board.specs.Latches.{HeardRightly, NoticedBefore, times_given, times_sent}
-use Rattle.pm_board.specs.BoardLaws.{sent-append}
-use Rattle.pm_query.specs.declared.book.BookEntry.{BookEntry}
-use Rattle.pm_query.specs.declared.book.BookEntry.TheVariants.{Broke}
-use Rattle.pm_segment.specs.Moves.{IsShown}
-use Rattle.pm_segment.specs.Unread.{is_break}
-use Rattle.pm_server.specs.CalmLaws.{is_closing, shuts}
-use Rattle.pm_server.specs.Views.{DiskView}
-use Rattle.pm_remains.specs.Remains.{Remains}
-use Rattle.pm_seating.specs.FoldingLaws.{seating-append, steps-append}
-use Rattle.pm_seating.specs.Seating.{Ended, Move, Notes, Seating, board_steps, empty, entries_from, journal_of, seating_by, seating_from, seating_of, steps_from}
-use Rattle.pm_shared.specs.declared.views.Noted.{Noted}
-use Rattle.pm_worker.specs.declared.mail.MailTold.{MailTold}
-use Rattle.pm_worker.specs.Runs.{told_in}
-use Rattle.pm_crew.specs.Left.{Manner}
-use Rattle.pm_crew.specs.PidsLaws.{pids_in}
-use Rattle.pm_chain.specs.Chain.{IsPidOf}
-use Rattle.pm_blame.specs.Crashes.{HasNoCrash, IsFirstCrash, IsHarmless, IsUnasked, is_crash, stands_behind}
-use Rattle.pm_blame.specs.Causes.{HasCause, IsBlamed, IsUnbroken, IsUnprovoked}
-use Rattle.pm_blame.specs.CalmLaws.{IsCalm, SoFar, nothing_so_far, told_after}
-use Rattle.pm_blame.specs.JournalLaws.{StaysCalm, checkpointer_there, never_again, stays_calm}
-use Rattle.pm_blame.specs.RunsLaws.{Outcome, EndedFine, WasKilled, WasToldToQuit, MetNotice, GaveUp, DiskFailed, HadNoRedo, WasShort, WasSpent, FoundOther, IsFineAs, outcome}
-use Rattle.pm_blame.specs.GivenLaws.{checkpoint_given, kill_given, number_of, quit_given, terminate_given}
-use Rattle.pm_blame.specs.SendsLaws.{SitsNowhere, final_sends, may_send, not_noticed, nowhere_from, quiet, unreached, unsent}
-use Rattle.pm_blame.specs.FindLaws.{IsKnownRun, NotedAt, RunOf, gone, its_run, near, noted_at}
+use Rattle.std.{proofs.{Common.{◌≡◌, ◌⊎◌, inl, inr, ℕ, ◌+◌, ◌<◌, ◌≤◌, Bool, true, false, not, cond, ◌&&◌, ◌||◌, List, [], ◌∷◌, ◌++◌, Option, refl, sym, ap, subst, ◌∙◌, arith, append_assoc}, lemmas.{Bool.{both_ways, false≢true, true≢false}, List.Elements.recursion_from_All}}, specs.{Prelude.is_some, List.{AllByRecursion, fold}}}
+use Rattle.pm_serve_crew.{specs.{pm_facts.Lists.{each_first, each_last}, pm_exit.{declared.child.{Kind.Kind, Status.TheVariants.Code}, Ends.{is_exit_0, is_exit_1}}, pm_supervisor.{declared.{Limits.Limits, Reason.{Reason, TheVariants.{Crash, Stop}}}, Steps.is_normal}, pm_state.{declared.{action.Action.Action, event.PmEvent.PmEvent, machine.Machine.Machine}, Exits.is_shutdown, Laws.RestartsSafely, Promises.{has_act, is_ask_checkpoint, is_terminate}, Journal.{IsLegal, Replay, all_replayed, replay_begun, replayed}}, pm_child_life.Life.{Checkpoint, Quit, Told, was_told}, pm_supervisor_journal.Stands.any_moment, pm_board.{declared.views.{RosterStep.RosterStep, RosterView.RosterView}, Heard.IsKnownAtLast, Latches.{HeardRightly, NoticedBefore, times_given, times_sent}}, pm_query.declared.book.BookEntry.{BookEntry, TheVariants.Broke}, pm_segment.{Moves.IsShown, Unread.is_break}, pm_board_acts.Seating.{Ended, Move, Notes, Seating, board_steps, empty, entries_from, journal_of, seating_by, seating_from, seating_of, steps_from}, pm_store_shared.declared.views.Noted.Noted, pm_worker.{declared.mail.MailTold.MailTold, Runs.told_in}, Left.Manner, pm_supervisor_chain.Chain.IsPidOf}, proofs.{pm_board.BoardLaws.sent-append, pm_board_acts.FoldingLaws.{seating-append, steps-append}, PidsLaws.pids_in}}
+use Rattle.pm_store_remains.{specs.{pm_disk.Cause.Rose, pm_server.Views.DiskView, Remains.Remains}, proofs.{pm_state.ReplayLaws.{acts_in, ends_at, legal_behind, legal_front}, pm_server.CalmLaws.{is_closing, shuts}}}
+use Rattle.pm_serve_crew.specs.pm_exit.declared.child.Class.TheVariants as class
+use Rattle.pm_serve_crew.specs.pm_exit.declared.child.Kind.TheVariants as kinds
+use Rattle.pm_serve_crew.specs.pm_state.declared.event.PmEvent.TheVariants as entry
+use Rattle.pm_serve_crew.specs.pm_board.declared.views.RosterStep.TheVariants as step
+use Rattle.pm_serve_first_crash.{specs.{Crashes.{HasNoCrash, IsFirstCrash, IsHarmless, IsUnasked, is_crash, stands_behind}, Causes.{HasCause, IsBlamed, IsUnbroken, IsUnprovoked}}, proofs.{CalmLaws.{IsCalm, SoFar, nothing_so_far, told_after}, JournalLaws.{StaysCalm, checkpointer_there, never_again, stays_calm}, RunsLaws.{Outcome, EndedFine, WasKilled, WasToldToQuit, MetNotice, GaveUp, DiskFailed, HadNoRedo, WasShort, WasSpent, FoundOther, IsFineAs, outcome}, GivenLaws.{checkpoint_given, kill_given, number_of, quit_given, terminate_given}, SendsLaws.{SitsNowhere, final_sends, may_send, not_noticed, nowhere_from, quiet, unreached, unsent}, FindLaws.{IsKnownRun, NotedAt, RunOf, gone, its_run, near, noted_at}}}
 
 -- ---- which signals were sent before the first crash
 

@@ -1,33 +1,14 @@
 -- Before the first crash of a journal that nobody outside disturbs, no child is told to end at once and none is killed, no other
 -- generation begins, and the last checkpoint and the end of sessions are asked for in a shutdown alone.
-use Rattle.std.proofs.Common.{◌≡◌, ℕ, Bool, true, false, not, cond, ◌&&◌, ◌||◌, List, [], ◌∷◌, refl, sym, ap, subst, arith}
-use Rattle.std.specs.Prelude.{is_some}
-use Rattle.std.proofs.lemmas.Bool.{and_parts, true≢false}
-use Rattle.pm_exit.specs.declared.child.Kind.{Kind}
-use Rattle.pm_exit.specs.declared.child.Kind.TheVariants as kind
-use Rattle.pm_exit.specs.declared.child.Status.{Status}
-use Rattle.pm_exit.specs.declared.child.Class.TheVariants as class
-use Rattle.pm_exit.specs.Ends.{is_exit_0, is_exit_1}
-use Rattle.pm_modes.specs.declared.Mode.{Mode}
-use Rattle.pm_modes.specs.declared.Mode.TheVariants.{Smart, Fast, Immediate}
-use Rattle.pm_modes.specs.Strength.{strengthen_of}
-use Rattle.pm_admit.specs.Admission.{decide_of}
-use Rattle.pm_supervisor.specs.declared.Ending.TheVariants as ending
-use Rattle.pm_supervisor.specs.Steps.{is_normal}
-use Rattle.pm_supervisor.specs.Supervisor.{Shared}
-use Rattle.pm_state.specs.declared.action.Action.{Action}
-use Rattle.pm_state.specs.declared.action.Action.TheVariants as act
-use Rattle.pm_state.specs.declared.event.PmEvent.{PmEvent}
-use Rattle.pm_state.specs.declared.event.PmEvent.TheVariants as entry
-use Rattle.pm_state.specs.declared.machine.Machine.{Machine}
-use Rattle.pm_state.specs.Exits.{crash_rule, is_shutdown, less_one, startup_exited, unless_normal}
-use Rattle.pm_state.specs.Machine.{Exited, accepted_as, started_as, step, view_of}
-use Rattle.pm_state.specs.Promises.{has_act, is_terminate}
-use Rattle.pm_state.specs.Requests.{asked_with, ticked_at}
-use Rattle.pm_state.specs.TurnRules.{backends_gone, children_gone, dead_ends_gone, end_smart, is_not_running, restart_writer, start_recovery, stop_backends}
-use Rattle.pm_state.specs.Journal.{Do, Fits, reported, row_of, settled}
-use Rattle.pm_server.specs.CalmLaws as machine
-use Rattle.pm_blame.specs.Crashes.{IsHarmless, IsUnasked, is_crash}
+use Rattle.std.{proofs.{Common.{◌≡◌, ℕ, Bool, true, false, not, cond, ◌&&◌, ◌||◌, List, [], ◌∷◌, refl, sym, ap, subst, arith}, lemmas.Bool.{and_parts, true≢false}}, specs.Prelude.is_some}
+use Rattle.pm_serve_crew.specs.{pm_exit.{declared.child.{Kind.Kind, Status.Status}, Ends.{is_exit_0, is_exit_1}}, pm_modes.{declared.Mode.{Mode, TheVariants.{Smart, Fast, Immediate}}, Strength.strengthen_of}, pm_admit.Admission.decide_of, pm_supervisor.{Steps.is_normal, Supervisor.Shared}, pm_state.{declared.{action.Action.Action, event.PmEvent.PmEvent, machine.Machine.Machine}, Exits.{crash_rule, is_shutdown, less_one, startup_exited, unless_normal}, Machine.{Exited, accepted_as, started_as, step, view_of}, Promises.{has_act, is_terminate}, Requests.{asked_with, ticked_at}, TurnRules.{backends_gone, children_gone, dead_ends_gone, end_smart, is_not_running, restart_writer, start_recovery, stop_backends}, Journal.{Do, Fits, reported, row_of, settled}}}
+use Rattle.pm_serve_crew.specs.pm_exit.declared.child.Kind.TheVariants as kind
+use Rattle.pm_serve_crew.specs.pm_exit.declared.child.Class.TheVariants as class
+use Rattle.pm_serve_crew.specs.pm_supervisor.declared.Ending.TheVariants as ending
+use Rattle.pm_serve_crew.specs.pm_state.declared.action.Action.TheVariants as act
+use Rattle.pm_serve_crew.specs.pm_state.declared.event.PmEvent.TheVariants as entry
+use Rattle.pm_store_remains.proofs.pm_server.CalmLaws as machine
+use Rattle.pm_serve_first_crash.specs.Crashes.{IsHarmless, IsUnasked, is_crash}
 
 -- ---- what holds
 

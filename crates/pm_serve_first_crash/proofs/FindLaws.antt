@@ -1,38 +1,8 @@
 -- The move that notes the end of a child, and the run that this is the end of.
-use Rattle.std.proofs.Common.{◌≡◌, ◌≢◌, ◌⊎◌, inl, inr, ℕ, zero, suc, ◌<◌, Bool, true, false, cond, List, [], ◌∷◌, ◌++◌, Option, None, Some, get_or, length, map, nat_eq, refl, set, sym, ap, subst, ◌∙◌, arith}
-use Rattle.std.specs.Prelude.{slice_index_or, replicate}
-use Rattle.std.specs.List.{AllByRecursion, Contains, flat_map}
-use Rattle.std.proofs.lemmas.Grind.{flat_map-append}
-use Rattle.std.proofs.lemmas.Option.{slice_get-get_or}
-use Rattle.std.proofs.lemmas.Bool.{eq-eqb}
-use Rattle.pm_state.specs.declared.event.PmEvent.{PmEvent}
-use Rattle.pm_state.specs.declared.event.PmEvent.TheVariants as entry
-use Rattle.pm_board.specs.declared.views.Heard.{Heard}
-use Rattle.pm_board.specs.declared.views.PastChild.{PastChild}
-use Rattle.pm_board.specs.declared.views.RosterView.{RosterView}
-use Rattle.pm_board.specs.declared.views.Sight.TheVariants.{Unused}
-use Rattle.pm_board.specs.declared.views.SlotView.{SlotView}
-use Rattle.pm_board.specs.Heard.{IsKnownAtLast}
-use Rattle.pm_board.specs.Latches.{EachHeard, HeardBy}
-use Rattle.pm_board.specs.Places.{slot_at, slot_view}
-use Rattle.pm_chain.specs.Chain.{IsPidOf}
-use Rattle.pm_journal.specs.declared.roll.Enrolled.{Enrolled}
-use Rattle.pm_query.specs.declared.book.BookEntry.{BookEntry}
-use Rattle.pm_answers.specs.Own.{is_by, entries_by as own_entries}
-use Rattle.pm_seating.specs.Board.{ended_of, seat_at}
-use Rattle.pm_seating.specs.FoldingLaws.{begun-append}
-use Rattle.pm_seating.specs.Seating.{Ended, Kill, Move, Nothing, Notes, PidsEnd, PortEnds, Reads, Request, Seating, Stop, asked_by, begun_at, begun_from, empty, ended_at, ended_by, ends, entries_by, entries_from, is_seated, seating_by, seating_from}
-use Rattle.pm_seating.specs.Standing.{IsBoardOf}
-use Rattle.pm_seating.specs.EndedLaws.{Among, among_behind, among_front}
-use Rattle.pm_shared.specs.declared.views.Noted.{Noted}
-use Rattle.pm_worker.specs.declared.mail.MailTold.{MailTold}
-use Rattle.pm_worker.specs.Runs.{IsRun, Run}
-use Rattle.pm_crew.specs.EntriesLaws.{entries_of_runs}
-use Rattle.pm_crew.specs.Left.{AreLeft, IsWorked, Manner}
-use Rattle.pm_crew.specs.Pids.{AreEntriesOf, AreUsedOnce}
-use Rattle.pm_blame.specs.Causes.{IsUnbroken}
-use Rattle.pm_crew.specs.PidsLaws.{begun_pids, pid_either, pids_of_past}
-use Rattle.pm_blame.specs.SendsLaws.{SitsNowhere, nowhere, pids_of_append, sat_or_began, seat_set}
+use Rattle.std.{proofs.{Common.{◌≡◌, ◌≢◌, ◌⊎◌, inl, inr, ℕ, zero, suc, ◌<◌, Bool, true, false, cond, List, [], ◌∷◌, ◌++◌, Option, None, Some, get_or, length, map, nat_eq, refl, set, sym, ap, subst, ◌∙◌, arith}, lemmas.{Grind.flat_map-append, Option.slice_get-get_or, Bool.eq-eqb}}, specs.{Prelude.{slice_index_or, replicate}, List.{AllByRecursion, Contains, flat_map}}}
+use Rattle.pm_serve_crew.{specs.{pm_state.declared.event.PmEvent.PmEvent, pm_board.{declared.views.{Heard.Heard, PastChild.PastChild, RosterView.RosterView, Sight.TheVariants.Unused, SlotView.SlotView}, Heard.IsKnownAtLast, Latches.{EachHeard, HeardBy}, Places.{slot_at, slot_view}}, pm_supervisor_chain.Chain.IsPidOf, pm_supervisor_journal.declared.roll.Enrolled.Enrolled, pm_query.declared.book.BookEntry.BookEntry, pm_session_answers.Own.{is_by, entries_by as own_entries}, pm_board_acts.{Board.{ended_of, seat_at}, Seating.{Ended, Kill, Move, Nothing, Notes, PidsEnd, PortEnds, Reads, Request, Seating, Stop, asked_by, begun_at, begun_from, empty, ended_at, ended_by, ends, entries_by, entries_from, is_seated, seating_by, seating_from}, Standing.IsBoardOf}, pm_store_shared.declared.views.Noted.Noted, pm_worker.{declared.mail.MailTold.MailTold, Runs.{IsRun, Run}}, Left.{AreLeft, IsWorked, Manner}, Pids.{AreEntriesOf, AreUsedOnce}}, proofs.{pm_board_acts.{FoldingLaws.begun-append, EndedLaws.{Among, among_behind, among_front}}, EntriesLaws.entries_of_runs, PidsLaws.{begun_pids, pid_either, pids_of_past}}}
+use Rattle.pm_serve_crew.specs.pm_state.declared.event.PmEvent.TheVariants as entry
+use Rattle.pm_serve_first_crash.{specs.Causes.IsUnbroken, proofs.SendsLaws.{SitsNowhere, nowhere, pids_of_append, sat_or_began, seat_set}}
 
 -- ---- the move
 

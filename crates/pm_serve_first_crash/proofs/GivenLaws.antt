@@ -1,20 +1,6 @@
 -- A child that was told something was given it in some answer.
-use Rattle.std.proofs.Common.{◌≡◌, ◌⊎◌, inl, inr, ℕ, zero, suc, ◌+◌, ◌<◌, Bool, true, false, List, [], ◌∷◌, ◌++◌, Option, None, Some, refl, sym, ap, ◌∙◌, arith}
-use Rattle.std.specs.Prelude.{map, nat_eq}
-use Rattle.std.specs.List.{AllByRecursion, fold}
-use Rattle.std.proofs.lemmas.List.Elements.{All-contains, All-from_recursion}
-use Rattle.std.proofs.lemmas.Bool.{eq-eqb}
-use Rattle.pm_facts.specs.Lists.{each_both}
-use Rattle.pm_facts.specs.Numbers.{above_zero}
-use Rattle.pm_supervisor.specs.declared.Reason.{Reason}
-use Rattle.pm_supervisor.specs.declared.Reason.TheVariants.{Crash, Stop}
-use Rattle.pm_life.specs.declared.life.Signals.{Signals}
-use Rattle.pm_life.specs.Life.{Signal, Kill, Quit, Terminate, Cancel, Checkpoint, Told, asked_again, nothing_told, one_if, quit_in, signals_in, was_told}
-use Rattle.pm_board.specs.declared.views.Heard.{Heard}
-use Rattle.pm_board.specs.Latch.{is_crash, is_given, is_stop}
-use Rattle.pm_board.specs.Latches.{times_given}
-use Rattle.pm_board.specs.Words.{bit}
-use Rattle.pm_post_life.specs.Lives.{told_by}
+use Rattle.std.{proofs.{Common.{◌≡◌, ◌⊎◌, inl, inr, ℕ, ◌+◌, ◌<◌, Bool, true, false, List, [], ◌∷◌, ◌++◌, Option, None, Some, refl, sym, ap, ◌∙◌, arith}, lemmas.{List.Elements.{All-contains, All-from_recursion}, Bool.eq-eqb}}, specs.{Prelude.{map, nat_eq}, List.{AllByRecursion, fold}}}
+use Rattle.pm_serve_crew.specs.{pm_facts.{Lists.each_both, Numbers.above_zero}, pm_supervisor.declared.Reason.{Reason, TheVariants.{Crash, Stop}}, pm_child_life.{declared.life.Signals.Signals, Life.{Signal, Kill, Quit, Terminate, Cancel, Checkpoint, Told, asked_again, nothing_told, one_if, quit_in, signals_in, was_told}}, pm_board.{declared.views.Heard.Heard, Latch.{is_crash, is_given, is_stop}, Latches.times_given, Words.bit}, pm_board_life.Lives.told_by}
 
 -- the number of a signal that a child takes; a cancel has none of a latch
 abbrev pub number_of : Signal → ℕ

@@ -1,32 +1,12 @@
 -- Before its first crash a whole journal is calm, and who is there was begun before.
-use Rattle.std.proofs.Common.{◌≡◌, ◌⊎◌, inl, inr, ℕ, ◌+◌, ◌≤◌, Bool, true, false, cond, ◌&&◌, List, [], ◌∷◌, ◌++◌, refl, sym, ap, arith}
-use Rattle.std.specs.Prelude.{IsSomeAnd, Some, is_none, nat_eq}
-use Rattle.std.specs.List.{AllByRecursion, fold}
-use Rattle.std.proofs.lemmas.Bool.{eqb-true}
-use Rattle.pm_exit.specs.declared.child.Kind.{Kind}
-use Rattle.pm_exit.specs.declared.child.Kind.TheVariants as kind
-use Rattle.pm_exit.specs.declared.child.Status.{Status}
-use Rattle.pm_exit.specs.Ends.{is_exit_0}
-use Rattle.pm_modes.specs.Strength.{strengthen_of}
-use Rattle.pm_supervisor.specs.declared.Limits.{Limits}
-use Rattle.pm_supervisor.specs.Children.{Child, child_of, count_of, is_checkpointer, is_startup_child, without}
-use Rattle.pm_supervisor.specs.Steps.{shared_after}
-use Rattle.pm_supervisor.specs.Steps as supervisor
-use Rattle.pm_state.specs.declared.action.Action.{Action}
-use Rattle.pm_state.specs.declared.event.PmEvent.{PmEvent}
-use Rattle.pm_state.specs.declared.event.PmEvent.TheVariants as entry
-use Rattle.pm_state.specs.Laws.{RestartsSafely}
-use Rattle.pm_state.specs.Machine.{Exited, begun, step}
-use Rattle.pm_state.specs.Requests.{asked_with}
-use Rattle.pm_state.specs.Restarts.{Counts}
-use Rattle.pm_state.specs.TurnRules.{is_not_running}
-use Rattle.pm_state.specs.Journal.{AreLegal, Follows, IsLegal, MayCome, Replay, all_replayed, caused, dues_after, replay_begun, replayed, reported}
-use Rattle.pm_state.specs.ReplayLaws.{AreCounted, Behind, Ends, Keeps, acts_behind_redo, acts_in, acts_in_dues, are_counted, ends_at, first_on, follows_on, legal_behind, legal_front, rested, startup_there, there_counts, was_there}
-use Rattle.pm_chain.specs.Chain.{IsPidOf}
-use Rattle.pm_crew.specs.PidsLaws.{RiseAbove, pid_either, pids_by, pids_below, pids_in, pids_rise}
-use Rattle.pm_server.specs.CalmLaws as machine
-use Rattle.pm_blame.specs.Crashes.{HasNoCrash, IsHarmless, IsUnasked, is_crash}
-use Rattle.pm_blame.specs.CalmLaws.{IsCalm, SoFar, accepted_calm, act_calm, asked_calm, left_calm, no_kill, nothing_so_far, row_calm, settled_calm, told_after}
+use Rattle.std.{proofs.{Common.{◌≡◌, ◌⊎◌, inl, inr, ℕ, ◌≤◌, Bool, true, false, cond, ◌&&◌, List, [], ◌∷◌, ◌++◌, refl, sym, ap, arith}, lemmas.Bool.eqb-true}, specs.{Prelude.{IsSomeAnd, Some, is_none, nat_eq}, List.{AllByRecursion, fold}}}
+use Rattle.pm_serve_crew.{specs.{pm_exit.{declared.child.{Kind.Kind, Status.Status}, Ends.is_exit_0}, pm_modes.Strength.strengthen_of, pm_supervisor.{declared.Limits.Limits, Children.{Child, child_of, count_of, is_checkpointer, is_startup_child, without}, Steps.shared_after}, pm_state.{declared.{action.Action.Action, event.PmEvent.PmEvent}, Laws.RestartsSafely, Machine.{Exited, begun, step}, Requests.asked_with, Restarts.Counts, TurnRules.is_not_running, Journal.{AreLegal, Follows, IsLegal, MayCome, Replay, all_replayed, caused, dues_after, replay_begun, replayed, reported}}, pm_supervisor_chain.Chain.IsPidOf}, proofs.PidsLaws.{RiseAbove, pid_either, pids_by, pids_below, pids_in, pids_rise}}
+use Rattle.pm_serve_crew.specs.pm_exit.declared.child.Kind.TheVariants as kind
+use Rattle.pm_serve_crew.specs.pm_supervisor.Steps as supervisor
+use Rattle.pm_serve_crew.specs.pm_state.declared.event.PmEvent.TheVariants as entry
+use Rattle.pm_store_remains.proofs.pm_state.ReplayLaws.{AreCounted, Behind, Ends, Keeps, acts_behind_redo, acts_in, acts_in_dues, are_counted, ends_at, first_on, follows_on, legal_behind, legal_front, rested, startup_there, there_counts, was_there}
+use Rattle.pm_store_remains.proofs.pm_server.CalmLaws as machine
+use Rattle.pm_serve_first_crash.{specs.Crashes.{HasNoCrash, IsHarmless, IsUnasked, is_crash}, proofs.CalmLaws.{IsCalm, SoFar, accepted_calm, act_calm, asked_calm, left_calm, no_kill, nothing_so_far, row_calm, settled_calm, told_after}}
 
 -- ---- one entry
 

@@ -1,48 +1,14 @@
 -- What a run of a child came to: it ended as it should, or by one of these causes.
-use Rattle.std.proofs.Common.{◌≡◌, ◌⊎◌, inl, inr, ℕ, Bool, true, false, ◌||◌, List, [], ◌∷◌, ◌++◌, Option, Some, None, Result, Ok, Err, refl, sym, ap, subst, ◌∙◌}
-use Rattle.std.specs.Prelude.{is_some}
-use Rattle.pm_disk.specs.Cause.{Rose}
-use Rattle.pm_exit.specs.declared.child.Kind.{Kind}
-use Rattle.pm_exit.specs.declared.child.Kind.TheVariants as kinds
-use Rattle.pm_exit.specs.declared.child.Status.{Status}
-use Rattle.pm_exit.specs.declared.child.Status.TheVariants.{Code, Signal}
-use Rattle.pm_exit.specs.Ends.{is_exit_0, is_exit_1}
-use Rattle.pm_admit.specs.declared.Cac.{Cac}
-use Rattle.pm_supervisor.specs.declared.Reason.{Reason}
-use Rattle.pm_supervisor.specs.Children.{is_session}
-use Rattle.pm_life.specs.declared.life.GateNo.{GateNo}
-use Rattle.pm_life.specs.declared.life.GateNo.TheVariants as gate_no
-use Rattle.pm_life.specs.Life.{Told, Kill, Quit, Terminate, Checkpoint, was_told}
-use Rattle.pm_record.specs.declared.fault.RedoFault.TheVariants as redo
-use Rattle.pm_query.specs.declared.book.BookEntry.{BookEntry}
-use Rattle.pm_query.specs.declared.book.BookEntry.TheVariants.{Attached, Broke}
-use Rattle.pm_query.specs.declared.store.StoreNo.{StoreNo}
-use Rattle.pm_query.specs.declared.store.StoreNo.TheVariants.{Stale, Disk, Broken, Full, Redo, NoMemory}
-use Rattle.pm_query.specs.Calls.{User, NotesFault}
-use Rattle.pm_exchange.specs.declared.ending.Cause.{Cause as SessionCause}
-use Rattle.pm_exchange.specs.declared.ending.Cause.TheVariants as why
-use Rattle.pm_exchange.specs.declared.ending.Stage.{Stage}
-use Rattle.pm_exchange.specs.declared.ending.Stage.TheVariants.{Outside, Entering, Greeted}
-use Rattle.pm_exchange.specs.Ends.{LetsGo, status_by as session_status}
-use Rattle.pm_startup.specs.declared.packet.StartFault.TheVariants as start
-use Rattle.pm_exchange.specs.Sent.{Turn}
-use Rattle.pm_session.specs.Session.{CausedBy, Ending, EndsAt, IsAttachedAt, IsText, TurnsAway}
-use Rattle.pm_aux.specs.declared.aux_done.AuxDone.{AuxDone}
-use Rattle.pm_aux.specs.declared.cause.AuxiliaryEnd.{AuxiliaryEnd}
-use Rattle.pm_aux.specs.declared.cause.AuxiliaryEnd.TheVariants.{Redone, Flushed, Closed, LeftOut, Refused, TurnedAway, ToldToTerminate, ToldToQuit, Killed}
-use Rattle.pm_aux.specs.Ends.{fault_by, kept_by, status_by}
-use Rattle.pm_aux.specs.Runs.{EndsOutside, MayBeShort, NotesBehind, Runner, user_in}
-use Rattle.pm_aux.specs.Signals.{IsToldTo}
-use Rattle.pm_aux.specs.Work.{HasEntered, IsKeptOut}
-use Rattle.pm_board.specs.Places.{is_connection}
-use Rattle.pm_worker.specs.declared.mail.LinkTold.{LinkTold}
-use Rattle.pm_worker.specs.declared.mail.MailTold.{MailTold}
-use Rattle.pm_worker.specs.declared.mail.MailTold.TheVariants as mail
-use Rattle.pm_post_life.specs.Lives.{MetRightly}
-use Rattle.pm_worker.specs.Mails.{IsFor, traffic_in}
-use Rattle.pm_worker.specs.Runs.{Does, IsAuxRun, IsRun, IsSessionRun, Run, close_run, told_in}
-use Rattle.pm_crew.specs.Left.{Manner}
-use Rattle.pm_blame.specs.Causes.{CannotRedo, FoundAnother, IsUnbroken, WasRefused}
+use Rattle.std.{proofs.Common.{◌≡◌, ◌⊎◌, inl, inr, ℕ, Bool, true, false, ◌||◌, List, [], ◌∷◌, ◌++◌, Option, Some, None, Result, Ok, Err, refl, sym, ap, subst, ◌∙◌}, specs.Prelude.is_some}
+use Rattle.pm_store_remains.specs.pm_disk.Cause.{Rose}
+use Rattle.pm_serve_crew.specs.{pm_exit.{declared.child.{Kind.Kind, Status.{Status, TheVariants.{Code, Signal}}}, Ends.{is_exit_0, is_exit_1}}, pm_admit.declared.Cac.Cac, pm_supervisor.{declared.Reason.Reason, Children.is_session}, pm_child_life.{declared.life.GateNo.GateNo, Life.{Told, Kill, Quit, Terminate, Checkpoint, was_told}}, pm_query.{declared.{book.BookEntry.{BookEntry, TheVariants.{Attached, Broke}}, store.StoreNo.{StoreNo, TheVariants.{Stale, Disk, Broken, Full, Redo, NoMemory}}}, Calls.{User, NotesFault}}, pm_session_exchange.{declared.ending.{Cause.Cause as SessionCause, Stage.{Stage, TheVariants.{Outside, Entering, Greeted}}}, Ends.{LetsGo, status_by as session_status}, Sent.Turn}, pm_session.Session.{CausedBy, Ending, EndsAt, IsAttachedAt, IsText, TurnsAway}, pm_aux.{declared.{aux_done.AuxDone.AuxDone, cause.AuxiliaryEnd.{AuxiliaryEnd, TheVariants.{Redone, Flushed, Closed, LeftOut, Refused, TurnedAway, ToldToTerminate, ToldToQuit, Killed}}}, Ends.{fault_by, kept_by, status_by}, Runs.{EndsOutside, MayBeShort, NotesBehind, Runner, user_in}, Signals.IsToldTo, Work.{HasEntered, IsKeptOut}}, pm_board.Places.is_connection, pm_worker.{declared.mail.{LinkTold.LinkTold, MailTold.MailTold}, Mails.{IsFor, traffic_in}, Runs.{Does, IsAuxRun, IsRun, IsSessionRun, Run, close_run, told_in}}, pm_board_life.Lives.MetRightly, Left.Manner}
+use Rattle.pm_serve_crew.specs.pm_exit.declared.child.Kind.TheVariants as kinds
+use Rattle.pm_serve_crew.specs.pm_child_life.declared.life.GateNo.TheVariants as gate_no
+use Rattle.pm_store_remains.specs.pm_record.declared.fault.RedoFault.TheVariants as redo
+use Rattle.pm_serve_crew.specs.pm_session_exchange.declared.ending.Cause.TheVariants as why
+use Rattle.pm_store_remains.specs.pm_startup.declared.packet.StartFault.TheVariants as start
+use Rattle.pm_serve_crew.specs.pm_worker.declared.mail.MailTold.TheVariants as mail
+use Rattle.pm_serve_first_crash.specs.Causes.{CannotRedo, FoundAnother, IsUnbroken, WasRefused}
 
 -- as a child of this kind ends by itself, a checkpointer once it was told to make the last checkpoint
 abbrev pub IsFineAs : Kind → Status → Bool → Told → Type 0

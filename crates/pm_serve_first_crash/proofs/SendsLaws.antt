@@ -1,31 +1,10 @@
 -- Which signals the moves of a supervisor send to a child, and whom they reach.
-use Rattle.std.proofs.Common.{◌≡◌, ◌≢◌, ◌⊎◌, inl, inr, ℕ, zero, suc, ◌+◌, ◌<◌, Bool, true, false, cond, List, [], ◌∷◌, ◌++◌, Option, None, Some, length, refl, sym, ap, subst, ◌∙◌, arith, set}
-use Rattle.std.specs.Prelude.{IfSome, nat_eq, ◌&&◌}
-use Rattle.std.specs.List.{AllByRecursion, flat_map}
-use Rattle.std.proofs.lemmas.Bool.{ne_eqb}
-use Rattle.pm_facts.specs.Lists.{each_both, each_first, each_second}
-use Rattle.pm_exit.specs.declared.child.Kind.{Kind}
-use Rattle.pm_supervisor.specs.declared.Reason.{Reason}
-use Rattle.pm_supervisor.specs.Steps.{kind_for}
-use Rattle.pm_state.specs.declared.event.PmEvent.{PmEvent}
-use Rattle.pm_state.specs.declared.event.PmEvent.TheVariants as entry
-use Rattle.pm_board.specs.declared.views.RosterStep.{RosterStep}
-use Rattle.pm_board.specs.declared.views.RosterStep.TheVariants as step
-use Rattle.pm_board.specs.declared.views.Signal.{Signal}
-use Rattle.pm_board.specs.declared.views.Signal.TheVariants as signal
-use Rattle.pm_board.specs.Latch.{signal_number}
-use Rattle.pm_board.specs.Latches.{NotReleased, times_sent}
-use Rattle.pm_board.specs.Words.{bit}
-use Rattle.pm_board.specs.BoardLaws.{sent-append}
-use Rattle.pm_chain.specs.Chain.{IsPidOf}
-use Rattle.pm_journal.specs.declared.roll.Enrolled.{Enrolled}
-use Rattle.pm_seating.specs.declared.audience.Audience.{Audience}
-use Rattle.pm_seating.specs.declared.audience.Audience.TheVariants.{Everyone, Stoppable, Checkpointer, One}
-use Rattle.pm_seating.specs.Board.{seat_at}
-use Rattle.pm_seating.specs.Seating.{Move, Notes, PidsEnd, PortEnds, Reads, Seating, begun_by, begun_from, child, entries_by, entries_from, is_meant, seated, seating_by, seating_from, with_seat, Begun, sends_from, slot_in, steps_by, steps_from, steps_of}
-use Rattle.pm_seating.specs.Standing.{IsFinal}
-use Rattle.pm_crew.specs.PidsLaws.{begun_pids, pid_either, pids_append, pids_by, pids_in}
-use Rattle.pm_blame.specs.Crashes.{IsHarmless}
+use Rattle.std.{proofs.{Common.{◌≡◌, ◌≢◌, ◌⊎◌, inl, inr, ℕ, zero, suc, ◌+◌, ◌<◌, Bool, true, false, cond, List, [], ◌∷◌, ◌++◌, Option, None, Some, length, refl, sym, ap, subst, ◌∙◌, arith, set}, lemmas.Bool.ne_eqb}, specs.{Prelude.{IfSome, nat_eq, ◌&&◌}, List.{AllByRecursion, flat_map}}}
+use Rattle.pm_serve_crew.{specs.{pm_facts.Lists.{each_both, each_first, each_second}, pm_exit.declared.child.Kind.Kind, pm_supervisor.{declared.Reason.Reason, Steps.kind_for}, pm_state.declared.event.PmEvent.PmEvent, pm_board.{declared.views.{RosterStep.RosterStep, Signal.Signal}, Latch.signal_number, Latches.{NotReleased, times_sent}, Words.bit}, pm_supervisor_chain.Chain.IsPidOf, pm_supervisor_journal.declared.roll.Enrolled.Enrolled, pm_board_acts.{declared.audience.Audience.{Audience, TheVariants.{Everyone, Stoppable, Checkpointer, One}}, Board.seat_at, Seating.{Move, Notes, PidsEnd, PortEnds, Reads, Seating, begun_by, begun_from, child, entries_by, entries_from, is_meant, seated, seating_by, seating_from, with_seat, Begun, sends_from, slot_in, steps_by, steps_from, steps_of}, Standing.IsFinal}}, proofs.{pm_board.BoardLaws.sent-append, PidsLaws.{begun_pids, pid_either, pids_append, pids_by, pids_in}}}
+use Rattle.pm_serve_crew.specs.pm_state.declared.event.PmEvent.TheVariants as entry
+use Rattle.pm_serve_crew.specs.pm_board.declared.views.RosterStep.TheVariants as step
+use Rattle.pm_serve_crew.specs.pm_board.declared.views.Signal.TheVariants as signal
+use Rattle.pm_serve_first_crash.specs.Crashes.{IsHarmless}
 
 -- ---- how often
 

@@ -1,19 +1,11 @@
 -- Why the worked journals are so.
 use Rattle.std.proofs.Common.{◌≡◌, true, false, [], ◌∷◌, ◌++◌, refl}
-use Rattle.pm_exit.specs.declared.child.Kind.TheVariants.{Backend, Checkpointer, Startup, Writer}
-use Rattle.pm_exit.specs.declared.child.Status.TheVariants.{Code, Signal}
-use Rattle.pm_admit.specs.declared.Cac.TheVariants.{Ok as Admitted}
-use Rattle.pm_supervisor.specs.declared.Ending.TheVariants as endings
-use Rattle.pm_supervisor.specs.declared.Reason.TheVariants as reason
-use Rattle.pm_state.specs.declared.action.Line.TheVariants as line
-use Rattle.pm_state.specs.declared.event.PmEvent.TheVariants as entry
-use Rattle.pm_state.specs.Exits.{crash_rule, startup_exited}
-use Rattle.pm_state.specs.Journal.{replay_begun, row_of, settled}
-use Rattle.pm_state.specs.TurnRules.{backends_gone, children_gone, dead_ends_gone, end_smart, restart_writer, start_recovery, stop_backends}
-use Rattle.pm_chain.specs.WorkedChains.{clean_journal, crash_journal, failed_journal, started}
-use Rattle.pm_chain.specs.WorkedSteps.{limits}
-use Rattle.pm_blame.specs.Crashes.{HasNoCrash, IsFirstCrash}
-use Rattle.pm_blame.specs.WorkedFirsts.{given_up_journal, left_journal}
+use Rattle.pm_serve_crew.specs.{pm_exit.declared.child.{Kind.TheVariants.{Backend, Checkpointer, Startup, Writer}, Status.TheVariants.{Code, Signal}}, pm_admit.declared.Cac.TheVariants.Ok as Admitted, pm_state.{Exits.{crash_rule, startup_exited}, Journal.{replay_begun, row_of, settled}, TurnRules.{backends_gone, children_gone, dead_ends_gone, end_smart, restart_writer, start_recovery, stop_backends}}, pm_supervisor_chain.{WorkedChains.{clean_journal, crash_journal, failed_journal, started}, WorkedSteps.limits}}
+use Rattle.pm_serve_crew.specs.pm_supervisor.declared.Ending.TheVariants as endings
+use Rattle.pm_serve_crew.specs.pm_supervisor.declared.Reason.TheVariants as reason
+use Rattle.pm_serve_crew.specs.pm_state.declared.action.Line.TheVariants as line
+use Rattle.pm_serve_crew.specs.pm_state.declared.event.PmEvent.TheVariants as entry
+use Rattle.pm_serve_first_crash.specs.{Crashes.{HasNoCrash, IsFirstCrash}, WorkedFirsts.{given_up_journal, left_journal}}
 
 pub clean : HasNoCrash (replay_begun limits) clean_journal
 unfolding settled row_of crash_rule startup_exited start_recovery restart_writer end_smart stop_backends backends_gone dead_ends_gone children_gone

@@ -1,34 +1,11 @@
 -- What the first crash of a server's journal is due to.
-use Rattle.std.specs.Prelude.{◌≡◌, ◌≢◌, ◌⊎◌, ◌<◌, ℕ, true, false, List, [], ◌∷◌, Some, None}
-use Rattle.std.specs.List.{AllByRecursion, Contains}
-use Rattle.pm_exit.specs.declared.child.Kind.TheVariants as kinds
-use Rattle.pm_exit.specs.declared.child.Status.TheVariants.{Code, Signal}
-use Rattle.pm_admit.specs.declared.Cac.{Cac}
-use Rattle.pm_supervisor.specs.declared.Limits.{Limits}
-use Rattle.pm_state.specs.declared.event.PmEvent.{PmEvent}
-use Rattle.pm_state.specs.declared.machine.Machine.{Machine}
-use Rattle.pm_state.specs.Exits.{is_shutdown}
-use Rattle.pm_state.specs.Journal.{IsLegal}
-use Rattle.pm_journal.specs.Stands.{any_moment}
-use Rattle.pm_board.specs.declared.views.RosterView.{RosterView}
-use Rattle.pm_record.specs.declared.fault.RedoFault.{RedoFault}
-use Rattle.pm_record.specs.declared.fault.RedoFault.TheVariants as redo
-use Rattle.pm_query.specs.declared.book.BookEntry.{BookEntry}
-use Rattle.pm_query.specs.declared.store.StoreNo.{StoreNo}
-use Rattle.pm_query.specs.declared.store.StoreNo.TheVariants.{Stale, Full, Redo, NoMemory}
-use Rattle.pm_exchange.specs.declared.ending.Cause.TheVariants.{Overtaken}
-use Rattle.pm_segment.specs.Unread.{is_break}
-use Rattle.pm_seating.specs.Board.{ended_of}
-use Rattle.pm_seating.specs.Seating.{Move, ends, journal_of}
-use Rattle.pm_seating.specs.Standing.{IsBoardOf}
-use Rattle.pm_shared.specs.declared.views.Noted.{Noted}
-use Rattle.pm_worker.specs.declared.mail.LinkTold.{LinkTold}
-use Rattle.pm_worker.specs.declared.mail.MailTold.{MailTold}
-use Rattle.pm_worker.specs.declared.mail.MailTold.TheVariants as mail
-use Rattle.pm_worker.specs.Runs.{IsSessionRun, Run}
-use Rattle.pm_crew.specs.Left.{AreLeft, Manner}
-use Rattle.pm_crew.specs.Pids.{AreUsedOnce}
-use Rattle.pm_blame.specs.Crashes.{IsUnasked}
+use Rattle.std.specs.{Prelude.{◌≡◌, ◌≢◌, ◌⊎◌, ◌<◌, ℕ, true, false, List, [], ◌∷◌, Some, None}, List.{AllByRecursion, Contains}}
+use Rattle.pm_serve_crew.specs.pm_exit.declared.child.Kind.TheVariants as kinds
+use Rattle.pm_serve_crew.specs.{pm_exit.declared.child.Status.TheVariants.{Code, Signal}, pm_admit.declared.Cac.Cac, pm_supervisor.declared.Limits.Limits, pm_state.{declared.{event.PmEvent.PmEvent, machine.Machine.Machine}, Exits.is_shutdown, Journal.IsLegal}, pm_supervisor_journal.Stands.any_moment, pm_board.declared.views.RosterView.RosterView, pm_query.declared.{book.BookEntry.BookEntry, store.StoreNo.{StoreNo, TheVariants.{Stale, Full, Redo, NoMemory}}}, pm_session_exchange.declared.ending.Cause.TheVariants.Overtaken, pm_segment.Unread.is_break, pm_board_acts.{Board.ended_of, Seating.{Move, ends, journal_of}, Standing.IsBoardOf}, pm_store_shared.declared.views.Noted.Noted, pm_worker.{declared.mail.{LinkTold.LinkTold, MailTold.MailTold}, Runs.{IsSessionRun, Run}}, Left.{AreLeft, Manner}, Pids.AreUsedOnce}
+use Rattle.pm_store_remains.specs.pm_record.declared.fault.RedoFault.{RedoFault}
+use Rattle.pm_store_remains.specs.pm_record.declared.fault.RedoFault.TheVariants as redo
+use Rattle.pm_serve_crew.specs.pm_worker.declared.mail.MailTold.TheVariants as mail
+use Rattle.pm_serve_first_crash.specs.Crashes.{IsUnasked}
 
 -- ---- by what a child crashes
 

@@ -1,16 +1,8 @@
 -- Crashes of children, as the machine meets them entry by entry, and the first of a journal.
 use Rattle.std.specs.Prelude.{◌≡◌, Bool, true, false, not, ◌&&◌, ◌||◌, List, [], ◌∷◌, ◌++◌, is_some}
-use Rattle.pm_exit.specs.Ends.{class_of, is_exit_1}
-use Rattle.pm_modes.specs.declared.Mode.TheVariants.{Immediate}
-use Rattle.pm_supervisor.specs.declared.Limits.{Limits}
-use Rattle.pm_supervisor.specs.declared.Ending.TheVariants as endings
-use Rattle.pm_supervisor.specs.Children.{is_startup_child}
-use Rattle.pm_supervisor.specs.Steps.{is_normal}
-use Rattle.pm_state.specs.declared.event.PmEvent.{PmEvent}
-use Rattle.pm_state.specs.declared.event.PmEvent.TheVariants as entry
-use Rattle.pm_state.specs.declared.machine.Machine.{Machine}
-use Rattle.pm_state.specs.Exits.{is_shutdown}
-use Rattle.pm_state.specs.Journal.{Replay, all_replayed, replay_begun, replayed}
+use Rattle.pm_serve_crew.specs.{pm_exit.Ends.{class_of, is_exit_1}, pm_modes.declared.Mode.TheVariants.Immediate, pm_supervisor.{declared.Limits.Limits, Children.is_startup_child, Steps.is_normal}, pm_state.{declared.{event.PmEvent.PmEvent, machine.Machine.Machine}, Exits.is_shutdown, Journal.{Replay, all_replayed, replay_begun, replayed}}}
+use Rattle.pm_serve_crew.specs.pm_supervisor.declared.Ending.TheVariants as endings
+use Rattle.pm_serve_crew.specs.pm_state.declared.event.PmEvent.TheVariants as entry
 
 -- The end of a child that isn't a normal one by its class. A startup child that gives up with code 1 for a shutdown is none.
 abbrev pub is_crash : Machine → PmEvent → Bool

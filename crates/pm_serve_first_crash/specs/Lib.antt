@@ -1,10 +1,4 @@
 pub mod WorkedFirsts
 pub mod Crashes
 pub mod Causes
-pub mod CalmLaws
-pub mod JournalLaws
-pub mod RunsLaws
-pub mod GivenLaws
-pub mod SendsLaws
-pub mod FindLaws
-pub mod BlameLaws
+pub use Rattle.pm_serve_crew.specs as pm_serve_crew

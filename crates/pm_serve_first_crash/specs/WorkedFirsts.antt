@@ -1,15 +1,9 @@
 -- Journals with no crash, and the first crash of some others.
 use Rattle.std.specs.Prelude.{false, true, List, [], ◌∷◌}
-use Rattle.pm_exit.specs.declared.child.Kind.TheVariants.{Backend, Startup}
-use Rattle.pm_exit.specs.declared.child.Status.TheVariants.{Code, Signal}
-use Rattle.pm_modes.specs.declared.Mode.TheVariants.{Smart}
-use Rattle.pm_state.specs.declared.action.Line.TheVariants as line
-use Rattle.pm_state.specs.declared.event.PmEvent.{PmEvent}
-use Rattle.pm_state.specs.declared.event.PmEvent.TheVariants as entry
-use Rattle.pm_state.specs.Journal.{replay_begun}
-use Rattle.pm_chain.specs.WorkedChains.{clean_journal, crash_journal, failed_journal}
-use Rattle.pm_chain.specs.WorkedSteps.{limits}
-use Rattle.pm_blame.specs.Crashes.{HasNoCrash, IsFirstCrash}
+use Rattle.pm_serve_crew.specs.{pm_exit.declared.child.{Kind.TheVariants.{Backend, Startup}, Status.TheVariants.{Code, Signal}}, pm_modes.declared.Mode.TheVariants.Smart, pm_state.{declared.event.PmEvent.PmEvent, Journal.replay_begun}, pm_supervisor_chain.{WorkedChains.{clean_journal, crash_journal, failed_journal}, WorkedSteps.limits}}
+use Rattle.pm_serve_crew.specs.pm_state.declared.action.Line.TheVariants as line
+use Rattle.pm_serve_crew.specs.pm_state.declared.event.PmEvent.TheVariants as entry
+use Rattle.pm_serve_first_crash.specs.Crashes.{HasNoCrash, IsFirstCrash}
 
 -- the startup child gives up, since a shutdown was asked for
 abbrev pub given_up_journal : List PmEvent

@@ -1,14 +1,7 @@
 -- Where the shared side has noted its first generation alone, and no token anything, the log has no other entry.
-use Rattle.std.proofs.Common.{◌≡◌, ◌⊎◌, inl, inr, arith, ℕ, zero, suc, List, [], ◌∷◌, refl, sym, ap, ◌∙◌, subst}
-use Rattle.std.specs.Prelude.{Bool, true, false, Some, slice_get}
-use Rattle.std.proofs.lemmas.Option.{same_Some}
-use Rattle.pm_query.specs.declared.book.BookEntry.{BookEntry}
-use Rattle.pm_shared.specs.declared.views.Joined.{Joined}
-use Rattle.pm_shared.specs.declared.views.Noted.{Noted}
-use Rattle.pm_shared.specs.Log.{IsShuffle, Line, book_of, is_own, noted, placed_rest}
-use Rattle.pm_shared.specs.Places.{EachOnce, Has}
-use Rattle.pm_shared.specs.Told.{owns}
-use Rattle.pm_pool.specs.Works.{AreUnused}
+use Rattle.std.{proofs.{Common.{◌≡◌, ◌⊎◌, inl, inr, arith, ℕ, zero, suc, List, [], ◌∷◌, refl, sym, ap, ◌∙◌, subst}, lemmas.Option.same_Some}, specs.Prelude.{Bool, true, false, Some, slice_get}}
+use Rattle.pm_store_shared.specs.{pm_query.declared.book.BookEntry.BookEntry, declared.views.{Joined.Joined, Noted.Noted}, Log.{IsShuffle, Line, book_of, is_own, noted, placed_rest}, Places.{EachOnce, Has}, Told.owns}
+use Rattle.pm_serve_pool.specs.Works.{AreUnused}
 
 -- no list has anything
 none_has : (joined : List Joined) → AreUnused joined → (k : ℕ) (l : List Noted) (x : Noted) → slice_get (owns joined) k ≡ Some l → Has l x → ⊥

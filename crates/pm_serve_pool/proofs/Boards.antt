@@ -1,20 +1,8 @@
 -- A board whose one slot has had the child that closes its worker.
-use Rattle.std.proofs.Common.{◌≡◌, ◌≢◌, ℕ, List, [], ◌∷◌, ◌++◌, map, sym, ap, ◌∙◌, subst, append_assoc}
-use Rattle.std.proofs.lemmas.List.{map-append}
-use Rattle.std.specs.List.{AllByRecursion}
-use Rattle.std.specs.Prelude.{Option}
+use Rattle.std.{proofs.{Common.{◌≡◌, ◌≢◌, ℕ, List, [], ◌∷◌, ◌++◌, map, sym, ap, ◌∙◌, subst, append_assoc}, lemmas.List.map-append}, specs.{List.AllByRecursion, Prelude.Option}}
 use native.Mathlib.Decide.{ℕ_discrete}
-use Rattle.pm_facts.specs.Lists.{each_both}
-use Rattle.pm_exit.specs.declared.child.Kind.TheVariants.{DeadEnd}
-use Rattle.pm_board.specs.declared.views.RosterStep.{RosterStep}
-use Rattle.pm_board.specs.declared.views.RosterView.{RosterView}
-use Rattle.pm_board.specs.Places.{slot_at}
-use Rattle.pm_journal.specs.declared.roll.Enrolled.{Enrolled}
-use Rattle.pm_seating.specs.Board.{begun_of, ended_of}
-use Rattle.pm_seating.specs.Seating.{Begun, Ended, begun_at, board_steps, ended_at, seating_of}
-use Rattle.pm_seating.specs.Standing.{AreClosing, IsFinal}
-use Rattle.pm_worker.specs.declared.mail.MailTold.{MailTold}
-use Rattle.pm_pool.specs.Closing.{HasHadLast, KeepsBoard}
+use Rattle.pm_serve_crew.specs.{pm_facts.Lists.each_both, pm_exit.declared.child.Kind.TheVariants.DeadEnd, pm_board.{declared.views.{RosterStep.RosterStep, RosterView.RosterView}, Places.slot_at}, pm_supervisor_journal.declared.roll.Enrolled.Enrolled, pm_board_acts.{Board.{begun_of, ended_of}, Seating.{Begun, Ended, begun_at, board_steps, ended_at, seating_of}, Standing.{AreClosing, IsFinal}}, pm_worker.declared.mail.MailTold.MailTold}
+use Rattle.pm_serve_pool.specs.Closing.{HasHadLast, KeepsBoard}
 
 -- with one child more after those so far
 one_behind : {A B : Type 0} (f : A → B) (past past' : List A) (x : A) (told others : List B) → past' ≡ past ++ x ∷ [] → map f past ≡ told ++ others → map f past' ≡ told ++ (others ++ f x ∷ [])

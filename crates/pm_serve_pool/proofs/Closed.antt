@@ -1,28 +1,9 @@
 -- The workers of the first slots, one slot further.
-use Rattle.std.proofs.Common.{◌≡◌, ◌≢◌, ◌⊎◌, inl, inr, ℕ, ◌+◌, ◌<◌, List, [], ◌∷◌, ◌++◌, length, map, refl, sym, ap, ◌∙◌, subst, arith, append-nil, length-append}
-use Rattle.std.specs.Prelude.{None, Some, slice_get}
-use Rattle.std.specs.List.{AllByRecursion}
+use Rattle.std.{proofs.Common.{◌≡◌, ◌≢◌, ◌⊎◌, inl, inr, ℕ, ◌+◌, ◌<◌, List, [], ◌∷◌, ◌++◌, length, map, refl, sym, ap, ◌∙◌, subst, arith, append-nil, length-append}, specs.{Prelude.{None, Some, slice_get}, List.AllByRecursion}}
 use native.Mathlib.Decide.{ℕ_discrete}
-use Rattle.pm_facts.specs.Lists.{same_everywhere}
-use Rattle.pm_board.specs.declared.views.RosterView.{RosterView}
-use Rattle.pm_board.specs.declared.views.PastChild.{PastChild}
-use Rattle.pm_board.specs.declared.views.Sight.TheVariants.{Unused, Gathered}
-use Rattle.pm_board.specs.Heard.{HeardAsSent}
-use Rattle.pm_board.specs.Places.{slot_at, slot_view}
-use Rattle.pm_board.specs.Rule.{at_put, put}
-use Rattle.pm_board.specs.Told.{new_roster}
-use Rattle.pm_shared.specs.declared.views.Joined.{Joined}
-use Rattle.pm_shared.specs.declared.views.Noted.{Noted}
-use Rattle.pm_shared.specs.Log.{entries_of}
-use Rattle.pm_shared.specs.Told.{SharedModel, shared_with}
-use Rattle.pm_worker.specs.declared.mail.MailTold.{MailTold}
-use Rattle.pm_worker.specs.declared.mail.MailTold.TheVariants as told
-use Rattle.pm_worker.specs.Runs.{Does, IsRun, Run, close_run, noted_by}
-use Rattle.pm_crew.specs.Left.{IsWorked, Manner}
-use Rattle.pm_pool.specs.Closing.{AreClosed, HasClosedOne, HasHadLast, IsShut, MayClose}
-use Rattle.pm_pool.specs.Works.{AreUnused}
-use Rattle.pm_pool.proofs.Lists.{all_of_each, got_end, got_within}
-use Rattle.pm_pool.proofs.Slots.{near_or_here}
+use Rattle.pm_serve_crew.specs.{pm_facts.Lists.same_everywhere, pm_board.{declared.views.{RosterView.RosterView, PastChild.PastChild, Sight.TheVariants.{Unused, Gathered}}, Heard.HeardAsSent, Places.{slot_at, slot_view}, Rule.{at_put, put}, Told.new_roster}, pm_store_shared.{declared.views.{Joined.Joined, Noted.Noted}, Log.entries_of, Told.{SharedModel, shared_with}}, pm_worker.{declared.mail.MailTold.MailTold, Runs.{Does, IsRun, Run, close_run, noted_by}}, Left.{IsWorked, Manner}}
+use Rattle.pm_serve_crew.specs.pm_worker.declared.mail.MailTold.TheVariants as told
+use Rattle.pm_serve_pool.{specs.{Closing.{AreClosed, HasClosedOne, HasHadLast, IsShut, MayClose}, Works.AreUnused}, proofs.{Lists.{all_of_each, got_end, got_within}, Slots.near_or_here}}
 
 pub shut_first : (count : ℕ) (d : RosterView MailTold) → MayClose count d → IsShut 0 d
 shut_first count d may = record { gathered = λ j less. absurd (omega arith); free = λ j behind. may.free j; pids = (let h = may.pids in omega arith) }

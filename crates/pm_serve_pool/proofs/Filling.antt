@@ -1,18 +1,8 @@
 -- Works, one more in front of those so far.
-use Rattle.std.proofs.Common.{◌≡◌, ℕ, ◌+◌, List, [], ◌∷◌, ◌++◌, length, ap, ◌∙◌, subst, arith, length-append}
-use Rattle.std.specs.Prelude.{Option, Some, slice_get}
-use Rattle.std.specs.Option.{option_to_list}
+use Rattle.std.{proofs.Common.{◌≡◌, ℕ, ◌+◌, List, [], ◌∷◌, ◌++◌, length, ap, ◌∙◌, subst, arith, length-append}, specs.{Prelude.{Option, Some, slice_get}, Option.option_to_list}}
 use Rattle.atomic_table.specs.Seated.{TableId}
-use Rattle.pm_facts.specs.Lists.{got_last}
-use Rattle.pm_board.specs.Models.{AreNewPosts, PostModel}
-use Rattle.pm_board.specs.Rule.{idle_post}
-use Rattle.pm_shared.specs.declared.token_store.TokenStore.{TokenStore}
-use Rattle.pm_shared.specs.Told.{AreNewTokens, SharedModel, TokenModel}
-use Rattle.pm_worker.specs.declared.child.Child.{Child}
-use Rattle.pm_worker.specs.declared.mail.MailTold.{MailTold}
-use Rattle.pm_pool.specs.declared.plan.Terms.{Terms}
-use Rattle.pm_pool.specs.Works.{EachFrom, IsUnusedToken, IsWorkOf}
-use Rattle.pm_pool.proofs.Lists.{one_before}
+use Rattle.pm_serve_crew.specs.{pm_facts.Lists.got_last, pm_board.{Models.{AreNewPosts, PostModel}, Rule.idle_post}, pm_store_shared.{declared.token_store.TokenStore.TokenStore, Told.{AreNewTokens, SharedModel, TokenModel}}, pm_worker.declared.{child.Child.Child, mail.MailTold.MailTold}}
+use Rattle.pm_serve_pool.{specs.{declared.plan.Terms.Terms, Works.{EachFrom, IsUnusedToken, IsWorkOf}}, proofs.Lists.one_before}
 
 -- the idle post of the slot k
 abbrev pub IsPostOf : (board : TableId) (limit k : ℕ) → PostModel MailTold → Type 0

@@ -1,21 +1,8 @@
 -- What the work of a slot leaves.
-use Rattle.std.proofs.Common.{◌≡◌, ℕ, List, [], ◌++◌, ◌∷◌, map, ap, ◌∙◌, subst}
-use Rattle.std.specs.Prelude.{None}
-use Rattle.std.specs.List.{AllByRecursion}
+use Rattle.std.{proofs.Common.{◌≡◌, ℕ, List, [], ◌++◌, ◌∷◌, map, ap, ◌∙◌, subst}, specs.{Prelude.None, List.AllByRecursion}}
 use Rattle.atomic_table.specs.Seated.{TableId}
-use Rattle.pm_board.specs.Models.{PostModel}
-use Rattle.pm_board.specs.declared.views.Work.TheVariants.{Idle}
-use Rattle.pm_shared.specs.Grows.{Grew}
-use Rattle.pm_shared.specs.Log.{entries_of}
-use Rattle.pm_shared.specs.Told.{TokenModel}
-use Rattle.pm_worker.specs.declared.mail.MailTold.{MailTold}
-use Rattle.pm_worker.specs.declared.tools.Tools.{Tools}
-use Rattle.pm_worker.specs.Runs.{HasClosed, IsRun, Run, noted_by}
-use Rattle.pm_crew.specs.Left.{Manner}
-use Rattle.pm_pool.specs.declared.plan.Terms.{Terms}
-use Rattle.pm_pool.specs.Plan.{manner_of}
-use Rattle.pm_pool.specs.Works.{IsNewWork}
-use Rattle.pm_pool.proofs.Moments.{are_runs}
+use Rattle.pm_serve_crew.specs.{pm_board.{Models.PostModel, declared.views.Work.TheVariants.Idle}, pm_store_shared.{Grows.Grew, Log.entries_of, Told.TokenModel}, pm_worker.{declared.{mail.MailTold.MailTold, tools.Tools.Tools}, Runs.{HasClosed, IsRun, Run, noted_by}}, Left.Manner}
+use Rattle.pm_serve_pool.{specs.{declared.plan.Terms.Terms, Plan.manner_of, Works.IsNewWork}, proofs.Moments.are_runs}
 
 pub record Leaves {F : Type 0} (manner : Manner) (board home : TableId) (k : ℕ) (post : PostModel MailTold) (token : TokenModel F) : Type 0 where
   pub runs : List Run

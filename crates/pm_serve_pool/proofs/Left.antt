@@ -1,18 +1,8 @@
 -- What is left once the workers of all slots were closed.
-use Rattle.std.proofs.Common.{◌≡◌, ℕ, zero, suc, List, length, ◌∙◌, subst}
-use Rattle.std.proofs.lemmas.List.{length-map}
-use Rattle.std.specs.Prelude.{None, Option, Some, IfSome, slice_get}
-use Rattle.pm_board.specs.declared.views.RosterView.{RosterView}
-use Rattle.pm_query.specs.declared.book.BookEntry.{BookEntry}
-use Rattle.pm_shared.specs.declared.views.Joined.{Joined}
-use Rattle.pm_shared.specs.declared.views.Noted.{Noted}
-use Rattle.pm_shared.specs.Log.{IsShuffle}
-use Rattle.pm_shared.specs.Places.{EachOnce}
-use Rattle.pm_shared.specs.Told.{AllContinue, SharedModel, owns, pasts}
-use Rattle.pm_shared.specs.JoinedLaws.{owned_at}
-use Rattle.pm_worker.specs.declared.mail.MailTold.{MailTold}
-use Rattle.pm_crew.specs.Left.{AreLeft, IsWorked, Manner}
-use Rattle.pm_pool.specs.Closing.{AreClosed}
+use Rattle.std.{proofs.{Common.{◌≡◌, ℕ, zero, suc, List, length, ◌∙◌, subst}, lemmas.List.length-map}, specs.Prelude.{None, Option, Some, IfSome, slice_get}}
+use Rattle.pm_serve_crew.specs.{pm_board.declared.views.RosterView.RosterView, pm_query.declared.book.BookEntry.BookEntry, pm_worker.declared.mail.MailTold.MailTold, Left.{AreLeft, IsWorked, Manner}}
+use Rattle.pm_store_shared.{specs.{declared.views.{Joined.Joined, Noted.Noted}, Log.IsShuffle, Places.EachOnce, Told.{AllContinue, SharedModel, owns, pasts}}, proofs.JoinedLaws.owned_at}
+use Rattle.pm_serve_pool.specs.Closing.{AreClosed}
 
 -- what a store out of the hands of this shared side says of its log
 abbrev pub ComesOut : {F : Type 0} → (F → List BookEntry → Type 0) → SharedModel F → Type 0

@@ -9,3 +9,4 @@ pub mod Moments
 pub mod Returning
 pub mod Slots
 pub mod Starting
+pub use Rattle.pm_serve_crew.proofs as pm_serve_crew

@@ -1,11 +1,7 @@
 -- Lists, one longer.
-use Rattle.std.proofs.Common.{◌≡◌, ◌⊎◌, inl, inr, ℕ, zero, suc, ◌+◌, ◌<◌, List, [], ◌∷◌, ◌++◌, length, refl, ap, ◌∙◌, subst, arith}
-use Rattle.std.specs.Prelude.{Option, None, Some, drop, slice_get}
-use Rattle.std.specs.Option.{option_to_list}
-use Rattle.std.specs.List.{AllByRecursion}
-use Rattle.std.proofs.lemmas.Option.{same_Some}
-use Rattle.pm_facts.specs.Lists.{got_front}
-use Rattle.pm_pool.specs.Works.{EachFrom}
+use Rattle.std.{proofs.{Common.{◌≡◌, ◌⊎◌, inl, inr, ℕ, zero, suc, ◌+◌, ◌<◌, List, [], ◌∷◌, ◌++◌, length, refl, ap, ◌∙◌, subst, arith}, lemmas.Option.same_Some}, specs.{Prelude.{Option, None, Some, drop, slice_get}, Option.option_to_list, List.AllByRecursion}}
+use Rattle.pm_serve_crew.specs.pm_facts.Lists.{got_front}
+use Rattle.pm_serve_pool.specs.Works.{EachFrom}
 
 -- what is found in a list that has one more at its end
 pub got_end : {A : Type 0} (xs : List A) (y x : A) (k : ℕ) → slice_get (xs ++ y ∷ []) k ≡ Some x → ((slice_get xs k ≡ Some x) × (k < length xs)) ⊎ ((k ≡ length xs) × (y ≡ x))

@@ -1,20 +1,8 @@
 -- A run by the moments of one clock is one by those of a clock that gives them all.
-use Rattle.std.proofs.Common.{ℕ, List, [], ◌∷◌}
-use Rattle.std.specs.Prelude.{Option, None, Some, IfSome}
-use Rattle.std.specs.List.{AllByRecursion}
-use Rattle.pm_admit.specs.declared.Cac.{Cac}
-use Rattle.pm_life.specs.Life.{Told}
-use Rattle.pm_outside.specs.Traffic.{Traffic}
-use Rattle.pm_sql.specs.declared.stmt.Stmt.{Stmt}
-use Rattle.pm_exchange.specs.declared.ending.Cause.{Cause}
-use Rattle.pm_exchange.specs.declared.ending.Cause.TheVariants.{TimedOut}
-use Rattle.pm_exchange.specs.Sent.{Turn, Ran, LogIsFull}
-use Rattle.pm_session.specs.Session.{AllSleep, CausedBy, Ending, HasSlept, IsApart, IsCaused}
-use Rattle.pm_exchange.specs.Queries.{HasSleptFor, HasWaited, Sleeps}
-use Rattle.pm_worker.specs.declared.mail.LinkTold.{LinkTold}
-use Rattle.pm_worker.specs.declared.mail.MailTold.{MailTold}
-use Rattle.pm_worker.specs.declared.mail.MailTold.TheVariants as mail
-use Rattle.pm_worker.specs.Runs.{Does, IsRun, IsSessionRun, Run}
+use Rattle.std.{proofs.Common.{ℕ, List, [], ◌∷◌}, specs.{Prelude.{Option, None, Some, IfSome}, List.AllByRecursion}}
+use Rattle.pm_serve_crew.specs.{pm_admit.declared.Cac.Cac, pm_worker.{declared.mail.{LinkTold.LinkTold, MailTold.MailTold}, Runs.{Does, IsRun, IsSessionRun, Run}}}
+use Rattle.pm_session.specs.{pm_child_life.Life.Told, pm_outside.Traffic.Traffic, pm_sql.declared.stmt.Stmt.Stmt, pm_session_exchange.{declared.ending.Cause.{Cause, TheVariants.TimedOut}, Sent.{Turn, Ran, LogIsFull}, Queries.{HasSleptFor, HasWaited, Sleeps}}, Session.{AllSleep, CausedBy, Ending, HasSlept, IsApart, IsCaused}}
+use Rattle.pm_serve_crew.specs.pm_worker.declared.mail.MailTold.TheVariants as mail
 
 module _ {gives more : ℕ → Type 0} (on : (moment : ℕ) → gives moment → more moment) where
   waited : (milliseconds : ℕ) → HasWaited gives milliseconds → HasWaited more milliseconds

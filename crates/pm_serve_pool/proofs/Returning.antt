@@ -1,20 +1,8 @@
 -- Tokens that come back unused, and the store after them.
-use Rattle.std.proofs.Common.{◌≡◌, ℕ, ◌+◌, List, [], ◌∷◌, ◌++◌, length, refl, sym, ap, ◌∙◌, subst, append-nil, append_assoc, length-append}
-use Rattle.std.specs.Prelude.{Option, Some, IfSome}
+use Rattle.std.{proofs.Common.{◌≡◌, ℕ, ◌+◌, List, [], ◌∷◌, ◌++◌, length, refl, sym, ap, ◌∙◌, subst, append-nil, append_assoc, length-append}, specs.Prelude.{Option, Some, IfSome}}
 use Rattle.atomic_table.specs.Seated.{TableId}
-use Rattle.pm_facts.specs.Lists.{each_both}
-use Rattle.pm_query.specs.declared.book.BookEntry.{BookEntry}
-use Rattle.pm_query.specs.declared.book.BookEntry.TheVariants.{Opened}
-use Rattle.pm_shared.specs.declared.views.Joined.{Joined}
-use Rattle.pm_shared.specs.declared.token_store.TokenStore.{TokenStore}
-use Rattle.pm_shared.specs.Log.{IsShuffle}
-use Rattle.pm_shared.specs.Places.{EachOnce}
-use Rattle.pm_shared.specs.Told.{AllContinue, SharedModel, owns, pasts, shared_with}
-use Rattle.pm_worker.specs.declared.child.Child.{Child}
-use Rattle.pm_pool.specs.declared.plan.Terms.{Terms}
-use Rattle.pm_pool.specs.Works.{EachFrom, HasTakenBack, IsIdleShared, IsUnusedWork, IsWorkOf}
-use Rattle.pm_pool.proofs.Alone.{alone}
-use Rattle.pm_pool.proofs.Left.{ComesOut}
+use Rattle.pm_serve_crew.specs.{pm_facts.Lists.each_both, pm_query.declared.book.BookEntry.{BookEntry, TheVariants.Opened}, pm_store_shared.{declared.{views.Joined.Joined, token_store.TokenStore.TokenStore}, Log.IsShuffle, Places.EachOnce, Told.{AllContinue, SharedModel, owns, pasts, shared_with}}, pm_worker.declared.child.Child.Child}
+use Rattle.pm_serve_pool.{specs.{declared.plan.Terms.Terms, Works.{EachFrom, HasTakenBack, IsIdleShared, IsUnusedWork, IsWorkOf}}, proofs.{Alone.alone, Left.ComesOut}}
 
 module _ {F : Type 0} where
   pub back_none : (s : SharedModel F) → HasTakenBack 0 s s

@@ -1,35 +1,11 @@
 -- One slot, while its worker is closed.
-use Rattle.std.proofs.Common.{◌≡◌, ◌≢◌, ◌⊎◌, inl, inr, ℕ, ◌+◌, ◌<◌, ◌≤◌, [], ◌∷◌, ◌++◌, length, refl, sym, ap, ◌∙◌, subst, arith, append_assoc}
-use Rattle.std.specs.Prelude.{true, List, Option}
-use Rattle.std.proofs.lemmas.Bool.{cases_lt}
+use Rattle.std.{proofs.{Common.{◌≡◌, ◌≢◌, ◌⊎◌, inl, inr, ℕ, ◌+◌, ◌<◌, ◌≤◌, [], ◌∷◌, ◌++◌, length, refl, sym, ap, ◌∙◌, subst, arith, append_assoc}, lemmas.Bool.cases_lt}, specs.Prelude.{true, List, Option}}
 use Rattle.atomic_table.specs.Seated.{TableId}
 use native.Mathlib.Decide.{ℕ_discrete}
 use Rattle.std.specs.List.{AllByRecursion}
-use Rattle.pm_exit.specs.declared.child.Kind.{Kind}
-use Rattle.pm_exit.specs.declared.child.Kind.TheVariants.{DeadEnd}
-use Rattle.pm_exit.specs.declared.child.Status.{Status}
-use Rattle.pm_board.specs.declared.views.Offer.{Offer}
-use Rattle.pm_board.specs.declared.views.PostView.{PostView}
-use Rattle.pm_board.specs.declared.views.RosterStep.TheVariants.{Assign, Release}
-use Rattle.pm_board.specs.declared.views.RosterView.{RosterView}
-use Rattle.pm_board.specs.declared.views.Sight.{Sight}
-use Rattle.pm_board.specs.declared.views.Sight.TheVariants.{Unused, Opened, Assigned, Exited, Collected, Gathered}
-use Rattle.pm_board.specs.declared.views.SlotView.{SlotView}
-use Rattle.pm_board.specs.Heard.{HeardAsSent}
-use Rattle.pm_board.specs.Models.{HasAssigned, HasGathered, PostModel, SlotBecame}
-use Rattle.pm_board.specs.Places.{AllReaped, IsReaped, slot_at}
-use Rattle.pm_board.specs.Seats.{is_gathered}
-use Rattle.pm_board.specs.Told.{past_child, released_slot, noted_release, noted_look}
-use Rattle.pm_journal.specs.declared.roll.Enrolled.{Enrolled}
-use Rattle.pm_journal.specs.Stands.{highest_pid}
-use Rattle.pm_seating.specs.Standing.{IsFinal}
-use Rattle.pm_shared.specs.Told.{SharedModel, TokenModel, shared_with}
-use Rattle.pm_worker.specs.declared.mail.MailTold.{MailTold}
-use Rattle.pm_worker.specs.declared.mail.MailTold.TheVariants as told
-use Rattle.pm_crew.specs.Left.{Manner}
-use Rattle.pm_pool.specs.Closing.{HasClosedOne, HasHadLast, IsReleased, IsShut, closing_pid}
-use Rattle.pm_pool.proofs.Boards.{keeps_board}
-use Rattle.pm_pool.proofs.Leaving.{Leaves}
+use Rattle.pm_serve_crew.specs.{pm_exit.declared.child.{Kind.{Kind, TheVariants.DeadEnd}, Status.Status}, pm_board.{declared.views.{Offer.Offer, PostView.PostView, RosterStep.TheVariants.{Assign, Release}, RosterView.RosterView, Sight.{Sight, TheVariants.{Unused, Opened, Assigned, Exited, Collected, Gathered}}, SlotView.SlotView}, Heard.HeardAsSent, Models.{HasAssigned, HasGathered, PostModel, SlotBecame}, Places.{AllReaped, IsReaped, slot_at}, Seats.is_gathered, Told.{past_child, released_slot, noted_release, noted_look}}, pm_supervisor_journal.{declared.roll.Enrolled.Enrolled, Stands.highest_pid}, pm_board_acts.Standing.IsFinal, pm_store_shared.Told.{SharedModel, TokenModel, shared_with}, pm_worker.declared.mail.MailTold.MailTold, Left.Manner}
+use Rattle.pm_serve_crew.specs.pm_worker.declared.mail.MailTold.TheVariants as told
+use Rattle.pm_serve_pool.{specs.Closing.{HasClosedOne, HasHadLast, IsReleased, IsShut, closing_pid}, proofs.{Boards.keeps_board, Leaving.Leaves}}
 
 reaped_so : (last : ℕ) (x : SlotView MailTold) (sight : Sight MailTold) → (is_gathered sight ≡ true) ⊎ (sight ≡ Unused) → IsReaped last x sight
 reaped_so last x Unused so = tt

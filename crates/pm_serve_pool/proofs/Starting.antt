@@ -1,23 +1,8 @@
 -- Works that were started, and those that are left.
-use Rattle.std.proofs.Common.{◌≡◌, ℕ, ◌+◌, List, ◌++◌, length, map, sym, ap, ◌∙◌, subst, All, arith, length-append}
-use Rattle.std.proofs.lemmas.List.{length-map}
-use Rattle.std.proofs.lemmas.List.Elements.{All-from_recursion}
+use Rattle.std.proofs.{Common.{◌≡◌, ℕ, ◌+◌, List, ◌++◌, length, map, sym, ap, ◌∙◌, subst, All, arith, length-append}, lemmas.List.{length-map, Elements.All-from_recursion}}
 use Rattle.atomic_table.specs.Seated.{TableId}
-use Rattle.pm_board.specs.declared.views.RosterView.{RosterView}
-use Rattle.pm_board.specs.declared.views.Work.TheVariants.{Idle}
-use Rattle.pm_board.specs.Told.{new_roster}
-use Rattle.pm_shared.specs.declared.views.Joined.{Joined}
-use Rattle.pm_shared.specs.declared.token_store.TokenStore.{TokenStore}
-use Rattle.pm_shared.specs.Told.{IsNewShared, SharedModel}
-use Rattle.pm_worker.specs.declared.child.Child.{Child}
-use Rattle.pm_worker.specs.declared.mail.MailTold.{MailTold}
-use Rattle.pm_crew.specs.Left.{Manner}
-use Rattle.pm_pool.specs.declared.plan.Terms.{Terms}
-use Rattle.pm_pool.specs.Closing.{AreClosed}
-use Rattle.pm_pool.specs.Works.{AreUnused, EachFrom, IsIdleShared, IsUnusedWork, IsWorkOf}
-use Rattle.pm_pool.proofs.Closed.{unused_all}
-use Rattle.pm_pool.proofs.Lists.{all_of_each, back_of_all}
-use Rattle.pm_pool.proofs.Returning.{unused_works}
+use Rattle.pm_serve_crew.specs.{pm_board.{declared.views.{RosterView.RosterView, Work.TheVariants.Idle}, Told.new_roster}, pm_store_shared.{declared.{views.Joined.Joined, token_store.TokenStore.TokenStore}, Told.{IsNewShared, SharedModel}}, pm_worker.declared.{child.Child.Child, mail.MailTold.MailTold}, Left.Manner}
+use Rattle.pm_serve_pool.{specs.{declared.plan.Terms.Terms, Closing.AreClosed, Works.{AreUnused, EachFrom, IsIdleShared, IsUnusedWork, IsWorkOf}}, proofs.{Closed.unused_all, Lists.{all_of_each, back_of_all}, Returning.unused_works}}
 
 pub idle_new : {F : Type 0} (n : ℕ) (first : F) (s : SharedModel F) → IsNewShared n first s → IsIdleShared s
 idle_new n first s new = record { own = new.own; unused = subst (λ (joined : List Joined). AreUnused joined) (sym new.none_joined) tt }

@@ -1,22 +1,7 @@
 -- What is known while the workers of a pool are closed, one after the other.
 use Rattle.std.specs.Prelude.{◌≡◌, ◌≢◌, ℕ, ◌+◌, ◌<◌, ◌≤◌, true, List, [], ◌∷◌, ◌++◌, Some, length, slice_get}
-use Rattle.pm_board.specs.declared.views.Offer.{Offer}
-use Rattle.pm_board.specs.declared.views.PastChild.{PastChild}
-use Rattle.pm_board.specs.declared.views.RosterStep.TheVariants.{Release}
-use Rattle.pm_board.specs.declared.views.RosterView.{RosterView}
-use Rattle.pm_board.specs.declared.views.Sight.TheVariants.{Unused}
-use Rattle.pm_board.specs.Heard.{HeardAsSent}
-use Rattle.pm_board.specs.Places.{slot_at, slot_view}
-use Rattle.pm_board.specs.Seats.{is_gathered}
-use Rattle.pm_journal.specs.Stands.{highest_pid}
-use Rattle.pm_seating.specs.Seating.{Move}
-use Rattle.pm_seating.specs.Standing.{IsBoardOf}
-use Rattle.pm_shared.specs.declared.views.Joined.{Joined}
-use Rattle.pm_shared.specs.Told.{SharedModel, shared_with}
-use Rattle.pm_worker.specs.declared.mail.MailTold.{MailTold}
-use Rattle.pm_worker.specs.declared.mail.MailTold.TheVariants as told
-use Rattle.pm_worker.specs.Runs.{Run}
-use Rattle.pm_crew.specs.Left.{IsWorked, Manner}
+use Rattle.pm_serve_crew.specs.{pm_board.{declared.views.{Offer.Offer, PastChild.PastChild, RosterStep.TheVariants.Release, RosterView.RosterView, Sight.TheVariants.Unused}, Heard.HeardAsSent, Places.{slot_at, slot_view}, Seats.is_gathered}, pm_supervisor_journal.Stands.highest_pid, pm_board_acts.{Seating.Move, Standing.IsBoardOf}, pm_store_shared.{declared.views.Joined.Joined, Told.{SharedModel, shared_with}}, pm_worker.{declared.mail.MailTold.MailTold, Runs.Run}, Left.{IsWorked, Manner}}
+use Rattle.pm_serve_crew.specs.pm_worker.declared.mail.MailTold.TheVariants as told
 
 -- A board of so many slots, whose workers may be closed: nobody sits anywhere, no post was taken in, and no pid is above the highest
 -- that a supervisor draws.

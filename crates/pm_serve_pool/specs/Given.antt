@@ -1,12 +1,10 @@
 -- Disk and book, as they come back where no pool was made.
 use Rattle.std.specs.Prelude.{◌≡◌, ◌⊎◌, [], ◌∷◌}
-use Rattle.pm_disk.specs.declared.disk.Disk as Disk
-use Rattle.pm_outside.specs.declared.chronicle.Chronicle as Chronicle
-use Rattle.pm_query.specs.declared.book.BookEntry.{BookEntry}
-use Rattle.pm_query.specs.declared.book.BookEntry.TheVariants.{Opened}
-use Rattle.pm_segment.specs.declared.segment.Segment.{Segment}
-use Rattle.pm_segment.specs.Moment.{book_of, disk_of}
-use Rattle.pm_shared.specs.Behind.{Behind}
+use Rattle.pm_query.specs.pm_disk.declared.disk.Disk as Disk
+use Rattle.pm_segment.specs.pm_outside.declared.chronicle.Chronicle as Chronicle
+use Rattle.pm_query.specs.declared.book.BookEntry.{BookEntry, TheVariants.Opened}
+use Rattle.pm_segment.specs.{declared.segment.Segment.Segment, Moment.{book_of, disk_of}}
+use Rattle.pm_store_shared.specs.Behind.{Behind}
 
 module _ {D B : Type 0} (g : Disk.Ghosts D) (h : Chronicle.Ghosts B BookEntry) where
   -- They are those of a store that got this disk, and has noted nothing but its first generation.

@@ -1,8 +1,7 @@
 -- What a pool is made by.
 use Rattle.std.specs.Prelude.{ℕ, ◌+◌, ◌*◌}
-use Rattle.pm_crew.specs.Left.{Manner}
-use Rattle.pm_pool.specs.declared.plan.Plan.{Plan}
-use Rattle.pm_pool.specs.declared.plan.Terms.{Terms}
+use Rattle.pm_serve_crew.specs.Left.{Manner}
+use Rattle.pm_serve_pool.specs.declared.plan.{Plan.Plan, Terms.Terms}
 
 -- how many slots its board has
 abbrev pub slots_of : Plan → ℕ

@@ -2,10 +2,7 @@
 use Rattle.std.specs.Prelude.{◌≡◌, ℕ, ◌+◌, ◌≤◌, map, length}
 use Rattle.atomic_table.specs.Seated.{TableId}
 use Rattle.pm_spawn.specs.Works.{work_of}
-use Rattle.pm_pool.specs.declared.plan.Terms.{Terms}
-use Rattle.pm_pool.specs.declared.pool.Pool.{Pool}
-use Rattle.pm_pool.specs.Plan.{slots_of}
-use Rattle.pm_pool.specs.Works.{EachFrom, IsWorkOf}
+use Rattle.pm_serve_pool.specs.{declared.{plan.Terms.Terms, pool.Pool.Pool}, Plan.slots_of, Works.{EachFrom, IsWorkOf}}
 
 -- a plan for no more than this many sessions and background workers
 abbrev pub IsWithin : {C : Type 0} → Terms C → Type 0

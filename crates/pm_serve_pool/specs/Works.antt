@@ -1,18 +1,9 @@
 -- The works of a pool.
-use Rattle.std.specs.Prelude.{◌≡◌, ℕ, ◌+◌, List, [], ◌∷◌, ◌++◌, Some, length, slice_get}
-use Rattle.std.specs.List.{AllByRecursion}
+use Rattle.std.specs.{Prelude.{◌≡◌, ℕ, ◌+◌, List, [], ◌∷◌, ◌++◌, Some, length, slice_get}, List.AllByRecursion}
 use Rattle.atomic_table.specs.Seated.{TableId}
-use Rattle.pm_board.specs.Models.{PostModel}
-use Rattle.pm_board.specs.Rule.{idle_post}
-use Rattle.pm_query.specs.declared.book.BookEntry.TheVariants.{Opened}
-use Rattle.pm_shared.specs.declared.views.Joined.{Joined}
-use Rattle.pm_shared.specs.declared.token_store.TokenStore.{TokenStore}
-use Rattle.pm_shared.specs.Log.{noted}
-use Rattle.pm_shared.specs.Told.{SharedModel, TokenModel, shared_with}
-use Rattle.pm_worker.specs.declared.child.Child.{Child}
-use Rattle.pm_worker.specs.declared.mail.MailTold.{MailTold}
-use Rattle.pm_worker.specs.declared.tools.Tools.{Tools}
-use Rattle.pm_pool.specs.declared.plan.Terms.{Terms}
+use Rattle.pm_worker.specs.{pm_board.{Models.PostModel, Rule.idle_post}, pm_query.declared.book.BookEntry.TheVariants.Opened, declared.{child.Child.Child, mail.MailTold.MailTold, tools.Tools.Tools}}
+use Rattle.pm_store_shared.specs.{declared.{views.Joined.Joined, token_store.TokenStore.TokenStore}, Log.noted, Told.{SharedModel, TokenModel, shared_with}}
+use Rattle.pm_serve_pool.specs.declared.plan.Terms.{Terms}
 
 -- so it is of each, of which the first has this number
 abbrev pub EachFrom : {A : Type 0} → (ℕ → A → Type 0) → ℕ → List A → Type 0

@@ -1,16 +1,9 @@
 //! The workers of a pool are told to end, one after the other, and joined.
 ghost use Rattle.std.specs.Prelude.{◌≡◌, ◌+◌, ◌<◌, ◌≤◌, [], length, map};
-ghost use Rattle.pm_board.specs.declared.views.Offer.{Offer};
-ghost use Rattle.pm_board.specs.declared.views.Sight.TheVariants.{Assigned};
-ghost use Rattle.pm_board.specs.Models.{HasAssigned};
-ghost use Rattle.pm_board.specs.Places.{slot_at};
-ghost use Rattle.pm_exit.specs.declared.child.Kind.TheVariants.{DeadEnd};
-ghost use Rattle.pm_spawn.specs.Works.{work_of};
-ghost use Rattle.pm_worker.specs.declared.mail.MailTold.{MailTold};
+ghost use Rattle.pm_board.specs.{declared.views.{Offer.Offer, Sight.TheVariants.Assigned}, Models.HasAssigned, Places.slot_at, pm_exit.declared.child.Kind.TheVariants.DeadEnd};
+ghost use Rattle.pm_worker.specs.{pm_spawn.Works.work_of, declared.mail.MailTold.MailTold};
 ghost use Rattle.pm_worker.specs.declared.mail.MailTold.TheVariants as told;
-ghost use Rattle.pm_pool.specs.Closing.{AreClosed, HasClosedOne, IsReleased, IsShut, closing_pid};
-ghost use Rattle.pm_pool.specs.Plan.{manner_of};
-ghost use Rattle.pm_pool.specs.Works.{EachFrom, IsWorkOf};
+ghost use Rattle.pm_serve_pool.specs.{Closing.{AreClosed, HasClosedOne, IsReleased, IsShut, closing_pid}, Plan.manner_of, Works.{EachFrom, IsWorkOf}};
 
 use crate::plan::Terms;
 use crate::pool::Worker;
@@ -19,8 +12,8 @@ use pm_disk::Disk;
 use pm_exit::Kind;
 use pm_outside::{Chronicle, Clock, Link};
 use pm_query::BookEntry;
-use pm_shared::{Shared, TokenStore};
 use pm_spawn::Running;
+use pm_store_shared::{Shared, TokenStore};
 use pm_worker::Mail;
 use std::collections::VecDeque;
 use std::sync::Wait;

@@ -1,11 +1,7 @@
 //! The end of a pool.
 ghost use Rattle.std.specs.Prelude.{◌≡◌, ◌<◌, ℕ, [], List, IfSome};
-ghost use Rattle.pm_query.specs.declared.book.BookEntry.{BookEntry};
-ghost use Rattle.pm_shared.specs.Behind.{Behind};
-ghost use Rattle.pm_crew.specs.Left.{AreLeft};
-ghost use Rattle.pm_pool.specs.Closing.{HasHadLast, KeepsBoard, MayClose};
-ghost use Rattle.pm_pool.specs.Plan.{manner_of, slots_of};
-ghost use Rattle.pm_pool.specs.Pools.{IsPool};
+ghost use Rattle.pm_serve_crew.specs.{pm_query.declared.book.BookEntry.BookEntry, pm_store_shared.Behind.Behind, Left.AreLeft};
+ghost use Rattle.pm_serve_pool.specs.{Closing.{HasHadLast, KeepsBoard, MayClose}, Plan.{manner_of, slots_of}, Pools.IsPool};
 
 use crate::closing::close_all;
 use crate::pool::Pool;
@@ -14,7 +10,7 @@ use pm_disk::Disk;
 use pm_outside::{Chronicle, Clock, Link};
 use pm_query::BookEntry;
 use pm_segment::Segment;
-use pm_shared::Shared;
+use pm_store_shared::Shared;
 use pm_worker::Mail;
 use std::sync::Wait;
 use std::thread::Threads;

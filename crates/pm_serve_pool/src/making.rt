@@ -1,14 +1,8 @@
 //! A pool is made.
 ghost use Rattle.std.specs.Prelude.{◌≡◌, ◌+◌, ◌≤◌, ℕ, [], All, Some, IfErr, IfOk, IfSome, length, vec_len};
-ghost use Rattle.pm_board.specs.Models.{AreNewPosts};
-ghost use Rattle.pm_board.specs.Told.{new_roster};
-ghost use Rattle.pm_disk.specs.Cause.{Rose};
-ghost use Rattle.pm_shared.specs.Told.{AreNewTokens, IsNewShared};
-ghost use Rattle.pm_pool.specs.declared.pool.NoPool.TheVariants.{NoThread};
-ghost use Rattle.pm_pool.specs.Given.{IsGivenBack, IsOpenedAlone};
-ghost use Rattle.pm_pool.specs.Plan.{slots_of};
-ghost use Rattle.pm_pool.specs.Pools.{IsPool, IsWithin};
-ghost use Rattle.pm_pool.specs.Works.{EachFrom, IsWorkOf};
+ghost use Rattle.pm_board.specs.{Models.AreNewPosts, Told.new_roster};
+ghost use Rattle.pm_store_shared.specs.{pm_disk.Cause.Rose, Told.{AreNewTokens, IsNewShared}};
+ghost use Rattle.pm_serve_pool.specs.{declared.pool.NoPool.TheVariants.NoThread, Given.{IsGivenBack, IsOpenedAlone}, Plan.slots_of, Pools.{IsPool, IsWithin}, Works.{EachFrom, IsWorkOf}};
 
 use crate::closing::close_all;
 use crate::plan::{Plan, Terms};
@@ -19,8 +13,8 @@ use pm_board::Roster;
 use pm_disk::Disk;
 use pm_outside::{Chronicle, Clock, Link};
 use pm_query::BookEntry;
-use pm_shared::{Shared, TokenStore, Tokens};
 use pm_spawn::{Spawner, start_all};
+use pm_store_shared::{Shared, TokenStore, Tokens};
 use pm_worker::{Child, Mail, Tools};
 use std::alloc::Global;
 use std::collections::VecDeque;

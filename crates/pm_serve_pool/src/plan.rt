@@ -1,6 +1,6 @@
 //! What a pool is made by.
 ghost use Rattle.std.specs.Prelude.{◌≡◌, ◌+◌, ◌≤◌};
-ghost use Rattle.pm_pool.specs.Plan.{slots_of};
+ghost use Rattle.pm_serve_pool.specs.Plan.{slots_of};
 
 use pm_session::SessionConf;
 use std::snapshot::Snapshot;

@@ -1,13 +1,12 @@
 //! Disk and book come back where no pool was made.
 ghost use Rattle.std.specs.Prelude.{◌≡◌, ◌+◌, Some, length};
-ghost use Rattle.pm_pool.specs.Given.{IsOpenedAlone};
-ghost use Rattle.pm_pool.specs.Works.{EachFrom, HasTakenBack, IsIdleShared, IsUnusedWork};
+ghost use Rattle.pm_serve_pool.specs.{Given.IsOpenedAlone, Works.{EachFrom, HasTakenBack, IsIdleShared, IsUnusedWork}};
 
 use crate::pool::{NoPool, Unmade, Worker};
 use pm_disk::Disk;
 use pm_outside::{Chronicle, Clock, Link};
 use pm_query::BookEntry;
-use pm_shared::{Shared, TokenStore};
+use pm_store_shared::{Shared, TokenStore};
 use std::collections::VecDeque;
 use std::sync::Wait;
 

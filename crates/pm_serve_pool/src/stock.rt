@@ -1,8 +1,7 @@
 //! What a pool takes of memory before it shares its store.
 ghost use Rattle.std.specs.Prelude.{◌≡◌, ◌+◌, ◌≤◌, ℕ, [], All, IfOk, length, vec_len};
-ghost use Rattle.pm_board.specs.Told.{new_roster};
-ghost use Rattle.pm_board.specs.Models.{AreNewPosts};
-ghost use Rattle.pm_pool.specs.Plan.{slots_of};
+ghost use Rattle.pm_board.specs.{Told.new_roster, Models.AreNewPosts};
+ghost use Rattle.pm_serve_pool.specs.Plan.{slots_of};
 
 use crate::plan::Plan;
 use crate::pool::Worker;

@@ -1,33 +1,11 @@
 -- A server of many connections keeps what a user counts on.
-use Rattle.std.proofs.Common.{◌≡◌, ◌⊎◌, inr, ℕ, ◌<◌, List, [], Some, None, arith}
-use Rattle.std.specs.List.{AllByRecursion}
-use Rattle.std.proofs.lemmas.List.Elements.{All-from_recursion}
-use Rattle.std.proofs.lemmas.Option.{slice_get-get_or}
-use Rattle.std.specs.Prelude.{get_or}
-use Rattle.pm_disk.specs.Files.{Files}
-use Rattle.pm_board.specs.declared.views.RosterView.{RosterView}
-use Rattle.pm_query.specs.declared.book.BookEntry.{BookEntry}
-use Rattle.pm_query.specs.Book.{Base, IsLegal, history_of}
-use Rattle.pm_query.specs.BookLaws.{AckedNeverFalls}
-use Rattle.pm_journal.specs.Stands.{any_moment}
-use Rattle.pm_seating.specs.Seating.{Move, journal_of}
-use Rattle.pm_state.specs.Laws.{RestartsSafely}
-use Rattle.pm_supervisor.specs.declared.Limits.{Limits}
-use Rattle.pm_answers.specs.Laws.{OwnEntriesStand, RepliesAreRight}
-use Rattle.pm_answers.specs.Replies.{IsAnswered, IsTurnedOff}
-use Rattle.pm_promises.specs.RestartsLaws.{legal_opens_empty}
-use Rattle.pm_promises.specs.Stops.{AcknowledgedStays}
-use Rattle.pm_promises.specs.StopsLaws.{at_each, whole_each, base_is}
-use Rattle.pm_server.specs.Views.{DiskView}
-use Rattle.pm_shared.specs.declared.views.Noted.{Noted}
-use Rattle.pm_worker.specs.declared.mail.MailTold.{MailTold}
-use Rattle.pm_worker.specs.Runs.{IsRun}
-use Rattle.pm_crew.specs.EntriesLaws.{entries_of_runs}
-use Rattle.pm_crew.specs.Left.{Manner}
-use Rattle.pm_crew.specs.TalksLaws.{FineTalks, fine_talks}
-use Rattle.pm_clean_end.specs.CleanEnd.{IsLeftBy}
-use Rattle.pm_clean_end.specs.CleanEndLaws.{ends_clean}
-use Rattle.pm_served.specs.Promises.{AllAnswersAreRight, IsPromised}
+use Rattle.std.{proofs.{Common.{◌≡◌, ◌⊎◌, inr, ℕ, ◌<◌, List, [], Some, None, arith}, lemmas.{List.Elements.All-from_recursion, Option.slice_get-get_or}}, specs.{List.AllByRecursion, Prelude.get_or}}
+use Rattle.pm_server.specs.{pm_disk.Files.Files, pm_query.{declared.book.BookEntry.BookEntry, Book.{Base, IsLegal, history_of}, BookLaws.AckedNeverFalls}, pm_supervisor_journal.Stands.any_moment, pm_state.Laws.RestartsSafely, pm_supervisor.declared.Limits.Limits, Views.DiskView}
+use Rattle.pm_postmaster.specs.{pm_board.declared.views.RosterView.RosterView, pm_board_acts.Seating.{Move, journal_of}, pm_store_shared.declared.views.Noted.Noted, pm_worker.{declared.mail.MailTold.MailTold, Runs.IsRun}}
+use Rattle.pm_promises.{specs.{pm_session_answers.{Laws.{OwnEntriesStand, RepliesAreRight}, Replies.{IsAnswered, IsTurnedOff}}, Stops.AcknowledgedStays}, proofs.{RestartsLaws.legal_opens_empty, StopsLaws.{at_each, whole_each, base_is}}}
+use Rattle.pm_serve_first_crash.{proofs.pm_serve_crew.{EntriesLaws.entries_of_runs, TalksLaws.{FineTalks, fine_talks}}, specs.pm_serve_crew.Left.Manner}
+use Rattle.pm_serve_clean_end.{specs.CleanEnd.IsLeftBy, proofs.CleanEndLaws.ends_clean}
+use Rattle.pm_serve_promises.specs.Promises.{AllAnswersAreRight, IsPromised}
 
 module _ (right : RepliesAreRight) (own : OwnEntriesStand) (never : AckedNeverFalls) (safely : RestartsSafely) (limits : Limits) (manner : Manner) (count : ℕ) (moves : List Move)
     (d : RosterView MailTold) (list : List Noted) (book : List BookEntry) (before now : DiskView) (its : IsLeftBy limits manner count moves d list book before now) where

@@ -1,24 +1,11 @@
 -- A run of a server of many connections keeps the promises.
-use Rattle.std.proofs.Common.{◌≡◌, inl, inr, ℕ, List, Option, Some, sym, subst}
-use Rattle.std.specs.Prelude.{IfSome}
-use Rattle.pm_answers.specs.Laws.{OwnEntriesStand, RepliesAreRight}
-use Rattle.pm_chained.specs.ChainedLaws.{chained}
-use Rattle.pm_journal.specs.Stands.{any_moment}
-use Rattle.pm_query.specs.declared.book.BookEntry.{BookEntry}
-use Rattle.pm_query.specs.Book.{Base}
-use Rattle.pm_query.specs.BookLaws.{AckedNeverFalls}
-use Rattle.pm_postmaster.specs.Outside.{ServeView}
-use Rattle.pm_postmaster.specs.Served.{IsServed, IsServeRun, manner_by, slots_by}
-use Rattle.pm_remains.specs.Remains.{IsLeft}
-use Rattle.pm_seating.specs.Chained.{IsChainedLoosely}
-use Rattle.pm_server.specs.declared.conf.Conf.{Conf}
-use Rattle.pm_server.specs.declared.end.ServerEnd.{ServerEnd}
-use Rattle.pm_state.specs.Laws.{RestartsSafely}
-use Rattle.pm_state.specs.Restarts.{RestartsInOrder}
-use Rattle.pm_clean_end.specs.CleanEnd.{IsLeftBy}
-use Rattle.pm_served.specs.PromisedServe.{IsPromisedRun, IsPromisedServe, IsTold, crew_in, journal_in}
-use Rattle.pm_served.specs.Promises.{IsPromised}
-use Rattle.pm_served.specs.PromisesLaws.{promised}
+use Rattle.std.{proofs.Common.{◌≡◌, inl, inr, ℕ, List, Option, Some, sym, subst}, specs.Prelude.IfSome}
+use Rattle.pm_session_answers.specs.Laws.{OwnEntriesStand, RepliesAreRight}
+use Rattle.pm_serve_chain.proofs.ChainedLaws.{chained}
+use Rattle.pm_server.specs.{pm_supervisor_journal.Stands.any_moment, pm_query.{declared.book.BookEntry.BookEntry, Book.Base, BookLaws.AckedNeverFalls}, declared.{conf.Conf.Conf, end.ServerEnd.ServerEnd}, pm_state.{Laws.RestartsSafely, Restarts.RestartsInOrder}}
+use Rattle.pm_postmaster.specs.{Outside.ServeView, Served.{IsServed, IsServeRun, manner_by, slots_by}, pm_store_remains.Remains.IsLeft, pm_board_acts.Chained.IsChainedLoosely}
+use Rattle.pm_serve_clean_end.specs.CleanEnd.{IsLeftBy}
+use Rattle.pm_serve_promises.{specs.{PromisedServe.{IsPromisedRun, IsPromisedServe, IsTold, crew_in, journal_in}, Promises.IsPromised}, proofs.PromisesLaws.promised}
 
 -- what is told of the book is said of these entries
 said_of : (T : List BookEntry → Type 0) (told : Option (List BookEntry)) (book : List BookEntry) → told ≡ Some book → IfSome told T → T book

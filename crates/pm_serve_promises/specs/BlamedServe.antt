@@ -1,25 +1,12 @@
 -- What the first crash of a run of a server of many connections is due to, where nobody asked for a kill or to stop at once, and
 -- the disk didn't fail.
-use Rattle.std.specs.Prelude.{◌≡◌, ◌⊎◌, [], List}
-use Rattle.std.specs.List.{AllByRecursion}
-use Rattle.std.proofs.Common.{inl, inr, subst}
-use Rattle.pm_disk.specs.Cause.{Rose}
-use Rattle.pm_supervisor.specs.declared.Ending.{Ending}
-use Rattle.pm_supervisor.specs.declared.Ending.TheVariants as endings
-use Rattle.pm_state.specs.declared.event.PmEvent.{PmEvent}
-use Rattle.pm_state.specs.declared.event.PmEvent.TheVariants as entry
-use Rattle.pm_state.specs.Laws.{RestartsSafely}
-use Rattle.pm_server.specs.declared.conf.Conf.{Conf}
-use Rattle.pm_server.specs.declared.end.ServerEnd.{ServerEnd}
-use Rattle.pm_server.specs.declared.end.ServerEnd.TheVariants.{Abnormal}
-use Rattle.pm_server.specs.declared.end.Why.TheVariants.{AfterCrash, RestartOff}
-use Rattle.pm_blame.specs.Crashes.{IsFirstCrash, IsHarmless, IsUnasked, stands_behind}
-use Rattle.pm_blame.specs.Causes.{HasCause, IsUnprovoked}
-use Rattle.pm_blame.specs.BlameLaws.{has_cause, has_crashed, unfailed_unbroken}
-use Rattle.pm_postmaster.specs.Outside.{ServeView}
-use Rattle.pm_postmaster.specs.Served.{IsServed, manner_by, slots_by}
-use Rattle.pm_postmaster.specs.Serving.{EndsWith, IsEndBehind}
-use Rattle.pm_served.specs.PromisedServe.{journal_in}
+use Rattle.std.{specs.{Prelude.{◌≡◌, ◌⊎◌, [], List}, List.AllByRecursion}, proofs.Common.{inl, inr, subst}}
+use Rattle.pm_server.specs.{pm_disk.Cause.Rose, pm_supervisor.declared.Ending.Ending, pm_state.{declared.event.PmEvent.PmEvent, Laws.RestartsSafely}, declared.{conf.Conf.Conf, end.{ServerEnd.{ServerEnd, TheVariants.Abnormal}, Why.TheVariants.{AfterCrash, RestartOff}}}}
+use Rattle.pm_server.specs.pm_supervisor.declared.Ending.TheVariants as endings
+use Rattle.pm_server.specs.pm_state.declared.event.PmEvent.TheVariants as entry
+use Rattle.pm_serve_first_crash.{specs.{Crashes.{IsFirstCrash, IsHarmless, IsUnasked, stands_behind}, Causes.{HasCause, IsUnprovoked}}, proofs.BlameLaws.{has_cause, has_crashed, unfailed_unbroken}}
+use Rattle.pm_postmaster.specs.{Outside.ServeView, Served.{IsServed, manner_by, slots_by}, Serving.{EndsWith, IsEndBehind}}
+use Rattle.pm_serve_promises.specs.PromisedServe.{journal_in}
 
 -- it ended as after a crash
 abbrev pub IsAfterCrash : ServerEnd → Type 0

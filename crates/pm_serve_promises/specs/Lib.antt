@@ -1,4 +1,3 @@
 pub mod Promises
-pub mod PromisesLaws
 pub mod PromisedServe
 pub mod BlamedServe

@@ -1,18 +1,8 @@
 -- A run of a server of many connections that keeps what a user counts on.
 use Rattle.std.specs.Prelude.{◌≡◌, ◌⊎◌, ℕ, List, Some}
-use Rattle.pm_disk.specs.Files.{Files}
-use Rattle.pm_query.specs.declared.book.BookEntry.{BookEntry}
-use Rattle.pm_query.specs.Book.{Base}
-use Rattle.pm_server.specs.Outside.{OutsideView}
-use Rattle.pm_postmaster.specs.Outside.{ServeView}
-use Rattle.pm_postmaster.specs.Served.{IsServed, IsUnmade, slots_by}
-use Rattle.pm_seating.specs.Chained.{IsChainedLoosely}
-use Rattle.pm_seating.specs.Seating.{journal_of}
-use Rattle.pm_server.specs.declared.conf.Conf.{Conf}
-use Rattle.pm_server.specs.declared.end.ServerEnd.{ServerEnd}
-use Rattle.pm_state.specs.declared.event.PmEvent.{PmEvent}
-use Rattle.pm_state.specs.Restarts.{RestartsInOrder}
-use Rattle.pm_served.specs.Promises.{Crew, IsPromised}
+use Rattle.pm_server.specs.{pm_disk.Files.Files, pm_query.{declared.book.BookEntry.BookEntry, Book.Base}, Outside.OutsideView, declared.{conf.Conf.Conf, end.ServerEnd.ServerEnd}, pm_state.{declared.event.PmEvent.PmEvent, Restarts.RestartsInOrder}}
+use Rattle.pm_postmaster.specs.{Outside.ServeView, Served.{IsServed, IsUnmade, slots_by}, pm_board_acts.{Chained.IsChainedLoosely, Seating.journal_of}}
+use Rattle.pm_serve_promises.specs.Promises.{Crew, IsPromised}
 
 -- at the end the book tells, and the disk tells its files
 pub record IsTold (now : OutsideView) (book : List BookEntry) : Type 0 where

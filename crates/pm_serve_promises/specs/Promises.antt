@@ -1,18 +1,10 @@
 -- What a user counts on of a server of many connections, by what it leaves.
 use Rattle.std.specs.Prelude.{◌<◌, ℕ, List}
-use Rattle.pm_query.specs.declared.book.BookEntry.{BookEntry}
-use Rattle.pm_query.specs.Book.{Base, history_of}
-use Rattle.pm_state.specs.declared.event.PmEvent.{PmEvent}
-use Rattle.pm_state.specs.Restarts.{RestartsInOrder}
-use Rattle.pm_supervisor.specs.declared.Limits.{Limits}
-use Rattle.pm_answers.specs.Replies.{AnswersAreRight, Talk}
-use Rattle.pm_promises.specs.Promises.{IsBaseOf}
-use Rattle.pm_promises.specs.Restarts.{OpensEmpty}
-use Rattle.pm_promises.specs.Stops.{AcknowledgedStays, WholeOrNot}
-use Rattle.pm_server.specs.Views.{DiskView}
-use Rattle.pm_worker.specs.Runs.{Run}
-use Rattle.pm_crew.specs.Talks.{AreTalksOf}
-use Rattle.pm_clean_end.specs.CleanEnd.{EndsClean}
+use Rattle.pm_server.specs.{pm_query.{declared.book.BookEntry.BookEntry, Book.{Base, history_of}}, pm_state.{declared.event.PmEvent.PmEvent, Restarts.RestartsInOrder}, pm_supervisor.declared.Limits.Limits, Views.DiskView}
+use Rattle.pm_promises.specs.{pm_session_answers.Replies.{AnswersAreRight, Talk}, Promises.IsBaseOf, Restarts.OpensEmpty, Stops.{AcknowledgedStays, WholeOrNot}}
+use Rattle.pm_postmaster.specs.pm_worker.Runs.{Run}
+use Rattle.pm_serve_first_crash.specs.pm_serve_crew.Talks.{AreTalksOf}
+use Rattle.pm_serve_clean_end.specs.CleanEnd.{EndsClean}
 
 -- The runs of the workers of so many slots, and the seed of their keys.
 pub record Crew : Type 0 where

@@ -1,16 +1,15 @@
 //! A whole run of a server of many connections, with what a user counts on.
 
 ghost use Rattle.std.specs.Prelude.{◌≡◌, ◌≤◌, ◌+◌, [], IfSome};
-ghost use Rattle.pm_outside.specs.Visits.{no_visits};
-ghost use Rattle.pm_postmaster.specs.Outside.{serve_view};
-ghost use Rattle.pm_served.specs.PromisedServe.{IsPromisedServe};
+ghost use Rattle.pm_postmaster.specs.{pm_outside.Visits.no_visits, Outside.serve_view};
+ghost use Rattle.pm_serve_promises.specs.PromisedServe.{IsPromisedServe};
 
-use pm_answers::{own_entries_stand, replies_are_right};
 use pm_disk::Disk;
 use pm_outside::{Chronicle, Clock, Console, Link, Port, Sink};
 use pm_postmaster::{Served, supervise};
 use pm_query::{BookEntry, acked_never_falls};
 use pm_server::{Conf, Outside};
+use pm_session_answers::{own_entries_stand, replies_are_right};
 use pm_spawn::Spawner;
 use pm_state::{PmEvent, restarts_safely};
 use std::alloc::Global;

@@ -1,1 +1,2 @@
 pub mod Requests
+pub use Rattle.pm_board_acts.specs as pm_board_acts

@@ -1,9 +1,8 @@
 -- What the requests of the console are.
-use Rattle.std.specs.Prelude.{◌≡◌, ℕ, ◌≤◌, List, length}
-use Rattle.std.specs.Str.Parse.{IsNumeral, digits_value}
-use Rattle.pm_requests.specs.declared.Request.{Request}
-use Rattle.pm_requests.specs.declared.Request.TheVariants as request
-use Rattle.pm_seating.specs.Seating as seating
+use Rattle.std.specs.{Prelude.{◌≡◌, ℕ, ◌≤◌, List, length}, Str.Parse.{IsNumeral, digits_value}}
+use Rattle.pm_serve_requests.specs.declared.Request.{Request}
+use Rattle.pm_serve_requests.specs.declared.Request.TheVariants as request
+use Rattle.pm_board_acts.specs.Seating as seating
 
 -- a number in one to ten digits
 pub record IsNumber (digits : List ℕ) (number : ℕ) : Type 0 where

@@ -2,8 +2,8 @@
 #![tactic(auto)]
 
 ghost use Rattle.std.specs.Prelude.{◌≡◌, ◌≢◌, ℕ, IfSome, IfNone};
-ghost use Rattle.pm_seating.specs.Chained.{AsksFor, mode_word};
-ghost use Rattle.pm_requests.specs.Requests.{IsNumber, meant};
+ghost use Rattle.pm_board_acts.specs.Chained.{AsksFor, mode_word};
+ghost use Rattle.pm_serve_requests.specs.Requests.{IsNumber, meant};
 
 use pm_modes::Mode;
 

@@ -1,11 +1,8 @@
 -- An act is done, and its entry is noted: the log says what the journal tells.
 use Rattle.std.proofs.Common.{List, [], ◌∷◌, ◌++◌, refl, sym, subst}
-use Rattle.pm_state.specs.declared.action.Action.{Action}
-use Rattle.pm_state.specs.declared.action.Action.TheVariants as act
-use Rattle.pm_state.specs.declared.event.PmEvent.{PmEvent}
-use Rattle.pm_journal.specs.Standing.{Standing, act_for, entry_for}
-use Rattle.pm_lines.specs.Log.{HasSaid, LogView}
-use Rattle.pm_lines.specs.LogLaws.{said_more, said_same}
+use Rattle.pm_supervisor_journal.specs.{pm_state.declared.{action.Action.Action, event.PmEvent.PmEvent}, Standing.{Standing, act_for, entry_for}}
+use Rattle.pm_supervisor_journal.specs.pm_state.declared.action.Action.TheVariants as act
+use Rattle.pm_server_lines.{specs.Log.{HasSaid, LogView}, proofs.LogLaws.{said_more, said_same}}
 use Rattle.pm_server.specs.Acted.{LogBehind}
 
 pub said_acted : (a : Action) (s : Standing) (journal : List PmEvent) (first before now : LogView) → LogBehind (act_for a s) before now → HasSaid journal first before → HasSaid (journal ++ entry_for a s ∷ []) first now

@@ -1,26 +1,11 @@
 -- What the machine keeps where no child crashes and nobody asks to stop at once: that the last checkpoint is asked for in a shutdown
 -- alone, once no other child is left.
-use Rattle.std.proofs.Common.{◌≡◌, ◌⊎◌, inl, inr, ℕ, Bool, true, false, not, ◌&&◌, ◌||◌, List, [], ◌∷◌, refl, sym, ap, subst, arith}
-use Rattle.std.specs.Prelude.{is_some}
-use Rattle.pm_exit.specs.declared.child.Kind.{Kind}
-use Rattle.pm_exit.specs.declared.child.Kind.TheVariants as kind
-use Rattle.pm_exit.specs.declared.child.Status.{Status}
-use Rattle.pm_exit.specs.Ends.{is_exit_0, is_exit_1}
-use Rattle.pm_modes.specs.declared.Mode.TheVariants.{Smart, Fast}
-use Rattle.pm_modes.specs.Strength.{is_immediate, strengthen_of}
-use Rattle.pm_admit.specs.declared.PmState.{PmState}
-use Rattle.pm_admit.specs.declared.PmState.TheVariants as state
-use Rattle.pm_admit.specs.Admission.{decide_of, is_run}
-use Rattle.pm_supervisor.specs.declared.Limits.{Limits}
-use Rattle.pm_state.specs.declared.action.Action.{Action}
+use Rattle.std.{proofs.Common.{◌≡◌, ◌⊎◌, inl, inr, ℕ, Bool, true, false, not, ◌&&◌, ◌||◌, List, [], ◌∷◌, refl, sym, ap, subst, arith}, specs.Prelude.is_some}
+use Rattle.pm_state.specs.{pm_exit.{declared.child.{Kind.Kind, Status.Status}, Ends.{is_exit_0, is_exit_1}}, pm_modes.{declared.Mode.TheVariants.{Smart, Fast}, Strength.{is_immediate, strengthen_of}}, pm_supervisor.declared.Limits.Limits, declared.{action.Action.Action, machine.Machine.Machine}, Exits.{crash_rule, is_shutdown, less_one, startup_exited}, Machine.{accepted_as, begun, started_as, view_of}, Promises.{has_act, is_ask_checkpoint}, Requests.{asked_with, ticked_at}, TurnRules.{are_backends_gone, backends_gone, children_gone, dead_ends_gone, end_smart, is_not_running, restart_writer, start_recovery, stop_backends}, Journal.{row_of, settled}}
+use Rattle.pm_state.specs.pm_exit.declared.child.Kind.TheVariants as kind
+use Rattle.pm_session.specs.pm_admit.{declared.PmState.PmState, Admission.{decide_of, is_run}}
+use Rattle.pm_session.specs.pm_admit.declared.PmState.TheVariants as state
 use Rattle.pm_state.specs.declared.action.Action.TheVariants as act
-use Rattle.pm_state.specs.declared.machine.Machine.{Machine}
-use Rattle.pm_state.specs.Exits.{crash_rule, is_shutdown, less_one, startup_exited}
-use Rattle.pm_state.specs.Machine.{accepted_as, begun, started_as, view_of}
-use Rattle.pm_state.specs.Promises.{has_act, is_ask_checkpoint}
-use Rattle.pm_state.specs.Requests.{asked_with, ticked_at}
-use Rattle.pm_state.specs.TurnRules.{are_backends_gone, backends_gone, children_gone, dead_ends_gone, end_smart, is_not_running, restart_writer, start_recovery, stop_backends}
-use Rattle.pm_state.specs.Journal.{row_of, settled}
 
 -- ---- what holds
 

@@ -1,10 +1,7 @@
 -- Moments, requests and connections of a journal that is written in parts.
 use Rattle.std.proofs.Common.{◌≡◌, ◌⊎◌, inl, inr, ℕ, ◌<◌, List, [], ◌∷◌, ◌++◌, None, Some, refl, sym, ◌∙◌, ap, subst}
-use Rattle.pm_modes.specs.declared.Mode.{Mode}
-use Rattle.pm_state.specs.declared.event.PmEvent.{PmEvent}
-use Rattle.pm_state.specs.declared.event.PmEvent.TheVariants as entry
-use Rattle.pm_journal.specs.Moments.{AreGiven, IsGiven}
-use Rattle.pm_journal.specs.declared.supervision.Taken.{Taken}
+use Rattle.pm_supervisor_journal.specs.{pm_state.{pm_modes.declared.Mode.Mode, declared.event.PmEvent.PmEvent}, Moments.{AreGiven, IsGiven}, declared.supervision.Taken.Taken}
+use Rattle.pm_supervisor_journal.specs.pm_state.declared.event.PmEvent.TheVariants as entry
 use Rattle.pm_server.specs.Journal.{IsMoment, Times, accepted_in, asked_in}
 
 -- ---- moments

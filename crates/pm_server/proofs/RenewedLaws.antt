@@ -1,9 +1,6 @@
 -- What holds of a store that begins its next generation.
 use Rattle.std.proofs.Common.{inl, ℕ, List, ◌++◌}
-use Rattle.pm_segment.specs.Moment.{Moment}
-use Rattle.pm_segment.specs.Moves.{Spans}
-use Rattle.pm_segment.specs.MovesLaws.{renewal_shown}
-use Rattle.pm_segment.specs.Renewal.{renewal}
+use Rattle.pm_segment.specs.{Moment.Moment, Moves.Spans, MovesLaws.renewal_shown, Renewal.renewal}
 use Rattle.pm_server.specs.Renewed.{HasRenewed}
 
 pub spans_renewal : (generation : ℕ) (lost others : List ℕ) (before now : Moment) → HasRenewed generation lost others before now → Spans (renewal (lost ++ others) generation) before now

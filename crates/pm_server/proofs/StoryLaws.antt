@@ -1,47 +1,10 @@
 -- What a run of a server leaves in its files, by what its store keeps from its opening to its end.
-use Rattle.std.proofs.Common.{◌≡◌, ◌≢◌, ◌⊎◌, inl, inr, ℕ, List, [], ◌∷◌, ◌++◌, Option, None, Some, refl, sym, ◌∙◌, ap, subst, arith}
-use Rattle.std.proofs.Math.Logic.{∥∥₁_elim, ∥∥₁_map}
-use Rattle.std.specs.Option.{option_map}
-use Rattle.std.specs.Prelude.{All, IfSome, false, is_some, true}
-use Rattle.std.specs.List.{AllByRecursion}
+use Rattle.std.{proofs.{Common.{◌≡◌, ◌≢◌, ◌⊎◌, inl, inr, ℕ, List, [], ◌∷◌, ◌++◌, Option, None, Some, refl, sym, ◌∙◌, ap, subst, arith}, Math.Logic.{∥∥₁_elim, ∥∥₁_map}, lemmas.{List.Elements.{All-head, All-tail}, Bool.false≢true, Option.same_Some}}, specs.{Option.option_map, Prelude.{All, IfSome, false, is_some, true}, List.AllByRecursion}}
 use Rattle.std.specs.FinMap as finite
-use Rattle.std.proofs.lemmas.List.Elements.{All-head, All-tail}
-use Rattle.std.proofs.lemmas.Bool.{false≢true}
-use Rattle.std.proofs.lemmas.Option.{same_Some}
-use Rattle.pm_disk.specs.Cause.{Rose}
-use Rattle.pm_disk.specs.Files.{Files}
-use Rattle.pm_record.specs.OnDisk.{GoesOn}
-use Rattle.pm_record.specs.Pair.{Means}
-use Rattle.pm_record.specs.StandsFor.{StandsFor}
-use Rattle.pm_record.specs.declared.fault.RedoFault.{RedoFault}
-use Rattle.pm_record.specs.declared.fault.RedoFault.TheVariants as redo
-use Rattle.pm_redo.specs.Found.{IsReason}
-use Rattle.pm_query.specs.Book.{Base, IsLegal, history_of}
-use Rattle.pm_query.specs.Durable.{IsDurable}
-use Rattle.pm_query.specs.History.{rows_of}
-use Rattle.pm_query.specs.HistoryLaws.{whole_number}
-use Rattle.pm_query.specs.declared.book.BookEntry.{BookEntry}
-use Rattle.pm_query.specs.declared.book.BookEntry.TheVariants.{Opened, Attached, Redone, Answered, Released, Detached, Gone, CheckpointEnded, Broke, LogFull}
-use Rattle.pm_segment.specs.Fronts.{whole_of}
-use Rattle.pm_segment.specs.Moment.{Moment, Told}
-use Rattle.pm_outside.specs.Added.{Added}
-use Rattle.pm_segment.specs.Moves.{BreakIsShown, IsCountedFrom, IsShown, StaysUnread, Spans}
-use Rattle.pm_record.specs.Calls.{goes_two}
-use Rattle.pm_segment.specs.MovesLaws.{break_shown}
-use Rattle.pm_segment.specs.Redos.{IsAtLastEpoch, IsCleanAt, SaysNothing, StandsAfresh, is_broken}
-use Rattle.pm_segment.specs.Rests.{Rests}
-use Rattle.pm_segment.specs.Runs.{CanBeRead, IsRun}
-use Rattle.pm_segment.specs.Stands.{GoesFrom, HasBegun, HasGone, HasNoTick, HasWaited, IsBaseOf, IsOpening, IsSure as IsSureAt, Origin, WaitsFrom}
-use Rattle.pm_segment.specs.Unread.{has_break}
-use Rattle.pm_segment.specs.declared.live.Live.{Live}
-use Rattle.pm_server.specs.Ends.{AreTraced, EndsWell, HasRefused, IsCausedBy, IsFailedBy, IsKnownAt, IsSound}
-use Rattle.pm_server.specs.Views.{DiskView, StoreView}
-use Rattle.pm_server.specs.Story.{HasOneGeneration, IsClean, IsNoAnswer, IsNoOpening, IsStory, IsSure}
-use Rattle.pm_server.specs.declared.end.ServerEnd.{ServerEnd}
-use Rattle.pm_server.specs.declared.end.ServerEnd.TheVariants.{Clean, Abnormal, NoThread, NoMemory}
-use Rattle.pm_server.specs.declared.end.StartWhy.TheVariants.{Redo, Killed}
-use Rattle.pm_server.specs.declared.end.Why.TheVariants.{AfterCrash, StartupFailed, RestartOff, GenerationsSpent}
-use Rattle.pm_server.specs.UnredoneLaws.{unredone}
+use Rattle.pm_query.{specs.{pm_disk.{Cause.Rose, Files.Files}, pm_record.{OnDisk.GoesOn, Pair.Means, StandsFor.StandsFor, declared.fault.RedoFault.RedoFault, Calls.goes_two}, Book.{Base, IsLegal, history_of}, Durable.IsDurable, History.rows_of, declared.book.BookEntry.{BookEntry, TheVariants.{Opened, Attached, Redone, Answered, Released, Detached, Gone, CheckpointEnded, Broke, LogFull}}}, proofs.HistoryLaws.whole_number}
+use Rattle.pm_query.specs.pm_record.declared.fault.RedoFault.TheVariants as redo
+use Rattle.pm_segment.specs.{pm_redo.Found.IsReason, Fronts.whole_of, Moment.{Moment, Told}, pm_outside.Added.Added, Moves.{BreakIsShown, IsCountedFrom, IsShown, StaysUnread, Spans}, MovesLaws.break_shown, Redos.{IsAtLastEpoch, IsCleanAt, SaysNothing, StandsAfresh, is_broken}, Rests.Rests, Runs.{CanBeRead, IsRun}, Stands.{GoesFrom, HasBegun, HasGone, HasNoTick, HasWaited, IsBaseOf, IsOpening, IsSure as IsSureAt, Origin, WaitsFrom}, Unread.has_break, declared.live.Live.Live}
+use Rattle.pm_server.{specs.{Ends.{AreTraced, EndsWell, HasRefused, IsCausedBy, IsFailedBy, IsKnownAt, IsSound}, Views.{DiskView, StoreView}, Story.{HasOneGeneration, IsClean, IsNoAnswer, IsNoOpening, IsStory, IsSure}, declared.end.{ServerEnd.{ServerEnd, TheVariants.{Clean, Abnormal, NoThread, NoMemory}}, StartWhy.TheVariants.{Redo, Killed}, Why.TheVariants.{AfterCrash, StartupFailed, RestartOff, GenerationsSpent}}}, proofs.UnredoneLaws.unredone}
 
 -- ---- where the book tells
 

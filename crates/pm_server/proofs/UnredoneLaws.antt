@@ -1,15 +1,7 @@
 -- Before the first redo none has ended in the book: it would be legal from one base alone.
-use Rattle.std.proofs.Common.{◌≡◌, ℕ, List, [], ◌∷◌, ◌++◌, Option, None, refl, ◌∙◌, ap, subst, arith}
-use Rattle.std.specs.Prelude.{All}
-use Rattle.std.specs.List.{AllByRecursion}
+use Rattle.std.{proofs.{Common.{◌≡◌, ℕ, List, [], ◌∷◌, ◌++◌, Option, None, refl, ◌∙◌, ap, subst, arith}, lemmas.List.{Elements.{All-head, All-tail}, Sums.fold-append}}, specs.{Prelude.All, List.AllByRecursion}}
 use Rattle.std.specs.FinMap as finite
-use Rattle.std.proofs.lemmas.List.Elements.{All-head, All-tail}
-use Rattle.std.proofs.lemmas.List.Sums.{fold-append}
-use Rattle.pm_query.specs.History.{History, beginning}
-use Rattle.pm_query.specs.Book.{Base, Course, IsLegal, KeepsNumber, MayFollow, MayGoOn, course_after, course_of, history_of, kept_after, kept_by_redo, standing_of}
-use Rattle.pm_query.specs.declared.book.BookEntry.{BookEntry}
-use Rattle.pm_query.specs.declared.book.BookEntry.TheVariants.{Opened, Attached, Redone, Answered, Released, Detached, Gone, CheckpointEnded, Broke, LogFull}
-use Rattle.pm_segment.specs.Stands.{HasNoTick}
+use Rattle.pm_segment.specs.{pm_query.{History.{History, beginning}, Book.{Base, Course, IsLegal, KeepsNumber, MayFollow, MayGoOn, course_after, course_of, history_of, kept_after, kept_by_redo, standing_of}, declared.book.BookEntry.{BookEntry, TheVariants.{Opened, Attached, Redone, Answered, Released, Detached, Gone, CheckpointEnded, Broke, LogFull}}}, Stands.HasNoTick}
 use Rattle.pm_server.specs.Story.{IsNoRedo}
 
 -- a base of so many commits

@@ -1,8 +1,8 @@
 -- What an act that is done leaves of the log of lines.
 use Rattle.std.specs.Prelude.{◌≡◌}
-use Rattle.pm_journal.specs.declared.act.Act.{Act}
-use Rattle.pm_journal.specs.declared.act.Act.TheVariants as given
-use Rattle.pm_lines.specs.Log.{LogView, Says, log_line}
+use Rattle.pm_supervisor_journal.specs.declared.act.Act.{Act}
+use Rattle.pm_supervisor_journal.specs.declared.act.Act.TheVariants as given
+use Rattle.pm_server_lines.specs.Log.{LogView, Says, log_line}
 
 -- what an act leaves of the log of lines
 abbrev pub LogBehind : Act → LogView → LogView → Type 0

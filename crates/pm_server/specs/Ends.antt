@@ -1,29 +1,14 @@
 -- How a server ends: what its journal, its book and its disk say of that, and what is told.
 use Rattle.std.specs.Prelude.{◌≡◌, ◌≢◌, ◌⊎◌, ℕ, true, false, List, [], codes, Option, None, Some, IfSome}
-use Rattle.pm_disk.specs.Cause.{Rose}
-use Rattle.pm_disk.specs.Files.{Files}
-use Rattle.pm_supervisor.specs.declared.Ending.{Ending}
-use Rattle.pm_supervisor.specs.declared.Ending.TheVariants as endings
-use Rattle.pm_supervisor.specs.declared.Limits.{Limits}
-use Rattle.pm_state.specs.declared.event.PmEvent.{PmEvent}
+use Rattle.pm_query.specs.{pm_disk.{Cause.Rose, Files.Files}, pm_record.declared.fault.RedoFault.RedoFault, declared.book.BookEntry.BookEntry}
+use Rattle.pm_state.specs.{pm_supervisor.declared.{Ending.Ending, Limits.Limits}, declared.event.PmEvent.PmEvent, Journal.{Follows, all_replayed, replay_begun}}
+use Rattle.pm_state.specs.pm_supervisor.declared.Ending.TheVariants as endings
 use Rattle.pm_state.specs.declared.event.PmEvent.TheVariants as entry
-use Rattle.pm_state.specs.Journal.{Follows, all_replayed, replay_begun}
-use Rattle.pm_record.specs.declared.fault.RedoFault.{RedoFault}
-use Rattle.pm_record.specs.declared.fault.RedoFault.TheVariants as redo
-use Rattle.pm_redo.specs.Found.{IsReason}
-use Rattle.pm_query.specs.declared.book.BookEntry.{BookEntry}
-use Rattle.pm_segment.specs.Moment.{Moment}
-use Rattle.pm_outside.specs.Added.{Added}
-use Rattle.pm_segment.specs.Unread.{has_break}
-use Rattle.pm_segment.specs.Redos.{IsAtLastEpoch, IsCleanAt, SaysNothing}
-use Rattle.pm_journal.specs.Stands.{any_moment}
-use Rattle.pm_lines.specs.Print.{redo_line}
-use Rattle.pm_server.specs.Story.{HasOneGeneration}
-use Rattle.pm_server.specs.Views.{DiskView, StoreView}
-use Rattle.pm_server.specs.declared.end.ServerEnd.{ServerEnd}
-use Rattle.pm_server.specs.declared.end.ServerEnd.TheVariants.{Clean, Abnormal, NoThread, NoMemory}
-use Rattle.pm_server.specs.declared.end.StartWhy.TheVariants.{Redo, Killed}
-use Rattle.pm_server.specs.declared.end.Why.TheVariants.{AfterCrash, StartupFailed, RestartOff, GenerationsSpent}
+use Rattle.pm_query.specs.pm_record.declared.fault.RedoFault.TheVariants as redo
+use Rattle.pm_segment.specs.{pm_redo.Found.IsReason, Moment.Moment, pm_outside.Added.Added, Unread.has_break, Redos.{IsAtLastEpoch, IsCleanAt, SaysNothing}}
+use Rattle.pm_supervisor_journal.specs.Stands.{any_moment}
+use Rattle.pm_server_lines.specs.Print.{redo_line}
+use Rattle.pm_server.specs.{Story.HasOneGeneration, Views.{DiskView, StoreView}, declared.end.{ServerEnd.{ServerEnd, TheVariants.{Clean, Abnormal, NoThread, NoMemory}}, StartWhy.TheVariants.{Redo, Killed}, Why.TheVariants.{AfterCrash, StartupFailed, RestartOff, GenerationsSpent}}}
 
 -- ---- by its journal
 

@@ -1,14 +1,7 @@
 -- The journal of a run of a server.
 use Rattle.std.specs.Prelude.{◌≡◌, ◌⊎◌, ℕ, ◌<◌, List, [], ◌∷◌, Option}
-use Rattle.pm_modes.specs.declared.Mode.{Mode}
-use Rattle.pm_supervisor.specs.declared.Limits.{Limits}
-use Rattle.pm_state.specs.declared.event.PmEvent.{PmEvent}
-use Rattle.pm_state.specs.declared.event.PmEvent.TheVariants as entry
-use Rattle.pm_state.specs.Journal.{IsLegal}
-use Rattle.pm_journal.specs.declared.supervision.Taken.{Taken}
-use Rattle.pm_journal.specs.Moments.{AreGiven}
-use Rattle.pm_outside.specs.Added.{Added}
-use Rattle.pm_journal.specs.Stands.{any_moment}
+use Rattle.pm_supervisor_journal.specs.{pm_state.{pm_modes.declared.Mode.Mode, declared.event.PmEvent.PmEvent, Journal.IsLegal}, pm_supervisor.declared.Limits.Limits, declared.supervision.Taken.Taken, Moments.AreGiven, pm_outside.Added.Added, Stands.any_moment}
+use Rattle.pm_supervisor_journal.specs.pm_state.declared.event.PmEvent.TheVariants as entry
 
 -- These entries were added. They were legal at every moment, and the clock gave their moments.
 pub record IsJournal (limits : Limits) (gives : ℕ → Type 0) (journal : List PmEvent) (before now : Option (List PmEvent)) : Type 0 where

@@ -3,8 +3,7 @@ use Rattle.std.specs.Prelude.{ℕ, List, Option}
 use Rattle.pm_outside.specs.Visits.{Visits}
 use Rattle.pm_state.specs.declared.event.PmEvent.{PmEvent}
 use Rattle.pm_query.specs.declared.book.BookEntry.{BookEntry}
-use Rattle.pm_server.specs.Views.{DiskView, StoreView}
-use Rattle.pm_server.specs.declared.outside.Outside.{Outside}
+use Rattle.pm_server.specs.{Views.{DiskView, StoreView}, declared.outside.Outside.Outside}
 
 -- The links of the port, what was written to the sink and how often it failed, the disk, the moments that the clock gives, and
 -- the entries of journal and book. The seed is that of the keys of sessions.

@@ -1,19 +1,8 @@
 -- What a run of a server leaves in its two files, after whatever crash cycles.
-use Rattle.std.specs.Prelude.{◌≡◌, ◌⊎◌, ℕ, ◌≤◌, true, List, [], ◌∷◌, Option, Some, IfSome}
-use Rattle.std.specs.List.{AllByRecursion}
-use Rattle.pm_disk.specs.Files.{Files}
-use Rattle.pm_disk.specs.declared.disk.Which.{Which}
-use Rattle.pm_record.specs.Pair.{Means, MeansIn, PairStandsFor}
-use Rattle.pm_record.specs.StandsFor.{Content, standing_of}
-use Rattle.pm_query.specs.History.{History, count_of, number}
-use Rattle.pm_query.specs.Book.{Base, IsLegal, history_of, standing_of as base_standing}
-use Rattle.pm_query.specs.Durable.{IsDurable, MeansAsOne}
-use Rattle.pm_query.specs.declared.book.BookEntry.{BookEntry}
-use Rattle.pm_query.specs.declared.book.BookEntry.TheVariants.{Answered, Opened, Redone, Released}
+use Rattle.std.specs.{Prelude.{◌≡◌, ◌⊎◌, ℕ, ◌≤◌, true, List, [], ◌∷◌, Option, Some, IfSome}, List.AllByRecursion}
+use Rattle.pm_query.specs.{pm_disk.{Files.Files, declared.disk.Which.Which}, pm_record.{Pair.{Means, MeansIn, PairStandsFor}, StandsFor.{Content, standing_of}}, History.{History, count_of, number}, Book.{Base, IsLegal, history_of, standing_of as base_standing}, Durable.{IsDurable, MeansAsOne}, declared.book.BookEntry.{BookEntry, TheVariants.{Answered, Opened, Redone, Released}}}
 use Rattle.pm_segment.specs.Unread.{breaks_unread}
-use Rattle.pm_server.specs.Views.{DiskView}
-use Rattle.pm_server.specs.declared.end.ServerEnd.{ServerEnd}
-use Rattle.pm_server.specs.declared.end.ServerEnd.TheVariants.{Clean}
+use Rattle.pm_server.specs.{Views.DiskView, declared.end.ServerEnd.{ServerEnd, TheVariants.Clean}}
 
 -- ---- before the first redo has ended
 

@@ -1,7 +1,6 @@
 -- What is told of a disk and of a store, at one moment.
 use Rattle.std.specs.Prelude.{ℕ, List, Option}
-use Rattle.pm_disk.specs.Files.{Files}
-use Rattle.pm_query.specs.declared.book.BookEntry.{BookEntry}
+use Rattle.pm_query.specs.{pm_disk.Files.Files, declared.book.BookEntry.BookEntry}
 
 -- a disk: the files as they read, what a stop may leave after so many calls, and its counts of calls and faults
 pub record DiskView : Type 1 where

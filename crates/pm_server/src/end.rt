@@ -1,7 +1,7 @@
 //! How a server ends.
 
-use pm_journal::GenerationsSpent;
 use pm_record::RedoFault;
+use pm_supervisor_journal::GenerationsSpent;
 use std::alloc::AllocError;
 
 /// How a server ended.
@@ -48,8 +48,7 @@ impl From<AllocError> for ServerEnd {
 
 impl From<GenerationsSpent> for ServerEnd {
     ghost use Rattle.std.specs.Prelude.{◌≡◌};
-    ghost use Rattle.pm_server.specs.declared.end.ServerEnd.TheVariants.{Abnormal};
-    ghost use Rattle.pm_server.specs.declared.end.Why.TheVariants.{GenerationsSpent as Spent};
+    ghost use Rattle.pm_server.specs.declared.end.{ServerEnd.TheVariants.Abnormal, Why.TheVariants.GenerationsSpent as Spent};
 
     ghost from_gives = { λ _ e. e ≡ Abnormal Spent };
 

@@ -1,11 +1,11 @@
 //! The line of a server's end.
 
-ghost use Rattle.pm_lines.specs.Log.{Says, view_of};
+ghost use Rattle.pm_server_lines.specs.Log.{Says, view_of};
 ghost use Rattle.pm_server.specs.Ends.{end_line};
 
 use crate::end::{ServerEnd, StartWhy, Why};
-use pm_lines::Log;
 use pm_outside::Sink;
+use pm_server_lines::Log;
 
 /// Writes the line of an end that has one after those of the journal, unless the sink has failed.
 pub fn say_end<O: Sink>(log: &mut Log<O>, end: ServerEnd)

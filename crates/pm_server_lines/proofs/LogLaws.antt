@@ -1,17 +1,9 @@
 -- What was said to a log piece by piece.
-use Rattle.std.proofs.Common.{◌≡◌, ℕ, List, [], ◌∷◌, ◌++◌, refl, sym, ◌∙◌, ap, subst, arith, append-nil}
-use Rattle.std.specs.Prelude.{Bool, true, false}
-use Rattle.std.specs.List.{flat_map}
-use Rattle.std.proofs.lemmas.Grind.{flat_map-append}
-use Rattle.std.proofs.lemmas.Bool.{false≢true}
-use Rattle.pm_disk.specs.DiskLaws.{rose_from}
-use Rattle.pm_state.specs.declared.action.Line.{Line}
-use Rattle.pm_state.specs.declared.event.PmEvent.{PmEvent}
+use Rattle.std.{proofs.{Common.{◌≡◌, ℕ, List, [], ◌∷◌, ◌++◌, refl, sym, ◌∙◌, ap, subst, arith, append-nil}, lemmas.{Grind.flat_map-append, Bool.false≢true}}, specs.{Prelude.{Bool, true, false}, List.flat_map}}
+use Rattle.pm_disk.proofs.DiskLaws.{rose_from}
+use Rattle.pm_state.specs.{declared.{action.Line.Line, event.PmEvent.PmEvent}, Journal.lines_of}
 use Rattle.pm_state.specs.declared.event.PmEvent.TheVariants as entry
-use Rattle.pm_state.specs.Journal.{lines_of}
-use Rattle.pm_lines.specs.Log.{HasLogged, HasPrinted, HasSaid, LogView, Says, log_line, log_of}
-use Rattle.pm_lines.specs.Print.{IsPrinted}
-use Rattle.pm_lines.specs.PrintLaws.{cut_short, nothing_printed, printed_then, printed_weaker, printed_whole}
+use Rattle.pm_server_lines.{specs.{Log.{HasLogged, HasPrinted, HasSaid, LogView, Says, log_line, log_of}, Print.IsPrinted}, proofs.PrintLaws.{cut_short, nothing_printed, printed_then, printed_weaker, printed_whole}}
 
 -- ---- texts
 

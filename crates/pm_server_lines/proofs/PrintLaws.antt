@@ -1,11 +1,8 @@
 -- Text that is written piece by piece.
-use Rattle.std.proofs.Common.{◌≡◌, inl, inr, ℕ, ◌-◌, List, [], ◌++◌, length, take, drop, Option, None, Some, refl, sym, ◌∙◌, ap, subst, append_assoc, append-nil, take-append-drop}
-use Rattle.std.specs.Option.{option_map}
-use Rattle.std.specs.Prelude.{true, false}
-use Rattle.pm_facts.specs.Lists.{rest_of}
-use Rattle.pm_outside.specs.Added.{Added}
-use Rattle.pm_outside.specs.AddedLaws.{added_none}
-use Rattle.pm_lines.specs.Print.{IsPrinted}
+use Rattle.std.{proofs.Common.{◌≡◌, inl, inr, ℕ, ◌-◌, List, [], ◌++◌, length, take, drop, Option, None, Some, refl, sym, ◌∙◌, ap, subst, append_assoc, append-nil, take-append-drop}, specs.{Option.option_map, Prelude.{true, false}}}
+use Rattle.pm_record.specs.pm_facts.Lists.{rest_of}
+use Rattle.pm_outside.{specs.Added.Added, proofs.AddedLaws.added_none}
+use Rattle.pm_server_lines.specs.Print.{IsPrinted}
 
 nothing_put : (told : Option (List ℕ)) → option_map (λ w. w) told ≡ told
 nothing_put None = refl

@@ -1,4 +1,4 @@
 pub mod Print
-pub mod PrintLaws
 pub mod Log
-pub mod LogLaws
+pub use Rattle.pm_disk.specs as pm_disk
+pub use Rattle.pm_record.specs as pm_record

@@ -1,13 +1,8 @@
 -- A server's log: the lines that its journal tells of.
-use Rattle.std.specs.Prelude.{◌≡◌, ℕ, ◌≤◌, Bool, true, false, List, ◌++◌, codes, Option}
-use Rattle.std.specs.List.{flat_map}
+use Rattle.std.specs.{Prelude.{◌≡◌, ℕ, ◌≤◌, Bool, true, false, List, ◌++◌, codes, Option}, List.flat_map}
 use Rattle.pm_disk.specs.Cause.{Rose}
-use Rattle.pm_state.specs.declared.action.Line.{Line}
-use Rattle.pm_state.specs.declared.event.PmEvent.{PmEvent}
-use Rattle.pm_state.specs.Journal.{lines_of}
-use Rattle.pm_state.specs.Text.{text_of}
-use Rattle.pm_lines.specs.Print.{IsPrinted}
-use Rattle.pm_lines.specs.declared.log.Log.{Log}
+use Rattle.pm_state.specs.{declared.{action.Line.Line, event.PmEvent.PmEvent}, Journal.lines_of, Text.text_of}
+use Rattle.pm_server_lines.specs.{Print.IsPrinted, declared.log.Log.Log}
 
 -- a line, with what stands before it and its line feed
 abbrev pub log_line : Line → List ℕ

@@ -1,9 +1,7 @@
 -- What is written to a sink.
 use Rattle.std.specs.Prelude.{◌≡◌, ◌⊎◌, ℕ, List, [], ◌++◌, codes, decimal, Option}
 use Rattle.pm_outside.specs.Added.{Added}
-use Rattle.pm_disk.specs.declared.disk.Which.{Which}
-use Rattle.pm_disk.specs.declared.disk.Which.TheVariants.{A, B}
-use Rattle.pm_record.specs.declared.fault.RedoFault.{RedoFault}
+use Rattle.pm_record.specs.{pm_disk.declared.disk.Which.{Which, TheVariants.{A, B}}, declared.fault.RedoFault.RedoFault}
 use Rattle.pm_record.specs.declared.fault.RedoFault.TheVariants as redo
 
 -- All of the text was written, or a front of it where that was cut off; and nothing else.

@@ -18,8 +18,7 @@ pub struct Log<O: Sink> {
 
 impl<O: Sink> Log<O> {
     ghost use Rattle.std.specs.Prelude.{false};
-    ghost use Rattle.pm_lines.specs.Log.{Says, log_line, opened, view_of};
-    ghost use Rattle.pm_lines.specs.Print.{redo_line};
+    ghost use Rattle.pm_server_lines.specs.{Log.{Says, log_line, opened, view_of}, Print.redo_line};
 
     /// A log for a sink that hasn't failed at a line yet.
     pub fn new(sink: O) -> Log<O>

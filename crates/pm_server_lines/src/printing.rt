@@ -1,9 +1,8 @@
 //! Text for the sink.
 
 ghost use Rattle.std.specs.Prelude.{◌≡◌, ◌++◌, IsErr, codes, decimal};
-ghost use Rattle.pm_disk.specs.Cause.{IsCounted};
-ghost use Rattle.pm_lines.specs.Print.{IsPrinted, file_letter, redo_line};
-ghost use Rattle.pm_record.specs.declared.fault.RedoFault.TheVariants.{BadFile};
+ghost use Rattle.pm_record.specs.{pm_disk.Cause.IsCounted, declared.fault.RedoFault.TheVariants.BadFile};
+ghost use Rattle.pm_server_lines.specs.Print.{IsPrinted, file_letter, redo_line};
 
 use itoa::Buffer;
 use pm_disk::Which;

@@ -2,10 +2,8 @@
 
 ghost use Rattle.std.specs.Prelude.{◌≡◌, IsErr};
 ghost use Rattle.pm_disk.specs.Cause.{IsCounted};
-ghost use Rattle.pm_state.specs.Text.{kind_text, status_text};
-ghost use Rattle.pm_lines.specs.Log.{log_line};
-ghost use Rattle.pm_lines.specs.Print.{IsPrinted};
-ghost use Rattle.pm_state.specs.declared.action.Line.TheVariants.{ChildExit};
+ghost use Rattle.pm_state.specs.{Text.{kind_text, status_text}, declared.action.Line.TheVariants.ChildExit};
+ghost use Rattle.pm_server_lines.specs.{Log.log_line, Print.IsPrinted};
 
 use crate::printing::{SinkFailed, print, print_number};
 use pm_exit::{Kind, Status};

@@ -1,9 +1,6 @@
 -- Signals that a child took and was given, from one moment to the next.
-use Rattle.std.proofs.Common.{◌≡◌, ℕ, List, Option, None, Some, IfSome, Result, refl, ◌∙◌, ap}
-use Rattle.std.specs.Option.{option_map}
-use Rattle.pm_life.specs.declared.life.GateNo.{GateNo}
-use Rattle.pm_life.specs.Life.{Told, Signal, nothing_told, met_at_gate, IsUntried, HasNoCancel}
-use Rattle.pm_life.specs.Attention.{was_given, HasAsked, KeepsCancels, GivenSince}
+use Rattle.std.{proofs.Common.{◌≡◌, ℕ, List, Option, None, Some, IfSome, Result, refl, ◌∙◌, ap}, specs.Option.option_map}
+use Rattle.pm_child_life.specs.{declared.life.GateNo.GateNo, Life.{Told, Signal, nothing_told, met_at_gate, IsUntried, HasNoCancel}, Attention.{was_given, HasAsked, KeepsCancels, GivenSince}}
 
 pub since_given : (m : ℕ) (signal : Signal) (a b : Option Told) → HasAsked m a b → GivenSince signal a b → was_given signal b
 since_given m signal None b asked since = let e : b ≡ None = asked in rw e tt

@@ -1,30 +1,12 @@
 -- How a session comes to its end: what is said last, and as what the child exits.
-use Rattle.std.proofs.Common.{◌≡◌, ◌≢◌, ◌⊎◌, inl, inr, ℕ, ◌+◌, ◌<◌, Bool, true, false, cond, IsTrue, List, [], ◌∷◌, ◌++◌, length, map, take, get_or, Option, None, Some, IfSome, refl, sym, ◌∙◌, ap, subst, append_assoc}
-use Rattle.std.proofs.lemmas.List.{map-append, take_more}
-use Rattle.pm_supervisor.specs.declared.Reason.{Reason}
-use Rattle.pm_admit.specs.declared.Cac.{Cac}
-use Rattle.pm_outside.specs.Traffic.{Traffic}
-use Rattle.pm_exit.specs.declared.child.Status.TheVariants as statuses
+use Rattle.std.proofs.{Common.{◌≡◌, ◌≢◌, ◌⊎◌, inl, inr, ℕ, ◌+◌, ◌<◌, Bool, true, false, cond, IsTrue, List, [], ◌∷◌, ◌++◌, length, map, take, get_or, Option, None, Some, IfSome, refl, sym, ◌∙◌, ap, subst, append_assoc}, lemmas.List.{map-append, take_more}}
+use Rattle.pm_supervisor.specs.{declared.Reason.Reason, pm_admit.declared.Cac.Cac}
+use Rattle.pm_session_exchange.{specs.{pm_outside.Traffic.Traffic, declared.ending.{Cause.{Cause, TheVariants.{Terminated, Cancelling, LinkEnded, LinkFailed, TimedOut, PacketRefused, MessageRefused, DecisionRefused, GateRefused, ShortOfMemory, Panicked, ToldToTerminate, ToldToQuit, Killed, Overtaken}}, Stage.Stage}, Exchange.{LinkView, HasFailed, CutsOff, IsSound, IsLeftFor}, Attention.{ends_by, ends_of}, Sent.{bytes_of, last_of}, Ends.status_by, Moments.{Moment, ShowsCause, outside}, Last.{SaysLast, IsLastCause}}, proofs.{MomentLaws.told_cause, SentLaws.{bytes_of-append, bytes_of-none}}}
+use Rattle.pm_session_exchange.specs.pm_exit.declared.child.Status.TheVariants as statuses
 use Rattle.pm_startup.specs.declared.packet.StartFault.TheVariants as packets
-use Rattle.pm_life.specs.Life.{Told, Kill, Quit, Terminate}
-use Rattle.pm_wire.specs.Backend.{BackMessage, spelling}
-use Rattle.pm_life.specs.declared.standing.Standing.{Standing}
-use Rattle.pm_exchange.specs.declared.ending.Cause.{Cause}
-use Rattle.pm_exchange.specs.declared.ending.Cause.TheVariants.{Terminated, Cancelling, LinkEnded, LinkFailed, TimedOut, PacketRefused, MessageRefused, DecisionRefused, GateRefused, ShortOfMemory, Panicked, ToldToTerminate, ToldToQuit, Killed, Overtaken}
-use Rattle.pm_exchange.specs.declared.ending.Stage.{Stage}
-use Rattle.pm_exchange.specs.Exchange.{LinkView, HasFailed, CutsOff, IsSound, IsLeftFor}
-use Rattle.pm_life.specs.Attention.{Attention, Stands, IsAttentive, Hears, was_given}
-use Rattle.pm_exchange.specs.Attention.{ends_by, ends_of}
-use Rattle.pm_exchange.specs.Sent.{bytes_of, last_of}
-use Rattle.pm_session.specs.Session.{Ending, EndsSoundly, Heeds, HeedsTold}
-use Rattle.pm_exchange.specs.Ends.{status_by}
-use Rattle.pm_exchange.specs.Moments.{Moment, ShowsCause, outside}
-use Rattle.pm_exchange.specs.Last.{SaysLast, IsLastCause}
-use Rattle.pm_session.specs.Entry.{IsTold, EndsBy, Closes}
-use Rattle.pm_life.specs.AttentionLaws.{hears_both}
-use Rattle.pm_exchange.specs.MomentLaws.{told_cause}
-use Rattle.pm_exchange.specs.SentLaws.{bytes_of-append, bytes_of-none}
-use Rattle.pm_session.proofs.Said.{bytes_of-one}
+use Rattle.pm_child_life.{specs.{Life.{Told, Kill, Quit, Terminate}, declared.standing.Standing.Standing, Attention.{Attention, Stands, IsAttentive, Hears, was_given}}, proofs.AttentionLaws.hears_both}
+use Rattle.pm_startup.specs.pm_wire.Backend.{BackMessage, spelling}
+use Rattle.pm_session.{specs.{Session.{Ending, EndsSoundly, Heeds, HeedsTold}, Entry.{IsTold, EndsBy, Closes}}, proofs.Said.bytes_of-one}
 
 -- one more message
 pub one_more : (was now : List ℕ) (sent : List BackMessage) (m : BackMessage) → was ≡ bytes_of sent → now ≡ was ++ spelling m → now ≡ bytes_of (sent ++ m ∷ [])

@@ -1,38 +1,12 @@
 -- Which queries of what came in have an answer.
-use Rattle.std.proofs.Common.{◌≡◌, ◌≢◌, ◌⊎◌, inl, inr, ℕ, ◌+◌, ◌<◌, ◌≤◌, List, [], ◌∷◌, ◌++◌, length, get_or, None, Some, Result, Ok, Err, refl, sym, ◌∙◌, ap, subst, arith, append_assoc, length-append}
-use Rattle.std.specs.List.{flat_map, Contains}
-use Rattle.std.proofs.lemmas.List.{append_cancel_left, append-nil, take_all}
-use Rattle.std.proofs.lemmas.List.Concat.{flat_map-cons}
-use Rattle.pm_disk.specs.Cause.{Rose}
-use Rattle.pm_outside.specs.Traffic.{Traffic}
+use Rattle.std.{proofs.{Common.{◌≡◌, ◌≢◌, ◌⊎◌, inl, inr, ℕ, ◌+◌, ◌<◌, ◌≤◌, List, [], ◌∷◌, ◌++◌, length, get_or, None, Some, Result, Ok, Err, refl, sym, ◌∙◌, ap, subst, arith, append_assoc, length-append}, lemmas.List.{append_cancel_left, append-nil, take_all, Concat.flat_map-cons}}, specs.List.{flat_map, Contains}}
+use Rattle.pm_session_exchange.specs.{pm_outside.{pm_disk.Cause.Rose, Traffic.Traffic}, pm_child_life.Life.{Told, Signal}, declared.ending.{MessageFault.TheVariants.{BadLength, BadForm, LongQuery, Extended, UnknownType}, Cause.{Cause, TheVariants.{Terminated, Cancelling, LinkEnded, LinkFailed, TimedOut, PacketRefused, MessageRefused, DecisionRefused, GateRefused, ShortOfMemory, Panicked, ToldToTerminate, ToldToQuit, Killed, Overtaken}}, Stage.{Stage, TheVariants.{Outside, Entering, Greeted}}}, Sent.{Turn, Ran, Faulted, NotUtf8, Cancelled, LogIsFull, Memory}, Queries.{IsCancelledTurn, TurnNotes}}
 use Rattle.pm_admit.specs.declared.Cac.{Cac}
-use Rattle.pm_startup.specs.declared.packet.StartFault.{StartFault}
-use Rattle.pm_startup.specs.declared.phase.Phase.{Phase}
+use Rattle.pm_startup.specs.{declared.{packet.StartFault.StartFault, phase.Phase.Phase}, Grammar.{Content, startup, ssl_request, gssenc_request, cancel_request, Decides, IsUndecided as IsNoPacketYet}, Phases.step_of, pm_wire.{Pieces.{int32, string}, Numbers.number_again, Stream.StandApart, Frontend.{FrontMessage, Query, BadQuery, LongQuery as IsLongQuery, Terminate, Extended as IsExtended, Other, IsFront, IsBadHeader}}}
 use Rattle.pm_startup.specs.declared.phase.Step.TheVariants as steps
-use Rattle.pm_startup.specs.Grammar.{Content, startup, ssl_request, gssenc_request, cancel_request, Decides, IsUndecided as IsNoPacketYet}
-use Rattle.pm_startup.specs.Phases.{step_of}
-use Rattle.pm_sql.specs.declared.stmt.Stmt.{Stmt}
-use Rattle.pm_sql.specs.declared.query.SqlFault.{SqlFault}
-use Rattle.pm_sql.specs.declared.query.SqlFault.TheVariants as texts
-use Rattle.pm_sql.specs.Statements.{IsQueryText}
-use Rattle.pm_sql.specs.Faults.{IsFaultOf}
-use Rattle.pm_sql.specs.Laws.{NoFault}
-use Rattle.pm_query.specs.declared.book.BookEntry.{BookEntry}
-use Rattle.pm_query.specs.Calls.{User}
-use Rattle.pm_life.specs.Life.{Told, Signal}
-use Rattle.pm_wire.specs.Pieces.{int32, string}
-use Rattle.pm_wire.specs.Numbers.{number_again}
-use Rattle.pm_wire.specs.Stream.{StandApart}
-use Rattle.pm_wire.specs.Frontend.{FrontMessage, Query, BadQuery, LongQuery as IsLongQuery, Terminate, Extended as IsExtended, Other, IsFront, IsBadHeader}
-use Rattle.pm_exchange.specs.declared.ending.MessageFault.TheVariants.{BadLength, BadForm, LongQuery, Extended, UnknownType}
-use Rattle.pm_exchange.specs.declared.ending.Cause.{Cause}
-use Rattle.pm_exchange.specs.declared.ending.Cause.TheVariants.{Terminated, Cancelling, LinkEnded, LinkFailed, TimedOut, PacketRefused, MessageRefused, DecisionRefused, GateRefused, ShortOfMemory, Panicked, ToldToTerminate, ToldToQuit, Killed, Overtaken}
-use Rattle.pm_exchange.specs.declared.ending.Stage.{Stage}
-use Rattle.pm_exchange.specs.declared.ending.Stage.TheVariants.{Outside, Entering, Greeted}
-use Rattle.pm_exchange.specs.Sent.{Turn, Ran, Faulted, NotUtf8, Cancelled, LogIsFull, Memory}
-use Rattle.pm_session.specs.Session.{Ending, AllNotes, AskInTurn, CausedBy, EndsAt, IsAdmitted, IsBehindStart, IsCaused, IsServed, IsStart, MayPassOver, NotesOutside, StaysOut, TurnsAway, between, first_phase, query_bytes}
-use Rattle.pm_exchange.specs.Queries.{IsCancelledTurn, TurnNotes}
-use Rattle.pm_session.specs.Complete.{IsProper, AllProper, IsRun, AllRun, EndsForStore, Begins, EachQueryIsAnswered}
+use Rattle.pm_query.specs.{pm_sql.{declared.{stmt.Stmt.Stmt, query.SqlFault.SqlFault}, Statements.IsQueryText, Faults.IsFaultOf, Laws.NoFault}, declared.book.BookEntry.BookEntry, Calls.User}
+use Rattle.pm_query.specs.pm_sql.declared.query.SqlFault.TheVariants as texts
+use Rattle.pm_session.specs.{Session.{Ending, AllNotes, AskInTurn, CausedBy, EndsAt, IsAdmitted, IsBehindStart, IsCaused, IsServed, IsStart, MayPassOver, NotesOutside, StaysOut, TurnsAway, between, first_phase, query_bytes}, Complete.{IsProper, AllProper, IsRun, AllRun, EndsForStore, Begins, EachQueryIsAnswered}}
 
 -- ---- what stands after an opening
 

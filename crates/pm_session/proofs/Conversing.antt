@@ -1,37 +1,10 @@
 -- Queries one after the other, up to the end of a session.
-use Rattle.std.proofs.Common.{◌≡◌, inl, inr, ℕ, zero, suc, ◌+◌, List, [], ◌∷◌, ◌++◌, length, Option, None, Result, Ok, Err, OnOk, refl, sym, ◌∙◌, ap, subst, arith, append_assoc, length-append}
-use Rattle.std.specs.List.{flat_map, Contains}
-use Rattle.std.proofs.lemmas.Grind.{flat_map-append}
-use Rattle.std.proofs.lemmas.List.{append-nil}
-use Rattle.std.proofs.lemmas.List.Concat.{flat_map-cons}
-use Rattle.std.proofs.lemmas.List.Elements.{Contains-append_cases}
-use Rattle.std.proofs.Math.Nat.{zero-add}
-use Rattle.pm_query.specs.declared.book.BookEntry.{BookEntry}
-use Rattle.pm_query.specs.Calls.{User}
-use Rattle.pm_life.specs.Life.{Told, Cancel}
-use Rattle.pm_wire.specs.Outgoing.{Outgoing}
-use Rattle.pm_wire.specs.Backend.{BackMessage}
-use Rattle.pm_wire.specs.Frontend.{FrontMessage, Query, BadQuery, LongQuery, Terminate, Extended, Other, IsFront, IsUndecided, BeginsBadly}
-use Rattle.pm_exchange.specs.declared.ending.Cause.{Cause}
-use Rattle.pm_exchange.specs.declared.ending.Cause.TheVariants.{Terminated, Cancelling, LinkEnded, LinkFailed, TimedOut, PacketRefused, MessageRefused, DecisionRefused, GateRefused, ShortOfMemory, Panicked, ToldToTerminate, ToldToQuit, Killed, Overtaken}
-use Rattle.pm_exchange.specs.Exchange.{LinkView, Passes, CutsOff}
-use Rattle.pm_life.specs.Attention.{Attention, Hears, IsAttentive, was_given}
-use Rattle.pm_exchange.specs.Sent.{Turn, bytes_of, turn_messages}
-use Rattle.pm_exchange.specs.Queries.{TurnNotes, Sleeps, IsCancelledTurn}
-use Rattle.pm_session.specs.Session.{AllNotes, AllSleep, EndsAt, MayPassOver, pieces, query_bytes}
-use Rattle.pm_exchange.specs.Moments.{Moment, moment, IsBreak}
-use Rattle.pm_session.specs.Conversation.{Conversed}
-use Rattle.pm_exchange.specs.declared.release.Answer.{Answer}
-use Rattle.pm_session.specs.Turns.{desk, Says, Answered, BrokenOff, ReplyGoes, Refuses, MessageGoes, Conversing, Converses}
-use Rattle.pm_exchange.specs.Answers.{EndNotes, turn_of, piece_of, IsFit}
-use Rattle.pm_exchange.specs.Attention.{ends_of}
-use Rattle.pm_session.specs.Heeding.{AllRead}
-use Rattle.pm_life.specs.AttentionLaws.{hears_none, hears_both, hears_fewer, since_later}
-use Rattle.pm_session.proofs.Attentions.{since_given}
-use Rattle.pm_session.proofs.Heeding.{heed_none, heed_then, turn_heeds}
-use Rattle.pm_exchange.specs.LinkLaws.{passes_none, passes_both}
-use Rattle.pm_exchange.specs.SentLaws.{bytes_of-append, bytes_of-none}
-use Rattle.pm_query.specs.NotedLaws.{GoesInTurn}
+use Rattle.std.{proofs.{Common.{◌≡◌, inl, inr, ℕ, zero, suc, ◌+◌, List, [], ◌∷◌, ◌++◌, length, Option, None, Result, Ok, Err, OnOk, refl, sym, ◌∙◌, ap, subst, arith, append_assoc, length-append}, lemmas.{Grind.flat_map-append, List.{append-nil, Concat.flat_map-cons, Elements.Contains-append_cases}}, Math.Nat.zero-add}, specs.List.{flat_map, Contains}}
+use Rattle.pm_query.{specs.{declared.book.BookEntry.BookEntry, Calls.User}, proofs.NotedLaws.GoesInTurn}
+use Rattle.pm_child_life.{specs.{Life.{Told, Cancel}, Attention.{Attention, Hears, IsAttentive, was_given}}, proofs.AttentionLaws.{hears_none, hears_both, hears_fewer, since_later}}
+use Rattle.pm_wire.specs.{Outgoing.Outgoing, Backend.BackMessage, Frontend.{FrontMessage, Query, BadQuery, LongQuery, Terminate, Extended, Other, IsFront, IsUndecided, BeginsBadly}}
+use Rattle.pm_session_exchange.{specs.{declared.{ending.Cause.{Cause, TheVariants.{Terminated, Cancelling, LinkEnded, LinkFailed, TimedOut, PacketRefused, MessageRefused, DecisionRefused, GateRefused, ShortOfMemory, Panicked, ToldToTerminate, ToldToQuit, Killed, Overtaken}}, release.Answer.Answer}, Exchange.{LinkView, Passes, CutsOff}, Sent.{Turn, bytes_of, turn_messages}, Queries.{TurnNotes, Sleeps, IsCancelledTurn}, Moments.{Moment, moment, IsBreak}, Answers.{EndNotes, turn_of, piece_of, IsFit}, Attention.ends_of}, proofs.{LinkLaws.{passes_none, passes_both}, SentLaws.{bytes_of-append, bytes_of-none}}}
+use Rattle.pm_session.{specs.{Session.{AllNotes, AllSleep, EndsAt, MayPassOver, pieces, query_bytes}, Conversation.Conversed, Turns.{desk, Says, Answered, BrokenOff, ReplyGoes, Refuses, MessageGoes, Conversing, Converses}, Heeding.AllRead}, proofs.{Attentions.since_given, Heeding.{heed_none, heed_then, turn_heeds}}}
 
 -- ---- lists of turns
 

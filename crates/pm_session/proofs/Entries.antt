@@ -1,29 +1,11 @@
 -- The packets before a session, one after the other.
-use Rattle.std.proofs.Common.{if◌then◌else◌, ◌≡◌, inl, inr, ℕ, Bool, true, false, List, [], ◌∷◌, ◌++◌, map, take, drop, take-append-drop, Option, Result, Ok, Err, refl, sym, ◌∙◌, ap, subst, arith, append_assoc}
-use Rattle.std.specs.List.{flat_map}
-use Rattle.std.proofs.lemmas.Grind.{flat_map-append}
-use Rattle.std.proofs.lemmas.List.{append-nil, map-append, take_all}
-use Rattle.std.proofs.lemmas.List.Concat.{flat_map-cons}
-use Rattle.pm_startup.specs.declared.packet.StartFault.{StartFault}
+use Rattle.std.{proofs.{Common.{if◌then◌else◌, ◌≡◌, inl, inr, ℕ, Bool, true, false, List, [], ◌∷◌, ◌++◌, map, take, drop, take-append-drop, Option, Result, Ok, Err, refl, sym, ◌∙◌, ap, subst, arith, append_assoc}, lemmas.{Grind.flat_map-append, List.{append-nil, map-append, take_all, Concat.flat_map-cons}}}, specs.List.flat_map}
+use Rattle.pm_startup.specs.{declared.{packet.StartFault.StartFault, phase.Phase.Phase}, Grammar.{Content, packet, startup, ssl_request, gssenc_request, cancel_request, FrontDecides, Decides, IsUndecided}, Phases.step_of, pm_wire.Pieces.int32}
 use Rattle.pm_startup.specs.declared.packet.StartFault.TheVariants as packets
-use Rattle.pm_startup.specs.declared.phase.Phase.{Phase}
 use Rattle.pm_startup.specs.declared.phase.Step.TheVariants as steps
-use Rattle.pm_startup.specs.Grammar.{Content, packet, startup, ssl_request, gssenc_request, cancel_request, FrontDecides, Decides, IsUndecided}
-use Rattle.pm_startup.specs.Phases.{step_of}
-use Rattle.pm_exchange.specs.declared.ending.Cause.{Cause}
-use Rattle.pm_exchange.specs.declared.ending.Cause.TheVariants.{Terminated, Cancelling, LinkEnded, LinkFailed, TimedOut, PacketRefused, MessageRefused, DecisionRefused, GateRefused, ShortOfMemory, Panicked, ToldToTerminate, ToldToQuit, Killed, Overtaken}
-use Rattle.pm_exchange.specs.Exchange.{LinkView, Passes, CutsOff, Holds, Sends, Receives, ReceivesNothing}
-use Rattle.pm_life.specs.Life.{Told}
-use Rattle.pm_life.specs.Attention.{Attention, Hears, KeepsCancels}
-use Rattle.pm_session.specs.Session.{AskInTurn, StopsAt, MayPassOver, first_phase}
-use Rattle.pm_exchange.specs.Moments.{IsBreak, ShowsCause, outside, Attends}
-use Rattle.pm_exchange.specs.MomentLaws.{attends_of, attends_none}
-use Rattle.pm_session.specs.Entry.{Asked, GoesOn, AsksToCancel, Enters}
-use Rattle.pm_life.specs.AttentionLaws.{hears_none, hears_both, hears_fewer, asked_then, cancels_none}
-use Rattle.pm_exchange.specs.LinkLaws.{passes_none, passes_both, sound_left}
-use Rattle.pm_session.proofs.Links.{passes_no_more, holds_then, holds_still}
-use Rattle.pm_session.proofs.Said.{shows_since}
-use Rattle.pm_wire.specs.Pieces.{int32}
+use Rattle.pm_session_exchange.{specs.{declared.ending.Cause.{Cause, TheVariants.{Terminated, Cancelling, LinkEnded, LinkFailed, TimedOut, PacketRefused, MessageRefused, DecisionRefused, GateRefused, ShortOfMemory, Panicked, ToldToTerminate, ToldToQuit, Killed, Overtaken}}, Exchange.{LinkView, Passes, CutsOff, Holds, Sends, Receives, ReceivesNothing}, Moments.{IsBreak, ShowsCause, outside, Attends}}, proofs.{MomentLaws.{attends_of, attends_none}, LinkLaws.{passes_none, passes_both, sound_left}}}
+use Rattle.pm_child_life.{specs.{Life.Told, Attention.{Attention, Hears, KeepsCancels}}, proofs.AttentionLaws.{hears_none, hears_both, hears_fewer, asked_then, cancels_none}}
+use Rattle.pm_session.{specs.{Session.{AskInTurn, StopsAt, MayPassOver, first_phase}, Entry.{Asked, GoesOn, AsksToCancel, Enters}}, proofs.{Links.{passes_no_more, holds_then, holds_still}, Said.shows_since}}
 
 -- ---- what a step means
 

@@ -1,14 +1,7 @@
 -- Turns that heed the signals given, one after the other.
-use Rattle.std.proofs.Common.{◌≡◌, ◌⊎◌, inl, inr, ℕ, ◌+◌, ◌≤◌, Bool, true, false, List, [], ◌∷◌, ◌++◌, Option, None, Some, IfSome, refl, sym, ◌∙◌, subst, arith}
-use Rattle.std.specs.List.{Contains}
-use Rattle.std.proofs.lemmas.List.{append-nil}
-use Rattle.std.proofs.lemmas.Bool.{true≢false}
-use Rattle.pm_supervisor.specs.declared.Reason.{Reason}
-use Rattle.pm_life.specs.declared.standing.Standing.{Standing}
-use Rattle.pm_life.specs.Life.{Told, Signal, Kill, Quit, Terminate, Cancel, Checkpoint, next_ask, was_told}
-use Rattle.pm_life.specs.Attention.{Attention, Stands, IsAttentive, IsBy, HasAsked, HasGained, Gains, GivenSince, Hears}
-use Rattle.pm_exchange.specs.Attention.{ends_by, ends_of}
-use Rattle.pm_exchange.specs.Sent.{Turn, Cancelled}
+use Rattle.std.{proofs.{Common.{◌≡◌, ◌⊎◌, inl, inr, ℕ, ◌+◌, ◌≤◌, Bool, true, false, List, [], ◌∷◌, ◌++◌, Option, None, Some, IfSome, refl, sym, ◌∙◌, subst, arith}, lemmas.{List.append-nil, Bool.true≢false}}, specs.List.Contains}
+use Rattle.pm_child_life.specs.{pm_supervisor.declared.Reason.Reason, declared.standing.Standing.Standing, Life.{Told, Signal, Kill, Quit, Terminate, Cancel, Checkpoint, next_ask, was_told}, Attention.{Attention, Stands, IsAttentive, IsBy, HasAsked, HasGained, Gains, GivenSince, Hears}}
+use Rattle.pm_session_exchange.specs.{Attention.{ends_by, ends_of}, Sent.{Turn, Cancelled}}
 use Rattle.pm_session.specs.Heeding.{IsEnding, TurnsHeed, HeedInTurn}
 
 -- ---- asks

@@ -8,3 +8,4 @@ pub mod Links
 pub mod Said
 pub mod Sessions
 pub mod Steps
+pub mod PassedLaws

@@ -1,10 +1,6 @@
 -- What passed on a link, from one moment to the next.
-use Rattle.std.proofs.Common.{◌≡◌, ℕ, Bool, false, List, [], ◌++◌, Option, None, Some, Result, Ok, Err, refl, sym, ◌∙◌, ap, subst}
-use Rattle.std.proofs.lemmas.List.{append-nil}
-use Rattle.pm_exchange.specs.declared.ending.Cause.{Cause}
-use Rattle.pm_outside.specs.Traffic.{Traffic, IsFresh}
-use Rattle.pm_exchange.specs.Exchange.{LinkView, Passes, Holds, IsSound, Sends}
-use Rattle.pm_exchange.specs.LinkLaws.{passes_both, sound_left}
+use Rattle.std.proofs.{Common.{◌≡◌, ℕ, Bool, false, List, [], ◌++◌, Option, None, Some, Result, Ok, Err, refl, sym, ◌∙◌, ap, subst}, lemmas.List.append-nil}
+use Rattle.pm_session_exchange.{specs.{declared.ending.Cause.Cause, pm_outside.Traffic.{Traffic, IsFresh}, Exchange.{LinkView, Passes, Holds, IsSound, Sends}}, proofs.LinkLaws.{passes_both, sound_left}}
 
 -- ---- one write
 

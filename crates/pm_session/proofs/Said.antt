@@ -1,31 +1,15 @@
 -- Messages that are said one after the other.
-use Rattle.std.proofs.Common.{◌≡◌, ℕ, ℤ, ◌+◌, ◌^◌, FitsSigned, w64, ◌≤◌, List, [], ◌∷◌, ◌++◌, length, take, drop, suc, map, get_or, Result, Ok, Err, IfErr, refl, sym, ◌∙◌, ap, subst, arith, append_assoc, ◌<◌, take-append-drop, drop-cons, false}
-use Rattle.std.specs.List.{flat_map}
-use Rattle.std.proofs.lemmas.Grind.{flat_map-append}
-use Rattle.std.proofs.lemmas.List.{append-nil, map-append, take_more}
-use Rattle.std.proofs.lemmas.List.Concat.{flat_map-cons}
-use Rattle.pm_disk.specs.DiskLaws.{rose_from}
-use Rattle.pm_query.specs.declared.item.Item.{Item}
-use Rattle.pm_wire.specs.Outgoing.{Outgoing}
-use Rattle.pm_wire.specs.Conditions.{sqlstate}
-use Rattle.pm_wire.specs.declared.state.SqlState.{SqlState}
+use Rattle.std.{proofs.{Common.{◌≡◌, ℕ, ℤ, ◌+◌, ◌^◌, FitsSigned, w64, ◌≤◌, List, [], ◌∷◌, ◌++◌, length, take, drop, suc, map, get_or, Result, Ok, Err, IfErr, refl, sym, ◌∙◌, ap, subst, arith, append_assoc, ◌<◌, take-append-drop, drop-cons, false}, lemmas.{Grind.flat_map-append, List.{append-nil, map-append, take_more, Concat.flat_map-cons}}}, specs.List.flat_map}
+use Rattle.pm_outside.proofs.pm_disk.DiskLaws.{rose_from}
+use Rattle.pm_session_exchange.specs.pm_query.declared.item.Item.{Item}
+use Rattle.pm_wire.specs.{Outgoing.Outgoing, Conditions.sqlstate, declared.state.SqlState.SqlState}
 use Rattle.pm_wire.specs.declared.state.SqlState.TheVariants as states
 use lib.Signed.{mag}
 use Rattle.std.proofs.lemmas.Int.{ints}
-use Rattle.pm_wire.specs.Longest.{longest, HasSizes}
-use Rattle.pm_wire.specs.Short.{short_pair}
-use Rattle.pm_wire.specs.Backend.{BackMessage, Pair, IsWritable, spelling}
-use Rattle.pm_exchange.specs.declared.ending.Cause.{Cause}
-use Rattle.pm_exchange.specs.declared.ending.Cause.TheVariants.{Terminated, Cancelling, LinkEnded, LinkFailed, TimedOut, PacketRefused, MessageRefused, DecisionRefused, GateRefused, ShortOfMemory, Panicked, ToldToTerminate, ToldToQuit, Killed, Overtaken}
-use Rattle.pm_exchange.specs.Exchange.{LinkView, Sends, Holds}
-use Rattle.pm_life.specs.Attention.{Attention, Hears}
-use Rattle.pm_exchange.specs.Moments.{ShowsCause, IsBreak}
-use Rattle.pm_exchange.specs.Sent.{bytes_of, item_messages}
-use Rattle.pm_session.specs.Turns.{Desk, desk, Says}
-use Rattle.pm_life.specs.AttentionLaws.{hears_none, hears_both}
-use Rattle.pm_exchange.specs.LinkLaws.{passes_none, passes_both}
-use Rattle.pm_exchange.specs.SentLaws.{bytes_of-append, bytes_of-none}
-use Rattle.pm_session.proofs.Links.{holds_then}
+use Rattle.pm_wire.specs.{Longest.{longest, HasSizes}, Short.short_pair, Backend.{BackMessage, Pair, IsWritable, spelling}}
+use Rattle.pm_session_exchange.{specs.{declared.ending.Cause.{Cause, TheVariants.{Terminated, Cancelling, LinkEnded, LinkFailed, TimedOut, PacketRefused, MessageRefused, DecisionRefused, GateRefused, ShortOfMemory, Panicked, ToldToTerminate, ToldToQuit, Killed, Overtaken}}, Exchange.{LinkView, Sends, Holds}, Moments.{ShowsCause, IsBreak}, Sent.{bytes_of, item_messages}}, proofs.{LinkLaws.{passes_none, passes_both}, SentLaws.{bytes_of-append, bytes_of-none}}}
+use Rattle.pm_child_life.{specs.Attention.{Attention, Hears}, proofs.AttentionLaws.{hears_none, hears_both}}
+use Rattle.pm_session.{specs.Turns.{Desk, desk, Says}, proofs.Links.holds_then}
 
 -- ---- bytes of messages
 

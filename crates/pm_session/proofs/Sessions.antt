@@ -1,52 +1,14 @@
 -- A whole session, put together from its parts.
-use Rattle.std.proofs.Common.{◌≡◌, ◌≢◌, ◌⊎◌, inl, inr, ℕ, ◌+◌, ◌≤◌, Bool, true, false, List, [], ◌∷◌, ◌++◌, length, map, Option, None, Some, IfSome, Result, Ok, Err, refl, sym, ◌∙◌, ap, subst, arith, append_assoc}
-use Rattle.std.specs.List.{flat_map, Contains}
-use Rattle.std.specs.Option.{option_map}
-use Rattle.std.proofs.lemmas.List.{append-nil}
-use Rattle.std.proofs.lemmas.List.Elements.{Contains-append_right}
-use Rattle.pm_outside.specs.Traffic.{Traffic, IsFresh, came_in_of, went_out_of}
+use Rattle.std.{proofs.{Common.{◌≡◌, ◌≢◌, ◌⊎◌, inl, inr, ℕ, ◌+◌, ◌≤◌, Bool, true, false, List, [], ◌∷◌, ◌++◌, length, map, Option, None, Some, IfSome, Result, Ok, Err, refl, sym, ◌∙◌, ap, subst, arith, append_assoc}, lemmas.List.{append-nil, Elements.Contains-append_right}}, specs.{List.{flat_map, Contains}, Option.option_map}}
+use Rattle.pm_session_exchange.{specs.{pm_outside.{Traffic.{Traffic, IsFresh, came_in_of, went_out_of}, Added.Added}, pm_exit.declared.child.Status.Status, pm_query.{declared.{book.BookEntry.{BookEntry, TheVariants.Attached}, store.StoreNo.StoreNo}, Calls.{User, PassView, user_of, newcomer, new_pass, EnterNotes}}, declared.ending.{Cause.{Cause, TheVariants.{Terminated, Cancelling, LinkEnded, LinkFailed, TimedOut, PacketRefused, MessageRefused, DecisionRefused, GateRefused, ShortOfMemory, Panicked, ToldToTerminate, ToldToQuit, Killed, Overtaken}}, Stage.{Stage, TheVariants.{Outside, Entering, Greeted}}}, Exchange.{LinkView, HasEnded, Passes, HasFailed, CutsOff, Sends, Holds, IsSound, IsLeftFor}, Attention.ends_of, Sent.{Turn, bytes_of, greeting, last_of}, Ends.{LetsGo, status_by}, Queries.IsCancelledTurn, Moments.{Moment, moment, ShowsCause, IsBreak, outside}}, proofs.{LinkLaws.{passes_both, sound_left}, SentLaws.{bytes_of-append, bytes_of-none}}}
 use Rattle.pm_admit.specs.declared.Cac.{Cac}
 use Rattle.pm_admit.specs.declared.Cac.TheVariants as decisions
-use Rattle.pm_exit.specs.declared.child.Status.{Status}
-use Rattle.pm_exit.specs.declared.child.Status.TheVariants as statuses
-use Rattle.pm_startup.specs.declared.phase.Phase.{Phase}
-use Rattle.pm_wire.specs.Backend.{BackMessage}
-use Rattle.pm_query.specs.declared.book.BookEntry.{BookEntry}
-use Rattle.pm_query.specs.declared.book.BookEntry.TheVariants.{Attached}
-use Rattle.pm_query.specs.declared.store.StoreNo.{StoreNo}
-use Rattle.pm_query.specs.declared.store.StoreNo.TheVariants as nos
-use Rattle.pm_query.specs.declared.store.Store as Store
-use Rattle.pm_query.specs.Calls.{User, PassView, user_of, newcomer, new_pass, EnterNotes}
-use Rattle.pm_life.specs.Life.{Child, Told, Signal, Kill, Quit, Terminate as ToTerminate, Cancel, nothing_told, met_at_gate, asked_cancel, IsUntried, HasNoCancel}
-use Rattle.pm_life.specs.declared.life.GateNo.{GateNo}
-use Rattle.pm_startup.specs.Grammar.{cancel_request, Decides}
-use Rattle.pm_exchange.specs.declared.ending.Cause.{Cause}
-use Rattle.pm_exchange.specs.declared.ending.Cause.TheVariants.{Terminated, Cancelling, LinkEnded, LinkFailed, TimedOut, PacketRefused, MessageRefused, DecisionRefused, GateRefused, ShortOfMemory, Panicked, ToldToTerminate, ToldToQuit, Killed, Overtaken}
-use Rattle.pm_exchange.specs.declared.ending.Stage.{Stage}
-use Rattle.pm_exchange.specs.declared.ending.Stage.TheVariants.{Outside, Entering, Greeted}
-use Rattle.pm_outside.specs.Added.{Added}
-use Rattle.pm_exchange.specs.Exchange.{LinkView, HasEnded, Passes, HasFailed, CutsOff, Sends, Holds, IsSound, IsLeftFor}
-use Rattle.pm_life.specs.Attention.{Attention, HasAsked, Hears, IsAttentive, KeepsCancels, was_given}
-use Rattle.pm_exchange.specs.Attention.{ends_of}
-use Rattle.pm_exchange.specs.Sent.{Turn, bytes_of, greeting, last_of}
-use Rattle.pm_session.specs.Session.{Ending, Heeds, HasAskedFor, CausedBy, IsCaused, HasEntered, IsAdmitted, IsSession, between, HasPassed, AskInTurn, IsStart, StopsAt, EndsAt, AllNotes, AllSleep, HasSlept, MayPassOver, NotesOutside, Leaves, IsAttachedAt, IsBehindStart, IsInside, StaysOut, AsksCancel, HasCancelled, first_phase, pieces, query_bytes, last_messages, status_of, TurnsAway, IsAttachedBehind}
-use Rattle.pm_exchange.specs.Ends.{LetsGo, status_by}
-use Rattle.pm_exchange.specs.Queries.{IsCancelledTurn}
-use Rattle.pm_exchange.specs.Moments.{Moment, moment, ShowsCause, IsBreak, outside}
-use Rattle.pm_session.specs.Conversation.{Conversed}
-use Rattle.pm_session.specs.declared.session.Admission.{Admission}
-use Rattle.pm_session.specs.Entry.{ClosesBy, Connected, Enters, AsksToCancel, IsTold, EndsBy, Closes, Serves, IsTextBehind, IsTextInside, CanRefuseEntry, refusal_cause}
-use Rattle.pm_session.specs.Heeding.{TurnsHeed, HeedInTurn, AllRead}
-use Rattle.pm_life.specs.AttentionLaws.{hears_both, hears_fewer, cancels_then}
-use Rattle.pm_session.proofs.Attentions.{untried_still, new_untried, new_no_cancel, cancels_still, HasCancels}
-use Rattle.pm_session.proofs.Heeding.{heed_none, heed_all, heed_later, heed_earlier}
-use Rattle.pm_exchange.specs.LinkLaws.{passes_both, sound_left}
-use Rattle.pm_exchange.specs.SentLaws.{bytes_of-append, bytes_of-none}
-use Rattle.pm_session.proofs.Links.{fresh_sound}
-use Rattle.pm_session.proofs.Closings.{told_status, told_still, told_now}
-use Rattle.pm_session.proofs.Said.{shows_since}
-use Rattle.pm_session.proofs.Conversing.{nothing_yet}
-use Rattle.pm_session.proofs.Entries.{enters_not, no_packet_yet}
+use Rattle.pm_session_exchange.specs.pm_exit.declared.child.Status.TheVariants as statuses
+use Rattle.pm_startup.specs.{declared.phase.Phase.Phase, pm_wire.Backend.BackMessage, Grammar.{cancel_request, Decides}}
+use Rattle.pm_session_exchange.specs.pm_query.declared.store.StoreNo.TheVariants as nos
+use Rattle.pm_session_exchange.specs.pm_query.declared.store.Store as Store
+use Rattle.pm_child_life.{specs.{Life.{Child, Told, Signal, Kill, Quit, Terminate as ToTerminate, Cancel, nothing_told, met_at_gate, asked_cancel, IsUntried, HasNoCancel}, declared.life.GateNo.GateNo, Attention.{Attention, HasAsked, Hears, IsAttentive, KeepsCancels, was_given}}, proofs.AttentionLaws.{hears_both, hears_fewer, cancels_then}}
+use Rattle.pm_session.{specs.{Session.{Ending, Heeds, HasAskedFor, CausedBy, IsCaused, HasEntered, IsAdmitted, IsSession, between, HasPassed, AskInTurn, IsStart, StopsAt, EndsAt, AllNotes, AllSleep, HasSlept, MayPassOver, NotesOutside, Leaves, IsAttachedAt, IsBehindStart, IsInside, StaysOut, AsksCancel, HasCancelled, first_phase, pieces, query_bytes, last_messages, status_of, TurnsAway, IsAttachedBehind}, Conversation.Conversed, declared.session.Admission.Admission, Entry.{ClosesBy, Connected, Enters, AsksToCancel, IsTold, EndsBy, Closes, Serves, IsTextBehind, IsTextInside, CanRefuseEntry, refusal_cause}, Heeding.{TurnsHeed, HeedInTurn, AllRead}}, proofs.{Attentions.{untried_still, new_untried, new_no_cancel, cancels_still, HasCancels}, Heeding.{heed_none, heed_all, heed_later, heed_earlier}, Links.fresh_sound, Closings.{told_status, told_still, told_now}, Said.shows_since, Conversing.nothing_yet, Entries.{enters_not, no_packet_yet}}}
 
 -- ---- two texts, one after the other
 

@@ -1,24 +1,9 @@
 -- Steps of a session: a wait, a message, an end.
-use Rattle.std.proofs.Common.{◌≡◌, inl, inr, ℕ, ◌<◌, ◌≤◌, List, [], ◌∷◌, ◌++◌, length, drop, Result, Ok, Err, refl, sym, ◌∙◌, ap, subst, arith, length-append}
-use Rattle.std.proofs.lemmas.List.{append-nil}
-use Rattle.pm_query.specs.declared.book.BookEntry.{BookEntry}
-use Rattle.pm_query.specs.Calls.{User}
-use Rattle.pm_wire.specs.Numbers.{length_int32}
-use Rattle.pm_wire.specs.Frontend.{IsUndecided, IsBadHeader, BeginsBadly}
-use Rattle.pm_exchange.specs.declared.ending.MessageFault.TheVariants.{BadLength}
-use Rattle.pm_exchange.specs.declared.ending.Cause.{Cause}
-use Rattle.pm_exchange.specs.declared.ending.Cause.TheVariants.{Terminated, Cancelling, LinkEnded, LinkFailed, TimedOut, PacketRefused, MessageRefused, DecisionRefused, GateRefused, ShortOfMemory, Panicked, ToldToTerminate, ToldToQuit, Killed, Overtaken}
-use Rattle.pm_exchange.specs.Exchange.{LinkView, Passes}
-use Rattle.pm_life.specs.Attention.{Attention, Hears}
-use Rattle.pm_session.specs.Session.{MayPassOver}
-use Rattle.pm_exchange.specs.Moments.{moment, IsBreak, IsSignal, Comes}
-use Rattle.pm_session.specs.Conversation.{Conversed}
-use Rattle.pm_session.specs.Turns.{Converses}
-use Rattle.pm_session.proofs.Heeding.{heed_none}
-use Rattle.pm_life.specs.AttentionLaws.{hears_both, hears_fewer}
-use Rattle.pm_exchange.specs.LinkLaws.{passes_none}
-use Rattle.pm_exchange.specs.SentLaws.{bytes_of-none}
-use Rattle.pm_session.proofs.Conversing.{nothing_among, nothing_yet, nothing_beyond, broken_ends, ends_here}
+use Rattle.std.proofs.{Common.{◌≡◌, inl, inr, ℕ, ◌<◌, ◌≤◌, List, [], ◌∷◌, ◌++◌, length, drop, Result, Ok, Err, refl, sym, ◌∙◌, ap, subst, arith, length-append}, lemmas.List.append-nil}
+use Rattle.pm_session_exchange.{specs.{pm_query.{declared.book.BookEntry.BookEntry, Calls.User}, declared.ending.{MessageFault.TheVariants.BadLength, Cause.{Cause, TheVariants.{Terminated, Cancelling, LinkEnded, LinkFailed, TimedOut, PacketRefused, MessageRefused, DecisionRefused, GateRefused, ShortOfMemory, Panicked, ToldToTerminate, ToldToQuit, Killed, Overtaken}}}, Exchange.{LinkView, Passes}, Moments.{moment, IsBreak, IsSignal, Comes}}, proofs.{LinkLaws.passes_none, SentLaws.bytes_of-none}}
+use Rattle.pm_wire.specs.{Numbers.length_int32, Frontend.{IsUndecided, IsBadHeader, BeginsBadly}}
+use Rattle.pm_child_life.{specs.Attention.{Attention, Hears}, proofs.AttentionLaws.{hears_both, hears_fewer}}
+use Rattle.pm_session.{specs.{Session.MayPassOver, Conversation.Conversed, Turns.Converses}, proofs.{Heeding.heed_none, Conversing.{nothing_among, nothing_yet, nothing_beyond, broken_ends, ends_here}}}
 
 signal_breaks : (cause : Cause) → IsSignal cause → IsBreak cause
 signal_breaks Terminated signal = absurd signal

@@ -1,20 +1,9 @@
 -- Completeness: which queries of what came in have an answer.
-use Rattle.std.specs.Prelude.{◌≡◌, ◌⊎◌, ℕ, List, [], ◌∷◌, ◌++◌, Some, Ok}
-use Rattle.std.specs.List.{flat_map}
-use Rattle.std.specs.Str.{IsUtf8}
-use Rattle.pm_disk.specs.Cause.{Rose}
-use Rattle.pm_outside.specs.Traffic.{Traffic}
+use Rattle.std.specs.{Prelude.{◌≡◌, ◌⊎◌, ℕ, List, [], ◌∷◌, ◌++◌, Some, Ok}, List.flat_map, Str.IsUtf8}
+use Rattle.pm_session_exchange.specs.{pm_outside.{pm_disk.Cause.Rose, Traffic.Traffic}, pm_child_life.Life.Told, declared.ending.Cause.{Cause, TheVariants.{ShortOfMemory, Panicked, Overtaken}}, Sent.{Turn, Ran, LogIsFull, Memory}}
 use Rattle.pm_admit.specs.declared.Cac.{Cac}
-use Rattle.pm_startup.specs.declared.phase.Phase.{Phase}
-use Rattle.pm_sql.specs.declared.stmt.Stmt.{Stmt}
-use Rattle.pm_sql.specs.Statements.{IsQueryText}
-use Rattle.pm_query.specs.declared.book.BookEntry.{BookEntry}
-use Rattle.pm_query.specs.Calls.{User}
-use Rattle.pm_wire.specs.Frontend.{IsFront, Query}
-use Rattle.pm_life.specs.Life.{Told}
-use Rattle.pm_exchange.specs.declared.ending.Cause.{Cause}
-use Rattle.pm_exchange.specs.declared.ending.Cause.TheVariants.{ShortOfMemory, Panicked, Overtaken}
-use Rattle.pm_exchange.specs.Sent.{Turn, Ran, LogIsFull, Memory}
+use Rattle.pm_startup.specs.{declared.phase.Phase.Phase, pm_wire.Frontend.{IsFront, Query}}
+use Rattle.pm_query.specs.{pm_sql.{declared.stmt.Stmt.Stmt, Statements.IsQueryText}, declared.book.BookEntry.BookEntry, Calls.User}
 use Rattle.pm_session.specs.Session.{Ending, AskInTurn, IsStart, IsSession, IsCaused, between, first_phase, query_bytes}
 
 -- requests for encryption, and the packet that starts the session

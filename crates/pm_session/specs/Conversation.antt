@@ -1,17 +1,7 @@
 -- A session step by step: where it stands at a moment, and what passes between two.
-use Rattle.std.specs.Prelude.{◌≡◌, ◌⊎◌, ℕ, List, [], ◌++◌, length, Contains}
-use Rattle.std.specs.List.{flat_map}
-use Rattle.pm_query.specs.declared.book.BookEntry.{BookEntry}
-use Rattle.pm_query.specs.Calls.{User}
-use Rattle.pm_life.specs.Life.{Cancel}
-use Rattle.pm_exchange.specs.declared.ending.Cause.{Cause}
-use Rattle.pm_exchange.specs.Exchange.{Passes, CutsOff}
-use Rattle.pm_life.specs.Attention.{Hears, was_given}
-use Rattle.pm_session.specs.Heeding.{HeedInTurn, AllRead}
-use Rattle.pm_exchange.specs.Sent.{Turn, bytes_of}
-use Rattle.pm_session.specs.Session.{AllNotes, AllSleep, EndsAt, MayPassOver, pieces, query_bytes}
-use Rattle.pm_exchange.specs.Queries.{IsCancelledTurn}
-use Rattle.pm_exchange.specs.Moments.{Moment}
+use Rattle.std.specs.{Prelude.{◌≡◌, ◌⊎◌, ℕ, List, [], ◌++◌, length, Contains}, List.flat_map}
+use Rattle.pm_session_exchange.specs.{pm_query.{declared.book.BookEntry.BookEntry, Calls.User}, pm_child_life.{Life.Cancel, Attention.{Hears, was_given}}, declared.ending.Cause.Cause, Exchange.{Passes, CutsOff}, Sent.{Turn, bytes_of}, Queries.IsCancelledTurn, Moments.Moment}
+use Rattle.pm_session.specs.{Heeding.{HeedInTurn, AllRead}, Session.{AllNotes, AllSleep, EndsAt, MayPassOver, pieces, query_bytes}}
 
 -- A greeted client's queries were answered in order, each with its turn, up to the end: all that was sent for them, or a
 -- front of it where the end cuts off.

@@ -1,36 +1,13 @@
 -- The start of a connection, up to its startup packet; and what is said last.
-use Rattle.std.specs.Prelude.{◌≡◌, ◌≢◌, ◌⊎◌, ℕ, ◌<◌, ◌≤◌, List, [], ◌∷◌, ◌++◌, length, take, map, false, Option, IfSome, Result, Ok, Err, MatchOption}
-use Rattle.std.specs.List.{flat_map}
-use Rattle.std.specs.Option.{option_map}
+use Rattle.std.specs.{Prelude.{◌≡◌, ◌≢◌, ◌⊎◌, ℕ, ◌<◌, ◌≤◌, List, [], ◌∷◌, ◌++◌, length, take, map, false, Option, IfSome, Result, Ok, Err, MatchOption}, List.flat_map, Option.option_map}
 use Rattle.pm_admit.specs.declared.Cac.{Cac}
 use Rattle.pm_admit.specs.declared.Cac.TheVariants as decisions
-use Rattle.pm_exit.specs.declared.child.Status.TheVariants as statuses
-use Rattle.pm_startup.specs.declared.phase.Phase.{Phase}
-use Rattle.pm_startup.specs.declared.phase.Step.TheVariants.{SayNo}
-use Rattle.pm_startup.specs.Grammar.{Content, startup, cancel_request, Decides, FrontDecides, IsUndecided as IsNoPacketYet, max_length}
-use Rattle.pm_startup.specs.Phases.{step_of}
-use Rattle.pm_query.specs.declared.book.BookEntry.{BookEntry}
-use Rattle.pm_query.specs.declared.book.BookEntry.TheVariants.{Attached}
-use Rattle.pm_query.specs.declared.store.StoreNo.{StoreNo}
-use Rattle.pm_query.specs.declared.store.StoreNo.TheVariants as nos
-use Rattle.pm_query.specs.declared.store.Store as Store
-use Rattle.pm_query.specs.Calls.{User, newcomer, user_of}
-use Rattle.pm_life.specs.Life.{Told, Kill, Quit, Terminate, asked_cancel}
-use Rattle.pm_exchange.specs.declared.ending.Cause.{Cause}
-use Rattle.pm_exchange.specs.declared.ending.Cause.TheVariants.{Cancelling, ToldToTerminate, ToldToQuit, Killed, Overtaken, ShortOfMemory}
-use Rattle.pm_exchange.specs.declared.ending.Stage.{Stage}
-use Rattle.pm_session.specs.declared.session.Admission.{Admission}
-use Rattle.pm_session.specs.declared.startup.Ask.{Ask}
-use Rattle.pm_session.specs.declared.startup.Ask.TheVariants.{Nothing, Encryption, Start, Cancel, Refused}
-use Rattle.pm_exchange.specs.Exchange.{Passes, HasFailed, CutsOff, Holds, IsLeftFor, IsSound}
-use Rattle.pm_life.specs.Attention.{Attention, Hears, KeepsCancels, was_given}
-use Rattle.pm_exchange.specs.Sent.{Turn, bytes_of}
-use Rattle.pm_session.specs.Session.{Ending, Heeds, HasAskedFor, IsCaused, IsSession, IsAttachedBehind, HasCancelled, IsInside, AllSleep, HasSlept, EndsSoundly, between, query_bytes, IsText, IsStart, IsRefusedPacket, AskInTurn, StopsAt, MayPassOver, Leaves, first_phase, last_messages, status_of}
-use Rattle.pm_exchange.specs.Ends.{status_by}
-use Rattle.pm_exchange.specs.Moments.{Moment, ShowsCause, Attends}
-use Rattle.pm_wire.specs.Backend.{BackMessage}
-use Rattle.pm_wire.specs.Conditions.{told}
-use Rattle.pm_wire.specs.declared.condition.Condition.{Condition}
+use Rattle.pm_session_exchange.specs.pm_exit.declared.child.Status.TheVariants as statuses
+use Rattle.pm_startup.specs.{declared.phase.{Phase.Phase, Step.TheVariants.SayNo}, Grammar.{Content, startup, cancel_request, Decides, FrontDecides, IsUndecided as IsNoPacketYet, max_length}, Phases.step_of, pm_wire.{Backend.BackMessage, Conditions.told, declared.condition.Condition.Condition}}
+use Rattle.pm_session_exchange.specs.{pm_query.{declared.{book.BookEntry.{BookEntry, TheVariants.Attached}, store.StoreNo.StoreNo}, Calls.{User, newcomer, user_of}}, pm_child_life.{Life.{Told, Kill, Quit, Terminate, asked_cancel}, Attention.{Attention, Hears, KeepsCancels, was_given}}, declared.ending.{Cause.{Cause, TheVariants.{Cancelling, ToldToTerminate, ToldToQuit, Killed, Overtaken, ShortOfMemory}}, Stage.Stage}, Exchange.{Passes, HasFailed, CutsOff, Holds, IsLeftFor, IsSound}, Sent.{Turn, bytes_of}, Ends.status_by, Moments.{Moment, ShowsCause, Attends}}
+use Rattle.pm_session_exchange.specs.pm_query.declared.store.StoreNo.TheVariants as nos
+use Rattle.pm_session_exchange.specs.pm_query.declared.store.Store as Store
+use Rattle.pm_session.specs.{declared.{session.Admission.Admission, startup.Ask.{Ask, TheVariants.{Nothing, Encryption, Start, Cancel, Refused}}}, Session.{Ending, Heeds, HasAskedFor, IsCaused, IsSession, IsAttachedBehind, HasCancelled, IsInside, AllSleep, HasSlept, EndsSoundly, between, query_bytes, IsText, IsStart, IsRefusedPacket, AskInTurn, StopsAt, MayPassOver, Leaves, first_phase, last_messages, status_of}}
 
 -- ---- the startup packet
 

@@ -1,10 +1,6 @@
 -- How a session heeds its signals from query to query, and what it reads a query as.
-use Rattle.std.specs.Prelude.{◌≡◌, ◌≤◌, ℕ, List, [], ◌∷◌, Option, None, Some}
-use Rattle.std.specs.List.{Contains}
-use Rattle.pm_life.specs.Life.{Told, Signal, Kill, Quit, Terminate, Cancel, Checkpoint, next_ask}
-use Rattle.pm_life.specs.Attention.{IsBy}
-use Rattle.pm_exchange.specs.Sent.{Turn, Cancelled}
-use Rattle.pm_exchange.specs.Queries.{IsReadAs}
+use Rattle.std.specs.{Prelude.{◌≡◌, ◌≤◌, ℕ, List, [], ◌∷◌, Option, None, Some}, List.Contains}
+use Rattle.pm_session_exchange.specs.{pm_child_life.{Life.{Told, Signal, Kill, Quit, Terminate, Cancel, Checkpoint, next_ask}, Attention.IsBy}, Sent.{Turn, Cancelled}, Queries.IsReadAs}
 
 -- ---- signals
 

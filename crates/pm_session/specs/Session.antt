@@ -1,44 +1,14 @@
 -- A whole session: what its client is sent for what it sent, what the child notes, how it ends, and why.
-use Rattle.std.specs.Prelude.{◌≡◌, ◌≢◌, ◌⊎◌, ℕ, ◌+◌, ◌-◌, ◌^◌, ◌≤◌, min, true, false, List, [], ◌∷◌, ◌++◌, length, map, codes, Option, None, Some, Ok, Err, IfSome}
-use Rattle.std.specs.List.{flat_map}
-use Rattle.pm_outside.specs.Traffic.{Traffic}
-use Rattle.pm_admit.specs.declared.Cac.{Cac}
-use Rattle.pm_admit.specs.declared.Cac.TheVariants as decisions
-use Rattle.pm_exit.specs.declared.child.Status.{Status}
-use Rattle.pm_exit.specs.declared.child.Status.TheVariants as statuses
-use Rattle.pm_startup.specs.declared.packet.StartFault.{StartFault}
-use Rattle.pm_startup.specs.declared.phase.Phase.{Phase}
-use Rattle.pm_startup.specs.declared.phase.Step.TheVariants.{SayNo, Refuse}
-use Rattle.pm_startup.specs.Grammar.{Content, startup, cancel_request, Decides, IsUndecided as IsNoPacketYet}
-use Rattle.pm_startup.specs.Phases.{step_of}
-use Rattle.pm_query.specs.declared.book.BookEntry.{BookEntry}
-use Rattle.pm_query.specs.declared.book.BookEntry.TheVariants.{Attached}
-use Rattle.pm_query.specs.declared.store.Store as Store
-use Rattle.pm_outside.specs.declared.link.Link as Link
-use Rattle.pm_life.specs.declared.life.Life as Life
-use Rattle.pm_disk.specs.Cause.{Rose}
-use Rattle.pm_exchange.specs.declared.last.Done.{Done}
-use Rattle.pm_session.specs.declared.session.Admission.{Admission}
-use Rattle.pm_session.specs.declared.session.SessionConf.{SessionConf}
-use Rattle.pm_query.specs.Calls.{newcomer, User, MayBeOver, NotesFault, LeaveNotes}
-use Rattle.pm_supervisor.specs.declared.Reason.{Reason}
-use Rattle.pm_life.specs.declared.life.GateNo.{GateNo}
-use Rattle.pm_life.specs.Life.{Child, Told, Kill, Quit, Terminate as ToTerminate, Cancel, was_told}
-use Rattle.pm_wire.specs.Backend.{BackMessage}
-use Rattle.pm_wire.specs.Frontend.{Query, BadQuery, LongQuery as IsLongQuery, Extended as IsExtended, Other, IsFront, IsUndecided as IsNoMessageYet, IsBadHeader}
-use Rattle.pm_wire.specs.Pieces.{message, string}
-use Rattle.pm_exchange.specs.declared.ending.MessageFault.{MessageFault}
-use Rattle.pm_exchange.specs.declared.ending.MessageFault.TheVariants.{BadLength, BadForm, LongQuery, Extended, UnknownType}
-use Rattle.pm_exchange.specs.declared.ending.Cause.{Cause}
-use Rattle.pm_exchange.specs.declared.ending.Cause.TheVariants.{Terminated, Cancelling, LinkEnded, LinkFailed, TimedOut, PacketRefused, MessageRefused, DecisionRefused, GateRefused, ShortOfMemory, Panicked, ToldToTerminate, ToldToQuit, Killed, Overtaken}
-use Rattle.pm_exchange.specs.declared.ending.Stage.{Stage}
-use Rattle.pm_exchange.specs.declared.ending.Stage.TheVariants.{Outside, Entering, Greeted}
-use Rattle.pm_exchange.specs.Exchange.{CutsOff}
-use Rattle.pm_life.specs.Attention.{was_given}
-use Rattle.pm_session.specs.Heeding.{TurnsHeed, AllRead}
-use Rattle.pm_exchange.specs.Sent.{Turn, bytes_of, greeting, turn_messages, last_of}
-use Rattle.pm_exchange.specs.Ends.{status_by, LetsGo}
-use Rattle.pm_exchange.specs.Queries.{IsUnreleased, TurnNotes, Sleeps, IsCancelledTurn}
+use Rattle.std.specs.{Prelude.{◌≡◌, ◌≢◌, ◌⊎◌, ℕ, ◌+◌, ◌-◌, ◌^◌, ◌≤◌, min, true, false, List, [], ◌∷◌, ◌++◌, length, map, codes, Option, None, Some, Ok, Err, IfSome}, List.flat_map}
+use Rattle.pm_session_exchange.specs.{pm_outside.{Traffic.Traffic, pm_disk.Cause.Rose}, pm_exit.declared.child.Status.Status, pm_query.{declared.book.BookEntry.{BookEntry, TheVariants.Attached}, Calls.{newcomer, User, MayBeOver, NotesFault, LeaveNotes}}, declared.{last.Done.Done, ending.{MessageFault.{MessageFault, TheVariants.{BadLength, BadForm, LongQuery, Extended, UnknownType}}, Cause.{Cause, TheVariants.{Terminated, Cancelling, LinkEnded, LinkFailed, TimedOut, PacketRefused, MessageRefused, DecisionRefused, GateRefused, ShortOfMemory, Panicked, ToldToTerminate, ToldToQuit, Killed, Overtaken}}, Stage.{Stage, TheVariants.{Outside, Entering, Greeted}}}}, pm_child_life.{declared.life.GateNo.GateNo, Life.{Child, Told, Kill, Quit, Terminate as ToTerminate, Cancel, was_told}, Attention.was_given}, Exchange.CutsOff, Sent.{Turn, bytes_of, greeting, turn_messages, last_of}, Ends.{status_by, LetsGo}, Queries.{IsUnreleased, TurnNotes, Sleeps, IsCancelledTurn}}
+use Rattle.pm_supervisor.specs.{pm_admit.declared.Cac.Cac, declared.Reason.Reason}
+use Rattle.pm_supervisor.specs.pm_admit.declared.Cac.TheVariants as decisions
+use Rattle.pm_session_exchange.specs.pm_exit.declared.child.Status.TheVariants as statuses
+use Rattle.pm_startup.specs.{declared.{packet.StartFault.StartFault, phase.{Phase.Phase, Step.TheVariants.{SayNo, Refuse}}}, Grammar.{Content, startup, cancel_request, Decides, IsUndecided as IsNoPacketYet}, Phases.step_of, pm_wire.{Backend.BackMessage, Frontend.{Query, BadQuery, LongQuery as IsLongQuery, Extended as IsExtended, Other, IsFront, IsUndecided as IsNoMessageYet, IsBadHeader}, Pieces.{message, string}}}
+use Rattle.pm_session_exchange.specs.pm_query.declared.store.Store as Store
+use Rattle.pm_session_exchange.specs.pm_outside.declared.link.Link as Link
+use Rattle.pm_session_exchange.specs.pm_child_life.declared.life.Life as Life
+use Rattle.pm_session.specs.{declared.session.{Admission.Admission, SessionConf.SessionConf}, Heeding.{TurnsHeed, AllRead}}
 
 -- ---- endings
 

@@ -1,24 +1,9 @@
 -- A query step by step: what is answered and noted for it, what its client is sent, and what waiting for it can give.
-use Rattle.std.specs.Prelude.{◌≡◌, ◌⊎◌, ◌≤◌, ◌++◌, ℕ, List, [], length, Contains, Result, Ok, Err, IfErr, false}
-use Rattle.std.specs.List.{flat_map}
-use Rattle.pm_query.specs.declared.book.BookEntry.{BookEntry}
-use Rattle.pm_query.specs.declared.store.Store as Store
-use Rattle.pm_query.specs.Calls.{User, user_of}
-use Rattle.pm_life.specs.Life.{Cancel}
-use Rattle.pm_exchange.specs.Room.{IsQueryString}
-use Rattle.pm_wire.specs.Outgoing.{Outgoing}
-use Rattle.pm_wire.specs.Backend.{BackMessage}
-use Rattle.pm_wire.specs.Frontend.{FrontMessage, IsFront, Query as IsQuery}
-use Rattle.pm_exchange.specs.declared.ending.Cause.{Cause}
-use Rattle.pm_exchange.specs.Exchange.{LinkView, CutsOff, Passes, Holds}
-use Rattle.pm_life.specs.Attention.{Attention, Hears, GivenSince, was_given}
-use Rattle.pm_session.specs.Heeding.{HeedInTurn, AllRead}
-use Rattle.pm_exchange.specs.Queries.{IsReadAs, TurnNotes, IsCancelledTurn, Sleeps}
-use Rattle.pm_exchange.specs.Sent.{Turn, bytes_of, turn_messages}
-use Rattle.pm_session.specs.Session.{AllNotes, EndsAt, MayPassOver, AllSleep, pieces, query_bytes}
-use Rattle.pm_exchange.specs.Moments.{Moment, moment, ShowsCause, IsBreak}
-use Rattle.pm_session.specs.Conversation.{Conversed}
-use Rattle.pm_exchange.specs.Answers.{EndNotes}
+use Rattle.std.specs.{Prelude.{◌≡◌, ◌⊎◌, ◌≤◌, ◌++◌, ℕ, List, [], length, Contains, Result, Ok, Err, IfErr, false}, List.flat_map}
+use Rattle.pm_session_exchange.specs.{pm_query.{declared.book.BookEntry.BookEntry, Calls.{User, user_of}}, pm_child_life.{Life.Cancel, Attention.{Attention, Hears, GivenSince, was_given}}, Room.IsQueryString, declared.ending.Cause.Cause, Exchange.{LinkView, CutsOff, Passes, Holds}, Queries.{IsReadAs, TurnNotes, IsCancelledTurn, Sleeps}, Sent.{Turn, bytes_of, turn_messages}, Moments.{Moment, moment, ShowsCause, IsBreak}, Answers.EndNotes}
+use Rattle.pm_session_exchange.specs.pm_query.declared.store.Store as Store
+use Rattle.pm_wire.specs.{Outgoing.Outgoing, Backend.BackMessage, Frontend.{FrontMessage, IsFront, Query as IsQuery}}
+use Rattle.pm_session.specs.{Heeding.{HeedInTurn, AllRead}, Session.{AllNotes, EndsAt, MayPassOver, AllSleep, pieces, query_bytes}, Conversation.Conversed}
 
 -- ---- what a client is sent
 

@@ -1,17 +1,14 @@
 //! The end of a connection: what is said last, and as what the child exits.
 ghost use Rattle.std.specs.Prelude.{◌≡◌, ◌≤◌, [], ◌∷◌, IfSome};
-ghost use Rattle.pm_wire.specs.Conditions.{fixed_message, told};
-ghost use Rattle.pm_wire.specs.Longest.{IsGiven};
-ghost use Rattle.pm_exchange.specs.Sent.{bytes_of, from_attach, packet_refusal, message_refusal, decision_refusal, gate_refusal, last_of};
-ghost use Rattle.pm_exchange.specs.Moments.{outside};
-ghost use Rattle.pm_exchange.specs.Room.{buffer_bytes};
+ghost use Rattle.pm_wire.specs.{Conditions.{fixed_message, told}, Longest.IsGiven};
+ghost use Rattle.pm_session_exchange.specs.{Sent.{bytes_of, from_attach, packet_refusal, message_refusal, decision_refusal, gate_refusal, last_of}, Moments.outside, Room.buffer_bytes};
 ghost use Rattle.pm_session.specs.Entry.{ClosesBy, IsSaidBy};
 
 use crate::desk::Desk;
 use pm_admit::Cac;
-use pm_exchange::{Cause, Line, MessageFault, Stage};
-use pm_life::{GateNo, Life};
+use pm_child_life::{GateNo, Life};
 use pm_outside::Link;
+use pm_session_exchange::{Cause, Line, MessageFault, Stage};
 use pm_startup::StartFault;
 use pm_supervisor::Reason;
 use pm_wire::{Back, Condition, Fixed, Outbox, conditions_can_be_told, fixed};

@@ -1,17 +1,14 @@
 //! A greeted client's queries, in order, up to the session's end.
 ghost use Rattle.std.specs.Prelude.{◌≡◌, false, [], length, OnOk};
 ghost use Rattle.pm_wire.specs.Frontend.{front_message};
-ghost use Rattle.pm_exchange.specs.Exchange.{Holds, IsLeftFor, IsSound};
-ghost use Rattle.pm_exchange.specs.Moments.{ShowsCause, GoesOrShows};
-ghost use Rattle.pm_exchange.specs.Room.{IsQueryString};
+ghost use Rattle.pm_session_exchange.specs.{Exchange.{Holds, IsLeftFor, IsSound}, Moments.{ShowsCause, GoesOrShows}, Room.IsQueryString, Answers.KeepsUser};
 ghost use Rattle.pm_session.specs.Turns.{Talked, Talks, Takes, Replies, HasQueryText, at_desk};
-ghost use Rattle.pm_exchange.specs.Answers.{KeepsUser};
 
 use crate::desk::Desk;
-use pm_exchange::{Cause, Inbox, Means, MessageFault, wanted_bytes_fit};
-use pm_life::Life;
+use pm_child_life::Life;
 use pm_outside::{Clock, Link};
 use pm_query::Store;
+use pm_session_exchange::{Cause, Inbox, Means, MessageFault, wanted_bytes_fit};
 use pm_wire::{Front, Take, WireFault};
 use std::sync::Wait;
 

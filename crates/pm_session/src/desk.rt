@@ -1,24 +1,18 @@
 //! What a client is sent for a query. What is said stands in the outbox until that is full, or the query's piece is at its
 //! end. Where sending is broken off, a front of it went out.
 ghost use Rattle.std.specs.Prelude.{◌≡◌, ◌≤◌, ◌<◌, ◌++◌, ◌∷◌, [], All, length, flat_map, None, OnOk};
-ghost use Rattle.pm_wire.specs.Outgoing.{room};
-ghost use Rattle.pm_wire.specs.Backend.{back_message, spelling, IsWritable, Fields, Pair, One, Complete, Ready};
-ghost use Rattle.pm_wire.specs.Conditions.{told, error, fixed_message};
-ghost use Rattle.pm_wire.specs.Longest.{longest, longest_told, HasSizes, IsGiven};
+ghost use Rattle.pm_wire.specs.{Outgoing.room, Backend.{back_message, spelling, IsWritable, Fields, Pair, One, Complete, Ready}, Conditions.{told, error, fixed_message}, Longest.{longest, longest_told, HasSizes, IsGiven}};
 ghost use Rattle.pm_wire.specs.declared.back.Tag.TheVariants as tags;
-ghost use Rattle.pm_query.specs.Limits.{HasShortValues, IsShortRow};
-ghost use Rattle.pm_query.specs.declared.item.Item.TheVariants as items;
-ghost use Rattle.pm_exchange.specs.Sent.{item_messages, row_messages, fault_state};
+ghost use Rattle.pm_session_exchange.specs.{pm_query.Limits.{HasShortValues, IsShortRow}, Sent.{item_messages, row_messages, fault_state}, Answers.{IsSayable, piece_of}, Room.{buffer_bytes, IsFaultString}};
+ghost use Rattle.pm_session_exchange.specs.pm_query.declared.item.Item.TheVariants as items;
 ghost use Rattle.pm_session.specs.Turns.{Says};
-ghost use Rattle.pm_exchange.specs.Answers.{IsSayable, piece_of};
-ghost use Rattle.pm_exchange.specs.Room.{buffer_bytes, IsFaultString};
 
 use itoa::Buffer;
-use pm_exchange::{Answer, Cause, Line, Released};
-use pm_life::Life;
+use pm_child_life::Life;
 use pm_outside::Link;
 use pm_query::Item;
 use pm_rows::Text;
+use pm_session_exchange::{Answer, Cause, Line, Released};
 use pm_sql::SqlFault;
 use pm_wire::{
     Back, Condition, Fixed, Outbox, Report, Severity, Shape, SqlState, StatementFault, Tag,
@@ -43,7 +37,7 @@ pub struct Desk<L: Link, F: Life> {
 
 impl<L: Link, F: Life> Model for Desk<L, F> {
     ghost use Rattle.std.specs.Prelude.{◌≤◌};
-    ghost use Rattle.pm_exchange.specs.Room.{buffer_bytes};
+    ghost use Rattle.pm_session_exchange.specs.Room.{buffer_bytes};
     ghost use Rattle.pm_session.specs.Turns.{Desk as DeskView};
 
     ghost Value = { DeskView };

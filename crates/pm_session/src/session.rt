@@ -1,27 +1,17 @@
 //! One connection from its first byte to its end.
 ghost use Rattle.std.specs.Prelude.{◌≡◌, ◌≤◌, ◌+◌, ◌++◌, false, [], length, None, Some, Ok, OnOk, IfOk, IfSome, IsTrue};
-ghost use Rattle.pm_facts.specs.Zeros.{HasNoZero};
+ghost use Rattle.pm_session_exchange.specs.{pm_query.pm_facts.Zeros.HasNoZero, pm_outside.Traffic.IsFresh, pm_child_life.{Life.IsUntried, Attention.Hears}, Exchange.{Holds, Sends}, Moments.{GoesOrBreaks, IsUntold}, Sent.{bytes_of, greeting}, Room.buffer_bytes, Answers.KeepsUser};
 ghost use Rattle.pm_wire.specs.Backend.{spelling, Param};
-ghost use Rattle.pm_outside.specs.Traffic.{IsFresh};
-ghost use Rattle.pm_life.specs.Life.{IsUntried};
-ghost use Rattle.pm_life.specs.Attention.{Hears};
-ghost use Rattle.pm_exchange.specs.Exchange.{Holds, Sends};
-ghost use Rattle.pm_exchange.specs.Moments.{GoesOrBreaks, IsUntold};
-ghost use Rattle.pm_exchange.specs.Sent.{bytes_of, greeting};
-ghost use Rattle.pm_session.specs.Session.{HasServed, Heeds};
-ghost use Rattle.pm_exchange.specs.Room.{buffer_bytes};
-ghost use Rattle.pm_session.specs.Entry.{Admitted, Connected, Entered, Inside, CanRefuseEntry, refusal_cause};
-ghost use Rattle.pm_session.specs.Turns.{at_desk};
-ghost use Rattle.pm_exchange.specs.Answers.{KeepsUser};
+ghost use Rattle.pm_session.specs.{Session.{HasServed, Heeds}, Entry.{Admitted, Connected, Entered, Inside, CanRefuseEntry, refusal_cause}, Turns.at_desk};
 
 use crate::close::close_short_of_memory;
 use crate::desk::Desk;
 use crate::startup::startup;
 use pm_admit::Cac;
-use pm_exchange::{BUFFER_BYTES, Cause, Done, Ear, Inbox, Line, Means, Stage};
-use pm_life::Life;
+use pm_child_life::Life;
 use pm_outside::{Clock, Link};
 use pm_query::{Store, StoreNo};
+use pm_session_exchange::{BUFFER_BYTES, Cause, Done, Ear, Inbox, Line, Means, Stage};
 use pm_wire::{Back, Outbox, back_messages_have_a_longest};
 use std::alloc::{AllocError, Global};
 use std::sync::Wait;

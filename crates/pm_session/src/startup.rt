@@ -1,13 +1,11 @@
 //! The start of a connection: requests for encryption, each refused by `N`, up to the packet that starts the session.
 ghost use Rattle.std.specs.Prelude.{◌≡◌, ℕ, List, [], Ok};
-ghost use Rattle.pm_startup.specs.Grammar.{content_of, FrontDecides};
-ghost use Rattle.pm_life.specs.Life.{HasNoCancel};
-ghost use Rattle.pm_exchange.specs.Moments.{outside};
+ghost use Rattle.pm_session_exchange.specs.{pm_startup.Grammar.{content_of, FrontDecides}, pm_child_life.Life.HasNoCancel, Moments.outside};
 ghost use Rattle.pm_session.specs.Entry.{AsksFor, Enters};
 
-use pm_exchange::{Cause, Inbox, Line, Means};
-use pm_life::Life;
+use pm_child_life::Life;
 use pm_outside::{Clock, Link};
+use pm_session_exchange::{Cause, Inbox, Line, Means};
 use pm_startup::{Packet, Phase, Read, StartFault, Step, next, read};
 use std::sync::Wait;
 

@@ -1,17 +1,8 @@
 -- What happens inside one generation after its redo.
-use Rattle.std.proofs.Common.{◌≡◌, ℕ, ◌-◌, ◌≤◌, List, [], ◌∷◌, ◌++◌, length-append, fold, Option, None, Some, refl, sym, ap, subst, ◌∙◌, arith}
-use Rattle.std.specs.Prelude.{false}
-use Rattle.std.specs.List.{Any}
-use Rattle.std.proofs.lemmas.List.{take-append-le}
-use Rattle.std.proofs.lemmas.List.Elements.{All-from_recursion}
-use Rattle.std.proofs.lemmas.List.Sums.{fold-append}
-use Rattle.pm_rows.specs.declared.commit.Change.{Change}
-use Rattle.pm_query.specs.declared.book.BookEntry.{BookEntry}
-use Rattle.pm_query.specs.declared.book.BookEntry.TheVariants.{Opened, Redone, Attached, Answered, Released, Detached, Gone, CheckpointEnded, Broke, LogFull}
-use Rattle.pm_query.specs.History.{History, acknowledged, beginning, count_of, number, with_commit}
-use Rattle.pm_query.specs.Book.{AnswersUpTo, Base, Course, course_after, history_of, kept_by_redo, present_after, standing_of}
-use Rattle.pm_query.specs.HistoryLaws.{number_of, redone_is}
-use Rattle.pm_answers.specs.Own.{NoneBy, is_by}
+use Rattle.std.{proofs.{Common.{◌≡◌, ℕ, ◌-◌, ◌≤◌, List, [], ◌∷◌, ◌++◌, length-append, fold, Option, None, Some, refl, sym, ap, subst, ◌∙◌, arith}, lemmas.List.{take-append-le, Elements.All-from_recursion, Sums.fold-append}}, specs.{Prelude.false, List.Any}}
+use Rattle.pm_session.specs.pm_rows.declared.commit.Change.{Change}
+use Rattle.pm_query.{specs.{declared.book.BookEntry.{BookEntry, TheVariants.{Opened, Redone, Attached, Answered, Released, Detached, Gone, CheckpointEnded, Broke, LogFull}}, History.{History, acknowledged, beginning, count_of, number, with_commit}, Book.{AnswersUpTo, Base, Course, course_after, history_of, kept_by_redo, present_after, standing_of}}, proofs.HistoryLaws.{number_of, redone_is}}
+use Rattle.pm_session_answers.specs.Own.{NoneBy, is_by}
 
 -- no generation opens among them
 abbrev pub OpensNone : List BookEntry → Type 0

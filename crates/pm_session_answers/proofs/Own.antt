@@ -1,9 +1,7 @@
 -- All entries of a child stand in the book.
-use Rattle.std.proofs.Common.{◌≡◌, ℕ, Bool, true, false, List, [], ◌∷◌, ◌++◌, refl, sym, ap, subst, ◌∙◌, append_assoc}
-use Rattle.std.specs.Prelude.{cond}
-use Rattle.std.specs.List.{AllByRecursion, filter}
+use Rattle.std.{proofs.Common.{◌≡◌, ℕ, Bool, true, false, List, [], ◌∷◌, ◌++◌, refl, sym, ap, subst, ◌∙◌, append_assoc}, specs.{Prelude.cond, List.{AllByRecursion, filter}}}
 use Rattle.pm_query.specs.declared.book.BookEntry.{BookEntry}
-use Rattle.pm_answers.specs.Own.{NoneBy, StandIn, entries_by, is_by}
+use Rattle.pm_session_answers.specs.Own.{NoneBy, StandIn, entries_by, is_by}
 
 -- one entry of others in front
 one_more : (who : ℕ) (first : BookEntry) (noted book : List BookEntry) → is_by who first ≡ false → StandIn who noted book → StandIn who noted (first ∷ book)

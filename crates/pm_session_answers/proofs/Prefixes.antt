@@ -1,12 +1,7 @@
 -- A legal book up to an answer.
 use Rattle.std.proofs.Common.{ℕ, List, [], ◌∷◌, ◌++◌}
-use Rattle.pm_rows.specs.declared.commit.Change.{Change}
-use Rattle.pm_sql.specs.declared.stmt.Stmt.{Stmt}
-use Rattle.pm_query.specs.declared.item.Item.{Item}
-use Rattle.pm_query.specs.declared.book.BookEntry.{BookEntry}
-use Rattle.pm_query.specs.declared.book.BookEntry.TheVariants.{Opened, Redone, Attached, Answered, Released, Detached, Gone, CheckpointEnded, Broke, LogFull}
-use Rattle.pm_query.specs.Book.{Base, BeginsRenewal, IsLegal, RenewsBehindGone}
-use Rattle.pm_query.specs.HistoryLaws.{going-append}
+use Rattle.pm_session.specs.{pm_rows.declared.commit.Change.Change, pm_sql.declared.stmt.Stmt.Stmt}
+use Rattle.pm_query.{specs.{declared.{item.Item.Item, book.BookEntry.{BookEntry, TheVariants.{Opened, Redone, Attached, Answered, Released, Detached, Gone, CheckpointEnded, Broke, LogFull}}}, Book.{Base, BeginsRenewal, IsLegal, RenewsBehindGone}}, proofs.HistoryLaws.going-append}
 
 module _ (pid front tick : ℕ) (script : List Stmt) (reply : List Item) (commit : List Change) (behind : List BookEntry) where
   abbrev whole : List BookEntry → List BookEntry

@@ -1,32 +1,8 @@
 -- Each reply of a session is right, where its entries stand in a legal book.
-use Rattle.std.proofs.Common.{◌≡◌, ◌⊎◌, inl, inr, ℕ, ◌≤◌, List, [], ◌∷◌, ◌++◌, Option, None, Some, fold, refl, sym, ap, subst, ◌∙◌, arith, append_assoc}
-use Rattle.std.specs.Prelude.{IfSome, IsSome, map}
-use Rattle.std.specs.List.{Any}
-use Rattle.std.proofs.lemmas.List.Sums.{fold-append}
-use Rattle.pm_rows.specs.Fold.{RowMap}
-use Rattle.pm_rows.specs.Standing.{Standing}
-use Rattle.pm_rows.specs.declared.commit.Change.{Change}
-use Rattle.pm_outside.specs.Traffic.{Traffic}
-use Rattle.pm_sql.specs.declared.stmt.Stmt.{Stmt}
-use Rattle.pm_sql.specs.Statements.{IsQueryText}
-use Rattle.pm_query.specs.declared.item.Item.{Item}
-use Rattle.pm_query.specs.declared.book.BookEntry.{BookEntry}
-use Rattle.pm_query.specs.declared.book.BookEntry.TheVariants.{Attached, Answered, Released}
-use Rattle.pm_query.specs.Answer.{commit_of, items_of}
-use Rattle.pm_query.specs.BookLaws.{AckedIsWithin, AckedNeverFalls, AcknowledgedStays}
-use Rattle.pm_query.specs.Calls.{User}
-use Rattle.pm_query.specs.History.{History, acknowledged, count_of, number, rows_of, with_commit}
-use Rattle.pm_query.specs.Book.{AnswersUpTo, Base, IsLegal, MayAnswer, MayGoOn, MayRelease, history_of, kept_after, kept_by_redo, present, present_after}
-use Rattle.pm_query.specs.HistoryLaws.{count_of-with_commit, going-append, history_push}
-use Rattle.pm_exchange.specs.Sent.{Turn, Ran, Faulted, NotUtf8, Cancelled, LogIsFull, Memory, bytes_of, greeting}
-use Rattle.pm_session.specs.Session.{AllNotes, HasPassed, IsServed, IsText, last_messages, pieces}
-use Rattle.pm_exchange.specs.Queries.{IsReleased, TurnNotes}
-use Rattle.pm_answers.specs.HistoryLaws.{base_stays, number_before, number_behind, rows_at_last}
-use Rattle.pm_answers.specs.Own.{NoneBy, StandIn}
-use Rattle.pm_answers.specs.Replies.{AreRight, IsAnswered, IsRight, IsTurnedOff, Talk, with_changes}
-use Rattle.pm_answers.proofs.Generations.{GoesOnFrom, OpensNone, goes_on_from, opens_none}
-use Rattle.pm_answers.proofs.Own.{Parted, parted}
-use Rattle.pm_answers.proofs.Prefixes.{legal_before}
+use Rattle.std.{proofs.{Common.{◌≡◌, ◌⊎◌, inl, inr, ℕ, ◌≤◌, List, [], ◌∷◌, ◌++◌, Option, None, Some, fold, refl, sym, ap, subst, ◌∙◌, arith, append_assoc}, lemmas.List.Sums.fold-append}, specs.{Prelude.{IfSome, IsSome, map}, List.Any}}
+use Rattle.pm_session.specs.{pm_rows.{Fold.RowMap, Standing.Standing, declared.commit.Change.Change}, pm_outside.Traffic.Traffic, pm_sql.{declared.stmt.Stmt.Stmt, Statements.IsQueryText}, pm_session_exchange.{Sent.{Turn, Ran, Faulted, NotUtf8, Cancelled, LogIsFull, Memory, bytes_of, greeting}, Queries.{IsReleased, TurnNotes}}, Session.{AllNotes, HasPassed, IsServed, IsText, last_messages, pieces}}
+use Rattle.pm_query.{specs.{declared.{item.Item.Item, book.BookEntry.{BookEntry, TheVariants.{Attached, Answered, Released}}}, Answer.{commit_of, items_of}, BookLaws.{AckedIsWithin, AckedNeverFalls, AcknowledgedStays}, Calls.User, History.{History, acknowledged, count_of, number, rows_of, with_commit}, Book.{AnswersUpTo, Base, IsLegal, MayAnswer, MayGoOn, MayRelease, history_of, kept_after, kept_by_redo, present, present_after}}, proofs.HistoryLaws.{count_of-with_commit, going-append, history_push}}
+use Rattle.pm_session_answers.{proofs.{HistoryLaws.{base_stays, number_before, number_behind, rows_at_last}, Generations.{GoesOnFrom, OpensNone, goes_on_from, opens_none}, Own.{Parted, parted}, Prefixes.legal_before}, specs.{Own.{NoneBy, StandIn}, Replies.{AreRight, IsAnswered, IsRight, IsTurnedOff, Talk, with_changes}}}
 
 some_of : (o : Option ℕ) → IsSome o → (n : ℕ) × (o ≡ Some n)
 some_of None is = absurd cc

@@ -1,12 +1,7 @@
 -- The laws, one for each function of `laws.rt`, whose contract it is.
 use Rattle.std.specs.Prelude.{◌≡◌, ◌⊎◌, ℕ, List, ◌++◌}
-use Rattle.pm_query.specs.declared.book.BookEntry.{BookEntry}
-use Rattle.pm_query.specs.Book.{Base, IsLegal, history_of}
-use Rattle.pm_query.specs.Calls.{User}
-use Rattle.pm_exchange.specs.Sent.{Turn}
-use Rattle.pm_session.specs.Session.{IsSession, between}
-use Rattle.pm_answers.specs.Own.{StandIn, entries_by}
-use Rattle.pm_answers.specs.Replies.{IsAnswered, IsTurnedOff, Talk}
+use Rattle.pm_session.specs.{pm_query.{declared.book.BookEntry.BookEntry, Book.{Base, IsLegal, history_of}, Calls.User}, pm_session_exchange.Sent.Turn, Session.{IsSession, between}}
+use Rattle.pm_session_answers.specs.{Own.{StandIn, entries_by}, Replies.{IsAnswered, IsTurnedOff, Talk}}
 
 -- it noted these entries, and what passed on its link is its text, or a front of that for whatever cause
 abbrev pub IsSessionOf : Talk → User → List Turn → List BookEntry → Type 0

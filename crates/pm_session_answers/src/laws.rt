@@ -1,6 +1,6 @@
 //! The laws of replies. Their contracts are the laws.
 
-ghost use Rattle.pm_answers.specs.Laws.{OwnEntriesStand, RepliesAreRight};
+ghost use Rattle.pm_session_answers.specs.Laws.{OwnEntriesStand, RepliesAreRight};
 
 use pm_query::{acked_is_within, acked_never_falls, acknowledged_stays};
 

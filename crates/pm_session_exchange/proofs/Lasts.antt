@@ -1,14 +1,8 @@
 -- How a session comes to its end: what is said last, and as what the child exits.
 use Rattle.std.proofs.Common.{◌≡◌, ◌≢◌, ◌⊎◌, inl, inr, ℕ, Bool, false, IsTrue, List, [], Option, None, Some, IfSome, Result, Ok, Err, MatchResult, refl, ap}
 use Rattle.pm_outside.specs.Traffic.{Traffic}
-use Rattle.pm_exchange.specs.declared.ending.Cause.{Cause}
-use Rattle.pm_exchange.specs.declared.ending.Cause.TheVariants.{Terminated, Cancelling, LinkEnded, LinkFailed, TimedOut, PacketRefused, MessageRefused, DecisionRefused, GateRefused, ShortOfMemory, Panicked, ToldToTerminate, ToldToQuit, Killed, Overtaken}
-use Rattle.pm_exchange.specs.Exchange.{LinkView, HasFailed, CutsOff, Holds, IsSound, IsLeftFor, IsSentAll, Sends}
-use Rattle.pm_life.specs.Attention.{Attention, Hears}
-use Rattle.pm_exchange.specs.Moments.{IsBreak, ShowsCause, outside}
-use Rattle.pm_exchange.specs.Last.{SaysLast}
-use Rattle.pm_life.specs.AttentionLaws.{hears_none, hears_both, hears_fewer}
-use Rattle.pm_exchange.specs.LinkLaws.{passes_none}
+use Rattle.pm_session_exchange.{specs.{declared.ending.Cause.{Cause, TheVariants.{Terminated, Cancelling, LinkEnded, LinkFailed, TimedOut, PacketRefused, MessageRefused, DecisionRefused, GateRefused, ShortOfMemory, Panicked, ToldToTerminate, ToldToQuit, Killed, Overtaken}}, Exchange.{LinkView, HasFailed, CutsOff, Holds, IsSound, IsLeftFor, IsSentAll, Sends}, Moments.{IsBreak, ShowsCause, outside}, Last.SaysLast}, proofs.LinkLaws.passes_none}
+use Rattle.pm_child_life.{specs.Attention.{Attention, Hears}, proofs.AttentionLaws.{hears_none, hears_both, hears_fewer}}
 
 -- ---- a sound link
 

@@ -5,3 +5,6 @@ pub mod Noted
 pub mod Signals
 pub mod Sleeping
 pub mod Wanting
+pub mod LinkLaws
+pub mod MomentLaws
+pub mod SentLaws

@@ -1,18 +1,7 @@
 -- What passed on a link, from one moment to the next.
-use Rattle.std.proofs.Common.{◌≡◌, ℕ, ◌≤◌, ◌||◌, Bool, true, false, List, [], ◌++◌, length, take, drop, take-append-drop, length-take, Option, None, Some, refl, sym, ◌∙◌, ap, subst, arith, append_assoc}
-use Rattle.std.specs.Option.{option_map}
-use Rattle.std.proofs.lemmas.Bool.{or_from}
-use Rattle.std.proofs.lemmas.List.{append-nil}
-use Rattle.pm_exchange.specs.declared.ending.Cause.TheVariants.{LinkFailed}
-use Rattle.pm_outside.specs.Traffic.{Traffic, GotWithin, after_read, after_write}
-use Rattle.pm_outside.specs.declared.link.Got.{Got}
-use Rattle.pm_outside.specs.declared.link.Got.TheVariants.{Bytes, NotYet, End, Failed}
-use Rattle.pm_outside.specs.declared.link.Put.{Put}
-use Rattle.pm_outside.specs.declared.link.Put.TheVariants.{Count, Failed as PutFailed}
-use Rattle.pm_disk.specs.Cause.{IsCounted}
-use Rattle.pm_outside.specs.TrafficLaws.{got_in, got_none, got_out, wrote_in, wrote_none, wrote_out}
-use Rattle.pm_exchange.specs.Exchange.{LinkView, HasEnded, Passes, HoldsReading, IsSound, IsLeftFor, Reads, ReceivesNothing, SentAllBut}
-use Rattle.pm_exchange.specs.LinkLaws.{passes_both}
+use Rattle.std.{proofs.{Common.{◌≡◌, ℕ, ◌≤◌, ◌||◌, Bool, true, false, List, [], ◌++◌, length, take, drop, take-append-drop, length-take, Option, None, Some, refl, sym, ◌∙◌, ap, subst, arith, append_assoc}, lemmas.{Bool.or_from, List.append-nil}}, specs.Option.option_map}
+use Rattle.pm_session_exchange.{specs.{declared.ending.Cause.TheVariants.LinkFailed, Exchange.{LinkView, HasEnded, Passes, HoldsReading, IsSound, IsLeftFor, Reads, ReceivesNothing, SentAllBut}}, proofs.LinkLaws.passes_both}
+use Rattle.pm_outside.{specs.{Traffic.{Traffic, GotWithin, after_read, after_write}, declared.link.{Got.{Got, TheVariants.{Bytes, NotYet, End, Failed}}, Put.{Put, TheVariants.{Count, Failed as PutFailed}}}, pm_disk.Cause.IsCounted}, proofs.TrafficLaws.{got_in, got_none, got_out, wrote_in, wrote_none, wrote_out}}
 
 -- ---- one write
 

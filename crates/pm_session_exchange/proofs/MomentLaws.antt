@@ -1,16 +1,7 @@
 -- Laws of what a child heeds between two moments, and of what ends its session.
-use Rattle.std.proofs.Common.{◌≡◌, ℕ, Bool, true, false, Option, None, Some, refl, sym, ◌∙◌, ap, subst, arith}
-use Rattle.std.specs.Option.{option_map}
-use Rattle.pm_supervisor.specs.declared.Reason.{Reason}
-use Rattle.pm_life.specs.declared.standing.Standing.{Standing}
-use Rattle.pm_life.specs.Life.{Child, Told, Kill, Quit, Terminate, asked_cancel}
-use Rattle.pm_life.specs.Attention.{Attention, attention, IsAttentive, Hears}
-use Rattle.pm_life.specs.AttentionLaws.{given_of, hears_none}
-use Rattle.pm_exchange.specs.declared.ending.Cause.{Cause}
-use Rattle.pm_exchange.specs.declared.ending.Cause.TheVariants.{ToldToTerminate, ToldToQuit, Killed}
-use Rattle.pm_exchange.specs.Exchange.{LinkView}
-use Rattle.pm_exchange.specs.Attention.{ends_by, ends_of}
-use Rattle.pm_exchange.specs.Moments.{Attends, ShowsCause, IsBreak}
+use Rattle.std.{proofs.Common.{◌≡◌, ℕ, Bool, true, false, Option, None, Some, refl, sym, ◌∙◌, ap, subst, arith}, specs.Option.option_map}
+use Rattle.pm_child_life.{specs.{pm_supervisor.declared.Reason.Reason, declared.standing.Standing.Standing, Life.{Child, Told, Kill, Quit, Terminate, asked_cancel}, Attention.{Attention, attention, IsAttentive, Hears}}, proofs.AttentionLaws.{given_of, hears_none}}
+use Rattle.pm_session_exchange.specs.{declared.ending.Cause.{Cause, TheVariants.{ToldToTerminate, ToldToQuit, Killed}}, Exchange.LinkView, Attention.{ends_by, ends_of}, Moments.{Attends, ShowsCause, IsBreak}}
 
 -- ---- heeding, up to a cancel
 

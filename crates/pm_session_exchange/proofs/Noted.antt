@@ -1,27 +1,10 @@
 -- What a query notes, put together from what the store's calls note.
-use Rattle.std.proofs.Common.{◌≡◌, inl, inr, ℕ, List, [], ◌∷◌, ◌++◌, All, Option, Result, Ok, Err, IfOk, refl, sym, ◌∙◌, ap, subst}
-use Rattle.std.proofs.lemmas.List.{append-nil}
-use Rattle.pm_sql.specs.declared.stmt.Stmt.{Stmt}
-use Rattle.pm_sql.specs.Statements.{IsQueryText}
-use Rattle.pm_query.specs.declared.item.Item.{Item}
-use Rattle.pm_query.specs.declared.book.BookEntry.{BookEntry}
-use Rattle.pm_query.specs.declared.book.BookEntry.TheVariants.{Released}
-use Rattle.pm_query.specs.declared.store.Staged.{Staged}
-use Rattle.pm_query.specs.declared.store.StoreNo.{StoreNo}
+use Rattle.std.proofs.{Common.{◌≡◌, inl, inr, ℕ, List, [], ◌∷◌, ◌++◌, All, Option, Result, Ok, Err, IfOk, refl, sym, ◌∙◌, ap, subst}, lemmas.List.append-nil}
+use Rattle.pm_query.{specs.{pm_sql.{declared.stmt.Stmt.Stmt, Statements.IsQueryText}, declared.{item.Item.Item, book.BookEntry.{BookEntry, TheVariants.Released}, store.{Staged.Staged, StoreNo.StoreNo}}, Calls.{User, NotesAnswer, NotesStaged, RunNotes, SeenNotes, FlushNotes}, Limits.HasShortValues}, proofs.NotedLaws.{GoesInTurn, behind_none}}
 use Rattle.pm_query.specs.declared.store.StoreNo.TheVariants as nos
-use Rattle.pm_query.specs.Calls.{User, NotesAnswer, NotesStaged, RunNotes, SeenNotes, FlushNotes}
-use Rattle.pm_query.specs.NotedLaws.{GoesInTurn, behind_none}
-use Rattle.pm_query.specs.Limits.{HasShortValues}
-use Rattle.pm_exchange.specs.declared.ending.Cause.{Cause}
-use Rattle.pm_exchange.specs.declared.ending.Cause.TheVariants.{Terminated, Cancelling, LinkEnded, LinkFailed, TimedOut, PacketRefused, MessageRefused, DecisionRefused, GateRefused, ShortOfMemory, Panicked, ToldToTerminate, ToldToQuit, Killed, Overtaken}
-use Rattle.pm_exchange.specs.declared.release.Answer.{Answer}
-use Rattle.pm_exchange.specs.declared.release.Answer.TheVariants as answers
-use Rattle.pm_life.specs.Life.{Told, Cancel}
-use Rattle.pm_life.specs.Attention.{HasAsked}
-use Rattle.pm_life.specs.AttentionLaws.{since_earlier}
-use Rattle.pm_exchange.specs.Queries.{IsUnreleased}
-use Rattle.pm_exchange.specs.Answers.{EndNotes, ScriptNotes, CanRefuseRun, refusal_of, no_release, CanEndWait, WaitNotes, ReleaseNotes, FitsScript}
-use Rattle.pm_exchange.specs.Moments.{IsSignal, IsWaitEnd}
+use Rattle.pm_session_exchange.specs.{declared.{ending.Cause.{Cause, TheVariants.{Terminated, Cancelling, LinkEnded, LinkFailed, TimedOut, PacketRefused, MessageRefused, DecisionRefused, GateRefused, ShortOfMemory, Panicked, ToldToTerminate, ToldToQuit, Killed, Overtaken}}, release.Answer.Answer}, Queries.IsUnreleased, Answers.{EndNotes, ScriptNotes, CanRefuseRun, refusal_of, no_release, CanEndWait, WaitNotes, ReleaseNotes, FitsScript}, Moments.{IsSignal, IsWaitEnd}}
+use Rattle.pm_session_exchange.specs.declared.release.Answer.TheVariants as answers
+use Rattle.pm_child_life.{specs.{Life.{Told, Cancel}, Attention.HasAsked}, proofs.AttentionLaws.since_earlier}
 
 -- ---- a release
 

@@ -1,8 +1,7 @@
 -- Laws of the bytes of messages.
-use Rattle.std.proofs.Common.{◌≡◌, List, [], ◌++◌, refl}
-use Rattle.std.proofs.lemmas.List.Concat.{flat_map-append}
-use Rattle.pm_wire.specs.Backend.{BackMessage, spelling}
-use Rattle.pm_exchange.specs.Sent.{bytes_of}
+use Rattle.std.proofs.{Common.{◌≡◌, List, [], ◌++◌, refl}, lemmas.List.Concat.flat_map-append}
+use Rattle.pm_startup.specs.pm_wire.Backend.{BackMessage, spelling}
+use Rattle.pm_session_exchange.specs.Sent.{bytes_of}
 
 pub bytes_of-none : bytes_of [] ≡ []
 unfolding bytes_of

@@ -1,14 +1,7 @@
 -- Signals that end a session or cancel a query.
-use Rattle.std.proofs.Common.{◌≡◌, ◌∙◌, ℕ, inl, inr, Bool, true, false, Option, None, Some, sym, subst}
-use Rattle.std.proofs.lemmas.Bool.{true≢false}
-use Rattle.pm_supervisor.specs.declared.Reason.{Reason}
-use Rattle.pm_life.specs.Life.{Cancel}
-use Rattle.pm_exchange.specs.declared.ending.Cause.{Cause}
-use Rattle.pm_exchange.specs.declared.ending.Cause.TheVariants.{ToldToTerminate, ToldToQuit, Killed}
-use Rattle.pm_life.specs.Attention.{Attention, Hears, GivenSince, IsAttentive}
-use Rattle.pm_exchange.specs.Attention.{ends_by, ends_of}
-use Rattle.pm_exchange.specs.Moments.{IsSignal, IsHeeded, IsWaitEnd}
-use Rattle.pm_exchange.specs.MomentLaws.{told_cause}
+use Rattle.std.proofs.{Common.{◌≡◌, ◌∙◌, ℕ, inl, inr, Bool, true, false, Option, None, Some, sym, subst}, lemmas.Bool.true≢false}
+use Rattle.pm_child_life.specs.{pm_supervisor.declared.Reason.Reason, Life.Cancel, Attention.{Attention, Hears, GivenSince, IsAttentive}}
+use Rattle.pm_session_exchange.{specs.{declared.ending.Cause.{Cause, TheVariants.{ToldToTerminate, ToldToQuit, Killed}}, Attention.{ends_by, ends_of}, Moments.{IsSignal, IsHeeded, IsWaitEnd}}, proofs.MomentLaws.told_cause}
 
 ended_by : (kill : Bool) (quit : Option Reason) (terminate : Bool) (cause : Cause) → ends_by kill quit terminate ≡ Some cause → IsSignal cause
 ended_by true quit terminate cause is = let same : Killed ≡ cause = cc in subst IsSignal same tt

@@ -1,15 +1,8 @@
 -- Queries one after the other, up to the end of a session.
 use Rattle.std.proofs.Common.{◌≡◌, ℕ, ◌*◌, List, [], ◌∷◌, ◌++◌, Option, Result, Ok, Err, IfOk, subst}
-use Rattle.pm_sql.specs.declared.stmt.Stmt.{Stmt}
-use Rattle.pm_sql.specs.Statements.{IsQueryText}
-use Rattle.pm_query.specs.declared.book.BookEntry.{BookEntry}
-use Rattle.pm_query.specs.declared.book.BookEntry.TheVariants.{Released}
-use Rattle.pm_life.specs.Life.{Told}
-use Rattle.pm_exchange.specs.declared.ending.Cause.{Cause}
-use Rattle.pm_exchange.specs.Sent.{Turn, Ran, Faulted, NotUtf8, Cancelled, LogIsFull, Memory}
-use Rattle.pm_exchange.specs.Queries.{TurnNotes, Sleeps, HasSleptFor, HasWaited, seconds_slept}
-use Rattle.pm_exchange.specs.declared.release.Answer.{Answer}
-use Rattle.pm_exchange.specs.Answers.{turn_of, IsFit}
+use Rattle.pm_query.specs.{pm_sql.{declared.stmt.Stmt.Stmt, Statements.IsQueryText}, declared.book.BookEntry.{BookEntry, TheVariants.Released}}
+use Rattle.pm_child_life.specs.Life.{Told}
+use Rattle.pm_session_exchange.specs.{declared.{ending.Cause.Cause, release.Answer.Answer}, Sent.{Turn, Ran, Faulted, NotUtf8, Cancelled, LogIsFull, Memory}, Queries.{TurnNotes, Sleeps, HasSleptFor, HasWaited, seconds_slept}, Answers.{turn_of, IsFit}}
 
 -- ---- lists of turns
 

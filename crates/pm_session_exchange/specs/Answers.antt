@@ -1,34 +1,15 @@
 -- A query step by step: what is answered and noted for it, and what waiting for it can give.
-use Rattle.std.specs.Prelude.{◌≡◌, ◌*◌, ◌++◌, ℕ, List, [], ◌∷◌, All, Option, None, Result, Ok, Err, IfOk}
-use Rattle.std.specs.List.{flat_map}
-use Rattle.pm_sql.specs.declared.stmt.Stmt.{Stmt}
-use Rattle.pm_sql.specs.Statements.{IsQueryText}
-use Rattle.pm_query.specs.declared.book.BookEntry.{BookEntry}
-use Rattle.pm_query.specs.declared.book.BookEntry.TheVariants.{Released}
-use Rattle.pm_query.specs.declared.store.Staged.{Staged}
-use Rattle.pm_query.specs.declared.store.StoreNo.{StoreNo}
+use Rattle.std.specs.{Prelude.{◌≡◌, ◌*◌, ◌++◌, ℕ, List, [], ◌∷◌, All, Option, None, Result, Ok, Err, IfOk}, List.flat_map, Str.IsUtf8}
+use Rattle.pm_query.specs.{pm_sql.{declared.stmt.Stmt.Stmt, Statements.IsQueryText}, declared.{book.BookEntry.{BookEntry, TheVariants.Released}, store.{Staged.Staged, StoreNo.StoreNo}}, Calls.{User, MayBeOver, NotesFault, user_of}, Limits.HasShortValues}
 use Rattle.pm_query.specs.declared.store.StoreNo.TheVariants as nos
 use Rattle.pm_query.specs.declared.store.Store as Store
-use Rattle.pm_query.specs.Calls.{User, MayBeOver, NotesFault, user_of}
-use Rattle.pm_query.specs.Limits.{HasShortValues}
-use Rattle.std.specs.Str.{IsUtf8}
-use Rattle.pm_life.specs.Life.{Told, Cancel}
-use Rattle.pm_wire.specs.declared.condition.Fixed.TheVariants as fixes
-use Rattle.pm_wire.specs.Conditions.{error, fixed_message}
-use Rattle.pm_wire.specs.Backend.{BackMessage, Ready}
-use Rattle.pm_exchange.specs.declared.ending.Cause.{Cause}
-use Rattle.pm_exchange.specs.declared.ending.Cause.TheVariants.{Panicked, ToldToTerminate, ToldToQuit, Killed, Overtaken}
-use Rattle.pm_exchange.specs.declared.release.Answer.{Answer}
-use Rattle.pm_exchange.specs.declared.release.Answer.TheVariants as answers
-use Rattle.pm_exchange.specs.declared.release.Awaited.{Awaited}
-use Rattle.pm_exchange.specs.declared.release.Awaited.TheVariants as waits
-use Rattle.pm_exchange.specs.declared.query.Slept.{Slept}
-use Rattle.pm_exchange.specs.declared.query.Slept.TheVariants as sleeps
-use Rattle.pm_life.specs.Attention.{Attention, GivenSince}
-use Rattle.pm_exchange.specs.Queries.{IsReadAs, IsUnreleased, TurnNotes, IsCancelledTurn, HasWaited, Sleeps}
-use Rattle.pm_exchange.specs.Sent.{Turn, Ran, Faulted, NotUtf8, Cancelled, LogIsFull, Memory, item_messages, fault_state, turn_messages}
-use Rattle.pm_exchange.specs.Moments.{IsHeeded, IsSignal}
-use Rattle.pm_exchange.specs.Room.{IsFaultString}
+use Rattle.pm_child_life.specs.{Life.{Told, Cancel}, Attention.{Attention, GivenSince}}
+use Rattle.pm_startup.specs.pm_wire.declared.condition.Fixed.TheVariants as fixes
+use Rattle.pm_startup.specs.pm_wire.{Conditions.{error, fixed_message}, Backend.{BackMessage, Ready}}
+use Rattle.pm_session_exchange.specs.{declared.{ending.Cause.{Cause, TheVariants.{Panicked, ToldToTerminate, ToldToQuit, Killed, Overtaken}}, release.{Answer.Answer, Awaited.Awaited}, query.Slept.Slept}, Queries.{IsReadAs, IsUnreleased, TurnNotes, IsCancelledTurn, HasWaited, Sleeps}, Sent.{Turn, Ran, Faulted, NotUtf8, Cancelled, LogIsFull, Memory, item_messages, fault_state, turn_messages}, Moments.{IsHeeded, IsSignal}, Room.IsFaultString}
+use Rattle.pm_session_exchange.specs.declared.release.Answer.TheVariants as answers
+use Rattle.pm_session_exchange.specs.declared.release.Awaited.TheVariants as waits
+use Rattle.pm_session_exchange.specs.declared.query.Slept.TheVariants as sleeps
 
 -- ---- answers
 

@@ -1,9 +1,7 @@
 -- By what signals end a session.
 use Rattle.std.specs.Prelude.{Bool, true, false, Option, None, Some, ◌≡◌, Result, Ok, Err}
-use Rattle.pm_supervisor.specs.declared.Reason.{Reason}
-use Rattle.pm_life.specs.declared.standing.Standing.{Standing}
-use Rattle.pm_exchange.specs.declared.ending.Cause.{Cause}
-use Rattle.pm_exchange.specs.declared.ending.Cause.TheVariants.{ToldToTerminate, ToldToQuit, Killed}
+use Rattle.pm_child_life.specs.{pm_supervisor.declared.Reason.Reason, declared.standing.Standing.Standing}
+use Rattle.pm_session_exchange.specs.declared.ending.Cause.{Cause, TheVariants.{ToldToTerminate, ToldToQuit, Killed}}
 
 -- by what a session has to end: by a Kill before a Quit, and by a Quit before a Terminate
 abbrev pub ends_by : (kill : Bool) → Option Reason → (terminate : Bool) → Option Cause

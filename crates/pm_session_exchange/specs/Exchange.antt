@@ -1,12 +1,7 @@
 -- What passes on a link between two moments.
 use Rattle.std.specs.Prelude.{◌≡◌, ◌≢◌, ◌≤◌, ℕ, Bool, true, false, List, [], ◌++◌, Option, None, Some, IfSome, Result, Ok, Err}
-use Rattle.pm_outside.specs.Added.{Added}
-use Rattle.pm_disk.specs.Cause.{Rose}
-use Rattle.pm_outside.specs.Traffic.{Traffic, came_in_of, went_out_of}
-use Rattle.pm_outside.specs.declared.link.Got.{Got}
-use Rattle.pm_outside.specs.declared.link.Got.TheVariants.{Bytes, NotYet, End, Failed}
-use Rattle.pm_exchange.specs.declared.ending.Cause.{Cause}
-use Rattle.pm_exchange.specs.declared.ending.Cause.TheVariants.{LinkFailed, Killed, Overtaken}
+use Rattle.pm_outside.specs.{Added.Added, pm_disk.Cause.Rose, Traffic.{Traffic, came_in_of, went_out_of}, declared.link.Got.{Got, TheVariants.{Bytes, NotYet, End, Failed}}}
+use Rattle.pm_session_exchange.specs.declared.ending.Cause.{Cause, TheVariants.{LinkFailed, Killed, Overtaken}}
 use Rattle.pm_outside.specs.declared.link.Link as Link
 
 -- a link at one moment: what has passed on it, where it tells that, which of its port's links it is, and how often it failed

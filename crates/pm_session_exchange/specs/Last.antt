@@ -1,13 +1,8 @@
 -- What a child does last on its line.
 use Rattle.std.specs.Prelude.{◌≡◌, ◌⊎◌, ℕ, List, [], ◌++◌, Bool, false, None, Some, IfSome, IsTrue}
 use Rattle.pm_exit.specs.declared.child.Status.TheVariants as statuses
-use Rattle.pm_exchange.specs.declared.ending.Cause.{Cause}
-use Rattle.pm_exchange.specs.Exchange.{Passes, HasFailed, IsSound}
-use Rattle.pm_life.specs.declared.standing.Standing.{Standing}
-use Rattle.pm_life.specs.Attention.{Hears}
-use Rattle.pm_exchange.specs.Attention.{ends_of}
-use Rattle.pm_exchange.specs.Ends.{status_by}
-use Rattle.pm_exchange.specs.Moments.{Moment}
+use Rattle.pm_session_exchange.specs.{declared.ending.Cause.Cause, Exchange.{Passes, HasFailed, IsSound}, Attention.ends_of, Ends.status_by, Moments.Moment}
+use Rattle.pm_child_life.specs.{declared.standing.Standing.Standing, Attention.Hears}
 
 -- ---- the last words
 

@@ -1,10 +1,7 @@
 -- A child's line to its client, and what the child hears.
-use Rattle.std.specs.Prelude.{◌≡◌, ℕ, false, Result, MatchResult}
-use Rattle.std.specs.Option.{option_map}
-use Rattle.pm_life.specs.declared.life.GateNo.{GateNo}
-use Rattle.pm_life.specs.Life.{met_at_gate, attached_in}
-use Rattle.pm_life.specs.Attention.{Attention, attention}
-use Rattle.pm_exchange.specs.Exchange.{LinkView}
+use Rattle.std.specs.{Prelude.{◌≡◌, ℕ, false, Result, MatchResult}, Option.option_map}
+use Rattle.pm_child_life.specs.{declared.life.GateNo.GateNo, Life.{met_at_gate, attached_in}, Attention.{Attention, attention}}
+use Rattle.pm_session_exchange.specs.Exchange.{LinkView}
 
 -- the link, and what the child was told
 pub record LineView : Type 0 where

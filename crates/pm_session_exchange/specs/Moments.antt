@@ -1,10 +1,7 @@
 -- Where a child stands with its client at a moment, and why it goes no further.
 use Rattle.std.specs.Prelude.{◌≡◌, ℕ, List, [], ◌++◌, length, ◌<◌, Result, MatchResult, IfErr, IfSome, Option}
-use Rattle.pm_life.specs.Life.{Kill, Quit, Terminate, Signal, Told, nothing_told}
-use Rattle.pm_exchange.specs.declared.ending.Cause.{Cause}
-use Rattle.pm_exchange.specs.declared.ending.Cause.TheVariants.{LinkEnded, LinkFailed, TimedOut, DecisionRefused, GateRefused, ToldToTerminate, ToldToQuit, Killed}
-use Rattle.pm_exchange.specs.Exchange.{LinkView, Passes, HasEnded, HasFailed}
-use Rattle.pm_life.specs.Attention.{Attention, was_given, HasAsked, IsAttentive}
+use Rattle.pm_child_life.specs.{Life.{Kill, Quit, Terminate, Signal, Told, nothing_told}, Attention.{Attention, was_given, HasAsked, IsAttentive}}
+use Rattle.pm_session_exchange.specs.{declared.ending.Cause.{Cause, TheVariants.{LinkEnded, LinkFailed, TimedOut, DecisionRefused, GateRefused, ToldToTerminate, ToldToQuit, Killed}}, Exchange.{LinkView, Passes, HasEnded, HasFailed}}
 
 -- the link, the bytes that came in and weren't looked at yet, the store, and the child
 pub record Moment (S : Type 0) : Type 0 where

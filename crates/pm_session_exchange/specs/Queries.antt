@@ -1,17 +1,9 @@
 -- How a query was answered: what is noted for it, what its text is read as, and how long it slept.
-use Rattle.std.specs.Prelude.{◌≡◌, ◌≢◌, ◌⊎◌, ℕ, ◌+◌, ◌-◌, ◌*◌, ◌^◌, ◌≤◌, min, List, [], ◌∷◌, ◌++◌}
-use Rattle.std.specs.Str.{IsUtf8}
-use Rattle.pm_sql.specs.declared.stmt.Stmt.{Stmt}
+use Rattle.std.specs.{Prelude.{◌≡◌, ◌≢◌, ◌⊎◌, ℕ, ◌+◌, ◌-◌, ◌*◌, ◌^◌, ◌≤◌, min, List, [], ◌∷◌, ◌++◌}, Str.IsUtf8}
+use Rattle.pm_sql.specs.{declared.stmt.Stmt.Stmt, Statements.IsQueryText, Limits.sleep_seconds, Faults.IsFaultOf, pm_rows.declared.commit.Change.Change}
 use Rattle.pm_sql.specs.declared.query.SqlFault.TheVariants as texts
-use Rattle.pm_sql.specs.Statements.{IsQueryText}
-use Rattle.pm_sql.specs.Limits.{sleep_seconds}
-use Rattle.pm_sql.specs.Faults.{IsFaultOf}
-use Rattle.pm_rows.specs.declared.commit.Change.{Change}
-use Rattle.pm_query.specs.declared.item.Item.{Item}
-use Rattle.pm_query.specs.declared.book.BookEntry.{BookEntry}
-use Rattle.pm_query.specs.declared.book.BookEntry.TheVariants.{Released, LogFull}
-use Rattle.pm_query.specs.Calls.{NotesAnswer}
-use Rattle.pm_exchange.specs.Sent.{Turn, Ran, Faulted, NotUtf8, Cancelled, LogIsFull, Memory}
+use Rattle.pm_query.specs.{declared.{item.Item.Item, book.BookEntry.{BookEntry, TheVariants.{Released, LogFull}}}, Calls.NotesAnswer}
+use Rattle.pm_session_exchange.specs.Sent.{Turn, Ran, Faulted, NotUtf8, Cancelled, LogIsFull, Memory}
 
 -- ---- turns
 

@@ -1,6 +1,6 @@
 -- What a session has room for.
 use Rattle.std.specs.Prelude.{ℕ, ◌≤◌, List, length}
-use Rattle.pm_facts.specs.Zeros.{HasNoZero}
+use Rattle.pm_query.specs.pm_facts.Zeros.{HasNoZero}
 
 -- The bytes of a buffer: those that came in and weren't looked at yet, or those that wait to be sent. A query of 65,536
 -- bytes with what stands around it is shorter, and so is the longest message that is said.

@@ -1,35 +1,22 @@
 -- What a client is sent: its greeting, the messages for a query, and what is said last.
-use Rattle.std.specs.Prelude.{ℕ, ℤ, List, [], ◌∷◌, ◌++◌, map, codes, decimal, length, None}
-use Rattle.std.specs.List.{flat_map}
-use Rattle.pm_admit.specs.declared.Cac.{Cac}
-use Rattle.pm_admit.specs.declared.Cac.TheVariants as decisions
-use Rattle.pm_startup.specs.declared.packet.StartFault.{StartFault}
+use Rattle.std.specs.{Prelude.{ℕ, ℤ, List, [], ◌∷◌, ◌++◌, map, codes, decimal, length, None}, List.flat_map}
+use Rattle.pm_child_life.specs.{pm_supervisor.{pm_admit.declared.Cac.Cac, declared.Reason.{Reason, TheVariants.{Crash, Stop}}}, declared.life.GateNo.GateNo}
+use Rattle.pm_child_life.specs.pm_supervisor.pm_admit.declared.Cac.TheVariants as decisions
+use Rattle.pm_startup.specs.{declared.packet.StartFault.StartFault, pm_wire.{declared.{state.SqlState.SqlState, condition.Fixed.Fixed}, Conditions.{error, fixed_message, state_of, told}, Backend.{BackMessage, Auth, Param, Key, Ready, Fields, Pair, One, Complete, Empty, spelling}}}
 use Rattle.pm_startup.specs.declared.packet.StartFault.TheVariants as packets
-use Rattle.pm_sql.specs.declared.query.SqlFault.{SqlFault}
-use Rattle.pm_sql.specs.declared.query.SqlFault.TheVariants as texts
-use Rattle.pm_sql.specs.Message.{message_of}
-use Rattle.pm_query.specs.declared.item.Item.{Item}
+use Rattle.pm_query.specs.{pm_sql.{declared.query.SqlFault.SqlFault, Message.message_of}, declared.item.Item.Item}
+use Rattle.pm_query.specs.pm_sql.declared.query.SqlFault.TheVariants as texts
 use Rattle.pm_query.specs.declared.item.Item.TheVariants as items
-use Rattle.pm_supervisor.specs.declared.Reason.{Reason}
-use Rattle.pm_supervisor.specs.declared.Reason.TheVariants.{Crash, Stop}
-use Rattle.pm_life.specs.declared.life.GateNo.{GateNo}
-use Rattle.pm_life.specs.declared.life.GateNo.TheVariants as gate
-use Rattle.pm_wire.specs.declared.back.Shape.TheVariants as shapes
-use Rattle.pm_wire.specs.declared.back.Tag.TheVariants as tags
-use Rattle.pm_wire.specs.declared.state.SqlState.{SqlState}
-use Rattle.pm_wire.specs.declared.condition.StatementFault.TheVariants as faults
-use Rattle.pm_wire.specs.declared.state.SqlState.TheVariants as states
-use Rattle.pm_wire.specs.declared.condition.Fixed.{Fixed}
-use Rattle.pm_wire.specs.declared.condition.Fixed.TheVariants as fixes
-use Rattle.pm_wire.specs.declared.condition.Condition.TheVariants as conditions
-use Rattle.pm_wire.specs.Conditions.{error, fixed_message, state_of, told}
-use Rattle.pm_wire.specs.Backend.{BackMessage, Auth, Param, Key, Ready, Fields, Pair, One, Complete, Empty, spelling}
-use Rattle.pm_exchange.specs.declared.ending.MessageFault.{MessageFault}
-use Rattle.pm_exchange.specs.declared.ending.MessageFault.TheVariants as messages
-use Rattle.pm_exchange.specs.declared.ending.Cause.{Cause}
-use Rattle.pm_exchange.specs.declared.ending.Cause.TheVariants as causes
-use Rattle.pm_exchange.specs.declared.ending.Stage.{Stage}
-use Rattle.pm_exchange.specs.declared.ending.Stage.TheVariants.{Outside}
+use Rattle.pm_child_life.specs.declared.life.GateNo.TheVariants as gate
+use Rattle.pm_startup.specs.pm_wire.declared.back.Shape.TheVariants as shapes
+use Rattle.pm_startup.specs.pm_wire.declared.back.Tag.TheVariants as tags
+use Rattle.pm_startup.specs.pm_wire.declared.condition.StatementFault.TheVariants as faults
+use Rattle.pm_startup.specs.pm_wire.declared.state.SqlState.TheVariants as states
+use Rattle.pm_startup.specs.pm_wire.declared.condition.Fixed.TheVariants as fixes
+use Rattle.pm_startup.specs.pm_wire.declared.condition.Condition.TheVariants as conditions
+use Rattle.pm_session_exchange.specs.declared.ending.{MessageFault.MessageFault, Cause.Cause, Stage.{Stage, TheVariants.Outside}}
+use Rattle.pm_session_exchange.specs.declared.ending.MessageFault.TheVariants as messages
+use Rattle.pm_session_exchange.specs.declared.ending.Cause.TheVariants as causes
 
 unfoldable pub bytes_of : List BackMessage → List ℕ
 bytes_of messages = flat_map spelling messages

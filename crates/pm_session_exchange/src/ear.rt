@@ -1,14 +1,11 @@
 //! What a child hears of its own life. It takes its signals before each read and each write, and wherever a query may be
 //! stopped.
 ghost use Rattle.std.specs.Prelude.{◌≡◌, ℕ, None, Some, IfErr, IsTrue, false, option_map};
-ghost use Rattle.pm_life.specs.Life.{HasNoCancel, IsUntried, asked_cancel, let_go};
-ghost use Rattle.pm_life.specs.Attention.{attention, nothing_stands, Hears, IsAttentive};
-ghost use Rattle.pm_exchange.specs.Attention.{ends_by, ends_of, EndsIn};
-ghost use Rattle.pm_exchange.specs.Line.{MeetsGate, without_cancel};
-ghost use Rattle.pm_exchange.specs.Moments.{IsHeeded, IsWaitEnd, GoesOrStops, IsUntold};
+ghost use Rattle.pm_child_life.specs.{Life.{HasNoCancel, IsUntried, asked_cancel, let_go}, Attention.{attention, nothing_stands, Hears, IsAttentive}};
+ghost use Rattle.pm_session_exchange.specs.{Attention.{ends_by, ends_of, EndsIn}, Line.{MeetsGate, without_cancel}, Moments.{IsHeeded, IsWaitEnd, GoesOrStops, IsUntold}};
 
 use crate::ending::Cause;
-use pm_life::{GateNo, Life, Standing, listen};
+use pm_child_life::{GateNo, Life, Standing, listen};
 use std::marker::Model;
 
 /// A child's life, and the signals that it has taken and not heeded yet.
@@ -18,7 +15,7 @@ pub struct Ear<F: Life> {
 }
 
 impl<F: Life> Model for Ear<F> {
-    ghost use Rattle.pm_life.specs.Attention.{Attention, attention, IsAttentive};
+    ghost use Rattle.pm_child_life.specs.Attention.{Attention, attention, IsAttentive};
 
     ghost Value = { Attention };
 

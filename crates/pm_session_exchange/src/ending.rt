@@ -1,9 +1,9 @@
 //! By what a session ends, how far it had come, and how its child exits.
 ghost use Rattle.std.specs.Prelude.{◌≡◌, true, false};
-ghost use Rattle.pm_exchange.specs.Ends.{status_by, LetsGo};
+ghost use Rattle.pm_session_exchange.specs.Ends.{status_by, LetsGo};
 
+use pm_child_life::GateNo;
 use pm_exit::Status;
-use pm_life::GateNo;
 use pm_startup::StartFault;
 use pm_supervisor::Reason;
 

@@ -1,7 +1,6 @@
 //! The bytes that came in and weren't looked at yet, in room that was taken ahead.
 ghost use Rattle.std.specs.Prelude.{◌≡◌, ◌+◌, ◌<◌, ◌≤◌, [], IfOk, drop, take, length};
-ghost use Rattle.pm_exchange.specs.Exchange.{seen, HoldsReading, Reads};
-ghost use Rattle.pm_exchange.specs.Room.{buffer_bytes};
+ghost use Rattle.pm_session_exchange.specs.{Exchange.{seen, HoldsReading, Reads}, Room.buffer_bytes};
 
 use pm_outside::{Got, Link};
 use std::alloc::{AllocError, Global};
@@ -21,7 +20,7 @@ pub struct Inbox {
 
 impl Model for Inbox {
     ghost use Rattle.std.specs.Prelude.{◌≡◌, ◌≤◌, ℕ, List, drop, take, length};
-    ghost use Rattle.pm_exchange.specs.Room.{buffer_bytes};
+    ghost use Rattle.pm_session_exchange.specs.Room.{buffer_bytes};
 
     ghost Value = { List ℕ };
 

@@ -1,15 +1,12 @@
 //! What a child does last on its line, and as what it exits.
 ghost use Rattle.std.specs.Prelude.{◌≡◌, [], cond};
-ghost use Rattle.pm_life.specs.Attention.{Hears, IsAttentive};
-ghost use Rattle.pm_exchange.specs.Exchange.{seen};
-ghost use Rattle.pm_exchange.specs.Ends.{status_by};
-ghost use Rattle.pm_exchange.specs.Moments.{outside};
-ghost use Rattle.pm_exchange.specs.Last.{SaysLast, IsLastCause};
+ghost use Rattle.pm_child_life.specs.Attention.{Hears, IsAttentive};
+ghost use Rattle.pm_session_exchange.specs.{Exchange.seen, Ends.status_by, Moments.outside, Last.{SaysLast, IsLastCause}};
 
 use crate::ending::Cause;
 use crate::line::Line;
+use pm_child_life::Life;
 use pm_exit::Status;
-use pm_life::Life;
 use pm_outside::Link;
 
 /// How a connection's child exits, and its link and its life, given back.

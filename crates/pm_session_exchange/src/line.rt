@@ -1,18 +1,13 @@
 //! Reading from the client and sending to it. Before each read and each write the child takes its signals.
 ghost use Rattle.std.specs.Prelude.{◌≡◌, ◌<◌, ◌≤◌, ℕ, Bool, false, None, Some, IsTrue, length, option_map};
-ghost use Rattle.pm_life.specs.Life.{HasNoCancel, IsUntried, asked_cancel, let_go};
-ghost use Rattle.pm_life.specs.Attention.{Hears, IsAttentive};
-ghost use Rattle.pm_exchange.specs.Attention.{EndsIn};
-ghost use Rattle.pm_exchange.specs.Exchange.{link_view, Holds, Sends, seen, ReceivesOrNot};
-ghost use Rattle.pm_exchange.specs.Moments.{GoesOrBreaks, GoesOrShows, GoesOrStops, Comes};
-ghost use Rattle.pm_exchange.specs.Line.{MeetsGate};
-ghost use Rattle.pm_exchange.specs.Room.{buffer_bytes};
+ghost use Rattle.pm_child_life.specs.{Life.{HasNoCancel, IsUntried, asked_cancel, let_go}, Attention.{Hears, IsAttentive}};
+ghost use Rattle.pm_session_exchange.specs.{Attention.EndsIn, Exchange.{link_view, Holds, Sends, seen, ReceivesOrNot}, Moments.{GoesOrBreaks, GoesOrShows, GoesOrStops, Comes}, Line.MeetsGate, Room.buffer_bytes};
 
 use crate::ear::Ear;
 use crate::ending::Cause;
 use crate::inbox::Inbox;
 use crate::means::Means;
-use pm_life::{GateNo, Life};
+use pm_child_life::{GateNo, Life};
 use pm_outside::{Clock, Got, Link, Put};
 use std::marker::Model;
 use std::sync::Wait;
@@ -24,8 +19,7 @@ pub struct Line<L: Link, F: Life> {
 }
 
 impl<L: Link, F: Life> Model for Line<L, F> {
-    ghost use Rattle.pm_exchange.specs.Exchange.{link_view};
-    ghost use Rattle.pm_exchange.specs.Line.{LineView};
+    ghost use Rattle.pm_session_exchange.specs.{Exchange.link_view, Line.LineView};
 
     ghost Value = { LineView };
 

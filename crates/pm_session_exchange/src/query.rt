@@ -1,19 +1,15 @@
 //! How a query is answered: its text, its sleeps, its run and its release, in this order.
 ghost use Rattle.std.specs.Prelude.{◌≡◌, ℕ, [], Option, IfOk, false};
 ghost use Rattle.pm_sql.specs.Faults.{IsFaultOf};
-ghost use Rattle.pm_life.specs.Attention.{Hears};
-ghost use Rattle.pm_life.specs.Life.{Told};
-ghost use Rattle.pm_exchange.specs.Queries.{HasSleptFor, Sleeps, TurnNotes};
-ghost use Rattle.pm_exchange.specs.Answers.{AnswerNotes, ScriptNotes, CanRefuseRun, refusal_of, turn_of, IsFit, FitsScript, SleepGoes, Notes, KeepsUser, AnswerFits, AnswerSleeps};
-ghost use Rattle.pm_exchange.specs.Moments.{AnswersOrHeeds};
-ghost use Rattle.pm_exchange.specs.Room.{IsQueryString};
+ghost use Rattle.pm_child_life.specs.{Attention.Hears, Life.Told};
+ghost use Rattle.pm_session_exchange.specs.{Queries.{HasSleptFor, Sleeps, TurnNotes}, Answers.{AnswerNotes, ScriptNotes, CanRefuseRun, refusal_of, turn_of, IsFit, FitsScript, SleepGoes, Notes, KeepsUser, AnswerFits, AnswerSleeps}, Moments.AnswersOrHeeds, Room.IsQueryString};
 
 use crate::ear::Ear;
 use crate::ending::Cause;
 use crate::line::Line;
 use crate::means::Means;
 use crate::release::Answer;
-use pm_life::Life;
+use pm_child_life::Life;
 use pm_outside::{Clock, Link};
 use pm_query::{Store, StoreNo};
 use pm_sql::{Script, SqlFault, fault_text, parse};

@@ -1,14 +1,13 @@
 //! What answers a query, and when a reply may be sent.
 ghost use Rattle.std.specs.Prelude.{◌≡◌, List};
 ghost use Rattle.pm_query.specs.Calls.{HasReached};
-ghost use Rattle.pm_life.specs.Attention.{Hears};
-ghost use Rattle.pm_exchange.specs.Answers.{no_release, CanEndWait, WaitNotes, ReleaseNotes, Notes, KeepsUser};
-ghost use Rattle.pm_exchange.specs.Moments.{AnswersOrHeeds};
+ghost use Rattle.pm_child_life.specs.Attention.{Hears};
+ghost use Rattle.pm_session_exchange.specs.{Answers.{no_release, CanEndWait, WaitNotes, ReleaseNotes, Notes, KeepsUser}, Moments.AnswersOrHeeds};
 
 use crate::ear::Ear;
 use crate::ending::Cause;
 use crate::means::Means;
-use pm_life::Life;
+use pm_child_life::Life;
 use pm_outside::Clock;
 use pm_query::{Reply, Seen, Staged, Store, StoreNo};
 use pm_rows::Text;

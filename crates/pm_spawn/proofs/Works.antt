@@ -1,6 +1,5 @@
 -- Lists of works, one longer.
-use Rattle.std.proofs.Common.{◌≡◌, ◌++◌, List, [], ◌∷◌, map, length, ap, subst, refl, ◌∙◌, arith}
-use Rattle.std.proofs.lemmas.List.{append-nil}
+use Rattle.std.proofs.{Common.{◌≡◌, ◌++◌, List, [], ◌∷◌, map, length, ap, subst, refl, ◌∙◌, arith}, lemmas.List.append-nil}
 use Rattle.pm_spawn.specs.Works.{EachGives}
 
 -- with one work more of those that were left

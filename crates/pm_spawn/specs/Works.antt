@@ -1,8 +1,6 @@
 -- Works and what they give, and spawners and what they refused.
 use Rattle.std.specs.Prelude.{ℕ, List, [], ◌∷◌}
-use Rattle.pm_spawn.specs.declared.running.Running.{Running}
-use Rattle.pm_spawn.specs.declared.threads.FewThreads.{FewThreads}
-use Rattle.pm_spawn.specs.declared.threads.Threads.{Threads}
+use Rattle.pm_spawn.specs.declared.{running.Running.Running, threads.{FewThreads.FewThreads, Threads.Threads}}
 
 -- the work that a thread does
 abbrev pub work_of : {R W X O : Type 0} → Running R W X O → W

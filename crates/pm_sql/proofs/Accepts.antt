@@ -1,11 +1,6 @@
 -- What lists of tokens lead to.
 use Rattle.std.proofs.Common.{◌≡◌, ◌≤◌, ◌⊎◌, inl, inr, Bool, true, false, List, [], ◌∷◌, ◌++◌, Option, Some, None, refl, sym, ap, ◌∙◌, subst, arith}
-use Rattle.pm_sql.specs.declared.stmt.Stmt.{Stmt}
-use Rattle.pm_sql.specs.declared.fault.Kind.{Kind}
-use Rattle.pm_sql.specs.declared.fault.Kind.TheVariants.{Syntax, Table, Range, TooLong, TooMany}
-use Rattle.pm_sql.specs.Token.{Token}
-use Rattle.pm_sql.specs.Statements.{rank}
-use Rattle.pm_sql.proofs.Forms.{Check, refuse, fine, over, Form, nothing, state, one, is_mark, Mode, inside, Move, stop, go, answer_of, moved, move, Passes, end_of}
+use Rattle.pm_sql.{specs.{declared.{stmt.Stmt.Stmt, fault.Kind.{Kind, TheVariants.{Syntax, Table, Range, TooLong, TooMany}}}, Token.Token, Statements.rank}, proofs.Forms.{Check, refuse, fine, over, Form, nothing, state, one, is_mark, Mode, inside, Move, stop, go, answer_of, moved, move, Passes, end_of}}
 
 -- ---- where tokens lead, all of them within the limits
 

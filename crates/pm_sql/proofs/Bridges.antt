@@ -1,20 +1,7 @@
 -- The productions that read a text from the left are the forms.
 use Rattle.std.proofs.Common.{◌≡◌, ℕ, ℤ, Bool, true, false, cond, ◌==◌, nat_lt, nat_le, List, [], ◌∷◌, length, take, drop, Option, Some, None, Result, Ok, Err, codes, refl, sym, ap, ◌∙◌, arith}
 use Rattle.pm_rows.specs.Limits.{max_value_bytes, max_changes}
-use Rattle.pm_sql.specs.declared.stmt.Stmt.{Stmt}
-use Rattle.pm_sql.specs.declared.stmt.Stmt.TheVariants.{Insert, Update, Delete, Select, Count, Sleep}
-use Rattle.pm_sql.specs.declared.fault.Kind.{Kind}
-use Rattle.pm_sql.specs.declared.fault.Kind.TheVariants.{Syntax, Table, Range, TooLong, TooMany}
-use Rattle.pm_sql.specs.declared.fault.Fault.{Fault}
-use Rattle.pm_sql.specs.Limits.{max_sleep_seconds}
-use Rattle.pm_sql.specs.Tokens.{skipped, starts_with_letter, word_len, digits_len, digits_value, is_same_word, behind_word, behind_mark, string_in}
-use Rattle.pm_sql.specs.Reading.{◌>>=◌, fault_at, found_or_fault, word_at, mark_at}
-use Rattle.pm_sql.specs.Grammar.{name_at, digits_at, behind_digits, sign_of, fits_bigint, signed, int_at, seconds_at, string_at, key_condition_at, columns_in, insert_at, update_at, delete_at, from_at, condition_in, order_in, rows_at, pairs_at, count_at, sleep_at, or_else, select_at}
-use Rattle.pm_sql.specs.Query.{if_room, stmt_at}
-use Rattle.pm_sql.specs.Token.{Token, Word, Digits, Quoted, Mark, in_lower_case, is_joined}
-use Rattle.pm_sql.proofs.Fronts.{skipped_twice}
-use Rattle.pm_sql.proofs.Lexer.{next_token, NotEmpty, says_word, word_seen, IsMark, says_mark, mark_seen, says_any_word, says_digits, says_string, cut, any_word_seen, digits_seen, string_behind, string_seen}
-use Rattle.pm_sql.proofs.Forms.{Check, refuse, fine, over, Form, nothing, state, one, is_word, is_mark, is_any_word, are_digits, is_string, content_of, within, beyond, word_form, mark_form, name_form, digits_form, string_form, int_form, seconds_form, key_form, ends, value_form, values_form, columns_form, insert_form, where_form, update_form, delete_form, order_form, condition_form, rows_form, pairs_form, count_form, sleep_form, select_form, first_form, stmt_form, Found, unless_joined, take_token, run}
+use Rattle.pm_sql.{specs.{declared.{stmt.Stmt.{Stmt, TheVariants.{Insert, Update, Delete, Select, Count, Sleep}}, fault.{Kind.{Kind, TheVariants.{Syntax, Table, Range, TooLong, TooMany}}, Fault.Fault}}, Limits.max_sleep_seconds, Tokens.{skipped, starts_with_letter, word_len, digits_len, digits_value, is_same_word, behind_word, behind_mark, string_in}, Reading.{◌>>=◌, fault_at, found_or_fault, word_at, mark_at}, Grammar.{name_at, digits_at, behind_digits, sign_of, fits_bigint, signed, int_at, seconds_at, string_at, key_condition_at, columns_in, insert_at, update_at, delete_at, from_at, condition_in, order_in, rows_at, pairs_at, count_at, sleep_at, or_else, select_at}, Query.{if_room, stmt_at}, Token.{Token, Word, Digits, Quoted, Mark, in_lower_case, is_joined}}, proofs.{Fronts.skipped_twice, Lexer.{next_token, NotEmpty, says_word, word_seen, IsMark, says_mark, mark_seen, says_any_word, says_digits, says_string, cut, any_word_seen, digits_seen, string_behind, string_seen}, Forms.{Check, refuse, fine, over, Form, nothing, state, one, is_word, is_mark, is_any_word, are_digits, is_string, content_of, within, beyond, word_form, mark_form, name_form, digits_form, string_form, int_form, seconds_form, key_form, ends, value_form, values_form, columns_form, insert_form, where_form, update_form, delete_form, order_form, condition_form, rows_form, pairs_form, count_form, sleep_form, select_form, first_form, stmt_form, Found, unless_joined, take_token, run}}}
 
 -- ---- one form before others
 

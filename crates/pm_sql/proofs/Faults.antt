@@ -1,25 +1,6 @@
 -- A text that leads no further has the fault that is told, and no other.
-use Rattle.std.proofs.Common.{◌≡◌, ◌≢◌, ℕ, zero, suc, ◌+◌, ◌-◌, ◌<◌, ◌≤◌, ◌⊎◌, inl, inr, Bool, true, false, cond, List, [], ◌∷◌, ◌++◌, map, length, Option, Some, None, Ok, Err, refl, sym, ap, ◌∙◌, subst, true≢false, append_assoc, drop, count_by, arith}
-use Rattle.std.proofs.lemmas.List.{append-nil, length-drop}
-use Rattle.std.specs.List.{prefix_len}
-use Rattle.std.specs.Char.{is_ascii_whitespace}
-use Rattle.pm_sql.specs.declared.stmt.Stmt.{Stmt}
-use Rattle.pm_sql.specs.declared.fault.Kind.{Kind}
-use Rattle.pm_sql.specs.declared.fault.Kind.TheVariants.{Syntax, Table, Range, TooLong, TooMany}
-use Rattle.pm_sql.specs.declared.fault.Fault.{Fault}
-use Rattle.pm_sql.specs.Limits.{is_writing}
-use Rattle.pm_sql.specs.Tokens.{skipped}
-use Rattle.pm_sql.specs.Query.{script_of, fault_in, told}
-use Rattle.pm_sql.specs.Token.{Token, Word, Digits, Quoted, Mark, in_lower_case, IsFront, is_joined, IsApart, IsUpTo}
-use Rattle.pm_sql.specs.Statements.{rank, IsQuery, IsQueryText}
-use Rattle.pm_sql.specs.Faults.{CanGoOn, SomeFollows, NoneFollows, IsRefusedHere, IsFaultAt, IsFaultOf}
-use Rattle.pm_sql.proofs.Fronts.{letter_isnt_white}
-use Rattle.pm_sql.proofs.Lexer.{next_token, no_token, front_next}
-use Rattle.pm_sql.proofs.Forms.{Check, refuse, fine, over, Form, nothing, state, is_mark, stmt_form, Mode, start, inside, Move, stop, go, end_move, moved, form_move, move, ended_with, end_of}
-use Rattle.pm_sql.proofs.Accepts.{Place, led_by, leads, AcceptsMove, Accepts, accepts_behind, syntax_least, accepts_fewer, accepts_one}
-use Rattle.pm_sql.proofs.Lively.{EndsIn, CanEnd, IsLimit, IfTaken, Lively, lively_stmt}
-use Rattle.pm_sql.proofs.Queries.{query_in, query_out}
-use Rattle.pm_sql.proofs.Outcomes.{Taken, lower, Why, IsStuck, IsWhole, Outcome, front_shorter, script_outcome}
+use Rattle.std.{proofs.{Common.{◌≡◌, ◌≢◌, ℕ, zero, suc, ◌+◌, ◌-◌, ◌<◌, ◌≤◌, ◌⊎◌, inl, inr, Bool, true, false, cond, List, [], ◌∷◌, ◌++◌, map, length, Option, Some, None, Ok, Err, refl, sym, ap, ◌∙◌, subst, true≢false, append_assoc, drop, count_by, arith}, lemmas.List.{append-nil, length-drop}}, specs.{List.prefix_len, Char.is_ascii_whitespace}}
+use Rattle.pm_sql.{specs.{declared.{stmt.Stmt.Stmt, fault.{Kind.{Kind, TheVariants.{Syntax, Table, Range, TooLong, TooMany}}, Fault.Fault}}, Limits.is_writing, Tokens.skipped, Query.{script_of, fault_in, told}, Token.{Token, Word, Digits, Quoted, Mark, in_lower_case, IsFront, is_joined, IsApart, IsUpTo}, Statements.{rank, IsQuery, IsQueryText}, Faults.{CanGoOn, SomeFollows, NoneFollows, IsRefusedHere, IsFaultAt, IsFaultOf}}, proofs.{Fronts.letter_isnt_white, Lexer.{next_token, no_token, front_next}, Forms.{Check, refuse, fine, over, Form, nothing, state, is_mark, stmt_form, Mode, start, inside, Move, stop, go, end_move, moved, form_move, move, ended_with, end_of}, Accepts.{Place, led_by, leads, AcceptsMove, Accepts, accepts_behind, syntax_least, accepts_fewer, accepts_one}, Lively.{EndsIn, CanEnd, IsLimit, IfTaken, Lively, lively_stmt}, Queries.{query_in, query_out}, Outcomes.{Taken, lower, Why, IsStuck, IsWhole, Outcome, front_shorter, script_outcome}}}
 
 -- ---- the tokens of a text are determined
 

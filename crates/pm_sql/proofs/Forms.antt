@@ -1,19 +1,7 @@
 -- Statements as machines that take one token after another, words in lower case.
-use Rattle.std.proofs.Common.{ℕ, ℤ, Bool, true, false, cond, ◌==◌, nat_lt, nat_le, ◌≤◌, List, [], ◌∷◌, ◌++◌, map, length, Option, Some, None, Result, Ok, Err, bytes_eq, codes, count_by}
-use Rattle.std.specs.Char.{to_ascii_lowercase}
+use Rattle.std.{proofs.Common.{ℕ, ℤ, Bool, true, false, cond, ◌==◌, nat_lt, nat_le, ◌≤◌, List, [], ◌∷◌, ◌++◌, map, length, Option, Some, None, Result, Ok, Err, bytes_eq, codes, count_by}, specs.Char.to_ascii_lowercase}
 use Rattle.pm_rows.specs.Limits.{max_value_bytes, max_changes}
-use Rattle.pm_sql.specs.declared.stmt.Stmt.{Stmt}
-use Rattle.pm_sql.specs.declared.stmt.Stmt.TheVariants.{Insert, Update, Delete, Select, Count, Sleep}
-use Rattle.pm_sql.specs.declared.fault.Kind.{Kind}
-use Rattle.pm_sql.specs.declared.fault.Kind.TheVariants.{Syntax, Table, Range, TooLong, TooMany}
-use Rattle.pm_sql.specs.declared.fault.Fault.{Fault}
-use Rattle.pm_sql.specs.Limits.{max_sleep_seconds, is_writing}
-use Rattle.pm_sql.specs.Tokens.{skipped, digits_value}
-use Rattle.pm_sql.specs.Reading.{fault_at}
-use Rattle.pm_sql.specs.Grammar.{fits_bigint, signed}
-use Rattle.pm_sql.specs.Token.{Token, Word, Digits, Quoted, Mark, in_lower_case, is_joined}
-use Rattle.pm_sql.specs.Statements.{rank}
-use Rattle.pm_sql.proofs.Lexer.{next_token}
+use Rattle.pm_sql.{specs.{declared.{stmt.Stmt.{Stmt, TheVariants.{Insert, Update, Delete, Select, Count, Sleep}}, fault.{Kind.{Kind, TheVariants.{Syntax, Table, Range, TooLong, TooMany}}, Fault.Fault}}, Limits.{max_sleep_seconds, is_writing}, Tokens.{skipped, digits_value}, Reading.fault_at, Grammar.{fits_bigint, signed}, Token.{Token, Word, Digits, Quoted, Mark, in_lower_case, is_joined}, Statements.rank}, proofs.Lexer.next_token}
 
 -- what becomes of a token: it has no place here, it has, or it passes a limit
 pub data Check : Type 0 where

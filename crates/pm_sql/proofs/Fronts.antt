@@ -1,13 +1,6 @@
 -- White space before a token, and where a token ends.
-use Rattle.std.proofs.Common.{◌≡◌, ℕ, ◌+◌, Bool, true, false, cond, IsTrue, IsFalse, List, [], ◌∷◌, ◌++◌, length, take, drop, refl, sym, ap, ◌∙◌, true≢false, take-append-drop, arith}
-use Rattle.std.specs.List.{list_all, prefix_len}
-use Rattle.std.specs.Char.{is_ascii_whitespace, is_ascii_digit}
-use Rattle.std.proofs.lemmas.Bool.{and_parts}
-use Rattle.std.proofs.lemmas.Bool.Decides.{nat_tests}
-use Rattle.std.proofs.Math.Seq.{drop-append_seam}
-use Rattle.pm_sql.proofs.Texts.{one-more}
-use Rattle.pm_sql.specs.Tokens.{skipped, is_letter}
-use Rattle.pm_sql.specs.Token.{Token, Word, Digits, Quoted, Mark, spelling, IsToken, begins_with, is_continued, IsWhite, IsFront}
+use Rattle.std.{proofs.{Common.{◌≡◌, ℕ, ◌+◌, Bool, true, false, cond, IsTrue, IsFalse, List, [], ◌∷◌, ◌++◌, length, take, drop, refl, sym, ap, ◌∙◌, true≢false, take-append-drop, arith}, lemmas.Bool.{and_parts, Decides.nat_tests}, Math.Seq.drop-append_seam}, specs.{List.{list_all, prefix_len}, Char.{is_ascii_whitespace, is_ascii_digit}}}
+use Rattle.pm_sql.{proofs.Texts.one-more, specs.{Tokens.{skipped, is_letter}, Token.{Token, Word, Digits, Quoted, Mark, spelling, IsToken, begins_with, is_continued, IsWhite, IsFront}}}
 
 -- ---- where the elements of a list stop to pass
 

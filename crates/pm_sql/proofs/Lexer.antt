@@ -1,15 +1,6 @@
 -- The token at the front of a text, as a function that agrees with the relation.
-use Rattle.std.proofs.Common.{◌≡◌, ℕ, ◌+◌, ◌<◌, Bool, true, false, cond, ◌==◌, nat_lt, IsFalse, List, [], ◌∷◌, ◌++◌, map, length, take, drop, Option, Some, None, IfSome, bytes_eq, refl, sym, ap, ◌∙◌, subst, true≢false, take-append-drop, ltb-true, lt-ltb, arith}
-use Rattle.std.specs.List.{list_all, prefix_len}
-use Rattle.std.specs.Char.{is_ascii_whitespace, is_ascii_digit, to_ascii_lowercase}
-use Rattle.std.proofs.lemmas.Bool.{and_parts}
-use Rattle.std.proofs.lemmas.Bool.Decides.{nat_tests}
-use Rattle.std.proofs.lemmas.List.Folds.{length-prefix_len}
-use Rattle.std.proofs.Math.Seq.{take-append_seam, drop-append_seam}
-use Rattle.pm_sql.specs.Tokens.{skipped, is_letter, is_word_byte, starts_with_letter, word_len, digits_len, is_same_word, behind_word, behind_mark, with_byte, string_in}
-use Rattle.pm_sql.specs.Token.{Token, Word, Digits, Quoted, Mark, doubled, spelling, IsToken, begins_with, is_continued, IsFront}
-use Rattle.pm_sql.proofs.Texts.{one-more}
-use Rattle.pm_sql.proofs.Fronts.{passes_up_to, front_passes, rest_stops, front_skipped, front_from}
+use Rattle.std.{proofs.{Common.{◌≡◌, ℕ, ◌+◌, ◌<◌, Bool, true, false, cond, ◌==◌, nat_lt, IsFalse, List, [], ◌∷◌, ◌++◌, map, length, take, drop, Option, Some, None, IfSome, bytes_eq, refl, sym, ap, ◌∙◌, subst, true≢false, take-append-drop, ltb-true, lt-ltb, arith}, lemmas.{Bool.{and_parts, Decides.nat_tests}, List.Folds.length-prefix_len}, Math.Seq.{take-append_seam, drop-append_seam}}, specs.{List.{list_all, prefix_len}, Char.{is_ascii_whitespace, is_ascii_digit, to_ascii_lowercase}}}
+use Rattle.pm_sql.{specs.{Tokens.{skipped, is_letter, is_word_byte, starts_with_letter, word_len, digits_len, is_same_word, behind_word, behind_mark, with_byte, string_in}, Token.{Token, Word, Digits, Quoted, Mark, doubled, spelling, IsToken, begins_with, is_continued, IsFront}}, proofs.{Texts.one-more, Fronts.{passes_up_to, front_passes, rest_stops, front_skipped, front_from}}}
 
 -- ---- the function
 

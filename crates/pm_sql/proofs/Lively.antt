@@ -1,15 +1,7 @@
 -- From each place that a form leads to, a statement can be brought to its end.
 use Rattle.std.proofs.Common.{◌≡◌, ℕ, ℤ, Bool, true, false, cond, ◌==◌, nat_lt, nat_le, List, [], ◌∷◌, length, Option, Some, None, codes, refl, ap}
 use Rattle.pm_rows.specs.Limits.{max_value_bytes, max_changes}
-use Rattle.pm_sql.specs.declared.stmt.Stmt.{Stmt}
-use Rattle.pm_sql.specs.declared.stmt.Stmt.TheVariants.{Insert, Update, Delete, Select, Count, Sleep}
-use Rattle.pm_sql.specs.declared.fault.Kind.{Kind}
-use Rattle.pm_sql.specs.declared.fault.Kind.TheVariants.{Syntax, Table, Range, TooLong, TooMany}
-use Rattle.pm_sql.specs.Limits.{max_sleep_seconds}
-use Rattle.pm_sql.specs.Tokens.{digits_value}
-use Rattle.pm_sql.specs.Grammar.{fits_bigint, signed}
-use Rattle.pm_sql.specs.Token.{Token, Word, Digits, Quoted, Mark}
-use Rattle.pm_sql.proofs.Forms.{Check, refuse, fine, over, Form, nothing, state, one, is_word, is_mark, is_any_word, are_digits, is_string, content_of, within, beyond, word_form, mark_form, name_form, digits_form, string_form, int_form, key_form, ends, value_form, values_form, columns_form, insert_form, where_form, update_form, delete_form, order_form, condition_form, rows_form, pairs_form, count_form, sleep_form, select_form, first_form, stmt_form}
+use Rattle.pm_sql.{specs.{declared.{stmt.Stmt.{Stmt, TheVariants.{Insert, Update, Delete, Select, Count, Sleep}}, fault.Kind.{Kind, TheVariants.{Syntax, Table, Range, TooLong, TooMany}}}, Limits.max_sleep_seconds, Tokens.digits_value, Grammar.{fits_bigint, signed}, Token.{Token, Word, Digits, Quoted, Mark}}, proofs.Forms.{Check, refuse, fine, over, Form, nothing, state, one, is_word, is_mark, is_any_word, are_digits, is_string, content_of, within, beyond, word_form, mark_form, name_form, digits_form, string_form, int_form, key_form, ends, value_form, values_form, columns_form, insert_form, where_form, update_form, delete_form, order_form, condition_form, rows_form, pairs_form, count_form, sleep_form, select_form, first_form, stmt_form}}
 
 -- these tokens end a statement
 abbrev pub EndsIn : Form → List Token → Stmt → Type 0

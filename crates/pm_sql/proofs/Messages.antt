@@ -1,14 +1,7 @@
 -- The text of a fault is short, and holds a zero byte only where the text that it is told of does.
-use Rattle.std.proofs.Common.{◌≡◌, ℕ, zero, suc, ◌+◌, ◌-◌, ◌≤◌, Bool, true, false, cond, ◌==◌, ◌||◌, List, [], ◌∷◌, ◌++◌, map, length, take, drop, Option, Some, None, Result, Ok, Err, IfOk, codes, refl, sym, ap, ◌∙◌, subst, length-append, arith}
-use Rattle.std.specs.List.{list_any}
-use Rattle.std.specs.Char.{to_ascii_lowercase}
-use Rattle.std.specs.Str.{str_to_ascii_lowercase}
-use Rattle.std.proofs.lemmas.Bool.Decides.{nat_tests}
-use Rattle.pm_facts.specs.Zeros.{HasNoZero, no_zero-append}
-use Rattle.pm_sql.specs.declared.query.SqlFault.{SqlFault}
-use Rattle.pm_sql.specs.declared.query.SqlFault.TheVariants.{Syntax, Table, Range, TooLong, TooMany, NoMemory}
-use Rattle.pm_sql.specs.Tokens.{starts_with_letter, word_len, digits_len, behind_mark, string_in, string_end}
-use Rattle.pm_sql.specs.Message.{is_boundary, from_place, up_to_place, char_len, string_token, other_token, token_of, syntax_message, message_of}
+use Rattle.std.{proofs.{Common.{◌≡◌, ℕ, zero, suc, ◌+◌, ◌-◌, ◌≤◌, Bool, true, false, cond, ◌==◌, ◌||◌, List, [], ◌∷◌, ◌++◌, map, length, take, drop, Option, Some, None, Result, Ok, Err, IfOk, codes, refl, sym, ap, ◌∙◌, subst, length-append, arith}, lemmas.Bool.Decides.nat_tests}, specs.{List.list_any, Char.to_ascii_lowercase, Str.str_to_ascii_lowercase}}
+use Rattle.pm_rows.specs.pm_facts.Zeros.{HasNoZero, no_zero-append}
+use Rattle.pm_sql.specs.{declared.query.SqlFault.{SqlFault, TheVariants.{Syntax, Table, Range, TooLong, TooMany, NoMemory}}, Tokens.{starts_with_letter, word_len, digits_len, behind_mark, string_in, string_end}, Message.{is_boundary, from_place, up_to_place, char_len, string_token, other_token, token_of, syntax_message, message_of}}
 
 -- ---- pieces of a text
 

@@ -1,12 +1,6 @@
 -- Numbers out of range.
-use Rattle.std.proofs.Common.{◌≡◌, ℕ, ◌-◌, ◌^◌, ◌≤◌, Bool, true, false, List, take, min, Ok, Err, refl, arith, nat_le}
-use Rattle.std.specs.Bool.{IsTrue}
-use Rattle.std.proofs.lemmas.Bool.Decides.{nat_tests}
-use Rattle.pm_sql.specs.declared.fault.Kind.TheVariants.{Range}
-use Rattle.pm_sql.specs.Limits.{max_sleep_seconds}
-use Rattle.pm_sql.specs.Tokens.{skipped, digits_len, digits_value}
-use Rattle.pm_sql.specs.Reading.{fault_at}
-use Rattle.pm_sql.specs.Grammar.{digits_at, behind_digits, sign_of, fits_bigint, int_at, seconds_at}
+use Rattle.std.{proofs.{Common.{◌≡◌, ℕ, ◌-◌, ◌^◌, ◌≤◌, Bool, true, false, List, take, min, Ok, Err, refl, arith, nat_le}, lemmas.Bool.Decides.nat_tests}, specs.Bool.IsTrue}
+use Rattle.pm_sql.specs.{declared.fault.Kind.TheVariants.Range, Limits.max_sleep_seconds, Tokens.{skipped, digits_len, digits_value}, Reading.fault_at, Grammar.{digits_at, behind_digits, sign_of, fits_bigint, int_at, seconds_at}}
 
 pub out_of_bigint : (is_negative : Bool) (number kept : ℕ) → kept ≡ min number (2 ^ 64 - 1) → (IsTrue (fits_bigint is_negative kept) → ⊥) → fits_bigint is_negative number ≡ false
 out_of_bigint true number kept e h = grind (arith, nat_tests, e, h)

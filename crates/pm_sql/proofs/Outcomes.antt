@@ -1,24 +1,6 @@
 -- How far the tokens of a text lead, and why they lead no further.
-use Rattle.std.proofs.Common.{◌≡◌, ℕ, zero, suc, ◌-◌, ◌<◌, ◌≤◌, ◌⊎◌, inl, inr, Bool, true, false, cond, ◌==◌, List, [], ◌∷◌, ◌++◌, map, length, Option, Some, None, Result, Ok, Err, count_by, refl, sym, ap, ◌∙◌, subst, true≢false, length-append, arith}
-use Rattle.std.specs.List.{prefix_len}
-use Rattle.std.specs.Char.{is_ascii_whitespace}
-use Rattle.std.proofs.lemmas.List.{length-drop}
-use Rattle.std.proofs.lemmas.Option.{same_Some}
-use Rattle.pm_sql.specs.declared.stmt.Stmt.{Stmt}
-use Rattle.pm_sql.specs.declared.fault.Kind.{Kind}
-use Rattle.pm_sql.specs.declared.fault.Kind.TheVariants.{Syntax}
-use Rattle.pm_sql.specs.declared.fault.Fault.{Fault}
-use Rattle.pm_sql.specs.Limits.{is_writing}
-use Rattle.pm_sql.specs.Tokens.{skipped, behind_mark}
-use Rattle.pm_sql.specs.Reading.{◌>>=◌, fault_at}
-use Rattle.pm_sql.specs.Grammar.{or_else}
-use Rattle.pm_sql.specs.Query.{stmt_at, may_end, end_at, is_at_end, script_within}
-use Rattle.pm_sql.specs.Token.{Token, Word, Digits, Quoted, Mark, in_lower_case, spelling, IsToken, IsFront, is_joined}
-use Rattle.pm_sql.proofs.Fronts.{front_skipped}
-use Rattle.pm_sql.proofs.Lexer.{next_token, front_next, next_front, next_mark, eq_of_test}
-use Rattle.pm_sql.proofs.Forms.{Check, refuse, fine, over, Form, nothing, state, is_mark, stmt_form, or_end, unless_joined, by_check, take_token, run, Mode, start, inside, stop, go, check_of, next_of, answer_of, moved, form_move, move, end_move, ended_with, end_of}
-use Rattle.pm_sql.proofs.Accepts.{leads}
-use Rattle.pm_sql.proofs.Bridges.{stmt_run}
+use Rattle.std.{proofs.{Common.{◌≡◌, ℕ, zero, suc, ◌-◌, ◌<◌, ◌≤◌, ◌⊎◌, inl, inr, Bool, true, false, cond, ◌==◌, List, [], ◌∷◌, ◌++◌, map, length, Option, Some, None, Result, Ok, Err, count_by, refl, sym, ap, ◌∙◌, subst, true≢false, length-append, arith}, lemmas.{List.length-drop, Option.same_Some}}, specs.{List.prefix_len, Char.is_ascii_whitespace}}
+use Rattle.pm_sql.{specs.{declared.{stmt.Stmt.Stmt, fault.{Kind.{Kind, TheVariants.Syntax}, Fault.Fault}}, Limits.is_writing, Tokens.{skipped, behind_mark}, Reading.{◌>>=◌, fault_at}, Grammar.or_else, Query.{stmt_at, may_end, end_at, is_at_end, script_within}, Token.{Token, Word, Digits, Quoted, Mark, in_lower_case, spelling, IsToken, IsFront, is_joined}}, proofs.{Fronts.front_skipped, Lexer.{next_token, front_next, next_front, next_mark, eq_of_test}, Forms.{Check, refuse, fine, over, Form, nothing, state, is_mark, stmt_form, or_end, unless_joined, by_check, take_token, run, Mode, start, inside, stop, go, check_of, next_of, answer_of, moved, form_move, move, end_move, ended_with, end_of}, Accepts.leads, Bridges.stmt_run}}
 
 -- ---- a text up to a token's end
 

@@ -1,19 +1,7 @@
 -- Tokens are accepted exactly where they are a query.
-use Rattle.std.proofs.Common.{◌≡◌, ℕ, zero, suc, ◌+◌, ◌<◌, ◌≤◌, Bool, true, false, cond, List, [], ◌∷◌, ◌++◌, length, count_by, refl, sym, ap, ◌∙◌, subst, append_assoc, length-append, arith}
-use Rattle.std.proofs.lemmas.List.{append-nil}
-use Rattle.std.proofs.lemmas.List.Sums.{sum_by-cons, sum_by-append, sum_by_push}
+use Rattle.std.proofs.{Common.{◌≡◌, ℕ, zero, suc, ◌+◌, ◌<◌, ◌≤◌, Bool, true, false, cond, List, [], ◌∷◌, ◌++◌, length, count_by, refl, sym, ap, ◌∙◌, subst, append_assoc, length-append, arith}, lemmas.List.{append-nil, Sums.{sum_by-cons, sum_by-append, sum_by_push}}}
 use Rattle.pm_rows.specs.Limits.{max_changes}
-use Rattle.pm_sql.specs.declared.stmt.Stmt.{Stmt}
-use Rattle.pm_sql.specs.declared.fault.Kind.{Kind}
-use Rattle.pm_sql.specs.declared.fault.Kind.TheVariants.{TooMany}
-use Rattle.pm_sql.specs.Limits.{is_writing}
-use Rattle.pm_sql.specs.Token.{Token, Word, Digits, Quoted, Mark}
-use Rattle.pm_sql.specs.Statements.{Keeps, mark, IsStatement, AreSemicolons, IsMore, AreStatements, IsQuery}
-use Rattle.pm_sql.specs.declared.stmt.Stmt.TheVariants.{Insert, Update, Delete, Select, Count, Sleep}
-use Rattle.pm_sql.proofs.Lexer.{eq_of_test}
-use Rattle.pm_sql.proofs.Forms.{is_mark, ends, start, inside}
-use Rattle.pm_sql.proofs.Accepts.{Accepts}
-use Rattle.pm_sql.proofs.Spoken.{stmt_in, StmtOut, stmt_out}
+use Rattle.pm_sql.{specs.{declared.{stmt.Stmt.{Stmt, TheVariants.{Insert, Update, Delete, Select, Count, Sleep}}, fault.Kind.{Kind, TheVariants.TooMany}}, Limits.is_writing, Token.{Token, Word, Digits, Quoted, Mark}, Statements.{Keeps, mark, IsStatement, AreSemicolons, IsMore, AreStatements, IsQuery}}, proofs.{Lexer.eq_of_test, Forms.{is_mark, ends, start, inside}, Accepts.Accepts, Spoken.{stmt_in, StmtOut, stmt_out}}}
 
 -- ---- counting
 

@@ -1,20 +1,7 @@
 -- A statement's form accepts the token lists of the grammar, and no other.
-use Rattle.std.proofs.Common.{◌≡◌, ℕ, ℤ, pos, neg_ℤ, ◌^◌, ◌<◌, ◌≤◌, ◌⊎◌, inl, inr, Bool, true, false, nat_lt, nat_le, List, [], ◌∷◌, ◌++◌, map, length, Option, Some, None, bytes_eq, codes, count_by, refl, sym, ap, ◌∙◌, subst, append_assoc, lt-ltb, le-leb, le-ltb, ltb-true, ltb-false, leb-true}
-use Rattle.std.specs.Char.{to_ascii_lowercase}
-use Rattle.std.proofs.lemmas.Slice.Eq.{bytes_eq-Decides}
+use Rattle.std.{proofs.{Common.{◌≡◌, ℕ, ℤ, pos, neg_ℤ, ◌^◌, ◌<◌, ◌≤◌, ◌⊎◌, inl, inr, Bool, true, false, nat_lt, nat_le, List, [], ◌∷◌, ◌++◌, map, length, Option, Some, None, bytes_eq, codes, count_by, refl, sym, ap, ◌∙◌, subst, append_assoc, lt-ltb, le-leb, le-ltb, ltb-true, ltb-false, leb-true}, lemmas.Slice.Eq.bytes_eq-Decides}, specs.Char.to_ascii_lowercase}
 use Rattle.pm_rows.specs.Limits.{max_value_bytes, max_changes}
-use Rattle.pm_sql.specs.declared.stmt.Stmt.{Stmt}
-use Rattle.pm_sql.specs.declared.stmt.Stmt.TheVariants.{Insert, Update, Delete, Select, Count, Sleep}
-use Rattle.pm_sql.specs.declared.fault.Kind.{Kind}
-use Rattle.pm_sql.specs.declared.fault.Kind.TheVariants.{Table, Range, TooLong, TooMany}
-use Rattle.pm_sql.specs.Limits.{max_sleep_seconds, is_writing}
-use Rattle.pm_sql.specs.Tokens.{digits_value}
-use Rattle.pm_sql.specs.Grammar.{fits_bigint, signed}
-use Rattle.pm_sql.specs.Token.{Token, Word, Digits, Quoted, Mark}
-use Rattle.pm_sql.specs.Statements.{Keeps, word, mark, IsName, IsInt, IsValue, IsIntoColumns, IsSelectColumns, IsCondition, IsOrder, IsStatement}
-use Rattle.pm_sql.proofs.Lexer.{eq_of_test}
-use Rattle.pm_sql.proofs.Forms.{fine, Form, nothing, is_word, is_mark, is_any_word, are_digits, is_string, content_of, within, beyond, word_form, mark_form, name_form, digits_form, string_form, int_form, key_form, ends, value_form, values_form, columns_form, insert_form, set_form, where_form, update_form, delete_form, order_form, condition_form, rows_form, pairs_form, count_form, sleep_form, select_form, first_form, stmt_form, start, inside, answer_of, moved}
-use Rattle.pm_sql.proofs.Accepts.{AcceptsMove, Accepts, one_accepts, nothing_accepts}
+use Rattle.pm_sql.{specs.{declared.{stmt.Stmt.{Stmt, TheVariants.{Insert, Update, Delete, Select, Count, Sleep}}, fault.Kind.{Kind, TheVariants.{Table, Range, TooLong, TooMany}}}, Limits.{max_sleep_seconds, is_writing}, Tokens.digits_value, Grammar.{fits_bigint, signed}, Token.{Token, Word, Digits, Quoted, Mark}, Statements.{Keeps, word, mark, IsName, IsInt, IsValue, IsIntoColumns, IsSelectColumns, IsCondition, IsOrder, IsStatement}}, proofs.{Lexer.eq_of_test, Forms.{fine, Form, nothing, is_word, is_mark, is_any_word, are_digits, is_string, content_of, within, beyond, word_form, mark_form, name_form, digits_form, string_form, int_form, key_form, ends, value_form, values_form, columns_form, insert_form, set_form, where_form, update_form, delete_form, order_form, condition_form, rows_form, pairs_form, count_form, sleep_form, select_form, first_form, stmt_form, start, inside, answer_of, moved}, Accepts.{AcceptsMove, Accepts, one_accepts, nothing_accepts}}}
 
 -- ---- the tokens of an INSERT, grouped to the right
 

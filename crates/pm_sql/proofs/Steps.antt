@@ -1,18 +1,8 @@
 -- Steps of reading a script.
-use Rattle.std.proofs.Common.{◌≡◌, ℕ, suc, ◌+◌, ◌-◌, ◌<◌, ◌≤◌, Bool, true, false, cond, ◌==◌, List, [], ◌∷◌, ◌++◌, length, count_by, Some, None, Result, Ok, Err, refl, sym, ap, ◌∙◌, arith}
-use Rattle.std.specs.Bool.{IsTrue}
-use Rattle.std.proofs.lemmas.List.Sums.{sum_by_push}
-use Rattle.std.proofs.lemmas.List.Elements.{All-push}
-use Rattle.std.proofs.lemmas.Bool.Decides.{nat_tests}
-use Rattle.pm_sql.specs.declared.stmt.Stmt.{Stmt}
+use Rattle.std.{proofs.{Common.{◌≡◌, ℕ, suc, ◌+◌, ◌-◌, ◌<◌, ◌≤◌, Bool, true, false, cond, ◌==◌, List, [], ◌∷◌, ◌++◌, length, count_by, Some, None, Result, Ok, Err, refl, sym, ap, ◌∙◌, arith}, lemmas.{List.{Sums.sum_by_push, Elements.All-push}, Bool.Decides.nat_tests}}, specs.Bool.IsTrue}
+use Rattle.pm_sql.specs.{declared.{stmt.Stmt.Stmt, fault.{Fault.Fault, Stop.Stop}}, Limits.{is_writing, HasShortValue, IsWithinScriptLimits}, Tokens.{skipped, behind_mark}, Reading.Fails, Query.{stmt_at, end_at, is_at_end, script_within}}
 use Rattle.pm_rows.specs.Limits.{max_changes}
-use Rattle.pm_sql.specs.declared.fault.Fault.{Fault}
-use Rattle.pm_sql.specs.declared.fault.Stop.{Stop}
 use Rattle.pm_sql.specs.declared.fault.Stop.TheVariants as stops
-use Rattle.pm_sql.specs.Limits.{is_writing, HasShortValue, IsWithinScriptLimits}
-use Rattle.pm_sql.specs.Tokens.{skipped, behind_mark}
-use Rattle.pm_sql.specs.Reading.{Fails}
-use Rattle.pm_sql.specs.Query.{stmt_at, end_at, is_at_end, script_within}
 
 -- what a loop over a text keeps: what is read from here on is what is read of the whole
 pub record IsReading (steps : ℕ) (script : List Stmt) (rest : List ℕ) (writing : ℕ) (whole : Result (List Stmt) Fault) : Type 0 where

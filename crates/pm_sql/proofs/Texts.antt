@@ -1,13 +1,6 @@
 -- Where tokens end in a text.
-use Rattle.std.proofs.Common.{◌≡◌, ◌≢◌, ℕ, zero, suc, ◌+◌, ◌<◌, ◌≤◌, Bool, true, false, cond, ◌==◌, List, [], ◌∷◌, length, get_or, drop, Option, Some, None, MatchOption, Bor, refl, sym, ap, ◌∙◌, arith}
-use Rattle.std.specs.List.{prefix_len}
-use Rattle.std.specs.Option.{option_copied}
-use Rattle.std.specs.Str.{IsUtf8, IsCharBoundary}
-use Rattle.std.proofs.lemmas.Str.{IsUtf8-drop, IsCharBoundary-after_ascii, IsCharBoundary-from_drop, IsCharBoundary-start}
-use Rattle.std.proofs.lemmas.List.Sums.{prefix_len-le-length}
-use Rattle.std.proofs.lemmas.Bool.Decides.{nat_tests}
+use Rattle.std.{proofs.{Common.{◌≡◌, ◌≢◌, ℕ, zero, suc, ◌+◌, ◌<◌, ◌≤◌, Bool, true, false, cond, ◌==◌, List, [], ◌∷◌, length, get_or, drop, Option, Some, None, MatchOption, Bor, refl, sym, ap, ◌∙◌, arith}, lemmas.{Str.{IsUtf8-drop, IsCharBoundary-after_ascii, IsCharBoundary-from_drop, IsCharBoundary-start}, List.Sums.prefix_len-le-length, Bool.Decides.nat_tests}}, specs.{List.prefix_len, Option.option_copied, Str.{IsUtf8, IsCharBoundary}, Char.is_ascii_digit}}
 use Rattle.pm_sql.specs.Tokens.{behind_mark, is_word_byte, word_len, starts_with_letter}
-use Rattle.std.specs.Char.{is_ascii_digit}
 
 -- the elements at the front that pass are as many as pass before one that doesn't
 pub prefix_len-stops : (p : ℕ → Bool) (s : List ℕ) (n : ℕ) → n ≤ length s → ((i : ℕ) → i < n → p (get_or s i 0) ≡ true) → (n < length s → p (get_or s n 0) ≡ false) → prefix_len p s ≡ n

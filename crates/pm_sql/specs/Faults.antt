@@ -1,13 +1,7 @@
 -- Why a text is no query: the first token from the left that no query has there, its place, and which limit it passes, if any.
 use Rattle.std.specs.Prelude.{◌≡◌, ◌≢◌, ℕ, ◌+◌, ◌⊎◌, List, [], ◌∷◌, ◌++◌, length, map, Result, Ok, Err}
-use Rattle.pm_sql.specs.declared.stmt.Stmt.{Stmt}
-use Rattle.pm_sql.specs.declared.fault.Kind.{Kind}
+use Rattle.pm_sql.specs.{declared.{stmt.Stmt.Stmt, fault.Kind.Kind, query.SqlFault.{SqlFault, TheVariants.{Syntax, Table, Range, TooLong, TooMany, NoMemory}}, script.Script.Script}, Token.{Token, in_lower_case, IsUpTo}, Statements.IsQuery}
 use Rattle.pm_sql.specs.declared.fault.Kind.TheVariants as kinds
-use Rattle.pm_sql.specs.declared.query.SqlFault.{SqlFault}
-use Rattle.pm_sql.specs.declared.query.SqlFault.TheVariants.{Syntax, Table, Range, TooLong, TooMany, NoMemory}
-use Rattle.pm_sql.specs.declared.script.Script.{Script}
-use Rattle.pm_sql.specs.Token.{Token, in_lower_case, IsUpTo}
-use Rattle.pm_sql.specs.Statements.{IsQuery}
 
 -- some query that keeps the limits up to this kind begins with these tokens
 abbrev pub CanGoOn : Kind → List Token → Type 0

@@ -1,14 +1,8 @@
 -- How the productions are read from left to right: what each stands for and what comes after it, or the first fault. No
 -- public contract cites this; what a text stands for and which fault it has is told by `Statements` and `Faults`.
 use Rattle.std.specs.Prelude.{ℕ, ℤ, pos, neg_ℤ, ◌^◌, Bool, true, false, if◌then◌else◌, ◌==◌, List, [], ◌∷◌, length, drop, take, Option, Some, None, Result, Ok, Err, nat_le, nat_lt, codes}
-use Rattle.pm_sql.specs.declared.stmt.Stmt.{Stmt}
-use Rattle.pm_sql.specs.declared.stmt.Stmt.TheVariants.{Insert, Update, Delete, Select, Count, Sleep}
+use Rattle.pm_sql.specs.{declared.{stmt.Stmt.{Stmt, TheVariants.{Insert, Update, Delete, Select, Count, Sleep}}, fault.{Kind.TheVariants.{Syntax, Table, Range, TooLong}, Fault.Fault}}, Limits.max_sleep_seconds, Tokens.{skipped, starts_with_letter, word_len, digits_len, digits_value, is_same_word, behind_word, behind_mark, string_in}, Reading.{◌>>=◌, fault_at, found_or_fault, word_at, mark_at}}
 use Rattle.pm_rows.specs.Limits.{max_value_bytes}
-use Rattle.pm_sql.specs.Limits.{max_sleep_seconds}
-use Rattle.pm_sql.specs.declared.fault.Kind.TheVariants.{Syntax, Table, Range, TooLong}
-use Rattle.pm_sql.specs.declared.fault.Fault.{Fault}
-use Rattle.pm_sql.specs.Tokens.{skipped, starts_with_letter, word_len, digits_len, digits_value, is_same_word, behind_word, behind_mark, string_in}
-use Rattle.pm_sql.specs.Reading.{◌>>=◌, fault_at, found_or_fault, word_at, mark_at}
 
 -- name := word; the one table is kv
 unfoldable pub name_at : List ℕ → Result (List ℕ) Fault

@@ -1,9 +1,6 @@
 -- Laws of query texts.
 use Rattle.std.specs.Prelude.{◌≡◌, ℕ, List}
-use Rattle.pm_sql.specs.declared.stmt.Stmt.{Stmt}
-use Rattle.pm_sql.specs.declared.fault.Kind.{Kind}
-use Rattle.pm_sql.specs.Statements.{IsQueryText}
-use Rattle.pm_sql.specs.Faults.{IsFaultAt}
+use Rattle.pm_sql.specs.{declared.{stmt.Stmt.Stmt, fault.Kind.Kind}, Statements.IsQueryText, Faults.IsFaultAt}
 
 -- a text stands for one script at most
 abbrev pub OneScript : Type 0

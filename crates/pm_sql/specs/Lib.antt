@@ -9,3 +9,4 @@ pub mod Split
 pub mod Statements
 pub mod Token
 pub mod Tokens
+pub use Rattle.pm_rows.specs as pm_rows

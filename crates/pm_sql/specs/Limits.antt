@@ -1,8 +1,7 @@
 -- What a script may hold. A writing statement is a change of a commit at most, so that there are as many of either.
 use Rattle.std.specs.Prelude.{ℕ, ◌≤◌, Bool, true, false, List, length, count_by, sum_by, All}
 use Rattle.pm_rows.specs.Limits.{max_value_bytes, max_changes}
-use Rattle.pm_sql.specs.declared.stmt.Stmt.{Stmt}
-use Rattle.pm_sql.specs.declared.stmt.Stmt.TheVariants.{Insert, Update, Delete, Select, Count, Sleep}
+use Rattle.pm_sql.specs.declared.stmt.Stmt.{Stmt, TheVariants.{Insert, Update, Delete, Select, Count, Sleep}}
 
 -- the seconds of a pause: a day
 abbrev pub max_sleep_seconds : ℕ

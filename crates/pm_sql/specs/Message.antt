@@ -1,10 +1,6 @@
 -- The text of a fault for the client.
-use Rattle.std.specs.Prelude.{ℕ, ◌-◌, Bool, if◌then◌else◌, ◌==◌, ◌&&◌, not, List, [], ◌∷◌, ◌++◌, length, take, drop, slice_index, Option, Some, None, nat_le, nat_lt, codes}
-use Rattle.std.specs.Str.{str_to_ascii_lowercase}
-use Rattle.pm_sql.specs.declared.query.SqlFault.{SqlFault}
-use Rattle.pm_sql.specs.declared.query.SqlFault.TheVariants.{Syntax, Table, Range, TooLong, TooMany, NoMemory}
-use Rattle.pm_sql.specs.Tokens.{starts_with_letter, word_len, digits_len, behind_mark, string_in, string_end, quote}
-use Rattle.pm_sql.specs.Query.{is_at_end}
+use Rattle.std.specs.{Prelude.{ℕ, ◌-◌, Bool, if◌then◌else◌, ◌==◌, ◌&&◌, not, List, [], ◌∷◌, ◌++◌, length, take, drop, slice_index, Option, Some, None, nat_le, nat_lt, codes}, Str.str_to_ascii_lowercase}
+use Rattle.pm_sql.specs.{declared.query.SqlFault.{SqlFault, TheVariants.{Syntax, Table, Range, TooLong, TooMany, NoMemory}}, Tokens.{starts_with_letter, word_len, digits_len, behind_mark, string_in, string_end, quote}, Query.is_at_end}
 
 -- whether a text may be cut at this place: not inside a character
 abbrev pub is_boundary : List ℕ → ℕ → Bool

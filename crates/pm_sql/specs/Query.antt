@@ -1,17 +1,9 @@
 -- How a query text is read from left to right: its statements in order, or the first fault. No public contract cites this.
 use Rattle.std.specs.Prelude.{ℕ, zero, suc, ◌-◌, Bool, true, false, if◌then◌else◌, ◌==◌, List, [], ◌∷◌, ◌++◌, length, count_by, Result, Ok, Err, nat_lt, codes}
-use Rattle.pm_sql.specs.declared.stmt.Stmt.{Stmt}
+use Rattle.pm_sql.specs.{declared.{stmt.Stmt.Stmt, fault.{Kind.{Kind, TheVariants.{Syntax, TooMany}}, Fault.Fault}, query.SqlFault.SqlFault}, Limits.is_writing, Tokens.{skipped, behind_word, behind_mark}, Reading.{◌>>=◌, fault_at}, Grammar.{or_else, insert_at, update_at, delete_at, select_at}}
 use Rattle.pm_rows.specs.Limits.{max_changes}
-use Rattle.pm_sql.specs.declared.fault.Kind.{Kind}
-use Rattle.pm_sql.specs.declared.fault.Kind.TheVariants.{Syntax, TooMany}
 use Rattle.pm_sql.specs.declared.fault.Kind.TheVariants as kinds
-use Rattle.pm_sql.specs.declared.fault.Fault.{Fault}
-use Rattle.pm_sql.specs.declared.query.SqlFault.{SqlFault}
 use Rattle.pm_sql.specs.declared.query.SqlFault.TheVariants as faults
-use Rattle.pm_sql.specs.Limits.{is_writing}
-use Rattle.pm_sql.specs.Tokens.{skipped, behind_word, behind_mark}
-use Rattle.pm_sql.specs.Reading.{◌>>=◌, fault_at}
-use Rattle.pm_sql.specs.Grammar.{or_else, insert_at, update_at, delete_at, select_at}
 
 -- a statement that writes, where there is room for one more after so many
 abbrev pub if_room : {A : Type 0} → ℕ → List ℕ → Result A Fault → Result A Fault

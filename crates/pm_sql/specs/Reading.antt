@@ -1,14 +1,7 @@
 -- Steps of reading from left to right, which end at the first fault.
-use Rattle.std.specs.Prelude.{◌≡◌, ℕ, List, length, Option, Some, None, Result, Ok, Err}
-use Rattle.pm_sql.specs.declared.fault.Kind.{Kind}
-use Rattle.pm_sql.specs.declared.fault.Kind.TheVariants.{Syntax}
-use Rattle.pm_sql.specs.declared.fault.Fault.{Fault}
-use Rattle.pm_sql.specs.declared.fault.Stop.{Stop}
+use Rattle.std.specs.{Prelude.{◌≡◌, ℕ, List, length, Option, Some, None, Result, Ok, Err}, Borrow.Bor, declared.string.String.String, String.string_bytes}
+use Rattle.pm_sql.specs.{declared.fault.{Kind.{Kind, TheVariants.Syntax}, Fault.Fault, Stop.Stop}, Tokens.{skipped, behind_word, behind_mark}}
 use Rattle.pm_sql.specs.declared.fault.Stop.TheVariants as stops
-use Rattle.std.specs.Borrow.{Bor}
-use Rattle.std.specs.declared.string.String.{String}
-use Rattle.std.specs.String.{string_bytes}
-use Rattle.pm_sql.specs.Tokens.{skipped, behind_word, behind_mark}
 
 -- one step, and then the next on what it found
 infixl 10 ◌>>=◌

@@ -1,7 +1,6 @@
 -- Digits that were read from the front of a text.
 use Rattle.std.specs.Prelude.{◌≡◌, take, drop}
-use Rattle.pm_sql.specs.declared.grammar.Digits.{Digits}
-use Rattle.pm_sql.specs.Tokens.{digits_len}
+use Rattle.pm_sql.specs.{declared.grammar.Digits.Digits, Tokens.digits_len}
 
 -- they are all digits at its front, and the rest comes after them
 pub record IsSplit (found : Digits) : Type 0 where

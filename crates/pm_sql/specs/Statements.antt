@@ -3,13 +3,7 @@ use Rattle.std.specs.Prelude.{◌≡◌, ℕ, ℤ, pos, neg_ℤ, ◌^◌, ◌<�
 use Prim.Native.String.{String}
 use Prim.Native.Char.{Char, code}
 use Rattle.pm_rows.specs.Limits.{max_value_bytes, max_changes}
-use Rattle.pm_sql.specs.declared.fault.Kind.{Kind}
-use Rattle.pm_sql.specs.declared.fault.Kind.TheVariants.{Syntax, Table, Range, TooLong, TooMany}
-use Rattle.pm_sql.specs.declared.stmt.Stmt.{Stmt}
-use Rattle.pm_sql.specs.declared.stmt.Stmt.TheVariants.{Insert, Update, Delete, Select, Count, Sleep}
-use Rattle.pm_sql.specs.Limits.{max_sleep_seconds, is_writing}
-use Rattle.pm_sql.specs.Tokens.{digits_value}
-use Rattle.pm_sql.specs.Token.{Token, Word, Digits, Quoted, Mark, in_lower_case, Spells}
+use Rattle.pm_sql.specs.{declared.{fault.Kind.{Kind, TheVariants.{Syntax, Table, Range, TooLong, TooMany}}, stmt.Stmt.{Stmt, TheVariants.{Insert, Update, Delete, Select, Count, Sleep}}}, Limits.{max_sleep_seconds, is_writing}, Tokens.digits_value, Token.{Token, Word, Digits, Quoted, Mark, in_lower_case, Spells}}
 
 -- ---- limits
 

@@ -1,7 +1,5 @@
 -- Tokens, and up to where which tokens stand in a text.
-use Rattle.std.specs.Prelude.{◌≡◌, ℕ, ◌<◌, Bool, false, if◌then◌else◌, ◌==◌, List, [], ◌∷◌, ◌++◌, map, IsTrue, IsFalse}
-use Rattle.std.specs.Char.{is_ascii_whitespace, is_ascii_digit, to_ascii_lowercase}
-use Rattle.std.specs.List.{list_all}
+use Rattle.std.specs.{Prelude.{◌≡◌, ℕ, ◌<◌, Bool, false, if◌then◌else◌, ◌==◌, List, [], ◌∷◌, ◌++◌, map, IsTrue, IsFalse}, Char.{is_ascii_whitespace, is_ascii_digit, to_ascii_lowercase}, List.list_all}
 use Rattle.pm_sql.specs.Tokens.{skipped, is_word_byte, starts_with_letter, quote}
 
 -- A word has its letters as they are spelled, and a string its content. A mark is any other character but white space. It is one

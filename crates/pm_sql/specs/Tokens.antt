@@ -1,8 +1,5 @@
 -- Tokens: what stands at the front of a text.
-use Rattle.std.specs.Prelude.{ℕ, ◌+◌, ◌*◌, ◌-◌, Bool, false, cond, if◌then◌else◌, ◌||◌, ◌==◌, List, [], ◌∷◌, map, take, drop, fold, Option, Some, None}
-use Rattle.std.specs.Char.{is_ascii_whitespace, is_ascii_alphabetic, is_ascii_alphanumeric, is_ascii_digit, to_ascii_lowercase}
-use Rattle.std.specs.List.{prefix_len}
-use Rattle.std.specs.Str.{bytes_eq}
+use Rattle.std.specs.{Prelude.{ℕ, ◌+◌, ◌*◌, ◌-◌, Bool, false, cond, if◌then◌else◌, ◌||◌, ◌==◌, List, [], ◌∷◌, map, take, drop, fold, Option, Some, None}, Char.{is_ascii_whitespace, is_ascii_alphabetic, is_ascii_alphanumeric, is_ascii_digit, to_ascii_lowercase}, List.prefix_len, Str.bytes_eq}
 
 -- the text after its white space: space, tab, line feed, form feed and carriage return
 abbrev pub skipped : List ℕ → List ℕ

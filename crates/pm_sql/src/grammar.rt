@@ -1,12 +1,7 @@
 //! The productions of the grammar, each read from the front of a text.
-ghost use Rattle.std.specs.Prelude.{◌≡◌, ◌≤◌, IsTrue, IfOk, false, length, codes};
-ghost use Rattle.std.specs.Option.{option_copied, SomeIff};
+ghost use Rattle.std.specs.{Prelude.{◌≡◌, ◌≤◌, IsTrue, IfOk, false, length, codes}, Option.{option_copied, SomeIff}};
 ghost use Rattle.pm_rows.specs.Limits.{max_value_bytes};
-ghost use Rattle.pm_sql.specs.Tokens.{digits_len, digits_value, behind_mark, behind_word, skipped, string_in};
-ghost use Rattle.pm_sql.specs.Limits.{is_writing, HasShortValue};
-ghost use Rattle.pm_sql.specs.Reading.{Gives};
-ghost use Rattle.pm_sql.specs.Split.{IsSplit};
-ghost use Rattle.pm_sql.specs.Grammar.{name_at, digits_at, behind_digits, sign_of, fits_bigint, signed, int_at, seconds_at, string_at, key_condition_at, columns_in, insert_at, update_at, delete_at, from_at, condition_in, order_in, rows_at, pairs_at, count_at, sleep_at, select_at};
+ghost use Rattle.pm_sql.specs.{Tokens.{digits_len, digits_value, behind_mark, behind_word, skipped, string_in}, Limits.{is_writing, HasShortValue}, Reading.Gives, Split.IsSplit, Grammar.{name_at, digits_at, behind_digits, sign_of, fits_bigint, signed, int_at, seconds_at, string_at, key_condition_at, columns_in, insert_at, update_at, delete_at, from_at, condition_in, order_in, rows_at, pairs_at, count_at, sleep_at, select_at}};
 
 use crate::fault::{Kind, Stop};
 use crate::stmt::Stmt;

@@ -1,8 +1,7 @@
 //! The text of a fault for the client.
 ghost use Rattle.std.specs.Prelude.{◌≡◌, ◌≤◌, ◌+◌, ◌++◌, length, IfOk, slice_index};
-ghost use Rattle.pm_sql.specs.Tokens.{behind_mark, quote};
-ghost use Rattle.pm_facts.specs.Zeros.{HasNoZero};
-ghost use Rattle.pm_sql.specs.Message.{is_boundary, from_place, up_to_place, char_len, other_token, token_of, syntax_message, message_of};
+ghost use Rattle.pm_sql.specs.{Tokens.{behind_mark, quote}, Message.{is_boundary, from_place, up_to_place, char_len, other_token, token_of, syntax_message, message_of}};
+ghost use Rattle.pm_rows.specs.pm_facts.Zeros.{HasNoZero};
 
 use crate::query::SqlFault;
 use crate::tokens::{behind_mark, split_digits, split_word, string_end};

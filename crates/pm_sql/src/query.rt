@@ -1,12 +1,7 @@
 //! Texts as scripts.
 ghost use Rattle.std.specs.Prelude.{◌≡◌, ◌+◌, ◌<◌, cond, List, IsTrue, IfOk, IfErr, Ok};
 ghost use Rattle.pm_rows.specs.Limits.{max_changes};
-ghost use Rattle.pm_sql.specs.declared.stmt.Stmt.{Stmt};
-ghost use Rattle.pm_sql.specs.Limits.{is_writing, HasShortValue};
-ghost use Rattle.pm_sql.specs.Reading.{Gives};
-ghost use Rattle.pm_sql.specs.Statements.{IsQueryText};
-ghost use Rattle.pm_sql.specs.Faults.{IsFaultOf, IsScriptUnlessShort};
-ghost use Rattle.pm_sql.specs.Query.{fault_in, script_of, stmt_at, if_room, end_at};
+ghost use Rattle.pm_sql.specs.{declared.stmt.Stmt.Stmt, Limits.{is_writing, HasShortValue}, Reading.Gives, Statements.IsQueryText, Faults.{IsFaultOf, IsScriptUnlessShort}, Query.{fault_in, script_of, stmt_at, if_room, end_at}};
 
 use crate::fault::{Fault, Kind, Stop};
 use crate::grammar::{delete_at, insert_at, select_at, update_at};

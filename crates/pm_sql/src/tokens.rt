@@ -1,9 +1,6 @@
 //! The tokens of a text.
-ghost use Rattle.std.specs.Prelude.{◌≡◌, ◌<◌, ◌≤◌, length, take, drop, min, ◌^◌, ◌-◌, IfOk, IfSome};
-ghost use Rattle.std.specs.List.{prefix_len};
-ghost use Rattle.std.specs.Option.{option_copied};
-ghost use Rattle.pm_sql.specs.Tokens.{skipped, is_letter, is_word_byte, starts_with_letter, word_len, digits_len, digits_value, behind_word, behind_mark, string_in, string_end};
-ghost use Rattle.pm_sql.specs.Reading.{Gives, word_at, mark_at, contents_of};
+ghost use Rattle.std.specs.{Prelude.{◌≡◌, ◌<◌, ◌≤◌, length, take, drop, min, ◌^◌, ◌-◌, IfOk, IfSome}, List.prefix_len, Option.option_copied};
+ghost use Rattle.pm_sql.specs.{Tokens.{skipped, is_letter, is_word_byte, starts_with_letter, word_len, digits_len, digits_value, behind_word, behind_mark, string_in, string_end}, Reading.{Gives, word_at, mark_at, contents_of}};
 
 use crate::fault::{Kind, Stop};
 use std::alloc::{AllocError, Global};

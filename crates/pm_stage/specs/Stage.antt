@@ -1,7 +1,6 @@
 -- Commits that wait for the log.
 use Rattle.std.specs.Prelude.{ℕ, ◌+◌, ◌-◌, List, length, take, drop}
-use Rattle.pm_rows.specs.declared.commit.Change.{Change}
-use Rattle.pm_rows.specs.Limits.{max_commits}
+use Rattle.pm_rows.specs.{declared.commit.Change.Change, Limits.max_commits}
 
 -- up to which number the log is flushed, and the commits after that, in order
 pub record Waiting : Type 0 where

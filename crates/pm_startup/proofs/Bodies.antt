@@ -1,16 +1,6 @@
 -- A body is read in one way: its pairs, and where it fails.
-use Rattle.std.proofs.Common.{◌≡◌, ℕ, ◌+◌, Bool, true, false, cond, eqb, List, [], ◌∷◌, ◌++◌, length, reverse, Option, Some, refl, sym, ap, subst, ◌∙◌, append_assoc, inl, inr, arith, not, ◌||◌, codes, nat_eq}
-use Rattle.std.specs.List.{AllByRecursion, find, starts_with}
-use Rattle.std.specs.Option.{option_map, option_map_or}
-use Rattle.std.specs.Str.{bytes_eq}
-use Rattle.std.proofs.lemmas.Bool.{eqb-true, eqb-false}
-use Rattle.std.proofs.lemmas.List.{reverse-append}
-use Rattle.std.proofs.lemmas.List.Concat.{flat_map-append}
-use Rattle.std.proofs.lemmas.List.Folds.{list_any-append}
-use Rattle.pm_startup.specs.declared.parameters.Settings.{Settings}
-use Rattle.pm_startup.specs.Parameters.{IsString, string, Parameter, IsParameter, pair, pairs, IsLaidOut, EndsInValue, FailsAt, IsMalformed, value_of, asks_option, is_off}
-use Rattle.pm_startup.specs.Reading.{Tells}
-use Rattle.pm_startup.proofs.Strings.{string-no_zero, string-same}
+use Rattle.std.{proofs.{Common.{◌≡◌, ℕ, ◌+◌, Bool, true, false, cond, eqb, List, [], ◌∷◌, ◌++◌, length, reverse, Option, Some, refl, sym, ap, subst, ◌∙◌, append_assoc, inl, inr, arith, not, ◌||◌, codes, nat_eq}, lemmas.{Bool.{eqb-true, eqb-false}, List.{reverse-append, Concat.flat_map-append, Folds.list_any-append}}}, specs.{List.{AllByRecursion, find, starts_with}, Option.{option_map, option_map_or}, Str.bytes_eq}}
+use Rattle.pm_startup.{specs.{declared.parameters.Settings.Settings, Parameters.{IsString, string, Parameter, IsParameter, pair, pairs, IsLaidOut, EndsInValue, FailsAt, IsMalformed, value_of, asks_option, is_off}, Reading.Tells}, proofs.Strings.{string-no_zero, string-same}}
 
 -- ---- the pairs so far
 

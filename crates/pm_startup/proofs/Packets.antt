@@ -1,20 +1,8 @@
 -- A front of the bytes decides in one way.
-use Rattle.std.proofs.Common.{◌≡◌, ℕ, ◌+◌, ◌-◌, ◌^◌, ◌<◌, ◌≤◌, ◌↔◌, List, [], ◌++◌, length, take, drop, Result, Ok, Err, refl, sym, ap, subst, ◌∙◌, inl, inr, ◌⊎◌, arith}
-use Rattle.std.specs.Int.{w32, from_be_bytes}
-use Rattle.std.proofs.Math.Seq.{take-append-add}
-use Rattle.std.proofs.lemmas.List.{take-append-drop, take_at, drop-drop, take_rest, length-take, length-drop, drop_all}
-use Rattle.std.proofs.lemmas.Nat.{be_bytes_4}
-use Rattle.byteorder.specs.Endian.{big_number}
-use Rattle.byteorder.specs.Numbers.{big_number-reads_back, big_from-take}
-use Rattle.pm_wire.specs.Numbers.{IsBytes, IsBytes-drop, IsBytes-take, number_below}
-use Rattle.pm_wire.specs.Pieces.{int32}
-use Rattle.pm_startup.specs.declared.packet.StartFault.{StartFault}
-use Rattle.pm_startup.specs.declared.packet.StartFault.TheVariants.{Length, Malformed}
-use Rattle.pm_startup.specs.declared.packet.Read.{Read}
-use Rattle.pm_startup.specs.declared.packet.Read.TheVariants.{Whole, Short, Bad}
-use Rattle.pm_startup.specs.Parameters.{Parameter, user_of}
-use Rattle.pm_startup.specs.Grammar.{Content, cancel_request, content_of, packet, max_length, Kind, ssl, gssenc, cancel, version3, unknown, kind_of, CancelSays, verdict_of, StartupSays, Says, IsPacket, IsNoLength, Decides, FrontDecides, IsUndecided, IsIncomplete, IsWhole}
-use Rattle.pm_startup.proofs.Bodies.{laid_out-same, laid_out-not_malformed, malformed-same}
+use Rattle.std.{proofs.{Common.{◌≡◌, ℕ, ◌+◌, ◌-◌, ◌^◌, ◌<◌, ◌≤◌, ◌↔◌, List, [], ◌++◌, length, take, drop, Result, Ok, Err, refl, sym, ap, subst, ◌∙◌, inl, inr, ◌⊎◌, arith}, Math.Seq.take-append-add, lemmas.{List.{take-append-drop, take_at, drop-drop, take_rest, length-take, length-drop, drop_all}, Nat.be_bytes_4}}, specs.Int.{w32, from_be_bytes}}
+use Rattle.byteorder.specs.{Endian.big_number, Numbers.{big_number-reads_back, big_from-take}}
+use Rattle.pm_wire.specs.{Numbers.{IsBytes, IsBytes-drop, IsBytes-take, number_below}, Pieces.int32}
+use Rattle.pm_startup.{specs.{declared.packet.{StartFault.{StartFault, TheVariants.{Length, Malformed}}, Read.{Read, TheVariants.{Whole, Short, Bad}}}, Parameters.{Parameter, user_of}, Grammar.{Content, cancel_request, content_of, packet, max_length, Kind, ssl, gssenc, cancel, version3, unknown, kind_of, CancelSays, verdict_of, StartupSays, Says, IsPacket, IsNoLength, Decides, FrontDecides, IsUndecided, IsIncomplete, IsWhole}}, proofs.Bodies.{laid_out-same, laid_out-not_malformed, malformed-same}}
 
 -- ---- numbers in bytes
 

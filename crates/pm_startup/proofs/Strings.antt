@@ -1,12 +1,5 @@
 -- Strings and the zero bytes that end them.
-use Rattle.std.proofs.Common.{◌≡◌, ◌≢◌, ℕ, suc, ◌+◌, ◌-◌, ◌<◌, ◌≤◌, Bool, true, false, cond, eqb, ltb, List, [], ◌∷◌, ◌++◌, length, get_or, take, drop, Some, None, refl, sym, ap, subst, ◌∙◌, append_assoc, add-one, arith}
-use Rattle.std.specs.List.{position, position_or_len}
-use Rattle.std.proofs.Math.Seq.{drop-cons}
-use Rattle.std.proofs.lemmas.Bool.{eqb-true, eqb-false, ltb-false}
-use Rattle.std.proofs.lemmas.List.{take-append-drop, get_or-take, length-take, take_rest, get_or_default}
-use Rattle.std.proofs.lemmas.List.Elements.{recursion_from_All}
-use Rattle.std.proofs.lemmas.List.Quantifiers.{position-Some}
-use Rattle.std.proofs.lemmas.List.Sums.{fails_before_first}
+use Rattle.std.{proofs.{Common.{◌≡◌, ◌≢◌, ℕ, suc, ◌+◌, ◌-◌, ◌<◌, ◌≤◌, Bool, true, false, cond, eqb, ltb, List, [], ◌∷◌, ◌++◌, length, get_or, take, drop, Some, None, refl, sym, ap, subst, ◌∙◌, append_assoc, add-one, arith}, Math.Seq.drop-cons, lemmas.{Bool.{eqb-true, eqb-false, ltb-false}, List.{take-append-drop, get_or-take, length-take, take_rest, get_or_default, Elements.recursion_from_All, Quantifiers.position-Some, Sums.fails_before_first}}}, specs.List.{position, position_or_len}}
 use Rattle.pm_startup.specs.Parameters.{IsString, string}
 
 -- a test that answered None was false

@@ -3,13 +3,8 @@
 -- A rule marked "own" is this server's choice.
 use Rattle.std.specs.Prelude.{◌≡◌, ◌≢◌, ℕ, ◌+◌, ◌/◌, ◌%◌, ◌^◌, ◌<◌, ◌≤◌, ◌==◌, List, length, ◌++◌, take, Result, Ok, Err, ◌⊎◌, if◌then◌else◌}
 use Rattle.byteorder.specs.Endian.{big_number}
-use Rattle.pm_startup.specs.declared.packet.Packet.{Packet}
+use Rattle.pm_startup.specs.{declared.packet.{Packet.Packet, StartFault.{StartFault, TheVariants.{Length, Version, Malformed}}, Read.{Read, TheVariants.{Whole, Short, Bad}}}, Parameters.{Parameter, IsLaidOut, IsMalformed, user_of}}
 use Rattle.pm_startup.specs.declared.packet.Packet.TheVariants as packets
-use Rattle.pm_startup.specs.declared.packet.StartFault.{StartFault}
-use Rattle.pm_startup.specs.declared.packet.StartFault.TheVariants.{Length, Version, Malformed}
-use Rattle.pm_startup.specs.declared.packet.Read.{Read}
-use Rattle.pm_startup.specs.declared.packet.Read.TheVariants.{Whole, Short, Bad}
-use Rattle.pm_startup.specs.Parameters.{Parameter, IsLaidOut, IsMalformed, user_of}
 use Rattle.pm_wire.specs.Pieces.{int32}
 
 -- what a packet says, without where its bytes lie

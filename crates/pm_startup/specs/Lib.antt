@@ -2,3 +2,4 @@ pub mod Parameters
 pub mod Reading
 pub mod Grammar
 pub mod Phases
+pub use Rattle.pm_wire.specs as pm_wire

@@ -1,11 +1,7 @@
 -- The body of a StartupMessage: pairs of a name and a value, and what they ask for.
 -- (PostgreSQL manual, Frontend/Backend Protocol: Message Formats, StartupMessage.)
-use Rattle.std.specs.Prelude.{◌≡◌, ◌≢◌, ℕ, ◌+◌, Bool, false, ◌||◌, not, List, [], ◌∷◌, ◌++◌, length, reverse, find, Option, None, Some, Result, Ok, Err, nat_eq, codes, ◌⊎◌, if◌then◌else◌}
-use Rattle.std.specs.List.{flat_map, AllByRecursion, list_any, starts_with}
-use Rattle.std.specs.Option.{option_map, option_map_or}
-use Rattle.std.specs.Str.{bytes_eq}
-use Rattle.pm_startup.specs.declared.packet.StartFault.{StartFault}
-use Rattle.pm_startup.specs.declared.packet.StartFault.TheVariants.{NoUser, PqOption, Replication}
+use Rattle.std.specs.{Prelude.{◌≡◌, ◌≢◌, ℕ, ◌+◌, Bool, false, ◌||◌, not, List, [], ◌∷◌, ◌++◌, length, reverse, find, Option, None, Some, Result, Ok, Err, nat_eq, codes, ◌⊎◌, if◌then◌else◌}, List.{flat_map, AllByRecursion, list_any, starts_with}, Option.{option_map, option_map_or}, Str.bytes_eq}
+use Rattle.pm_startup.specs.declared.packet.StartFault.{StartFault, TheVariants.{NoUser, PqOption, Replication}}
 
 -- ---- layout
 

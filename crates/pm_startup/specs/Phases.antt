@@ -1,11 +1,7 @@
 -- What a server does with the packets of one connection, one after the other.
 -- (PostgreSQL manual, Frontend/Backend Protocol: Message Flow, SSL Session Encryption and GSSAPI Session Encryption.)
 use Rattle.std.specs.Prelude.{if◌then◌else◌, true}
-use Rattle.pm_startup.specs.declared.packet.StartFault.TheVariants.{Version}
-use Rattle.pm_startup.specs.declared.phase.Phase.{Phase}
-use Rattle.pm_startup.specs.declared.phase.Step.{Step}
-use Rattle.pm_startup.specs.declared.phase.Step.TheVariants.{SayNo, Start, Cancel, Refuse}
-use Rattle.pm_startup.specs.Grammar.{Content, startup, ssl_request, gssenc_request, cancel_request}
+use Rattle.pm_startup.specs.{declared.{packet.StartFault.TheVariants.Version, phase.{Phase.Phase, Step.{Step, TheVariants.{SayNo, Start, Cancel, Refuse}}}}, Grammar.{Content, startup, ssl_request, gssenc_request, cancel_request}}
 
 -- Encryption is refused by `N`, once for each kind and in either order (own). A second request of a kind
 -- is told as an unknown version, by its code's halves.

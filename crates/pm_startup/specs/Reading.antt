@@ -1,10 +1,6 @@
 -- What the reader of a body keeps and meets, by the definitions of `Parameters`.
-use Rattle.std.specs.Prelude.{◌≡◌, ◌<◌, ◌≤◌, ℕ, List, [], ◌∷◌, ◌++◌, length, codes}
-use Rattle.std.specs.Option.{option_map}
-use Rattle.pm_startup.specs.declared.parameters.Settings.{Settings}
-use Rattle.pm_startup.specs.declared.parameters.Item.{Item}
-use Rattle.pm_startup.specs.declared.parameters.Item.TheVariants.{Pair, End, Malformed}
-use Rattle.pm_startup.specs.Parameters.{Parameter, IsParameter, pair, FailsAt, value_of, asks_option, asks_replication}
+use Rattle.std.specs.{Prelude.{◌≡◌, ◌<◌, ◌≤◌, ℕ, List, [], ◌∷◌, ◌++◌, length, codes}, Option.option_map}
+use Rattle.pm_startup.specs.{declared.parameters.{Settings.Settings, Item.{Item, TheVariants.{Pair, End, Malformed}}}, Parameters.{Parameter, IsParameter, pair, FailsAt, value_of, asks_option, asks_replication}}
 
 -- What is kept of the pairs so far says what they ask for.
 pub record Tells (settings : Settings) (ps : List Parameter) : Type 0 where

@@ -1,11 +1,7 @@
 //! The body of a StartupMessage.
 
-ghost use Rattle.std.specs.Prelude.{◌≡◌, ◌≤◌, ◌==◌, ◌||◌, ◌++◌, List, length, position, IfSome, IfNone, IfOk, IfErr, Some, codes, nat_eq, not, if◌then◌else◌};
-ghost use Rattle.std.specs.List.{starts_with};
-ghost use Rattle.std.specs.Option.{option_map};
-ghost use Rattle.std.specs.Str.{bytes_eq};
-ghost use Rattle.pm_startup.specs.Parameters.{IsString, string, Parameter, is_off, IsLaidOut, IsMalformed};
-ghost use Rattle.pm_startup.specs.Reading.{IsItem, IsWithin, Tells};
+ghost use Rattle.std.specs.{Prelude.{◌≡◌, ◌≤◌, ◌==◌, ◌||◌, ◌++◌, List, length, position, IfSome, IfNone, IfOk, IfErr, Some, codes, nat_eq, not, if◌then◌else◌}, List.starts_with, Option.option_map, Str.bytes_eq};
+ghost use Rattle.pm_startup.specs.{Parameters.{IsString, string, Parameter, is_off, IsLaidOut, IsMalformed}, Reading.{IsItem, IsWithin, Tells}};
 
 /// The mark of a protocol option, at the front of its name.
 const PROTOCOL_OPTION: &[u8] = b"_pq_.";

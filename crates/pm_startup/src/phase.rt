@@ -1,6 +1,5 @@
 ghost use Rattle.std.specs.Prelude.{◌≡◌};
-ghost use Rattle.pm_startup.specs.Grammar.{content_of};
-ghost use Rattle.pm_startup.specs.Phases.{step_of};
+ghost use Rattle.pm_startup.specs.{Grammar.content_of, Phases.step_of};
 
 use crate::packet::{Packet, StartFault};
 

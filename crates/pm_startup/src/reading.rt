@@ -1,8 +1,7 @@
 //! Packets from bytes.
 
 ghost use Rattle.std.specs.Prelude.{◌≡◌, ℕ, ◌+◌, ◌≤◌, ◌↔◌, ◌++◌, List, length, Result, Ok, Err};
-ghost use Rattle.pm_startup.specs.declared.packet.StartFault.{StartFault};
-ghost use Rattle.pm_startup.specs.Grammar.{Content, Says, CancelSays, StartupSays, kind_of, contents, max_length, Decides, FrontDecides, IsUndecided, IsIncomplete, IsWhole};
+ghost use Rattle.pm_startup.specs.{declared.packet.StartFault.StartFault, Grammar.{Content, Says, CancelSays, StartupSays, kind_of, contents, max_length, Decides, FrontDecides, IsUndecided, IsIncomplete, IsWhole}};
 
 use crate::packet::{Packet, Read, StartFault};
 use crate::parameters::settings_of;

@@ -1,23 +1,12 @@
 -- The acts of one call: how many they are, and in which order they come.
 use Rattle.std.proofs.Common.{◌≡◌, ℕ, ◌≤◌, Bool, true, false, not, ◌||◌, List, [], ◌∷◌, Option, Some, None, length, refl, arith}
-use Rattle.pm_exit.specs.declared.child.Kind.{Kind}
+use Rattle.pm_exit.specs.{declared.child.{Kind.Kind, Class.Class}, Ends.class_of}
 use Rattle.pm_exit.specs.declared.child.Kind.TheVariants as kind
-use Rattle.pm_exit.specs.declared.child.Class.{Class}
 use Rattle.pm_exit.specs.declared.child.Class.TheVariants as class
-use Rattle.pm_exit.specs.Ends.{class_of}
-use Rattle.pm_modes.specs.declared.Mode.{Mode}
-use Rattle.pm_modes.specs.Strength.{strengthen_of}
+use Rattle.pm_modes.specs.{declared.Mode.Mode, Strength.strengthen_of}
 use Rattle.pm_admit.specs.declared.PmState.TheVariants as state
-use Rattle.pm_state.specs.declared.action.Action.{Action}
+use Rattle.pm_state.{specs.{declared.{action.Action.Action, machine.{Machine.Machine, Exit.Exit}}, Exits.{is_shutdown, exited_by, unless_normal, checkpointer_exited, less_one, crash_rule, startup_exited}, Machine.{MachineEvent, Accepted, Started, Exited, Asked, Ticked, Turned, step}, Requests.{asked_with, ticked_at}, Starts.{has_end, has_start}, TurnRules.{start_recovery, restart_writer, backends_gone, children_gone}}, proofs.TurnCases.{late_of, with_terminate, TurnCases, by-turn, by-late}}
 use Rattle.pm_state.specs.declared.action.Action.TheVariants as act
-use Rattle.pm_state.specs.declared.machine.Machine.{Machine}
-use Rattle.pm_state.specs.declared.machine.Exit.{Exit}
-use Rattle.pm_state.specs.Exits.{is_shutdown, exited_by, unless_normal, checkpointer_exited, less_one, crash_rule, startup_exited}
-use Rattle.pm_state.specs.Machine.{MachineEvent, Accepted, Started, Exited, Asked, Ticked, Turned, step}
-use Rattle.pm_state.specs.Requests.{asked_with, ticked_at}
-use Rattle.pm_state.specs.Starts.{has_end, has_start}
-use Rattle.pm_state.specs.TurnRules.{start_recovery, restart_writer, backends_gone, children_gone}
-use Rattle.pm_state.proofs.TurnCases.{late_of, with_terminate, TurnCases, by-turn, by-late}
 
 -- no act that all children are told of, and none that begins a generation
 abbrev pub are_calm : List Action → Bool

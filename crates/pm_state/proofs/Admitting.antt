@@ -1,30 +1,11 @@
 -- From an abnormal end of a child until redo has ended the machine isn't in Run, so that no connection is accepted as a session.
-use Rattle.std.proofs.Common.{◌≡◌, ◌≢◌, ◌⊎◌, inl, inr, ℕ, Bool, true, false, ◌||◌, List, [], ◌∷◌, refl, sym, ◌∙◌, subst, arith}
-use Rattle.std.proofs.lemmas.Bool.{false≢true}
-use Rattle.pm_exit.specs.declared.child.Status.{Status}
-use Rattle.pm_exit.specs.declared.child.Kind.{Kind}
-use Rattle.pm_exit.specs.declared.child.Kind.TheVariants as kind
-use Rattle.pm_exit.specs.Ends.{is_exit_0}
-use Rattle.pm_modes.specs.declared.Mode.{Mode}
-use Rattle.pm_admit.specs.declared.Cac.{Cac}
-use Rattle.pm_admit.specs.declared.Cac.TheVariants as cac
-use Rattle.pm_admit.specs.Admission.{decide_of, is_run}
-use Rattle.pm_supervisor.specs.Supervisor.{Shared}
-use Rattle.pm_supervisor.specs.declared.Limits.{Limits}
-use Rattle.pm_state.specs.declared.action.Action.{Action}
+use Rattle.std.proofs.{Common.{◌≡◌, ◌≢◌, ◌⊎◌, inl, inr, ℕ, Bool, true, false, ◌||◌, List, [], ◌∷◌, refl, sym, ◌∙◌, subst, arith}, lemmas.Bool.false≢true}
+use Rattle.pm_supervisor.specs.{pm_exit.{declared.child.{Status.Status, Kind.Kind}, Ends.is_exit_0}, pm_modes.declared.Mode.Mode, pm_admit.{declared.Cac.Cac, Admission.{decide_of, is_run}}, Supervisor.Shared, declared.Limits.Limits}
+use Rattle.pm_supervisor.specs.pm_exit.declared.child.Kind.TheVariants as kind
+use Rattle.pm_supervisor.specs.pm_admit.declared.Cac.TheVariants as cac
+use Rattle.pm_state.{specs.{declared.{action.Action.Action, event.PmEvent.PmEvent, machine.Machine.Machine}, Exits.{startup_exited, crash_rule}, TurnRules.{backends_gone, children_gone, dead_ends_gone, end_smart, restart_writer, start_recovery, stop_backends}, Machine.{Accepted, Asked, Exited, Ticked, started_as, step, view_of}, Transition.Transition, Restarts.{AdmitsFrom, MayStand, is_abnormal, recovers_after}, Journal.{AreLegal, Do, Due, EndRedo, IsLegal, Replay, caused, entry_of, replay_begun, replayed, reported, row_of, settled}}, proofs.{Entries.{EntryCases, by-entry}, Journal.is_kill, TurnJournal.{IsFirst, is-first}}}
 use Rattle.pm_state.specs.declared.action.Action.TheVariants as act
-use Rattle.pm_state.specs.declared.event.PmEvent.{PmEvent}
 use Rattle.pm_state.specs.declared.event.PmEvent.TheVariants as entry
-use Rattle.pm_state.specs.declared.machine.Machine.{Machine}
-use Rattle.pm_state.specs.Exits.{startup_exited, crash_rule}
-use Rattle.pm_state.specs.TurnRules.{backends_gone, children_gone, dead_ends_gone, end_smart, restart_writer, start_recovery, stop_backends}
-use Rattle.pm_state.specs.Machine.{Accepted, Asked, Exited, Ticked, started_as, step, view_of}
-use Rattle.pm_state.specs.Transition.{Transition}
-use Rattle.pm_state.specs.Restarts.{AdmitsFrom, MayStand, is_abnormal, recovers_after}
-use Rattle.pm_state.specs.Journal.{AreLegal, Do, Due, EndRedo, IsLegal, Replay, caused, entry_of, replay_begun, replayed, reported, row_of, settled}
-use Rattle.pm_state.proofs.Entries.{EntryCases, by-entry}
-use Rattle.pm_state.proofs.Journal.{is_kill}
-use Rattle.pm_state.proofs.TurnJournal.{IsFirst, is-first}
 
 -- the machine goes on to run by the end of redo alone
 

@@ -1,40 +1,12 @@
 -- Each call is a run of the supervisor, and so is each list of them.
-use Rattle.std.proofs.Common.{◌≡◌, ℕ, ◌+◌, Bool, true, false, not, List, [], ◌∷◌, ◌++◌, Option, Some, None, refl, arith, cond, ap, sym, subst, ◌∙◌}
-use Rattle.std.specs.Prelude.{IsSomeAnd}
-use Rattle.pm_exit.specs.declared.child.Status.{Status}
-use Rattle.pm_exit.specs.declared.child.Kind.{Kind}
-use Rattle.pm_exit.specs.declared.child.Kind.TheVariants as kind
-use Rattle.pm_exit.specs.declared.child.Class.{Class}
-use Rattle.pm_exit.specs.declared.child.Class.TheVariants as class
-use Rattle.pm_exit.specs.Ends.{class_of, is_exit_0}
-use Rattle.pm_modes.specs.declared.Mode.{Mode}
-use Rattle.pm_modes.specs.declared.Mode.TheVariants as mode
-use Rattle.pm_modes.specs.Strength.{strengthen_of}
-use Rattle.pm_admit.specs.declared.Cac.{Cac}
-use Rattle.pm_admit.specs.declared.Cac.TheVariants as cac
-use Rattle.pm_admit.specs.Admission.{decide_of}
-use Rattle.pm_supervisor.specs.declared.Limits.{Limits}
-use Rattle.pm_supervisor.specs.Children.{Child, is_session, is_startup_child, is_checkpointer, is_writer, is_dead_end, child_of, without, marked, count_of}
-use Rattle.pm_supervisor.specs.Supervisor.{Supervisor}
-use Rattle.pm_supervisor.specs.Shared.{with_child}
+use Rattle.std.{proofs.Common.{◌≡◌, ℕ, ◌+◌, Bool, true, false, not, List, [], ◌∷◌, ◌++◌, Option, Some, None, refl, arith, cond, ap, sym, subst, ◌∙◌}, specs.Prelude.IsSomeAnd}
+use Rattle.pm_supervisor.{specs.{pm_exit.{declared.child.{Status.Status, Kind.Kind, Class.Class}, Ends.{class_of, is_exit_0}}, pm_modes.{declared.Mode.Mode, Strength.strengthen_of}, pm_admit.{declared.Cac.Cac, Admission.decide_of}, declared.Limits.Limits, Children.{Child, is_session, is_startup_child, is_checkpointer, is_writer, is_dead_end, child_of, without, marked, count_of}, Supervisor.Supervisor, Shared.with_child, Steps.{SupervisorEvent, Trace, IsRun, MayHappen, SharedAllows, all_happened, happened, after, is_normal, empty_trace, admission, kind_for, redo_has_ended}, Invariant.IsWell, Laws.{StaysWell, TakesChildStepsBetween}, Between.{without_child_steps, ChildStepsMayHappen, all_detached, detached, with_children, IsAlike}}, proofs.RunLaws.{IsRun-append, all_happened-append, count-marked}}
+use Rattle.pm_supervisor.specs.pm_exit.declared.child.Kind.TheVariants as kind
+use Rattle.pm_supervisor.specs.pm_exit.declared.child.Class.TheVariants as class
+use Rattle.pm_supervisor.specs.pm_modes.declared.Mode.TheVariants as mode
+use Rattle.pm_supervisor.specs.pm_admit.declared.Cac.TheVariants as cac
 use Rattle.pm_supervisor.specs.Steps as supervisor
-use Rattle.pm_supervisor.specs.Steps.{SupervisorEvent, Trace, IsRun, MayHappen, SharedAllows, all_happened, happened, after, is_normal, empty_trace, admission, kind_for, redo_has_ended}
-use Rattle.pm_state.specs.declared.machine.Machine.{Machine}
-use Rattle.pm_state.specs.declared.machine.Exit.{Exit}
-use Rattle.pm_state.specs.Exits.{unless_normal, less_one, checkpointer_exited, startup_exited, is_shutdown}
-use Rattle.pm_state.specs.Machine.{view_of, accepted_as, started_as, begun, IsReady, IsCounted, IsDue, MayAccept}
-use Rattle.pm_state.specs.Transition.{Transition}
-use Rattle.pm_state.specs.Requests.{asked_with, ticked_at}
-use Rattle.pm_state.specs.Shows.{Call, Accepts, Starts, Exits, Asks, Ticks, TakesTurn, Attaches, Touches, Detaches, events_of, events_of_exit, events_of_request, events_of_call, machine_after, machine_at_end, events_in, IsFit, AreFit}
-use Rattle.pm_supervisor.specs.Invariant.{IsWell}
-use Rattle.pm_supervisor.specs.Laws.{StaysWell, TakesChildStepsBetween}
-use Rattle.pm_supervisor.specs.Between.{without_child_steps, ChildStepsMayHappen, all_detached, detached, with_children, IsAlike}
-use Rattle.pm_supervisor.specs.RunLaws.{IsRun-append, all_happened-append, count-marked}
-use Rattle.pm_state.specs.Facts.{Facts, has_checkpointer}
-use Rattle.pm_state.proofs.Turns.{Leads, turned}
-use Rattle.pm_state.proofs.Counts.{count-without}
-use Rattle.pm_state.proofs.Exits.{Leaves, calm, crash-run, crash-facts, less_one-leaves, less_one-checkpoints, Less, less}
-use Rattle.pm_state.proofs.Startups.{has_left, redo-run, redo-facts, failed-run, failed-facts}
+use Rattle.pm_state.{specs.{declared.machine.{Machine.Machine, Exit.Exit}, Exits.{unless_normal, less_one, checkpointer_exited, startup_exited, is_shutdown}, Machine.{view_of, accepted_as, started_as, begun, IsReady, IsCounted, IsDue, MayAccept}, Transition.Transition, Requests.{asked_with, ticked_at}, Shows.{Call, Accepts, Starts, Exits, Asks, Ticks, TakesTurn, Attaches, Touches, Detaches, events_of, events_of_exit, events_of_request, events_of_call, machine_after, machine_at_end, events_in, IsFit, AreFit}, Facts.{Facts, has_checkpointer}}, proofs.{Turns.{Leads, turned}, Counts.count-without, Exits.{Leaves, calm, crash-run, crash-facts, less_one-leaves, less_one-checkpoints, Less, less}, Startups.{has_left, redo-run, redo-facts, failed-run, failed-facts}}}
 
 -- an event, and then a run
 pub Leads-first : (limits : Limits) (h : Trace) (e : SupervisorEvent) (events : List SupervisorEvent) (m : Machine) → MayHappen limits h e
@@ -80,7 +52,7 @@ checkpointed-run limits m h pid status was_active leaves normal = grind arith
 
 checkpointed-facts : (limits : Limits) (m : Machine) (h : Trace) → Leaves limits m h.now false
     → m.checkpointer ≡ false → is_shutdown m.state ≡ true
-    → Facts limits (record m { state = Rattle.pm_admit.specs.declared.PmState.TheVariants.WaitDeadEnd })
+    → Facts limits (record m { state = Rattle.pm_supervisor.specs.pm_admit.declared.PmState.TheVariants.WaitDeadEnd })
     (all_happened h (supervisor.Checkpointed ∷ [])).now
 checkpointed-facts limits m h leaves gone in_shutdown =
     record {

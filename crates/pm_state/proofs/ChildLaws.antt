@@ -1,13 +1,9 @@
 -- Where no child is counted, none is there; and the states in which none is.
 use Rattle.std.proofs.Common.{◌≡◌, ◌+◌, List, [], ◌∷◌, refl, arith, Bool, true, false}
-use Rattle.pm_exit.specs.declared.child.Kind.{Kind}
-use Rattle.pm_admit.specs.declared.Cac.TheVariants as decisions
-use Rattle.pm_admit.specs.declared.PmState.{PmState}
-use Rattle.pm_admit.specs.declared.PmState.TheVariants as state
-use Rattle.pm_admit.specs.declared.Cac.{Cac}
-use Rattle.pm_supervisor.specs.Children.{Child, is_session, is_startup_child, is_checkpointer, is_writer, is_dead_end, one_if, count_of}
-use Rattle.pm_state.specs.declared.machine.Machine.{Machine}
-use Rattle.pm_state.specs.Machine.{accepted_as}
+use Rattle.pm_supervisor.specs.{pm_exit.declared.child.Kind.Kind, pm_admit.declared.{PmState.PmState, Cac.Cac}, Children.{Child, is_session, is_startup_child, is_checkpointer, is_writer, is_dead_end, one_if, count_of}}
+use Rattle.pm_supervisor.specs.pm_admit.declared.Cac.TheVariants as decisions
+use Rattle.pm_supervisor.specs.pm_admit.declared.PmState.TheVariants as state
+use Rattle.pm_state.specs.{declared.machine.Machine.Machine, Machine.accepted_as}
 
 one_kind : (k : Kind) →
     one_if (is_session k) + one_if (is_dead_end k) + one_if (is_startup_child k) + one_if (is_checkpointer k) + one_if (is_writer k) ≡ 1

@@ -1,32 +1,10 @@
 -- The machine counts the children that are there: what each event leaves of it.
-use Rattle.std.proofs.Common.{◌≡◌, ◌⊎◌, inl, inr, ℕ, ◌+◌, Bool, true, false, not, ◌&&◌, ◌||◌, List, [], ◌∷◌, Some, None, refl, arith}
-use Rattle.std.specs.Prelude.{◌==◌, Option, if◌then◌else◌, is_some, nat_le}
-use Rattle.pm_exit.specs.declared.child.Kind.{Kind}
-use Rattle.pm_exit.specs.declared.child.Kind.TheVariants as kind
-use Rattle.pm_exit.specs.declared.child.Class.{Class}
-use Rattle.pm_exit.specs.declared.child.Class.TheVariants as class
-use Rattle.pm_exit.specs.Ends.{class_of, is_exit_0, is_exit_1}
-use Rattle.pm_modes.specs.declared.Mode.{Mode}
-use Rattle.pm_modes.specs.Strength.{is_immediate}
-use Rattle.pm_admit.specs.declared.Cac.{Cac}
-use Rattle.pm_admit.specs.declared.PmState.{PmState}
-use Rattle.pm_admit.specs.declared.PmState.TheVariants as state
-use Rattle.pm_admit.specs.Admission.{is_run, is_startup}
-use Rattle.pm_supervisor.specs.declared.Limits.{Limits}
-use Rattle.pm_supervisor.specs.Children.{Child, is_session, is_startup_child, is_checkpointer, is_writer, is_dead_end, count_of, one_if}
-use Rattle.pm_supervisor.specs.Steps.{kind_for}
-use Rattle.pm_state.specs.declared.machine.Machine.{Machine}
-use Rattle.pm_state.specs.declared.machine.Exit.{Exit}
-use Rattle.pm_state.specs.Exits.{is_shutdown, is_running, crash_rule, startup_exited, checkpointer_exited, unless_normal, exited_by, less_one, without_startup, waiting_state, signalled_state, redo_ended}
-use Rattle.pm_state.specs.Facts.{NothingDue}
-use Rattle.pm_state.specs.Machine.{MayAccept, IsDue, accepted_as, begun, started_as}
-use Rattle.pm_state.specs.Requests.{asked_with, patience, ticked_at}
-use Rattle.pm_state.specs.Restarts.{Counts}
-use Rattle.pm_state.specs.Transition.{Transition, transition}
-use Rattle.pm_state.specs.TurnRules.{is_not_running, are_backends_gone, start_recovery, restart_writer, end_smart, stop_backends, backends_gone, dead_ends_gone, children_gone}
-use Rattle.pm_state.specs.Journal.{row_of, settled}
-use Rattle.pm_state.proofs.Exits.{Less}
-use Rattle.pm_state.specs.ChildLaws.{is_deserted}
+use Rattle.std.{proofs.Common.{◌≡◌, ◌⊎◌, inl, inr, ℕ, ◌+◌, Bool, true, false, not, ◌&&◌, ◌||◌, List, [], ◌∷◌, Some, None, refl, arith}, specs.Prelude.{◌==◌, Option, if◌then◌else◌, is_some, nat_le}}
+use Rattle.pm_supervisor.specs.{pm_exit.{declared.child.{Kind.Kind, Class.Class}, Ends.{class_of, is_exit_0, is_exit_1}}, pm_modes.{declared.Mode.Mode, Strength.is_immediate}, pm_admit.{declared.{Cac.Cac, PmState.PmState}, Admission.{is_run, is_startup}}, declared.Limits.Limits, Children.{Child, is_session, is_startup_child, is_checkpointer, is_writer, is_dead_end, count_of, one_if}, Steps.kind_for}
+use Rattle.pm_supervisor.specs.pm_exit.declared.child.Kind.TheVariants as kind
+use Rattle.pm_supervisor.specs.pm_exit.declared.child.Class.TheVariants as class
+use Rattle.pm_supervisor.specs.pm_admit.declared.PmState.TheVariants as state
+use Rattle.pm_state.{specs.{declared.machine.{Machine.Machine, Exit.Exit}, Exits.{is_shutdown, is_running, crash_rule, startup_exited, checkpointer_exited, unless_normal, exited_by, less_one, without_startup, waiting_state, signalled_state, redo_ended}, Facts.NothingDue, Machine.{MayAccept, IsDue, accepted_as, begun, started_as}, Requests.{asked_with, patience, ticked_at}, Restarts.Counts, Transition.{Transition, transition}, TurnRules.{is_not_running, are_backends_gone, start_recovery, restart_writer, end_smart, stop_backends, backends_gone, dead_ends_gone, children_gone}, Journal.{row_of, settled}}, proofs.{Exits.Less, ChildLaws.is_deserted}}
 
 -- what the machine counts, and what is due
 pub record Tally : Type 0 where

@@ -1,8 +1,6 @@
 -- How many children of a kind are there, as children come and go.
-use Rattle.std.proofs.Common.{◌≡◌, ℕ, ◌+◌, ◌≤◌, Bool, true, false, ◌&&◌, List, [], ◌∷◌, Some, arith, nat_eq, cond, ap}
-use Rattle.std.specs.Prelude.{IsSomeAnd}
-use Rattle.pm_exit.specs.declared.child.Kind.{Kind}
-use Rattle.pm_supervisor.specs.Children.{Child, is_session, child_of, without, one_if, count_of, attached_sessions}
+use Rattle.std.{proofs.Common.{◌≡◌, ℕ, ◌+◌, ◌≤◌, Bool, true, false, ◌&&◌, List, [], ◌∷◌, Some, arith, nat_eq, cond, ap}, specs.Prelude.IsSomeAnd}
+use Rattle.pm_supervisor.specs.{pm_exit.declared.child.Kind.Kind, Children.{Child, is_session, child_of, without, one_if, count_of, attached_sessions}}
 
 pub count-without : (test : Kind → Bool) (pid : ℕ) (kind : Kind) (cs : List Child) → IsSomeAnd (child_of pid cs) (λ c. c.kind ≡ kind)
     → count_of test cs ≡ one_if (test kind) + count_of test (without pid cs)

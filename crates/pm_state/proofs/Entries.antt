@@ -1,20 +1,9 @@
 -- An entry of a legal journal is caused by what happened, is the first act of a row of a turn, or is an act that is due.
-use Rattle.std.proofs.Common.{◌≡◌, ℕ, Bool, false, List, [], ◌∷◌, refl, sym, subst}
-use Rattle.std.specs.Prelude.{IsSomeAnd}
-use Rattle.pm_exit.specs.declared.child.Status.{Status}
-use Rattle.pm_exit.specs.declared.child.Kind.{Kind}
-use Rattle.pm_modes.specs.declared.Mode.{Mode}
-use Rattle.pm_admit.specs.declared.Cac.{Cac}
-use Rattle.pm_admit.specs.Admission.{decide_of}
-use Rattle.pm_supervisor.specs.Children.{child_of}
-use Rattle.pm_supervisor.specs.Supervisor.{Shared}
-use Rattle.pm_state.specs.declared.action.Action.{Action}
+use Rattle.std.{proofs.Common.{◌≡◌, ℕ, Bool, false, List, [], ◌∷◌, refl, sym, subst}, specs.Prelude.IsSomeAnd}
+use Rattle.pm_supervisor.specs.{pm_exit.declared.child.{Status.Status, Kind.Kind}, pm_modes.declared.Mode.Mode, pm_admit.{declared.Cac.Cac, Admission.decide_of}, Children.child_of, Supervisor.Shared}
+use Rattle.pm_state.{specs.{declared.{action.Action.Action, event.PmEvent.PmEvent}, Machine.{MayAccept, view_of}, Journal.{Do, Due, EndRedo, Fits, FitsFirst, Follows, FollowsIn, MayCome, Replay, entry_of, row_of}}, proofs.Journal.is_kill}
 use Rattle.pm_state.specs.declared.action.Action.TheVariants as act
-use Rattle.pm_state.specs.declared.event.PmEvent.{PmEvent}
 use Rattle.pm_state.specs.declared.event.PmEvent.TheVariants as entry
-use Rattle.pm_state.specs.Machine.{MayAccept, view_of}
-use Rattle.pm_state.specs.Journal.{Do, Due, EndRedo, Fits, FitsFirst, Follows, FollowsIn, MayCome, Replay, entry_of, row_of}
-use Rattle.pm_state.proofs.Journal.{is_kill}
 
 -- the entry of an act is the one that the act asks for
 record IsEntryOf (s : Shared) (d : Due) (e : PmEvent) : Type 0 where

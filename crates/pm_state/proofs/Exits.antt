@@ -1,25 +1,9 @@
 -- The end of a child is a run of the supervisor.
-use Rattle.std.proofs.Common.{◌≡◌, ℕ, ◌+◌, Bool, true, false, not, ◌&&◌, ◌||◌, List, Option, refl, arith, sym, ◌∙◌, ap}
-use Rattle.std.specs.Prelude.{IsSomeAnd, if◌then◌else◌}
-use Rattle.pm_exit.specs.declared.child.Status.{Status}
-use Rattle.pm_exit.specs.declared.child.Kind.{Kind}
-use Rattle.pm_exit.specs.declared.child.Kind.TheVariants as kind
-use Rattle.pm_exit.specs.Ends.{class_of}
-use Rattle.pm_modes.specs.Strength.{is_immediate}
-use Rattle.pm_supervisor.specs.declared.Limits.{Limits}
-use Rattle.pm_supervisor.specs.declared.Reason.{Reason}
-use Rattle.pm_supervisor.specs.Children.{Child, is_session, is_startup_child, is_checkpointer, is_writer, is_dead_end, child_of, without, one_if, count_of}
-use Rattle.pm_supervisor.specs.Supervisor.{Shared, Supervisor}
+use Rattle.std.{proofs.Common.{◌≡◌, ℕ, ◌+◌, Bool, true, false, not, ◌&&◌, ◌||◌, List, Option, refl, arith, sym, ◌∙◌, ap}, specs.Prelude.{IsSomeAnd, if◌then◌else◌}}
+use Rattle.pm_supervisor.specs.{pm_exit.{declared.child.{Status.Status, Kind.Kind}, Ends.class_of}, pm_modes.Strength.is_immediate, declared.{Limits.Limits, Reason.Reason}, Children.{Child, is_session, is_startup_child, is_checkpointer, is_writer, is_dead_end, child_of, without, one_if, count_of}, Supervisor.{Shared, Supervisor}, Steps.{Trace, IsRun, all_happened, happened, after, crashed_phase, exited_phase, is_crash, is_normal, is_checkpointing}}
+use Rattle.pm_supervisor.specs.pm_exit.declared.child.Kind.TheVariants as kind
 use Rattle.pm_supervisor.specs.Steps as supervisor
-use Rattle.pm_supervisor.specs.Steps.{Trace, IsRun, all_happened, happened, after, crashed_phase, exited_phase, is_crash, is_normal, is_checkpointing}
-use Rattle.pm_state.specs.declared.machine.Machine.{Machine}
-use Rattle.pm_state.specs.declared.machine.Exit.{Exit}
-use Rattle.pm_state.specs.Exits.{is_shutdown, crash_rule, less_one}
-use Rattle.pm_state.specs.Machine.{IsReady}
-use Rattle.pm_state.specs.TurnRules.{is_not_running}
-use Rattle.pm_state.specs.Shows.{phase_of, events_of}
-use Rattle.pm_state.specs.Facts.{Facts, HoldsIn, IsAlone, IsTold, is_init, is_stop_reason, is_crash_reason, starts_in_startup, startup_is_there, aborts_with_cause, open_without_startup, closed_without_sessions, noticed_while_open, recovers_from_crash, has_checkpointer}
-use Rattle.pm_state.proofs.Counts.{count-without}
+use Rattle.pm_state.{specs.{declared.machine.{Machine.Machine, Exit.Exit}, Exits.{is_shutdown, crash_rule, less_one}, Machine.IsReady, TurnRules.is_not_running, Shows.{phase_of, events_of}, Facts.{Facts, HoldsIn, IsAlone, IsTold, is_init, is_stop_reason, is_crash_reason, starts_in_startup, startup_is_there, aborts_with_cause, open_without_startup, closed_without_sessions, noticed_while_open, recovers_from_crash, has_checkpointer}}, proofs.Counts.count-without}
 
 -- the machine after a child was taken away and before it looks for a crash, and the supervisor after the child's end
 pub record Leaves (limits : Limits) (m : Machine) (s : Supervisor) (is_crash : Bool) : Type 0 where

@@ -1,44 +1,11 @@
 -- Journal, machine and supervisor stay in step.
-use Rattle.std.proofs.Common.{◌≡◌, ℕ, ◌+◌, nat_eq, cond, Bool, true, false, ◌&&◌, List, [], ◌∷◌, ◌++◌, Option, Some, None, refl, arith, ap, sym, ◌∙◌, subst}
-use Rattle.std.specs.Prelude.{IsSomeAnd, is_none}
-use Rattle.pm_exit.specs.declared.child.Status.{Status}
-use Rattle.pm_exit.specs.declared.child.Kind.{Kind}
-use Rattle.pm_exit.specs.declared.child.Kind.TheVariants as kind
-use Rattle.pm_exit.specs.Ends.{class_of, is_exit_0}
-use Rattle.pm_modes.specs.declared.Mode.{Mode}
-use Rattle.pm_modes.specs.Strength.{strengthen_of}
-use Rattle.pm_admit.specs.Admission.{decide_of}
-use Rattle.pm_supervisor.specs.declared.Limits.{Limits}
-use Rattle.pm_supervisor.specs.Children.{is_startup_child, child_of}
-use Rattle.pm_supervisor.specs.Phase.{Phase}
-use Rattle.pm_supervisor.specs.Supervisor.{Shared}
-use Rattle.pm_supervisor.specs.Shared.{with_child}
+use Rattle.std.{proofs.Common.{◌≡◌, ℕ, ◌+◌, nat_eq, cond, Bool, true, false, ◌&&◌, List, [], ◌∷◌, ◌++◌, Option, Some, None, refl, arith, ap, sym, ◌∙◌, subst}, specs.Prelude.{IsSomeAnd, is_none}}
+use Rattle.pm_supervisor.{specs.{pm_exit.{declared.child.{Status.Status, Kind.Kind}, Ends.{class_of, is_exit_0}}, pm_modes.{declared.Mode.Mode, Strength.strengthen_of}, pm_admit.Admission.decide_of, declared.Limits.Limits, Children.{is_startup_child, child_of}, Phase.Phase, Supervisor.Shared, Shared.with_child, Steps.{SupervisorEvent, Trace, MayHappen, happened, all_happened, empty_trace, shared_after, after, is_normal}, Between.{is_child_step, detached, IsAlike}, Laws.{StaysWell, KeepsWhatIsShared, TakesChildStepsBetween}}, proofs.RunLaws.all_happened-append}
+use Rattle.pm_supervisor.specs.pm_exit.declared.child.Kind.TheVariants as kind
 use Rattle.pm_supervisor.specs.Steps as supervisor
-use Rattle.pm_supervisor.specs.Steps.{SupervisorEvent, Trace, MayHappen, happened, all_happened, empty_trace, shared_after, after, is_normal}
-use Rattle.pm_supervisor.specs.Between.{is_child_step, detached, IsAlike}
-use Rattle.pm_supervisor.specs.Laws.{StaysWell, KeepsWhatIsShared, TakesChildStepsBetween}
-use Rattle.pm_supervisor.specs.RunLaws.{all_happened-append}
-use Rattle.pm_state.specs.declared.action.Action.{Action}
+use Rattle.pm_state.{specs.{declared.{action.Action.Action, event.PmEvent.PmEvent, machine.{Machine.Machine, Exit.Exit}}, Exits.{is_shutdown, crash_rule, startup_exited}, Machine.{Accepted, Exited, Asked, Ticked, Turned, step, begun, view_of, started_as}, Starts.Owes, Transition.Transition, TurnRules.{start_recovery, restart_writer, end_smart, stop_backends, backends_gone, dead_ends_gone, children_gone, turned_of, and_then}, Shows.{Call, Accepts, Starts, Exits, Asks, Ticks, TakesTurn, Attaches, Touches, Detaches, events_of, events_of_exit, events_of_request, events_of_turn, move_of, order_of, phase_of, events_of_call, events_in, machine_after, machine_at_end, IsFit, AreFit}, Facts.Facts, Journal.{Do, EndRedo, Replay, Agrees, MayWrite, Writes, Follows, settled, dues, redo_dues, replayed, all_replayed, replay_begun, entry_of, entries_of, entries_of_call, acts_of_call, machine_with_reports}, InStep.{IsInStep, IsTimely, KeepsStep, reports_of, with_reports, server_state}}, proofs.{Acts.{are_calm, is_ordered, step-brief}, Calls.{calls-lead, counted, begun-facts, facts-alike, alike-detached}, Settling.{settled-settled, settled-shutdown, settled-ended}, Reports.{reports-fit, reported-all, reports-machine, step-owes}, TurnJournal.{call-writes, begun-agrees}, Turns.Leads}}
 use Rattle.pm_state.specs.declared.action.Action.TheVariants as act
-use Rattle.pm_state.specs.declared.event.PmEvent.{PmEvent}
 use Rattle.pm_state.specs.declared.event.PmEvent.TheVariants as entry
-use Rattle.pm_state.specs.declared.machine.Machine.{Machine}
-use Rattle.pm_state.specs.declared.machine.Exit.{Exit}
-use Rattle.pm_state.specs.Exits.{is_shutdown, crash_rule, startup_exited}
-use Rattle.pm_state.specs.Machine.{Accepted, Exited, Asked, Ticked, Turned, step, begun, view_of, started_as}
-use Rattle.pm_state.specs.Starts.{Owes}
-use Rattle.pm_state.specs.Transition.{Transition}
-use Rattle.pm_state.specs.TurnRules.{start_recovery, restart_writer, end_smart, stop_backends, backends_gone, dead_ends_gone, children_gone, turned_of, and_then}
-use Rattle.pm_state.specs.Shows.{Call, Accepts, Starts, Exits, Asks, Ticks, TakesTurn, Attaches, Touches, Detaches, events_of, events_of_exit, events_of_request, events_of_turn, move_of, order_of, phase_of, events_of_call, events_in, machine_after, machine_at_end, IsFit, AreFit}
-use Rattle.pm_state.specs.Facts.{Facts}
-use Rattle.pm_state.specs.Journal.{Do, EndRedo, Replay, Agrees, MayWrite, Writes, Follows, settled, dues, redo_dues, replayed, all_replayed, replay_begun, entry_of, entries_of, entries_of_call, acts_of_call, machine_with_reports}
-use Rattle.pm_state.specs.InStep.{IsInStep, IsTimely, KeepsStep, reports_of, with_reports, server_state}
-use Rattle.pm_state.proofs.Acts.{are_calm, is_ordered, step-brief}
-use Rattle.pm_state.proofs.Calls.{calls-lead, counted, begun-facts, facts-alike, alike-detached}
-use Rattle.pm_state.proofs.Settling.{settled-settled, settled-shutdown, settled-ended}
-use Rattle.pm_state.proofs.Reports.{reports-fit, reported-all, reports-machine, step-owes}
-use Rattle.pm_state.proofs.TurnJournal.{call-writes, begun-agrees}
-use Rattle.pm_state.proofs.Turns.{Leads}
 
 -- what the events leave of what is shared
 

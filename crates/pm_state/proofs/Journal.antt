@@ -1,32 +1,12 @@
 -- What the calls write is a legal journal.
-use Rattle.std.proofs.Common.{◌≡◌, ℕ, ◌+◌, Bool, true, false, not, ◌&&◌, ◌||◌, cond, List, [], ◌∷◌, ◌++◌, Option, Some, None, refl, arith, ap, sym, ◌∙◌, inl, inr}
-use Rattle.std.specs.Prelude.{IsSomeAnd, ◌⊎◌}
-use Rattle.std.proofs.lemmas.Bool.{or_parts}
-use Rattle.pm_exit.specs.declared.child.Status.{Status}
-use Rattle.pm_exit.specs.declared.child.Kind.{Kind}
-use Rattle.pm_exit.specs.declared.child.Kind.TheVariants as kind
-use Rattle.pm_exit.specs.declared.child.Class.{Class}
-use Rattle.pm_exit.specs.declared.child.Class.TheVariants as class
-use Rattle.pm_exit.specs.Ends.{class_of, is_exit_0}
-use Rattle.pm_modes.specs.declared.Mode.{Mode}
-use Rattle.pm_modes.specs.declared.Mode.TheVariants as mode
-use Rattle.pm_modes.specs.Strength.{strengthen_of}
-use Rattle.pm_supervisor.specs.Children.{is_startup_child, child_of}
-use Rattle.pm_supervisor.specs.Supervisor.{Shared}
-use Rattle.pm_state.specs.declared.action.Action.{Action}
+use Rattle.std.{proofs.{Common.{◌≡◌, ℕ, ◌+◌, Bool, true, false, not, ◌&&◌, ◌||◌, cond, List, [], ◌∷◌, ◌++◌, Option, Some, None, refl, arith, ap, sym, ◌∙◌, inl, inr}, lemmas.Bool.or_parts}, specs.Prelude.{IsSomeAnd, ◌⊎◌}}
+use Rattle.pm_supervisor.specs.{pm_exit.{declared.child.{Status.Status, Kind.Kind, Class.Class}, Ends.{class_of, is_exit_0}}, pm_modes.{declared.Mode.Mode, Strength.strengthen_of}, Children.{is_startup_child, child_of}, Supervisor.Shared}
+use Rattle.pm_supervisor.specs.pm_exit.declared.child.Kind.TheVariants as kind
+use Rattle.pm_supervisor.specs.pm_exit.declared.child.Class.TheVariants as class
+use Rattle.pm_supervisor.specs.pm_modes.declared.Mode.TheVariants as mode
+use Rattle.pm_state.{specs.{declared.{action.Action.Action, event.PmEvent.PmEvent, machine.{Machine.Machine, Exit.Exit}}, Exits.{is_shutdown, exited_by, unless_normal, checkpointer_exited, less_one, crash_rule, startup_exited}, Machine.{IsCounted, MayAccept, started_as}, Starts.has_start, Transition.Transition, Requests.{asked_with, ticked_at}, Shows.{Accepts, Exits, Asks, Ticks}, Journal.{Due, Do, EndRedo, Replay, settled, dues, redo_dues, replayed, all_replayed, reported, all_reported, entry_of, entries_of, entries_of_call, machine_with_reports, Fits, Follows, AreLegal, Agrees, Writes, IsMoment, AsksSmart}}, proofs.Settling.{is_quiet, settled-quiet, settled-settled, settled-ended, settled-shutdown, settled-abort_at, exited-after, exited-acts, asked-after, asked-acts, ticked-after, ticked-acts}}
 use Rattle.pm_state.specs.declared.action.Action.TheVariants as act
-use Rattle.pm_state.specs.declared.event.PmEvent.{PmEvent}
 use Rattle.pm_state.specs.declared.event.PmEvent.TheVariants as entry
-use Rattle.pm_state.specs.declared.machine.Machine.{Machine}
-use Rattle.pm_state.specs.declared.machine.Exit.{Exit}
-use Rattle.pm_state.specs.Exits.{is_shutdown, exited_by, unless_normal, checkpointer_exited, less_one, crash_rule, startup_exited}
-use Rattle.pm_state.specs.Machine.{IsCounted, MayAccept, started_as}
-use Rattle.pm_state.specs.Starts.{has_start}
-use Rattle.pm_state.specs.Transition.{Transition}
-use Rattle.pm_state.specs.Requests.{asked_with, ticked_at}
-use Rattle.pm_state.specs.Shows.{Accepts, Exits, Asks, Ticks}
-use Rattle.pm_state.specs.Journal.{Due, Do, EndRedo, Replay, settled, dues, redo_dues, replayed, all_replayed, reported, all_reported, entry_of, entries_of, entries_of_call, machine_with_reports, Fits, Follows, AreLegal, Agrees, Writes, IsMoment, AsksSmart}
-use Rattle.pm_state.proofs.Settling.{is_quiet, settled-quiet, settled-settled, settled-ended, settled-shutdown, settled-abort_at, exited-after, exited-acts, asked-after, asked-acts, ticked-after, ticked-acts}
 
 -- acts that are due are done in order
 

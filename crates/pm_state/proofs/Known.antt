@@ -1,14 +1,8 @@
 -- The facts in words follow from what holds at every moment.
-use Rattle.std.proofs.Common.{◌≡◌, true, false, ◌||◌, None, arith}
-use Rattle.std.specs.Prelude.{is_some}
-use Rattle.pm_modes.specs.Strength.{is_immediate}
-use Rattle.pm_admit.specs.declared.PmState.TheVariants as state
-use Rattle.pm_supervisor.specs.declared.Limits.{Limits}
-use Rattle.pm_supervisor.specs.Supervisor.{Supervisor}
-use Rattle.pm_state.specs.declared.machine.Machine.{Machine}
-use Rattle.pm_state.specs.TurnRules.{is_not_running}
-use Rattle.pm_state.specs.Facts.{Facts, OnlyDeadEnds, NoneIsThere, IsSmartOrFast}
-use Rattle.pm_state.specs.Known.{Known, RunsWell, OnlyCheckpoints, is_signalled, is_waiting}
+use Rattle.std.{proofs.Common.{◌≡◌, true, false, ◌||◌, None, arith}, specs.Prelude.is_some}
+use Rattle.pm_supervisor.specs.{pm_modes.Strength.is_immediate, declared.Limits.Limits, Supervisor.Supervisor}
+use Rattle.pm_supervisor.specs.pm_admit.declared.PmState.TheVariants as state
+use Rattle.pm_state.specs.{declared.machine.Machine.Machine, TurnRules.is_not_running, Facts.{Facts, OnlyDeadEnds, NoneIsThere, IsSmartOrFast}, Known.{Known, RunsWell, OnlyCheckpoints, is_signalled, is_waiting}}
 
 startup_in_startup : (limits : Limits) (m : Machine) (s : Supervisor) → Facts limits m s → is_not_running m.startup ≡ false → m.shutdown ≡ None → m.state ≡ state.Startup
 startup_in_startup limits m s facts there none = grind arith

@@ -19,3 +19,7 @@ pub mod Entries
 pub mod Counting
 pub mod Restarts
 pub mod Admitting
+pub mod ChildLaws
+pub mod ReplayLaws
+pub mod TurnLaws
+pub use Rattle.pm_supervisor.proofs as pm_supervisor

@@ -1,31 +1,11 @@
 -- What a reader of the manual counts on.
-use Rattle.std.proofs.Common.{◌≡◌, ℕ, ◌+◌, ◌≤◌, Bool, true, false, ◌||◌, [], ◌∷◌, Some, None, refl, arith}
-use Rattle.std.specs.Prelude.{Option, is_some}
-use Rattle.pm_exit.specs.declared.child.Status.{Status}
-use Rattle.pm_exit.specs.declared.child.Kind.{Kind}
-use Rattle.pm_exit.specs.declared.child.Kind.TheVariants as kind
-use Rattle.pm_exit.specs.declared.child.Class.{Class}
-use Rattle.pm_exit.specs.declared.child.Class.TheVariants as class
-use Rattle.pm_exit.specs.Ends.{class_of}
-use Rattle.pm_modes.specs.declared.Mode.{Mode}
-use Rattle.pm_modes.specs.declared.Mode.TheVariants as mode
-use Rattle.pm_modes.specs.Strength.{is_immediate, strengthen_of}
-use Rattle.pm_admit.specs.Admission.{is_run}
-use Rattle.pm_supervisor.specs.declared.Limits.{Limits}
-use Rattle.pm_supervisor.specs.Children.{is_startup_child}
-use Rattle.pm_supervisor.specs.Supervisor.{Supervisor}
-use Rattle.pm_supervisor.specs.Steps.{is_normal}
+use Rattle.std.{proofs.Common.{◌≡◌, ℕ, ◌+◌, ◌≤◌, Bool, true, false, ◌||◌, [], ◌∷◌, Some, None, refl, arith}, specs.Prelude.{Option, is_some}}
+use Rattle.pm_supervisor.specs.{pm_exit.{declared.child.{Status.Status, Kind.Kind, Class.Class}, Ends.class_of}, pm_modes.{declared.Mode.Mode, Strength.{is_immediate, strengthen_of}}, pm_admit.Admission.is_run, declared.Limits.Limits, Children.is_startup_child, Supervisor.Supervisor, Steps.is_normal}
+use Rattle.pm_supervisor.specs.pm_exit.declared.child.Kind.TheVariants as kind
+use Rattle.pm_supervisor.specs.pm_exit.declared.child.Class.TheVariants as class
+use Rattle.pm_supervisor.specs.pm_modes.declared.Mode.TheVariants as mode
 use Rattle.pm_state.specs.declared.action.Action.TheVariants as act
-use Rattle.pm_state.specs.declared.machine.Machine.{Machine}
-use Rattle.pm_state.specs.declared.machine.Exit.{Exit}
-use Rattle.pm_state.specs.Exits.{is_shutdown, exited_by, unless_normal, checkpointer_exited, less_one, crash_rule, startup_exited}
-use Rattle.pm_state.specs.Machine.{MachineEvent, Accepted, Started, Exited, Asked, Ticked, Turned, step}
-use Rattle.pm_state.specs.Requests.{asked_with, patience, ticked_at}
-use Rattle.pm_state.specs.Transition.{Transition}
-use Rattle.pm_state.specs.Facts.{Facts, aborts_with_cause}
-use Rattle.pm_state.specs.Promises.{has_act, is_quit, is_ready_act, is_release, is_startup_crash, starts_before_ready}
-use Rattle.pm_state.proofs.Counting.{by-exit}
-use Rattle.pm_state.proofs.TurnPromises.{turned-orders}
+use Rattle.pm_state.{specs.{declared.machine.{Machine.Machine, Exit.Exit}, Exits.{is_shutdown, exited_by, unless_normal, checkpointer_exited, less_one, crash_rule, startup_exited}, Machine.{MachineEvent, Accepted, Started, Exited, Asked, Ticked, Turned, step}, Requests.{asked_with, patience, ticked_at}, Transition.Transition, Facts.{Facts, aborts_with_cause}, Promises.{has_act, is_quit, is_ready_act, is_release, is_startup_crash, starts_before_ready}}, proofs.{Counting.by-exit, TurnPromises.turned-orders}}
 
 -- whoever is left is killed after five seconds
 

@@ -1,23 +1,10 @@
 -- The starts that a call asks for are reported one by one, and then nothing is due.
 use Rattle.std.proofs.Common.{◌≡◌, ℕ, ◌+◌, Bool, true, false, not, ◌||◌, List, [], ◌∷◌, refl, arith}
-use Rattle.pm_exit.specs.declared.child.Kind.{Kind}
-use Rattle.pm_exit.specs.declared.child.Kind.TheVariants as kind
-use Rattle.pm_supervisor.specs.declared.Limits.{Limits}
-use Rattle.pm_supervisor.specs.Children.{is_startup_child, is_checkpointer, is_writer, one_if}
+use Rattle.pm_supervisor.specs.{pm_exit.declared.child.Kind.Kind, declared.Limits.Limits, Children.{is_startup_child, is_checkpointer, is_writer, one_if}, Steps.{SupervisorEvent, Trace, MayHappen, IsRun, happened, all_happened, empty_trace, shared_after, after, is_normal}}
+use Rattle.pm_supervisor.specs.pm_exit.declared.child.Kind.TheVariants as kind
 use Rattle.pm_supervisor.specs.Steps as supervisor
-use Rattle.pm_supervisor.specs.Steps.{SupervisorEvent, Trace, MayHappen, IsRun, happened, all_happened, empty_trace, shared_after, after, is_normal}
-use Rattle.pm_state.specs.declared.action.Action.{Action}
+use Rattle.pm_state.{specs.{declared.{action.Action.Action, machine.Machine.Machine}, Machine.{MachineEvent, step, started_as, IsReady, IsDue}, Starts.{starts_in, has_end, has_start, Owes, is_report}, Transition.Transition, Shows.{machine_at_end, AreFit}, Facts.NothingDue, Journal.all_reported, InStep.reports_of}, proofs.{Acts.step-brief, Telling.{TellsAll, step-tells}}}
 use Rattle.pm_state.specs.declared.action.Action.TheVariants as act
-use Rattle.pm_state.specs.declared.machine.Machine.{Machine}
-use Rattle.pm_state.specs.Machine.{MachineEvent, step, started_as, IsReady, IsDue}
-use Rattle.pm_state.specs.Starts.{starts_in, has_end, has_start, Owes, is_report}
-use Rattle.pm_state.specs.Transition.{Transition}
-use Rattle.pm_state.specs.Shows.{machine_at_end, AreFit}
-use Rattle.pm_state.specs.Facts.{NothingDue}
-use Rattle.pm_state.specs.Journal.{all_reported}
-use Rattle.pm_state.specs.InStep.{reports_of}
-use Rattle.pm_state.proofs.Acts.{step-brief}
-use Rattle.pm_state.proofs.Telling.{TellsAll, step-tells}
 
 due-one : (b : Bool) (n : ℕ) → 1 + n ≡ one_if b → (b ≡ true) × (n ≡ 0)
 due-one true n is = (refl, omega (arith, is))

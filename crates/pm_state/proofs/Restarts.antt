@@ -1,51 +1,15 @@
 -- Along a legal journal the machine counts the children that are there, and a next generation begins with none of them.
-use Rattle.std.proofs.Common.{◌≡◌, ◌⊎◌, inl, inr, ℕ, ◌+◌, Bool, true, false, not, ◌&&◌, ◌||◌, cond, List, [], ◌∷◌, refl, arith, sym, ◌∙◌, ap, subst}
-use Rattle.std.specs.Prelude.{◌==◌, if◌then◌else◌, nat_eq, IsSomeAnd, Option, Some, None, is_none, is_some}
-use Rattle.std.proofs.lemmas.Bool.{not-true}
-use Rattle.pm_exit.specs.declared.child.Status.{Status}
-use Rattle.pm_exit.specs.declared.child.Kind.{Kind}
-use Rattle.pm_exit.specs.declared.child.Kind.TheVariants as kind
-use Rattle.pm_exit.specs.Ends.{is_exit_0}
-use Rattle.pm_modes.specs.declared.Mode.{Mode}
-use Rattle.pm_modes.specs.declared.Mode.TheVariants as mode
-use Rattle.pm_modes.specs.Strength.{is_immediate, strengthen_of}
-use Rattle.pm_admit.specs.declared.PmState.{PmState}
-use Rattle.pm_admit.specs.declared.PmState.TheVariants as state
-use Rattle.pm_admit.specs.declared.Cac.{Cac}
-use Rattle.pm_admit.specs.Admission.{decide_of}
-use Rattle.pm_supervisor.specs.declared.Ending.{Ending}
+use Rattle.std.{proofs.{Common.{◌≡◌, ◌⊎◌, inl, inr, ℕ, ◌+◌, Bool, true, false, not, ◌&&◌, ◌||◌, cond, List, [], ◌∷◌, refl, arith, sym, ◌∙◌, ap, subst}, lemmas.Bool.not-true}, specs.Prelude.{◌==◌, if◌then◌else◌, nat_eq, IsSomeAnd, Option, Some, None, is_none, is_some}}
+use Rattle.pm_supervisor.{specs.{pm_exit.{declared.child.{Status.Status, Kind.Kind}, Ends.is_exit_0}, pm_modes.{declared.Mode.Mode, Strength.{is_immediate, strengthen_of}}, pm_admit.{declared.{PmState.PmState, Cac.Cac}, Admission.decide_of}, declared.{Ending.Ending, Limits.Limits}, Children.{Child, child_of, is_startup_child, without}, Supervisor.Shared, Steps.{kind_for, shared_after}}, proofs.RunLaws.redo-children}
+use Rattle.pm_supervisor.specs.pm_exit.declared.child.Kind.TheVariants as kind
+use Rattle.pm_supervisor.specs.pm_modes.declared.Mode.TheVariants as mode
+use Rattle.pm_supervisor.specs.pm_admit.declared.PmState.TheVariants as state
 use Rattle.pm_supervisor.specs.declared.Ending.TheVariants as ending
-use Rattle.pm_supervisor.specs.declared.Limits.{Limits}
-use Rattle.pm_supervisor.specs.Children.{Child, child_of, is_startup_child, without}
-use Rattle.pm_supervisor.specs.Supervisor.{Shared}
-use Rattle.pm_supervisor.specs.Steps.{kind_for, shared_after}
 use Rattle.pm_supervisor.specs.Steps as supervisor
-use Rattle.pm_supervisor.specs.RunLaws.{redo-children}
-use Rattle.pm_state.specs.declared.action.Action.{Action}
+use Rattle.pm_state.{specs.{declared.{action.Action.Action, event.PmEvent.PmEvent, machine.{Machine.Machine, Exit.Exit}}, Exits.{crash_rule, exited_by, less_one, startup_exited}, Facts.NothingDue, Machine.{Exited, Asked, IsReady, MayAccept, accepted_as, started_as, view_of}, Requests.{asked_with, ticked_at}, Restarts.{AreAsSet, BeginsAlone, BeginsFrom, Counts, IsAsSet, there_after, without_pid}, Starts.Owes, Transition.{Transition, transition}, TurnRules.{are_backends_gone, start_recovery, restart_writer, end_smart, stop_backends, backends_gone, dead_ends_gone, children_gone}, Journal.{AreLegal, Do, Due, EndRedo, IsLegal, Replay, all_replayed, caused, dues_after, entry_of, replay_begun, replayed, reported, row_of, settled, shown_after}}, proofs.{ReplayLaws.{acts_behind_redo, acts_in, acts_in_dues}, Counting.{Tied, accepted-tied, asked-tied, begun-tied, by-exit, by-test, exited-tied, row-tied, settled-does, settled-tied, started-tied, ticked-tied, tied-counts}, Entries.{EntryCases, by-entry}, Exits.less, Journal.is_kill, Reports.{all-done, due-first, owes-later, step-owes}, TurnCases.is_no_children, TurnJournal.{IsFirst, is-first}, ChildLaws.nobody}}
 use Rattle.pm_state.specs.declared.action.Action.TheVariants as act
 use Rattle.pm_state.specs.declared.action.Line.TheVariants as line
-use Rattle.pm_state.specs.declared.event.PmEvent.{PmEvent}
 use Rattle.pm_state.specs.declared.event.PmEvent.TheVariants as entry
-use Rattle.pm_state.specs.declared.machine.Machine.{Machine}
-use Rattle.pm_state.specs.declared.machine.Exit.{Exit}
-use Rattle.pm_state.specs.Exits.{crash_rule, exited_by, less_one, startup_exited}
-use Rattle.pm_state.specs.Facts.{NothingDue}
-use Rattle.pm_state.specs.Machine.{Exited, Asked, IsReady, MayAccept, accepted_as, started_as, view_of}
-use Rattle.pm_state.specs.Requests.{asked_with, ticked_at}
-use Rattle.pm_state.specs.Restarts.{AreAsSet, BeginsAlone, BeginsFrom, Counts, IsAsSet, there_after, without_pid}
-use Rattle.pm_state.specs.Starts.{Owes}
-use Rattle.pm_state.specs.Transition.{Transition, transition}
-use Rattle.pm_state.specs.TurnRules.{are_backends_gone, start_recovery, restart_writer, end_smart, stop_backends, backends_gone, dead_ends_gone, children_gone}
-use Rattle.pm_state.specs.Journal.{AreLegal, Do, Due, EndRedo, IsLegal, Replay, all_replayed, caused, dues_after, entry_of, replay_begun, replayed, reported, row_of, settled, shown_after}
-use Rattle.pm_state.specs.ReplayLaws.{acts_behind_redo, acts_in, acts_in_dues}
-use Rattle.pm_state.proofs.Counting.{Tied, accepted-tied, asked-tied, begun-tied, by-exit, by-test, exited-tied, row-tied, settled-does, settled-tied, started-tied, ticked-tied, tied-counts}
-use Rattle.pm_state.proofs.Entries.{EntryCases, by-entry}
-use Rattle.pm_state.proofs.Exits.{less}
-use Rattle.pm_state.proofs.Journal.{is_kill}
-use Rattle.pm_state.proofs.Reports.{all-done, due-first, owes-later, step-owes}
-use Rattle.pm_state.proofs.TurnCases.{is_no_children}
-use Rattle.pm_state.proofs.TurnJournal.{IsFirst, is-first}
-use Rattle.pm_state.specs.ChildLaws.{nobody}
 
 -- a reset among the acts is done where nobody is there, before any start
 abbrev ResetsAlone : List Action → List Child → Type 0

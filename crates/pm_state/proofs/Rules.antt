@@ -1,20 +1,10 @@
 -- Each rule of a turn keeps the facts, and moves the phase where it may: it does something in one state alone, and there it
 -- changes the state and what is due.
-use Rattle.std.proofs.Common.{◌≡◌, Bool, true, false, not, ◌||◌, refl, arith, subst, inl, inr}
-use Rattle.std.specs.Prelude.{◌⊎◌}
-use Rattle.pm_modes.specs.Strength.{is_immediate}
-use Rattle.pm_admit.specs.declared.PmState.{PmState}
-use Rattle.pm_admit.specs.declared.PmState.TheVariants as state
-use Rattle.pm_supervisor.specs.declared.Limits.{Limits}
-use Rattle.pm_supervisor.specs.Supervisor.{Supervisor}
-use Rattle.pm_supervisor.specs.Steps.{Trace, IsRun}
-use Rattle.pm_state.specs.declared.machine.StartupStatus.{StartupStatus}
+use Rattle.std.{proofs.Common.{◌≡◌, Bool, true, false, not, ◌||◌, refl, arith, subst, inl, inr}, specs.Prelude.◌⊎◌}
+use Rattle.pm_supervisor.specs.{pm_modes.Strength.is_immediate, pm_admit.declared.PmState.PmState, declared.Limits.Limits, Supervisor.Supervisor, Steps.{Trace, IsRun}}
+use Rattle.pm_supervisor.specs.pm_admit.declared.PmState.TheVariants as state
+use Rattle.pm_state.{specs.{declared.machine.{StartupStatus.StartupStatus, Machine.Machine}, TurnRules.{start_recovery, restart_writer, end_smart, stop_backends, backends_gone, dead_ends_gone, startup_starts, are_backends_gone}, Shows.{phase_of, move_of}, Facts.{Facts, HoldsIn, IsAlone, starts_in_startup, startup_is_there, has_checkpointer}}, proofs.ChildLaws.nobody}
 use Rattle.pm_state.specs.declared.machine.StartupStatus.TheVariants as startup
-use Rattle.pm_state.specs.declared.machine.Machine.{Machine}
-use Rattle.pm_state.specs.TurnRules.{start_recovery, restart_writer, end_smart, stop_backends, backends_gone, dead_ends_gone, startup_starts, are_backends_gone}
-use Rattle.pm_state.specs.Shows.{phase_of, move_of}
-use Rattle.pm_state.specs.Facts.{Facts, HoldsIn, IsAlone, starts_in_startup, startup_is_there, has_checkpointer}
-use Rattle.pm_state.specs.ChildLaws.{nobody}
 
 -- nothing is done
 stayed : (limits : Limits) (m n : Machine) (s : Supervisor) → n ≡ m → Facts limits m s → Facts limits n (record s { phase = phase_of n })

@@ -1,29 +1,14 @@
 -- The moves that leave no entry, and what each call does where they are made before it.
-use Rattle.std.proofs.Common.{◌≡◌, ℕ, ◌+◌, ◌<◌, Bool, true, false, ◌&&◌, ◌||◌, [], ◌∷◌, Option, Some, None, refl, arith, ap, sym, ◌∙◌, inl, inr}
-use Rattle.std.specs.Prelude.{if◌then◌else◌, nat_le, ◌⊎◌}
-use Rattle.pm_exit.specs.declared.child.Status.{Status}
-use Rattle.pm_exit.specs.declared.child.Kind.{Kind}
-use Rattle.pm_exit.specs.declared.child.Kind.TheVariants as kind
-use Rattle.pm_exit.specs.declared.child.Class.{Class}
-use Rattle.pm_exit.specs.declared.child.Class.TheVariants as class
-use Rattle.pm_exit.specs.Ends.{class_of}
-use Rattle.pm_modes.specs.declared.Mode.{Mode}
+use Rattle.std.{proofs.Common.{◌≡◌, ℕ, ◌+◌, ◌<◌, Bool, true, false, ◌&&◌, ◌||◌, [], ◌∷◌, Option, Some, None, refl, arith, ap, sym, ◌∙◌, inl, inr}, specs.Prelude.{if◌then◌else◌, nat_le, ◌⊎◌}}
+use Rattle.pm_supervisor.specs.{pm_exit.{declared.child.{Status.Status, Kind.Kind, Class.Class}, Ends.class_of}, pm_admit.declared.PmState.PmState, Children.is_dead_end}
+use Rattle.pm_supervisor.specs.pm_exit.declared.child.Kind.TheVariants as kind
+use Rattle.pm_supervisor.specs.pm_exit.declared.child.Class.TheVariants as class
+use Rattle.pm_modes.{specs.{declared.Mode.Mode, Strength.{is_immediate, strengthen_of}}, proofs.StrengthLaws.strengthens}
 use Rattle.pm_modes.specs.declared.Mode.TheVariants as mode
-use Rattle.pm_modes.specs.Strength.{is_immediate, strengthen_of}
-use Rattle.pm_modes.specs.StrengthLaws.{strengthens}
-use Rattle.pm_admit.specs.declared.PmState.{PmState}
-use Rattle.pm_admit.specs.declared.PmState.TheVariants as state
-use Rattle.pm_supervisor.specs.Children.{is_dead_end}
+use Rattle.pm_supervisor.specs.pm_admit.declared.PmState.TheVariants as state
 use Rattle.pm_state.specs.declared.machine.StartupStatus.TheVariants as startup
-use Rattle.pm_state.specs.declared.machine.Machine.{Machine}
-use Rattle.pm_state.specs.declared.machine.Exit.{Exit}
-use Rattle.pm_state.specs.Exits.{is_shutdown, exited_by, unless_normal, less_one, crash_rule}
-use Rattle.pm_state.specs.Machine.{IsCounted}
-use Rattle.pm_state.specs.Transition.{transition}
+use Rattle.pm_state.specs.{declared.machine.{Machine.Machine, Exit.Exit}, Exits.{is_shutdown, exited_by, unless_normal, less_one, crash_rule}, Machine.IsCounted, Transition.transition, Requests.{asked_with, asked_in, patience, ticked_at}, TurnRules.{backends_gone, dead_ends_gone}, Journal.settled}
 use Rattle.pm_state.specs.declared.action.Action.TheVariants as act
-use Rattle.pm_state.specs.Requests.{asked_with, asked_in, patience, ticked_at}
-use Rattle.pm_state.specs.TurnRules.{backends_gone, dead_ends_gone}
-use Rattle.pm_state.specs.Journal.{settled}
 
 -- no move waits in these states
 abbrev pub is_quiet : PmState → Bool

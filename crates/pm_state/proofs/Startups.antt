@@ -1,23 +1,9 @@
 -- The end of the startup child is a run of the supervisor.
-use Rattle.std.proofs.Common.{◌≡◌, ℕ, ◌+◌, Bool, true, false, not, ◌&&◌, List, ◌++◌, refl, arith}
-use Rattle.std.specs.Prelude.{IsSomeAnd}
-use Rattle.pm_exit.specs.declared.child.Status.{Status}
-use Rattle.pm_exit.specs.declared.child.Kind.TheVariants as kind
-use Rattle.pm_exit.specs.Ends.{is_exit_0}
-use Rattle.pm_supervisor.specs.declared.Limits.{Limits}
-use Rattle.pm_supervisor.specs.Children.{Child, is_session, is_startup_child, is_checkpointer, is_writer, is_dead_end, child_of, without, count_of, attached_sessions, one_if}
-use Rattle.pm_supervisor.specs.Supervisor.{Supervisor}
+use Rattle.std.{proofs.Common.{◌≡◌, ℕ, ◌+◌, Bool, true, false, not, ◌&&◌, List, ◌++◌, refl, arith}, specs.Prelude.IsSomeAnd}
+use Rattle.pm_supervisor.{specs.{pm_exit.{declared.child.Status.Status, Ends.is_exit_0}, declared.Limits.Limits, Children.{Child, is_session, is_startup_child, is_checkpointer, is_writer, is_dead_end, child_of, without, count_of, attached_sessions, one_if}, Supervisor.Supervisor, Steps.{Trace, IsRun, all_happened, happened, after, redo_has_ended}}, proofs.CountLaws.none_counted}
+use Rattle.pm_supervisor.specs.pm_exit.declared.child.Kind.TheVariants as kind
 use Rattle.pm_supervisor.specs.Steps as supervisor
-use Rattle.pm_supervisor.specs.Steps.{Trace, IsRun, all_happened, happened, after, redo_has_ended}
-use Rattle.pm_supervisor.specs.CountLaws.{none_counted}
-use Rattle.pm_state.specs.declared.machine.Machine.{Machine}
-use Rattle.pm_state.specs.declared.machine.Exit.{Exit}
-use Rattle.pm_state.specs.Exits.{crash_rule, startup_exited}
-use Rattle.pm_state.specs.Machine.{IsReady}
-use Rattle.pm_state.specs.TurnRules.{is_not_running}
-use Rattle.pm_state.specs.Shows.{events_of, events_of_exit}
-use Rattle.pm_state.specs.Facts.{Facts}
-use Rattle.pm_state.proofs.Counts.{count-without, none_attached}
+use Rattle.pm_state.{specs.{declared.machine.{Machine.Machine, Exit.Exit}, Exits.{crash_rule, startup_exited}, Machine.IsReady, TurnRules.is_not_running, Shows.{events_of, events_of_exit}, Facts.Facts}, proofs.Counts.{count-without, none_attached}}
 
 -- the supervisor just after the end of its startup child
 pub record HasLeft (m : Machine) (before s : Supervisor) (status : Status) : Type 0 where

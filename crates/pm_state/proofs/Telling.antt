@@ -1,24 +1,11 @@
 -- The actions tell of each start.
 use Rattle.std.proofs.Common.{◌≡◌, ℕ, ◌+◌, ◌||◌, ◌++◌, sym, ◌∙◌, ap, zero-add, Bool, true, false, List, [], ◌∷◌, Option, refl, arith}
-use Rattle.pm_exit.specs.declared.child.Kind.{Kind}
-use Rattle.pm_exit.specs.declared.child.Kind.TheVariants as kind
-use Rattle.pm_exit.specs.declared.child.Class.{Class}
-use Rattle.pm_exit.specs.declared.child.Class.TheVariants as class
-use Rattle.pm_exit.specs.Ends.{class_of}
-use Rattle.pm_modes.specs.declared.Mode.{Mode}
-use Rattle.pm_modes.specs.Strength.{strengthen_of}
-use Rattle.pm_admit.specs.declared.PmState.TheVariants as state
-use Rattle.pm_supervisor.specs.Children.{is_session, is_startup_child, is_checkpointer, is_writer, is_dead_end, one_if}
-use Rattle.pm_state.specs.declared.action.Action.{Action}
+use Rattle.pm_supervisor.specs.{pm_exit.{declared.child.{Kind.Kind, Class.Class}, Ends.class_of}, pm_modes.{declared.Mode.Mode, Strength.strengthen_of}, Children.{is_session, is_startup_child, is_checkpointer, is_writer, is_dead_end, one_if}}
+use Rattle.pm_supervisor.specs.pm_exit.declared.child.Kind.TheVariants as kind
+use Rattle.pm_supervisor.specs.pm_exit.declared.child.Class.TheVariants as class
+use Rattle.pm_supervisor.specs.pm_admit.declared.PmState.TheVariants as state
+use Rattle.pm_state.specs.{declared.{action.Action.Action, machine.{Machine.Machine, Exit.Exit}}, Transition.{Transition, transition}, Exits.{crash_rule, without_startup, signalled_state, startup_exited, checkpointer_exited, unless_normal, exited_by, less_one, is_shutdown}, Requests.{asked_with, ticked_at}, TurnRules.{start_recovery, restart_writer, end_smart, stop_backends, backends_gone, dead_ends_gone, children_gone, and_then, turned_of}, Machine.{MachineEvent, Accepted, Started, Exited, Asked, Ticked, Turned, step, IsReady}, Starts.{starts_in, has_end, is_report}}
 use Rattle.pm_state.specs.declared.action.Action.TheVariants as act
-use Rattle.pm_state.specs.declared.machine.Machine.{Machine}
-use Rattle.pm_state.specs.Transition.{Transition, transition}
-use Rattle.pm_state.specs.declared.machine.Exit.{Exit}
-use Rattle.pm_state.specs.Exits.{crash_rule, without_startup, signalled_state, startup_exited, checkpointer_exited, unless_normal, exited_by, less_one, is_shutdown}
-use Rattle.pm_state.specs.Requests.{asked_with, ticked_at}
-use Rattle.pm_state.specs.TurnRules.{start_recovery, restart_writer, end_smart, stop_backends, backends_gone, dead_ends_gone, children_gone, and_then, turned_of}
-use Rattle.pm_state.specs.Machine.{MachineEvent, Accepted, Started, Exited, Asked, Ticked, Turned, step, IsReady}
-use Rattle.pm_state.specs.Starts.{starts_in, has_end, is_report}
 
 -- what is due after the actions is what they start, each once, and the machine has ended where they end the server
 pub record TellsAll (o : Transition) : Type 0 where

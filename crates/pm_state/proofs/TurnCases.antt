@@ -1,16 +1,10 @@
 -- What a turn does, by the state that it meets: each rule alone, and the last three together.
-use Rattle.std.proofs.Common.{◌≡◌, Bool, true, false, ◌&&◌, ◌||◌, cond, [], ◌∷◌, refl, arith, ap, sym, ◌∙◌, subst}
-use Rattle.std.specs.Prelude.{◌==◌}
+use Rattle.std.{proofs.Common.{◌≡◌, Bool, true, false, ◌&&◌, ◌||◌, cond, [], ◌∷◌, refl, arith, ap, sym, ◌∙◌, subst}, specs.Prelude.◌==◌}
 use Rattle.pm_modes.specs.Strength.{is_immediate}
 use Rattle.pm_admit.specs.declared.PmState.{PmState}
 use Rattle.pm_admit.specs.declared.PmState.TheVariants as state
 use Rattle.pm_state.specs.declared.action.Action.TheVariants as act
-use Rattle.pm_state.specs.declared.machine.Machine.{Machine}
-use Rattle.pm_state.specs.Transition.{Transition, transition}
-use Rattle.pm_state.specs.TurnRules.{start_recovery, restart_writer, end_smart, stop_backends, backends_gone, dead_ends_gone, children_gone, turned_of, and_then, are_backends_gone}
-use Rattle.pm_state.specs.Journal.{settled}
-use Rattle.pm_state.proofs.Settling.{settled-settled}
-use Rattle.pm_state.specs.TurnLaws.{turn-startup, turn-serving}
+use Rattle.pm_state.{specs.{declared.machine.Machine.Machine, Transition.{Transition, transition}, TurnRules.{start_recovery, restart_writer, end_smart, stop_backends, backends_gone, dead_ends_gone, children_gone, turned_of, and_then, are_backends_gone}, Journal.settled}, proofs.{Settling.settled-settled, TurnLaws.{turn-startup, turn-serving}}}
 
 -- the last rules of a turn: 5, 6 and 7
 

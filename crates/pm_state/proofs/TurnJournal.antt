@@ -1,26 +1,10 @@
 -- What a turn writes is a legal journal: row by row, and each row's acts in order.
-use Rattle.std.proofs.Common.{◌≡◌, ℕ, Bool, true, false, not, ◌||◌, List, [], ◌∷◌, ◌++◌, refl, arith, ap, sym, ◌∙◌, subst}
-use Rattle.std.specs.Prelude.{◌==◌}
-use Rattle.std.proofs.lemmas.Bool.{or_parts, or_right}
-use Rattle.pm_exit.specs.declared.child.Kind.{Kind}
-use Rattle.pm_modes.specs.Strength.{is_immediate}
-use Rattle.pm_admit.specs.declared.PmState.{PmState}
-use Rattle.pm_admit.specs.declared.PmState.TheVariants as state
-use Rattle.pm_state.specs.declared.action.Action.{Action}
+use Rattle.std.{proofs.{Common.{◌≡◌, ℕ, Bool, true, false, not, ◌||◌, List, [], ◌∷◌, ◌++◌, refl, arith, ap, sym, ◌∙◌, subst}, lemmas.Bool.{or_parts, or_right}}, specs.Prelude.◌==◌}
+use Rattle.pm_supervisor.specs.{pm_exit.declared.child.Kind.Kind, pm_modes.Strength.is_immediate, pm_admit.declared.PmState.PmState, declared.Limits.Limits}
+use Rattle.pm_supervisor.specs.pm_admit.declared.PmState.TheVariants as state
+use Rattle.pm_state.{specs.{declared.{action.Action.Action, event.PmEvent.PmEvent, machine.Machine.Machine}, Machine.{started_as, begun}, Transition.{Transition, transition}, TurnRules.{start_recovery, restart_writer, end_smart, stop_backends, backends_gone, children_gone}, Shows.{Call, Accepts, Starts, Exits, Asks, Ticks, TakesTurn, Attaches, Touches, Detaches}, Journal.{Do, Replay, settled, dues, row_of, replayed, all_replayed, reported, all_reported, entry_of, entries_of, entries_of_call, machine_with_reports, caused, dues_after, MayCome, AreLegal, Agrees, Writes, MayWrite, replay_begun}, Starts.has_start}, proofs.{Settling.{is_quiet, settled-quiet, settled-settled, settled-ended}, TurnCases.{late_of, with_terminate, TurnCases, by-turn, by-late, may_idle, is_no_children, children-quiet, is_asking, late-cause, late-calm, late-asks, asking-settled}, Journal.{is_kill, has_kill, dues-write, accept-writes, exit-writes, ask-writes, tick-writes}}}
 use Rattle.pm_state.specs.declared.action.Action.TheVariants as act
-use Rattle.pm_state.specs.declared.event.PmEvent.{PmEvent}
 use Rattle.pm_state.specs.declared.event.PmEvent.TheVariants as entry
-use Rattle.pm_state.specs.declared.machine.Machine.{Machine}
-use Rattle.pm_state.specs.Machine.{started_as, begun}
-use Rattle.pm_state.specs.Transition.{Transition, transition}
-use Rattle.pm_state.specs.TurnRules.{start_recovery, restart_writer, end_smart, stop_backends, backends_gone, children_gone}
-use Rattle.pm_supervisor.specs.declared.Limits.{Limits}
-use Rattle.pm_state.specs.Shows.{Call, Accepts, Starts, Exits, Asks, Ticks, TakesTurn, Attaches, Touches, Detaches}
-use Rattle.pm_state.specs.Journal.{Do, Replay, settled, dues, row_of, replayed, all_replayed, reported, all_reported, entry_of, entries_of, entries_of_call, machine_with_reports, caused, dues_after, MayCome, AreLegal, Agrees, Writes, MayWrite, replay_begun}
-use Rattle.pm_state.specs.Starts.{has_start}
-use Rattle.pm_state.proofs.Settling.{is_quiet, settled-quiet, settled-settled, settled-ended}
-use Rattle.pm_state.proofs.TurnCases.{late_of, with_terminate, TurnCases, by-turn, by-late, may_idle, is_no_children, children-quiet, is_asking, late-cause, late-calm, late-asks, asking-settled}
-use Rattle.pm_state.proofs.Journal.{is_kill, has_kill, dues-write, accept-writes, exit-writes, ask-writes, tick-writes}
 
 -- a row
 

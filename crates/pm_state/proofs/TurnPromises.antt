@@ -1,15 +1,8 @@
 -- What a turn promises.
-use Rattle.std.proofs.Common.{◌≡◌, Bool, true, false, not, ◌||◌, [], refl, arith}
-use Rattle.std.specs.Prelude.{is_some}
-use Rattle.pm_admit.specs.declared.PmState.{PmState}
+use Rattle.std.{proofs.Common.{◌≡◌, Bool, true, false, not, ◌||◌, [], refl, arith}, specs.Prelude.is_some}
+use Rattle.pm_admit.specs.{declared.PmState.PmState, Admission.is_run}
 use Rattle.pm_admit.specs.declared.PmState.TheVariants as state
-use Rattle.pm_state.specs.declared.machine.Machine.{Machine}
-use Rattle.pm_state.specs.Transition.{Transition, transition}
-use Rattle.pm_state.specs.TurnRules.{start_recovery, restart_writer, backends_gone, dead_ends_gone, children_gone, turned_of}
-use Rattle.pm_admit.specs.Admission.{is_run}
-use Rattle.pm_state.specs.Exits.{is_shutdown}
-use Rattle.pm_state.specs.Promises.{Promises, has_act, is_ask_checkpoint, is_quit, is_stop_backends, is_release, starts_before_ready}
-use Rattle.pm_state.proofs.TurnCases.{late_of, with_terminate, TurnCases, by-turn, is_late, may_idle}
+use Rattle.pm_state.{specs.{declared.machine.Machine.Machine, Transition.{Transition, transition}, TurnRules.{start_recovery, restart_writer, backends_gone, dead_ends_gone, children_gone, turned_of}, Exits.is_shutdown, Promises.{Promises, has_act, is_ask_checkpoint, is_quit, is_stop_backends, is_release, starts_before_ready}}, proofs.TurnCases.{late_of, with_terminate, TurnCases, by-turn, is_late, may_idle}}
 
 late-checkpoint : (m : Machine) → is_shutdown m.state ≡ false
     → is_shutdown m.state || (not (is_shutdown (late_of m).after.state) || has_act is_ask_checkpoint (late_of m).acts) ≡ true

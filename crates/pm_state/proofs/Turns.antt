@@ -1,17 +1,8 @@
 -- A turn is a run of the supervisor.
 use Rattle.std.proofs.Common.{◌≡◌, true, false, List, [], ◌∷◌, ◌++◌, refl, arith, nat_eq, cond, sym, ◌∙◌, subst}
-use Rattle.pm_supervisor.specs.declared.Limits.{Limits}
-use Rattle.pm_supervisor.specs.Phase.{Phase}
+use Rattle.pm_supervisor.{specs.{declared.Limits.Limits, Phase.Phase, Supervisor.Supervisor, Steps.{SupervisorEvent, Trace, IsRun, all_happened}}, proofs.RunLaws.{IsRun-append, all_happened-append}}
 use Rattle.pm_supervisor.specs.Phase as phase
-use Rattle.pm_supervisor.specs.Supervisor.{Supervisor}
-use Rattle.pm_supervisor.specs.Steps.{SupervisorEvent, Trace, IsRun, all_happened}
-use Rattle.pm_supervisor.specs.RunLaws.{IsRun-append, all_happened-append}
-use Rattle.pm_state.specs.declared.machine.Machine.{Machine}
-use Rattle.pm_state.specs.TurnRules.{start_recovery, restart_writer, end_smart, stop_backends, backends_gone, dead_ends_gone, children_gone, turned_of}
-use Rattle.pm_state.specs.Shows.{phase_of, move_of, order_of, events_of, events_of_turn}
-use Rattle.pm_state.specs.Facts.{Facts}
-use Rattle.pm_state.proofs.Rules.{start_recovery-ended, start_recovery-run, start_recovery-facts, restart_writer-ended, restart_writer-facts, end_smart-ended, end_smart-run, end_smart-facts, stop_backends-ended, stop_backends-facts, backends_gone-ended, backends_gone-run, backends_gone-facts, dead_ends_gone-ended, dead_ends_gone-run, dead_ends_gone-facts}
-use Rattle.pm_state.specs.ChildLaws.{nobody}
+use Rattle.pm_state.{specs.{declared.machine.Machine.Machine, TurnRules.{start_recovery, restart_writer, end_smart, stop_backends, backends_gone, dead_ends_gone, children_gone, turned_of}, Shows.{phase_of, move_of, order_of, events_of, events_of_turn}, Facts.Facts}, proofs.{Rules.{start_recovery-ended, start_recovery-run, start_recovery-facts, restart_writer-ended, restart_writer-facts, end_smart-ended, end_smart-run, end_smart-facts, stop_backends-ended, stop_backends-facts, backends_gone-ended, backends_gone-run, backends_gone-facts, dead_ends_gone-ended, dead_ends_gone-run, dead_ends_gone-facts}, ChildLaws.nobody}}
 
 -- these events are a run, after which the machine is this one
 pub record Leads (limits : Limits) (h : Trace) (events : List SupervisorEvent) (m : Machine) : Type 0 where

@@ -1,21 +1,10 @@
 -- Facts that hold of the machine in every state that it can reach, beside what it shows.
 use Rattle.std.specs.Prelude.{◌≡◌, Bool, true, false, not, ◌==◌, ◌||◌, Option, Some, None, is_some, is_none}
-use Rattle.pm_admit.specs.declared.PmState.{PmState}
-use Rattle.pm_admit.specs.declared.PmState.TheVariants as state
-use Rattle.pm_admit.specs.Admission.{is_startup}
-use Rattle.pm_supervisor.specs.declared.Reason.{Reason}
+use Rattle.pm_supervisor.specs.{pm_admit.{declared.PmState.PmState, Admission.is_startup}, declared.{Reason.Reason, Limits.Limits}, pm_modes.Strength.is_immediate, Supervisor.{Shared, Supervisor}, Steps.Trace, Invariant.IsWell}
+use Rattle.pm_supervisor.specs.pm_admit.declared.PmState.TheVariants as state
 use Rattle.pm_supervisor.specs.declared.Reason.TheVariants as reason
-use Rattle.pm_modes.specs.Strength.{is_immediate}
-use Rattle.pm_supervisor.specs.declared.Limits.{Limits}
-use Rattle.pm_supervisor.specs.Supervisor.{Shared, Supervisor}
-use Rattle.pm_supervisor.specs.Steps.{Trace}
-use Rattle.pm_supervisor.specs.Invariant.{IsWell}
-use Rattle.pm_state.specs.declared.machine.StartupStatus.{StartupStatus}
+use Rattle.pm_state.specs.{declared.machine.{StartupStatus.StartupStatus, Machine.Machine}, Exits.is_shutdown, TurnRules.is_not_running, Shows.Shows}
 use Rattle.pm_state.specs.declared.machine.StartupStatus.TheVariants as startup
-use Rattle.pm_state.specs.declared.machine.Machine.{Machine}
-use Rattle.pm_state.specs.Exits.{is_shutdown}
-use Rattle.pm_state.specs.TurnRules.{is_not_running}
-use Rattle.pm_state.specs.Shows.{Shows}
 
 abbrev pub is_crash_reason : Option Reason → Bool
 is_crash_reason (Some reason.Crash) = true

@@ -1,15 +1,9 @@
 -- A server: its journal, its machine and the supervisor that the machine shows.
 use Rattle.std.specs.Prelude.{◌≡◌, ℕ, ◌+◌, Bool, true, false, List, [], ◌∷◌}
-use Rattle.pm_supervisor.specs.declared.Limits.{Limits}
-use Rattle.pm_supervisor.specs.Between.{detached}
-use Rattle.pm_supervisor.specs.Steps.{Trace, IsRun, all_happened}
-use Rattle.pm_state.specs.declared.action.Action.{Action}
+use Rattle.pm_supervisor.specs.{declared.Limits.Limits, Between.detached, Steps.{Trace, IsRun, all_happened}}
+use Rattle.pm_state.specs.{declared.{action.Action.Action, machine.Machine.Machine}, Shows.{Call, Accepts, Starts, Exits, Asks, Ticks, TakesTurn, events_of_call, events_in}, Facts.{Holds, NothingDue}, Journal.{Replay, Agrees, AreLegal, AsksSmart, IsMoment, acts_of_call, all_replayed, entries_of_call, machine_with_reports, settled}}
 use Rattle.pm_state.specs.declared.action.Action.TheVariants as act
 use Rattle.pm_state.specs.declared.event.PmEvent.TheVariants as entry
-use Rattle.pm_state.specs.declared.machine.Machine.{Machine}
-use Rattle.pm_state.specs.Shows.{Call, Accepts, Starts, Exits, Asks, Ticks, TakesTurn, events_of_call, events_in}
-use Rattle.pm_state.specs.Facts.{Holds, NothingDue}
-use Rattle.pm_state.specs.Journal.{Replay, Agrees, AreLegal, AsksSmart, IsMoment, acts_of_call, all_replayed, entries_of_call, machine_with_reports, settled}
 
 -- what the journal leaves, the machine, and the supervisor with its past
 pub record ServerState : Type 0 where

@@ -1,29 +1,12 @@
 -- The supervisor's journal: what its entries so far leave, and which entry may follow them.
 use Rattle.std.specs.Prelude.{◌≡◌, ℕ, ◌+◌, ◌≤◌, Bool, true, false, ◌==◌, ◌&&◌, ◌||◌, if◌then◌else◌, List, [], ◌∷◌, ◌++◌, is_none, IsSomeAnd}
-use Rattle.pm_exit.specs.declared.child.Status.{Status}
-use Rattle.pm_exit.specs.declared.child.Kind.{Kind}
-use Rattle.pm_exit.specs.Ends.{is_exit_0}
-use Rattle.pm_modes.specs.declared.Mode.TheVariants as mode
-use Rattle.pm_modes.specs.Strength.{is_immediate}
-use Rattle.pm_admit.specs.declared.PmState.{PmState}
-use Rattle.pm_admit.specs.declared.PmState.TheVariants as state
-use Rattle.pm_admit.specs.Admission.{decide_of}
-use Rattle.pm_supervisor.specs.declared.Limits.{Limits}
-use Rattle.pm_supervisor.specs.Children.{is_startup_child, child_of}
-use Rattle.pm_supervisor.specs.Supervisor.{Shared, first}
-use Rattle.pm_supervisor.specs.Steps.{shared_after}
+use Rattle.pm_supervisor.specs.{pm_exit.{declared.child.{Status.Status, Kind.Kind}, Ends.is_exit_0}, pm_modes.Strength.is_immediate, pm_admit.{declared.PmState.PmState, Admission.decide_of}, declared.Limits.Limits, Children.{is_startup_child, child_of}, Supervisor.{Shared, first}, Steps.shared_after}
+use Rattle.pm_supervisor.specs.pm_modes.declared.Mode.TheVariants as mode
+use Rattle.pm_supervisor.specs.pm_admit.declared.PmState.TheVariants as state
 use Rattle.pm_supervisor.specs.Steps as supervisor
-use Rattle.pm_state.specs.declared.action.Action.{Action}
+use Rattle.pm_state.specs.{declared.{action.{Action.Action, Line.Line}, event.PmEvent.PmEvent, machine.Machine.Machine}, Transition.{Transition, transition}, Requests.ticked_at, TurnRules.{start_recovery, restart_writer, end_smart, stop_backends, backends_gone, dead_ends_gone, children_gone}, Machine.{Accepted, Exited, Asked, Ticked, Turned, step, begun, view_of, started_as, MayAccept, IsCounted}, Shows.{Call, Accepts, Exits, Asks, Ticks, TakesTurn, machine_after}}
 use Rattle.pm_state.specs.declared.action.Action.TheVariants as act
-use Rattle.pm_state.specs.declared.action.Line.{Line}
-use Rattle.pm_state.specs.declared.event.PmEvent.{PmEvent}
 use Rattle.pm_state.specs.declared.event.PmEvent.TheVariants as entry
-use Rattle.pm_state.specs.declared.machine.Machine.{Machine}
-use Rattle.pm_state.specs.Transition.{Transition, transition}
-use Rattle.pm_state.specs.Requests.{ticked_at}
-use Rattle.pm_state.specs.TurnRules.{start_recovery, restart_writer, end_smart, stop_backends, backends_gone, dead_ends_gone, children_gone}
-use Rattle.pm_state.specs.Machine.{Accepted, Exited, Asked, Ticked, Turned, step, begun, view_of, started_as, MayAccept, IsCounted}
-use Rattle.pm_state.specs.Shows.{Call, Accepts, Exits, Asks, Ticks, TakesTurn, machine_after}
 
 -- what has to follow at once
 pub data Due : Type 0 where

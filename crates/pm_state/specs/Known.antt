@@ -1,15 +1,10 @@
 -- The facts of the machine in words: each follows from what holds at every moment.
 use Rattle.std.specs.Prelude.{◌≡◌, Bool, true, false, ◌||◌, Some, None, is_some, is_none}
-use Rattle.pm_modes.specs.Strength.{is_immediate}
-use Rattle.pm_admit.specs.declared.PmState.{PmState}
-use Rattle.pm_admit.specs.declared.PmState.TheVariants as state
+use Rattle.pm_supervisor.specs.{pm_modes.Strength.is_immediate, pm_admit.declared.PmState.PmState, Supervisor.Shared}
+use Rattle.pm_supervisor.specs.pm_admit.declared.PmState.TheVariants as state
 use Rattle.pm_supervisor.specs.declared.Reason.TheVariants as reason
-use Rattle.pm_supervisor.specs.Supervisor.{Shared}
-use Rattle.pm_state.specs.declared.machine.StartupStatus.{StartupStatus}
+use Rattle.pm_state.specs.{declared.machine.{StartupStatus.StartupStatus, Machine.Machine}, TurnRules.is_not_running, Facts.{NoneIsThere, OnlyDeadEnds, IsSmartOrFast}}
 use Rattle.pm_state.specs.declared.machine.StartupStatus.TheVariants as startup
-use Rattle.pm_state.specs.declared.machine.Machine.{Machine}
-use Rattle.pm_state.specs.TurnRules.{is_not_running}
-use Rattle.pm_state.specs.Facts.{NoneIsThere, OnlyDeadEnds, IsSmartOrFast}
 
 abbrev pub is_signalled : StartupStatus → Bool
 is_signalled startup.Signalled = true

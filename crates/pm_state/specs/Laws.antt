@@ -1,35 +1,8 @@
 -- The laws of the state machine, one for each function of `laws.rt`, whose contract it is.
 use Rattle.std.specs.Prelude.{◌≡◌, ◌++◌, ◌+◌, ◌≤◌, ◌||◌, ℕ, Bool, true, false, List, [], ◌∷◌, Some, is_some, IsSomeAnd, length}
-use Rattle.pm_exit.specs.declared.child.Kind.{Kind}
-use Rattle.pm_exit.specs.declared.child.Kind.TheVariants.{Startup}
-use Rattle.pm_exit.specs.declared.child.Status.{Status}
-use Rattle.pm_exit.specs.Ends.{class_of}
-use Rattle.pm_modes.specs.declared.Mode.{Mode}
-use Rattle.pm_modes.specs.declared.Mode.TheVariants.{Immediate}
-use Rattle.pm_modes.specs.Strength.{is_immediate}
-use Rattle.pm_admit.specs.Admission.{decide_of, is_run}
-use Rattle.pm_supervisor.specs.declared.Limits.{Limits}
-use Rattle.pm_supervisor.specs.Children.{child_of, is_startup_child}
-use Rattle.pm_supervisor.specs.Invariant.{IsSound}
-use Rattle.pm_supervisor.specs.Supervisor.{Supervisor}
-use Rattle.pm_supervisor.specs.Between.{is_child_step, without_child_steps, ChildStepsMayHappen}
-use Rattle.pm_supervisor.specs.Steps.{SupervisorEvent, Trace, MayHappen, IsRun, happened, all_happened, empty_trace, admission, is_normal}
-use Rattle.pm_state.specs.Machine.{MachineEvent, Exited, Asked, Ticked, Turned, begun, step, view_of, IsReady, IsCounted, IsDue, MayAccept, started_as}
-use Rattle.pm_state.specs.declared.action.Action.{Action}
-use Rattle.pm_state.specs.declared.action.Action.TheVariants.{Start, KillAll}
-use Rattle.pm_state.specs.declared.event.PmEvent.{PmEvent}
+use Rattle.pm_supervisor.specs.{pm_exit.{declared.child.{Kind.{Kind, TheVariants.Startup}, Status.Status}, Ends.class_of}, pm_modes.{declared.Mode.{Mode, TheVariants.Immediate}, Strength.is_immediate}, pm_admit.Admission.{decide_of, is_run}, declared.Limits.Limits, Children.{child_of, is_startup_child}, Invariant.IsSound, Supervisor.Supervisor, Between.{is_child_step, without_child_steps, ChildStepsMayHappen}, Steps.{SupervisorEvent, Trace, MayHappen, IsRun, happened, all_happened, empty_trace, admission, is_normal}}
+use Rattle.pm_state.specs.{Machine.{MachineEvent, Exited, Asked, Ticked, Turned, begun, step, view_of, IsReady, IsCounted, IsDue, MayAccept, started_as}, declared.{action.Action.{Action, TheVariants.{Start, KillAll}}, event.PmEvent.PmEvent, machine.Machine.Machine}, Exits.is_shutdown, Requests.patience, Starts.{Owes, has_end, is_report}, Shows.{Call, TakesTurn, Shows, AreFit, IsFit, events_in, events_of_call, machine_after, machine_at_end}, Facts.{Facts, Holds, NothingDue}, Known.Known, Promises.{Promises, has_act, is_quit, is_ready_act, is_release, is_startup_crash, starts_before_ready}, Restarts.{Counts, RestartsInOrder}, Journal.{Replay, Agrees, AreLegal, IsLegal, Follows, Writes, MayWrite, all_replayed, replayed, entries_of_call, machine_with_reports, replay_begun, settled}, InStep.{ServerState, IsInStep, IsTimely, KeepsStep}}
 use Rattle.pm_state.specs.declared.event.PmEvent.TheVariants as entry
-use Rattle.pm_state.specs.declared.machine.Machine.{Machine}
-use Rattle.pm_state.specs.Exits.{is_shutdown}
-use Rattle.pm_state.specs.Requests.{patience}
-use Rattle.pm_state.specs.Starts.{Owes, has_end, is_report}
-use Rattle.pm_state.specs.Shows.{Call, TakesTurn, Shows, AreFit, IsFit, events_in, events_of_call, machine_after, machine_at_end}
-use Rattle.pm_state.specs.Facts.{Facts, Holds, NothingDue}
-use Rattle.pm_state.specs.Known.{Known}
-use Rattle.pm_state.specs.Promises.{Promises, has_act, is_quit, is_ready_act, is_release, is_startup_crash, starts_before_ready}
-use Rattle.pm_state.specs.Restarts.{Counts, RestartsInOrder}
-use Rattle.pm_state.specs.Journal.{Replay, Agrees, AreLegal, IsLegal, Follows, Writes, MayWrite, all_replayed, replayed, entries_of_call, machine_with_reports, replay_begun, settled}
-use Rattle.pm_state.specs.InStep.{ServerState, IsInStep, IsTimely, KeepsStep}
 
 -- whole lists of calls, each made where it may be
 

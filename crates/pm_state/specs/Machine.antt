@@ -1,24 +1,12 @@
 -- The state machine of the supervisor, after PostgreSQL's pmState, as a function of what it remembers and of what
 -- happened. The manual: 19.5 "Shutting Down the Server", and 20.14 "Error Handling" for the restart after a crash.
 use Rattle.std.specs.Prelude.{◌≡◌, ◌≢◌, ℕ, ◌+◌, ◌*◌, ◌<◌, ◌≤◌, Bool, true, false, [], None, is_some}
-use Rattle.pm_exit.specs.declared.child.Status.{Status}
-use Rattle.pm_exit.specs.declared.child.Kind.{Kind}
-use Rattle.pm_exit.specs.declared.child.Kind.TheVariants as kind
-use Rattle.pm_modes.specs.declared.Mode.{Mode}
-use Rattle.pm_modes.specs.Strength.{strengthen_of}
-use Rattle.pm_admit.specs.declared.PmState.{PmState}
-use Rattle.pm_admit.specs.declared.PmState.TheVariants as state
-use Rattle.pm_admit.specs.declared.Cac.{Cac}
-use Rattle.pm_admit.specs.declared.Cac.TheVariants as cac
-use Rattle.pm_admit.specs.declared.View.{View}
-use Rattle.pm_admit.specs.Admission.{decide_of}
-use Rattle.pm_supervisor.specs.declared.Limits.{Limits}
+use Rattle.pm_supervisor.specs.{pm_exit.declared.child.{Status.Status, Kind.Kind}, pm_modes.{declared.Mode.Mode, Strength.strengthen_of}, pm_admit.{declared.{PmState.PmState, Cac.Cac, View.View}, Admission.decide_of}, declared.Limits.Limits}
+use Rattle.pm_supervisor.specs.pm_exit.declared.child.Kind.TheVariants as kind
+use Rattle.pm_supervisor.specs.pm_admit.declared.PmState.TheVariants as state
+use Rattle.pm_supervisor.specs.pm_admit.declared.Cac.TheVariants as cac
 use Rattle.pm_state.specs.declared.machine.StartupStatus.TheVariants as startup
-use Rattle.pm_state.specs.declared.machine.Machine.{Machine}
-use Rattle.pm_state.specs.Transition.{Transition, transition}
-use Rattle.pm_state.specs.Exits.{exited_by}
-use Rattle.pm_state.specs.Requests.{asked_with, ticked_at}
-use Rattle.pm_state.specs.TurnRules.{turned_of}
+use Rattle.pm_state.specs.{declared.machine.Machine.Machine, Transition.{Transition, transition}, Exits.exited_by, Requests.{asked_with, ticked_at}, TurnRules.turned_of}
 
 -- what the decision on a connection looks at
 abbrev pub view_of : Machine → View

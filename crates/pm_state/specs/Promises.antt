@@ -1,16 +1,11 @@
 -- What a reader of the manual counts on, beside the table. The manual: 19.5 "Shutting Down the Server", and 20.14 "Error
 -- Handling" for the restart after a crash.
 use Rattle.std.specs.Prelude.{◌≡◌, Bool, true, false, not, ◌&&◌, ◌||◌, List, [], ◌∷◌, is_some}
-use Rattle.pm_exit.specs.declared.child.Status.{Status}
-use Rattle.pm_exit.specs.Ends.{is_exit_0, is_exit_1}
-use Rattle.pm_admit.specs.declared.PmState.{PmState}
+use Rattle.pm_exit.specs.{declared.child.Status.Status, Ends.{is_exit_0, is_exit_1}}
+use Rattle.pm_admit.specs.{declared.PmState.PmState, Admission.{is_run, is_startup}}
 use Rattle.pm_admit.specs.declared.PmState.TheVariants as state
-use Rattle.pm_admit.specs.Admission.{is_run, is_startup}
-use Rattle.pm_state.specs.declared.action.Action.{Action}
+use Rattle.pm_state.specs.{declared.{action.Action.Action, machine.Machine.Machine}, Exits.{is_running, is_shutdown}, Transition.Transition}
 use Rattle.pm_state.specs.declared.action.Action.TheVariants as act
-use Rattle.pm_state.specs.declared.machine.Machine.{Machine}
-use Rattle.pm_state.specs.Exits.{is_running, is_shutdown}
-use Rattle.pm_state.specs.Transition.{Transition}
 
 abbrev pub is_ready_act : Action → Bool
 is_ready_act act.Ready = true

@@ -1,16 +1,12 @@
 -- Requests to shut down, and the time that they leave. The manual: 19.5 "Shutting Down the Server".
 use Rattle.std.specs.Prelude.{ℕ, ◌+◌, false, ◌&&◌, ◌||◌, if◌then◌else◌, nat_le, [], ◌∷◌, Option, Some, None}
-use Rattle.pm_modes.specs.declared.Mode.{Mode}
-use Rattle.pm_modes.specs.declared.Mode.TheVariants as mode
-use Rattle.pm_modes.specs.Strength.{is_immediate}
-use Rattle.pm_admit.specs.declared.PmState.{PmState}
-use Rattle.pm_admit.specs.declared.PmState.TheVariants as state
+use Rattle.pm_supervisor.specs.{pm_modes.{declared.Mode.Mode, Strength.is_immediate}, pm_admit.declared.PmState.PmState}
+use Rattle.pm_supervisor.specs.pm_modes.declared.Mode.TheVariants as mode
+use Rattle.pm_supervisor.specs.pm_admit.declared.PmState.TheVariants as state
 use Rattle.pm_supervisor.specs.declared.Reason.TheVariants as reason
 use Rattle.pm_state.specs.declared.action.Action.TheVariants as act
 use Rattle.pm_state.specs.declared.action.Line.TheVariants as line
-use Rattle.pm_state.specs.declared.machine.Machine.{Machine}
-use Rattle.pm_state.specs.Transition.{Transition, transition}
-use Rattle.pm_state.specs.Exits.{signalled_of}
+use Rattle.pm_state.specs.{declared.machine.Machine.Machine, Transition.{Transition, transition}, Exits.signalled_of}
 
 -- a shutdown request that is stronger than what stood, by its mode and the state that it meets
 abbrev pub asked_in : Mode → PmState → Machine → ℕ → Transition

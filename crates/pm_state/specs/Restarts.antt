@@ -1,17 +1,9 @@
 -- Restarts, as a journal tells of them. The manual: 20.14 "Error Handling".
 use Rattle.std.specs.Prelude.{◌≡◌, ◌≢◌, ℕ, Bool, true, false, not, ◌==◌, ◌&&◌, ◌||◌, if◌then◌else◌, List, [], ◌∷◌}
-use Rattle.pm_exit.specs.declared.child.Kind.{Kind}
-use Rattle.pm_exit.specs.declared.child.Status.{Status}
-use Rattle.pm_exit.specs.Ends.{class_of}
-use Rattle.pm_admit.specs.declared.Cac.TheVariants.{Ok as Admitted}
+use Rattle.pm_supervisor.specs.{pm_exit.{declared.child.{Kind.Kind, Status.Status}, Ends.class_of}, pm_admit.declared.Cac.TheVariants.Ok as Admitted, declared.Limits.Limits, Children.{Child, is_session, is_startup_child, is_checkpointer, is_writer, is_dead_end, count_of, one_if}, Steps.is_normal}
 use Rattle.pm_supervisor.specs.declared.Ending.TheVariants as ending
-use Rattle.pm_supervisor.specs.declared.Limits.{Limits}
-use Rattle.pm_supervisor.specs.Children.{Child, is_session, is_startup_child, is_checkpointer, is_writer, is_dead_end, count_of, one_if}
-use Rattle.pm_supervisor.specs.Steps.{is_normal}
-use Rattle.pm_state.specs.declared.event.PmEvent.{PmEvent}
+use Rattle.pm_state.specs.{declared.{event.PmEvent.PmEvent, machine.Machine.Machine}, TurnRules.is_not_running}
 use Rattle.pm_state.specs.declared.event.PmEvent.TheVariants as entry
-use Rattle.pm_state.specs.declared.machine.Machine.{Machine}
-use Rattle.pm_state.specs.TurnRules.{is_not_running}
 
 -- who is let in
 

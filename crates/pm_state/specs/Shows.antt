@@ -1,27 +1,12 @@
 -- What the machine shows of a supervisor, and what its calls do to the supervisor that it shows.
 use Rattle.std.specs.Prelude.{◌≡◌, ℕ, ◌<◌, Bool, true, false, not, ◌==◌, ◌&&◌, if◌then◌else◌, List, [], ◌∷◌, ◌++◌, Option, Some, None, is_none, IsSomeAnd}
-use Rattle.pm_exit.specs.declared.child.Status.{Status}
-use Rattle.pm_exit.specs.declared.child.Kind.{Kind}
-use Rattle.pm_exit.specs.declared.child.Kind.TheVariants as kind
-use Rattle.pm_exit.specs.Ends.{class_of, is_exit_0}
-use Rattle.pm_modes.specs.declared.Mode.{Mode}
-use Rattle.pm_modes.specs.Strength.{strengthen_of}
-use Rattle.pm_admit.specs.declared.PmState.{PmState}
-use Rattle.pm_admit.specs.declared.PmState.TheVariants as state
-use Rattle.pm_admit.specs.Admission.{decide_of}
-use Rattle.pm_supervisor.specs.declared.Limits.{Limits}
-use Rattle.pm_supervisor.specs.Children.{is_session, is_startup_child, is_checkpointer, is_writer, is_dead_end, child_of, one_if, count_of}
-use Rattle.pm_supervisor.specs.Phase.{Phase}
+use Rattle.pm_supervisor.specs.{pm_exit.{declared.child.{Status.Status, Kind.Kind}, Ends.{class_of, is_exit_0}}, pm_modes.{declared.Mode.Mode, Strength.strengthen_of}, pm_admit.{declared.PmState.PmState, Admission.decide_of}, declared.Limits.Limits, Children.{is_session, is_startup_child, is_checkpointer, is_writer, is_dead_end, child_of, one_if, count_of}, Phase.Phase, Supervisor.Supervisor, Steps.{Trace, SharedAllows, is_normal, empty_trace, all_happened, IsRun}}
+use Rattle.pm_supervisor.specs.pm_exit.declared.child.Kind.TheVariants as kind
+use Rattle.pm_supervisor.specs.pm_admit.declared.PmState.TheVariants as state
 use Rattle.pm_supervisor.specs.Phase as phase
-use Rattle.pm_supervisor.specs.Supervisor.{Supervisor}
-use Rattle.pm_supervisor.specs.Steps.{Trace, SharedAllows, is_normal, empty_trace, all_happened, IsRun}
 use Rattle.pm_supervisor.specs.Steps as supervisor
-use Rattle.pm_state.specs.declared.action.Action.{Action}
+use Rattle.pm_state.specs.{declared.{action.Action.Action, machine.Machine.Machine}, Exits.is_shutdown, Machine.{Accepted, Started, Exited, Asked, Ticked, Turned, step, view_of, IsReady, IsDue, MayAccept}, TurnRules.{is_not_running, start_recovery, restart_writer, end_smart, stop_backends, backends_gone, dead_ends_gone, children_gone}}
 use Rattle.pm_state.specs.declared.action.Action.TheVariants as act
-use Rattle.pm_state.specs.declared.machine.Machine.{Machine}
-use Rattle.pm_state.specs.Exits.{is_shutdown}
-use Rattle.pm_state.specs.Machine.{Accepted, Started, Exited, Asked, Ticked, Turned, step, view_of, IsReady, IsDue, MayAccept}
-use Rattle.pm_state.specs.TurnRules.{is_not_running, start_recovery, restart_writer, end_smart, stop_backends, backends_gone, dead_ends_gone, children_gone}
 
 -- the phase that a state shows
 abbrev pub phase_in : PmState → Bool → Phase

@@ -1,11 +1,8 @@
 -- The starts among the actions, which the caller reports.
 use Rattle.std.specs.Prelude.{◌≡◌, ℕ, ◌+◌, Bool, true, false, not, ◌||◌, List, [], ◌∷◌}
-use Rattle.pm_exit.specs.declared.child.Kind.{Kind}
-use Rattle.pm_supervisor.specs.Children.{is_session, is_startup_child, is_checkpointer, is_writer, is_dead_end, one_if}
-use Rattle.pm_state.specs.declared.action.Action.{Action}
+use Rattle.pm_supervisor.specs.{pm_exit.declared.child.Kind.Kind, Children.{is_session, is_startup_child, is_checkpointer, is_writer, is_dead_end, one_if}}
+use Rattle.pm_state.specs.{declared.{action.Action.Action, machine.Machine.Machine}, Machine.{MachineEvent, Started}}
 use Rattle.pm_state.specs.declared.action.Action.TheVariants as act
-use Rattle.pm_state.specs.declared.machine.Machine.{Machine}
-use Rattle.pm_state.specs.Machine.{MachineEvent, Started}
 
 -- how many children of such a kind the actions start
 abbrev pub starts_in : (Kind → Bool) → List Action → ℕ

@@ -1,9 +1,7 @@
 -- The texts of the log's lines.
-use Rattle.std.specs.Prelude.{ℕ, List, ◌++◌, codes}
-use Rattle.std.specs.Fmt.{decimal}
-use Rattle.pm_exit.specs.declared.child.Kind.{Kind}
+use Rattle.std.specs.{Prelude.{ℕ, List, ◌++◌, codes}, Fmt.decimal}
+use Rattle.pm_exit.specs.declared.child.{Kind.Kind, Status.Status}
 use Rattle.pm_exit.specs.declared.child.Kind.TheVariants as kind
-use Rattle.pm_exit.specs.declared.child.Status.{Status}
 use Rattle.pm_exit.specs.declared.child.Status.TheVariants as status
 use Rattle.pm_state.specs.declared.action.Line.{Line}
 use Rattle.pm_state.specs.declared.action.Line.TheVariants as line

@@ -1,7 +1,6 @@
 -- What the machine leaves and asks for.
 use Rattle.std.specs.Prelude.{List}
-use Rattle.pm_state.specs.declared.action.Action.{Action}
-use Rattle.pm_state.specs.declared.machine.Machine.{Machine}
+use Rattle.pm_state.specs.declared.{action.Action.Action, machine.Machine.Machine}
 
 -- what one event leaves, and what it asks for, in order
 pub record Transition : Type 0 where

@@ -1,16 +1,13 @@
 -- What the machine does by itself once it is in a state: the rules of a turn.
 use Rattle.std.specs.Prelude.{Bool, true, false, not, ◌==◌, ◌&&◌, ◌||◌, if◌then◌else◌, [], ◌∷◌, ◌++◌, None, is_some}
-use Rattle.pm_exit.specs.declared.child.Kind.TheVariants as kind
-use Rattle.pm_modes.specs.Strength.{is_immediate}
-use Rattle.pm_admit.specs.declared.PmState.{PmState}
-use Rattle.pm_admit.specs.declared.PmState.TheVariants as state
+use Rattle.pm_supervisor.specs.pm_exit.declared.child.Kind.TheVariants as kind
+use Rattle.pm_supervisor.specs.{pm_modes.Strength.is_immediate, pm_admit.declared.PmState.PmState}
+use Rattle.pm_supervisor.specs.pm_admit.declared.PmState.TheVariants as state
 use Rattle.pm_supervisor.specs.declared.Ending.TheVariants as ending
 use Rattle.pm_state.specs.declared.action.Action.TheVariants as act
 use Rattle.pm_state.specs.declared.action.Line.TheVariants as line
-use Rattle.pm_state.specs.declared.machine.StartupStatus.{StartupStatus}
+use Rattle.pm_state.specs.{declared.machine.{StartupStatus.StartupStatus, Machine.Machine}, Transition.{Transition, transition}}
 use Rattle.pm_state.specs.declared.machine.StartupStatus.TheVariants as startup
-use Rattle.pm_state.specs.declared.machine.Machine.{Machine}
-use Rattle.pm_state.specs.Transition.{Transition, transition}
 
 -- a startup child is to be started
 abbrev pub startup_starts : Machine → Machine

@@ -1,11 +1,9 @@
 -- Four journals' parts, of which the definitions of restarts let two pass.
 use Rattle.std.specs.Prelude.{List, [], ◌∷◌, true, false}
-use Rattle.pm_exit.specs.declared.child.Kind.TheVariants.{Backend}
-use Rattle.pm_exit.specs.declared.child.Status.TheVariants.{Signal}
+use Rattle.pm_exit.specs.declared.child.{Kind.TheVariants.Backend, Status.TheVariants.Signal}
 use Rattle.pm_admit.specs.declared.Cac.TheVariants.{Ok as Admitted}
-use Rattle.pm_state.specs.declared.event.PmEvent.{PmEvent}
+use Rattle.pm_state.specs.{declared.event.PmEvent.PmEvent, Restarts.{AdmitsFrom, BeginsFrom}}
 use Rattle.pm_state.specs.declared.event.PmEvent.TheVariants as entry
-use Rattle.pm_state.specs.Restarts.{AdmitsFrom, BeginsFrom}
 
 -- a session is accepted after a crash, before redo has ended
 abbrev pub early : List PmEvent

@@ -1,7 +1,6 @@
 //! What holds of every list of calls. Each law is stated in `specs/Laws`, and carried by the function of its name.
 
-ghost use Rattle.pm_state.specs.WorkedRestarts.{WorkedRestarts};
-ghost use Rattle.pm_state.specs.Laws.{ShowsASupervisor, KeepsItsFacts, TellsOfEachStart, WritesALegalJournal, StaysInStep, RestartsSafely, KeepsItsPromises};
+ghost use Rattle.pm_state.specs.{WorkedRestarts.WorkedRestarts, Laws.{ShowsASupervisor, KeepsItsFacts, TellsOfEachStart, WritesALegalJournal, StaysInStep, RestartsSafely, KeepsItsPromises}};
 
 use pm_supervisor::{keeps_what_is_shared, stays_sound, stays_well, takes_child_steps_between};
 

@@ -2,9 +2,7 @@
 
 ghost use Rattle.std.specs.Prelude.{◌≡◌, ◌+◌, ◌<◌, ◌≤◌, ◌++◌, length};
 ghost use Rattle.pm_modes.specs.Strength.{is_immediate};
-ghost use Rattle.pm_state.specs.Exits.{crash_rule, startup_exited, checkpointer_exited, exited_by, less_one, redo_ended, unless_normal};
-ghost use Rattle.pm_state.specs.Machine.{IsCounted, IsNotGrown};
-ghost use Rattle.pm_state.specs.Requests.{asked_with, ticked_at};
+ghost use Rattle.pm_state.specs.{Exits.{crash_rule, startup_exited, checkpointer_exited, exited_by, less_one, redo_ended, unless_normal}, Machine.{IsCounted, IsNotGrown}, Requests.{asked_with, ticked_at}};
 
 use crate::action::{Action, Actions, Line};
 use pm_admit::PmState;

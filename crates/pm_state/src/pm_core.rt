@@ -24,8 +24,7 @@ pub struct PmCore {
 }
 
 impl Model for PmCore {
-    ghost use Rattle.pm_state.specs.declared.machine.Machine.{Machine as Value_};
-    ghost use Rattle.pm_state.specs.Machine.{IsWithinLimits};
+    ghost use Rattle.pm_state.specs.{declared.machine.Machine.Machine as Value_, Machine.IsWithinLimits};
 
     ghost Value = { Value_ };
 
@@ -35,8 +34,7 @@ impl Model for PmCore {
 }
 
 impl PmCore {
-    ghost use Rattle.pm_state.specs.Machine.{step, begun, view_of, IsReady, IsCounted, IsDue, MayAccept};
-    ghost use Rattle.pm_state.specs.Machine.MachineEvent.{Accepted, Started, Exited, Asked, Ticked, Turned};
+    ghost use Rattle.pm_state.specs.Machine.{step, begun, view_of, IsReady, IsCounted, IsDue, MayAccept, MachineEvent.{Accepted, Started, Exited, Asked, Ticked, Turned}};
 
     /// The machine before anything happened.
     pub fn new(limits: Limits) -> Self

@@ -1,8 +1,7 @@
 //! The rules of a turn: what the machine does by itself once it is in a state. Each runs once a turn, in order.
 
 ghost use Rattle.std.specs.Prelude.{◌≡◌, ◌+◌, ◌≤◌, ◌++◌, [], length};
-ghost use Rattle.pm_state.specs.Machine.{IsNotGrown};
-ghost use Rattle.pm_state.specs.TurnRules.{start_recovery, restart_writer, end_smart, stop_backends, backends_gone, dead_ends_gone, children_gone, are_backends_gone, startup_starts, turned_of};
+ghost use Rattle.pm_state.specs.{Machine.IsNotGrown, TurnRules.{start_recovery, restart_writer, end_smart, stop_backends, backends_gone, dead_ends_gone, children_gone, are_backends_gone, startup_starts, turned_of}};
 
 use crate::action::{Action, Actions, Line};
 use crate::machine::{Machine, StartupStatus};

@@ -3,8 +3,8 @@
 
 use anyhow::{Result, bail};
 use pm_disk::Disk;
-use pm_files::LogFiles;
 use pm_log::{Log, init, may_append};
+use pm_outside_files::LogFiles;
 use pm_redo::recover;
 use pm_rows::{Change, Commit, MAX_FILE_BYTES, Text};
 use std::alloc::Global;
@@ -29,7 +29,9 @@ fn main(rt: HostRuntime) -> Result<()> {
             time_appends(rt, folder.as_str(), batches, commits)
         }
         [folder, rows] => time_rows(rt, folder.as_str(), rows.as_str().parse::<u64>()?),
-        _ => bail!("usage: pm_log_rates FOLDER BATCHES COMMITS, or pm_log_rates FOLDER ROWS"),
+        _ => bail!(
+            "usage: pm_store_log_rates FOLDER BATCHES COMMITS, or pm_store_log_rates FOLDER ROWS"
+        ),
     }
 }
 

@@ -1,27 +1,9 @@
 -- What is left of a store, by what its own laws keep.
-use Rattle.std.proofs.Common.{◌≡◌, ◌⊎◌, inl, inr, ℕ, List, [], Option, None, Some, refl, sym, ◌∙◌, ap, subst, arith}
-use Rattle.std.proofs.Math.Logic.{∥∥₁_map}
-use Rattle.std.specs.Prelude.{false, true, IfSome}
+use Rattle.std.{proofs.{Common.{◌≡◌, ◌⊎◌, inl, inr, ℕ, List, [], Option, None, Some, refl, sym, ◌∙◌, ap, subst, arith}, Math.Logic.∥∥₁_map, lemmas.Bool.true≢false}, specs.Prelude.{true, IfSome}}
 use Rattle.std.specs.FinMap as finite
-use Rattle.std.proofs.lemmas.Bool.{true≢false}
-use Rattle.pm_disk.specs.Files.{Files}
-use Rattle.pm_record.specs.OnDisk.{GoesOn}
-use Rattle.pm_record.specs.Pair.{Means}
-use Rattle.pm_query.specs.Book.{Base, faults_here, generation_of, history_of, is_closed}
-use Rattle.pm_query.specs.Durable.{IsDurable}
-use Rattle.pm_query.specs.declared.book.BookEntry.{BookEntry}
-use Rattle.pm_segment.specs.declared.segment.Segment.{Segment}
-use Rattle.pm_segment.specs.Moment.{Moment, Told, book_of, disk_of, moment}
-use Rattle.pm_segment.specs.Redos.{IsCleanAt}
-use Rattle.pm_segment.specs.Runs.{CanBeRead, IsReplay, IsRun, StaysClean}
-use Rattle.pm_segment.specs.Stands.{Begins, GoesFrom, HasBegun, HasWaited, IsBaseOf, IsOpening, IsSure as IsSureAt, Origin, WaitsFrom}
-use Rattle.pm_server.specs.Ends.{AreHandedIn}
-use Rattle.pm_server.specs.Story.{IsClean}
-use Rattle.pm_server.specs.StoryLaws.{RestsAt, clean_told, left_told, no_answers, origin_of, view_at, where_told}
-use Rattle.pm_server.specs.UnredoneLaws.{unredone}
-use Rattle.pm_server.specs.Views.{DiskView}
-use Rattle.pm_shared.specs.Behind.{Behind}
-use Rattle.pm_remains.specs.Remains.{AreClean, AreReadable, IsLeft, IsSure, Remains, disk_view}
+use Rattle.pm_server.{specs.{pm_disk.Files.Files, pm_query.{Book.{Base, faults_here, generation_of, history_of, is_closed}, Durable.IsDurable, declared.book.BookEntry.BookEntry}, pm_segment.{declared.segment.Segment.Segment, Moment.{Moment, Told, book_of, disk_of, moment}, Redos.IsCleanAt, Runs.{CanBeRead, IsReplay, IsRun, StaysClean}, Stands.{Begins, GoesFrom, HasBegun, HasWaited, IsBaseOf, IsOpening, IsSure as IsSureAt, Origin, WaitsFrom}}, Ends.AreHandedIn, Story.IsClean, Views.DiskView}, proofs.{StoryLaws.{RestsAt, clean_told, left_told, no_answers, origin_of, view_at, where_told}, UnredoneLaws.unredone}}
+use Rattle.pm_store_shared.specs.{pm_record.{OnDisk.GoesOn, Pair.Means}, Behind.Behind}
+use Rattle.pm_store_remains.specs.Remains.{AreClean, AreReadable, IsLeft, IsSure, Remains, disk_view}
 
 -- ---- where both tell, by which that is told
 

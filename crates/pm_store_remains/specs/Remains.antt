@@ -1,18 +1,8 @@
 -- What is left of a store, after all that was noted since it was opened over a disk.
-use Rattle.std.specs.Prelude.{◌≡◌, ◌⊎◌, ℕ, ◌≤◌, true, false, List, [], All, Option, Some, IfSome}
-use Rattle.pm_disk.specs.Files.{Files}
-use Rattle.pm_disk.specs.declared.disk.Disk as Disk
-use Rattle.pm_record.specs.OnDisk.{GoesOn}
-use Rattle.pm_record.specs.declared.fault.RedoFault.{RedoFault}
-use Rattle.pm_redo.specs.Found.{IsReason}
-use Rattle.pm_query.specs.declared.book.BookEntry.{BookEntry}
-use Rattle.pm_query.specs.Book.{Base, IsLegal, faults_here, generation_of, history_of, is_closed}
-use Rattle.pm_segment.specs.Moves.{IsShown}
-use Rattle.pm_segment.specs.Redos.{SaysNothing}
-use Rattle.pm_segment.specs.Unread.{has_redo}
-use Rattle.pm_server.specs.Ends.{AreHandedIn}
-use Rattle.pm_server.specs.Story.{HoldsHistory, IsClean, KeepsMeaning}
-use Rattle.pm_server.specs.Views.{DiskView}
+use Rattle.std.specs.Prelude.{◌≡◌, ◌⊎◌, ◌≤◌, true, false, List, [], All, Option, Some, IfSome}
+use Rattle.pm_server.specs.{pm_disk.Files.Files, pm_segment.{pm_redo.Found.IsReason, Moves.IsShown, Redos.SaysNothing, Unread.has_redo}, pm_query.{declared.book.BookEntry.BookEntry, Book.{Base, IsLegal, faults_here, generation_of, history_of, is_closed}}, Ends.AreHandedIn, Story.{HoldsHistory, IsClean, KeepsMeaning}, Views.DiskView}
+use Rattle.pm_server.specs.pm_disk.declared.disk.Disk as Disk
+use Rattle.pm_store_shared.specs.pm_record.{OnDisk.GoesOn, declared.fault.RedoFault.RedoFault}
 
 -- what is told of a disk
 abbrev pub disk_view : {D : Type 0} → Disk.Ghosts D → D → DiskView

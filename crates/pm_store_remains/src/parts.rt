@@ -1,9 +1,8 @@
 //! A store, taken apart at its end.
 
 ghost use Rattle.std.specs.Prelude.{List};
-ghost use Rattle.pm_query.specs.declared.book.BookEntry.{BookEntry};
-ghost use Rattle.pm_remains.specs.Remains.{Remains, disk_view};
-ghost use Rattle.pm_shared.specs.Behind.{Behind};
+ghost use Rattle.pm_store_shared.specs.{pm_query.declared.book.BookEntry.BookEntry, Behind.Behind};
+ghost use Rattle.pm_store_remains.specs.Remains.{Remains, disk_view};
 
 use pm_disk::Disk;
 use pm_outside::Chronicle;

@@ -1,43 +1,9 @@
 -- What a token's calls owe as they give the store back, and what they come to.
-use Rattle.std.proofs.Common.{◌≡◌, ◌≢◌, ◌⊎◌, inl, inr, ℕ, ◌+◌, ◌-◌, ◌<◌, ◌≤◌, ◌==◌, ◌&&◌, Bool, true, false, cond, List, [], ◌∷◌, ◌++◌, length, Option, None, Some, refl, sym, ◌∙◌, ap, subst, arith, append-nil}
-use Rattle.std.specs.Prelude.{Result, Ok, Err, OnErr, IfOk, IfSome, Any, nat_eq}
-use Rattle.std.proofs.lemmas.Bool.Decides.{nat_tests}
-use Rattle.std.proofs.lemmas.List.Quantifiers.{Any-push}
-use Rattle.std.proofs.lemmas.Bool.{eq-eqb}
-use Rattle.pm_facts.specs.Bools.{never_both}
+use Rattle.std.{proofs.{Common.{◌≡◌, ◌≢◌, ◌⊎◌, inl, inr, ℕ, ◌+◌, ◌-◌, ◌<◌, ◌≤◌, ◌==◌, ◌&&◌, Bool, true, false, cond, List, [], ◌∷◌, ◌++◌, length, Option, None, Some, refl, sym, ◌∙◌, ap, subst, arith, append-nil}, lemmas.{Bool.{Decides.nat_tests, eq-eqb}, List.Quantifiers.Any-push}}, specs.Prelude.{Result, Ok, Err, OnErr, IfOk, IfSome, Any, nat_eq}}
+use Rattle.pm_query.specs.{pm_facts.Bools.never_both, pm_sql.declared.stmt.Stmt.Stmt, declared.{book.BookEntry.{BookEntry, TheVariants.{Answered, Attached, Detached}}, store.{Staged.Staged, StoreNo.{StoreNo, TheVariants.{Stale, Disk, Broken, Full, Redo, NoMemory}}}}, Book.{AnswersUpTo, generation_of, present, times_attached}, Calls.{PassView, EnterNotes, NotesFault, NotesLostAnswer, RunNotes, LeaveNotes, new_pass, newcomer, user_of, with_front}, pm_disk.Files.Files}
 use Rattle.atomic_table.specs.Seated.{TableId}
-use Rattle.pm_sql.specs.declared.stmt.Stmt.{Stmt}
-use Rattle.pm_query.specs.declared.book.BookEntry.{BookEntry}
-use Rattle.pm_query.specs.declared.book.BookEntry.TheVariants.{Answered, Attached, Detached}
-use Rattle.pm_query.specs.declared.store.Staged.{Staged}
-use Rattle.pm_query.specs.declared.store.StoreNo.{StoreNo}
-use Rattle.pm_query.specs.declared.store.StoreNo.TheVariants.{Stale, Disk, Broken, Full, Redo, NoMemory}
-use Rattle.pm_query.specs.Book.{AnswersUpTo, generation_of, present, times_attached}
-use Rattle.pm_query.specs.Calls.{PassView, EnterNotes, NotesFault, NotesLostAnswer, RunNotes, LeaveNotes, new_pass, newcomer, user_of, with_front}
-use Rattle.pm_segment.specs.declared.pass.Pass.{Pass}
-use Rattle.pm_segment.specs.declared.segment.Segment.{Segment}
-use Rattle.pm_segment.specs.Moment.{moment}
-use Rattle.pm_segment.specs.Moves.{Moves}
-use Rattle.pm_disk.specs.Files.{Files}
-use Rattle.pm_segment.specs.Passes.{Admits, HasAnswer, view_of}
-use Rattle.pm_segment.specs.Redos.{HasReason}
-use Rattle.pm_segment.specs.Unread.{has_break}
-use Rattle.pm_shared.specs.Reasons.{HasFirstReason}
-use Rattle.pm_shared.specs.declared.views.Noted.{Noted}
-use Rattle.pm_shared.specs.declared.views.Taken.{Taken}
-use Rattle.pm_shared.specs.declared.views.Hand.{Hand}
-use Rattle.pm_shared.specs.declared.views.View.{View}
-use Rattle.pm_shared.specs.declared.views.View.TheVariants.{Worker}
-use Rattle.pm_shared.specs.Behind.{Behind, Knows}
-use Rattle.pm_shared.specs.Grows.{Grew, NotesLeave, passes_entered}
-use Rattle.pm_shared.specs.GrowsLaws.{entries_noted}
-use Rattle.pm_shared.specs.Log.{AllOwn, Continues, noted_from}
-use Rattle.pm_shared.specs.Passes.{Among, live, renewed_pass, without_pass}
-use Rattle.pm_shared.specs.Quiet.{AllQuiet}
-use Rattle.pm_shared.specs.Rule.{taken}
-use Rattle.pm_shared.specs.Told.{HandMay, IsNothing, MayGive, Seated, Tells, TokenModel, TookFor, Turns, first_of, given_back, is_own_of, passes_of, past_of, resting, with_held, TellsHand}
-use Rattle.pm_shared.proofs.Logs.{among_live, among-snoc, among_up_to, known_at, known_less, known_on, known_snoc, live-less, live-snoc, up_to-less, up_to-snoc}
-use Rattle.pm_shared.proofs.Stores.{admits_known, answer_on, behind_moves, generation_on, knows_moves, present_on, quiet_own, quiet_times, times_on}
+use Rattle.pm_segment.specs.{declared.{pass.Pass.Pass, segment.Segment.Segment}, Moment.moment, Moves.Moves, Passes.{Admits, HasAnswer, view_of}, Redos.HasReason, Unread.has_break}
+use Rattle.pm_store_shared.{specs.{Reasons.HasFirstReason, declared.views.{Noted.Noted, Taken.Taken, Hand.Hand, View.{View, TheVariants.Worker}}, Behind.{Behind, Knows}, Grows.{Grew, NotesLeave, passes_entered}, GrowsLaws.entries_noted, Log.{AllOwn, Continues, noted_from}, Passes.{Among, live, renewed_pass, without_pass}, Quiet.AllQuiet, Rule.taken, Told.{HandMay, IsNothing, MayGive, Seated, Tells, TokenModel, TookFor, Turns, first_of, given_back, is_own_of, passes_of, past_of, resting, with_held, TellsHand}}, proofs.{Logs.{among_live, among-snoc, among_up_to, known_at, known_less, known_on, known_snoc, live-less, live-snoc, up_to-less, up_to-snoc}, Stores.{admits_known, answer_on, behind_moves, generation_on, knows_moves, present_on, quiet_own, quiet_times, times_on}}}
 
 -- ---- what the calls note
 

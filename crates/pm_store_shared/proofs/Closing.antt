@@ -1,18 +1,8 @@
 -- The shared side when all tokens are joined.
-use Rattle.std.proofs.Common.{◌≡◌, ⊎_elim, ℕ, ◌+◌, ◌<◌, List, [], ◌∷◌, ◌++◌, map, length, length-append, sym, refl, ap, ◌∙◌, subst, arith}
-use Rattle.std.proofs.lemmas.Option.{same_Some}
-use Rattle.std.specs.Prelude.{Some, IfSome, slice_get}
+use Rattle.std.{proofs.{Common.{◌≡◌, ⊎_elim, ℕ, ◌+◌, ◌<◌, List, [], ◌∷◌, ◌++◌, map, length, length-append, sym, refl, ap, ◌∙◌, subst, arith}, lemmas.Option.same_Some}, specs.Prelude.{Some, IfSome, slice_get}}
 use Rattle.atomic_table.specs.Seated.{TableId}
-use Rattle.pm_query.specs.declared.book.BookEntry.{BookEntry}
-use Rattle.pm_segment.specs.declared.pass.Pass.{Pass}
-use Rattle.pm_shared.specs.declared.views.Joined.{Joined}
-use Rattle.pm_shared.specs.declared.views.Noted.{Noted}
-use Rattle.pm_shared.specs.declared.views.Taken.{Taken}
-use Rattle.pm_shared.specs.Log.{IsShuffle}
-use Rattle.pm_shared.specs.Places.{EachOnce}
-use Rattle.pm_shared.specs.Told.{AllContinue, AreNewTokens, AreShares, AreTokens, owns, pasts, new_token, shared_with, Seated, SharedModel, TokenModel, Tells, desk_resting, first_of, generation_in, is_own_of, joined_of}
-use Rattle.pm_shared.proofs.Keeps.{got_end}
-use Rattle.pm_shared.proofs.Places.{each_once}
+use Rattle.pm_segment.specs.{pm_query.declared.book.BookEntry.BookEntry, declared.pass.Pass.Pass}
+use Rattle.pm_store_shared.{specs.{declared.views.{Joined.Joined, Noted.Noted, Taken.Taken}, Log.IsShuffle, Places.EachOnce, Told.{AllContinue, AreNewTokens, AreShares, AreTokens, owns, pasts, new_token, shared_with, Seated, SharedModel, TokenModel, Tells, desk_resting, first_of, generation_in, is_own_of, joined_of}}, proofs.{Keeps.got_end, Places.each_once}}
 
 pub map-length : {A C : Type 0} (f : A → C) (xs : List A) → length (map f xs) ≡ length xs
 map-length f [] = refl

@@ -1,15 +1,8 @@
 -- The end of a store.
-use Rattle.std.proofs.Common.{◌≡◌, ◌⊎◌, inl, inr, List, Option, None, Some, refl, sym, subst}
-use Rattle.std.specs.Prelude.{IfSome}
-use Rattle.pm_disk.specs.Files.{Files}
-use Rattle.pm_query.specs.declared.book.BookEntry.{BookEntry}
-use Rattle.pm_query.specs.Book.{Base}
-use Rattle.pm_segment.specs.declared.segment.Segment.{Segment}
-use Rattle.pm_segment.specs.Moment.{Moment, Told, book_of, disk_of, moment}
-use Rattle.pm_segment.specs.Runs.{IsReplay, IsRun}
-use Rattle.pm_segment.specs.Stands.{Begins, GoesFrom, IsOpening, IsSure, Origin, WaitsFrom}
-use Rattle.pm_shared.specs.Behind.{Behind}
-use Rattle.pm_shared.specs.Ending.{EndsSafely}
+use Rattle.std.{proofs.Common.{◌≡◌, ◌⊎◌, inl, inr, List, Option, None, Some, refl, sym, subst}, specs.Prelude.IfSome}
+use Rattle.pm_query.specs.{pm_disk.Files.Files, declared.book.BookEntry.BookEntry, Book.Base}
+use Rattle.pm_segment.specs.{declared.segment.Segment.Segment, Moment.{Moment, Told, book_of, disk_of, moment}, Runs.{IsReplay, IsRun}, Stands.{Begins, GoesFrom, IsOpening, IsSure, Origin, WaitsFrom}}
+use Rattle.pm_store_shared.specs.{Behind.Behind, Ending.EndsSafely}
 
 waiting : (origin : Origin) (at : Moment) (book : Option (List BookEntry)) (files : Option Files) → IfSome book (λ b. IfSome files (λ f. IsOpening origin at.ticks at.images))
     → EndsSafely origin.files origin.tick origin.faults book files at.ticks at.images

@@ -6,26 +6,9 @@ use lib.ListN.{get_elem?}
 use prog.Atomic.{either}
 use Rattle.std.specs.Prelude.{Option, Some, None, slice_get}
 use Rattle.atomic_table.specs.Table as table
-use Rattle.atomic_table.specs.Table.{State, step, keeps, takes, gives, stepped, opening, Allows, Joins, Splits}
-use Rattle.atomic_table.proofs.Lists.{at_set, exchanged}
-use Rattle.pm_facts.specs.Lists.{at_end}
-use Rattle.pm_facts.specs.Numbers.{sum_below, sum_same}
-use Rattle.pm_query.specs.declared.book.BookEntry.{BookEntry}
-use Rattle.pm_query.specs.declared.book.BookEntry.TheVariants.{Opened}
-use Rattle.pm_query.specs.Book.{generation_of}
-use Rattle.pm_segment.specs.declared.pass.Pass.{Pass}
-use Rattle.pm_shared.specs.declared.views.Joined.{Joined}
-use Rattle.pm_shared.specs.declared.views.Taken.{Taken}
-use Rattle.pm_shared.specs.declared.views.Hand.{Hand}
-use Rattle.pm_shared.specs.declared.views.Desk.{Desk}
-use Rattle.pm_shared.specs.declared.views.View.{View}
-use Rattle.pm_shared.specs.declared.views.View.TheVariants.{Vacant, Founding, Master, Worker, Spent}
-use Rattle.pm_shared.specs.Log.{Continues, Line, book_of, lines, placed, AllBelow}
-use Rattle.pm_shared.specs.Passes.{live, AllUpTo, AllKnown}
-use Rattle.pm_shared.specs.Rule.{Cell, Where, home, out, HasTaken, IsSeat, FitsDesk, Fits, AreCounted, Holds, Kept, taken}
-use Rattle.pm_shared.specs.Told.{with_held, Opens, Founded, new_desk, new_hand, dealt_more, next_hand, taken_in, TookAlone}
-use Rattle.pm_shared.proofs.Keeps.{put, at_put, put_here, put_else, some_at, got_end, got_below, got_some, one_view, held_at, took_home}
-use Rattle.pm_shared.proofs.Logs.{placed-new, below-none, below-more}
+use Rattle.atomic_table.{specs.Table.{State, step, keeps, takes, gives, stepped, opening, Allows, Joins, Splits}, proofs.Lists.{at_set, exchanged}}
+use Rattle.pm_segment.specs.{pm_query.{pm_facts.{Lists.at_end, Numbers.{sum_below, sum_same}}, declared.book.BookEntry.{BookEntry, TheVariants.Opened}, Book.generation_of}, declared.pass.Pass.Pass}
+use Rattle.pm_store_shared.{specs.{declared.views.{Joined.Joined, Taken.Taken, Hand.Hand, Desk.Desk, View.{View, TheVariants.{Vacant, Founding, Master, Worker, Spent}}}, Log.{Continues, Line, book_of, lines, placed, AllBelow}, Passes.{live, AllUpTo, AllKnown}, Rule.{Cell, Where, home, out, HasTaken, IsSeat, FitsDesk, Fits, AreCounted, Holds, Kept, taken}, Told.{with_held, Opens, Founded, new_desk, new_hand, dealt_more, next_hand, taken_in, TookAlone}}, proofs.{Keeps.{put, at_put, put_here, put_else, some_at, got_end, got_below, got_some, one_view, held_at, took_home}, Logs.{placed-new, below-none, below-more}}}
 
 sum_more : (n : ℕ) (f : ℕ → ℕ) → sum_below (n + 1) f ≡ sum_below n f + f n
 sum_more n f = let e : n + 1 ≡ suc n = omega arith in ap (λ m. sum_below m f) e

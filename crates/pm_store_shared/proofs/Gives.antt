@@ -3,22 +3,9 @@ use Rattle.std.proofs.Common.{◌≡◌, ◌≢◌, inr, ⊎_elim, ℕ, ◌+◌,
 use mathlib.Core.Option.{none, some}
 use lib.ListN.{get_elem?}
 use Rattle.std.specs.Prelude.{Option, Some, None}
-use Rattle.atomic_table.specs.Table.{step, gives, stepped, Allows}
-use Rattle.atomic_table.proofs.Lists.{at_set, set_here}
-use Rattle.pm_query.specs.declared.book.BookEntry.{BookEntry}
-use Rattle.pm_query.specs.Book.{generation_of}
-use Rattle.pm_segment.specs.declared.pass.Pass.{Pass}
-use Rattle.pm_shared.specs.declared.views.Taken.{Taken}
-use Rattle.pm_shared.specs.declared.views.Hand.{Hand}
-use Rattle.pm_shared.specs.declared.views.Desk.{Desk}
-use Rattle.pm_shared.specs.declared.views.View.{View}
-use Rattle.pm_shared.specs.declared.views.View.TheVariants.{Vacant, Founding, Master, Worker, Spent}
-use Rattle.pm_shared.specs.Log.{Line, AllOwn, NoneOwn, book_of, lines, noted_from, placed, placed_rest}
-use Rattle.pm_shared.specs.Passes.{AllKnown}
-use Rattle.pm_shared.specs.Rule.{Cell, Where, home, out, HasTaken, Fits, AreCounted, Holds, Kept, taken}
-use Rattle.pm_shared.specs.Told.{Gave, log_in, Turns, HandStep, HandMay, DeskStep, DeskMay}
-use Rattle.pm_shared.proofs.Keeps.{put, at_put, put_here, put_else, counted_put, St, held_at}
-use Rattle.pm_shared.proofs.Logs.{continues_lines, rest-append, rest-own, rest-none, placed-append, placed-own, placed-other, placed-none, below-append, below-lines, below-none, book-append, book-lines, book-length, known_on}
+use Rattle.atomic_table.{specs.Table.{step, gives, stepped, Allows}, proofs.Lists.{at_set, set_here}}
+use Rattle.pm_segment.specs.{pm_query.{declared.book.BookEntry.BookEntry, Book.generation_of}, declared.pass.Pass.Pass}
+use Rattle.pm_store_shared.{specs.{declared.views.{Taken.Taken, Hand.Hand, Desk.Desk, View.{View, TheVariants.{Vacant, Founding, Master, Worker, Spent}}}, Log.{Line, AllOwn, NoneOwn, book_of, lines, noted_from, placed, placed_rest}, Passes.AllKnown, Rule.{Cell, Where, home, out, HasTaken, Fits, AreCounted, Holds, Kept, taken}, Told.{Gave, log_in, Turns, HandStep, HandMay, DeskStep, DeskMay}}, proofs.{Keeps.{put, at_put, put_here, put_else, counted_put, St, held_at}, Logs.{continues_lines, rest-append, rest-own, rest-none, placed-append, placed-own, placed-other, placed-none, below-append, below-lines, below-none, book-append, book-lines, book-length, known_on}}}
 
 module _ {S F : Type 0} (Is : F → List BookEntry → S → Type 0) (Knows : List BookEntry → S → Pass → Type 0) where
   is_out : (w : Where) (t b : Taken S) (id n : ℕ) → HasTaken w t id n (Some b) → w ≡ out id n

@@ -6,24 +6,11 @@ use native.Mathlib.Decide.{ℕ_discrete}
 use lib.ListN.{get_elem?}
 use lib.Seq.{set-get_or}
 use prog.Atomic.{either}
-use Rattle.std.proofs.lemmas.Option.{same_Some}
-use Rattle.std.specs.Prelude.{Option, Some, None, slice_get}
+use Rattle.std.{proofs.lemmas.Option.same_Some, specs.Prelude.{Option, Some, None, slice_get}}
 use Rattle.atomic_table.specs.Table as table
-use Rattle.atomic_table.specs.Table.{State, step, keeps, takes, stepped, Allows}
-use Rattle.atomic_table.proofs.Lists.{at_set, set_again, exchanged}
-use Rattle.pm_facts.specs.Numbers.{sum_below, sum_put}
-use Rattle.pm_query.specs.declared.book.BookEntry.{BookEntry}
-use Rattle.pm_query.specs.Book.{generation_of, times_attached}
-use Rattle.pm_segment.specs.declared.pass.Pass.{Pass}
-use Rattle.pm_shared.specs.declared.views.Taken.{Taken}
-use Rattle.pm_shared.specs.declared.views.View.{View}
-use Rattle.pm_shared.specs.declared.views.View.TheVariants.{Vacant, Founding, Master, Worker, Spent}
-use Rattle.pm_shared.specs.Log.{Line, book_of, AllBelow}
-use Rattle.pm_shared.specs.Passes.{live, AllUpTo, AllKnown}
-use Rattle.pm_shared.specs.Rule.{Cell, Where, home, out, IsThere, HasTaken, Fits, AreCounted, Holds, IsHeld, Kept, taken}
-use Rattle.pm_shared.specs.Told.{number_of, with_held, Tells, Took, Turns, IsMine}
-use Rattle.pm_shared.proofs.Logs.{all_continue, member_below}
-use Rattle.pm_shared.specs.JoinedLaws.{owned_at}
+use Rattle.atomic_table.{specs.Table.{State, step, keeps, takes, stepped, Allows}, proofs.Lists.{at_set, set_again, exchanged}}
+use Rattle.pm_segment.specs.{pm_query.{pm_facts.Numbers.{sum_below, sum_put}, declared.book.BookEntry.BookEntry, Book.{generation_of, times_attached}}, declared.pass.Pass.Pass}
+use Rattle.pm_store_shared.{specs.{declared.views.{Taken.Taken, View.{View, TheVariants.{Vacant, Founding, Master, Worker, Spent}}}, Log.{Line, book_of, AllBelow}, Passes.{live, AllUpTo, AllKnown}, Rule.{Cell, Where, home, out, IsThere, HasTaken, Fits, AreCounted, Holds, IsHeld, Kept, taken}, Told.{number_of, with_held, Tells, Took, Turns, IsMine}}, proofs.{Logs.{all_continue, member_below}, JoinedLaws.owned_at}}
 
 abbrev pick : {P C : Type 0} → Dec P → C → C → C
 pick (yes _) a b = a

@@ -10,3 +10,4 @@ pub mod Places
 pub mod Renewing
 pub mod Steps
 pub mod Stores
+pub mod JoinedLaws

@@ -1,17 +1,9 @@
 -- Lists of lines, of passes, and sums.
-use Rattle.std.proofs.Common.{◌≡◌, ◌≢◌, inl, inr, ℕ, zero, suc, ◌+◌, ◌<◌, ◌≤◌, ◌==◌, ◌&&◌, Bool, true, false, cond, List, [], ◌∷◌, ◌++◌, length, sym, refl, ap, ◌∙◌, subst, arith, append_assoc, ne_eqb, eq-eqb}
-use Rattle.std.specs.Prelude.{Some, slice_get}
-use Rattle.std.proofs.lemmas.Bool.{false≢true}
-use Rattle.std.proofs.lemmas.Bool.Decides.{nat_tests}
+use Rattle.std.{proofs.{Common.{◌≡◌, ◌≢◌, inl, inr, ℕ, zero, suc, ◌+◌, ◌<◌, ◌≤◌, ◌==◌, ◌&&◌, Bool, true, false, cond, List, [], ◌∷◌, ◌++◌, length, sym, refl, ap, ◌∙◌, subst, arith, append_assoc, ne_eqb, eq-eqb}, lemmas.Bool.{false≢true, Decides.nat_tests}}, specs.Prelude.{Some, slice_get}}
 use mathlib.Core.Logic.{dite}
 use native.Mathlib.Decide.{ℕ_discrete}
-use Rattle.pm_query.specs.declared.book.BookEntry.{BookEntry}
-use Rattle.pm_segment.specs.declared.pass.Pass.{Pass}
-use Rattle.pm_shared.specs.Log.{Line, is_own, AllOwn, NoneOwn, book_of, lines, noted, noted_from, placed, placed_rest, AllBelow, Continues}
-use Rattle.pm_shared.specs.Passes.{Among, live, without_pass, AllUpTo, AllKnown}
-use Rattle.pm_facts.specs.Numbers.{sum_below}
-use Rattle.pm_shared.specs.Told.{AllContinue, pasts}
-use Rattle.pm_shared.specs.declared.views.Joined.{Joined}
+use Rattle.pm_segment.specs.{pm_query.{declared.book.BookEntry.BookEntry, pm_facts.Numbers.sum_below}, declared.pass.Pass.Pass}
+use Rattle.pm_store_shared.specs.{Log.{Line, is_own, AllOwn, NoneOwn, book_of, lines, noted, noted_from, placed, placed_rest, AllBelow, Continues}, Passes.{Among, live, without_pass, AllUpTo, AllKnown}, Told.{AllContinue, pasts}, declared.views.Joined.Joined}
 
 abbrev one : Bool → ℕ
 one b = cond b 1 0

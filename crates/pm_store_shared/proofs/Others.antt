@@ -1,28 +1,8 @@
 -- The calls of a token that answer no script.
-use Rattle.std.proofs.Common.{◌≡◌, ℕ, Bool, List, ◌++◌, Option, None, sym, ◌∙◌, subst}
-use Rattle.std.specs.Prelude.{Result, Ok, Err}
-use Rattle.pm_record.specs.declared.fault.RedoFault.TheVariants as redo
-use Rattle.pm_query.specs.declared.book.BookEntry.{BookEntry}
-use Rattle.pm_query.specs.declared.store.Checkpointed.{Checkpointed}
-use Rattle.pm_query.specs.declared.store.Checkpointed.TheVariants.{Done, Skipped, NotDue}
-use Rattle.pm_query.specs.declared.store.Seen.{Seen}
-use Rattle.pm_query.specs.declared.store.Seen.TheVariants.{Released as CanBeSent, NotFlushed}
-use Rattle.pm_query.specs.declared.store.StoreNo.{StoreNo}
-use Rattle.pm_query.specs.declared.store.StoreNo.TheVariants.{Stale, Disk, Broken, Full, Redo, NoMemory}
-use Rattle.pm_query.specs.Book.{generation_of}
-use Rattle.pm_query.specs.Calls.{PassView, CheckpointNotes, FlushNotes, RedoNotes, SeenNotes, user_of}
-use Rattle.pm_segment.specs.declared.pass.Pass.{Pass}
-use Rattle.pm_segment.specs.declared.segment.Segment.{Segment}
-use Rattle.pm_segment.specs.Moment.{moment}
-use Rattle.pm_segment.specs.Passes.{Admits, HasAnswer, view_of}
-use Rattle.pm_shared.specs.declared.views.Noted.{Noted}
-use Rattle.pm_shared.specs.Behind.{Behind, Knows}
-use Rattle.pm_shared.specs.Passes.{Among}
-use Rattle.pm_shared.specs.Quiet.{AllQuiet}
-use Rattle.pm_shared.specs.Rule.{taken}
-use Rattle.pm_shared.specs.Told.{Seated, Tells, resting}
-use Rattle.pm_shared.proofs.Logs.{known_at}
-use Rattle.pm_shared.proofs.Stores.{answer_on, quiet_own}
+use Rattle.std.{proofs.Common.{◌≡◌, ℕ, Bool, List, ◌++◌, Option, None, sym, ◌∙◌, subst}, specs.Prelude.{Result, Ok, Err}}
+use Rattle.pm_segment.specs.pm_record.declared.fault.RedoFault.TheVariants as redo
+use Rattle.pm_segment.specs.{pm_query.{declared.{book.BookEntry.BookEntry, store.{Checkpointed.{Checkpointed, TheVariants.{Done, Skipped, NotDue}}, Seen.{Seen, TheVariants.{Released as CanBeSent, NotFlushed}}, StoreNo.{StoreNo, TheVariants.{Stale, Disk, Broken, Full, Redo, NoMemory}}}}, Book.generation_of, Calls.{PassView, CheckpointNotes, FlushNotes, RedoNotes, SeenNotes, user_of}}, declared.{pass.Pass.Pass, segment.Segment.Segment}, Moment.moment, Passes.{Admits, HasAnswer, view_of}}
+use Rattle.pm_store_shared.{specs.{declared.views.Noted.Noted, Behind.{Behind, Knows}, Passes.Among, Quiet.AllQuiet, Rule.taken, Told.{Seated, Tells, resting}}, proofs.{Logs.known_at, Stores.{answer_on, quiet_own}}}
 
 by : (es fs : List BookEntry) → es ≡ fs → AllQuiet fs → AllQuiet es
 by es fs is q = subst AllQuiet (sym is) q

@@ -1,39 +1,8 @@
 -- From one generation to the next.
-use Rattle.std.proofs.Common.{◌≡◌, ◌⊎◌, inl, inr, ℕ, zero, suc, ◌+◌, ◌≤◌, ◌&&◌, Bool, true, false, cond, List, [], ◌∷◌, ◌++◌, All, map, length, Option, None, Some, refl, sym, ◌∙◌, ap, subst, arith, append-nil}
-use Rattle.std.specs.Prelude.{Result, Ok, Err, OnErr, OnOk, fold, nat_eq, nat_lt}
-use Rattle.std.proofs.lemmas.Bool.Decides.{nat_tests}
-use Rattle.std.proofs.lemmas.List.Elements.{All-nil, All-cons, All-append}
-use Rattle.std.proofs.lemmas.List.Sums.{fold-append, sum_by-append, sum_by-cons}
-use Rattle.std.specs.declared.alloc.AllocError.{AllocError}
+use Rattle.std.{proofs.{Common.{◌≡◌, ◌⊎◌, inl, inr, ℕ, zero, suc, ◌+◌, ◌≤◌, ◌&&◌, Bool, true, false, cond, List, [], ◌∷◌, ◌++◌, All, map, length, Option, None, Some, refl, sym, ◌∙◌, ap, subst, arith, append-nil}, lemmas.{Bool.Decides.nat_tests, List.{Elements.{All-nil, All-cons, All-append}, Sums.{fold-append, sum_by-append, sum_by-cons}}}}, specs.{Prelude.{Result, Ok, Err, OnErr, OnOk, fold, nat_eq, nat_lt}, declared.alloc.AllocError.AllocError}}
 use Rattle.atomic_table.specs.Seated.{TableId}
-use Rattle.pm_facts.specs.Numbers.{sum_below, sum_zero}
-use Rattle.pm_query.specs.declared.book.BookEntry.{BookEntry}
-use Rattle.pm_query.specs.declared.book.BookEntry.TheVariants.{Gone, Opened}
-use Rattle.pm_query.specs.Book.{generation_after, generation_of, times_attached}
-use Rattle.pm_segment.specs.declared.segment.Segment.{Segment}
-use Rattle.pm_segment.specs.Children.{AreOthers, IsAttendedBy, once, times_behind, times_in}
-use Rattle.pm_segment.specs.Moment.{Moment, disk_of, moment}
-use Rattle.pm_segment.specs.Moves.{IsAsBefore, IsShown, Moves, Renews}
-use Rattle.pm_segment.specs.MovesLaws.{begins_on, moves_none, renewal_shown}
-use Rattle.pm_segment.specs.Stands.{Begins, Origin, WaitsFrom}
-use Rattle.pm_segment.specs.Unread.{has_break}
-use Rattle.pm_segment.specs.UnreadLaws.{break_before, redo_parts}
-use Rattle.pm_shared.specs.declared.views.Joined.{Joined}
-use Rattle.pm_shared.specs.declared.views.Noted.{Noted}
-use Rattle.pm_shared.specs.declared.views.Desk.{Desk}
-use Rattle.pm_shared.specs.declared.views.Taken.{Taken}
-use Rattle.pm_shared.specs.declared.views.View.{View}
-use Rattle.pm_shared.specs.declared.views.View.TheVariants.{Master}
-use Rattle.pm_shared.specs.Behind.{Behind, Knows}
-use Rattle.pm_shared.specs.Log.{NoneOwn, noted_from}
-use Rattle.pm_shared.specs.Passes.{AllUpTo, live}
-use Rattle.pm_segment.specs.Renewal.{renewal}
-use Rattle.pm_shared.specs.Renewed.{AreApart, RenewNotes}
-use Rattle.pm_shared.specs.Rule.{AreCounted, taken}
-use Rattle.pm_shared.specs.Told.{DeskMay, HasRenewed, MayGive, Resets, Seated, SharedModel, Tells, desk_resting, first_of, generation_in, given_back, is_own_of, joined_of, with_held}
-use Rattle.pm_shared.proofs.Closing.{shown}
-use Rattle.pm_shared.proofs.Logs.{known_later, known_on, none_live, up_to_more}
-use Rattle.pm_shared.proofs.Stores.{behind_moves, knows_moves, times_on, told_on}
+use Rattle.pm_segment.specs.{pm_query.{pm_facts.Numbers.{sum_below, sum_zero}, declared.book.BookEntry.{BookEntry, TheVariants.{Gone, Opened}}, Book.{generation_after, generation_of, times_attached}}, declared.segment.Segment.Segment, Children.{AreOthers, IsAttendedBy, once, times_behind, times_in}, Moment.{Moment, disk_of, moment}, Moves.{IsAsBefore, IsShown, Moves, Renews}, MovesLaws.{begins_on, moves_none, renewal_shown}, Stands.{Begins, Origin, WaitsFrom}, Unread.has_break, UnreadLaws.{break_before, redo_parts}, Renewal.renewal}
+use Rattle.pm_store_shared.{specs.{declared.views.{Joined.Joined, Noted.Noted, Desk.Desk, Taken.Taken, View.{View, TheVariants.Master}}, Behind.{Behind, Knows}, Log.{NoneOwn, noted_from}, Passes.{AllUpTo, live}, Renewed.{AreApart, RenewNotes}, Rule.{AreCounted, taken}, Told.{DeskMay, HasRenewed, MayGive, Resets, Seated, SharedModel, Tells, desk_resting, first_of, generation_in, given_back, is_own_of, joined_of, with_held}}, proofs.{Closing.shown, Logs.{known_later, known_on, none_live, up_to_more}, Stores.{behind_moves, knows_moves, times_on, told_on}}}
 
 -- ---- entries
 
@@ -86,7 +55,7 @@ behind_renewed {g = g} first log x x' gone others generation are renews disk is 
   told = told_on (moment x).book (moment x').book log (renewal (gone ++ others) generation) renews.notes is.told;
   generation = generation_behind log (gone ++ others) generation ∙ ap (λ n. n + 1) is.generation ∙ sym renews.generation;
   attended = λ p. nobody_behind log (moment x).inside gone others generation are is.attended p ∙ ap (times_in p) (sym renews.inside);
-  time = subst (λ d. Rattle.pm_record.specs.OnDisk.GoesOn (g.ticks first) (g.ticks d) (g.images first) (g.images d)) (sym disk) is.time;
+  time = subst (λ d. Rattle.pm_segment.specs.pm_record.OnDisk.GoesOn (g.ticks first) (g.ticks d) (g.images first) (g.images d)) (sym disk) is.time;
   counts = record {
     counted = renews.counts (g.faults first) is.counts.counted;
     each = subst (λ d. All (IsShown (g.faults first) (g.faults d)) (log ++ renewal (gone ++ others) generation)) (sym disk)
@@ -157,7 +126,7 @@ module _ {D B : Type 0} {g h : _} (n : ℕ) (first : D) (gen : ℕ) (own : List 
         step = record {
           resets = resets_behind log es next (nobody_behind log (moment x).inside gone others generation did.0.1 is.attended);
           stands = λ f was. behind_renewed f log x x' gone others generation did.0.1 did.0.2 disk was;
-          passes = λ ps up known. subst (λ z. Rattle.pm_shared.specs.Passes.AllKnown (Knows (log ++ es) x') z ps) (sym next) (known_later (Knows (log ++ es) x') (generation_of log) ps up);
+          passes = λ ps up known. subst (λ z. Rattle.pm_store_shared.specs.Passes.AllKnown (Knows (log ++ es) x') z ps) (sym next) (known_later (Knows (log ++ es) x') (generation_of log) ps up);
         };
       }
   desk_may (Err short) is did disk =
@@ -170,7 +139,7 @@ module _ {D B : Type 0} {g h : _} (n : ℕ) (first : D) (gen : ℕ) (own : List 
         step = record {
           resets = λ dealt cells a. subst (AreCounted dealt cells) (sym (append-nil log)) a;
           stands = λ f was. behind_moves f log [] x x' tt moves was;
-          passes = λ ps up known. subst (λ z. Rattle.pm_shared.specs.Passes.AllKnown (Knows (log ++ []) x') z ps) (sym (ap generation_of (append-nil log)))
+          passes = λ ps up known. subst (λ z. Rattle.pm_store_shared.specs.Passes.AllKnown (Knows (log ++ []) x') z ps) (sym (ap generation_of (append-nil log)))
               (known_on (Knows log x) (Knows (log ++ []) x') (generation_of log) ps (λ p e k. knows_moves log [] x x' p tt moves k) known);
         };
       }

@@ -2,22 +2,10 @@
 use Rattle.std.proofs.Common.{◌≡◌, ℕ, ◌+◌, ◌==◌, List, [], ◌∷◌, length, sym, refl, ap, ◌∙◌, subst}
 use mathlib.Core.Option.{none}
 use prog.Atomic.{either}
-use Rattle.std.proofs.lemmas.Option.{same_Some}
-use Rattle.std.specs.Prelude.{Option, Some, None}
+use Rattle.std.{proofs.lemmas.Option.same_Some, specs.Prelude.{Option, Some, None}}
 use Rattle.atomic_table.specs.Table.{step, rest, opening, Allows, Joins, Splits}
-use Rattle.pm_query.specs.declared.book.BookEntry.{BookEntry}
-use Rattle.pm_query.specs.declared.book.BookEntry.TheVariants.{Opened}
-use Rattle.pm_segment.specs.declared.pass.Pass.{Pass}
-use Rattle.pm_shared.specs.declared.views.Noted.{Noted}
-use Rattle.pm_shared.specs.declared.views.Joined.{Joined}
-use Rattle.pm_shared.specs.declared.views.Taken.{Taken}
-use Rattle.pm_shared.specs.declared.views.View.{View}
-use Rattle.pm_shared.specs.declared.views.View.TheVariants.{Vacant, Founding, Master, Worker, Spent}
-use Rattle.pm_shared.specs.Rule.{Kept}
-use Rattle.pm_shared.specs.Told.{Seated, number_of, Took, TookAlone, Gave, Opens, Founded, IsMine, MayGive, with_held, Tells, resting, desk_resting, dealt_more, next_hand, taken_in}
-use Rattle.pm_shared.proofs.Keeps.{takes_it}
-use Rattle.pm_shared.proofs.Gives.{gives_hand, gives_desk}
-use Rattle.pm_shared.proofs.Ends.{begins, opens, founds, deals, gathers, takes_alone}
+use Rattle.pm_segment.specs.{pm_query.declared.book.BookEntry.{BookEntry, TheVariants.Opened}, declared.pass.Pass.Pass}
+use Rattle.pm_store_shared.{specs.{declared.views.{Noted.Noted, Joined.Joined, Taken.Taken, View.{View, TheVariants.{Vacant, Founding, Master, Worker, Spent}}}, Rule.Kept, Told.{Seated, number_of, Took, TookAlone, Gave, Opens, Founded, IsMine, MayGive, with_held, Tells, resting, desk_resting, dealt_more, next_hand, taken_in}}, proofs.{Keeps.takes_it, Gives.{gives_hand, gives_desk}, Ends.{begins, opens, founds, deals, gathers, takes_alone}}}
 
 module _ {S F : Type 0} (Is : F → List BookEntry → S → Type 0) (Knows : List BookEntry → S → Pass → Type 0) where
   pub takes_as : (slots id n to : ℕ) (me : Seated S F) → slots ≡ 1 → me.1 ≡ [] → number_of me.0 ≡ n → to ≡ n + 1 → IsMine me.0

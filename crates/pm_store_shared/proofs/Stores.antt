@@ -1,29 +1,7 @@
 -- What a store's calls make of what holds of it.
-use Rattle.std.proofs.Common.{◌≡◌, ◌⊎◌, inl, inr, ℕ, ◌≤◌, true, false, List, [], ◌∷◌, ◌++◌, Option, None, Some, refl, sym, ◌∙◌, ap, subst, arith, append_assoc, append-nil, length-append}
-use Rattle.std.specs.Prelude.{IfSome, Any, fold}
-use Rattle.std.proofs.lemmas.Bool.{false≢true}
-use Rattle.std.proofs.lemmas.Grind.{common_steps}
-use Rattle.std.proofs.lemmas.List.Elements.{All-append, All-weaker}
-use Rattle.std.proofs.lemmas.List.Sums.{fold-append}
-use Rattle.pm_facts.specs.Lists.{Any-append}
-use Rattle.pm_record.specs.Calls.{goes_two}
-use Rattle.pm_query.specs.declared.book.BookEntry.{BookEntry}
-use Rattle.pm_query.specs.declared.book.BookEntry.TheVariants.{Opened, Attached, Redone, Answered, Released, Detached, Gone, CheckpointEnded, Broke, LogFull}
-use Rattle.pm_query.specs.Book.{AnswersUpTo, generation_after, generation_of, present, present_after, times_after, times_attached}
-use Rattle.pm_segment.specs.declared.pass.Pass.{Pass}
-use Rattle.pm_segment.specs.declared.segment.Segment.{Segment}
-use Rattle.pm_segment.specs.Children.{times_behind}
-use Rattle.pm_segment.specs.Moment.{Moment, moment}
-use Rattle.pm_outside.specs.Added.{Added}
-use Rattle.pm_segment.specs.Moves.{CountsEntries, IsShown, Moves}
-use Rattle.pm_segment.specs.MovesLaws.{counts_on, stands_on, unread_now}
-use Rattle.pm_segment.specs.Passes.{Admits, HasAnswer, IsInside}
-use Rattle.pm_segment.specs.Stands.{Begins, Origin, WaitsFrom}
-use Rattle.pm_segment.specs.Unread.{has_break}
-use Rattle.pm_segment.specs.UnreadLaws.{break_before, break_behind, redo_parts}
-use Rattle.pm_shared.specs.Behind.{Behind, Knows}
-use Rattle.pm_shared.specs.Log.{is_own, AllOwn}
-use Rattle.pm_shared.specs.Quiet.{IsQuiet, AllQuiet}
+use Rattle.std.{proofs.{Common.{◌≡◌, ◌⊎◌, inl, inr, ℕ, ◌≤◌, true, false, List, [], ◌∷◌, ◌++◌, Option, None, Some, refl, sym, ◌∙◌, ap, subst, arith, append_assoc, append-nil, length-append}, lemmas.{Bool.false≢true, Grind.common_steps, List.{Elements.{All-append, All-weaker}, Sums.fold-append}}}, specs.Prelude.{IfSome, Any, fold}}
+use Rattle.pm_segment.specs.{pm_query.{pm_facts.Lists.Any-append, declared.book.BookEntry.{BookEntry, TheVariants.{Opened, Attached, Redone, Answered, Released, Detached, Gone, CheckpointEnded, Broke, LogFull}}, Book.{AnswersUpTo, generation_after, generation_of, present, present_after, times_after, times_attached}}, pm_record.Calls.goes_two, declared.{pass.Pass.Pass, segment.Segment.Segment}, Children.times_behind, Moment.{Moment, moment}, pm_outside.Added.Added, Moves.{CountsEntries, IsShown, Moves}, MovesLaws.{counts_on, stands_on, unread_now}, Passes.{Admits, HasAnswer, IsInside}, Stands.{Begins, Origin, WaitsFrom}, Unread.has_break, UnreadLaws.{break_before, break_behind, redo_parts}}
+use Rattle.pm_store_shared.specs.{Behind.{Behind, Knows}, Log.{is_own, AllOwn}, Quiet.{IsQuiet, AllQuiet}}
 
 -- ---- entries
 

@@ -1,16 +1,6 @@
 -- What holds of a store after the entries so far.
 use Rattle.std.specs.Prelude.{◌≡◌, ◌⊎◌, true, false, List, None, IfSome}
-use Rattle.pm_record.specs.OnDisk.{GoesOn}
-use Rattle.pm_query.specs.declared.book.BookEntry.{BookEntry}
-use Rattle.pm_query.specs.Book.{generation_of}
-use Rattle.pm_segment.specs.declared.pass.Pass.{Pass}
-use Rattle.pm_segment.specs.declared.segment.Segment.{Segment}
-use Rattle.pm_segment.specs.Children.{IsAttendedBy}
-use Rattle.pm_segment.specs.Moment.{moment}
-use Rattle.pm_segment.specs.Moves.{CountsEntries}
-use Rattle.pm_segment.specs.Passes.{HasAnswer, IsStaged}
-use Rattle.pm_segment.specs.Stands.{Begins, WaitsFrom}
-use Rattle.pm_segment.specs.Unread.{has_break, has_redo}
+use Rattle.pm_segment.specs.{pm_record.OnDisk.GoesOn, pm_query.{declared.book.BookEntry.BookEntry, Book.generation_of}, declared.{pass.Pass.Pass, segment.Segment.Segment}, Children.IsAttendedBy, Moment.moment, Moves.CountsEntries, Passes.{HasAnswer, IsStaged}, Stands.{Begins, WaitsFrom}, Unread.{has_break, has_redo}}
 
 -- The store stands after these entries, from the disk as it got it. Where its book tells, the book is these entries. Children
 -- are inside as often as the entries attach them, each fault among them was counted, and what a stop could leave before is as

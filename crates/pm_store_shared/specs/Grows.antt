@@ -1,12 +1,7 @@
 -- What a token's calls make of its list.
 use Rattle.std.specs.Prelude.{◌≡◌, ℕ, Bool, true, false, List, [], ◌∷◌, ◌++◌, Result, Ok, Err}
-use Rattle.pm_query.specs.declared.book.BookEntry.{BookEntry}
-use Rattle.pm_query.specs.declared.book.BookEntry.TheVariants.{Detached}
-use Rattle.pm_query.specs.declared.store.StoreNo.{StoreNo}
-use Rattle.pm_segment.specs.declared.pass.Pass.{Pass}
-use Rattle.pm_shared.specs.declared.views.Noted.{Noted}
-use Rattle.pm_shared.specs.Log.{Continues, entries_of}
-use Rattle.pm_shared.specs.Told.{TokenModel}
+use Rattle.pm_segment.specs.{pm_query.declared.{book.BookEntry.{BookEntry, TheVariants.Detached}, store.StoreNo.StoreNo}, declared.pass.Pass.Pass}
+use Rattle.pm_store_shared.specs.{declared.views.Noted.Noted, Log.{Continues, entries_of}, Told.TokenModel}
 
 -- The token is the same one, its list got exactly these entries, at its end, and what it finds begins with what it found.
 pub record Grew {F : Type 0} (entries : List BookEntry) (before now : TokenModel F) : Type 0 where

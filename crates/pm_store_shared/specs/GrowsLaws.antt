@@ -1,13 +1,7 @@
 -- The laws of a token as a store.
-use Rattle.std.proofs.Common.{ℕ, ◌+◌, ◌≤◌, arith, List, [], ◌∷◌, ◌++◌, ◌≡◌, refl, sym, ap, ◌∙◌, subst, append-nil, append_assoc}
-use Rattle.std.proofs.lemmas.List.Sums.{fold-append}
-use Rattle.pm_query.specs.declared.book.BookEntry.{BookEntry}
-use Rattle.pm_query.specs.Book.{generation_after, generation_of}
-use Rattle.pm_query.specs.HistoryLaws.{generations_rise}
-use Rattle.pm_shared.specs.declared.views.Noted.{Noted}
-use Rattle.pm_shared.specs.Log.{Continues, entries_of, noted_from}
-use Rattle.pm_shared.specs.Told.{TokenModel}
-use Rattle.pm_shared.specs.Grows.{Grew}
+use Rattle.std.proofs.{Common.{ℕ, ◌+◌, ◌≤◌, arith, List, [], ◌∷◌, ◌++◌, ◌≡◌, refl, sym, ap, ◌∙◌, subst, append-nil, append_assoc}, lemmas.List.Sums.fold-append}
+use Rattle.pm_query.{specs.{declared.book.BookEntry.BookEntry, Book.{generation_after, generation_of}}, proofs.HistoryLaws.generations_rise}
+use Rattle.pm_store_shared.specs.{declared.views.Noted.Noted, Log.{Continues, entries_of, noted_from}, Told.TokenModel, Grows.Grew}
 
 entries-append : (xs ys : List Noted) → entries_of (xs ++ ys) ≡ entries_of xs ++ entries_of ys
 entries-append [] ys = refl

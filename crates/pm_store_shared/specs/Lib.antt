@@ -2,7 +2,6 @@ pub mod Behind
 pub mod Ending
 pub mod Grows
 pub mod GrowsLaws
-pub mod JoinedLaws
 pub mod Log
 pub mod Passes
 pub mod Places
@@ -11,3 +10,7 @@ pub mod Reasons
 pub mod Renewed
 pub mod Rule
 pub mod Told
+pub use Rattle.pm_disk.specs as pm_disk
+pub use Rattle.pm_segment.specs.pm_record as pm_record
+pub use Rattle.pm_query.specs as pm_query
+pub use Rattle.pm_segment.specs as pm_segment

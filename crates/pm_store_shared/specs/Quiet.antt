@@ -1,7 +1,6 @@
 -- Entries by which nobody comes or goes.
 use Rattle.std.specs.Prelude.{List, [], ◌∷◌}
-use Rattle.pm_query.specs.declared.book.BookEntry.{BookEntry}
-use Rattle.pm_query.specs.declared.book.BookEntry.TheVariants.{Opened, Attached, Redone, Answered, Released, Detached, Gone, CheckpointEnded, Broke, LogFull}
+use Rattle.pm_query.specs.declared.book.BookEntry.{BookEntry, TheVariants.{Opened, Attached, Redone, Answered, Released, Detached, Gone, CheckpointEnded, Broke, LogFull}}
 
 abbrev pub IsQuiet : BookEntry → Type 0
 IsQuiet (Opened generation) = ⊥

@@ -1,10 +1,7 @@
 -- Why a redo is refused through a token.
 use Rattle.std.specs.Prelude.{◌≡◌, ℕ, false, List, Option, Result}
-use Rattle.pm_disk.specs.Files.{Files}
-use Rattle.pm_query.specs.declared.book.BookEntry.{BookEntry}
-use Rattle.pm_query.specs.declared.store.StoreNo.{StoreNo}
-use Rattle.pm_segment.specs.Redos.{HasReason}
-use Rattle.pm_segment.specs.Unread.{has_break, has_redo}
+use Rattle.pm_query.specs.{pm_disk.Files.Files, declared.{book.BookEntry.BookEntry, store.StoreNo.StoreNo}}
+use Rattle.pm_segment.specs.{Redos.HasReason, Unread.{has_break, has_redo}}
 
 -- Where no fault of the disk was noted before it, and no redo has ended, a refusal tells why the files can't be read that the
 -- store was handed.

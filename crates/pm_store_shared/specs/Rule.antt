@@ -4,18 +4,8 @@ use mathlib.Core.Option.{some, none}
 use mathlib.Core.Option as maybe
 use lib.ListN.{get_elem?}
 use Rattle.atomic_table.specs.Table.{State}
-use Rattle.pm_facts.specs.Numbers.{sum_below}
-use Rattle.pm_query.specs.declared.book.BookEntry.{BookEntry}
-use Rattle.pm_query.specs.Book.{generation_of, times_attached}
-use Rattle.pm_segment.specs.declared.pass.Pass.{Pass}
-use Rattle.pm_shared.specs.declared.views.Joined.{Joined}
-use Rattle.pm_shared.specs.declared.views.Taken.{Taken}
-use Rattle.pm_shared.specs.declared.views.Hand.{Hand}
-use Rattle.pm_shared.specs.declared.views.Desk.{Desk}
-use Rattle.pm_shared.specs.declared.views.View.{View}
-use Rattle.pm_shared.specs.declared.views.View.TheVariants.{Vacant, Founding, Master, Worker, Spent}
-use Rattle.pm_shared.specs.Log.{Line, book_of, placed, placed_rest, AllBelow, Continues}
-use Rattle.pm_shared.specs.Passes.{live, AllUpTo, AllKnown}
+use Rattle.pm_segment.specs.{pm_query.{pm_facts.Numbers.sum_below, declared.book.BookEntry.BookEntry, Book.{generation_of, times_attached}}, declared.pass.Pass.Pass}
+use Rattle.pm_store_shared.specs.{declared.views.{Joined.Joined, Taken.Taken, Hand.Hand, Desk.Desk, View.{View, TheVariants.{Vacant, Founding, Master, Worker, Spent}}}, Log.{Line, book_of, placed, placed_rest, AllBelow, Continues}, Passes.{live, AllUpTo, AllKnown}}
 
 -- a token: its seat, or the shared side's once it is joined, and its passes
 pub record Cell : Type 0 where

@@ -1,23 +1,8 @@
 -- What each step tells.
 use Rattle.std.specs.Prelude.{◌≡◌, ◌≢◌, ℕ, ◌+◌, ◌≤◌, List, [], ◌∷◌, ◌++◌, length, map, Option, Some, None, Result, Ok, Err, slice_get}
-use Rattle.atomic_table.specs.Table.{Me, Step}
-use Rattle.atomic_table.specs.Seated.{TableId}
-use Rattle.pm_query.specs.declared.book.BookEntry.{BookEntry}
-use Rattle.pm_query.specs.declared.book.BookEntry.TheVariants.{Opened}
-use Rattle.pm_query.specs.Book.{generation_of, times_attached}
-use Rattle.pm_segment.specs.declared.pass.Pass.{Pass}
-use Rattle.pm_shared.specs.declared.views.Noted.{Noted}
-use Rattle.pm_shared.specs.declared.views.Joined.{Joined}
-use Rattle.pm_shared.specs.declared.views.Taken.{Taken}
-use Rattle.pm_shared.specs.declared.views.Hand.{Hand}
-use Rattle.pm_shared.specs.declared.views.Desk.{Desk}
-use Rattle.pm_shared.specs.declared.views.View.{View}
-use Rattle.pm_shared.specs.declared.views.View.TheVariants.{Vacant, Founding, Master, Worker, Spent}
-use Rattle.pm_shared.specs.Log.{noted, noted_from, AllOwn, Continues, NoneOwn, IsShuffle}
-use Rattle.pm_shared.specs.Passes.{live, AllUpTo, AllKnown}
-use Rattle.pm_query.specs.declared.store.StoreNo.{StoreNo}
-use Rattle.pm_query.specs.declared.store.StoreNo.TheVariants.{Stale}
-use Rattle.pm_shared.specs.Rule.{Cell, AreCounted, taken}
+use Rattle.atomic_table.specs.{Table.{Me, Step}, Seated.TableId}
+use Rattle.pm_segment.specs.{pm_query.{declared.{book.BookEntry.{BookEntry, TheVariants.Opened}, store.StoreNo.{StoreNo, TheVariants.Stale}}, Book.{generation_of, times_attached}}, declared.pass.Pass.Pass}
+use Rattle.pm_store_shared.specs.{declared.views.{Noted.Noted, Joined.Joined, Taken.Taken, Hand.Hand, Desk.Desk, View.{View, TheVariants.{Vacant, Founding, Master, Worker, Spent}}}, Log.{noted, noted_from, AllOwn, Continues, NoneOwn, IsShuffle}, Passes.{live, AllUpTo, AllKnown}, Rule.{Cell, AreCounted, taken}}
 
 -- what a call's entries do to its passes and to who is attached
 pub record Turns (book added : List BookEntry) (ps ps' : List Pass) : Type 0 where

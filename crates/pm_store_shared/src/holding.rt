@@ -4,11 +4,8 @@
 //! times, and then sleeps on the word's low half; who gives the store back wakes one. A sleep begins only while the word is
 //! as it was looked at, so no wake is lost. Nothing of this is promised.
 ghost use Rattle.std.specs.Prelude.{◌≡◌, ◌++◌, [], ◌∷◌, None, Some, List};
-ghost use Rattle.pm_query.specs.declared.book.BookEntry.{BookEntry};
-ghost use Rattle.pm_segment.specs.Moment.{moment};
-ghost use Rattle.pm_shared.specs.Behind.{Behind, Knows};
-ghost use Rattle.pm_shared.specs.Rule.{taken};
-ghost use Rattle.pm_shared.specs.Told.{IsMine, IsNothing, IsSmall, MayGive, Tells, TookFor, given_back, is_own_of, number_of, passes_of, past_of, resting, with_held};
+ghost use Rattle.pm_segment.specs.{pm_query.declared.book.BookEntry.BookEntry, Moment.moment};
+ghost use Rattle.pm_store_shared.specs.{Behind.{Behind, Knows}, Rule.taken, Told.{IsMine, IsNothing, IsSmall, MayGive, Tells, TookFor, given_back, is_own_of, number_of, passes_of, past_of, resting, with_held}};
 
 use crate::deed::Deed;
 use crate::joining::Joining;

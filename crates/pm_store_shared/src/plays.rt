@@ -15,9 +15,7 @@ pub(crate) struct Law<D, B> {
 
 impl<D: Disk, B: Chronicle<BookEntry>> TableRule<Option<Segment<D, B>>, View<Segment<D, B>, D>, ()>
     for Law<D, B> {
-    ghost use Rattle.pm_shared.specs.Behind.{Behind, Knows};
-    ghost use Rattle.pm_shared.specs.Rule.{Kept};
-    ghost use Rattle.pm_shared.specs.declared.views.View.TheVariants.{Vacant};
+    ghost use Rattle.pm_store_shared.specs.{Behind.{Behind, Knows}, Rule.Kept, declared.views.View.TheVariants.Vacant};
 
     ghost holds = { λ _. Kept Behind Knows };
 
@@ -35,7 +33,7 @@ pub(crate) type Guarded<D, B> = Table<
 pub(crate) struct Opening;
 
 impl<S, F> Play<Option<S>, View<S, F>> for Opening {
-    ghost use Rattle.pm_shared.specs.Told.{Opens};
+    ghost use Rattle.pm_store_shared.specs.Told.{Opens};
 
     ghost then = { Opens };
 }
@@ -45,7 +43,7 @@ pub(crate) struct Founds;
 impl<D: Disk, B: Chronicle<BookEntry>> Play<Option<Segment<D, B>>, View<Segment<D, B>, D>>
     for Founds {
     ghost use Rattle.pm_segment.specs.Moment.{disk_of};
-    ghost use Rattle.pm_shared.specs.Told.{Founded};
+    ghost use Rattle.pm_store_shared.specs.Told.{Founded};
 
     ghost then = { Founded disk_of };
 }
@@ -54,8 +52,7 @@ pub(crate) struct Takes;
 
 impl<D: Disk, B: Chronicle<BookEntry>> Play<Option<Segment<D, B>>, View<Segment<D, B>, D>>
     for Takes {
-    ghost use Rattle.pm_shared.specs.Behind.{Behind, Knows};
-    ghost use Rattle.pm_shared.specs.Told.{Took};
+    ghost use Rattle.pm_store_shared.specs.{Behind.{Behind, Knows}, Told.Took};
 
     ghost then = { Took Behind Knows };
 }
@@ -64,8 +61,7 @@ pub(crate) struct TakesAlone;
 
 impl<D: Disk, B: Chronicle<BookEntry>> Play<Option<Segment<D, B>>, View<Segment<D, B>, D>>
     for TakesAlone {
-    ghost use Rattle.pm_shared.specs.Behind.{Behind, Knows};
-    ghost use Rattle.pm_shared.specs.Told.{TookAlone};
+    ghost use Rattle.pm_store_shared.specs.{Behind.{Behind, Knows}, Told.TookAlone};
 
     ghost then = { TookAlone Behind Knows };
 }
@@ -75,7 +71,7 @@ pub(crate) struct Gives<C> {
 }
 
 impl<S, F, C: Deed> Play<Option<S>, View<S, F>> for Gives<C> {
-    ghost use Rattle.pm_shared.specs.Told.{Gave};
+    ghost use Rattle.pm_store_shared.specs.Told.{Gave};
 
     ghost then = { Gave C.told C.passes };
 }
@@ -83,7 +79,7 @@ impl<S, F, C: Deed> Play<Option<S>, View<S, F>> for Gives<C> {
 pub(crate) struct Deals;
 
 impl<S, F> Split<View<S, F>> for Deals {
-    ghost use Rattle.pm_shared.specs.Told.{dealt_more, next_hand};
+    ghost use Rattle.pm_store_shared.specs.Told.{dealt_more, next_hand};
 
     ghost left = { dealt_more };
 
@@ -93,8 +89,7 @@ impl<S, F> Split<View<S, F>> for Deals {
 pub(crate) struct Gathers;
 
 impl<S, F> Join<View<S, F>> for Gathers {
-    ghost use Rattle.pm_shared.specs.Told.{taken_in};
-    ghost use Rattle.pm_shared.specs.declared.views.View.TheVariants.{Spent};
+    ghost use Rattle.pm_store_shared.specs.{Told.taken_in, declared.views.View.TheVariants.Spent};
 
     ghost both = { taken_in };
 

@@ -1,17 +1,8 @@
 //! The shared side of the store.
-ghost use Rattle.std.specs.Prelude.{◌≡◌, ℕ, ◌+◌, ◌<◌, ◌≤◌, ◌++◌, List, [], ◌∷◌, None, Some, IfErr, IfOk, IfSome, OnErr, OnOk, length, map, slice_get, vec_capacity, MatchOption};
-ghost use Rattle.std.specs.Arc.{arc_value};
-ghost use Rattle.pm_query.specs.declared.book.BookEntry.{BookEntry};
-ghost use Rattle.pm_query.specs.declared.book.BookEntry.TheVariants.{Gone, Opened};
+ghost use Rattle.std.specs.{Prelude.{◌≡◌, ℕ, ◌+◌, ◌<◌, ◌≤◌, ◌++◌, List, [], ◌∷◌, None, Some, IfErr, IfOk, IfSome, OnErr, OnOk, length, map, slice_get, vec_capacity, MatchOption}, Arc.arc_value};
+ghost use Rattle.pm_segment.specs.{pm_query.declared.book.BookEntry.{BookEntry, TheVariants.{Gone, Opened}}, Moment.disk_of};
 ghost use Rattle.atomic_table.specs.Seated.{TableId};
-ghost use Rattle.pm_segment.specs.Moment.{disk_of};
-ghost use Rattle.pm_shared.specs.Behind.{Behind};
-ghost use Rattle.pm_shared.specs.Ending.{EndsSafely};
-ghost use Rattle.pm_shared.specs.Log.{IsShuffle, noted};
-ghost use Rattle.pm_shared.specs.Places.{EachOnce};
-ghost use Rattle.pm_shared.specs.Renewed.{AreApart};
-ghost use Rattle.pm_shared.specs.declared.views.View.TheVariants.{Vacant};
-ghost use Rattle.pm_shared.specs.Told.{AllContinue, AreNewTokens, AreShares, AreTokens, HasRenewed, IsBlank, IsNewShared, IsSmall, SharedModel, TokenModel, DeskRests, known_by, new_token, owns, pasts, shared_of, shared_with};
+ghost use Rattle.pm_store_shared.specs.{Behind.Behind, Ending.EndsSafely, Log.{IsShuffle, noted}, Places.EachOnce, Renewed.AreApart, declared.views.View.TheVariants.Vacant, Told.{AllContinue, AreNewTokens, AreShares, AreTokens, HasRenewed, IsBlank, IsNewShared, IsSmall, SharedModel, TokenModel, DeskRests, known_by, new_token, owns, pasts, shared_of, shared_with}};
 
 use crate::holding::{Holder, give_renewed, take};
 use crate::joining::Joining;

@@ -1,16 +1,7 @@
 //! One worker's side of the store.
-ghost use Rattle.std.specs.Prelude.{◌≡◌, ◌⊎◌, ◌∷◌, [], List, None, IfOk, IfSome, OnErr, All};
-ghost use Rattle.std.specs.Arc.{arc_value};
-ghost use Rattle.pm_query.specs.declared.book.BookEntry.{BookEntry};
-ghost use Rattle.pm_query.specs.declared.book.BookEntry.TheVariants.{Detached};
-ghost use Rattle.pm_query.specs.Book.{generation_of};
-ghost use Rattle.pm_query.specs.Calls.{CheckpointNotes, EnterNotes, FlushNotes, HasReached, IsPast, LeaveNotes, MetAnother, MetLater, ReachesNoLess, RedoNotes, RunNotes, SeenNotes, new_pass, newcomer, user_of, with_front};
-ghost use Rattle.pm_query.specs.Limits.{HasShortValues};
-ghost use Rattle.pm_segment.specs.Passes.{view_of};
-ghost use Rattle.pm_shared.specs.Grows.{Grew};
-ghost use Rattle.pm_shared.specs.Passes.{Among, without_pass};
-ghost use Rattle.pm_shared.specs.Reasons.{HasFirstReason};
-ghost use Rattle.pm_shared.specs.Told.{IsResting, IsSmall, TokenModel, token_of};
+ghost use Rattle.std.specs.{Prelude.{◌≡◌, ◌⊎◌, ◌∷◌, [], List, None, IfOk, IfSome, OnErr, All}, Arc.arc_value};
+ghost use Rattle.pm_segment.specs.{pm_query.{declared.book.BookEntry.{BookEntry, TheVariants.Detached}, Book.generation_of, Calls.{CheckpointNotes, EnterNotes, FlushNotes, HasReached, IsPast, LeaveNotes, MetAnother, MetLater, ReachesNoLess, RedoNotes, RunNotes, SeenNotes, new_pass, newcomer, user_of, with_front}, Limits.HasShortValues}, Passes.view_of};
+ghost use Rattle.pm_store_shared.specs.{Grows.Grew, Passes.{Among, without_pass}, Reasons.HasFirstReason, Told.{IsResting, IsSmall, TokenModel, token_of}};
 
 use crate::holding::{Holder, give, take, take_for, take_to_run, wake_all};
 use crate::joining::Joining;

@@ -1,11 +1,7 @@
 //! A token with leave to wait, which is a store.
-ghost use Rattle.std.specs.Prelude.{None};
-ghost use Rattle.pm_segment.specs.Passes.{view_of};
-ghost use Rattle.pm_shared.specs.Grows.{Grew};
-ghost use Rattle.pm_shared.specs.GrowsLaws.{generation_rises, grew_none, grew_on};
-ghost use Rattle.pm_query.specs.Book.{generation_of};
-ghost use Rattle.pm_shared.specs.Passes.{Among};
-ghost use Rattle.std.proofs.Common.{refl};
+ghost use Rattle.std.{specs.Prelude.None, proofs.Common.refl};
+ghost use Rattle.pm_segment.specs.{Passes.view_of, pm_query.Book.generation_of};
+ghost use Rattle.pm_store_shared.specs.{Grows.Grew, GrowsLaws.{generation_rises, grew_none, grew_on}, Passes.Among};
 
 use crate::token::Token;
 use pm_disk::Disk;

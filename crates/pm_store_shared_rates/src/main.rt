@@ -3,11 +3,11 @@
 #![tactic(auto)]
 
 use anyhow::{Result, bail};
-use pm_files::LogFiles;
 use pm_log::init;
 use pm_outside::Forgotten;
-use pm_shared::{Shared, Token};
+use pm_outside_files::LogFiles;
 use pm_sql::{Script, parse};
+use pm_store_shared::{Shared, Token};
 use std::alloc::Global;
 use std::env;
 use std::sync::Wait;
@@ -27,7 +27,7 @@ fn main(rt: HostRuntime) -> Result<()> {
         words.push(word)?;
     }
     let [folder, threads, rows] = words.as_slice() else {
-        bail!("usage: pm_shared_rates FOLDER THREADS ROWS");
+        bail!("usage: pm_store_shared_rates FOLDER THREADS ROWS");
     };
     let threads = threads.as_str().parse::<u32>()?;
     let rows = rows.as_str().parse::<u32>()?;

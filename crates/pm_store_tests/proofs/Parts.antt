@@ -1,11 +1,7 @@
 -- Tokens that go from one list to the other.
-use Rattle.std.proofs.Common.{◌≡◌, ℕ, zero, suc, ◌+◌, ◌<◌, List, [], ◌∷◌, ◌++◌, length, length-append, sym, ap, ◌∙◌, subst, arith}
-use Rattle.std.specs.Prelude.{Some, slice_get, slice_index_or, take}
-use Rattle.std.proofs.lemmas.Option.{get_or_from_slice_get, slice_get-get_or, slice_get_within, same_Some}
-use Rattle.std.proofs.Math.Seq.{take-append_seam}
+use Rattle.std.{proofs.{Common.{◌≡◌, ℕ, zero, suc, ◌+◌, ◌<◌, List, [], ◌∷◌, ◌++◌, length, length-append, sym, ap, ◌∙◌, subst, arith}, lemmas.Option.{get_or_from_slice_get, slice_get-get_or, slice_get_within, same_Some}, Math.Seq.take-append_seam}, specs.Prelude.{Some, slice_get, slice_index_or, take}}
 use Rattle.atomic_table.specs.Seated.{TableId}
-use Rattle.pm_facts.specs.Lists.{got_front, got_last}
-use Rattle.pm_shared.specs.Told.{AreTokens, TokenModel}
+use Rattle.pm_store_shared.specs.{pm_query.pm_facts.Lists.{got_front, got_last}, Told.{AreTokens, TokenModel}}
 use Rattle.pm_store_tests.specs.Seats.{AreParted, AreSame, IsSame}
 
 abbrev pub Each : {A : Type 0} → (ℕ → A → Type 0) → List A → Type 0

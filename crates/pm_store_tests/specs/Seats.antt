@@ -1,7 +1,7 @@
 -- Tokens outside the list that they came in.
 use Rattle.std.specs.Prelude.{◌≡◌, ℕ, ◌+◌, ◌<◌, List, Some, length, slice_get, slice_index_or}
 use Rattle.atomic_table.specs.Seated.{TableId}
-use Rattle.pm_shared.specs.Told.{TokenModel}
+use Rattle.pm_store_shared.specs.Told.{TokenModel}
 
 module _ {F : Type 0} where
   -- it is still the same token

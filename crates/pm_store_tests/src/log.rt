@@ -1,8 +1,7 @@
 //! The log's calls over disks in memory.
 ghost use Rattle.std.specs.Prelude.{All, IfOk};
 ghost use Rattle.std.specs.FinMap as map;
-ghost use Rattle.pm_record.specs.StandsFor.{IsRow};
-ghost use Rattle.pm_rows.specs.Limits.{IsWithinRowLimits};
+ghost use Rattle.pm_record.specs.{StandsFor.IsRow, pm_rows.Limits.IsWithinRowLimits};
 
 use pm_disk::{Disk, FailingDisk, MemDisk, Which};
 use pm_log::{Log, LogFault, may_append};

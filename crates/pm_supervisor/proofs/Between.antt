@@ -1,19 +1,11 @@
 -- Steps of children between the events of a run leave it a run.
-use Rattle.std.proofs.Common.{◌≡◌, ◌≢◌, ℕ, ◌+◌, nat_eq, cond, Bool, true, false, ◌&&◌, List, [], ◌∷◌, Option, Some, refl, arith, ap, sym, ◌∙◌, subst, inl, inr}
-use Rattle.std.specs.Prelude.{IsSomeAnd}
-use Rattle.std.specs.List.{AllByRecursion}
+use Rattle.std.{proofs.Common.{◌≡◌, ◌≢◌, ℕ, ◌+◌, nat_eq, cond, Bool, true, false, ◌&&◌, List, [], ◌∷◌, Option, Some, refl, arith, ap, sym, ◌∙◌, subst, inl, inr}, specs.{Prelude.IsSomeAnd, List.AllByRecursion}}
 use Rattle.pm_exit.specs.declared.child.Kind.{Kind}
 use Rattle.pm_exit.specs.declared.child.Kind.TheVariants as kind
-use Rattle.pm_supervisor.specs.declared.Limits.{Limits}
+use Rattle.pm_supervisor.{specs.{declared.Limits.Limits, Children.{Child, is_session, is_startup_child, is_checkpointer, is_writer, child_of, without, marked, one_if, count_of, attached_sessions}, Supervisor.{Shared, Supervisor}, Shared.{PidsDiffer, IsKept}, Steps.{SupervisorEvent, Accept, Start, Attach, Touch, Detach, Exit, Notice, Ask, Checkpointed, RedoEnded, Reset, End, Move, PastEvent, Trace, HasEnded, HasFailed, redo_has_ended, redo_ended_after, kind_for, MayHappen, RestAllows, SharedAllows, BackendsAreGone, IsRun, happened, all_happened, after, shared_after, shared_of, with_event}, Between.{is_child_step, without_child_steps, ChildStepsMayHappen, all_detached, detached, with_children, IsAlike}}, proofs.Soundness.{keeps-any, shared-after}}
 use Rattle.pm_supervisor.specs.declared.Reason.TheVariants as reason
 use Rattle.pm_supervisor.specs.declared.Ending.TheVariants as ending
-use Rattle.pm_supervisor.specs.Children.{Child, is_session, is_startup_child, is_checkpointer, is_writer, child_of, without, marked, one_if, count_of, attached_sessions}
 use Rattle.pm_supervisor.specs.Phase as phase
-use Rattle.pm_supervisor.specs.Supervisor.{Shared, Supervisor}
-use Rattle.pm_supervisor.specs.Shared.{PidsDiffer, IsKept}
-use Rattle.pm_supervisor.specs.Steps.{SupervisorEvent, Accept, Start, Attach, Touch, Detach, Exit, Notice, Ask, Checkpointed, RedoEnded, Reset, End, Move, PastEvent, Trace, HasEnded, HasFailed, redo_has_ended, redo_ended_after, kind_for, MayHappen, RestAllows, SharedAllows, BackendsAreGone, IsRun, happened, all_happened, after, shared_after, shared_of, with_event}
-use Rattle.pm_supervisor.specs.Between.{is_child_step, without_child_steps, ChildStepsMayHappen, all_detached, detached, with_children, IsAlike}
-use Rattle.pm_supervisor.proofs.Soundness.{keeps-any, shared-after}
 
 -- who is attached counts for nothing but the sessions that are
 

@@ -1,11 +1,6 @@
 -- What is shared keeps its invariant, by its own events alone.
-use Rattle.std.proofs.Common.{◌≡◌, ◌≢◌, ℕ, ◌+◌, ◌≤◌, nat_eq, cond, Bool, true, false, ◌&&◌, List, [], ◌∷◌, Option, Some, None, refl, arith}
-use Rattle.std.specs.Prelude.{IsSomeAnd}
-use Rattle.pm_supervisor.specs.Children.{Child, is_session, is_dead_end, child_of, without, marked, one_if, attached_sessions}
-use Rattle.pm_supervisor.specs.Supervisor.{Shared, first}
-use Rattle.pm_supervisor.specs.Shared.{SharedEvent, Join, Attach, Touch, Detach, Leave, Notice, Open, Reset, Allows, MayAttach, IsKept, after_shared}
-use Rattle.pm_supervisor.specs.RunLaws.{each-without}
-use Rattle.pm_supervisor.proofs.Lists.{each_map, each-marked, each-marked_any, some_map, differ-without, differ-marked}
+use Rattle.std.{proofs.Common.{◌≡◌, ◌≢◌, ℕ, ◌+◌, ◌≤◌, nat_eq, cond, Bool, true, false, ◌&&◌, List, [], ◌∷◌, Option, Some, None, refl, arith}, specs.Prelude.IsSomeAnd}
+use Rattle.pm_supervisor.{specs.{Children.{Child, is_session, is_dead_end, child_of, without, marked, one_if, attached_sessions}, Supervisor.{Shared, first}, Shared.{SharedEvent, Join, Attach, Touch, Detach, Leave, Notice, Open, Reset, Allows, MayAttach, IsKept, after_shared}}, proofs.{RunLaws.each-without, Lists.{each_map, each-marked, each-marked_any, some_map, differ-without, differ-marked}}}
 
 fewer-without : (pid : ℕ) (cs : List Child) → attached_sessions (without pid cs) ≤ attached_sessions cs
 fewer-without pid [] = omega arith

@@ -5,3 +5,5 @@ pub mod Wells
 pub mod Keeping
 pub mod Same
 pub mod Between
+pub mod CountLaws
+pub mod RunLaws

@@ -1,10 +1,6 @@
 -- Facts about every child, as children are marked and taken away.
-use Rattle.std.proofs.Common.{◌≢◌, ℕ, nat_eq, cond, Bool, true, false, List, [], ◌∷◌, Option, Some, None}
-use Rattle.std.specs.Prelude.{IsSomeAnd}
-use Rattle.std.specs.List.{AllByRecursion}
-use Rattle.pm_supervisor.specs.Children.{Child, child_of, without, marked}
-use Rattle.pm_supervisor.specs.Shared.{PidsDiffer}
-use Rattle.pm_supervisor.specs.RunLaws.{each-without}
+use Rattle.std.{proofs.Common.{◌≢◌, ℕ, nat_eq, cond, Bool, true, false, List, [], ◌∷◌, Option, Some, None}, specs.{Prelude.IsSomeAnd, List.AllByRecursion}}
+use Rattle.pm_supervisor.{specs.{Children.{Child, child_of, without, marked}, Shared.PidsDiffer}, proofs.RunLaws.each-without}
 
 -- from a fact about each to one that follows from it
 pub each_map : (P Q : Child → Type 0) → ((c : Child) → P c → Q c) → (cs : List Child) → AllByRecursion P cs → AllByRecursion Q cs

@@ -1,11 +1,7 @@
 -- Laws of children that are marked and taken away, and of a run in two parts.
-use Rattle.std.proofs.Common.{◌≡◌, ℕ, ◌+◌, nat_eq, cond, Bool, true, false, List, [], ◌∷◌, ◌++◌, refl, arith}
-use Rattle.std.specs.List.{AllByRecursion}
+use Rattle.std.{proofs.Common.{◌≡◌, ℕ, ◌+◌, nat_eq, cond, Bool, true, false, List, [], ◌∷◌, ◌++◌, refl, arith}, specs.List.AllByRecursion}
 use Rattle.pm_exit.specs.declared.child.Kind.{Kind}
-use Rattle.pm_supervisor.specs.declared.Limits.{Limits}
-use Rattle.pm_supervisor.specs.Children.{Child, count_of, marked, one_if, without}
-use Rattle.pm_supervisor.specs.Supervisor.{Shared}
-use Rattle.pm_supervisor.specs.Steps.{SupervisorEvent, IsRun, RedoEnded, Trace, all_happened, happened, shared_after}
+use Rattle.pm_supervisor.specs.{declared.Limits.Limits, Children.{Child, count_of, marked, one_if, without}, Supervisor.Shared, Steps.{SupervisorEvent, IsRun, RedoEnded, Trace, all_happened, happened, shared_after}}
 
 -- ---- children
 

@@ -1,13 +1,7 @@
 -- The same children in another order: what may happen is the same, and so is what it leaves.
-use Rattle.std.proofs.Common.{◌≡◌, ◌≢◌, ℕ, ◌+◌, ◌<◌, nat_eq, cond, Bool, true, false, ◌&&◌, List, [], ◌∷◌, Option, Some, None, refl, arith, ap, sym, ◌∙◌, subst}
-use Rattle.std.specs.Prelude.{IsSomeAnd}
-use Rattle.std.specs.List.{AllByRecursion}
-use Rattle.std.proofs.lemmas.Bool.{eqb-true, eq-eqb}
+use Rattle.std.{proofs.{Common.{◌≡◌, ◌≢◌, ℕ, ◌+◌, ◌<◌, nat_eq, cond, Bool, true, false, ◌&&◌, List, [], ◌∷◌, Option, Some, None, refl, arith, ap, sym, ◌∙◌, subst}, lemmas.Bool.{eqb-true, eq-eqb}}, specs.{Prelude.IsSomeAnd, List.AllByRecursion}}
 use Rattle.pm_exit.specs.declared.child.Kind.{Kind}
-use Rattle.pm_supervisor.specs.Children.{Child, is_session, is_startup_child, child_of, without, marked, one_if, count_of, attached_sessions}
-use Rattle.pm_supervisor.specs.Supervisor.{Shared}
-use Rattle.pm_supervisor.specs.Shared.{SharedEvent, Join, Attach, Touch, Detach, Leave, Notice, Open, Reset, Allows, MayAttach, PidsDiffer, SameChildren, IsSame, after_shared}
-use Rattle.pm_supervisor.proofs.Lists.{some_map, differ-without}
+use Rattle.pm_supervisor.{specs.{Children.{Child, is_session, is_startup_child, child_of, without, marked, one_if, count_of, attached_sessions}, Supervisor.Shared, Shared.{SharedEvent, Join, Attach, Touch, Detach, Leave, Notice, Open, Reset, Allows, MayAttach, PidsDiffer, SameChildren, IsSame, after_shared}}, proofs.Lists.{some_map, differ-without}}
 
 -- a sum over the children
 abbrev pub total : (Child → ℕ) → List Child → ℕ

@@ -1,13 +1,8 @@
 -- While connections are served, nothing stands against a session.
 use Rattle.std.proofs.Common.{◌≡◌, Bool, false, List, [], ◌∷◌, refl, arith, cond}
 use Rattle.pm_admit.specs.declared.Cac.TheVariants as cac
-use Rattle.pm_supervisor.specs.declared.Limits.{Limits}
-use Rattle.pm_supervisor.specs.Children.{is_startup_child}
-use Rattle.pm_supervisor.specs.Phase.{Phase}
+use Rattle.pm_supervisor.specs.{declared.Limits.Limits, Children.is_startup_child, Phase.Phase, Supervisor.Supervisor, Steps.{SupervisorEvent, Accept, Start, Attach, Touch, Detach, Exit, Notice, Ask, Checkpointed, RedoEnded, Reset, End, Move, Trace, RestAllows, IsRun, happened, all_happened, after, admission, crashed_phase, is_crash, is_given_up}, Invariant.ServesWell}
 use Rattle.pm_supervisor.specs.Phase as phase
-use Rattle.pm_supervisor.specs.Supervisor.{Supervisor}
-use Rattle.pm_supervisor.specs.Steps.{SupervisorEvent, Accept, Start, Attach, Touch, Detach, Exit, Notice, Ask, Checkpointed, RedoEnded, Reset, End, Move, Trace, RestAllows, IsRun, happened, all_happened, after, admission, crashed_phase, is_crash, is_given_up}
-use Rattle.pm_supervisor.specs.Invariant.{ServesWell}
 
 -- it still serves after the end of a child only where that was no crash
 exit-running : (before : Phase) (crashed given_up startup : Bool)

@@ -1,11 +1,6 @@
 -- Each step keeps the invariant, and so does every run.
 use Rattle.std.proofs.Common.{◌≡◌, ℕ, true, false, List, [], ◌∷◌, Option, Some, None, refl, inl, inr}
-use Rattle.pm_supervisor.specs.declared.Limits.{Limits}
-use Rattle.pm_supervisor.specs.Supervisor.{Shared, Supervisor}
-use Rattle.pm_supervisor.specs.Steps.{SupervisorEvent, Accept, Start, Attach, Touch, Detach, Exit, Notice, Ask, Checkpointed, RedoEnded, Reset, End, Move, PastEvent, Trace, MayHappen, IsRun, happened, all_happened, empty_trace, after, shared_after, with_event, shared_of, SharedAllows}
-use Rattle.pm_supervisor.specs.Shared.{SharedEvent, AllowsAny, IsKept, after_any}
-use Rattle.pm_supervisor.specs.Invariant.{HasRecovered, IsSound}
-use Rattle.pm_supervisor.proofs.Keeping.{keeps, kept-first}
+use Rattle.pm_supervisor.{specs.{declared.Limits.Limits, Supervisor.{Shared, Supervisor}, Steps.{SupervisorEvent, Accept, Start, Attach, Touch, Detach, Exit, Notice, Ask, Checkpointed, RedoEnded, Reset, End, Move, PastEvent, Trace, MayHappen, IsRun, happened, all_happened, empty_trace, after, shared_after, with_event, shared_of, SharedAllows}, Shared.{SharedEvent, AllowsAny, IsKept, after_any}, Invariant.{HasRecovered, IsSound}}, proofs.Keeping.{keeps, kept-first}}
 
 pub keeps-any : (limit : ℕ) (s : Shared) (o : Option SharedEvent) → AllowsAny limit s o → IsKept limit s → IsKept limit (after_any s o)
 keeps-any limit s None may kept = kept

@@ -1,25 +1,12 @@
 -- What holds at every moment of a run, beside what is shared: when redo ends, and what waits for it.
-use Rattle.std.proofs.Common.{◌≡◌, ℕ, nat_eq, cond, Bool, true, false, not, ◌&&◌, ◌||◌, List, [], ◌∷◌, ◌++◌, refl, arith}
-use Rattle.std.specs.Prelude.{◌==◌, is_some}
-use Rattle.std.specs.List.{AllByRecursion}
+use Rattle.std.{proofs.Common.{◌≡◌, ℕ, nat_eq, cond, Bool, true, false, not, ◌&&◌, ◌||◌, List, [], ◌∷◌, ◌++◌, refl, arith}, specs.{Prelude.{◌==◌, is_some}, List.AllByRecursion}}
 use Rattle.pm_exit.specs.declared.child.Kind.{Kind}
 use Rattle.pm_modes.specs.declared.Mode.TheVariants as mode
 use Rattle.pm_modes.specs.Strength.{is_immediate}
-use Rattle.pm_supervisor.specs.declared.Limits.{Limits}
+use Rattle.pm_supervisor.{specs.{declared.{Limits.Limits, Ending.Ending}, Children.{Child, is_session, is_startup_child, child_of, without, count_of}, Phase.Phase, Supervisor.Shared, Steps.{SupervisorEvent, Accept, Start, Attach, Touch, Detach, Exit, Notice, Ask, Checkpointed, RedoEnded, Reset, End, Move, Trace, MayHappen, IsRun, happened, all_happened, empty_trace, crashed_phase, is_crash, is_given_up, is_running, is_ended, redo_has_ended}, Shared.MayAttach, Invariant.{IsWell, ServesWell, AdmitsNone, awaits_redo, is_before_redo, is_opening, is_reset, is_checkpointed, is_clearing}}, proofs.{RunLaws.count-marked, Lists.some_map, Soundness.{sound-happened, sound-empty_trace}, Serving.{step-serves, admission-running}}}
 use Rattle.pm_supervisor.specs.declared.Reason.TheVariants as reason
-use Rattle.pm_supervisor.specs.declared.Ending.{Ending}
 use Rattle.pm_supervisor.specs.declared.Ending.TheVariants as ending
-use Rattle.pm_supervisor.specs.Children.{Child, is_session, is_startup_child, child_of, without, count_of}
-use Rattle.pm_supervisor.specs.Phase.{Phase}
 use Rattle.pm_supervisor.specs.Phase as phase
-use Rattle.pm_supervisor.specs.Supervisor.{Shared}
-use Rattle.pm_supervisor.specs.Steps.{SupervisorEvent, Accept, Start, Attach, Touch, Detach, Exit, Notice, Ask, Checkpointed, RedoEnded, Reset, End, Move, Trace, MayHappen, IsRun, happened, all_happened, empty_trace, crashed_phase, is_crash, is_given_up, is_running, is_ended, redo_has_ended}
-use Rattle.pm_supervisor.specs.Shared.{MayAttach}
-use Rattle.pm_supervisor.specs.Invariant.{IsWell, ServesWell, AdmitsNone, awaits_redo, is_before_redo, is_opening, is_reset, is_checkpointed, is_clearing}
-use Rattle.pm_supervisor.specs.RunLaws.{count-marked}
-use Rattle.pm_supervisor.proofs.Lists.{some_map}
-use Rattle.pm_supervisor.proofs.Soundness.{sound-happened, sound-empty_trace}
-use Rattle.pm_supervisor.proofs.Serving.{step-serves, admission-running}
 
 -- counts
 

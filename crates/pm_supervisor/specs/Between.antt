@@ -1,9 +1,6 @@
 -- Steps of children, which may fall between any two events of the supervisor.
 use Rattle.std.specs.Prelude.{◌≡◌, Bool, true, false, if◌then◌else◌, List, [], ◌∷◌}
-use Rattle.pm_supervisor.specs.declared.Limits.{Limits}
-use Rattle.pm_supervisor.specs.Children.{Child}
-use Rattle.pm_supervisor.specs.Supervisor.{Shared, Supervisor}
-use Rattle.pm_supervisor.specs.Steps.{SupervisorEvent, Attach, Touch, Detach, Trace, MayHappen, happened}
+use Rattle.pm_supervisor.specs.{declared.Limits.Limits, Children.Child, Supervisor.{Shared, Supervisor}, Steps.{SupervisorEvent, Attach, Touch, Detach, Trace, MayHappen, happened}}
 
 -- a child attaches, uses what is shared, or detaches
 abbrev pub is_child_step : SupervisorEvent → Bool

@@ -3,13 +3,8 @@ use Rattle.std.specs.Prelude.{◌≡◌, ◌≢◌, ℕ, Bool, true, false, not,
 use Rattle.pm_modes.specs.Strength.{is_immediate}
 use Rattle.pm_admit.specs.declared.Cac.TheVariants.{Ok as Admitted}
 use Rattle.pm_supervisor.specs.declared.Reason.TheVariants as reason
-use Rattle.pm_supervisor.specs.Children.{is_session, is_startup_child, child_of, count_of}
-use Rattle.pm_supervisor.specs.Phase.{Phase}
+use Rattle.pm_supervisor.specs.{Children.{is_session, is_startup_child, child_of, count_of}, Phase.Phase, Supervisor.{Shared, Supervisor}, Shared.IsKept, declared.Limits.Limits, Steps.{SupervisorEvent, Accept, Attach, Notice, PastEvent, Trace, Once, RedoEnded, Reset, Checkpointed, is_running, redo_has_ended}}
 use Rattle.pm_supervisor.specs.Phase as phase
-use Rattle.pm_supervisor.specs.Supervisor.{Shared, Supervisor}
-use Rattle.pm_supervisor.specs.Shared.{IsKept}
-use Rattle.pm_supervisor.specs.declared.Limits.{Limits}
-use Rattle.pm_supervisor.specs.Steps.{SupervisorEvent, Accept, Attach, Notice, PastEvent, Trace, Once, RedoEnded, Reset, Checkpointed, is_running, redo_has_ended}
 
 abbrev pub is_redo_ended : SupervisorEvent → Bool
 is_redo_ended (RedoEnded opens) = true

@@ -1,19 +1,9 @@
 -- The laws of the supervisor, one for each function of `laws.rt`, whose contract it is.
-use Rattle.std.specs.Prelude.{◌≡◌, ◌++◌, ℕ, Bool, true, false, ◌==◌, if◌then◌else◌, List, [], ◌∷◌, None, IsSomeAnd}
-use Rattle.std.specs.List.{AllByRecursion}
+use Rattle.std.specs.{Prelude.{◌≡◌, ◌++◌, ℕ, Bool, true, false, ◌==◌, if◌then◌else◌, List, [], ◌∷◌, None, IsSomeAnd}, List.AllByRecursion}
 use Rattle.pm_exit.specs.declared.child.Kind.{Kind}
-use Rattle.pm_supervisor.specs.Children.{Child, child_of, without, count_of}
+use Rattle.pm_supervisor.specs.{Children.{Child, child_of, without, count_of}, declared.{Limits.Limits, Reason.TheVariants.Crash, Ending.{Ending, TheVariants.Clean}}, Supervisor.{Shared, Supervisor, first}, Shared.{SharedEvent, Allows, AllowsAny, IsKept, IsSame, PidsDiffer, after_shared, after_any}, Steps.{SupervisorEvent, Notice, RedoEnded, End, PastEvent, Trace, MayHappen, SharedAllows, shared_after, with_event, IsRun, happened, all_happened, empty_trace, admission, is_ended, shared_of, after}, Invariant.{IsSound, IsWell, ServesWell, AdmitsNone, is_opening, is_reset, is_checkpointed}, Between.{IsAlike, is_child_step, without_child_steps, ChildStepsMayHappen, all_detached, detached}}
 use Rattle.pm_modes.specs.Strength.{is_immediate}
 use Rattle.pm_admit.specs.declared.Cac.TheVariants.{Ok as Admitted}
-use Rattle.pm_supervisor.specs.declared.Limits.{Limits}
-use Rattle.pm_supervisor.specs.declared.Reason.TheVariants.{Crash}
-use Rattle.pm_supervisor.specs.declared.Ending.{Ending}
-use Rattle.pm_supervisor.specs.declared.Ending.TheVariants.{Clean}
-use Rattle.pm_supervisor.specs.Supervisor.{Shared, Supervisor, first}
-use Rattle.pm_supervisor.specs.Shared.{SharedEvent, Allows, AllowsAny, IsKept, IsSame, PidsDiffer, after_shared, after_any}
-use Rattle.pm_supervisor.specs.Steps.{SupervisorEvent, Notice, RedoEnded, End, PastEvent, Trace, MayHappen, SharedAllows, shared_after, with_event, IsRun, happened, all_happened, empty_trace, admission, is_ended, shared_of, after}
-use Rattle.pm_supervisor.specs.Invariant.{IsSound, IsWell, ServesWell, AdmitsNone, is_opening, is_reset, is_checkpointed}
-use Rattle.pm_supervisor.specs.Between.{IsAlike, is_child_step, without_child_steps, ChildStepsMayHappen, all_detached, detached}
 
 pub record StaysSound : Type 0 where
   -- of each event, by what is shared alone

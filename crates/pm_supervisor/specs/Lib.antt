@@ -1,10 +1,11 @@
 pub mod Between
 pub mod Children
-pub mod CountLaws
 pub mod Invariant
 pub mod Laws
 pub mod Phase
-pub mod RunLaws
 pub mod Shared
 pub mod Steps
 pub mod Supervisor
+pub use Rattle.pm_exit.specs as pm_exit
+pub use Rattle.pm_modes.specs as pm_modes
+pub use Rattle.pm_admit.specs as pm_admit

@@ -1,11 +1,8 @@
 -- What the supervisor and its children share, and what may happen to it, without phase, request, decision or journal: the
 -- board of child slots shows no more than this, and each of its steps is one of these events or none.
-use Rattle.std.specs.Prelude.{◌≡◌, ◌≢◌, ℕ, ◌+◌, ◌<◌, ◌≤◌, true, false, List, [], ◌∷◌, Option, Some, None, IsSomeAnd}
-use Rattle.std.specs.List.{AllByRecursion}
+use Rattle.std.specs.{Prelude.{◌≡◌, ◌≢◌, ℕ, ◌+◌, ◌<◌, ◌≤◌, true, false, List, [], ◌∷◌, Option, Some, None, IsSomeAnd}, List.AllByRecursion}
 use Rattle.pm_exit.specs.declared.child.Kind.{Kind}
-use Rattle.pm_supervisor.specs.declared.Reason.{Reason}
-use Rattle.pm_supervisor.specs.Children.{Child, is_session, is_startup_child, is_dead_end, child_of, without, marked, count_of, attached_sessions}
-use Rattle.pm_supervisor.specs.Supervisor.{Shared}
+use Rattle.pm_supervisor.specs.{declared.Reason.Reason, Children.{Child, is_session, is_startup_child, is_dead_end, child_of, without, marked, count_of, attached_sessions}, Supervisor.Shared}
 
 pub data SharedEvent : Type 0 where
   -- a child of the present generation joins

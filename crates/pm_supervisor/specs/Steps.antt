@@ -2,27 +2,17 @@
 -- children, which the board of child slots meets too, and a condition and an effect on the rest.
 -- The manual: 19.5 "Shutting Down the Server", and 20.14 "Error Handling" for the restart after a crash.
 use Rattle.std.specs.Prelude.{◌≡◌, ◌≢◌, ℕ, ◌+◌, ◌*◌, Bool, true, false, not, ◌==◌, ◌&&◌, ◌||◌, if◌then◌else◌, nat_le, List, [], ◌∷◌, Option, Some, None, is_some, is_none, ◌⊎◌}
-use Rattle.pm_exit.specs.declared.child.Status.{Status}
-use Rattle.pm_exit.specs.declared.child.Kind.{Kind}
+use Rattle.pm_exit.specs.{declared.child.{Status.Status, Kind.Kind, Class.Class}, Ends.{class_of, is_exit_0, is_exit_1}}
 use Rattle.pm_exit.specs.declared.child.Kind.TheVariants as kind
-use Rattle.pm_exit.specs.declared.child.Class.{Class}
 use Rattle.pm_exit.specs.declared.child.Class.TheVariants as class
-use Rattle.pm_exit.specs.Ends.{class_of, is_exit_0, is_exit_1}
-use Rattle.pm_modes.specs.declared.Mode.{Mode}
+use Rattle.pm_modes.specs.{declared.Mode.Mode, Strength.{strengthen_of, is_immediate}}
 use Rattle.pm_modes.specs.declared.Mode.TheVariants as mode
-use Rattle.pm_modes.specs.Strength.{strengthen_of, is_immediate}
 use Rattle.pm_admit.specs.declared.Cac.{Cac}
 use Rattle.pm_admit.specs.declared.Cac.TheVariants as cac
-use Rattle.pm_supervisor.specs.declared.Limits.{Limits}
-use Rattle.pm_supervisor.specs.declared.Reason.{Reason}
+use Rattle.pm_supervisor.specs.{declared.{Limits.Limits, Reason.Reason, Ending.Ending}, Children.{Child, is_session, is_startup_child, is_checkpointer, is_writer, count_of, attached_sessions}, Phase.Phase, Supervisor.{Shared, Supervisor, first}, Shared.{SharedEvent, AllowsAny, after_any}}
 use Rattle.pm_supervisor.specs.declared.Reason.TheVariants as reason
-use Rattle.pm_supervisor.specs.declared.Ending.{Ending}
 use Rattle.pm_supervisor.specs.declared.Ending.TheVariants as ending
-use Rattle.pm_supervisor.specs.Children.{Child, is_session, is_startup_child, is_checkpointer, is_writer, count_of, attached_sessions}
-use Rattle.pm_supervisor.specs.Phase.{Phase}
 use Rattle.pm_supervisor.specs.Phase as phase
-use Rattle.pm_supervisor.specs.Supervisor.{Shared, Supervisor, first}
-use Rattle.pm_supervisor.specs.Shared.{SharedEvent, AllowsAny, after_any}
 use Rattle.pm_supervisor.specs.Shared as shared
 
 -- what may happen

@@ -2,9 +2,7 @@
 -- board of child slots each show such a state.
 use Rattle.std.specs.Prelude.{ℕ, Bool, false, List, [], Option, None}
 use Rattle.pm_modes.specs.declared.Mode.{Mode}
-use Rattle.pm_supervisor.specs.declared.Reason.{Reason}
-use Rattle.pm_supervisor.specs.Children.{Child}
-use Rattle.pm_supervisor.specs.Phase.{Phase, Init}
+use Rattle.pm_supervisor.specs.{declared.Reason.Reason, Children.Child, Phase.{Phase, Init}}
 
 -- what the supervisor and its children share
 pub record Shared : Type 0 where

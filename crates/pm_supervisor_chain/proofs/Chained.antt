@@ -1,23 +1,10 @@
 -- Steps are chained: what each of them keeps.
-use Rattle.std.proofs.Common.{◌≡◌, ◌≢◌, ℕ, Bool, true, false, cond, List, [], ◌∷◌, ◌++◌, Option, Some, None, refl, ap, sym, ◌∙◌, subst, inl, inr, append_assoc, append-nil}
-use Rattle.std.specs.Prelude.{◌⊎◌, IsSomeAnd}
-use Rattle.std.specs.List.{AllByRecursion, last_or}
-use Rattle.pm_facts.specs.Lists.{each_both}
-use Rattle.pm_supervisor.specs.declared.Limits.{Limits}
-use Rattle.pm_supervisor.specs.Children.{Child, child_of, is_dead_end}
-use Rattle.pm_state.specs.declared.event.PmEvent.{PmEvent}
+use Rattle.std.{proofs.Common.{◌≡◌, ◌≢◌, ℕ, Bool, true, false, cond, List, [], ◌∷◌, ◌++◌, Option, Some, None, refl, ap, sym, ◌∙◌, subst, inl, inr, append_assoc, append-nil}, specs.{Prelude.{◌⊎◌, IsSomeAnd}, List.{AllByRecursion, last_or}}}
+use Rattle.pm_query.specs.{pm_facts.Lists.each_both, declared.book.BookEntry.BookEntry}
+use Rattle.pm_state.{specs.{pm_supervisor.{declared.Limits.Limits, Children.{Child, child_of, is_dead_end}}, declared.event.PmEvent.PmEvent, Journal.{Replay, IsLegal, replay_begun}}, proofs.ReplayLaws.legal_front}
 use Rattle.pm_state.specs.declared.event.PmEvent.TheVariants as event
-use Rattle.pm_state.specs.Journal.{Replay, IsLegal, replay_begun}
-use Rattle.pm_state.specs.ReplayLaws.{legal_front}
-use Rattle.pm_query.specs.declared.book.BookEntry.{BookEntry}
 use Rattle.pm_query.specs.declared.book.BookEntry.TheVariants as entry
-use Rattle.pm_chain.specs.Chain.{AreDistinct, AttachOnce, GoneWereLost, InGeneration, IsAmong, IsChained, IsPidOf, Redo, RedosEnd, UsersWereStarted, attached_of, exits_of, gone_from, kept_of, lost_from, opened_of, redo_ends_of, redos_of, resets_of, users_from, generation_in, lost_since, gone_since}
-use Rattle.pm_chain.specs.Steps.{ChildRun, IsRunOf, IsThere, MayFollow, MayStep, Notes, Renews, Runs, RunsOn, StandsByItself, Step, AreSteps, AreStepsBehind, book_by, journal_by, journal_of, lost_after, lost_in, redo_end, replay_of, whole_book}
-use Rattle.pm_chain.specs.FoldsLaws.{attached-append, exits-append, gone-append, gone_since-append, kept-append, lost-append, lost_since-append, opened-append, redo_ends-append, redos-append, resets-append, users-append, journal-append, pid_left, pid_right}
-use Rattle.pm_chain.proofs.Lists.{all_map, among_left, among_right, attach_one_more, distinct_one_more, gone_were_lost, of_pid}
-use Rattle.pm_chain.proofs.Replays.{Found, Known, child_in, found, known, told_by}
-use Rattle.pm_chain.proofs.Runs.{AddsRenewal, AddsRun, EndsRedo, IsToldBy, adds-renewal, adds-run, ends-redo, redo-ended, run_in, told-among}
-use Rattle.pm_chain.proofs.StepLists.{book-one_more, journal-one_more, last-one_more, lost-one_more}
+use Rattle.pm_supervisor_chain.{specs.{Chain.{AreDistinct, AttachOnce, GoneWereLost, InGeneration, IsAmong, IsChained, IsPidOf, Redo, RedosEnd, UsersWereStarted, attached_of, exits_of, gone_from, kept_of, lost_from, opened_of, redo_ends_of, redos_of, resets_of, users_from, generation_in, lost_since, gone_since}, Steps.{ChildRun, IsRunOf, IsThere, MayFollow, MayStep, Notes, Renews, Runs, RunsOn, StandsByItself, Step, AreSteps, AreStepsBehind, book_by, journal_by, journal_of, lost_after, lost_in, redo_end, replay_of, whole_book}}, proofs.{FoldsLaws.{attached-append, exits-append, gone-append, gone_since-append, kept-append, lost-append, lost_since-append, opened-append, redo_ends-append, redos-append, resets-append, users-append, journal-append, pid_left, pid_right}, Lists.{all_map, among_left, among_right, attach_one_more, distinct_one_more, gone_were_lost, of_pid}, Replays.{Found, Known, child_in, found, known, told_by}, Runs.{AddsRenewal, AddsRun, EndsRedo, IsToldBy, adds-renewal, adds-run, ends-redo, redo-ended, run_in, told-among}, StepLists.{book-one_more, journal-one_more, last-one_more, lost-one_more}}}
 
 -- ---- between a reset and its renewal
 

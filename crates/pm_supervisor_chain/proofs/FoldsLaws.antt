@@ -1,13 +1,11 @@
 -- Laws of what journal and book say, as entries are put after those so far.
-use Rattle.std.proofs.Common.{◌≡◌, ℕ, true, List, [], ◌∷◌, ◌++◌, refl, ap, inl, inr}
-use Rattle.std.proofs.lemmas.Grind.{flat_map-append}
-use Rattle.pm_admit.specs.declared.Cac.TheVariants as decision
+use Rattle.std.proofs.{Common.{◌≡◌, ℕ, true, List, [], ◌∷◌, ◌++◌, refl, ap, inl, inr}, lemmas.Grind.flat_map-append}
+use Rattle.pm_state.specs.pm_admit.declared.Cac.TheVariants as decision
 use Rattle.pm_state.specs.declared.event.PmEvent.{PmEvent}
 use Rattle.pm_state.specs.declared.event.PmEvent.TheVariants as event
 use Rattle.pm_query.specs.declared.book.BookEntry.{BookEntry}
 use Rattle.pm_query.specs.declared.book.BookEntry.TheVariants as entry
-use Rattle.pm_chain.specs.Chain.{InGeneration, Redo, attached_of, exits_of, gone_from, kept_of, lost_from, opened_of, redo_ends_of, redos_of, resets_of, users_from, generation_in, gone_since, lost_since, IsPidOf}
-use Rattle.pm_chain.specs.Steps.{Step, journal_by, journal_of}
+use Rattle.pm_supervisor_chain.specs.{Chain.{InGeneration, Redo, attached_of, exits_of, gone_from, kept_of, lost_from, opened_of, redo_ends_of, redos_of, resets_of, users_from, generation_in, gone_since, lost_since, IsPidOf}, Steps.{Step, journal_by, journal_of}}
 
 -- ---- the journal
 

@@ -6,3 +6,4 @@ pub mod Chained
 pub mod Present
 pub mod WorkedChainProofs
 pub mod WorkedStepProofs
+pub mod FoldsLaws

@@ -1,8 +1,7 @@
 -- Lists put together: what holds of each item, who is among them, and each once.
-use Rattle.std.proofs.Common.{◌≡◌, ◌≢◌, ℕ, List, [], ◌∷◌, ◌++◌, inl, inr, refl}
-use Rattle.std.specs.List.{AllByRecursion}
-use Rattle.pm_facts.specs.Lists.{each_both}
-use Rattle.pm_chain.specs.Chain.{InGeneration, IsAmong, IsPidOf, AttachOnce, AreDistinct, ArePids, GoneWereLost}
+use Rattle.std.{proofs.Common.{◌≡◌, ◌≢◌, ℕ, List, [], ◌∷◌, ◌++◌, inl, inr, refl}, specs.List.AllByRecursion}
+use Rattle.pm_query.specs.pm_facts.Lists.{each_both}
+use Rattle.pm_supervisor_chain.specs.Chain.{InGeneration, IsAmong, IsPidOf, AttachOnce, AreDistinct, ArePids, GoneWereLost}
 
 pub all_map : {X : Type 0} (P Q : X → Type 0) → ((x : X) → P x → Q x) → (xs : List X) → AllByRecursion P xs → AllByRecursion Q xs
 all_map P Q f [] all = tt

@@ -1,14 +1,7 @@
 -- Where a server is in step, each child that is there is of the present generation.
-use Rattle.std.proofs.Common.{◌≡◌, ℕ, nat_eq, cond, true, false, List, [], ◌∷◌, Some, sym, subst}
-use Rattle.std.specs.Prelude.{IsSomeAnd}
-use Rattle.std.specs.List.{AllByRecursion}
-use Rattle.pm_exit.specs.declared.child.Kind.{Kind}
-use Rattle.pm_supervisor.specs.declared.Limits.{Limits}
-use Rattle.pm_supervisor.specs.Children.{Child, child_of}
-use Rattle.pm_supervisor.specs.Supervisor.{Shared}
-use Rattle.pm_supervisor.specs.Between.{all_detached, detached}
-use Rattle.pm_state.specs.InStep.{ServerState, IsInStep}
-use Rattle.pm_chain.specs.Steps.{ChildRun, IsThere}
+use Rattle.std.{proofs.Common.{◌≡◌, ℕ, nat_eq, cond, true, false, List, [], ◌∷◌, Some, sym, subst}, specs.{Prelude.IsSomeAnd, List.AllByRecursion}}
+use Rattle.pm_state.specs.{pm_exit.declared.child.Kind.Kind, pm_supervisor.{declared.Limits.Limits, Children.{Child, child_of}, Supervisor.Shared, Between.{all_detached, detached}}, InStep.{ServerState, IsInStep}}
+use Rattle.pm_supervisor_chain.specs.Steps.{ChildRun, IsThere}
 
 each-detached : (generation : ℕ) (cs : List Child) → AllByRecursion (λ c. c.generation ≡ generation) cs
     → AllByRecursion (λ c. c.generation ≡ generation) (all_detached cs)

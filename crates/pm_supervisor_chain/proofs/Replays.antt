@@ -1,29 +1,13 @@
 -- What a legal journal leaves of its children: their pids rise, each is there once and among those that may use the store, and
 -- those that ended are gone for good.
-use Rattle.std.proofs.Common.{◌≡◌, ℕ, ◌+◌, ◌<◌, ◌≤◌, nat_eq, cond, Bool, true, false, List, [], ◌∷◌, ◌++◌, Some, None, refl, arith, ap, sym, ◌∙◌, subst, inl, append_assoc}
-use Rattle.std.specs.Prelude.{IsSomeAnd, is_none}
-use Rattle.std.specs.List.{AllByRecursion}
-use Rattle.std.proofs.lemmas.Bool.{eqb-true}
-use Rattle.pm_facts.specs.Lists.{each_both}
-use Rattle.pm_exit.specs.declared.child.Kind.{Kind}
-use Rattle.pm_exit.specs.declared.child.Kind.TheVariants as kind
-use Rattle.pm_admit.specs.declared.Cac.{Cac}
-use Rattle.pm_admit.specs.declared.Cac.TheVariants as decision
-use Rattle.pm_supervisor.specs.declared.Limits.{Limits}
-use Rattle.pm_supervisor.specs.Children.{Child, child_of, without, is_dead_end}
-use Rattle.pm_supervisor.specs.Supervisor.{Shared}
-use Rattle.pm_supervisor.specs.Shared.{with_child}
-use Rattle.pm_supervisor.specs.Steps.{shared_after, kind_for, RedoEnded, Reset}
-use Rattle.pm_supervisor.specs.RunLaws.{each-without}
-use Rattle.pm_state.specs.declared.action.Action.{Action}
+use Rattle.std.{proofs.{Common.{◌≡◌, ℕ, ◌+◌, ◌<◌, ◌≤◌, nat_eq, cond, Bool, true, false, List, [], ◌∷◌, ◌++◌, Some, None, refl, arith, ap, sym, ◌∙◌, subst, inl, append_assoc}, lemmas.Bool.eqb-true}, specs.{Prelude.{IsSomeAnd, is_none}, List.AllByRecursion}}
+use Rattle.pm_query.specs.pm_facts.Lists.{each_both}
+use Rattle.pm_state.{specs.{pm_exit.declared.child.Kind.Kind, pm_admit.declared.Cac.Cac, pm_supervisor.{declared.Limits.Limits, Children.{Child, child_of, without, is_dead_end}, Supervisor.Shared, Shared.with_child, Steps.{shared_after, kind_for, RedoEnded, Reset}}, declared.{action.Action.Action, event.PmEvent.PmEvent, machine.Machine.Machine}, Journal.{Due, Do, EndRedo, Replay, AreLegal, Fits, FitsFirst, Follows, FollowsIn, IsLegal, MayCome, all_replayed, replay_begun, replayed, row_of, shown_after}}, proofs.pm_supervisor.RunLaws.each-without}
+use Rattle.pm_state.specs.pm_exit.declared.child.Kind.TheVariants as kind
+use Rattle.pm_state.specs.pm_admit.declared.Cac.TheVariants as decision
 use Rattle.pm_state.specs.declared.action.Action.TheVariants as act
-use Rattle.pm_state.specs.declared.event.PmEvent.{PmEvent}
 use Rattle.pm_state.specs.declared.event.PmEvent.TheVariants as event
-use Rattle.pm_state.specs.declared.machine.Machine.{Machine}
-use Rattle.pm_state.specs.Journal.{Due, Do, EndRedo, Replay, AreLegal, Fits, FitsFirst, Follows, FollowsIn, IsLegal, MayCome, all_replayed, replay_begun, replayed, row_of, shown_after}
-use Rattle.pm_chain.specs.Chain.{InGeneration, IsAmong, exits_of, users_from, generation_in}
-use Rattle.pm_chain.specs.FoldsLaws.{exits-append, generation-append, users-append}
-use Rattle.pm_chain.proofs.Lists.{all_map, all_zip, among_left, among_right}
+use Rattle.pm_supervisor_chain.{specs.Chain.{InGeneration, IsAmong, exits_of, users_from, generation_in}, proofs.{FoldsLaws.{exits-append, generation-append, users-append}, Lists.{all_map, all_zip, among_left, among_right}}}
 
 -- ---- children
 

@@ -1,13 +1,9 @@
 -- What a run of a child adds to the book, and a renewal of the store.
-use Rattle.std.proofs.Common.{◌≡◌, ℕ, Bool, true, false, cond, List, [], ◌∷◌, ◌++◌, Option, Some, None, refl, ap, sym, ◌∙◌, subst, inl, inr, append_assoc, append-nil}
-use Rattle.std.specs.Prelude.{◌⊎◌, map}
-use Rattle.std.specs.List.{AllByRecursion}
-use Rattle.pm_supervisor.specs.Children.{is_dead_end}
-use Rattle.pm_state.specs.declared.event.PmEvent.{PmEvent}
+use Rattle.std.{proofs.Common.{◌≡◌, ℕ, Bool, true, false, cond, List, [], ◌∷◌, ◌++◌, Option, Some, None, refl, ap, sym, ◌∙◌, subst, inl, inr, append_assoc, append-nil}, specs.{Prelude.{◌⊎◌, map}, List.AllByRecursion}}
+use Rattle.pm_state.specs.{pm_supervisor.Children.is_dead_end, declared.event.PmEvent.PmEvent}
 use Rattle.pm_query.specs.declared.book.BookEntry.{BookEntry}
 use Rattle.pm_query.specs.declared.book.BookEntry.TheVariants as entry
-use Rattle.pm_chain.specs.Chain.{InGeneration, IsAmong, Redo, attached_of, exits_of, gone_from, kept_of, lost_from, opened_of, redo_ends_of, redos_of, resets_of, lost_since, gone_since}
-use Rattle.pm_chain.specs.Steps.{ChildRun, HasEntered, IsWorkOf, StaysOutside, TellsRedo, leaving, redo_end}
+use Rattle.pm_supervisor_chain.specs.{Chain.{InGeneration, IsAmong, Redo, attached_of, exits_of, gone_from, kept_of, lost_from, opened_of, redo_ends_of, redos_of, resets_of, lost_since, gone_since}, Steps.{ChildRun, HasEntered, IsWorkOf, StaysOutside, TellsRedo, leaving, redo_end}}
 
 abbrev pub run_in : ChildRun → InGeneration
 run_in run = record { number = run.pid; generation = run.generation }

@@ -1,12 +1,9 @@
 -- Steps with one step more.
-use Rattle.std.proofs.Common.{◌≡◌, List, [], ◌∷◌, ◌++◌, Option, Some, None, refl, ap, ◌∙◌, append_assoc, append-nil}
-use Rattle.std.specs.List.{flat_map, last_or}
-use Rattle.std.proofs.lemmas.Grind.{flat_map-append}
-use Rattle.std.proofs.lemmas.List.Sums.{fold-append}
-use Rattle.pm_supervisor.specs.declared.Limits.{Limits}
+use Rattle.std.{proofs.{Common.{◌≡◌, List, [], ◌∷◌, ◌++◌, Option, Some, None, refl, ap, ◌∙◌, append_assoc, append-nil}, lemmas.{Grind.flat_map-append, List.Sums.fold-append}}, specs.List.{flat_map, last_or}}
+use Rattle.pm_state.specs.pm_supervisor.declared.Limits.{Limits}
 use Rattle.pm_query.specs.declared.book.BookEntry.{BookEntry}
 use Rattle.pm_query.specs.declared.book.BookEntry.TheVariants as entry
-use Rattle.pm_chain.specs.Steps.{Step, AreStepsBehind, MayStep, book_by, journal_by, journal_of, lost_after, lost_in, whole_book}
+use Rattle.pm_supervisor_chain.specs.Steps.{Step, AreStepsBehind, MayStep, book_by, journal_by, journal_of, lost_after, lost_in, whole_book}
 
 one_more : {X : Type 0} (f : Step → List X) (before : List Step) (step : Step) → flat_map f (before ++ step ∷ []) ≡ flat_map f before ++ f step
 one_more f before step = flat_map-append f before (step ∷ []) ∙ ap (λ l. flat_map f before ++ l) (append-nil (f step))

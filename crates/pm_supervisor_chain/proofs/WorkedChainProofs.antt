@@ -1,8 +1,6 @@
 -- Why the worked chains hold, or not.
-use Rattle.std.proofs.Common.{◌≡◌, List, [], ◌∷◌, refl, inl, inr, arith}
-use Rattle.std.specs.List.{AllByRecursion}
-use Rattle.pm_chain.specs.Chain.{InGeneration, IsAmong, IsChained, kept_of, redos_of, users_from}
-use Rattle.pm_chain.specs.WorkedChains.{clean_book, clean_journal, crash_book, crash_journal, failed_book, failed_journal, miscounted_journal, unlisted_book, twice_book, early_book}
+use Rattle.std.{proofs.Common.{◌≡◌, List, [], ◌∷◌, refl, inl, inr, arith}, specs.List.AllByRecursion}
+use Rattle.pm_supervisor_chain.specs.{Chain.{InGeneration, IsAmong, IsChained, kept_of, redos_of, users_from}, WorkedChains.{clean_book, clean_journal, crash_book, crash_journal, failed_book, failed_journal, miscounted_journal, unlisted_book, twice_book, early_book}}
 
 pub clean_is_chained : IsChained clean_journal clean_book
 clean_is_chained =

@@ -1,18 +1,10 @@
 -- Why the worked steps are steps of the worked chains.
-use Rattle.std.proofs.Common.{◌≡◌, ◌<◌, ℕ, true, false, [], ◌∷◌, refl, inl, inr, arith}
-use Rattle.std.proofs.Math.Nat.{le-add_right}
-use Rattle.pm_facts.specs.Bools.{absurd_true}
-use Rattle.pm_exit.specs.declared.child.Kind.{Kind}
-use Rattle.pm_exit.specs.declared.child.Kind.TheVariants as kind
-use Rattle.pm_exit.specs.declared.child.Status.{Status}
-use Rattle.pm_exit.specs.declared.child.Status.TheVariants.{Code}
-use Rattle.pm_state.specs.Journal.{IsLegal, settled, row_of}
-use Rattle.pm_state.specs.Exits.{crash_rule, startup_exited}
-use Rattle.pm_state.specs.TurnRules.{start_recovery, restart_writer, end_smart, stop_backends, backends_gone, dead_ends_gone, children_gone}
+use Rattle.std.proofs.{Common.{◌≡◌, ◌<◌, ℕ, true, false, [], ◌∷◌, refl, inl, inr, arith}, Math.Nat.le-add_right}
+use Rattle.pm_query.specs.pm_facts.Bools.{absurd_true}
+use Rattle.pm_state.specs.{pm_exit.declared.child.{Kind.Kind, Status.{Status, TheVariants.Code}}, Journal.{IsLegal, settled, row_of}, Exits.{crash_rule, startup_exited}, TurnRules.{start_recovery, restart_writer, end_smart, stop_backends, backends_gone, dead_ends_gone, children_gone}}
+use Rattle.pm_state.specs.pm_exit.declared.child.Kind.TheVariants as kind
 use Rattle.pm_query.specs.declared.book.BookEntry.TheVariants as book
-use Rattle.pm_chain.specs.Steps.{AreSteps, IsRunOf, ends_redo}
-use Rattle.pm_chain.specs.WorkedChains.{clean_book, clean_journal, crash_book, crash_journal, failed_book, failed_journal}
-use Rattle.pm_chain.specs.WorkedSteps.{Write, any_moment, limits, clean_steps, crash_steps, failed_steps, crashing, failing, last_checkpoint, recovery, run_of, session}
+use Rattle.pm_supervisor_chain.specs.{Steps.{AreSteps, IsRunOf, ends_redo}, WorkedChains.{clean_book, clean_journal, crash_book, crash_journal, failed_book, failed_journal}, WorkedSteps.{Write, any_moment, limits, clean_steps, crash_steps, failed_steps, crashing, failing, last_checkpoint, recovery, run_of, session}}
 
 -- ---- runs
 

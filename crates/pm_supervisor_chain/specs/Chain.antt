@@ -1,7 +1,6 @@
 -- The chain of journal and book: two lists that were written side by side, and agree on generations, redos and children.
-use Rattle.std.specs.Prelude.{◌≡◌, ◌≢◌, ◌⊎◌, ℕ, true, List, [], ◌∷◌, ◌++◌}
-use Rattle.std.specs.List.{AllByRecursion}
-use Rattle.pm_admit.specs.declared.Cac.TheVariants as decision
+use Rattle.std.specs.{Prelude.{◌≡◌, ◌≢◌, ◌⊎◌, ℕ, true, List, [], ◌∷◌, ◌++◌}, List.AllByRecursion}
+use Rattle.pm_state.specs.pm_admit.declared.Cac.TheVariants as decision
 use Rattle.pm_state.specs.declared.event.PmEvent.{PmEvent}
 use Rattle.pm_state.specs.declared.event.PmEvent.TheVariants as event
 use Rattle.pm_query.specs.declared.book.BookEntry.{BookEntry}

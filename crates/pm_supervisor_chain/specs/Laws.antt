@@ -1,12 +1,7 @@
 -- The laws of steps, one for each function of `laws.rt`, whose contract it is.
-use Rattle.std.specs.Prelude.{◌≡◌, ℕ, Bool, List, [], ◌∷◌, ◌++◌, None, Some, IsSomeAnd}
-use Rattle.std.specs.List.{last_or}
-use Rattle.pm_supervisor.specs.declared.Limits.{Limits}
-use Rattle.pm_supervisor.specs.Children.{child_of}
-use Rattle.pm_state.specs.Journal.{IsLegal}
-use Rattle.pm_state.specs.InStep.{ServerState, IsInStep}
-use Rattle.pm_chain.specs.Chain.{IsChained}
-use Rattle.pm_chain.specs.Steps.{ChildRun, Step, AreSteps, IsThere, MayStep, book_by, journal_by, journal_of, lost_after, lost_in, whole_book}
+use Rattle.std.specs.{Prelude.{◌≡◌, ℕ, Bool, List, [], ◌∷◌, ◌++◌, None, Some, IsSomeAnd}, List.last_or}
+use Rattle.pm_state.specs.{pm_supervisor.{declared.Limits.Limits, Children.child_of}, Journal.IsLegal, InStep.{ServerState, IsInStep}}
+use Rattle.pm_supervisor_chain.specs.{Chain.IsChained, Steps.{ChildRun, Step, AreSteps, IsThere, MayStep, book_by, journal_by, journal_of, lost_after, lost_in, whole_book}}
 
 abbrev pub StepsAreChained : Type 0
 StepsAreChained =

@@ -1,6 +1,6 @@
 pub mod Chain
-pub mod FoldsLaws
 pub mod Steps
 pub mod WorkedChains
 pub mod WorkedSteps
 pub mod Laws
+pub use Rattle.pm_state.specs as pm_state

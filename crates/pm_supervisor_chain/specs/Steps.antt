@@ -1,17 +1,10 @@
 -- A server that keeps journal and book side by side: what it writes, step after step, and where each step may stand.
-use Rattle.std.specs.Prelude.{◌≡◌, ◌⊎◌, ℕ, Bool, true, false, ◌&&◌, if◌then◌else◌, List, [], ◌∷◌, ◌++◌, fold, map, Option, None, Some, IsSomeAnd}
-use Rattle.std.specs.List.{AllByRecursion, flat_map, last_or}
-use Rattle.pm_exit.specs.declared.child.Kind.{Kind}
-use Rattle.pm_exit.specs.declared.child.Status.{Status}
-use Rattle.pm_exit.specs.Ends.{is_exit_0}
-use Rattle.pm_supervisor.specs.declared.Limits.{Limits}
-use Rattle.pm_supervisor.specs.Children.{is_startup_child, is_dead_end, child_of}
-use Rattle.pm_state.specs.declared.event.PmEvent.{PmEvent}
+use Rattle.std.specs.{Prelude.{◌≡◌, ◌⊎◌, ℕ, Bool, true, false, ◌&&◌, if◌then◌else◌, List, [], ◌∷◌, ◌++◌, fold, map, Option, None, Some, IsSomeAnd}, List.{AllByRecursion, flat_map, last_or}}
+use Rattle.pm_state.specs.{pm_exit.{declared.child.{Kind.Kind, Status.Status}, Ends.is_exit_0}, pm_supervisor.{declared.Limits.Limits, Children.{is_startup_child, is_dead_end, child_of}}, declared.event.PmEvent.PmEvent, Journal.{Replay, all_replayed, replay_begun}}
 use Rattle.pm_state.specs.declared.event.PmEvent.TheVariants as event
-use Rattle.pm_state.specs.Journal.{Replay, all_replayed, replay_begun}
 use Rattle.pm_query.specs.declared.book.BookEntry.{BookEntry}
 use Rattle.pm_query.specs.declared.book.BookEntry.TheVariants as entry
-use Rattle.pm_chain.specs.Chain.{IsAmong, kept_of, redos_of}
+use Rattle.pm_supervisor_chain.specs.Chain.{IsAmong, kept_of, redos_of}
 
 -- One run of a child: who it is, what it noted in the book, and how it ended.
 pub record ChildRun : Type 0 where

@@ -1,14 +1,12 @@
 -- Journals and books of three small servers, and some that were written wrongly.
 use Rattle.std.specs.Prelude.{true, false, List, [], ◌∷◌, ◌++◌}
-use Rattle.pm_exit.specs.declared.child.Kind.TheVariants as kind
-use Rattle.pm_exit.specs.declared.child.Status.TheVariants.{Code, Signal}
-use Rattle.pm_modes.specs.declared.Mode.TheVariants as mode
-use Rattle.pm_admit.specs.declared.Cac.TheVariants as decision
-use Rattle.pm_supervisor.specs.declared.Reason.TheVariants as reason
-use Rattle.pm_supervisor.specs.declared.Ending.TheVariants as ending
+use Rattle.pm_state.specs.pm_exit.declared.child.Kind.TheVariants as kind
+use Rattle.pm_state.specs.{pm_exit.declared.child.Status.TheVariants.{Code, Signal}, declared.event.PmEvent.{PmEvent, TheVariants.{Started, Accepted, Exited, Asked, QuitSent, TerminateSent, CheckpointAsked, RedoEnded, Ready, Reset, Said, Ended}}}
+use Rattle.pm_state.specs.pm_modes.declared.Mode.TheVariants as mode
+use Rattle.pm_state.specs.pm_admit.declared.Cac.TheVariants as decision
+use Rattle.pm_state.specs.pm_supervisor.declared.Reason.TheVariants as reason
+use Rattle.pm_state.specs.pm_supervisor.declared.Ending.TheVariants as ending
 use Rattle.pm_state.specs.declared.action.Line.TheVariants as line
-use Rattle.pm_state.specs.declared.event.PmEvent.{PmEvent}
-use Rattle.pm_state.specs.declared.event.PmEvent.TheVariants.{Started, Accepted, Exited, Asked, QuitSent, TerminateSent, CheckpointAsked, RedoEnded, Ready, Reset, Said, Ended}
 use Rattle.pm_query.specs.declared.book.BookEntry.{BookEntry}
 use Rattle.pm_query.specs.declared.book.BookEntry.TheVariants as book
 

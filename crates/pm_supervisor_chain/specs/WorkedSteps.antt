@@ -1,21 +1,15 @@
 -- The three servers of the worked chains, step after step.
 use Rattle.std.specs.Prelude.{◌≡◌, ℕ, Bool, true, false, List, [], ◌∷◌, ◌++◌, None, Some}
-use Rattle.pm_exit.specs.declared.child.Kind.{Kind}
-use Rattle.pm_exit.specs.declared.child.Kind.TheVariants as kind
-use Rattle.pm_exit.specs.declared.child.Status.{Status}
-use Rattle.pm_exit.specs.declared.child.Status.TheVariants.{Code, Signal}
-use Rattle.pm_modes.specs.declared.Mode.TheVariants as mode
-use Rattle.pm_admit.specs.declared.Cac.TheVariants as decision
-use Rattle.pm_supervisor.specs.declared.Limits.{Limits}
-use Rattle.pm_supervisor.specs.declared.Reason.TheVariants as reason
-use Rattle.pm_supervisor.specs.declared.Ending.TheVariants as ending
+use Rattle.pm_state.specs.{pm_exit.declared.child.{Kind.Kind, Status.{Status, TheVariants.{Code, Signal}}}, pm_supervisor.declared.Limits.Limits, declared.event.PmEvent.{PmEvent, TheVariants.{Started, Accepted, Asked, QuitSent, TerminateSent, CheckpointAsked, Ready, Reset, Said, Ended}}, Journal.IsLegal}
+use Rattle.pm_state.specs.pm_exit.declared.child.Kind.TheVariants as kind
+use Rattle.pm_state.specs.pm_modes.declared.Mode.TheVariants as mode
+use Rattle.pm_state.specs.pm_admit.declared.Cac.TheVariants as decision
+use Rattle.pm_state.specs.pm_supervisor.declared.Reason.TheVariants as reason
+use Rattle.pm_state.specs.pm_supervisor.declared.Ending.TheVariants as ending
 use Rattle.pm_state.specs.declared.action.Line.TheVariants as line
-use Rattle.pm_state.specs.declared.event.PmEvent.{PmEvent}
-use Rattle.pm_state.specs.declared.event.PmEvent.TheVariants.{Started, Accepted, Asked, QuitSent, TerminateSent, CheckpointAsked, Ready, Reset, Said, Ended}
-use Rattle.pm_state.specs.Journal.{IsLegal}
 use Rattle.pm_query.specs.declared.book.BookEntry.{BookEntry}
 use Rattle.pm_query.specs.declared.book.BookEntry.TheVariants as book
-use Rattle.pm_chain.specs.Steps.{ChildRun, Step, Notes, Runs, Renews, AreSteps, journal_of, whole_book}
+use Rattle.pm_supervisor_chain.specs.Steps.{ChildRun, Step, Notes, Runs, Renews, AreSteps, journal_of, whole_book}
 
 -- a child that was found inactive
 abbrev pub run_of : ℕ → Kind → Status → List BookEntry → ChildRun

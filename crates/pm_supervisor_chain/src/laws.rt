@@ -1,9 +1,6 @@
 //! That steps are chained; three worked servers, and four pairs of journal and book that aren't chained.
 
-ghost use Rattle.pm_chain.specs.Chain.{IsChained};
-ghost use Rattle.pm_chain.specs.Laws.{StepsAreChained, StepsGoOn};
-ghost use Rattle.pm_chain.specs.WorkedSteps.{Write, clean_steps, crash_steps, failed_steps};
-ghost use Rattle.pm_chain.specs.WorkedChains.{clean_book, clean_journal, crash_book, crash_journal, failed_book, failed_journal, miscounted_journal, unlisted_book, twice_book, early_book};
+ghost use Rattle.pm_supervisor_chain.specs.{Chain.IsChained, Laws.{StepsAreChained, StepsGoOn}, WorkedSteps.{Write, clean_steps, crash_steps, failed_steps}, WorkedChains.{clean_book, clean_journal, crash_book, crash_journal, failed_book, failed_journal, miscounted_journal, unlisted_book, twice_book, early_book}};
 
 /// The chain of a server that ran without a crash, of one that went through a crash cycle, and of one whose redo failed.
 pub fn worked_chains()

@@ -1,31 +1,13 @@
 -- The acts of a call are done one by one.
-use Rattle.std.proofs.Common.{◌≡◌, ℕ, ◌+◌, ◌≤◌, Bool, true, false, ◌||◌, nat_eq, List, [], ◌∷◌, ◌++◌, Some, None, refl, ap, sym, ◌∙◌, subst, arith}
-use Rattle.std.specs.Prelude.{Option, IfSome, is_none, is_some, ◌<◌}
-use Rattle.std.proofs.lemmas.Bool.Decides.{nat_tests}
-use Rattle.pm_exit.specs.declared.child.Kind.{Kind}
-use Rattle.pm_exit.specs.declared.child.Kind.TheVariants as kind
-use Rattle.pm_supervisor.specs.declared.Limits.{Limits}
-use Rattle.pm_supervisor.specs.Supervisor.{Shared}
-use Rattle.pm_supervisor.specs.Steps.{Trace, kind_for, shared_after}
+use Rattle.std.{proofs.{Common.{◌≡◌, ℕ, ◌+◌, ◌≤◌, Bool, true, false, ◌||◌, nat_eq, List, [], ◌∷◌, ◌++◌, Some, None, refl, ap, sym, ◌∙◌, subst, arith}, lemmas.Bool.Decides.nat_tests}, specs.Prelude.{Option, IfSome, is_none, is_some, ◌<◌}}
+use Rattle.pm_state.specs.{pm_exit.declared.child.Kind.Kind, declared.{action.Action.Action, event.PmEvent.PmEvent, machine.Machine.Machine}, Machine.started_as, Journal.{Replay, Do, AreLegal, Follows, without_first, asks_after, moment_after, all_replayed, replayed, replay_begun, dues, entry_of, entries_of, all_reported, last_pid, shown_after, settled}, InStep.{IsInStep, server_state}, Starts.{Owes, has_end, starts_in}, Laws.{TellsOfEachStart, WritesALegalJournal}}
+use Rattle.pm_state.specs.pm_exit.declared.child.Kind.TheVariants as kind
+use Rattle.pm_supervisor.{specs.{declared.Limits.Limits, Supervisor.Shared, Steps.{Trace, kind_for, shared_after}}, proofs.RunLaws.redo-children}
 use Rattle.pm_supervisor.specs.Steps as supervisor
-use Rattle.pm_supervisor.specs.RunLaws.{redo-children}
-use Rattle.pm_state.specs.declared.action.Action.{Action}
 use Rattle.pm_state.specs.declared.action.Action.TheVariants as act
-use Rattle.pm_state.specs.declared.event.PmEvent.{PmEvent}
 use Rattle.pm_state.specs.declared.event.PmEvent.TheVariants as entry
-use Rattle.pm_state.specs.declared.machine.Machine.{Machine}
-use Rattle.pm_state.specs.Machine.{started_as}
-use Rattle.pm_state.specs.Journal.{Replay, Do, AreLegal, Follows, without_first, asks_after, moment_after, all_replayed, replayed, replay_begun, dues, entry_of, entries_of, all_reported, last_pid, shown_after, settled}
-use Rattle.pm_state.specs.InStep.{IsInStep, server_state}
-use Rattle.pm_state.specs.Starts.{Owes, has_end, starts_in}
-use Rattle.pm_state.specs.Laws.{TellsOfEachStart, WritesALegalJournal}
-use Rattle.pm_journal.specs.declared.roll.Enrolled.{Enrolled}
-use Rattle.pm_journal.specs.Doing.{MayReport}
-use Rattle.pm_journal.specs.Roll.{roll_of, without}
+use Rattle.pm_supervisor_journal.{specs.{declared.roll.Enrolled.Enrolled, Doing.MayReport, Roll.{roll_of, without}, Standing.{Standing, children_after, last_pid_after, generation_after, noted, entry_for, reported, done}, Stands.{Remembers, IsComing, Stands, HasPids, IsSettled, any_kind, any_moment, starts_left}}, proofs.Rolls.roll-without}
 use Rattle.pm_outside.specs.Added.{Added}
-use Rattle.pm_journal.specs.Standing.{Standing, children_after, last_pid_after, generation_after, noted, entry_for, reported, done}
-use Rattle.pm_journal.specs.Stands.{Remembers, IsComing, Stands, HasPids, IsSettled, any_kind, any_moment, starts_left}
-use Rattle.pm_journal.proofs.Rolls.{roll-without}
 
 -- the reports
 

@@ -1,15 +1,9 @@
 -- What the journal of a server tells of its end.
 use Rattle.std.proofs.Common.{◌≡◌, ℕ, ◌+◌, List, [], ◌∷◌, ◌++◌, Some, sym, subst, ◌∙◌}
-use Rattle.pm_supervisor.specs.declared.Limits.{Limits}
-use Rattle.pm_state.specs.declared.action.Action.{Action}
+use Rattle.pm_state.specs.{pm_supervisor.declared.Limits.Limits, declared.{action.Action.Action, event.PmEvent.PmEvent}, Journal.{AreLegal, Follows, all_replayed, dues, entries_of, replay_begun, without_first}, Restarts.AreAsSet}
 use Rattle.pm_state.specs.declared.action.Action.TheVariants as act
-use Rattle.pm_state.specs.declared.event.PmEvent.{PmEvent}
 use Rattle.pm_state.specs.declared.event.PmEvent.TheVariants as entry
-use Rattle.pm_state.specs.Journal.{AreLegal, Follows, all_replayed, dues, entries_of, replay_begun, without_first}
-use Rattle.pm_state.specs.Restarts.{AreAsSet}
-use Rattle.pm_journal.specs.Standing.{Standing, first_due}
-use Rattle.pm_journal.specs.Stands.{Stands, any_moment}
-use Rattle.pm_journal.specs.NextsLaws.{first_is}
+use Rattle.pm_supervisor_journal.{specs.{Standing.{Standing, first_due}, Stands.{Stands, any_moment}}, proofs.NextsLaws.first_is}
 
 -- the last entries are as the options say, where all are
 pub last_set : (limits : Limits) (xs ys : List PmEvent) → AreAsSet limits (xs ++ ys) → AreAsSet limits ys

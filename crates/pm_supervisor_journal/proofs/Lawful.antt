@@ -1,26 +1,8 @@
 -- What follows where a supervisor at work stands.
-use Rattle.std.proofs.Common.{◌≡◌, ℕ, ◌≤◌, Bool, true, false, List, [], ◌∷◌, ◌++◌, Some, refl, ap, sym, ◌∙◌, subst, arith, append_assoc}
-use Rattle.std.specs.Prelude.{Option, is_some}
-use Rattle.pm_supervisor.specs.declared.Limits.{Limits}
-use Rattle.pm_supervisor.specs.Between.{is_child_step}
-use Rattle.pm_supervisor.specs.Steps.{SupervisorEvent, Trace, MayHappen, happened}
-use Rattle.pm_state.specs.declared.event.PmEvent.{PmEvent}
+use Rattle.std.{proofs.Common.{◌≡◌, ℕ, ◌≤◌, Bool, true, false, List, [], ◌∷◌, ◌++◌, Some, refl, ap, sym, ◌∙◌, subst, arith, append_assoc}, specs.{Prelude.{Option, is_some}, Option.unwrap_or}}
+use Rattle.pm_state.specs.{pm_supervisor.{declared.Limits.Limits, Between.is_child_step, Steps.{SupervisorEvent, Trace, MayHappen, happened}}, declared.{event.PmEvent.PmEvent, action.Action.Action}, Journal.{Replay, Due, IsLegal, AreLegal, FollowsIn, MayCome, Do, acts_of_call, all_replayed, all_reported, dues, entries_of, entries_of_call, entry_of, replayed, replay_begun, without_first}, InStep.IsInStep, pm_modes.declared.Mode.Mode, Shows.{Call, Asks}, Laws.{StaysInStep, WritesALegalJournal}}
 use Rattle.pm_state.specs.declared.event.PmEvent.TheVariants as entry
-use Rattle.pm_state.specs.Journal.{Replay, Due, IsLegal, AreLegal, FollowsIn, MayCome, Do, acts_of_call, all_replayed, all_reported, dues, entries_of, entries_of_call, entry_of, replayed, replay_begun, without_first}
-use Rattle.pm_state.specs.InStep.{IsInStep}
-use Rattle.pm_modes.specs.declared.Mode.{Mode}
-use Rattle.pm_state.specs.declared.action.Action.{Action}
-use Rattle.pm_state.specs.Shows.{Call, Asks}
-use Rattle.std.specs.Option.{unwrap_or}
-use Rattle.pm_state.specs.Laws.{StaysInStep, WritesALegalJournal}
-use Rattle.pm_journal.specs.declared.exit.ChildExit.{ChildExit}
-use Rattle.pm_journal.specs.Laws.{KeepsALegalJournal, NotesWhatIsDue, replay_by, with_call, with_due}
-use Rattle.pm_journal.specs.Moments.{AreGiven, IsGiven}
-use Rattle.pm_journal.specs.Standing.{Standing, asking, called, done, ends_redo, entry_for, exit_call, exit_entry, exiting, first_due, later, made, noted}
-use Rattle.pm_journal.specs.Stands.{HasPids, Remembers, Stands, any_moment, entries_due, highest_pid}
-use Rattle.pm_journal.proofs.Acting.{entry-is, report-one}
-use Rattle.pm_journal.proofs.Making.{entries-kept, exit-entries, goes-on, noted-at, redo_if, rests}
-use Rattle.pm_journal.specs.NextsLaws.{first_is, noted-due}
+use Rattle.pm_supervisor_journal.{specs.{declared.exit.ChildExit.ChildExit, Laws.{KeepsALegalJournal, NotesWhatIsDue, replay_by, with_call, with_due}, Moments.{AreGiven, IsGiven}, Standing.{Standing, asking, called, done, ends_redo, entry_for, exit_call, exit_entry, exiting, first_due, later, made, noted}, Stands.{HasPids, Remembers, Stands, any_moment, entries_due, highest_pid}}, proofs.{Acting.{entry-is, report-one}, Making.{entries-kept, exit-entries, goes-on, noted-at, redo_if, rests}, NextsLaws.{first_is, noted-due}}}
 
 abbrev IsTold : (ℕ → Bool) → ℕ → Type 0
 IsTold gives at = gives at ≡ true

@@ -4,3 +4,8 @@ pub mod Making
 pub mod Nexts
 pub mod Pids
 pub mod Rolls
+pub mod EndsLaws
+pub mod NextsLaws
+pub mod RollLaws
+pub mod RulesLaws
+pub mod ToldLaws

@@ -1,39 +1,12 @@
 -- A call that is made, and the entries that stand before those of its acts.
-use Rattle.std.proofs.Common.{◌≡◌, ℕ, ◌+◌, ◌≤◌, Bool, true, false, ◌||◌, cond, List, [], ◌∷◌, ◌++◌, Some, None, refl, ap, sym, ◌∙◌, subst, arith}
-use Rattle.std.specs.Prelude.{Option, IfSome, IsSomeAnd, is_some, is_none}
-use Rattle.pm_exit.specs.declared.child.Kind.{Kind}
-use Rattle.pm_modes.specs.declared.Mode.{Mode}
-use Rattle.pm_modes.specs.declared.Mode.TheVariants as mode
-use Rattle.pm_modes.specs.Strength.{strengthen_of}
-use Rattle.pm_supervisor.specs.declared.Limits.{Limits}
-use Rattle.pm_supervisor.specs.Children.{child_of}
-use Rattle.pm_supervisor.specs.Supervisor.{Shared}
-use Rattle.pm_supervisor.specs.Steps.{SupervisorEvent, Trace, IsRun, all_happened, empty_trace}
-use Rattle.pm_state.specs.declared.action.Action.{Action}
+use Rattle.std.{proofs.Common.{◌≡◌, ℕ, ◌+◌, ◌≤◌, Bool, true, false, ◌||◌, cond, List, [], ◌∷◌, ◌++◌, Some, None, refl, ap, sym, ◌∙◌, subst, arith}, specs.{Prelude.{Option, IfSome, IsSomeAnd, is_some, is_none}, Option.unwrap_or}}
+use Rattle.pm_state.{specs.{pm_exit.declared.child.Kind.Kind, pm_modes.{declared.Mode.Mode, Strength.strengthen_of}, declared.{action.Action.Action, event.PmEvent.PmEvent}, Machine.{MachineEvent, Accepted, Exited, Asked, Ticked, Turned, step, IsReady, IsCounted}, Shows.{Call, Accepts, Asks, Ticks, TakesTurn, IsFit, machine_after, events_in}, Starts.{Owes, has_end, is_report}, Journal.{Replay, Do, EndRedo, AreLegal, all_replayed, replayed, replay_begun, dues, entry_of, entries_of, entries_of_call, all_reported, acts_of_call, settled, AsksSmart}, InStep.{IsInStep, IsTimely, KeepsStep, with_reports, server_state}, Laws.{StaysInStep, TellsOfEachStart, WritesALegalJournal, KeepsItsFacts}}, proofs.ReplayLaws.{legal_behind, legal_front}}
+use Rattle.pm_state.specs.pm_modes.declared.Mode.TheVariants as mode
+use Rattle.pm_supervisor.{specs.{declared.Limits.Limits, Children.child_of, Supervisor.Shared, Steps.{SupervisorEvent, Trace, IsRun, all_happened, empty_trace}, Laws.TakesChildStepsBetween}, proofs.RunLaws.{IsRun-append, all_happened-append}}
 use Rattle.pm_state.specs.declared.action.Action.TheVariants as act
-use Rattle.pm_state.specs.declared.event.PmEvent.{PmEvent}
 use Rattle.pm_state.specs.declared.event.PmEvent.TheVariants as entry
-use Rattle.pm_state.specs.Machine.{MachineEvent, Accepted, Exited, Asked, Ticked, Turned, step, IsReady, IsCounted}
-use Rattle.pm_state.specs.Shows.{Call, Accepts, Asks, Ticks, TakesTurn, IsFit, machine_after, events_in}
-use Rattle.pm_state.specs.Starts.{Owes, has_end, is_report}
-use Rattle.pm_state.specs.Journal.{Replay, Do, EndRedo, AreLegal, all_replayed, replayed, replay_begun, dues, entry_of, entries_of, entries_of_call, all_reported, acts_of_call, settled, AsksSmart}
-use Rattle.pm_state.specs.InStep.{IsInStep, IsTimely, KeepsStep, with_reports, server_state}
-use Rattle.pm_state.specs.Laws.{StaysInStep, TellsOfEachStart, WritesALegalJournal, KeepsItsFacts}
-use Rattle.pm_state.specs.ReplayLaws.{legal_behind, legal_front}
-use Rattle.pm_supervisor.specs.Laws.{TakesChildStepsBetween}
-use Rattle.pm_supervisor.specs.RunLaws.{IsRun-append, all_happened-append}
-use Rattle.std.specs.Option.{unwrap_or}
-use Rattle.pm_journal.specs.declared.exit.ChildExit.{ChildExit}
-use Rattle.pm_outside.specs.Added.{Added}
-use Rattle.pm_outside.specs.AddedLaws.{added_none}
-use Rattle.pm_journal.specs.Standing.{Standing, IsAtRest, noted, nothing_done, called, later, made, ticking, turning, asking, accepting, all_noted, ends_redo, exit_call, exit_entry, exiting, next_pid, decision_on, killed, kill_entry, MayAsk, MayTake}
-use Rattle.pm_journal.specs.Stands.{Remembers, IsComing, Stands, HasPids, HasRun, IsSettled, any_moment, behind}
-use Rattle.pm_journal.proofs.Acting.{told-more, remembers-noted}
-use Rattle.pm_journal.proofs.Pids.{unowed-before, pids-called, pids-asked, pids-accepted, pids-kept, tick-left, tick-asked, turn-left, turn-asked, asked-some, asked-none, asked-left, exit-left, exit-asked, may-end-startup}
-use Rattle.pm_journal.proofs.Rolls.{roll-pid}
-use Rattle.pm_journal.specs.Roll.{kind_in}
-use Rattle.pm_journal.specs.RollLaws.{on-roll}
-use Rattle.pm_journal.specs.NextsLaws.{noted-due}
+use Rattle.pm_supervisor_journal.{specs.{declared.exit.ChildExit.ChildExit, Standing.{Standing, IsAtRest, noted, nothing_done, called, later, made, ticking, turning, asking, accepting, all_noted, ends_redo, exit_call, exit_entry, exiting, next_pid, decision_on, killed, kill_entry, MayAsk, MayTake}, Stands.{Remembers, IsComing, Stands, HasPids, HasRun, IsSettled, any_moment, behind}, Roll.kind_in}, proofs.{Acting.{told-more, remembers-noted}, Pids.{unowed-before, pids-called, pids-asked, pids-accepted, pids-kept, tick-left, tick-asked, turn-left, turn-asked, asked-some, asked-none, asked-left, exit-left, exit-asked, may-end-startup}, Rolls.roll-pid, RollLaws.on-roll, NextsLaws.noted-due}}
+use Rattle.pm_outside.{specs.Added.Added, proofs.AddedLaws.added_none}
 
 abbrev replay_by : Limits → List PmEvent → Replay
 replay_by limits journal = all_replayed (replay_begun limits) journal

@@ -1,20 +1,9 @@
 -- The next act.
-use Rattle.std.proofs.Common.{◌≡◌, ◌-◌, ◌^◌, true, false, List, [], ◌∷◌, Some, None, refl, ap, sym, ◌∙◌, subst, arith}
-use Rattle.std.specs.Prelude.{Option, Ok, Err, ◌<◌, is_some}
-use Rattle.pm_supervisor.specs.declared.Limits.{Limits}
-use Rattle.pm_supervisor.specs.Steps.{Trace}
-use Rattle.pm_state.specs.declared.action.Action.{Action}
+use Rattle.std.{proofs.Common.{◌≡◌, ◌-◌, ◌^◌, true, false, List, [], ◌∷◌, Some, None, refl, ap, sym, ◌∙◌, subst, arith}, specs.Prelude.{Option, Ok, Err, ◌<◌, is_some}}
+use Rattle.pm_state.specs.{pm_supervisor.{declared.Limits.Limits, Steps.Trace}, declared.{action.Action.Action, event.PmEvent.PmEvent}, Starts.Owes, Journal.without_first, Laws.{TellsOfEachStart, WritesALegalJournal}}
 use Rattle.pm_state.specs.declared.action.Action.TheVariants as act
-use Rattle.pm_state.specs.declared.event.PmEvent.{PmEvent}
-use Rattle.pm_state.specs.Starts.{Owes}
-use Rattle.pm_state.specs.Journal.{without_first}
-use Rattle.pm_state.specs.Laws.{TellsOfEachStart, WritesALegalJournal}
-use Rattle.pm_journal.specs.Doing.{HasNumbers, MayReport}
-use Rattle.pm_journal.specs.NextsLaws.{first_is}
+use Rattle.pm_supervisor_journal.{specs.{Doing.{HasNumbers, MayReport}, Standing.{Standing, act_for, done, entry_for, first_due, is_spent, last_generation, next_in, next_of}, Stands.{HasPids, IsSettled, Stands}}, proofs.{NextsLaws.first_is, Acting.{may-report, settled-next, stands-next}}}
 use Rattle.pm_outside.specs.Added.{Added}
-use Rattle.pm_journal.specs.Standing.{Standing, act_for, done, entry_for, first_due, is_spent, last_generation, next_in, next_of}
-use Rattle.pm_journal.specs.Stands.{HasPids, IsSettled, Stands}
-use Rattle.pm_journal.proofs.Acting.{may-report, settled-next, stands-next}
 
 first-none : (acts : List Action) → first_due acts ≡ None → acts ≡ []
 first-none [] is = refl

@@ -1,18 +1,9 @@
 -- What the next act is that is due, and what it leaves.
-use Rattle.std.proofs.Common.{◌≡◌, ℕ, ◌+◌, List, [], ◌∷◌, Option, None, Some, Result, Ok, Err, refl, sym, ap, ◌∙◌, arith, length}
-use Rattle.std.specs.Prelude.{Bool, true, false}
-use Rattle.std.proofs.lemmas.Bool.{eqb-true}
-use Rattle.std.proofs.Math.Bool.{or-false}
-use Rattle.pm_supervisor.specs.declared.Ending.{Ending}
-use Rattle.pm_state.specs.declared.action.Action.{Action}
+use Rattle.std.{proofs.{Common.{◌≡◌, ℕ, ◌+◌, List, [], ◌∷◌, Option, None, Some, Result, Ok, Err, refl, sym, ap, ◌∙◌, arith, length}, lemmas.Bool.eqb-true, Math.Bool.or-false}, specs.Prelude.{Bool, true, false}}
+use Rattle.pm_state.specs.{pm_supervisor.declared.Ending.Ending, declared.{action.Action.Action, event.PmEvent.PmEvent}, Journal.without_first}
 use Rattle.pm_state.specs.declared.action.Action.TheVariants as act
-use Rattle.pm_state.specs.Journal.{without_first}
-use Rattle.pm_state.specs.declared.event.PmEvent.{PmEvent}
-use Rattle.pm_journal.specs.declared.act.Act.{Act}
-use Rattle.pm_journal.specs.declared.act.Act.TheVariants as given
-use Rattle.pm_journal.specs.declared.act.GenerationsSpent.{GenerationsSpent}
-use Rattle.pm_journal.specs.Standing.{Next, Standing, act_for, done, entry_for, first_due, is_spent, next_in, next_of, all_noted, noted}
-use Rattle.pm_journal.specs.Stands.{AtWork}
+use Rattle.pm_supervisor_journal.specs.{declared.act.{Act.Act, GenerationsSpent.GenerationsSpent}, Standing.{Next, Standing, act_for, done, entry_for, first_due, is_spent, next_in, next_of, all_noted, noted}, Stands.AtWork}
+use Rattle.pm_supervisor_journal.specs.declared.act.Act.TheVariants as given
 
 -- ---- the first act
 

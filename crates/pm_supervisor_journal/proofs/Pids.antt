@@ -1,32 +1,12 @@
 -- Once a shutdown was asked for, few children are still started.
-use Rattle.std.proofs.Common.{◌≡◌, ◌≢◌, ℕ, ◌+◌, ◌≤◌, Bool, true, false, ◌||◌, nat_eq, List, [], ◌∷◌, ◌++◌, Some, None, refl, ap, sym, ◌∙◌, arith, length}
-use Rattle.std.specs.Prelude.{Option, is_some, ◌<◌}
-use Rattle.std.proofs.lemmas.Bool.Decides.{nat_tests}
-use Rattle.pm_admit.specs.declared.Cac.{Cac}
-use Rattle.pm_supervisor.specs.Supervisor.{Shared}
-use Rattle.pm_state.specs.Known.{Known}
-use Rattle.pm_state.specs.Machine.{accepted_as, IsCounted}
-use Rattle.pm_exit.specs.declared.child.Kind.{Kind}
-use Rattle.pm_exit.specs.declared.child.Kind.TheVariants as kind
-use Rattle.pm_exit.specs.declared.child.Class.{Class}
-use Rattle.pm_exit.specs.declared.child.Class.TheVariants as class
-use Rattle.pm_exit.specs.Ends.{class_of}
-use Rattle.pm_modes.specs.declared.Mode.{Mode}
-use Rattle.pm_modes.specs.declared.Mode.TheVariants as mode
-use Rattle.pm_modes.specs.Strength.{strengthen_of}
-use Rattle.pm_admit.specs.declared.PmState.TheVariants as state
-use Rattle.pm_state.specs.declared.action.Action.{Action}
+use Rattle.std.{proofs.{Common.{◌≡◌, ◌≢◌, ℕ, ◌+◌, ◌≤◌, Bool, true, false, ◌||◌, nat_eq, List, [], ◌∷◌, ◌++◌, Some, None, refl, ap, sym, ◌∙◌, arith, length}, lemmas.Bool.Decides.nat_tests}, specs.Prelude.{Option, is_some, ◌<◌}}
+use Rattle.pm_state.{specs.{pm_admit.declared.Cac.Cac, pm_supervisor.Supervisor.Shared, Known.Known, Machine.{accepted_as, IsCounted}, pm_exit.{declared.child.{Kind.Kind, Class.Class}, Ends.class_of}, pm_modes.{declared.Mode.Mode, Strength.strengthen_of}, declared.{action.Action.Action, machine.Machine.Machine}, Transition.Transition, Exits.{crash_rule, unless_normal, startup_exited, checkpointer_exited, exited_by, less_one, is_shutdown}, Requests.{asked_with, ticked_at}, TurnRules.{start_recovery, restart_writer, end_smart, stop_backends, backends_gone, dead_ends_gone, children_gone, and_then, turned_of}, Journal.last_pid, Starts.starts_in}, proofs.ChildLaws.accepted_shutdown}
+use Rattle.pm_state.specs.pm_exit.declared.child.Kind.TheVariants as kind
+use Rattle.pm_state.specs.pm_exit.declared.child.Class.TheVariants as class
+use Rattle.pm_state.specs.pm_modes.declared.Mode.TheVariants as mode
+use Rattle.pm_state.specs.pm_admit.declared.PmState.TheVariants as state
 use Rattle.pm_state.specs.declared.action.Action.TheVariants as act
-use Rattle.pm_state.specs.declared.machine.Machine.{Machine}
-use Rattle.pm_state.specs.Transition.{Transition}
-use Rattle.pm_state.specs.Exits.{crash_rule, unless_normal, startup_exited, checkpointer_exited, exited_by, less_one, is_shutdown}
-use Rattle.pm_state.specs.Requests.{asked_with, ticked_at}
-use Rattle.pm_state.specs.TurnRules.{start_recovery, restart_writer, end_smart, stop_backends, backends_gone, dead_ends_gone, children_gone, and_then, turned_of}
-use Rattle.pm_state.specs.Journal.{last_pid}
-use Rattle.pm_state.specs.Starts.{starts_in}
-use Rattle.pm_state.specs.ChildLaws.{accepted_shutdown}
-use Rattle.pm_journal.specs.Standing.{Standing}
-use Rattle.pm_journal.specs.Stands.{HasPids, any_kind, highest_pid, starts_left}
+use Rattle.pm_supervisor_journal.specs.{Standing.Standing, Stands.{HasPids, any_kind, highest_pid, starts_left}}
 
 crash-asked : (m : Machine) (exit : _) → is_some m.shutdown ≡ true → is_some (crash_rule m exit).after.shutdown ≡ true
 unfolding crash_rule

@@ -1,9 +1,7 @@
 -- Laws of the roll.
-use Rattle.std.proofs.Common.{◌≡◌, ℕ, true, false, nat_eq, cond, List, [], ◌∷◌, Some}
-use Rattle.std.specs.Prelude.{IsSomeAnd}
-use Rattle.pm_exit.specs.declared.child.Kind.{Kind}
-use Rattle.pm_supervisor.specs.Children.{Child, child_of}
-use Rattle.pm_journal.specs.Roll.{kind_in, roll_of}
+use Rattle.std.{proofs.Common.{◌≡◌, ℕ, true, false, nat_eq, cond, List, [], ◌∷◌, Some}, specs.Prelude.IsSomeAnd}
+use Rattle.pm_supervisor.specs.{pm_exit.declared.child.Kind.Kind, Children.{Child, child_of}}
+use Rattle.pm_supervisor_journal.specs.Roll.{kind_in, roll_of}
 
 -- a child on the roll is there
 pub on-roll : (pid : ℕ) (k : Kind) (cs : List Child) → kind_in pid (roll_of cs) ≡ Some k → IsSomeAnd (child_of pid cs) (λ c. c.kind ≡ k)

@@ -1,13 +1,8 @@
 -- The roll, and the supervisor's children.
-use Rattle.std.proofs.Common.{◌≡◌, ℕ, ◌+◌, ◌<◌, true, false, nat_eq, cond, List, [], ◌∷◌, ◌++◌, Some, None, refl, ap, sym, ◌≤◌, suc, length, take, drop, get_or, arith, zero}
-use Rattle.std.specs.Prelude.{position, not, nat_lt, is_some, IsSomeAnd}
+use Rattle.std.{proofs.{Common.{◌≡◌, ℕ, ◌+◌, ◌<◌, true, false, nat_eq, cond, List, [], ◌∷◌, ◌++◌, Some, None, refl, ap, sym, ◌≤◌, suc, length, take, drop, get_or, arith, zero}, lemmas.{List.Quantifiers.position-Some, Bool.Decides.nat_tests}}, specs.{Prelude.{position, not, nat_lt, is_some, IsSomeAnd}, List.position_or_len}}
 use Rattle.pm_supervisor.specs.Children.{Child, child_of}
 use Rattle.pm_supervisor.specs.Children as children
-use Rattle.std.specs.List.{position_or_len}
-use Rattle.std.proofs.lemmas.List.Quantifiers.{position-Some}
-use Rattle.pm_journal.specs.declared.roll.Enrolled.{Enrolled}
-use Rattle.std.proofs.lemmas.Bool.Decides.{nat_tests}
-use Rattle.pm_journal.specs.Roll.{kind_in, without, roll_of}
+use Rattle.pm_supervisor_journal.specs.{declared.roll.Enrolled.Enrolled, Roll.{kind_in, without, roll_of}}
 
 without-place : (pid : ℕ) (xs : List Enrolled) (k : ℕ) (d : Enrolled) → k < length xs → nat_eq (get_or xs k d).pid pid ≡ true
     → ((j : ℕ) → j < k → nat_eq (get_or xs j d).pid pid ≡ false) → take k xs ++ drop (suc k) xs ≡ without pid xs

@@ -1,26 +1,12 @@
 -- What the machine asks for.
-use Rattle.std.proofs.Common.{ℕ, Option, None, Some, List, [], ◌∷◌, ◌++◌, ◌≡◌, refl, sym, ◌∙◌, ap}
-use Rattle.std.specs.Prelude.{Bool, true, false, if◌then◌else◌, not, ◌&&◌, ◌||◌, is_some, ◌==◌}
-use Rattle.pm_modes.specs.declared.Mode.TheVariants.{Smart, Fast, Immediate}
-use Rattle.pm_admit.specs.declared.PmState.{PmState}
-use Rattle.pm_admit.specs.declared.PmState.TheVariants as state
-use Rattle.pm_state.specs.declared.machine.Machine.{Machine}
-use Rattle.pm_state.specs.Requests.{asked_in, asked_with}
-use Rattle.pm_journal.specs.Due.{AreSays, AreOurs}
-use Rattle.pm_modes.specs.declared.Mode.{Mode}
-use Rattle.pm_modes.specs.Strength.{strengthen_of, is_immediate}
-use Rattle.pm_state.specs.declared.action.Action.{Action}
+use Rattle.std.{proofs.Common.{ℕ, Option, None, Some, List, [], ◌∷◌, ◌++◌, ◌≡◌, refl, sym, ◌∙◌, ap}, specs.Prelude.{Bool, true, false, if◌then◌else◌, not, ◌&&◌, ◌||◌, is_some, ◌==◌}}
+use Rattle.pm_state.specs.{pm_modes.{declared.Mode.{TheVariants.{Smart, Fast, Immediate}, Mode}, Strength.{strengthen_of, is_immediate}}, pm_admit.{declared.PmState.PmState, Admission.is_startup}, declared.{machine.Machine.Machine, action.Action.Action}, Requests.{asked_in, asked_with}, Exits.{crash_rule, is_running, signalled_state, startup_exited, without_startup, unless_normal, checkpointer_exited, exited_by, is_shutdown, less_one}, Transition.Transition, pm_exit.{Ends.{is_exit_0, is_exit_1, class_of}, declared.child.{Class.Class, Kind.Kind}}, TurnRules.{start_recovery_in, start_recovery, restart_writer_in, restart_writer, end_smart_in, end_smart, stop_backends_in, stop_backends, are_backends_gone, backends_gone_in, backends_gone, dead_ends_gone_in, dead_ends_gone, children_gone_in, children_gone, and_then, turned_of}}
+use Rattle.pm_state.specs.pm_admit.declared.PmState.TheVariants as state
+use Rattle.pm_supervisor_journal.specs.Due.{AreSays, AreOurs}
 use Rattle.pm_state.specs.declared.action.Action.TheVariants as act
-use Rattle.pm_state.specs.Exits.{crash_rule, is_running, signalled_state, startup_exited, without_startup, unless_normal, checkpointer_exited, exited_by, is_shutdown, less_one}
-use Rattle.pm_state.specs.Transition.{Transition}
-use Rattle.pm_exit.specs.Ends.{is_exit_0, is_exit_1, class_of}
-use Rattle.pm_admit.specs.Admission.{is_startup}
-use Rattle.pm_exit.specs.declared.child.Class.{Class}
-use Rattle.pm_exit.specs.declared.child.Class.TheVariants as class
-use Rattle.pm_exit.specs.declared.child.Kind.{Kind}
-use Rattle.pm_exit.specs.declared.child.Kind.TheVariants as kind
-use Rattle.pm_supervisor.specs.declared.Ending.TheVariants as endings
-use Rattle.pm_state.specs.TurnRules.{start_recovery_in, start_recovery, restart_writer_in, restart_writer, end_smart_in, end_smart, stop_backends_in, stop_backends, are_backends_gone, backends_gone_in, backends_gone, dead_ends_gone_in, dead_ends_gone, children_gone_in, children_gone, and_then, turned_of}
+use Rattle.pm_state.specs.pm_exit.declared.child.Class.TheVariants as class
+use Rattle.pm_state.specs.pm_exit.declared.child.Kind.TheVariants as kind
+use Rattle.pm_state.specs.pm_supervisor.declared.Ending.TheVariants as endings
 
 -- ---- a request
 

@@ -1,12 +1,8 @@
 -- Where a supervisor stands over its journal, whether that is told or not.
-use Rattle.std.proofs.Common.{◌≡◌, List, ◌++◌, Option, None, Some, sym, ◌∙◌, ap, subst}
-use Rattle.std.specs.Prelude.{IfSome}
-use Rattle.pm_supervisor.specs.declared.Limits.{Limits}
-use Rattle.pm_supervisor.specs.Steps.{Trace}
-use Rattle.pm_state.specs.declared.event.PmEvent.{PmEvent}
+use Rattle.std.{proofs.Common.{◌≡◌, List, ◌++◌, Option, None, Some, sym, ◌∙◌, ap, subst}, specs.Prelude.IfSome}
+use Rattle.pm_state.specs.{pm_supervisor.{declared.Limits.Limits, Steps.Trace}, declared.event.PmEvent.PmEvent}
 use Rattle.pm_outside.specs.Added.{Added}
-use Rattle.pm_journal.specs.Standing.{Standing}
-use Rattle.pm_journal.specs.Stands.{Stands}
+use Rattle.pm_supervisor_journal.specs.{Standing.Standing, Stands.Stands}
 
 tells : (told : Option (List PmEvent)) (journal other : List PmEvent) → IfSome told (λ es. es ≡ journal) → journal ≡ other → IfSome told (λ es. es ≡ other)
 tells None journal other is same = tt

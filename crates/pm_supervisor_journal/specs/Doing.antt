@@ -1,12 +1,9 @@
 -- What an act needs before it is done.
 use Rattle.std.specs.Prelude.{◌≡◌, ℕ, ◌<◌, ◌-◌, ◌^◌, false}
-use Rattle.pm_state.specs.declared.action.Action.{Action}
+use Rattle.pm_state.specs.{declared.{action.Action.Action, event.PmEvent.PmEvent, machine.Machine.Machine}, Machine.IsDue}
 use Rattle.pm_state.specs.declared.action.Action.TheVariants as action
-use Rattle.pm_state.specs.declared.event.PmEvent.{PmEvent}
 use Rattle.pm_state.specs.declared.event.PmEvent.TheVariants as entry
-use Rattle.pm_state.specs.declared.machine.Machine.{Machine}
-use Rattle.pm_state.specs.Machine.{IsDue}
-use Rattle.pm_journal.specs.Standing.{Standing, last_generation}
+use Rattle.pm_supervisor_journal.specs.Standing.{Standing, last_generation}
 
 -- there is a further pid, or a further generation, where the act draws one
 abbrev pub HasNumbers : Action → Standing → Type 0

@@ -1,10 +1,9 @@
 -- The acts and requests that are due of a supervisor at work.
 use Rattle.std.specs.Prelude.{ℕ, nat_le, Bool, ◌≡◌, List, false, [], ◌∷◌}
-use Rattle.pm_supervisor.specs.declared.Ending.TheVariants as endings
-use Rattle.pm_state.specs.declared.action.Action.{Action}
+use Rattle.pm_state.specs.pm_supervisor.declared.Ending.TheVariants as endings
+use Rattle.pm_state.specs.{declared.action.Action.Action, Journal.last_pid}
 use Rattle.pm_state.specs.declared.action.Action.TheVariants as act
-use Rattle.pm_state.specs.Journal.{last_pid}
-use Rattle.pm_journal.specs.Standing.{Standing, IsAtRest}
+use Rattle.pm_supervisor_journal.specs.Standing.{Standing, IsAtRest}
 
 -- the last pid was drawn
 abbrev pub is_last_drawn : ℕ → Bool

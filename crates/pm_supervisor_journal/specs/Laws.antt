@@ -1,19 +1,7 @@
 -- The laws of a supervisor at work, one for each function of `laws.rt`, whose contract it is.
 use Rattle.std.specs.Prelude.{◌≡◌, ℕ, ◌≤◌, Bool, true, false, List, [], ◌∷◌, ◌++◌, Option, Some, unwrap_or, is_some}
-use Rattle.pm_modes.specs.declared.Mode.{Mode}
-use Rattle.pm_supervisor.specs.declared.Limits.{Limits}
-use Rattle.pm_supervisor.specs.Between.{is_child_step}
-use Rattle.pm_supervisor.specs.Steps.{SupervisorEvent, Trace, MayHappen, empty_trace, happened}
-use Rattle.pm_state.specs.declared.event.PmEvent.{PmEvent}
-use Rattle.pm_state.specs.declared.action.Action.{Action}
-use Rattle.pm_state.specs.Journal.{Replay, IsLegal, all_replayed, all_reported, entries_of_call, replay_begun}
-use Rattle.pm_state.specs.InStep.{IsInStep}
-use Rattle.pm_state.specs.Facts.{Holds}
-use Rattle.pm_journal.specs.Moments.{AreGiven}
-use Rattle.pm_journal.specs.declared.exit.ChildExit.{ChildExit}
-use Rattle.pm_journal.specs.Roll.{kind_in}
-use Rattle.pm_journal.specs.Standing.{Standing, IsAtRest, Making, MayAsk, MayTake, accepting, asking, done, entry_for, exiting, first_due, kill_entry, killed, made, nothing_done, ticking, turning}
-use Rattle.pm_journal.specs.Stands.{IsSettled, Stands, any_moment, behind, entries_due, highest_pid}
+use Rattle.pm_state.specs.{pm_modes.declared.Mode.Mode, pm_supervisor.{declared.Limits.Limits, Between.is_child_step, Steps.{SupervisorEvent, Trace, MayHappen, empty_trace, happened}}, declared.{event.PmEvent.PmEvent, action.Action.Action}, Journal.{Replay, IsLegal, all_replayed, all_reported, entries_of_call, replay_begun}, InStep.IsInStep, Facts.Holds}
+use Rattle.pm_supervisor_journal.specs.{Moments.AreGiven, declared.exit.ChildExit.ChildExit, Roll.kind_in, Standing.{Standing, IsAtRest, Making, MayAsk, MayTake, accepting, asking, done, entry_for, exiting, first_due, kill_entry, killed, made, nothing_done, ticking, turning}, Stands.{IsSettled, Stands, any_moment, behind, entries_due, highest_pid}}
 
 pub record KeepsALegalJournal : Type 0 where
   -- at every moment, also while acts are due

@@ -1,13 +1,12 @@
 pub mod Doing
 pub mod Due
-pub mod EndsLaws
 pub mod Laws
 pub mod Moments
-pub mod NextsLaws
 pub mod Roll
-pub mod RollLaws
-pub mod RulesLaws
 pub mod Standing
 pub mod Stands
 pub mod Supervision
-pub mod ToldLaws
+pub use Rattle.pm_outside.specs as pm_outside
+pub use Rattle.pm_exit.specs as pm_exit
+pub use Rattle.pm_supervisor.specs as pm_supervisor
+pub use Rattle.pm_state.specs as pm_state

@@ -1,8 +1,7 @@
 -- The children that are there, by their pids.
 use Rattle.std.specs.Prelude.{ℕ, ◌==◌, if◌then◌else◌, List, [], ◌∷◌, Option, Some, None}
-use Rattle.pm_exit.specs.declared.child.Kind.{Kind}
-use Rattle.pm_supervisor.specs.Children.{Child}
-use Rattle.pm_journal.specs.declared.roll.Enrolled.{Enrolled}
+use Rattle.pm_supervisor.specs.{pm_exit.declared.child.Kind.Kind, Children.Child}
+use Rattle.pm_supervisor_journal.specs.declared.roll.Enrolled.{Enrolled}
 
 -- what the child with this pid is for
 abbrev pub kind_in : ℕ → List Enrolled → Option Kind

@@ -1,31 +1,11 @@
 -- Where a supervisor at work stands, and what its calls and acts leave.
 use Rattle.std.specs.Prelude.{◌≡◌, ℕ, ◌+◌, ◌<◌, max, Bool, false, ◌==◌, ◌&&◌, ◌||◌, if◌then◌else◌, List, [], ◌∷◌, Option, Some, None, Result, Ok, Err, unwrap_or}
-use Rattle.pm_exit.specs.declared.child.Kind.{Kind}
-use Rattle.pm_exit.specs.Ends.{is_exit_0}
-use Rattle.pm_modes.specs.declared.Mode.{Mode}
-use Rattle.pm_modes.specs.declared.Mode.TheVariants as mode
-use Rattle.pm_admit.specs.declared.Cac.{Cac}
-use Rattle.pm_admit.specs.Admission.{decide_of}
-use Rattle.pm_supervisor.specs.declared.Limits.{Limits}
-use Rattle.pm_supervisor.specs.Children.{is_startup_child}
-use Rattle.pm_supervisor.specs.Supervisor.{Shared, first}
-use Rattle.pm_supervisor.specs.Steps.{kind_for}
-use Rattle.pm_state.specs.declared.action.Action.{Action}
+use Rattle.pm_state.specs.{pm_exit.{declared.child.Kind.Kind, Ends.is_exit_0}, pm_modes.declared.Mode.Mode, pm_admit.{declared.Cac.Cac, Admission.decide_of}, pm_supervisor.{declared.Limits.Limits, Children.is_startup_child, Supervisor.{Shared, first}, Steps.kind_for}, declared.{action.Action.Action, event.PmEvent.PmEvent, machine.Machine.Machine}, Machine.{begun, view_of, MayAccept}, Shows.{Call, Accepts, Exits, Asks, Ticks, TakesTurn, machine_after}, Starts.has_end, Journal.{Do, last_pid, acts_of_call, all_reported, asks_after, entry_of, moment_after, without_first}}
+use Rattle.pm_state.specs.pm_modes.declared.Mode.TheVariants as mode
 use Rattle.pm_state.specs.declared.action.Action.TheVariants as action
-use Rattle.pm_state.specs.declared.event.PmEvent.{PmEvent}
 use Rattle.pm_state.specs.declared.event.PmEvent.TheVariants as entry
-use Rattle.pm_state.specs.declared.machine.Machine.{Machine}
-use Rattle.pm_state.specs.Machine.{begun, view_of, MayAccept}
-use Rattle.pm_state.specs.Shows.{Call, Accepts, Exits, Asks, Ticks, TakesTurn, machine_after}
-use Rattle.pm_state.specs.Starts.{has_end}
-use Rattle.pm_state.specs.Journal.{Do, last_pid, acts_of_call, all_reported, asks_after, entry_of, moment_after, without_first}
-use Rattle.pm_journal.specs.declared.act.Act.{Act}
-use Rattle.pm_journal.specs.declared.act.Act.TheVariants as act
-use Rattle.pm_journal.specs.declared.act.GenerationsSpent.{GenerationsSpent}
-use Rattle.pm_journal.specs.declared.exit.ChildExit.{ChildExit}
-use Rattle.pm_journal.specs.declared.memory.Memory.{Memory}
-use Rattle.pm_journal.specs.declared.roll.Enrolled.{Enrolled}
-use Rattle.pm_journal.specs.Roll.{without}
+use Rattle.pm_supervisor_journal.specs.{declared.{act.{Act.Act, GenerationsSpent.GenerationsSpent}, exit.ChildExit.ChildExit, memory.Memory.Memory, roll.Enrolled.Enrolled}, Roll.without}
+use Rattle.pm_supervisor_journal.specs.declared.act.Act.TheVariants as act
 
 pub record Standing : Type 0 where
   pub machine : Machine

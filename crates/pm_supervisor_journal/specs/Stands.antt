@@ -1,19 +1,8 @@
 -- What holds of a supervisor at work at every moment.
 use Rattle.std.specs.Prelude.{◌≡◌, ℕ, ◌+◌, ◌<◌, ◌≤◌, Bool, true, false, ◌||◌, if◌then◌else◌, List, ◌∷◌, Option, IfSome, is_some}
-use Rattle.pm_exit.specs.declared.child.Kind.{Kind}
-use Rattle.pm_modes.specs.Strength.{is_immediate}
-use Rattle.pm_admit.specs.declared.PmState.{PmState}
-use Rattle.pm_admit.specs.declared.PmState.TheVariants as state
-use Rattle.pm_supervisor.specs.declared.Limits.{Limits}
-use Rattle.pm_supervisor.specs.Steps.{SupervisorEvent, Trace, IsRun, all_happened, empty_trace}
-use Rattle.pm_state.specs.declared.event.PmEvent.{PmEvent}
-use Rattle.pm_state.specs.declared.machine.Machine.{Machine}
-use Rattle.pm_state.specs.Shows.{Call, events_of_call, events_in}
-use Rattle.pm_state.specs.Starts.{Owes, has_end, starts_in}
-use Rattle.pm_state.specs.Journal.{Replay, IsLegal, AreLegal, acts_of_call, all_replayed, all_reported, dues, entries_of, last_pid, replay_begun, settled}
-use Rattle.pm_state.specs.InStep.{IsInStep, reports_of}
-use Rattle.pm_journal.specs.Roll.{roll_of}
-use Rattle.pm_journal.specs.Standing.{Standing}
+use Rattle.pm_state.specs.{pm_exit.declared.child.Kind.Kind, pm_modes.Strength.is_immediate, pm_admit.declared.PmState.PmState, pm_supervisor.{declared.Limits.Limits, Steps.{SupervisorEvent, Trace, IsRun, all_happened, empty_trace}}, declared.{event.PmEvent.PmEvent, machine.Machine.Machine}, Shows.{Call, events_of_call, events_in}, Starts.{Owes, has_end, starts_in}, Journal.{Replay, IsLegal, AreLegal, acts_of_call, all_replayed, all_reported, dues, entries_of, last_pid, replay_begun, settled}, InStep.{IsInStep, reports_of}}
+use Rattle.pm_state.specs.pm_admit.declared.PmState.TheVariants as state
+use Rattle.pm_supervisor_journal.specs.{Roll.roll_of, Standing.Standing}
 
 -- every moment may stand in the journal
 abbrev pub any_moment : ℕ → Bool

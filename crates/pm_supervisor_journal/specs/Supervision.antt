@@ -1,9 +1,7 @@
 -- What clauses see of a supervisor at work.
 use Rattle.std.specs.Prelude.{ℕ, ◌≤◌, List, Option}
 use Rattle.pm_state.specs.declared.event.PmEvent.{PmEvent}
-use Rattle.pm_journal.specs.declared.supervision.Supervision.{Supervision}
-use Rattle.pm_journal.specs.Standing.{Standing, standing_of}
-use Rattle.pm_journal.specs.Stands.{AtWork}
+use Rattle.pm_supervisor_journal.specs.{declared.supervision.Supervision.Supervision, Standing.{Standing, standing_of}, Stands.AtWork}
 
 abbrev pub standing : {J : Type 0} {g : _} → Supervision J g → Standing
 standing s = standing_of s.memory

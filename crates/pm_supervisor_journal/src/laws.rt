@@ -1,8 +1,7 @@
 //! The laws on which a supervisor at work stands.
 
-ghost use Rattle.pm_supervisor.specs.Laws.{TakesChildStepsBetween};
-ghost use Rattle.pm_journal.specs.Laws.{GoesOnOverItsJournal, KeepsALegalJournal, NotesWhatIsDue};
-ghost use Rattle.pm_state.specs.Laws.{KeepsItsFacts, StaysInStep, TellsOfEachStart, WritesALegalJournal};
+ghost use Rattle.pm_state.specs.{pm_supervisor.Laws.TakesChildStepsBetween, Laws.{KeepsItsFacts, StaysInStep, TellsOfEachStart, WritesALegalJournal}};
+ghost use Rattle.pm_supervisor_journal.specs.Laws.{GoesOnOverItsJournal, KeepsALegalJournal, NotesWhatIsDue};
 
 use pm_state::{keeps_its_facts, stays_in_step, tells_of_each_start, writes_a_legal_journal};
 use pm_supervisor::takes_child_steps_between;

@@ -1,7 +1,7 @@
 //! What a supervisor at work remembers beside its journal.
 
 ghost use Rattle.std.specs.Prelude.{◌≡◌, ◌≤◌, length};
-ghost use Rattle.pm_supervisor.specs.Steps.{kind_for};
+ghost use Rattle.pm_state.specs.pm_supervisor.Steps.{kind_for};
 
 use crate::act::Act;
 use crate::exit::ChildExit;
@@ -41,11 +41,8 @@ pub(crate) struct Memory {
 
 impl Memory {
     ghost use Rattle.std.specs.Prelude.{◌≡◌, ℕ, ◌+◌, ◌≤◌, ◌<◌, [], ◌∷◌, length, max, false, OnOk, IfSome, IsTrue, ◌↔◌};
-    ghost use Rattle.pm_state.specs.declared.action.Action.{Action};
-    ghost use Rattle.pm_state.specs.Machine.{MayAccept};
-    ghost use Rattle.pm_state.specs.Machine.{IsReady, IsCounted};
-    ghost use Rattle.pm_state.specs.Shows.{Accepts, Asks, Ticks, TakesTurn};
-    ghost use Rattle.pm_journal.specs.Standing.{standing_of, nothing_done, called, decision_on, exit_call, next_pid, owing, MayTake};
+    ghost use Rattle.pm_state.specs.{declared.action.Action.Action, Machine.{MayAccept, IsReady, IsCounted}, Shows.{Accepts, Asks, Ticks, TakesTurn}};
+    ghost use Rattle.pm_supervisor_journal.specs.Standing.{standing_of, nothing_done, called, decision_on, exit_call, next_pid, owing, MayTake};
 
     pub(crate) fn new(alloc: Global, limits: Limits) -> Self
         requires within { limits.max_connections + limits.max_worker_processes ≤ 200 }
@@ -168,11 +165,8 @@ impl Memory {
 
 impl Memory {
     ghost use Rattle.std.specs.Prelude.{◌≡◌, ℕ, ◌+◌, ◌≤◌, ◌<◌, ◌||◌, List, [], ◌∷◌, Option, Some, None, false, length};
-    ghost use Rattle.pm_state.specs.declared.action.Action.TheVariants.{Reset};
-    ghost use Rattle.pm_state.specs.Journal.{all_reported};
-    ghost use Rattle.pm_state.specs.Starts.{has_end};
-    ghost use Rattle.pm_journal.specs.Standing.{standing_of, noted, enrolled, act_for, entry_for, is_spent, first_due, last_generation, reported};
-    ghost use Rattle.pm_journal.specs.Doing.{HasNumbers, MayReport, room_for};
+    ghost use Rattle.pm_state.specs.{declared.action.Action.TheVariants.Reset, Journal.all_reported, Starts.has_end};
+    ghost use Rattle.pm_supervisor_journal.specs.{Standing.{standing_of, noted, enrolled, act_for, entry_for, is_spent, first_due, last_generation, reported}, Doing.{HasNumbers, MayReport, room_for}};
 
     // What an entry changes of what is remembered.
     pub(crate) fn remember(&mut self, entry: PmEvent)

@@ -1,7 +1,6 @@
 //! The children that are there.
 
-ghost use Rattle.std.specs.Prelude.{◌+◌, ◌≤◌};
-ghost use Rattle.std.specs.Vec.{vec_len, vec_capacity};
+ghost use Rattle.std.specs.{Prelude.{◌+◌, ◌≤◌}, Vec.{vec_len, vec_capacity}};
 
 use pm_exit::Kind;
 use std::alloc::{AllocError, Global};
@@ -25,7 +24,7 @@ pub(crate) struct Roll {
 
 impl Roll {
     ghost use Rattle.std.specs.Prelude.{◌≡◌, ◌≤◌, ◌+◌, ◌==◌, [], ◌∷◌, OnOk, position};
-    ghost use Rattle.pm_journal.specs.Roll.{kind_in, without};
+    ghost use Rattle.pm_supervisor_journal.specs.Roll.{kind_in, without};
 
     pub(crate) fn new(alloc: Global) -> Self
         ensures children { result.children.items ≡ [] }

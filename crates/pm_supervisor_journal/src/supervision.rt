@@ -38,15 +38,9 @@ pub struct Supervision<J: Chronicle<PmEvent>> {
 
 impl<J: Chronicle<PmEvent>> Supervision<J> {
     ghost use Rattle.std.specs.Prelude.{◌≡◌, ◌+◌, ◌≤◌, ◌<◌, ◌^◌, ◌↔◌, ℕ, [], ◌∷◌, false, true, Option, Some, Ok, IfOk, IfSome, IsTrue, OnOk, OnErr, IsSome};
-    ghost use Rattle.pm_exit.specs.declared.child.Kind.{Kind};
-    ghost use Rattle.pm_supervisor.specs.declared.Limits.{Limits};
-    ghost use Rattle.pm_supervisor.specs.Steps.{empty_trace};
-    ghost use Rattle.pm_journal.specs.declared.act.Act.TheVariants.{Start};
-    ghost use Rattle.pm_journal.specs.Roll.{kind_in};
+    ghost use Rattle.pm_supervisor.specs.{pm_exit.declared.child.Kind.Kind, declared.Limits.Limits, Steps.empty_trace};
+    ghost use Rattle.pm_supervisor_journal.specs.{declared.act.Act.TheVariants.Start, Roll.kind_in, Standing.{IsAtRest, MayTake, MayAsk, accepting, all_noted, exit_entry, redo_entries, asking, decision_on, ends_redo, exiting, made, next_of, next_pid, killed, kill_entry, nothing_done, ticking, turning}, Supervision.{HasRoom, at_work, standing, told}, Stands.{GoesOn, GoesOnBy, HasPast, IsSettled, Stands}};
     ghost use Rattle.pm_outside.specs.Added.{Added};
-    ghost use Rattle.pm_journal.specs.Standing.{IsAtRest, MayTake, MayAsk, accepting, all_noted, exit_entry, redo_entries, asking, decision_on, ends_redo, exiting, made, next_of, next_pid, killed, kill_entry, nothing_done, ticking, turning};
-    ghost use Rattle.pm_journal.specs.Supervision.{HasRoom, at_work, standing, told};
-    ghost use Rattle.pm_journal.specs.Stands.{GoesOn, GoesOnBy, HasPast, IsSettled, Stands};
 
     /// A server before its start, over a journal without entries.
     pub fn new(alloc: Global, limits: Limits, journal: J) -> Self

@@ -1,10 +1,6 @@
 -- Behind the last act none is due.
-use Rattle.std.proofs.Common.{◌≡◌, Bool, true, false, List, [], ◌∷◌, None, refl, ap, ◌∙◌}
-use Rattle.std.specs.Prelude.{Option, Result, Ok, if◌then◌else◌}
-use Rattle.pm_state.specs.declared.action.Action.{Action}
-use Rattle.pm_journal.specs.declared.act.Act.{Act}
-use Rattle.pm_journal.specs.declared.act.GenerationsSpent.{GenerationsSpent}
-use Rattle.pm_journal.specs.Standing.{Standing, Next, is_spent, next_in, next_of}
+use Rattle.std.{proofs.Common.{◌≡◌, Bool, true, false, List, [], ◌∷◌, None, refl, ap, ◌∙◌}, specs.Prelude.{Option, Result, Ok, if◌then◌else◌}}
+use Rattle.pm_supervisor_journal.specs.{pm_state.declared.action.Action.Action, declared.act.{Act.Act, GenerationsSpent.GenerationsSpent}, Standing.{Standing, Next, is_spent, next_in, next_of}}
 
 abbrev is_none : Result (Option Act) GenerationsSpent → Bool
 is_none (Ok None) = true

@@ -1,7 +1,6 @@
 -- When calls of a supervisor at work may be made.
 use Rattle.std.specs.Prelude.{◌≡◌, false, []}
-use Rattle.pm_journal.specs.Standing.{Standing}
-use Rattle.pm_journal.specs.Stands.{AtWork, HasPast}
+use Rattle.pm_supervisor_journal.specs.{Standing.Standing, Stands.{AtWork, HasPast}}
 
 -- it has come to where it stands from its start, and all of its acts are done
 abbrev pub IsServing : AtWork → Type 0

@@ -1,14 +1,13 @@
 //! A server without processes, over the servers' machine: it tells its supervisor what happens, and an act is done once it is noted.
 ghost use Rattle.std.specs.Prelude.{◌+◌, ◌≤◌, IfSome, IsTrue, OnOk};
-ghost use Rattle.pm_journal.specs.Stands.{HasPast, IsSettled};
-ghost use Rattle.pm_journal.specs.Supervision.{at_work, standing};
+ghost use Rattle.pm_supervisor_journal.specs.{Stands.{HasPast, IsSettled}, Supervision.{at_work, standing}};
 ghost use Rattle.pm_supervisor_tests.specs.Serving.{IsServing, IsUnowed};
 
 use pm_exit::Status;
-use pm_journal::{ChildExit, Supervision};
 use pm_modes::Mode;
 use pm_outside::Kept;
 use pm_state::{Limits, PmEvent};
+use pm_supervisor_journal::{ChildExit, Supervision};
 use std::alloc::Global;
 use std::test::Fail;
 

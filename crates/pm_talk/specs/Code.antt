@@ -1,7 +1,6 @@
 -- With which code the program ends where not all was asked and answered.
 use Rattle.std.specs.Prelude.{ℕ}
-use Rattle.pm_talk.specs.declared.fault.Fault.{Fault}
-use Rattle.pm_talk.specs.declared.fault.Fault.TheVariants.{Usage, Start, Input, Line, Refused, LinkEnded, Link, Out, Reply, NoMemory}
+use Rattle.pm_talk.specs.declared.fault.Fault.{Fault, TheVariants.{Usage, Start, Input, Line, Refused, LinkEnded, Link, Out, Reply, NoMemory}}
 
 abbrev pub exit_code : Fault → ℕ
 exit_code Usage = 2

@@ -1,6 +1,5 @@
 -- The number of a port as a word.
-use Rattle.std.specs.Prelude.{◌≡◌, ◌≤◌, ℕ, List, length}
-use Rattle.std.specs.Str.Parse.{IsNumeral, digits_value}
+use Rattle.std.specs.{Prelude.{◌≡◌, ◌≤◌, ℕ, List, length}, Str.Parse.{IsNumeral, digits_value}}
 
 -- from 1 to 65535, in one to ten digits
 pub record IsPort (number : ℕ) (word : List ℕ) : Type 0 where

@@ -9,7 +9,7 @@ use crate::fault::Fault;
 use crate::input::{read_input, texts_of};
 use crate::words::read_words;
 use pm_client::{Means, Played, play};
-use pm_standard::{StandardLink, StandardSink, SystemClock, fill_standard_streams};
+use pm_outside_streams::{StandardLink, StandardSink, SystemClock, fill_standard_streams};
 use std::env;
 use std::io::ErrorKind;
 use std::net::{Net, TcpStream};

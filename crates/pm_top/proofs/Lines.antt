@@ -1,10 +1,7 @@
 -- Words are one line alone.
 use Rattle.std.proofs.Common.{◌≡◌, ℕ, List}
-use Rattle.pm_words.specs.declared.words.Command.TheVariants.{Serve}
+use Rattle.pm_top_words.specs.{declared.words.Command.{TheVariants.Serve, Command}, pm_server.declared.conf.Conf.Conf, Words.{AreNoLine, IsLine, IsOnlyLine}}
 use Rattle.pm_top.specs.Serve.{IsServeLine}
-use Rattle.pm_server.specs.declared.conf.Conf.{Conf}
-use Rattle.pm_words.specs.declared.words.Command.{Command}
-use Rattle.pm_words.specs.Words.{AreNoLine, IsLine, IsOnlyLine}
 
 pub no_line : {C : Type 0} (words : List (List ℕ)) (command : Command) (dir : List ℕ) → AreNoLine words → IsLine words command dir → C
 no_line words command dir none line = absurd (none command dir line.0 line.1)

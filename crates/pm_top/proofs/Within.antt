@@ -1,13 +1,7 @@
 -- The options of a line stay within what a server can have.
-use Rattle.std.proofs.Common.{◌≡◌, ℕ, ◌+◌, ◌≤◌, List, [], ◌∷◌, Option, None, Some, sym, subst, arith}
-use Rattle.std.specs.Option.{option_map}
-use Rattle.std.specs.Prelude.{unwrap_or}
-use Rattle.pm_server.specs.declared.conf.Conf.{Conf}
-use Rattle.pm_words.specs.declared.words.Command.{Command}
-use Rattle.pm_words.specs.declared.words.Command.TheVariants as command
-use Rattle.pm_words.specs.declared.words.Verb.{Verb}
-use Rattle.pm_words.specs.declared.words.Verb.TheVariants.{Initdb, Once, Serve, Controldata, Workload}
-use Rattle.pm_words.specs.Words.{Choice, Data, Port, MaxConnections, RestartAfterCrash, AuthenticationTimeout, Number, Choose, Chosen, IsLineWith, Says, command_of, nothing, with_choice}
+use Rattle.std.{proofs.Common.{◌≡◌, ℕ, ◌+◌, ◌≤◌, List, [], ◌∷◌, Option, None, Some, sym, subst, arith}, specs.{Option.option_map, Prelude.unwrap_or}}
+use Rattle.pm_top_words.specs.{pm_server.declared.conf.Conf.Conf, declared.words.{Command.Command, Verb.{Verb, TheVariants.{Initdb, Once, Serve, Controldata, Workload}}}, Words.{Choice, Data, Port, MaxConnections, RestartAfterCrash, AuthenticationTimeout, Number, Choose, Chosen, IsLineWith, Says, command_of, nothing, with_choice}}
+use Rattle.pm_top_words.specs.declared.words.Command.TheVariants as command
 
 -- from one to 64 connections were asked for
 abbrev IsFew : Chosen → Type 0

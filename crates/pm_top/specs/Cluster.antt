@@ -1,8 +1,7 @@
 -- What `initdb` makes, and what a command leaves alone.
 use Rattle.std.specs.Prelude.{IfSome}
 use Rattle.pm_log.specs.Init.{HasOpen, IsNewCluster, IsUntouched}
-use Rattle.pm_record.specs.Found.{IsClosed}
-use Rattle.pm_server.specs.Views.{DiskView}
+use Rattle.pm_server.specs.{pm_record.Found.IsClosed, Views.DiskView}
 
 -- where the disk tells its files, they are a cluster of no commits, and durable
 abbrev pub HasNewCluster : DiskView → Type 0

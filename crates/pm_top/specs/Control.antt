@@ -1,12 +1,7 @@
 -- What `controldata` tells of the files.
-use Rattle.std.specs.Prelude.{ℕ, Bool, true, false, List, [], ◌∷◌, ◌++◌, codes, decimal, IfSome}
-use Rattle.std.specs.List.{concat}
-use Rattle.std.specs.FinMap.{len}
-use Rattle.pm_record.specs.declared.found.Found.{Found}
-use Rattle.pm_redo.specs.Found.{FindsOnly, FindsPair}
-use Rattle.pm_redo.specs.Redo.{IsOnly}
-use Rattle.pm_server.specs.Outside.{OutsideView}
-use Rattle.pm_lines.specs.Print.{IsPrinted, file_letter}
+use Rattle.std.specs.{Prelude.{ℕ, Bool, true, false, List, [], ◌∷◌, ◌++◌, codes, decimal, IfSome}, List.concat, FinMap.len}
+use Rattle.pm_server.specs.{pm_record.declared.found.Found.Found, Outside.OutsideView, pm_server_lines.Print.{IsPrinted, file_letter}}
+use Rattle.pm_redo.specs.{Found.{FindsOnly, FindsPair}, Redo.IsOnly}
 
 -- a line: a name and its value
 abbrev pub told_line : List ℕ → List ℕ → List ℕ

@@ -1,13 +1,9 @@
 -- How a command ends, and what it says.
 use Rattle.std.specs.Prelude.{ℕ, List, [], ◌++◌, codes}
-use Rattle.pm_disk.specs.Cause.{Rose}
-use Rattle.pm_record.specs.declared.fault.RedoFault.TheVariants as redo
-use Rattle.pm_server.specs.Outside.{OutsideView}
-use Rattle.pm_lines.specs.Print.{IsPrinted, redo_line}
-use Rattle.pm_server.specs.declared.end.ServerEnd.{ServerEnd}
+use Rattle.pm_server.specs.{pm_disk.Cause.Rose, Outside.OutsideView, pm_server_lines.Print.{IsPrinted, redo_line}, declared.end.ServerEnd.ServerEnd}
+use Rattle.pm_server.specs.pm_record.declared.fault.RedoFault.TheVariants as redo
 use Rattle.pm_server.specs.declared.end.ServerEnd.TheVariants as ends
-use Rattle.pm_top.specs.declared.status.Top.{Top}
-use Rattle.pm_top.specs.declared.status.Top.TheVariants.{Done, Abnormal, OutFault, DiskFault, Exists, Unreadable, Usage, NoMemory, NoThread}
+use Rattle.pm_top.specs.declared.status.Top.{Top, TheVariants.{Done, Abnormal, OutFault, DiskFault, Exists, Unreadable, Usage, NoMemory, NoThread}}
 
 -- the exit code of the program: served, refused or failed, no command line, out of memory, out of threads
 abbrev pub exit_code : Top → ℕ

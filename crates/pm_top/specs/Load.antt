@@ -1,6 +1,5 @@
 -- How a workload may end.
-use Rattle.pm_top.specs.declared.status.Top.{Top}
-use Rattle.pm_top.specs.declared.status.Top.TheVariants.{Done, OutFault, NoMemory}
+use Rattle.pm_top.specs.declared.status.Top.{Top, TheVariants.{Done, OutFault, NoMemory}}
 
 abbrev pub IsWorkloadEnd : Top → Type 0
 IsWorkloadEnd Done = Unit {0}

@@ -1,14 +1,9 @@
 -- A run of `serve`.
 use Rattle.std.specs.Prelude.{◌≡◌, ℕ, List}
-use Rattle.pm_postmaster.specs.Outside.{ServeView}
-use Rattle.pm_served.specs.PromisedServe.{IsPromisedServe}
-use Rattle.pm_server.specs.declared.conf.Conf.{Conf}
-use Rattle.pm_server.specs.declared.end.ServerEnd.{ServerEnd}
-use Rattle.pm_words.specs.declared.words.Command.{Command}
-use Rattle.pm_words.specs.declared.words.Command.TheVariants.{Initdb, Once, Serve, Controldata, Workload}
-use Rattle.pm_words.specs.Words.{IsLine, IsLineWith, IsOnlyLine}
-use Rattle.pm_top.specs.Ends.{status_of}
-use Rattle.pm_top.specs.declared.status.Top.{Top}
+use Rattle.pm_postmaster.specs.{Outside.ServeView, pm_server.declared.{conf.Conf.Conf, end.ServerEnd.ServerEnd}}
+use Rattle.pm_serve_promises.specs.PromisedServe.{IsPromisedServe}
+use Rattle.pm_top_words.specs.{declared.words.Command.{Command, TheVariants.{Initdb, Once, Serve, Controldata, Workload}}, Words.{IsLine, IsLineWith, IsOnlyLine}}
+use Rattle.pm_top.specs.{Ends.status_of, declared.status.Top.Top}
 
 -- a command that serves, one connection at a time or many
 abbrev pub IsServer : Command → Type 0

@@ -1,36 +1,25 @@
 //! The commands that run in one thread: all but `serve`.
 
 ghost use Rattle.std.specs.Prelude.{◌≡◌, ◌≢◌, ◌+◌, ◌≤◌, ◌++◌, ℕ, [], List, codes, option_map, IfSome};
-ghost use Rattle.pm_disk.specs.Cause.{IsCounted, Rose};
-ghost use Rattle.pm_server.specs.Outside.{outside_view};
-ghost use Rattle.pm_lines.specs.Print.{IsPrinted};
-ghost use Rattle.pm_record.specs.declared.fault.RedoFault.{RedoFault};
-ghost use Rattle.pm_redo.specs.Found.{IsReason};
-ghost use Rattle.pm_top.specs.Cluster.{HasNewCluster, IsFree, IsLeftAlone, IsTaken, KeepsTaken};
-ghost use Rattle.pm_top.specs.Control.{HasTold};
-ghost use Rattle.pm_top.specs.Ends.{HasAnswer, HasSaid, IsControldataEnd, IsInitdbEnd, initdb_line, line_of};
-ghost use Rattle.pm_top.specs.Load.{IsWorkloadEnd};
-ghost use Rattle.pm_top.specs.Once.{RunsOnce};
-ghost use Rattle.pm_top.specs.Serve.{IsNoServeLine};
-ghost use Rattle.pm_workload.specs.Worked.{HasTold as HasWorked};
-ghost use Rattle.pm_words.specs.Words.{IsLine, IsLineWith};
-ghost use Rattle.pm_server.specs.declared.conf.Conf.{Conf};
-ghost use Rattle.pm_words.specs.declared.words.Command.{Command};
+ghost use Rattle.pm_server.specs.{pm_disk.Cause.{IsCounted, Rose}, Outside.outside_view, pm_server_lines.Print.IsPrinted, pm_record.declared.fault.RedoFault.RedoFault, declared.conf.Conf.Conf};
+ghost use Rattle.pm_load_run.specs.{pm_redo.Found.IsReason, Worked.HasTold as HasWorked};
+ghost use Rattle.pm_top.specs.{Cluster.{HasNewCluster, IsFree, IsLeftAlone, IsTaken, KeepsTaken}, Control.HasTold, Ends.{HasAnswer, HasSaid, IsControldataEnd, IsInitdbEnd, initdb_line, line_of}, Load.IsWorkloadEnd, Once.RunsOnce, Serve.IsNoServeLine};
+ghost use Rattle.pm_top_words.specs.{Words.{IsLine, IsLineWith}, declared.words.Command.Command};
 
 use crate::control::controldata;
 use crate::load::load;
 use crate::outside::Worked;
 use crate::status::Top;
 use pm_disk::Disk;
-use pm_lines::{print, print_redo};
 use pm_log::InitNo;
 use pm_once_promises::once_as_promised;
 use pm_outside::{Chronicle, Clock, Port, Sink};
 use pm_query::BookEntry;
 use pm_rows::Text;
 use pm_server::{Conf, Outside};
+use pm_server_lines::{print, print_redo};
 use pm_state::PmEvent;
-use pm_words::{Command, read_words};
+use pm_top_words::{Command, read_words};
 use std::alloc::Global;
 use std::sync::Wait;
 use std::time;

@@ -1,13 +1,9 @@
 //! `controldata`: what the files of a cluster stand for.
 
 ghost use Rattle.std.specs.Prelude.{◌≡◌, IfSome};
-ghost use Rattle.pm_disk.specs.Cause.{IsCounted};
-ghost use Rattle.pm_server.specs.Outside.{outside_view};
-ghost use Rattle.pm_record.specs.declared.fault.RedoFault.{RedoFault};
+ghost use Rattle.pm_server.specs.{pm_disk.Cause.IsCounted, Outside.outside_view, pm_record.declared.fault.RedoFault.RedoFault};
 ghost use Rattle.pm_redo.specs.Found.{IsReason};
-ghost use Rattle.pm_top.specs.Cluster.{IsLeftAlone};
-ghost use Rattle.pm_top.specs.Control.{HasTold};
-ghost use Rattle.pm_top.specs.Ends.{HasAnswer, IsControldataEnd};
+ghost use Rattle.pm_top.specs.{Cluster.IsLeftAlone, Control.HasTold, Ends.{HasAnswer, IsControldataEnd}};
 
 use crate::outside::Worked;
 use crate::print::print_found;

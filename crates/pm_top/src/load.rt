@@ -1,19 +1,17 @@
 //! `workload`: queries that a server in memory answers.
 
 ghost use Rattle.std.specs.Prelude.{◌≡◌, ◌≤◌};
-ghost use Rattle.pm_disk.specs.Cause.{IsCounted};
-ghost use Rattle.pm_workload.specs.Worked.{HasTold};
-ghost use Rattle.pm_top.specs.Ends.{HasAnswer};
-ghost use Rattle.pm_top.specs.Load.{IsWorkloadEnd};
+ghost use Rattle.pm_load_run.specs.{pm_disk.Cause.IsCounted, Worked.HasTold};
+ghost use Rattle.pm_top.specs.{Ends.HasAnswer, Load.IsWorkloadEnd};
 
 use crate::outside::Worked;
 use crate::status::Top;
 use pm_disk::Disk;
+use pm_load_run::{WorkloadNo, workload};
 use pm_outside::{Chronicle, Clock, Port, Sink};
 use pm_query::BookEntry;
 use pm_server::Outside;
 use pm_state::PmEvent;
-use pm_workload::{WorkloadNo, workload};
 use std::alloc::Global;
 use std::sync::Wait;
 use std::time;

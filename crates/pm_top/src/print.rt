@@ -1,14 +1,13 @@
 //! What `controldata` prints.
 
 ghost use Rattle.std.specs.Prelude.{◌≡◌, IsErr, codes};
-ghost use Rattle.pm_disk.specs.Cause.{IsCounted};
-ghost use Rattle.pm_lines.specs.Print.{IsPrinted, file_letter};
+ghost use Rattle.pm_server_lines.specs.{pm_disk.Cause.IsCounted, Print.{IsPrinted, file_letter}};
 ghost use Rattle.pm_top.specs.Control.{control_lines, told_line, yes_or_no};
 
 use pm_disk::Which;
-use pm_lines::{SinkFailed, print, print_with};
 use pm_outside::Sink;
 use pm_record::Found;
+use pm_server_lines::{SinkFailed, print, print_with};
 
 /// Writes what was found in the files, a line for each.
 pub fn print_found<O: Sink>(sink: &mut O, found: &Found) -> Result<(), SinkFailed>

@@ -1,22 +1,11 @@
 //! The top call: all that the program does, over the outside that it is handed.
 
 ghost use Rattle.std.specs.Prelude.{◌≡◌, ◌≢◌, ◌+◌, ◌≤◌, ◌++◌, ℕ, [], List, codes, option_map, IfNone, IfSome};
-ghost use Rattle.pm_disk.specs.Cause.{Rose};
-ghost use Rattle.pm_server.specs.Outside.{outside_view};
-ghost use Rattle.pm_outside.specs.Visits.{no_visits};
+ghost use Rattle.pm_server.specs.{pm_disk.Cause.Rose, Outside.outside_view, pm_outside.Visits.no_visits, pm_record.declared.fault.RedoFault.RedoFault, declared.conf.Conf.Conf};
 ghost use Rattle.pm_postmaster.specs.Outside.{serve_view};
-ghost use Rattle.pm_record.specs.declared.fault.RedoFault.{RedoFault};
-ghost use Rattle.pm_redo.specs.Found.{IsReason};
-ghost use Rattle.pm_top.specs.Cluster.{HasNewCluster, IsFree, IsLeftAlone, IsTaken, KeepsTaken};
-ghost use Rattle.pm_top.specs.Control.{HasTold};
-ghost use Rattle.pm_top.specs.Ends.{HasAnswer, HasSaid, IsControldataEnd, IsInitdbEnd, initdb_line, line_of};
-ghost use Rattle.pm_top.specs.Load.{IsWorkloadEnd};
-ghost use Rattle.pm_top.specs.Once.{RunsOnce};
-ghost use Rattle.pm_top.specs.Serve.{IsNoServeLine, IsServeLine, IsServer, RunsServe};
-ghost use Rattle.pm_workload.specs.Worked.{HasTold as HasWorked};
-ghost use Rattle.pm_words.specs.Words.{IsLine, IsLineWith};
-ghost use Rattle.pm_server.specs.declared.conf.Conf.{Conf};
-ghost use Rattle.pm_words.specs.declared.words.Command.{Command};
+ghost use Rattle.pm_load_run.specs.{pm_redo.Found.IsReason, Worked.HasTold as HasWorked};
+ghost use Rattle.pm_top.specs.{Cluster.{HasNewCluster, IsFree, IsLeftAlone, IsTaken, KeepsTaken}, Control.HasTold, Ends.{HasAnswer, HasSaid, IsControldataEnd, IsInitdbEnd, initdb_line, line_of}, Load.IsWorkloadEnd, Once.RunsOnce, Serve.{IsNoServeLine, IsServeLine, IsServer, RunsServe}};
+ghost use Rattle.pm_top_words.specs.{Words.{IsLine, IsLineWith}, declared.words.Command.Command};
 
 use crate::alone::run_alone;
 use crate::outside::{Ended, Worked};
@@ -26,11 +15,11 @@ use pm_outside::{Chronicle, Clock, Console, Link, Port, Sink};
 use pm_postmaster::Served;
 use pm_query::BookEntry;
 use pm_rows::Text;
-use pm_served::serve_as_promised;
+use pm_serve_promises::serve_as_promised;
 use pm_server::{Conf, Outside};
 use pm_spawn::Spawner;
 use pm_state::PmEvent;
-use pm_words::{Command, read_words};
+use pm_top_words::{Command, read_words};
 use std::alloc::Global;
 use std::sync::Wait;
 use std::thread::Threads;

@@ -1,16 +1,7 @@
 -- What words may begin, a word more and a word less.
-use Rattle.std.proofs.Common.{rules, ◌≡◌, ◌≢◌, ℕ, ◌+◌, true, List, [], ◌∷◌, ◌++◌, Some, None, Option, length, take, lit≤, ◌≤◌, refl, ap, sym, ◌∙◌, subst, inl, inr, arith, add_assoc, append_assoc, add-one, length-append, ◌-◌}
-use Rattle.std.proofs.Math.Seq.{take-append-add}
-use Rattle.std.specs.Prelude.{◌⊎◌, codes, option_map}
-use Rattle.pm_words.specs.declared.words.Command.{Command}
-use Rattle.pm_words.specs.declared.words.Command.TheVariants as command
-use Rattle.pm_words.specs.declared.words.Verb.{Verb}
-use Rattle.pm_words.specs.declared.words.Verb.TheVariants.{Initdb, Once, Serve, Controldata, Workload}
-use Rattle.pm_words.specs.Words.{Choice, Data, Port, MaxConnections, RestartAfterCrash, AuthenticationTimeout, Number, Chosen, IsFor, IsNumberIn, IsOpen, MayChoose, Says, Spells, command_of, conf_of, folder_of, nothing, option_name, verb_word, with_choice}
-use Rattle.pm_words.specs.Options.{BeginsWithOption, IsPlain, Leaves}
-use Rattle.pm_words.specs.Begins.{BeginsLine, BeginsOptions, IsMisfit, IsOpenName, IsOptionMisfit}
-use Rattle.pm_words.proofs.Givens.{IsTwoWords, begins, begun, is_name, no_cut, not-none, option-begins, same-option, step_on}
-use Rattle.pm_words.proofs.Lines.{given}
+use Rattle.std.{proofs.{Common.{rules, ◌≡◌, ◌≢◌, ℕ, ◌+◌, true, List, [], ◌∷◌, ◌++◌, Some, None, Option, length, take, lit≤, ◌≤◌, refl, ap, sym, ◌∙◌, subst, inl, inr, arith, add_assoc, append_assoc, add-one, length-append, ◌-◌}, Math.Seq.take-append-add}, specs.Prelude.{◌⊎◌, codes, option_map}}
+use Rattle.pm_top_words.{specs.{declared.words.{Command.Command, Verb.{Verb, TheVariants.{Initdb, Once, Serve, Controldata, Workload}}}, Words.{Choice, Data, Port, MaxConnections, RestartAfterCrash, AuthenticationTimeout, Number, Chosen, IsFor, IsNumberIn, IsOpen, MayChoose, Says, Spells, command_of, conf_of, folder_of, nothing, option_name, verb_word, with_choice}, Options.{BeginsWithOption, IsPlain, Leaves}, Begins.{BeginsLine, BeginsOptions, IsMisfit, IsOpenName, IsOptionMisfit}}, proofs.{Givens.{IsTwoWords, begins, begun, is_name, no_cut, not-none, option-begins, same-option, step_on}, Lines.given}}
+use Rattle.pm_top_words.specs.declared.words.Command.TheVariants as command
 
 -- ---- options of one name
 

@@ -1,11 +1,6 @@
 -- Words begin with one option alone, and options are read one after the other.
-use Rattle.std.proofs.Common.{◌≡◌, ◌≢◌, ℕ, ◌<◌, ◌≤◌, ◌-◌, suc, true, false, Bool, List, [], ◌∷◌, ◌++◌, Option, Some, None, length, get_or, take, drop, refl, ap, sym, ◌∙◌, subst, inl, inr, arith, length-append}
-use Rattle.std.proofs.lemmas.List.{take_all}
-use Rattle.std.specs.Prelude.{◌⊎◌, codes, nat_eq, not, IfSome, IfNone}
-use Rattle.std.specs.List.{list_all}
-use Rattle.pm_words.specs.declared.words.Verb.{Verb}
-use Rattle.pm_words.specs.Words.{Choice, Data, Port, MaxConnections, RestartAfterCrash, AuthenticationTimeout, Number, Choose, Chosen, MayChoose, Says, Spells, option_name, with_choice}
-use Rattle.pm_words.specs.Options.{BeginsWith, BeginsWithOption, IsName, IsPlain, Leaves}
+use Rattle.std.{proofs.{Common.{◌≡◌, ◌≢◌, ℕ, ◌<◌, ◌≤◌, ◌-◌, suc, true, false, Bool, List, [], ◌∷◌, ◌++◌, Option, Some, None, length, get_or, take, drop, refl, ap, sym, ◌∙◌, subst, inl, inr, arith, length-append}, lemmas.List.take_all}, specs.{Prelude.{◌⊎◌, codes, nat_eq, not, IfSome, IfNone}, List.list_all}}
+use Rattle.pm_top_words.specs.{declared.words.Verb.Verb, Words.{Choice, Data, Port, MaxConnections, RestartAfterCrash, AuthenticationTimeout, Number, Choose, Chosen, MayChoose, Says, Spells, option_name, with_choice}, Options.{BeginsWith, BeginsWithOption, IsName, IsPlain, Leaves}}
 
 -- ---- names
 

@@ -1,11 +1,7 @@
 -- Words are one line alone.
 use Rattle.std.proofs.Common.{◌≡◌, ℕ, List, ◌∷◌, Some, None, length, refl, sym, ◌∙◌, ap, subst, arith}
 use Rattle.pm_server.specs.declared.conf.Conf.{Conf}
-use Rattle.pm_words.specs.declared.words.Command.{Command}
-use Rattle.pm_words.specs.declared.words.Verb.{Verb}
-use Rattle.pm_words.specs.declared.words.Verb.TheVariants.{Initdb, Once, Serve, Controldata, Workload}
-use Rattle.pm_words.specs.Words.{Choose, Chosen, IsLineWith, command_of, conf_of, folder_of, nothing, verb_word}
-use Rattle.pm_words.specs.Options.{Leaves}
+use Rattle.pm_top_words.specs.{declared.words.{Command.Command, Verb.{Verb, TheVariants.{Initdb, Once, Serve, Controldata, Workload}}}, Words.{Choose, Chosen, IsLineWith, command_of, conf_of, folder_of, nothing, verb_word}, Options.Leaves}
 
 -- the verbs' words are of five lengths
 by_length : (one two : Verb) → length (verb_word one) ≡ length (verb_word two) → one ≡ two

@@ -1,9 +1,6 @@
 -- Which words a command line may begin with.
 use Rattle.std.specs.Prelude.{◌≡◌, ℕ, ◌+◌, ◌<◌, List, ◌++◌, length, take, Some}
-use Rattle.pm_words.specs.declared.words.Command.{Command}
-use Rattle.pm_words.specs.declared.words.Verb.{Verb}
-use Rattle.pm_words.specs.Words.{Choice, Chosen, IsLine, MayChoose, command_of, folder_of, option_name}
-use Rattle.pm_words.specs.Options.{Leaves}
+use Rattle.pm_top_words.specs.{declared.words.{Command.Command, Verb.Verb}, Words.{Choice, Chosen, IsLine, MayChoose, command_of, folder_of, option_name}, Options.Leaves}
 
 -- with these words after them, or with others, they are a command line
 pub record BeginsLine (front : List (List ℕ)) : Type 0 where

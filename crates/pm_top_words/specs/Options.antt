@@ -1,11 +1,7 @@
 -- How options are read, from left to right.
-use Rattle.std.specs.Prelude.{◌≡◌, ◌≢◌, ℕ, List, [], ◌++◌, slice_get, Some, option_map}
-use Rattle.std.specs.List.{AllByRecursion}
-use Rattle.pm_words.specs.declared.options.Setting.{Setting}
-use Rattle.pm_words.specs.declared.options.Setting.TheVariants as setting
-use Rattle.pm_words.specs.declared.options.Settings.{Settings}
-use Rattle.pm_words.specs.declared.words.Verb.{Verb}
-use Rattle.pm_words.specs.Words.{Choice, Data, Port, MaxConnections, RestartAfterCrash, AuthenticationTimeout, Number, Choose, Chosen, IsGiven, Spells}
+use Rattle.std.specs.{Prelude.{◌≡◌, ◌≢◌, ℕ, List, [], ◌++◌, slice_get, Some, option_map}, List.AllByRecursion}
+use Rattle.pm_top_words.specs.{declared.{options.{Setting.Setting, Settings.Settings}, words.Verb.Verb}, Words.{Choice, Data, Port, MaxConnections, RestartAfterCrash, AuthenticationTimeout, Number, Choose, Chosen, IsGiven, Spells}}
+use Rattle.pm_top_words.specs.declared.options.Setting.TheVariants as setting
 
 -- what the code has of an option
 abbrev pub choice_of : Setting → Choice

@@ -1,11 +1,8 @@
 -- The words of the command line: a command, and options in any order, each at most once.
-use Rattle.std.specs.Prelude.{◌≡◌, ◌≢◌, ◌⊎◌, ℕ, ◌*◌, ◌≤◌, Bool, true, false, List, [], ◌∷◌, ◌++◌, codes, length, slice_get, Option, None, Some, option_map, unwrap_or}
-use Rattle.std.specs.Str.Parse.{IsNumeral, digits_value}
+use Rattle.std.specs.{Prelude.{◌≡◌, ◌≢◌, ◌⊎◌, ℕ, ◌*◌, ◌≤◌, Bool, true, false, List, [], ◌∷◌, ◌++◌, codes, length, slice_get, Option, None, Some, option_map, unwrap_or}, Str.Parse.{IsNumeral, digits_value}}
 use Rattle.pm_server.specs.declared.conf.Conf.{Conf}
-use Rattle.pm_words.specs.declared.words.Command.{Command}
-use Rattle.pm_words.specs.declared.words.Command.TheVariants as command
-use Rattle.pm_words.specs.declared.words.Verb.{Verb}
-use Rattle.pm_words.specs.declared.words.Verb.TheVariants.{Initdb, Once, Serve, Controldata, Workload}
+use Rattle.pm_top_words.specs.declared.words.{Command.Command, Verb.{Verb, TheVariants.{Initdb, Once, Serve, Controldata, Workload}}}
+use Rattle.pm_top_words.specs.declared.words.Command.TheVariants as command
 
 abbrev pub verb_word : Verb → List ℕ
 verb_word Initdb = codes "initdb"

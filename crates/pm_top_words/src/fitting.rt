@@ -1,9 +1,7 @@
 //! Which word of a command line doesn't fit.
 
 ghost use Rattle.std.specs.Prelude.{◌<◌, ◌↔◌, ℕ, List, length, IfNone, IfSome, IsTrue};
-ghost use Rattle.pm_words.specs.Words.{Choice};
-ghost use Rattle.pm_words.specs.Options.{BeginsWithOption, chosen_of};
-ghost use Rattle.pm_words.specs.Begins.{BeginsLine, BeginsOptions, IsMisfit, IsOpenName, IsOptionMisfit};
+ghost use Rattle.pm_top_words.specs.{Words.Choice, Options.{BeginsWithOption, chosen_of}, Begins.{BeginsLine, BeginsOptions, IsMisfit, IsOpenName, IsOptionMisfit}};
 
 use crate::options::{Setting, Settings, next_option};
 use crate::words::{Verb, verb_named};

@@ -1,8 +1,7 @@
 //! The options of the command line.
 
 ghost use Rattle.std.specs.Prelude.{◌≡◌, ◌↔◌, ℕ, List, ◌∷◌, IfSome, IfNone, IsTrue, option_map};
-ghost use Rattle.pm_words.specs.Words.{Choice, Chosen, IsNumberIn, MayChoose, Says, command_of, conf_of, folder_of, nothing, option_name, with_choice};
-ghost use Rattle.pm_words.specs.Options.{BeginsWith, BeginsWithOption, IsPlain, Leaves, choice_of, chosen_of};
+ghost use Rattle.pm_top_words.specs.{Words.{Choice, Chosen, IsNumberIn, MayChoose, Says, command_of, conf_of, folder_of, nothing, option_name, with_choice}, Options.{BeginsWith, BeginsWithOption, IsPlain, Leaves, choice_of, chosen_of}};
 
 use crate::words::{Command, Verb};
 use pm_rows::Text;

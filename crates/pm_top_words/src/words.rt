@@ -1,8 +1,7 @@
 //! The words of the command line.
 
 ghost use Rattle.std.specs.Prelude.{◌≡◌, ◌≢◌, IfOk, OnErr, IfSome, IfNone};
-ghost use Rattle.pm_words.specs.declared.words.Verb.{Verb};
-ghost use Rattle.pm_words.specs.Words.{AreNoLine, IsLineWith, IsOnlyLine, verb_word};
+ghost use Rattle.pm_top_words.specs.{declared.words.Verb.Verb, Words.{AreNoLine, IsLineWith, IsOnlyLine, verb_word}};
 
 use crate::options::read_settings;
 use pm_rows::Text;

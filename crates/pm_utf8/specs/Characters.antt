@@ -1,13 +1,7 @@
 -- The rule on bytes holds along a text just where the text is UTF-8.
-use Rattle.std.proofs.Common.{◌≡◌, ℕ, zero, suc, ◌+◌, ◌-◌, ◌*◌, ◌/◌, ◌<◌, ◌≤◌, true, false, eqb, List, [], ◌∷◌, ◌++◌, length, Some, refl, sym, ap, subst, ◌∙◌, inl, inr, arith}
-use Rattle.std.specs.Str.{IsUtf8}
-use Rattle.std.specs.Str.Lossy.{second_byte_min, second_byte_max}
-use Rattle.std.proofs.lemmas.Bool.{and_parts, le-leb, cases_lt, lt-ltb, le-ltb, eqb-false}
-use Rattle.std.proofs.lemmas.Str.{encode_ascii, IsUtf8-nil}
+use Rattle.std.{proofs.{Common.{◌≡◌, ℕ, zero, suc, ◌+◌, ◌-◌, ◌*◌, ◌/◌, ◌<◌, ◌≤◌, true, false, eqb, List, [], ◌∷◌, ◌++◌, length, Some, refl, sym, ap, subst, ◌∙◌, inl, inr, arith}, lemmas.{Bool.{and_parts, le-leb, cases_lt, lt-ltb, le-ltb, eqb-false}, Str.{encode_ascii, IsUtf8-nil}}}, specs.Str.{IsUtf8, Lossy.{second_byte_min, second_byte_max}}}
 use lib.Utf8.{scalar, scalars, encode, encodes, next, low_scalar, scalar_cases}
-use Rattle.pm_utf8.specs.declared.Awaited.{Awaited}
-use Rattle.pm_utf8.specs.Utf8.{continued, boundary, begun, lead, run}
-use Rattle.pm_utf8.specs.Steps.{least_is, most_is, lead_one, lead_two, lead_three, lead_four, lead_none, lead_past, after_in, after_is, run_step, run_first}
+use Rattle.pm_utf8.specs.{declared.Awaited.Awaited, Utf8.{continued, boundary, begun, lead, run}, Steps.{least_is, most_is, lead_one, lead_two, lead_three, lead_four, lead_none, lead_past, after_in, after_is, run_step, run_first}}
 
 -- ---- from characters to bytes
 

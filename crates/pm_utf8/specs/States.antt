@@ -1,10 +1,6 @@
 -- What holds of the states that bytes lead to, and of the bytes that can come after them.
-use Rattle.std.proofs.Common.{◌≡◌, ℕ, zero, suc, ◌-◌, ◌<◌, ◌≤◌, true, false, eqb, List, [], ◌∷◌, length, Some, None, refl, sym, ap, subst, ◌∙◌, inl, inr, arith}
-use Rattle.std.specs.List.{All, AllByRecursion}
-use Rattle.std.proofs.lemmas.Bool.{cases_lt, eqb-true}
-use Rattle.pm_utf8.specs.declared.Awaited.{Awaited}
-use Rattle.pm_utf8.specs.Utf8.{continued, boundary, begun, lead, after, run, IsSound}
-use Rattle.pm_utf8.specs.Steps.{least_is, most_is, lead_one, lead_two, lead_three, lead_four, lead_none, lead_past, after_in, after_is, run_step, run_first}
+use Rattle.std.{proofs.{Common.{◌≡◌, ℕ, zero, suc, ◌-◌, ◌<◌, ◌≤◌, true, false, eqb, List, [], ◌∷◌, length, Some, None, refl, sym, ap, subst, ◌∙◌, inl, inr, arith}, lemmas.Bool.{cases_lt, eqb-true}}, specs.List.{All, AllByRecursion}}
+use Rattle.pm_utf8.specs.{declared.Awaited.Awaited, Utf8.{continued, boundary, begun, lead, after, run, IsSound}, Steps.{least_is, most_is, lead_one, lead_two, lead_three, lead_four, lead_none, lead_past, after_in, after_is, run_step, run_first}}
 
 pub boundary_sound : IsSound boundary
 boundary_sound = record { closes = λ _. refl; low = omega arith; order = omega arith; high = omega arith }

@@ -1,10 +1,6 @@
 -- What one byte makes of a state.
-use Rattle.std.proofs.Common.{◌≡◌, ℕ, ◌-◌, ◌<◌, ◌≤◌, ◌⊎◌, true, false, cond, eqb, ltb, List, [], ◌∷◌, ◌++◌, Some, None, refl, ap, ◌∙◌, inl, inr, arith}
-use Rattle.std.specs.Option.{option_and_then}
-use Rattle.std.specs.Str.Lossy.{second_byte_min, second_byte_max}
-use Rattle.std.proofs.lemmas.Bool.{cases_eq, lt-ltb, le-ltb, ltb-false, eq-eqb, ne_eqb}
-use Rattle.pm_utf8.specs.declared.Awaited.{Awaited}
-use Rattle.pm_utf8.specs.Utf8.{continued, boundary, begun, lead, after, run}
+use Rattle.std.{proofs.{Common.{◌≡◌, ℕ, ◌-◌, ◌<◌, ◌≤◌, ◌⊎◌, true, false, cond, eqb, ltb, List, [], ◌∷◌, ◌++◌, Some, None, refl, ap, ◌∙◌, inl, inr, arith}, lemmas.Bool.{cases_eq, lt-ltb, le-ltb, ltb-false, eq-eqb, ne_eqb}}, specs.{Option.option_and_then, Str.Lossy.{second_byte_min, second_byte_max}}}
+use Rattle.pm_utf8.specs.{declared.Awaited.Awaited, Utf8.{continued, boundary, begun, lead, after, run}}
 
 -- the two bounds as numbers, by the first byte
 pub least_is : (z : ℕ) → ((z ≡ 224) × (second_byte_min z ≡ 160)) ⊎ (((z ≡ 240) × (second_byte_min z ≡ 144)) ⊎ ((z ≡ 224 → ⊥) × (z ≡ 240 → ⊥) × (second_byte_min z ≡ 128)))

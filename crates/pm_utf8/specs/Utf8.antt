@@ -1,7 +1,5 @@
 -- UTF-8 as a rule on each byte and what stands before it (Unicode, Table 3-7).
-use Rattle.std.specs.Prelude.{◌≡◌, ℕ, ◌-◌, ◌≤◌, ◌<◌, ◌==◌, nat_lt, if◌then◌else◌, List, [], ◌∷◌, Option, Some, None}
-use Rattle.std.specs.Option.{option_and_then}
-use Rattle.std.specs.Str.Lossy.{second_byte_min, second_byte_max}
+use Rattle.std.specs.{Prelude.{◌≡◌, ℕ, ◌-◌, ◌≤◌, ◌<◌, ◌==◌, nat_lt, if◌then◌else◌, List, [], ◌∷◌, Option, Some, None}, Option.option_and_then, Str.Lossy.{second_byte_min, second_byte_max}}
 use Rattle.pm_utf8.specs.declared.Awaited.{Awaited}
 
 -- so many bytes of a character are to come, its second not among them

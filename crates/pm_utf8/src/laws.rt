@@ -1,10 +1,8 @@
 //! How the rule on bytes and UTF-8 belong together. The functions do nothing: each stands for the law in
 //! its contract.
 
-ghost use Rattle.std.specs.Prelude.{◌≡◌, ◌+◌, ◌≤◌, ◌<◌, ◌↔◌, ◌++◌, All, List, ℕ, Some, None, length};
-ghost use Rattle.std.specs.Str.{IsUtf8};
-ghost use Rattle.pm_utf8.specs.declared.Awaited.{Awaited};
-ghost use Rattle.pm_utf8.specs.Utf8.{boundary, run};
+ghost use Rattle.std.specs.{Prelude.{◌≡◌, ◌+◌, ◌≤◌, ◌<◌, ◌↔◌, ◌++◌, All, List, ℕ, Some, None, length}, Str.IsUtf8};
+ghost use Rattle.pm_utf8.specs.{declared.Awaited.Awaited, Utf8.{boundary, run}};
 
 /// Bytes are UTF-8 just where each may follow those before it, and the last ends a character.
 pub fn text_ends_between_characters()

@@ -1,16 +1,7 @@
 -- No message begins another.
-use Rattle.std.proofs.Common.{◌≡◌, ℕ, ◌+◌, ◌^◌, ◌<◌, List, [], ◌++◌, length, take, drop, refl, sym, ap, ◌∙◌, arith, append_assoc}
-use Rattle.std.proofs.lemmas.List.{take_at, drop_at, append-nil, length-append, nil_from_length}
+use Rattle.std.proofs.{Common.{◌≡◌, ℕ, ◌+◌, ◌^◌, ◌<◌, List, [], ◌++◌, length, take, drop, refl, sym, ap, ◌∙◌, arith, append_assoc}, lemmas.List.{take_at, drop_at, append-nil, length-append, nil_from_length}}
 use Rattle.byteorder.specs.Endian.{big_number}
-use Rattle.pm_wire.specs.declared.take.Take.TheVariants.{Whole}
-use Rattle.pm_wire.specs.Pieces.{int32, message}
-use Rattle.pm_wire.specs.Backend.{BackMessage, Auth, Param, Key, Ready, Fields, Pair, One, Complete, Empty, Fault, Notice, body, kind_of, spelling, IsWritable, HasCount}
-use Rattle.pm_wire.specs.Frontend.{IsFront}
-use Rattle.pm_wire.specs.Reading.{front_of}
-use Rattle.pm_wire.specs.Stream.{StandApart}
-use Rattle.pm_wire.specs.Numbers.{length_int32, number_again}
-use Rattle.pm_wire.specs.Sizes.{short_iff}
-use Rattle.pm_wire.proofs.FrontLaws.{front_again}
+use Rattle.pm_wire.{specs.{declared.take.Take.TheVariants.Whole, Pieces.{int32, message}, Backend.{BackMessage, Auth, Param, Key, Ready, Fields, Pair, One, Complete, Empty, Fault, Notice, body, kind_of, spelling, IsWritable, HasCount}, Frontend.IsFront, Reading.front_of, Stream.StandApart, Numbers.{length_int32, number_again}, Sizes.short_iff}, proofs.FrontLaws.front_again}
 
 -- what is read of both is one answer
 pub front_apart : StandApart IsFront

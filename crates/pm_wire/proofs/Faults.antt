@@ -1,15 +1,6 @@
 -- Where a client's stream fails.
 use Rattle.std.proofs.Common.{◌≡◌, ℕ, List, ◌++◌, length, sym, ap, ◌∙◌, append_assoc}
-use Rattle.pm_wire.specs.declared.take.Take.TheVariants.{Whole, Bad}
-use Rattle.pm_wire.specs.declared.take.WireFault.{WireFault}
-use Rattle.pm_wire.specs.declared.take.WireFault.TheVariants.{BadLength, BadForm}
-use Rattle.pm_wire.specs.Frontend.{IsFront}
-use Rattle.pm_wire.specs.Reading.{front_of}
-use Rattle.pm_wire.specs.Stream.{HasNoMessage, FailsOnce, FailsForGood}
-use Rattle.pm_wire.specs.StreamLaws.{fails_once, fails_for_good}
-use Rattle.pm_wire.specs.Failing.{FrontFails, place_of}
-use Rattle.pm_wire.proofs.FrontLaws.{front_again, bad_again}
-use Rattle.pm_wire.proofs.Apart.{front_apart}
+use Rattle.pm_wire.{specs.{declared.take.{Take.TheVariants.{Whole, Bad}, WireFault.{WireFault, TheVariants.{BadLength, BadForm}}}, Frontend.IsFront, Reading.front_of, Stream.{HasNoMessage, FailsOnce, FailsForGood}, Failing.{FrontFails, place_of}}, proofs.{StreamLaws.{fails_once, fails_for_good}, FrontLaws.{front_again, bad_again}, Apart.front_apart}}
 
 front_bad : (bytes : List ℕ) (f : WireFault) → FrontFails bytes f → front_of bytes ≡ Bad f
 front_bad bytes (BadLength seen) h = ap front_of h.2 ∙ bad_again h.0 h.1 seen h.3

@@ -1,17 +1,7 @@
 -- The two laws of reading: what is read is spelled so, and what is spelled so is read.
-use Rattle.std.proofs.Common.{◌≡◌, ◌≢◌, ℕ, suc, ◌+◌, ◌-◌, ◌^◌, ◌<◌, ◌≤◌, ◌++◌, ◌∷◌, [], List, length, take, drop, Bool, true, false, eqb, ltb, Option, Some, None, inl, inr, IsTrue, refl, sym, ap, subst, ◌∙◌, arith, append_assoc}
-use Rattle.std.proofs.lemmas.Bool.{cond_both, eqb-true, eqb-false, lt-ltb, le-ltb, ltb-true, ltb-false}
-use Rattle.std.proofs.lemmas.List.{append-nil, length-append, length-take, take_at, drop_at, take-append-drop, nil_from_length}
-use Rattle.std.proofs.lemmas.Bool.Decides.{nat_tests}
+use Rattle.std.proofs.{Common.{◌≡◌, ◌≢◌, ℕ, suc, ◌+◌, ◌-◌, ◌^◌, ◌<◌, ◌≤◌, ◌++◌, ◌∷◌, [], List, length, take, drop, Bool, true, false, eqb, ltb, Option, Some, None, inl, inr, IsTrue, refl, sym, ap, subst, ◌∙◌, arith, append_assoc}, lemmas.{Bool.{cond_both, eqb-true, eqb-false, lt-ltb, le-ltb, ltb-true, ltb-false, Decides.nat_tests}, List.{append-nil, length-append, length-take, take_at, drop_at, take-append-drop, nil_from_length}}}
 use Rattle.byteorder.specs.Endian.{big_number}
-use Rattle.pm_wire.specs.declared.take.Take.{Take}
-use Rattle.pm_wire.specs.declared.take.Take.TheVariants.{Whole, Short, Bad}
-use Rattle.pm_wire.specs.declared.take.WireFault.TheVariants.{BadLength}
-use Rattle.pm_wire.specs.Pieces.{int32, string, message}
-use Rattle.pm_wire.specs.Frontend.{FrontMessage, Query, BadQuery, LongQuery, Terminate, Extended, Other, IsFront, IsString, IsBadHeader, BeginsBadly, Wants, its_type, its_length, its_body, is_extended, is_simple}
-use Rattle.pm_wire.specs.Reading.{text_of, query_or_bad, query_of_length, terminate_of_length, query_of, terminate_of, front_of}
-use Rattle.pm_wire.specs.Numbers.{IsBytes, length_int32, number_again, number_below, number_split}
-use Rattle.pm_wire.proofs.Strings.{text_again, text_takes, text_none}
+use Rattle.pm_wire.{specs.{declared.take.{Take.{Take, TheVariants.{Whole, Short, Bad}}, WireFault.TheVariants.BadLength}, Pieces.{int32, string, message}, Frontend.{FrontMessage, Query, BadQuery, LongQuery, Terminate, Extended, Other, IsFront, IsString, IsBadHeader, BeginsBadly, Wants, its_type, its_length, its_body, is_extended, is_simple}, Reading.{text_of, query_or_bad, query_of_length, terminate_of_length, query_of, terminate_of, front_of}, Numbers.{IsBytes, length_int32, number_again, number_below, number_split}}, proofs.Strings.{text_again, text_takes, text_none}}
 
 abbrev Answer : Type 0
 Answer = Take FrontMessage

@@ -1,15 +1,6 @@
 -- From what the reader computes to what it promises.
-use Rattle.std.proofs.Common.{◌≡◌, ◌≢◌, ℕ, ◌<◌, ◌≤◌, ◌++◌, List, length, take, ◌↔◌, refl, sym, ap, subst, ◌∙◌, arith}
-use Rattle.std.proofs.lemmas.List.{length-append, take_at}
-use Rattle.pm_wire.specs.declared.front.Front.{Front}
-use Rattle.pm_wire.specs.declared.take.Take.{Take}
-use Rattle.pm_wire.specs.declared.take.Take.TheVariants.{Whole, Short, Bad}
-use Rattle.pm_wire.specs.declared.take.WireFault.TheVariants.{BadLength, BadForm}
-use Rattle.pm_wire.specs.Taking.{IfWhole}
-use Rattle.pm_wire.specs.Frontend.{FrontMessage, IsFront, IsUndecided, Wants, BeginsBadly, front_message}
-use Rattle.pm_wire.specs.Reading.{seen_by, front_of}
-use Rattle.pm_wire.specs.Numbers.{IsBytes}
-use Rattle.pm_wire.proofs.FrontLaws.{Begins, IsSound, front_again, bad_again, front_sound, wants_short, wants_more}
+use Rattle.std.proofs.{Common.{◌≡◌, ◌≢◌, ℕ, ◌<◌, ◌≤◌, ◌++◌, List, length, take, ◌↔◌, refl, sym, ap, subst, ◌∙◌, arith}, lemmas.List.{length-append, take_at}}
+use Rattle.pm_wire.{specs.{declared.{front.Front.Front, take.{Take.{Take, TheVariants.{Whole, Short, Bad}}, WireFault.TheVariants.{BadLength, BadForm}}}, Taking.IfWhole, Frontend.{FrontMessage, IsFront, IsUndecided, Wants, BeginsBadly, front_message}, Reading.{seen_by, front_of}, Numbers.IsBytes}, proofs.FrontLaws.{Begins, IsSound, front_again, bad_again, front_sound, wants_short, wants_more}}
 
 -- the reader's answer is what the bytes begin with
 pub record Reads (r : Take Front) (bytes : List ℕ) : Type 0 where

@@ -1,8 +1,6 @@
 -- The pieces of a message, put together as the code puts them, are its body.
-use Rattle.std.proofs.Common.{◌≡◌, ℕ, ◌++◌, ◌∷◌, [], List, length, Some, None, codes, ap, ap₂, ◌∙◌, append_assoc}
-use Rattle.std.proofs.lemmas.List.{append-nil}
-use Rattle.pm_wire.specs.Pieces.{int16, int32, string, counted}
-use Rattle.pm_wire.specs.Backend.{fields}
+use Rattle.std.proofs.{Common.{◌≡◌, ℕ, ◌++◌, ◌∷◌, [], List, length, Some, None, codes, ap, ap₂, ◌∙◌, append_assoc}, lemmas.List.append-nil}
+use Rattle.pm_wire.specs.{Pieces.{int16, int32, string, counted}, Backend.fields}
 
 -- its zero bytes stand with the letters after them
 pub plain_fields : (word code text : List ℕ) → (83 ∷ []) ++ (word ++ ((0 ∷ 86 ∷ []) ++ (word ++ ((0 ∷ 67 ∷ []) ++ (code ++ ((0 ∷ 77 ∷ []) ++ (text ++ ((0 ∷ 0 ∷ []) ++ []))))))))

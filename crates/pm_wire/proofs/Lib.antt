@@ -7,3 +7,4 @@ pub mod Apart
 pub mod Longests
 pub mod Tellable
 pub mod Faults
+pub mod StreamLaws

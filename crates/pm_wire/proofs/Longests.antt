@@ -1,20 +1,8 @@
 -- No message is longer than is said of its kind, and what the table says can be written.
-use Rattle.std.proofs.Common.{◌≡◌, ℕ, ℤ, ◌+◌, ◌^◌, ◌<◌, ◌≤◌, List, [], ◌∷◌, ◌++◌, length, codes, decimal, arith}
-use Rattle.std.specs.Fmt.{signed_decimal}
-use Rattle.std.proofs.lemmas.List.{length-append}
-use Rattle.std.proofs.lemmas.Fmt.{length_signed_le, length-decimal-le}
+use Rattle.std.{proofs.{Common.{◌≡◌, ℕ, ℤ, ◌+◌, ◌^◌, ◌<◌, ◌≤◌, List, [], ◌∷◌, ◌++◌, length, codes, decimal, arith}, lemmas.{List.length-append, Fmt.{length_signed_le, length-decimal-le}}}, specs.Fmt.signed_decimal}
 use lib.Signed.{mag}
-use Rattle.pm_wire.specs.declared.back.Severity.{Severity}
-use Rattle.pm_wire.specs.declared.back.Severity.TheVariants.{Error, Fatal, Panic, Warning}
-use Rattle.pm_wire.specs.declared.back.Shape.{Shape}
+use Rattle.pm_wire.{specs.{declared.back.{Severity.{Severity, TheVariants.{Error, Fatal, Panic, Warning}}, Shape.Shape, Tag.TheVariants.{Insert, Update, Delete, Select}}, Pieces.{int16, int32, string}, Backend.{BackMessage, Auth, Param, Key, Ready, Fields, Pair, One, Complete, Empty, Fault, Notice, Saying, body, kind_of, spelling, severity_word, report_length}, Longest.{longest, longest_report, HasSizes}, Numbers.length_int32, Sizes.{length_fields_of, param_size, pair_size, one_size}}, proofs.Apart.{length_kind, length_message}}
 use Rattle.pm_wire.specs.declared.back.Shape.TheVariants as shapes
-use Rattle.pm_wire.specs.declared.back.Tag.TheVariants.{Insert, Update, Delete, Select}
-use Rattle.pm_wire.specs.Pieces.{int16, int32, string}
-use Rattle.pm_wire.specs.Backend.{BackMessage, Auth, Param, Key, Ready, Fields, Pair, One, Complete, Empty, Fault, Notice, Saying, body, kind_of, spelling, severity_word, report_length}
-use Rattle.pm_wire.specs.Longest.{longest, longest_report, HasSizes}
-use Rattle.pm_wire.specs.Numbers.{length_int32}
-use Rattle.pm_wire.specs.Sizes.{length_fields_of, param_size, pair_size, one_size}
-use Rattle.pm_wire.proofs.Apart.{length_kind, length_message}
 
 pub key_digits : (key : ℤ) → mag key < 2 ^ 63 → length (signed_decimal key) ≤ 20
 key_digits key fits = length_signed_le 19 key (omega (arith, fits)) fits

@@ -1,6 +1,5 @@
 -- Laws: streams of messages that stand apart, and where they fail.
-use Rattle.std.proofs.Common.{◌≡◌, ℕ, List, [], ◌∷◌, ◌++◌, length, refl, sym, ap, subst, ◌∙◌, append_assoc, arith}
-use Rattle.std.proofs.lemmas.List.{append_cancel_left, append-nil, length-append}
+use Rattle.std.proofs.{Common.{◌≡◌, ℕ, List, [], ◌∷◌, ◌++◌, length, refl, sym, ap, subst, ◌∙◌, append_assoc, arith}, lemmas.List.{append_cancel_left, append-nil, length-append}}
 use Rattle.pm_wire.specs.Stream.{IsStream, HasNoMessage, StandApart, SplitOneWay, SplitInPieces, FailsOnce, FailsForGood, FailsInPieces}
 
 pub one_way : {M : Type 0} (Is : List ℕ → M → Type 0) → StandApart Is → (stream : List ℕ) (ms ns : List M) (r s : List ℕ)

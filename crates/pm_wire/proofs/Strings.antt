@@ -1,15 +1,7 @@
 -- A string ends at its first zero.
-use Rattle.std.proofs.Common.{◌≡◌, ℕ, zero, suc, ◌+◌, ◌<◌, ◌≤◌, ◌++◌, ◌∷◌, [], List, length, get_or, take, drop, true, false, not, eqb, ltb, Some, None, refl, sym, ap, subst, ◌∙◌, arith}
-use Rattle.std.specs.List.{prefix_len, position}
-use Rattle.std.proofs.lemmas.Bool.{eqb-true, eqb-false, lt-ltb, eq-eqb}
-use Rattle.std.proofs.lemmas.Option.{cond_some}
-use Rattle.std.proofs.lemmas.List.{length-append, take_at, take-append-drop, drop_more, drop_all}
-use Rattle.std.proofs.lemmas.List.Quantifiers.{position-Some}
+use Rattle.std.{proofs.{Common.{◌≡◌, ℕ, zero, suc, ◌+◌, ◌<◌, ◌≤◌, ◌++◌, ◌∷◌, [], List, length, get_or, take, drop, true, false, not, eqb, ltb, Some, None, refl, sym, ap, subst, ◌∙◌, arith}, lemmas.{Bool.{eqb-true, eqb-false, lt-ltb, eq-eqb}, Option.cond_some, List.{length-append, take_at, take-append-drop, drop_more, drop_all, Quantifiers.position-Some}}}, specs.List.{prefix_len, position}}
 use Rattle.pm_facts.specs.Zeros.{HasNoZero}
-use Rattle.pm_wire.specs.Pieces.{string}
-use Rattle.pm_wire.specs.Nonzero.{AllNonzero, suc_nonzero, all_nonzero, has_no_zero}
-use Rattle.pm_wire.specs.Frontend.{IsString}
-use Rattle.pm_wire.specs.Reading.{text_of, text_before}
+use Rattle.pm_wire.specs.{Pieces.string, Nonzero.{AllNonzero, suc_nonzero, all_nonzero, has_no_zero}, Frontend.IsString, Reading.{text_of, text_before}}
 
 zero_place : (text : List ℕ) → AllNonzero text → prefix_len (λ x. not (eqb x 0)) (text ++ 0 ∷ []) ≡ length text
 zero_place [] h = refl

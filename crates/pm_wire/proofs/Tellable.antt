@@ -1,20 +1,12 @@
 -- What the table says can be written, and is short.
-use Rattle.std.proofs.Common.{◌≡◌, ℕ, ℤ, pos, negsuc, suc, ◌+◌, ◌%◌, ◌^◌, ◌<◌, ◌≤◌, List, [], ◌∷◌, ◌++◌, length, codes, decimal, refl, arith}
-use Rattle.std.specs.Fmt.{signed_decimal}
-use Rattle.std.proofs.lemmas.Bool.{ne_eqb}
-use Rattle.std.proofs.lemmas.List.{length-append}
-use Rattle.std.proofs.lemmas.Fmt.{decimal_by_steps, length-decimal-le}
-use Rattle.pm_wire.specs.declared.condition.Condition.{Condition}
+use Rattle.std.{proofs.{Common.{◌≡◌, ℕ, ℤ, pos, negsuc, suc, ◌+◌, ◌%◌, ◌^◌, ◌<◌, ◌≤◌, List, [], ◌∷◌, ◌++◌, length, codes, decimal, refl, arith}, lemmas.{Bool.ne_eqb, List.length-append, Fmt.{decimal_by_steps, length-decimal-le}}}, specs.Fmt.signed_decimal}
+use Rattle.pm_wire.specs.declared.condition.{Condition.Condition, Fixed.Fixed}
 use Rattle.pm_wire.specs.declared.condition.Condition.TheVariants as conditions
-use Rattle.pm_wire.specs.declared.condition.Fixed.{Fixed}
 use Rattle.pm_wire.specs.declared.condition.Fixed.TheVariants as fixes
 use Rattle.pm_wire.specs.declared.condition.StatementFault.TheVariants as faults
 use lib.Signed.{mag}
 use Rattle.pm_facts.specs.Zeros.{HasNoZero, no_zero-append}
-use Rattle.pm_wire.specs.Backend.{spelling, IsWritable}
-use Rattle.pm_wire.specs.Conditions.{fixed_message, told}
-use Rattle.pm_wire.specs.Longest.{longest, HasSizes, IsGiven, longest_told}
-use Rattle.pm_wire.proofs.Longests.{key_digits, longest_is}
+use Rattle.pm_wire.{specs.{Backend.{spelling, IsWritable}, Conditions.{fixed_message, told}, Longest.{longest, HasSizes, IsGiven, longest_told}}, proofs.Longests.{key_digits, longest_is}}
 
 no_zero_digit : (n : ℕ) → HasNoZero ((48 + n) ∷ [])
 no_zero_digit n = rw (ne_eqb (48 + n) 0 (λ e. omega (arith, e))) refl

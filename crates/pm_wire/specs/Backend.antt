@@ -1,22 +1,11 @@
 -- The messages that the server sends, and the one spelling of each (Message Formats).
-use Rattle.std.specs.Prelude.{◌≡◌, ℕ, ℤ, pos, negsuc, ◌+◌, ◌*◌, ◌<◌, ◌^◌, ◌-◌, List, [], ◌∷◌, ◌++◌, length, Option, Some, None, codes, decimal, IfSome}
-use Rattle.std.specs.Fmt.{signed_decimal}
-use Rattle.std.specs.Option.{option_map}
-use Rattle.std.specs.Str.{IsUtf8}
-use Rattle.std.specs.List.{flat_map}
+use Rattle.std.specs.{Prelude.{◌≡◌, ℕ, ℤ, pos, negsuc, ◌+◌, ◌*◌, ◌<◌, ◌^◌, ◌-◌, List, [], ◌∷◌, ◌++◌, length, Option, Some, None, codes, decimal, IfSome}, Fmt.signed_decimal, Option.option_map, Str.IsUtf8, List.flat_map}
 use Rattle.pm_facts.specs.Zeros.{HasNoZero}
-use Rattle.pm_wire.specs.declared.back.Back.{Back}
+use Rattle.pm_wire.specs.declared.back.{Back.Back, Report.Report, Shape.Shape, Tag.{Tag, TheVariants.{Insert, Update, Delete, Select}}, Severity.{Severity, TheVariants.{Error, Fatal, Panic, Warning}}}
 use Rattle.pm_wire.specs.declared.back.Back.TheVariants as sent
-use Rattle.pm_wire.specs.declared.back.Report.{Report}
-use Rattle.pm_wire.specs.declared.back.Shape.{Shape}
 use Rattle.pm_wire.specs.declared.back.Shape.TheVariants as shapes
-use Rattle.pm_wire.specs.declared.back.Tag.{Tag}
-use Rattle.pm_wire.specs.declared.back.Tag.TheVariants.{Insert, Update, Delete, Select}
-use Rattle.pm_wire.specs.declared.back.Severity.{Severity}
-use Rattle.pm_wire.specs.declared.back.Severity.TheVariants.{Error, Fatal, Panic, Warning}
 pub use Rattle.pm_wire.specs.Messages.{Saying, BackMessage, Auth, Param, Key, Ready, Fields, Pair, One, Complete, Empty, Fault, Notice}
-use Rattle.pm_wire.specs.Conditions.{told}
-use Rattle.pm_wire.specs.Pieces.{int16, int32, string, counted, message}
+use Rattle.pm_wire.specs.{Conditions.told, Pieces.{int16, int32, string, counted, message}}
 
 abbrev pub saying : Report → Saying
 saying r = record { severity = r.severity; code = r.code; text = r.text.now; detail = option_map (λ text. text.now) r.detail }

@@ -1,16 +1,10 @@
 -- What a client is told when something is refused, fails or ends: severities, codes and texts.
-use Rattle.std.specs.Prelude.{ℕ, ◌++◌, List, Option, Some, None, codes, decimal}
-use Rattle.std.specs.Fmt.{signed_decimal}
-use Rattle.pm_wire.specs.declared.state.SqlState.{SqlState}
+use Rattle.std.specs.{Prelude.{ℕ, ◌++◌, List, Option, Some, None, codes, decimal}, Fmt.signed_decimal}
+use Rattle.pm_wire.specs.{declared.{state.SqlState.SqlState, condition.{Condition.Condition, Fixed.Fixed, StatementFault.StatementFault}, back.Severity.TheVariants.{Error, Fatal, Panic, Warning}}, Messages.{BackMessage, Fault, Notice}}
 use Rattle.pm_wire.specs.declared.state.SqlState.TheVariants as states
-use Rattle.pm_wire.specs.declared.condition.Condition.{Condition}
 use Rattle.pm_wire.specs.declared.condition.Condition.TheVariants as conditions
-use Rattle.pm_wire.specs.declared.condition.Fixed.{Fixed}
 use Rattle.pm_wire.specs.declared.condition.Fixed.TheVariants as fixes
-use Rattle.pm_wire.specs.declared.condition.StatementFault.{StatementFault}
 use Rattle.pm_wire.specs.declared.condition.StatementFault.TheVariants as faults
-use Rattle.pm_wire.specs.declared.back.Severity.TheVariants.{Error, Fatal, Panic, Warning}
-use Rattle.pm_wire.specs.Messages.{BackMessage, Fault, Notice}
 
 -- the five characters of a code (PostgreSQL Error Codes)
 abbrev pub sqlstate : SqlState → List ℕ

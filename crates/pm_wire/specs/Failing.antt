@@ -1,8 +1,6 @@
 -- Which bytes no message of a client begins with, and why.
 use Rattle.std.specs.Prelude.{ℕ, List}
-use Rattle.pm_wire.specs.declared.take.WireFault.{WireFault}
-use Rattle.pm_wire.specs.declared.take.WireFault.TheVariants.{BadLength, BadForm}
-use Rattle.pm_wire.specs.Frontend.{BeginsBadly}
+use Rattle.pm_wire.specs.{declared.take.WireFault.{WireFault, TheVariants.{BadLength, BadForm}}, Frontend.BeginsBadly}
 
 abbrev pub FrontFails : List ℕ → WireFault → Type 0
 FrontFails bytes (BadLength seen) = BeginsBadly bytes seen

@@ -1,10 +1,8 @@
 -- The messages that a client sends after its startup packet (Message Formats), as this server tells them apart.
-use Rattle.std.specs.Prelude.{◌≡◌, ◌≢◌, ℕ, ◌+◌, ◌<◌, ◌≤◌, ◌^◌, ◌⊎◌, Bool, false, IsTrue, ◌==◌, List, [], ◌∷◌, ◌++◌, length, codes}
-use Rattle.std.specs.List.{list_any}
+use Rattle.std.specs.{Prelude.{◌≡◌, ◌≢◌, ℕ, ◌+◌, ◌<◌, ◌≤◌, ◌^◌, ◌⊎◌, Bool, false, IsTrue, ◌==◌, List, [], ◌∷◌, ◌++◌, length, codes}, List.list_any}
 use Rattle.pm_facts.specs.Zeros.{HasNoZero}
-use Rattle.pm_wire.specs.declared.front.Front.{Front}
+use Rattle.pm_wire.specs.{declared.front.Front.Front, Pieces.{int32, string, message}}
 use Rattle.pm_wire.specs.declared.front.Front.TheVariants as sent
-use Rattle.pm_wire.specs.Pieces.{int32, string, message}
 
 -- what a message says, without where its text lies in memory
 pub data FrontMessage : Type 0 where

@@ -12,6 +12,6 @@ pub mod Frontend
 pub mod Reading
 pub mod Taking
 pub mod Stream
-pub mod StreamLaws
 pub mod Failing
 pub mod Short
+pub use Rattle.pm_facts.specs as pm_facts

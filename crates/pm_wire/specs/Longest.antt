@@ -2,9 +2,8 @@
 use Rattle.std.specs.Prelude.{◌≡◌, ℕ, ◌+◌, ◌^◌, ◌<◌, length}
 use lib.Signed.{mag}
 use Rattle.pm_facts.specs.Zeros.{HasNoZero}
-use Rattle.pm_wire.specs.declared.condition.Condition.{Condition}
+use Rattle.pm_wire.specs.{declared.condition.Condition.Condition, Backend.{BackMessage, Auth, Param, Key, Ready, Fields, Pair, One, Complete, Empty, Fault, Notice, Saying, detail_length, HasCount}}
 use Rattle.pm_wire.specs.declared.condition.Condition.TheVariants as conditions
-use Rattle.pm_wire.specs.Backend.{BackMessage, Auth, Param, Key, Ready, Fields, Pair, One, Complete, Empty, Fault, Notice, Saying, detail_length, HasCount}
 
 -- a severity has at most seven letters, and a code five
 abbrev pub longest_report : Saying → ℕ

@@ -1,8 +1,6 @@
 -- What the server's messages say (Message Formats).
 use Rattle.std.specs.Prelude.{ℕ, ℤ, List, Option}
-use Rattle.pm_wire.specs.declared.back.Severity.{Severity}
-use Rattle.pm_wire.specs.declared.back.Shape.{Shape}
-use Rattle.pm_wire.specs.declared.back.Tag.{Tag}
+use Rattle.pm_wire.specs.declared.back.{Severity.Severity, Shape.Shape, Tag.Tag}
 
 -- what an error or a notice says
 pub record Saying : Type 0 where

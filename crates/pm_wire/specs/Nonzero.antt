@@ -1,7 +1,5 @@
 -- Laws: a string holds no zero, byte by byte.
-use Rattle.std.proofs.Common.{◌≡◌, ℕ, zero, suc, ◌<◌, ◌∷◌, [], List, true, false, eqb, refl, arith}
-use Rattle.std.specs.List.{AllByRecursion}
-use Rattle.std.proofs.lemmas.Bool.{eqb-true}
+use Rattle.std.{proofs.{Common.{◌≡◌, ℕ, zero, suc, ◌<◌, ◌∷◌, [], List, true, false, eqb, refl, arith}, lemmas.Bool.eqb-true}, specs.List.AllByRecursion}
 use Rattle.pm_facts.specs.Zeros.{HasNoZero}
 
 abbrev pub AllNonzero : List ℕ → Type 0

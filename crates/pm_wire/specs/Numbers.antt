@@ -1,10 +1,6 @@
 -- Laws: numbers as bytes, and bytes as numbers.
-use Rattle.std.proofs.Common.{◌≡◌, ℕ, ◌^◌, ◌<◌, ◌≤◌, ◌++◌, List, length, get_or, take, drop, refl, sym, ap, ◌∙◌, ◌+◌, arith, inl, inr}
-use Rattle.std.proofs.lemmas.Bool.{cases_lt}
-use Rattle.std.proofs.lemmas.List.{length-take, get_or-take, get_or-drop, get_or_past, take-append-drop}
-use Rattle.std.proofs.lemmas.Nat.{be_bytes_4}
-use Rattle.byteorder.specs.Endian.{big_number}
-use Rattle.byteorder.specs.Numbers.{big_number-reads_back, big_from-take, big_from-lt}
+use Rattle.std.proofs.{Common.{◌≡◌, ℕ, ◌^◌, ◌<◌, ◌≤◌, ◌++◌, List, length, get_or, take, drop, refl, sym, ap, ◌∙◌, ◌+◌, arith, inl, inr}, lemmas.{Bool.cases_lt, List.{length-take, get_or-take, get_or-drop, get_or_past, take-append-drop}, Nat.be_bytes_4}}
+use Rattle.byteorder.specs.{Endian.big_number, Numbers.{big_number-reads_back, big_from-take, big_from-lt}}
 use Rattle.pm_wire.specs.Pieces.{int16, int32}
 
 abbrev pub IsBytes : List ℕ → Type 0

@@ -1,11 +1,7 @@
 -- Reading from left to right, as it is done: what the bytes at hand begin with.
 use Rattle.std.specs.Prelude.{ℕ, ◌+◌, ◌-◌, List, [], ◌∷◌, length, take, drop, position, Option, Some, None, nat_lt, ◌==◌, if◌then◌else◌}
 use Rattle.byteorder.specs.Endian.{big_number}
-use Rattle.pm_wire.specs.Letters.{letter_Q, letter_X}
-use Rattle.pm_wire.specs.declared.take.Take.{Take}
-use Rattle.pm_wire.specs.declared.take.Take.TheVariants.{Whole, Short, Bad}
-use Rattle.pm_wire.specs.declared.take.WireFault.TheVariants.{BadLength}
-use Rattle.pm_wire.specs.Frontend.{FrontMessage, Query, BadQuery, LongQuery, Terminate, Extended, Other, is_extended}
+use Rattle.pm_wire.specs.{Letters.{letter_Q, letter_X}, declared.take.{Take.{Take, TheVariants.{Whole, Short, Bad}}, WireFault.TheVariants.BadLength}, Frontend.{FrontMessage, Query, BadQuery, LongQuery, Terminate, Extended, Other, is_extended}}
 
 -- what was read, with its value seen by view
 abbrev pub seen_by : {X Y : Type 0} → (X → Y) → Take X → Take Y

@@ -1,8 +1,5 @@
 -- What a caller of `Back::write` may cite of a row's length.
-use Rattle.std.specs.Prelude.{ℕ, ℤ, ◌+◌, ◌-◌, ◌^◌, ◌<◌, List, length}
-use Rattle.std.specs.Fmt.{signed_decimal}
-use Rattle.std.proofs.Common.{arith}
-use Rattle.std.proofs.lemmas.Fmt.{length_signed_le}
+use Rattle.std.{specs.{Prelude.{ℕ, ℤ, ◌+◌, ◌-◌, ◌^◌, ◌<◌, List, length}, Fmt.signed_decimal}, proofs.{Common.arith, lemmas.Fmt.length_signed_le}}
 use lib.Signed.{mag}
 
 -- a key has at most 20 characters

@@ -1,14 +1,7 @@
 -- Laws: how long a message is.
-use Rattle.std.proofs.Common.{◌≡◌, ℕ, ℤ, ◌+◌, ◌*◌, ◌^◌, ◌<◌, ◌++◌, ◌∷◌, [], List, length, Option, Some, None, ◌↔◌, codes, decimal, arith}
-use Rattle.std.specs.Fmt.{signed_decimal}
-use Rattle.std.proofs.lemmas.List.{length-append}
-use Rattle.std.proofs.lemmas.Fmt.{length-decimal-le}
-use Rattle.pm_wire.specs.declared.back.Shape.{Shape}
+use Rattle.std.{proofs.{Common.{◌≡◌, ℕ, ℤ, ◌+◌, ◌*◌, ◌^◌, ◌<◌, ◌++◌, ◌∷◌, [], List, length, Option, Some, None, ◌↔◌, codes, decimal, arith}, lemmas.{List.length-append, Fmt.length-decimal-le}}, specs.Fmt.signed_decimal}
+use Rattle.pm_wire.specs.{declared.back.{Shape.Shape, Tag.TheVariants.{Insert, Update, Delete, Select}}, Pieces.{int16, int32, counted, string}, Backend.{BackMessage, Auth, Param, Key, Ready, Fields, Pair, One, Complete, Empty, Fault, Notice, body, fields, fields_of, severity_word, detail_length, report_length, Saying, IsShort, HasCount}, Numbers.{length_int16, length_int32}}
 use Rattle.pm_wire.specs.declared.back.Shape.TheVariants as shapes
-use Rattle.pm_wire.specs.declared.back.Tag.TheVariants.{Insert, Update, Delete, Select}
-use Rattle.pm_wire.specs.Pieces.{int16, int32, counted, string}
-use Rattle.pm_wire.specs.Backend.{BackMessage, Auth, Param, Key, Ready, Fields, Pair, One, Complete, Empty, Fault, Notice, body, fields, fields_of, severity_word, detail_length, report_length, Saying, IsShort, HasCount}
-use Rattle.pm_wire.specs.Numbers.{length_int16, length_int32}
 
 pub length_fields : (word code text : List ℕ) (detail : Option (List ℕ))
     → length (fields word code text detail) ≡ 2 * (2 + length word) + (2 + length code) + (2 + length text) + detail_length detail + 1

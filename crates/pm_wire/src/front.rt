@@ -1,10 +1,7 @@
 //! What a client sends after its startup packet.
 
-ghost use Rattle.std.specs.Prelude.{◌≡◌, ◌≢◌, ℕ, ◌≤◌, ◌<◌, ◌++◌, ◌==◌, ◌↔◌, List, length, take, position};
-ghost use Rattle.std.specs.Option.{option_map};
-ghost use Rattle.pm_wire.specs.Frontend.{FrontMessage, IsFront, BeginsBadly, IsUndecided, Wants, front_message};
-ghost use Rattle.pm_wire.specs.Reading.{seen_by, text_of, query_of, terminate_of, front_of};
-ghost use Rattle.pm_wire.specs.Taking.{IfWhole};
+ghost use Rattle.std.specs.{Prelude.{◌≡◌, ◌≢◌, ℕ, ◌≤◌, ◌<◌, ◌++◌, ◌==◌, ◌↔◌, List, length, take, position}, Option.option_map};
+ghost use Rattle.pm_wire.specs.{Frontend.{FrontMessage, IsFront, BeginsBadly, IsUndecided, Wants, front_message}, Reading.{seen_by, text_of, query_of, terminate_of, front_of}, Taking.IfWhole};
 
 use crate::take::{Take, WireFault};
 use byteorder::{BigEndian, ByteOrder};

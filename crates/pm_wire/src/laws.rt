@@ -2,13 +2,7 @@
 //! law in its contract, over the definitions that `Front::read` and `Back::write` cite.
 
 ghost use Rattle.std.specs.Prelude.{◌≡◌, ◌↔◌, ◌+◌, ◌<◌, ◌≤◌, ◌^◌, List, ℕ, [], ◌++◌, length};
-ghost use Rattle.pm_wire.specs.Frontend.{IsFront};
-ghost use Rattle.pm_wire.specs.Backend.{BackMessage, body, spelling, IsShort, IsWritable, HasCount};
-ghost use Rattle.pm_wire.specs.declared.condition.Condition.{Condition};
-ghost use Rattle.pm_wire.specs.Conditions.{told};
-ghost use Rattle.pm_wire.specs.Longest.{longest, HasSizes, IsGiven, longest_told};
-ghost use Rattle.pm_wire.specs.Stream.{StandApart, SplitOneWay, SplitInPieces, FailsOnce, FailsForGood, FailsInPieces};
-ghost use Rattle.pm_wire.specs.Failing.{FrontFails, place_of};
+ghost use Rattle.pm_wire.specs.{Frontend.IsFront, Backend.{BackMessage, body, spelling, IsShort, IsWritable, HasCount}, declared.condition.Condition.Condition, Conditions.told, Longest.{longest, HasSizes, IsGiven, longest_told}, Stream.{StandApart, SplitOneWay, SplitInPieces, FailsOnce, FailsForGood, FailsInPieces}, Failing.{FrontFails, place_of}};
 
 /// No message of a client begins another one, and no bytes are two messages.
 pub fn front_messages_stand_apart()

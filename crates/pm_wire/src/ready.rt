@@ -1,8 +1,7 @@
 //! Messages that are sent where no memory may be taken.
 
 ghost use Rattle.std.specs.Prelude.{◌≡◌};
-ghost use Rattle.pm_wire.specs.Conditions.{fixed_message};
-ghost use Rattle.pm_wire.specs.Backend.{spelling};
+ghost use Rattle.pm_wire.specs.{Conditions.fixed_message, Backend.spelling};
 
 use crate::condition::Fixed;
 

@@ -1,12 +1,8 @@
 //! Messages of the server as bytes.
 
-ghost use Rattle.std.specs.Prelude.{◌≡◌, ◌+◌, ◌-◌, ◌<◌, ◌≤◌, ◌^◌, ◌++◌, ◌∷◌, [], codes, decimal, None, Some, OnOk, OnErr, length, flat_map};
-ghost use Rattle.std.specs.Fmt.{signed_decimal};
-ghost use Rattle.pm_wire.specs.Pieces.{int32, string, message};
-ghost use Rattle.pm_wire.specs.Outgoing.{room};
+ghost use Rattle.std.specs.{Prelude.{◌≡◌, ◌+◌, ◌-◌, ◌<◌, ◌≤◌, ◌^◌, ◌++◌, ◌∷◌, [], codes, decimal, None, Some, OnOk, OnErr, length, flat_map}, Fmt.signed_decimal};
+ghost use Rattle.pm_wire.specs.{Pieces.{int32, string, message}, Outgoing.room, Conditions.told, Backend.{back_message, saying, fields, fields_of, report_length, spelling, severity_word, IsShort, IsWritable, Fields, Complete, Pair, One}};
 ghost use Rattle.pm_wire.specs.declared.condition.Condition.TheVariants as conditions;
-ghost use Rattle.pm_wire.specs.Conditions.{told};
-ghost use Rattle.pm_wire.specs.Backend.{back_message, saying, fields, fields_of, report_length, spelling, severity_word, IsShort, IsWritable, Fields, Complete, Pair, One};
 
 use crate::back::{Back, Report, Severity, Shape, Tag};
 use crate::bytes::Bytes;

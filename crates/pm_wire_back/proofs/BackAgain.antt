@@ -1,26 +1,8 @@
 -- What is spelled so is read, and each fault is told where it stands.
-use Rattle.std.proofs.Common.{◌≡◌, ℕ, suc, ◌+◌, ◌-◌, ◌^◌, ◌<◌, ◌≤◌, true, false, ltb, List, [], ◌∷◌, ◌++◌, length, get_or, drop, take, ◌↔◌, Ok, Err, refl, sym, ap, subst, ◌∙◌, inl, inr, arith, append_assoc}
-use Rattle.std.proofs.lemmas.Bool.{cases_lt, lt-ltb, le-ltb}
-use Rattle.std.proofs.lemmas.List.{length-append, append_cancel_left, drop_at, take_at, get_or_append_left, get_or_past}
+use Rattle.std.proofs.{Common.{◌≡◌, ℕ, suc, ◌+◌, ◌-◌, ◌^◌, ◌<◌, ◌≤◌, true, false, ltb, List, [], ◌∷◌, ◌++◌, length, get_or, drop, take, ◌↔◌, Ok, Err, refl, sym, ap, subst, ◌∙◌, inl, inr, arith, append_assoc}, lemmas.{Bool.{cases_lt, lt-ltb, le-ltb}, List.{length-append, append_cancel_left, drop_at, take_at, get_or_append_left, get_or_past}}}
 use Rattle.byteorder.specs.Endian.{big_number}
-use Rattle.pm_wire.specs.declared.back.Back.{Back}
-use Rattle.pm_wire.specs.declared.take.Take.{Take}
-use Rattle.pm_wire.specs.declared.take.Take.TheVariants.{Whole, Short, Bad}
-use Rattle.pm_wire.specs.declared.take.WireFault.{WireFault}
-use Rattle.pm_wire.specs.declared.take.WireFault.TheVariants.{BadLength, BadForm}
-use Rattle.pm_wire_back.specs.declared.parts.Stop.TheVariants.{Partial, Departs}
-use Rattle.pm_wire.specs.Pieces.{int32}
-use Rattle.pm_wire.specs.Backend.{BackMessage, body, spelling, back_message, IsBack}
-use Rattle.pm_wire.specs.Stream.{StandApart}
-use Rattle.pm_wire_back.specs.Received.{IsPartial, IsWholeAt, behind_header, behind_body, HasNoSuchLength, DepartsHere}
-use Rattle.pm_wire.specs.Reading.{seen_by}
-use Rattle.pm_wire.specs.Taking.{IfWhole}
-use Rattle.pm_wire_back.specs.BackReading.{Read, is_back_type, has_length, body_at, taken, back_of_length, back_of}
-use Rattle.pm_wire.specs.Numbers.{IsBytes, length_int32, number_again, number_below, number_split}
-use Rattle.pm_wire_back.proofs.Exact.{DepartsAt, unique_ok, unique_partial, unique_departs}
-use Rattle.pm_wire_back.proofs.Bodies.{IsBytes-behind, same_first}
-use Rattle.pm_wire_back.proofs.TypeBytes.{BodyIs, Good}
-use Rattle.pm_wire_back.proofs.BackLaws.{good, view, unheader, header_whole, known_goes, goes_known, fitting_is, BeginsBack, IsSoundBack, back_sound}
+use Rattle.pm_wire.specs.{declared.{back.Back.Back, take.{Take.{Take, TheVariants.{Whole, Short, Bad}}, WireFault.{WireFault, TheVariants.{BadLength, BadForm}}}}, Pieces.int32, Backend.{BackMessage, body, spelling, back_message, IsBack}, Stream.StandApart, Reading.seen_by, Taking.IfWhole, Numbers.{IsBytes, length_int32, number_again, number_below, number_split}}
+use Rattle.pm_wire_back.{specs.{declared.parts.Stop.TheVariants.{Partial, Departs}, Received.{IsPartial, IsWholeAt, behind_header, behind_body, HasNoSuchLength, DepartsHere}, BackReading.{Read, is_back_type, has_length, body_at, taken, back_of_length, back_of}}, proofs.{Exact.{DepartsAt, unique_ok, unique_partial, unique_departs}, Bodies.{IsBytes-behind, same_first}, TypeBytes.{BodyIs, Good}, BackLaws.{good, view, unheader, header_whole, known_goes, goes_known, fitting_is, BeginsBack, IsSoundBack, back_sound}}}
 
 -- ---- the header
 

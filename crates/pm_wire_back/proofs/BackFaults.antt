@@ -1,21 +1,8 @@
 -- Where a stream of the server's messages fails.
-use Rattle.std.proofs.Common.{◌≡◌, ℕ, ◌+◌, ◌-◌, ◌^◌, ◌<◌, List, ◌∷◌, ◌++◌, length, sym, ap, subst, ◌∙◌, inl, inr, append_assoc, arith}
-use Rattle.std.proofs.lemmas.List.{length-append}
+use Rattle.std.proofs.{Common.{◌≡◌, ℕ, ◌+◌, ◌-◌, ◌^◌, ◌<◌, List, ◌∷◌, ◌++◌, length, sym, ap, subst, ◌∙◌, inl, inr, append_assoc, arith}, lemmas.List.length-append}
 use Rattle.byteorder.specs.Endian.{big_number}
-use Rattle.pm_wire.specs.declared.take.WireFault.{WireFault}
-use Rattle.pm_wire.specs.declared.take.WireFault.TheVariants.{BadLength, BadForm}
-use Rattle.pm_wire.specs.Pieces.{int32}
-use Rattle.pm_wire.specs.Backend.{body, IsBack}
-use Rattle.pm_wire_back.specs.Received.{HasNoSuchLength, DepartsHere}
-use Rattle.pm_wire.specs.Stream.{HasNoMessage, FailsOnce, FailsForGood}
-use Rattle.pm_wire.specs.Failing.{place_of}
-use Rattle.pm_wire_back.specs.Failing.{BackFails}
-use Rattle.pm_wire.specs.Numbers.{length_int32, number_again}
-use Rattle.pm_wire_back.proofs.Exact.{DepartsAt, front_cases, departed, same_place}
-use Rattle.pm_wire_back.proofs.Bodies.{same_first}
-use Rattle.pm_wire_back.proofs.BackLaws.{view}
-use Rattle.pm_wire_back.proofs.BackAgain.{back_apart}
-use Rattle.pm_wire.specs.StreamLaws.{fails_once, fails_for_good}
+use Rattle.pm_wire.{specs.{declared.take.WireFault.{WireFault, TheVariants.{BadLength, BadForm}}, Pieces.int32, Backend.{body, IsBack}, Stream.{HasNoMessage, FailsOnce, FailsForGood}, Failing.place_of, Numbers.{length_int32, number_again}}, proofs.StreamLaws.{fails_once, fails_for_good}}
+use Rattle.pm_wire_back.{specs.{Received.{HasNoSuchLength, DepartsHere}, Failing.BackFails}, proofs.{Exact.{DepartsAt, front_cases, departed, same_place}, Bodies.same_first, BackLaws.view, BackAgain.back_apart}}
 
 departs_is : (bytes : List ℕ) (at : ℕ) → DepartsHere bytes at → DepartsAt IsBack bytes (length bytes - at)
 departs_is bytes at h = record {

@@ -1,33 +1,9 @@
 -- Reading a message of the server: what is read is spelled so, what is spelled so is read, and each fault is where it is said to be.
-use Rattle.std.proofs.Common.{◌≡◌, ℕ, suc, ◌+◌, ◌-◌, ◌^◌, ◌<◌, ◌≤◌, true, false, not, ◌==◌, ◌&&◌, ◌||◌, eqb, ltb, List, [], ◌∷◌, ◌++◌, length, drop, codes, decimal, Ok, Err, refl, sym, ap, subst, ◌∙◌, inl, inr, arith, append_assoc}
-use Rattle.std.proofs.lemmas.Bool.{cond_both, or_cases, eqb-true, ltb-true, ltb-false, lt-ltb, and_parts}
-use Rattle.std.proofs.lemmas.List.{length-append, append_cancel_left}
-use Rattle.std.specs.List.{AllByRecursion, list_any}
+use Rattle.std.{proofs.{Common.{◌≡◌, ℕ, suc, ◌+◌, ◌-◌, ◌^◌, ◌<◌, ◌≤◌, true, false, not, ◌==◌, ◌&&◌, ◌||◌, eqb, ltb, List, [], ◌∷◌, ◌++◌, length, drop, codes, decimal, Ok, Err, refl, sym, ap, subst, ◌∙◌, inl, inr, arith, append_assoc}, lemmas.{Bool.{cond_both, or_cases, eqb-true, ltb-true, ltb-false, lt-ltb, and_parts, eq-eqb}, List.{length-append, append_cancel_left}}, Math.Bool.or-true}, specs.List.{AllByRecursion, list_any}}
 use Rattle.byteorder.specs.Endian.{big_number}
-use Rattle.pm_wire.specs.declared.back.Severity.{Severity}
-use Rattle.pm_wire.specs.declared.back.Severity.TheVariants.{Error, Fatal, Panic, Warning}
-use Rattle.pm_wire.specs.declared.back.Shape.{Shape}
+use Rattle.pm_wire.specs.{declared.{back.{Severity.{Severity, TheVariants.{Error, Fatal, Panic, Warning}}, Shape.Shape, Tag.{Tag, TheVariants.{Insert, Update, Delete, Select}}}, take.Take.{Take, TheVariants.{Whole, Short, Bad}}}, Pieces.{int32, message, string}, Backend.{BackMessage, Auth, Param, Key, Ready, Fields, Pair, One, Complete, Empty, Fault, Notice, Saying, body, kind_of, fields_of, severity_word, HasCount, IsBack}, Numbers.{IsBytes, IsBytes-drop, length_int32, number_again, number_below, number_split}, Sizes.{length_fields, short_iff, pair_size, one_size}}
 use Rattle.pm_wire.specs.declared.back.Shape.TheVariants as shapes
-use Rattle.pm_wire.specs.declared.back.Tag.{Tag}
-use Rattle.pm_wire.specs.declared.back.Tag.TheVariants.{Insert, Update, Delete, Select}
-use Rattle.pm_wire.specs.declared.take.Take.{Take}
-use Rattle.pm_wire.specs.declared.take.Take.TheVariants.{Whole, Short, Bad}
-use Rattle.pm_wire_back.specs.declared.parts.Stop.TheVariants.{Partial, Departs}
-use Rattle.pm_wire.specs.Pieces.{int32, message, string}
-use Rattle.pm_wire.specs.Backend.{BackMessage, Auth, Param, Key, Ready, Fields, Pair, One, Complete, Empty, Fault, Notice, Saying, body, kind_of, fields_of, severity_word, HasCount, IsBack}
-use Rattle.pm_wire_back.specs.Received.{GoesOnAsBack, IsPartial, IsWholeAt, behind_header, behind_body}
-use Rattle.pm_wire_back.specs.Failing.{BackFails}
-use Rattle.pm_wire_back.specs.BackReading.{Read, is_back_type, leaves_number, fits_type, has_length, body_at, taken, back_of_length, back_of}
-use Rattle.pm_wire_back.specs.CountLaws.{has_count}
-use Rattle.pm_wire.specs.Numbers.{IsBytes, IsBytes-drop, length_int32, number_again, number_below, number_split}
-use Rattle.std.proofs.lemmas.Bool.{eq-eqb}
-use Rattle.std.proofs.Math.Bool.{or-true}
-use Rattle.pm_wire.specs.Sizes.{length_fields}
-use Rattle.pm_wire.specs.Sizes.{short_iff, pair_size, one_size}
-use Rattle.pm_wire_back.proofs.Exact.{HasWord, Exact}
-use Rattle.pm_wire_back.proofs.Bodies.{same_first}
-use Rattle.pm_wire_back.proofs.TypeBytes.{BodyIs, Good, good_auth, good_ready, good_empty, good_fields, good_param, good_key, good_row, columns_length}
-use Rattle.pm_wire_back.proofs.TagBytes.{good_tag, good_fault, good_notice, leaves_it}
+use Rattle.pm_wire_back.{specs.{declared.parts.Stop.TheVariants.{Partial, Departs}, Received.{GoesOnAsBack, IsPartial, IsWholeAt, behind_header, behind_body}, Failing.BackFails, BackReading.{Read, is_back_type, leaves_number, fits_type, has_length, body_at, taken, back_of_length, back_of}}, proofs.{CountLaws.has_count, Exact.{HasWord, Exact}, Bodies.same_first, TypeBytes.{BodyIs, Good, good_auth, good_ready, good_empty, good_fields, good_param, good_key, good_row, columns_length}, TagBytes.{good_tag, good_fault, good_notice, leaves_it}}}
 
 -- ---- the ten types
 

@@ -1,20 +1,8 @@
 -- The bodies of the server's messages: their languages, and that reading them is exact.
-use Rattle.std.proofs.Common.{◌≡◌, ℕ, ℤ, zero, suc, ◌+◌, ◌-◌, ◌<◌, ◌≤◌, true, false, ◌==◌, ◌&&◌, eqb, ltb, List, [], ◌∷◌, ◌++◌, length, get_or, Result, Ok, refl, sym, ap, subst, ◌∙◌, arith}
-use Rattle.std.proofs.lemmas.Bool.{cond_both, eqb-true, eqb-false, ltb-true, ltb-false, lt-ltb, and_parts}
-use Rattle.std.proofs.lemmas.List.{get_or-append-add}
-use Rattle.pm_wire_back.specs.declared.parts.Stop.{Stop}
-use Rattle.pm_wire_back.specs.declared.parts.Ending.TheVariants.{Anywhere, Exactly}
-use Rattle.pm_wire.specs.Pieces.{int32}
-use Rattle.pm_wire.specs.Backend.{BackMessage, Param, Key, Pair, One}
-use Rattle.pm_utf8.specs.Utf8.{boundary}
-use Rattle.pm_wire_back.specs.Parts.{◌>>=◌, literal_at, int32_at, text_at, string_at, key_at}
-use Rattle.pm_wire_back.specs.BackReading.{word_at, param_at, key_data_at, one_at, count_at, key_room, pair_at, columns_at, row_at}
-use Rattle.pm_wire.specs.Numbers.{IsBytes}
-use Rattle.pm_utf8.specs.States.{boundary_sound}
-use Rattle.std.proofs.lemmas.Bool.{eq-eqb}
-use Rattle.pm_wire_back.proofs.Exact.{Apart, GoesOn, HasWord, Exact, Then, Done, done_exact, done_apart, done_word, then_apart, then_word, then_exact}
-use Rattle.pm_wire_back.proofs.Fields.{exact_first, departs_now, Word, word_apart, word_word, literal_exact, Number, number_apart, number_word, int32_exact, Text, text_apart, text_word, text_exact, String, string_apart, string_word, string_exact, bind_same}
-use Rattle.pm_wire_back.proofs.Digits.{KeyWord, key_word, key_exact, key_apart}
+use Rattle.std.proofs.{Common.{◌≡◌, ℕ, ℤ, zero, suc, ◌+◌, ◌-◌, ◌<◌, ◌≤◌, true, false, ◌==◌, ◌&&◌, eqb, ltb, List, [], ◌∷◌, ◌++◌, length, get_or, Result, Ok, refl, sym, ap, subst, ◌∙◌, arith}, lemmas.{Bool.{cond_both, eqb-true, eqb-false, ltb-true, ltb-false, lt-ltb, and_parts, eq-eqb}, List.get_or-append-add}}
+use Rattle.pm_wire_back.{specs.{declared.parts.{Stop.Stop, Ending.TheVariants.{Anywhere, Exactly}}, Parts.{◌>>=◌, literal_at, int32_at, text_at, string_at, key_at}, BackReading.{word_at, param_at, key_data_at, one_at, count_at, key_room, pair_at, columns_at, row_at}}, proofs.{Exact.{Apart, GoesOn, HasWord, Exact, Then, Done, done_exact, done_apart, done_word, then_apart, then_word, then_exact}, Fields.{exact_first, departs_now, Word, word_apart, word_word, literal_exact, Number, number_apart, number_word, int32_exact, Text, text_apart, text_word, text_exact, String, string_apart, string_word, string_exact, bind_same}, Digits.{KeyWord, key_word, key_exact, key_apart}}}
+use Rattle.pm_wire.specs.{Pieces.int32, Backend.{BackMessage, Param, Key, Pair, One}, Numbers.IsBytes}
+use Rattle.pm_utf8.specs.{Utf8.boundary, States.boundary_sound}
 
 pub IsBytes-behind : (bytes u rest : List ℕ) → IsBytes bytes → bytes ≡ u ++ rest → IsBytes rest
 IsBytes-behind bytes u rest fits e i =

@@ -1,14 +1,6 @@
 -- Decimal digits, one by one.
-use Rattle.std.proofs.Common.{◌≡◌, ℕ, zero, suc, ◌+◌, ◌-◌, ◌*◌, ◌/◌, ◌^◌, ◌<◌, ◌≤◌, ◌⊎◌, Bool, true, false, not, ◌==◌, ◌&&◌, ltb, List, ◌∷◌, length, get_or, drop, Result, Ok, Err, refl, sym, ap, subst, ◌∙◌, inl, inr, arith, add-one}
-use Rattle.std.specs.Char.{is_ascii_digit}
-use Rattle.std.proofs.Math.Nat.{pow-suc, mul-le-mul_right}
-use Rattle.std.proofs.lemmas.Nat.{le-div, div-add-mod'}
-use Rattle.std.proofs.lemmas.Bool.{cond_both, ltb-false, le-ltb}
-use Rattle.std.proofs.lemmas.List.{drop_more, drop_all}
-use Rattle.pm_wire_back.specs.declared.parts.Stop.{Stop}
-use Rattle.pm_wire_back.specs.declared.parts.Stop.TheVariants.{Partial, Departs}
-use Rattle.pm_wire_back.specs.Parts.{departs, behind_digit, number_at}
-use Rattle.pm_wire_back.proofs.Walks.{drop_length}
+use Rattle.std.{proofs.{Common.{◌≡◌, ℕ, zero, suc, ◌+◌, ◌-◌, ◌*◌, ◌/◌, ◌^◌, ◌<◌, ◌≤◌, ◌⊎◌, Bool, true, false, not, ◌==◌, ◌&&◌, ltb, List, ◌∷◌, length, get_or, drop, Result, Ok, Err, refl, sym, ap, subst, ◌∙◌, inl, inr, arith, add-one}, Math.Nat.{pow-suc, mul-le-mul_right}, lemmas.{Nat.{le-div, div-add-mod'}, Bool.{cond_both, ltb-false, le-ltb}, List.{drop_more, drop_all}}}, specs.Char.is_ascii_digit}
+use Rattle.pm_wire_back.{specs.{declared.parts.Stop.{Stop, TheVariants.{Partial, Departs}}, Parts.{departs, behind_digit, number_at}}, proofs.Walks.drop_length}
 
 pub ten_pos : (k : ℕ) → 0 < 10 ^ k
 ten_pos zero = omega arith

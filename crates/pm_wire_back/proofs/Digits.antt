@@ -1,24 +1,9 @@
 -- Numbers of a given count of digits, read exactly.
-use Rattle.std.proofs.Common.{◌≡◌, ℕ, ℤ, pos, negsuc, zero, suc, ◌+◌, ◌-◌, ◌*◌, ◌/◌, ◌^◌, ◌<◌, ◌≤◌, ◌⊎◌, Bool, true, false, not, ◌==◌, ◌&&◌, cond, eqb, ltb, List, [], ◌∷◌, ◌++◌, length, get_or, replicate, decimal, Result, Ok, Err, refl, sym, ap, subst, ◌∙◌, inl, inr, arith, rules}
-use Rattle.std.specs.Char.{is_ascii_digit}
-use Rattle.std.specs.Str.{all_ascii_digits}
-use Rattle.std.specs.Fmt.{signed_decimal}
-use Rattle.std.proofs.Math.Nat.{pow-suc, mul-le-mul_right, pow-le-pow_right}
-use Rattle.std.proofs.lemmas.Nat.{le-div}
-use Rattle.std.proofs.lemmas.Bool.{cond_both, cases_lt, eqb-true, eqb-false, ltb-true, ltb-false, and_parts}
-use Rattle.std.proofs.lemmas.List.{length-replicate}
-use Rattle.std.proofs.lemmas.Str.Parse.{IsNumeralModel, numerals_by_fold}
-use Rattle.std.proofs.lemmas.Fmt.{digits_decimal, digits_value-decimal, decimal-digits_value, decimal_nonempty, decimal_digit, first_decimal, length-decimal-le, signed_decimal_injective}
+use Rattle.std.{proofs.{Common.{◌≡◌, ℕ, ℤ, pos, negsuc, zero, suc, ◌+◌, ◌-◌, ◌*◌, ◌/◌, ◌^◌, ◌<◌, ◌≤◌, ◌⊎◌, Bool, true, false, not, ◌==◌, ◌&&◌, cond, eqb, ltb, List, [], ◌∷◌, ◌++◌, length, get_or, replicate, decimal, Result, Ok, Err, refl, sym, ap, subst, ◌∙◌, inl, inr, arith, rules}, Math.Nat.{pow-suc, mul-le-mul_right, pow-le-pow_right}, lemmas.{Nat.le-div, Bool.{cond_both, cases_lt, eqb-true, eqb-false, ltb-true, ltb-false, and_parts}, List.length-replicate, Str.Parse.{IsNumeralModel, numerals_by_fold}, Fmt.{digits_decimal, digits_value-decimal, decimal-digits_value, decimal_nonempty, decimal_digit, first_decimal, length-decimal-le, signed_decimal_injective}}}, specs.{Char.is_ascii_digit, Str.all_ascii_digits, Fmt.signed_decimal}}
 use lib.Signed.{mag}
-use Rattle.pm_wire_back.specs.declared.parts.Stop.{Stop}
-use Rattle.pm_wire_back.specs.declared.parts.Stop.TheVariants.{Partial, Departs}
-use Rattle.pm_wire_back.specs.Parts.{◌>>=◌, departs, behind_digit, number_at, negative, key_at}
-use Rattle.pm_wire.specs.Backend.{IsInt64}
+use Rattle.pm_wire_back.{specs.{declared.parts.Stop.{Stop, TheVariants.{Partial, Departs}}, Parts.{◌>>=◌, departs, behind_digit, number_at, negative, key_at}}, proofs.{Decimals.{ten_pos, under_div, not_zero}, Exact.{Apart, GoesOn, HasWord, Exact}, Fields.{exact_first, departs_now, same_length, bind_same}}}
+use Rattle.pm_wire.specs.{Backend.IsInt64, pm_facts.Numbers.above_zero}
 use Rattle.std.proofs.lemmas.Bool.{ne_eqb}
-use Rattle.pm_facts.specs.Numbers.{above_zero}
-use Rattle.pm_wire_back.proofs.Decimals.{ten_pos, under_div, not_zero}
-use Rattle.pm_wire_back.proofs.Exact.{Apart, GoesOn, HasWord, Exact}
-use Rattle.pm_wire_back.proofs.Fields.{exact_first, departs_now, same_length, bind_same}
 
 abbrev pub read_on : ℕ → List ℕ → ℕ
 read_on n [] = n

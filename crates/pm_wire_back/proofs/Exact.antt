@@ -1,10 +1,7 @@
 -- Readers that are exact: what is read stands there, more bytes are wanted where they can complete it, and a byte departs
 -- where no bytes after it can. A language says which words are which values.
-use Rattle.std.proofs.Common.{◌≡◌, ℕ, suc, ◌<◌, List, [], ◌∷◌, ◌++◌, length, Result, Ok, Err, refl, sym, ap, subst, ◌∙◌, inl, inr, arith, append_assoc, ◌⊎◌}
-use Rattle.std.proofs.lemmas.List.{append-nil, length-append, append_cancel_left}
-use Rattle.pm_wire_back.specs.declared.parts.Stop.{Stop}
-use Rattle.pm_wire_back.specs.declared.parts.Stop.TheVariants.{Partial, Departs}
-use Rattle.pm_wire_back.specs.Parts.{◌>>=◌}
+use Rattle.std.proofs.{Common.{◌≡◌, ℕ, suc, ◌<◌, List, [], ◌∷◌, ◌++◌, length, Result, Ok, Err, refl, sym, ap, subst, ◌∙◌, inl, inr, arith, append_assoc, ◌⊎◌}, lemmas.List.{append-nil, length-append, append_cancel_left}}
+use Rattle.pm_wire_back.specs.{declared.parts.Stop.{Stop, TheVariants.{Partial, Departs}}, Parts.◌>>=◌}
 
 -- no word begins another, and each has one value
 abbrev pub Apart : {X : Type 0} → (List ℕ → X → Type 0) → Type 0

@@ -1,24 +1,9 @@
 -- The parts of a message, each with its language and an exact reader.
-use Rattle.std.proofs.Common.{◌≡◌, ℕ, zero, suc, ◌-◌, ◌^◌, ◌<◌, ◌≤◌, true, false, cond, eqb, ltb, ◌==◌, ◌&&◌, List, [], ◌∷◌, ◌++◌, length, replicate, Some, None, Result, Ok, Err, refl, sym, ap, subst, ◌∙◌, inl, inr, ◌⊎◌, arith}
-use Rattle.std.proofs.lemmas.Bool.{cond_both, cases_lt, eqb-true, eqb-false, ltb-true, ltb-false, lt-ltb, and_parts}
-use Rattle.std.proofs.lemmas.List.{length-append, length-replicate, take_all, get_or_append_left, get_or-append_right, get_or-replicate, get_or_past}
+use Rattle.std.proofs.{Common.{◌≡◌, ℕ, zero, suc, ◌-◌, ◌^◌, ◌<◌, ◌≤◌, true, false, cond, eqb, ltb, ◌==◌, ◌&&◌, List, [], ◌∷◌, ◌++◌, length, replicate, Some, None, Result, Ok, Err, refl, sym, ap, subst, ◌∙◌, inl, inr, ◌⊎◌, arith}, lemmas.{Bool.{cond_both, cases_lt, eqb-true, eqb-false, ltb-true, ltb-false, lt-ltb, and_parts, eq-eqb}, List.{length-append, length-replicate, take_all, get_or_append_left, get_or-append_right, get_or-replicate, get_or_past}}}
 use Rattle.byteorder.specs.Endian.{big_number}
-use Rattle.pm_wire_back.specs.declared.parts.Stop.{Stop}
-use Rattle.pm_wire_back.specs.declared.parts.Stop.TheVariants.{Partial, Departs}
-use Rattle.pm_wire_back.specs.declared.parts.Ending.{Ending}
-use Rattle.pm_wire_back.specs.declared.parts.Ending.TheVariants.{Anywhere, NotOneShort, Exactly}
-use Rattle.pm_utf8.specs.declared.Awaited.{Awaited}
-use Rattle.pm_wire.specs.Pieces.{int32}
-use Rattle.pm_utf8.specs.Utf8.{boundary, after, run}
-use Rattle.pm_wire_back.specs.Parts.{◌>>=◌, departs, fitting, may_end, literal_at, int32_at, code_at, text_at, string_at}
-use Rattle.pm_wire.specs.Numbers.{IsBytes, number_again, number_below, number_split, int32_number}
-use Rattle.pm_wire.specs.Nonzero.{AllNonzero}
-use Rattle.pm_utf8.specs.Steps.{after_is, run_step, run_first}
-use Rattle.pm_utf8.specs.States.{boundary_sound, after_sound, fill, needs}
-use Rattle.pm_utf8.specs.Utf8.{IsSound}
-use Rattle.std.proofs.lemmas.Bool.{eq-eqb}
-use Rattle.pm_wire_back.proofs.Walks.{fitting_is}
-use Rattle.pm_wire_back.proofs.Exact.{Apart, GoesOn, HasWord, Exact}
+use Rattle.pm_wire_back.{specs.{declared.parts.{Stop.{Stop, TheVariants.{Partial, Departs}}, Ending.{Ending, TheVariants.{Anywhere, NotOneShort, Exactly}}}, Parts.{◌>>=◌, departs, fitting, may_end, literal_at, int32_at, code_at, text_at, string_at}}, proofs.{Walks.fitting_is, Exact.{Apart, GoesOn, HasWord, Exact}}}
+use Rattle.pm_utf8.specs.{declared.Awaited.Awaited, Utf8.{boundary, after, run, IsSound}, Steps.{after_is, run_step, run_first}, States.{boundary_sound, after_sound, fill, needs}}
+use Rattle.pm_wire.specs.{Pieces.int32, Numbers.{IsBytes, number_again, number_below, number_split, int32_number}, Nonzero.AllNonzero}
 
 -- a reader that goes on after the first byte
 pub exact_first : {X Y : Type 0} (L : List ℕ → Y → Type 0) (M : List ℕ → X → Type 0) (g : X → Y) (b : ℕ)

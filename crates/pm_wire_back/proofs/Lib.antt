@@ -10,3 +10,4 @@ mod TagBytes
 mod BackLaws
 mod BackAgain
 mod BackFaults
+pub mod CountLaws

@@ -1,31 +1,8 @@
 -- The tags and the reports of the server's messages as bytes.
-use Rattle.std.proofs.Common.{◌≡◌, ℕ, zero, suc, ◌+◌, ◌-◌, ◌*◌, ◌^◌, ◌<◌, ◌≤◌, ◌⊎◌, true, false, eqb, List, [], ◌∷◌, ◌++◌, length, codes, decimal, Option, Some, None, Ok, refl, sym, ap, subst, ◌∙◌, inl, arith, append_assoc}
-use Rattle.std.specs.Prelude.{IfSome}
-use Rattle.std.specs.Str.{IsUtf8}
-use Rattle.std.proofs.lemmas.Bool.{eqb-true, ltb-true, lt-ltb}
-use Rattle.std.proofs.lemmas.List.{append-nil, length-append}
-use Rattle.std.proofs.lemmas.Fmt.{length-decimal-le, decimal_nonempty}
-use Rattle.pm_wire.specs.declared.back.Severity.{Severity}
-use Rattle.pm_wire.specs.declared.back.Severity.TheVariants.{Error, Fatal, Panic, Warning}
-use Rattle.pm_wire.specs.declared.back.Tag.{Tag}
-use Rattle.pm_wire.specs.declared.back.Tag.TheVariants.{Insert, Update, Delete, Select}
-use Rattle.pm_wire_back.specs.declared.parts.Ending.TheVariants.{NotOneShort, Exactly}
-use Rattle.pm_wire.specs.Pieces.{string}
-use Rattle.pm_wire.specs.Backend.{kind_of, BackMessage, Complete, Fault, Notice, Saying, fields, fields_of, detail_field, severity_word, tag_text, HasCount, HoldsReport, SaysNoZero, report_length, detail_length}
-use Rattle.pm_utf8.specs.Utf8.{boundary}
-use Rattle.pm_wire_back.specs.BackReading.{Read, complete_at, report_at, leaves_number, text_room, severity_fields}
-use Rattle.pm_wire_back.specs.Parts.{may_end, ◌>>=◌}
-use Rattle.pm_wire.specs.Nonzero.{all_nonzero, has_no_zero}
-use Rattle.pm_utf8.specs.Characters.{accepts, is_utf8}
-use Rattle.std.proofs.lemmas.Bool.{eq-eqb, ne_eqb}
-use Rattle.pm_facts.specs.Zeros.{HasNoZero}
-use Rattle.pm_wire.specs.Sizes.{length_fields}
-use Rattle.pm_wire_back.proofs.Exact.{Then, Done}
-use Rattle.pm_wire_back.proofs.Fields.{Code, String}
-use Rattle.pm_wire_back.proofs.Digits.{Num, num_decimal, decimal_num}
-use Rattle.pm_wire_back.proofs.Bodies.{last_exact, last_apart, last_word}
-use Rattle.pm_wire_back.proofs.Tags.{TagBody, TagWord, inserted, updated, deleted, selected, tag_body_exact, tag_body_apart, tag_body_word, Verb, leaves, ReportBody, report_exact, report_apart, report_word, SeverityWord, as_error, as_fatal, as_panic, as_warning, Said, Detail, saying_of}
-use Rattle.pm_wire_back.proofs.TypeBytes.{BodyIs, Good, good_from, of_kind}
+use Rattle.std.{proofs.{Common.{◌≡◌, ℕ, zero, suc, ◌+◌, ◌-◌, ◌*◌, ◌^◌, ◌<◌, ◌≤◌, ◌⊎◌, true, false, eqb, List, [], ◌∷◌, ◌++◌, length, codes, decimal, Option, Some, None, Ok, refl, sym, ap, subst, ◌∙◌, inl, arith, append_assoc}, lemmas.{Bool.{eqb-true, ltb-true, lt-ltb, eq-eqb, ne_eqb}, List.{append-nil, length-append}, Fmt.{length-decimal-le, decimal_nonempty}}}, specs.{Prelude.IfSome, Str.IsUtf8}}
+use Rattle.pm_wire.specs.{declared.back.{Severity.{Severity, TheVariants.{Error, Fatal, Panic, Warning}}, Tag.{Tag, TheVariants.{Insert, Update, Delete, Select}}}, Pieces.string, Backend.{kind_of, BackMessage, Complete, Fault, Notice, Saying, fields, fields_of, detail_field, severity_word, tag_text, HasCount, HoldsReport, SaysNoZero, report_length, detail_length}, Nonzero.{all_nonzero, has_no_zero}, pm_facts.Zeros.HasNoZero, Sizes.length_fields}
+use Rattle.pm_wire_back.{specs.{declared.parts.Ending.TheVariants.{NotOneShort, Exactly}, BackReading.{Read, complete_at, report_at, leaves_number, text_room, severity_fields}, Parts.{may_end, ◌>>=◌}}, proofs.{Exact.{Then, Done}, Fields.{Code, String}, Digits.{Num, num_decimal, decimal_num}, Bodies.{last_exact, last_apart, last_word}, Tags.{TagBody, TagWord, inserted, updated, deleted, selected, tag_body_exact, tag_body_apart, tag_body_word, Verb, leaves, ReportBody, report_exact, report_apart, report_word, SeverityWord, as_error, as_fatal, as_panic, as_warning, Said, Detail, saying_of}, TypeBytes.{BodyIs, Good, good_from, of_kind}}}
+use Rattle.pm_utf8.specs.{Utf8.boundary, Characters.{accepts, is_utf8}}
 
 -- ---- tags
 

@@ -1,23 +1,8 @@
 -- Tags and reports: their languages, and that reading them is exact.
-use Rattle.std.proofs.Common.{◌≡◌, ℕ, zero, suc, ◌+◌, ◌-◌, ◌^◌, ◌<◌, ◌≤◌, ◌⊎◌, Bool, true, false, ◌==◌, ◌&&◌, eqb, ltb, List, [], ◌∷◌, ◌++◌, length, drop, codes, Option, Some, None, Result, Ok, refl, sym, ap, subst, ◌∙◌, inl, inr, arith, append_assoc}
-use Rattle.std.proofs.lemmas.Bool.{cond_both, eqb-true, eqb-false, ltb-true, and_parts}
-use Rattle.std.proofs.lemmas.List.{length-append}
-use Rattle.pm_wire.specs.declared.back.Severity.{Severity}
-use Rattle.pm_wire.specs.declared.back.Severity.TheVariants.{Error, Fatal, Panic, Warning}
-use Rattle.pm_wire.specs.declared.back.Tag.{Tag}
-use Rattle.pm_wire.specs.declared.back.Tag.TheVariants.{Insert, Update, Delete, Select}
-use Rattle.pm_wire_back.specs.declared.parts.Stop.{Stop}
-use Rattle.pm_wire_back.specs.declared.parts.Ending.TheVariants.{NotOneShort, Exactly}
-use Rattle.pm_wire.specs.Backend.{BackMessage, Complete, Saying}
-use Rattle.pm_utf8.specs.Utf8.{boundary}
-use Rattle.pm_wire_back.specs.Parts.{◌>>=◌, code_at, string_at, number_at}
-use Rattle.pm_wire_back.specs.BackReading.{counted_verb_at, verb_at, leaves_number, tag_at, complete_at, detail_at, severity_fields, text_room, said_at, severity_at, report_at}
-use Rattle.pm_utf8.specs.States.{boundary_sound}
-use Rattle.std.proofs.lemmas.Bool.{ne_eqb, eq-eqb}
-use Rattle.pm_wire_back.proofs.Exact.{Apart, GoesOn, HasWord, Exact, Then, Done, done_exact, done_apart, done_word, then_apart, then_word, then_exact}
-use Rattle.pm_wire_back.proofs.Fields.{departs_now, Code, code_apart, code_word, code_exact, String, string_apart, string_word, string_exact, bind_same}
-use Rattle.pm_wire_back.proofs.Digits.{Num, num_apart, num_word, number_exact, exact_starting, powers_of_64}
-use Rattle.pm_wire_back.proofs.Bodies.{Behind, behind_exact, behind_apart, behind_word, last_exact, last_apart, last_word, same_first}
+use Rattle.std.proofs.{Common.{◌≡◌, ℕ, zero, suc, ◌+◌, ◌-◌, ◌^◌, ◌<◌, ◌≤◌, ◌⊎◌, Bool, true, false, ◌==◌, ◌&&◌, eqb, ltb, List, [], ◌∷◌, ◌++◌, length, drop, codes, Option, Some, None, Result, Ok, refl, sym, ap, subst, ◌∙◌, inl, inr, arith, append_assoc}, lemmas.{Bool.{cond_both, eqb-true, eqb-false, ltb-true, and_parts, ne_eqb, eq-eqb}, List.length-append}}
+use Rattle.pm_wire.specs.{declared.back.{Severity.{Severity, TheVariants.{Error, Fatal, Panic, Warning}}, Tag.{Tag, TheVariants.{Insert, Update, Delete, Select}}}, Backend.{BackMessage, Complete, Saying}}
+use Rattle.pm_wire_back.{specs.{declared.parts.{Stop.Stop, Ending.TheVariants.{NotOneShort, Exactly}}, Parts.{◌>>=◌, code_at, string_at, number_at}, BackReading.{counted_verb_at, verb_at, leaves_number, tag_at, complete_at, detail_at, severity_fields, text_room, said_at, severity_at, report_at}}, proofs.{Exact.{Apart, GoesOn, HasWord, Exact, Then, Done, done_exact, done_apart, done_word, then_apart, then_word, then_exact}, Fields.{departs_now, Code, code_apart, code_word, code_exact, String, string_apart, string_word, string_exact, bind_same}, Digits.{Num, num_apart, num_word, number_exact, exact_starting, powers_of_64}, Bodies.{Behind, behind_exact, behind_apart, behind_word, last_exact, last_apart, last_word, same_first}}}
+use Rattle.pm_utf8.specs.{Utf8.boundary, States.boundary_sound}
 
 -- ---- tags
 

@@ -1,26 +1,9 @@
 -- The messages of each type, and that reading their bodies is exact.
-use Rattle.std.proofs.Common.{◌≡◌, ◌==◌, Bool, true, false, get_or, ℕ, ℤ, pos, negsuc, suc, ◌+◌, ◌-◌, ◌/◌, ◌%◌, ◌^◌, ◌<◌, ◌≤◌, ◌⊎◌, ltb, List, [], ◌∷◌, ◌++◌, length, codes, Ok, Err, refl, sym, ap, subst, ◌∙◌, inl, inr, arith}
-use Rattle.std.specs.Fmt.{signed_decimal}
-use Rattle.std.proofs.lemmas.Bool.{cond_both, eqb-true, ltb-true, ltb-false}
-use Rattle.std.proofs.lemmas.List.{append-nil, length-append}
-use Rattle.std.proofs.lemmas.Fmt.{length-decimal-le, decimal_nonempty}
-use Rattle.pm_wire.specs.declared.back.Shape.{Shape}
+use Rattle.std.{proofs.{Common.{◌≡◌, ◌==◌, Bool, true, false, get_or, ℕ, ℤ, pos, negsuc, suc, ◌+◌, ◌-◌, ◌/◌, ◌%◌, ◌^◌, ◌<◌, ◌≤◌, ◌⊎◌, ltb, List, [], ◌∷◌, ◌++◌, length, codes, Ok, Err, refl, sym, ap, subst, ◌∙◌, inl, inr, arith}, lemmas.{Bool.{cond_both, eqb-true, ltb-true, ltb-false, eq-eqb}, List.{append-nil, length-append}, Fmt.{length-decimal-le, decimal_nonempty}}}, specs.Fmt.signed_decimal}
+use Rattle.pm_wire.specs.{declared.back.{Shape.Shape, Tag.Tag}, Pieces.{int16, int32, string, counted}, Backend.{BackMessage, Auth, Param, Key, Ready, Fields, Pair, One, Complete, Empty, Fault, Notice, Saying, body, kind_of, HasValues, IsWritable, IsInt64}, Numbers.{IsBytes, length_int32}, Nonzero.{all_nonzero, has_no_zero}}
 use Rattle.pm_wire.specs.declared.back.Shape.TheVariants as shapes
-use Rattle.pm_wire.specs.declared.back.Tag.{Tag}
-use Rattle.pm_wire_back.specs.declared.parts.Stop.TheVariants.{Partial, Departs}
-use Rattle.pm_wire_back.specs.declared.parts.Ending.TheVariants.{Anywhere, Exactly}
-use Rattle.pm_wire.specs.Pieces.{int16, int32, string, counted}
-use Rattle.pm_wire.specs.Backend.{BackMessage, Auth, Param, Key, Ready, Fields, Pair, One, Complete, Empty, Fault, Notice, Saying, body, kind_of, HasValues, IsWritable, IsInt64}
-use Rattle.pm_utf8.specs.Utf8.{boundary}
-use Rattle.pm_wire_back.specs.BackReading.{Read, word_at, param_at, key_data_at, row_at, key_room}
-use Rattle.pm_wire.specs.Numbers.{IsBytes, length_int32}
-use Rattle.pm_wire.specs.Nonzero.{all_nonzero, has_no_zero}
-use Rattle.pm_utf8.specs.Characters.{accepts, is_utf8}
-use Rattle.std.proofs.lemmas.Bool.{eq-eqb}
-use Rattle.pm_wire_back.proofs.Exact.{Apart, HasWord, Exact}
-use Rattle.pm_wire_back.proofs.Fields.{Text, String}
-use Rattle.pm_wire_back.proofs.Digits.{KeyWord}
-use Rattle.pm_wire_back.proofs.Bodies.{OneWord, word_exact, one_word_apart, ParamBody, param_exact, param_apart, param_word, KeyBody, key_data_exact, key_data_apart, key_data_word, RowBody, row_exact, row_apart, row_word, Columns, one_column, two_columns, OneBody, PairBody, CountWord}
+use Rattle.pm_wire_back.{specs.{declared.parts.{Stop.TheVariants.{Partial, Departs}, Ending.TheVariants.{Anywhere, Exactly}}, BackReading.{Read, word_at, param_at, key_data_at, row_at, key_room}}, proofs.{Exact.{Apart, HasWord, Exact}, Fields.{Text, String}, Digits.KeyWord, Bodies.{OneWord, word_exact, one_word_apart, ParamBody, param_exact, param_apart, param_word, KeyBody, key_data_exact, key_data_apart, key_data_word, RowBody, row_exact, row_apart, row_word, Columns, one_column, two_columns, OneBody, PairBody, CountWord}}}
+use Rattle.pm_utf8.specs.{Utf8.boundary, Characters.{accepts, is_utf8}}
 
 -- the word is the body of a message of this type and size
 pub record BodyIs (kind size : ℕ) (word : List ℕ) (m : BackMessage) : Type 0 where

@@ -1,17 +1,7 @@
 -- A walk over bytes, one step on and at its end.
-use Rattle.std.proofs.Common.{◌≡◌, ℕ, suc, ◌+◌, ◌-◌, ◌<◌, ◌≤◌, true, false, ◌==◌, ◌&&◌, cond, eqb, ltb, List, [], ◌∷◌, ◌++◌, length, get_or, take, drop, Option, Some, None, Result, Ok, Err, refl, sym, ap, subst, ◌∙◌, append_assoc, arith}
-use Rattle.std.proofs.lemmas.List.{length-drop, drop_more, drop_all, take_more, append-nil}
-use Rattle.pm_wire_back.specs.declared.parts.Stop.{Stop}
-use Rattle.pm_wire_back.specs.declared.parts.Stop.TheVariants.{Partial, Departs}
-use Rattle.pm_wire_back.specs.declared.parts.Ending.{Ending}
-use Rattle.pm_utf8.specs.declared.Awaited.{Awaited}
-use Rattle.std.specs.Str.{IsUtf8}
-use Rattle.std.proofs.lemmas.Bool.{ltb-true}
-use Rattle.pm_utf8.specs.Utf8.{boundary, after, run}
-use Rattle.pm_utf8.specs.Steps.{run_append, run_step}
-use Rattle.pm_utf8.specs.States.{run_sound, boundary_sound}
-use Rattle.pm_utf8.specs.Characters.{is_utf8}
-use Rattle.pm_wire_back.specs.Parts.{◌>>=◌, with_first, fitting, may_end, literal_at, code_at, text_at, string_at}
+use Rattle.std.{proofs.{Common.{◌≡◌, ℕ, suc, ◌+◌, ◌-◌, ◌<◌, ◌≤◌, true, false, ◌==◌, ◌&&◌, cond, eqb, ltb, List, [], ◌∷◌, ◌++◌, length, get_or, take, drop, Option, Some, None, Result, Ok, Err, refl, sym, ap, subst, ◌∙◌, append_assoc, arith}, lemmas.{List.{length-drop, drop_more, drop_all, take_more, append-nil}, Bool.ltb-true}}, specs.Str.IsUtf8}
+use Rattle.pm_wire_back.specs.{declared.parts.{Stop.{Stop, TheVariants.{Partial, Departs}}, Ending.Ending}, Parts.{◌>>=◌, with_first, fitting, may_end, literal_at, code_at, text_at, string_at}}
+use Rattle.pm_utf8.specs.{declared.Awaited.Awaited, Utf8.{boundary, after, run}, Steps.{run_append, run_step}, States.{run_sound, boundary_sound}, Characters.is_utf8}
 
 -- what was read before, and what is still read
 abbrev pub with_front : List ℕ → Result (List ℕ × List ℕ) Stop → Result (List ℕ × List ℕ) Stop

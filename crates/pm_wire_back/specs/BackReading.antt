@@ -1,23 +1,10 @@
 -- Reading a message of the server after its type and its length, which leaves it size bytes.
-use Rattle.std.specs.Prelude.{ℕ, ◌+◌, ◌-◌, ◌*◌, ◌^◌, Bool, true, not, ◌&&◌, ◌||◌, ◌==◌, nat_lt, if◌then◌else◌, List, [], ◌∷◌, ◌++◌, length, drop, Option, Some, None, Result, Ok, Err, codes}
-use Rattle.std.specs.List.{list_any}
+use Rattle.std.specs.{Prelude.{ℕ, ◌+◌, ◌-◌, ◌*◌, ◌^◌, Bool, true, not, ◌&&◌, ◌||◌, ◌==◌, nat_lt, if◌then◌else◌, List, [], ◌∷◌, ◌++◌, length, drop, Option, Some, None, Result, Ok, Err, codes}, List.list_any}
 use Rattle.byteorder.specs.Endian.{big_number}
-use Rattle.pm_wire_back.specs.Letters.{letter_C, letter_D, letter_E, letter_F, letter_I, letter_K, letter_P, letter_R, letter_S, letter_T, letter_U, letter_W, letter_Z}
-use Rattle.pm_wire.specs.declared.back.Severity.{Severity}
-use Rattle.pm_wire.specs.declared.back.Severity.TheVariants.{Error, Fatal, Panic, Warning}
+use Rattle.pm_wire_back.specs.{Letters.{letter_C, letter_D, letter_E, letter_F, letter_I, letter_K, letter_P, letter_R, letter_S, letter_T, letter_U, letter_W, letter_Z}, declared.parts.{Stop.{Stop, TheVariants.{Partial, Departs}}, Ending.TheVariants.{Anywhere, NotOneShort, Exactly}}, Parts.{◌>>=◌, departs, literal_at, int32_at, code_at, text_at, string_at, number_at, key_at}}
+use Rattle.pm_wire.specs.{declared.{back.{Severity.{Severity, TheVariants.{Error, Fatal, Panic, Warning}}, Tag.{Tag, TheVariants.{Insert, Update, Delete, Select}}}, take.{Take.{Take, TheVariants.{Whole, Short, Bad}}, WireFault.TheVariants.{BadLength, BadForm}}}, Pieces.int32, Backend.{BackMessage, Auth, Param, Key, Ready, Fields, Pair, One, Complete, Empty, Fault, Notice, Saying, severity_word, body}}
 use Rattle.pm_wire.specs.declared.back.Shape.TheVariants as shapes
-use Rattle.pm_wire.specs.declared.back.Tag.{Tag}
-use Rattle.pm_wire.specs.declared.back.Tag.TheVariants.{Insert, Update, Delete, Select}
-use Rattle.pm_wire.specs.declared.take.Take.{Take}
-use Rattle.pm_wire.specs.declared.take.Take.TheVariants.{Whole, Short, Bad}
-use Rattle.pm_wire.specs.declared.take.WireFault.TheVariants.{BadLength, BadForm}
-use Rattle.pm_wire_back.specs.declared.parts.Stop.{Stop}
-use Rattle.pm_wire_back.specs.declared.parts.Stop.TheVariants.{Partial, Departs}
-use Rattle.pm_wire_back.specs.declared.parts.Ending.TheVariants.{Anywhere, NotOneShort, Exactly}
-use Rattle.pm_wire.specs.Pieces.{int32}
-use Rattle.pm_wire.specs.Backend.{BackMessage, Auth, Param, Key, Ready, Fields, Pair, One, Complete, Empty, Fault, Notice, Saying, severity_word, body}
 use Rattle.pm_utf8.specs.Utf8.{boundary}
-use Rattle.pm_wire_back.specs.Parts.{◌>>=◌, departs, literal_at, int32_at, code_at, text_at, string_at, number_at, key_at}
 
 abbrev pub Read : Type 0
 Read = Result (BackMessage × List ℕ) Stop

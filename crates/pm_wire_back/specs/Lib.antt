@@ -1,7 +1,7 @@
 pub mod Letters
 pub mod Parts
 pub mod BackReading
-pub mod CountLaws
 pub mod Received
 pub mod Failing
 pub mod Plain
+pub use Rattle.pm_wire.specs as pm_wire

@@ -1,14 +1,8 @@
 -- Reading the parts of a message from left to right.
-use Rattle.std.specs.Prelude.{◌≡◌, ℕ, zero, suc, ◌+◌, ◌-◌, ◌*◌, ◌/◌, ◌^◌, ℤ, pos, negsuc, Bool, true, false, not, ◌&&◌, ◌==◌, nat_lt, if◌then◌else◌, List, [], ◌∷◌, length, drop, Option, Some, None, Result, Ok, Err}
-use Rattle.std.specs.Option.{option_map_or}
-use Rattle.std.specs.Char.{is_ascii_digit}
+use Rattle.std.specs.{Prelude.{◌≡◌, ℕ, zero, suc, ◌+◌, ◌-◌, ◌*◌, ◌/◌, ◌^◌, ℤ, pos, negsuc, Bool, true, false, not, ◌&&◌, ◌==◌, nat_lt, if◌then◌else◌, List, [], ◌∷◌, length, drop, Option, Some, None, Result, Ok, Err}, Option.option_map_or, Char.is_ascii_digit}
 use Rattle.byteorder.specs.Endian.{big_number}
-use Rattle.pm_wire_back.specs.declared.parts.Stop.{Stop}
-use Rattle.pm_wire_back.specs.declared.parts.Stop.TheVariants.{Partial, Departs}
-use Rattle.pm_wire_back.specs.declared.parts.Ending.{Ending}
-use Rattle.pm_wire_back.specs.declared.parts.Ending.TheVariants.{Anywhere, NotOneShort, Exactly}
-use Rattle.pm_utf8.specs.declared.Awaited.{Awaited}
-use Rattle.pm_utf8.specs.Utf8.{after}
+use Rattle.pm_wire_back.specs.declared.parts.{Stop.{Stop, TheVariants.{Partial, Departs}}, Ending.{Ending, TheVariants.{Anywhere, NotOneShort, Exactly}}}
+use Rattle.pm_utf8.specs.{declared.Awaited.Awaited, Utf8.after}
 pub use Rattle.pm_utf8.specs.Utf8.{boundary}
 
 infixl 10 ◌>>=◌

@@ -1,7 +1,6 @@
 -- What the front of a stream of the server's messages can be, besides a whole message.
 use Rattle.std.specs.Prelude.{◌≡◌, ℕ, ◌+◌, ◌<◌, ◌≤◌, ◌^◌, ◌⊎◌, List, [], ◌∷◌, ◌++◌, length}
-use Rattle.pm_wire.specs.Pieces.{int32}
-use Rattle.pm_wire.specs.Backend.{BackMessage, IsBack}
+use Rattle.pm_wire.specs.{Pieces.int32, Backend.{BackMessage, IsBack}}
 
 -- some message begins with the bytes, and has more
 abbrev pub GoesOnAsBack : List ℕ → Type 0

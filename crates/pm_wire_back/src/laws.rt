@@ -1,9 +1,7 @@
 //! What holds of every stream of a server's messages. The functions do nothing: each stands for the law in its contract,
 //! over the definitions that `read_back` cites.
 
-ghost use Rattle.pm_wire.specs.Backend.{IsBack};
-ghost use Rattle.pm_wire.specs.Stream.{StandApart, SplitOneWay, SplitInPieces, FailsOnce, FailsForGood, FailsInPieces};
-ghost use Rattle.pm_wire.specs.Failing.{place_of};
+ghost use Rattle.pm_wire.specs.{Backend.IsBack, Stream.{StandApart, SplitOneWay, SplitInPieces, FailsOnce, FailsForGood, FailsInPieces}, Failing.place_of};
 ghost use Rattle.pm_wire_back.specs.Failing.{BackFails};
 
 /// No message of the server begins another one, and no bytes are two messages.

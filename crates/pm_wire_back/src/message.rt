@@ -1,12 +1,8 @@
 //! Reading a message of the server: its type, its length and its body.
 
 ghost use Rattle.std.specs.Prelude.{◌≡◌, ◌<◌, ◌≤◌, ◌^◌, length, true, IfOk};
-ghost use Rattle.pm_wire.specs.Backend.{back_message};
-ghost use Rattle.pm_wire.specs.Reading.{seen_by};
-ghost use Rattle.pm_wire.specs.Taking.{IfWhole};
-ghost use Rattle.pm_wire_back.specs.Parts.{Gives};
-ghost use Rattle.pm_wire_back.specs.Plain.{IsPlain};
-ghost use Rattle.pm_wire_back.specs.BackReading.{word_at, param_at, key_data_at, fits_type, fields_at, body_at, has_length, back_of_length, back_of};
+ghost use Rattle.pm_wire.specs.{Backend.back_message, Reading.seen_by, Taking.IfWhole};
+ghost use Rattle.pm_wire_back.specs.{Parts.Gives, Plain.IsPlain, BackReading.{word_at, param_at, key_data_at, fits_type, fields_at, body_at, has_length, back_of_length, back_of}};
 
 use crate::parts::{Ending, Read, Stop, int32, literal, string};
 use crate::report::report;

@@ -1,9 +1,7 @@
 //! Reading the parts of a message of the server, one after the other. Each reader answers what it read
 //! and the bytes after it, or where no message goes on.
 
-ghost use Rattle.std.specs.Prelude.{◌≡◌, ◌≤◌, ◌<◌, ◌+◌, ◌==◌, ◌&&◌, length, take, drop, OnOk, IfOk, IfSome, IfNone, true, false, not, ◌*◌, ◌^◌, ◌/◌, ◌⊎◌};
-ghost use Rattle.std.specs.Str.{IsUtf8};
-ghost use Rattle.std.specs.Char.{is_ascii_digit};
+ghost use Rattle.std.specs.{Prelude.{◌≡◌, ◌≤◌, ◌<◌, ◌+◌, ◌==◌, ◌&&◌, length, take, drop, OnOk, IfOk, IfSome, IfNone, true, false, not, ◌*◌, ◌^◌, ◌/◌, ◌⊎◌}, Str.IsUtf8, Char.is_ascii_digit};
 ghost use Rattle.pm_utf8.specs.Utf8.{boundary, after};
 ghost use Rattle.pm_wire_back.specs.Parts.{Gives, literal_at, int32_at, code_at, fitting, string_at, text_at, may_end, behind_digit, number_at, negative, key_at};
 

@@ -1,11 +1,8 @@
 //! Messages of the server, read by a client.
 
 ghost use Rattle.std.specs.Prelude.{◌≡◌, ℕ, ◌≤◌, ◌++◌, ◌↔◌, List, length, take};
-ghost use Rattle.pm_wire.specs.Backend.{BackMessage, IsBack, back_message};
-ghost use Rattle.pm_wire_back.specs.Received.{IsPartial, IsWholeAt, HasNoSuchLength, DepartsHere};
-ghost use Rattle.pm_wire.specs.Reading.{seen_by};
-ghost use Rattle.pm_wire.specs.Taking.{IfWhole};
-ghost use Rattle.pm_wire_back.specs.Plain.{IsPlain};
+ghost use Rattle.pm_wire.specs.{Backend.{BackMessage, IsBack, back_message}, Reading.seen_by, Taking.IfWhole};
+ghost use Rattle.pm_wire_back.specs.{Received.{IsPartial, IsWholeAt, HasNoSuchLength, DepartsHere}, Plain.IsPlain};
 
 use crate::message::back_of;
 use pm_wire::{Back, Take, WireFault};

@@ -1,10 +1,8 @@
 //! Reading an error or a notice.
 
-ghost use Rattle.std.specs.Prelude.{◌≡◌};
-ghost use Rattle.std.specs.Option.{option_map};
+ghost use Rattle.std.specs.{Prelude.◌≡◌, Option.option_map};
 ghost use Rattle.pm_wire.specs.Backend.{saying};
-ghost use Rattle.pm_wire_back.specs.Parts.{Gives, code_at};
-ghost use Rattle.pm_wire_back.specs.BackReading.{detail_at, severity_fields, text_room, said_at, severity_at, report_at};
+ghost use Rattle.pm_wire_back.specs.{Parts.{Gives, code_at}, BackReading.{detail_at, severity_fields, text_room, said_at, severity_at, report_at}};
 
 use crate::parts::{Ending, Read, Stop, literal, nonzero, string};
 use pm_wire::{Report, Severity};

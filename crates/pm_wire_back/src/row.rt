@@ -2,9 +2,7 @@
 
 ghost use Rattle.std.specs.Prelude.{◌≡◌, ◌<◌, ◌≤◌, ◌^◌, IfOk};
 ghost use Rattle.pm_wire.specs.Backend.{back_message};
-ghost use Rattle.pm_wire_back.specs.Parts.{Gives};
-ghost use Rattle.pm_wire_back.specs.Plain.{IsPlain};
-ghost use Rattle.pm_wire_back.specs.BackReading.{one_at, count_at, pair_at, columns_at, row_at};
+ghost use Rattle.pm_wire_back.specs.{Parts.Gives, Plain.IsPlain, BackReading.{one_at, count_at, pair_at, columns_at, row_at}};
 
 use crate::parts::{Read, Stop, key, literal, text};
 use pm_wire::Back;

@@ -2,9 +2,7 @@
 
 ghost use Rattle.std.specs.Prelude.{◌≡◌, ◌<◌, ◌≤◌, IfOk};
 ghost use Rattle.pm_wire.specs.Backend.{back_message};
-ghost use Rattle.pm_wire_back.specs.Parts.{Gives};
-ghost use Rattle.pm_wire_back.specs.Plain.{IsPlain};
-ghost use Rattle.pm_wire_back.specs.BackReading.{counted_verb_at, leaves_number, tag_at, complete_at};
+ghost use Rattle.pm_wire_back.specs.{Parts.Gives, Plain.IsPlain, BackReading.{counted_verb_at, leaves_number, tag_at, complete_at}};
 
 use crate::parts::{Read, Stop, literal, number};
 use pm_wire::{Back, Tag};

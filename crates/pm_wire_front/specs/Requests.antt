@@ -1,8 +1,6 @@
 -- What a client sends (Message Flow, Simple Query; Message Formats).
-use Rattle.std.specs.Prelude.{ℕ, ◌-◌, ◌^◌, ◌≤◌, List, [], ◌∷◌, ◌++◌, length, codes}
-use Rattle.std.specs.List.{flat_map}
-use Rattle.pm_facts.specs.Zeros.{HasNoZero}
-use Rattle.pm_wire.specs.Pieces.{int32, string, message}
+use Rattle.std.specs.{Prelude.{ℕ, ◌-◌, ◌^◌, ◌≤◌, List, [], ◌∷◌, ◌++◌, length, codes}, List.flat_map}
+use Rattle.pm_wire.specs.{pm_facts.Zeros.HasNoZero, Pieces.{int32, string, message}}
 
 -- StartupMessage of version 3.0 (3 in the high 16 bits), which has no type. It names a user and says nothing more.
 abbrev pub start_packet : List ℕ → List ℕ

@@ -1,8 +1,7 @@
 //! What holds of what a client sends. The function does nothing: it stands for the law in its contract.
 
 ghost use Rattle.std.specs.Prelude.{◌≤◌, List, ℕ, length};
-ghost use Rattle.pm_facts.specs.Zeros.{HasNoZero};
-ghost use Rattle.pm_wire.specs.Frontend.{IsFront, Query, Terminate};
+ghost use Rattle.pm_wire.specs.{pm_facts.Zeros.HasNoZero, Frontend.{IsFront, Query, Terminate}};
 ghost use Rattle.pm_wire_front.specs.Requests.{query, terminate};
 
 /// A server reads what a client of this crate sends as that query, and as the end of its session.

@@ -1,8 +1,7 @@
 //! Replies in room that was taken ahead.
 
 ghost use Rattle.std.specs.Prelude.{◌≤◌, ◌<◌, length};
-ghost use Rattle.pm_wire.specs.Outgoing.{room};
-ghost use Rattle.pm_wire.specs.Longest.{IsGiven, longest_told};
+ghost use Rattle.pm_wire.specs.{Outgoing.room, Longest.{IsGiven, longest_told}};
 
 use pm_wire::{
     Back, Condition, Fixed, Outbox, back_messages_have_a_longest, conditions_can_be_told, fixed,

@@ -1,24 +1,10 @@
 -- The run of an auxiliary child, from what it tells at its end.
-use Rattle.std.proofs.Common.{ℕ, ◌≡◌, inl, inr, ◌∙◌, true, false, List, Option, Some, None, ap, sym, refl, subst}
-use Rattle.std.specs.Prelude.{is_some, Result, Ok, Err}
-use Rattle.std.proofs.lemmas.Bool.{false≢true}
-use Rattle.pm_exit.specs.declared.child.Kind.{Kind}
-use Rattle.pm_exit.specs.declared.child.Kind.TheVariants as kinds
-use Rattle.pm_exit.specs.declared.child.Status.{Status}
-use Rattle.pm_exit.specs.declared.child.Status.TheVariants.{Code, Signal}
-use Rattle.pm_exit.specs.Ends.{is_exit_0}
-use Rattle.pm_life.specs.declared.life.GateNo.{GateNo}
-use Rattle.pm_life.specs.Life.{Told}
-use Rattle.pm_query.specs.declared.book.BookEntry.{BookEntry}
-use Rattle.pm_query.specs.declared.store.StoreNo.TheVariants as stores
-use Rattle.pm_aux.specs.declared.aux_done.AuxDone.{AuxDone}
-use Rattle.pm_aux.specs.declared.cause.AuxiliaryEnd.{AuxiliaryEnd}
-use Rattle.pm_aux.specs.declared.cause.AuxiliaryEnd.TheVariants.{Redone, Flushed, Closed, LeftOut, Refused, TurnedAway, ToldToTerminate, ToldToQuit, Killed}
-use Rattle.pm_aux.specs.Ends.{status_by, kept_by, attached_behind}
-use Rattle.pm_aux.specs.Runs.{Runner, End, NotesBehind, IsRunOf}
-use Rattle.pm_board.specs.Places.{is_auxiliary}
-use Rattle.pm_worker.specs.Mails.{IsFor, IsKept, aux_mail}
-use Rattle.pm_worker.specs.Runs.{Run, IsAuxRun, Does}
+use Rattle.std.{proofs.{Common.{ℕ, ◌≡◌, inl, inr, ◌∙◌, true, false, List, Option, Some, None, ap, sym, refl, subst}, lemmas.Bool.false≢true}, specs.Prelude.{is_some, Result, Ok, Err}}
+use Rattle.pm_board.specs.{pm_exit.{declared.child.{Kind.Kind, Status.{Status, TheVariants.{Code, Signal}}}, Ends.is_exit_0}, pm_child_life.{declared.life.GateNo.GateNo, Life.Told}, Places.is_auxiliary}
+use Rattle.pm_board.specs.pm_exit.declared.child.Kind.TheVariants as kinds
+use Rattle.pm_aux.specs.{pm_query.declared.book.BookEntry.BookEntry, declared.{aux_done.AuxDone.AuxDone, cause.AuxiliaryEnd.{AuxiliaryEnd, TheVariants.{Redone, Flushed, Closed, LeftOut, Refused, TurnedAway, ToldToTerminate, ToldToQuit, Killed}}}, Ends.{status_by, kept_by, attached_behind}, Runs.{Runner, End, NotesBehind, IsRunOf}}
+use Rattle.pm_aux.specs.pm_query.declared.store.StoreNo.TheVariants as stores
+use Rattle.pm_worker.specs.{Mails.{IsFor, IsKept, aux_mail}, Runs.{Run, IsAuxRun, Does}}
 
 -- ---- numbers
 

@@ -1,25 +1,11 @@
 -- How a run ends on its post.
-use Rattle.std.proofs.Common.{ℕ, ◌≡◌, ◌∙◌, ◌++◌, Bool, true, false, List, [], ◌∷◌, Option, Some, None, ap, sym, refl, subst}
-use Rattle.std.specs.Prelude.{◌↔◌, IsTrue, is_some, unwrap_or}
+use Rattle.std.{proofs.{Common.{ℕ, ◌≡◌, ◌∙◌, ◌++◌, Bool, true, false, List, [], ◌∷◌, Option, Some, None, ap, sym, refl, subst}, lemmas.{List.append-nil, Bool.false≢true}}, specs.Prelude.{◌↔◌, IsTrue, is_some, unwrap_or}}
 use Rattle.pm_admit.specs.declared.Cac.{Cac}
-use Rattle.pm_worker.specs.declared.mail.LinkTold.{LinkTold}
-use Rattle.pm_exit.specs.declared.child.Status.{Status}
-use Rattle.pm_exit.specs.declared.child.Status.TheVariants.{Code}
-use Rattle.pm_exit.specs.Ends.{is_exit_0}
-use Rattle.std.proofs.lemmas.List.{append-nil}
-use Rattle.std.proofs.lemmas.Bool.{false≢true}
+use Rattle.pm_worker.specs.{declared.mail.{LinkTold.LinkTold, MailTold.MailTold}, Mails.IsFor, Runs.{Run, HasBegun, Does, IsRun, HasRun, close_run}}
+use Rattle.pm_board.specs.{pm_exit.{declared.child.Status.{Status, TheVariants.Code}, Ends.is_exit_0}, declared.views.{Cancel.Cancel, Offer.Offer, Work.{Work, TheVariants.{Idle, Sees, Inactive, Active, Refused, Attached}}}, Told.{child_in, past_child, MayEnd}, Models.{PostModel, MayExit, HasExited}}
 use Rattle.pm_worker.specs.declared.mail.MailTold.TheVariants as mail
 use Rattle.pm_query.specs.declared.book.BookEntry.{BookEntry}
-use Rattle.pm_board.specs.declared.views.Cancel.{Cancel}
-use Rattle.pm_board.specs.declared.views.Offer.{Offer}
-use Rattle.pm_board.specs.declared.views.Work.{Work}
-use Rattle.pm_board.specs.declared.views.Work.TheVariants.{Idle, Sees, Inactive, Active, Refused, Attached}
-use Rattle.pm_board.specs.Told.{child_in, past_child, MayEnd}
-use Rattle.pm_board.specs.Models.{PostModel, MayExit, HasExited}
-use Rattle.pm_post_life.specs.Lives.{GoesOn, child_as, child_by, attached_of, IsLiving}
-use Rattle.pm_worker.specs.declared.mail.MailTold.{MailTold}
-use Rattle.pm_worker.specs.Mails.{IsFor}
-use Rattle.pm_worker.specs.Runs.{Run, HasBegun, Does, IsRun, HasRun, close_run}
+use Rattle.pm_board_life.specs.Lives.{GoesOn, child_as, child_by, attached_of, IsLiving}
 
 module _ {D : Type 0} where
   -- a living child is as its offer says

@@ -1,14 +1,8 @@
 -- What a worker has done, one run longer.
-use Rattle.std.proofs.Common.{ℕ, ◌≡◌, ◌∙◌, ◌++◌, List, [], ◌∷◌, Option, map, ap, sym, refl, subst}
-use Rattle.std.specs.List.{flat_map}
-use Rattle.std.proofs.lemmas.List.{append-nil, append_assoc}
-use Rattle.std.proofs.lemmas.Grind.{flat_map-append}
-use Rattle.pm_facts.specs.Lists.{each_more}
-use Rattle.pm_query.specs.declared.book.BookEntry.{BookEntry}
-use Rattle.pm_board.specs.declared.views.Work.TheVariants.{Idle}
-use Rattle.pm_board.specs.Models.{PostModel}
-use Rattle.pm_worker.specs.declared.mail.MailTold.{MailTold}
-use Rattle.pm_worker.specs.Runs.{Run, IsRun, HasRun, noted_by, HasWorked}
+use Rattle.std.{proofs.{Common.{ℕ, ◌≡◌, ◌∙◌, ◌++◌, List, [], ◌∷◌, Option, map, ap, sym, refl, subst}, lemmas.{List.{append-nil, append_assoc}, Grind.flat_map-append}}, specs.List.flat_map}
+use Rattle.pm_query.specs.{pm_facts.Lists.each_more, declared.book.BookEntry.BookEntry}
+use Rattle.pm_board.specs.{declared.views.Work.TheVariants.Idle, Models.PostModel}
+use Rattle.pm_worker.specs.{declared.mail.MailTold.MailTold, Runs.{Run, IsRun, HasRun, noted_by, HasWorked}}
 
 maps_more : {A B : Type 0} (f : A → B) (xs : List A) (x : A) → map f (xs ++ x ∷ []) ≡ map f xs ++ f x ∷ []
 maps_more f [] x = refl

@@ -1,34 +1,10 @@
 -- The run of a session, from what its serving tells.
-use Rattle.std.proofs.Common.{ℕ, ◌≡◌, ◌⊎◌, ◌<◌, ◌≤◌, true, false, List, Option, Some, None, sym, refl, subst}
-use Rattle.std.specs.Prelude.{is_some}
-use Rattle.std.specs.Option.{option_map}
-use Rattle.pm_disk.specs.Cause.{Rose}
-use Rattle.pm_outside.specs.Traffic.{Traffic}
-use Rattle.pm_exit.specs.declared.child.Status.{Status}
-use Rattle.pm_exit.specs.Ends.{is_exit_0}
-use Rattle.pm_admit.specs.declared.Cac.{Cac}
-use Rattle.pm_life.specs.Life.{nothing_told}
-use Rattle.pm_keys.specs.CancelKey.{cancel_key}
-use Rattle.pm_query.specs.declared.book.BookEntry.{BookEntry}
-use Rattle.pm_query.specs.Calls.{newcomer}
-use Rattle.pm_exchange.specs.declared.ending.Cause.{Cause}
-use Rattle.pm_exchange.specs.declared.ending.Cause.TheVariants.{Terminated, Cancelling, LinkEnded, LinkFailed, TimedOut, PacketRefused, MessageRefused, DecisionRefused, GateRefused, ShortOfMemory, Panicked, ToldToTerminate, ToldToQuit, Killed, Overtaken}
-use Rattle.pm_exchange.specs.declared.ending.Stage.{Stage}
-use Rattle.pm_exchange.specs.declared.ending.Stage.TheVariants.{Outside, Entering, Greeted}
-use Rattle.pm_exchange.specs.Exchange.{CutsOff}
-use Rattle.pm_exchange.specs.Sent.{Turn}
-use Rattle.pm_session.specs.Session.{Ending, status_of, between, IsAttachedAt, HasPassed, IsSession, IsCaused, HasAskedFor, HeedsTold, IsAttachedBehind, HasCancelled}
-use Rattle.pm_exchange.specs.Ends.{status_by, LetsGo}
-use Rattle.pm_board.specs.declared.views.Cancel.{Cancel}
-use Rattle.pm_board.specs.declared.views.Heard.{Heard}
-use Rattle.pm_board.specs.declared.views.Offer.{Offer}
-use Rattle.pm_board.specs.Told.{past_child}
-use Rattle.pm_post_life.specs.Lives.{told_by, child_as}
-use Rattle.pm_worker.specs.declared.mail.LinkTold.{LinkTold}
-use Rattle.pm_worker.specs.declared.mail.MailTold.{MailTold}
+use Rattle.std.{proofs.Common.{ℕ, ◌≡◌, ◌⊎◌, ◌<◌, ◌≤◌, true, false, List, Option, Some, None, sym, refl, subst}, specs.{Prelude.is_some, Option.option_map}}
+use Rattle.pm_session.specs.{pm_outside.{pm_disk.Cause.Rose, Traffic.Traffic}, pm_admit.declared.Cac.Cac, pm_child_life.Life.nothing_told, pm_query.{declared.book.BookEntry.BookEntry, Calls.newcomer}, pm_session_exchange.{declared.ending.{Cause.{Cause, TheVariants.{Terminated, Cancelling, LinkEnded, LinkFailed, TimedOut, PacketRefused, MessageRefused, DecisionRefused, GateRefused, ShortOfMemory, Panicked, ToldToTerminate, ToldToQuit, Killed, Overtaken}}, Stage.{Stage, TheVariants.{Outside, Entering, Greeted}}}, Exchange.CutsOff, Sent.Turn, Ends.{status_by, LetsGo}}, Session.{Ending, status_of, between, IsAttachedAt, HasPassed, IsSession, IsCaused, HasAskedFor, HeedsTold, IsAttachedBehind, HasCancelled}}
+use Rattle.pm_board.specs.{pm_exit.{declared.child.Status.Status, Ends.is_exit_0}, pm_keys.CancelKey.cancel_key, declared.views.{Cancel.Cancel, Heard.Heard, Offer.Offer}, Told.past_child}
+use Rattle.pm_board_life.specs.Lives.{told_by, child_as}
+use Rattle.pm_worker.specs.{declared.mail.{LinkTold.LinkTold, MailTold.MailTold}, Mails.{traffic_in, traffic_of, passed_of}, Runs.IsSessionRun}
 use Rattle.pm_worker.specs.declared.mail.MailTold.TheVariants as mail
-use Rattle.pm_worker.specs.Mails.{traffic_in, traffic_of, passed_of}
-use Rattle.pm_worker.specs.Runs.{IsSessionRun}
 
 -- a link's traffic is told whole
 pub told_whole : (traffic : Option Traffic) → option_map traffic_of (option_map passed_of traffic) ≡ traffic

@@ -1,19 +1,12 @@
 -- What a mail tells, and which children it is for.
-use Rattle.std.specs.Prelude.{◌≡◌, ℕ, true, Option, is_some}
-use Rattle.std.specs.Option.{option_map}
+use Rattle.std.specs.{Prelude.{◌≡◌, ℕ, true, Option, is_some}, Option.option_map}
 use Rattle.pm_admit.specs.declared.Cac.TheVariants as decisions
-use Rattle.pm_exit.specs.declared.child.Kind.{Kind}
-use Rattle.pm_exit.specs.declared.child.Kind.TheVariants as kinds
-use Rattle.pm_exit.specs.declared.child.Status.{Status}
-use Rattle.pm_exit.specs.declared.child.Status.TheVariants.{Code}
-use Rattle.pm_board.specs.Places.{is_connection, is_auxiliary}
+use Rattle.pm_board.specs.{pm_exit.declared.child.{Kind.Kind, Status.{Status, TheVariants.Code}}, Places.{is_connection, is_auxiliary}}
+use Rattle.pm_board.specs.pm_exit.declared.child.Kind.TheVariants as kinds
 use Rattle.pm_outside.specs.Traffic.{Traffic}
 use Rattle.pm_outside.specs.declared.link.Link as Link
-use Rattle.pm_worker.specs.declared.mail.Mail.{Mail}
+use Rattle.pm_worker.specs.declared.mail.{Mail.Mail, Passed.Passed, LinkTold.LinkTold, MailTold.MailTold}
 use Rattle.pm_worker.specs.declared.mail.Mail.TheVariants as mail
-use Rattle.pm_worker.specs.declared.mail.Passed.{Passed}
-use Rattle.pm_worker.specs.declared.mail.LinkTold.{LinkTold}
-use Rattle.pm_worker.specs.declared.mail.MailTold.{MailTold}
 use Rattle.pm_worker.specs.declared.mail.MailTold.TheVariants as told
 
 -- ---- what it tells

@@ -1,32 +1,12 @@
 -- The runs of the children of one worker.
-use Rattle.std.specs.Prelude.{◌≡◌, ◌≢◌, ℕ, ◌<◌, ◌≤◌, false, List, [], ◌∷◌, ◌++◌, map, Option, Some, None, is_some}
-use Rattle.std.specs.List.{flat_map, AllByRecursion}
-use Rattle.pm_disk.specs.Cause.{Rose}
-use Rattle.pm_exit.specs.declared.child.Kind.{Kind}
-use Rattle.pm_exit.specs.declared.child.Kind.TheVariants as kinds
-use Rattle.pm_exit.specs.declared.child.Status.TheVariants.{Code}
-use Rattle.pm_admit.specs.declared.Cac.{Cac}
-use Rattle.pm_life.specs.Life.{Told, nothing_told}
-use Rattle.pm_keys.specs.CancelKey.{cancel_key}
-use Rattle.pm_query.specs.declared.book.BookEntry.{BookEntry}
-use Rattle.pm_query.specs.declared.store.StoreNo.{StoreNo}
-use Rattle.pm_query.specs.Calls.{newcomer}
-use Rattle.pm_exchange.specs.Sent.{Turn}
-use Rattle.pm_session.specs.Session.{Ending, status_of, between, IsSession, IsCaused, HasAskedFor, HeedsTold, IsAttachedBehind, HasCancelled}
-use Rattle.pm_aux.specs.Runs.{IsRunOf}
-use Rattle.pm_board.specs.declared.views.Cancel.{Cancel}
-use Rattle.pm_board.specs.declared.views.Heard.{Heard}
-use Rattle.pm_board.specs.declared.views.Offer.{Offer}
-use Rattle.pm_board.specs.declared.views.PastChild.{PastChild}
-use Rattle.pm_board.specs.declared.views.Work.TheVariants.{Idle, Inactive}
-use Rattle.pm_board.specs.Models.{PostModel}
-use Rattle.pm_board.specs.Rule.{no_signals}
-use Rattle.pm_board.specs.Told.{child_in}
-use Rattle.pm_post_life.specs.Lives.{told_by, child_as, MetRightly, Makes}
-use Rattle.pm_worker.specs.declared.mail.LinkTold.{LinkTold}
-use Rattle.pm_worker.specs.declared.mail.MailTold.{MailTold}
+use Rattle.std.specs.{Prelude.{◌≡◌, ◌≢◌, ℕ, ◌<◌, ◌≤◌, false, List, [], ◌∷◌, ◌++◌, map, Option, Some, None, is_some}, List.{flat_map, AllByRecursion}}
+use Rattle.pm_session.specs.{pm_outside.pm_disk.Cause.Rose, pm_admit.declared.Cac.Cac, pm_child_life.Life.{Told, nothing_told}, pm_session_exchange.Sent.Turn, Session.{Ending, status_of, between, IsSession, IsCaused, HasAskedFor, HeedsTold, IsAttachedBehind, HasCancelled}}
+use Rattle.pm_board.specs.{pm_exit.declared.child.{Kind.Kind, Status.TheVariants.Code}, pm_keys.CancelKey.cancel_key, declared.views.{Cancel.Cancel, Heard.Heard, Offer.Offer, PastChild.PastChild, Work.TheVariants.{Idle, Inactive}}, Models.PostModel, Rule.no_signals, Told.child_in}
+use Rattle.pm_board.specs.pm_exit.declared.child.Kind.TheVariants as kinds
+use Rattle.pm_aux.specs.{pm_query.{declared.{book.BookEntry.BookEntry, store.StoreNo.StoreNo}, Calls.newcomer}, Runs.IsRunOf}
+use Rattle.pm_board_life.specs.Lives.{told_by, child_as, MetRightly, Makes}
+use Rattle.pm_worker.specs.{declared.mail.{LinkTold.LinkTold, MailTold.MailTold}, Mails.{traffic_in, IsFor}}
 use Rattle.pm_worker.specs.declared.mail.MailTold.TheVariants as mail
-use Rattle.pm_worker.specs.Mails.{traffic_in, IsFor}
 
 -- A run: the child as its slot lists it, with the mails both ways; what it heard; the cancel that it asked for, a pid and a key, and
 -- those that it made; and what it noted in the book.

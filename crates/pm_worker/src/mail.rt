@@ -1,6 +1,5 @@
 //! What the supervisor and its workers hand each other.
-ghost use Rattle.std.specs.Prelude.{◌≡◌};
-ghost use Rattle.std.specs.Option.{ForSome};
+ghost use Rattle.std.specs.{Prelude.◌≡◌, Option.ForSome};
 ghost use Rattle.pm_outside.specs.Traffic.{IsFresh, no_traffic};
 
 use pm_admit::Cac;

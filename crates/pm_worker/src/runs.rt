@@ -1,23 +1,19 @@
 //! One run of a child, from its start to its exit.
 ghost use Rattle.std.specs.Prelude.{◌≡◌, ◌↔◌, ◌<◌, ℕ, true, List, Some, None, IfSome, IsTrue};
-ghost use Rattle.pm_board.specs.Places.{is_auxiliary};
-ghost use Rattle.pm_keys.specs.CancelKey.{cancel_key};
-ghost use Rattle.pm_life.specs.Life.{nothing_told};
-ghost use Rattle.pm_query.specs.declared.book.BookEntry.{BookEntry};
-ghost use Rattle.pm_aux.specs.Runs.{IsRunOf, runner, at_end};
+ghost use Rattle.pm_board.specs.{Places.is_auxiliary, pm_keys.CancelKey.cancel_key, pm_child_life.Life.nothing_told};
+ghost use Rattle.pm_aux.specs.{pm_query.declared.book.BookEntry.BookEntry, Runs.{IsRunOf, runner, at_end}};
 ghost use Rattle.pm_worker.specs.declared.mail.MailTold.TheVariants as told;
-ghost use Rattle.pm_worker.specs.Mails.{link_told, mail_told, aux_mail};
-ghost use Rattle.pm_worker.specs.Runs.{Run, HasBegun, IsRun, HasRun, close_run};
+ghost use Rattle.pm_worker.specs.{Mails.{link_told, mail_told, aux_mail}, Runs.{Run, HasBegun, IsRun, HasRun, close_run}};
 
 use crate::mail::{Mail, MailTold, NewLink};
 use crate::tools::Tools;
 use pm_admit::Cac;
 use pm_aux::{AuxDone, checkpointer, startup, writer};
 use pm_board::Post;
+use pm_board_life::{Begun, PostLife};
+use pm_child_life::Life;
 use pm_exit::{Kind, Status};
-use pm_life::Life;
 use pm_outside::{Clock, Link};
-use pm_post_life::{Begun, PostLife};
 use pm_query::Store;
 use pm_session::{Admission, Done, Means, serve};
 use std::marker::Brand;

@@ -1,19 +1,15 @@
 //! Many workers at one gate, through a thousand generations.
 ghost use Rattle.std.specs.Prelude.{◌≡◌, ◌<◌, ◌+◌, ◌*◌, ◌≤◌, true, false, None};
-ghost use Rattle.pm_supervisor.specs.declared.Reason.TheVariants.{Crash};
-ghost use Rattle.pm_board.specs.declared.views.RosterStep.TheVariants.{Quit, Ready};
-ghost use Rattle.pm_board.specs.Gate.{gate_of};
-ghost use Rattle.pm_board.specs.Models.{MayOpen, HasStepped};
-ghost use Rattle.pm_board.specs.Places.{SlotServes, IsAssigned, is_auxiliary, is_connection};
+ghost use Rattle.pm_board.specs.{pm_supervisor.declared.Reason.TheVariants.Crash, declared.views.RosterStep.TheVariants.{Quit, Ready}, Gate.gate_of, Models.{MayOpen, HasStepped}, Places.{SlotServes, IsAssigned, is_auxiliary, is_connection}};
 ghost use Rattle.pm_board_tests.specs.GateChildren.{HasChildren, HasReaped, IsBetween, IsEmpty, shut_gate};
 
 use crate::gate::progress::{Progress, SESSIONS, WORKERS};
 use crate::gate::scene::{Ending, FIRST, Newcomer, Note, new_board, offer, task};
 use crate::gate::worker::{DEATH, Worker, new_workers, places, work};
 use pm_board::{Look, Released, Roster};
+use pm_child_life::GateNo;
 use pm_exit::Kind;
 use pm_gate::{generation, quit, ready, reset};
-use pm_life::GateNo;
 use pm_supervisor::Reason;
 use std::alloc::{AllocError, Global};
 use std::sync::Wait;

@@ -1,17 +1,15 @@
 //! A session that dies attached keeps its place until the next generation, and a reset asks for no count.
 ghost use Rattle.std.specs.Prelude.{◌≡◌, IfSome, IsTrue};
-ghost use Rattle.pm_exit.specs.declared.child.Kind.TheVariants.{Worker, Backend};
-ghost use Rattle.pm_board.specs.Gate.{gate_of};
-ghost use Rattle.pm_board.specs.declared.views.Work.TheVariants.{Idle};
+ghost use Rattle.pm_board.specs.{pm_exit.declared.child.Kind.TheVariants.{Worker, Backend}, Gate.gate_of, declared.views.Work.TheVariants.Idle};
 ghost use Rattle.pm_board_tests.specs.GateChildren.{HasChildren, IsEmpty, IsUntouched, RunsKind, shut_gate, open_gate};
 
 use crate::gate::scene::{
     Ending, FIRST, Newcomer, Note, begin, new_board, reap, take_post, task, try_once,
 };
 use pm_board::{Post, Released, Roster};
+use pm_child_life::GateNo;
 use pm_exit::{Kind, Status};
 use pm_gate::{attach, quit, ready, reset};
-use pm_life::GateNo;
 use pm_supervisor::Reason;
 use std::alloc::{AllocError, Global};
 use std::test::Fail;

@@ -1,5 +1,5 @@
 //! What the roster tells the workers of its steps, so that they can judge what they meet.
-use pm_life::GateNo;
+use pm_child_life::GateNo;
 use pm_supervisor::Reason;
 use std::sync::atomic::{AtomicU32, Ordering};
 

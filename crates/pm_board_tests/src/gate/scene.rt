@@ -1,16 +1,12 @@
 //! The board of the tests, and a child's way over it.
 ghost use Rattle.std.specs.Prelude.{◌≡◌, ◌≤◌, IfOk, IfSome, IsTrue};
-ghost use Rattle.pm_board.specs.Gate.{gate_of};
-ghost use Rattle.pm_board.specs.Places.{MayAssign, IsAssigned};
-ghost use Rattle.pm_board.specs.Models.{MayAttach};
-ghost use Rattle.pm_board.specs.declared.views.Work.TheVariants.{Idle};
+ghost use Rattle.pm_board.specs.{Gate.gate_of, Places.{MayAssign, IsAssigned}, Models.MayAttach, declared.views.Work.TheVariants.Idle, Posts.AllIdle};
 ghost use Rattle.pm_board_tests.specs.GateChildren.{HasBegun, HasReaped, IsUntouched, RunsKind, shut_gate};
-ghost use Rattle.pm_board.specs.Posts.{AllIdle};
 
 use pm_board::{Board, Letter, Look, Post, Posts, Released, Roster, Started};
+use pm_child_life::GateNo;
 use pm_exit::Kind;
 use pm_gate::{attach, detach};
-use pm_life::GateNo;
 use std::alloc::{AllocError, Global};
 
 /// Slots 3 to 10 serve sessions.

@@ -1,15 +1,14 @@
 //! A worker, whose children go to the gate until their end.
 ghost use Rattle.std.specs.Prelude.{◌≡◌, ◌≤◌, IfSome, IfNone, IsTrue};
-ghost use Rattle.pm_board.specs.declared.views.Work.TheVariants.{Idle};
+ghost use Rattle.pm_board.specs.{declared.views.Work.TheVariants.Idle, Posts.AllIdle};
 ghost use Rattle.pm_board_tests.specs.GateChildren.{HasChildren, IsAttachedSession, RunsSession, ServesSession};
-ghost use Rattle.pm_board.specs.Posts.{AllIdle};
 
 use crate::gate::progress::{Progress, SESSIONS, WORKERS};
 use crate::gate::scene::{Ending, FIRST, Newcomer, Note, begin, take_post, task, try_once};
 use pm_board::{Post, Posts, Roster, Started};
+use pm_child_life::GateNo;
 use pm_exit::{Kind, Status};
 use pm_gate::{Attached, attach, detach};
-use pm_life::GateNo;
 use std::alloc::{AllocError, Global};
 use std::sync::Wait;
 use std::thread;

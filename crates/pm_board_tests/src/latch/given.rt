@@ -6,8 +6,8 @@ ghost use Rattle.pm_board_tests.specs.LatchChildren.{IsBusy, IsNew, IsRunning};
 use crate::latch::children::{assign, make, start};
 use crate::notes::Note;
 use pm_board::{Post, Roster};
+use pm_child_life::Signals;
 use pm_latch::{Signal, send, take};
-use pm_life::Signals;
 use pm_supervisor::Reason;
 use std::test::Fail;
 

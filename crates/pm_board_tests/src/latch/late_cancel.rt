@@ -7,8 +7,8 @@ use crate::latch::children::{assign, exit, make, reap, start};
 use crate::latch::given::NONE;
 use crate::notes::Note;
 use pm_board::{Post, Roster};
+use pm_child_life::{Cancelled, Signals};
 use pm_latch::{cancel, take};
-use pm_life::{Cancelled, Signals};
 use std::test::Fail;
 
 const SEED: [u8; 32] = [0; 32];

@@ -7,9 +7,9 @@ ghost use Rattle.pm_board_tests.specs.LatchChildren.{IsNew, IsRunning, TakesTurn
 use crate::latch::children::{assign, exit, make, reap};
 use crate::notes::Note;
 use pm_board::{Post, Roster, Started};
+use pm_child_life::Signals;
 use pm_keys::key;
 use pm_latch::{Signal, cancel, send, take};
-use pm_life::Signals;
 use pm_supervisor::Reason;
 use std::sync::Wait;
 use std::test::Fail;

@@ -1,8 +1,7 @@
 //! A pool of 47 threads: each kind of mail, 200 sessions of which some are told to end, and the end of every worker.
 ghost use Rattle.std.specs.Prelude.{◌≡◌, ◌≤◌, false, All, IfOk, OnOk};
-ghost use Rattle.pm_board.specs.declared.views.Work.TheVariants.{Idle};
+ghost use Rattle.pm_board.specs.{declared.views.Work.TheVariants.Idle, Posts.AllIdle};
 ghost use Rattle.pm_child_tests.specs.Crew.{IsManned, IsFresh};
-ghost use Rattle.pm_board.specs.Posts.{AllIdle};
 
 use crate::worker::clients::{Manner, link_of};
 use crate::worker::crew::{
@@ -18,8 +17,8 @@ use pm_log::init;
 use pm_outside::{Kept, MemClock, MemLink};
 use pm_query::BookEntry;
 use pm_session::SessionConf;
-use pm_shared::{Shared, TokenStore, Tokens};
 use pm_spawn::{Threads, join_all, start_all};
+use pm_store_shared::{Shared, TokenStore, Tokens};
 use pm_supervisor::Reason;
 use pm_worker::{Child, Mail, Tools};
 use std::alloc::{AllocError, Global};

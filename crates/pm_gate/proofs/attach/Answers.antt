@@ -1,7 +1,5 @@
 use Rattle.std.proofs.Common.{sym, ap, ◌∙◌}
-use Rattle.pm_board.specs.declared.views.Work.TheVariants.{Inactive}
-use Rattle.pm_board.specs.Gate.{generation_in}
-use Rattle.pm_board.specs.Told.{with_work}
+use Rattle.pm_board.specs.{declared.views.Work.TheVariants.Inactive, Gate.generation_in, Told.with_work}
 use Rattle.pm_gate.proofs.Attaches as attaches
 use Rattle.pm_gate.proofs.attach.Goals as goal
 

@@ -1,6 +1,5 @@
 use Rattle.std.proofs.Common.{ap, ◌∙◌}
-use Rattle.pm_board.specs.declared.views.Work.TheVariants.{Inactive}
-use Rattle.pm_board.specs.Told.{with_work}
+use Rattle.pm_board.specs.{declared.views.Work.TheVariants.Inactive, Told.with_work}
 use Rattle.pm_gate.proofs.detach.Goals as goal
 
 pub let_go-requires : goal.let_go-requires

@@ -1,9 +1,6 @@
 use Rattle.std.proofs.Common.{◌≡◌, ◌<◌, ◌+◌, ◌++◌, ◌∷◌, [], ℕ, List, length, arith, sym, ap, ◌∙◌}
-use Rattle.pm_board.specs.Slots.{child_slots}
-use Rattle.pm_board.specs.declared.views.PostView.{PostView}
-use Rattle.pm_board.specs.Told.{with_notes, noted_latch_look, noted_cancel}
-use Rattle.pm_latch.specs.Cancelling.{noted_looks}
-use Rattle.pm_latch.proofs.Looks.{next_look, none_more, one_longer}
+use Rattle.pm_board.specs.{Slots.child_slots, declared.views.PostView.PostView, Told.{with_notes, noted_latch_look, noted_cancel}}
+use Rattle.pm_latch.{specs.Cancelling.noted_looks, proofs.Looks.{next_look, none_more, one_longer}}
 use Rattle.pm_latch.proofs.cancel.Goals as goal
 
 pub returns-then-look_at_latch-pid-clause-met : goal.returns-then-look_at_latch-pid-clause-met

@@ -1,6 +1,5 @@
 use Rattle.std.proofs.Common.{◌≡◌, ℕ, List, length}
-use Rattle.pm_board.specs.Slots.{child_slots}
-use Rattle.pm_board.specs.Told.{with_notes}
+use Rattle.pm_board.specs.{Slots.child_slots, Told.with_notes}
 use Rattle.pm_latch.specs.Cancelling.{request, HasKey, noted_looks, NoneFor}
 use Rattle.pm_latch.proofs.cancel.Given as goal
 

@@ -1,7 +1,7 @@
 // Which lines a console gives, by what its reader reads.
 use crate::net::world::{open, since_ms, wait_ms};
-use pm_net::{Bells, Mailbox, StandardConsole, read_lines};
 use pm_outside::{Asked, Clock, Console};
+use pm_outside_net::{Bells, Mailbox, StandardConsole, read_lines};
 use std::alloc::{AllocError, Global};
 use std::fs::File;
 use std::io::Read;

@@ -2,7 +2,7 @@
 // What takes a call that fails on request is looked at below the process (`.ci/files`).
 use crate::net::world::{number, parted, said};
 use pm_disk::{Disk, DiskFault, Which};
-use pm_files::LogFiles;
+use pm_outside_files::LogFiles;
 use std::alloc::Global;
 use std::os::unix::fs::symlink;
 use std::test::Fail;

@@ -1,7 +1,7 @@
 // Which ports may be listened on.
 use crate::net::world::{accept, connect, open};
-use pm_net::TcpPort;
 use pm_outside::{Accepted, Port};
+use pm_outside_net::TcpPort;
 use std::fs::File;
 use std::sync::Arc;
 use std::test::Fail;

@@ -1,7 +1,7 @@
 // What ends a link's waits and the pauses of a server's clocks, and what a client gets at the end: one script.
 use crate::net::world::{World, accept, connect, number, open, parted, said, since_ms, wait_ms};
-use pm_net::{Bells, TcpLink};
 use pm_outside::{Clock as _, Got, Link, Port, Put};
+use pm_outside_net::{Bells, TcpLink};
 use std::alloc::Global;
 use std::io::{Read, Write};
 use std::net::{Net, Shutdown, TcpStream};

@@ -1,6 +1,6 @@
 // That the adapters of a program's streams and clock reach what they stand for.
 use pm_outside::{Accepted, Clock, Got, Link, Port, Put, Sink};
-use pm_standard::{StandardPort, StandardSink, SystemClock};
+use pm_outside_streams::{StandardPort, StandardSink, SystemClock};
 use std::test::Fail;
 
 #[test]

@@ -1,6 +1,6 @@
 // A port with its clients.
-use pm_net::{Bells, ServerClock, TcpLink, TcpPort};
 use pm_outside::{Accepted, Clock as _, Port};
+use pm_outside_net::{Bells, ServerClock, TcpLink, TcpPort};
 use std::alloc::Global;
 use std::fmt::Debug;
 use std::net::{Net, TcpStream};

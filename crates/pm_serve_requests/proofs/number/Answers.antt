@@ -1,12 +1,6 @@
-use Rattle.std.proofs.Common.{ℕ, List, [], ◌∷◌, Ok, Err, Result, zero, suc, arith}
-use Rattle.std.specs.Prelude.{IfNone}
-use Rattle.std.specs.Result.{result_ok}
-use Rattle.std.specs.Str.{IsAscii}
-use Rattle.std.specs.Str.Parse.{AllDigits, ParsesUnsigned, digits_value}
-use Rattle.std.proofs.lemmas.Str.{IsUtf8-from_ascii}
-use Rattle.std.proofs.lemmas.Str.Parse.{IsNumeralModel, digit_from_value, digits_value_short, numerals_by_value, parse_digits, tells_digits}
-use Rattle.pm_requests.specs.Requests.{IsNumber}
-use Rattle.pm_requests.proofs.number.Goals as goal
+use Rattle.std.{proofs.{Common.{ℕ, List, [], ◌∷◌, Ok, Err, Result, zero, suc, arith}, lemmas.Str.{IsUtf8-from_ascii, Parse.{IsNumeralModel, digit_from_value, digits_value_short, numerals_by_value, parse_digits, tells_digits}}}, specs.{Prelude.IfNone, Result.result_ok, Str.{IsAscii, Parse.{AllDigits, ParsesUnsigned, digits_value}}}}
+use Rattle.pm_serve_requests.specs.Requests.{IsNumber}
+use Rattle.pm_serve_requests.proofs.number.Goals as goal
 
 -- digits are a text
 are_ascii : (digits : List ℕ) → AllDigits 10 digits → IsAscii digits

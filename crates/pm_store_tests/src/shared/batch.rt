@@ -1,15 +1,14 @@
 //! The commits of three children in one batch, at which the disk fails.
 ghost use Rattle.std.specs.Prelude.{IfOk};
-ghost use Rattle.pm_query.specs.Calls.{HasReached};
-ghost use Rattle.pm_segment.specs.Passes.{view_of};
-ghost use Rattle.pm_shared.specs.Passes.{Among};
+ghost use Rattle.pm_segment.specs.{pm_query.Calls.HasReached, Passes.view_of};
+ghost use Rattle.pm_store_shared.specs.Passes.{Among};
 
 use crate::shared::world::{Book, cluster, insert};
 use pm_disk::{FailingDisk, MemDisk};
 use pm_outside::Kept;
 use pm_query::StoreNo;
 use pm_segment::Pass;
-use pm_shared::{Shared, Token};
+use pm_store_shared::{Shared, Token};
 use std::alloc::Global;
 use std::sync::Wait;
 use std::test::Fail;

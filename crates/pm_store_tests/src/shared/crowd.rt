@@ -1,13 +1,13 @@
 //! Threads that insert rows through tokens of one store, and the book that comes out.
 ghost use Rattle.std.specs.Prelude.{OnOk, IfOk};
-ghost use Rattle.pm_shared.specs.Told.{AreTokens};
+ghost use Rattle.pm_store_shared.specs.Told.{AreTokens};
 ghost use Rattle.pm_store_tests.specs.Seats.{AreParted, AreSame, IsSame};
 
 use crate::shared::world::{Book, Home, Seat, Seats, cluster, insert};
 use pm_disk::MemDisk;
 use pm_outside::Kept;
 use pm_query::BookEntry;
-use pm_shared::Shared;
+use pm_store_shared::Shared;
 use std::alloc::{AllocError, Global};
 use std::sync::Wait;
 use std::test::Fail;

@@ -4,8 +4,8 @@ use pm_disk::MemDisk;
 use pm_log::init;
 use pm_outside::Kept;
 use pm_query::BookEntry;
-use pm_shared::{Shared, Token, Tokens};
 use pm_sql::{Script, parse};
+use pm_store_shared::{Shared, Token, Tokens};
 use std::alloc::Global;
 use std::test::Fail;
 

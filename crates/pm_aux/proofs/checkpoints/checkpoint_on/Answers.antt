@@ -1,14 +1,7 @@
 use Rattle.std.proofs.Common.{◌≡◌, ◌≢◌, ◌∙◌, [], false, None, Err, subst, rules}
 use Rattle.pm_exit.specs.declared.child.Kind.TheVariants.{Checkpointer}
-use Rattle.pm_query.specs.declared.store.StoreNo.TheVariants.{NoMemory}
-use Rattle.pm_query.specs.declared.store.Checkpointed.{Checkpointed}
-use Rattle.pm_query.specs.Calls.{user_of, CheckpointNotes}
-use Rattle.pm_aux.specs.Signals.{ends_of}
-use Rattle.pm_aux.specs.Work.{IsPassing}
-use Rattle.pm_aux.proofs.Listening.{listens_fewer, listens_both}
-use Rattle.pm_query.specs.NotedLaws.{same_user}
-use Rattle.pm_aux.proofs.Noting.{closes, closes_refused, passes_more, passes_still, met_later}
-use Rattle.pm_aux.proofs.Reasons.{refused_inside}
+use Rattle.pm_query.{specs.{declared.store.{StoreNo.TheVariants.NoMemory, Checkpointed.Checkpointed}, Calls.{user_of, CheckpointNotes}}, proofs.NotedLaws.same_user}
+use Rattle.pm_aux.{specs.{Signals.ends_of, Work.IsPassing}, proofs.{Listening.{listens_fewer, listens_both}, Noting.{closes, closes_refused, passes_more, passes_still, met_later}, Reasons.refused_inside}}
 use Rattle.pm_aux.proofs.checkpoints.checkpoint_on.Goals as goal
 
 pub returns-then-standing-clause-notes : goal.returns-then-standing-clause-notes

@@ -1,8 +1,7 @@
 use Rattle.std.proofs.Common.{◌≡◌, List, All}
-use Rattle.pm_life.specs.Attention.{attention}
+use Rattle.pm_child_life.specs.Attention.{attention}
 use Rattle.pm_query.specs.declared.book.BookEntry.{BookEntry}
-use Rattle.pm_aux.specs.Signals.{Listens}
-use Rattle.pm_aux.specs.Work.{IsPassing}
+use Rattle.pm_aux.specs.{Signals.Listens, Work.IsPassing}
 use Rattle.pm_aux.proofs.checkpoints.checkpoint_on.Given as goal
 
 abbrev pub invariant-loop : goal.invariant-loop

@@ -1,11 +1,6 @@
 use Rattle.std.proofs.Common.{◌≡◌, ◌≢◌, ◌∙◌, ℕ, [], None, Err, refl, subst, rules}
-use Rattle.pm_query.specs.declared.store.StoreNo.TheVariants.{NoMemory}
-use Rattle.pm_query.specs.Calls.{User, user_of, FlushNotes}
-use Rattle.pm_aux.specs.Signals.{ends_of}
-use Rattle.pm_aux.proofs.Listening.{listens_more, listens_fewer, listens_both}
-use Rattle.pm_query.specs.NotedLaws.{none_behind, same_user}
-use Rattle.pm_aux.proofs.Noting.{behind_as, met_later}
-use Rattle.pm_aux.proofs.Reasons.{refused_inside}
+use Rattle.pm_query.{specs.{declared.store.StoreNo.TheVariants.NoMemory, Calls.{User, user_of, FlushNotes}}, proofs.NotedLaws.{none_behind, same_user}}
+use Rattle.pm_aux.{specs.Signals.ends_of, proofs.{Listening.{listens_more, listens_fewer, listens_both}, Noting.{behind_as, met_later}, Reasons.refused_inside}}
 use Rattle.pm_exit.specs.declared.child.Kind.TheVariants.{Writer}
 use Rattle.pm_aux.proofs.flushes.flush_on.Goals as goal
 

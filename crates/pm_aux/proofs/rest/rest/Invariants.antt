@@ -1,4 +1,4 @@
-use Rattle.pm_life.specs.Attention.{attention}
+use Rattle.pm_child_life.specs.Attention.{attention}
 use Rattle.pm_aux.specs.Signals.{Listens}
 use Rattle.pm_aux.proofs.rest.rest.Given as goal
 

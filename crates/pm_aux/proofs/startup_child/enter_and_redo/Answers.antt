@@ -1,6 +1,6 @@
 use Rattle.std.proofs.Common.{inr}
 use Rattle.pm_exit.specs.declared.child.Kind.TheVariants.{Startup}
-use Rattle.pm_query.specs.NotedLaws.{newcomer_is}
+use Rattle.pm_query.proofs.NotedLaws.{newcomer_is}
 use Rattle.pm_aux.proofs.Noting.{entered}
 use Rattle.pm_aux.proofs.startup_child.enter_and_redo.Goals as goal
 

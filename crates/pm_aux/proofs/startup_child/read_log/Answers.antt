@@ -1,14 +1,7 @@
 use Rattle.std.proofs.Common.{◌≡◌, ◌∙◌, [], None, Ok, Err, refl, ap, sym, subst, rules}
 use Rattle.pm_exit.specs.declared.child.Kind.TheVariants.{Startup}
-use Rattle.pm_life.specs.Life.{Child, attached_in}
-use Rattle.pm_life.specs.Attention.{Attention, attention}
-use Rattle.pm_aux.specs.Signals.{ends_of}
-use Rattle.pm_aux.specs.Runs.{Runner, user_in}
-use Rattle.pm_aux.specs.Work.{NotesInside}
-use Rattle.pm_aux.specs.declared.cause.AuxiliaryEnd.TheVariants.{TurnedAway}
-use Rattle.pm_life.specs.AttentionLaws.{attentive_at_gate}
-use Rattle.pm_aux.proofs.Listening.{asked_first, met_gate}
-use Rattle.pm_aux.proofs.Reasons.{told_first, terminated_first, turned_away, unterminated, redone, same_runner}
+use Rattle.pm_child_life.{specs.{Life.{Child, attached_in}, Attention.{Attention, attention}}, proofs.AttentionLaws.attentive_at_gate}
+use Rattle.pm_aux.{specs.{Signals.ends_of, Runs.{Runner, user_in}, Work.NotesInside, declared.cause.AuxiliaryEnd.TheVariants.TurnedAway}, proofs.{Listening.{asked_first, met_gate}, Reasons.{told_first, terminated_first, turned_away, unterminated, redone, same_runner}}}
 use Rattle.pm_aux.proofs.startup_child.read_log.Goals as goal
 
 pub returns-in-Some-clause-run : goal.returns-in-Some-clause-run

@@ -1,5 +1,5 @@
 use Rattle.pm_exit.specs.declared.child.Kind.TheVariants.{Startup}
-use Rattle.pm_query.specs.NotedLaws.{same_user}
+use Rattle.pm_query.proofs.NotedLaws.{same_user}
 use Rattle.pm_aux.proofs.Noting.{worked}
 use Rattle.pm_aux.proofs.startup_child.redo_and_leave.Goals as goal
 

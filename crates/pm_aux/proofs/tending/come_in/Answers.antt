@@ -1,12 +1,7 @@
 use Rattle.std.proofs.Common.{◌≡◌, ◌∙◌, ◌∷◌, [], Err, ap, sym, subst, rules}
-use Rattle.pm_life.specs.Life.{Child}
-use Rattle.pm_query.specs.declared.book.BookEntry.TheVariants.{Attached}
-use Rattle.pm_query.specs.declared.store.StoreNo.{StoreNo}
-use Rattle.pm_query.specs.declared.store.StoreNo.TheVariants.{NoMemory}
-use Rattle.pm_query.specs.Calls.{User, newcomer, EnterNotes}
-use Rattle.pm_aux.proofs.Listening.{listens_fewer, listens_both}
-use Rattle.pm_query.specs.NotedLaws.{none_behind}
-use Rattle.pm_aux.proofs.Noting.{behind_as, kept_out, same_newcomer}
+use Rattle.pm_child_life.specs.Life.{Child}
+use Rattle.pm_query.{specs.{declared.{book.BookEntry.TheVariants.Attached, store.StoreNo.{StoreNo, TheVariants.NoMemory}}, Calls.{User, newcomer, EnterNotes}}, proofs.NotedLaws.none_behind}
+use Rattle.pm_aux.proofs.{Listening.{listens_fewer, listens_both}, Noting.{behind_as, kept_out, same_newcomer}}
 use Rattle.pm_aux.proofs.tending.come_in.Goals as goal
 
 pub returns-in-Ok-clause-notes : goal.returns-in-Ok-clause-notes

@@ -1,5 +1,5 @@
 use Rattle.std.proofs.Common.{[]}
-use Rattle.pm_life.specs.Attention.{attention}
+use Rattle.pm_child_life.specs.Attention.{attention}
 use Rattle.pm_aux.specs.Signals.{Listens}
 use Rattle.pm_aux.proofs.tending.come_in.Given as goal
 

@@ -1,5 +1,5 @@
 use Rattle.std.proofs.Common.{inr}
-use Rattle.pm_query.specs.NotedLaws.{newcomer_is}
+use Rattle.pm_query.proofs.NotedLaws.{newcomer_is}
 use Rattle.pm_aux.proofs.Noting.{entered}
 use Rattle.pm_aux.proofs.tending.enter_and_work.Goals as goal
 

@@ -1,5 +1,5 @@
 use Rattle.std.proofs.Common.{◌∙◌, ap}
-use Rattle.pm_life.specs.Life.{Child}
+use Rattle.pm_child_life.specs.Life.{Child}
 use Rattle.pm_aux.proofs.tending.tend_inside.Goals as goal
 
 pub step_out-requires : goal.step_out-requires

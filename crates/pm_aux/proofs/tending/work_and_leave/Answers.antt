@@ -1,4 +1,4 @@
-use Rattle.pm_query.specs.NotedLaws.{same_user}
+use Rattle.pm_query.proofs.NotedLaws.{same_user}
 use Rattle.pm_aux.proofs.Noting.{worked}
 use Rattle.pm_aux.proofs.tending.work_and_leave.Goals as goal
 

@@ -1,15 +1,6 @@
 use Rattle.std.proofs.Common.{◌≡◌, ◌+◌, ◌<◌, ◌≤◌, [], ◌∷◌, ◌++◌, length, arith, sym, ap, ◌∙◌, subst}
 use Rattle.pm_facts.specs.Numbers.{sum_below}
-use Rattle.pm_board.specs.Slots.{child_slots}
-use Rattle.pm_board.specs.declared.views.PostView.{PostView}
-use Rattle.pm_board.specs.declared.views.RosterView.{RosterView}
-use Rattle.pm_board.specs.Places.{slot_at}
-use Rattle.pm_board.specs.Heard.{WasMade, HeardAsSent}
-use Rattle.pm_board.specs.Latches.{HeardRightly, EachHeard, HeardBy, Reaches, beside, waiting, times_made, times_made_on, made_on, WereMade, latch_at, cancel_at}
-use Rattle.pm_board.specs.Rule.{running, ended, Does}
-use Rattle.pm_board.proofs.Latches.{latch_here, a_term}
-use Rattle.pm_board.proofs.Latching.{does_child, left_behind}
-use Rattle.pm_board.proofs.Hearing.{each_known, heard_known, made_known, heard_as_sent}
+use Rattle.pm_board.{specs.{Slots.child_slots, declared.views.{PostView.PostView, RosterView.RosterView}, Places.slot_at, Heard.{WasMade, HeardAsSent}, Latches.{HeardRightly, EachHeard, HeardBy, Reaches, beside, waiting, times_made, times_made_on, made_on, WereMade, latch_at, cancel_at}, Rule.{running, ended, Does}}, proofs.{Latches.{latch_here, a_term}, Latching.{does_child, left_behind}, Hearing.{each_known, heard_known, made_known, heard_as_sent}}}
 use Rattle.pm_board.proofs.laws.hears_what_was_sent.Goals as goal
 
 pub returns : goal.returns

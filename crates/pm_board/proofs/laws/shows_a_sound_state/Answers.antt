@@ -1,7 +1,5 @@
 use Rattle.std.proofs.Common.{ℕ, List}
-use Rattle.pm_supervisor.specs.Supervisor.{Shared}
-use Rattle.pm_supervisor.specs.Shared.{IsKept}
-use Rattle.pm_supervisor.specs.Laws.{KeepsWhatIsShared}
+use Rattle.pm_supervisor.specs.{Supervisor.Shared, Shared.IsKept, Laws.KeepsWhatIsShared}
 use Rattle.pm_board.specs.History.{Entry, Run, begins, goes_on}
 use Rattle.pm_board.proofs.laws.shows_a_sound_state.Goals as goal
 

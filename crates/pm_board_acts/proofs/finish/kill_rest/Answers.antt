@@ -1,12 +1,8 @@
 use Rattle.std.proofs.Common.{ap, ◌∙◌}
 use Rattle.pm_board.specs.declared.views.RosterView.{RosterView}
 use Rattle.pm_board.specs.declared.views.Signal.TheVariants as signal
-use Rattle.pm_seating.specs.declared.audience.Audience.TheVariants.{Everyone}
-use Rattle.pm_seating.specs.Board.{seats_of}
-use Rattle.pm_seating.specs.Seating.{sends}
-use Rattle.pm_seating.proofs.Ending.{killed_keeps}
-use Rattle.pm_seating.proofs.Sends.{same-slots}
-use Rattle.pm_seating.proofs.finish.kill_rest.Goals as goal
+use Rattle.pm_board_acts.{specs.{declared.audience.Audience.TheVariants.Everyone, Board.seats_of, Seating.sends}, proofs.{Ending.killed_keeps, Sends.same-slots}}
+use Rattle.pm_board_acts.proofs.finish.kill_rest.Goals as goal
 
 pub returns-clause-slots : goal.returns-clause-slots
 returns-clause-slots g c =

@@ -1,6 +1,6 @@
 use Rattle.std.proofs.Common.{sym, ◌∙◌}
-use Rattle.pm_seating.proofs.Ending.{released_keeps, running_keeps}
-use Rattle.pm_seating.proofs.finish.reap_rest.Goals as goal
+use Rattle.pm_board_acts.proofs.Ending.{released_keeps, running_keeps}
+use Rattle.pm_board_acts.proofs.finish.reap_rest.Goals as goal
 
 pub returns-in-None-clause-ending : goal.returns-in-None-clause-ending
 returns-in-None-clause-ending g c =

@@ -1,9 +1,6 @@
-use Rattle.std.proofs.Common.{◌<◌, refl, ap, subst, sym, ◌∙◌}
-use Rattle.std.specs.Prelude.{None, slice_set}
-use Rattle.pm_seating.proofs.Seen.{seats_set, seats_stay}
-use Rattle.pm_seating.proofs.Sends.{assigned, sits_at}
-use Rattle.pm_seating.proofs.Sitting.{reaped}
-use Rattle.pm_seating.proofs.seats.reap.Goals as goal
+use Rattle.std.{proofs.Common.{◌<◌, refl, ap, subst, sym, ◌∙◌}, specs.Prelude.{None, slice_set}}
+use Rattle.pm_board_acts.proofs.{Seen.{seats_set, seats_stay}, Sends.{assigned, sits_at}, Sitting.reaped}
+use Rattle.pm_board_acts.proofs.seats.reap.Goals as goal
 
 pub look-requires : goal.look-requires
 look-requires g c = assigned _ _ c.args.slot c.args.child c.requires.shows c.requires.slot c.requires.sits

@@ -1,7 +1,6 @@
 use Rattle.std.proofs.Common.{ap, sym, subst, ◌∙◌, ◌<◌}
-use Rattle.pm_seating.specs.Board.{enrolled}
-use Rattle.pm_seating.proofs.Seen.{as_many, seat_seen}
-use Rattle.pm_seating.proofs.seats.seated.Goals as goal
+use Rattle.pm_board_acts.{specs.Board.enrolled, proofs.Seen.{as_many, seat_seen}}
+use Rattle.pm_board_acts.proofs.seats.seated.Goals as goal
 
 pub child-requires : goal.child-requires
 child-requires g c = subst (λ n. c.args.slot < n) (as_many c.args.roster.now.knows) c.requires

@@ -1,10 +1,6 @@
 use Rattle.std.proofs.Common.{ap, sym, subst, ◌∙◌, ◌<◌, length, take}
-use Rattle.pm_seating.specs.Board.{seat_at, seats_of}
-use Rattle.pm_seating.specs.Seating.{send_to}
-use Rattle.pm_seating.proofs.Seen.{as_many}
-use Rattle.pm_seating.proofs.Sends.{assigned, sent, seats_kept, shows_sends, told_more, told_same, told_one, not_told}
-use Rattle.pm_seating.proofs.telling.tell.Goals as goal
-use Rattle.pm_seating.proofs.telling.tell.Goals.{then-is_told, else-is_told}
+use Rattle.pm_board_acts.{specs.{Board.{seat_at, seats_of}, Seating.send_to}, proofs.{Seen.as_many, Sends.{assigned, sent, seats_kept, shows_sends, told_more, told_same, told_one, not_told}, telling.tell.Goals.{then-is_told, else-is_told}}}
+use Rattle.pm_board_acts.proofs.telling.tell.Goals as goal
 
 pub seated-requires : goal.seated-requires
 seated-requires g c =

@@ -1,7 +1,6 @@
 use Rattle.std.proofs.Common.{◌≡◌, take}
-use Rattle.pm_seating.specs.Seating.{sends}
-use Rattle.pm_seating.specs.Board.{after_steps, seats_of}
-use Rattle.pm_seating.proofs.telling.tell.Given as goal
+use Rattle.pm_board_acts.specs.{Seating.sends, Board.{after_steps, seats_of}}
+use Rattle.pm_board_acts.proofs.telling.tell.Given as goal
 
 abbrev pub invariant-loop-slot : goal.invariant-loop-slot
 invariant-loop-slot g l = record {

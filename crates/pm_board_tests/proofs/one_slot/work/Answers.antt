@@ -1,5 +1,4 @@
-use Rattle.std.proofs.Common.{refl, sym, ap, subst}
-use Rattle.std.specs.Prelude.{false}
+use Rattle.std.{proofs.Common.{refl, sym, ap, subst}, specs.Prelude.false}
 use Rattle.pm_board.specs.Told.{MayEnd}
 use Rattle.pm_board_tests.proofs.one_slot.work.Goals as goal
 

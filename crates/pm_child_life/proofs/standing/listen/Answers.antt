@@ -1,5 +1,5 @@
-use Rattle.pm_life.proofs.Taken.{listened, attentive_now}
-use Rattle.pm_life.proofs.standing.listen.Goals as goal
+use Rattle.pm_child_life.proofs.Taken.{listened, attentive_now}
+use Rattle.pm_child_life.proofs.standing.listen.Goals as goal
 
 pub returns-clause-hears : goal.returns-clause-hears
 returns-clause-hears g c = rw c.with.ensures (listened c.signals.result _ _ _ _ c.args.standing.now c.signals.ensures.told c.signals.ensures.child)

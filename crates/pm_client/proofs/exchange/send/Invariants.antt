@@ -1,6 +1,5 @@
 use Rattle.std.proofs.Common.{length}
-use Rattle.pm_client.specs.Sides.{link_view}
-use Rattle.pm_client.proofs.Links.{SentBut}
+use Rattle.pm_client.{specs.Sides.link_view, proofs.Links.SentBut}
 use Rattle.pm_client.proofs.exchange.send.Given as goal
 
 abbrev pub invariant-loop-rest : goal.invariant-loop-rest

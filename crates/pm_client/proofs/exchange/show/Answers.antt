@@ -1,4 +1,4 @@
-use Rattle.pm_facts.specs.Lists.{rest_of}
+use Rattle.pm_wire.specs.pm_facts.Lists.{rest_of}
 use Rattle.pm_client.proofs.Links.{printed, shown_more}
 use Rattle.pm_client.proofs.exchange.show.Goals as goal
 

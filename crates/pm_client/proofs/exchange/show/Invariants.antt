@@ -1,6 +1,5 @@
 use Rattle.std.proofs.Common.{length}
-use Rattle.pm_client.specs.Sides.{sink_view}
-use Rattle.pm_client.proofs.Links.{ShownBut}
+use Rattle.pm_client.{specs.Sides.sink_view, proofs.Links.ShownBut}
 use Rattle.pm_client.proofs.exchange.show.Given as goal
 
 abbrev pub invariant-loop-rest : goal.invariant-loop-rest

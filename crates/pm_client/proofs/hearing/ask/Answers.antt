@@ -1,7 +1,5 @@
-use Rattle.std.proofs.Common.{refl}
-use Rattle.std.proofs.lemmas.Result.{err_from_is_err_and}
-use Rattle.pm_client.specs.Sides.{link_view, sides, sink_view}
-use Rattle.pm_client.proofs.Talks.{asks_heard, asks_unsent}
+use Rattle.std.proofs.{Common.refl, lemmas.Result.err_from_is_err_and}
+use Rattle.pm_client.{specs.Sides.{link_view, sides, sink_view}, proofs.Talks.{asks_heard, asks_unsent}}
 use Rattle.pm_client.proofs.hearing.ask.Goals as goal
 
 pub returns-in_err-send : goal.returns-in_err-send

@@ -1,6 +1,5 @@
 use Rattle.std.proofs.Common.{◌-◌, length}
-use Rattle.pm_client.specs.Sides.{link_view}
-use Rattle.pm_client.proofs.Reading.{Came}
+use Rattle.pm_client.{specs.Sides.link_view, proofs.Reading.Came}
 use Rattle.pm_client.proofs.hearing.await_bytes.Given as goal
 
 abbrev pub invariant-loop-link : goal.invariant-loop-link

@@ -1,10 +1,6 @@
-use Rattle.std.proofs.Common.{◌≡◌, ◌∙◌, ℕ, List, [], ◌++◌, take, drop, refl, sym, ap, subst, take-append-drop}
-use Rattle.std.proofs.lemmas.Result.{err_from_is_err_and}
-use Rattle.pm_wire.specs.Backend.{IsBack, back_message}
-use Rattle.pm_wire_back.specs.Failing.{BackFails}
-use Rattle.pm_wire_back.specs.Received.{IsWholeAt}
-use Rattle.pm_client.specs.Sides.{link_view, sides, sink_view}
-use Rattle.pm_client.proofs.Hearings.{back_fails, hearing_came, hearing_more, hearing_none, hearing_shown, hears_bad, hears_cut, hears_ready, hears_unshown}
+use Rattle.std.proofs.{Common.{◌≡◌, ◌∙◌, ℕ, List, [], ◌++◌, take, drop, refl, sym, ap, subst, take-append-drop}, lemmas.Result.err_from_is_err_and}
+use Rattle.pm_wire_back.specs.{pm_wire.Backend.{IsBack, back_message}, Failing.BackFails, Received.IsWholeAt}
+use Rattle.pm_client.{specs.Sides.{link_view, sides, sink_view}, proofs.Hearings.{back_fails, hearing_came, hearing_more, hearing_none, hearing_shown, hears_bad, hears_cut, hears_ready, hears_unshown}}
 use Rattle.pm_client.proofs.hearing.hear.Goals as goal
 
 -- what was taken from the front, and what is left

@@ -1,5 +1,4 @@
-use Rattle.pm_client.specs.Sides.{link_view, sides, sink_view}
-use Rattle.pm_client.specs.Hearing.{Hearing}
+use Rattle.pm_client.specs.{Sides.{link_view, sides, sink_view}, Hearing.Hearing}
 use Rattle.pm_client.proofs.hearing.hear.Given as goal
 
 abbrev pub invariant-loop : goal.invariant-loop

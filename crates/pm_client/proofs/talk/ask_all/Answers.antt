@@ -1,5 +1,4 @@
-use Rattle.std.proofs.Common.{◌≡◌, ◌∙◌, List, ℕ, ◌++◌, refl, ap}
-use Rattle.std.proofs.lemmas.Result.{err_from_is_err_and}
+use Rattle.std.proofs.{Common.{◌≡◌, ◌∙◌, List, ℕ, ◌++◌, refl, ap}, lemmas.Result.err_from_is_err_and}
 use Rattle.pm_wire_front.specs.Requests.{query, start_packet}
 use Rattle.pm_client.proofs.Talks.{cut_first, cut_next, short_first, short_next, talked_first, talked_last, talked_next}
 use Rattle.pm_client.proofs.talk.ask_all.Goals as goal

@@ -1,8 +1,6 @@
-use Rattle.std.proofs.Common.{◌+◌, ◌++◌, take}
-use Rattle.std.specs.List.{flat_map}
+use Rattle.std.{proofs.Common.{◌+◌, ◌++◌, take}, specs.List.flat_map}
 use Rattle.pm_wire_front.specs.Requests.{query, start_packet}
-use Rattle.pm_client.specs.Sides.{link_view, sides, sink_view}
-use Rattle.pm_client.proofs.Talks.{Talked}
+use Rattle.pm_client.{specs.Sides.{link_view, sides, sink_view}, proofs.Talks.Talked}
 use Rattle.pm_client.proofs.talk.ask_all.Given as goal
 
 abbrev pub invariant-loop-text : goal.invariant-loop-text

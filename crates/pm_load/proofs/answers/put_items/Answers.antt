@@ -1,11 +1,6 @@
-use Rattle.std.proofs.Common.{◌≡◌, ◌∙◌, ◌+◌, ◌<◌, List, ℕ, [], ◌∷◌, ◌++◌, length, take, get_or, sym, ap}
-use Rattle.std.specs.List.{flat_map}
-use Rattle.std.proofs.lemmas.List.{append-nil, take_all, take_more}
-use Rattle.std.proofs.lemmas.List.Concat.{flat_map-append}
+use Rattle.std.{proofs.{Common.{◌≡◌, ◌∙◌, ◌+◌, ◌<◌, List, ℕ, [], ◌∷◌, ◌++◌, length, take, get_or, sym, ap}, lemmas.List.{append-nil, take_all, take_more, Concat.flat_map-append}}, specs.List.flat_map}
 use Rattle.pm_wire.specs.Backend.{BackMessage}
-use Rattle.pm_query.specs.declared.item.Item.{Item}
-use Rattle.pm_exchange.specs.Sent.{bytes_of, item_messages}
-use Rattle.pm_exchange.specs.SentLaws.{bytes_of-none}
+use Rattle.pm_session_exchange.{specs.{pm_query.declared.item.Item.Item, Sent.{bytes_of, item_messages}}, proofs.SentLaws.bytes_of-none}
 use Rattle.pm_load.proofs.Replays.{said_both}
 use Rattle.pm_load.proofs.answers.put_items.Goals as goal
 

@@ -1,6 +1,5 @@
-use Rattle.std.proofs.Common.{◌≡◌, ◌++◌, take}
-use Rattle.std.specs.List.{flat_map}
-use Rattle.pm_exchange.specs.Sent.{bytes_of, item_messages}
+use Rattle.std.{proofs.Common.{◌≡◌, ◌++◌, take}, specs.List.flat_map}
+use Rattle.pm_session_exchange.specs.Sent.{bytes_of, item_messages}
 use Rattle.pm_load.proofs.answers.put_items.Given as goal
 
 abbrev pub invariant-loop-item : goal.invariant-loop-item

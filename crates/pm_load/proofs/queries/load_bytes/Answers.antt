@@ -1,10 +1,6 @@
-use Rattle.std.proofs.Common.{◌≡◌, ◌∙◌, ◌+◌, List, ℕ, [], ◌∷◌, ◌++◌, length, sym, ap, arith, append_assoc, codes}
-use Rattle.std.specs.List.{flat_map}
-use Rattle.std.proofs.lemmas.List.{append-nil}
-use Rattle.std.proofs.lemmas.List.Concat.{flat_map-append}
+use Rattle.std.{proofs.{Common.{◌≡◌, ◌∙◌, ◌+◌, List, ℕ, [], ◌∷◌, ◌++◌, length, sym, ap, arith, append_assoc, codes}, lemmas.List.{append-nil, Concat.flat_map-append}}, specs.List.flat_map}
 use Rattle.pm_wire_front.specs.Requests.{query, start_packet}
-use Rattle.pm_load.specs.Queries.{queries, query_at}
-use Rattle.pm_load.proofs.Replays.{no_queries, queries_more}
+use Rattle.pm_load.{specs.Queries.{queries, query_at}, proofs.Replays.{no_queries, queries_more}}
 use Rattle.pm_load.proofs.queries.load_bytes.Goals as goal
 
 asked_none : (start : List ℕ) → start ≡ start ++ flat_map query (queries 0)

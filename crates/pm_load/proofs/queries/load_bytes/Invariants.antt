@@ -1,5 +1,4 @@
-use Rattle.std.proofs.Common.{◌≡◌, ◌++◌, codes}
-use Rattle.std.specs.List.{flat_map}
+use Rattle.std.{proofs.Common.{◌≡◌, ◌++◌, codes}, specs.List.flat_map}
 use Rattle.pm_wire_front.specs.Requests.{query, start_packet}
 use Rattle.pm_load.specs.Queries.{queries}
 use Rattle.pm_load.proofs.queries.load_bytes.Given as goal

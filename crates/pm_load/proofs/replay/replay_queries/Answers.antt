@@ -1,7 +1,5 @@
 use Rattle.std.proofs.Common.{◌≡◌, ◌∙◌, ◌+◌, List, ℕ, subst}
-use Rattle.pm_load.specs.Queries.{query_at}
-use Rattle.pm_load.specs.Replay.{IsAnswered}
-use Rattle.pm_load.proofs.Replays.{replay_more, replay_none}
+use Rattle.pm_load.{specs.{Queries.query_at, Replay.IsAnswered}, proofs.Replays.{replay_more, replay_none}}
 use Rattle.pm_load.proofs.replay.replay_queries.Goals as goal
 
 pub loop-i-init : goal.loop-i-init

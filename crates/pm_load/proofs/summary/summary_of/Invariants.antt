@@ -1,5 +1,4 @@
-use Rattle.std.proofs.Common.{◌≡◌, ◌+ℤ◌, fold, Some}
-use Rattle.std.specs.FinMap.{entries}
+use Rattle.std.{proofs.Common.{◌≡◌, ◌+ℤ◌, fold, Some}, specs.FinMap.entries}
 use Rattle.pm_load.specs.Summary.{key_sum, last_key}
 use Rattle.pm_load.proofs.summary.summary_of.Given as goal
 

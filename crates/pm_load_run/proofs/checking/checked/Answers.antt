@@ -1,8 +1,7 @@
 use Rattle.std.proofs.Common.{◌∙◌, ◌<◌, ℕ, length, sym, subst, arith}
 use Rattle.pm_load.specs.Replay.{IsReplay}
-use Rattle.pm_workload.specs.Worked.{IsMeant, session_pid}
-use Rattle.pm_workload.proofs.Working.{single, worked}
-use Rattle.pm_workload.proofs.checking.checked.Goals as goal
+use Rattle.pm_load_run.{specs.Worked.{IsMeant, session_pid}, proofs.Working.{single, worked}}
+use Rattle.pm_load_run.proofs.checking.checked.Goals as goal
 
 pub returns-then-are_same : goal.returns-then-are_same
 returns-then-are_same c =

@@ -1,6 +1,6 @@
 use Rattle.std.proofs.Common.{◌∙◌}
-use Rattle.pm_workload.proofs.Working.{summary_as}
-use Rattle.pm_workload.proofs.checking.left_as_meant.Goals as goal
+use Rattle.pm_load_run.proofs.Working.{summary_as}
+use Rattle.pm_load_run.proofs.checking.left_as_meant.Goals as goal
 
 pub returns-then-is_that : goal.returns-then-is_that
 returns-then-is_that c =

@@ -1,6 +1,6 @@
 use Rattle.std.proofs.Common.{refl}
-use Rattle.pm_workload.proofs.Working.{printed_so}
-use Rattle.pm_workload.proofs.running.workload.Goals as goal
+use Rattle.pm_load_run.proofs.Working.{printed_so}
+use Rattle.pm_load_run.proofs.running.workload.Goals as goal
 
 pub returns-in-Ok-clause-said : goal.returns-in-Ok-clause-said
 returns-in-Ok-clause-said g c =

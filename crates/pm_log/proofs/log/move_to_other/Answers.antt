@@ -1,7 +1,5 @@
 use Rattle.std.proofs.Common.{length, take, drop, ap, ◌∙◌, sym, subst, List, ℕ}
-use Rattle.pm_disk.specs.declared.disk.Which.{Which}
-use Rattle.pm_disk.specs.Disk.{Torn}
-use Rattle.pm_record.specs.OnDisk.{FollowsWithin}
+use Rattle.pm_record.specs.{pm_disk.{declared.disk.Which.Which, Disk.Torn}, OnDisk.FollowsWithin}
 use Rattle.pm_log.proofs.ToldMoves.{at_next, has_moved, keeps_base, keeps_close, keeps_open}
 use Rattle.pm_log.proofs.log.move_to_other.Goals as goal
 

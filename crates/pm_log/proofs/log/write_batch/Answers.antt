@@ -1,6 +1,5 @@
-use Rattle.std.proofs.Common.{◌+◌, ap, ◌∙◌, List, ℕ}
-use Rattle.std.specs.Prelude.{option_map}
-use Rattle.pm_record.specs.GateLaws.{written_at}
+use Rattle.std.{proofs.Common.{◌+◌, ap, ◌∙◌, List, ℕ}, specs.Prelude.option_map}
+use Rattle.pm_record.proofs.GateLaws.{written_at}
 use Rattle.pm_log.proofs.Told.{gate_behind, has_appended, keeps_both, keeps_first}
 use Rattle.pm_log.proofs.log.write_batch.Goals as goal
 

@@ -1,30 +1,8 @@
-use Rattle.std.proofs.Common.{◌≡◌, ◌⊎◌, ℕ, List, [], None, refl, sym, ap, subst, ◌∙◌, inl, inr}
-use Rattle.std.specs.Prelude.{Option, false, true, IfSome}
-use Rattle.std.proofs.lemmas.List.Elements.{All-nil}
-use Rattle.pm_disk.specs.Cause.{Rose}
-use Rattle.pm_state.specs.declared.event.PmEvent.{PmEvent}
-use Rattle.pm_journal.specs.Stands.{any_moment}
-use Rattle.pm_journal.specs.Supervision.{at_work}
-use Rattle.pm_segment.specs.Moment.{moment}
-use Rattle.pm_segment.specs.Moves.{IsShown}
-use Rattle.pm_segment.specs.MovesLaws.{break_shown, time_still}
-use Rattle.std.specs.List.{AllByRecursion}
-use Rattle.pm_server.specs.Story.{IsNoOpening}
-use Rattle.pm_lines.specs.Log.{LogView, view_of as log_view_of}
-use Rattle.pm_chain.specs.Steps.{book_of, journal_of, whole_book}
-use Rattle.pm_server.specs.Outside.{OutsideView, outside_view, store_view}
-use Rattle.pm_server.specs.Ends.{IsBook}
-use Rattle.pm_server.specs.Journal.{IsJournal}
-use Rattle.pm_duties.specs.Calm.{EndThemselves}
-use Rattle.pm_duties.specs.AuxiliaryRuns.{nothing_heard}
-use Rattle.pm_once.specs.View.{View, view_of}
-use Rattle.pm_once.proofs.Whole.{HasBegun, begins_idle, begins_running, nothing_asked, nothing_journal, logged_as, nothing_logged, whole_asked, whole_book_is, whole_end, whole_journal, whole_log, whole_once, whole_rose, whole_runs, whole_sessions}
-use Rattle.pm_duties.specs.EndsLaws.{end_themselves}
-use Rattle.pm_acts.specs.StepsLaws.{serves_nothing, no_renewal, opened_once}
-use Rattle.pm_server.specs.StoryLaws.{HasRunSo, ends_well, store_at, story_nothing, unread_counts, whole_cause, whole_story}
-use Rattle.pm_once.specs.Knows.{Knows}
-use Rattle.pm_once.proofs.Known.{known_at}
-use Rattle.pm_once.proofs.Serving.{nothing_served}
+use Rattle.std.{proofs.{Common.{◌≡◌, ◌⊎◌, ℕ, List, [], None, refl, sym, ap, subst, ◌∙◌, inl, inr}, lemmas.List.Elements.All-nil}, specs.{Prelude.{Option, false, true, IfSome}, List.AllByRecursion}}
+use Rattle.pm_server.{specs.{pm_disk.Cause.Rose, pm_state.declared.event.PmEvent.PmEvent, pm_supervisor_journal.{Stands.any_moment, Supervision.at_work}, pm_segment.{Moment.moment, Moves.IsShown, MovesLaws.{break_shown, time_still}}, Story.IsNoOpening, pm_server_lines.Log.{LogView, view_of as log_view_of}, Outside.{OutsideView, outside_view, store_view}, Ends.IsBook, Journal.IsJournal}, proofs.StoryLaws.{HasRunSo, ends_well, store_at, story_nothing, unread_counts, whole_cause, whole_story}}
+use Rattle.pm_once_acts.{specs.pm_supervisor_chain.Steps.{book_of, journal_of, whole_book}, proofs.StepsLaws.{serves_nothing, no_renewal, opened_once}}
+use Rattle.pm_once_children.{specs.{Calm.EndThemselves, AuxiliaryRuns.nothing_heard}, proofs.EndsLaws.end_themselves}
+use Rattle.pm_once.{specs.{View.{View, view_of}, Knows.Knows}, proofs.{Whole.{HasBegun, begins_idle, begins_running, nothing_asked, nothing_journal, logged_as, nothing_logged, whole_asked, whole_book_is, whole_end, whole_journal, whole_log, whole_once, whole_rose, whole_runs, whole_sessions}, Known.known_at, Serving.nothing_served}}
 use Rattle.pm_once.proofs.run_once.once.Goals as goal
 
 pub run-end-requires : goal.run-end-requires

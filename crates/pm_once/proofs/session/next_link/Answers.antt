@@ -1,9 +1,6 @@
-use Rattle.std.proofs.Common.{◌≡◌, ◌+◌, ◌∙◌, ap, subst, length, Option}
-use Rattle.std.specs.Prelude.{IfSome}
-use Rattle.std.specs.Option.{option_map}
+use Rattle.std.{proofs.Common.{◌≡◌, ◌+◌, ◌∙◌, ap, subst, length, Option}, specs.{Prelude.IfSome, Option.option_map}}
 use Rattle.pm_outside.specs.Visits.{Visits}
-use Rattle.pm_once.specs.Service.{with_end, with_link}
-use Rattle.pm_once.proofs.Links.{one_is_out}
+use Rattle.pm_once.{specs.Service.{with_end, with_link}, proofs.Links.one_is_out}
 use Rattle.pm_once.proofs.session.next_link.Goals as goal
 
 pub returns-in-Link-clause-out : goal.returns-in-Link-clause-out

@@ -1,11 +1,8 @@
-use Rattle.std.proofs.Common.{◌≡◌, ℕ, Some, None, Ok, refl, ap, subst, sym, ◌∙◌}
-use Rattle.std.specs.Prelude.{cond}
+use Rattle.std.{proofs.Common.{◌≡◌, ℕ, Some, None, Ok, refl, ap, subst, sym, ◌∙◌}, specs.Prelude.cond}
 use Rattle.pm_keys.specs.CancelKey.{cancel_key}
 use Rattle.pm_exit.specs.declared.child.Status.{Status}
-use Rattle.pm_life.specs.Life.{Child, Told}
-use Rattle.pm_exchange.specs.Exchange.{link_view}
-use Rattle.pm_session.specs.Session.{HasAskedFor, HeedsTold}
-use Rattle.pm_quiet.specs.Quiet.{quiet_child, quiet_told}
+use Rattle.pm_once_lives.specs.{pm_child_life.Life.{Child, Told}, Quiet.{quiet_child, quiet_told}}
+use Rattle.pm_session.specs.{pm_session_exchange.Exchange.link_view, Session.{HasAskedFor, HeedsTold}}
 use Rattle.pm_once.proofs.Sessions.{served_alone}
 use Rattle.pm_once.proofs.session.serve_at_home.Goals as goal
 

@@ -1,6 +1,5 @@
-use Rattle.std.proofs.Common.{◌∷◌, ap}
-use Rattle.std.specs.Prelude.{Ok}
-use Rattle.pm_acts.proofs.acts.act_all.Goals as goal
+use Rattle.std.{proofs.Common.{◌∷◌, ap}, specs.Prelude.Ok}
+use Rattle.pm_once_acts.proofs.acts.act_all.Goals as goal
 
 pub acts-preserved : goal.acts-preserved
 acts-preserved g c = record {

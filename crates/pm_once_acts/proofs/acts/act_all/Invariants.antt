@@ -1,7 +1,7 @@
 use Rattle.std.specs.Prelude.{Result}
-use Rattle.pm_acts.specs.Loop.{AreDone}
+use Rattle.pm_once_acts.specs.Loop.{AreDone}
 use Rattle.pm_server.specs.declared.end.ServerEnd.{ServerEnd}
-use Rattle.pm_acts.proofs.acts.act_all.Given as goal
+use Rattle.pm_once_acts.proofs.acts.act_all.Given as goal
 
 -- what is done from here on is done from the start on
 abbrev pub invariant-acts : goal.invariant-acts

@@ -1,21 +1,9 @@
-use Rattle.std.proofs.Common.{◌≡◌, ℕ, Some, None, Ok, Result, List, ap, subst, sym, ◌∙◌, refl, rules}
-use Rattle.std.specs.Prelude.{cond, Option}
-use Rattle.pm_exit.specs.declared.child.Kind.TheVariants.{Checkpointer}
-use Rattle.pm_life.specs.Life.{Child}
-use Rattle.pm_query.specs.declared.book.BookEntry.{BookEntry}
-use Rattle.pm_query.specs.declared.store.Checkpointed.{Checkpointed}
-use Rattle.pm_query.specs.declared.store.StoreNo.{StoreNo}
-use Rattle.pm_aux.specs.declared.aux_done.AuxDone.{AuxDone}
-use Rattle.pm_aux.specs.Ends.{fault_by}
-use Rattle.pm_aux.specs.Runs.{NotesBehind}
-use Rattle.pm_segment.specs.Moment.{moment}
-use Rattle.pm_segment.specs.Moves.{Moves}
-use Rattle.pm_quiet.specs.Asked.{asked_told}
-use Rattle.pm_duties.specs.Alone.{made_by}
-use Rattle.pm_duties.specs.AuxiliaryRuns.{CloseNotes, closed_as}
-use Rattle.pm_duties.proofs.Closing.{close_notes, run_closes}
-use Rattle.pm_duties.proofs.Reading.{runner_of}
-use Rattle.pm_duties.proofs.checkpointer.close_at_home.Goals as goal
+use Rattle.std.{proofs.Common.{◌≡◌, ℕ, Some, None, Ok, Result, List, ap, subst, sym, ◌∙◌, refl, rules}, specs.Prelude.{cond, Option}}
+use Rattle.pm_aux.specs.{pm_exit.declared.child.Kind.TheVariants.Checkpointer, pm_query.declared.{book.BookEntry.BookEntry, store.{Checkpointed.Checkpointed, StoreNo.StoreNo}}, declared.aux_done.AuxDone.AuxDone, Ends.fault_by, Runs.NotesBehind}
+use Rattle.pm_once_lives.specs.{pm_child_life.Life.Child, Asked.asked_told}
+use Rattle.pm_segment.specs.{Moment.moment, Moves.Moves}
+use Rattle.pm_once_children.{specs.{Alone.made_by, AuxiliaryRuns.{CloseNotes, closed_as}}, proofs.{Closing.{close_notes, run_closes}, Reading.runner_of}}
+use Rattle.pm_once_children.proofs.checkpointer.close_at_home.Goals as goal
 
 pub returns-clause-notes : goal.returns-clause-notes
 returns-clause-notes g c =

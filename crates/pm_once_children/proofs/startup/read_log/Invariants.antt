@@ -1,4 +1,4 @@
-use Rattle.pm_duties.proofs.startup.read_log.Given as goal
+use Rattle.pm_once_children.proofs.startup.read_log.Given as goal
 
 abbrev pub ghosts-redo_at_home : goal.ghosts-redo_at_home
 ghosts-redo_at_home g a = record { home = a.store.now.generation }

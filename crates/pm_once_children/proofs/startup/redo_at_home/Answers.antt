@@ -1,19 +1,9 @@
-use Rattle.std.proofs.Common.{◌≡◌, ℕ, Some, None, Ok, Result, List, ap, subst, sym, ◌∙◌, refl, rules}
-use Rattle.std.specs.Prelude.{cond, Option}
-use Rattle.pm_exit.specs.declared.child.Kind.TheVariants.{Startup}
-use Rattle.pm_life.specs.Life.{Child}
-use Rattle.pm_query.specs.declared.book.BookEntry.{BookEntry}
-use Rattle.pm_query.specs.declared.store.StoreNo.{StoreNo}
-use Rattle.pm_aux.specs.declared.aux_done.AuxDone.{AuxDone}
-use Rattle.pm_aux.specs.Ends.{fault_by}
-use Rattle.pm_aux.specs.Runs.{NotesBehind}
-use Rattle.pm_segment.specs.Moment.{moment}
-use Rattle.pm_segment.specs.Moves.{Moves}
-use Rattle.pm_quiet.specs.Quiet.{quiet_told}
-use Rattle.pm_duties.specs.Alone.{redone_by}
-use Rattle.pm_duties.specs.AuxiliaryRuns.{StartNotes, started_as}
-use Rattle.pm_duties.proofs.Reading.{run_reads, runner_of, start_notes}
-use Rattle.pm_duties.proofs.startup.redo_at_home.Goals as goal
+use Rattle.std.{proofs.Common.{◌≡◌, ℕ, Some, None, Ok, Result, List, ap, subst, sym, ◌∙◌, refl, rules}, specs.Prelude.{cond, Option}}
+use Rattle.pm_aux.specs.{pm_exit.declared.child.Kind.TheVariants.Startup, pm_query.declared.{book.BookEntry.BookEntry, store.StoreNo.StoreNo}, declared.aux_done.AuxDone.AuxDone, Ends.fault_by, Runs.NotesBehind}
+use Rattle.pm_once_lives.specs.{pm_child_life.Life.Child, Quiet.quiet_told}
+use Rattle.pm_segment.specs.{Moment.moment, Moves.Moves}
+use Rattle.pm_once_children.{specs.{Alone.redone_by, AuxiliaryRuns.{StartNotes, started_as}}, proofs.Reading.{run_reads, runner_of, start_notes}}
+use Rattle.pm_once_children.proofs.startup.redo_at_home.Goals as goal
 
 pub returns-clause-notes : goal.returns-clause-notes
 returns-clause-notes g c =

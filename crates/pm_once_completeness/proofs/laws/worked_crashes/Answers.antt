@@ -1,5 +1,5 @@
-use Rattle.pm_completeness.proofs.WorkedCrashProofs.{refuses_crash, refuses_unasked, refuses_unmade, takes_clean, takes_failed, takes_unmade}
-use Rattle.pm_completeness.proofs.laws.worked_crashes.Goals as goal
+use Rattle.pm_once_completeness.proofs.WorkedCrashProofs.{refuses_crash, refuses_unasked, refuses_unmade, takes_clean, takes_failed, takes_unmade}
+use Rattle.pm_once_completeness.proofs.laws.worked_crashes.Goals as goal
 
 pub returns : goal.returns
 returns c = record {

@@ -1,6 +1,5 @@
-use Rattle.std.proofs.Common.{◌≡◌}
-use Rattle.std.specs.Prelude.{false}
-use Rattle.pm_seating.specs.Final.{AreFree}
+use Rattle.std.{proofs.Common.◌≡◌, specs.Prelude.false}
+use Rattle.pm_board_acts.specs.Final.{AreFree}
 use Rattle.pm_postmaster.specs.Clearing.{Clears}
 use Rattle.pm_postmaster.proofs.clearing.clear_once.Given as goal
 

@@ -1,6 +1,5 @@
 use Rattle.std.proofs.Common.{inr, refl}
-use Rattle.pm_postmaster.proofs.Cleared.{clears_found, clears_released, near_slots, past_still}
-use Rattle.pm_postmaster.proofs.Reaped.{may_come, released_by}
+use Rattle.pm_postmaster.proofs.{Cleared.{clears_found, clears_released, near_slots, past_still}, Reaped.{may_come, released_by}}
 use Rattle.pm_postmaster.proofs.clearing.clear_slot.Goals as goal
 
 pub open_mail-fault-requires : goal.open_mail-fault-requires

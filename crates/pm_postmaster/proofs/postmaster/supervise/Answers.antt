@@ -1,27 +1,11 @@
-use Rattle.std.proofs.Common.{◌≡◌, ◌⊎◌, inl, inr, ℕ, List, [], refl, sym, ap, subst, ◌∙◌}
-use Rattle.std.specs.Prelude.{Some, Option, IfSome, is_some}
+use Rattle.std.{proofs.Common.{◌≡◌, ◌⊎◌, inl, inr, ℕ, List, [], refl, sym, ap, subst, ◌∙◌}, specs.Prelude.{Some, Option, IfSome, is_some}}
 use Rattle.atomic_table.specs.Seated.{TableId}
-use Rattle.pm_board.specs.declared.views.RosterView.{RosterView}
-use Rattle.pm_crew.specs.Left.{AreLeft}
-use Rattle.pm_disk.specs.Cause.{Rose}
-use Rattle.pm_journal.specs.Supervision.{at_work, told}
-use Rattle.pm_lines.specs.LogLaws.{said_first}
-use Rattle.pm_pool.specs.declared.plan.Plan.{Plan}
-use Rattle.pm_pool.specs.declared.plan.Terms.{Terms}
-use Rattle.pm_pool.specs.declared.pool.NoPool.{NoPool}
-use Rattle.pm_pool.specs.declared.pool.Pool.{Pool}
-use Rattle.pm_pool.specs.declared.pool.NoPool.TheVariants as pools
-use Rattle.pm_pool.specs.Plan.{manner_of, slots_of}
-use Rattle.pm_pool.specs.Pools.{IsPool}
-use Rattle.pm_query.specs.declared.book.BookEntry.{BookEntry}
-use Rattle.pm_server.specs.declared.end.ServerEnd.{ServerEnd}
-use Rattle.pm_server.specs.declared.end.ServerEnd.TheVariants.{NoThread, NoMemory}
-use Rattle.pm_shared.specs.declared.views.Noted.{Noted}
-use Rattle.pm_worker.specs.declared.mail.MailTold.{MailTold}
-use Rattle.pm_postmaster.specs.Served.{slots_by, unmade_by}
-use Rattle.pm_postmaster.proofs.Beginning.{begun}
-use Rattle.pm_postmaster.proofs.Finished.{adds_new, given_back, logged_whole, told_at}
-use Rattle.pm_postmaster.proofs.Ran.{asked, board_is, cause, clears_at, last_at, links, may_clear_at, may_close, may_close_at, once, redos, returned}
+use Rattle.pm_worker.specs.{pm_board.declared.views.RosterView.RosterView, declared.mail.MailTold.MailTold}
+use Rattle.pm_serve_pool.specs.{pm_serve_crew.Left.AreLeft, declared.{plan.{Plan.Plan, Terms.Terms}, pool.{NoPool.NoPool, Pool.Pool}}, Plan.{manner_of, slots_of}, Pools.IsPool, pm_store_shared.declared.views.Noted.Noted}
+use Rattle.pm_server.specs.{pm_disk.Cause.Rose, pm_supervisor_journal.Supervision.{at_work, told}, pm_query.declared.book.BookEntry.BookEntry, declared.end.ServerEnd.{ServerEnd, TheVariants.{NoThread, NoMemory}}}
+use Rattle.pm_server_lines.proofs.LogLaws.{said_first}
+use Rattle.pm_serve_pool.specs.declared.pool.NoPool.TheVariants as pools
+use Rattle.pm_postmaster.{specs.Served.{slots_by, unmade_by}, proofs.{Beginning.begun, Finished.{adds_new, given_back, logged_whole, told_at}, Ran.{asked, board_is, cause, clears_at, last_at, links, may_clear_at, may_close, may_close_at, once, redos, returned}}}
 use Rattle.pm_postmaster.proofs.postmaster.supervise.Goals as goal
 
 -- why no pool was made

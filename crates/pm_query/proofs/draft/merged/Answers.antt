@@ -1,7 +1,4 @@
-use Rattle.std.proofs.Common.{sym, ap, ◌∙◌}
-use Rattle.std.specs.Ordering.{ordering_reverse}
-use Rattle.std.specs.Cmp.{int_cmp_total}
-use Rattle.std.specs.Map.Iter.{deref_pair}
+use Rattle.std.{proofs.Common.{sym, ap, ◌∙◌}, specs.{Ordering.ordering_reverse, Cmp.int_cmp_total, Map.Iter.deref_pair}}
 use Rattle.pm_rows.specs.RowsIter.{shown_row}
 use Rattle.pm_query.proofs.Merging.{below_ahead, below_none, take_row, take_change, take_both}
 use Rattle.pm_query.proofs.draft.merged.Goals as goal

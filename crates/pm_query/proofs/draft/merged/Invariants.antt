@@ -1,8 +1,6 @@
-use Rattle.std.proofs.Common.{◌+◌, length}
-use Rattle.std.specs.Map.Iter.{deref_pair}
+use Rattle.std.{proofs.Common.{◌+◌, length}, specs.Map.Iter.deref_pair}
 use Rattle.pm_rows.specs.RowsIter.{shown_row}
-use Rattle.pm_query.specs.Merge.{laid}
-use Rattle.pm_query.proofs.Merging.{left, IsMerging}
+use Rattle.pm_query.{specs.Merge.laid, proofs.Merging.{left, IsMerging}}
 use Rattle.pm_query.proofs.draft.merged.Given as goal
 
 abbrev pub invariant-loop-row : goal.invariant-loop-row

@@ -1,11 +1,6 @@
-use Rattle.std.proofs.Common.{sym, ap, subst, ◌∙◌}
-use Rattle.std.specs.Prelude.{All}
-use Rattle.pm_rows.specs.Fold.{committed}
-use Rattle.pm_rows.specs.Limits.{IsWithinRowLimits}
-use Rattle.pm_query.specs.Answer.{items_of, commit_of}
-use Rattle.pm_query.specs.Laws.{ErrorsComeLast}
-use Rattle.pm_query.specs.Limits.{HasShortRows, HasShortValues, IsWithinCommitLimits}
-use Rattle.pm_query.proofs.LawProofs.{errors_come_last, commit_limits, row_limits, short_rows, short_items}
+use Rattle.std.{proofs.Common.{sym, ap, subst, ◌∙◌}, specs.Prelude.All}
+use Rattle.pm_rows.specs.{Fold.committed, Limits.IsWithinRowLimits}
+use Rattle.pm_query.{specs.{Answer.{items_of, commit_of}, Laws.ErrorsComeLast, Limits.{HasShortRows, HasShortValues, IsWithinCommitLimits}}, proofs.LawProofs.{errors_come_last, commit_limits, row_limits, short_rows, short_items}}
 use Rattle.pm_query.proofs.run.answer.Goals as goal
 
 pub returns-clause-last : goal.returns-clause-last

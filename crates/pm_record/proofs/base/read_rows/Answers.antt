@@ -1,12 +1,6 @@
-use Rattle.std.proofs.Common.{◌≡◌, ℕ, ℤ, ◌+◌, ◌-◌, List, [], ◌∷◌, ◌++◌, min, Ok, w64, refl, ap, subst, sym, ◌∙◌, to_z, of_z}
-use Rattle.std.specs.FinMap.{empty}
-use Rattle.std.proofs.lemmas.Int.{to_z-of_z}
-use Rattle.std.proofs.lemmas.Result.{err_from_is_err_and}
+use Rattle.std.{proofs.{Common.{◌≡◌, ℕ, ℤ, ◌+◌, ◌-◌, List, [], ◌∷◌, ◌++◌, min, Ok, w64, refl, ap, subst, sym, ◌∙◌, to_z, of_z}, lemmas.{Int.to_z-of_z, Result.err_from_is_err_and}}, specs.FinMap.empty}
 use Rattle.pm_rows.specs.Fold.{RowMap, put_pair, rows_of_pairs}
-use Rattle.pm_record.specs.Base.{place, row_at, row_step, added}
-use Rattle.pm_record.specs.Reading.{Read, ◌>>=◌, Fails}
-use Rattle.pm_record.specs.Repeated.{stepped, through_at}
-use Rattle.pm_record.proofs.Loops.{fails_behind, fold_more, through_end, through_on}
+use Rattle.pm_record.{specs.{Base.{place, row_at, row_step, added}, Reading.{Read, ◌>>=◌, Fails}, Repeated.{stepped, through_at}}, proofs.Loops.{fails_behind, fold_more, through_end, through_on}}
 use Rattle.pm_record.proofs.base.read_rows.Goals as goal
 
 pub loop-i-preserved : goal.loop-i-preserved

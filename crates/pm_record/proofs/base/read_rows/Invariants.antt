@@ -1,8 +1,7 @@
 use Rattle.std.proofs.Common.{◌≡◌, ◌-◌}
 use Rattle.std.specs.FinMap as map
 use Rattle.pm_rows.specs.Fold.{rows_of_pairs}
-use Rattle.pm_record.specs.Base.{row_step}
-use Rattle.pm_record.specs.Repeated.{through_at}
+use Rattle.pm_record.specs.{Base.row_step, Repeated.through_at}
 use Rattle.pm_record.proofs.base.read_rows.Given as goal
 
 -- the rows listed so far and those that are left are all of them

@@ -1,6 +1,5 @@
 use Rattle.std.proofs.lemmas.Result.{err_from_is_err_and}
-use Rattle.pm_record.specs.File.{told, room_in, batch_step}
-use Rattle.pm_record.proofs.Gates.{gate_end, gate_shut, gate_fails, gate_on}
+use Rattle.pm_record.{specs.File.{told, room_in, batch_step}, proofs.Gates.{gate_end, gate_shut, gate_fails, gate_on}}
 use Rattle.pm_record.proofs.batch.batches_into.Goals as goal
 
 pub returns-in_err-gate : goal.returns-in_err-gate

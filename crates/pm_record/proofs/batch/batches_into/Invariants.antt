@@ -1,6 +1,5 @@
 use Rattle.std.proofs.Common.{◌≡◌, ℕ, ◌≤◌, ◌<◌}
-use Rattle.pm_record.specs.File.{told, room_for, room_in, batch_step, batches_at}
-use Rattle.pm_record.specs.Gated.{through_gates}
+use Rattle.pm_record.specs.{File.{told, room_for, room_in, batch_step, batches_at}, Gated.through_gates}
 use Rattle.pm_record.proofs.batch.batches_into.Given as goal
 
 abbrev pub invariant-gates : goal.invariant-gates

@@ -1,8 +1,5 @@
-use Rattle.std.proofs.Common.{arith, refl}
-use Rattle.std.proofs.lemmas.Result.{err_from_is_err_and}
-use Rattle.pm_record.specs.File.{commit_step}
-use Rattle.pm_record.specs.Repeated.{through_at}
-use Rattle.pm_record.proofs.Loops.{fails_behind, through_end, through_on}
+use Rattle.std.proofs.{Common.{arith, refl}, lemmas.Result.err_from_is_err_and}
+use Rattle.pm_record.{specs.{File.commit_step, Repeated.through_at}, proofs.Loops.{fails_behind, through_end, through_on}}
 use Rattle.pm_record.proofs.batch.commits_into.Goals as goal
 
 pub loop-i-preserved : goal.loop-i-preserved

@@ -1,6 +1,5 @@
 use Rattle.std.proofs.Common.{◌≡◌, ◌-◌, ◌<◌, ◌^◌}
-use Rattle.pm_record.specs.File.{commit_step}
-use Rattle.pm_record.specs.Repeated.{through_at}
+use Rattle.pm_record.specs.{File.commit_step, Repeated.through_at}
 use Rattle.pm_record.proofs.batch.commits_into.Given as goal
 
 abbrev pub invariant-loop-i : goal.invariant-loop-i

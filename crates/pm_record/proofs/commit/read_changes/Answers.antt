@@ -1,11 +1,6 @@
-use Rattle.std.proofs.Common.{◌-◌, ◌+◌, ap, ap₂, ◌∙◌, sym, ℕ, List, refl}
-use Rattle.std.specs.Prelude.{fold}
+use Rattle.std.{proofs.{Common.{◌-◌, ◌+◌, ap, ap₂, ◌∙◌, sym, ℕ, List, refl}, lemmas.Result.err_from_is_err_and}, specs.Prelude.fold}
 use Rattle.pm_rows.specs.declared.commit.Change.{Change}
-use Rattle.pm_record.specs.Bodies.{change_left}
-use Rattle.pm_record.specs.Changes.{change_at}
-use Rattle.pm_record.specs.Repeated.{items_at}
-use Rattle.pm_record.proofs.Loops.{with_front, items_go_on, items_end, fold_more}
-use Rattle.std.proofs.lemmas.Result.{err_from_is_err_and}
+use Rattle.pm_record.{specs.{Bodies.change_left, Changes.change_at, Repeated.items_at}, proofs.Loops.{with_front, items_go_on, items_end, fold_more}}
 use Rattle.pm_record.proofs.commit.read_changes.Goals as goal
 
 pub loop-i-preserved : goal.loop-i-preserved

@@ -1,9 +1,5 @@
-use Rattle.std.proofs.Common.{◌≡◌, ◌-◌}
-use Rattle.std.specs.Prelude.{fold}
-use Rattle.pm_record.specs.Bodies.{change_left}
-use Rattle.pm_record.specs.Changes.{change_at}
-use Rattle.pm_record.specs.Repeated.{items_at}
-use Rattle.pm_record.proofs.Loops.{with_front}
+use Rattle.std.{proofs.Common.{◌≡◌, ◌-◌}, specs.Prelude.fold}
+use Rattle.pm_record.{specs.{Bodies.change_left, Changes.change_at, Repeated.items_at}, proofs.Loops.with_front}
 use Rattle.pm_record.proofs.commit.read_changes.Given as goal
 
 abbrev pub invariant-loop-i : goal.invariant-loop-i

@@ -1,7 +1,5 @@
-use Rattle.std.proofs.Common.{◌∙◌, ap, ℕ}
-use Rattle.std.specs.Prelude.{fold}
-use Rattle.pm_record.specs.Bodies.{change_left}
-use Rattle.pm_record.proofs.Bodies.{left_commit}
+use Rattle.std.{proofs.Common.{◌∙◌, ap, ℕ}, specs.Prelude.fold}
+use Rattle.pm_record.{specs.Bodies.change_left, proofs.Bodies.left_commit}
 use Rattle.pm_record.proofs.commit.read_commit.Goals as goal
 
 pub returns-clause-left : goal.returns-clause-left

@@ -1,10 +1,5 @@
 use Rattle.std.proofs.Common.{◌≡◌, ◌-◌, ℕ, List, ◌∷◌, suc, length, arith, ap, sym, subst}
-use Rattle.pm_record.specs.Found.{MeansNothing}
-use Rattle.pm_record.specs.Damage.{IsFirstWrong}
-use Rattle.pm_record.specs.StandsFor.{StandsFor}
-use Rattle.pm_record.proofs.Readers.{IsBytes}
-use Rattle.pm_record.proofs.Numbers.{bytes_from_places}
-use Rattle.pm_record.proofs.Files.{holds, only, errs, nothing, first_wrong}
+use Rattle.pm_record.{specs.{Found.MeansNothing, Damage.IsFirstWrong, StandsFor.StandsFor}, proofs.{Readers.IsBytes, Numbers.bytes_from_places, Files.{holds, only, errs, nothing, first_wrong}}}
 use Rattle.pm_record.proofs.file.read_file.Goals as goal
 
 pub returns-in-Ok-clause-found : goal.returns-in-Ok-clause-found

@@ -1,6 +1,5 @@
 use Rattle.std.proofs.Common.{◌≡◌, ◌+◌, ◌*◌, ◌≤◌, take, sum_by}
-use Rattle.pm_rows.specs.LogSize.{commit_length}
-use Rattle.pm_rows.specs.Longest.{max_commit_bytes}
+use Rattle.pm_rows.specs.{LogSize.commit_length, Longest.max_commit_bytes}
 use Rattle.pm_record.proofs.length.body_length.Given as goal
 
 abbrev pub invariant-loop-commit : goal.invariant-loop-commit

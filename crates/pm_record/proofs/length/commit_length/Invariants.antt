@@ -1,6 +1,5 @@
 use Rattle.std.proofs.Common.{◌≡◌, ◌+◌, ◌*◌, ◌≤◌, take, sum_by}
-use Rattle.pm_rows.specs.LogSize.{change_length}
-use Rattle.pm_rows.specs.Longest.{max_change_bytes}
+use Rattle.pm_rows.specs.{LogSize.change_length, Longest.max_change_bytes}
 use Rattle.pm_record.proofs.length.commit_length.Given as goal
 
 abbrev pub invariant-loop-change : goal.invariant-loop-change

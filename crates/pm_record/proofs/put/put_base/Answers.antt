@@ -1,7 +1,5 @@
-use Rattle.std.proofs.Common.{◌≡◌, ℕ, List, Bool, true, false, [], ◌∷◌, ◌++◌, ap, refl, ◌∙◌}
-use Rattle.std.specs.Int.{w64, to_be_bytes, from_bool}
-use Rattle.pm_record.specs.Spelling.{clean_byte, rows_bytes}
-use Rattle.pm_record.proofs.Writing.{onto}
+use Rattle.std.{proofs.Common.{◌≡◌, ℕ, List, Bool, true, false, [], ◌∷◌, ◌++◌, ap, refl, ◌∙◌}, specs.Int.{w64, to_be_bytes, from_bool}}
+use Rattle.pm_record.{specs.Spelling.{clean_byte, rows_bytes}, proofs.Writing.onto}
 use Rattle.pm_record.proofs.put.put_base.Goals as goal
 
 bit : (clean : Bool) → from_bool clean ≡ clean_byte clean

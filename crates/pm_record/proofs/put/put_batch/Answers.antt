@@ -1,11 +1,6 @@
-use Rattle.std.proofs.Common.{ℕ, List, ◌∷◌, ◌++◌, length, ap, sym, ◌∙◌, arith}
-use Rattle.std.specs.Int.{w32, to_be_bytes}
-use Rattle.std.specs.List.{flat_map}
-use Rattle.std.proofs.lemmas.List.{take_all}
-use Rattle.pm_rows.specs.declared.commit.Change.{Change}
-use Rattle.pm_rows.specs.LogSize.{body_length}
-use Rattle.pm_record.specs.Spelling.{commit_bytes, body_bytes}
-use Rattle.pm_record.proofs.Lengths.{body_long}
+use Rattle.std.{proofs.{Common.{ℕ, List, ◌∷◌, ◌++◌, length, ap, sym, ◌∙◌, arith}, lemmas.List.take_all}, specs.{Int.{w32, to_be_bytes}, List.flat_map}}
+use Rattle.pm_rows.specs.{declared.commit.Change.Change, LogSize.body_length}
+use Rattle.pm_record.{specs.Spelling.{commit_bytes, body_bytes}, proofs.Lengths.body_long}
 use Rattle.pm_record.proofs.put.put_batch.Goals as goal
 
 pub returns : goal.returns

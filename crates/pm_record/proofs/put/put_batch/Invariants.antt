@@ -1,6 +1,4 @@
-use Rattle.std.proofs.Common.{◌≡◌, ◌++◌, ◌∷◌, length, take}
-use Rattle.std.specs.Int.{w32, to_be_bytes}
-use Rattle.std.specs.List.{flat_map}
+use Rattle.std.{proofs.Common.{◌≡◌, ◌++◌, ◌∷◌, length, take}, specs.{Int.{w32, to_be_bytes}, List.flat_map}}
 use Rattle.pm_rows.specs.LogSize.{body_length}
 use Rattle.pm_record.specs.Spelling.{commit_bytes}
 use Rattle.pm_record.proofs.put.put_batch.Given as goal

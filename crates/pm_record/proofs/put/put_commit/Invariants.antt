@@ -1,6 +1,4 @@
-use Rattle.std.proofs.Common.{◌≡◌, ◌++◌, length, take}
-use Rattle.std.specs.Int.{w16, to_be_bytes}
-use Rattle.std.specs.List.{flat_map}
+use Rattle.std.{proofs.Common.{◌≡◌, ◌++◌, length, take}, specs.{Int.{w16, to_be_bytes}, List.flat_map}}
 use Rattle.pm_record.specs.Spelling.{change_bytes}
 use Rattle.pm_record.proofs.put.put_commit.Given as goal
 

@@ -1,5 +1,4 @@
-use Rattle.std.proofs.Common.{◌≡◌, List, ℕ, length, ap, ◌∙◌, rules}
-use Rattle.std.specs.Int.{w32, w64, cast_unsigned, cast_signed, to_be_bytes}
+use Rattle.std.{proofs.Common.{◌≡◌, List, ℕ, length, ap, ◌∙◌, rules}, specs.Int.{w32, w64, cast_unsigned, cast_signed, to_be_bytes}}
 use Rattle.pm_record.proofs.Writing.{appended-key}
 use Rattle.pm_record.proofs.put.put_row.Goals as goal
 

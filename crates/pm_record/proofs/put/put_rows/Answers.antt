@@ -1,12 +1,6 @@
-use Rattle.std.proofs.Common.{◌≡◌, ◌++◌, ◌∷◌, [], suc, arith, rules, List, ℕ, ap, subst, sym, ◌∙◌, append_assoc}
-use Rattle.std.specs.Prelude.{All, ℤ}
-use Rattle.std.specs.List.{flat_map}
+use Rattle.std.{proofs.Common.{◌≡◌, ◌++◌, ◌∷◌, [], suc, arith, rules, List, ℕ, ap, subst, sym, ◌∙◌, append_assoc}, specs.{Prelude.{All, ℤ}, List.flat_map, Int.{w32, w64, to_be_bytes, cast_signed, cast_unsigned, RustNames.FitsSigned}}}
 use Rattle.std.specs.FinMap as map
-use Rattle.std.specs.Int.{w32, w64, to_be_bytes, cast_signed, cast_unsigned}
-use Rattle.std.specs.Int.RustNames.{FitsSigned}
-use Rattle.pm_record.specs.Spelling.{row_bytes, rows_bytes}
-use Rattle.pm_record.specs.StandsFor.{IsRow}
-use Rattle.pm_record.proofs.Writing.{row_written}
+use Rattle.pm_record.{specs.{Spelling.{row_bytes, rows_bytes}, StandsFor.IsRow}, proofs.Writing.row_written}
 use Rattle.pm_record.proofs.put.put_rows.Goals as goal
 
 pub loop-key-init : goal.loop-key-init

@@ -1,8 +1,5 @@
-use Rattle.std.proofs.Common.{◌≡◌, ◌++◌}
-use Rattle.std.specs.Prelude.{All}
-use Rattle.std.specs.List.{flat_map}
-use Rattle.pm_record.specs.Spelling.{row_bytes, rows_bytes}
-use Rattle.pm_record.specs.StandsFor.{IsRow}
+use Rattle.std.{proofs.Common.{◌≡◌, ◌++◌}, specs.{Prelude.All, List.flat_map}}
+use Rattle.pm_record.specs.{Spelling.{row_bytes, rows_bytes}, StandsFor.IsRow}
 use Rattle.pm_record.proofs.put.put_rows.Given as goal
 
 abbrev pub invariant-loop-key : goal.invariant-loop-key

@@ -1,8 +1,5 @@
-use Rattle.std.proofs.Common.{◌∙◌, sym, ap₂, subst, List, ℕ, arith}
-use Rattle.std.specs.Str.{IsUtf8}
-use Rattle.pm_record.proofs.Readers.{ok}
-use Rattle.pm_record.proofs.Numbers.{bytes_from_places}
-use Rattle.pm_record.proofs.Texts.{text_front}
+use Rattle.std.{proofs.Common.{◌∙◌, sym, ap₂, subst, List, ℕ, arith}, specs.Str.IsUtf8}
+use Rattle.pm_record.proofs.{Readers.ok, Numbers.bytes_from_places, Texts.text_front}
 use Rattle.pm_record.proofs.text.read_text.Goals as goal
 
 pub split_at-requires : goal.split_at-requires

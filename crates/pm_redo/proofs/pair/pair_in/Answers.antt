@@ -1,13 +1,6 @@
-use Rattle.std.proofs.lemmas.Result.{err_from_is_err_and}
-use Rattle.pm_redo.specs.Found.{IsReason}
-use Rattle.pm_record.specs.declared.fault.RedoFault.{RedoFault}
-use Rattle.std.proofs.Common.{inl, inr, sym, subst, refl, arith, ℕ}
-use Rattle.pm_disk.specs.declared.disk.Which.TheVariants.{A, B}
-use Rattle.pm_record.specs.Found.{Holds, IsClosed}
-use Rattle.pm_record.specs.StandsFor.{Content, StandsFor}
-use Rattle.pm_record.specs.declared.found.Contents.TheVariants.{Standing}
-use Rattle.pm_redo.specs.FileLaws.{not_closed}
-use Rattle.pm_redo.proofs.Redos.{Tells, not_damaged, finds_one, finds_two, only_greater, only_one, pair_of, shut_of}
+use Rattle.std.proofs.{lemmas.Result.err_from_is_err_and, Common.{inl, inr, sym, subst, refl, arith, ℕ}}
+use Rattle.pm_redo.{specs.Found.IsReason, proofs.{FileLaws.not_closed, Redos.{Tells, not_damaged, finds_one, finds_two, only_greater, only_one, pair_of, shut_of}}}
+use Rattle.pm_record.specs.{declared.{fault.RedoFault.RedoFault, found.Contents.TheVariants.Standing}, pm_disk.declared.disk.Which.TheVariants.{A, B}, Found.{Holds, IsClosed}, StandsFor.{Content, StandsFor}}
 use Rattle.pm_redo.proofs.pair.pair_in.Goals as goal
 
 pub returns-in-Standing-Closed-clause-found : goal.returns-in-Standing-Closed-clause-found

@@ -1,16 +1,6 @@
-use Rattle.std.proofs.Common.{◌+◌, Bool, ℕ, List, subst}
-use Rattle.std.specs.Prelude.{All, IfSome}
-use Rattle.std.specs.FinMap.{entries}
-use Rattle.std.proofs.lemmas.Result.{IfOk-weaker}
-use Rattle.pm_record.specs.OnDisk.{Throughout}
-use Rattle.pm_record.specs.Found.{IsFound}
-use Rattle.pm_record.specs.StandsFor.{Content, IsRow, StandsFor}
-use Rattle.pm_record.specs.declared.found.Found.{Found}
-use Rattle.pm_rows.specs.Limits.{IsWithinRowLimits}
-use Rattle.pm_redo.specs.Found.{Finds, FindsOnly}
-use Rattle.pm_redo.specs.Redo.{Same}
-use Rattle.pm_redo.proofs.Kept.{found_limits, found_rows, found_stands}
-use Rattle.pm_redo.proofs.Redos.{pair_of, quiet_then, read_files, same_through, told}
+use Rattle.std.{proofs.{Common.{◌+◌, Bool, ℕ, List, subst}, lemmas.Result.IfOk-weaker}, specs.{Prelude.{All, IfSome}, FinMap.entries}}
+use Rattle.pm_record.specs.{OnDisk.Throughout, Found.IsFound, StandsFor.{Content, IsRow, StandsFor}, declared.found.Found.Found, pm_rows.Limits.IsWithinRowLimits}
+use Rattle.pm_redo.{specs.{Found.{Finds, FindsOnly}, Redo.Same}, proofs.{Kept.{found_limits, found_rows, found_stands}, Redos.{pair_of, quiet_then, read_files, same_through, told}}}
 use Rattle.pm_redo.proofs.redo.read_pair.Goals as goal
 
 pub returns-clause-found : goal.returns-clause-found

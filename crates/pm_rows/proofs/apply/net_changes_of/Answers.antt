@@ -1,5 +1,4 @@
-use Rattle.std.proofs.Common.{w64, sym, ap, ◌∙◌, arith}
-use Rattle.std.proofs.lemmas.Int.{to_z-of_z}
+use Rattle.std.proofs.{Common.{w64, sym, ap, ◌∙◌, arith}, lemmas.Int.to_z-of_z}
 use Rattle.pm_rows.proofs.NetChangesLaws.{net_more}
 use Rattle.pm_rows.proofs.apply.net_changes_of.Goals as goal
 

@@ -1,10 +1,5 @@
-use Rattle.std.proofs.Common.{◌≡◌, ℕ, ℤ, All, List, ◌∷◌, length, arith, ap, subst, sym, ◌∙◌}
-use Rattle.std.proofs.lemmas.List.Elements.{All-nil, All-cons}
-use Rattle.std.proofs.lemmas.List.Sums.{sum_by-cons}
-use Rattle.std.specs.Map.{values_of}
-use Rattle.pm_rows.specs.Size.{row_size}
-use Rattle.pm_rows.proofs.Sizes.{entries_size}
-use Rattle.pm_rows.proofs.Tables.{IsTypedShort, table_of}
+use Rattle.std.{proofs.{Common.{◌≡◌, ℕ, ℤ, All, List, ◌∷◌, length, arith, ap, subst, sym, ◌∙◌}, lemmas.List.{Elements.{All-nil, All-cons}, Sums.sum_by-cons}}, specs.Map.values_of}
+use Rattle.pm_rows.{specs.Size.row_size, proofs.{Sizes.entries_size, Tables.{IsTypedShort, table_of}}}
 use Rattle.pm_rows.proofs.rows.table_size.Goals as goal
 
 pub loop-key-init : goal.loop-key-init

@@ -1,6 +1,5 @@
 use Rattle.std.proofs.Common.{◌≡◌, ◌+◌, ◌*◌, ◌^◌, ◌≤◌, All, length}
-use Rattle.pm_rows.proofs.Sizes.{entries_size}
-use Rattle.pm_rows.proofs.Tables.{IsTypedShort}
+use Rattle.pm_rows.proofs.{Sizes.entries_size, Tables.IsTypedShort}
 use Rattle.pm_rows.proofs.rows.table_size.Given as goal
 
 -- the rows that are left take what the sum is short of, and where they are of their types all rows are

@@ -1,7 +1,6 @@
 use Rattle.std.proofs.Common.{◌∙◌}
-use Rattle.pm_rows_tests.specs.Asking.{ReplyNotes}
-use Rattle.pm_query.specs.NotedLaws.{newcomer_is}
-use Rattle.pm_rows_tests.proofs.Askings.{visits, visit_notes}
+use Rattle.pm_rows_tests.{specs.Asking.ReplyNotes, proofs.Askings.{visits, visit_notes}}
+use Rattle.pm_query.proofs.NotedLaws.{newcomer_is}
 use Rattle.pm_rows_tests.proofs.asking.ask.Goals as goal
 
 pub returns : goal.returns

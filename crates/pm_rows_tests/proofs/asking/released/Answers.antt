@@ -1,6 +1,5 @@
 use Rattle.std.proofs.Common.{Ok, Err, inr, refl, ap}
-use Rattle.pm_query.specs.declared.store.Seen.TheVariants.{Released, NotFlushed}
-use Rattle.pm_query.specs.NotedLaws.{same_user_at}
+use Rattle.pm_query.{specs.declared.store.Seen.TheVariants.{Released, NotFlushed}, proofs.NotedLaws.same_user_at}
 use Rattle.pm_rows_tests.proofs.Askings.{answered_then}
 use Rattle.pm_rows_tests.proofs.asking.released.Goals as goal
 

@@ -1,6 +1,5 @@
 use Rattle.std.proofs.Common.{Ok, Err, inl, inr, ◌⊎◌}
-use Rattle.pm_query.specs.Calls.{CheckpointNotes, FlushNotes}
-use Rattle.pm_query.specs.NotedLaws.{same_user}
+use Rattle.pm_query.{specs.Calls.{CheckpointNotes, FlushNotes}, proofs.NotedLaws.same_user}
 use Rattle.pm_rows_tests.proofs.Askings.{flushed_then, redone_then}
 use Rattle.pm_rows_tests.proofs.tending.keep_up.Goals as goal
 

@@ -1,7 +1,6 @@
 use Rattle.std.proofs.Common.{◌∙◌}
-use Rattle.pm_rows_tests.specs.Asking.{TendNotes}
-use Rattle.pm_query.specs.NotedLaws.{newcomer_is}
-use Rattle.pm_rows_tests.proofs.Askings.{tending_notes, visits}
+use Rattle.pm_rows_tests.{specs.Asking.TendNotes, proofs.Askings.{tending_notes, visits}}
+use Rattle.pm_query.proofs.NotedLaws.{newcomer_is}
 use Rattle.pm_rows_tests.proofs.tending.tend.Goals as goal
 
 pub returns : goal.returns

@@ -1,6 +1,4 @@
-use Rattle.std.proofs.Common.{rules, ◌≡◌, ℕ, true, false, sym, ap, ◌∙◌}
-use Rattle.std.specs.Prelude.{nat_eq}
-use Rattle.std.specs.List.{list_any}
+use Rattle.std.{proofs.Common.{rules, ◌≡◌, ℕ, true, false, sym, ap, ◌∙◌}, specs.{Prelude.nat_eq, List.list_any}}
 use Rattle.pm_segment.proofs.Others.{is_named}
 use Rattle.pm_segment.proofs.children.add_other.Goals as goal
 

@@ -1,5 +1,5 @@
 use Rattle.std.proofs.Common.{arith}
-use Rattle.pm_outside.specs.AddedLaws.{added_none}
+use Rattle.pm_outside.proofs.AddedLaws.{added_none}
 use Rattle.pm_segment.proofs.Others.{gone_further, gone_whole}
 use Rattle.pm_segment.proofs.renew.note_gone.Goals as goal
 

@@ -1,11 +1,8 @@
 use Rattle.std.proofs.Common.{◌∙◌, List, ap, arith, map, refl, subst, sym}
 use Rattle.atomic_table.specs.Seated.{TableId}
 use Rattle.pm_spawn.specs.Works.{work_of}
-use Rattle.pm_pool.specs.Plan.{manner_of}
-use Rattle.pm_pool.specs.Works.{EachFrom, IsWorkOf}
-use Rattle.pm_pool.proofs.Closed.{closed_more, closed_none}
-use Rattle.pm_pool.proofs.Lists.{first_of_all, rest_of_all}
-use Rattle.pm_pool.proofs.closing.close_all.Goals as goal
+use Rattle.pm_serve_pool.{specs.{Plan.manner_of, Works.{EachFrom, IsWorkOf}}, proofs.{Closed.{closed_more, closed_none}, Lists.{first_of_all, rest_of_all}}}
+use Rattle.pm_serve_pool.proofs.closing.close_all.Goals as goal
 
 pub loop-worker-init : goal.loop-worker-init
 loop-worker-init g c =

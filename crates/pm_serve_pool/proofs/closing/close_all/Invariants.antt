@@ -1,9 +1,7 @@
 use Rattle.std.proofs.Common.{◌≡◌, ◌+◌, length, map}
 use Rattle.pm_spawn.specs.Works.{work_of}
-use Rattle.pm_pool.specs.Closing.{AreClosed}
-use Rattle.pm_pool.specs.Plan.{manner_of}
-use Rattle.pm_pool.specs.Works.{EachFrom, IsWorkOf}
-use Rattle.pm_pool.proofs.closing.close_all.Given as goal
+use Rattle.pm_serve_pool.specs.{Closing.AreClosed, Plan.manner_of, Works.{EachFrom, IsWorkOf}}
+use Rattle.pm_serve_pool.proofs.closing.close_all.Given as goal
 
 abbrev pub invariant-loop-worker : goal.invariant-loop-worker
 invariant-loop-worker g l =

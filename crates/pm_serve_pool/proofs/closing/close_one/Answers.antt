@@ -1,11 +1,8 @@
 use Rattle.std.proofs.Common.{◌≡◌, ◌∙◌, ℕ, ap, subst}
-use Rattle.pm_board.specs.Models.{HasGathered}
-use Rattle.pm_board.specs.Places.{slot_at}
+use Rattle.pm_board.specs.{Models.HasGathered, Places.slot_at}
 use Rattle.pm_spawn.specs.Works.{work_of}
-use Rattle.pm_pool.specs.Plan.{manner_of}
-use Rattle.pm_pool.proofs.Leaving.{leaves}
-use Rattle.pm_pool.proofs.Slots.{closed_one}
-use Rattle.pm_pool.proofs.closing.close_one.Goals as goal
+use Rattle.pm_serve_pool.{specs.Plan.manner_of, proofs.{Leaving.leaves, Slots.closed_one}}
+use Rattle.pm_serve_pool.proofs.closing.close_one.Goals as goal
 
 pub gather-requires-clause-slot : goal.gather-requires-clause-slot
 gather-requires-clause-slot g c =

@@ -1,10 +1,7 @@
 use Rattle.std.proofs.Common.{◌∙◌, ap, sym, subst}
-use Rattle.pm_board.specs.declared.views.Offer.{Offer}
-use Rattle.pm_worker.specs.declared.mail.MailTold.{MailTold}
-use Rattle.pm_worker.specs.Mails.{mail_told}
-use Rattle.pm_pool.specs.Closing.{IsReleased}
-use Rattle.pm_pool.proofs.Slots.{released_at_last, same_offer}
-use Rattle.pm_pool.proofs.closing.release.Goals as goal
+use Rattle.pm_worker.specs.{pm_board.declared.views.Offer.Offer, declared.mail.MailTold.MailTold, Mails.mail_told}
+use Rattle.pm_serve_pool.{specs.Closing.IsReleased, proofs.Slots.{released_at_last, same_offer}}
+use Rattle.pm_serve_pool.proofs.closing.release.Goals as goal
 
 pub returns-in-Exited-clause-released : goal.returns-in-Exited-clause-released
 returns-in-Exited-clause-released g c o sits =

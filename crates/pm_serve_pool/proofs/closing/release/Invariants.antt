@@ -1,10 +1,7 @@
 use Rattle.std.proofs.Common.{◌≡◌}
-use Rattle.pm_board.specs.declared.views.Offer.{Offer}
-use Rattle.pm_board.specs.declared.views.Sight.TheVariants.{Assigned}
-use Rattle.pm_board.specs.Places.{slot_at}
-use Rattle.pm_worker.specs.declared.mail.MailTold.{MailTold}
-use Rattle.pm_pool.proofs.Slots.{IsWatched}
-use Rattle.pm_pool.proofs.closing.release.Given as goal
+use Rattle.pm_worker.specs.{pm_board.{declared.views.{Offer.Offer, Sight.TheVariants.Assigned}, Places.slot_at}, declared.mail.MailTold.MailTold}
+use Rattle.pm_serve_pool.proofs.Slots.{IsWatched}
+use Rattle.pm_serve_pool.proofs.closing.release.Given as goal
 
 abbrev pub invariant-loop : goal.invariant-loop
 invariant-loop g l =

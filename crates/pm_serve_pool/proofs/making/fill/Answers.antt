@@ -1,12 +1,6 @@
-use Rattle.std.proofs.Common.{rules, ◌≡◌, ◌∙◌, ◌+◌, ◌∷◌, [], ℕ, List, ◌≤◌, ap, arith, length, length-append, subst, sym}
-use Rattle.std.specs.Prelude.{IfSome, Option}
-use Rattle.std.specs.Option.{option_to_list}
-use Rattle.std.proofs.lemmas.List.Elements.{All-pop}
-use Rattle.pm_pool.specs.Plan.{slots_of}
-use Rattle.pm_pool.specs.Works.{EachFrom, IsUnusedToken, IsWorkOf}
-use Rattle.pm_pool.proofs.Filling.{IsPostOf, all_but_last, filled_more, none_yet, popped_last, posts_first, tokens_first}
-use Rattle.pm_pool.proofs.Lists.{front_of_all}
-use Rattle.pm_pool.proofs.making.fill.Goals as goal
+use Rattle.std.{proofs.{Common.{rules, ◌≡◌, ◌∙◌, ◌+◌, ◌∷◌, [], ℕ, List, ◌≤◌, ap, arith, length, length-append, subst, sym}, lemmas.List.Elements.All-pop}, specs.{Prelude.{IfSome, Option}, Option.option_to_list}}
+use Rattle.pm_serve_pool.{specs.{Plan.slots_of, Works.{EachFrom, IsUnusedToken, IsWorkOf}}, proofs.{Filling.{IsPostOf, all_but_last, filled_more, none_yet, popped_last, posts_first, tokens_first}, Lists.front_of_all}}
+use Rattle.pm_serve_pool.proofs.making.fill.Goals as goal
 
 pub loop-token-init : goal.loop-token-init
 loop-token-init g c =

@@ -1,8 +1,6 @@
 use Rattle.std.proofs.Common.{ℕ, ◌≡◌, ◌≤◌, ◌+◌, All, length, vec_len}
-use Rattle.pm_pool.specs.Plan.{slots_of}
-use Rattle.pm_pool.specs.Works.{EachFrom, IsUnusedToken, IsWorkOf}
-use Rattle.pm_pool.proofs.Filling.{IsPostOf}
-use Rattle.pm_pool.proofs.making.fill.Given as goal
+use Rattle.pm_serve_pool.{specs.{Plan.slots_of, Works.{EachFrom, IsUnusedToken, IsWorkOf}}, proofs.Filling.IsPostOf}
+use Rattle.pm_serve_pool.proofs.making.fill.Given as goal
 
 abbrev pub invariant-loop-token : goal.invariant-loop-token
 invariant-loop-token g l =

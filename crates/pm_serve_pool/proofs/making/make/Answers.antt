@@ -1,10 +1,7 @@
-use Rattle.std.proofs.Common.{◌≡◌, ap, inr, subst, sym}
-use Rattle.std.proofs.lemmas.Result.{IfErr-weaker}
-use Rattle.std.specs.Prelude.{Some}
+use Rattle.std.{proofs.{Common.{◌≡◌, ap, inr, subst, sym}, lemmas.Result.IfErr-weaker}, specs.Prelude.Some}
 use Rattle.atomic_table.specs.Seated.{TableId}
-use Rattle.pm_pool.specs.Given.{IsGivenBack, IsOpenedAlone}
-use Rattle.pm_pool.specs.Works.{EachFrom, IsWorkOf}
-use Rattle.pm_pool.proofs.making.make.Goals as goal
+use Rattle.pm_serve_pool.specs.{Given.{IsGivenBack, IsOpenedAlone}, Works.{EachFrom, IsWorkOf}}
+use Rattle.pm_serve_pool.proofs.making.make.Goals as goal
 
 pub start-requires-clause-works : goal.start-requires-clause-works
 start-requires-clause-works g c κs within =

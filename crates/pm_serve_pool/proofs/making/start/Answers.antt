@@ -1,18 +1,8 @@
-use Rattle.std.proofs.Common.{◌≡◌, ◌∙◌, ◌+◌, ℕ, List, ap, arith, length, map, subst, sym}
-use Rattle.std.proofs.lemmas.Bool.Decides.{nat_tests}
-use Rattle.std.proofs.lemmas.List.{length-replicate}
+use Rattle.std.proofs.{Common.{◌≡◌, ◌∙◌, ◌+◌, ℕ, List, ap, arith, length, map, subst, sym}, lemmas.{Bool.Decides.nat_tests, List.length-replicate}}
 use Rattle.atomic_table.specs.Seated.{TableId}
-use Rattle.pm_board.specs.declared.views.RosterView.{RosterView}
-use Rattle.pm_spawn.specs.Works.{work_of}
-use Rattle.pm_worker.specs.declared.mail.MailTold.{MailTold}
-use Rattle.pm_pool.specs.Closing.{IsShut}
-use Rattle.pm_pool.specs.Plan.{manner_of, slots_of}
-use Rattle.pm_pool.specs.Works.{EachFrom, IsUnusedWork, IsWorkOf}
-use Rattle.pm_pool.proofs.Closed.{shut_new}
-use Rattle.pm_pool.proofs.Lists.{front_of_all}
-use Rattle.pm_pool.proofs.Returning.{unused_works}
-use Rattle.pm_pool.proofs.Starting.{all_idle, idle_closed, left_unused, started_few}
-use Rattle.pm_pool.proofs.making.start.Goals as goal
+use Rattle.pm_worker.specs.{pm_board.declared.views.RosterView.RosterView, pm_spawn.Works.work_of, declared.mail.MailTold.MailTold}
+use Rattle.pm_serve_pool.{specs.{Closing.IsShut, Plan.{manner_of, slots_of}, Works.{EachFrom, IsUnusedWork, IsWorkOf}}, proofs.{Closed.shut_new, Lists.front_of_all, Returning.unused_works, Starting.{all_idle, idle_closed, left_unused, started_few}}}
+use Rattle.pm_serve_pool.proofs.making.start.Goals as goal
 
 pub start_all-requires-after_bounds : goal.start_all-requires-after_bounds
 start_all-requires-after_bounds g c κs within = all_idle g.C.Clock.gives c.args.terms c.args.roster.table c.args.shared.table c.args.works.items c.requires.works

@@ -1,7 +1,7 @@
 use Rattle.std.proofs.Common.{◌∙◌, ap, length, sym}
-use Rattle.pm_shared.specs.Behind.{Behind}
-use Rattle.pm_pool.proofs.Returning.{back_count, opened_alone}
-use Rattle.pm_pool.proofs.refusing.give_up.Goals as goal
+use Rattle.pm_store_shared.specs.Behind.{Behind}
+use Rattle.pm_serve_pool.proofs.Returning.{back_count, opened_alone}
+use Rattle.pm_serve_pool.proofs.refusing.give_up.Goals as goal
 
 pub into_segment-requires : goal.into_segment-requires
 into_segment-requires g c =

@@ -1,8 +1,6 @@
 use Rattle.std.proofs.Common.{◌≡◌, ◌∙◌, ◌+◌, ℕ, List, ap, arith, length, subst, sym}
-use Rattle.pm_pool.specs.Works.{EachFrom, HasTakenBack, IsUnusedWork}
-use Rattle.pm_pool.proofs.Lists.{first_of_all, popped_none, rest_of_all}
-use Rattle.pm_pool.proofs.Returning.{back_count, back_more, back_none}
-use Rattle.pm_pool.proofs.refusing.take_all_back.Goals as goal
+use Rattle.pm_serve_pool.{specs.Works.{EachFrom, HasTakenBack, IsUnusedWork}, proofs.{Lists.{first_of_all, popped_none, rest_of_all}, Returning.{back_count, back_more, back_none}}}
+use Rattle.pm_serve_pool.proofs.refusing.take_all_back.Goals as goal
 
 pub loop-work-init : goal.loop-work-init
 loop-work-init g c = (

@@ -1,6 +1,6 @@
 use Rattle.std.proofs.Common.{ℕ, ◌≡◌, ◌+◌, length}
-use Rattle.pm_pool.specs.Works.{EachFrom, HasTakenBack, IsUnusedWork}
-use Rattle.pm_pool.proofs.refusing.take_all_back.Given as goal
+use Rattle.pm_serve_pool.specs.Works.{EachFrom, HasTakenBack, IsUnusedWork}
+use Rattle.pm_serve_pool.proofs.refusing.take_all_back.Given as goal
 
 -- so many are back
 abbrev pub invariant-loop-work : goal.invariant-loop-work

@@ -1,6 +1,5 @@
-use Rattle.std.proofs.Common.{ℕ, ◌≡◌, ◌≤◌, All, vec_len}
-use Rattle.std.specs.Prelude.{vec_capacity}
-use Rattle.pm_pool.proofs.stock.clocks.Given as goal
+use Rattle.std.{proofs.Common.{ℕ, ◌≡◌, ◌≤◌, All, vec_len}, specs.Prelude.vec_capacity}
+use Rattle.pm_serve_pool.proofs.stock.clocks.Given as goal
 
 abbrev pub invariant-loop : goal.invariant-loop
 invariant-loop g l =

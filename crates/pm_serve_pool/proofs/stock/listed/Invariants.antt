@@ -1,5 +1,5 @@
 use Rattle.std.proofs.Common.{◌≡◌, ◌++◌, length}
-use Rattle.pm_pool.proofs.stock.listed.Given as goal
+use Rattle.pm_serve_pool.proofs.stock.listed.Given as goal
 
 abbrev pub invariant-loop-post : goal.invariant-loop-post
 invariant-loop-post g l = l.list.items ++ l.posts.left.items ≡ l.fn.posts.left.items

@@ -1,5 +1,5 @@
-use Rattle.pm_served.proofs.Promising.{promised_serve}
-use Rattle.pm_served.proofs.served.serve_as_promised.Goals as goal
+use Rattle.pm_serve_promises.proofs.Promising.{promised_serve}
+use Rattle.pm_serve_promises.proofs.served.serve_as_promised.Goals as goal
 
 pub returns-clause-run : goal.returns-clause-run
 returns-clause-run g c =

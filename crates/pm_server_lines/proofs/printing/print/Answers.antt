@@ -1,7 +1,7 @@
 use Rattle.std.proofs.Common.{◌<◌, ◌-◌, length, take, drop, ap, arith, length-drop}
-use Rattle.pm_facts.specs.Lists.{rest_of}
-use Rattle.pm_lines.specs.PrintLaws.{further, nothing_yet}
-use Rattle.pm_lines.proofs.printing.print.Goals as goal
+use Rattle.pm_record.specs.pm_facts.Lists.{rest_of}
+use Rattle.pm_server_lines.proofs.PrintLaws.{further, nothing_yet}
+use Rattle.pm_server_lines.proofs.printing.print.Goals as goal
 
 pub loop-rest-init : goal.loop-rest-init
 loop-rest-init g c = record { said = nothing_yet c.args.text.now (g.O.Sink.written c.args.sink.now); counted = omega arith }

@@ -1,6 +1,6 @@
 use Rattle.std.proofs.Common.{◌≤◌, length}
-use Rattle.pm_lines.specs.PrintLaws.{IsUpTo}
-use Rattle.pm_lines.proofs.printing.print.Given as goal
+use Rattle.pm_server_lines.proofs.PrintLaws.{IsUpTo}
+use Rattle.pm_server_lines.proofs.printing.print.Given as goal
 
 abbrev pub invariant-loop-rest : goal.invariant-loop-rest
 invariant-loop-rest g l = record {

@@ -1,10 +1,7 @@
-use Rattle.std.proofs.Common.{◌≡◌, ◌++◌, ℕ, List, sym, ◌∙◌, ap, append_assoc}
-use Rattle.std.specs.Prelude.{codes, decimal}
-use Rattle.pm_disk.specs.declared.disk.Which.{Which}
-use Rattle.pm_lines.specs.Print.{file_letter, redo_line}
-use Rattle.pm_record.specs.declared.fault.RedoFault.TheVariants.{BadFile}
-use Rattle.pm_lines.specs.PrintLaws.{cut_short, printed_as, printed_then, printed_whole}
-use Rattle.pm_lines.proofs.printing.print_damage.Goals as goal
+use Rattle.std.{proofs.Common.{◌≡◌, ◌++◌, ℕ, List, sym, ◌∙◌, ap, append_assoc}, specs.Prelude.{codes, decimal}}
+use Rattle.pm_record.specs.{pm_disk.declared.disk.Which.Which, declared.fault.RedoFault.TheVariants.BadFile}
+use Rattle.pm_server_lines.{specs.Print.{file_letter, redo_line}, proofs.PrintLaws.{cut_short, printed_as, printed_then, printed_whole}}
+use Rattle.pm_server_lines.proofs.printing.print_damage.Goals as goal
 
 -- the line's end
 abbrev place : ℕ → List ℕ

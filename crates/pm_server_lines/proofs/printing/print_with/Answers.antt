@@ -1,7 +1,6 @@
-use Rattle.std.proofs.Common.{◌++◌}
-use Rattle.std.specs.Prelude.{codes, decimal}
-use Rattle.pm_lines.specs.PrintLaws.{cut_short, printed_then, printed_whole}
-use Rattle.pm_lines.proofs.printing.print_with.Goals as goal
+use Rattle.std.{proofs.Common.◌++◌, specs.Prelude.{codes, decimal}}
+use Rattle.pm_server_lines.proofs.PrintLaws.{cut_short, printed_then, printed_whole}
+use Rattle.pm_server_lines.proofs.printing.print_with.Goals as goal
 
 pub returns-in_err-print-clause-said : goal.returns-in_err-print-clause-said
 returns-in_err-print-clause-said g c =

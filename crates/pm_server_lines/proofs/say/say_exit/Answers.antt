@@ -1,13 +1,7 @@
-use Rattle.std.proofs.Common.{◌≡◌, ℕ, ◌++◌, List, [], ap, append_assoc, sym}
-use Rattle.std.specs.Prelude.{Option, codes, decimal}
-use Rattle.pm_exit.specs.declared.child.Kind.{Kind}
-use Rattle.pm_exit.specs.declared.child.Status.{Status}
-use Rattle.pm_state.specs.Text.{kind_text, status_text}
-use Rattle.pm_state.specs.declared.action.Line.TheVariants.{ChildExit}
-use Rattle.pm_lines.specs.Log.{log_line}
-use Rattle.pm_lines.specs.Print.{IsPrinted}
-use Rattle.pm_lines.specs.PrintLaws.{nothing_yet, part_cut, part_last, part_more, printed_as}
-use Rattle.pm_lines.proofs.say.say_exit.Goals as goal
+use Rattle.std.{proofs.Common.{◌≡◌, ℕ, ◌++◌, List, [], ap, append_assoc, sym}, specs.Prelude.{Option, codes, decimal}}
+use Rattle.pm_state.specs.{pm_exit.declared.child.{Kind.Kind, Status.Status}, Text.{kind_text, status_text}, declared.action.Line.TheVariants.ChildExit}
+use Rattle.pm_server_lines.{specs.{Log.log_line, Print.IsPrinted}, proofs.PrintLaws.{nothing_yet, part_cut, part_last, part_more, printed_as}}
+use Rattle.pm_server_lines.proofs.say.say_exit.Goals as goal
 
 abbrev feed : List ℕ
 feed = codes "\n"

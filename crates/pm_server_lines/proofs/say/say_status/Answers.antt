@@ -1,9 +1,7 @@
-use Rattle.std.proofs.Common.{ℕ, ap, sym}
-use Rattle.std.specs.Prelude.{codes, decimal}
-use Rattle.pm_exit.specs.declared.child.Status.{Status}
-use Rattle.pm_state.specs.Text.{status_text}
-use Rattle.pm_lines.specs.PrintLaws.{cut_short, printed_as, printed_then, printed_whole}
-use Rattle.pm_lines.proofs.say.say_status.Goals as goal
+use Rattle.std.{proofs.Common.{ℕ, ap, sym}, specs.Prelude.{codes, decimal}}
+use Rattle.pm_state.specs.{pm_exit.declared.child.Status.Status, Text.status_text}
+use Rattle.pm_server_lines.proofs.PrintLaws.{cut_short, printed_as, printed_then, printed_whole}
+use Rattle.pm_server_lines.proofs.say.say_status.Goals as goal
 
 pub returns-in_err-print-in-Code-clause-said : goal.returns-in_err-print-in-Code-clause-said
 returns-in_err-print-in-Code-clause-said g c =

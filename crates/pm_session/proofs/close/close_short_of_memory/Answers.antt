@@ -1,12 +1,7 @@
 use Rattle.std.proofs.Common.{◌≡◌, ◌∙◌, ap, sym}
-use Rattle.pm_wire.specs.declared.condition.Fixed.TheVariants.{FatalMemory}
-use Rattle.pm_wire.specs.Conditions.{fixed_message}
-use Rattle.pm_exchange.specs.declared.ending.Cause.{Cause}
-use Rattle.pm_exchange.specs.declared.ending.Cause.TheVariants.{ShortOfMemory}
-use Rattle.pm_exchange.specs.declared.ending.Stage.TheVariants.{Outside}
-use Rattle.pm_exchange.specs.Sent.{bytes_of, last_of}
-use Rattle.pm_session.proofs.Closings.{closed, short_last}
-use Rattle.pm_session.proofs.Said.{bytes_of-one}
+use Rattle.pm_wire.specs.{declared.condition.Fixed.TheVariants.FatalMemory, Conditions.fixed_message}
+use Rattle.pm_session_exchange.specs.{declared.ending.{Cause.{Cause, TheVariants.ShortOfMemory}, Stage.TheVariants.Outside}, Sent.{bytes_of, last_of}}
+use Rattle.pm_session.proofs.{Closings.{closed, short_last}, Said.bytes_of-one}
 use Rattle.pm_session.proofs.close.close_short_of_memory.Goals as goal
 
 pub returns : goal.returns

@@ -1,8 +1,6 @@
 use Rattle.std.proofs.Common.{◌∙◌, ◌++◌, List, ℕ, ap, sym}
-use Rattle.pm_wire.specs.Backend.{BackMessage, spelling}
-use Rattle.pm_wire.specs.Conditions.{told}
-use Rattle.pm_exchange.specs.Sent.{bytes_of}
-use Rattle.pm_exchange.specs.SentLaws.{bytes_of-none}
+use Rattle.pm_wire.specs.{Backend.{BackMessage, spelling}, Conditions.told}
+use Rattle.pm_session_exchange.{specs.Sent.bytes_of, proofs.SentLaws.bytes_of-none}
 use Rattle.pm_session.proofs.Said.{bytes_of-one}
 use Rattle.pm_session.proofs.close.put_last.Goals as goal
 

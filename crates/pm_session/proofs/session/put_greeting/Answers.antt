@@ -1,7 +1,6 @@
 use Rattle.std.proofs.Common.{◌≡◌, ◌∙◌, ◌∷◌, ◌++◌, [], ℕ, List, length, ap, arith, length-append, sym}
 use Rattle.pm_wire.specs.Backend.{Auth, Param, Key, Ready, spelling}
-use Rattle.pm_session.proofs.Closings.{one_more, one_more_of}
-use Rattle.pm_session.proofs.Said.{bytes_of-one}
+use Rattle.pm_session.proofs.{Closings.{one_more, one_more_of}, Said.bytes_of-one}
 use Rattle.pm_session.proofs.session.put_greeting.Goals as goal
 
 pub put-requires-clause-room : goal.put-requires-clause-room

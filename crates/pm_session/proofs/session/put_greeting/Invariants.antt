@@ -1,7 +1,6 @@
 use Rattle.std.proofs.Common.{◌≡◌, ◌≤◌, ◌+◌, ◌*◌, ◌∷◌, map, take, length}
 use Rattle.pm_wire.specs.Backend.{Auth, Param}
-use Rattle.pm_exchange.specs.Sent.{bytes_of}
-use Rattle.pm_exchange.specs.Room.{buffer_bytes}
+use Rattle.pm_session_exchange.specs.{Sent.bytes_of, Room.buffer_bytes}
 use Rattle.pm_session.proofs.session.put_greeting.Given as goal
 
 abbrev pub invariant-loop-name : goal.invariant-loop-name

@@ -1,12 +1,6 @@
 use Rattle.std.proofs.Common.{◌≡◌, ◌∙◌, [], Option, IfSome, ap, sym, subst, arith}
-use Rattle.pm_outside.specs.Traffic.{IsFresh}
-use Rattle.pm_life.specs.Life.{Child, Told, nothing_told}
-use Rattle.pm_life.specs.Attention.{Attention}
-use Rattle.pm_exchange.specs.Exchange.{LinkView}
-use Rattle.pm_session.specs.Entry.{Connected}
-use Rattle.pm_exchange.specs.Moments.{moment}
-use Rattle.pm_session.specs.Turns.{at_desk}
-use Rattle.pm_session.proofs.Sessions.{connected_not, connected_as, connected_heeds}
+use Rattle.pm_session_exchange.specs.{pm_outside.Traffic.IsFresh, pm_child_life.{Life.{Child, Told, nothing_told}, Attention.Attention}, Exchange.LinkView, Moments.moment}
+use Rattle.pm_session.{specs.{Entry.Connected, Turns.at_desk}, proofs.Sessions.{connected_not, connected_as, connected_heeds}}
 use Rattle.pm_session.proofs.session.serve.Goals as goal
 
 -- ---- without memory

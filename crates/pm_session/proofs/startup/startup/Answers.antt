@@ -1,10 +1,7 @@
-use Rattle.std.proofs.Common.{inl, false, [], Ok, refl}
-use Rattle.std.proofs.lemmas.Result.{err_from_is_err_and}
-use Rattle.pm_life.specs.AttentionLaws.{cancels_none}
-use Rattle.pm_session.proofs.Attentions.{cancels_still}
-use Rattle.pm_session.proofs.Links.{sent_all}
-use Rattle.pm_exchange.specs.MomentLaws.{attends_none, attends_cancel}
-use Rattle.pm_session.proofs.Entries.{asked_none, asked_received, asked_more, enters_by, enters_broken, enters_cut}
+use Rattle.std.proofs.{Common.{inl, false, [], Ok, refl}, lemmas.Result.err_from_is_err_and}
+use Rattle.pm_child_life.proofs.AttentionLaws.{cancels_none}
+use Rattle.pm_session.proofs.{Attentions.cancels_still, Links.sent_all, Entries.{asked_none, asked_received, asked_more, enters_by, enters_broken, enters_cut}}
+use Rattle.pm_session_exchange.proofs.MomentLaws.{attends_none, attends_cancel}
 use Rattle.pm_session.proofs.startup.startup.Goals as goal
 
 pub loop-init : goal.loop-init

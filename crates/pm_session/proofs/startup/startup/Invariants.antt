@@ -1,5 +1,5 @@
 use Rattle.pm_session.specs.Entry.{Asked}
-use Rattle.pm_exchange.specs.Moments.{outside}
+use Rattle.pm_session_exchange.specs.Moments.{outside}
 use Rattle.pm_session.proofs.startup.startup.Given as goal
 
 abbrev pub invariant-loop : goal.invariant-loop

@@ -1,8 +1,7 @@
 use Rattle.std.proofs.Common.{List, sym, subst}
 use Rattle.pm_query.specs.declared.book.BookEntry.{BookEntry}
-use Rattle.pm_answers.specs.Own.{StandIn}
-use Rattle.pm_answers.proofs.Replying.{text_right}
-use Rattle.pm_answers.proofs.laws.replies_are_right.Goals as goal
+use Rattle.pm_session_answers.{specs.Own.StandIn, proofs.Replying.text_right}
+use Rattle.pm_session_answers.proofs.laws.replies_are_right.Goals as goal
 
 pub returns : goal.returns
 returns c = λ base front part talk user turns noted legal stand whose session.

@@ -1,6 +1,5 @@
 use Rattle.std.proofs.Common.{rules, map}
-use Rattle.pm_spawn.specs.Works.{work_of}
-use Rattle.pm_spawn.proofs.Works.{given_all}
+use Rattle.pm_spawn.{specs.Works.work_of, proofs.Works.given_all}
 use Rattle.pm_spawn.proofs.pool.join_all.Goals as goal
 
 pub returns-clause-outputs : goal.returns-clause-outputs

@@ -1,7 +1,5 @@
-use Rattle.std.proofs.Common.{rules, All, subst, ◌≡◌, ◌∷◌}
-use Rattle.std.proofs.lemmas.List.Elements.{All-tail}
-use Rattle.pm_spawn.specs.Works.{work_of}
-use Rattle.pm_spawn.proofs.Works.{started_more}
+use Rattle.std.proofs.{Common.{rules, All, subst, ◌≡◌, ◌∷◌}, lemmas.List.Elements.All-tail}
+use Rattle.pm_spawn.{specs.Works.work_of, proofs.Works.started_more}
 use Rattle.pm_spawn.proofs.pool.start_all.Goals as goal
 
 pub loop-work-preserved : goal.loop-work-preserved

@@ -1,8 +1,5 @@
 use Rattle.std.proofs.Common.{◌-◌, ◌^◌, take, min, Bool, ℕ, List, sym, ap, subst, ◌∙◌}
-use Rattle.pm_sql.specs.Tokens.{digits_len, digits_value}
-use Rattle.pm_sql.specs.Reading.{Fails}
-use Rattle.pm_sql.specs.Grammar.{digits_at, sign_of, int_at, fits_bigint}
-use Rattle.pm_sql.proofs.Numbers.{out_of_bigint, int_out_of_range}
+use Rattle.pm_sql.{specs.{Tokens.{digits_len, digits_value}, Reading.Fails, Grammar.{digits_at, sign_of, int_at, fits_bigint}}, proofs.Numbers.{out_of_bigint, int_out_of_range}}
 use Rattle.pm_sql.proofs.grammar.int_at.Goals as goal
 
 pub returns-in-None : goal.returns-in-None

@@ -1,8 +1,5 @@
 use Rattle.std.proofs.Common.{◌-◌, ◌^◌, ◌≤◌, min, sym, ap, subst, ◌∙◌, arith}
-use Rattle.pm_sql.specs.Tokens.{digits_value}
-use Rattle.pm_sql.specs.Reading.{Fails}
-use Rattle.pm_sql.specs.Grammar.{seconds_at}
-use Rattle.pm_sql.proofs.Numbers.{out_of_seconds, seconds_out_of_range}
+use Rattle.pm_sql.{specs.{Tokens.digits_value, Reading.Fails, Grammar.seconds_at}, proofs.Numbers.{out_of_seconds, seconds_out_of_range}}
 use Rattle.pm_sql.proofs.grammar.seconds_at.Goals as goal
 
 pub returns-in-Err : goal.returns-in-Err

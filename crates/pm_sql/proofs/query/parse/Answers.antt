@@ -1,6 +1,5 @@
 use Rattle.std.proofs.Common.{sym, subst}
-use Rattle.pm_sql.specs.Faults.{IsFaultOf}
-use Rattle.pm_sql.proofs.Faults.{script_is_query, no_fault_read, fault_is, one_script_law}
+use Rattle.pm_sql.{specs.Faults.IsFaultOf, proofs.Faults.{script_is_query, no_fault_read, fault_is, one_script_law}}
 use Rattle.pm_sql.proofs.query.parse.Goals as goal
 
 pub returns-in-Ok-clause-script : goal.returns-in-Ok-clause-script

@@ -1,11 +1,6 @@
-use Rattle.std.proofs.Common.{length, sym, ap, subst, ◌∙◌, arith, rules}
-use Rattle.std.proofs.lemmas.Result.{err_from_is_err_and}
-use Rattle.pm_sql.specs.Tokens.{behind_mark}
-use Rattle.pm_sql.specs.Reading.{Fails}
-use Rattle.pm_sql.specs.Query.{script_of, stmt_at, is_at_end}
-use Rattle.pm_sql.proofs.Steps.{at_end, behind_semicolon, behind_stmt, fault_in_stmt, fault_behind_stmt, is_done, is_out_of_steps, with_stmt_limits}
+use Rattle.std.proofs.{Common.{length, sym, ap, subst, ◌∙◌, arith, rules}, lemmas.Result.err_from_is_err_and}
+use Rattle.pm_sql.{specs.{Tokens.behind_mark, Reading.Fails, Query.{script_of, stmt_at, is_at_end}}, proofs.{Steps.{at_end, behind_semicolon, behind_stmt, fault_in_stmt, fault_behind_stmt, is_done, is_out_of_steps, with_stmt_limits}, query.script_of.Goals.{else-loop-test, then-loop-test+then-is_empty}}}
 use Rattle.pm_sql.proofs.query.script_of.Goals as goal
-use Rattle.pm_sql.proofs.query.script_of.Goals.{else-loop-test, then-loop-test+then-is_empty}
 
 pub returns-in_err-stmt : goal.returns-in_err-stmt
 returns-in_err-stmt c =

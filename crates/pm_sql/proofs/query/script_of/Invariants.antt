@@ -1,8 +1,7 @@
 use Rattle.std.proofs.Common.{◌-◌, length}
 use denote.Text.{Utf8}
 use denote.Shadow.{shadow}
-use Rattle.pm_sql.specs.Query.{script_of}
-use Rattle.pm_sql.proofs.Steps.{IsReading}
+use Rattle.pm_sql.{specs.Query.script_of, proofs.Steps.IsReading}
 use Rattle.pm_sql.proofs.query.script_of.Given as goal
 
 abbrev pub invariant-loop : goal.invariant-loop

@@ -1,5 +1,4 @@
-use Rattle.std.proofs.Common.{sym, ap, ◌∙◌, drop, arith}
-use Rattle.std.specs.Char.{is_ascii_whitespace}
+use Rattle.std.{proofs.Common.{sym, ap, ◌∙◌, drop, arith}, specs.Char.is_ascii_whitespace}
 use Rattle.pm_sql.proofs.Texts.{prefix_len-stops}
 use Rattle.pm_sql.proofs.tokens.skipped.Goals as goal
 

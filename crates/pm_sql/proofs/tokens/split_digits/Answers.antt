@@ -1,6 +1,4 @@
-use Rattle.std.proofs.Common.{sym, subst}
-use Rattle.std.specs.Char.{is_ascii_digit}
-use Rattle.std.specs.Str.{IsCharBoundary}
+use Rattle.std.{proofs.Common.{sym, subst}, specs.{Char.is_ascii_digit, Str.IsCharBoundary}}
 use Rattle.pm_sql.proofs.Texts.{prefix-boundary, digits-IsOfAscii}
 use Rattle.pm_sql.proofs.tokens.split_digits.Goals as goal
 

@@ -1,5 +1,4 @@
-use Rattle.std.proofs.Common.{sym, subst}
-use Rattle.std.specs.Str.{IsCharBoundary}
+use Rattle.std.{proofs.Common.{sym, subst}, specs.Str.IsCharBoundary}
 use Rattle.pm_sql.proofs.Texts.{word-boundary}
 use Rattle.pm_sql.proofs.tokens.split_word.Goals as goal
 

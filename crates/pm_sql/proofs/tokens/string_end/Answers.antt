@@ -1,5 +1,4 @@
-use Rattle.std.proofs.Common.{◌<◌, Some, None, ◌∙◌, arith, rules}
-use Rattle.std.proofs.lemmas.Str.Pattern.{split_parts, strip_prefix_char}
+use Rattle.std.proofs.{Common.{◌<◌, Some, None, ◌∙◌, arith, rules}, lemmas.Str.Pattern.{split_parts, strip_prefix_char}}
 use Rattle.pm_sql.proofs.Strings.{end_goes_on, end_closed, end_open}
 use Rattle.pm_sql.proofs.tokens.string_end.Goals as goal
 

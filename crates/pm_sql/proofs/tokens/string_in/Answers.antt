@@ -1,8 +1,5 @@
-use Rattle.std.proofs.Common.{◌≡◌, ◌<◌, ◌++◌, ◌∷◌, [], Some, None, List, ℕ, ap, ◌∙◌, arith, rules, string_bytes}
-use Rattle.std.proofs.lemmas.Str.{encode_ascii}
-use Rattle.std.proofs.lemmas.Str.Pattern.{split_parts, strip_prefix_char}
-use Rattle.pm_sql.specs.Tokens.{string_in}
-use Rattle.pm_sql.proofs.Strings.{with_content, goes_on, is_closed, is_open}
+use Rattle.std.proofs.{Common.{◌≡◌, ◌<◌, ◌++◌, ◌∷◌, [], Some, None, List, ℕ, ap, ◌∙◌, arith, rules, string_bytes}, lemmas.Str.{encode_ascii, Pattern.{split_parts, strip_prefix_char}}}
+use Rattle.pm_sql.{specs.Tokens.string_in, proofs.Strings.{with_content, goes_on, is_closed, is_open}}
 use Rattle.pm_sql.proofs.tokens.string_in.Goals as goal
 
 ascii : 39 < 128

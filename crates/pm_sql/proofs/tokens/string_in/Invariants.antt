@@ -1,8 +1,7 @@
 use Rattle.std.proofs.Common.{◌≡◌, length, string_bytes}
 use denote.Shadow.{shadow}
 use denote.Text.{Utf8}
-use Rattle.pm_sql.specs.Tokens.{string_in}
-use Rattle.pm_sql.proofs.Strings.{with_content}
+use Rattle.pm_sql.{specs.Tokens.string_in, proofs.Strings.with_content}
 use Rattle.pm_sql.proofs.tokens.string_in.Given as goal
 
 -- the content so far, and then that of the rest, is the whole; and the rest is text

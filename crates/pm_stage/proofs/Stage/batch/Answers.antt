@@ -1,5 +1,4 @@
-use Rattle.std.proofs.Common.{◌∙◌, sym, ap, take, min}
-use Rattle.std.proofs.lemmas.List.{take_min}
+use Rattle.std.proofs.{Common.{◌∙◌, sym, ap, take, min}, lemmas.List.take_min}
 use Rattle.pm_stage.proofs.Stage.batch.Goals as goal
 
 pub returns-clause-value : goal.returns-clause-value

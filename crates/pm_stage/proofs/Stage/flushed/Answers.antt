@@ -1,5 +1,4 @@
-use Rattle.std.proofs.Common.{ap, arith, length}
-use Rattle.std.proofs.lemmas.List.{length-take}
+use Rattle.std.proofs.{Common.{ap, arith, length}, lemmas.List.length-take}
 use Rattle.pm_rows.specs.Limits.{max_commits}
 use Rattle.pm_stage.proofs.Stage.flushed.Goals as goal
 

@@ -1,6 +1,5 @@
 use Rattle.std.proofs.Common.{[], ◌∷◌, ◌++◌, ap, ◌∙◌, List, ℕ}
-use Rattle.pm_startup.specs.Parameters.{Parameter, pairs}
-use Rattle.pm_startup.proofs.Bodies.{Tells-push, pairs-push, each-push}
+use Rattle.pm_startup.{specs.Parameters.{Parameter, pairs}, proofs.Bodies.{Tells-push, pairs-push, each-push}}
 use Rattle.pm_startup.proofs.parameters.settings_of.Goals as goal
 
 pub pairs-preserved : goal.pairs-preserved

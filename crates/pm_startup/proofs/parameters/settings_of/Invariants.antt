@@ -1,7 +1,5 @@
-use Rattle.std.proofs.Common.{◌≡◌, ◌++◌, List, length}
-use Rattle.std.specs.List.{AllByRecursion}
-use Rattle.pm_startup.specs.Parameters.{Parameter, IsParameter, pairs}
-use Rattle.pm_startup.specs.Reading.{Tells}
+use Rattle.std.{proofs.Common.{◌≡◌, ◌++◌, List, length}, specs.List.AllByRecursion}
+use Rattle.pm_startup.specs.{Parameters.{Parameter, IsParameter, pairs}, Reading.Tells}
 use Rattle.pm_startup.proofs.parameters.settings_of.Given as goal
 
 abbrev pub invariant-pairs : goal.invariant-pairs

@@ -1,6 +1,5 @@
-use Rattle.std.proofs.Common.{◌≡◌, ◌∙◌, ◌++◌, ℕ, drop, refl, sym, ap, inl, arith}
+use Rattle.std.proofs.{Common.{◌≡◌, ◌∙◌, ◌++◌, ℕ, drop, refl, sym, ap, inl, arith}, lemmas.List.take_rest}
 use Rattle.byteorder.specs.Endian.{big_number}
-use Rattle.std.proofs.lemmas.List.{take_rest}
 use Rattle.pm_startup.proofs.Packets.{int32-pair}
 use Rattle.pm_startup.proofs.reading.cancel_of.Goals as goal
 use Rattle.pm_wire.specs.Pieces.{int32}

@@ -1,11 +1,7 @@
 use Rattle.std.proofs.Common.{◌≡◌, ◌<◌, ◌⊎◌, ℕ, Ok, Err, sym, inl, inr, subst, arith}
 use Rattle.byteorder.specs.Endian.{big_number}
-use Rattle.pm_startup.specs.declared.packet.StartFault.TheVariants.{Length}
-use Rattle.pm_startup.specs.declared.packet.Read.TheVariants.{Whole, Short, Bad}
-use Rattle.pm_startup.specs.Grammar.{max_length, content_of, FrontDecides}
-use Rattle.pm_startup.proofs.Packets.{IsAnswer, answers_length, answers_packet, answer-whole, answer-undecided, answer-incomplete, answer-bad}
+use Rattle.pm_startup.{specs.{declared.packet.{StartFault.TheVariants.Length, Read.TheVariants.{Whole, Short, Bad}}, Grammar.{max_length, content_of, FrontDecides}}, proofs.{Packets.{IsAnswer, answers_length, answers_packet, answer-whole, answer-undecided, answer-incomplete, answer-bad}, reading.read.Goals.{then-length-lt-MIN_LENGTH-via-then-length-lt-MIN_LENGTH, then-length-lt-MIN_LENGTH-via-else-length-lt-MIN_LENGTH+then-length-gt-MAX_LENGTH}}}
 use Rattle.pm_startup.proofs.reading.read.Goals as goal
-use Rattle.pm_startup.proofs.reading.read.Goals.{then-length-lt-MIN_LENGTH-via-then-length-lt-MIN_LENGTH, then-length-lt-MIN_LENGTH-via-else-length-lt-MIN_LENGTH+then-length-gt-MAX_LENGTH}
 
 pub returns-then-length-lt-MIN_LENGTH : goal.returns-then-length-lt-MIN_LENGTH
 returns-then-length-lt-MIN_LENGTH c =

@@ -1,6 +1,4 @@
-use Rattle.pm_state.specs.Shows.{events_of_call}
-use Rattle.pm_state.proofs.Calls.{call-leads, call-between, begun-facts, accept-decision, counted}
-use Rattle.pm_state.proofs.Known.{known}
+use Rattle.pm_state.{specs.Shows.events_of_call, proofs.{Calls.{call-leads, call-between, begun-facts, accept-decision, counted}, Known.known}}
 use Rattle.pm_state.proofs.laws.keeps_its_facts.Goals as goal
 
 pub returns : goal.returns

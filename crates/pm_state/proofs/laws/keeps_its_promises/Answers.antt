@@ -1,5 +1,4 @@
-use Rattle.pm_state.proofs.Promises.{arms, exit-keeps, keeps-moment, kills, quit-arms, readies, request-arms, request-keeps, startup-arms, step-orders, waits}
-use Rattle.pm_state.proofs.TurnPromises.{turned-promises}
+use Rattle.pm_state.proofs.{Promises.{arms, exit-keeps, keeps-moment, kills, quit-arms, readies, request-arms, request-keeps, startup-arms, step-orders, waits}, TurnPromises.turned-promises}
 use Rattle.pm_state.proofs.laws.keeps_its_promises.Goals as goal
 
 pub returns : goal.returns

@@ -1,5 +1,4 @@
-use Rattle.pm_state.proofs.Admitting.{admits-none-until-redo}
-use Rattle.pm_state.proofs.Restarts.{begins-alone, counts-children, restarts-as-set}
+use Rattle.pm_state.proofs.{Admitting.admits-none-until-redo, Restarts.{begins-alone, counts-children, restarts-as-set}}
 use Rattle.pm_state.proofs.laws.restarts_safely.Goals as goal
 
 pub returns : goal.returns

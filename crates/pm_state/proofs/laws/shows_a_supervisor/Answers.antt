@@ -1,11 +1,6 @@
 use Rattle.std.proofs.Common.{List}
-use Rattle.pm_supervisor.specs.declared.Limits.{Limits}
-use Rattle.pm_supervisor.specs.Steps.{empty_trace}
-use Rattle.pm_supervisor.specs.Laws.{StaysWell}
-use Rattle.pm_state.specs.Machine.{begun}
-use Rattle.pm_state.specs.Shows.{Call, AreFit, events_in, machine_at_end}
-use Rattle.pm_state.proofs.Turns.{Leads}
-use Rattle.pm_state.proofs.Calls.{calls-lead, begun-facts}
+use Rattle.pm_supervisor.specs.{declared.Limits.Limits, Steps.empty_trace, Laws.StaysWell}
+use Rattle.pm_state.{specs.{Machine.begun, Shows.{Call, AreFit, events_in, machine_at_end}}, proofs.{Turns.Leads, Calls.{calls-lead, begun-facts}}}
 use Rattle.pm_state.proofs.laws.shows_a_supervisor.Goals as goal
 
 leads : StaysWell → (limits : Limits) (calls : List Call) → AreFit limits (begun limits) empty_trace calls

@@ -1,6 +1,4 @@
-use Rattle.pm_state.proofs.Acts.{step-brief}
-use Rattle.pm_state.proofs.Reports.{step-owes, report, all-done}
-use Rattle.pm_state.proofs.Telling.{step-tells}
+use Rattle.pm_state.proofs.{Acts.step-brief, Reports.{step-owes, report, all-done}, Telling.step-tells}
 use Rattle.pm_state.proofs.laws.tells_of_each_start.Goals as goal
 
 pub returns : goal.returns

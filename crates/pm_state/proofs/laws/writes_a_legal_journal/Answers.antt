@@ -1,5 +1,4 @@
-use Rattle.pm_state.specs.ReplayLaws.{replayed_append}
-use Rattle.pm_state.proofs.TurnJournal.{begun-agrees, call-writes, turned-still, legal-append}
+use Rattle.pm_state.proofs.{ReplayLaws.replayed_append, TurnJournal.{begun-agrees, call-writes, turned-still, legal-append}}
 use Rattle.pm_state.proofs.laws.writes_a_legal_journal.Goals as goal
 
 pub returns : goal.returns

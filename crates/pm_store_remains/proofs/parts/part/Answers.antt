@@ -1,5 +1,5 @@
-use Rattle.pm_remains.proofs.Remaining.{left}
-use Rattle.pm_remains.proofs.parts.part.Goals as goal
+use Rattle.pm_store_remains.proofs.Remaining.{left}
+use Rattle.pm_store_remains.proofs.parts.part.Goals as goal
 
 pub returns : goal.returns
 returns g c = λ first log behind.

@@ -1,8 +1,7 @@
 use Rattle.std.proofs.Common.{sym, ap, ◌∙◌, subst}
 use Rattle.pm_query.specs.declared.store.StoreNo.TheVariants.{Stale}
-use Rattle.pm_shared.specs.Told.{IsMine, number_of}
-use Rattle.pm_shared.proofs.Calls.{gave_unchanged, token_may_none}
-use Rattle.pm_shared.proofs.holding.take_for.Goals as goal
+use Rattle.pm_store_shared.{specs.Told.{IsMine, number_of}, proofs.Calls.{gave_unchanged, token_may_none}}
+use Rattle.pm_store_shared.proofs.holding.take_for.Goals as goal
 
 pub take-store-requires-clause-seat : goal.take-store-requires-clause-seat
 take-store-requires-clause-seat g c =

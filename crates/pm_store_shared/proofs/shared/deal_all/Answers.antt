@@ -1,8 +1,6 @@
-use Rattle.std.proofs.Common.{sym, ap, ◌∙◌, ◌++◌, ◌∷◌, [], ◌+◌, ◌≡◌, length, length-append, append_assoc, subst}
-use Rattle.std.specs.Vec.Iter.{into_iter_items}
-use Rattle.pm_shared.specs.Told.{AreNewTokens}
-use Rattle.pm_shared.proofs.Closing.{dealt, next_share}
-use Rattle.pm_shared.proofs.shared.deal_all.Goals as goal
+use Rattle.std.{proofs.Common.{sym, ap, ◌∙◌, ◌++◌, ◌∷◌, [], ◌+◌, ◌≡◌, length, length-append, append_assoc, subst}, specs.Vec.Iter.into_iter_items}
+use Rattle.pm_store_shared.{specs.Told.AreNewTokens, proofs.Closing.{dealt, next_share}}
+use Rattle.pm_store_shared.proofs.shared.deal_all.Goals as goal
 
 pub deal-token-requires-clause-table : goal.deal-token-requires-clause-table
 deal-token-requires-clause-table g c =

@@ -1,10 +1,6 @@
-use Rattle.std.proofs.Common.{◌≡◌, ◌<◌, ℕ, ℤ, List, length, arith, sym, subst, ap, ◌∙◌}
-use Rattle.std.specs.Prelude.{All}
-use Rattle.std.specs.Ordering.{int_cmp}
+use Rattle.std.{proofs.Common.{◌≡◌, ◌<◌, ℕ, ℤ, List, length, arith, sym, subst, ap, ◌∙◌}, specs.{Prelude.All, Ordering.int_cmp, FinMap.{len-empty, len-entries}}}
 use Rattle.std.specs.FinMap as map
-use Rattle.std.specs.FinMap.{len-empty, len-entries}
-use Rattle.pm_rows.specs.Fold.{RowMap}
-use Rattle.pm_record.specs.StandsFor.{IsRow}
+use Rattle.pm_record.specs.{pm_rows.Fold.RowMap, StandsFor.IsRow}
 use Rattle.pm_store_tests.proofs.files.what_is_put_is_what_is_read.Goals as goal
 
 no_length : (rows : RowMap) → rows ≡ map.empty → map.len rows ≡ 0

@@ -1,5 +1,4 @@
-use Rattle.pm_supervisor.specs.Steps.{empty_trace, all_happened}
-use Rattle.pm_supervisor.proofs.Serving.{run-serves, admission-running}
+use Rattle.pm_supervisor.{specs.Steps.{empty_trace, all_happened}, proofs.Serving.{run-serves, admission-running}}
 use Rattle.pm_supervisor.proofs.laws.admits_while_well.Goals as goal
 
 pub returns : goal.returns

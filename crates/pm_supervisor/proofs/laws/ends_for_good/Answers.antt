@@ -1,5 +1,4 @@
-use Rattle.pm_supervisor.specs.Steps.{empty_trace}
-use Rattle.pm_supervisor.proofs.Wells.{ended-none, last-end}
+use Rattle.pm_supervisor.{specs.Steps.empty_trace, proofs.Wells.{ended-none, last-end}}
 use Rattle.pm_supervisor.proofs.laws.ends_for_good.Goals as goal
 
 pub returns : goal.returns

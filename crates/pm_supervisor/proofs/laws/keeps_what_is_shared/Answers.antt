@@ -1,6 +1,4 @@
-use Rattle.pm_supervisor.proofs.Keeping.{keeps, kept-first}
-use Rattle.pm_supervisor.proofs.Same.{allows-same, after-same, child-taken}
-use Rattle.pm_supervisor.proofs.Soundness.{shared-after}
+use Rattle.pm_supervisor.proofs.{Keeping.{keeps, kept-first}, Same.{allows-same, after-same, child-taken}, Soundness.shared-after}
 use Rattle.pm_supervisor.proofs.laws.keeps_what_is_shared.Goals as goal
 
 pub returns : goal.returns

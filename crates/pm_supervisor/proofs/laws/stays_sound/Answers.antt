@@ -1,5 +1,4 @@
-use Rattle.pm_supervisor.specs.Steps.{empty_trace}
-use Rattle.pm_supervisor.proofs.Soundness.{sound-step, sound-all_happened, sound-empty_trace}
+use Rattle.pm_supervisor.{specs.Steps.empty_trace, proofs.Soundness.{sound-step, sound-all_happened, sound-empty_trace}}
 use Rattle.pm_supervisor.proofs.laws.stays_sound.Goals as goal
 
 pub returns : goal.returns

@@ -1,7 +1,6 @@
 use Rattle.std.proofs.Common.{[]}
-use Rattle.pm_chain.proofs.StepLists.{book-one_more, journal-one_more, last-one_more, lost-one_more, steps-one_more}
-use Rattle.pm_chain.proofs.Present.{is-there}
-use Rattle.pm_chain.proofs.laws.steps_go_on.Goals as goal
+use Rattle.pm_supervisor_chain.proofs.{StepLists.{book-one_more, journal-one_more, last-one_more, lost-one_more, steps-one_more}, Present.is-there}
+use Rattle.pm_supervisor_chain.proofs.laws.steps_go_on.Goals as goal
 
 pub returns : goal.returns
 returns c =

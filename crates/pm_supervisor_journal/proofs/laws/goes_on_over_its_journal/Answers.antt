@@ -1,7 +1,6 @@
 use Rattle.std.proofs.Common.{refl}
-use Rattle.pm_journal.proofs.Making.{stands-accepted, stands-asked, stands-begun, stands-exited, stands-killed, stands-ticked, stands-turned}
-use Rattle.pm_journal.proofs.Nexts.{stands-done}
-use Rattle.pm_journal.proofs.laws.goes_on_over_its_journal.Goals as goal
+use Rattle.pm_supervisor_journal.proofs.{Making.{stands-accepted, stands-asked, stands-begun, stands-exited, stands-killed, stands-ticked, stands-turned}, Nexts.stands-done}
+use Rattle.pm_supervisor_journal.proofs.laws.goes_on_over_its_journal.Goals as goal
 
 pub returns : goal.returns
 returns c =

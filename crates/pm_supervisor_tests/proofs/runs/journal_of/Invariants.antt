@@ -1,4 +1,4 @@
-use Rattle.pm_journal.specs.Supervision.{at_work}
+use Rattle.pm_supervisor_journal.specs.Supervision.{at_work}
 use Rattle.pm_supervisor_tests.specs.Serving.{IsServing}
 use Rattle.pm_supervisor_tests.proofs.runs.journal_of.Given as goal
 

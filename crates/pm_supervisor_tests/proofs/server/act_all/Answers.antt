@@ -1,6 +1,5 @@
-use Rattle.std.proofs.Common.{ap, sym, ◌∙◌}
-use Rattle.std.specs.Prelude.{Ok}
-use Rattle.pm_journal.specs.Supervision.{standing}
+use Rattle.std.{proofs.Common.{ap, sym, ◌∙◌}, specs.Prelude.Ok}
+use Rattle.pm_supervisor_journal.specs.Supervision.{standing}
 use Rattle.pm_supervisor_tests.proofs.Servings.{none}
 use Rattle.pm_supervisor_tests.proofs.server.act_all.Goals as goal
 

@@ -1,5 +1,4 @@
-use Rattle.pm_journal.specs.Stands.{HasPast, IsSettled}
-use Rattle.pm_journal.specs.Supervision.{at_work, standing}
+use Rattle.pm_supervisor_journal.specs.{Stands.{HasPast, IsSettled}, Supervision.{at_work, standing}}
 use Rattle.pm_supervisor_tests.proofs.server.act_all.Given as goal
 
 abbrev pub invariant-loop : goal.invariant-loop

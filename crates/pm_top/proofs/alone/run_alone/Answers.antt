@@ -1,15 +1,7 @@
 use Rattle.std.proofs.Common.{◌≡◌, ℕ, List, [], refl, subst}
-use Rattle.pm_server.specs.declared.conf.Conf.{Conf}
-use Rattle.pm_words.specs.Words.{IsLine, IsOnlyLine}
-use Rattle.pm_top.specs.declared.status.Top.{Top}
-use Rattle.pm_top.specs.declared.status.Top.TheVariants.{Done, Abnormal, OutFault, DiskFault, Exists, Unreadable, Usage, NoMemory, NoThread}
-use Rattle.pm_top.specs.Ends.{HasAnswer, IsControldataEnd, IsInitdbEnd, line_of}
-use Rattle.pm_top.specs.Load.{IsWorkloadEnd}
-use Rattle.pm_words.specs.declared.words.Command.TheVariants.{Initdb, Once, Controldata, Workload}
-use Rattle.pm_top.proofs.Lines.{another_line, no_line}
-use Rattle.pm_top.proofs.Within.{number_within, within}
+use Rattle.pm_top_words.specs.{pm_server.declared.conf.Conf.Conf, Words.{IsLine, IsOnlyLine}, declared.words.Command.TheVariants.{Initdb, Once, Controldata, Workload}}
+use Rattle.pm_top.{specs.{declared.status.Top.{Top, TheVariants.{Done, Abnormal, OutFault, DiskFault, Exists, Unreadable, Usage, NoMemory, NoThread}}, Ends.{HasAnswer, IsControldataEnd, IsInitdbEnd, line_of}, Load.IsWorkloadEnd}, proofs.{Lines.{another_line, no_line}, Within.{number_within, within}, alone.run_alone.Goals.{in-Err, in-Ok+in-Initdb, in-Ok+in-Controldata, in-Ok+in-Workload}}}
 use Rattle.pm_top.proofs.alone.run_alone.Goals as goal
-use Rattle.pm_top.proofs.alone.run_alone.Goals.{in-Err, in-Ok+in-Initdb, in-Ok+in-Controldata, in-Ok+in-Workload}
 
 -- a line of `serve` isn't handed to it
 pub unreachable-requires : goal.unreachable-requires

@@ -1,9 +1,7 @@
 use Rattle.std.proofs.Common.{◌≡◌, ◌∙◌, IsErr, subst}
-use Rattle.pm_top.specs.Ends.{HasAnswer}
-use Rattle.pm_top.specs.declared.status.Top.TheVariants.{OutFault}
-use Rattle.pm_lines.specs.PrintLaws.{printed_weaker}
+use Rattle.pm_top.{specs.{Ends.HasAnswer, declared.status.Top.TheVariants.OutFault}, proofs.control.controldata.Goals.{in-Ok, in-Ok-print_found, in-Err-print_found, in-Err-Disk, in-Err-NoMemory, in-Err}}
+use Rattle.pm_server_lines.proofs.PrintLaws.{printed_weaker}
 use Rattle.pm_top.proofs.control.controldata.Goals as goal
-use Rattle.pm_top.proofs.control.controldata.Goals.{in-Ok, in-Ok-print_found, in-Err-print_found, in-Err-Disk, in-Err-NoMemory, in-Err}
 
 pub returns-clause-told : goal.returns-clause-told
 returns-clause-told g c = λ made. elim c.match-examine.branch [

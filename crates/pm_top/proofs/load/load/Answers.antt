@@ -1,9 +1,8 @@
 use Rattle.std.proofs.Common.{ℕ, List, Option, subst}
-use Rattle.pm_lines.specs.PrintLaws.{printed_weaker}
-use Rattle.pm_workload.specs.Worked.{HasTold}
-use Rattle.pm_top.specs.Ends.{HasAnswer}
+use Rattle.pm_server_lines.proofs.PrintLaws.{printed_weaker}
+use Rattle.pm_load_run.specs.Worked.{HasTold}
+use Rattle.pm_top.{specs.Ends.HasAnswer, proofs.load.load.Goals.{in-Ok, in-Err-SinkFailed, in-Err-NoMemory}}
 use Rattle.pm_top.proofs.load.load.Goals as goal
-use Rattle.pm_top.proofs.load.load.Goals.{in-Ok, in-Err-SinkFailed, in-Err-NoMemory}
 
 told_weaker : (number : ℕ) (one cut : Type 0) (before now : Option (List ℕ)) → (one → cut) → HasTold number one before now → HasTold number cut before now
 told_weaker number one cut before now weaker told = record { meant = told.meant; is_meant = told.is_meant; printed = printed_weaker _ one cut before now weaker told.printed }

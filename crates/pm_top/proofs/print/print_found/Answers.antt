@@ -1,10 +1,6 @@
-use Rattle.std.proofs.Common.{◌++◌, ℕ, List, [], ap}
-use Rattle.std.specs.Prelude.{codes, decimal}
-use Rattle.std.specs.FinMap.{len}
-use Rattle.pm_record.specs.declared.found.Found.{Found}
+use Rattle.std.{proofs.Common.{◌++◌, ℕ, List, [], ap}, specs.{Prelude.{codes, decimal}, FinMap.len}}
+use Rattle.pm_server_lines.{specs.{pm_record.declared.found.Found.Found, Print.file_letter}, proofs.PrintLaws.{nothing_yet, part_cut, part_last, part_more, printed_as}}
 use Rattle.pm_top.specs.Control.{control_lines, told_line, yes_or_no}
-use Rattle.pm_lines.specs.Print.{file_letter}
-use Rattle.pm_lines.specs.PrintLaws.{nothing_yet, part_cut, part_last, part_more, printed_as}
 use Rattle.pm_top.proofs.print.print_found.Goals as goal
 
 -- each line, and those after it

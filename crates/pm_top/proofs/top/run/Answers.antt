@@ -1,13 +1,7 @@
 use Rattle.std.proofs.Common.{◌≡◌, refl, sym, subst}
-use Rattle.pm_server.specs.declared.end.ServerEnd.{ServerEnd}
-use Rattle.pm_server.specs.declared.end.ServerEnd.TheVariants as ends
-use Rattle.pm_words.specs.declared.words.Command.TheVariants.{Initdb, Once, Serve, Controldata, Workload}
-use Rattle.pm_top.specs.declared.status.Top.{Top}
-use Rattle.pm_top.specs.declared.status.Top.TheVariants.{Done, Abnormal, OutFault, DiskFault, Exists, Unreadable, Usage, NoMemory, NoThread}
-use Rattle.pm_top.specs.Ends.{status_of}
-use Rattle.pm_top.specs.Serve.{IsServer}
-use Rattle.pm_top.proofs.Lines.{not_of_serve}
-use Rattle.pm_top.proofs.Within.{some, within}
+use Rattle.pm_top_words.specs.{pm_server.declared.end.ServerEnd.ServerEnd, declared.words.Command.TheVariants.{Initdb, Once, Serve, Controldata, Workload}}
+use Rattle.pm_top_words.specs.pm_server.declared.end.ServerEnd.TheVariants as ends
+use Rattle.pm_top.{specs.{declared.status.Top.{Top, TheVariants.{Done, Abnormal, OutFault, DiskFault, Exists, Unreadable, Usage, NoMemory, NoThread}}, Ends.status_of, Serve.IsServer}, proofs.{Lines.not_of_serve, Within.{some, within}}}
 use Rattle.pm_top.proofs.top.run.Goals as goal
 
 -- a status by which a server's end is told

@@ -1,4 +1,4 @@
-use Rattle.pm_words.specs.declared.words.Command.TheVariants.{Serve}
+use Rattle.pm_top_words.specs.declared.words.Command.TheVariants.{Serve}
 use Rattle.pm_top.proofs.Lines.{no_line}
 use Rattle.pm_top.proofs.top.serve_line.Goals as goal
 

@@ -1,9 +1,6 @@
-use Rattle.std.proofs.Common.{◌≡◌, [], sym, subst, arith}
-use Rattle.std.proofs.lemmas.List.{nil_from_length}
-use Rattle.pm_words.specs.Options.{choice_of, chosen_of}
-use Rattle.pm_words.specs.Begins.{BeginsOptions, IsOptionMisfit}
-use Rattle.pm_words.proofs.Fronts.{at-not-chosen, ends, further, none-further}
-use Rattle.pm_words.proofs.fitting.«+option_misfit».Goals as goal
+use Rattle.std.proofs.{Common.{◌≡◌, [], sym, subst, arith}, lemmas.List.nil_from_length}
+use Rattle.pm_top_words.{specs.{Options.{choice_of, chosen_of}, Begins.{BeginsOptions, IsOptionMisfit}}, proofs.Fronts.{at-not-chosen, ends, further, none-further}}
+use Rattle.pm_top_words.proofs.fitting.«+option_misfit».Goals as goal
 
 pub returns-then-is_empty-clause-none : goal.returns-then-is_empty-clause-none
 returns-then-is_empty-clause-none t c =

@@ -1,9 +1,6 @@
-use Rattle.std.proofs.Common.{◌≡◌, ◌-◌, [], ◌∷◌, length, take, drop, sym, ◌∙◌, ap, subst, arith}
-use Rattle.std.proofs.lemmas.List.{nil_from_length}
-use Rattle.pm_words.specs.Begins.{BeginsLine, BeginsOptions, IsOptionMisfit}
-use Rattle.pm_words.proofs.Fronts.{at-option, at-verb, none-fit, options-fit-too}
-use Rattle.pm_words.proofs.Givens.{cons_words}
-use Rattle.pm_words.proofs.fitting.misfit.Goals as goal
+use Rattle.std.proofs.{Common.{◌≡◌, ◌-◌, [], ◌∷◌, length, take, drop, sym, ◌∙◌, ap, subst, arith}, lemmas.List.nil_from_length}
+use Rattle.pm_top_words.{specs.Begins.{BeginsLine, BeginsOptions, IsOptionMisfit}, proofs.{Fronts.{at-option, at-verb, none-fit, options-fit-too}, Givens.cons_words}}
+use Rattle.pm_top_words.proofs.fitting.misfit.Goals as goal
 
 pub returns-in_default-clause-none : goal.returns-in_default-clause-none
 returns-in_default-clause-none c =

@@ -1,8 +1,6 @@
 use Rattle.std.proofs.Common.{arith}
-use Rattle.pm_words.specs.Options.{chosen_of}
-use Rattle.pm_words.proofs.Fronts.{at-no-name, at-value, one-name}
-use Rattle.pm_words.proofs.Givens.{cons_words}
-use Rattle.pm_words.proofs.fitting.place_of_misfit.Goals as goal
+use Rattle.pm_top_words.{specs.Options.chosen_of, proofs.{Fronts.{at-no-name, at-value, one-name}, Givens.cons_words}}
+use Rattle.pm_top_words.proofs.fitting.place_of_misfit.Goals as goal
 
 pub returns-then-not-may_name-clause-found : goal.returns-then-not-may_name-clause-found
 returns-then-not-may_name-clause-found c =

@@ -1,10 +1,6 @@
-use Rattle.std.proofs.Common.{◌≡◌, [], length, ap, sym, subst, arith}
-use Rattle.std.proofs.lemmas.List.{nil_from_length}
-use Rattle.pm_words.specs.declared.options.Settings.{Settings}
-use Rattle.pm_words.specs.Words.{Chosen}
-use Rattle.pm_words.specs.Options.{Leaves, choice_of, chosen_of}
-use Rattle.pm_words.proofs.Givens.{at-end, begun, none_map, some_map, step_back, step_on}
-use Rattle.pm_words.proofs.options.«+read_on».Goals as goal
+use Rattle.std.proofs.{Common.{◌≡◌, [], length, ap, sym, subst, arith}, lemmas.List.nil_from_length}
+use Rattle.pm_top_words.{specs.{declared.options.Settings.Settings, Words.Chosen, Options.{Leaves, choice_of, chosen_of}}, proofs.Givens.{at-end, begun, none_map, some_map, step_back, step_on}}
+use Rattle.pm_top_words.proofs.options.«+read_on».Goals as goal
 
 pub returns-then-is_empty-clause-only : goal.returns-then-is_empty-clause-only
 returns-then-is_empty-clause-only t c = λ after leaves.

@@ -1,5 +1,5 @@
 use Rattle.std.proofs.Common.{length}
-use Rattle.pm_words.proofs.options.«+read_on».Given as goal
+use Rattle.pm_top_words.proofs.options.«+read_on».Given as goal
 
 abbrev pub decreases-read_on : goal.decreases-read_on
 decreases-read_on l = length l.words.now

@@ -1,9 +1,6 @@
-use Rattle.std.proofs.Common.{◌≡◌, ◌-◌, ℕ, List, [], ◌∷◌, ◌++◌, length, take, drop, sym, ◌∙◌, ap, arith}
-use Rattle.std.proofs.lemmas.Str.Pattern.{split_parts}
-use Rattle.pm_words.specs.declared.options.Given.{Given}
-use Rattle.pm_words.specs.Options.{BeginsWith, IsPlain}
-use Rattle.pm_words.proofs.Givens.{by_index, cons_words, found-one, found-two, no_value, none-one, none-two, none_map, some_map, some_words}
-use Rattle.pm_words.proofs.options.named_value.Goals as goal
+use Rattle.std.proofs.{Common.{◌≡◌, ◌-◌, ℕ, List, [], ◌∷◌, ◌++◌, length, take, drop, sym, ◌∙◌, ap, arith}, lemmas.Str.Pattern.split_parts}
+use Rattle.pm_top_words.{specs.{declared.options.Given.Given, Options.{BeginsWith, IsPlain}}, proofs.Givens.{by_index, cons_words, found-one, found-two, no_value, none-one, none-two, none_map, some_map, some_words}}
+use Rattle.pm_top_words.proofs.options.named_value.Goals as goal
 
 pub returns-then-is_empty-clause-none : goal.returns-then-is_empty-clause-none
 returns-then-is_empty-clause-none c =

@@ -1,6 +1,5 @@
-use Rattle.pm_words.specs.Words.{option_name}
-use Rattle.pm_words.proofs.Givens.{option-begins, says-none}
-use Rattle.pm_words.proofs.options.next_option.Goals as goal
+use Rattle.pm_top_words.{specs.Words.option_name, proofs.Givens.{option-begins, says-none}}
+use Rattle.pm_top_words.proofs.options.next_option.Goals as goal
 
 pub returns-in_default-clause-none : goal.returns-in_default-clause-none
 returns-in_default-clause-none c = λ choice behind is. c.in_default.ensures.none (option_name choice) is.spells.0 behind (option-begins c.args.words.now choice behind is)

@@ -1,9 +1,6 @@
-use Rattle.std.proofs.Common.{◌≡◌, subst}
-use Rattle.std.specs.Prelude.{IfSome, IfNone}
-use Rattle.pm_words.specs.declared.options.Settings.{Settings}
-use Rattle.pm_words.specs.Words.{Chosen}
-use Rattle.pm_words.specs.Options.{Leaves, chosen_of}
-use Rattle.pm_words.proofs.options.read_settings.Goals as goal
+use Rattle.std.{proofs.Common.{◌≡◌, subst}, specs.Prelude.{IfSome, IfNone}}
+use Rattle.pm_top_words.specs.{declared.options.Settings.Settings, Words.Chosen, Options.{Leaves, chosen_of}}
+use Rattle.pm_top_words.proofs.options.read_settings.Goals as goal
 
 pub returns-clause-only : goal.returns-clause-only
 returns-clause-only c =

@@ -1,11 +1,6 @@
-use Rattle.std.proofs.Common.{◌≡◌, ◌-◌, ℕ, List, ◌∷◌, Some, length, take, drop, sym, ◌∙◌, ap}
-use Rattle.std.specs.Borrow.{Bor}
-use Rattle.std.specs.Prelude.{option_map}
-use Rattle.std.proofs.lemmas.Option.{same_Some}
-use Rattle.pm_words.specs.Words.{command_of, conf_of, folder_of}
-use Rattle.pm_words.proofs.Givens.{cons_words}
-use Rattle.pm_words.proofs.Lines.{given, not_none}
-use Rattle.pm_words.proofs.words.read_words.Goals as goal
+use Rattle.std.{proofs.{Common.{◌≡◌, ◌-◌, ℕ, List, ◌∷◌, Some, length, take, drop, sym, ◌∙◌, ap}, lemmas.Option.same_Some}, specs.{Borrow.Bor, Prelude.option_map}}
+use Rattle.pm_top_words.{specs.Words.{command_of, conf_of, folder_of}, proofs.{Givens.cons_words, Lines.{given, not_none}}}
+use Rattle.pm_top_words.proofs.words.read_words.Goals as goal
 
 pub returns-in_default-read_settings-clause-usage : goal.returns-in_default-read_settings-clause-usage
 returns-in_default-read_settings-clause-usage c = λ command dir conf line.

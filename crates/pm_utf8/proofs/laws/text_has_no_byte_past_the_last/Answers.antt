@@ -1,5 +1,4 @@
-use Rattle.pm_utf8.specs.Utf8.{boundary}
-use Rattle.pm_utf8.specs.States.{boundary_sound, bytes_below, each_below}
+use Rattle.pm_utf8.specs.{Utf8.boundary, States.{boundary_sound, bytes_below, each_below}}
 use Rattle.pm_utf8.proofs.laws.text_has_no_byte_past_the_last.Goals as goal
 
 pub returns : goal.returns

@@ -1,8 +1,5 @@
 use Rattle.std.proofs.Common.{sym, ◌++◌, ◌∙◌}
-use Rattle.pm_utf8.specs.Utf8.{boundary}
-use Rattle.pm_utf8.specs.Steps.{run_append, run_none}
-use Rattle.pm_utf8.specs.States.{boundary_sound, run_sound, fill, needs}
-use Rattle.pm_utf8.specs.Characters.{accepts, is_utf8}
+use Rattle.pm_utf8.specs.{Utf8.boundary, Steps.{run_append, run_none}, States.{boundary_sound, run_sound, fill, needs}, Characters.{accepts, is_utf8}}
 use Rattle.pm_utf8.proofs.laws.text_needs_what_is_awaited.Goals as goal
 
 pub returns-clause-at_least : goal.returns-clause-at_least

@@ -1,7 +1,4 @@
-use Rattle.pm_wire.specs.Frontend.{IsFront}
-use Rattle.pm_wire.specs.Failing.{FrontFails, place_of}
-use Rattle.pm_wire.specs.StreamLaws.{fails_in_pieces}
-use Rattle.pm_wire.proofs.Faults.{front_fails_once, front_fails_for_good}
+use Rattle.pm_wire.{specs.{Frontend.IsFront, Failing.{FrontFails, place_of}}, proofs.{StreamLaws.fails_in_pieces, Faults.{front_fails_once, front_fails_for_good}}}
 use Rattle.pm_wire.proofs.laws.front_stream_fails_at_one_byte.Goals as goal
 
 pub returns-clause-once : goal.returns-clause-once

@@ -1,6 +1,4 @@
-use Rattle.pm_wire.specs.Frontend.{IsFront}
-use Rattle.pm_wire.proofs.Apart.{front_apart}
-use Rattle.pm_wire.specs.StreamLaws.{split_one_way, split_in_pieces}
+use Rattle.pm_wire.{specs.Frontend.IsFront, proofs.{Apart.front_apart, StreamLaws.{split_one_way, split_in_pieces}}}
 use Rattle.pm_wire.proofs.laws.front_stream_has_one_reading.Goals as goal
 
 pub returns-clause-one_way : goal.returns-clause-one_way

@@ -1,6 +1,4 @@
-use Rattle.std.proofs.Common.{[], length, flat_map, take, ap, arith}
-use Rattle.std.proofs.lemmas.List.{length-append}
-use Rattle.std.proofs.lemmas.List.Folds.{length-flat_map-take}
+use Rattle.std.proofs.{Common.{[], length, flat_map, take, ap, arith}, lemmas.List.{length-append, Folds.length-flat_map-take}}
 use Rattle.pm_wire.proofs.writing.append_all.Goals as goal
 
 pub append-requires : goal.append-requires

@@ -1,5 +1,4 @@
-use Rattle.std.proofs.Common.{[], length, ap, arith}
-use Rattle.std.proofs.lemmas.List.{length-append}
+use Rattle.std.proofs.{Common.{[], length, ap, arith}, lemmas.List.length-append}
 use Rattle.pm_wire.specs.Sizes.{columns_short}
 use Rattle.pm_wire.proofs.writing.push_columns.Goals as goal
 

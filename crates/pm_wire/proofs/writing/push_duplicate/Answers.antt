@@ -1,8 +1,5 @@
-use Rattle.std.proofs.Common.{rules, ◌≡◌, ◌<◌, ◌++◌, List, ℕ, codes, length, OnOk, OnErr, subst}
-use Rattle.std.specs.Fmt.{signed_decimal}
-use Rattle.pm_wire.specs.Pieces.{message}
-use Rattle.pm_wire.specs.Outgoing.{room}
-use Rattle.pm_wire.proofs.Joined.{key_fields}
+use Rattle.std.{proofs.Common.{rules, ◌≡◌, ◌<◌, ◌++◌, List, ℕ, codes, length, OnOk, OnErr, subst}, specs.Fmt.signed_decimal}
+use Rattle.pm_wire.{specs.{Pieces.message, Outgoing.room}, proofs.Joined.key_fields}
 use Rattle.pm_wire.proofs.writing.push_duplicate.Goals as goal
 
 pub returns-clause-ok : goal.returns-clause-ok

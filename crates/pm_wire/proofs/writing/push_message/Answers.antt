@@ -1,7 +1,5 @@
 use Rattle.std.proofs.Common.{◌<◌, [], ◌∷◌, length, flat_map, refl, OnErr, Ok, Err, arith}
-use Rattle.pm_wire.specs.Pieces.{message}
-use Rattle.pm_wire.specs.Outgoing.{room}
-use Rattle.pm_wire.proofs.Apart.{length_message}
+use Rattle.pm_wire.{specs.{Pieces.message, Outgoing.room}, proofs.Apart.length_message}
 use Rattle.pm_wire.proofs.writing.push_message.Goals as goal
 
 pub returns-in_err-reserve-clause-full : goal.returns-in_err-reserve-clause-full

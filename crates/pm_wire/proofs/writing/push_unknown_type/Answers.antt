@@ -1,7 +1,5 @@
 use Rattle.std.proofs.Common.{◌≡◌, ◌<◌, ◌++◌, List, ℕ, codes, length, OnOk, OnErr, decimal, subst}
-use Rattle.pm_wire.specs.Pieces.{message}
-use Rattle.pm_wire.specs.Outgoing.{room}
-use Rattle.pm_wire.proofs.Joined.{type_fields}
+use Rattle.pm_wire.{specs.{Pieces.message, Outgoing.room}, proofs.Joined.type_fields}
 use Rattle.pm_wire.proofs.writing.push_unknown_type.Goals as goal
 
 pub returns-clause-ok : goal.returns-clause-ok

@@ -1,5 +1,4 @@
-use Rattle.std.proofs.Common.{arith, []}
-use Rattle.std.proofs.lemmas.List.Folds.{length-flat_map-take}
+use Rattle.std.proofs.{Common.{arith, []}, lemmas.List.Folds.length-flat_map-take}
 use Rattle.pm_wire.proofs.writing.total.Goals as goal
 
 pub overflow_add-total : goal.overflow_add-total

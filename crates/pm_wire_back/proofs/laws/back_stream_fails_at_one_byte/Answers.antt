@@ -1,8 +1,5 @@
-use Rattle.pm_wire.specs.Backend.{IsBack}
-use Rattle.pm_wire.specs.Failing.{place_of}
-use Rattle.pm_wire_back.specs.Failing.{BackFails}
-use Rattle.pm_wire.specs.StreamLaws.{fails_in_pieces}
-use Rattle.pm_wire_back.proofs.BackFaults.{back_fails_once, back_fails_for_good}
+use Rattle.pm_wire.{specs.{Backend.IsBack, Failing.place_of}, proofs.StreamLaws.fails_in_pieces}
+use Rattle.pm_wire_back.{specs.Failing.BackFails, proofs.BackFaults.{back_fails_once, back_fails_for_good}}
 use Rattle.pm_wire_back.proofs.laws.back_stream_fails_at_one_byte.Goals as goal
 
 pub returns-clause-once : goal.returns-clause-once

@@ -1,6 +1,5 @@
-use Rattle.pm_wire.specs.Backend.{IsBack}
+use Rattle.pm_wire.{specs.Backend.IsBack, proofs.StreamLaws.{split_one_way, split_in_pieces}}
 use Rattle.pm_wire_back.proofs.BackAgain.{back_apart}
-use Rattle.pm_wire.specs.StreamLaws.{split_one_way, split_in_pieces}
 use Rattle.pm_wire_back.proofs.laws.back_stream_has_one_reading.Goals as goal
 
 pub returns-clause-one_way : goal.returns-clause-one_way

@@ -1,5 +1,4 @@
-use Rattle.std.proofs.Common.{◌≡◌, ◌+◌, ◌*◌, ◌/◌, ◌^◌, ◌≤◌, arith, sym, subst, ℕ}
-use Rattle.std.proofs.Math.Nat.{div-le_self}
+use Rattle.std.proofs.{Common.{◌≡◌, ◌+◌, ◌*◌, ◌/◌, ◌^◌, ◌≤◌, arith, sym, subst, ℕ}, Math.Nat.div-le_self}
 use Rattle.pm_wire_back.proofs.Decimals.{ten_pos, tens_le, under_div}
 use Rattle.pm_wire_back.proofs.parts.behind_digit.Goals as goal
 

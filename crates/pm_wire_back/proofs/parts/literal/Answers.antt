@@ -1,7 +1,5 @@
-use Rattle.std.proofs.Common.{◌≡◌, length, drop, arith, ap, ◌∙◌, sym, Ok, List, ℕ}
-use Rattle.pm_wire_back.specs.Parts.{literal_at}
-use Rattle.std.proofs.lemmas.Bool.{eq-eqb, ne_eqb}
-use Rattle.pm_wire_back.proofs.Walks.{literal_partial, literal_departs, literal_more, literal_done}
+use Rattle.std.proofs.{Common.{◌≡◌, length, drop, arith, ap, ◌∙◌, sym, Ok, List, ℕ}, lemmas.Bool.{eq-eqb, ne_eqb}}
+use Rattle.pm_wire_back.{specs.Parts.literal_at, proofs.Walks.{literal_partial, literal_departs, literal_more, literal_done}}
 use Rattle.pm_wire_back.proofs.parts.literal.Goals as goal
 
 pub returns-then-i-bytes : goal.returns-then-i-bytes

@@ -1,7 +1,5 @@
-use Rattle.std.proofs.Common.{arith, ap, ◌∙◌, ◌≡◌, sym, Ok, ℕ, take, drop}
-use Rattle.pm_wire_back.specs.Parts.{code_at}
-use Rattle.std.proofs.lemmas.Bool.{eq-eqb, ne_eqb}
-use Rattle.pm_wire_back.proofs.Walks.{code_partial, code_departs, code_more, code_done}
+use Rattle.std.proofs.{Common.{arith, ap, ◌∙◌, ◌≡◌, sym, Ok, ℕ, take, drop}, lemmas.Bool.{eq-eqb, ne_eqb}}
+use Rattle.pm_wire_back.{specs.Parts.code_at, proofs.Walks.{code_partial, code_departs, code_more, code_done}}
 use Rattle.pm_wire_back.proofs.parts.nonzero.Goals as goal
 
 pub returns-then-i-bytes-clause-gives : goal.returns-then-i-bytes-clause-gives

@@ -1,6 +1,5 @@
 use Rattle.std.proofs.Common.{◌≡◌, ◌≤◌, ◌-◌, length, take, drop}
-use Rattle.pm_wire_back.specs.Parts.{code_at}
-use Rattle.pm_wire_back.proofs.Walks.{with_front}
+use Rattle.pm_wire_back.{specs.Parts.code_at, proofs.Walks.with_front}
 use Rattle.pm_wire_back.proofs.parts.nonzero.Given as goal
 
 abbrev pub invariant-loop-i : goal.invariant-loop-i

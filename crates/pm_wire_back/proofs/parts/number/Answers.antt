@@ -1,6 +1,5 @@
 use Rattle.std.proofs.Common.{◌≡◌, ◌+◌, ◌-◌, ◌*◌, ◌^◌, ◌≤◌, ◌∙◌, arith, sym, subst, ap, ℕ, List, Ok, drop}
-use Rattle.pm_wire_back.specs.Parts.{number_at}
-use Rattle.pm_wire_back.proofs.Decimals.{number_partial, number_departs, number_more, number_done, not_zero}
+use Rattle.pm_wire_back.{specs.Parts.number_at, proofs.Decimals.{number_partial, number_departs, number_more, number_done, not_zero}}
 use Rattle.pm_wire_back.proofs.parts.number.Goals as goal
 
 pub returns-then-at-bytes-clause-gives : goal.returns-then-at-bytes-clause-gives

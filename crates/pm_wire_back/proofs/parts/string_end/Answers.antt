@@ -1,8 +1,6 @@
-use Rattle.std.proofs.Common.{arith, ◌-◌, sym, take}
-use Rattle.std.proofs.lemmas.Bool.{and_parts, eqb-true}
+use Rattle.std.proofs.{Common.{arith, ◌-◌, sym, take}, lemmas.Bool.{and_parts, eqb-true}}
 use Rattle.pm_utf8.specs.Utf8.{boundary}
-use Rattle.pm_wire_back.specs.Parts.{string_at}
-use Rattle.pm_wire_back.proofs.Walks.{string_partial, string_departs, string_more, string_ends, string_ends_early, run_more, text_is}
+use Rattle.pm_wire_back.{specs.Parts.string_at, proofs.Walks.{string_partial, string_departs, string_more, string_ends, string_ends_early, run_more, text_is}}
 use Rattle.pm_wire_back.proofs.parts.string_end.Goals as goal
 
 pub returns-then-may_end-clause-gives : goal.returns-then-may_end-clause-gives

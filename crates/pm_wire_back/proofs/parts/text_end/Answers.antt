@@ -1,8 +1,6 @@
-use Rattle.std.proofs.Common.{arith, ap, ◌∙◌, ◌≡◌, ◌-◌, sym, subst, Ok, ℕ, take, drop}
-use Rattle.std.specs.Str.{IsUtf8}
+use Rattle.std.{proofs.Common.{arith, ap, ◌∙◌, ◌≡◌, ◌-◌, sym, subst, Ok, ℕ, take, drop}, specs.Str.IsUtf8}
 use Rattle.pm_utf8.specs.Utf8.{boundary}
-use Rattle.pm_wire_back.specs.Parts.{text_at}
-use Rattle.pm_wire_back.proofs.Walks.{text_partial, text_departs, text_more, text_done, run_more, text_is}
+use Rattle.pm_wire_back.{specs.Parts.text_at, proofs.Walks.{text_partial, text_departs, text_more, text_done, run_more, text_is}}
 use Rattle.pm_wire_back.proofs.parts.text_end.Goals as goal
 
 pub returns-then-i-bytes-clause-gives : goal.returns-then-i-bytes-clause-gives

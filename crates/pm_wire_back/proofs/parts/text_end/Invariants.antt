@@ -1,7 +1,6 @@
 use Rattle.std.proofs.Common.{◌≡◌, ◌≤◌, ◌-◌, length, take, drop, Some}
 use Rattle.pm_utf8.specs.Utf8.{boundary, run}
-use Rattle.pm_wire_back.specs.Parts.{text_at}
-use Rattle.pm_wire_back.proofs.Walks.{with_front}
+use Rattle.pm_wire_back.{specs.Parts.text_at, proofs.Walks.with_front}
 use Rattle.pm_wire_back.proofs.parts.text_end.Given as goal
 
 abbrev pub invariant-loop-i : goal.invariant-loop-i

@@ -1,8 +1,6 @@
-use Rattle.std.proofs.Common.{rules, ◌<◌, ◌≤◌, ◌^◌, ℤ, FitsSigned, w64, length, sym, subst, arith}
-use Rattle.std.proofs.lemmas.Int.{to_z-of_z}
+use Rattle.std.proofs.{Common.{rules, ◌<◌, ◌≤◌, ◌^◌, ℤ, FitsSigned, w64, length, sym, subst, arith}, lemmas.Int.to_z-of_z}
 use lib.Signed.{mag}
-use Rattle.pm_wire.specs.Outgoing.{room}
-use Rattle.pm_wire.specs.Backend.{Pair, spelling}
+use Rattle.pm_wire.specs.{Outgoing.room, Backend.{Pair, spelling}}
 use Rattle.pm_wire_tests.proofs.outbox.put_row.Goals as goal
 
 pub put-requires-clause-room : goal.put-requires-clause-room

@@ -1,10 +1,8 @@
 use Rattle.std.proofs.Common.{◌≡◌, ◌≢◌, ◌∙◌, ◌++◌, ◌∷◌, [], true, false, ap, sym, subst}
-use Rattle.pm_facts.specs.Lists.{each_more}
+use Rattle.pm_query.specs.pm_facts.Lists.{each_more}
 use Rattle.pm_exit.specs.declared.child.Kind.{Kind}
 use Rattle.pm_worker.specs.declared.mail.MailTold.TheVariants as mail
-use Rattle.pm_worker.specs.Mails.{mail_told, IsFor}
-use Rattle.pm_worker.specs.Runs.{Run, IsRun, noted_by}
-use Rattle.pm_worker.proofs.Loops.{nothing, ran, Looked}
+use Rattle.pm_worker.{specs.{Mails.{mail_told, IsFor}, Runs.{Run, IsRun, noted_by}}, proofs.Loops.{nothing, ran, Looked}}
 use Rattle.pm_worker.proofs.child.work_off.Goals as goal
 
 pub loop-init : goal.loop-init

@@ -1,7 +1,5 @@
 use Rattle.std.proofs.Common.{subst, refl}
-use Rattle.pm_worker.specs.Mails.{mail_told}
-use Rattle.pm_worker.specs.Runs.{HasBegun, close_run}
-use Rattle.pm_worker.proofs.Exits.{closes, goes_on, serves}
+use Rattle.pm_worker.{specs.{Mails.mail_told, Runs.{HasBegun, close_run}}, proofs.Exits.{closes, goes_on, serves}}
 use Rattle.pm_worker.proofs.runs.run_child.Goals as goal
 
 pub serve_one-post-requires-clause-started : goal.serve_one-post-requires-clause-started

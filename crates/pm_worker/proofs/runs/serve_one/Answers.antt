@@ -1,17 +1,8 @@
 use Rattle.std.proofs.Common.{ℕ, ◌≡◌, ◌<◌, ◌≤◌, ◌∙◌, Some, None, ap, sym, subst}
-use Rattle.pm_exit.specs.Ends.{is_exit_0}
-use Rattle.pm_life.specs.Life.{nothing_told}
-use Rattle.pm_session.specs.Session.{IsAttachedBehind, HasAskedFor, IsCaused, HeedsTold, HasCancelled, IsSession, between}
-use Rattle.pm_board.specs.Places.{is_connection}
-use Rattle.pm_board.specs.Told.{child_in}
-use Rattle.pm_keys.specs.CancelKey.{cancel_key}
-use Rattle.pm_disk.specs.Cause.{Rose}
-use Rattle.pm_query.specs.Calls.{newcomer}
-use Rattle.pm_post_life.specs.Lives.{child_by, child_as, attached_of, told_by, GoesOn, GoesOnFrom}
-use Rattle.pm_worker.specs.declared.mail.MailTold.TheVariants.{Serve, Served}
-use Rattle.pm_worker.specs.Mails.{link_told}
-use Rattle.pm_worker.proofs.Exits.{child_is, ends_as, may_exit, is_run, has_run, run_of}
-use Rattle.pm_worker.proofs.Sessions.{told_whole, stays_inside, session_run}
+use Rattle.pm_board.specs.{pm_exit.Ends.is_exit_0, Places.is_connection, Told.child_in, pm_keys.CancelKey.cancel_key}
+use Rattle.pm_session.specs.{pm_child_life.Life.nothing_told, Session.{IsAttachedBehind, HasAskedFor, IsCaused, HeedsTold, HasCancelled, IsSession, between}, pm_outside.pm_disk.Cause.Rose, pm_query.Calls.newcomer}
+use Rattle.pm_board_life.specs.Lives.{child_by, child_as, attached_of, told_by, GoesOn, GoesOnFrom}
+use Rattle.pm_worker.{specs.{declared.mail.MailTold.TheVariants.{Serve, Served}, Mails.link_told}, proofs.{Exits.{child_is, ends_as, may_exit, is_run, has_run, run_of}, Sessions.{told_whole, stays_inside, session_run}}}
 use Rattle.pm_worker.proofs.runs.serve_one.Goals as goal
 
 pub exit-requires-clause-runs : goal.exit-requires-clause-runs

@@ -1,14 +1,7 @@
-use Rattle.std.proofs.Common.{ℕ, ◌≡◌, ◌∙◌, true, Option, Some, ap, sym, refl, subst}
-use Rattle.std.specs.Prelude.{is_some}
-use Rattle.pm_exit.specs.declared.child.Kind.{Kind}
-use Rattle.pm_board.specs.Places.{is_auxiliary}
-use Rattle.pm_board.specs.Told.{child_in}
-use Rattle.pm_post_life.specs.Lives.{child_by, attached_of, told_by, GoesOn, GoesOnFrom}
-use Rattle.pm_worker.specs.declared.mail.MailTold.TheVariants.{Aux}
-use Rattle.pm_worker.specs.Mails.{IsKept, aux_mail}
-use Rattle.pm_worker.specs.Runs.{IsAuxRun}
-use Rattle.pm_worker.proofs.Auxiliaries.{aux_kind, aux_well, aux_kept, same_run, aux_does}
-use Rattle.pm_worker.proofs.Exits.{child_is, ends_as, may_exit, is_run, has_run, run_of}
+use Rattle.std.{proofs.Common.{ℕ, ◌≡◌, ◌∙◌, true, Option, Some, ap, sym, refl, subst}, specs.Prelude.is_some}
+use Rattle.pm_board.specs.{pm_exit.declared.child.Kind.Kind, Places.is_auxiliary, Told.child_in}
+use Rattle.pm_board_life.specs.Lives.{child_by, attached_of, told_by, GoesOn, GoesOnFrom}
+use Rattle.pm_worker.{specs.{declared.mail.MailTold.TheVariants.Aux, Mails.{IsKept, aux_mail}, Runs.IsAuxRun}, proofs.{Auxiliaries.{aux_kind, aux_well, aux_kept, same_run, aux_does}, Exits.{child_is, ends_as, may_exit, is_run, has_run, run_of}}}
 use Rattle.pm_worker.proofs.runs.tend_one.Goals as goal
 
 pub exit-requires-clause-runs : goal.exit-requires-clause-runs

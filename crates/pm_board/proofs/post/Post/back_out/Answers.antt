@@ -1,9 +1,6 @@
 use Rattle.std.proofs.Common.{refl, sym, ap, ◌∙◌, subst}
 use Rattle.pm_supervisor.specs.Children.{is_session}
-use Rattle.pm_board.specs.declared.views.Work.TheVariants.{Active}
-use Rattle.pm_board.specs.Gate.{place_of}
-use Rattle.pm_board.specs.Told.{post_of, with_work, reposted}
-use Rattle.pm_board.specs.Models.{HoldsMail, RunsKind, RunsPid}
+use Rattle.pm_board.specs.{declared.views.Work.TheVariants.Active, Gate.place_of, Told.{post_of, with_work, reposted}, Models.{HoldsMail, RunsKind, RunsPid}}
 use Rattle.pm_board.proofs.Steps as steps
 use Rattle.pm_board.proofs.post.Post.back_out.Goals as goal
 

@@ -1,8 +1,6 @@
 use Rattle.std.proofs.Common.{refl, sym, ap, ◌∙◌, subst}
 use Rattle.pm_supervisor.specs.Children.{is_session}
-use Rattle.pm_board.specs.Gate.{place_of}
-use Rattle.pm_board.specs.Told.{post_of, detached, reposted}
-use Rattle.pm_board.specs.Models.{HoldsMail, RunsKind, RunsPid}
+use Rattle.pm_board.specs.{Gate.place_of, Told.{post_of, detached, reposted}, Models.{HoldsMail, RunsKind, RunsPid}}
 use Rattle.pm_board.proofs.Steps as steps
 use Rattle.pm_board.proofs.post.Post.let_go.Goals as goal
 

@@ -1,7 +1,5 @@
 use Rattle.std.proofs.Common.{ℕ, ◌<◌, arith, refl, sym, ap, ◌∙◌, subst}
-use Rattle.pm_board.specs.Slots.{child_slots}
-use Rattle.pm_board.specs.Latch.{latch_pid}
-use Rattle.pm_board.specs.Told.{post_of, with_notes, noted_latch_look}
+use Rattle.pm_board.specs.{Slots.child_slots, Latch.latch_pid, Told.{post_of, with_notes, noted_latch_look}}
 use Rattle.pm_board.proofs.Steps as steps
 use Rattle.pm_board.proofs.post.Post.look_at_latch.Goals as goal
 

@@ -1,7 +1,5 @@
 use Rattle.std.proofs.Common.{refl, sym, ap, ◌∙◌, subst}
-use Rattle.pm_board.specs.declared.views.Work.TheVariants.{Active}
-use Rattle.pm_board.specs.Told.{post_of, with_work, reposted}
-use Rattle.pm_board.specs.Models.{HoldsMail, RunsKind, RunsPid}
+use Rattle.pm_board.specs.{declared.views.Work.TheVariants.Active, Told.{post_of, with_work, reposted}, Models.{HoldsMail, RunsKind, RunsPid}}
 use Rattle.pm_board.proofs.Steps as steps
 use Rattle.pm_board.proofs.post.Post.mark.Goals as goal
 

@@ -1,6 +1,5 @@
 use Rattle.std.proofs.Common.{◌<◌, refl, sym, ap, ◌∙◌, subst}
-use Rattle.pm_board.specs.Slots.{child_slots}
-use Rattle.pm_board.specs.Latch.{cancel_place}
+use Rattle.pm_board.specs.{Slots.child_slots, Latch.cancel_place}
 use Rattle.pm_board.proofs.Steps as steps
 use Rattle.pm_board.proofs.post.Post.raise.Goals as goal
 

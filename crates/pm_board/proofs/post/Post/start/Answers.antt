@@ -1,11 +1,6 @@
-use Rattle.std.proofs.Common.{ℕ, arith, sym, ap, ◌∙◌, subst}
-use Rattle.std.specs.Prelude.{false}
-use Rattle.std.proofs.lemmas.Option.{same_Some}
-use Rattle.pm_exit.specs.declared.child.Status.TheVariants.{Code}
-use Rattle.pm_exit.specs.declared.child.Kind.{Kind}
-use Rattle.pm_board.specs.declared.views.Work.TheVariants.{Inactive}
-use Rattle.pm_board.specs.Told.{post_of, post_view, noted_start, noted_load}
-use Rattle.pm_board.specs.Models.{HoldsMail}
+use Rattle.std.{proofs.{Common.{ℕ, arith, sym, ap, ◌∙◌, subst}, lemmas.Option.same_Some}, specs.Prelude.false}
+use Rattle.pm_exit.specs.declared.child.{Status.TheVariants.Code, Kind.Kind}
+use Rattle.pm_board.specs.{declared.views.Work.TheVariants.Inactive, Told.{post_of, post_view, noted_start, noted_load}, Models.HoldsMail}
 use Rattle.pm_board.proofs.Steps as steps
 use Rattle.pm_board.proofs.post.Post.start.Goals as goal
 

@@ -1,8 +1,6 @@
 use Rattle.std.proofs.Common.{refl, sym, ap, ◌∙◌, subst}
 use Rattle.pm_supervisor.specs.Children.{is_session}
-use Rattle.pm_board.specs.Gate.{place_of, gate_answer}
-use Rattle.pm_board.specs.Told.{post_of, tried, reposted}
-use Rattle.pm_board.specs.Models.{HoldsMail, RunsKind, RunsPid}
+use Rattle.pm_board.specs.{Gate.{place_of, gate_answer}, Told.{post_of, tried, reposted}, Models.{HoldsMail, RunsKind, RunsPid}}
 use Rattle.pm_board.proofs.Steps as steps
 use Rattle.pm_board.proofs.post.Post.try_gate.Goals as goal
 

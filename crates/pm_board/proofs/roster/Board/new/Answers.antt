@@ -1,15 +1,5 @@
-use Rattle.std.proofs.Common.{rules, ◌≡◌, ℕ, ◌+◌, ◌*◌, ◌≤◌, List, [], length, arith, refl, sym, ap, ◌∙◌, subst}
-use Rattle.std.specs.Prelude.{None, Some, replicate, slice_get}
-use Rattle.std.proofs.lemmas.List.{length-replicate}
-use Rattle.pm_board.specs.Slots.{all_slots}
-use Rattle.pm_board.specs.declared.views.View.TheVariants.{Postmaster}
-use Rattle.pm_board.specs.declared.views.RosterView.{RosterView}
-use Rattle.pm_board.specs.Rule.{idle_post}
-use Rattle.pm_board.specs.Places.{used_in}
-use Rattle.pm_board.specs.Children.{children_of}
-use Rattle.pm_board.specs.Told.{roster_of, with_post}
-use Rattle.pm_board.specs.Models.{PostModel}
-use Rattle.pm_board.proofs.Children.{no_children, only_none}
+use Rattle.std.{proofs.{Common.{rules, ◌≡◌, ℕ, ◌+◌, ◌*◌, ◌≤◌, List, [], length, arith, refl, sym, ap, ◌∙◌, subst}, lemmas.List.length-replicate}, specs.Prelude.{None, Some, replicate, slice_get}}
+use Rattle.pm_board.{specs.{Slots.all_slots, declared.views.{View.TheVariants.Postmaster, RosterView.RosterView}, Rule.idle_post, Places.used_in, Children.children_of, Told.{roster_of, with_post}, Models.PostModel}, proofs.Children.{no_children, only_none}}
 use Rattle.pm_board.proofs.Steps as steps
 use Rattle.pm_board.proofs.roster.Board.new.Goals as goal
 

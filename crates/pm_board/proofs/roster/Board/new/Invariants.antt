@@ -1,8 +1,5 @@
-use Rattle.std.proofs.Common.{◌≡◌, ◌≤◌, ℕ, length, Some}
-use Rattle.std.specs.Prelude.{slice_get}
-use Rattle.pm_board.specs.Rule.{idle_post}
-use Rattle.pm_board.specs.Told.{new_roster}
-use Rattle.pm_board.specs.Models.{PostModel}
+use Rattle.std.{proofs.Common.{◌≡◌, ◌≤◌, ℕ, length, Some}, specs.Prelude.slice_get}
+use Rattle.pm_board.specs.{Rule.idle_post, Told.new_roster, Models.PostModel}
 use Rattle.pm_board.proofs.roster.Board.new.Given as goal
 
 abbrev pub invariant-loop-index : goal.invariant-loop-index

@@ -1,13 +1,6 @@
-use Rattle.std.proofs.Common.{◌≡◌, ℕ, ◌+◌, ◌<◌, ◌≤◌, ◌∷◌, length, set, arith, refl, sym, ap, ◌∙◌, subst, length-set}
-use Rattle.std.specs.Prelude.{Some}
+use Rattle.std.{proofs.Common.{◌≡◌, ℕ, ◌+◌, ◌<◌, ◌≤◌, ◌∷◌, length, set, arith, refl, sym, ap, ◌∙◌, subst, length-set}, specs.Prelude.Some}
 use Rattle.atomic_table.specs.Table.{rest}
-use Rattle.pm_board.specs.Slots.{all_slots, child_slots}
-use Rattle.pm_board.specs.declared.views.Offer.{Offer}
-use Rattle.pm_board.specs.declared.views.Sight.TheVariants.{Opened}
-use Rattle.pm_board.specs.declared.views.RosterView.{RosterView}
-use Rattle.pm_board.specs.Places.{slot_view, slot_at, is_auxiliary, lost, SlotServes, used_in}
-use Rattle.pm_board.specs.Children.{children_of}
-use Rattle.pm_board.specs.Told.{roster_of, with_slot, with_sight, assigned_slot, noted_assign}
+use Rattle.pm_board.specs.{Slots.{all_slots, child_slots}, declared.views.{Offer.Offer, Sight.TheVariants.Opened, RosterView.RosterView}, Places.{slot_view, slot_at, is_auxiliary, lost, SlotServes, used_in}, Children.children_of, Told.{roster_of, with_slot, with_sight, assigned_slot, noted_assign}}
 use Rattle.pm_board.proofs.Children as children
 use Rattle.pm_board.proofs.Steps as steps
 use Rattle.pm_board.proofs.roster.Roster.assign.Goals as goal

@@ -1,13 +1,5 @@
 use Rattle.std.proofs.Common.{◌<◌, ℕ, [], length, arith, refl, sym, ap, ◌∙◌, subst, length-set}
-use Rattle.pm_board.specs.Slots.{child_slots}
-use Rattle.pm_board.specs.declared.views.View.TheVariants.{Postmaster}
-use Rattle.pm_board.specs.declared.views.RosterView.{RosterView}
-use Rattle.pm_board.specs.declared.views.PostView.{PostView}
-use Rattle.pm_board.specs.declared.views.Sight.TheVariants.{Gathered}
-use Rattle.pm_board.specs.Places.{slot_view, slot_at}
-use Rattle.pm_board.specs.Children.{children_of}
-use Rattle.pm_board.specs.Told.{roster_of, post_of, taken_in}
-use Rattle.pm_board.specs.Models.{HoldsMail}
+use Rattle.pm_board.specs.{Slots.child_slots, declared.views.{View.TheVariants.Postmaster, RosterView.RosterView, PostView.PostView, Sight.TheVariants.Gathered}, Places.{slot_view, slot_at}, Children.children_of, Told.{roster_of, post_of, taken_in}, Models.HoldsMail}
 use Rattle.pm_board.proofs.Children as children
 use Rattle.pm_board.proofs.Steps as steps
 use Rattle.pm_board.proofs.roster.Roster.gather.Goals as goal

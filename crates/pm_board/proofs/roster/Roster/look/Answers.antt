@@ -1,6 +1,5 @@
 use Rattle.std.proofs.Common.{◌<◌, length, sym, ap, ◌∙◌, subst}
-use Rattle.pm_board.specs.Places.{slot_at}
-use Rattle.pm_board.specs.Children.{children_of}
+use Rattle.pm_board.specs.{Places.slot_at, Children.children_of}
 use Rattle.pm_board.proofs.Steps as steps
 use Rattle.pm_board.proofs.roster.Roster.look.Goals as goal
 

@@ -1,7 +1,6 @@
 use Rattle.std.proofs.Common.{refl, sym, ap, ◌∙◌, subst}
 use Rattle.pm_board.specs.declared.views.RosterStep.TheVariants as roster_step
-use Rattle.pm_board.specs.Told.{ready_step, roster_of, after_step}
-use Rattle.pm_board.specs.Models.{MayOpen}
+use Rattle.pm_board.specs.{Told.{ready_step, roster_of, after_step}, Models.MayOpen}
 use Rattle.pm_board.proofs.Steps as steps
 use Rattle.pm_board.proofs.roster.Roster.ready.Goals as goal
 

@@ -1,14 +1,6 @@
-use Rattle.std.proofs.Common.{◌≡◌, ℕ, ◌<◌, [], ◌∷◌, ◌++◌, length, set, arith, refl, sym, ap, ◌∙◌, subst, length-set}
-use Rattle.std.specs.Prelude.{Bool, IsSome, None}
-use Rattle.std.proofs.lemmas.Option.{same_Some}
-use Rattle.pm_exit.specs.declared.child.Kind.{Kind}
-use Rattle.pm_exit.specs.declared.child.Status.{Status}
-use Rattle.pm_board.specs.declared.views.View.TheVariants.{Postmaster}
-use Rattle.pm_board.specs.declared.views.Sight.TheVariants.{Unused}
-use Rattle.pm_board.specs.declared.views.RosterView.{RosterView}
-use Rattle.pm_board.specs.Places.{slot_view, slot_at, used_in}
-use Rattle.pm_board.specs.Children.{children_of}
-use Rattle.pm_board.specs.Told.{roster_of, with_slot, with_sight, past_child, noted_release}
+use Rattle.std.{proofs.{Common.{◌≡◌, ℕ, ◌<◌, [], ◌∷◌, ◌++◌, length, set, arith, refl, sym, ap, ◌∙◌, subst, length-set}, lemmas.Option.same_Some}, specs.Prelude.{Bool, IsSome, None}}
+use Rattle.pm_exit.specs.declared.child.{Kind.Kind, Status.Status}
+use Rattle.pm_board.specs.{declared.views.{View.TheVariants.Postmaster, Sight.TheVariants.Unused, RosterView.RosterView}, Places.{slot_view, slot_at, used_in}, Children.children_of, Told.{roster_of, with_slot, with_sight, past_child, noted_release}}
 use Rattle.pm_board.proofs.Children as children
 use Rattle.pm_board.proofs.Steps as steps
 use Rattle.pm_board.proofs.roster.Roster.release.Goals as goal

@@ -1,7 +1,6 @@
 use Rattle.std.proofs.Common.{◌≡◌, ◌+◌, ◌<◌, ℕ, arith, refl, sym, ap, ◌∙◌, subst}
 use Rattle.pm_board.specs.declared.views.RosterStep.TheVariants as roster_step
-use Rattle.pm_board.specs.Told.{new_gate, roster_of, after_step}
-use Rattle.pm_board.specs.Models.{MayReset}
+use Rattle.pm_board.specs.{Told.{new_gate, roster_of, after_step}, Models.MayReset}
 use Rattle.pm_board.proofs.Steps as steps
 use Rattle.pm_board.proofs.roster.Roster.reset.Goals as goal
 

@@ -1,7 +1,5 @@
 use Rattle.std.proofs.Common.{refl, sym, ap, ◌∙◌}
-use Rattle.pm_board.specs.declared.views.RosterStep.TheVariants.{Send}
-use Rattle.pm_board.specs.Places.{slot_at}
-use Rattle.pm_board.specs.Told.{roster_of, after_step}
+use Rattle.pm_board.specs.{declared.views.RosterStep.TheVariants.Send, Places.slot_at, Told.{roster_of, after_step}}
 use Rattle.pm_board.proofs.Steps as steps
 use Rattle.pm_board.proofs.roster.Roster.send.Goals as goal
 

@@ -1,6 +1,5 @@
 use Rattle.std.proofs.Common.{sym, ap, length, ◌∙◌}
-use Rattle.pm_board.specs.Told.{roster_of}
-use Rattle.pm_board.specs.Slots.{all_slots}
+use Rattle.pm_board.specs.{Told.roster_of, Slots.all_slots}
 use Rattle.pm_board.proofs.roster.Roster.slots.Goals as goal
 
 pub returns : goal.returns

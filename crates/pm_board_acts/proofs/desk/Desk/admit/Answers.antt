@@ -1,13 +1,8 @@
 use Rattle.std.proofs.Common.{ℕ, refl, ap, subst, ◌∙◌}
-use Rattle.pm_exit.specs.declared.child.Kind.{Kind}
-use Rattle.pm_board.specs.Models.{HasAssigned}
-use Rattle.pm_supervisor.specs.Steps.{kind_for}
-use Rattle.pm_journal.specs.Standing.{decision_on}
-use Rattle.pm_journal.specs.Supervision.{at_work, standing}
-use Rattle.pm_seating.specs.Standing.{view}
-use Rattle.pm_seating.proofs.Calling.{past_of, admitted}
-use Rattle.pm_seating.proofs.Keeping.{adds_tells, keeps_became}
-use Rattle.pm_seating.proofs.desk.Desk.admit.Goals as goal
+use Rattle.pm_board.specs.{pm_exit.declared.child.Kind.Kind, Models.HasAssigned, pm_supervisor.Steps.kind_for}
+use Rattle.pm_supervisor_journal.specs.{Standing.decision_on, Supervision.{at_work, standing}}
+use Rattle.pm_board_acts.{specs.Standing.view, proofs.{Calling.{past_of, admitted}, Keeping.{adds_tells, keeps_became}}}
+use Rattle.pm_board_acts.proofs.desk.Desk.admit.Goals as goal
 
 pub take-taken-requires-clause-stands : goal.take-taken-requires-clause-stands
 take-taken-requires-clause-stands g c = past_of _ c.requires.running

@@ -1,11 +1,7 @@
 use Rattle.std.proofs.Common.{[], ◌∷◌, refl}
-use Rattle.pm_journal.specs.Standing.{asking}
-use Rattle.pm_journal.specs.Supervision.{at_work, standing}
-use Rattle.pm_seating.specs.Standing.{view}
-use Rattle.pm_seating.proofs.Calling.{past_of}
-use Rattle.pm_seating.proofs.Asking.{asked_goes, makes_of}
-use Rattle.pm_seating.proofs.Keeping.{made_tells}
-use Rattle.pm_seating.proofs.desk.Desk.ask.Goals as goal
+use Rattle.pm_supervisor_journal.specs.{Standing.asking, Supervision.{at_work, standing}}
+use Rattle.pm_board_acts.{specs.Standing.view, proofs.{Calling.past_of, Asking.{asked_goes, makes_of}, Keeping.made_tells}}
+use Rattle.pm_board_acts.proofs.desk.Desk.ask.Goals as goal
 
 pub ask-requires-clause-stands : goal.ask-requires-clause-stands
 ask-requires-clause-stands g c = past_of _ c.requires.running

@@ -1,21 +1,8 @@
-use Rattle.std.proofs.Common.{refl, sym, ap, subst, ◌∙◌, List, [], ◌∷◌, Ok}
-use Rattle.std.specs.Prelude.{Option, Some, is_some}
-use Rattle.pm_state.specs.declared.event.PmEvent.{PmEvent}
-use Rattle.pm_state.specs.declared.action.Action.{Action}
-use Rattle.pm_state.specs.Journal.{without_first}
+use Rattle.std.{proofs.Common.{refl, sym, ap, subst, ◌∙◌, List, [], ◌∷◌, Ok}, specs.Prelude.{Option, Some, is_some}}
+use Rattle.pm_supervisor_journal.{specs.{pm_state.{declared.{event.PmEvent.PmEvent, action.Action.Action}, Journal.without_first}, declared.act.Act.Act, pm_outside.Added.Added, Standing.entry_for, Supervision.{at_work, standing, told}}, proofs.NextsLaws.{first_is, next_given, next_none, next_spent, same_act}}
 use Rattle.pm_board.specs.Gate.{gate_of}
-use Rattle.pm_journal.specs.declared.act.Act.{Act}
-use Rattle.pm_journal.specs.NextsLaws.{first_is, next_given, next_none, next_spent, same_act}
-use Rattle.pm_outside.specs.Added.{Added}
-use Rattle.pm_journal.specs.Standing.{entry_for}
-use Rattle.pm_journal.specs.Supervision.{at_work, standing, told}
-use Rattle.pm_seating.specs.Acts.{MayDo, MayPerform, Performs}
-use Rattle.pm_seating.specs.Board.{seats_of}
-use Rattle.pm_seating.specs.Standing.{view}
-use Rattle.pm_seating.proofs.Acting.{may_next, acted}
-use Rattle.pm_seating.proofs.Keeping.{adds_none, adds_tells, keeps_acted}
-use Rattle.pm_seating.proofs.Reaping.{reaped_acted}
-use Rattle.pm_seating.proofs.desk.Desk.do_next.Goals as goal
+use Rattle.pm_board_acts.{specs.{Acts.{MayDo, MayPerform, Performs}, Board.seats_of, Standing.view}, proofs.{Acting.{may_next, acted}, Keeping.{adds_none, adds_tells, keeps_acted}, Reaping.reaped_acted}}
+use Rattle.pm_board_acts.proofs.desk.Desk.do_next.Goals as goal
 
 pub perform-requires-clause-may : goal.perform-requires-clause-may
 perform-requires-clause-may g c =

@@ -1,17 +1,9 @@
-use Rattle.std.proofs.Common.{sym, ap, ◌∙◌}
-use Rattle.std.specs.Prelude.{not, is_some}
+use Rattle.std.{proofs.Common.{sym, ap, ◌∙◌}, specs.Prelude.{not, is_some}}
 use Rattle.pm_board.specs.declared.views.RosterView.{RosterView}
 use Rattle.pm_board.specs.declared.views.Signal.TheVariants as signal
-use Rattle.pm_journal.specs.Supervision.{at_work}
-use Rattle.pm_seating.specs.declared.audience.Audience.TheVariants.{One}
-use Rattle.pm_seating.specs.Seating.{sends}
-use Rattle.pm_seating.specs.Standing.{view}
-use Rattle.pm_seating.proofs.Asking.{killed_goes, none_killed}
-use Rattle.pm_seating.proofs.Keeping.{adds_tells, keeps_stepped}
-use Rattle.pm_seating.proofs.Sends.{same-slots, seats_same}
-use Rattle.pm_seating.specs.Board.{seats_of}
-use Rattle.pm_seating.proofs.Reaping.{reaped_stepped}
-use Rattle.pm_seating.proofs.desk.Desk.kill.Goals as goal
+use Rattle.pm_supervisor_journal.specs.Supervision.{at_work}
+use Rattle.pm_board_acts.{specs.{declared.audience.Audience.TheVariants.One, Seating.sends, Standing.view, Board.seats_of}, proofs.{Asking.{killed_goes, none_killed}, Keeping.{adds_tells, keeps_stepped}, Sends.{same-slots, seats_same}, Reaping.reaped_stepped}}
+use Rattle.pm_board_acts.proofs.desk.Desk.kill.Goals as goal
 
 pub returns-then-is_none-clause-kills : goal.returns-then-is_none-clause-kills
 returns-then-is_none-clause-kills g c =

@@ -1,17 +1,8 @@
-use Rattle.std.proofs.Common.{inr, sym, ap, subst, ◌∙◌, refl, length}
-use Rattle.std.specs.Prelude.{is_some}
-use Rattle.pm_journal.specs.declared.exit.ChildExit.{ChildExit}
-use Rattle.pm_outside.specs.Added.{Added}
-use Rattle.pm_journal.specs.Standing.{exiting, made}
-use Rattle.pm_journal.specs.Supervision.{at_work, standing}
+use Rattle.std.{proofs.Common.{inr, sym, ap, subst, ◌∙◌, refl, length}, specs.Prelude.is_some}
+use Rattle.pm_supervisor_journal.specs.{declared.exit.ChildExit.ChildExit, pm_outside.Added.Added, Standing.{exiting, made}, Supervision.{at_work, standing}}
 use Rattle.pm_board.specs.Gate.{gate_of}
-use Rattle.pm_seating.specs.Standing.{view}
-use Rattle.pm_seating.proofs.Calling.{none_noted, exited_goes, cut_off, there_of, looked_then}
-use Rattle.pm_seating.proofs.Resting.{exited_fresh, exited_may}
-use Rattle.pm_seating.proofs.Afresh.{became_same}
-use Rattle.pm_seating.proofs.Keeping.{adds_tells, keeps_became}
-use Rattle.pm_seating.proofs.Reaping.{reaped_released, reaped_running}
-use Rattle.pm_seating.proofs.desk.Desk.look_at.Goals as goal
+use Rattle.pm_board_acts.{specs.Standing.view, proofs.{Calling.{none_noted, exited_goes, cut_off, there_of, looked_then}, Resting.{exited_fresh, exited_may}, Afresh.became_same, Keeping.{adds_tells, keeps_became}, Reaping.{reaped_released, reaped_running}}}
+use Rattle.pm_board_acts.proofs.desk.Desk.look_at.Goals as goal
 
 pub exited-requires-clause-there : goal.exited-requires-clause-there
 exited-requires-clause-there g c =

@@ -1,13 +1,9 @@
-use Rattle.std.proofs.Common.{ℕ, sym, subst, set}
-use Rattle.std.specs.Prelude.{◌≡◌, Some}
+use Rattle.std.{proofs.Common.{ℕ, sym, subst, set}, specs.Prelude.{◌≡◌, Some}}
 use Rattle.pm_board.specs.Models.{HasAssigned}
-use Rattle.pm_journal.specs.declared.act.Act.{Act}
-use Rattle.pm_journal.specs.declared.act.Act.TheVariants as act
-use Rattle.pm_seating.specs.Acts.{Performs, steps_for}
-use Rattle.pm_seating.specs.Board.{seats_of}
-use Rattle.pm_seating.specs.Seating.{child}
-use Rattle.pm_seating.proofs.Sends.{seats_same}
-use Rattle.pm_seating.proofs.desk.Desk.perform.Goals as goal
+use Rattle.pm_supervisor_journal.specs.declared.act.Act.{Act}
+use Rattle.pm_supervisor_journal.specs.declared.act.Act.TheVariants as act
+use Rattle.pm_board_acts.{specs.{Acts.{Performs, steps_for}, Board.seats_of, Seating.child}, proofs.Sends.seats_same}
+use Rattle.pm_board_acts.proofs.desk.Desk.perform.Goals as goal
 
 pub returns-in-Start-clause-performs : goal.returns-in-Start-clause-performs
 returns-in-Start-clause-performs g c =

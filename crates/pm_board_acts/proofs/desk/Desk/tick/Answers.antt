@@ -1,10 +1,7 @@
-use Rattle.std.proofs.Common.{[], ap, refl}
-use Rattle.std.specs.Prelude.{is_some}
-use Rattle.pm_journal.specs.Standing.{ticking}
-use Rattle.pm_journal.specs.Supervision.{at_work}
-use Rattle.pm_seating.specs.Standing.{view}
-use Rattle.pm_seating.proofs.Asking.{makes_of, ticked_goes}
-use Rattle.pm_seating.proofs.desk.Desk.tick.Goals as goal
+use Rattle.std.{proofs.Common.{[], ap, refl}, specs.Prelude.is_some}
+use Rattle.pm_supervisor_journal.specs.{Standing.ticking, Supervision.at_work}
+use Rattle.pm_board_acts.{specs.Standing.view, proofs.Asking.{makes_of, ticked_goes}}
+use Rattle.pm_board_acts.proofs.desk.Desk.tick.Goals as goal
 
 pub returns-clause-ticks : goal.returns-clause-ticks
 returns-clause-ticks g c =

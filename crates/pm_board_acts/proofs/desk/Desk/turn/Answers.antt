@@ -1,10 +1,7 @@
-use Rattle.std.proofs.Common.{[], ap, refl}
-use Rattle.std.specs.Prelude.{is_some}
-use Rattle.pm_journal.specs.Standing.{turning}
-use Rattle.pm_journal.specs.Supervision.{at_work}
-use Rattle.pm_seating.specs.Standing.{view}
-use Rattle.pm_seating.proofs.Asking.{makes_of, turned_goes}
-use Rattle.pm_seating.proofs.desk.Desk.turn.Goals as goal
+use Rattle.std.{proofs.Common.{[], ap, refl}, specs.Prelude.is_some}
+use Rattle.pm_supervisor_journal.specs.{Standing.turning, Supervision.at_work}
+use Rattle.pm_board_acts.{specs.Standing.view, proofs.Asking.{makes_of, turned_goes}}
+use Rattle.pm_board_acts.proofs.desk.Desk.turn.Goals as goal
 
 pub returns-clause-turns : goal.returns-clause-turns
 returns-clause-turns g c =

@@ -1,8 +1,7 @@
 use Rattle.std.proofs.Common.{sym, subst, rules}
 use Rattle.pm_board.specs.Models.{MayAttach}
-use Rattle.pm_post_life.specs.Lives.{LivesAs}
-use Rattle.pm_post_life.proofs.Living.{may_attach, goes, attaches, let_in}
-use Rattle.pm_post_life.proofs.post_life.PostLifeLife.attach.Goals as goal
+use Rattle.pm_board_life.{specs.Lives.LivesAs, proofs.Living.{may_attach, goes, attaches, let_in}}
+use Rattle.pm_board_life.proofs.post_life.PostLifeLife.attach.Goals as goal
 
 pub attach-requires : goal.attach-requires
 attach-requires g c = may_attach c.self.inside.pid c.self.inside.attached c.self.inside.post.knows.work c.self.invariant.0 (search rules) (search rules)

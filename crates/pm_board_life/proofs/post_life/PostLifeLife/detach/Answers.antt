@@ -1,9 +1,8 @@
 use Rattle.std.proofs.Common.{ap, sym, ◌∙◌, Some, subst}
-use Rattle.pm_life.specs.Life.{let_go}
-use Rattle.pm_post_life.specs.Lives.{LivesAs, child_by, told_by}
-use Rattle.pm_post_life.proofs.Living.{is_attached, goes, lets, Lets}
-use Rattle.pm_post_life.proofs.post_life.PostLifeLife.detach.Given as given
-use Rattle.pm_post_life.proofs.post_life.PostLifeLife.detach.Goals as goal
+use Rattle.pm_child_life.specs.Life.{let_go}
+use Rattle.pm_board_life.{specs.Lives.{LivesAs, child_by, told_by}, proofs.Living.{is_attached, goes, lets, Lets}}
+use Rattle.pm_board_life.proofs.post_life.PostLifeLife.detach.Given as given
+use Rattle.pm_board_life.proofs.post_life.PostLifeLife.detach.Goals as goal
 
 pub detach-requires : goal.detach-requires
 detach-requires g c =

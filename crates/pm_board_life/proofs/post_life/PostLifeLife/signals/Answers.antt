@@ -1,8 +1,7 @@
 use Rattle.std.proofs.Common.{ap, sym, ◌∙◌, Some, subst}
-use Rattle.pm_life.specs.Life.{asked_again}
-use Rattle.pm_post_life.specs.Lives.{LivesAs, told_by}
-use Rattle.pm_post_life.proofs.Living.{runs, told_more, goes, takes}
-use Rattle.pm_post_life.proofs.post_life.PostLifeLife.signals.Goals as goal
+use Rattle.pm_child_life.specs.Life.{asked_again}
+use Rattle.pm_board_life.{specs.Lives.{LivesAs, told_by}, proofs.Living.{runs, told_more, goes, takes}}
+use Rattle.pm_board_life.proofs.post_life.PostLifeLife.signals.Goals as goal
 
 pub take-requires : goal.take-requires
 take-requires g c = runs c.self.inside.pid c.self.inside.attached c.self.inside.post.knows.work c.self.invariant.0

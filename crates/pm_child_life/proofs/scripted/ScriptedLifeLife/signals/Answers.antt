@@ -1,6 +1,6 @@
 use Rattle.std.proofs.Common.{◌≡◌, ◌<◌, ◌^◌, length, arith, rules, get_or, sym}
-use Rattle.pm_life.proofs.Scripts.{told_next}
-use Rattle.pm_life.proofs.scripted.ScriptedLifeLife.signals.Goals as goal
+use Rattle.pm_child_life.proofs.Scripts.{told_next}
+use Rattle.pm_child_life.proofs.scripted.ScriptedLifeLife.signals.Goals as goal
 
 pub returns-clause-told : goal.returns-clause-told
 returns-clause-told c =

@@ -1,6 +1,4 @@
-use Rattle.std.proofs.Common.{◌≡◌, ap}
-use Rattle.std.proofs.lemmas.Result.{IfOk-weaker}
-use Rattle.std.specs.Prelude.{false}
+use Rattle.std.{proofs.{Common.{◌≡◌, ap}, lemmas.Result.IfOk-weaker}, specs.Prelude.false}
 use Rattle.pm_board.specs.Told.{new_roster}
 use Rattle.pm_child_tests.specs.Crew.{IsFresh}
 use Rattle.pm_child_tests.proofs.Crews as crews

@@ -1,5 +1,4 @@
-use Rattle.std.proofs.Common.{◌≡◌}
-use Rattle.std.specs.Prelude.{false}
+use Rattle.std.{proofs.Common.◌≡◌, specs.Prelude.false}
 use Rattle.pm_child_tests.specs.Crew.{IsFresh}
 use Rattle.pm_child_tests.proofs.worker.pool.start_up.Given as goal
 

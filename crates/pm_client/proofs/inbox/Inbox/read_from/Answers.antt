@@ -1,6 +1,6 @@
 use Rattle.std.proofs.Common.{◌≡◌, ◌≤◌, ◌∙◌, ◌-◌, ◌+◌, ℕ, List, ◌++◌, length, take, drop, refl, ap, arith, length-take, length-drop}
 use Rattle.pm_client.proofs.Reading.{reads_end, reads_failed, reads_nothing, reads_some, stands_still}
-use Rattle.pm_facts.specs.Lists.{stands_behind}
+use Rattle.pm_wire.specs.pm_facts.Lists.{stands_behind}
 use Rattle.pm_client.proofs.inbox.Inbox.read_from.Goals as goal
 
 pub returns-in-Bytes : goal.returns-in-Bytes

@@ -1,7 +1,6 @@
 use Rattle.std.proofs.Common.{◌≡◌, ◌+◌, ◌^◌, ◌<◌, refl, arith}
-use Rattle.pm_disk.proofs.Moments.{kept_beside, kept_synced, syncs_a, syncs_b}
+use Rattle.pm_disk.proofs.{Moments.{kept_beside, kept_synced, syncs_a, syncs_b}, mem_disk.MemDisk.sync_to.Goals.{in-A+in_ok-sync-in-A, in-B+in_ok-sync-in-B}}
 use Rattle.pm_disk.proofs.mem_disk.MemDisk.sync_to.Goals as goal
-use Rattle.pm_disk.proofs.mem_disk.MemDisk.sync_to.Goals.{in-A+in_ok-sync-in-A, in-B+in_ok-sync-in-B}
 
 pub invariant_of-self-2 : goal.invariant_of-self-2
 invariant_of-self-2 c =

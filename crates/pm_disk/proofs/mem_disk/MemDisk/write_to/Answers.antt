@@ -1,7 +1,6 @@
 use Rattle.std.proofs.Common.{◌≡◌, ◌+◌, ◌^◌, ◌<◌, refl, arith}
-use Rattle.pm_disk.proofs.Moments.{kept_beside, kept_written, writes_a, writes_b}
+use Rattle.pm_disk.proofs.{Moments.{kept_beside, kept_written, writes_a, writes_b}, mem_disk.MemDisk.write_to.Goals.{in-A+in_ok-write-in-A, in-B+in_ok-write-in-B}}
 use Rattle.pm_disk.proofs.mem_disk.MemDisk.write_to.Goals as goal
-use Rattle.pm_disk.proofs.mem_disk.MemDisk.write_to.Goals.{in-A+in_ok-write-in-A, in-B+in_ok-write-in-B}
 
 pub invariant_of-self-2 : goal.invariant_of-self-2
 invariant_of-self-2 c =

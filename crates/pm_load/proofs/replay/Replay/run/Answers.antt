@@ -1,8 +1,6 @@
-use Rattle.std.proofs.Common.{◌∙◌, List, ◌++◌, ap}
-use Rattle.std.specs.List.{flat_map}
-use Rattle.pm_rows.specs.Standing.{Standing}
-use Rattle.pm_query.specs.declared.item.Item.{Item}
-use Rattle.pm_exchange.specs.Sent.{bytes_of, item_messages}
+use Rattle.std.{proofs.Common.{◌∙◌, List, ◌++◌, ap}, specs.List.flat_map}
+use Rattle.pm_query.specs.{pm_rows.Standing.Standing, declared.item.Item.Item}
+use Rattle.pm_session_exchange.specs.Sent.{bytes_of, item_messages}
 use Rattle.pm_load.proofs.Replays.{goes_on, ran, stays}
 use Rattle.pm_load.proofs.replay.Replay.run.Goals as goal
 

@@ -1,5 +1,4 @@
-use Rattle.pm_once.specs.View.{view_of}
-use Rattle.pm_once.proofs.Alls.{acts_through}
+use Rattle.pm_once.{specs.View.view_of, proofs.Alls.acts_through}
 use Rattle.pm_once.proofs.server.Server.act_all.Goals as goal
 
 pub returns-clause-does : goal.returns-clause-does

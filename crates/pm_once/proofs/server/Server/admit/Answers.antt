@@ -1,10 +1,6 @@
 use Rattle.std.proofs.Common.{◌++◌, ◌∷◌, [], sym, ◌∙◌}
-use Rattle.pm_journal.specs.Supervision.{at_work}
-use Rattle.pm_once.specs.View.{View, view_of}
-use Rattle.pm_once.proofs.Admitting.{HasTaken, accepted_step, admits_asking, admits_plainly}
-use Rattle.pm_once.proofs.Alls.{running_on}
-use Rattle.pm_once.proofs.Ending.{taken}
-use Rattle.pm_once.proofs.Past.{past_of}
+use Rattle.pm_supervisor_journal.specs.Supervision.{at_work}
+use Rattle.pm_once.{specs.View.{View, view_of}, proofs.{Admitting.{HasTaken, accepted_step, admits_asking, admits_plainly}, Alls.running_on, Ending.taken, Past.past_of}}
 use Rattle.pm_once.proofs.server.Server.admit.Goals as goal
 
 pub take-pid-requires-clause-stands : goal.take-pid-requires-clause-stands

@@ -1,16 +1,8 @@
 use Rattle.std.proofs.Common.{◌∷◌, ◌++◌, [], sym, subst}
-use Rattle.pm_modes.specs.declared.Mode.TheVariants.{Smart}
-use Rattle.pm_state.specs.declared.event.PmEvent.TheVariants.{Asked}
-use Rattle.pm_chain.specs.Steps.{Notes}
-use Rattle.pm_journal.specs.Standing.{Standing, later}
-use Rattle.pm_journal.specs.Supervision.{at_work}
-use Rattle.pm_journal.specs.Due.{AreSays}
-use Rattle.pm_once.specs.View.{View, view_of}
-use Rattle.pm_once.proofs.Alls.{running_on}
-use Rattle.pm_once.proofs.Calling.{asked, deaf}
-use Rattle.pm_once.proofs.Finishing.{asks_err, asks_ok}
-use Rattle.pm_journal.specs.RulesLaws.{ask_says}
-use Rattle.pm_once.proofs.Past.{past_of}
+use Rattle.pm_state.specs.{pm_modes.declared.Mode.TheVariants.Smart, declared.event.PmEvent.TheVariants.Asked}
+use Rattle.pm_supervisor_chain.specs.Steps.{Notes}
+use Rattle.pm_supervisor_journal.{specs.{Standing.{Standing, later}, Supervision.at_work, Due.AreSays}, proofs.RulesLaws.ask_says}
+use Rattle.pm_once.{specs.View.{View, view_of}, proofs.{Alls.running_on, Calling.{asked, deaf}, Finishing.{asks_err, asks_ok}, Past.past_of}}
 use Rattle.pm_once.proofs.server.Server.ask_smart.Goals as goal
 
 pub ask-requires-clause-stands : goal.ask-requires-clause-stands

@@ -1,10 +1,6 @@
 use Rattle.std.proofs.Common.{Some, inl, inr, refl}
-use Rattle.pm_duties.specs.AuxiliaryRuns.{checkpointer_run}
-use Rattle.pm_once.specs.View.{View, view_of}
-use Rattle.pm_duties.specs.declared.outcome.Outcome.TheVariants.{Closed}
-use Rattle.pm_duties.specs.AuxiliaryRunsLaws.{checkpointer_is_run}
-use Rattle.pm_once.proofs.Knowing.{known_closed}
-use Rattle.pm_duties.specs.CalmLaws.{still_less}
+use Rattle.pm_once_children.{specs.{AuxiliaryRuns.checkpointer_run, declared.outcome.Outcome.TheVariants.Closed}, proofs.{AuxiliaryRunsLaws.checkpointer_is_run, CalmLaws.still_less}}
+use Rattle.pm_once.{specs.View.{View, view_of}, proofs.Knowing.known_closed}
 use Rattle.pm_once.proofs.server.Server.close.Goals as goal
 
 pub returns-clause-run : goal.returns-clause-run

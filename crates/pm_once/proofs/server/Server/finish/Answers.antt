@@ -1,6 +1,5 @@
 use Rattle.std.proofs.Common.{◌++◌, sym, ◌∙◌}
-use Rattle.pm_once.proofs.Alls.{running_on}
-use Rattle.pm_once.proofs.Finishing.{finishes_asked, finishes_err, finishes_ok}
+use Rattle.pm_once.proofs.{Alls.running_on, Finishing.{finishes_asked, finishes_err, finishes_ok}}
 use Rattle.pm_once.proofs.server.Server.finish.Goals as goal
 
 pub ask_smart-requires-clause-running : goal.ask_smart-requires-clause-running

@@ -1,12 +1,6 @@
-use Rattle.std.proofs.Common.{[], sym, subst}
-use Rattle.std.specs.Prelude.{false}
-use Rattle.pm_journal.specs.Supervision.{standing}
-use Rattle.pm_journal.specs.Stands.{IsSettled}
-use Rattle.pm_journal.specs.Due.{IsIdle}
-use Rattle.pm_once.specs.Goes.{IsRunning}
-use Rattle.pm_once.specs.Serves.{Serves}
-use Rattle.pm_once.specs.View.{View, view_of}
-use Rattle.pm_once.proofs.Serving.{finishes_serves, nothing_served}
+use Rattle.std.{proofs.Common.{[], sym, subst}, specs.Prelude.false}
+use Rattle.pm_supervisor_journal.specs.{Supervision.standing, Stands.IsSettled, Due.IsIdle}
+use Rattle.pm_once.{specs.{Goes.IsRunning, Serves.Serves, View.{View, view_of}}, proofs.Serving.{finishes_serves, nothing_served}}
 use Rattle.pm_once.proofs.server.Server.go_on.Goals as goal
 
 pub listen-requires : goal.listen-requires

@@ -1,8 +1,6 @@
-use Rattle.std.proofs.Common.{[]}
-use Rattle.std.specs.Prelude.{false}
-use Rattle.pm_once.specs.View.{View, view_of}
-use Rattle.pm_acts.specs.StepsLaws.{serves_nothing}
-use Rattle.pm_once.proofs.Serving.{idle_serves, nothing_served}
+use Rattle.std.{proofs.Common.[], specs.Prelude.false}
+use Rattle.pm_once.{specs.View.{View, view_of}, proofs.Serving.{idle_serves, nothing_served}}
+use Rattle.pm_once_acts.proofs.StepsLaws.{serves_nothing}
 use Rattle.pm_once.proofs.server.Server.listen.Goals as goal
 
 pub returns-in_default : goal.returns-in_default

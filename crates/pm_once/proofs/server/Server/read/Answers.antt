@@ -1,9 +1,6 @@
 use Rattle.std.proofs.Common.{Ok, Err, None, ◌∙◌, ap, inl, refl}
-use Rattle.pm_duties.specs.AuxiliaryRuns.{startup_run}
-use Rattle.pm_once.specs.View.{View, view_of}
-use Rattle.pm_duties.specs.AuxiliaryRunsLaws.{refused_comes, startup_is_run}
-use Rattle.pm_once.proofs.Knowing.{known_moved, known_refused}
-use Rattle.pm_duties.specs.CalmLaws.{still_less}
+use Rattle.pm_once_children.{specs.AuxiliaryRuns.startup_run, proofs.{AuxiliaryRunsLaws.{refused_comes, startup_is_run}, CalmLaws.still_less}}
+use Rattle.pm_once.{specs.View.{View, view_of}, proofs.Knowing.{known_moved, known_refused}}
 use Rattle.pm_once.proofs.server.Server.read.Goals as goal
 
 pub returns-in-Ok : goal.returns-in-Ok

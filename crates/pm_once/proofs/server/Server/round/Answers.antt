@@ -1,10 +1,6 @@
-use Rattle.std.proofs.Common.{◌++◌, [], Err, sym, ◌∙◌}
-use Rattle.std.specs.Prelude.{false}
-use Rattle.pm_journal.specs.Due.{IsIdle}
-use Rattle.pm_once.specs.View.{View, view_of}
-use Rattle.pm_once.proofs.Alls.{running_on}
-use Rattle.pm_once.proofs.Turns.{turn_asks, turn_finishes, turn_served, turn_serves}
-use Rattle.pm_once.proofs.Serving.{finishes_serves, nothing_served}
+use Rattle.std.{proofs.Common.{◌++◌, [], Err, sym, ◌∙◌}, specs.Prelude.false}
+use Rattle.pm_supervisor_journal.specs.Due.{IsIdle}
+use Rattle.pm_once.{specs.View.{View, view_of}, proofs.{Alls.running_on, Turns.{turn_asks, turn_finishes, turn_served, turn_serves}, Serving.{finishes_serves, nothing_served}}}
 use Rattle.pm_once.proofs.server.Server.round.Goals as goal
 
 pub ask_smart-requires-clause-running : goal.ask_smart-requires-clause-running

@@ -1,9 +1,6 @@
-use Rattle.std.proofs.Common.{◌++◌, [], Ok, Err}
-use Rattle.std.specs.Prelude.{false}
-use Rattle.pm_once.specs.View.{View, view_of}
-use Rattle.pm_once.proofs.Alls.{running_on}
-use Rattle.pm_acts.specs.StepsLaws.{serves_nothing}
-use Rattle.pm_once.proofs.Serving.{idle_serves, nothing_served, served_on, serves_on}
+use Rattle.std.{proofs.Common.{◌++◌, [], Ok, Err}, specs.Prelude.false}
+use Rattle.pm_once.{specs.View.{View, view_of}, proofs.{Alls.running_on, Serving.{idle_serves, nothing_served, served_on, serves_on}}}
+use Rattle.pm_once_acts.proofs.StepsLaws.{serves_nothing}
 use Rattle.pm_once.proofs.server.Server.run.Goals as goal
 
 pub rounds-init : goal.rounds-init

@@ -1,9 +1,6 @@
-use Rattle.std.proofs.Common.{List, Ok}
-use Rattle.std.specs.Prelude.{Bool}
-use Rattle.pm_chain.specs.Steps.{Step}
-use Rattle.pm_once.specs.Serves.{HasServed, Serves}
-use Rattle.pm_once.specs.Service.{Connection}
-use Rattle.pm_once.specs.View.{view_of}
+use Rattle.std.{proofs.Common.{List, Ok}, specs.Prelude.Bool}
+use Rattle.pm_supervisor_chain.specs.Steps.{Step}
+use Rattle.pm_once.specs.{Serves.{HasServed, Serves}, Service.Connection, View.view_of}
 use Rattle.pm_once.proofs.server.Server.run.Given as goal
 
 abbrev pub invariant-rounds : goal.invariant-rounds

@@ -1,12 +1,6 @@
 use Rattle.std.proofs.Common.{refl, inl, inr}
-use Rattle.pm_exit.specs.declared.child.Kind.TheVariants.{Writer}
-use Rattle.pm_exit.specs.declared.child.Status.TheVariants.{Code}
-use Rattle.pm_segment.specs.MovesLaws.{moves_none}
+use Rattle.pm_once_children.{specs.{pm_exit.declared.child.{Kind.TheVariants.Writer, Status.TheVariants.Code}, pm_segment.MovesLaws.moves_none, AuxiliaryRuns.idle_run, Auxiliaries.heard_of}, proofs.{AuxiliaryRunsLaws.{idle_comes, idle_is_run, quit_is_told}, AuxiliariesLaws.{auxiliary_less, auxiliary_is_off, auxiliary_kind, auxiliary_off, auxiliary_there, no_backend, no_session}}}
 use Rattle.pm_once.specs.View.{View, view_of}
-use Rattle.pm_duties.specs.AuxiliaryRuns.{idle_run}
-use Rattle.pm_duties.specs.Auxiliaries.{heard_of}
-use Rattle.pm_duties.specs.AuxiliaryRunsLaws.{idle_comes, idle_is_run, quit_is_told}
-use Rattle.pm_duties.specs.AuxiliariesLaws.{auxiliary_less, auxiliary_is_off, auxiliary_kind, auxiliary_off, auxiliary_there, no_backend, no_session}
 use Rattle.pm_once.proofs.server.Server.run_next.Goals as goal
 
 pub returns-in-Some-Quit-clause-runs : goal.returns-in-Some-Quit-clause-runs

@@ -1,14 +1,7 @@
 use Rattle.std.proofs.Common.{◌++◌, ◌∷◌, [], ◌∙◌, sym, ap, subst}
-use Rattle.pm_chain.specs.Steps.{Runs, RunsOn}
-use Rattle.pm_journal.specs.Standing.{later}
-use Rattle.pm_journal.specs.declared.exit.ChildExit.{ChildExit}
-use Rattle.pm_journal.specs.Stands.{AtWork, HasPast}
-use Rattle.pm_once.specs.Calls.{NotesExit}
-use Rattle.pm_once.specs.View.{View, view_of}
-use Rattle.pm_once.proofs.AuxiliaryEnds.{ran_finishes, ran_short}
-use Rattle.pm_once.proofs.Alls.{running_on}
-use Rattle.pm_once.proofs.Ending.{ran_noted}
-use Rattle.pm_once.proofs.Past.{past_of}
+use Rattle.pm_supervisor_chain.specs.Steps.{Runs, RunsOn}
+use Rattle.pm_supervisor_journal.specs.{Standing.later, declared.exit.ChildExit.ChildExit, Stands.{AtWork, HasPast}}
+use Rattle.pm_once.{specs.{Calls.NotesExit, View.{View, view_of}}, proofs.{AuxiliaryEnds.{ran_finishes, ran_short}, Alls.running_on, Ending.ran_noted, Past.past_of}}
 use Rattle.pm_once.proofs.server.Server.run_one.Goals as goal
 
 pub note_exit-requires-clause-stands : goal.note_exit-requires-clause-stands

@@ -1,26 +1,10 @@
-use Rattle.std.proofs.Common.{◌++◌, ◌∷◌, ℕ, [], None, refl, sym, ap, subst, ◌∙◌}
-use Rattle.std.specs.Prelude.{false, true, ◌≡◌, ◌+◌, length, IfSome}
-use Rattle.pm_exit.specs.declared.child.Kind.TheVariants.{Backend}
+use Rattle.std.{proofs.Common.{◌++◌, ◌∷◌, ℕ, [], None, refl, sym, ap, subst, ◌∙◌}, specs.Prelude.{false, true, ◌≡◌, ◌+◌, length, IfSome}}
+use Rattle.pm_supervisor_journal.{specs.{pm_exit.declared.child.Kind.TheVariants.Backend, Standing.later, Stands.AtWork, Supervision.at_work, declared.exit.ChildExit.ChildExit}, proofs.NextsLaws.same_work}
 use Rattle.pm_keys.specs.CancelKey.{cancel_key}
-use Rattle.pm_chain.specs.Steps.{Runs, RunsOn}
-use Rattle.pm_journal.specs.Standing.{later}
-use Rattle.pm_journal.specs.Stands.{AtWork}
-use Rattle.pm_journal.specs.Supervision.{at_work}
-use Rattle.pm_journal.specs.declared.exit.ChildExit.{ChildExit}
+use Rattle.pm_once_acts.{specs.pm_supervisor_chain.Steps.{Runs, RunsOn}, proofs.StepsLaws.serves_nothing}
 use Rattle.pm_segment.specs.Moment.{moment}
-use Rattle.pm_exchange.specs.Exchange.{LinkView}
-use Rattle.pm_once.specs.Calls.{Admits, Asks, NotesExit}
-use Rattle.pm_once.specs.Serves.{IsServed}
-use Rattle.pm_once.specs.Service.{IsServedAs, is_signal, run_of}
-use Rattle.pm_once.specs.View.{View, view_of}
-use Rattle.pm_once.proofs.Admitting.{idle_of, nothing_short, serves_session, serves_short, session_ran, session_served, short_served, still_short}
-use Rattle.pm_once.proofs.Alls.{running_on}
-use Rattle.pm_once.proofs.Ending.{ran_noted, ran_on}
-use Rattle.pm_acts.specs.StepsLaws.{serves_nothing}
-use Rattle.pm_once.proofs.Links.{all_back_as, no_change}
-use Rattle.pm_journal.specs.NextsLaws.{same_work}
-use Rattle.pm_once.proofs.Past.{past_of}
-use Rattle.pm_once.proofs.Serving.{asks_serves, end_served, nothing_served, session_exit}
+use Rattle.pm_session.specs.pm_session_exchange.Exchange.{LinkView}
+use Rattle.pm_once.{specs.{Calls.{Admits, Asks, NotesExit}, Serves.IsServed, Service.{IsServedAs, is_signal, run_of}, View.{View, view_of}}, proofs.{Admitting.{idle_of, nothing_short, serves_session, serves_short, session_ran, session_served, short_served, still_short}, Alls.running_on, Ending.{ran_noted, ran_on}, Links.{all_back_as, no_change}, Past.past_of, Serving.{asks_serves, end_served, nothing_served, session_exit}}}
 use Rattle.pm_once.proofs.server.Server.serve_next.Goals as goal
 
 pub returns-in-Err : goal.returns-in-Err

@@ -1,8 +1,6 @@
 use Rattle.std.proofs.Common.{[]}
-use Rattle.pm_journal.specs.Supervision.{at_work}
-use Rattle.pm_once.specs.View.{View, view_of}
-use Rattle.pm_once.proofs.Past.{past_of}
-use Rattle.pm_once.proofs.Turns.{turn_running, turns_err, turns_ok}
+use Rattle.pm_supervisor_journal.specs.Supervision.{at_work}
+use Rattle.pm_once.{specs.View.{View, view_of}, proofs.{Past.past_of, Turns.{turn_running, turns_err, turns_ok}}}
 use Rattle.pm_once.proofs.server.Server.turn.Goals as goal
 
 pub turn-requires-clause-stands : goal.turn-requires-clause-stands

@@ -1,20 +1,8 @@
-use Rattle.std.proofs.Common.{◌≡◌, ℕ, ◌+◌, List, [], Ok, Err, refl, sym, ap, subst, ◌∙◌}
-use Rattle.std.specs.Prelude.{Bool, Result, true, false}
-use Rattle.pm_state.specs.declared.event.PmEvent.{PmEvent}
-use Rattle.pm_outside.specs.Added.{Added}
-use Rattle.pm_journal.specs.Standing.{act_for, standing_of}
-use Rattle.pm_journal.specs.Supervision.{at_work}
-use Rattle.pm_journal.specs.declared.act.Act.{Act}
-use Rattle.pm_once.specs.Calls.{Performs}
-use Rattle.pm_once.specs.View.{View, view_of}
-use Rattle.pm_server.specs.declared.end.ServerEnd.{ServerEnd}
-use Rattle.pm_server.specs.declared.end.ServerEnd.TheVariants.{Abnormal}
-use Rattle.pm_server.specs.declared.end.Why.TheVariants.{GenerationsSpent}
-use Rattle.pm_journal.specs.NextsLaws.{next_given, next_none, next_spent, reset_number}
-use Rattle.pm_acts.specs.NextsLaws.{first_says, says_unspent}
-use Rattle.pm_once.proofs.Alls.{running_on}
-use Rattle.pm_once.proofs.Nexts.{performed, said_well, waits}
-use Rattle.pm_once.proofs.Past.{past_of}
+use Rattle.std.{proofs.Common.{◌≡◌, ℕ, ◌+◌, List, [], Ok, Err, refl, sym, ap, subst, ◌∙◌}, specs.Prelude.{Bool, Result, true, false}}
+use Rattle.pm_server.specs.{pm_state.declared.event.PmEvent.PmEvent, pm_outside.Added.Added, declared.end.{ServerEnd.{ServerEnd, TheVariants.Abnormal}, Why.TheVariants.GenerationsSpent}}
+use Rattle.pm_supervisor_journal.{specs.{Standing.{act_for, standing_of}, Supervision.at_work, declared.act.Act.Act}, proofs.NextsLaws.{next_given, next_none, next_spent, reset_number}}
+use Rattle.pm_once.{specs.{Calls.Performs, View.{View, view_of}}, proofs.{Alls.running_on, Nexts.{performed, said_well, waits}, Past.past_of}}
+use Rattle.pm_once_acts.proofs.NextsLaws.{first_says, says_unspent}
 use Rattle.pm_once.proofs.server.ServerActing.do_next.Goals as goal
 
 never : (e : ServerEnd) (r : Result (Unit {0}) ServerEnd) → r ≡ Err e → r ≡ Ok tt → ⊥

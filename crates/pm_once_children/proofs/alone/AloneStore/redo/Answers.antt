@@ -1,12 +1,7 @@
 use Rattle.std.proofs.Common.{◌≡◌, Some, refl, sym, subst, rules}
-use Rattle.pm_query.specs.Calls.{user_of}
-use Rattle.pm_segment.specs.Moment.{moment}
-use Rattle.pm_segment.specs.Passes.{view_of}
-use Rattle.pm_duties.specs.declared.alone.Work.{Work}
-use Rattle.pm_duties.specs.declared.alone.Work.TheVariants.{ToRead, Redone}
-use Rattle.pm_duties.specs.Alone.{Does}
-use Rattle.pm_duties.specs.AloneLaws.{reads_log}
-use Rattle.pm_duties.proofs.alone.AloneStore.redo.Goals as goal
+use Rattle.pm_segment.specs.{pm_query.Calls.user_of, Moment.moment, Passes.view_of}
+use Rattle.pm_once_children.specs.{declared.alone.Work.{Work, TheVariants.{ToRead, Redone}}, Alone.Does, AloneLaws.reads_log}
+use Rattle.pm_once_children.proofs.alone.AloneStore.redo.Goals as goal
 
 pub returns-clause-notes : goal.returns-clause-notes
 returns-clause-notes g c =

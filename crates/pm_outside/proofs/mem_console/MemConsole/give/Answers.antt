@@ -1,5 +1,4 @@
-use Rattle.std.proofs.Common.{◌≡◌, min, length, take, arith}
-use Rattle.std.proofs.lemmas.Grind.{common_steps}
+use Rattle.std.proofs.{Common.{◌≡◌, min, length, take, arith}, lemmas.Grind.common_steps}
 use Rattle.pm_outside.proofs.Lines.{cut_same, given_more, gives_first}
 use Rattle.pm_outside.proofs.mem_console.MemConsole.give.Goals as goal
 

@@ -1,5 +1,4 @@
-use Rattle.std.proofs.Common.{◌≡◌, ◌≤◌, length, take, drop, arith}
-use Rattle.std.proofs.lemmas.Grind.{common_steps}
+use Rattle.std.proofs.{Common.{◌≡◌, ◌≤◌, length, take, drop, arith}, lemmas.Grind.common_steps}
 use Rattle.pm_outside.proofs.Cut.{taken_more, left_less}
 use Rattle.pm_outside.proofs.mem_link.MemLinkLink.read.Goals as goal
 

@@ -1,7 +1,5 @@
-use Rattle.std.proofs.Common.{◌≡◌, length, arith}
-use Rattle.std.proofs.lemmas.Grind.{common_steps}
-use Rattle.pm_outside.proofs.Given.{gave_end, gave_link}
-use Rattle.pm_outside.proofs.Holding.{free_end, free_link, none_left}
+use Rattle.std.proofs.{Common.{◌≡◌, length, arith}, lemmas.Grind.common_steps}
+use Rattle.pm_outside.proofs.{Given.{gave_end, gave_link}, Holding.{free_end, free_link, none_left}}
 use Rattle.pm_outside.proofs.mem_port.MemPortPort.accept.Goals as goal
 
 pub returns-then-is_empty-clause-visits : goal.returns-then-is_empty-clause-visits

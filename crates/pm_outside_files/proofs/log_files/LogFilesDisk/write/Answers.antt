@@ -1,6 +1,6 @@
 use Rattle.std.proofs.Common.{length}
-use Rattle.pm_files.proofs.log_files.LogFilesDisk.write.Goals as goal
-use Rattle.pm_files.proofs.Stops.{anything_follows}
+use Rattle.pm_outside_files.proofs.log_files.LogFilesDisk.write.Goals as goal
+use Rattle.pm_outside_files.proofs.Stops.{anything_follows}
 
 -- src/log_files.rt:103:9
 pub returns-in_err-enter-clause-images : goal.returns-in_err-enter-clause-images

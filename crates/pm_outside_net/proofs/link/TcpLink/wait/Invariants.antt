@@ -1,5 +1,5 @@
 use Rattle.std.proofs.Common.{◌≡◌}
-use Rattle.pm_net.proofs.link.TcpLink.wait.Given as goal
+use Rattle.pm_outside_net.proofs.link.TcpLink.wait.Given as goal
 
 abbrev pub invariant-loop : goal.invariant-loop
 invariant-loop l = (l.self.faults ≡ l.initial.self.faults) × (l.self.number ≡ l.initial.self.number)

@@ -1,14 +1,8 @@
-use Rattle.std.proofs.Common.{◌≡◌, ℕ, ap, refl}
-use Rattle.std.proofs.lemmas.Result.{err_from_is_err_and}
-use Rattle.std.specs.Prelude.{is_some}
+use Rattle.std.{proofs.{Common.{◌≡◌, ℕ, ap, refl}, lemmas.Result.err_from_is_err_and}, specs.Prelude.is_some}
 use Rattle.atomic_table.specs.Seated.{TableId}
-use Rattle.pm_board.specs.declared.views.RosterView.{RosterView}
-use Rattle.pm_journal.specs.Stands.{AtWork}
-use Rattle.pm_worker.specs.declared.mail.MailTold.{MailTold}
-use Rattle.pm_postmaster.specs.Serving.{Keeps}
-use Rattle.pm_postmaster.specs.View.{View, view_of}
-use Rattle.pm_postmaster.proofs.Calling.{IsBeside, short, still}
-use Rattle.pm_postmaster.proofs.Going.{alive_on, both_done, none_done, stops_on}
+use Rattle.pm_worker.specs.{pm_board.declared.views.RosterView.RosterView, declared.mail.MailTold.MailTold}
+use Rattle.pm_supervisor_journal.specs.Stands.{AtWork}
+use Rattle.pm_postmaster.{specs.{Serving.Keeps, View.{View, view_of}}, proofs.{Calling.{IsBeside, short, still}, Going.{alive_on, both_done, none_done, stops_on}}}
 use Rattle.pm_postmaster.proofs.server.Server.accept.Goals as goal
 
 -- there is room for what a connection leaves, and nothing was done

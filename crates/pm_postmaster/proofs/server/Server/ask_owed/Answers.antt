@@ -1,14 +1,6 @@
-use Rattle.std.proofs.Common.{◌≡◌, ap, refl, subst, sym}
-use Rattle.std.specs.Prelude.{false}
-use Rattle.pm_modes.specs.declared.Mode.TheVariants.{Smart}
-use Rattle.pm_journal.specs.Standing.{Standing, later}
-use Rattle.pm_journal.specs.Supervision.{at_work}
-use Rattle.pm_seating.specs.Seating.{PidsEnd}
-use Rattle.pm_seating.specs.Sitting.{AreReaped}
-use Rattle.pm_postmaster.specs.View.{view_of}
-use Rattle.pm_postmaster.proofs.Calling.{IsBeside, asks_pids, leaves, leaves_store, same_past, short_owed}
-use Rattle.pm_postmaster.proofs.Asked.{owes_paid}
-use Rattle.pm_postmaster.proofs.Steps.{asked_on}
+use Rattle.std.{proofs.Common.{◌≡◌, ap, refl, subst, sym}, specs.Prelude.false}
+use Rattle.pm_board_acts.specs.{pm_modes.declared.Mode.TheVariants.Smart, pm_supervisor_journal.{Standing.{Standing, later}, Supervision.at_work}, Seating.PidsEnd, Sitting.AreReaped}
+use Rattle.pm_postmaster.{specs.View.view_of, proofs.{Calling.{IsBeside, asks_pids, leaves, leaves_store, same_past, short_owed}, Asked.owes_paid, Steps.asked_on}}
 use Rattle.pm_postmaster.proofs.server.Server.ask_owed.Goals as goal
 
 pub returns-in-Ok-clause-goes : goal.returns-in-Ok-clause-goes

@@ -1,21 +1,8 @@
-use Rattle.std.proofs.Common.{◌≡◌, ◌⊎◌, inl, inr, ◌∙◌, ℕ, ◌+◌, Option, None, Some, ap, length, refl, subst, sym}
-use Rattle.std.specs.Prelude.{IfSome, false, option_map}
-use Rattle.pm_board.specs.declared.views.RosterView.{RosterView}
-use Rattle.pm_journal.specs.Standing.{Standing, later}
-use Rattle.pm_modes.specs.declared.Mode.TheVariants.{Smart}
-use Rattle.pm_outside.specs.Visits.{Visits, after_accept}
-use Rattle.pm_outside.specs.declared.port.Accepted.{Accepted}
-use Rattle.pm_outside.specs.declared.port.Accepted.TheVariants as answers
-use Rattle.pm_journal.specs.Supervision.{at_work}
-use Rattle.pm_seating.specs.Seating.{PortEnds}
-use Rattle.pm_worker.specs.declared.mail.MailTold.{MailTold}
-use Rattle.pm_postmaster.specs.Links.{HasLinks}
-use Rattle.pm_postmaster.specs.View.{view_of}
-use Rattle.pm_postmaster.proofs.Admitted.{admitted_on, no_link, unused_at}
-use Rattle.pm_postmaster.proofs.Asked.{has_come, owes_none}
-use Rattle.pm_postmaster.proofs.Calling.{IsBeside, asks_end, leaves, leaves_store, same_past, short_end, still}
-use Rattle.pm_postmaster.proofs.Cleared.{near_slots}
-use Rattle.pm_postmaster.proofs.Steps.{LinksStay, asked_on}
+use Rattle.std.{proofs.Common.{◌≡◌, ◌⊎◌, inl, inr, ◌∙◌, ℕ, ◌+◌, Option, None, Some, ap, length, refl, subst, sym}, specs.Prelude.{IfSome, false, option_map}}
+use Rattle.pm_board_acts.specs.{pm_board.declared.views.RosterView.RosterView, pm_supervisor_journal.{Standing.{Standing, later}, Supervision.at_work}, pm_modes.declared.Mode.TheVariants.Smart, Seating.PortEnds}
+use Rattle.pm_worker.specs.{pm_outside.{Visits.{Visits, after_accept}, declared.port.Accepted.Accepted}, declared.mail.MailTold.MailTold}
+use Rattle.pm_worker.specs.pm_outside.declared.port.Accepted.TheVariants as answers
+use Rattle.pm_postmaster.{specs.{Links.HasLinks, View.view_of}, proofs.{Admitted.{admitted_on, no_link, unused_at}, Asked.{has_come, owes_none}, Calling.{IsBeside, asks_end, leaves, leaves_store, same_past, short_end, still}, Cleared.near_slots, Steps.{LinksStay, asked_on}}}
 use Rattle.pm_postmaster.proofs.server.Server.ask_port.Goals as goal
 
 pub returns-in-Link-clause-goes : goal.returns-in-Link-clause-goes

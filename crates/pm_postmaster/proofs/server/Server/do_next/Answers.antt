@@ -1,12 +1,7 @@
 use Rattle.std.proofs.Common.{◌+◌, ℕ, refl, sym, ap, subst, ◌∙◌, Ok}
-use Rattle.pm_seating.specs.Calls.{DoesNext}
-use Rattle.pm_seating.specs.Standing.{view}
-use Rattle.pm_journal.specs.Supervision.{at_work}
-use Rattle.pm_journal.specs.NextsLaws.{next_given, next_none, reset_number}
-use Rattle.pm_worker.specs.Mails.{aux_mail}
-use Rattle.pm_postmaster.specs.View.{view_of}
-use Rattle.pm_postmaster.proofs.Calling.{IsBeside}
-use Rattle.pm_postmaster.proofs.Performed.{acts_of, goes_on_behind, spends}
+use Rattle.pm_board_acts.specs.{Calls.DoesNext, Standing.view, pm_worker.Mails.aux_mail}
+use Rattle.pm_supervisor_journal.{specs.Supervision.at_work, proofs.NextsLaws.{next_given, next_none, reset_number}}
+use Rattle.pm_postmaster.{specs.View.view_of, proofs.{Calling.IsBeside, Performed.{acts_of, goes_on_behind, spends}}}
 use Rattle.pm_postmaster.proofs.server.Server.do_next.Goals as goal
 
 pub perform-requires : goal.perform-requires

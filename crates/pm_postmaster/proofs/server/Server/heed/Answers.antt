@@ -1,19 +1,7 @@
-use Rattle.std.proofs.Common.{◌≡◌, ℕ, ◌<◌, ◌≤◌, [], ◌∙◌, ap, arith, refl, subst, sym}
-use Rattle.std.specs.Prelude.{false, nat_lt}
-use Rattle.pm_facts.specs.Bools.{by_test}
-use Rattle.pm_journal.specs.Standing.{Standing, later}
-use Rattle.pm_journal.specs.Stands.{highest_pid}
-use Rattle.pm_journal.specs.Supervision.{at_work}
-use Rattle.pm_requests.specs.Requests.{IsNumber, meant}
-use Rattle.pm_seating.specs.Chained.{AsksFor}
-use Rattle.pm_seating.specs.Board.{seats_of}
-use Rattle.pm_seating.specs.Seating.{Kill, Nothing, Reads, Stop, asked_by}
-use Rattle.pm_seating.specs.Sitting.{AreReaped}
-use Rattle.pm_postmaster.specs.View.{view_of}
-use Rattle.pm_postmaster.proofs.Asked.{owes_none, owes_same}
-use Rattle.pm_postmaster.proofs.Calling.{IsBeside, asks_line, leaves, leaves_store, same_past, short_line}
-use Rattle.pm_postmaster.proofs.Owed.{none_killed}
-use Rattle.pm_postmaster.proofs.Steps.{asked_on, unheeded_on}
+use Rattle.std.{proofs.Common.{◌≡◌, ℕ, ◌<◌, ◌≤◌, [], ◌∙◌, ap, arith, refl, subst, sym}, specs.Prelude.{false, nat_lt}}
+use Rattle.pm_server.specs.{pm_facts.Bools.by_test, pm_supervisor_journal.{Standing.{Standing, later}, Stands.highest_pid, Supervision.at_work}}
+use Rattle.pm_serve_requests.specs.{Requests.{IsNumber, meant}, pm_board_acts.{Chained.AsksFor, Board.seats_of, Seating.{Kill, Nothing, Reads, Stop, asked_by}, Sitting.AreReaped}}
+use Rattle.pm_postmaster.{specs.View.view_of, proofs.{Asked.{owes_none, owes_same}, Calling.{IsBeside, asks_line, leaves, leaves_store, same_past, short_line}, Owed.none_killed, Steps.{asked_on, unheeded_on}}}
 use Rattle.pm_postmaster.proofs.server.Server.heed.Goals as goal
 
 -- such a pid is above the highest

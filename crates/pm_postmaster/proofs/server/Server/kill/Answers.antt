@@ -1,11 +1,6 @@
 use Rattle.std.proofs.Common.{◌∙◌, ap, refl}
-use Rattle.pm_journal.specs.Standing.{Standing}
-use Rattle.pm_journal.specs.Supervision.{at_work}
-use Rattle.pm_seating.specs.Seating.{Kill}
-use Rattle.pm_postmaster.specs.View.{view_of}
-use Rattle.pm_postmaster.proofs.Asked.{owes_same}
-use Rattle.pm_postmaster.proofs.Calling.{IsBeside, asks_line, leaves, leaves_store, short_line}
-use Rattle.pm_postmaster.proofs.Steps.{killed_on}
+use Rattle.pm_board_acts.specs.{pm_supervisor_journal.{Standing.Standing, Supervision.at_work}, Seating.Kill}
+use Rattle.pm_postmaster.{specs.View.view_of, proofs.{Asked.owes_same, Calling.{IsBeside, asks_line, leaves, leaves_store, short_line}, Steps.killed_on}}
 use Rattle.pm_postmaster.proofs.server.Server.kill.Goals as goal
 
 pub returns-in-Ok-clause-heeds : goal.returns-in-Ok-clause-heeds

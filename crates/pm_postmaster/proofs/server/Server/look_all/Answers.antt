@@ -1,6 +1,5 @@
 use Rattle.std.proofs.Common.{◌<◌, ◌∙◌, ap, length, rules, subst, sym}
-use Rattle.pm_postmaster.proofs.Cleared.{as_many_seats}
-use Rattle.pm_postmaster.proofs.Going.{alive_on, slots_kept}
+use Rattle.pm_postmaster.proofs.{Cleared.as_many_seats, Going.{alive_on, slots_kept}}
 use Rattle.pm_postmaster.proofs.server.Server.look_all.Goals as goal
 
 pub look-requires-clause-alive : goal.look-requires-clause-alive

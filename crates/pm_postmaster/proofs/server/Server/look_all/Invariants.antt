@@ -1,7 +1,5 @@
-use Rattle.pm_journal.specs.Due.{IsIdle}
-use Rattle.pm_seating.specs.Sitting.{AreReaped}
-use Rattle.pm_postmaster.specs.Serving.{Keeps}
-use Rattle.pm_postmaster.specs.View.{view_of}
+use Rattle.pm_board_acts.specs.{pm_supervisor_journal.Due.IsIdle, Sitting.AreReaped}
+use Rattle.pm_postmaster.specs.{Serving.Keeps, View.view_of}
 use Rattle.pm_postmaster.proofs.server.Server.look_all.Given as goal
 
 abbrev pub invariant-loop-slot : goal.invariant-loop-slot

@@ -1,6 +1,5 @@
 use Rattle.std.proofs.lemmas.Result.{err_from_is_err_and}
-use Rattle.pm_postmaster.specs.View.{view_of}
-use Rattle.pm_postmaster.proofs.Going.{alive_on, none_done, stops_on}
+use Rattle.pm_postmaster.{specs.View.view_of, proofs.Going.{alive_on, none_done, stops_on}}
 use Rattle.pm_postmaster.proofs.server.Server.read_line.Goals as goal
 
 pub returns-then-not-self-clause-goes : goal.returns-then-not-self-clause-goes

@@ -1,8 +1,5 @@
 use Rattle.std.proofs.Common.{refl}
-use Rattle.pm_postmaster.specs.View.{view_of}
-use Rattle.pm_postmaster.proofs.Calling.{IsBeside, leaves, leaves_store, short}
-use Rattle.pm_postmaster.proofs.Cleared.{near_slots}
-use Rattle.pm_postmaster.proofs.Reaped.{ended_on, found_on, may_come, released_by, short_on}
+use Rattle.pm_postmaster.{specs.View.view_of, proofs.{Calling.{IsBeside, leaves, leaves_store, short}, Cleared.near_slots, Reaped.{ended_on, found_on, may_come, released_by, short_on}}}
 use Rattle.pm_postmaster.proofs.server.Server.reap.Goals as goal
 
 pub returns-in-Nothing-clause-goes : goal.returns-in-Nothing-clause-goes

@@ -1,5 +1,4 @@
-use Rattle.pm_postmaster.specs.View.{view_of}
-use Rattle.pm_postmaster.proofs.Going.{alive_on, none_done}
+use Rattle.pm_postmaster.{specs.View.view_of, proofs.Going.{alive_on, none_done}}
 use Rattle.pm_postmaster.proofs.server.Server.run.Goals as goal
 
 pub turns-init : goal.turns-init

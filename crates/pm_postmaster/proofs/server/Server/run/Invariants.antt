@@ -1,6 +1,5 @@
-use Rattle.pm_journal.specs.Due.{IsIdle}
-use Rattle.pm_postmaster.specs.Serving.{Keeps}
-use Rattle.pm_postmaster.specs.View.{view_of}
+use Rattle.pm_supervisor_journal.specs.Due.{IsIdle}
+use Rattle.pm_postmaster.specs.{Serving.Keeps, View.view_of}
 use Rattle.pm_postmaster.proofs.server.Server.run.Given as goal
 
 abbrev pub invariant-turns : goal.invariant-turns

@@ -1,7 +1,5 @@
-use Rattle.std.proofs.Common.{sym, ◌∙◌}
-use Rattle.std.proofs.lemmas.Bool.{both_ways}
-use Rattle.pm_postmaster.specs.View.{view_of}
-use Rattle.pm_postmaster.proofs.Going.{alive_on, none_done}
+use Rattle.std.proofs.{Common.{sym, ◌∙◌}, lemmas.Bool.both_ways}
+use Rattle.pm_postmaster.{specs.View.view_of, proofs.Going.{alive_on, none_done}}
 use Rattle.pm_postmaster.proofs.server.Server.settle.Goals as goal
 
 pub acts-init : goal.acts-init

@@ -1,9 +1,6 @@
-use Rattle.std.proofs.Common.{◌≡◌, ℕ}
-use Rattle.std.specs.Prelude.{false, true}
-use Rattle.pm_journal.specs.Stands.{IsSettled}
-use Rattle.pm_seating.specs.Sitting.{AreReaped}
-use Rattle.pm_postmaster.specs.Serving.{Keeps}
-use Rattle.pm_postmaster.specs.View.{view_of}
+use Rattle.std.{proofs.Common.{◌≡◌, ℕ}, specs.Prelude.{false, true}}
+use Rattle.pm_board_acts.specs.{pm_supervisor_journal.Stands.IsSettled, Sitting.AreReaped}
+use Rattle.pm_postmaster.specs.{Serving.Keeps, View.view_of}
 use Rattle.pm_postmaster.proofs.server.Server.settle.Given as goal
 
 abbrev pub invariant-acts : goal.invariant-acts

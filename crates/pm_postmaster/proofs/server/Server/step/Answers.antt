@@ -1,7 +1,5 @@
 use Rattle.std.proofs.Common.{refl}
-use Rattle.pm_postmaster.specs.View.{view_of}
-use Rattle.pm_postmaster.proofs.Calling.{IsBeside, leaves, leaves_store, same_past, short}
-use Rattle.pm_postmaster.proofs.Steps.{turned_on}
+use Rattle.pm_postmaster.{specs.View.view_of, proofs.{Calling.{IsBeside, leaves, leaves_store, same_past, short}, Steps.turned_on}}
 use Rattle.pm_postmaster.proofs.server.Server.step.Goals as goal
 
 pub returns-in-Ok-clause-goes : goal.returns-in-Ok-clause-goes

@@ -1,7 +1,5 @@
 use Rattle.std.proofs.Common.{refl}
-use Rattle.pm_postmaster.specs.View.{view_of}
-use Rattle.pm_postmaster.proofs.Calling.{IsBeside, leaves, leaves_store, same_past, short}
-use Rattle.pm_postmaster.proofs.Steps.{ticked_on}
+use Rattle.pm_postmaster.{specs.View.view_of, proofs.{Calling.{IsBeside, leaves, leaves_store, same_past, short}, Steps.ticked_on}}
 use Rattle.pm_postmaster.proofs.server.Server.tick.Goals as goal
 
 pub returns-in-Ok-clause-goes : goal.returns-in-Ok-clause-goes

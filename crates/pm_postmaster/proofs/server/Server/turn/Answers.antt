@@ -1,8 +1,5 @@
-use Rattle.std.proofs.Common.{◌<◌, ◌∙◌, subst, sym}
-use Rattle.std.proofs.lemmas.Result.{err_from_is_err_and}
-use Rattle.pm_postmaster.specs.View.{view_of}
-use Rattle.pm_postmaster.proofs.Cleared.{as_many_seats}
-use Rattle.pm_postmaster.proofs.Going.{alive_on, both_done, slots_kept, stops_on}
+use Rattle.std.proofs.{Common.{◌<◌, ◌∙◌, subst, sym}, lemmas.Result.err_from_is_err_and}
+use Rattle.pm_postmaster.{specs.View.view_of, proofs.{Cleared.as_many_seats, Going.{alive_on, both_done, slots_kept, stops_on}}}
 use Rattle.pm_postmaster.proofs.server.Server.turn.Goals as goal
 
 pub read_line-requires-clause-alive : goal.read_line-requires-clause-alive

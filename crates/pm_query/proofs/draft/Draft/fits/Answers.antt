@@ -1,10 +1,7 @@
-use Rattle.std.proofs.Common.{ap, ◌∙◌, w64, arith}
+use Rattle.std.proofs.{Common.{ap, ◌∙◌, w64, arith}, lemmas.{Int.to_z-of_z, Bool.Decides.nat_tests}}
 use Rattle.std.specs.FinMap as map
-use Rattle.std.proofs.lemmas.Int.{to_z-of_z}
-use Rattle.std.proofs.lemmas.Bool.Decides.{nat_tests}
 use Rattle.pm_query.specs.Changes.{size_at}
-use Rattle.pm_rows.specs.Size.{size_of}
-use Rattle.pm_rows.specs.RowLaws.{size-insert}
+use Rattle.pm_rows.{specs.Size.size_of, proofs.RowLaws.size-insert}
 use Rattle.pm_query.proofs.draft.Draft.fits.Goals as goal
 
 pub returns-then-keeps_limit : goal.returns-then-keeps_limit

@@ -1,8 +1,6 @@
-use Rattle.std.proofs.Common.{sym, ap, ◌∙◌, w64}
-use Rattle.std.specs.Ordering.{int_cmp}
+use Rattle.std.{proofs.{Common.{sym, ap, ◌∙◌, w64}, lemmas.Int.to_z-of_z}, specs.Ordering.int_cmp}
 use Rattle.std.specs.FinMap as map
 use Rattle.std.specs.BTreeMap as tree
-use Rattle.std.proofs.lemmas.Int.{to_z-of_z}
 use Rattle.pm_query.proofs.Overlay.{get-changed, get-unchanged}
 use Rattle.pm_query.proofs.draft.Draft.get.Goals as goal
 

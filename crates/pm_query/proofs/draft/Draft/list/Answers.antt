@@ -1,11 +1,7 @@
-use Rattle.std.proofs.Common.{◌≡◌, IfOk, sym, ap, subst, ◌∙◌}
-use Rattle.std.specs.Ordering.{int_cmp}
+use Rattle.std.{proofs.Common.{◌≡◌, IfOk, sym, ap, subst, ◌∙◌}, specs.{Ordering.int_cmp, FinMap.{is_sorted, entries_sorted}}}
 use Rattle.std.specs.FinMap as map
-use Rattle.std.specs.FinMap.{is_sorted, entries_sorted}
-use Rattle.pm_query.specs.Merge.{laid}
-use Rattle.pm_facts.specs.Bools.{true_of}
-use Rattle.pm_rows.specs.RowLaws.{rises}
-use Rattle.pm_query.proofs.Shown.{entries-laid_over}
+use Rattle.pm_query.{specs.Merge.laid, proofs.Shown.entries-laid_over}
+use Rattle.pm_rows.{specs.pm_facts.Bools.true_of, proofs.RowLaws.rises}
 use Rattle.pm_query.proofs.draft.Draft.list.Goals as goal
 
 pub merged-requires : goal.merged-requires

@@ -1,9 +1,7 @@
-use Rattle.std.proofs.Common.{ap, ◌∙◌, w64, arith}
+use Rattle.std.proofs.{Common.{ap, ◌∙◌, w64, arith}, lemmas.Int.to_z-of_z}
 use Rattle.std.specs.FinMap as map
-use Rattle.std.proofs.lemmas.Int.{to_z-of_z}
 use Rattle.pm_rows.specs.Size.{size_of}
-use Rattle.pm_query.specs.Changes.{rows_at, size_at}
-use Rattle.pm_query.proofs.Sizes.{size-at-most, len-at-most}
+use Rattle.pm_query.{specs.Changes.{rows_at, size_at}, proofs.Sizes.{size-at-most, len-at-most}}
 use Rattle.pm_query.proofs.draft.Draft.others.Goals as goal
 
 pub overflow_sub-result : goal.overflow_sub-result

@@ -1,11 +1,7 @@
-use Rattle.std.proofs.Common.{◌≡◌, ℕ, w64, ap, subst, ◌∙◌, arith, SomeIff, Option, Some}
+use Rattle.std.{proofs.{Common.{◌≡◌, ℕ, w64, ap, subst, ◌∙◌, arith, SomeIff, Option, Some}, lemmas.Int.to_z-of_z}, specs.FinMap.len}
 use Rattle.std.specs.FinMap as map
-use Rattle.std.specs.FinMap.{len}
-use Rattle.std.proofs.lemmas.Int.{to_z-of_z}
 use Rattle.pm_rows.specs.Size.{size_of}
-use Rattle.pm_query.specs.Changes.{rows_at, size_at}
-use Rattle.pm_query.proofs.Overlay.{laid_over-updated}
-use Rattle.pm_query.proofs.Sizes.{size-left_at, len-left_at}
+use Rattle.pm_query.{specs.Changes.{rows_at, size_at}, proofs.{Overlay.laid_over-updated, Sizes.{size-left_at, len-left_at}}}
 use Rattle.pm_query.proofs.draft.Draft.set.Goals as goal
 
 some_of : (o : Option ℕ) (P : Type 0) (v n : ℕ) → o ≡ Some n → SomeIff o P v → n ≡ v

@@ -1,7 +1,4 @@
-use Rattle.std.proofs.Common.{rules, FitsSigned, w64, All, sym, subst}
-use Rattle.std.specs.Str.{IsUtf8}
-use Rattle.std.proofs.lemmas.Int.{to_z-of_z}
-use Rattle.std.proofs.lemmas.List.Elements.{All-push}
+use Rattle.std.{proofs.{Common.{rules, FitsSigned, w64, All, sym, subst}, lemmas.{Int.to_z-of_z, List.Elements.All-push}}, specs.Str.IsUtf8}
 use Rattle.pm_rows.specs.Typed.{IsTypedRow}
 use Rattle.pm_query.proofs.pairs.Listing.push.Goals as goal
 

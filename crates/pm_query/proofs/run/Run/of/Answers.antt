@@ -1,8 +1,5 @@
-use Rattle.std.proofs.Common.{sym, ap, ◌∙◌, arith}
-use Rattle.std.proofs.lemmas.Bool.Decides.{nat_tests}
-use Rattle.std.proofs.lemmas.List.{take_all}
-use Rattle.pm_query.specs.Answer.{after_statement, after_script, items_of}
-use Rattle.pm_query.proofs.Scripts.{items_behind}
+use Rattle.std.proofs.{Common.{sym, ap, ◌∙◌, arith}, lemmas.{Bool.Decides.nat_tests, List.take_all}}
+use Rattle.pm_query.{specs.Answer.{after_statement, after_script, items_of}, proofs.Scripts.items_behind}
 use Rattle.pm_query.proofs.run.Run.of.Goals as goal
 
 pub returns-clause-items : goal.returns-clause-items

@@ -1,7 +1,6 @@
 use Rattle.std.proofs.Common.{All, subst}
 use Rattle.std.specs.FinMap as map
-use Rattle.pm_rows.specs.Typed.{IsTypedRow}
-use Rattle.pm_rows.proofs.Tables.{typed-rows_in}
+use Rattle.pm_rows.{specs.Typed.IsTypedRow, proofs.Tables.typed-rows_in}
 use Rattle.pm_rows.proofs.rows.Rows.are_typed.Goals as goal
 
 pub returns : goal.returns

@@ -1,5 +1,4 @@
-use Rattle.std.proofs.Common.{ap, ◌∙◌}
-use Rattle.std.specs.FinMap.{from_sorted}
+use Rattle.std.{proofs.Common.{ap, ◌∙◌}, specs.FinMap.from_sorted}
 use Rattle.pm_rows.proofs.Tables.{same_table, entries-clone}
 use Rattle.pm_rows.proofs.rows.Rows.copy.Goals as goal
 

@@ -1,10 +1,6 @@
-use Rattle.std.proofs.Common.{length, All, sym, ap, subst, ◌∙◌}
+use Rattle.std.{proofs.{Common.{length, All, sym, ap, subst, ◌∙◌}, iter.runs.Sources.from_front}, specs.Map.Iter.TakesFirst}
 use Rattle.std.specs.FinMap as map
-use Rattle.std.specs.Map.Iter.{TakesFirst}
-use Rattle.std.proofs.iter.runs.Sources.{from_front}
-use Rattle.pm_rows.specs.RowsIter.{shown_row}
-use Rattle.pm_rows.specs.Typed.{IsTypedRow}
-use Rattle.pm_rows.proofs.Tables.{entries-rows_in, typed-rows_in}
+use Rattle.pm_rows.{specs.{RowsIter.shown_row, Typed.IsTypedRow}, proofs.Tables.{entries-rows_in, typed-rows_in}}
 use Rattle.pm_rows.proofs.rows.Rows.iter.Goals as goal
 
 pub returns-clause-rest : goal.returns-clause-rest

@@ -1,7 +1,5 @@
-use Rattle.std.proofs.Common.{◌≡◌, fold, take, sym, ap, subst, ◌∙◌, arith}
-use Rattle.std.proofs.lemmas.Grind.{common_steps}
-use Rattle.pm_rows.specs.NetChanges.{missing_keys, HasRoom}
-use Rattle.pm_rows.proofs.Room.{with_empty, room_undone, room_made}
+use Rattle.std.proofs.{Common.{◌≡◌, fold, take, sym, ap, subst, ◌∙◌, arith}, lemmas.Grind.common_steps}
+use Rattle.pm_rows.{specs.NetChanges.{missing_keys, HasRoom}, proofs.Room.{with_empty, room_undone, room_made}}
 use Rattle.pm_rows.proofs.rows.Rows.make_room.Goals as goal
 
 pub returns-clause-room : goal.returns-clause-room

@@ -1,9 +1,5 @@
-use Rattle.std.proofs.Common.{ℕ, List, subst, sym, arith}
-use Rattle.std.specs.Ordering.{int_cmp}
-use Rattle.std.specs.FinMap.{empty, len-empty}
-use Rattle.pm_rows.specs.Limits.{IsWithinRowLimits}
-use Rattle.pm_rows.specs.RowLaws.{size-empty}
-use Rattle.pm_rows.proofs.Entries.{table_empty}
+use Rattle.std.{proofs.Common.{ℕ, List, subst, sym, arith}, specs.{Ordering.int_cmp, FinMap.{empty, len-empty}}}
+use Rattle.pm_rows.{specs.Limits.IsWithinRowLimits, proofs.{RowLaws.size-empty, Entries.table_empty}}
 use Rattle.pm_rows.proofs.rows.Rows.new.Goals as goal
 
 -- no rows are within their limits

@@ -1,8 +1,4 @@
-use Rattle.std.proofs.Common.{rules}
-use Rattle.std.specs.Ordering.{int_cmp}
-use Rattle.std.specs.BTreeMap.{IsFromIterResult}
-use Rattle.std.proofs.lemmas.Iterator.Adapters.{YieldsList-from_vec, fact_from_collect}
-use Rattle.std.proofs.lemmas.Result.{IfOk-at_ok}
+use Rattle.std.{proofs.{Common.rules, lemmas.{Iterator.Adapters.{YieldsList-from_vec, fact_from_collect}, Result.IfOk-at_ok}}, specs.{Ordering.int_cmp, BTreeMap.IsFromIterResult}}
 use Rattle.pm_rows.proofs.Entries.{table_made}
 use Rattle.pm_rows.proofs.rows.Rows.of_pairs.Goals as goal
 

@@ -1,7 +1,6 @@
 use Rattle.std.proofs.Common.{fold, sym, ap, subst, ◌∙◌}
 use Rattle.std.specs.FinMap as map
-use Rattle.pm_rows.specs.NetChanges.{IsReady, settled}
-use Rattle.pm_rows.proofs.Settle.{ready, settled_changes, same_pending}
+use Rattle.pm_rows.{specs.NetChanges.{IsReady, settled}, proofs.Settle.{ready, settled_changes, same_pending}}
 use Rattle.pm_rows.proofs.rows.Rows.prepare.Goals as goal
 
 pub invariant_of-result : goal.invariant_of-result

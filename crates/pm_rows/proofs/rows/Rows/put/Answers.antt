@@ -1,12 +1,7 @@
-use Rattle.std.proofs.Common.{◌≡◌, w64, sym, ap, ◌∙◌, arith, refl, None}
-use Rattle.std.specs.Ordering.{int_cmp}
+use Rattle.std.{proofs.{Common.{◌≡◌, w64, sym, ap, ◌∙◌, arith, refl, None}, lemmas.{Int.to_z-of_z, Result.err_from_is_err_and}}, specs.Ordering.int_cmp}
 use Rattle.std.specs.FinMap as map
 use Rattle.std.specs.BTreeMap as tree
-use Rattle.std.proofs.lemmas.Int.{to_z-of_z}
-use Rattle.std.proofs.lemmas.Result.{err_from_is_err_and}
-use Rattle.pm_rows.specs.Size.{size_at}
-use Rattle.pm_rows.proofs.Entries.{get-of_table}
-use Rattle.pm_rows.proofs.Tables.{put_rows, put_size, put_table, put_fits, same_table}
+use Rattle.pm_rows.{specs.Size.size_at, proofs.{Entries.get-of_table, Tables.{put_rows, put_size, put_table, put_fits, same_table}}}
 use Rattle.pm_rows.proofs.rows.Rows.put.Goals as goal
 
 pub returns-in_err-old-clause-absent : goal.returns-in_err-old-clause-absent

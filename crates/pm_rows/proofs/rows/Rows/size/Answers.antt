@@ -1,7 +1,5 @@
-use Rattle.std.proofs.Common.{◌≡◌, sym, ap, ◌∙◌, arith}
-use Rattle.std.proofs.lemmas.Grind.{common_steps}
-use Rattle.pm_rows.specs.Size.{size_of}
-use Rattle.pm_rows.proofs.Tables.{size-rows_in}
+use Rattle.std.proofs.{Common.{◌≡◌, sym, ap, ◌∙◌, arith}, lemmas.Grind.common_steps}
+use Rattle.pm_rows.{specs.Size.size_of, proofs.Tables.size-rows_in}
 use Rattle.pm_rows.proofs.rows.Rows.size.Goals as goal
 
 pub returns : goal.returns

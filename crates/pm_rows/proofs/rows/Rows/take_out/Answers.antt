@@ -1,8 +1,6 @@
-use Rattle.std.proofs.Common.{w64, sym, ap, ◌∙◌, arith}
+use Rattle.std.proofs.{Common.{w64, sym, ap, ◌∙◌, arith}, lemmas.Int.to_z-of_z}
 use Rattle.std.specs.FinMap as map
-use Rattle.std.proofs.lemmas.Int.{to_z-of_z}
-use Rattle.pm_rows.specs.Size.{size_at}
-use Rattle.pm_rows.proofs.Tables.{remove_rows, remove_size, remove_table, same_table}
+use Rattle.pm_rows.{specs.Size.size_at, proofs.Tables.{remove_rows, remove_size, remove_table, same_table}}
 use Rattle.pm_rows.proofs.rows.Rows.take_out.Goals as goal
 
 pub overflow_sub-self : goal.overflow_sub-self

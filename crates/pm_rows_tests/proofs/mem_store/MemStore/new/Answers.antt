@@ -1,6 +1,5 @@
 use Rattle.std.proofs.Common.{subst, sym}
-use Rattle.pm_query.specs.HistoryLaws.{short_rows-empty}
-use Rattle.pm_query.specs.Limits.{HasShortRows}
+use Rattle.pm_query.{proofs.HistoryLaws.short_rows-empty, specs.Limits.HasShortRows}
 use Rattle.pm_rows_tests.proofs.mem_store.MemStore.new.Goals as goal
 
 pub invariant_of-result : goal.invariant_of-result

@@ -1,6 +1,5 @@
 use Rattle.std.proofs.Common.{[], ◌∷◌, inl, refl}
-use Rattle.pm_query.specs.declared.book.BookEntry.{BookEntry}
-use Rattle.pm_query.specs.declared.book.BookEntry.TheVariants.{Detached}
+use Rattle.pm_query.specs.declared.book.BookEntry.{BookEntry, TheVariants.Detached}
 use Rattle.pm_rows_tests.proofs.MemStores.{detached_leaves, goes_quietly}
 use Rattle.pm_rows_tests.proofs.mem_store.MemStoreStore.leave.Goals as goal
 

@@ -1,7 +1,5 @@
 use Rattle.std.proofs.Common.{rules, [], ◌∷◌, Some, Err, refl}
-use Rattle.pm_query.specs.declared.book.BookEntry.{BookEntry}
-use Rattle.pm_query.specs.declared.book.BookEntry.TheVariants.{Answered}
-use Rattle.pm_query.specs.Calls.{RunNotes}
+use Rattle.pm_query.specs.{declared.book.BookEntry.{BookEntry, TheVariants.Answered}, Calls.RunNotes}
 use Rattle.pm_rows_tests.proofs.MemStores.{goes_answered, goes_silently, tells_again, wrote_changes}
 use Rattle.pm_rows_tests.proofs.mem_store.MemStoreStore.run.Goals as goal
 

@@ -1,7 +1,5 @@
 use Rattle.std.proofs.Common.{[], ◌∷◌, Some, Err, refl}
-use Rattle.pm_query.specs.declared.book.BookEntry.{BookEntry}
-use Rattle.pm_query.specs.declared.book.BookEntry.TheVariants.{Released}
-use Rattle.pm_query.specs.Calls.{SeenNotes}
+use Rattle.pm_query.specs.{declared.book.BookEntry.{BookEntry, TheVariants.Released}, Calls.SeenNotes}
 use Rattle.pm_rows_tests.proofs.MemStores.{goes_quietly, released_leaves, tells_again}
 use Rattle.pm_rows_tests.proofs.mem_store.MemStoreStore.seen.Goals as goal
 

@@ -1,6 +1,5 @@
 use Rattle.std.proofs.Common.{ℕ, List, ap, subst, arith}
-use Rattle.pm_segment.specs.Children.{AreOthers, times_in}
-use Rattle.pm_segment.proofs.Others.{others_whole}
+use Rattle.pm_segment.{specs.Children.{AreOthers, times_in}, proofs.Others.others_whole}
 use Rattle.pm_segment.proofs.children.Children.others.Goals as goal
 
 pub loop-at-init : goal.loop-at-init

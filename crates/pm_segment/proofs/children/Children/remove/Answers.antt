@@ -1,7 +1,5 @@
-use Rattle.std.proofs.Common.{◌≡◌, ℕ, ◌-◌, ◌<◌, List, length, refl, sym, ◌∙◌, ap, subst, arith}
-use Rattle.std.specs.Prelude.{cond, nat_eq}
-use Rattle.pm_segment.specs.Children.{times_in}
-use Rattle.pm_segment.proofs.Removals.{none_at_all, none_further, not_among, same_get, taken_out}
+use Rattle.std.{proofs.Common.{◌≡◌, ℕ, ◌-◌, ◌<◌, List, length, refl, sym, ◌∙◌, ap, subst, arith}, specs.Prelude.{cond, nat_eq}}
+use Rattle.pm_segment.{specs.Children.times_in, proofs.Removals.{none_at_all, none_further, not_among, same_get, taken_out}}
 use Rattle.pm_segment.proofs.children.Children.remove.Goals as goal
 
 pub loop-at-init : goal.loop-at-init

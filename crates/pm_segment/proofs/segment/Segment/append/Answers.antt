@@ -1,29 +1,9 @@
-use Rattle.std.proofs.Common.{rules, ◌≡◌, ◌∙◌, inl, inr, ℕ, ◌+◌, ◌^◌, ◌<◌, List, [], ◌∷◌, Option, Some, refl, sym, ap, subst, arith, length}
-use Rattle.std.specs.Prelude.{IfSome}
-use Rattle.pm_rows.specs.declared.commit.Change.{Change}
-use Rattle.pm_rows.specs.Fold.{RowMap, committed}
-use Rattle.pm_rows.specs.Limits.{IsWithinRowLimits}
-use Rattle.pm_rows.specs.LogSize as log
-use Rattle.pm_rows.specs.Batch.{IsBatch}
-use Rattle.pm_disk.specs.Disk.{TellsStill}
-use Rattle.pm_query.specs.Limits.{HasShortRows}
-use Rattle.pm_query.specs.declared.book.BookEntry.{BookEntry}
-use Rattle.pm_query.specs.declared.book.BookEntry.TheVariants.{Answered, Broke, LogFull}
-use Rattle.pm_log.specs.declared.log.Log.{Log}
-use Rattle.pm_log.specs.declared.log.LogFault.{LogFault}
-use Rattle.pm_outside.specs.AddedLaws.{added_both}
-use Rattle.pm_query.specs.Answer.{commit_of}
-use Rattle.pm_query.specs.Book.{need_of}
-use Rattle.pm_segment.specs.declared.live.Live.{Live}
-use Rattle.pm_segment.specs.Moment.{Moment, moment_of}
-use Rattle.pm_outside.specs.Added.{Added}
-use Rattle.pm_segment.specs.Moves.{Moves}
-use Rattle.pm_segment.specs.Rests.{Rests}
-use Rattle.pm_segment.proofs.Passing.{attends, inside_answered, inside_still, no_less, staged_still}
-use Rattle.pm_segment.proofs.Resting.{LivesWith, StopsOneOf, batch_is, durable_of, gate_of, may_append, need_is, rests_broken, full_or_disk, rests_with, tells_nothing, through_of}
-use Rattle.pm_segment.proofs.Steps.{Appends, commits, finds_full, loses, some_none, stays_put}
-use Rattle.pm_segment.proofs.Waiting.{bare_rests, waits_at, waits_none}
-use Rattle.pm_segment.specs.Waits.{needs_alone}
+use Rattle.std.{proofs.Common.{rules, ◌≡◌, ◌∙◌, inl, inr, ℕ, ◌+◌, ◌^◌, ◌<◌, List, [], ◌∷◌, Option, Some, refl, sym, ap, subst, arith, length}, specs.Prelude.IfSome}
+use Rattle.pm_query.specs.{pm_rows.{declared.commit.Change.Change, Fold.{RowMap, committed}, Limits.IsWithinRowLimits, Batch.IsBatch}, pm_disk.Disk.TellsStill, Limits.HasShortRows, declared.book.BookEntry.{BookEntry, TheVariants.{Answered, Broke, LogFull}}, Answer.commit_of, Book.need_of}
+use Rattle.pm_query.specs.pm_rows.LogSize as log
+use Rattle.pm_log.specs.declared.log.{Log.Log, LogFault.LogFault}
+use Rattle.pm_outside.{proofs.AddedLaws.added_both, specs.Added.Added}
+use Rattle.pm_segment.{specs.{declared.live.Live.Live, Moment.{Moment, moment_of}, Moves.Moves, Rests.Rests, Waits.needs_alone}, proofs.{Passing.{attends, inside_answered, inside_still, no_less, staged_still}, Resting.{LivesWith, StopsOneOf, batch_is, durable_of, gate_of, may_append, need_is, rests_broken, full_or_disk, rests_with, tells_nothing, through_of}, Steps.{Appends, commits, finds_full, loses, some_none, stays_put}, Waiting.{bare_rests, waits_at, waits_none}}}
 use Rattle.pm_stage.specs.Stage.{Waiting}
 use Rattle.pm_segment.proofs.segment.Segment.append.Goals as goal
 

@@ -1,9 +1,6 @@
 use Rattle.std.proofs.Common.{refl, arith}
-use Rattle.pm_query.specs.declared.book.BookEntry.{BookEntry}
-use Rattle.pm_query.specs.declared.book.BookEntry.TheVariants.{Broke}
-use Rattle.pm_segment.specs.Moment.{moment_of}
-use Rattle.pm_segment.proofs.Passing.{attends, inside_still}
-use Rattle.pm_segment.proofs.Steps.{finds_broken, notes_by}
+use Rattle.pm_query.specs.declared.book.BookEntry.{BookEntry, TheVariants.Broke}
+use Rattle.pm_segment.{specs.Moment.moment_of, proofs.{Passing.{attends, inside_still}, Steps.{finds_broken, notes_by}}}
 use Rattle.pm_segment.proofs.segment.Segment.broken.Goals as goal
 
 pub returns-clause-notes : goal.returns-clause-notes

@@ -1,5 +1,4 @@
-use Rattle.pm_segment.specs.Moment.{moment_of}
-use Rattle.pm_segment.proofs.Lawful.{is_replay, is_run, leaves_acknowledged}
+use Rattle.pm_segment.{specs.Moment.moment_of, proofs.Lawful.{is_replay, is_run, leaves_acknowledged}}
 use Rattle.pm_segment.proofs.segment.Segment.keeps_its_run.Goals as goal
 
 pub returns-clause-run : goal.returns-clause-run

@@ -1,10 +1,6 @@
 use Rattle.std.proofs.Common.{ℕ, List, [], Some, subst}
-use Rattle.pm_query.specs.Calls.{CheckpointNotes, user_of}
-use Rattle.pm_query.specs.declared.book.BookEntry.{BookEntry}
-use Rattle.pm_segment.specs.Moment.{moment}
-use Rattle.pm_segment.specs.Moves.{Moves}
-use Rattle.pm_segment.specs.MovesLaws.{moves_on}
-use Rattle.pm_segment.specs.Passes.{view_of}
+use Rattle.pm_query.specs.{Calls.{CheckpointNotes, user_of}, declared.book.BookEntry.BookEntry}
+use Rattle.pm_segment.specs.{Moment.moment, Moves.Moves, MovesLaws.moves_on, Passes.view_of}
 use Rattle.pm_segment.proofs.segment.Segment.move_all.Goals as goal
 
 pub returns-clause-notes : goal.returns-clause-notes

@@ -1,24 +1,8 @@
-use Rattle.std.proofs.Common.{rules, ◌≡◌, ◌||◌, ◌+◌, ◌∙◌, inl, ℕ, ◌-◌, ◌^◌, List, [], ◌∷◌, Option, None, Some, Err, refl, sym, ap, subst, arith, true}
-use Rattle.std.specs.Prelude.{IfSome}
-use Rattle.std.proofs.Math.Logic.{∥∥₁_map}
-use Rattle.pm_disk.specs.Files.{Files}
-use Rattle.pm_rows.specs.declared.commit.Change.{Change}
-use Rattle.pm_rows.specs.Fold.{RowMap}
+use Rattle.std.{proofs.{Common.{rules, ◌≡◌, ◌||◌, ◌+◌, ◌∙◌, inl, ℕ, ◌-◌, ◌^◌, List, [], ◌∷◌, Option, None, Some, Err, refl, sym, ap, subst, arith, true}, Math.Logic.∥∥₁_map}, specs.Prelude.IfSome}
+use Rattle.pm_query.specs.{pm_disk.Files.Files, pm_rows.{declared.commit.Change.Change, Fold.RowMap}, declared.book.BookEntry.{BookEntry, TheVariants.{Broke, CheckpointEnded}}}
 use Rattle.pm_log.specs.declared.log.LogFault.TheVariants as LogFault
-use Rattle.pm_segment.specs.Redos.{IsAtLastEpoch}
-use Rattle.pm_query.specs.declared.book.BookEntry.{BookEntry}
-use Rattle.pm_query.specs.declared.book.BookEntry.TheVariants.{Broke, CheckpointEnded}
+use Rattle.pm_segment.{specs.{Redos.IsAtLastEpoch, declared.live.Live.Live, Moment.{Moment, moment_of}, Rests.Rests, Stands.bytes_of_rows}, proofs.{Passing.{attends, inside_still, staged_still}, Checkpoints.{Checkpoints, checkpoint_fails, checkpoints, gate_other, rests_moved, stands_afresh, through_same}, Resting.{rests_broken, tells_nothing}, Steps.{notes_by, some_none}, Waiting.{bare_rests, waits_at, waits_none}, Lengths.base_size}}
 use Rattle.pm_log.specs.declared.log.Log.{Log}
-use Rattle.pm_segment.specs.declared.live.Live.{Live}
-use Rattle.pm_segment.specs.Moment.{Moment, moment_of}
-use Rattle.pm_segment.specs.Rests.{Rests}
-use Rattle.pm_segment.proofs.Passing.{attends, inside_still, staged_still}
-use Rattle.pm_segment.proofs.Checkpoints.{Checkpoints, checkpoint_fails, checkpoints, gate_other, rests_moved, stands_afresh, through_same}
-use Rattle.pm_segment.proofs.Resting.{rests_broken, tells_nothing}
-use Rattle.pm_segment.proofs.Steps.{notes_by, some_none}
-use Rattle.pm_segment.proofs.Waiting.{bare_rests, waits_at, waits_none}
-use Rattle.pm_segment.specs.Stands.{bytes_of_rows}
-use Rattle.pm_segment.proofs.Lengths.{base_size}
 use Rattle.pm_segment.proofs.segment.Segment.move_log.Goals as goal
 
 pub checkpoint-requires-clause-gate : goal.checkpoint-requires-clause-gate

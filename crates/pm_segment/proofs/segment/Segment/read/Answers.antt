@@ -1,9 +1,6 @@
 use Rattle.std.proofs.Common.{[], ◌∷◌, Some, sym, subst, arith}
 use Rattle.pm_query.specs.declared.book.BookEntry.TheVariants.{Answered}
-use Rattle.pm_segment.specs.Moment.{moment_of}
-use Rattle.pm_segment.specs.Passes.{IsStaged}
-use Rattle.pm_segment.proofs.Passing.{attends, inside_answered}
-use Rattle.pm_segment.proofs.Steps.{reads}
+use Rattle.pm_segment.{specs.{Moment.moment_of, Passes.IsStaged}, proofs.{Passing.{attends, inside_answered}, Steps.reads}}
 use Rattle.pm_segment.proofs.segment.Segment.read.Goals as goal
 
 pub returns-clause-notes : goal.returns-clause-notes

@@ -1,28 +1,10 @@
-use Rattle.std.proofs.Common.{rules, ◌≡◌, ◌≢◌, ◌∙◌, ℕ, List, [], ◌∷◌, length, Some, Err, refl, sym, ap, subst, arith, false}
-use Rattle.pm_rows.specs.declared.commit.Change.{Change}
-use Rattle.pm_rows.specs.Limits.{max_file_bytes}
+use Rattle.std.{proofs.Common.{rules, ◌≡◌, ◌≢◌, ◌∙◌, ℕ, List, [], ◌∷◌, length, Some, Err, refl, sym, ap, subst, arith, false}, specs.Prelude.IfSome}
+use Rattle.pm_query.specs.{pm_rows.{declared.commit.Change.Change, Limits.max_file_bytes}, declared.{book.BookEntry.{BookEntry, TheVariants.{Broke, Redone}}, store.StoreNo.TheVariants.Redo}, Calls.{RedoNotes, user_of}, pm_record.declared.fault.RedoFault.RedoFault}
 use Rattle.pm_log.specs.declared.log.Log.{Log}
 use Rattle.pm_stage.specs.Stage.{Waiting}
-use Rattle.pm_segment.specs.Rests.{Rests}
-use Rattle.pm_segment.specs.Waits.{needs_alone}
-use Rattle.pm_record.specs.declared.fault.RedoFault.TheVariants as fault
-use Rattle.pm_query.specs.declared.book.BookEntry.{BookEntry}
-use Rattle.pm_query.specs.declared.book.BookEntry.TheVariants.{Broke, Redone}
-use Rattle.pm_segment.specs.declared.live.Live.{Live}
-use Rattle.pm_segment.specs.Moment.{Moment, moment_of}
-use Rattle.pm_segment.proofs.Passing.{attends, inside_still, none_staged}
-use Rattle.pm_segment.proofs.Redos.{Reads, Redoes, goes_on_found, redo_notes_none, reads_fault, reads_nothing, redoes_first, rests_found}
-use Rattle.pm_segment.proofs.Resting.{tells_nothing}
-use Rattle.std.specs.Prelude.{IfSome}
-use Rattle.pm_segment.specs.Redos.{IsFoundIn}
-use Rattle.pm_segment.proofs.Steps.{not_both, notes_by, same_live}
-use Rattle.pm_outside.specs.AddedLaws.{added_none}
-use Rattle.pm_segment.specs.Passes.{view_of}
-use Rattle.pm_query.specs.Calls.{RedoNotes, user_of}
-use Rattle.pm_query.specs.declared.store.StoreNo.TheVariants.{Redo}
-use Rattle.pm_record.specs.declared.fault.RedoFault.{RedoFault}
-use Rattle.pm_segment.specs.Stands.{bytes_of_rows}
-use Rattle.pm_segment.proofs.Lengths.{stands_size}
+use Rattle.pm_segment.{specs.{Rests.Rests, Waits.needs_alone, declared.live.Live.Live, Moment.{Moment, moment_of}, Redos.IsFoundIn, Passes.view_of, Stands.bytes_of_rows}, proofs.{Passing.{attends, inside_still, none_staged}, Redos.{Reads, Redoes, goes_on_found, redo_notes_none, reads_fault, reads_nothing, redoes_first, rests_found}, Resting.tells_nothing, Steps.{not_both, notes_by, same_live}, Lengths.stands_size}}
+use Rattle.pm_query.specs.pm_record.declared.fault.RedoFault.TheVariants as fault
+use Rattle.pm_outside.proofs.AddedLaws.{added_none}
 use Rattle.pm_segment.proofs.segment.Segment.read_log.Goals as goal
 
 pub invariant_of-self : goal.invariant_of-self

@@ -1,5 +1,4 @@
-use Rattle.pm_segment.specs.Moment.{moment_of}
-use Rattle.pm_segment.proofs.Reading.{can_be_read}
+use Rattle.pm_segment.{specs.Moment.moment_of, proofs.Reading.can_be_read}
 use Rattle.pm_segment.proofs.segment.Segment.reads_its_files.Goals as goal
 
 pub returns : goal.returns

@@ -1,13 +1,7 @@
 use Rattle.std.proofs.Common.{◌≡◌, ◌∙◌, inl, inr, ◌+◌, [], ◌∷◌, refl, ap, arith}
-use Rattle.pm_rows.specs.LogSize as log
-use Rattle.pm_query.specs.declared.book.BookEntry.{BookEntry}
-use Rattle.pm_query.specs.declared.book.BookEntry.TheVariants.{LogFull}
-use Rattle.pm_query.specs.Answer.{commit_of}
-use Rattle.pm_query.specs.Book.{need_of}
-use Rattle.pm_segment.specs.Moment.{moment_of}
-use Rattle.pm_segment.proofs.Passing.{attends, inside_still}
-use Rattle.pm_segment.proofs.Resting.{need_is}
-use Rattle.pm_segment.proofs.Steps.{finds_full}
+use Rattle.pm_query.specs.pm_rows.LogSize as log
+use Rattle.pm_query.specs.{declared.book.BookEntry.{BookEntry, TheVariants.LogFull}, Answer.commit_of, Book.need_of}
+use Rattle.pm_segment.{specs.Moment.moment_of, proofs.{Passing.{attends, inside_still}, Resting.need_is, Steps.finds_full}}
 use Rattle.pm_segment.proofs.segment.Segment.refuse_spent.Goals as goal
 
 pub returns-clause-notes : goal.returns-clause-notes

@@ -1,13 +1,8 @@
-use Rattle.std.proofs.Common.{ℕ, List, [], ◌∷◌, ◌++◌, length, map, sym, ap, subst, arith}
-use Rattle.std.proofs.lemmas.List.{map-append}
+use Rattle.std.proofs.{Common.{ℕ, List, [], ◌∷◌, ◌++◌, length, map, sym, ap, subst, arith}, lemmas.List.map-append}
 use Rattle.pm_stage.specs.Stage.{Waiting}
-use Rattle.pm_query.specs.declared.book.BookEntry.{BookEntry}
-use Rattle.pm_query.specs.declared.book.BookEntry.TheVariants.{Gone, Opened}
-use Rattle.pm_segment.specs.Moment.{moment_of}
-use Rattle.pm_outside.specs.Added.{Added}
-use Rattle.pm_outside.specs.AddedLaws.{added_both}
-use Rattle.pm_segment.proofs.Opens.{short_empty}
-use Rattle.pm_segment.proofs.Renewals.{renews}
+use Rattle.pm_query.specs.declared.book.BookEntry.{BookEntry, TheVariants.{Gone, Opened}}
+use Rattle.pm_segment.{specs.Moment.moment_of, proofs.{Opens.short_empty, Renewals.renews}}
+use Rattle.pm_outside.{specs.Added.Added, proofs.AddedLaws.added_both}
 use Rattle.pm_segment.proofs.segment.Segment.renew.Goals as goal
 
 pub invariant_of-self-2 : goal.invariant_of-self-2

@@ -1,24 +1,8 @@
 use Rattle.std.proofs.Common.{rules, ◌≡◌, ◌∙◌, inl, inr, ◌+◌, ◌-◌, List, [], ◌∷◌, ◌++◌, Option, Some, refl, sym, ap, subst, arith, length, length-append}
-use Rattle.pm_rows.specs.declared.commit.Change.{Change}
-use Rattle.pm_rows.specs.Batch.{IsBatch, IsCommit}
-use Rattle.pm_rows.specs.Fold.{RowMap, committed}
-use Rattle.pm_rows.specs.Limits.{IsWithinRowLimits}
-use Rattle.pm_rows.specs.LogSize as log
+use Rattle.pm_query.specs.{pm_rows.{declared.commit.Change.Change, Batch.{IsBatch, IsCommit}, Fold.{RowMap, committed}, Limits.IsWithinRowLimits}, Answer.commit_of, Book.need_of, Limits.HasShortRows, declared.book.BookEntry.{BookEntry, TheVariants.{Answered, LogFull}}}
+use Rattle.pm_query.specs.pm_rows.LogSize as log
 use Rattle.pm_stage.specs.Stage.{Waiting}
-use Rattle.pm_query.specs.Answer.{commit_of}
-use Rattle.pm_query.specs.Book.{need_of}
-use Rattle.pm_query.specs.Limits.{HasShortRows}
-use Rattle.pm_query.specs.declared.book.BookEntry.{BookEntry}
-use Rattle.pm_query.specs.declared.book.BookEntry.TheVariants.{Answered, LogFull}
-use Rattle.pm_segment.specs.declared.live.Live.{Live}
-use Rattle.pm_segment.specs.Moment.{moment_of}
-use Rattle.pm_segment.specs.Rests.{Rests}
-use Rattle.pm_segment.specs.Waits.{IsBehind, needs_alone}
-use Rattle.pm_segment.proofs.Passing.{attends, inside_answered, inside_still, no_less}
-use Rattle.pm_segment.proofs.Resting.{batch_is, need_is}
-use Rattle.pm_segment.proofs.Staging.{Stages, rests_added, stages}
-use Rattle.pm_segment.proofs.Steps.{finds_full, stays_put}
-use Rattle.pm_segment.proofs.Waiting.{commit_is, needs_added, never_both, waits_at}
+use Rattle.pm_segment.{specs.{declared.live.Live.Live, Moment.moment_of, Rests.Rests, Waits.{IsBehind, needs_alone}}, proofs.{Passing.{attends, inside_answered, inside_still, no_less}, Resting.{batch_is, need_is}, Staging.{Stages, rests_added, stages}, Steps.{finds_full, stays_put}, Waiting.{commit_is, needs_added, never_both, waits_at}}}
 use Rattle.pm_segment.proofs.segment.Segment.stage.Goals as goal
 
 pub body_length-need-requires : goal.body_length-need-requires

@@ -1,7 +1,4 @@
-use Rattle.pm_segment.specs.Moment.{moment}
-use Rattle.pm_segment.proofs.Checkpoints.{clean_stands}
-use Rattle.pm_segment.proofs.Lawful.{stays_clean}
-use Rattle.pm_segment.proofs.Waiting.{fronts_of}
+use Rattle.pm_segment.{specs.Moment.moment, proofs.{Checkpoints.clean_stands, Lawful.stays_clean, Waiting.fronts_of}}
 use Rattle.pm_segment.proofs.segment.Segment.stays_clean.Goals as goal
 
 pub returns : goal.returns

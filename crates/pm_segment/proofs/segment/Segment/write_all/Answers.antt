@@ -1,11 +1,6 @@
-use Rattle.std.proofs.Common.{rules, ◌∙◌, ◌≤◌, List, [], ap, subst, arith, length, length-drop}
-use Rattle.std.proofs.lemmas.Bool.Decides.{nat_tests}
-use Rattle.pm_rows.specs.Limits.{max_commits}
-use Rattle.pm_segment.specs.Moment.{moment}
-use Rattle.pm_query.specs.declared.book.BookEntry.{BookEntry}
-use Rattle.pm_segment.specs.Moves.{Moves}
-use Rattle.pm_segment.specs.MovesLaws.{moves_on}
-use Rattle.pm_segment.proofs.Waiting.{oldest_few}
+use Rattle.std.proofs.{Common.{rules, ◌∙◌, ◌≤◌, List, [], ap, subst, arith, length, length-drop}, lemmas.Bool.Decides.nat_tests}
+use Rattle.pm_query.specs.{pm_rows.Limits.max_commits, declared.book.BookEntry.BookEntry}
+use Rattle.pm_segment.{specs.{Moment.moment, Moves.Moves, MovesLaws.moves_on}, proofs.Waiting.oldest_few}
 use Rattle.pm_segment.proofs.segment.Segment.write_all.Goals as goal
 
 pub returns-in_err-written-clause-notes : goal.returns-in_err-written-clause-notes

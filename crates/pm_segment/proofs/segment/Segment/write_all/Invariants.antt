@@ -1,7 +1,5 @@
 use Rattle.std.proofs.Common.{◌≡◌, ◌+◌, ◌≤◌, [], Some, None, length}
-use Rattle.pm_segment.specs.Moment.{HasLogOf, moment}
-use Rattle.pm_segment.specs.Moves.{Moves}
-use Rattle.pm_segment.specs.Passes.{Admits}
+use Rattle.pm_segment.specs.{Moment.{HasLogOf, moment}, Moves.Moves, Passes.Admits}
 use Rattle.pm_segment.proofs.segment.Segment.write_all.Given as goal
 
 -- so far nothing was noted, and the log goes on

@@ -1,27 +1,10 @@
-use Rattle.std.proofs.Common.{rules, ◌≡◌, ◌∙◌, ℕ, ◌+◌, ◌-◌, ◌≤◌, List, [], ◌∷◌, Option, Some, Err, refl, sym, ap, subst, arith, length, take, drop, ◌*◌}
-use Rattle.std.specs.Prelude.{IfSome}
-use Rattle.std.proofs.lemmas.Bool.Decides.{nat_tests}
-use Rattle.std.proofs.lemmas.List.{drop_all, length-drop}
-use Rattle.pm_disk.specs.Disk.{TellsStill}
-use Rattle.pm_rows.specs.declared.commit.Change.{Change}
-use Rattle.pm_rows.specs.Batch.{IsBatch}
-use Rattle.pm_rows.specs.Limits.{max_commits}
-use Rattle.pm_rows.specs.LogSize as log
-use Rattle.pm_log.specs.declared.log.Log.{Log}
-use Rattle.pm_log.specs.declared.log.LogFault.{LogFault}
+use Rattle.std.{proofs.{Common.{rules, ◌≡◌, ◌∙◌, ℕ, ◌+◌, ◌-◌, ◌≤◌, List, [], ◌∷◌, Option, Some, Err, refl, sym, ap, subst, arith, length, take, drop, ◌*◌}, lemmas.{Bool.Decides.nat_tests, List.{drop_all, length-drop}}}, specs.Prelude.IfSome}
+use Rattle.pm_query.specs.{pm_disk.Disk.TellsStill, pm_rows.{declared.commit.Change.Change, Batch.IsBatch, Limits.max_commits}, declared.book.BookEntry.{BookEntry, TheVariants.Broke}}
+use Rattle.pm_query.specs.pm_rows.LogSize as log
+use Rattle.pm_log.specs.declared.log.{Log.Log, LogFault.LogFault}
 use Rattle.pm_stage.specs.Stage.{Waiting, flushed_to}
-use Rattle.pm_query.specs.declared.book.BookEntry.{BookEntry}
-use Rattle.pm_query.specs.declared.book.BookEntry.TheVariants.{Broke}
-use Rattle.pm_segment.specs.declared.live.Live.{Live}
-use Rattle.pm_segment.specs.Moment.{Moment, moment_of}
-use Rattle.pm_outside.specs.AddedLaws.{added_none}
-use Rattle.pm_segment.specs.Rests.{Rests}
-use Rattle.pm_segment.specs.Waits.{needs_alone}
-use Rattle.pm_segment.proofs.Passing.{attends, inside_still, staged_still}
-use Rattle.pm_segment.proofs.Resting.{LivesWith, StopsOneOf, gate_of, rests_broken, tells_nothing}
-use Rattle.pm_segment.proofs.Staging.{Writes, flush_fails, flushes, rests_written}
-use Rattle.pm_segment.proofs.Steps.{some_none}
-use Rattle.pm_segment.proofs.Waiting.{alone_is, need_some, needs_parts, oldest, oldest_batch, oldest_few, oldest_is, oldest_left, waits_at}
+use Rattle.pm_segment.{specs.{declared.live.Live.Live, Moment.{Moment, moment_of}, Rests.Rests, Waits.needs_alone}, proofs.{Passing.{attends, inside_still, staged_still}, Resting.{LivesWith, StopsOneOf, gate_of, rests_broken, tells_nothing}, Staging.{Writes, flush_fails, flushes, rests_written}, Steps.some_none, Waiting.{alone_is, need_some, needs_parts, oldest, oldest_batch, oldest_few, oldest_is, oldest_left, waits_at}}}
+use Rattle.pm_outside.proofs.AddedLaws.{added_none}
 use Rattle.pm_segment.proofs.segment.Segment.write_batch.Goals as goal
 
 pub append-requires-clause-gate : goal.append-requires-clause-gate

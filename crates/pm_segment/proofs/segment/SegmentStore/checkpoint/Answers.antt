@@ -1,10 +1,6 @@
 use Rattle.std.proofs.Common.{rules, [], ◌∷◌, refl, false}
-use Rattle.pm_query.specs.declared.book.BookEntry.{BookEntry}
-use Rattle.pm_query.specs.declared.book.BookEntry.TheVariants.{CheckpointEnded}
-use Rattle.pm_segment.specs.Moment.{moment_of}
-use Rattle.pm_segment.proofs.Checkpoints.{skips}
-use Rattle.pm_segment.proofs.Passing.{attends}
-use Rattle.pm_segment.proofs.Steps.{notes_by, stays_put}
+use Rattle.pm_query.specs.declared.book.BookEntry.{BookEntry, TheVariants.CheckpointEnded}
+use Rattle.pm_segment.{specs.Moment.moment_of, proofs.{Checkpoints.skips, Passing.attends, Steps.{notes_by, stays_put}}}
 use Rattle.pm_segment.proofs.segment.SegmentStore.checkpoint.Goals as goal
 
 pub returns-in_err-reserve-clause-notes : goal.returns-in_err-reserve-clause-notes

@@ -1,10 +1,7 @@
 use Rattle.std.proofs.Common.{rules, ◌≡◌, ℕ, List, [], ◌∷◌, refl, sym, subst}
-use Rattle.pm_query.specs.declared.book.BookEntry.{BookEntry}
-use Rattle.pm_query.specs.declared.book.BookEntry.TheVariants.{Attached}
-use Rattle.pm_segment.specs.Moment.{moment_of}
+use Rattle.pm_query.specs.declared.book.BookEntry.{BookEntry, TheVariants.Attached}
+use Rattle.pm_segment.{specs.{Moment.moment_of, Moves.Moves}, proofs.Steps.{enters, notes_by, stays_put, with_child}}
 use Rattle.pm_outside.specs.Added.{Added}
-use Rattle.pm_segment.specs.Moves.{Moves}
-use Rattle.pm_segment.proofs.Steps.{enters, notes_by, stays_put, with_child}
 use Rattle.pm_segment.proofs.segment.SegmentStore.enter.Goals as goal
 
 pub returns-clause-notes : goal.returns-clause-notes

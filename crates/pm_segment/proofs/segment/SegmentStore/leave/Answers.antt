@@ -1,9 +1,6 @@
 use Rattle.std.proofs.Common.{[], ◌∷◌, inl, refl}
-use Rattle.pm_query.specs.declared.book.BookEntry.{BookEntry}
-use Rattle.pm_query.specs.declared.book.BookEntry.TheVariants.{Detached}
-use Rattle.pm_segment.specs.Moment.{moment_of}
-use Rattle.pm_segment.proofs.Passing.{attends}
-use Rattle.pm_segment.proofs.Steps.{leaves, notes_by}
+use Rattle.pm_query.specs.declared.book.BookEntry.{BookEntry, TheVariants.Detached}
+use Rattle.pm_segment.{specs.Moment.moment_of, proofs.{Passing.attends, Steps.{leaves, notes_by}}}
 use Rattle.pm_segment.proofs.segment.SegmentStore.leave.Goals as goal
 
 pub returns-clause-notes : goal.returns-clause-notes

@@ -1,11 +1,6 @@
-use Rattle.std.proofs.Common.{[], ◌∷◌, refl, sym, ap, arith}
-use Rattle.std.specs.Prelude.{ℕ}
-use Rattle.pm_query.specs.declared.book.BookEntry.{BookEntry}
-use Rattle.pm_query.specs.declared.book.BookEntry.TheVariants.{Redone}
-use Rattle.pm_segment.specs.Moment.{moment_of}
-use Rattle.pm_segment.proofs.Passing.{attends, inside_still}
-use Rattle.pm_segment.proofs.Redos.{redoes_again}
-use Rattle.pm_segment.proofs.Steps.{not_both, notes_by}
+use Rattle.std.{proofs.Common.{[], ◌∷◌, refl, sym, ap, arith}, specs.Prelude.ℕ}
+use Rattle.pm_query.specs.declared.book.BookEntry.{BookEntry, TheVariants.Redone}
+use Rattle.pm_segment.{specs.Moment.moment_of, proofs.{Passing.{attends, inside_still}, Redos.redoes_again, Steps.{not_both, notes_by}}}
 use Rattle.pm_segment.proofs.segment.SegmentStore.redo.Goals as goal
 
 pub returns-in-Some-clause-notes : goal.returns-in-Some-clause-notes

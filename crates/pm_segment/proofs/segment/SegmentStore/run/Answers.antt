@@ -1,6 +1,5 @@
 use Rattle.std.proofs.Common.{rules, []}
-use Rattle.pm_segment.specs.Moment.{moment_of}
-use Rattle.pm_segment.proofs.Steps.{stays_put}
+use Rattle.pm_segment.{specs.Moment.moment_of, proofs.Steps.stays_put}
 use Rattle.pm_segment.proofs.segment.SegmentStore.run.Goals as goal
 
 pub returns-in_err-reserve-clause-notes : goal.returns-in_err-reserve-clause-notes

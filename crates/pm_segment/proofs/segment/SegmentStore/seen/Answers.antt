@@ -1,10 +1,7 @@
 use Rattle.std.proofs.Common.{rules, [], ◌∷◌, refl, arith}
-use Rattle.pm_query.specs.declared.book.BookEntry.{BookEntry}
-use Rattle.pm_query.specs.declared.book.BookEntry.TheVariants.{Released}
-use Rattle.pm_segment.specs.Moment.{moment_of}
+use Rattle.pm_query.specs.declared.book.BookEntry.{BookEntry, TheVariants.Released}
+use Rattle.pm_segment.{specs.Moment.moment_of, proofs.{Passing.{attends, inside_still, reached_answer}, Steps.{notes_by, releases, stays_put}}}
 use Rattle.pm_outside.specs.Added.{Added}
-use Rattle.pm_segment.proofs.Passing.{attends, inside_still, reached_answer}
-use Rattle.pm_segment.proofs.Steps.{notes_by, releases, stays_put}
 use Rattle.pm_segment.proofs.segment.SegmentStore.seen.Goals as goal
 
 pub returns-in_err-reserve-clause-notes : goal.returns-in_err-reserve-clause-notes

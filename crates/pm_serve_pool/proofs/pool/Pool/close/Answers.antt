@@ -1,10 +1,7 @@
 use Rattle.std.proofs.Common.{◌∙◌, ◌<◌, ℕ, ap, length, subst, sym}
-use Rattle.pm_shared.specs.Behind.{Behind}
-use Rattle.pm_pool.specs.Closing.{AreClosed}
-use Rattle.pm_pool.specs.Plan.{manner_of, slots_of}
-use Rattle.pm_pool.proofs.Closed.{shut_first}
-use Rattle.pm_pool.proofs.Left.{left_all}
-use Rattle.pm_pool.proofs.pool.Pool.close.Goals as goal
+use Rattle.pm_store_shared.specs.Behind.{Behind}
+use Rattle.pm_serve_pool.{specs.{Closing.AreClosed, Plan.{manner_of, slots_of}}, proofs.{Closed.shut_first, Left.left_all}}
+use Rattle.pm_serve_pool.proofs.pool.Pool.close.Goals as goal
 
 pub close_all-requires-clause-shut : goal.close_all-requires-clause-shut
 close_all-requires-clause-shut g c = shut_first (slots_of c.args.self.terms.plan) c.args.roster.now.knows c.requires.board

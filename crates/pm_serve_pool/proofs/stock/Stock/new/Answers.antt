@@ -1,8 +1,7 @@
 use Rattle.std.proofs.Common.{ℕ, List, subst, sym}
-use Rattle.pm_board.specs.Models.{AreNewPosts, PostModel}
-use Rattle.pm_worker.specs.declared.mail.MailTold.{MailTold}
-use Rattle.pm_pool.specs.Plan.{slots_of}
-use Rattle.pm_pool.proofs.stock.Stock.new.Goals as goal
+use Rattle.pm_worker.specs.{pm_board.Models.{AreNewPosts, PostModel}, declared.mail.MailTold.MailTold}
+use Rattle.pm_serve_pool.specs.Plan.{slots_of}
+use Rattle.pm_serve_pool.proofs.stock.Stock.new.Goals as goal
 
 pub returns-clause-posts : goal.returns-clause-posts
 returns-clause-posts g c =

@@ -1,18 +1,8 @@
-use Rattle.std.proofs.Common.{◌≡◌, ◌∙◌, [], ℕ, List, None, Some, Ok, Err, true, false, ap, sym, subst, refl, arith}
-use Rattle.std.proofs.lemmas.Bool.{true≢false}
+use Rattle.std.proofs.{Common.{◌≡◌, ◌∙◌, [], ℕ, List, None, Some, Ok, Err, true, false, ap, sym, subst, refl, arith}, lemmas.Bool.true≢false}
 use Rattle.pm_admit.specs.declared.Cac.TheVariants as decisions
-use Rattle.pm_query.specs.Calls.{User, newcomer}
-use Rattle.pm_life.specs.Life.{Child, attached_in}
-use Rattle.pm_exchange.specs.declared.ending.Cause.{Cause}
-use Rattle.pm_exchange.specs.declared.ending.Cause.TheVariants.{DecisionRefused, GateRefused}
-use Rattle.pm_session.specs.Session.{HasAskedFor}
-use Rattle.pm_exchange.specs.Ends.{LetsGo}
-use Rattle.pm_exchange.specs.Sent.{Turn}
-use Rattle.pm_exchange.specs.Moments.{moment}
-use Rattle.pm_session.specs.Entry.{Serves, IsTextBehind}
-use Rattle.pm_life.specs.AttentionLaws.{cancels_then, hears_both}
-use Rattle.pm_session.proofs.Attentions.{cancels_at_gate, untried_still}
-use Rattle.pm_session.proofs.Sessions.{at_outside, told_away, turned_away, asked_for, asked_at_gate, met_now, met_still, served_since, lets_go_by, attached_outside, attached_inside, out_untried, out_refused}
+use Rattle.pm_session_exchange.specs.{pm_query.Calls.{User, newcomer}, declared.ending.Cause.{Cause, TheVariants.{DecisionRefused, GateRefused}}, Ends.LetsGo, Sent.Turn, Moments.moment}
+use Rattle.pm_child_life.{specs.Life.{Child, attached_in}, proofs.AttentionLaws.{cancels_then, hears_both}}
+use Rattle.pm_session.{specs.{Session.HasAskedFor, Entry.{Serves, IsTextBehind}}, proofs.{Attentions.{cancels_at_gate, untried_still}, Sessions.{at_outside, told_away, turned_away, asked_for, asked_at_gate, met_now, met_still, served_since, lets_go_by, attached_outside, attached_inside, out_untried, out_refused}}}
 use Rattle.pm_session.proofs.desk.Desk.admit.Goals as goal
 
 pub returns-in_default : goal.returns-in_default

@@ -1,17 +1,8 @@
 use Rattle.std.proofs.Common.{◌≡◌, ◌∙◌, ◌∷◌, [], ℕ, List, Ok, true, false, ap, sym, subst, refl, arith}
 use Rattle.pm_admit.specs.declared.Cac.TheVariants as decisions
-use Rattle.pm_query.specs.declared.book.BookEntry.{BookEntry}
-use Rattle.pm_query.specs.declared.book.BookEntry.TheVariants.{Attached}
-use Rattle.pm_query.specs.Calls.{User, user_of, newcomer, LeaveNotes}
-use Rattle.pm_life.specs.Life.{Child}
-use Rattle.pm_exchange.specs.declared.ending.Cause.{Cause}
-use Rattle.pm_exchange.specs.declared.ending.Stage.TheVariants.{Entering}
-use Rattle.pm_session.specs.Session.{Leaves, IsInside}
-use Rattle.pm_exchange.specs.Moments.{moment}
-use Rattle.pm_exchange.specs.Moments.{outside}
-use Rattle.pm_session.specs.Entry.{Closes, Serves, IsTextInside, refusal_cause}
-use Rattle.pm_life.specs.AttentionLaws.{hears_both}
-use Rattle.pm_session.proofs.Sessions.{enter_can, at_entering, told_away, turned_away, refused_notes, refusal_fails, refusal_stops, refusal_over, refusal_caused, met_still, asked_for, user_is, served_left, lets_go_by, inside_at, out_inside}
+use Rattle.pm_session_exchange.specs.{pm_query.{declared.book.BookEntry.{BookEntry, TheVariants.Attached}, Calls.{User, user_of, newcomer, LeaveNotes}}, declared.ending.{Cause.Cause, Stage.TheVariants.Entering}, Moments.{moment, outside}}
+use Rattle.pm_child_life.{specs.Life.Child, proofs.AttentionLaws.hears_both}
+use Rattle.pm_session.{specs.{Session.{Leaves, IsInside}, Entry.{Closes, Serves, IsTextInside, refusal_cause}}, proofs.Sessions.{enter_can, at_entering, told_away, turned_away, refused_notes, refusal_fails, refusal_stops, refusal_over, refusal_caused, met_still, asked_for, user_is, served_left, lets_go_by, inside_at, out_inside}}
 use Rattle.pm_session.proofs.desk.Desk.attached.Goals as goal
 
 pub returns-in-Err-clause-serves : goal.returns-in-Err-clause-serves

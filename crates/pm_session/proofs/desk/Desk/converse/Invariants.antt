@@ -1,6 +1,5 @@
 use Rattle.std.proofs.Common.{◌≡◌, false, []}
-use Rattle.pm_query.specs.Calls.{user_of}
-use Rattle.pm_exchange.specs.Exchange.{IsSound}
+use Rattle.pm_session_exchange.specs.{pm_query.Calls.user_of, Exchange.IsSound}
 use Rattle.pm_session.specs.Turns.{Conversing, at_desk}
 use Rattle.pm_session.proofs.desk.Desk.converse.Given as goal
 

@@ -1,13 +1,8 @@
 use Rattle.std.proofs.Common.{ℕ, subst, refl, Ok, Err}
-use Rattle.pm_query.specs.Calls.{User, user_of}
+use Rattle.pm_session_exchange.specs.{pm_query.Calls.{User, user_of}, declared.ending.Stage.TheVariants.Greeted, Sent.{bytes_of, greeting}, Exchange.Sends}
 use Rattle.pm_admit.specs.declared.Cac.TheVariants as decisions
-use Rattle.pm_exchange.specs.declared.ending.Stage.TheVariants.{Greeted}
-use Rattle.pm_exchange.specs.Sent.{bytes_of, greeting}
-use Rattle.pm_exchange.specs.Exchange.{Sends}
-use Rattle.pm_session.specs.Turns.{at_desk}
-use Rattle.pm_session.proofs.Sessions.{Talked, talked_on, talked_cut, served_inside, inside_at}
+use Rattle.pm_session.{specs.Turns.at_desk, proofs.{Sessions.{Talked, talked_on, talked_cut, served_inside, inside_at}, desk.Desk.entered.Goals.{in-Ok, in-Err}}}
 use Rattle.pm_session.proofs.desk.Desk.entered.Goals as goal
-use Rattle.pm_session.proofs.desk.Desk.entered.Goals.{in-Ok, in-Err}
 
 pub returns-clause-serves : goal.returns-clause-serves
 returns-clause-serves g c =

@@ -1,5 +1,4 @@
-use Rattle.std.proofs.Common.{false}
-use Rattle.std.proofs.lemmas.Result.{err_from_is_err_and}
+use Rattle.std.proofs.{Common.false, lemmas.Result.err_from_is_err_and}
 use Rattle.pm_session.proofs.Said.{says_broken, says_sent}
 use Rattle.pm_session.proofs.desk.Desk.flush.Goals as goal
 

@@ -1,7 +1,6 @@
 use Rattle.std.proofs.Common.{◌∙◌, ap}
 use Rattle.pm_query.specs.Calls.{user_of}
-use Rattle.pm_session.specs.Turns.{Desk}
-use Rattle.pm_session.proofs.Conversing.{replied}
+use Rattle.pm_session.{specs.Turns.Desk, proofs.Conversing.replied}
 use Rattle.pm_session.proofs.desk.Desk.reply_to.Goals as goal
 
 pub returns-clause-goes : goal.returns-clause-goes

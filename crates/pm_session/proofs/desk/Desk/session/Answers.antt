@@ -1,12 +1,6 @@
 use Rattle.std.proofs.Common.{◌≡◌, ◌∙◌, [], ℕ, List, Ok, Err, ap, subst, arith}
-use Rattle.pm_query.specs.Calls.{User, newcomer}
-use Rattle.pm_life.specs.Life.{Child}
-use Rattle.pm_exchange.specs.Moments.{moment}
-use Rattle.pm_exchange.specs.Moments.{outside}
-use Rattle.pm_session.specs.Entry.{Enters, Serves, IsTextBehind}
-use Rattle.pm_session.proofs.Attentions.{untried_still, new_untried, new_no_cancel}
-use Rattle.pm_session.proofs.Links.{fresh_sound}
-use Rattle.pm_session.proofs.Sessions.{stopped_session, stopped_caused, started_session, started_caused, stopped_made, started_made, no_cancel_kept, asked_for, asked_since, attached_outside, started_slept}
+use Rattle.pm_session_exchange.specs.{pm_query.Calls.{User, newcomer}, pm_child_life.Life.Child, Moments.{moment, outside}}
+use Rattle.pm_session.{specs.Entry.{Enters, Serves, IsTextBehind}, proofs.{Attentions.{untried_still, new_untried, new_no_cancel}, Links.fresh_sound, Sessions.{stopped_session, stopped_caused, started_session, started_caused, stopped_made, started_made, no_cancel_kept, asked_for, asked_since, attached_outside, started_slept}}}
 use Rattle.pm_session.proofs.desk.Desk.session.Goals as goal
 
 pub startup-requires-clause-none : goal.startup-requires-clause-none

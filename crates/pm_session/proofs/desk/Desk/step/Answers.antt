@@ -1,10 +1,6 @@
-use Rattle.std.proofs.Common.{◌∙◌, ◌++◌, ◌<◌, ℕ, List, length, take, drop, ap, refl, subst, sym, take-append-drop}
-use Rattle.pm_wire.specs.Frontend.{front_message, IsFront, IsUndecided, BeginsBadly}
-use Rattle.pm_wire.specs.declared.take.Take.TheVariants.{Bad}
-use Rattle.pm_wire.specs.declared.take.WireFault.{WireFault}
-use Rattle.std.proofs.lemmas.Result.{err_from_is_err_and}
-use Rattle.pm_session.proofs.Conversing.{message_taken}
-use Rattle.pm_session.proofs.Steps.{stops_here, waited, bad_length, length_refused}
+use Rattle.std.proofs.{Common.{◌∙◌, ◌++◌, ◌<◌, ℕ, List, length, take, drop, ap, refl, subst, sym, take-append-drop}, lemmas.Result.err_from_is_err_and}
+use Rattle.pm_wire.specs.{Frontend.{front_message, IsFront, IsUndecided, BeginsBadly}, declared.take.{Take.TheVariants.Bad, WireFault.WireFault}}
+use Rattle.pm_session.proofs.{Conversing.message_taken, Steps.{stops_here, waited, bad_length, length_refused}}
 use Rattle.pm_session.proofs.desk.Desk.step.Goals as goal
 
 pub returns-in_err-heed-clause-talks : goal.returns-in_err-heed-clause-talks

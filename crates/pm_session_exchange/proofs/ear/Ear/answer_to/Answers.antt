@@ -1,10 +1,7 @@
 use Rattle.std.proofs.Common.{ℕ, List, subst}
-use Rattle.pm_exchange.specs.Queries.{Sleeps}
-use Rattle.pm_exchange.specs.Answers.{turn_of}
-use Rattle.pm_life.specs.AttentionLaws.{hears_both}
-use Rattle.pm_exchange.proofs.Attentions.{hears_dropped}
-use Rattle.pm_exchange.proofs.Sleeping.{fit_as, sleeps_unnoted, all_spelled}
-use Rattle.pm_exchange.proofs.ear.Ear.answer_to.Goals as goal
+use Rattle.pm_session_exchange.{specs.{Queries.Sleeps, Answers.turn_of}, proofs.{Attentions.hears_dropped, Sleeping.{fit_as, sleeps_unnoted, all_spelled}}}
+use Rattle.pm_child_life.proofs.AttentionLaws.{hears_both}
+use Rattle.pm_session_exchange.proofs.ear.Ear.answer_to.Goals as goal
 
 pub returns-in-Err-clause-fit : goal.returns-in-Err-clause-fit
 returns-in-Err-clause-fit g c = fit_as _ _ _ c.in-Ok.ensures.cases.0 c.faulted.ensures.fit _ _

@@ -1,10 +1,8 @@
-use Rattle.std.proofs.Common.{◌∙◌, [], refl}
-use Rattle.std.proofs.lemmas.Result.{err_from_is_err_and}
-use Rattle.pm_query.specs.Calls.{user_of}
-use Rattle.pm_life.specs.AttentionLaws.{hears_none, hears_both, hears_fewer}
-use Rattle.pm_query.specs.NotedLaws.{none_behind, same_user}
-use Rattle.pm_exchange.proofs.Noted.{wait_ends, wait_done, wait_stops, flush_ends, seen_can, flush_can}
-use Rattle.pm_exchange.proofs.ear.Ear.await_flush.Goals as goal
+use Rattle.std.proofs.{Common.{◌∙◌, [], refl}, lemmas.Result.err_from_is_err_and}
+use Rattle.pm_query.{specs.Calls.user_of, proofs.NotedLaws.{none_behind, same_user}}
+use Rattle.pm_child_life.proofs.AttentionLaws.{hears_none, hears_both, hears_fewer}
+use Rattle.pm_session_exchange.proofs.Noted.{wait_ends, wait_done, wait_stops, flush_ends, seen_can, flush_can}
+use Rattle.pm_session_exchange.proofs.ear.Ear.await_flush.Goals as goal
 
 pub loop-init : goal.loop-init
 loop-init g c = record {

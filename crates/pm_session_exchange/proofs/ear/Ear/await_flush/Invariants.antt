@@ -1,7 +1,7 @@
 use Rattle.std.proofs.Common.{◌≡◌, []}
 use Rattle.pm_query.specs.Calls.{HasReached, user_of}
-use Rattle.pm_life.specs.Attention.{Hears}
-use Rattle.pm_exchange.proofs.ear.Ear.await_flush.Given as goal
+use Rattle.pm_child_life.specs.Attention.{Hears}
+use Rattle.pm_session_exchange.proofs.ear.Ear.await_flush.Given as goal
 
 abbrev pub invariant-loop : goal.invariant-loop
 invariant-loop g l = record {

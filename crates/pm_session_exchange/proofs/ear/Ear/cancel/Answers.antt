@@ -1,8 +1,7 @@
 use Rattle.std.proofs.Common.{refl}
-use Rattle.pm_life.specs.Attention.{attention}
-use Rattle.pm_exchange.specs.Moments.{Attends}
-use Rattle.pm_exchange.specs.MomentLaws.{attends_cancel}
-use Rattle.pm_exchange.proofs.ear.Ear.cancel.Goals as goal
+use Rattle.pm_child_life.specs.Attention.{attention}
+use Rattle.pm_session_exchange.{specs.Moments.Attends, proofs.MomentLaws.attends_cancel}
+use Rattle.pm_session_exchange.proofs.ear.Ear.cancel.Goals as goal
 
 pub invariant_of-self : goal.invariant_of-self
 invariant_of-self g c =

@@ -1,6 +1,6 @@
 use Rattle.std.proofs.Common.{sym}
-use Rattle.pm_exchange.proofs.Signals.{signal_told}
-use Rattle.pm_exchange.proofs.ear.Ear.heed.Goals as goal
+use Rattle.pm_session_exchange.proofs.Signals.{signal_told}
+use Rattle.pm_session_exchange.proofs.ear.Ear.heed.Goals as goal
 
 pub returns-in-Some-clause-stops : goal.returns-in-Some-clause-stops
 returns-in-Some-clause-stops g c = signal_told _ c.in-Some.cause c.listen.ensures.attentive (sym c.in-Some.ensures)

@@ -1,8 +1,7 @@
-use Rattle.pm_query.specs.Calls.{user_of}
-use Rattle.pm_life.specs.AttentionLaws.{hears_fewer, hears_none}
-use Rattle.pm_query.specs.NotedLaws.{same_user_at}
-use Rattle.pm_exchange.proofs.Noted.{run_can, run_refused, ran, released_fits}
-use Rattle.pm_exchange.proofs.ear.Ear.run.Goals as goal
+use Rattle.pm_query.{specs.Calls.user_of, proofs.NotedLaws.same_user_at}
+use Rattle.pm_child_life.proofs.AttentionLaws.{hears_fewer, hears_none}
+use Rattle.pm_session_exchange.proofs.Noted.{run_can, run_refused, ran, released_fits}
+use Rattle.pm_session_exchange.proofs.ear.Ear.run.Goals as goal
 
 pub returns-in-Ok-clause-notes : goal.returns-in-Ok-clause-notes
 returns-in-Ok-clause-notes g c =

@@ -1,7 +1,6 @@
-use Rattle.pm_life.specs.AttentionLaws.{hears_both, hears_fewer}
-use Rattle.pm_exchange.proofs.Sleeping.{all_slept}
-use Rattle.pm_exchange.proofs.Noted.{fits_earlier}
-use Rattle.pm_exchange.proofs.ear.Ear.script_answer.Goals as goal
+use Rattle.pm_child_life.proofs.AttentionLaws.{hears_both, hears_fewer}
+use Rattle.pm_session_exchange.proofs.{Sleeping.all_slept, Noted.fits_earlier}
+use Rattle.pm_session_exchange.proofs.ear.Ear.script_answer.Goals as goal
 
 pub returns-in-Whole-clause-fit : goal.returns-in-Whole-clause-fit
 returns-in-Whole-clause-fit g c = fits_earlier 1 c.args.script.now c.run.result _ _ _ c.sleep.ensures.hears.asked c.run.ensures.fit

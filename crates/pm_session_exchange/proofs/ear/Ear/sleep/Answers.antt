@@ -1,8 +1,7 @@
-use Rattle.std.proofs.Common.{◌∙◌, sym}
-use Rattle.std.proofs.lemmas.Result.{err_from_is_err_and}
-use Rattle.pm_life.specs.AttentionLaws.{hears_none, hears_both, hears_fewer}
-use Rattle.pm_exchange.proofs.Signals.{cancel_since}
-use Rattle.pm_exchange.proofs.ear.Ear.sleep.Goals as goal
+use Rattle.std.proofs.{Common.{◌∙◌, sym}, lemmas.Result.err_from_is_err_and}
+use Rattle.pm_child_life.proofs.AttentionLaws.{hears_none, hears_both, hears_fewer}
+use Rattle.pm_session_exchange.proofs.Signals.{cancel_since}
+use Rattle.pm_session_exchange.proofs.ear.Ear.sleep.Goals as goal
 
 pub loop-init : goal.loop-init
 loop-init g c = record { hears = hears_none _ }

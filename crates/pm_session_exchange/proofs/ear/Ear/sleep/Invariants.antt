@@ -1,5 +1,5 @@
-use Rattle.pm_life.specs.Attention.{Hears}
-use Rattle.pm_exchange.proofs.ear.Ear.sleep.Given as goal
+use Rattle.pm_child_life.specs.Attention.{Hears}
+use Rattle.pm_session_exchange.proofs.ear.Ear.sleep.Given as goal
 
 abbrev pub invariant-loop : goal.invariant-loop
 invariant-loop g l = record { hears : Hears 0 l.fn.self l.self }

@@ -1,9 +1,8 @@
-use Rattle.std.proofs.Common.{◌≡◌, ◌≤◌, ◌∙◌, ◌-◌, ◌+◌, ℕ, List, ◌++◌, length, take, drop, ap, arith, length-take, length-drop}
-use Rattle.std.proofs.Math.Seq.{take-append_seam}
+use Rattle.std.proofs.{Common.{◌≡◌, ◌≤◌, ◌∙◌, ◌-◌, ◌+◌, ℕ, List, ◌++◌, length, take, drop, ap, arith, length-take, length-drop}, Math.Seq.take-append_seam}
 use Rattle.pm_outside.specs.declared.link.Got.TheVariants.{Bytes}
-use Rattle.pm_facts.specs.Lists.{stands_behind}
-use Rattle.pm_exchange.proofs.Links.{has_read}
-use Rattle.pm_exchange.proofs.inbox.Inbox.read_from.Goals as goal
+use Rattle.pm_query.specs.pm_facts.Lists.{stands_behind}
+use Rattle.pm_session_exchange.proofs.Links.{has_read}
+use Rattle.pm_session_exchange.proofs.inbox.Inbox.read_from.Goals as goal
 
 take_front : (n : ℕ) (xs ys : List ℕ) → n ≡ length xs → take n (xs ++ ys) ≡ xs
 take_front n xs ys is = ap (λ (m : ℕ). take m (xs ++ ys)) is ∙ take-append_seam xs ys

@@ -1,7 +1,7 @@
 use Rattle.std.proofs.Common.{◌∙◌, ◌++◌, [], ℕ, List, ap, append_assoc}
-use Rattle.pm_life.specs.AttentionLaws.{hears_both, hears_fewer}
-use Rattle.pm_exchange.specs.LinkLaws.{passes_both}
-use Rattle.pm_exchange.proofs.line.Line.await_bytes.Goals as goal
+use Rattle.pm_child_life.proofs.AttentionLaws.{hears_both, hears_fewer}
+use Rattle.pm_session_exchange.proofs.LinkLaws.{passes_both}
+use Rattle.pm_session_exchange.proofs.line.Line.await_bytes.Goals as goal
 
 pub returns-in-Err-clause-hears : goal.returns-in-Err-clause-hears
 returns-in-Err-clause-hears g c = hears_fewer 0 1 _ _ (hears_both 0 1 _ _ _ c.loop-self.invariant.hears c.receive.ensures.hears)

@@ -1,7 +1,7 @@
 use Rattle.std.proofs.Common.{◌≡◌, false, ◌++◌, ◌-◌, ℕ, List, [], length}
-use Rattle.pm_life.specs.Attention.{Hears}
-use Rattle.pm_exchange.specs.Exchange.{IsSound, Passes}
-use Rattle.pm_exchange.proofs.line.Line.await_bytes.Given as goal
+use Rattle.pm_child_life.specs.Attention.{Hears}
+use Rattle.pm_session_exchange.specs.Exchange.{IsSound, Passes}
+use Rattle.pm_session_exchange.proofs.line.Line.await_bytes.Given as goal
 
 abbrev pub invariant-loop-self : goal.invariant-loop-self
 invariant-loop-self g l = record {

@@ -1,9 +1,7 @@
 use Rattle.std.proofs.Common.{◌∙◌, [], true, false, sym}
-use Rattle.pm_exchange.specs.declared.ending.Cause.TheVariants.{LinkEnded}
-use Rattle.pm_life.specs.AttentionLaws.{hears_both, hears_fewer}
-use Rattle.pm_exchange.specs.MomentLaws.{told_cause}
-use Rattle.pm_exchange.specs.LinkLaws.{passes_both, sound_left}
-use Rattle.pm_exchange.proofs.line.Line.receive.Goals as goal
+use Rattle.pm_session_exchange.{specs.declared.ending.Cause.TheVariants.LinkEnded, proofs.{MomentLaws.told_cause, LinkLaws.{passes_both, sound_left}}}
+use Rattle.pm_child_life.proofs.AttentionLaws.{hears_both, hears_fewer}
+use Rattle.pm_session_exchange.proofs.line.Line.receive.Goals as goal
 
 pub returns-in-Some-ends-clause-cause : goal.returns-in-Some-ends-clause-cause
 returns-in-Some-ends-clause-cause g c = told_cause _ c.in-Some-ends.cause _ _ c.listen.ensures.attentive (sym c.ends.ensures ∙ c.in-Some-ends.is)

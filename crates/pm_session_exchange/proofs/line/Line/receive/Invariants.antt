@@ -1,7 +1,7 @@
 use Rattle.std.proofs.Common.{false}
-use Rattle.pm_life.specs.Attention.{Hears}
-use Rattle.pm_exchange.specs.Exchange.{link_view, IsSound, ReceivesNothing}
-use Rattle.pm_exchange.proofs.line.Line.receive.Given as goal
+use Rattle.pm_child_life.specs.Attention.{Hears}
+use Rattle.pm_session_exchange.specs.Exchange.{link_view, IsSound, ReceivesNothing}
+use Rattle.pm_session_exchange.proofs.line.Line.receive.Given as goal
 
 abbrev pub invariant-loop : goal.invariant-loop
 invariant-loop g l = record {

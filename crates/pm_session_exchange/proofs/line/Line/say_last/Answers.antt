@@ -1,9 +1,6 @@
-use Rattle.std.proofs.Common.{◌≡◌, ◌≢◌, ◌∙◌, ◌==◌, ℕ, List, [], length, true, false, inl, inr, sym, subst, arith}
-use Rattle.std.proofs.lemmas.List.{nil_from_length}
-use Rattle.std.proofs.lemmas.Grind.{common_steps}
-use Rattle.pm_exchange.proofs.Lasts.{says_none, said}
-use Rattle.pm_exchange.proofs.line.Line.say_last.Goals as goal
-use Rattle.pm_exchange.proofs.line.Line.say_last.Goals.{then-is_empty-via-then-is_empty, then-is_empty-via-else-is_empty+then-is_killed}
+use Rattle.std.proofs.{Common.{◌≡◌, ◌≢◌, ◌∙◌, ◌==◌, ℕ, List, [], length, true, false, inl, inr, sym, subst, arith}, lemmas.{List.nil_from_length, Grind.common_steps}}
+use Rattle.pm_session_exchange.proofs.{Lasts.{says_none, said}, line.Line.say_last.Goals.{then-is_empty-via-then-is_empty, then-is_empty-via-else-is_empty+then-is_killed}}
+use Rattle.pm_session_exchange.proofs.line.Line.say_last.Goals as goal
 
 nothing : (words : List ℕ) → (length words == 0) ≡ true → words ≡ []
 nothing words is = nil_from_length words (grind (arith, common_steps))

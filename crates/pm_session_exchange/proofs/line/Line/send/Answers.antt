@@ -1,9 +1,7 @@
-use Rattle.pm_exchange.specs.declared.ending.Cause.TheVariants.{Killed}
-use Rattle.pm_life.specs.AttentionLaws.{hears_both, hears_fewer}
-use Rattle.pm_facts.specs.Lists.{rest_of}
-use Rattle.pm_exchange.specs.LinkLaws.{sound_left}
-use Rattle.pm_exchange.proofs.Links.{sends_more, wrote, wrote_sound, write_left}
-use Rattle.pm_exchange.proofs.line.Line.send.Goals as goal
+use Rattle.pm_session_exchange.{specs.declared.ending.Cause.TheVariants.Killed, proofs.{LinkLaws.sound_left, Links.{sends_more, wrote, wrote_sound, write_left}}}
+use Rattle.pm_child_life.proofs.AttentionLaws.{hears_both, hears_fewer}
+use Rattle.pm_query.specs.pm_facts.Lists.{rest_of}
+use Rattle.pm_session_exchange.proofs.line.Line.send.Goals as goal
 
 pub loop-rest-preserved : goal.loop-rest-preserved
 loop-rest-preserved g c = record {

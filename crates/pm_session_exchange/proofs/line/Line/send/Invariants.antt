@@ -1,7 +1,7 @@
 use Rattle.std.proofs.Common.{Bool, length}
-use Rattle.pm_life.specs.Attention.{Hears}
-use Rattle.pm_exchange.specs.Exchange.{link_view, IsSound, SentAllBut}
-use Rattle.pm_exchange.proofs.line.Line.send.Given as goal
+use Rattle.pm_child_life.specs.Attention.{Hears}
+use Rattle.pm_session_exchange.specs.Exchange.{link_view, IsSound, SentAllBut}
+use Rattle.pm_session_exchange.proofs.line.Line.send.Given as goal
 
 abbrev pub invariant-loop-rest : goal.invariant-loop-rest
 invariant-loop-rest g l = record {

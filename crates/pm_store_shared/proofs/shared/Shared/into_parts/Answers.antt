@@ -1,8 +1,5 @@
-use Rattle.pm_shared.specs.Log.{IsShuffle}
-use Rattle.pm_shared.specs.Places.{EachOnce}
-use Rattle.pm_shared.specs.Told.{AllContinue, known_by, owns, pasts}
-use Rattle.pm_shared.proofs.Ending.{ends}
-use Rattle.pm_shared.proofs.shared.Shared.into_parts.Goals as goal
+use Rattle.pm_store_shared.{specs.{Log.IsShuffle, Places.EachOnce, Told.{AllContinue, known_by, owns, pasts}}, proofs.Ending.ends}
+use Rattle.pm_store_shared.proofs.shared.Shared.into_parts.Goals as goal
 
 pub returns : goal.returns
 returns g c =

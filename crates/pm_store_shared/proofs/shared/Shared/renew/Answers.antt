@@ -1,9 +1,6 @@
 use Rattle.std.proofs.Common.{◌∙◌, [], subst}
-use Rattle.pm_shared.specs.Behind.{Behind, Knows}
-use Rattle.pm_shared.specs.Rule.{taken}
-use Rattle.pm_shared.specs.Told.{Tells}
-use Rattle.pm_shared.proofs.Renewing.{Did, renew_did, renew_may}
-use Rattle.pm_shared.proofs.shared.Shared.renew.Goals as goal
+use Rattle.pm_store_shared.{specs.{Behind.{Behind, Knows}, Rule.taken, Told.Tells}, proofs.Renewing.{Did, renew_did, renew_may}}
+use Rattle.pm_store_shared.proofs.shared.Shared.renew.Goals as goal
 
 pub give_renewed-requires-clause-may : goal.give_renewed-requires-clause-may
 give_renewed-requires-clause-may g c =

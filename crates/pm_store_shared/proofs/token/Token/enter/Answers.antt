@@ -1,7 +1,7 @@
 use Rattle.std.proofs.Common.{◌∙◌, subst}
 use Rattle.pm_query.specs.Calls.{MetAnother}
-use Rattle.pm_shared.proofs.Calls.{entered_among, given_is, grew_by, met_behind, past_goes_on, passes_are, token_may_enter}
-use Rattle.pm_shared.proofs.token.Token.enter.Goals as goal
+use Rattle.pm_store_shared.proofs.Calls.{entered_among, given_is, grew_by, met_behind, past_goes_on, passes_are, token_may_enter}
+use Rattle.pm_store_shared.proofs.token.Token.enter.Goals as goal
 
 pub give-requires-clause-may : goal.give-requires-clause-may
 give-requires-clause-may g c =

@@ -1,13 +1,7 @@
 use Rattle.std.proofs.Common.{rules, ◌≡◌, ℕ, [], sym, ap, ◌∙◌, Option, Some, None, Err, subst, refl}
-use Rattle.pm_segment.specs.Moment.{moment}
-use Rattle.pm_segment.specs.Passes.{view_of}
-use Rattle.pm_query.specs.Book.{generation_of}
-use Rattle.pm_shared.specs.Told.{past_of}
-use Rattle.pm_query.specs.Calls.{MetLater, PassView, FlushNotes, user_of}
-use Rattle.pm_shared.specs.Passes.{Among}
-use Rattle.pm_shared.proofs.Calls.{called, stale_told, token_admits, token_may_quiet}
-use Rattle.pm_shared.proofs.Others.{flush_free, flush_quiet, token_knows_same}
-use Rattle.pm_shared.proofs.token.Token.flush_store.Goals as goal
+use Rattle.pm_segment.specs.{Moment.moment, Passes.view_of, pm_query.{Book.generation_of, Calls.{MetLater, PassView, FlushNotes, user_of}}}
+use Rattle.pm_store_shared.{specs.{Told.past_of, Passes.Among}, proofs.{Calls.{called, stale_told, token_admits, token_may_quiet}, Others.{flush_free, flush_quiet, token_knows_same}}}
+use Rattle.pm_store_shared.proofs.token.Token.flush_store.Goals as goal
 
 pub flush-result-requires : goal.flush-result-requires
 flush-result-requires g c =

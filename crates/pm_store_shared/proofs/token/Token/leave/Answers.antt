@@ -1,9 +1,7 @@
 use Rattle.std.proofs.Common.{inl, inr, sym, ap, ◌∙◌, ◌∷◌, [], subst}
-use Rattle.pm_shared.specs.Passes.{Among, without_pass}
-use Rattle.pm_shared.proofs.Calls.{given_is, grew_by, past_goes_on, stale_here, token_admits, token_may_leave, token_may_stale}
+use Rattle.pm_store_shared.{specs.{Passes.{Among, without_pass}, Told.{given_back, passes_of}}, proofs.Calls.{given_is, grew_by, past_goes_on, stale_here, token_admits, token_may_leave, token_may_stale}}
 use Rattle.pm_query.specs.declared.book.BookEntry.TheVariants.{Detached}
-use Rattle.pm_shared.specs.Told.{given_back, passes_of}
-use Rattle.pm_shared.proofs.token.Token.leave.Goals as goal
+use Rattle.pm_store_shared.proofs.token.Token.leave.Goals as goal
 
 pub give-requires-clause-may : goal.give-requires-clause-may
 give-requires-clause-may g c =

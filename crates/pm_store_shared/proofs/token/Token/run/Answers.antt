@@ -1,12 +1,7 @@
 use Rattle.std.proofs.Common.{rules, ◌≡◌, ℕ, [], sym, ap, ◌∙◌, Option, Some, None, Err, subst, refl}
-use Rattle.pm_segment.specs.Moment.{moment}
-use Rattle.pm_segment.specs.Passes.{view_of}
-use Rattle.pm_query.specs.Book.{generation_of}
-use Rattle.pm_shared.specs.Told.{IsSmall, past_of}
-use Rattle.pm_query.specs.Calls.{MetLater, RunNotes, user_of}
-use Rattle.pm_shared.specs.Passes.{Among}
-use Rattle.pm_shared.proofs.Calls.{RunView, called, rests_again, run_free, run_pass, run_quiet, stale_told, token_admits, token_knows_run, token_may_quiet}
-use Rattle.pm_shared.proofs.token.Token.run.Goals as goal
+use Rattle.pm_segment.specs.{Moment.moment, Passes.view_of, pm_query.{Book.generation_of, Calls.{MetLater, RunNotes, user_of}}}
+use Rattle.pm_store_shared.{specs.{Told.{IsSmall, past_of}, Passes.Among}, proofs.Calls.{RunView, called, rests_again, run_free, run_pass, run_quiet, stale_told, token_admits, token_knows_run, token_may_quiet}}
+use Rattle.pm_store_shared.proofs.token.Token.run.Goals as goal
 
 pub run-result-requires : goal.run-result-requires
 run-result-requires g c =

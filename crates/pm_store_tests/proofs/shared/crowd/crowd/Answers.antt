@@ -1,7 +1,6 @@
 use Rattle.std.proofs.Common.{◌≡◌, drop, length, sym, subst, arith}
-use Rattle.pm_shared.specs.Told.{AreTokens}
-use Rattle.pm_store_tests.specs.Seats.{AreParted}
-use Rattle.pm_store_tests.proofs.Parts.{stays}
+use Rattle.pm_store_shared.specs.Told.{AreTokens}
+use Rattle.pm_store_tests.{specs.Seats.AreParted, proofs.Parts.stays}
 use Rattle.pm_store_tests.proofs.shared.crowd.crowd.Goals as goal
 
 pub seats_of-requires : goal.seats_of-requires

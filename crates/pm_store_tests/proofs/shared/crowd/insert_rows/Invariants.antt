@@ -1,4 +1,4 @@
-use Rattle.pm_shared.specs.Passes.{Among}
+use Rattle.pm_store_shared.specs.Passes.{Among}
 use Rattle.pm_store_tests.specs.Seats.{IsSame}
 use Rattle.pm_store_tests.proofs.shared.crowd.insert_rows.Given as goal
 

@@ -1,6 +1,5 @@
 use Rattle.std.proofs.Common.{sym, subst}
-use Rattle.pm_store_tests.specs.Seats.{AreParted}
-use Rattle.pm_store_tests.proofs.Parts.{goes_out, none_out}
+use Rattle.pm_store_tests.{specs.Seats.AreParted, proofs.Parts.{goes_out, none_out}}
 use Rattle.pm_store_tests.proofs.shared.crowd.seats_of.Goals as goal
 
 pub loop-token-init : goal.loop-token-init

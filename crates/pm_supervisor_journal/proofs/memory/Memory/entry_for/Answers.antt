@@ -1,5 +1,5 @@
 use Rattle.std.proofs.Common.{refl}
-use Rattle.pm_journal.proofs.memory.Memory.entry_for.Goals as goal
+use Rattle.pm_supervisor_journal.proofs.memory.Memory.entry_for.Goals as goal
 
 pub returns-in-Start : goal.returns-in-Start
 returns-in-Start c = rw c.in-Start.is refl

@@ -1,6 +1,6 @@
 use Rattle.std.proofs.Common.{arith}
 use Rattle.pm_state.specs.Machine.{Exited}
-use Rattle.pm_journal.proofs.memory.Memory.exit.Goals as goal
+use Rattle.pm_supervisor_journal.proofs.memory.Memory.exit.Goals as goal
 
 pub owe-requires : goal.owe-requires
 owe-requires c =

@@ -1,6 +1,6 @@
 use Rattle.std.proofs.Common.{◌∙◌, sym}
-use Rattle.pm_journal.proofs.Rolls.{without-found, without-absent}
-use Rattle.pm_journal.proofs.roll.Roll.remove.Goals as goal
+use Rattle.pm_supervisor_journal.proofs.Rolls.{without-found, without-absent}
+use Rattle.pm_supervisor_journal.proofs.roll.Roll.remove.Goals as goal
 
 pub returns-in-Some-clause-children : goal.returns-in-Some-clause-children
 returns-in-Some-clause-children c =

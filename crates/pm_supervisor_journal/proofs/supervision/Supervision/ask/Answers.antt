@@ -1,10 +1,7 @@
-use Rattle.std.proofs.Common.{◌≡◌, [], ◌∷◌, ◌++◌, ap, ◌∙◌}
-use Rattle.std.specs.Option.{option_map}
-use Rattle.pm_state.specs.declared.event.PmEvent.TheVariants.{Asked}
-use Rattle.pm_state.specs.Shows.{Asks}
-use Rattle.pm_journal.specs.Standing.{called, later, noted, standing_of}
-use Rattle.pm_journal.proofs.Making.{stands-asked}
-use Rattle.pm_journal.proofs.supervision.Supervision.ask.Goals as goal
+use Rattle.std.{proofs.Common.{◌≡◌, [], ◌∷◌, ◌++◌, ap, ◌∙◌}, specs.Option.option_map}
+use Rattle.pm_state.specs.{declared.event.PmEvent.TheVariants.Asked, Shows.Asks}
+use Rattle.pm_supervisor_journal.{specs.Standing.{called, later, noted, standing_of}, proofs.Making.stands-asked}
+use Rattle.pm_supervisor_journal.proofs.supervision.Supervision.ask.Goals as goal
 
 pub returns-clause-stands : goal.returns-clause-stands
 returns-clause-stands g c = λ limits h was.

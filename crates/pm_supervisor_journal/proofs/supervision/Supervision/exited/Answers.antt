@@ -1,9 +1,7 @@
-use Rattle.std.proofs.Common.{◌≡◌, ◌∷◌, ◌++◌, ap, sym, ◌∙◌, subst, arith}
-use Rattle.std.specs.Option.{option_map}
+use Rattle.std.{proofs.Common.{◌≡◌, ◌∷◌, ◌++◌, ap, sym, ◌∙◌, subst, arith}, specs.Option.option_map}
 use Rattle.pm_state.specs.Machine.{Exited, IsCounted}
-use Rattle.pm_journal.specs.Standing.{all_noted, called, exit_call, exit_entry, later, redo_entries, standing_of}
-use Rattle.pm_journal.proofs.Making.{counted-now, stands-exited}
-use Rattle.pm_journal.proofs.supervision.Supervision.exited.Goals as goal
+use Rattle.pm_supervisor_journal.{specs.Standing.{all_noted, called, exit_call, exit_entry, later, redo_entries, standing_of}, proofs.Making.{counted-now, stands-exited}}
+use Rattle.pm_supervisor_journal.proofs.supervision.Supervision.exited.Goals as goal
 
 pub exit-requires-clause-counted : goal.exit-requires-clause-counted
 exit-requires-clause-counted g c =

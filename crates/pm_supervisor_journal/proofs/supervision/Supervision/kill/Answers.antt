@@ -1,9 +1,7 @@
-use Rattle.std.proofs.Common.{[], ◌∷◌, ◌++◌, ap, ◌∙◌}
-use Rattle.std.specs.Option.{option_map}
+use Rattle.std.{proofs.Common.{[], ◌∷◌, ◌++◌, ap, ◌∙◌}, specs.Option.option_map}
 use Rattle.pm_state.specs.declared.event.PmEvent.TheVariants.{KillAsked}
-use Rattle.pm_journal.specs.Standing.{killed, standing_of}
-use Rattle.pm_journal.proofs.Making.{stands-killed}
-use Rattle.pm_journal.proofs.supervision.Supervision.kill.Goals as goal
+use Rattle.pm_supervisor_journal.{specs.Standing.{killed, standing_of}, proofs.Making.stands-killed}
+use Rattle.pm_supervisor_journal.proofs.supervision.Supervision.kill.Goals as goal
 
 pub returns-clause-stands : goal.returns-clause-stands
 returns-clause-stands g c = λ limits h was.

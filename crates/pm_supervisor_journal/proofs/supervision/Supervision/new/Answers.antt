@@ -1,5 +1,5 @@
-use Rattle.pm_journal.proofs.Making.{stands-begun}
-use Rattle.pm_journal.proofs.supervision.Supervision.new.Goals as goal
+use Rattle.pm_supervisor_journal.proofs.Making.{stands-begun}
+use Rattle.pm_supervisor_journal.proofs.supervision.Supervision.new.Goals as goal
 
 pub returns-clause-stands : goal.returns-clause-stands
 returns-clause-stands g c =

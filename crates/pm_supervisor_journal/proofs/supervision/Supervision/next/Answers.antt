@@ -1,10 +1,7 @@
-use Rattle.std.proofs.Common.{[], ◌∷◌, ◌++◌, Some, ap, sym, ◌∙◌, arith, Ok}
-use Rattle.std.specs.Option.{option_map}
-use Rattle.pm_journal.specs.Standing.{noted, reported, standing_of}
-use Rattle.pm_outside.specs.AddedLaws.{added_none}
-use Rattle.pm_journal.specs.NextsLaws.{shorter}
-use Rattle.pm_journal.proofs.Nexts.{has-numbers, may-do, next-done, next-none, next-spent, settled-done, stands-done}
-use Rattle.pm_journal.proofs.supervision.Supervision.next.Goals as goal
+use Rattle.std.{proofs.Common.{[], ◌∷◌, ◌++◌, Some, ap, sym, ◌∙◌, arith, Ok}, specs.Option.option_map}
+use Rattle.pm_supervisor_journal.{specs.Standing.{noted, reported, standing_of}, proofs.{NextsLaws.shorter, Nexts.{has-numbers, may-do, next-done, next-none, next-spent, settled-done, stands-done}}}
+use Rattle.pm_outside.proofs.AddedLaws.{added_none}
+use Rattle.pm_supervisor_journal.proofs.supervision.Supervision.next.Goals as goal
 
 pub returns-in_default-clause-act : goal.returns-in_default-clause-act
 returns-in_default-clause-act g c =

@@ -1,10 +1,7 @@
-use Rattle.std.proofs.Common.{[], ◌∷◌, ◌++◌, ap, ◌∙◌}
-use Rattle.std.specs.Option.{option_map}
-use Rattle.pm_state.specs.declared.event.PmEvent.TheVariants.{Accepted}
-use Rattle.pm_state.specs.Shows.{Accepts}
-use Rattle.pm_journal.specs.Standing.{called, next_pid, noted, standing_of}
-use Rattle.pm_journal.proofs.Making.{stands-accepted}
-use Rattle.pm_journal.proofs.supervision.Supervision.take.Goals as goal
+use Rattle.std.{proofs.Common.{[], ◌∷◌, ◌++◌, ap, ◌∙◌}, specs.Option.option_map}
+use Rattle.pm_state.specs.{declared.event.PmEvent.TheVariants.Accepted, Shows.Accepts}
+use Rattle.pm_supervisor_journal.{specs.Standing.{called, next_pid, noted, standing_of}, proofs.Making.stands-accepted}
+use Rattle.pm_supervisor_journal.proofs.supervision.Supervision.take.Goals as goal
 
 pub returns-clause-stands : goal.returns-clause-stands
 returns-clause-stands g c = λ limits h was.

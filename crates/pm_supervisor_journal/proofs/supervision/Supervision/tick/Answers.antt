@@ -1,8 +1,7 @@
 use Rattle.std.proofs.Common.{ap, ◌∙◌}
 use Rattle.pm_state.specs.Shows.{Ticks}
-use Rattle.pm_journal.specs.Standing.{called, later, standing_of}
-use Rattle.pm_journal.proofs.Making.{stands-ticked}
-use Rattle.pm_journal.proofs.supervision.Supervision.tick.Goals as goal
+use Rattle.pm_supervisor_journal.{specs.Standing.{called, later, standing_of}, proofs.Making.stands-ticked}
+use Rattle.pm_supervisor_journal.proofs.supervision.Supervision.tick.Goals as goal
 
 pub returns-clause-stands : goal.returns-clause-stands
 returns-clause-stands g c = λ limits h was.

@@ -1,9 +1,7 @@
 use Rattle.std.proofs.Common.{ap, ◌∙◌, arith}
-use Rattle.pm_state.specs.Machine.{Turned}
-use Rattle.pm_state.specs.Shows.{TakesTurn}
-use Rattle.pm_journal.specs.Standing.{called, standing_of}
-use Rattle.pm_journal.proofs.Making.{stands-turned}
-use Rattle.pm_journal.proofs.supervision.Supervision.turn.Goals as goal
+use Rattle.pm_state.specs.{Machine.Turned, Shows.TakesTurn}
+use Rattle.pm_supervisor_journal.{specs.Standing.{called, standing_of}, proofs.Making.stands-turned}
+use Rattle.pm_supervisor_journal.proofs.supervision.Supervision.turn.Goals as goal
 
 pub invariant_of-self : goal.invariant_of-self
 invariant_of-self g c =
