@@ -86,7 +86,7 @@ class File:
                 self.constructors.update({constructor: name for constructor in names})
 
     def bring(self, text, public=False):
-        """Notes what a `use` line brings, by what stands behind its `use`: a module, or in braces, also nested ones, items by their paths."""
+        """Notes what a `use` line brings, by what follows its `use`: a module, or in braces, also nested ones, items by their paths."""
         words = re.findall(r"[{},]|[^\s{},]+", re.sub(r"\s--.*", "", text))
         brought, stems, path = {}, [[]], []
         for at, word in enumerate(words):
@@ -152,7 +152,7 @@ def length(chunk):
 
 
 def split_head(chunk):
-    """The head of a block, up to its `where`, as one text without comments, and the lines behind it."""
+    """The head of a block, up to its `where`, as one text without comments, and the lines after it."""
     for at, line in enumerate(chunk):
         if re.search(r"\bwhere\s*(--.*)?$", line) and not line.strip().startswith("--"):
             break

@@ -23,11 +23,11 @@ def generated(page):
 def write(page, text):
     """Puts a text between the marks of a page."""
     front, begin, rest = read(page).partition(BEGIN)
-    _, end, behind = rest.partition(END)
+    _, end, after = rest.partition(END)
     if not end:
         raise SystemExit(f"{page} has no marks {BEGIN.strip()} and {END}")
     with open(page, "w", encoding="utf-8") as file:
-        file.write(front + begin + text + end + behind)
+        file.write(front + begin + text + end + after)
 
 
 @functools.cache

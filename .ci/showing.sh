@@ -27,7 +27,7 @@ word() {
     printf "\\x$(printf '%02x' $(($1 >> 8 & 255)))\\x$(printf '%02x' $(($1 & 255)))"
 }
 
-# A message with this type and this text, and a zero byte behind the text.
+# A message with this type and this text, and a zero byte after the text.
 message() {
     printf '%s' "$1"
     word $((${#2} + 5))

@@ -88,7 +88,7 @@ static void open_line(struct line *line)
     if (line->fd < 0 || connect(line->fd, (struct sockaddr *)&address, sizeof address))
         give_up("there is no server");
     setsockopt(line->fd, IPPROTO_TCP, TCP_NODELAY, &on, sizeof on);
-    say(line, packet, sizeof packet); // the zero byte behind a literal ends the packet
+    say(line, packet, sizeof packet); // the zero byte after a literal ends the packet
     hear(line);
 }
 
