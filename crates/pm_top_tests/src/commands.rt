@@ -1,6 +1,5 @@
 //! What the commands say of files, and of words that are no command line.
-use crate::play::play;
-use pm_rows::Text;
+use crate::play::{play, words_of};
 use pm_top::misfit;
 use std::test::Fail;
 
@@ -87,6 +86,7 @@ ends OutFault 1
 says queri
 # a server without a thread for its first worker
 files NEW | CLOSED
+threads 0
 $ serve --data folder --port 5432 < PACKET
 ends NoThread 4
 says no\x20thread\n
@@ -250,10 +250,7 @@ fn the_first_word_that_does_not_fit_is_found(rt: HostRuntime) -> Result<(), Fail
     let alloc = rt.alloc();
     for line in MISFITS.lines() {
         let (want, rest) = line.split_once(':').unwrap_or(("None", ""));
-        let mut words = Vec::new(alloc);
-        for word in rest.split_whitespace() {
-            words.push(Text::of(alloc, word)?)?;
-        }
+        let words = words_of(alloc, rest)?;
         assert_eq!(rt;
             format!(in alloc; "{:?}", misfit(&words))?.as_str(),
             want,
@@ -265,6 +262,5 @@ fn the_first_word_that_does_not_fit_is_found(rt: HostRuntime) -> Result<(), Fail
 
 #[test]
 fn commands_tell_what_they_find(rt: HostRuntime) -> Result<(), Fail> {
-    let _left = play(&rt, rt.alloc(), SCENES)?;
-    Ok(())
+    play(rt, rt.alloc(), SCENES)
 }

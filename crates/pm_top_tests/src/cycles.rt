@@ -1,5 +1,5 @@
 //! Children that crash: the others are told, and the next generation redoes the log.
-use crate::serving::play;
+use crate::play::play;
 use std::test::Fail;
 
 const SCENES: &str = r"
@@ -9,8 +9,8 @@ link @log>READY : PACKET INSERT_SEVEN @never
 link @1>GREETING,KEY_OF_4,INSERTED : PACKET SELECT_SEVEN @never
 link @log>READY,KILLED_4,NEXT : PACKET SELECT_SEVEN TERMINATE
 line @2>GREETING,KEY_OF_5,COLUMNS,SEVEN,FOUND : kill 4
-serve
-ends Done
+$ serve --data=folder --port=5432 --max-connections=2
+ends Done 0
 says READY KILLED_4 NEXT SMART DOWN
 links 3
 sends 1 GREETING KEY_OF_4 INSERTED
@@ -24,8 +24,8 @@ link : @never PACKET
 link : @reads>1 PACKET
 link @log>KILLED_2,TERMINATING,READY : PACKET SELECT_SEVEN TERMINATE
 line @2>STARTING : kill 2
-serve
-ends Done
+$ serve --data=folder --port=5432 --max-connections=2
+ends Done 0
 says KILLED_2 TERMINATING READY SMART DOWN
 links 3
 sends 1
@@ -37,39 +37,80 @@ files NEW | CLOSED
 link @log>READY : PACKET INSERT_SEVEN @never
 link @log>READY,CHECKPOINTER_KILLED,NEXT : PACKET SELECT_SEVEN TERMINATE
 line @1>GREETING,KEY_OF_4,INSERTED : kill 2
-serve
-ends Done
+$ serve --data=folder --port=5432 --max-connections=2
+ends Done 0
 says READY CHECKPOINTER_KILLED NEXT SMART DOWN
 links 2
 sends 1 GREETING KEY_OF_4 INSERTED CRASHED
 sends 2 GREETING KEY_OF_8 COLUMNS SEVEN FOUND
+# a session is in a write of the disk when another one is killed: it is told after that write, and its row stands. Who comes meanwhile is refused
+files NEW | CLOSED
+time runs
+write @3>RECOVERING
+link @log>READY : PACKET @never
+link @1>GREETING,KEY_OF_4 : PACKET INSERT_SEVEN @never
+link @log>READY,KILLED_4,TERMINATING : PACKET
+link @log>READY,KILLED_4,NEXT : PACKET SELECT_SEVEN TERMINATE
+line @writes>1 : kill 4
+$ serve --data=folder --port=5432 --max-connections=2
+ends Done 0
+says READY KILLED_4 NEXT SMART DOWN
+links 4
+sends 1 GREETING KEY_OF_4
+sends 2 GREETING KEY_OF_5 CRASHED | GREETING KEY_OF_5 INSERTED CRASHED
+sends 3 RECOVERING
+sends 4 GREETING KEY_OF_10 COLUMNS SEVEN FOUND
+notes QuitSent(Crash) ; Accepted { pid: 6, decision: Recovery } ; Reset { generation: 2 } ; RedoEnded { generation: 2, kept: 1 }
+# five seconds after the crash it is killed, still in its write, and so are four who came meanwhile and said nothing: then the next is refused
+files NEW | CLOSED
+time runs
+write @7>RECOVERING
+link @log>READY : PACKET @never
+link @1>GREETING,KEY_OF_4 : PACKET INSERT_SEVEN @never
+link @log>READY,KILLED_4,TERMINATING : @never PACKET
+link : @never PACKET
+link : @never PACKET
+link : @never PACKET
+link : PACKET
+link @log>READY,KILLED_4,NEXT : PACKET SELECT_SEVEN TERMINATE
+line @writes>1 : kill 4
+$ serve --data=folder --port=5432 --max-connections=2
+ends Done 0
+says READY KILLED_4 NEXT SMART DOWN
+links 8
+sends 1 GREETING KEY_OF_4
+sends 2 GREETING KEY_OF_5
+sends 3
+sends 4
+sends 5
+sends 6
+sends 7 RECOVERING
+sends 8 GREETING KEY_OF_14 COLUMNS SEVEN FOUND
+notes QuitSent(Crash) ; Accepted { pid: 9, decision: Recovery } ; KillSent ; Accepted { pid: 10, decision: Recovery } ; Exited { pid: 5, kind: Backend, status: Signal(9), was_active: true ; Reset { generation: 2 } ; RedoEnded { generation: 2, kept: 1 }
 # a server that isn't to restart
 files NEW | CLOSED
-with restart off
 link @log>READY : PACKET INSERT_SEVEN @never
 end @never
 line @1>GREETING,KEY_OF_4,INSERTED : kill 4
-serve
-ends Abnormal(RestartOff)
+$ serve --data=folder --port=5432 --max-connections=2 --restart-after-crash=off
+ends Abnormal(RestartOff) 1
 says READY KILLED_4 TERMINATING RESTART_OFF
 links 1
 sends 1 GREETING KEY_OF_4 INSERTED
 a ONE_ROW
 b CLOSED
 link @log>READY : PACKET SELECT_SEVEN TERMINATE
-once
-ends Done
+$ once --data=folder
+ends Done 0
 sends 1 GREETING KEY_OF_4 COLUMNS SEVEN FOUND
 # the sync of a commit's body fails: none of three is answered, and none stands. Whoever meets it first crashes
-files NEW | CLOSED
-fails 8
-with connections 3
+files NEW | CLOSED | 8
 link @log>READY : PACKET @3>GREETING,KEY_OF_6 INSERT_SEVEN @never
 link @1>GREETING,KEY_OF_4 : PACKET @3>GREETING,KEY_OF_6 INSERT_EIGHT @never
 link @2>GREETING,KEY_OF_5 : PACKET INSERT_NINE @never
 link @log>READY,FAILED_3,NEXT : PACKET COUNT TERMINATE
-serve
-ends Done
+$ serve --data=folder --port=5432 --max-connections=3
+ends Done 0
 says READY FAILED_2 NEXT SMART DOWN | READY FAILED_3 NEXT SMART DOWN | READY FAILED_4 NEXT SMART DOWN | READY FAILED_5 NEXT SMART DOWN | READY FAILED_6 NEXT SMART DOWN
 links 4
 sends 1 GREETING KEY_OF_4 PANIC | GREETING KEY_OF_4 CRASHED
@@ -78,13 +119,12 @@ sends 3 GREETING KEY_OF_6 PANIC | GREETING KEY_OF_6 CRASHED
 sends 4 GREETING KEY_OF_10 NO_ROWS
 notes QuitSent(Crash) ; Reset { generation: 2 } ; RedoEnded { generation: 2, kept: 0 }
 # the sync of its gate fails: it isn't answered, and it stands
-files NEW | CLOSED
-fails 10
+files NEW | CLOSED | 10
 link @log>READY : PACKET @never
 link @1>GREETING,KEY_OF_4 : PACKET INSERT_SEVEN @never
 link @log>READY,FAILED_3,NEXT : PACKET SELECT_SEVEN SELECT_SEVEN TERMINATE
-serve
-ends Done
+$ serve --data=folder --port=5432 --max-connections=2
+ends Done 0
 says READY FAILED_2 NEXT SMART DOWN | READY FAILED_3 NEXT SMART DOWN | READY FAILED_5 NEXT SMART DOWN
 links 3
 sends 1 GREETING KEY_OF_4 CRASHED
@@ -96,18 +136,17 @@ files NEW | CLOSED
 breaks 8
 link @log>READY : PACKET INSERT_SEVEN @never
 end @never
-serve
-ends Abnormal(StartupFailed(Redo(Disk)))
+$ serve --data=folder --port=5432 --max-connections=2
+ends Abnormal(StartupFailed(Redo(Disk))) 1
 says READY FAILED_2 TERMINATING REINITIALIZING STARTUP_5_FAILED ABORTING DISK_FAULT | READY FAILED_3 TERMINATING REINITIALIZING STARTUP_5_FAILED ABORTING DISK_FAULT | READY FAILED_4 TERMINATING REINITIALIZING STARTUP_5_FAILED ABORTING DISK_FAULT
 links 1
 a OPEN HEADER CLOSED PUT_SEVEN CLOSED
 b CLOSED
 # it fails under the last checkpoint
-files NEW | CLOSED
-fails 7
+files NEW | CLOSED | 7
 end @log>READY
-serve
-ends Abnormal(AfterCrash)
+$ serve --data=folder --port=5432 --max-connections=2
+ends Abnormal(AfterCrash) 1
 says READY SMART FAILED_2 TERMINATING ABNORMAL
 # a session is killed in a shutdown
 files NEW | CLOSED
@@ -115,8 +154,8 @@ link @log>READY : PACKET INSERT_SEVEN @never
 end @never
 line @1>GREETING,KEY_OF_4,INSERTED : smart
 line @lines>1 : kill 4
-serve
-ends Abnormal(AfterCrash)
+$ serve --data=folder --port=5432 --max-connections=2
+ends Abnormal(AfterCrash) 1
 says READY SMART KILLED_4 TERMINATING ABNORMAL
 sends 1 GREETING KEY_OF_4 INSERTED
 a ONE_ROW

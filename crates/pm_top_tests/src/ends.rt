@@ -1,25 +1,23 @@
 //! Servers that don't start, and what the operator asks for.
-use crate::serving::play;
+use crate::play::play;
 use std::test::Fail;
 
 const UNSTARTED: &str = r"
 # fewer threads than slots
 files NEW | CLOSED
-with connections 20
-with threads 46
+threads 46
 link : PACKET
-serve
-ends NoThread
+$ serve --data=folder --port=5432 --max-connections=20
+ends NoThread 4
 says NO_THREAD
 links 0
 entries 0
 calls 4
 a NEW
 b CLOSED
-with connections 1
-with threads 3
-serve
-ends NoThread
+threads 3
+$ serve --data=folder --port=5432 --max-connections=1
+ends NoThread 4
 says NO_THREAD
 entries 0
 calls 4
@@ -27,8 +25,8 @@ calls 4
 files CLOSED | CLOSED
 link : @never PACKET
 end @never
-serve
-ends Abnormal(StartupFailed(Redo(NoCluster)))
+$ serve --data=folder --port=5432 --max-connections=2
+ends Abnormal(StartupFailed(Redo(NoCluster))) 1
 says STARTUP_FAILED ABORTING NO_CLUSTER
 links 1
 sends 1
@@ -36,11 +34,10 @@ notes Started { pid: 1, kind: Startup } ; Accepted { pid: 2, decision: Startup }
 a CLOSED
 b CLOSED
 # the disk fails under the redo
-files ONE_ROW | CLOSED
-fails 1
+files ONE_ROW | CLOSED | 1
 end @never
-serve
-ends Abnormal(StartupFailed(Redo(Disk)))
+$ serve --data=folder --port=5432 --max-connections=2
+ends Abnormal(StartupFailed(Redo(Disk))) 1
 says STARTUP_FAILED ABORTING DISK_FAULT
 a ONE_ROW
 b CLOSED
@@ -49,8 +46,8 @@ files NEW | CLOSED
 end @log>READY
 line @lines>0 : one turn
 line @lines>0 : kill 1
-serve
-ends Abnormal(StartupFailed(Killed)) | Done
+$ serve --data=folder --port=5432 --max-connections=2
+ends Abnormal(StartupFailed(Killed)) 1 | Done 0
 says STARTUP_KILLED ABORTING WAS_KILLED | READY SMART DOWN";
 
 #[test]
@@ -67,8 +64,8 @@ end @never
 line @1>GREETING,KEY_OF_4 : smart
 line @2>STOPPING : fast
 line @lines>2 : smart
-serve
-ends Done
+$ serve --data=folder --port=5432 --max-connections=2
+ends Done 0
 says READY SMART FAST ABORTING_SESSIONS DOWN
 links 2
 sends 1 GREETING KEY_OF_4 TERMINATED
@@ -82,8 +79,8 @@ link @log>READY : PACKET INSERT_SEVEN @never
 link @1>GREETING,KEY_OF_4,INSERTED : PACKET INSERT_EIGHT @never
 end @never
 line @2>GREETING,KEY_OF_5,INSERTED : immediate
-serve
-ends Done
+$ serve --data=folder --port=5432 --max-connections=2
+ends Done 0
 says READY IMMEDIATE DOWN
 links 2
 sends 1 GREETING KEY_OF_4 INSERTED STOPPED
@@ -92,16 +89,16 @@ notes Asked { mode: Immediate, at: 0 } ; QuitSent(Stop) ; Said(Down) ; Ended(Cle
 a OPEN HEADER OPEN PUT_SEVEN OPEN PUT_EIGHT CLOSED
 b CLOSED
 link @log>READY : PACKET SELECT_SEVEN SELECT_EIGHT TERMINATE
-once
-ends Done
+$ once --data=folder
+ends Done 0
 sends 1 GREETING KEY_OF_4 COLUMNS SEVEN FOUND COLUMNS EIGHT FOUND
 # a fast one in front of the startup child, and one while it reads the disk
 files ONE_ROW | CLOSED
 read @lines>1
 end @never
 line @lines>0 : fast
-serve
-ends Done
+$ serve --data=folder --port=5432 --max-connections=2
+ends Done 0
 says FAST DOWN
 a ONE_ROW_CLOSED
 b BASE_OF_ONE
@@ -109,33 +106,33 @@ files ONE_ROW | CLOSED
 read @lines>1
 end @never
 line @reads>1 : fast
-serve
-ends Done
+$ serve --data=folder --port=5432 --max-connections=2
+ends Done 0
 says FAST DOWN
 a ONE_ROW_CLOSED
 b BASE_OF_ONE
 link @log>READY : PACKET SELECT_SEVEN TERMINATE
-once
-ends Done
+$ once --data=folder
+ends Done 0
 sends 1 GREETING KEY_OF_4 COLUMNS SEVEN FOUND
 # an immediate one while it does
 files ONE_ROW | CLOSED
 read @lines>1
 end @never
 line @reads>1 : immediate
-serve
-ends Done
+$ serve --data=folder --port=5432 --max-connections=2
+ends Done 0
 says IMMEDIATE DOWN
 a ONE_ROW
 b CLOSED
 # the port's end in front of the redo
 files ONE_ROW | CLOSED
-serve
-ends Done
+$ serve --data=folder --port=5432 --max-connections=2
+ends Done 0
 says SMART DOWN
 link @log>READY : PACKET SELECT_SEVEN TERMINATE
-serve
-ends Done
+$ serve --data=folder --port=5432 --max-connections=2
+ends Done 0
 sends 1 GREETING KEY_OF_4 COLUMNS SEVEN FOUND
 # lines that ask for nothing: pids of nobody, and other words
 files NEW | CLOSED
@@ -152,8 +149,8 @@ line @lines>0 : Kill 4
 line @lines>0 :  fast
 line @lines>0 : FAST
 line @lines>0 : 
-serve
-ends Done
+$ serve --data=folder --port=5432 --max-connections=2
+ends Done 0
 says READY SMART DOWN
 links 1
 sends 1 GREETING KEY_OF_4 INSERTED";

@@ -1,6 +1,6 @@
 //! Each call of the disk, of the links and of the sink failing in turn.
 use crate::names::spelled;
-use crate::play::play;
+use crate::play::{play, play_scene};
 use std::alloc::Global;
 use std::process::Abort;
 use std::sync::Wait;
@@ -153,7 +153,7 @@ a ONE_ROW
 b CLOSED
 $ once --data=folder < PACKET SELECT_SEVEN SELECT_EIGHT
 ends Done 0
-sends GREETING KEY_OF_4 COLUMNS SEVEN FOUND COLUMNS ABSENT
+sends 1 GREETING KEY_OF_4 COLUMNS SEVEN FOUND COLUMNS ABSENT
 files ONE_ROW | CLOSED | 2
 $ once --data=folder < PACKET SELECT_SEVEN
 ends Abnormal(StartupFailed(Redo(Disk))) 1
@@ -164,7 +164,7 @@ a ONE_ROW
 b CLOSED
 $ once --data=folder < PACKET SELECT_SEVEN SELECT_EIGHT
 ends Done 0
-sends GREETING KEY_OF_4 COLUMNS SEVEN FOUND COLUMNS ABSENT
+sends 1 GREETING KEY_OF_4 COLUMNS SEVEN FOUND COLUMNS ABSENT
 files ONE_ROW | CLOSED | 3
 $ once --data=folder < PACKET SELECT_SEVEN
 ends Abnormal(StartupFailed(Redo(Disk))) 1
@@ -175,7 +175,7 @@ a ONE_ROW
 b CLOSED
 $ once --data=folder < PACKET SELECT_SEVEN SELECT_EIGHT
 ends Done 0
-sends GREETING KEY_OF_4 COLUMNS SEVEN FOUND COLUMNS ABSENT
+sends 1 GREETING KEY_OF_4 COLUMNS SEVEN FOUND COLUMNS ABSENT
 files ONE_ROW | CLOSED | 4
 $ once --data=folder < PACKET SELECT_SEVEN
 ends Abnormal(StartupFailed(Redo(Disk))) 1
@@ -186,7 +186,7 @@ a ONE_ROW
 b CLOSED
 $ once --data=folder < PACKET SELECT_SEVEN SELECT_EIGHT
 ends Done 0
-sends GREETING KEY_OF_4 COLUMNS SEVEN FOUND COLUMNS ABSENT
+sends 1 GREETING KEY_OF_4 COLUMNS SEVEN FOUND COLUMNS ABSENT
 files ONE_ROW | CLOSED | 5
 $ once --data=folder < PACKET SELECT_SEVEN
 ends Abnormal(StartupFailed(Redo(Disk))) 1
@@ -197,7 +197,7 @@ a ONE_ROW
 b CLOSED
 $ once --data=folder < PACKET SELECT_SEVEN SELECT_EIGHT
 ends Done 0
-sends GREETING KEY_OF_4 COLUMNS SEVEN FOUND COLUMNS ABSENT
+sends 1 GREETING KEY_OF_4 COLUMNS SEVEN FOUND COLUMNS ABSENT
 files ONE_ROW | CLOSED | 6
 $ once --data=folder < PACKET SELECT_SEVEN
 ends Abnormal(StartupFailed(Redo(Disk))) 1
@@ -208,82 +208,82 @@ a ONE_ROW
 b CLOSED
 $ once --data=folder < PACKET SELECT_SEVEN SELECT_EIGHT
 ends Done 0
-sends GREETING KEY_OF_4 COLUMNS SEVEN FOUND COLUMNS ABSENT
+sends 1 GREETING KEY_OF_4 COLUMNS SEVEN FOUND COLUMNS ABSENT
 # each call of the last checkpoint, behind ten for the start and one row. Its row stands, whichever file it is in
 files NEW | CLOSED | 11
 $ once --data=folder < PACKET INSERT_SEVEN TERMINATE
 ends Abnormal(AfterCrash) 1
-says READY SMART CHECKPOINTER_CRASHED TERMINATING ABNORMAL
-sends GREETING KEY_OF_4 INSERTED
+says READY SMART FAILED_2 TERMINATING ABNORMAL
+sends 1 GREETING KEY_OF_4 INSERTED
 book STARTED ATTACHED PUTS_SEVEN RELEASED_AT_14 DETACHED CLOSE_ATTACHED BROKE_2_AT_15
 $ once --data=folder < PACKET SELECT_SEVEN SELECT_EIGHT TERMINATE
 ends Done 0
 says PLAIN
-sends GREETING KEY_OF_4 COLUMNS SEVEN FOUND COLUMNS ABSENT
+sends 1 GREETING KEY_OF_4 COLUMNS SEVEN FOUND COLUMNS ABSENT
 files NEW | CLOSED | 12
 $ once --data=folder < PACKET INSERT_SEVEN TERMINATE
 ends Abnormal(AfterCrash) 1
-says READY SMART CHECKPOINTER_CRASHED TERMINATING ABNORMAL
-sends GREETING KEY_OF_4 INSERTED
+says READY SMART FAILED_2 TERMINATING ABNORMAL
+sends 1 GREETING KEY_OF_4 INSERTED
 book STARTED ATTACHED PUTS_SEVEN RELEASED_AT_14 DETACHED CLOSE_ATTACHED BROKE_2_AT_16
 $ once --data=folder < PACKET SELECT_SEVEN SELECT_EIGHT TERMINATE
 ends Done 0
 says PLAIN
-sends GREETING KEY_OF_4 COLUMNS SEVEN FOUND COLUMNS ABSENT
+sends 1 GREETING KEY_OF_4 COLUMNS SEVEN FOUND COLUMNS ABSENT
 files NEW | CLOSED | 13
 $ once --data=folder < PACKET INSERT_SEVEN TERMINATE
 ends Abnormal(AfterCrash) 1
-says READY SMART CHECKPOINTER_CRASHED TERMINATING ABNORMAL
-sends GREETING KEY_OF_4 INSERTED
+says READY SMART FAILED_2 TERMINATING ABNORMAL
+sends 1 GREETING KEY_OF_4 INSERTED
 book STARTED ATTACHED PUTS_SEVEN RELEASED_AT_14 DETACHED CLOSE_ATTACHED BROKE_2_AT_17
 $ once --data=folder < PACKET SELECT_SEVEN SELECT_EIGHT TERMINATE
 ends Done 0
 says PLAIN
-sends GREETING KEY_OF_4 COLUMNS SEVEN FOUND COLUMNS ABSENT
+sends 1 GREETING KEY_OF_4 COLUMNS SEVEN FOUND COLUMNS ABSENT
 files NEW | CLOSED | 14
 $ once --data=folder < PACKET INSERT_SEVEN TERMINATE
 ends Abnormal(AfterCrash) 1
-says READY SMART CHECKPOINTER_CRASHED TERMINATING ABNORMAL
-sends GREETING KEY_OF_4 INSERTED
+says READY SMART FAILED_2 TERMINATING ABNORMAL
+sends 1 GREETING KEY_OF_4 INSERTED
 book STARTED ATTACHED PUTS_SEVEN RELEASED_AT_14 DETACHED CLOSE_ATTACHED BROKE_2_AT_18
 $ once --data=folder < PACKET SELECT_SEVEN SELECT_EIGHT TERMINATE
 ends Done 0
 says PLAIN
-sends GREETING KEY_OF_4 COLUMNS SEVEN FOUND COLUMNS ABSENT
+sends 1 GREETING KEY_OF_4 COLUMNS SEVEN FOUND COLUMNS ABSENT
 files NEW | CLOSED | 15
 $ once --data=folder < PACKET INSERT_SEVEN TERMINATE
 ends Abnormal(AfterCrash) 1
-says READY SMART CHECKPOINTER_CRASHED TERMINATING ABNORMAL
-sends GREETING KEY_OF_4 INSERTED
+says READY SMART FAILED_2 TERMINATING ABNORMAL
+sends 1 GREETING KEY_OF_4 INSERTED
 book STARTED ATTACHED PUTS_SEVEN RELEASED_AT_14 DETACHED CLOSE_ATTACHED BROKE_2_AT_19
 $ once --data=folder < PACKET SELECT_SEVEN SELECT_EIGHT TERMINATE
 ends Done 0
 says PLAIN
-sends GREETING KEY_OF_4 COLUMNS SEVEN FOUND COLUMNS ABSENT
+sends 1 GREETING KEY_OF_4 COLUMNS SEVEN FOUND COLUMNS ABSENT
 files NEW | CLOSED | 16
 $ once --data=folder < PACKET INSERT_SEVEN TERMINATE
 ends Abnormal(AfterCrash) 1
-says READY SMART CHECKPOINTER_CRASHED TERMINATING ABNORMAL
-sends GREETING KEY_OF_4 INSERTED
+says READY SMART FAILED_2 TERMINATING ABNORMAL
+sends 1 GREETING KEY_OF_4 INSERTED
 book STARTED ATTACHED PUTS_SEVEN RELEASED_AT_14 DETACHED CLOSE_ATTACHED BROKE_2_AT_20
 $ once --data=folder < PACKET SELECT_SEVEN SELECT_EIGHT TERMINATE
 ends Done 0
 says PLAIN
-sends GREETING KEY_OF_4 COLUMNS SEVEN FOUND COLUMNS ABSENT
+sends 1 GREETING KEY_OF_4 COLUMNS SEVEN FOUND COLUMNS ABSENT
 # a read fails: of the packet, the insert and the front of the select, and of the rest. A call moves at most 64 bytes
 files NEW | CLOSED
 fail read 1
 $ once --data=folder < PACKET INSERT_SEVEN SELECT_SEVEN TERMINATE
 ends Done 0
 says PLAIN
-sends GREETING KEY_OF_4 INSERTED COLUMNS SEVEN FOUND ..0
+sends 1 GREETING KEY_OF_4 INSERTED COLUMNS SEVEN FOUND ..0
 b BASE_OF_NONE
 files NEW | CLOSED
 fail read 2
 $ once --data=folder < PACKET INSERT_SEVEN SELECT_SEVEN TERMINATE
 ends Done 0
 says PLAIN
-sends GREETING KEY_OF_4 INSERTED COLUMNS SEVEN FOUND ..213
+sends 1 GREETING KEY_OF_4 INSERTED COLUMNS SEVEN FOUND ..213
 b BASE_OF_ONE
 # a write fails: three of the greeting, one of the answer to the insert, which is in the log by then, and two of that to the select
 files NEW | CLOSED
@@ -291,42 +291,42 @@ fail write 1
 $ once --data=folder < PACKET INSERT_SEVEN SELECT_SEVEN TERMINATE
 ends Done 0
 says PLAIN
-sends GREETING KEY_OF_4 INSERTED COLUMNS SEVEN FOUND ..0
+sends 1 GREETING KEY_OF_4 INSERTED COLUMNS SEVEN FOUND ..0
 b BASE_OF_NONE
 files NEW | CLOSED
 fail write 2
 $ once --data=folder < PACKET INSERT_SEVEN SELECT_SEVEN TERMINATE
 ends Done 0
 says PLAIN
-sends GREETING KEY_OF_4 INSERTED COLUMNS SEVEN FOUND ..64
+sends 1 GREETING KEY_OF_4 INSERTED COLUMNS SEVEN FOUND ..64
 b BASE_OF_NONE
 files NEW | CLOSED
 fail write 3
 $ once --data=folder < PACKET INSERT_SEVEN SELECT_SEVEN TERMINATE
 ends Done 0
 says PLAIN
-sends GREETING KEY_OF_4 INSERTED COLUMNS SEVEN FOUND ..128
+sends 1 GREETING KEY_OF_4 INSERTED COLUMNS SEVEN FOUND ..128
 b BASE_OF_NONE
 files NEW | CLOSED
 fail write 4
 $ once --data=folder < PACKET INSERT_SEVEN SELECT_SEVEN TERMINATE
 ends Done 0
 says PLAIN
-sends GREETING KEY_OF_4 INSERTED COLUMNS SEVEN FOUND ..191
+sends 1 GREETING KEY_OF_4 INSERTED COLUMNS SEVEN FOUND ..191
 b BASE_OF_ONE
 files NEW | CLOSED
 fail write 5
 $ once --data=folder < PACKET INSERT_SEVEN SELECT_SEVEN TERMINATE
 ends Done 0
 says PLAIN
-sends GREETING KEY_OF_4 INSERTED COLUMNS SEVEN FOUND ..213
+sends 1 GREETING KEY_OF_4 INSERTED COLUMNS SEVEN FOUND ..213
 b BASE_OF_ONE
 files NEW | CLOSED
 fail write 6
 $ once --data=folder < PACKET INSERT_SEVEN SELECT_SEVEN TERMINATE
 ends Done 0
 says PLAIN
-sends GREETING KEY_OF_4 INSERTED COLUMNS SEVEN FOUND ..277
+sends 1 GREETING KEY_OF_4 INSERTED COLUMNS SEVEN FOUND ..277
 b BASE_OF_ONE
 # a fault of the port is passed over
 files NEW | CLOSED
@@ -334,7 +334,7 @@ fail accept 1
 $ once --data=folder < PACKET INSERT_SEVEN SELECT_SEVEN TERMINATE
 ends Done 0
 says PLAIN
-sends GREETING KEY_OF_4 INSERTED COLUMNS SEVEN FOUND ..301
+sends 1 GREETING KEY_OF_4 INSERTED COLUMNS SEVEN FOUND ..301
 b BASE_OF_ONE
 # a line of `initdb` fails: a write takes at most five bytes
 files ..0 | ..0
@@ -498,26 +498,27 @@ says OF_ONE_ROW ..56";
 
 #[test]
 fn each_fault_is_answered(rt: HostRuntime) -> Result<(), Fail> {
-    let _left = play(&rt, rt.alloc(), SCENES)?;
-    Ok(())
+    play(rt, rt.alloc(), SCENES)
 }
 
 // How much the sink has where its write with this number fails, in a run with a crash and a next generation, which go on as
 // ever.
 fn written<R: Threads + Wait + Clock + Copy + Drop + Send + Abort + 'static>(
-    rt: &R,
+    rt: R,
     alloc: Global,
     line: u64,
 ) -> Result<usize, Fail> {
     let scene = format!(in alloc;
-        "files NEW | CLOSED | 7\n\
+        "write {line}\n\
+        files NEW | CLOSED | 7\n\
         fail line {line}\n\
         $ once --data=folder < PACKET INSERT_SEVEN & PACKET INSERT_SEVEN\n\
         ends Done 0\n\
-        sends GREETING KEY_OF_4 PANIC & GREETING KEY_OF_8 INSERTED"
+        sends 1 GREETING KEY_OF_4 PANIC\n\
+        sends 2 GREETING KEY_OF_8 INSERTED"
     )?;
-    let left = play(rt, alloc, scene.as_str())?;
-    let bytes = left.outside.sink.bytes();
+    let left = play_scene(rt, alloc, scene.as_str())?;
+    let bytes = left.sink.bytes();
     assert!(rt;
         spelled(alloc, "CRASH_CYCLE")?.starts_with(bytes),
         "write {line}"
@@ -531,7 +532,7 @@ fn a_sink_that_fails_gets_no_more_and_changes_nothing(rt: HostRuntime) -> Result
     let alloc = rt.alloc();
     let mut before = None;
     for line in 1..=75 {
-        let count = written(&rt, alloc, line)?;
+        let count = written(rt, alloc, line)?;
         assert!(rt; before < Some(count), "write {line}");
         before = Some(count);
     }

@@ -23,6 +23,4 @@ mod play;
 #[cfg(test)]
 mod scripts;
 #[cfg(test)]
-mod serving;
-#[cfg(test)]
 mod sessions;

@@ -4,6 +4,11 @@ use pm_disk::{Disk, MemDisk, Which};
 use std::alloc::Global;
 use std::test::Fail;
 
+/// The seed of the cancel keys. It isn't zeros, by which a body may judge that was handed none.
+pub const SEED: [u8; 32] = [
+    0, 0, 0, 0, 0, 0, 0, 0, 0, 0, 0, 0, 0, 0, 0, 0, 0, 0, 0, 0, 0, 0, 0, 0, 0, 0, 0, 0, 0, 0, 0, 1,
+];
+
 /// `NAME = bytes`, in which escapes stand for theirs, and `NAME := WORD WORD`.
 const NAMES: &str = r#"# a startup packet with the user `ann`
 PACKET = \0\0\0\x12\0\x03\0\0user\0ann\0\0
@@ -30,9 +35,9 @@ SEMICOLON = Q\0\0\0\x06;\0
 NOTHING = Q\0\0\0\x05\0
 # the end of a session by its client
 TERMINATE = X\0\0\0\x04
-# cancels of the session with pid 4, the first by a wrong key
-CANCEL_BY_1 = \0\0\0\x10\x04\xd2\x16\x2e\0\0\0\x04\0\0\0\x01
-CANCEL_OF_4 = \0\0\0\x10\x04\xd2\x16\x2e\0\0\0\x04\xb8\x19\xd2\xbd
+# cancels of the session with pid 4, the first by the key that it would have if SEED were zeros
+CANCEL_BY_ZEROS = \0\0\0\x10\x04\xd2\x16\x2e\0\0\0\x04\xb8\x19\xd2\xbd
+CANCEL_OF_4 = \0\0\0\x10\x04\xd2\x16\x2e\0\0\0\x04\x83\xe1\x4f\xeb
 # the startup packet of psql, and two statements as it sends them
 PSQL_PACKET = \0\0\0\x54\0\x03\0\0user\0postgres\0database\0postgres\0application_name\0psql\0client_encoding\0UTF8\0\0
 PSQL_INSERT = Q\0\0\x001insert into KV (k, v) values\n (-3, 'it''s');\0
@@ -43,14 +48,15 @@ GSS_REQUEST = \0\0\0\x08\x04\xd2\x16\x30
 NO_ENCRYPTION = N
 # the greeting of a session up to its cancel key
 GREETING = R\0\0\0\x08\0\0\0\0S\0\0\0\x18server_version\x0016.0\0S\0\0\0\x19server_encoding\0UTF8\0S\0\0\0\x19client_encoding\0UTF8\0S\0\0\0\x17DateStyle\0ISO, MDY\0S\0\0\0\x19integer_datetimes\0on\0S\0\0\0\x23standard_conforming_strings\0on\0
-# the rest of it for the sessions with these pids: their keys are words of the key stream of ChaCha20 at zero bytes
-KEY_OF_4 = K\0\0\0\x0c\0\0\0\x04\xb8\x19\xd2\xbdZ\0\0\0\x05I
-KEY_OF_5 = K\0\0\0\x0c\0\0\0\x05\x1a\xed\x8d\xa0Z\0\0\0\x05I
-KEY_OF_6 = K\0\0\0\x0c\0\0\0\x06\xcc\xef\x36\xa8Z\0\0\0\x05I
-KEY_OF_7 = K\0\0\0\x0c\0\0\0\x07\xc7\x0d\x77\x8bZ\0\0\0\x05I
-KEY_OF_8 = K\0\0\0\x0c\0\0\0\x08\x7cYA\xdaZ\0\0\0\x05I
-KEY_OF_9 = K\0\0\0\x0c\0\0\0\x09\x8d\x48\x57\x51Z\0\0\0\x05I
-KEY_OF_10 = K\0\0\0\x0c\0\0\0\x0a\x3f\xe0\x24\x77Z\0\0\0\x05I
+# the rest of it for the sessions with these pids: the key of pid 4 is word 4, from 0, of the key stream of ChaCha20 at SEED, and so on,
+# as draft-agl-tls-chacha20poly1305 has that stream among its test vectors
+KEY_OF_4 = K\0\0\0\x0c\0\0\0\x04\x83\xe1\x4f\xebZ\0\0\0\x05I
+KEY_OF_5 = K\0\0\0\x0c\0\0\0\x05\x60\xd2\x88\x46Z\0\0\0\x05I
+KEY_OF_6 = K\0\0\0\x0c\0\0\0\x06\x52\x09\x45\x4fZ\0\0\0\x05I
+KEY_OF_8 = K\0\0\0\x0c\0\0\0\x08\xb6\xa0\xe2\xbbZ\0\0\0\x05I
+KEY_OF_9 = K\0\0\0\x0c\0\0\0\x09\xd2\x66\x75\xeaZ\0\0\0\x05I
+KEY_OF_10 = K\0\0\0\x0c\0\0\0\x0a\xe2\xe7\xd1\xa5Z\0\0\0\x05I
+KEY_OF_14 = K\0\0\0\x0c\0\0\0\x0e\x75\xd2\x9a\x7eZ\0\0\0\x05I
 # answers
 INSERTED = C\0\0\0\x0fINSERT 0 1\0Z\0\0\0\x05I
 COLUMNS = T\0\0\0\x2e\0\x02k\0\0\0\0\0\0\0\0\0\0\x14\0\x08\xff\xff\xff\xff\0\0v\0\0\0\0\0\0\0\0\0\0\x19\xff\xff\xff\xff\xff\xff\0\0
@@ -80,6 +86,7 @@ UNKNOWN_TYPE = E\0\0\0\x3dSFATAL\0VFATAL\0C08P01\0Minvalid frontend message type
 # other refusals and ends of sessions
 TOO_MANY = E\0\0\0\x3bSFATAL\0VFATAL\0C53300\0Msorry, too many clients already\0\0
 STARTING = E\0\0\0\x3eSFATAL\0VFATAL\0C57P03\0Mthe database system is starting up\0\0
+RECOVERING = E\0\0\0\x43SFATAL\0VFATAL\0C57P03\0Mthe database system is in recovery mode\0\0
 STOPPING = E\0\0\0\x40SFATAL\0VFATAL\0C57P03\0Mthe database system is shutting down\0\0
 TERMINATED = E\0\0\0\x4fSFATAL\0VFATAL\0C57P01\0Mterminating connection due to administrator command\0\0
 CRASHED = N\0\0\0\x61SWARNING\0VWARNING\0C57P02\0Mterminating connection because of crash of another server process\0\0
@@ -112,8 +119,6 @@ FAST = LOG:  received fast shutdown request\n
 IMMEDIATE = LOG:  received immediate shutdown request\n
 ABORTING_SESSIONS = LOG:  aborting any active transactions\n
 DOWN = LOG:  database system is shut down\n
-SESSION_CRASHED = LOG:  child 4 (backend) was terminated by signal 6\n
-CHECKPOINTER_CRASHED = LOG:  child 2 (checkpointer) was terminated by signal 6\n
 FAILED_2 = LOG:  child 2 (checkpointer) was terminated by signal 6\n
 FAILED_3 = LOG:  child 3 (writer) was terminated by signal 6\n
 FAILED_4 = LOG:  child 4 (backend) was terminated by signal 6\n
@@ -132,7 +137,7 @@ STARTUP_5_FAILED = LOG:  child 5 (startup) exited with exit code 1\n
 ABORTING = LOG:  aborting startup due to startup process failure\n
 NO_CLUSTER = no readable cluster\n
 PLAIN := READY SMART DOWN
-CRASH_CYCLE := READY SESSION_CRASHED TERMINATING REINITIALIZING READY SMART DOWN
+CRASH_CYCLE := READY FAILED_4 TERMINATING REINITIALIZING READY SMART DOWN
 NEXT := TERMINATING REINITIALIZING READY
 # what commands say
 USAGE = usage: initdb --data D | controldata --data D | workload --number N\n       once --data D [OPTIONS] | serve --data D --port P [OPTIONS]\noptions: --max-connections 1..64, --restart-after-crash on|off, --authentication-timeout 1..600\n
@@ -187,13 +192,7 @@ BROKE_4_AT_16 = Broke { pid: 4, since: 16, faults: 1 }\n
 BROKE_4_AT_17 = Broke { pid: 4, since: 17, faults: 1 }\n
 BROKE_4_AT_18 = Broke { pid: 4, since: 18, faults: 1 }\n
 # the next generation behind a fault at tick 14: its redo takes six calls more
-NEXT_GENERATION = Gone { pid: 4 }\nOpened { generation: 2 }\nAttached { pid: 5, generation: 2 }\nRedone { pid: 5, generation: 2, kept: 1 }\nDetached { pid: 5 }\nAttached { pid: 8, generation: 2 }\nAnswered { pid: 8, script: Script { stmts: [Select { key: Some(7) }] }, reply: Reply { items: [Rows(Pairs { pairs: [(7, Text { content: "seven" })] })] }, commit: Commit { changes: [] }, front: 1, tick: 20 }\nReleased { pid: 8, front: 1, tick: 20 }\nDetached { pid: 8 }\nAttached { pid: 6, generation: 2 }\nCheckpointEnded { pid: 6, done: true, clean: true }\nDetached { pid: 6 }\n
-# entries of the journal
-REDO_1 = RedoEnded { generation: 1, kept: 0 }\n
-RESET_2 = Reset { generation: 2 }\n
-REDO_2_OF_0 = RedoEnded { generation: 2, kept: 0 }\n
-REDO_2_OF_1 = RedoEnded { generation: 2, kept: 1 }\n
-REDO_2_OF_2 = RedoEnded { generation: 2, kept: 2 }\n"#;
+NEXT_GENERATION = Gone { pid: 4 }\nOpened { generation: 2 }\nAttached { pid: 5, generation: 2 }\nRedone { pid: 5, generation: 2, kept: 1 }\nDetached { pid: 5 }\nAttached { pid: 8, generation: 2 }\nAnswered { pid: 8, script: Script { stmts: [Select { key: Some(7) }] }, reply: Reply { items: [Rows(Pairs { pairs: [(7, Text { content: "seven" })] })] }, commit: Commit { changes: [] }, front: 1, tick: 20 }\nReleased { pid: 8, front: 1, tick: 20 }\nDetached { pid: 8 }\nAttached { pid: 6, generation: 2 }\nCheckpointEnded { pid: 6, done: true, clean: true }\nDetached { pid: 6 }\n"#;
 
 // What a list of names says after a sign, or the word itself.
 fn meaning<'a>(word: &'a str, sign: &str) -> &'a str {

@@ -10,6 +10,9 @@ pub const LOG: u64 = 9;
 /// The same of the reads of the disk.
 pub const READS: u64 = 10;
 
+/// The same of its writes.
+pub const WRITES: u64 = 11;
+
 /// A sink in memory, which notes on its scene how many bytes it has taken, as if they had been sent on a link.
 #[derive(Drop)]
 pub struct NotedSink {
@@ -18,10 +21,10 @@ pub struct NotedSink {
 }
 
 impl NotedSink {
-    /// An empty sink. A write takes at most five bytes.
-    pub fn new(alloc: Global, scene: Scene) -> NotedSink {
+    /// An empty sink. A write takes at most five bytes, and those with these numbers fail.
+    pub fn new(alloc: Global, failing: Vec<u64>, scene: Scene) -> NotedSink {
         NotedSink {
-            sink: MemSink::new(alloc, 5, Vec::new(alloc)),
+            sink: MemSink::new(alloc, 5, failing),
             scene,
         }
     }
@@ -53,7 +56,7 @@ impl Sink for NotedSink {
     }
 }
 
-/// A disk over another one, whose calls are its own. It notes each read on its scene, before it is made.
+/// A disk over another one, whose calls are its own. It notes each read and each write on its scene, before it is made.
 #[derive(Drop)]
 pub struct NotedDisk<D> {
     pub disk: D,
@@ -83,6 +86,7 @@ impl<D: Disk> Disk for NotedDisk<D> {
     }
 
     fn write(&mut self, file: Which, at: u64, bytes: &[u8]) -> Result<(), DiskFault> {
+        self.scene.note_sent(WRITES, 1);
         self.disk.write(file, at, bytes)
     }
 

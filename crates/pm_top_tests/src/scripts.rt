@@ -1,19 +1,18 @@
 //! What a run works on, by words.
 //!
 //! A cue is `@2>WORD,WORD` where it is what these words stand for that the link of that number was sent, or more; `@log>WORD` for
-//! the log; `@lines>1` for so many lines of the console; `@reads>1` for so many reads of the disk, begun; `@never` for what doesn't come.
+//! the log; `@lines>1` for so many lines of the console; `@reads>1` and `@writes>1` for so many reads and writes of the disk, begun;
+//! `@never` for what doesn't come.
 use crate::names::{number, spelled};
-use crate::noted::{LOG, READS};
+use crate::noted::{LOG, READS, WRITES};
 use pm_outside::{Cue, Hold, LinkScript, ScriptLine, Withheld};
 use std::alloc::Global;
 use std::test::Fail;
 
-/// What the next run works on.
+/// What the next run works on. Calls that fail count from 1, so at 0 none does.
 #[derive(Drop)]
 pub struct Setup {
-    pub connections: u32,
     pub threads: u64,
-    pub restarts: bool,
     /// Whether time passes: a millisecond with each pause of the supervisor.
     pub runs: bool,
     /// Which call of the disk waits, and for what.
@@ -22,23 +21,30 @@ pub struct Setup {
     /// The number of the call of the disk that fails, and whether each after it does.
     pub fails: u64,
     pub breaks: bool,
+    /// Which accept of the port fails, which read and which write of each link, and which write of the sink.
+    pub accept: u64,
+    pub read: u64,
+    pub write: u64,
+    pub line: u64,
     pub links: Vec<LinkScript>,
     /// Where the port waits.
     pub holds: Vec<Hold>,
     pub lines: Vec<ScriptLine>,
 }
 
-/// Two connections over threads enough, and nothing else.
+/// Threads enough, and nothing else.
 pub fn plain(alloc: Global) -> Setup {
     Setup {
-        connections: 2,
         threads: 64,
-        restarts: true,
         runs: false,
         withheld: Withheld::FirstRead,
         until: Cue::Lines(0),
         fails: 0,
         breaks: false,
+        accept: 0,
+        read: 0,
+        write: 0,
+        line: 0,
         links: Vec::new(alloc),
         holds: Vec::new(alloc),
         lines: Vec::new(alloc),
@@ -52,6 +58,7 @@ fn cue_of(alloc: Global, word: &str) -> Result<Cue, Fail> {
     let (link, bytes) = match of {
         "@lines" => return Ok(Cue::Lines(number(seen)? as u64)),
         "@reads" => (READS, number(seen)?),
+        "@writes" => (WRITES, number(seen)?),
         "@log" => (LOG, spelled(alloc, seen)?.len()),
         _ => (
             number(of.trim_start_matches('@'))? as u64,
@@ -64,29 +71,31 @@ fn cue_of(alloc: Global, word: &str) -> Result<Cue, Fail> {
     })
 }
 
-// The script of a link over which this comes in, with a hold at each cue.
-fn link_of(alloc: Global, words: &str) -> Result<LinkScript, Fail> {
-    let mut incoming = Vec::new(alloc);
-    let mut holds = Vec::new(alloc);
-    for word in words.split_whitespace() {
-        if word.starts_with('@') {
-            let cue = cue_of(alloc, word)?;
-            let at = incoming.len();
-            holds.push(Hold { at, cue })?;
-        } else {
-            incoming.extend_from_slice(&spelled(alloc, word)?)?;
-        }
-    }
-    Ok(LinkScript {
-        incoming,
-        per_call: 4096,
-        failing_reads: Vec::new(alloc),
-        failing_writes: Vec::new(alloc),
-        holds,
-    })
-}
-
 impl Setup {
+    // A link over which this comes in, with a hold at each cue. A call of it moves at most 64 bytes.
+    fn add_link(&mut self, alloc: Global, words: &str) -> Result<(), Fail> {
+        let mut incoming = Vec::new(alloc);
+        let mut holds = Vec::new(alloc);
+        for word in words.split_whitespace() {
+            if word.starts_with('@') {
+                let cue = cue_of(alloc, word)?;
+                let at = incoming.len();
+                holds.push(Hold { at, cue })?;
+            } else {
+                incoming.extend_from_slice(&spelled(alloc, word)?)?;
+            }
+        }
+        let link = LinkScript {
+            incoming,
+            per_call: 64,
+            failing_reads: vec![in alloc; self.read]?,
+            failing_writes: vec![in alloc; self.write]?,
+            holds,
+        };
+        self.links.push(link)?;
+        Ok(())
+    }
+
     // The port waits for this before its next link, or its end.
     fn hold(&mut self, alloc: Global, cue: &str) -> Result<(), Fail> {
         let cue = cue_of(alloc, cue)?;
@@ -106,24 +115,40 @@ impl Setup {
         Ok(())
     }
 
-    fn with(&mut self, what: &str) -> Result<(), Fail> {
-        match what.split_once(' ') {
-            Some(("connections", count)) => self.connections = number(count)?.min(64) as u32,
-            Some(("threads", count)) => self.threads = number(count)? as u64,
-            _ if what == "time" => self.runs = true,
-            _ => self.restarts = false,
+    // That call fails of the port, of each link that is added after it, or of the sink.
+    fn let_fail(&mut self, words: &str) -> Result<(), Fail> {
+        let (what, at) = words.split_once(' ').ok_or("which one fails")?;
+        let at = number(at)? as u64;
+        match what {
+            "accept" => self.accept = at,
+            "read" => self.read = at,
+            "write" => self.write = at,
+            _ => self.line = at,
         }
         Ok(())
+    }
+
+    /// Adds the links of a command line, for none of which the port waits, and answers the command.
+    pub fn take_links<'a>(&mut self, alloc: Global, line: &'a str) -> Result<&'a str, Fail> {
+        let Some((command, links)) = line.split_once(" < ") else {
+            return Ok(line);
+        };
+        for words in links.split(" & ") {
+            self.add_link(alloc, words)?;
+        }
+        Ok(command)
     }
 
     /// Adds what a line says. It tells whether the line says something of what is run, and not of what has come of it.
     pub fn add(&mut self, alloc: Global, word: &str, rest: &str) -> Result<bool, Fail> {
         match word {
-            "with" => self.with(rest)?,
-            "fails" | "breaks" => {
+            "threads" => self.threads = number(rest)? as u64,
+            "time" => self.runs = true,
+            "breaks" => {
                 self.fails = number(rest)? as u64;
-                self.breaks = word == "breaks";
+                self.breaks = true;
             }
+            "fail" => self.let_fail(rest)?,
             "read" | "write" => {
                 self.withheld = match word {
                     "read" => Withheld::FirstRead,
@@ -137,7 +162,7 @@ impl Setup {
                 if !cue.is_empty() {
                     self.hold(alloc, cue.trim_end())?;
                 }
-                self.links.push(link_of(alloc, words)?)?;
+                self.add_link(alloc, words)?;
             }
             "line" => self.add_line(alloc, rest)?,
             "20" => {
