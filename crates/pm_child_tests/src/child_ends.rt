@@ -1,325 +1,56 @@
-// Each status with its cause.
-
-use crate::children::*;
-use pm_aux::AuxDone;
-use pm_child_life::{GateNo, Reason};
-use pm_exit::{Kind, Status};
-use pm_query::{RedoFault, StoreNo};
-use pm_rows_tests::GENERATION;
+//! Each status of a child that serves no connection, with its cause.
+use crate::children::run;
 use std::test::Fail;
 
-const QUIT_GATE: GateNo = GateNo::Quit {
-    generation: GENERATION,
-    reason: Reason::Crash,
-};
-
-const STALE: StoreNo = StoreNo::Stale {
-    mine: 2,
-    found: GENERATION,
-};
-
-const BROKEN: StoreNo = StoreNo::Broken { since: 12 };
-
-const BY_ITSELF: AuxDone = AuxDone {
-    status: Status::Code(0),
-    fault: None,
-    kept: None,
-};
-
-const STARTUP: Case<'static> = Case {
-    name: "startup",
-    kind: Kind::Startup,
-    before: Before::Unread,
-    signals: &[],
-    gate: Ok(GENERATION),
-    short: &[],
-    done: AuxDone {
-        status: Status::Code(0),
-        fault: None,
-        kept: Some(0),
-    },
-    attached: None,
-    noted: "ARD",
-};
-
-// Told to terminate at its second ask, behind the gate.
-const WRITER: Case<'static> = Case {
-    name: "writer",
-    kind: Kind::Writer,
-    before: Before::Read,
-    signals: &[NONE, STOP],
-    gate: Ok(GENERATION),
-    short: &[],
-    done: BY_ITSELF,
-    attached: None,
-    noted: "AD",
-};
-
-// Asked for the last checkpoint at its second ask, behind the gate.
-const CHECKPOINTER: Case<'static> = Case {
-    name: "checkpointer",
-    kind: Kind::Checkpointer,
-    before: Before::Read,
-    signals: &[NONE, LAST],
-    gate: Ok(GENERATION),
-    short: &[],
-    done: BY_ITSELF,
-    attached: None,
-    noted: "ALD",
-};
+/// A case, its child, what that is given at its asks, and what its run comes to.
+const ENDS: &str = "
+# a startup child
+it reads the log | startup unread | 0 | Code(0) [ARD] None Some(0) None
+told to terminate | startup unread | terminate | Code(1) [] None None None
+told to quit | startup unread | quit | Code(2) [] None None None
+killed | startup unread | kill+stop+terminate+cancel+checkpoint | Signal(9) [] None None None
+turned away | startup unread gate crash | 0 | Code(2) [] None None None
+another generation | startup unread gate 2 | 0 | Signal(6) [] Some(Stale { mine: 2, found: 1 }) None Some(2)
+no memory to enter | startup unread short 1 | 0 | Code(1) [] Some(NoMemory) None None
+no memory for the log | startup unread short 2 | 0 | Code(1) [AD] Some(Redo(NoMemory)) None None
+# a writer, mostly told to terminate at its second ask, which comes inside the gate
+told to terminate inside | writer | 1 terminate | Code(0) [AD] None None None
+told to terminate before it is attached | writer | terminate | Code(0) [AD] None None None
+a checkpoint isn't its own | writer | checkpoint 1 terminate | Code(0) [AD] None None None
+told to quit outside | writer | quit | Code(2) [] None None None
+turned away | writer gate crash | 1 terminate | Code(2) [] None None None
+told to quit inside | writer | 2 quit | Code(2) [A] None None Some(1)
+killed inside | writer | 1 kill+stop+terminate+cancel+checkpoint | Signal(9) [A] None None Some(1)
+killed between its last flushes | writer | terminate kill | Signal(9) [A] None None Some(1)
+another generation | writer gate 2 | 1 terminate | Signal(6) [] Some(Stale { mine: 2, found: 1 }) None Some(2)
+a broken log | writer broken | 1 terminate | Signal(6) [AB] Some(Broken { since: 12 }) None Some(1)
+no memory to enter, and none to flush | writer short 1 2 4 5 | terminate | Code(0) [AD] None None None
+# a checkpointer, mostly asked for the last checkpoint there
+asked inside | checkpointer | 1 checkpoint | Code(0) [ALD] None None None
+asked before it is attached | checkpointer | checkpoint | Code(0) [ALD] None None None
+a checkpoint is due | checkpointer due | 1 checkpoint | Code(0) [ACLD] None None None
+a Terminate isn't for it | checkpointer | terminate 1 checkpoint | Code(0) [ALD] None None None
+before the end of redo | checkpointer unread | checkpoint | Code(0) [AlD] None None None
+told to quit outside | checkpointer | quit | Code(2) [] None None None
+turned away | checkpointer gate crash | 1 checkpoint | Code(2) [] None None None
+told to quit inside | checkpointer | 2 quit | Code(2) [A] None None Some(1)
+killed where it is asked, too | checkpointer | 1 kill+stop+terminate+cancel+checkpoint | Signal(9) [A] None None Some(1)
+another generation | checkpointer gate 2 | 1 checkpoint | Signal(6) [] Some(Stale { mine: 2, found: 1 }) None Some(2)
+a broken log | checkpointer broken | 1 checkpoint | Signal(6) [AB] Some(Broken { since: 12 }) None Some(1)
+no memory to enter for the last checkpoint | checkpointer short 1 | checkpoint | Code(1) [] Some(NoMemory) None None
+no memory for the last checkpoint | checkpointer short 2 | checkpoint | Code(1) [AD] Some(NoMemory) None None
+# one that is refused twice to enter and once for the checkpoint that is due, each time 20 pauses before the next call: then that checkpoint is made, and after it the last one
+no memory to enter, and none for a checkpoint | checkpointer due short 1 2 4 | 70 checkpoint | Code(0) [ACLD] None None None";
 
 #[test]
-fn a_startup_child_ends_so(rt: HostRuntime) -> Result<(), Fail> {
-    let outside = Case {
-        noted: "",
-        ..STARTUP
-    };
-    let cases = [
-        STARTUP,
-        Case {
-            name: "told to terminate",
-            signals: &[STOP],
-            done: ended(Status::Code(1)),
-            ..outside
-        },
-        Case {
-            name: "told to quit",
-            signals: &[QUIT],
-            done: ended(Status::Code(2)),
-            ..outside
-        },
-        Case {
-            name: "killed",
-            signals: &[ALL],
-            done: ended(Status::Signal(9)),
-            ..outside
-        },
-        Case {
-            name: "turned away",
-            gate: Err(QUIT_GATE),
-            done: ended(Status::Code(2)),
-            ..outside
-        },
-        Case {
-            name: "another generation",
-            gate: Ok(2),
-            done: refused(Status::Signal(6), STALE),
-            attached: Some(2),
-            ..outside
-        },
-        Case {
-            name: "no memory to enter",
-            short: &[1],
-            done: refused(Status::Code(1), StoreNo::NoMemory),
-            ..outside
-        },
-        Case {
-            name: "no memory for the log",
-            short: &[2],
-            done: refused(Status::Code(1), StoreNo::Redo(RedoFault::NoMemory)),
-            noted: "AD",
-            ..STARTUP
-        },
-    ];
-    for case in cases {
-        check(&rt, rt.alloc(), &case)?;
+fn children_end_as_the_table_says(rt: HostRuntime) -> Result<(), Fail> {
+    for line in ENDS.lines() {
+        if let Some((_, rest)) = line.split_once(" | ") {
+            let (child, rest) = rest.split_once(" | ").ok_or("what it is given")?;
+            let (signals, end) = rest.split_once(" | ").ok_or("what it comes to")?;
+            let met = run(&rt, rt.alloc(), child, signals)?;
+            assert_eq!(rt; met.end.as_str(), end, "{line}");
+        }
     }
     Ok(())
-}
-
-#[test]
-fn a_writer_ends_so(rt: HostRuntime) -> Result<(), Fail> {
-    let outside = Case {
-        noted: "",
-        ..WRITER
-    };
-    let inside = Case {
-        attached: Some(GENERATION),
-        noted: "A",
-        ..WRITER
-    };
-    let cases = [
-        WRITER,
-        Case {
-            name: "told to terminate before it is attached",
-            signals: &[STOP],
-            ..WRITER
-        },
-        Case {
-            name: "a checkpoint isn't its own",
-            signals: &[LAST, NONE, STOP],
-            ..WRITER
-        },
-        Case {
-            name: "told to quit outside",
-            signals: &[QUIT],
-            done: ended(Status::Code(2)),
-            ..outside
-        },
-        Case {
-            name: "turned away",
-            gate: Err(QUIT_GATE),
-            done: ended(Status::Code(2)),
-            ..outside
-        },
-        Case {
-            name: "told to quit inside",
-            signals: &[NONE, NONE, QUIT],
-            done: ended(Status::Code(2)),
-            ..inside
-        },
-        Case {
-            name: "killed inside",
-            signals: &[NONE, ALL],
-            done: ended(Status::Signal(9)),
-            ..inside
-        },
-        Case {
-            name: "killed between its last flushes",
-            signals: &[STOP, KILL],
-            done: ended(Status::Signal(9)),
-            ..inside
-        },
-        Case {
-            name: "another generation",
-            gate: Ok(2),
-            done: refused(Status::Signal(6), STALE),
-            attached: Some(2),
-            ..outside
-        },
-        Case {
-            name: "a broken log",
-            before: Before::Broken,
-            done: refused(Status::Signal(6), BROKEN),
-            noted: "AB",
-            ..inside
-        },
-        Case {
-            name: "no memory to enter, and none to flush",
-            short: &[1, 2, 4, 5],
-            signals: &[STOP],
-            ..WRITER
-        },
-    ];
-    for case in cases {
-        check(&rt, rt.alloc(), &case)?;
-    }
-    Ok(())
-}
-
-#[test]
-fn a_checkpointer_ends_so(rt: HostRuntime) -> Result<(), Fail> {
-    let outside = Case {
-        noted: "",
-        ..CHECKPOINTER
-    };
-    let inside = Case {
-        attached: Some(GENERATION),
-        noted: "A",
-        ..CHECKPOINTER
-    };
-    let cases = [
-        CHECKPOINTER,
-        Case {
-            name: "asked before it is attached",
-            signals: &[LAST],
-            ..CHECKPOINTER
-        },
-        Case {
-            name: "a checkpoint is due",
-            before: Before::Due,
-            noted: "ACLD",
-            ..CHECKPOINTER
-        },
-        Case {
-            name: "a Terminate isn't for it",
-            signals: &[STOP, NONE, LAST],
-            ..CHECKPOINTER
-        },
-        Case {
-            name: "before the end of redo",
-            before: Before::Unread,
-            signals: &[LAST],
-            noted: "AlD",
-            ..CHECKPOINTER
-        },
-        Case {
-            name: "told to quit outside",
-            signals: &[QUIT],
-            done: ended(Status::Code(2)),
-            ..outside
-        },
-        Case {
-            name: "turned away",
-            gate: Err(QUIT_GATE),
-            done: ended(Status::Code(2)),
-            ..outside
-        },
-        Case {
-            name: "told to quit inside",
-            signals: &[NONE, NONE, QUIT],
-            done: ended(Status::Code(2)),
-            ..inside
-        },
-        Case {
-            name: "killed where it is asked, too",
-            signals: &[NONE, ALL],
-            done: ended(Status::Signal(9)),
-            ..inside
-        },
-        Case {
-            name: "another generation",
-            gate: Ok(2),
-            done: refused(Status::Signal(6), STALE),
-            attached: Some(2),
-            ..outside
-        },
-        Case {
-            name: "a broken log",
-            before: Before::Broken,
-            done: refused(Status::Signal(6), BROKEN),
-            noted: "AB",
-            ..inside
-        },
-        Case {
-            name: "no memory to enter for the last checkpoint",
-            signals: &[LAST],
-            short: &[1],
-            done: refused(Status::Code(1), StoreNo::NoMemory),
-            ..outside
-        },
-        Case {
-            name: "no memory for the last checkpoint",
-            signals: &[LAST],
-            short: &[2],
-            done: refused(Status::Code(1), StoreNo::NoMemory),
-            noted: "AD",
-            ..CHECKPOINTER
-        },
-    ];
-    for case in cases {
-        check(&rt, rt.alloc(), &case)?;
-    }
-    Ok(())
-}
-
-// Refused twice to enter and once for the checkpoint that is due, each time 20 pauses before the next call; then that checkpoint
-// is made, and after it the last one.
-#[test]
-fn a_checkpointer_tries_again(rt: HostRuntime) -> Result<(), Fail> {
-    let alloc = rt.alloc();
-    let mut script = Vec::new(alloc);
-    for _ in 0..70 {
-        script.push(NONE)?;
-    }
-    script.push(LAST)?;
-    let case = Case {
-        name: "no memory to enter, and none for a checkpoint",
-        before: Before::Due,
-        signals: script.as_slice(),
-        short: &[1, 2, 4],
-        noted: "ACLD",
-        ..CHECKPOINTER
-    };
-    check(&rt, alloc, &case)
 }

@@ -1,98 +1,18 @@
-// One run of a child over memory, and how it ended.
+//! One run over memory of a child that serves no connection, and what it came to.
 
+use crate::lives::{gate_of, script_of};
 use crate::short_book::ShortBook;
-use pm_aux::{AuxDone, checkpointer, startup, writer};
-use pm_child_life::{Cancelled, GateNo, Reason, ScriptedLife, Signals};
-use pm_exit::{Kind, Status};
+use pm_aux::{checkpointer, startup, writer};
+use pm_child_life::{Cancelled, ScriptedLife};
 use pm_outside::{Clock, Kept, MemClock};
-use pm_query::{BookEntry, CHECKPOINT_BYTES, StoreNo};
+use pm_query::{BookEntry, CHECKPOINT_BYTES};
 use pm_rows_tests::{Fault, GENERATION, MemStore};
 use std::alloc::Global;
-use std::process::Abort;
 use std::sync::Wait;
 use std::test::Fail;
 use std::time;
 
 pub const PID: u32 = 2;
-
-pub const NONE: Signals = Signals {
-    kill: false,
-    quit: None,
-    terminate: false,
-    cancel: false,
-    checkpoint: false,
-};
-
-pub const KILL: Signals = Signals { kill: true, ..NONE };
-
-pub const QUIT: Signals = Signals {
-    quit: Some(Reason::Crash),
-    ..NONE
-};
-
-pub const STOP: Signals = Signals {
-    terminate: true,
-    ..NONE
-};
-
-pub const LAST: Signals = Signals {
-    checkpoint: true,
-    ..NONE
-};
-
-pub const ALL: Signals = Signals {
-    kill: true,
-    quit: Some(Reason::Stop),
-    terminate: true,
-    cancel: true,
-    checkpoint: true,
-};
-
-/// What the store is, before the child runs.
-#[derive(Clone, Copy, Debug, PartialEq, Eq)]
-pub enum Before {
-    Unread,
-    Read,
-    /// As many bytes stand after its base as make a checkpoint due.
-    Due,
-    /// The log broke at tick 12.
-    Broken,
-}
-
-/// What a child meets, and how it ends.
-#[derive(Clone, Copy)]
-pub struct Case<'a> {
-    pub name: &'a str,
-    pub kind: Kind,
-    pub before: Before,
-    /// What it is given at each ask.
-    pub signals: &'a [Signals],
-    pub gate: Result<u32, GateNo>,
-    /// The store's calls, from its entering on, for which there is no memory.
-    pub short: &'a [u64],
-    pub done: AuxDone,
-    pub attached: Option<u32>,
-    /// The entries that it noted, by letters.
-    pub noted: &'a str,
-}
-
-/// How a child ends with this status by itself.
-pub fn ended(status: Status) -> AuxDone {
-    AuxDone {
-        status,
-        fault: None,
-        kept: None,
-    }
-}
-
-/// How a child ends with this status by a refusal of the store.
-pub fn refused(status: Status, no: StoreNo) -> AuxDone {
-    AuxDone {
-        status,
-        fault: Some(no),
-        kept: None,
-    }
-}
 
 // An entry of this child by a letter, and another's as a question mark.
 fn letter(entry: &BookEntry) -> char {
@@ -119,13 +39,13 @@ fn letter(entry: &BookEntry) -> char {
     }
 }
 
-/// What a run came to: its end, where it is attached then, the letters of what it noted, how many calls of the store it made,
-/// and how many pauses passed.
+/// What a run came to.
 #[derive(Drop)]
 pub struct Met {
-    pub done: AuxDone,
-    pub attached: Option<u32>,
-    pub noted: String,
+    /// The child's status, the letters of what it noted, the refusal that it ended by, how many commits its redo kept, and where it
+    /// is attached then.
+    pub end: String,
+    /// How many calls of the store it made, and how many pauses passed.
     pub calls: u64,
     pub pauses: u64,
 }
@@ -135,12 +55,13 @@ const READING_CALLS: u64 = 2;
 
 const READING_NOTES: usize = 3;
 
-// The store as the child finds it.
-fn store_of(alloc: Global, case: &Case) -> Result<MemStore<ShortBook>, Fail> {
-    let is_read = case.before != Before::Unread;
+// The store as the child finds it: unread, read, due for a checkpoint, or with a log that broke at tick 12.
+fn store_of(alloc: Global, found: &str, short: &str) -> Result<MemStore<ShortBook>, Fail> {
+    let is_read = found != "unread";
+    let before = if is_read { READING_CALLS } else { 0 };
     let mut failing = Vec::new(alloc);
-    for call in case.short {
-        let before = if is_read { READING_CALLS } else { 0 };
+    for call in short.split_whitespace() {
+        let call = call.parse::<u64>().ok().ok_or("a number")?;
         failing.push(call.saturating_add(before))?;
     }
     let mut store = MemStore::new(alloc, ShortBook::new(Kept::new(alloc), failing));
@@ -148,61 +69,56 @@ fn store_of(alloc: Global, case: &Case) -> Result<MemStore<ShortBook>, Fail> {
         let mut life = ScriptedLife::quiet(alloc, 1, GENERATION);
         startup(&mut store, &mut life);
     }
-    if case.before == Before::Due {
-        store.grow(CHECKPOINT_BYTES);
-    }
-    if case.before == Before::Broken {
-        store.fail(Fault {
+    match found {
+        "due" => store.grow(CHECKPOINT_BYTES),
+        "broken" => store.fail(Fault {
             since: 12,
             faults: 1,
-        });
+        }),
+        _ => {}
     }
     Ok(store)
 }
 
-/// Runs the child of a case.
+/// Runs a child, as `startup unread`, `writer` or `checkpointer due`, which is given these signals. Behind `short` stand the store's
+/// calls, from its entering on, for which there is no memory, and behind `gate` what the gate answers.
 pub fn run<R: Wait + time::Clock + Copy + Drop>(
     rt: &R,
     alloc: Global,
-    case: &Case,
+    child: &str,
+    signals: &str,
 ) -> Result<Met, Fail> {
-    let mut store = store_of(alloc, case)?;
-    let mut script = Vec::new(alloc);
-    script.extend_from_slice(case.signals)?;
-    let mut life = ScriptedLife::new(PID, false, script, case.gate, Cancelled::NoSuchPid);
+    let (child, gate) = child.split_once(" gate ").unwrap_or((child, ""));
+    let (child, short) = child.split_once(" short ").unwrap_or((child, ""));
+    let (kind, found) = child.split_once(' ').unwrap_or((child, "read"));
+    let mut store = store_of(alloc, found, short)?;
+    let script = script_of(alloc, signals)?;
+    let mut life = ScriptedLife::new(PID, false, script, gate_of(gate), Cancelled::NoSuchPid);
     let clock = MemClock::new(alloc, 0, *rt)?;
-    let done = match case.kind {
-        Kind::Startup => startup(&mut store, &mut life),
-        Kind::Writer => writer(rt, &mut store, &clock, &mut life),
+    let done = match kind {
+        "startup" => startup(&mut store, &mut life),
+        "writer" => writer(rt, &mut store, &clock, &mut life),
         _ => checkpointer(rt, &mut store, &clock, &mut life),
     };
     let book = store.into_book();
-    let is_read = case.before != Before::Unread;
+    let is_read = found != "unread";
     let others = if is_read { READING_NOTES } else { 0 };
+    let before = if is_read { READING_CALLS } else { 0 };
     let mut noted = String::new(alloc);
     for entry in book.entries().iter().skip(others) {
         noted.push(letter(entry))?;
     }
-    let before = if is_read { READING_CALLS } else { 0 };
+    let end = format!(in alloc;
+        "{:?} [{}] {:?} {:?} {:?}",
+        done.status,
+        noted.as_str(),
+        done.fault,
+        done.kept,
+        life.attached()
+    )?;
     Ok(Met {
-        done,
-        attached: life.attached(),
-        noted,
+        end,
         calls: book.asked().saturating_sub(before),
         pauses: clock.now(),
     })
-}
-
-/// Runs the child of a case, which must end so.
-pub fn check<R: Wait + Abort + time::Clock + Copy + Drop>(
-    rt: &R,
-    alloc: Global,
-    case: &Case,
-) -> Result<(), Fail> {
-    let met = run(rt, alloc, case)?;
-    let name = case.name;
-    assert_eq!(rt; met.done, case.done, "{name}");
-    assert_eq!(rt; met.attached, case.attached, "{name}");
-    assert_eq!(rt; met.noted.as_str(), case.noted, "{name}");
-    Ok(())
 }

@@ -1,14 +1,15 @@
-// One connection over memory, and how it ended.
+//! One connection over memory, and what it came to.
 ghost use Rattle.std.specs.Prelude.{◌≡◌, ◌<◌, IfOk};
 ghost use Rattle.pm_outside.specs.{MemLink.link_traffic, Traffic.no_traffic};
 
-use crate::bytes::named;
+use crate::bytes::joined;
+use crate::lives::{gate_of, script_of};
 use pm_admit::Cac;
-use pm_child_life::{Cancelled, GateNo, Life, ScriptedLife, Signals};
+use pm_child_life::{Cancelled, Life, ScriptedLife};
 use pm_exit::Status;
 use pm_outside::{Chronicle, Clock, Kept, LinkScript, MemClock, MemLink};
 use pm_query::{BookEntry, Store};
-use pm_rows_tests::{GENERATION, MemStore};
+use pm_rows_tests::MemStore;
 use pm_session::{Admission, Done, Means, SessionConf, serve};
 use std::alloc::{AllocError, Global};
 use std::process::Abort;
@@ -20,56 +21,24 @@ pub const PID: u32 = 4;
 
 pub const KEY: u32 = 0xb819_d2bd;
 
-pub const NO_SIGNALS: Signals = Signals {
-    kill: false,
-    quit: None,
-    terminate: false,
-    cancel: false,
-    checkpoint: false,
-};
-
-/// What a connection meets.
-#[derive(Clone, Copy)]
-pub struct Case<'a> {
-    pub name: &'a str,
-    /// All that comes in, by the names of its messages, with `-` for none.
-    pub incoming: &'a str,
-    pub decision: Cac,
-    /// What it is given at each ask.
-    pub signals: &'a [Signals],
-    pub gate: Result<u32, GateNo>,
-    /// How it exits, and all that goes out, by its names.
-    pub status: Status,
-    pub sent: &'a str,
-}
-
-/// A connection that nothing hinders, and which ends by itself.
-pub const PLAIN: Case<'static> = Case {
-    name: "plain",
-    incoming: "",
-    decision: Cac::Ok,
-    signals: &[],
-    gate: Ok(GENERATION),
-    status: Status::Code(0),
-    sent: "",
-};
-
-/// The messages of these names, one after the other.
-pub fn joined(alloc: Global, names: &str) -> Result<Vec<u8>, AllocError> {
-    let mut all = Vec::new(alloc);
-    for name in names.split_whitespace() {
-        all.extend_from_slice(named(name))?;
+// What is decided of a connection that meets this.
+fn decision_of(word: &str) -> Cac {
+    match word {
+        "startup" => Cac::Startup,
+        "recovery" => Cac::Recovery,
+        "shutdown" => Cac::Shutdown,
+        "full" => Cac::TooMany,
+        _ => Cac::Ok,
     }
-    Ok(all)
 }
 
-/// The link of a case, which moves at most so many bytes a call.
-fn link_of(alloc: Global, case: &Case, per_call: usize) -> Result<MemLink, AllocError>
+// A link on which the messages of these names come in, and which moves at most so many bytes a call.
+fn link_of(alloc: Global, incoming: &str, per_call: usize) -> Result<MemLink, AllocError>
     requires { 0 < per_call }
     ensures { IfOk result (λ link. link_traffic link ≡ no_traffic) }
 {
     let script = LinkScript {
-        incoming: joined(alloc, case.incoming)?,
+        incoming: joined(alloc, incoming)?,
         per_call,
         failing_reads: Vec::new(alloc),
         failing_writes: Vec::new(alloc),
@@ -89,27 +58,29 @@ pub struct Outcome {
     pub now: u64,
 }
 
-/// What a case comes to on a link that moves at most so many bytes a call, over this clock.
+/// Serves a connection on a link that moves at most so many bytes a call. It meets a decision, as `startup`, what the gate answers,
+/// as `gate crash`, or signals, as `told 4 quit`, and at any other word nothing. What comes in are the messages of these names.
 pub fn serve_case<R: Wait, C: Clock>(
     rt: &R,
     alloc: Global,
-    case: &Case,
+    meets: &str,
+    incoming: &str,
     per_call: usize,
     clock: &C,
 ) -> Result<Outcome, Fail>
     requires { 0 < per_call }
 {
-    let link = link_of(alloc, case, per_call)?;
-    let mut script = Vec::new(alloc);
-    script.extend_from_slice(case.signals)?;
-    let life = ScriptedLife::new(PID, false, script, case.gate, Cancelled::NoSuchPid);
+    let link = link_of(alloc, incoming, per_call)?;
+    let script = script_of(alloc, meets.strip_prefix("told ").unwrap_or(""))?;
+    let gate = gate_of(meets.strip_prefix("gate ").unwrap_or(""));
+    let life = ScriptedLife::new(PID, false, script, gate, Cancelled::NoSuchPid);
     let mut store = MemStore::new(alloc, Kept::<BookEntry>::new(alloc));
     let conf = SessionConf {
         authentication_ms: 60_000,
     };
     let means = Means { rt, alloc, clock };
     let admission = Admission {
-        decision: case.decision,
+        decision: decision_of(meets),
         key: KEY,
     };
     let Done { status, link, life } = serve(&means, link, life, admission, &conf, &mut store);
@@ -123,30 +94,37 @@ pub fn serve_case<R: Wait, C: Clock>(
     })
 }
 
-/// How a case ends on a link that moves at most so many bytes a call: its status, and all that goes out.
-pub fn served<R: Wait + Abort + time::Clock + Copy + Drop>(
-    rt: &R,
-    alloc: Global,
-    case: &Case,
-    per_call: usize,
-) -> Result<(Status, Vec<u8>), Fail>
-    requires { 0 < per_call }
-{
-    let met = serve_case(rt, alloc, case, per_call, &MemClock::still(0, *rt))?;
-    Ok((met.status, met.sent))
+/// Whether a connection came to one of these ends, with `or` between two: its status, and then the names of all that went out.
+pub fn came_to(alloc: Global, met: &Outcome, ends: &str) -> Result<bool, Fail> {
+    let status = format!(in alloc; "{:?}", met.status)?;
+    for end in ends.split(" or ") {
+        let (wanted, names) = end.split_once(' ').unwrap_or((end, ""));
+        let sent = joined(alloc, names)?;
+        if status.as_str() == wanted && met.sent.as_slice() == sent.as_slice() {
+            return Ok(true);
+        }
+    }
+    Ok(false)
 }
 
-/// Serves the connection, which must end so however its bytes are cut.
+/// Serves a connection over a clock that stands still. It must come to one of these ends.
 pub fn check<R: Wait + Abort + time::Clock + Copy + Drop>(
     rt: &R,
     alloc: Global,
-    case: &Case,
-) -> Result<(), Fail> {
-    let wanted = joined(alloc, case.sent)?;
-    for per_call in [1, 5, 4096] {
-        let (status, sent) = served(rt, alloc, case, per_call)?;
-        assert_eq!(rt; status, case.status, "{}", case.name);
-        assert_eq!(rt; sent.as_slice(), wanted.as_slice(), "{}", case.name);
-    }
+    meets: &str,
+    incoming: &str,
+    per_call: usize,
+    ends: &str,
+) -> Result<(), Fail>
+    requires { 0 < per_call }
+{
+    let clock = MemClock::still(0, *rt);
+    let met = serve_case(rt, alloc, meets, incoming, per_call, &clock)?;
+    let is_wanted = came_to(alloc, &met, ends)?;
+    assert!(rt;
+        is_wanted,
+        "{meets} | {incoming}: {:?} and {:?}",
+        met.status, met.sent
+    );
     Ok(())
 }

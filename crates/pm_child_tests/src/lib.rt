@@ -15,6 +15,8 @@ mod children;
 #[cfg(test)]
 mod connection;
 #[cfg(test)]
+mod lives;
+#[cfg(test)]
 mod short_book;
 #[cfg(test)]
 mod signals;

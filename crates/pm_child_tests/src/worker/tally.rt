@@ -6,7 +6,7 @@ use pm_exit::{Kind, Status};
 use pm_worker::Mail;
 
 /// How many links came back, and how many children ended how.
-#[derive(Clone, Copy, Debug, PartialEq, Eq)]
+#[derive(Clone, Copy, Debug)]
 pub(crate) struct Tally {
     pub links: u64,
     /// The sum of the numbers of the links.
